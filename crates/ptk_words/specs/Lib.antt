@@ -1,0 +1,5 @@
+pub mod Words
+pub mod Pools
+pub mod Processor
+pub mod Faults
+pub mod Costs

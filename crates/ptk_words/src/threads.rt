@@ -1,0 +1,70 @@
+//! Threads as plain data.
+
+use crate::numbers::{ConditionNo, MutexNo, Priority, ThreadNo};
+use crate::processor::Cpu;
+
+/// SCHED_FIFO and SCHED_RR (XSH 2.8.4).
+#[derive(Clone, Copy, Debug, PartialEq, Eq)]
+pub enum Policy {
+    Fifo,
+    RoundRobin,
+}
+
+/// How far a thread is: from its start, from the start of its unwinding, from its end on (pthread_exit).
+#[derive(Clone, Copy, Debug, PartialEq, Eq)]
+pub enum Phase {
+    Normal,
+    Unwinding,
+    Ended,
+}
+
+/// What a blocked thread waits for (pthread_join, pthread_mutex_lock, pthread_cond_wait, clock_nanosleep).
+#[derive(Clone, Copy, Debug, PartialEq, Eq)]
+pub enum Wait {
+    /// A byte of the console.
+    InputWait,
+    /// A tick.
+    SleepWait,
+    /// The end of this thread.
+    JoinWait(ThreadNo),
+    /// This mutex.
+    MutexWait(MutexNo),
+    /// This condition variable, and the mutex to have again.
+    ConditionWait(ConditionNo, MutexNo),
+    /// The mutex to have again after a condition wait, and the reply that is then given, none to a cancelled thread.
+    RelockWait(MutexNo, Option<u32>),
+}
+
+/// A thread: its registers and what scheduling keeps of it (XSH 2.8.4, 2.9.1).
+#[derive(Clone, Copy)]
+pub struct Thread {
+    /// Its registers and pc.
+    pub cpu: Cpu,
+    /// Its policy.
+    pub policy: Policy,
+    /// Its assigned priority.
+    pub priority: Priority,
+    /// The ticks that it used of a round-robin interval.
+    pub used: u32,
+    /// Whether the image started it.
+    pub is_main: bool,
+    /// Whether its number is free at its end.
+    pub is_detached: bool,
+    /// The thread that waits for its end.
+    pub joiner: Option<ThreadNo>,
+    /// What a joiner is told.
+    pub result: u32,
+    /// How far it is.
+    pub phase: Phase,
+    /// What it waits for.
+    pub wait: Option<Wait>,
+}
+
+/// A cleanup handler (pthread_cleanup_push).
+#[derive(Clone, Copy, Debug, PartialEq, Eq)]
+pub struct Cleanup {
+    /// The address of the routine.
+    pub routine: u32,
+    /// Its argument.
+    pub argument: u32,
+}
