@@ -3,3 +3,4 @@ pub mod Pools
 pub mod Processor
 pub mod Faults
 pub mod Costs
+pub mod Image
