@@ -1,1 +1,3 @@
 pub mod Instructions
+pub mod Fields
+pub mod RowLaws

@@ -1,3 +1,19 @@
 //! The instruction set RV32I as definitions: the table of 40 rows, the immediates and what each instruction does.
-//! In `specs/` stands the table by mask and match, as the RISC-V manual has it. Below stands `ptk_words`.
+//! In `specs/` stand the table by mask and match, as the RISC-V manual has it (`Instructions`), and the same table
+//! by fields (`Fields`), which proofs about code that decides by opcode and funct3 use.
+//! `no_word_agrees_twice` promises that a word has at most one row, `rows_by_fields` that both tables find the same
+//! row for every word. Below stands `ptk_words`; above stand the instruction crates and the model of a partition.
 #![tactic(auto)]
+
+ghost use Rattle.ptk_words_instructions.specs.RowLaws.{NoWordAgreesTwice, RowsByFields};
+
+/// No word agrees with two rows of the instruction table (RISC-V 24).
+pub fn no_word_agrees_twice()
+    ensures { NoWordAgreesTwice }
+{}
+
+/// A word has the same row by its fields as by mask and match, or none in both (RISC-V 2.2, 24).
+#[tactic(auto, using(crate::proofs::FieldRows::same_row))]
+pub fn rows_by_fields()
+    ensures { RowsByFields }
+{}

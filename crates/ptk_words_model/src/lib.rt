@@ -1,0 +1,106 @@
+//! The machine of one partition as definitions: its state, priorities and places, mutexes, condition variables, the
+//! console, keys, unwinding, the calls, one decision, and the partition alone on its own ticks. The code declares
+//! the few plain types that these definitions tell. Below stand `ptk_words`,
+//! `ptk_words_instructions` and `ptk_words_windows`; every pool, the gate, the kernel and the system cite these words.
+#![tactic(auto)]
+
+use ptk_words::{Errno, Limits, Thread, ThreadNo, Tick};
+
+/// What a call comes to.
+#[derive(Clone, Copy, Debug, PartialEq, Eq)]
+pub enum Reply {
+    /// It returned with this in a0: an error number, or 0.
+    Done(u32),
+    /// The caller blocks; the reply is written when it is woken.
+    Blocked,
+    /// The caller begins unwinding.
+    Unwinding,
+    /// The partition halts.
+    Halted,
+}
+
+/// A call: the numbers of the partition's section, the tick at which the step begins, the calling thread and its
+/// arguments.
+#[derive(Clone, Copy)]
+pub struct Invocation {
+    /// The numbers of the partition's section.
+    pub limits: Limits,
+    /// The tick at which the step begins.
+    pub tick: Tick,
+    /// The calling thread.
+    pub caller: ThreadNo,
+    /// The words of a0 to a4.
+    pub a0: u32,
+    pub a1: u32,
+    pub a2: u32,
+    pub a3: u32,
+    pub a4: u32,
+}
+
+/// The thread that runs.
+#[derive(Clone, Copy)]
+pub struct Runner {
+    /// Its number.
+    pub number: ThreadNo,
+    /// The thread.
+    pub thread: Thread,
+}
+
+/// What the running thread's next step is.
+#[derive(Clone, Copy, Debug, PartialEq, Eq)]
+pub enum StepKind {
+    /// The start of an unwinding.
+    UnwindingStart,
+    /// A step at the return gate.
+    GateStep,
+    /// The ECALL of this number.
+    CallStep(u32),
+    /// Another instruction, or a fault.
+    InstructionStep,
+}
+
+/// What a thread keeps of cancellation (XSH 2.9.5).
+#[derive(Clone, Copy, Debug, PartialEq, Eq)]
+pub struct Cancellation {
+    /// PTHREAD_CANCEL_ENABLE, and not DISABLE.
+    pub is_enabled: bool,
+    /// PTHREAD_CANCEL_ASYNCHRONOUS, and not DEFERRED.
+    pub is_asynchronous: bool,
+    /// Whether a request is pending.
+    pub is_pending: bool,
+    /// Whether the next step begins the thread's unwinding.
+    pub is_marked: bool,
+}
+
+/// How far a thread's destructor calls are (pthread_key_create).
+#[derive(Clone, Copy, Debug, PartialEq, Eq)]
+pub struct Rounds {
+    /// The round, from 1; 0 before an unwinding.
+    pub round: u32,
+    /// The last key passed in this round, 0 for none.
+    pub passed: u32,
+}
+
+/// What a decision came to.
+#[derive(Clone, Copy, Debug, PartialEq, Eq)]
+pub enum Spent {
+    /// A step of so many ticks.
+    Step(u32),
+    /// No thread was running.
+    Idle,
+    /// The step's cost did not fit: the rest of the window is lost.
+    Lost,
+}
+
+/// What a call that locks a mutex comes to (pthread_mutex_lock).
+#[derive(Clone, Copy, Debug, PartialEq, Eq)]
+pub enum LockMove {
+    /// The caller owns the free mutex.
+    Takes,
+    /// The caller's own recursive mutex counts up.
+    Counts,
+    /// The caller blocks as the last waiter.
+    Waits,
+    /// The call is refused.
+    Refuses(Errno),
+}

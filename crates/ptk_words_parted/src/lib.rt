@@ -1,0 +1,223 @@
+//! Lists by partition: one vector holds a list for each partition, cut at the lists' ends. Every pool of the kernel is
+//! a structure round one `Parted`, so that offsets occur here alone. A contract sees a `Parted` as a list of lists:
+//! `get`, `part` and `whole` read it, `set` changes one item of one list, and `lend` lends one list for writing and
+//! leaves every other as it was. Beside the calls stand lemmas for the crates above: the ruleset `loans` of
+//! `proofs/Cuts` (a loan that keeps its length is a `slice_set`), and `proofs/Rows` (a view by `tabulate` after a
+//! change of one partition). The clause that is dear to prove is `writes_back` of `lend`. Below stands `ptk_words`;
+//! above, every crate that keeps something of each partition.
+#![tactic(auto)]
+
+ghost use Rattle.std.specs.Prelude.{◌≡◌, ℕ, ◌<◌, ◌≤◌, List, [], ◌∷◌, ◌++◌, length, slice_get, slice_set, IfOk, OnOk, OnErr, slice_index, slice_range, map};
+ghost use Rattle.std.specs.Borrow.{sem};
+ghost use Rattle.ptk_words_parted.specs.Parts.{part_of, joined, filled};
+ghost use Rattle.ptk_words_parted.specs.Cuts.{start_at, sums_from, last_end};
+ghost use Rattle.ptk_words_parted.specs.Lending.{LendsPart};
+
+use ptk_words::PartId;
+use std::alloc::{AllocError, Global};
+use std::marker::Model;
+
+/// A list for each partition, in the order of the partitions.
+#[derive(Drop)]
+pub struct Parted<T> {
+    items: Vec<T>,
+    ends: Vec<usize>,
+}
+
+impl<T> Model for Parted<T> {
+    ghost use Rattle.std.specs.Prelude.{ℕ, List};
+    ghost use Rattle.ptk_words_parted.specs.Cuts.{cut, IsCut};
+
+    ghost Value = { List (List T) };
+
+    ghost view = { λ a. cut 0 a.ends.items a.items.items };
+
+    ghost invariant = { λ a. IsCut 0 a.ends.items a.items.items };
+}
+
+/// Where a partition's items lie.
+#[derive(Clone, Copy)]
+struct Extent {
+    start: usize,
+    end: usize,
+}
+
+impl<T: Copy> Parted<T> {
+    /// A list of each of 1 to 8 lengths, all of one item. An error where memory ran out.
+    pub fn build(alloc: Global, lengths: &[u32], item: T) -> Result<Parted<T>, AllocError>
+        requires { length lengths.now ≤ 8 }
+        ensures { IfOk result (λ parted. parted ≡ map (filled item) lengths.now) }
+    {
+        let ends = sums(alloc, lengths)?;
+        let items = repeated(alloc, item, last_of(&ends))?;
+        Ok(Parted { items, ends })
+    }
+
+    /// The item of a partition at an index from 0, None past its list.
+    pub fn get(&self, p: PartId, i: usize) -> Option<T>
+        requires { p < length self.now }
+        ensures { result ≡ slice_get (part_of self.now p) i }
+    {
+        let part = self.part(p);
+        if i < part.len() { Some(part[i]) } else { None }
+    }
+
+    #[tactic(auto, using(crate::proofs::Cuts::loans))]
+    /// Sets the item of a partition at an index from 0; all other items stay.
+    pub fn set(&mut self, p: PartId, i: usize, item: T)
+        requires partition { p < length self.old }
+        requires item { i < length (part_of self.old p) }
+        ensures { self.new ≡ slice_set self.old p (slice_set (part_of self.old p) i item) }
+    {
+        let part = self.lend(p);
+        part[i] = item;
+    }
+}
+
+impl<T: Drop> Parted<T> {
+    /// No partition yet.
+    pub fn new(alloc: Global) -> Parted<T>
+        ensures { result ≡ [] }
+    {
+        Parted {
+            items: Vec::new(alloc),
+            ends: Vec::new(alloc),
+        }
+    }
+
+    /// One more partition, the last, with this list. An error where memory ran out; then nothing changed.
+    pub fn add_part(&mut self, mut items: Vec<T>) -> Result<(), AllocError>
+        ensures ok { OnOk result (self.new ≡ self.old ++ items.items ∷ []) }
+        ensures err { OnErr result (self.new ≡ self.old) }
+    {
+        self.ends.reserve(1)?;
+        self.items.append(&mut items)?;
+        self.ends.push(self.items.len())?;
+        Ok(())
+    }
+}
+
+impl<T> Parted<T> {
+    /// The lists of all partitions, joined in their order.
+    pub fn whole(&self) -> &[T]
+        ensures { result.now ≡ joined self.now }
+    {
+        self.items.as_slice()
+    }
+
+    /// How many partitions there are.
+    pub fn parts(&self) -> usize
+        ensures { result ≡ length self.now }
+    {
+        self.ends.len()
+    }
+
+    /// The list of a partition.
+    pub fn part(&self, p: PartId) -> &[T]
+        requires { p < length self.now }
+        ensures { result.now ≡ part_of self.now p }
+    {
+        let extent = extent_of(&self.ends, p);
+        within(&self.items, extent)
+    }
+
+    /// Lends the list of a partition for writing; every other list stays as it is.
+    pub fn lend(&mut self, p: PartId) -> &mut [T]
+        requires { p < length self.old }
+        ensures* writes_back { sem 𝓛 (LendsPart T.row self.entry p result) }
+        ensures value { result.now ≡ part_of self.old p }
+    {
+        let extent = extent_of(&self.ends, p);
+        self.items.slice_mut(extent.start..extent.end)
+    }
+}
+
+/// The running sums of the lengths. An error where memory ran out.
+fn sums(alloc: Global, lengths: &[u32]) -> Result<Vec<usize>, AllocError>
+    requires { length lengths.now ≤ 8 }
+    ensures { IfOk result (λ sums. sums.items ≡ sums_from 0 lengths.now) }
+{
+    let mut sums = Vec::new(alloc);
+    let mut sum = 0;
+    for length in lengths {
+        sum += *length as usize;
+        sums.push(sum)?;
+    }
+    Ok(sums)
+}
+
+/// Where a partition's items lie, given the ends of all.
+fn extent_of(ends: &[usize], p: PartId) -> Extent
+    requires { p < length ends.now }
+    ensures start { result.start ≡ start_at 0 ends.now p }
+    ensures end { result.end ≡ slice_index ends.now p }
+{
+    let i = p.index();
+    let start = if i == 0 { 0 } else { ends[i - 1] };
+    Extent {
+        start,
+        end: ends[i],
+    }
+}
+
+/// The items of an extent.
+fn within<T>(items: &[T], extent: Extent) -> &[T]
+    requires ordered { extent.start ≤ extent.end }
+    requires in_bounds { extent.end ≤ length items.now }
+    ensures { result.now ≡ slice_range items.now extent.start extent.end }
+{
+    &items[extent.start..extent.end]
+}
+
+/// The last of the ends, or 0 where there is none.
+fn last_of(ends: &[usize]) -> usize
+    ensures { result ≡ last_end 0 ends.now }
+{
+    let mut last = 0;
+    for end in ends {
+        last = *end;
+    }
+    last
+}
+
+/// An item n times. An error where memory ran out.
+fn repeated<T: Copy>(alloc: Global, item: T, n: usize) -> Result<Vec<T>, AllocError>
+    ensures { IfOk result (λ items. items.items ≡ filled item n) }
+{
+    let mut items = Vec::new(alloc);
+    for i in 0..n {
+        items.push(item)?;
+    }
+    Ok(items)
+}
+
+#[cfg(test)]
+mod tests {
+    use super::*;
+    use std::test::Fail;
+
+    #[test]
+    #[tactic(auto, using(crate::proofs::Cuts::loans))]
+    fn lists_lie_side_by_side(rt: HostRuntime) -> Result<(), Fail> {
+        let first = PartId::new(0);
+        let second = PartId::new(1);
+        let mut parted = Parted::build(rt.alloc(), &[2, 1], 0u8)?;
+        parted.lend(first).fill(7);
+        parted.set(second, 0, 9);
+        assert_eq!(rt; parted.parts(), 2);
+        assert_eq!(rt; parted.whole(), [7, 7, 9].as_slice());
+        assert_eq!(rt; parted.part(first), [7, 7].as_slice());
+        assert_eq!(rt; parted.get(first, 2), None);
+        Ok(())
+    }
+
+    #[test]
+    fn a_list_is_added_behind_the_others(rt: HostRuntime) -> Result<(), Fail> {
+        let mut parted = Parted::new(rt.alloc());
+        parted.add_part([3, 4].to_vec(rt.alloc())?)?;
+        parted.add_part([5].to_vec(rt.alloc())?)?;
+        assert_eq!(rt; parted.whole(), [3, 4, 5].as_slice());
+        assert_eq!(rt; parted.part(PartId::new(1)), [5].as_slice());
+        Ok(())
+    }
+}
