@@ -1,0 +1,4 @@
+pub mod CostLaws
+pub mod ChainLaws
+pub mod PriorityLaws
+pub mod Sizes

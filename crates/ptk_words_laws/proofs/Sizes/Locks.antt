@@ -1,0 +1,128 @@
+-- The moves of threads, mutexes and condition variables keep the sizes of their pools.
+use Rattle.std.proofs.Common.{◌≡◌, ℕ, Bool, true, false, List, [], ◌∷◌, ◌++◌, length, ◌∙◌}
+use Rattle.std.proofs.lemmas.List.{length-map}
+use Rattle.std.specs.Prelude.{Option, Some, None, option_to_list, nat_lt, if◌then◌else◌, ◌-◌, ◌||◌, is_some}
+use Rattle.ptk_words.specs.Pools.{without}
+use Rattle.ptk_words.specs.declared.sections.Limits.{Limits}
+use Rattle.ptk_words.specs.declared.mutexes.Owner.TheVariants.{Free, OwnedBy}
+use Rattle.ptk_words.specs.declared.threads.Thread.{Thread}
+use Rattle.ptk_words.specs.declared.threads.Phase.TheVariants.{Ended}
+use Rattle.ptk_words.specs.declared.threads.Wait.{Wait}
+use Rattle.ptk_words.specs.declared.threads.Wait.TheVariants.{RelockWait}
+use Rattle.ptk_words_model.specs.declared.LockMove.{LockMove}
+use Rattle.ptk_words_model.specs.declared.LockMove.TheVariants.{Takes, Counts, Waits, Refuses}
+use Rattle.ptk_words_model.specs.State.{Mutex, Locks, Syncs}
+use Rattle.ptk_words_model.specs.Priority.{thread_at}
+use Rattle.ptk_words_model.specs.Schedule.{with_thread, at_tail_with, after_wake, woken_with}
+use Rattle.ptk_words_model.specs.Mutex.{mutex_at, with_mutex, after_wait, after_move, after_hand_over_to, after_hand_over, after_unlock, after_relock_move, after_relock, relock_move, without_mutex_waiter, after_owner_end, mutex_after_end, heir, handed, count_of, wait_of}
+use Rattle.ptk_words_model.specs.Condition.{after_unblock_for, after_unblock, mutex_named}
+use Rattle.ptk_words_model.specs.Unwinding.{after_join_by, without_thread, after_release}
+use Rattle.ptk_words_model.specs.Withdrawal.{without_joiner}
+use Rattle.ptk_words_laws.proofs.Sizes.Pools.{length-pool_set, length-pool_changed}
+
+-- the pools of threads and mutexes have their sizes
+pub record LocksSized (l : Limits) (x : Locks) : Type 0 where
+  pub threads : length x.threads ≡ l.threads
+  pub mutexes : length x.mutexes ≡ l.mutexes
+
+pub locks_if : (l : Limits) (b : Bool) (x y : Locks) → LocksSized l x → LocksSized l y → LocksSized l (if b then x else y)
+locks_if l true x y h k = h
+locks_if l false x y h k = k
+
+-- ---- one change
+
+pub with_thread_sized : (l : Limits) (t : ℕ) (f : Thread → Thread) (x : Locks) → LocksSized l x → LocksSized l (with_thread t f x)
+with_thread_sized l t f x h = record { threads = length-pool_changed t f x.threads ∙ h.threads; mutexes = h.mutexes }
+
+pub at_tail_with_sized : (l : Limits) (f : Thread → Thread) (t : ℕ) (x : Locks) → LocksSized l x → LocksSized l (at_tail_with f t x)
+at_tail_with_sized l f t x h = record { threads = length-pool_changed t f x.threads ∙ h.threads; mutexes = h.mutexes }
+
+-- another line
+pub with_line_sized : (l : Limits) (line : List ℕ) (x : Locks) → LocksSized l x → LocksSized l (record x { line = line })
+with_line_sized l line x h = record { threads = h.threads; mutexes = h.mutexes }
+
+pub after_wake_sized : (l : Limits) (t : ℕ) (values : List ℕ) (x : Locks) → LocksSized l x → LocksSized l (after_wake t values x)
+after_wake_sized l t values x h = at_tail_with_sized l (woken_with values) t x h
+
+pub with_mutex_sized : (l : Limits) (m : ℕ) (f : Mutex → Mutex) (x : Locks) → LocksSized l x → LocksSized l (with_mutex m f x)
+with_mutex_sized l m f x h = record { threads = h.threads; mutexes = length-pool_changed m f x.mutexes ∙ h.mutexes }
+
+-- ---- mutexes
+
+pub after_wait_sized : (l : Limits) (t m : ℕ) (wait : Wait) (x : Locks) → LocksSized l x → LocksSized l (after_wait t m wait x)
+after_wait_sized l t m wait x h =
+    with_thread_sized l t (λ thread. record thread { wait = Some wait }) (with_mutex m (λ mutex. record mutex { waiters = mutex.waiters ++ t ∷ [] }) x)
+    (with_mutex_sized l m (λ mutex. record mutex { waiters = mutex.waiters ++ t ∷ [] }) x h)
+
+pub after_move_sized : (l : Limits) (move : LockMove) (t m : ℕ) (wait : Wait) (x : Locks) → LocksSized l x → LocksSized l (after_move move t m wait x)
+after_move_sized l Takes t m wait x h = with_mutex_sized l m (λ mutex. record mutex { owner = OwnedBy t; count = 1 }) x h
+after_move_sized l Counts t m wait x h = with_mutex_sized l m (λ mutex. record mutex { count = Rattle.std.specs.Prelude.◌+◌ mutex.count 1 }) x h
+after_move_sized l Waits t m wait x h = after_wait_sized l t m wait x h
+after_move_sized l (Refuses e) t m wait x h = h
+
+hand_over_to_sized : (l : Limits) (o : Option ℕ) (m : ℕ) (x : Locks) → LocksSized l x → LocksSized l (after_hand_over_to o m x)
+hand_over_to_sized l None m x h = with_mutex_sized l m (λ mutex. record mutex { owner = Free; count = 0 }) x h
+hand_over_to_sized l (Some t) m x h =
+    at_tail_with_sized l handed t (with_mutex m (λ mutex. record mutex { owner = OwnedBy t; count = 1; waiters = without t mutex.waiters }) x)
+    (with_mutex_sized l m (λ mutex. record mutex { owner = OwnedBy t; count = 1; waiters = without t mutex.waiters }) x h)
+
+pub after_unlock_sized : (l : Limits) (m : ℕ) (x : Locks) → LocksSized l x → LocksSized l (after_unlock m x)
+after_unlock_sized l m x h =
+    locks_if l (nat_lt 1 (count_of (mutex_at x m))) (with_mutex m (λ mutex. record mutex { count = mutex.count - 1 }) x) (after_hand_over m x)
+    (with_mutex_sized l m (λ mutex. record mutex { count = mutex.count - 1 }) x h) (hand_over_to_sized l (heir m x) m x h)
+
+relock_move_sized : (l : Limits) (move : LockMove) (t m : ℕ) (reply : Option ℕ) (x : Locks) → LocksSized l x → LocksSized l (after_relock_move move t m reply x)
+relock_move_sized l Waits t m reply x h = after_wait_sized l t m (RelockWait m reply) x h
+relock_move_sized l Takes t m reply x h =
+    after_wake_sized l t (option_to_list reply) (after_move Takes t m (RelockWait m reply) x) (after_move_sized l Takes t m (RelockWait m reply) x h)
+relock_move_sized l Counts t m reply x h =
+    after_wake_sized l t (option_to_list reply) (after_move Counts t m (RelockWait m reply) x) (after_move_sized l Counts t m (RelockWait m reply) x h)
+relock_move_sized l (Refuses e) t m reply x h =
+    after_wake_sized l t (option_to_list reply) (after_move (Refuses e) t m (RelockWait m reply) x) (after_move_sized l (Refuses e) t m (RelockWait m reply) x h)
+
+pub after_relock_sized : (l : Limits) (t m : ℕ) (reply : Option ℕ) (x : Locks) → LocksSized l x → LocksSized l (after_relock t m reply x)
+after_relock_sized l t m reply x h = relock_move_sized l (relock_move t (mutex_at x m)) t m reply x h
+
+pub without_mutex_waiter_sized : (l : Limits) (t m : ℕ) (x : Locks) → LocksSized l x → LocksSized l (without_mutex_waiter t m x)
+without_mutex_waiter_sized l t m x h = with_mutex_sized l m (λ mutex. record mutex { waiters = without t mutex.waiters }) x h
+
+pub after_owner_end_sized : (l : Limits) (t : ℕ) (x : Locks) → LocksSized l x → LocksSized l (after_owner_end t x)
+after_owner_end_sized l t x h = record { threads = h.threads; mutexes = length-map x.mutexes (mutex_after_end t) ∙ h.mutexes }
+
+-- ---- threads
+
+pub without_joiner_sized : (l : Limits) (u : ℕ) (x : Locks) → LocksSized l x → LocksSized l (without_joiner u x)
+without_joiner_sized l u x h = with_thread_sized l u (λ thread. record thread { joiner = None }) x h
+
+pub without_thread_sized : (l : Limits) (t : ℕ) (x : Locks) → LocksSized l x → LocksSized l (without_thread t x)
+without_thread_sized l t x h = record { threads = length-pool_set x.threads t None ∙ h.threads; mutexes = h.mutexes }
+
+join_by_sized : (l : Limits) (o : Option ℕ) (result : ℕ) (x : Locks) → LocksSized l x → LocksSized l (after_join_by o result x)
+join_by_sized l None result x h = h
+join_by_sized l (Some u) result x h = after_wake_sized l u (0 ∷ result ∷ []) x h
+
+pub after_release_sized : (l : Limits) (t : ℕ) (o : Option Thread) (x : Locks) → LocksSized l x → LocksSized l (after_release t o x)
+after_release_sized l t None x h = h
+after_release_sized l t (Some thread) x h =
+    locks_if l (thread.is_detached || is_some thread.joiner) (without_thread t (after_join_by thread.joiner thread.result x))
+    (with_thread t (λ th. record th { phase = Ended }) x)
+    (without_thread_sized l t (after_join_by thread.joiner thread.result x) (join_by_sized l thread.joiner thread.result x h))
+    (with_thread_sized l t (λ th. record th { phase = Ended }) x h)
+
+-- ---- condition variables
+
+-- those and the pool of condition variables
+pub record SyncsSized (l : Limits) (x : Syncs) : Type 0 where
+  pub locks : LocksSized l x.locks
+  pub conditions : length x.conditions ≡ l.conditions
+
+unblock_for_sized : (l : Limits) (t c : ℕ) (reply o : Option ℕ) (x : Syncs) → SyncsSized l x → SyncsSized l (after_unblock_for t c reply o x)
+unblock_for_sized l t c reply None x h = h
+unblock_for_sized l t c reply (Some m) x h =
+    record {
+      locks = after_relock_sized l t m reply x.locks h.locks;
+      conditions = length-pool_set x.conditions c _ ∙ h.conditions;
+    }
+
+pub after_unblock_sized : (l : Limits) (t c : ℕ) (reply : Option ℕ) (x : Syncs) → SyncsSized l x → SyncsSized l (after_unblock t c reply x)
+after_unblock_sized l t c reply x h = unblock_for_sized l t c reply (mutex_named (wait_of (thread_at x.locks t))) x h

@@ -1,0 +1,11 @@
+use Rattle.std.proofs.Common.{refl}
+use Rattle.std.specs.Fmt.{digits}
+use Rattle.ptk_words_laws.proofs.rows.create_join.Goals as goal
+
+pub returns : goal.returns
+unfolding digits
+returns c =
+    record {
+      steps = refl;
+      report = refl;
+    }

@@ -1,0 +1,11 @@
+use Rattle.std.proofs.Common.{refl}
+use Rattle.std.specs.Fmt.{digits}
+use Rattle.ptk_words_laws.proofs.rows.return_to_gate.Goals as goal
+
+pub returns : goal.returns
+unfolding digits
+returns c =
+    record {
+      before = refl;
+      after = refl;
+    }

@@ -1,0 +1,33 @@
+-- Laws of the definitions, as statements: each is the contract of a function without code.
+use Rattle.std.specs.Prelude.{◌≡◌, ℕ, ◌≤◌, ◌↔◌, Option, List, length, map, IsTrue, IsSome}
+use Rattle.ptk_words.specs.Costs.{cost_table, cost_of}
+use Rattle.ptk_words.specs.Pools.{pool_get}
+use Rattle.ptk_words.specs.declared.threads.Thread.{Thread}
+use Rattle.ptk_words_model.specs.State.{Mutex}
+use Rattle.ptk_words_model.specs.Chain.{Leads, leads_to}
+use Rattle.ptk_words_model.specs.Priority.{next_of, effective_of, IsEffectivePriority}
+use Rattle.ptk_words_model.specs.CallTable.{call_table}
+
+-- ---- costs
+
+-- every number costs 1 to 16 ticks, and one costs 16 (own)
+pub record CostsAreSmall : Type 0 where
+  pub positive : (number : ℕ) → 1 ≤ cost_of number
+  pub at_most_sixteen : (number : ℕ) → cost_of number ≤ 16
+  pub greatest : (number : ℕ) × (cost_of number ≡ 16)
+
+-- the call table and the cost table have the same numbers (own)
+abbrev pub CallsHaveCosts : Type 0
+CallsHaveCosts = map (λ row. row.number) call_table ≡ map (λ row. row.number) cost_table
+
+-- ---- priorities
+
+-- as many steps as there are numbers of threads decide a chain, on a cycle too (pthread_mutexattr_getprotocol)
+abbrev pub ChainIsDecided : List (Option Thread) → List (Option Mutex) → Type 0
+ChainIsDecided threads mutexes =
+    (u t : ℕ) → IsTrue (leads_to (next_of threads mutexes) t (length threads) u) ↔ Leads (next_of threads mutexes) u t
+
+-- the effective priority of a thread in use is the greatest held priority of the threads whose chain holds it (pthread_mutexattr_getprotocol)
+abbrev pub PriorityIsGreatest : List (Option Thread) → List (Option Mutex) → Type 0
+PriorityIsGreatest threads mutexes =
+    (t : ℕ) → IsSome (pool_get threads t) → IsEffectivePriority threads mutexes t (effective_of threads mutexes t)

@@ -1,0 +1,4 @@
+pub mod Guests
+pub mod Rows
+pub mod Laws
+pub mod Sizes

@@ -1,0 +1,11 @@
+-- The worked rows: what the definitions say of small guests and of built states.
+pub mod Images
+pub mod Runs
+pub mod Traces
+pub mod Threads
+pub mod Inputs
+pub mod Times
+pub mod Priorities
+pub mod Waits
+pub mod Cancellations
+pub mod Words

@@ -1,0 +1,50 @@
+//! What holds of every state.
+
+ghost use Rattle.std.specs.Prelude.{ℕ, List, Option};
+ghost use Rattle.ptk_words.specs.declared.threads.Thread.{Thread};
+ghost use Rattle.ptk_words.specs.declared.sections.Arrival.{Arrival};
+ghost use Rattle.ptk_words.specs.declared.sections.Limits.{Limits};
+ghost use Rattle.ptk_words_windows.specs.Windows.{OwnTicks};
+ghost use Rattle.ptk_words_model.specs.State.{Mutex, Part};
+ghost use Rattle.ptk_words_laws.specs.Laws.{CostsAreSmall, CallsHaveCosts, ChainIsDecided, PriorityIsGreatest};
+ghost use Rattle.ptk_words_laws.specs.Sizes.{StartIsSized, CallsKeepSizes, DecisionsKeepSizes, SizesStay};
+
+/// Every number costs 1 to 16 ticks, and the greatest cost is 16.
+pub fn costs_are_small()
+    ensures { CostsAreSmall }
+{}
+
+/// Every call has a cost, and only a call has a cost of its own.
+pub fn calls_have_costs()
+    ensures { CallsHaveCosts }
+{}
+
+/// So many steps as there are numbers of threads decide a chain, on a cycle too.
+pub fn chain_is_decided()
+    ensures { (threads : List (Option Thread)) → (mutexes : List (Option Mutex)) → ChainIsDecided threads mutexes }
+{}
+
+/// The effective priority of a thread is the greatest held priority of the threads whose chain holds it.
+pub fn priority_is_greatest()
+    ensures { (threads : List (Option Thread)) → (mutexes : List (Option Mutex)) → PriorityIsGreatest threads mutexes }
+{}
+
+/// A partition starts with the sizes of its section, whatever its image and input.
+pub fn start_is_sized()
+    ensures { (limits : Limits) → (image : Option (List ℕ)) → (input : List Arrival) → StartIsSized limits image input }
+{}
+
+/// Every call leaves each part of the state as long as it was, and the ring and the output within their limits.
+pub fn calls_keep_sizes()
+    ensures { (part : Part) → CallsKeepSizes part }
+{}
+
+/// So does every decision.
+pub fn decisions_keep_sizes()
+    ensures { (limits : Limits) → (part : Part) → DecisionsKeepSizes limits part }
+{}
+
+/// After every number of ticks each part of a partition has the size that its section gives it.
+pub fn sizes_stay()
+    ensures { (ticks : OwnTicks) → (limits : Limits) → (image : Option (List ℕ)) → (input : List Arrival) → SizesStay ticks limits image input }
+{}

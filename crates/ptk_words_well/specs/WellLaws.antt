@@ -1,0 +1,33 @@
+-- That states stay whole, and what their priorities are.
+use Rattle.std.specs.Prelude.{◌≡◌, ℕ, ◌≤◌, true, List, map, Option, Some}
+use Rattle.ptk_words.specs.Pools.{numbers_of}
+use Rattle.ptk_words.specs.declared.sections.Arrival.{Arrival}
+use Rattle.ptk_words.specs.declared.sections.Limits.{Limits}
+use Rattle.ptk_words_windows.specs.Windows.{OwnTicks}
+use Rattle.ptk_words_model.specs.State.{Part}
+use Rattle.ptk_words_model.specs.Priority.{assigned_of, effective_priorities}
+use Rattle.ptk_words_model.specs.declared.Invocation.{Invocation}
+use Rattle.ptk_words_model.specs.CallTable.{call_of}
+use Rattle.ptk_words_model.specs.Decision.{after_decision}
+use Rattle.ptk_words_model.specs.Run.{is_active, start_part, alone}
+use Rattle.ptk_words_well.specs.Well.{IsWell}
+
+-- a partition with room for a thread and an interval starts whole, whatever its image and input (own)
+abbrev pub StartIsWell : Limits → Option (List ℕ) → List Arrival → Type 0
+StartIsWell limits image input = 1 ≤ limits.threads → 1 ≤ limits.interval → IsWell limits (start_part limits image input)
+
+-- a call of the running thread leaves a whole state whole (own)
+abbrev pub CallsKeepWell : Part → Type 0
+CallsKeepWell s = (number : ℕ) (i : Invocation) → s.running ≡ Some i.caller → IsWell i.limits s → IsWell i.limits ((call_of number).answer_of i s).part
+
+-- so does a decision of a partition that has not halted (own)
+abbrev pub DecisionsKeepWell : Limits → Part → Type 0
+DecisionsKeepWell limits s = (tick room : ℕ) → is_active s.status ≡ true → IsWell limits s → IsWell limits (after_decision limits tick room s)
+
+-- the state is whole after every number of ticks (own)
+abbrev pub StaysWell : OwnTicks → Limits → Option (List ℕ) → List Arrival → Type 0
+StaysWell ticks limits image input = 1 ≤ limits.threads → 1 ≤ limits.interval → (n : ℕ) → IsWell limits (alone ticks limits image input n).part
+
+-- where no call has locked a mutex, each thread's effective priority is its assigned one (XSH 2.8.4; own)
+abbrev pub EffectiveIsAssigned : Limits → Part → Type 0
+EffectiveIsAssigned limits s = IsWell limits s → effective_priorities s.threads s.mutexes ≡ map (assigned_of s.threads) (numbers_of s.threads)

@@ -1,0 +1,39 @@
+//! What holds of a partition's state in every table (`specs/Well`): the running thread is ready and not in the line,
+//! the line has ready threads and none twice, waits agree with the console's waiters and the joiners, an ended thread
+//! waits for nothing, and all lists have their sizes. The functions promise that a partition starts so and that every
+//! call and every decision leaves it so; `proofs/` has the same for each move of the model, over plain variables, and
+//! the laws of pools and of lines that such proofs use. Below stands `ptk_words_model`; above, the gate's tables have
+//! `IsWell` as their invariant.
+#![tactic(auto)]
+
+ghost use Rattle.std.specs.Prelude.{ℕ, List, Option};
+ghost use Rattle.ptk_words.specs.declared.sections.Arrival.{Arrival};
+ghost use Rattle.ptk_words.specs.declared.sections.Limits.{Limits};
+ghost use Rattle.ptk_words_windows.specs.Windows.{OwnTicks};
+ghost use Rattle.ptk_words_model.specs.State.{Part};
+ghost use Rattle.ptk_words_well.specs.WellLaws.{StartIsWell, CallsKeepWell, DecisionsKeepWell, StaysWell, EffectiveIsAssigned};
+
+/// A partition starts whole, whatever its image and input.
+pub fn start_is_well()
+    ensures { (limits : Limits) → (image : Option (List ℕ)) → (input : List Arrival) → StartIsWell limits image input }
+{}
+
+/// A call of the running thread, of whatever number, leaves a whole state whole.
+pub fn calls_keep_well()
+    ensures { (part : Part) → CallsKeepWell part }
+{}
+
+/// A decision of a partition that has not halted leaves a whole state whole.
+pub fn decisions_keep_well()
+    ensures { (limits : Limits) → (part : Part) → DecisionsKeepWell limits part }
+{}
+
+/// A partition alone is whole after every number of ticks.
+pub fn stays_well()
+    ensures { (ticks : OwnTicks) → (limits : Limits) → (image : Option (List ℕ)) → (input : List Arrival) → StaysWell ticks limits image input }
+{}
+
+/// In a whole state each thread's effective priority is its assigned one: no call in use locks a mutex.
+pub fn effective_is_assigned()
+    ensures { (limits : Limits) → (part : Part) → EffectiveIsAssigned limits part }
+{}
