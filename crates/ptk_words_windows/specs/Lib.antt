@@ -1,3 +1,4 @@
 pub mod Windows
 pub mod FaultNumbers
 pub mod WindowFaults
+pub mod OwnTicksLaws

@@ -1,5 +1,7 @@
 //! Windows.
 
+ghost use Rattle.std.specs.Prelude.{◌≡◌, ◌+◌};
+
 use ptk_words::PartId;
 
 /// A part of the frame that is one partition's.
@@ -11,4 +13,13 @@ pub struct Window {
     pub length: u32,
     /// The partition whose it is.
     pub partition: PartId,
+}
+
+impl Window {
+    /// The first tick of the frame after it.
+    pub fn end(&self) -> u64
+        ensures { result ≡ self.now.start + self.now.length }
+    {
+        u64::from(self.start) + u64::from(self.length)
+    }
 }

@@ -1,0 +1,4 @@
+pub mod Walks
+pub mod Inputs
+pub mod Sections
+pub mod Faults

@@ -1,0 +1,6 @@
+use Rattle.toml.specs.View.{table_view}
+use Rattle.ptk_config.proofs.Faults.{never_text}
+use Rattle.ptk_config.proofs.config.read_config.Goals as goal
+
+pub returns-in-Ok-clause-text : goal.returns-in-Ok-clause-text
+returns-in-Ok-clause-text c = never_text _ (table_view c.in-Ok.table) c.read_table.result c.read_table.ensures

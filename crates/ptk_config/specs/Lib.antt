@@ -1,0 +1,7 @@
+pub mod Reading
+pub mod Ranges
+pub mod Inputs
+pub mod Sections
+pub mod Windows
+pub mod Configuration
+pub mod FaultNumbers

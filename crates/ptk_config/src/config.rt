@@ -1,0 +1,145 @@
+//! A whole document.
+
+use crate::fault::ConfigFault;
+use crate::reading::{are_known, array, number};
+use crate::section::{Section, read_section};
+use crate::window::read_windows;
+use ptk_window::WindowTable;
+use ptk_words_windows::WindowFault;
+use std::alloc::Global;
+use std::marker::Model;
+use toml::{Table, Value};
+
+/// The sections, by number, and their windows in a frame.
+#[derive(Debug, Drop)]
+pub struct Config {
+    sections: Vec<Section>,
+    windows: WindowTable,
+}
+
+impl Model for Config {
+    ghost use Rattle.ptk_config.specs.Configuration.{Configuration, IsConfiguration};
+
+    ghost Value = { Configuration };
+
+    ghost view = { λ a. record { sections = a.sections.items; windows = a.windows } };
+
+    ghost invariant = { λ a. IsConfiguration (record { sections = a.sections.items; windows = a.windows }) };
+}
+
+ghost use Rattle.std.specs.Prelude.{◌≡◌, ◌≤◌, ◌≢◌, Ok, Err, None, IfOk, IfErr, length, vec_len};
+ghost use Rattle.std.specs.List.{list_any};
+ghost use Rattle.std.specs.Str.{bytes_eq};
+ghost use Rattle.toml.specs.Parse.{parse_document};
+ghost use Rattle.toml.specs.View.{table_view, items_view};
+ghost use Rattle.ptk_config.specs.Reading.{MemoryAside};
+ghost use Rattle.ptk_config.specs.Sections.{AreInRange, sections_in};
+ghost use Rattle.ptk_config.specs.Configuration.{IsConfiguration, any_doubled, configuration, configuration_in};
+
+impl Config {
+    /// The sections, by number: 1 to 8, each within its ranges, of distinct names.
+    pub fn sections(&self) -> &[Section]
+        ensures value { result.now ≡ self.now.sections }
+        ensures some { 1 ≤ length result.now }
+        ensures few { length result.now ≤ 8 }
+        ensures whole { IsConfiguration self.now }
+    {
+        &self.sections
+    }
+
+    /// How many sections there are, 1 to 8.
+    pub fn parts(&self) -> usize
+        ensures value { result ≡ length self.now.sections }
+        ensures some { 1 ≤ result }
+        ensures few { result ≤ 8 }
+    {
+        self.sections.len()
+    }
+
+    /// How many ticks a frame has, 16 to 1000000.
+    pub fn frame(&self) -> u32
+        ensures value { result ≡ self.now.windows.frame }
+        ensures from { 16 ≤ result }
+        ensures to { result ≤ 1000000 }
+    {
+        self.windows.frame()
+    }
+
+    /// The windows: which section's each tick of the frame is.
+    pub fn windows(&self) -> &WindowTable
+        ensures value { result.now ≡ self.now.windows }
+        ensures whole { IsConfiguration self.now }
+    {
+        &self.windows
+    }
+}
+
+/// The sections that the values state.
+#[tactic(auto, using(crate::proofs::Sections::sections), unfolding(crate::specs::Sections::sections_in))]
+fn read_sections(alloc: Global, values: &[Value]) -> Result<Vec<Section>, ConfigFault>
+    ensures value { MemoryAside (λ v. v.items) result (sections_in (items_view values.now)) }
+    ensures count { IfOk result (λ v. vec_len v ≡ length values.now) }
+    ensures ranges { IfOk result (λ v. AreInRange v.items) }
+{
+    let mut sections = Vec::new(alloc);
+    for value in values {
+        sections.push(read_section(alloc, value)?)?;
+    }
+    Ok(sections)
+}
+
+/// Whether one of these has the section's name.
+fn shares_name(section: &Section, others: &[Section]) -> bool
+    ensures { result ≡ list_any (λ u. bytes_eq section.now.name u.name) others.now }
+{
+    others.iter().any(|other| section.has_name(other.name()))
+}
+
+/// Whether two sections have one name.
+#[tactic(auto, using(ptk_window::proofs::Pairs::pairs), unfolding(crate::specs::Configuration::any_doubled))]
+fn any_doubled(sections: &[Section]) -> bool
+    ensures { result ≡ any_doubled sections.now }
+{
+    for (index, section) in sections.iter().enumerate() {
+        if shares_name(section, &sections[index + 1..]) {
+            return true;
+        }
+    }
+    false
+}
+
+/// What a document's table states.
+fn read_table(alloc: Global, table: &Table) -> Result<Config, ConfigFault>
+    ensures { MemoryAside (λ a. a) result (configuration (table_view table.now)) }
+{
+    let frame = number(table, "frame", 16, 1_000_000)?;
+    let values = array(table, "partition", 1, 8)?;
+    let sections = read_sections(alloc, values)?;
+    let values = array(table, "window", 0, 64)?;
+    let windows = read_windows(alloc, values, &sections)?;
+    if !are_known(table, &["frame", "partition", "window"]) {
+        return Err(ConfigFault::UnknownKey);
+    }
+    if any_doubled(&sections) {
+        return Err(ConfigFault::DoubledName);
+    }
+    match WindowTable::new(alloc, frame as u32, sections.len(), &windows) {
+        Ok(windows) => Ok(Config { sections, windows }),
+        Err(WindowFault::Memory) => Err(ConfigFault::Memory),
+        Err(fault) => Err(ConfigFault::Window(fault)),
+    }
+}
+
+/// Reads a configuration, a TOML document. The first fault in the order of the checks is answered, from a text that is
+/// no document to a fault of the window table; `ConfigFault::Memory` comes only where memory was refused.
+pub fn read_config(alloc: Global, text: &str) -> Result<Config, ConfigFault>
+    ensures values { IfOk result (λ config. configuration_in text.now ≡ Ok config) }
+    ensures refused { IfErr result (λ fault. fault ≢ ConfigFault.Memory → configuration_in text.now ≡ Err fault) }
+    ensures text { IfErr result (λ fault. fault ≡ ConfigFault.Text → parse_document text.now ≡ None) }
+{
+    match toml::table_from_str(alloc, text) {
+        Ok(table) => read_table(alloc, &table),
+        Err(error) if error.is_memory() => Err(ConfigFault::Memory),
+        Err(_) => Err(ConfigFault::Text),
+    }
+}

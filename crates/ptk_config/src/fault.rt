@@ -1,0 +1,64 @@
+//! Why a configuration is refused.
+
+ghost use Rattle.std.specs.Prelude.{◌≡◌};
+ghost use Rattle.ptk_config.specs.declared.fault.ConfigFault.TheVariants.{Memory};
+ghost use Rattle.ptk_config.specs.FaultNumbers.{config_fault_number};
+
+use ptk_words_windows::WindowFault;
+use std::alloc::{AllocError, AllocFailed};
+use thiserror::Error;
+
+/// Why a configuration is refused.
+#[derive(Clone, Copy, Debug, PartialEq, Eq, Error)]
+pub enum ConfigFault {
+    #[error("the text is no TOML document")]
+    Text,
+    #[error("a key is missing")]
+    MissingKey,
+    #[error("a value has the wrong type")]
+    WrongType,
+    #[error("a value is out of range")]
+    OutOfRange,
+    #[error("a key is unknown")]
+    UnknownKey,
+    #[error("two partitions have one name")]
+    DoubledName,
+    #[error("the window table is refused: {0}")]
+    Window(WindowFault),
+    #[error("out of memory")]
+    Memory,
+}
+
+impl ConfigFault {
+    /// The number of the fault, 1 to 8.
+    pub fn number(self) -> u8
+        ensures { result ≡ config_fault_number self }
+    {
+        match self {
+            ConfigFault::Text => 1,
+            ConfigFault::MissingKey => 2,
+            ConfigFault::WrongType => 3,
+            ConfigFault::OutOfRange => 4,
+            ConfigFault::UnknownKey => 5,
+            ConfigFault::DoubledName => 6,
+            ConfigFault::Window(_) => 7,
+            ConfigFault::Memory => 8,
+        }
+    }
+}
+
+impl From<AllocError> for ConfigFault {
+    ghost from_gives = { λ _ e. e ≡ Memory };
+
+    fn from(_error: AllocError) -> ConfigFault {
+        ConfigFault::Memory
+    }
+}
+
+impl<T: Drop> From<AllocFailed<T>> for ConfigFault {
+    ghost from_gives = { λ _ e. e ≡ Memory };
+
+    fn from(_error: AllocFailed<T>) -> ConfigFault {
+        ConfigFault::Memory
+    }
+}

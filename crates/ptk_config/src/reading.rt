@@ -1,0 +1,126 @@
+//! One key of a table, or one value: the value that it states, or the fault.
+
+ghost use Rattle.std.specs.Prelude.{◌≡◌, ◌≤◌, IfOk, option_map, map, string_bytes, vec_len};
+ghost use Rattle.std.specs.List.{list_any, list_all};
+ghost use Rattle.std.specs.Str.{bytes_eq};
+ghost use Rattle.std.specs.BTreeMap.{keys};
+ghost use Rattle.toml.specs.Data.{get_member};
+ghost use Rattle.toml.specs.View.{view, table_view, array_view};
+ghost use Rattle.ptk_config.specs.Reading.{seen, integer, text, items, members, required, number, array, are_known};
+
+use crate::fault::ConfigFault;
+use toml::value::Array;
+use toml::{Table, Value};
+
+/// The value at a key.
+pub(crate) fn value_at<'a>(table: &'a Table, key: &str) -> Option<&'a Value>
+    ensures { option_map (λ v. view v.now) result ≡ get_member key.now (table_view table.now) }
+{
+    table.get(key)
+}
+
+/// The value at a key that may not be missing.
+pub(crate) fn required<'a>(table: &'a Table, key: &str) -> Result<&'a Value, ConfigFault>
+    ensures { seen (λ v. view v.now) result ≡ required key.now (table_view table.now) }
+{
+    match value_at(table, key) {
+        Some(value) => Ok(value),
+        None => Err(ConfigFault::MissingKey),
+    }
+}
+
+/// The number that a value states, within these bounds.
+pub(crate) fn integer(value: &Value, low: u64, high: u64) -> Result<u64, ConfigFault>
+    ensures value { result ≡ integer low high (view value.now) }
+    ensures range { IfOk result (λ n. (low ≤ n) × (n ≤ high)) }
+{
+    match value.as_integer() {
+        Some(signed) => match u64::try_from(signed) {
+            Ok(number) if low <= number && number <= high => Ok(number),
+            _ => Err(ConfigFault::OutOfRange),
+        },
+        None => Err(ConfigFault::WrongType),
+    }
+}
+
+/// The text that a value states.
+pub(crate) fn text(value: &Value) -> Result<&str, ConfigFault>
+    ensures { seen (λ s. s.now) result ≡ text (view value.now) }
+{
+    match value.as_str() {
+        Some(text) => Ok(text),
+        None => Err(ConfigFault::WrongType),
+    }
+}
+
+/// The array that a value states.
+pub(crate) fn items(value: &Value) -> Result<&Array, ConfigFault>
+    ensures { seen (λ v. array_view v.now) result ≡ items (view value.now) }
+{
+    match value.as_array() {
+        Some(values) => Ok(values),
+        None => Err(ConfigFault::WrongType),
+    }
+}
+
+/// The table that a value states.
+pub(crate) fn members(value: &Value) -> Result<&Table, ConfigFault>
+    ensures { seen (λ t. table_view t.now) result ≡ members (view value.now) }
+{
+    match value.as_table() {
+        Some(table) => Ok(table),
+        None => Err(ConfigFault::WrongType),
+    }
+}
+
+/// The number at a key, within these bounds.
+pub(crate) fn number(table: &Table, key: &str, low: u64, high: u64) -> Result<u64, ConfigFault>
+    ensures value { result ≡ number key.now low high (table_view table.now) }
+    ensures range { IfOk result (λ n. (low ≤ n) × (n ≤ high)) }
+{
+    let value = required(table, key)?;
+    integer(value, low, high)
+}
+
+/// The array at a key, of so many items.
+#[tactic(auto, using(crate::proofs::Walks::counts))]
+pub(crate) fn array<'a>(
+    table: &'a Table,
+    key: &str,
+    low: usize,
+    high: usize,
+) -> Result<&'a Array, ConfigFault>
+    ensures value { seen (λ v. array_view v.now) result ≡ array key.now low high (table_view table.now) }
+    ensures low { IfOk result (λ v. low ≤ vec_len v.now) }
+    ensures high { IfOk result (λ v. vec_len v.now ≤ high) }
+{
+    let value = required(table, key)?;
+    let values = items(value)?;
+    if low <= values.len() && values.len() <= high {
+        Ok(values)
+    } else {
+        Err(ConfigFault::OutOfRange)
+    }
+}
+
+/// Whether the key is one of these.
+fn is_among(key: &str, keys: &[&str]) -> bool
+    ensures { result ≡ list_any (λ k. bytes_eq key.now k.now) keys.now }
+{
+    keys.iter().any(|known| key == *known)
+}
+
+/// Whether each key of the table is one of these.
+fn each_among(table: &Table, among: &[&str]) -> bool
+    ensures { result ≡ list_all (λ k. list_any (λ l. bytes_eq (string_bytes k) l.now) among.now) (keys table.now) }
+{
+    table.keys().all(|key| is_among(key.as_str(), among))
+}
+
+/// Whether each key of the table is one of these.
+#[tactic(auto, using(crate::proofs::Walks::known))]
+pub(crate) fn are_known(table: &Table, among: &[&str]) -> bool
+    ensures { result ≡ are_known (map (λ k. k.now) among.now) (table_view table.now) }
+{
+    each_among(table, among)
+}

@@ -1,0 +1,232 @@
+//! A partition's table.
+
+ghost use Rattle.std.specs.Prelude.{◌≡◌, ◌%◌, ◌≤◌, ◌*◌, Ok, IfOk, option_map, codes, string_bytes};
+ghost use Rattle.std.specs.List.{list_all};
+ghost use Rattle.std.specs.Str.{bytes_eq};
+ghost use Rattle.toml.specs.Data.{get_member};
+ghost use Rattle.toml.specs.View.{view, table_view};
+ghost use Rattle.ptk_config.specs.Reading.{seen, MemoryAside};
+ghost use Rattle.ptk_config.specs.Ranges.{IsWithinLimits, IsInput};
+ghost use Rattle.ptk_config.specs.Sections.{is_name, is_name_byte, name, image_of, sixteens, stack, limits, section};
+
+use crate::fault::ConfigFault;
+use crate::input::read_arrivals;
+use crate::reading::{are_known, members, number, required, text, value_at};
+use ptk_words::{Arrival, Limits};
+use std::alloc::Global;
+use std::marker::Model;
+use toml::{Table, Value};
+
+/// What a partition is made from.
+#[derive(Debug, Drop)]
+pub struct Section {
+    name: String,
+    image: Option<String>,
+    limits: Limits,
+    input: Vec<Arrival>,
+}
+
+impl Model for Section {
+    ghost use Rattle.std.specs.Prelude.{option_map, string_bytes};
+    ghost use Rattle.ptk_config.specs.Sections as sections;
+    ghost use Rattle.ptk_config.specs.Ranges.{IsWithinLimits, IsInput};
+
+    ghost Value = { sections.Section };
+
+    ghost view = { λ a. record {
+      name = string_bytes a.name;
+      image = option_map string_bytes a.image;
+      limits = a.limits;
+      input = a.input.items;
+    } };
+
+    ghost invariant = { λ a. IsWithinLimits a.limits × IsInput a.input.items };
+}
+
+impl Section {
+    /// The name.
+    pub fn name(&self) -> &str
+        ensures { result.now ≡ self.now.name }
+    {
+        self.name.as_str()
+    }
+
+    /// The name of its image, None where it has no image.
+    pub fn image(&self) -> Option<&str>
+        ensures { option_map (λ s. s.now) result ≡ self.now.image }
+    {
+        match &self.image {
+            Some(image) => Some(image.as_str()),
+            None => None,
+        }
+    }
+
+    /// Its numbers, all in their ranges.
+    pub fn limits(&self) -> Limits
+        ensures value { result ≡ self.now.limits }
+        ensures ranges { IsWithinLimits result }
+    {
+        self.limits
+    }
+
+    /// Its input: each byte with its tick, bytes of one tick in the order written. The ticks never fall.
+    pub fn input(&self) -> &[Arrival]
+        ensures value { result.now ≡ self.now.input }
+        ensures ranges { IsInput result.now }
+    {
+        &self.input
+    }
+
+    /// Whether this is the name.
+    pub fn has_name(&self, name: &str) -> bool
+        ensures { result ≡ bytes_eq self.now.name name.now }
+    {
+        self.name.as_str() == name
+    }
+}
+
+/// Whether the byte may stand in a partition's name.
+fn is_name_byte(byte: u8) -> bool
+    ensures { result ≡ is_name_byte byte }
+{
+    matches!(byte, b'a'..=b'z' | b'0'..=b'9' | b'_' | b'-')
+}
+
+/// Whether each byte may stand in a partition's name.
+fn are_name_bytes(bytes: &[u8]) -> bool
+    ensures { result ≡ list_all is_name_byte bytes.now }
+{
+    bytes.iter().all(|byte| is_name_byte(*byte))
+}
+
+/// Whether the text is a partition's name.
+fn is_name(text: &str) -> bool
+    ensures { result ≡ is_name text.now }
+{
+    let bytes = text.as_bytes();
+    1 <= bytes.len() && bytes.len() <= 16 && are_name_bytes(bytes)
+}
+
+/// The name of a partition.
+fn read_name(table: &Table) -> Result<&str, ConfigFault>
+    ensures { seen (λ s. s.now) result ≡ name (table_view table.now) }
+{
+    let value = required(table, "name")?;
+    let text = text(value)?;
+    if is_name(text) {
+        Ok(text)
+    } else {
+        Err(ConfigFault::OutOfRange)
+    }
+}
+
+/// The name of an image, if there is one.
+fn read_image(table: &Table) -> Result<Option<&str>, ConfigFault>
+    ensures { seen (option_map (λ s. s.now)) result ≡ image_of (get_member (codes "image") (table_view table.now)) }
+{
+    match value_at(table, "image") {
+        Some(value) => {
+            let text = text(value)?;
+            if text.is_empty() {
+                Err(ConfigFault::OutOfRange)
+            } else {
+                Ok(Some(text))
+            }
+        }
+        None => Ok(None),
+    }
+}
+
+/// A number at a key that is a multiple of 16.
+fn sixteens(table: &Table, key: &str, low: u64, high: u64) -> Result<u64, ConfigFault>
+    ensures value { result ≡ sixteens key.now low high (table_view table.now) }
+    ensures range { IfOk result (λ n. (low ≤ n) × (n ≤ high) × (n % 16 ≡ 0)) }
+{
+    let size = number(table, key, low, high)?;
+    if size % 16 == 0 {
+        Ok(size)
+    } else {
+        Err(ConfigFault::OutOfRange)
+    }
+}
+
+/// The stack of each of so many threads, which all lie in the memory.
+fn stack(table: &Table, memory: u64, threads: u64) -> Result<u64, ConfigFault>
+    requires { threads ≤ 32 }
+    ensures value { result ≡ stack memory threads (table_view table.now) }
+    ensures range { IfOk result (λ n. (16 ≤ n) × (n ≤ 65536) × (n % 16 ≡ 0) × (threads * n ≤ memory)) }
+{
+    let size = sixteens(table, "stack", 16, 65536)?;
+    if threads * size <= memory {
+        Ok(size)
+    } else {
+        Err(ConfigFault::OutOfRange)
+    }
+}
+
+/// The numbers of a section.
+fn read_limits(table: &Table) -> Result<Limits, ConfigFault>
+    ensures value { result ≡ limits (table_view table.now) }
+    ensures ranges { IfOk result IsWithinLimits }
+{
+    let memory = sixteens(table, "memory", 4096, 1_048_576)?;
+    let threads = number(table, "threads", 1, 32)?;
+    let stack = stack(table, memory, threads)?;
+    let mutexes = number(table, "mutexes", 0, 64)?;
+    let conditions = number(table, "conds", 0, 32)?;
+    let keys = number(table, "keys", 0, 32)?;
+    let interval = number(table, "interval", 1, 1_000_000)?;
+    let ring = number(table, "ring", 1, 256)?;
+    let output = number(table, "output", 0, 65536)?;
+    let trace = number(table, "trace", 0, 1024)?;
+    Ok(Limits {
+        memory: memory as u32,
+        threads: threads as u32,
+        stack: stack as u32,
+        mutexes: mutexes as u32,
+        conditions: conditions as u32,
+        keys: keys as u32,
+        interval: interval as u32,
+        ring: ring as u32,
+        output: output as u32,
+        trace: trace as u32,
+    })
+}
+
+/// A copy of a text, if there is one.
+fn copy_of(alloc: Global, text: Option<&str>) -> Result<Option<String>, ConfigFault>
+    ensures { MemoryAside (option_map string_bytes) result (Ok (option_map (λ s. s.now) text.entry)) }
+{
+    match text {
+        Some(text) => Ok(Some(String::from_str(alloc, text)?)),
+        None => Ok(None),
+    }
+}
+
+/// The keys of a partition's table.
+const KEYS: [&str; 13] = [
+    "name", "image", "memory", "threads", "stack", "mutexes", "conds", "keys", "interval", "ring",
+    "output", "trace", "input",
+];
+
+/// The section that a value states.
+pub(crate) fn read_section(alloc: Global, value: &Value) -> Result<Section, ConfigFault>
+    ensures value { MemoryAside (λ s. s) result (section (view value.now)) }
+    ensures limits { IfOk result (λ s. IsWithinLimits s.limits) }
+    ensures input { IfOk result (λ s. IsInput s.input) }
+{
+    let table = members(value)?;
+    let name = read_name(table)?;
+    let image = read_image(table)?;
+    let limits = read_limits(table)?;
+    let input = read_arrivals(alloc, table)?;
+    if !are_known(table, &KEYS) {
+        return Err(ConfigFault::UnknownKey);
+    }
+    Ok(Section {
+        name: String::from_str(alloc, name)?,
+        image: copy_of(alloc, image)?,
+        limits,
+        input,
+    })
+}

@@ -1,0 +1,72 @@
+//! A window's table.
+
+ghost use Rattle.std.specs.Prelude.{◌≡◌, ◌≤◌, ◌<◌, IfSome, length, position};
+ghost use Rattle.std.specs.Str.{bytes_eq};
+ghost use Rattle.toml.specs.View.{view, items_view};
+ghost use Rattle.ptk_config.specs.Reading.{MemoryAside};
+ghost use Rattle.ptk_config.specs.Windows.{number_of, window, windows_in};
+
+use crate::fault::ConfigFault;
+use crate::reading::{are_known, members, number, required, text};
+use crate::section::Section;
+use ptk_words::PartId;
+use ptk_words_windows::Window;
+use std::alloc::Global;
+use toml::Value;
+
+/// The place of the first section of this name.
+fn position_of(sections: &[Section], name: &str) -> Option<usize>
+    ensures value { result ≡ position (λ s. bytes_eq s.name name.now) sections.now }
+    ensures within { IfSome result (λ i. i < length sections.now) }
+{
+    sections.iter().position(|section| section.has_name(name))
+}
+
+/// The number of the section of this name, or how many sections there are.
+fn number_of(sections: &[Section], name: &str) -> PartId
+    requires { length sections.now ≤ 8 }
+    ensures { result ≡ number_of sections.now name.now }
+{
+    match position_of(sections, name) {
+        Some(number) => PartId::new(number as u8),
+        None => PartId::new(sections.len() as u8),
+    }
+}
+
+/// The window that a value states.
+fn read_window(value: &Value, sections: &[Section]) -> Result<Window, ConfigFault>
+    requires { length sections.now ≤ 8 }
+    ensures { result ≡ window sections.now (view value.now) }
+{
+    let table = members(value)?;
+    let start = number(table, "start", 0, 999_999)?;
+    let length = number(table, "length", 1, 1_000_000)?;
+    let name = required(table, "partition")?;
+    let name = text(name)?;
+    if are_known(table, &["start", "length", "partition"]) {
+        Ok(Window {
+            start: start as u32,
+            length: length as u32,
+            partition: number_of(sections, name),
+        })
+    } else {
+        Err(ConfigFault::UnknownKey)
+    }
+}
+
+/// The windows that the values state.
+#[tactic(auto, using(crate::proofs::Walks::walks), unfolding(crate::specs::Windows::windows_in))]
+pub(crate) fn read_windows(
+    alloc: Global,
+    values: &[Value],
+    sections: &[Section],
+) -> Result<Vec<Window>, ConfigFault>
+    requires { length sections.now ≤ 8 }
+    ensures { MemoryAside (λ v. v.items) result (windows_in sections.now (items_view values.now)) }
+{
+    let mut windows = Vec::new(alloc);
+    for value in values {
+        windows.push(read_window(value, sections)?)?;
+    }
+    Ok(windows)
+}

@@ -1,0 +1,5 @@
+pub mod Pairs
+pub mod Permuted
+pub mod Orders
+pub mod Searches
+pub mod Found

@@ -1,0 +1,5 @@
+pub mod Remainders
+pub mod Lists
+pub mod Places
+pub mod OwnLaws
+pub mod FaultLaws
