@@ -1,0 +1,3 @@
+pub mod Arrivals
+pub mod Moves
+pub mod Waiting

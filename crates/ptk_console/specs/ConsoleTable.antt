@@ -1,0 +1,86 @@
+-- The consoles of all partitions, and what one call does to one of them.
+use Rattle.std.specs.Prelude.{◌≡◌, ℕ, ◌<◌, ◌≤◌, List, [], length, take, drop, map, slice_get, slice_index_or, slice_set, Option, Some, None, option_map, if◌then◌else◌, nat_eq, false}
+use Rattle.std.specs.List.{All, IsDistinct, list_any}
+use Rattle.ptk_words.specs.declared.sections.Arrival.{Arrival}
+use Rattle.ptk_words.specs.declared.sections.Limits.{Limits}
+use Rattle.ptk_words_model.specs.State.{Console}
+use Rattle.ptk_words_model.specs.Console.{arriving, is_full, with_input, with_output}
+
+-- ---- by partition
+
+-- each partition's console, and the numbers of its section, which never change (own)
+pub record ConsoleTable : Type 0 where
+  pub consoles : List Console
+  pub limits : List Limits
+
+-- the console of a partition that has this input and no byte yet (own)
+abbrev pub fresh_console : List Arrival → Console
+fresh_console input = record { coming = input; ring = []; dropped = 0; output = []; waiters = [] }
+
+-- the numbers past the last section (own)
+abbrev pub no_limits : Limits
+no_limits = record { memory = 0; threads = 0; stack = 0; mutexes = 0; conditions = 0; keys = 0; interval = 0; ring = 0; output = 0; trace = 0 }
+
+-- the console of a partition (own)
+abbrev pub console_at : ConsoleTable → ℕ → Console
+console_at table p = slice_index_or table.consoles p (fresh_console [])
+
+-- the numbers of a partition's section (own)
+abbrev pub limits_at : ConsoleTable → ℕ → Limits
+limits_at table p = slice_index_or table.limits p no_limits
+
+-- the table with another console of one partition (own)
+abbrev pub put_console : ℕ → Console → ConsoleTable → ConsoleTable
+put_console p console table = record table { consoles = slice_set table.consoles p console }
+
+-- ---- one console
+
+-- the byte that comes next, where it comes at the tick or before (own)
+abbrev pub next_byte : ℕ → Console → Option ℕ
+next_byte tick console = option_map (λ arrival. arrival.byte) (slice_get (arriving tick console) 0)
+
+-- the console without that byte to come (own)
+abbrev pub without_next : ℕ → Console → Console
+without_next tick console = record console { coming = drop (length (take 1 (arriving tick console))) console.coming }
+
+-- a byte, if there is one, into the ring, or lost and counted where the ring has so many (own)
+abbrev pub with_any_input : ℕ → Option ℕ → Console → Console
+with_any_input limit None console = console
+with_any_input limit (Some byte) console = with_input limit byte console
+
+-- the byte that comes next has arrived (own)
+abbrev pub after_next : ℕ → ℕ → Console → Console
+after_next limit tick console = with_any_input limit (next_byte tick console) (without_next tick console)
+
+-- the first byte of the ring (own)
+abbrev pub first_byte : Console → Option ℕ
+first_byte console = slice_get console.ring 0
+
+-- the console without that byte (own)
+abbrev pub without_first : Console → Console
+without_first console = record console { ring = drop 1 console.ring }
+
+-- a byte at the end of the output, where it has fewer than so many (own)
+abbrev pub after_put : ℕ → ℕ → Console → Console
+after_put limit byte console = if is_full limit console then console else with_output byte console
+
+-- the thread does not wait (own)
+abbrev pub IsNotWaiting : ℕ → Console → Type 0
+IsNotWaiting t console = list_any (nat_eq t) console.waiters ≡ false
+
+-- ---- what the crate keeps of one partition
+
+-- a console and the numbers of its section (own)
+pub record LimitedConsole : Type 0 where
+  pub console : Console
+  pub limits : Limits
+
+-- the consoles and the numbers of all partitions (own)
+abbrev pub table_of : List LimitedConsole → ConsoleTable
+table_of consoles = record { consoles = map (λ c. c.console) consoles; limits = map (λ c. c.limits) consoles }
+
+-- the numbers of threads, no two equal (own)
+pub record AreWaiters (waiters : List ℕ) : Type 0 where
+  pub distinct : IsDistinct nat_eq waiters
+  pub positive : All (λ t. 0 < t) waiters
+  pub in_range : All (λ t. t ≤ 32) waiters
