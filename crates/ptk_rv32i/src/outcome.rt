@@ -1,0 +1,16 @@
+//! What a step comes to.
+
+use ptk_words::FaultKind;
+
+/// What a step comes to.
+#[derive(Clone, Copy, Debug, PartialEq, Eq)]
+pub enum Outcome {
+    /// The instruction was carried out.
+    Done,
+    /// An ECALL: the pc is at the next word, and the call itself is left to the caller (RISC-V 2.8).
+    Call,
+    /// An EBREAK, which changed nothing (RISC-V 2.8).
+    Break,
+    /// A fault, which changed nothing (RISC-V 1.6).
+    Fault(FaultKind),
+}

@@ -1,0 +1,172 @@
+//! What each instruction does.
+
+ghost use Rattle.std.specs.Prelude.{◌≡◌, ◌+◌, ◌*◌, ◌%◌, ◌-◌, ◌^◌, ℕ, List};
+ghost use Rattle.ptk_words.specs.Words.{word_of, sign_extension};
+ghost use Rattle.ptk_words.specs.Processor.{register, with_register as after_write};
+ghost use Rattle.ptk_words_instructions.specs.Instructions.{with_next_pc, link_effect};
+ghost use Rattle.ptk_rv32i.specs.Effects.{operands, seen, after, effect_of_instr};
+
+use crate::memory::{load, store};
+use crate::outcome::Outcome;
+use crate::values::{
+    extend_12, extend_13, extend_21, passes, shifted, with_immediate, with_register,
+};
+use ptk_rv32i_code::{BranchOffset, BranchTest, Immediate, Instr, Register};
+use ptk_words::{Cpu, FaultKind};
+
+/// The sum of a register and an offset: the address of a load or store.
+#[inline(always)]
+fn address(cpu: &Cpu, rs1: Register, offset: Immediate) -> u32
+    ensures { result ≡ word_of (register cpu.now rs1 + sign_extension 12 offset) }
+{
+    cpu.register(rs1.number())
+        .wrapping_add(extend_12(offset.number()))
+}
+
+/// Goes on at the next word.
+#[inline(always)]
+fn advance(cpu: &mut Cpu) -> Outcome
+    ensures cpu { cpu.new ≡ with_next_pc cpu.old }
+    ensures outcome { result ≡ Outcome.Done }
+{
+    cpu.set_pc(cpu.pc().wrapping_add(4));
+    Outcome::Done
+}
+
+/// Writes a register, and goes on at the next word.
+#[inline(always)]
+fn write(cpu: &mut Cpu, rd: Register, value: u32) -> Outcome
+    ensures cpu { cpu.new ≡ after_write (with_next_pc cpu.old) rd value }
+    ensures outcome { result ≡ Outcome.Done }
+{
+    let next = cpu.pc().wrapping_add(4);
+    cpu.set_register(rd.number(), value);
+    cpu.set_pc(next);
+    Outcome::Done
+}
+
+/// Goes on at the target, with the address of the next word in a register.
+#[inline(always)]
+fn link(cpu: &mut Cpu, rd: Register, target: u32) -> Outcome
+    ensures { (memory : List ℕ) → seen cpu.new memory result ≡ after cpu.old memory (link_effect (operands cpu.old memory 0 0 rd 0) target) }
+{
+    if target & 3 != 0 {
+        return Outcome::Fault(FaultKind::Misaligned);
+    }
+    let next = cpu.pc().wrapping_add(4);
+    cpu.set_register(rd.number(), next);
+    cpu.set_pc(target);
+    Outcome::Done
+}
+
+/// The target of a jump to a register, from the sum of the register and the offset.
+#[inline(always)]
+fn register_target(sum: u32) -> u32
+    ensures { result ≡ sum - sum % 2 }
+{
+    sum - (sum & 1)
+}
+
+/// A branch.
+#[inline(always)]
+fn branch(
+    cpu: &mut Cpu,
+    test: BranchTest,
+    rs1: Register,
+    rs2: Register,
+    offset: BranchOffset,
+) -> Outcome
+    ensures { (memory : List ℕ) → seen cpu.new memory result ≡ after cpu.old memory (effect_of_instr cpu.old memory (Instr.Branch test rs1 rs2 offset)) }
+{
+    if passes(test, cpu.register(rs1.number()), cpu.register(rs2.number())) {
+        let target = cpu.pc().wrapping_add(extend_13(offset.number()));
+        if target & 3 != 0 {
+            return Outcome::Fault(FaultKind::Misaligned);
+        }
+        cpu.set_pc(target);
+    } else {
+        cpu.set_pc(cpu.pc().wrapping_add(4));
+    }
+    Outcome::Done
+}
+
+/// Carries out an instruction.
+#[inline(always)]
+pub fn execute(cpu: &mut Cpu, memory: &mut [u8], instr: Instr) -> Outcome
+    ensures { seen cpu.new memory.new result ≡ after cpu.old memory.old (effect_of_instr cpu.old memory.old instr) }
+{
+    match instr {
+        Instr::Lui { rd, upper } => write(cpu, rd, upper.number() << 12),
+        Instr::Auipc { rd, upper } => {
+            let value = cpu.pc().wrapping_add(upper.number() << 12);
+            write(cpu, rd, value)
+        }
+        Instr::Jal { rd, offset } => {
+            let target = cpu.pc().wrapping_add(extend_21(offset.number()));
+            link(cpu, rd, target)
+        }
+        Instr::Jalr { rd, rs1, offset } => {
+            let target = register_target(address(cpu, rs1, offset));
+            link(cpu, rd, target)
+        }
+        Instr::Branch {
+            test,
+            rs1,
+            rs2,
+            offset,
+        } => branch(cpu, test, rs1, rs2, offset),
+        Instr::Load {
+            kind,
+            rd,
+            rs1,
+            offset,
+        } => match load(memory, kind, address(cpu, rs1, offset)) {
+            Ok(value) => write(cpu, rd, value),
+            Err(fault) => Outcome::Fault(fault),
+        },
+        Instr::Store {
+            kind,
+            rs1,
+            rs2,
+            offset,
+        } => {
+            let value = cpu.register(rs2.number());
+            match store(memory, kind, address(cpu, rs1, offset), value) {
+                Ok(()) => advance(cpu),
+                Err(fault) => Outcome::Fault(fault),
+            }
+        }
+        Instr::WithImmediate {
+            op,
+            rd,
+            rs1,
+            immediate,
+        } => {
+            let value = with_immediate(
+                op,
+                cpu.register(rs1.number()),
+                extend_12(immediate.number()),
+            );
+            write(cpu, rd, value)
+        }
+        Instr::Shift {
+            op,
+            rd,
+            rs1,
+            amount,
+        } => {
+            let value = shifted(op, cpu.register(rs1.number()), amount.number());
+            write(cpu, rd, value)
+        }
+        Instr::WithRegister { op, rd, rs1, rs2 } => {
+            let value = with_register(op, cpu.register(rs1.number()), cpu.register(rs2.number()));
+            write(cpu, rd, value)
+        }
+        Instr::Fence { .. } => advance(cpu),
+        Instr::Ecall => {
+            cpu.set_pc(cpu.pc().wrapping_add(4));
+            Outcome::Call
+        }
+        Instr::Ebreak => Outcome::Break,
+    }
+}
