@@ -1,0 +1,144 @@
+-- The slot table: the threads of each partition by number, their stored priorities, and what each call makes of it.
+use Rattle.std.specs.Prelude.{◌≡◌, ℕ, zero, suc, ◌≤◌, Bool, true, false, ◌||◌, if◌then◌else◌, List, length, Option, Some, None, option_and_then, is_some, slice_index, slice_set, map}
+use Rattle.ptk_words.specs.Processor.{Processor}
+use Rattle.ptk_words.specs.Pools.{pool_get, pool_set, pool_changed, least_free}
+use Rattle.ptk_words.specs.declared.threads.Thread.{Thread}
+use Rattle.ptk_words.specs.declared.threads.Phase.{Phase}
+use Rattle.ptk_words.specs.declared.threads.Phase.TheVariants.{Normal, Unwinding, Ended}
+use Rattle.ptk_words.specs.declared.threads.Policy.{Policy}
+use Rattle.ptk_words.specs.declared.threads.Wait.{Wait}
+use Rattle.ptk_words_parted.specs.Parts.{part_of, filled}
+
+-- by partition and then by number: the threads, None where the number is free, and their stored effective priorities (own)
+pub record ThreadTable : Type 0 where
+  pub threads : List (List (Option Thread))
+  pub stored : List (List ℕ)
+
+-- every partition has as many stored priorities as slots, at most 32 (own)
+pub record IsTable (threads : List (List (Option Thread))) (stored : List (List ℕ)) : Type 0 where
+  pub parts : length stored ≡ length threads
+  pub same : (p : ℕ) → length (part_of stored p) ≡ length (part_of threads p)
+  pub few : (p : ℕ) → length (part_of threads p) ≤ 32
+
+-- as many free numbers for each partition as its count, with stored priority 0 (own)
+abbrev pub free_table : List ℕ → ThreadTable
+free_table counts = record { threads = map (filled None) counts; stored = map (filled 0) counts }
+
+-- ---- reading
+
+-- the thread of a number, None of a free one (own)
+abbrev pub thread_in : ThreadTable → ℕ → ℕ → Option Thread
+thread_in table p k = pool_get (part_of table.threads p) k
+
+-- the stored priority of a number, 0 past the list (own)
+abbrev pub stored_of : List ℕ → ℕ → ℕ
+stored_of stored zero = 0
+stored_of stored (suc i) = slice_index stored i
+
+-- ---- one partition's entries changed
+
+-- the entry of a number, and its stored priority (own)
+abbrev pub with_slot : ℕ → ℕ → Option Thread → ℕ → ThreadTable → ThreadTable
+with_slot p k slot priority table =
+    record {
+      threads = slice_set table.threads p (pool_set (part_of table.threads p) k slot);
+      stored = slice_set table.stored p (pool_set (part_of table.stored p) k priority);
+    }
+
+-- the entry of a number alone (own)
+abbrev pub with_entry : ℕ → ℕ → Option Thread → ThreadTable → ThreadTable
+with_entry p k slot table = record table { threads = slice_set table.threads p (pool_set (part_of table.threads p) k slot) }
+
+-- the thread of a number changed by f; a free number stays free (own)
+abbrev pub with_changed : ℕ → ℕ → (Thread → Thread) → ThreadTable → ThreadTable
+with_changed p k f table = record table { threads = slice_set table.threads p (pool_changed k f (part_of table.threads p)) }
+
+-- the stored priority of a number (own)
+abbrev pub with_stored : ℕ → ℕ → ℕ → ThreadTable → ThreadTable
+with_stored p k priority table = record table { stored = slice_set table.stored p (pool_set (part_of table.stored p) k priority) }
+
+-- the number is free, with stored priority 0 (pthread_join, pthread_detach)
+abbrev pub with_free : ℕ → ℕ → ThreadTable → ThreadTable
+with_free p k table = with_slot p k None 0 table
+
+-- the thread at this number, where there is one, with its assigned priority stored (pthread_create)
+abbrev pub with_new_at : Option ℕ → ℕ → Thread → ThreadTable → ThreadTable
+with_new_at None p thread table = table
+with_new_at (Some k) p thread table = with_slot p k (Some thread) thread.priority table
+
+-- a new thread at the least free number, if there is one (pthread_create)
+abbrev pub with_new : ℕ → Thread → ThreadTable → ThreadTable
+with_new p thread table = with_new_at (least_free (part_of table.threads p)) p thread table
+
+-- what is left at a number: the thread, or a free number (own)
+abbrev pub with_left : ℕ → ℕ → Option Thread → ThreadTable → ThreadTable
+with_left p k None table = with_free p k table
+with_left p k (Some thread) table = with_entry p k (Some thread) table
+
+-- a thread that has ended keeps its number and result until it is joined or detached; one that is detached or has a joiner leaves nothing (pthread_exit, pthread_join, pthread_detach)
+abbrev pub left_at_end : Thread → Option Thread
+left_at_end thread = if thread.is_detached || is_some thread.joiner then None else Some (record thread { phase = Ended })
+
+-- the thread of a number after its end (pthread_exit)
+abbrev pub with_end : ℕ → ℕ → ThreadTable → ThreadTable
+with_end p k table = with_left p k (option_and_then left_at_end (thread_in table p k)) table
+
+-- the thread has ended (pthread_exit)
+abbrev pub has_ended : Phase → Bool
+has_ended Normal = false
+has_ended Unwinding = false
+has_ended Ended = true
+
+-- an ended thread that is detached leaves nothing, another one is detached (pthread_detach)
+abbrev pub left_at_detach : Thread → Option Thread
+left_at_detach thread = if has_ended thread.phase then None else Some (record thread { is_detached = true })
+
+-- the thread of a number once it is detached (pthread_detach)
+abbrev pub with_detached : ℕ → ℕ → ThreadTable → ThreadTable
+with_detached p k table = with_left p k (option_and_then left_at_detach (thread_in table p k)) table
+
+-- ---- one field of a thread changed
+
+-- these registers and pc (RISC-V 2.1)
+abbrev pub with_cpu : Processor → Thread → Thread
+with_cpu cpu thread = record thread { cpu = cpu }
+
+-- this thread in place of the other (own)
+abbrev pub replaced_by : Thread → Thread → Thread
+replaced_by thread old = thread
+
+-- this policy (pthread_setschedparam)
+abbrev pub with_policy : Policy → Thread → Thread
+with_policy policy thread = record thread { policy = policy }
+
+-- this assigned priority (pthread_setschedprio)
+abbrev pub with_priority : ℕ → Thread → Thread
+with_priority priority thread = record thread { priority = priority }
+
+-- so many ticks used of a round-robin interval (XSH 2.8.4, SCHED_RR)
+abbrev pub with_used : ℕ → Thread → Thread
+with_used used thread = record thread { used = used }
+
+-- this phase (pthread_exit)
+abbrev pub with_phase : Phase → Thread → Thread
+with_phase phase thread = record thread { phase = phase }
+
+-- whether the image started it (own)
+abbrev pub with_main : Bool → Thread → Thread
+with_main is_main thread = record thread { is_main = is_main }
+
+-- whether its number is free at its end (pthread_detach)
+abbrev pub with_detached_mark : Bool → Thread → Thread
+with_detached_mark is_detached thread = record thread { is_detached = is_detached }
+
+-- this joiner (pthread_join)
+abbrev pub with_joiner : Option ℕ → Thread → Thread
+with_joiner joiner thread = record thread { joiner = joiner }
+
+-- this result (pthread_exit)
+abbrev pub with_result : ℕ → Thread → Thread
+with_result result thread = record thread { result = result }
+
+-- this wait, or none (XSH 2.8.4)
+abbrev pub with_wait : Option Wait → Thread → Thread
+with_wait wait thread = record thread { wait = wait }

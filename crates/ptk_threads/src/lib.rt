@@ -1,0 +1,13 @@
+//! The threads of all partitions in one table of slots: the slot of thread k of a partition is its first slot plus
+//! k − 1. A contract sees, by partition and then by number, the threads and their stored effective priorities; each
+//! call changes one partition's entries alone, says so in one equation on that record, and is total in all but the
+//! partition: a number that is free answers None, and setting something of it changes nothing. `create` gives the least
+//! free number. No call but the constructor takes memory. Below stand `ptk_words` and `ptk_words_parted`, which keeps
+//! the lists; above, `ptk_ready` and every crate that acts on threads.
+#![tactic(auto)]
+
+mod slot;
+mod threads;
+
+pub use slot::Slot;
+pub use threads::Threads;

@@ -1,0 +1,540 @@
+//! The table: the life of numbers, and the fields of a thread.
+
+ghost use Rattle.std.specs.Prelude.{◌≡◌, ℕ, ◌<◌, ◌≤◌, List, length, map, slice_set, position, is_none, IfOk, IfSome, All, Some, None, option_map, option_and_then};
+ghost use Rattle.ptk_words.specs.Pools.{least_free, pool_get, pool_set, pool_changed};
+ghost use Rattle.ptk_words.specs.declared.threads.Thread.{Thread};
+ghost use Rattle.ptk_words_parted.specs.Parts.{part_of, joined, filled};
+ghost use Rattle.ptk_threads.specs.Table.{ThreadTable, free_table, thread_in, stored_of, with_slot, with_entry, with_changed, with_stored, with_free, with_new, with_left, left_at_end, with_end, left_at_detach, with_detached, with_cpu, with_policy, with_priority, with_used, with_phase, with_main, with_joiner, with_result, with_wait, with_detached_mark, replaced_by};
+ghost use Rattle.ptk_threads.specs.Changes.{thread_changed};
+
+use crate::slot::{Change, Slot};
+use ptk_words::{Cpu, PartId, Phase, Policy, Priority, Thread, ThreadNo, Wait};
+use ptk_words_parted::Parted;
+use std::alloc::{AllocError, Global};
+use std::marker::Model;
+
+/// The threads of each partition by number from 1, and their stored effective priorities.
+#[derive(Drop)]
+pub struct Threads {
+    slots: Parted<Slot>,
+    stored: Parted<u8>,
+}
+
+impl Model for Threads {
+    ghost use Rattle.ptk_threads.specs.Table.{ThreadTable, IsTable};
+
+    ghost Value = { ThreadTable };
+
+    ghost view = { λ a. record { threads = a.slots; stored = a.stored } };
+
+    ghost invariant = { λ a. IsTable a.slots a.stored };
+}
+
+impl Threads {
+    /// As many free slots for each of 1 to 8 partitions as its count, at most 32. An error where memory ran out.
+    pub fn build(alloc: Global, counts: &[u32]) -> Result<Threads, AllocError>
+        requires partitions { length counts.now ≤ 8 }
+        requires threads { All (λ count. count ≤ 32) counts.now }
+        ensures { IfOk result (λ table. table ≡ free_table counts.now) }
+    {
+        let slots = Parted::build(alloc, counts, Slot::new(None))?;
+        let stored = Parted::build(alloc, counts, 0)?;
+        Ok(Threads { slots, stored })
+    }
+
+    /// How many partitions there are.
+    pub fn parts(&self) -> usize
+        ensures { result ≡ length self.now.threads }
+    {
+        self.slots.parts()
+    }
+
+    /// All slots, by partition and then by number.
+    pub fn slots(&self) -> &[Slot]
+        ensures { result.now ≡ joined self.now.threads }
+    {
+        self.slots.whole()
+    }
+
+    /// The slots of a partition, by number from 1.
+    pub fn part(&self, p: PartId) -> &[Slot]
+        requires { p < length self.now.threads }
+        ensures slots { result.now ≡ part_of self.now.threads p }
+        ensures few { length result.now ≤ 32 }
+    {
+        self.slots.part(p)
+    }
+
+    /// The thread of a number, None of a free one.
+    pub fn thread(&self, p: PartId, k: ThreadNo) -> Option<Thread>
+        requires { p < length self.now.threads }
+        ensures { result ≡ thread_in self.now p k }
+    {
+        self.slot(p, k).thread()
+    }
+
+    /// A new thread at the least free number, with its assigned priority as the stored one; None, and nothing changes,
+    /// where no number is free (pthread_create).
+    #[tactic(auto, using(crate::proofs::Slots::pools))]
+    pub fn create(&mut self, p: PartId, thread: Thread) -> Option<ThreadNo>
+        requires { p < length self.old.threads }
+        ensures number { result ≡ least_free (part_of self.old.threads p) }
+        ensures table { self.new ≡ with_new p thread self.old }
+    {
+        let priority = thread.priority;
+        let level = priority.level();
+        let free = first_free(self.part(p));
+        if let Some(k) = free {
+            self.put(p, k, Some(thread), level);
+        }
+        free
+    }
+
+    /// The thread has ended: its number and result stay until it is joined or detached, and its number is free at once
+    /// where it is detached or has a joiner (pthread_exit).
+    #[tactic(auto, using(crate::proofs::Slots::pools))]
+    pub fn end(&mut self, p: PartId, k: ThreadNo)
+        requires { p < length self.old.threads }
+        ensures { self.new ≡ with_end p k self.old }
+    {
+        let left = left_at_end(self.thread(p, k));
+        self.leave(p, k, left);
+    }
+
+    /// An ended thread's number is free; another thread is detached (pthread_detach).
+    #[tactic(auto, using(crate::proofs::Slots::pools))]
+    pub fn detach(&mut self, p: PartId, k: ThreadNo)
+        requires { p < length self.old.threads }
+        ensures { self.new ≡ with_detached p k self.old }
+    {
+        let left = left_at_detach(self.thread(p, k));
+        self.leave(p, k, left);
+    }
+
+    /// The number is free, as after a join of its ended thread (pthread_join).
+    #[tactic(auto, using(crate::proofs::Slots::pools))]
+    pub fn free(&mut self, p: PartId, k: ThreadNo)
+        requires { p < length self.old.threads }
+        ensures { self.new ≡ with_free p k self.old }
+    {
+        self.put(p, k, None, 0);
+    }
+
+    /// Its registers and pc; None of a free number.
+    pub fn cpu(&self, p: PartId, k: ThreadNo) -> Option<Cpu>
+        requires { p < length self.now.threads }
+        ensures { result ≡ option_map (λ (thread : Thread). thread.cpu) (thread_in self.now p k) }
+    {
+        self.slot(p, k).cpu()
+    }
+
+    /// Gives the thread these registers and pc.
+    #[tactic(auto, using(crate::proofs::Slots::pools))]
+    pub fn set_cpu(&mut self, p: PartId, k: ThreadNo, cpu: Cpu)
+        requires { p < length self.old.threads }
+        ensures { self.new ≡ with_changed p k (with_cpu cpu) self.old }
+    {
+        set_cpu_in(self.slots.lend(p), k, cpu);
+    }
+
+    /// Its policy (XSH 2.8.4); None of a free number.
+    pub fn policy(&self, p: PartId, k: ThreadNo) -> Option<Policy>
+        requires { p < length self.now.threads }
+        ensures { result ≡ option_map (λ (thread : Thread). thread.policy) (thread_in self.now p k) }
+    {
+        self.slot(p, k).policy()
+    }
+
+    /// Its assigned priority (XSH 2.8.4); None of a free number.
+    pub fn assigned_priority(&self, p: PartId, k: ThreadNo) -> Option<Priority>
+        requires { p < length self.now.threads }
+        ensures { result ≡ option_map (λ (thread : Thread). thread.priority) (thread_in self.now p k) }
+    {
+        self.slot(p, k).assigned_priority()
+    }
+
+    /// The ticks that it used of a round-robin interval (XSH 2.8.4, SCHED_RR); None of a free number.
+    pub fn used(&self, p: PartId, k: ThreadNo) -> Option<u32>
+        requires { p < length self.now.threads }
+        ensures { result ≡ option_map (λ (thread : Thread). thread.used) (thread_in self.now p k) }
+    {
+        self.slot(p, k).used()
+    }
+
+    /// How far it is (pthread_exit); None of a free number.
+    pub fn phase(&self, p: PartId, k: ThreadNo) -> Option<Phase>
+        requires { p < length self.now.threads }
+        ensures { result ≡ option_map (λ (thread : Thread). thread.phase) (thread_in self.now p k) }
+    {
+        self.slot(p, k).phase()
+    }
+
+    /// Whether the image started it; None of a free number.
+    pub fn is_main(&self, p: PartId, k: ThreadNo) -> Option<bool>
+        requires { p < length self.now.threads }
+        ensures { result ≡ option_map (λ (thread : Thread). thread.is_main) (thread_in self.now p k) }
+    {
+        self.slot(p, k).is_main()
+    }
+
+    /// Whether its number is free at its end (pthread_detach); None of a free number.
+    pub fn is_detached(&self, p: PartId, k: ThreadNo) -> Option<bool>
+        requires { p < length self.now.threads }
+        ensures { result ≡ option_map (λ (thread : Thread). thread.is_detached) (thread_in self.now p k) }
+    {
+        self.slot(p, k).is_detached()
+    }
+
+    /// What a joiner is told (pthread_join); None of a free number.
+    pub fn result(&self, p: PartId, k: ThreadNo) -> Option<u32>
+        requires { p < length self.now.threads }
+        ensures { result ≡ option_map (λ (thread : Thread). thread.result) (thread_in self.now p k) }
+    {
+        self.slot(p, k).result()
+    }
+
+    /// The thread that waits for its end (pthread_join); None of a free number too.
+    pub fn joiner(&self, p: PartId, k: ThreadNo) -> Option<ThreadNo>
+        requires { p < length self.now.threads }
+        ensures { result ≡ option_and_then (λ (thread : Thread). thread.joiner) (thread_in self.now p k) }
+    {
+        self.slot(p, k).joiner()
+    }
+
+    /// What it waits for (XSH 2.8.4); None of a free number too.
+    pub fn wait(&self, p: PartId, k: ThreadNo) -> Option<Wait>
+        requires { p < length self.now.threads }
+        ensures { result ≡ option_and_then (λ (thread : Thread). thread.wait) (thread_in self.now p k) }
+    {
+        self.slot(p, k).wait()
+    }
+
+    /// Gives the thread this policy.
+    pub fn set_policy(&mut self, p: PartId, k: ThreadNo, policy: Policy)
+        requires { p < length self.old.threads }
+        ensures { self.new ≡ with_changed p k (with_policy policy) self.old }
+    {
+        self.change(p, k, Change::Policy(policy));
+    }
+
+    /// Gives the thread this assigned priority.
+    pub fn set_assigned_priority(&mut self, p: PartId, k: ThreadNo, priority: Priority)
+        requires { p < length self.old.threads }
+        ensures { self.new ≡ with_changed p k (with_priority priority) self.old }
+    {
+        self.change(p, k, Change::AssignedPriority(priority));
+    }
+
+    /// Gives the thread so many used ticks.
+    pub fn set_used(&mut self, p: PartId, k: ThreadNo, used: u32)
+        requires { p < length self.old.threads }
+        ensures { self.new ≡ with_changed p k (with_used used) self.old }
+    {
+        self.change(p, k, Change::Used(used));
+    }
+
+    /// Gives the thread this phase.
+    pub fn set_phase(&mut self, p: PartId, k: ThreadNo, phase: Phase)
+        requires { p < length self.old.threads }
+        ensures { self.new ≡ with_changed p k (with_phase phase) self.old }
+    {
+        self.change(p, k, Change::Phase(phase));
+    }
+
+    /// Gives the thread the mark of the main thread, or takes it away.
+    pub fn set_main(&mut self, p: PartId, k: ThreadNo, is_main: bool)
+        requires { p < length self.old.threads }
+        ensures { self.new ≡ with_changed p k (with_main is_main) self.old }
+    {
+        self.change(p, k, Change::Main(is_main));
+    }
+
+    /// Gives the thread the mark of a detached thread, or takes it away.
+    pub fn set_detached(&mut self, p: PartId, k: ThreadNo, is_detached: bool)
+        requires { p < length self.old.threads }
+        ensures { self.new ≡ with_changed p k (with_detached_mark is_detached) self.old }
+    {
+        self.change(p, k, Change::Detached(is_detached));
+    }
+
+    /// Gives the thread this result.
+    pub fn set_result(&mut self, p: PartId, k: ThreadNo, value: u32)
+        requires { p < length self.old.threads }
+        ensures { self.new ≡ with_changed p k (with_result value) self.old }
+    {
+        self.change(p, k, Change::Result(value));
+    }
+
+    /// Gives the thread this joiner, or none.
+    pub fn set_joiner(&mut self, p: PartId, k: ThreadNo, joiner: Option<ThreadNo>)
+        requires { p < length self.old.threads }
+        ensures { self.new ≡ with_changed p k (with_joiner joiner) self.old }
+    {
+        self.change(p, k, Change::Joiner(joiner));
+    }
+
+    /// Gives the thread this wait, or none.
+    pub fn set_wait(&mut self, p: PartId, k: ThreadNo, wait: Option<Wait>)
+        requires { p < length self.old.threads }
+        ensures { self.new ≡ with_changed p k (with_wait wait) self.old }
+    {
+        self.change(p, k, Change::Wait(wait));
+    }
+
+    /// Puts this thread in place of the one of a number; a free number stays free.
+    #[tactic(auto, using(crate::proofs::Slots::pools))]
+    pub fn set_thread(&mut self, p: PartId, k: ThreadNo, thread: Thread)
+        requires { p < length self.old.threads }
+        ensures { self.new ≡ with_changed p k (replaced_by thread) self.old }
+    {
+        replace_in(self.slots.lend(p), k, thread);
+    }
+
+    /// The stored effective priorities of a partition, by number from 1; 0 of a number that was never used.
+    pub fn stored(&self, p: PartId) -> &[u8]
+        requires { p < length self.now.threads }
+        ensures priorities { result.now ≡ part_of self.now.stored p }
+        ensures same { length result.now ≡ length (part_of self.now.threads p) }
+    {
+        self.stored.part(p)
+    }
+
+    /// Stores the effective priorities of a partition.
+    #[tactic(auto, using(crate::proofs::Slots::pools))]
+    pub fn store(&mut self, p: PartId, priorities: &[u8])
+        requires partition { p < length self.old.threads }
+        requires same { length priorities.now ≡ length (part_of self.old.threads p) }
+        ensures { self.new ≡ record self.old { stored = slice_set self.old.stored p priorities.now } }
+    {
+        self.stored.lend(p).copy_from_slice(priorities);
+    }
+
+    /// The stored effective priority of a number, 0 past the partition's slots.
+    pub fn stored_priority(&self, p: PartId, k: ThreadNo) -> u8
+        requires { p < length self.now.threads }
+        ensures { result ≡ stored_of (part_of self.now.stored p) k }
+    {
+        stored_in(self.stored(p), k)
+    }
+
+    /// Stores the effective priority of a number.
+    #[tactic(auto, using(crate::proofs::Slots::pools))]
+    pub fn set_stored_priority(&mut self, p: PartId, k: ThreadNo, priority: u8)
+        requires { p < length self.old.threads }
+        ensures { self.new ≡ with_stored p k priority self.old }
+    {
+        put_stored(self.stored.lend(p), k, priority);
+    }
+
+    /// The slot of a number, a free one past the partition's.
+    fn slot(&self, p: PartId, k: ThreadNo) -> Slot
+        requires { p < length self.now.threads }
+        ensures { result ≡ thread_in self.now p k }
+    {
+        slot_of(self.part(p), k)
+    }
+
+    /// Changes one field of a thread.
+    #[tactic(auto, using(crate::proofs::Slots::pools))]
+    fn change(&mut self, p: PartId, k: ThreadNo, change: Change)
+        requires { p < length self.old.threads }
+        ensures { self.new ≡ with_changed p k (thread_changed change) self.old }
+    {
+        change_in(self.slots.lend(p), k, change);
+    }
+
+    /// Sets a number's entry and its stored priority; nothing past the partition's slots.
+    #[tactic(auto, using(crate::proofs::Slots::pools))]
+    fn put(&mut self, p: PartId, k: ThreadNo, thread: Option<Thread>, priority: u8)
+        requires { p < length self.old.threads }
+        ensures { self.new ≡ with_slot p k thread priority self.old }
+    {
+        put_slot(self.slots.lend(p), k, thread);
+        self.set_stored_priority(p, k, priority);
+    }
+
+    /// Leaves a thread at a number, or frees it.
+    #[tactic(auto, using(crate::proofs::Slots::pools))]
+    fn leave(&mut self, p: PartId, k: ThreadNo, left: Option<Thread>)
+        requires { p < length self.old.threads }
+        ensures { self.new ≡ with_left p k left self.old }
+    {
+        match left {
+            Some(thread) => put_slot(self.slots.lend(p), k, Some(thread)),
+            None => self.put(p, k, None, 0),
+        }
+    }
+}
+
+/// Changes the thread of a number, if there is one.
+#[tactic(auto, using(crate::proofs::Slots::changes))]
+fn change_in(slots: &mut [Slot], k: ThreadNo, change: Change)
+    ensures { slots.new ≡ pool_changed k (thread_changed change) slots.old }
+{
+    let i = (k.number() - 1) as usize;
+    if i < slots.len() {
+        let slot = &mut slots[i];
+        slot.change(change);
+    }
+}
+
+/// Gives the thread of a number, if there is one, these registers.
+#[tactic(auto, using(crate::proofs::Slots::changes))]
+fn set_cpu_in(slots: &mut [Slot], k: ThreadNo, cpu: Cpu)
+    ensures { slots.new ≡ pool_changed k (with_cpu cpu) slots.old }
+{
+    let i = (k.number() - 1) as usize;
+    if i < slots.len() {
+        let slot = &mut slots[i];
+        slot.set_cpu(cpu);
+    }
+}
+
+/// The slot of a number, a free one past the partition's.
+#[tactic(auto, using(crate::proofs::Slots::numbers))]
+fn slot_of(slots: &[Slot], k: ThreadNo) -> Slot
+    ensures { result ≡ pool_get slots.now k }
+{
+    let i = (k.number() - 1) as usize;
+    if i < slots.len() {
+        slots[i]
+    } else {
+        Slot::new(None)
+    }
+}
+
+/// Puts this thread in place of the one of a number, if there is one.
+#[tactic(auto, using(crate::proofs::Slots::changes))]
+fn replace_in(slots: &mut [Slot], k: ThreadNo, thread: Thread)
+    ensures { slots.new ≡ pool_changed k (replaced_by thread) slots.old }
+{
+    let i = (k.number() - 1) as usize;
+    if i < slots.len() {
+        let slot = &mut slots[i];
+        slot.replace(thread);
+    }
+}
+
+/// The stored priority of a number.
+#[tactic(auto, using(crate::proofs::Slots::numbers))]
+fn stored_in(stored: &[u8], k: ThreadNo) -> u8
+    ensures { result ≡ stored_of stored.now k }
+{
+    let i = (k.number() - 1) as usize;
+    if i < stored.len() { stored[i] } else { 0 }
+}
+
+/// Sets the entry of a number.
+#[tactic(auto, using(crate::proofs::Slots::numbers))]
+fn put_slot(slots: &mut [Slot], k: ThreadNo, thread: Option<Thread>)
+    ensures { slots.new ≡ pool_set slots.old k thread }
+{
+    let i = (k.number() - 1) as usize;
+    if i < slots.len() {
+        slots[i] = Slot::new(thread);
+    }
+}
+
+/// Sets the stored priority of a number.
+#[tactic(auto, using(crate::proofs::Slots::numbers))]
+fn put_stored(stored: &mut [u8], k: ThreadNo, priority: u8)
+    ensures { stored.new ≡ pool_set stored.old k priority }
+{
+    let i = (k.number() - 1) as usize;
+    if i < stored.len() {
+        stored[i] = priority;
+    }
+}
+
+/// The least free number of a partition.
+#[tactic(auto, using(crate::proofs::Slots::numbers))]
+fn first_free(slots: &[Slot]) -> Option<ThreadNo>
+    requires { length slots.now ≤ 32 }
+    ensures { result ≡ least_free slots.now }
+{
+    match first_free_place(slots) {
+        Some(i) => Some(ThreadNo::new(i as u8 + 1)),
+        None => None,
+    }
+}
+
+/// The place of the first free slot, from 0.
+fn first_free_place(slots: &[Slot]) -> Option<usize>
+    ensures { result ≡ position is_none slots.now }
+{
+    slots.iter().position(|slot| slot.is_free())
+}
+
+/// What an ended thread leaves at its number.
+fn left_at_end(slot: Option<Thread>) -> Option<Thread>
+    ensures { result ≡ option_and_then left_at_end slot }
+{
+    let thread = slot?;
+    if thread.is_detached || thread.joiner.is_some() {
+        return None;
+    }
+    Some(Thread {
+        phase: Phase::Ended,
+        ..thread
+    })
+}
+
+/// What a thread leaves at its number once it is detached.
+fn left_at_detach(slot: Option<Thread>) -> Option<Thread>
+    ensures { result ≡ option_and_then left_at_detach slot }
+{
+    let thread = slot?;
+    if thread.phase == Phase::Ended {
+        return None;
+    }
+    Some(Thread {
+        is_detached: true,
+        ..thread
+    })
+}
+
+#[cfg(test)]
+mod tests {
+    use super::*;
+    use std::test::Fail;
+
+    fn new_thread(pc: u32) -> Thread {
+        Thread {
+            cpu: Cpu::at(pc),
+            policy: Policy::Fifo,
+            priority: Priority::new(16),
+            used: 0,
+            is_main: false,
+            is_detached: false,
+            joiner: None,
+            result: 0,
+            phase: Phase::Normal,
+            wait: None,
+        }
+    }
+
+    #[test]
+    fn numbers_are_of_one_partition(rt: HostRuntime) -> Result<(), Fail> {
+        let first = PartId::new(0);
+        let second = PartId::new(1);
+        let one = ThreadNo::new(1);
+        let two = ThreadNo::new(2);
+        let mut threads = Threads::build(rt.alloc(), &[1, 2])?;
+        assert_eq!(rt; threads.create(second, new_thread(4)), Some(one));
+        assert_eq!(rt; threads.create(second, new_thread(8)), Some(two));
+        assert_eq!(rt; threads.create(second, new_thread(12)), None);
+        assert_eq!(rt; threads.create(first, new_thread(16)), Some(one));
+        threads.end(second, one);
+        assert_eq!(rt; threads.phase(second, one), Some(Phase::Ended));
+        threads.detach(second, one);
+        assert_eq!(rt; threads.phase(second, one), None);
+        threads.detach(second, two);
+        threads.end(second, two);
+        assert_eq!(rt;
+            threads.slots().iter().filter(|slot| slot.is_free()).count(),
+            2
+        );
+        assert_eq!(rt; threads.stored(first), [16].as_slice());
+        Ok(())
+    }
+}
