@@ -1,0 +1,90 @@
+-- What the getters of a subcommand's matches say of its rows.
+use Rattle.std.proofs.Common.{◌≡◌, ◌∙◌, ℕ, ◌<◌, ◌≤◌, ◌^◌, List, Option, Some, None, Result, Ok, Err, refl, sym, ap, subst, codes, arith, slice_index, ◌==◌, true, false}
+use Rattle.std.specs.Prelude.{unwrap_or}
+use Rattle.std.specs.Str.Parse.{IsNumeral, ParsesUnsigned, digits_value, without_leading_plus}
+use Rattle.clap.specs.Words.{Row, Text, first_of, first_value, rows_of}
+use Rattle.clap.specs.Matches.{ReadsOne}
+use Rattle.clap.specs.declared.parser.matches.Found.{Found}
+use Rattle.clap.proofs.WalkLemmas.{first_value-rows}
+use Rattle.ptk_main_line.specs.declared.line.Request.{Request}
+use Rattle.ptk_main_line.specs.declared.line.Request.TheVariants.{Run, Trace, Asm, Check}
+use Rattle.ptk_main_line.specs.CommandLine.{FindsRequest, FindsTicks, Gives, HasText, HasTicks}
+
+pub some_is : {X : Type 0} (x y : X) → Some x ≡ Some y → x ≡ y
+some_is x y e = ap (λ o. unwrap_or o x) e
+
+pub text_at : (f : Found) (id t : Text) → Some t ≡ first_value f id → first_of id (rows_of f) ≡ Some t
+text_at f id t e = sym (first_value-rows f id) ∙ sym e
+
+pub no_text : (f : Found) (id t : Text) → None ≡ first_value f id → HasText id t (rows_of f) → ⊥
+no_text f id t e h =
+    let bad : None ≡ Some t = e ∙ first_value-rows f id ∙ h in
+    cc
+
+-- a number that was read is that of a decimal numeral
+pub number_read : (E : Type 0) (G : List ℕ → Result ℕ E → Type 0) (o : Option (List ℕ)) (r : Option ℕ) (n : ℕ) → r ≡ Some n
+    → (o ≡ None → r ≡ None) → ((t : List ℕ) → o ≡ Some t → ReadsOne G t r)
+    → ((u : List ℕ) (x : Result ℕ E) → G u x → ParsesUnsigned 64 10 u x)
+    → (t : List ℕ) × (o ≡ Some t) × IsNumeral 10 (without_leading_plus t) × (n ≡ digits_value 10 (without_leading_plus t))
+number_read E G None r n is none value only =
+    let bad : None ≡ Some n = sym (none refl) ∙ is in
+    cc
+number_read E G (Some t) r n is none value only =
+    let got = only t (Ok n) (subst (λ (o : Option ℕ). ReadsOne G t o) is (value t refl)) in
+    (t, refl, got.0.0, got.1)
+
+-- a text that is read as no number is no numeral of one
+pub no_number : (E : Type 0) (G : List ℕ → Result ℕ E → Type 0) (o : Option (List ℕ)) (r : Option ℕ) → r ≡ None
+    → ((t : List ℕ) → o ≡ Some t → ReadsOne G t r)
+    → ((u : List ℕ) (x : Result ℕ E) → G u x → ParsesUnsigned 64 10 u x)
+    → (t : List ℕ) → o ≡ Some t → IsNumeral 10 (without_leading_plus t)
+    → digits_value 10 (without_leading_plus t) < 2 ^ 64 → ⊥
+no_number E G o r is value only t e numeral small =
+    let got = subst (λ (q : Option ℕ). ReadsOne G t q) is (value t e) in
+    only t (Err got.0) got.1 (numeral, small)
+
+pub small_number : (n v : ℕ) → n ≡ v → n ≤ 1099511627776 → v < 18446744073709551616
+small_number n v e h = omega arith
+
+pub too_many : (n : ℕ) → n ≤ 1099511627776 → 1099511627776 < n → ⊥
+too_many n h b = omega arith
+
+pub none_ticks : (answer : Option ℕ) (rows : List Row) → answer ≡ None → ((n : ℕ) → ¬ HasTicks n rows) → FindsTicks answer rows
+none_ticks None rows e h = h
+none_ticks (Some n) rows e h = cc
+
+pub none_found : (answer : Option Request) (name : Text) (rows : List Row) → answer ≡ None
+    → ((request : Request) → ¬ Gives name rows request) → FindsRequest answer name rows
+none_found None name rows e h = h
+none_found (Some request) name rows e h = cc
+
+-- ---- no request of a subcommand, where its values are not all there: another subcommand's name has another first letter
+
+pub no_run : (rows : List Row) → ((file : Text) (n : ℕ) → HasText (codes "FILE") file rows → HasTicks n rows → ⊥)
+    → (request : Request) → ¬ Gives (codes "run") rows request
+no_run rows h (Run file n) g = h file.now n g.1 g.2
+no_run rows h (Trace file n partition) g = let bad : true ≡ false = ap (λ (t : Text). slice_index t 0 == 114) g.0 in cc
+no_run rows h (Asm source image) g = let bad : true ≡ false = ap (λ (t : Text). slice_index t 0 == 114) g.0 in cc
+no_run rows h (Check file) g = let bad : true ≡ false = ap (λ (t : Text). slice_index t 0 == 114) g.0 in cc
+
+pub no_trace : (rows : List Row)
+    → ((file : Text) (n : ℕ) (name : Text) → HasText (codes "FILE") file rows → HasTicks n rows → HasText (codes "partition") name rows → ⊥)
+    → (request : Request) → ¬ Gives (codes "trace") rows request
+no_trace rows h (Run file n) g = let bad : true ≡ false = ap (λ (t : Text). slice_index t 0 == 116) g.0 in cc
+no_trace rows h (Trace file n partition) g = h file.now n partition.now g.1 g.2 g.3
+no_trace rows h (Asm source image) g = let bad : true ≡ false = ap (λ (t : Text). slice_index t 0 == 116) g.0 in cc
+no_trace rows h (Check file) g = let bad : true ≡ false = ap (λ (t : Text). slice_index t 0 == 116) g.0 in cc
+
+pub no_asm : (rows : List Row) → ((source image : Text) → HasText (codes "IN") source rows → HasText (codes "OUT") image rows → ⊥)
+    → (request : Request) → ¬ Gives (codes "asm") rows request
+no_asm rows h (Run file n) g = let bad : true ≡ false = ap (λ (t : Text). slice_index t 0 == 97) g.0 in cc
+no_asm rows h (Trace file n partition) g = let bad : true ≡ false = ap (λ (t : Text). slice_index t 0 == 97) g.0 in cc
+no_asm rows h (Asm source image) g = h source.now image.now g.1 g.2
+no_asm rows h (Check file) g = let bad : true ≡ false = ap (λ (t : Text). slice_index t 0 == 97) g.0 in cc
+
+pub no_check : (rows : List Row) → ((file : Text) → HasText (codes "FILE") file rows → ⊥)
+    → (request : Request) → ¬ Gives (codes "check") rows request
+no_check rows h (Run file n) g = let bad : true ≡ false = ap (λ (t : Text). slice_index t 0 == 99) g.0 in cc
+no_check rows h (Trace file n partition) g = let bad : true ≡ false = ap (λ (t : Text). slice_index t 0 == 99) g.0 in cc
+no_check rows h (Asm source image) g = let bad : true ≡ false = ap (λ (t : Text). slice_index t 0 == 99) g.0 in cc
+no_check rows h (Check file) g = h file.now g.1

@@ -1,0 +1,22 @@
+use Rattle.std.proofs.Common.{◌≡◌, ◌∙◌, ap, ap₂, true, codes}
+use Rattle.std.proofs.lemmas.Result.{IfOk-weaker}
+use Rattle.clap.specs.Words.{App, app_of, new_app, with_subcommand}
+use Rattle.clap.specs.Simple.{Shape, app_of_fields, on_top}
+use Rattle.ptk_main_line.proofs.commands.ptk_command.Goals as goal
+
+abbrev wants_subcommand : Shape → Shape
+wants_subcommand s = record s { subcommand_required = true }
+
+abbrev top_of : App → Shape
+top_of a = a.top
+
+pub returns : goal.returns
+returns c =
+    let start : app_of c.subcommand_required.result ≡ on_top wants_subcommand (new_app (codes "ptk")) =
+    ap app_of_fields c.subcommand_required.ensures ∙ ap (on_top wants_subcommand) c.new.ensures.app in
+    let one = c.in_ok-subcommand.ensures.shape c.in_ok-run_command.ensures.1 ∙ ap₂ with_subcommand start (ap top_of c.in_ok-run_command.ensures.0) in
+    let two = c.in_ok-subcommand-2.ensures.shape c.in_ok-trace_command.ensures.1 ∙ ap₂ with_subcommand one (ap top_of c.in_ok-trace_command.ensures.0) in
+    let three = c.in_ok-subcommand-3.ensures.shape c.in_ok-asm_command.ensures.1 ∙ ap₂ with_subcommand two (ap top_of c.in_ok-asm_command.ensures.0) in
+    IfOk-weaker c.subcommand-4.result _ _
+    (λ r h. h.shape c.in_ok-check_command.ensures.1 ∙ ap₂ with_subcommand three (ap top_of c.in_ok-check_command.ensures.0))
+    c.subcommand-4.ensures

@@ -1,0 +1,16 @@
+use Rattle.std.proofs.Common.{◌≡◌, ◌∙◌, List, Option, sym, ap, map, subst, inr}
+use Rattle.clap.specs.Words.{Row, Text, fault_of, is_simple, is_simple_and_free, subcommand_of, subcommand_rows_of}
+use Rattle.ptk_main_line.specs.CommandLine.{Means, ptk}
+use Rattle.ptk_main_line.proofs.line.read_line.Goals as goal
+
+pub returns-in-Some-clause-taken : goal.returns-in-Some-clause-taken
+returns-in-Some-clause-taken c =
+    ap (λ a. fault_of a (map (λ w. w.now) c.args.words.now)) (sym c.in_ok-command.ensures)
+    ∙ c.in_ok-matches.ensures.kinds (ap is_simple_and_free c.in_ok-command.ensures)
+
+pub returns-clause-refused : goal.returns-clause-refused
+returns-clause-refused c =
+    let words = map (λ w. w.now) c.args.words.now in
+    let met : subcommand_rows_of c.in_ok-matches.matches ≡ subcommand_of ptk words =
+    (c.in_ok-matches.ensures.matches (ap is_simple c.in_ok-command.ensures)).1 ∙ ap (λ a. subcommand_of a words) c.in_ok-command.ensures in
+    inr (λ request asks. c.in-None.ensures request (subst (λ (m : Option (Text × List Row)). Means m request) (sym met) asks))

@@ -1,0 +1,98 @@
+-- The command `ptk` as `clap` reads it, and what its words ask for.
+use Rattle.std.specs.Prelude.{◌≡◌, ◌≤◌, ◌^◌, ℕ, List, Option, Some, MatchOption, true, codes}
+use Rattle.std.specs.Str.Parse.{IsNumeral, without_leading_plus, digits_value}
+use Rattle.clap.specs.Words.{App, Row, Rule, Text, first_of, new_app, one_of, new_rule, subcommand_of, with_rule, with_subcommand}
+use Rattle.clap.specs.Simple.{on_top}
+use Rattle.clap.specs.declared.builder.value_parser.ValueParser.TheVariants as parser
+use Rattle.ptk_main_line.specs.declared.line.Request.{Request}
+use Rattle.ptk_main_line.specs.declared.line.Request.TheVariants.{Run, Trace, Asm, Check}
+
+-- ---- the command
+
+-- a word that has to be there (own)
+abbrev pub required_word : Text → Rule
+required_word id = record (new_rule id) { required = true }
+
+-- --ticks N, of which N is a number from 0 to 2^40 (own)
+abbrev pub ticks : Rule
+ticks = record (new_rule (codes "ticks")) {
+  long = Some (codes "ticks");
+  required = true;
+  parser = Some (parser.Unsigned 0 1099511627776);
+}
+
+-- --partition NAME (own)
+abbrev pub partition : Rule
+partition = record (new_rule (codes "partition")) {
+  long = Some (codes "partition");
+  required = true;
+}
+
+-- run FILE --ticks N (own)
+abbrev pub run : App
+run = with_rule (with_rule (new_app (codes "run")) (required_word (codes "FILE"))) ticks
+
+-- trace FILE --ticks N --partition NAME (own)
+abbrev pub trace : App
+trace = with_rule (with_rule (with_rule (new_app (codes "trace")) (required_word (codes "FILE"))) ticks) partition
+
+-- asm IN OUT (own)
+abbrev pub asm : App
+asm = with_rule (with_rule (new_app (codes "asm")) (required_word (codes "IN"))) (required_word (codes "OUT"))
+
+-- check FILE (own)
+abbrev pub check : App
+check = with_rule (new_app (codes "check")) (required_word (codes "FILE"))
+
+-- the command, of whose four subcommands one has to be there (own)
+abbrev pub ptk : App
+ptk = with_subcommand (with_subcommand (with_subcommand (with_subcommand
+    (on_top (λ s. record s { subcommand_required = true }) (new_app (codes "ptk")))
+    run.top) trace.top) asm.top) check.top
+
+-- ---- what the words ask for
+
+-- the value of an argument is this text (own)
+abbrev pub HasText : Text → Text → List Row → Type 0
+HasText id text rows = first_of id rows ≡ Some text
+
+-- the value of --ticks is a decimal numeral of this number, which is at most 2^40 (own)
+abbrev pub HasTicks : ℕ → List Row → Type 0
+HasTicks n rows = (text : Text) × (one_of (codes "ticks") rows ≡ Some text)
+    × IsNumeral 10 (without_leading_plus text) × (n ≡ digits_value 10 (without_leading_plus text))
+    × (n ≤ 2 ^ 40)
+
+-- the request is that of the subcommand of this name and has its values (own)
+abbrev pub Gives : Text → List Row → Request → Type 0
+Gives name rows (Run file ticks) = (name ≡ codes "run") × HasText (codes "FILE") file.now rows × HasTicks ticks rows
+Gives name rows (Trace file ticks partition) = (name ≡ codes "trace") × HasText (codes "FILE") file.now rows
+    × HasTicks ticks rows × HasText (codes "partition") partition.now rows
+Gives name rows (Asm source image) = (name ≡ codes "asm") × HasText (codes "IN") source.now rows
+    × HasText (codes "OUT") image.now rows
+Gives name rows (Check file) = (name ≡ codes "check") × HasText (codes "FILE") file.now rows
+
+-- the subcommand that was met, with its rows, gives the request (own)
+abbrev pub Means : Option (Text × List Row) → Request → Type 0
+Means met request = (name : Text) × (rows : List Row) × (met ≡ Some (name, rows)) × Gives name rows request
+
+-- these words, the program's name first, ask for this (own)
+abbrev pub Asks : List Text → Request → Type 0
+Asks words request = Means (subcommand_of ptk words) request
+
+-- these words ask for nothing that the program does (own)
+abbrev pub AsksNothing : List Text → Type 0
+AsksNothing words = (request : Request) → ¬ Asks words request
+
+-- ---- answers, where there may be none
+
+-- a number that the rows give --ticks, or none and they give none (own)
+abbrev pub FindsTicks : Option ℕ → List Row → Type 0
+FindsTicks answer rows = MatchOption answer ((n : ℕ) → ¬ HasTicks n rows) (λ n. HasTicks n rows)
+
+-- a request that the subcommand gives, or none and it gives none (own)
+abbrev pub FindsRequest : Option Request → Text → List Row → Type 0
+FindsRequest answer name rows = MatchOption answer ((request : Request) → ¬ Gives name rows request) (Gives name rows)
+
+-- a request that the subcommand that was met gives, or none and it gives none (own)
+abbrev pub MeansAny : Option Request → Option (Text × List Row) → Type 0
+MeansAny answer met = MatchOption answer ((request : Request) → ¬ Means met request) (Means met)

@@ -1,0 +1,84 @@
+//! The command `ptk` and its subcommands, as `clap` builds them.
+ghost use Rattle.std.specs.Prelude.{◌≡◌, false, IfOk};
+ghost use Rattle.clap.specs.Words.{app_of, rule_of};
+ghost use Rattle.clap.specs.declared.builder.command.Command.TheViews.{out-Command};
+ghost use Rattle.ptk_main_line.specs.CommandLine.{asm, check, partition, ptk, required_word, run, ticks, trace};
+
+use clap::{Arg, Command, value_parser};
+use std::alloc::{AllocError, Global};
+
+/// The command with its four subcommands, of which one has to be there.
+pub(crate) fn ptk_command<'a>(alloc: Global) -> Result<Command<'a>, AllocError>
+    ensures { IfOk result (λ c. app_of c ≡ ptk) }
+{
+    Command::new(alloc, "ptk")
+        .subcommand_required(true)
+        .subcommand(run_command(alloc)?)?
+        .subcommand(trace_command(alloc)?)?
+        .subcommand(asm_command(alloc)?)?
+        .subcommand(check_command(alloc)?)
+}
+
+/// `run FILE --ticks N`.
+fn run_command<'a>(alloc: Global) -> Result<Command<'a>, AllocError>
+    ensures { IfOk result (λ c. (app_of c ≡ run) × ((out-Command c).has_globals ≡ false)) }
+{
+    Command::new(alloc, "run")
+        .arg(word_argument(alloc, "FILE"))?
+        .arg(ticks_argument(alloc))
+}
+
+/// `trace FILE --ticks N --partition NAME`.
+fn trace_command<'a>(alloc: Global) -> Result<Command<'a>, AllocError>
+    ensures { IfOk result (λ c. (app_of c ≡ trace) × ((out-Command c).has_globals ≡ false)) }
+{
+    Command::new(alloc, "trace")
+        .arg(word_argument(alloc, "FILE"))?
+        .arg(ticks_argument(alloc))?
+        .arg(partition_argument(alloc))
+}
+
+/// `asm IN OUT`.
+fn asm_command<'a>(alloc: Global) -> Result<Command<'a>, AllocError>
+    ensures { IfOk result (λ c. (app_of c ≡ asm) × ((out-Command c).has_globals ≡ false)) }
+{
+    Command::new(alloc, "asm")
+        .arg(word_argument(alloc, "IN"))?
+        .arg(word_argument(alloc, "OUT"))
+}
+
+/// `check FILE`.
+fn check_command<'a>(alloc: Global) -> Result<Command<'a>, AllocError>
+    ensures { IfOk result (λ c. (app_of c ≡ check) × ((out-Command c).has_globals ≡ false)) }
+{
+    Command::new(alloc, "check").arg(word_argument(alloc, "FILE"))
+}
+
+/// A word that has to be there.
+fn word_argument<'a>(alloc: Global, id: &'a str) -> Arg<'a>
+    ensures rule { rule_of result ≡ required_word id.entry.now }
+    ensures own { result.global ≡ false }
+{
+    Arg::new(alloc, id).required(true)
+}
+
+/// `--ticks N`.
+fn ticks_argument<'a>(alloc: Global) -> Arg<'a>
+    ensures rule { rule_of result ≡ ticks }
+    ensures own { result.global ≡ false }
+{
+    Arg::new(alloc, "ticks")
+        .long("ticks")
+        .required(true)
+        .value_parser(value_parser!(u64).range(0..=1_099_511_627_776))
+}
+
+/// `--partition NAME`.
+fn partition_argument<'a>(alloc: Global) -> Arg<'a>
+    ensures rule { rule_of result ≡ partition }
+    ensures own { result.global ≡ false }
+{
+    Arg::new(alloc, "partition")
+        .long("partition")
+        .required(true)
+}

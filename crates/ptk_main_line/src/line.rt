@@ -1,0 +1,136 @@
+//! The words of a command line and the request in them.
+ghost use Rattle.std.specs.Prelude.{◌≡◌, ◌⊎◌, [], codes, map, IfErr, IfOk, MatchOption, OnOk};
+ghost use Rattle.clap.specs.Words.{HasKind, fault_of, found_of, rows_of, subcommand_rows_of};
+ghost use Rattle.ptk_main_line.specs.CommandLine.{Asks, AsksNothing, FindsRequest, FindsTicks, MeansAny, ptk};
+
+use crate::commands::ptk_command;
+use clap::error::ErrorKind;
+use clap::{ArgMatches, Error};
+use std::alloc::{AllocError, Global};
+
+/// The last tick that a run may go to.
+pub const MOST_TICKS: u64 = 1_099_511_627_776;
+
+/// What a command line asks for. A file is named by its path from the working directory.
+#[derive(Clone, Copy, Debug, PartialEq, Eq)]
+pub enum Request<'a> {
+    /// `run FILE --ticks N`: the report after a run of so many ticks.
+    Run {
+        /// The configuration's file.
+        file: &'a str,
+        /// The number of ticks, at most `MOST_TICKS`.
+        ticks: u64,
+    },
+    /// `trace FILE --ticks N --partition NAME`: the trace of one partition after such a run.
+    Trace {
+        /// The configuration's file.
+        file: &'a str,
+        /// The number of ticks, at most `MOST_TICKS`.
+        ticks: u64,
+        /// The partition's name.
+        partition: &'a str,
+    },
+    /// `asm IN OUT`: the image of an assembler text.
+    Asm {
+        /// The file of the text.
+        source: &'a str,
+        /// The file that the image is written to.
+        image: &'a str,
+    },
+    /// `check FILE`: whether the configuration and the images that it names are in order.
+    Check {
+        /// The configuration's file.
+        file: &'a str,
+    },
+}
+
+/// Reads the words of a command line, of which the first is the program's name.
+///
+/// An error has one of the kinds that `clap` gives the words: `DisplayHelp` where they ask for help, and otherwise what is
+/// wrong with them. Its kind is `OutOfMemory` where memory runs out. An argument and its values are read as `clap` reads
+/// them, so options may stand before or after FILE, and `--ticks=N` is `--ticks N`.
+pub fn read_line<'a>(alloc: Global, words: &'a [&'a str]) -> Result<Request<'a>, Error>
+    ensures asked { IfOk result (λ r. Asks (map (λ w. w.now) words.entry.now) r) }
+    ensures taken { OnOk result (fault_of ptk (map (λ w. w.now) words.entry.now) ≡ []) }
+    ensures refused { IfErr result (λ e. HasKind (fault_of ptk (map (λ w. w.now) words.entry.now)) e
+        ⊎ AsksNothing (map (λ w. w.now) words.entry.now)) }
+{
+    let command = ptk_command(alloc)?;
+    let matches = command.try_get_matches_from(words)?;
+    match request_in(&matches) {
+        Some(request) => Ok(request),
+        None => Err(no_request(alloc)?),
+    }
+}
+
+/// The error of words that are taken and ask for nothing.
+fn no_request(alloc: Global) -> Result<Error, AllocError> {
+    let mut command = ptk_command(alloc)?;
+    command.error(ErrorKind::MissingSubcommand, "a subcommand is wanted")
+}
+
+/// The request in the matches, if they have one.
+fn request_in<'a>(matches: &ArgMatches<'a>) -> Option<Request<'a>>
+    ensures { MeansAny result (subcommand_rows_of matches.now) }
+{
+    let (name, found) = matches.subcommand()?;
+    match name {
+        "run" => run_in(found),
+        "trace" => trace_in(found),
+        "asm" => asm_in(found),
+        "check" => check_in(found),
+        _other => None,
+    }
+}
+
+/// The request in the matches of `run`.
+fn run_in<'a>(found: &ArgMatches<'a>) -> Option<Request<'a>>
+    ensures { FindsRequest result (codes "run") (rows_of (found_of found.now)) }
+{
+    let file = found.get_str("FILE")?;
+    let ticks = ticks_in(found)?;
+    Some(Request::Run { file, ticks })
+}
+
+/// The request in the matches of `trace`.
+fn trace_in<'a>(found: &ArgMatches<'a>) -> Option<Request<'a>>
+    ensures { FindsRequest result (codes "trace") (rows_of (found_of found.now)) }
+{
+    let file = found.get_str("FILE")?;
+    let ticks = ticks_in(found)?;
+    let partition = found.get_str("partition")?;
+    Some(Request::Trace {
+        file,
+        ticks,
+        partition,
+    })
+}
+
+/// The request in the matches of `asm`.
+fn asm_in<'a>(found: &ArgMatches<'a>) -> Option<Request<'a>>
+    ensures { FindsRequest result (codes "asm") (rows_of (found_of found.now)) }
+{
+    let source = found.get_str("IN")?;
+    let image = found.get_str("OUT")?;
+    Some(Request::Asm { source, image })
+}
+
+/// The request in the matches of `check`.
+fn check_in<'a>(found: &ArgMatches<'a>) -> Option<Request<'a>>
+    ensures { FindsRequest result (codes "check") (rows_of (found_of found.now)) }
+{
+    let file = found.get_str("FILE")?;
+    Some(Request::Check { file })
+}
+
+/// The value of `--ticks`, where it is a number of at most `MOST_TICKS`.
+fn ticks_in(found: &ArgMatches) -> Option<u64>
+    ensures { FindsTicks result (rows_of (found_of found.now)) }
+{
+    let ticks = found.get_one::<u64>("ticks")?;
+    if ticks <= MOST_TICKS {
+        Some(ticks)
+    } else {
+        None
+    }
+}

@@ -1,0 +1,120 @@
+//! Each subcommand once with its values, the bounds of N, and the kinds of the errors.
+
+use super::{Request, read_line};
+use clap::error::ErrorKind;
+use std::alloc::Global;
+
+/// The kind of the error that the words have, `None` where they are taken.
+fn refusal(alloc: Global, words: &[&str]) -> Option<ErrorKind> {
+    match read_line(alloc, words) {
+        Ok(_) => None,
+        Err(error) => Some(error.kind()),
+    }
+}
+
+#[test]
+fn reads_each_subcommand(rt: HostRuntime) {
+    let words = ["ptk", "run", "a.toml", "--ticks", "20"];
+    let run = Request::Run {
+        file: "a.toml",
+        ticks: 20,
+    };
+    assert_eq!(rt; read_line(rt.alloc(), &words).ok(), Some(run));
+    let words = [
+        "ptk",
+        "trace",
+        "a.toml",
+        "--ticks",
+        "20",
+        "--partition",
+        "p",
+    ];
+    let trace = Request::Trace {
+        file: "a.toml",
+        ticks: 20,
+        partition: "p",
+    };
+    assert_eq!(rt; read_line(rt.alloc(), &words).ok(), Some(trace));
+    let words = ["ptk", "asm", "a.s", "a.img"];
+    let asm = Request::Asm {
+        source: "a.s",
+        image: "a.img",
+    };
+    assert_eq!(rt; read_line(rt.alloc(), &words).ok(), Some(asm));
+    let words = ["ptk", "check", "a.toml"];
+    let check = Request::Check { file: "a.toml" };
+    assert_eq!(rt; read_line(rt.alloc(), &words).ok(), Some(check));
+}
+
+#[test]
+fn takes_ticks_up_to_the_last(rt: HostRuntime) {
+    for (text, ticks) in [("0", 0), ("1099511627776", 1_099_511_627_776)] {
+        let words = ["ptk", "run", "a.toml", "--ticks", text];
+        let run = Request::Run {
+            file: "a.toml",
+            ticks,
+        };
+        assert_eq!(rt; read_line(rt.alloc(), &words).ok(), Some(run));
+    }
+}
+
+#[test]
+fn refuses_other_ticks(rt: HostRuntime) {
+    for text in ["1099511627777", "x", ""] {
+        let words = ["ptk", "run", "a.toml", "--ticks", text];
+        assert_eq!(rt;
+            refusal(rt.alloc(), &words),
+            Some(ErrorKind::ValueValidation)
+        );
+    }
+    let negative = ["ptk", "run", "a.toml", "--ticks", "-1"];
+    assert_eq!(rt;
+        refusal(rt.alloc(), &negative),
+        Some(ErrorKind::UnknownArgument)
+    );
+    let negative = ["ptk", "run", "a.toml", "--ticks=-1"];
+    assert_eq!(rt;
+        refusal(rt.alloc(), &negative),
+        Some(ErrorKind::ValueValidation)
+    );
+}
+
+#[test]
+fn refuses_other_words(rt: HostRuntime) {
+    let alloc = rt.alloc();
+    let missing = Some(ErrorKind::MissingRequiredArgument);
+    assert_eq!(rt; refusal(alloc, &["ptk", "run", "--ticks", "20"]), missing);
+    assert_eq!(rt; refusal(alloc, &["ptk", "run", "a.toml"]), missing);
+    assert_eq!(rt;
+        refusal(alloc, &["ptk", "trace", "a.toml", "--ticks", "20"]),
+        missing
+    );
+    assert_eq!(rt; refusal(alloc, &["ptk", "asm", "a.s"]), missing);
+    let unknown = Some(ErrorKind::UnknownArgument);
+    assert_eq!(rt;
+        refusal(alloc, &["ptk", "check", "a.toml", "b.toml"]),
+        unknown
+    );
+    assert_eq!(rt;
+        refusal(alloc, &["ptk", "stop"]),
+        Some(ErrorKind::InvalidSubcommand)
+    );
+    assert_eq!(rt;
+        refusal(alloc, &["ptk"]),
+        Some(ErrorKind::MissingSubcommand)
+    );
+}
+
+#[test]
+fn answers_help_as_an_error(rt: HostRuntime) {
+    let words = ["ptk", "--help"];
+    match read_line(rt.alloc(), &words) {
+        Ok(_) => panic!(rt; "taken"),
+        Err(error) => {
+            assert_eq!(rt; error.kind(), ErrorKind::DisplayHelp);
+            assert!(rt; !error.use_stderr());
+        }
+    }
+    let words = ["ptk", "run", "--help"];
+    assert_eq!(rt; refusal(rt.alloc(), &words), Some(ErrorKind::DisplayHelp));
+}
