@@ -1,0 +1,90 @@
+-- The creation of a thread in a whole state: what its parts make.
+use Rattle.std.proofs.Common.{arith, ◌≡◌, ℕ, zero, suc, ◌%◌, ◌<◌, Bool, true, false, not, ◌&&◌, ◌||◌, List, [], ◌∷◌, length, replicate, refl, sym, ◌∙◌, ap}
+use Rattle.std.specs.Prelude.{◌-◌, Option, Some, None, IsSome, is_none, option_map, unwrap_or, slice_get, slice_set, ◌==◌, nat_lt, if◌then◌else◌}
+use Rattle.std.proofs.lemmas.Bool.{lt-ltb}
+use Rattle.ptk_words.specs.Pools.{least_free, pool_get, pool_set, pool_update}
+use Rattle.ptk_words.specs.declared.faults.Errno.TheVariants.{EINVAL, ENOTSUP}
+use Rattle.ptk_words.specs.declared.sections.Limits.{Limits}
+use Rattle.ptk_words.specs.declared.threads.Cleanup.{Cleanup}
+use Rattle.ptk_words.specs.declared.threads.Thread.{Thread}
+use Rattle.ptk_words_parted.specs.Parts.{part_of}
+use Rattle.ptk_threads.specs.Table.{ThreadTable, with_slot, with_new, with_new_at}
+use Rattle.ptk_words_model.specs.State.{Part}
+use Rattle.ptk_words_model.specs.Keys.{no_values}
+use Rattle.ptk_words_model.specs.ThreadCalls.{Attributes, policy_of, is_priority, with_new_thread}
+use Rattle.ptk_words_well.specs.Well.{IsWell, is_in, is_ready}
+use Rattle.ptk_words_well.proofs.Lined.{not_ready_out}
+use Rattle.ptk_words_well.proofs.Whole.{lined_of}
+use Rattle.ptk_words_well.proofs.Pools.{get-set_own, update-replicate}
+use Rattle.ptk_words_well.proofs.Starts.{IsFree, least_free_is}
+use Rattle.ptk_gate_pools.specs.Creates.{attributes_fault, begun}
+
+-- ---- the priority
+
+-- explicit attributes without a fault have a priority
+priority_of_checked : (n : ℕ) (b c d e : Bool) → (if (b || nat_lt 1 n) then Some EINVAL else if (n == 1 && c) then Some ENOTSUP else if (n == 1 && not d) then Some EINVAL else if e then Some EINVAL else None) ≡ None → (n == 0) ≡ false → d ≡ true
+priority_of_checked n b c true e none explicit = refl
+priority_of_checked zero b c false e none explicit = absurd (let no : ⊥ = cc in no)
+priority_of_checked (suc zero) true c false e none explicit = absurd (let no : ⊥ = cc in no)
+priority_of_checked (suc zero) false true false e none explicit = absurd (let no : ⊥ = cc in no)
+priority_of_checked (suc zero) false false false e none explicit = absurd (let no : ⊥ = cc in no)
+priority_of_checked (suc (suc n)) true c false e none explicit = absurd (let no : ⊥ = cc in no)
+priority_of_checked (suc (suc n)) false c false e none explicit =
+    let over : nat_lt 1 (suc (suc n)) ≡ true = lt-ltb 1 (suc (suc n)) (omega arith) in
+    absurd (let no : ⊥ = cc in no)
+
+pub explicit_priority : (a : Attributes) (memory : ℕ) → attributes_fault a memory ≡ None → (a.inherit == 0) ≡ false → is_priority a.priority ≡ true
+explicit_priority a memory none explicit =
+    priority_of_checked a.inherit (nat_lt 1 a.detach) (is_none (policy_of a.policy)) (is_priority a.priority) (not (a.stack_top % 16 == 0) || nat_lt memory a.stack_top) none explicit
+
+-- ---- the number
+
+-- the least free number gets the thread
+pub created_at : (p t : ℕ) (thread : Thread) (table new : ThreadTable) → least_free (part_of table.threads p) ≡ Some t → new ≡ with_new p thread table → new ≡ with_slot p t (Some thread) thread.priority table
+created_at p t thread table new free e = e ∙ ap (λ (k : Option ℕ). with_new_at k p thread table) free
+
+pub taken_in_use : (threads : List (Option Thread)) (t : ℕ) (thread : Thread) → least_free threads ≡ Some t → IsSome (pool_get (pool_set threads t (Some thread)) t)
+taken_in_use threads t thread e =
+    let found : IsFree threads t = least_free_is threads t e in
+    rw (get-set_own t (Some thread) threads found.least found.most) refl
+
+pub free_fresh : (limits : Limits) (t : ℕ) (s : Part) → IsWell limits s → least_free s.threads ≡ Some t → is_in t s.line ≡ false
+free_fresh limits t s well e =
+    let found : IsFree s.threads t = least_free_is s.threads t e in
+    not_ready_out s.threads s.line s.running t (lined_of limits s well) (ap is_ready found.free)
+
+pub ruleset numbers_taken = (created_at, taken_in_use)
+
+-- ---- the beginning
+
+values_same : (limits : Limits) (t : ℕ) (s : Part) → IsWell limits s → pool_update s.keys.values t (λ _. no_values limits.keys) ≡ s.keys.values
+values_same limits t s well =
+    ap (λ (values : List (List ℕ)). pool_update values t (λ _. no_values limits.keys)) well.unused.values
+    ∙ update-replicate limits.threads t (no_values limits.keys) (λ _. no_values limits.keys) refl ∙ sym well.unused.values
+
+cleanups_same : (limits : Limits) (t : ℕ) (s : Part) → IsWell limits s → pool_update s.cleanups t (λ _. []) ≡ s.cleanups
+cleanups_same limits t s well =
+    ap (λ (cleanups : List (List Cleanup)). pool_update cleanups t (λ _. [])) well.unused.cleanups
+    ∙ update-replicate limits.threads t [] (λ _. []) refl ∙ sym well.unused.cleanups
+
+-- handlers and values stay as they are, none
+pub begun_is : (limits : Limits) (t : ℕ) (thread : Thread) (s : Part) → IsWell limits s → with_new_thread limits t thread s ≡ begun t thread s
+begun_is limits t thread s well =
+    ap (λ (values : List (List ℕ)). (let new : Part = with_new_thread limits t thread s in record new { keys = record (new.keys) { values = values } })) (values_same limits t s well)
+    ∙ ap (λ (cleanups : List (List Cleanup)). (let new : Part = begun t thread s in record new { cleanups = cleanups })) (cleanups_same limits t s well)
+
+-- ---- an entry written
+
+entry_within : {A : Type 0} (xs : List A) (i : ℕ) (ys zs : List A) → i < length xs → unwrap_or (option_map (λ _. ys) (slice_get xs i)) zs ≡ ys
+entry_within [] i ys zs lt = absurd (omega (arith, lt))
+entry_within (x ∷ xs) zero ys zs lt = refl
+entry_within (x ∷ xs) (suc i) ys zs lt = entry_within xs i ys zs (omega (arith, lt))
+
+pub updated_to : {A : Type 0} (k : ℕ) (a : A) (xs new : List A) → 0 < k → k - 1 < length xs → new ≡ slice_set xs (k - 1) a → new ≡ pool_update xs k (λ _. a)
+updated_to zero a xs new h lt e = absurd (omega (arith, h))
+updated_to (suc i) a xs new h lt e =
+    let same : suc i - 1 ≡ i = omega arith in
+    let within : i < length xs = omega (arith, lt) in
+    rw same at e ∙ sym (entry_within xs i (slice_set xs i a) xs within)
+
+pub ruleset entries = (updated_to)

@@ -1,0 +1,30 @@
+-- What the invariant of the pools says of what a contract sees of them.
+use Rattle.std.proofs.Common.{◌≡◌, length, subst}
+use Rattle.std.proofs.lemmas.List.{length-map}
+use Rattle.ptk_gate_pools.specs.Kept.{Kept, AreParts}
+use Rattle.ptk_gate_pools.specs.declared.pools.Pools.TheInside.{Inside}
+use Rattle.ptk_gate_pools.specs.contracts.pools.Pools.{the_view, the_invariant}
+
+-- every component has an entry for each partition
+pub parts_of : (a : Inside) → the_invariant a → AreParts (length (the_view a).limits) (the_view a)
+parts_of a i = record {
+  few = i.few;
+  memory = i.memory;
+  threads = i.threads;
+  lines = i.lines;
+  mutexes = length-map a.limits.items _;
+  conditions = length-map a.limits.items _;
+  running = i.running;
+  deadlines = length-map a.limits.items _;
+  cancellations = i.cancellations;
+  cleanups = length-map a.limits.items _;
+  destructors = length-map a.limits.items _;
+  values = length-map a.limits.items _;
+  rounds = i.rounds;
+  consoles = i.consoles;
+  statuses = i.statuses;
+  lasts = i.lasts;
+}
+
+pub parts_seen : (a : Inside) (kept : Kept) → the_view a ≡ kept → the_invariant a → AreParts (length kept.limits) kept
+parts_seen a kept e i = let P : Kept → Type 0 = λ k. AreParts (length k.limits) k in subst P e (parts_of a i)

@@ -1,0 +1,9 @@
+use Rattle.ptk_words_parted.specs.Parts.{part_of}
+use Rattle.ptk_gate_pools.proofs.Ranks.{stored_first}
+use Rattle.ptk_gate_pools.proofs.pools.Pools.first_ready.Goals as goal
+
+-- src/choices.rt:16:5
+pub returns : goal.returns
+returns c =
+    rw (← c.self.view_is)
+    (stored_first c.args.p c.first_of_greatest.result (part_of c.self.inside.line c.args.p) c.self.inside.threads.stored c.self.inside.threads.threads c.self.inside.limits.items c.first_of_greatest.ensures c.self.invariant.stored)

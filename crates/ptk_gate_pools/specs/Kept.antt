@@ -1,0 +1,116 @@
+-- The tables of all partitions, by component, and of them one partition's part.
+use Rattle.std.specs.Prelude.{◌≡◌, ℕ, ◌<◌, ◌≤◌, List, [], length, map, replicate, slice_index_or, slice_set, Option, None}
+use Rattle.ptk_words.specs.declared.faults.Status.{Status}
+use Rattle.ptk_words.specs.declared.faults.Status.TheVariants.{Active}
+use Rattle.ptk_words.specs.declared.sections.Entry.{Entry}
+use Rattle.ptk_words.specs.declared.sections.Limits.{Limits}
+use Rattle.ptk_words.specs.declared.threads.Cleanup.{Cleanup}
+use Rattle.ptk_words.specs.declared.threads.Thread.{Thread}
+use Rattle.ptk_words_parted.specs.Parts.{part_of}
+use Rattle.ptk_words_model.specs.declared.Cancellation.{Cancellation}
+use Rattle.ptk_words_model.specs.declared.Rounds.{Rounds}
+use Rattle.ptk_words_model.specs.State.{Mutex, Condition, Console, Part}
+use Rattle.ptk_words_model.specs.Keys.{no_values}
+use Rattle.ptk_words_model.specs.Priority.{effective_priorities}
+use Rattle.ptk_words_well.specs.Well.{IsWell}
+use Rattle.ptk_console.specs.ConsoleTable.{fresh_console, no_limits}
+
+-- each component as a list with an entry for each partition (own)
+pub record Kept : Type 0 where
+  pub memory : List (List ℕ)
+  pub threads : List (List (Option Thread))
+  pub lines : List (List ℕ)
+  pub mutexes : List (List (Option Mutex))
+  pub conditions : List (List (Option Condition))
+  pub running : List (Option ℕ)
+  pub deadlines : List (List (Option ℕ))
+  pub cancellations : List (List Cancellation)
+  pub cleanups : List (List (List Cleanup))
+  pub destructors : List (List (Option ℕ))
+  pub values : List (List (List ℕ))
+  pub rounds : List (List Rounds)
+  pub consoles : List Console
+  pub statuses : List Status
+  pub lasts : List (Option Entry)
+  pub limits : List Limits
+
+-- the numbers of a partition's section (own)
+abbrev pub limits_at : ℕ → Kept → Limits
+limits_at p kept = slice_index_or kept.limits p no_limits
+
+-- one partition's part of the tables (own)
+abbrev pub part_at : ℕ → Kept → Part
+part_at p kept =
+    record {
+      memory = part_of kept.memory p;
+      syncs = record {
+        locks = record { threads = part_of kept.threads p; line = part_of kept.lines p; mutexes = part_of kept.mutexes p };
+        conditions = part_of kept.conditions p;
+      };
+      running = slice_index_or kept.running p None;
+      deadlines = part_of kept.deadlines p;
+      cancellations = part_of kept.cancellations p;
+      cleanups = part_of kept.cleanups p;
+      keys = record {
+        destructors = part_of kept.destructors p;
+        values = part_of kept.values p;
+        rounds = part_of kept.rounds p;
+      };
+      console = slice_index_or kept.consoles p (fresh_console []);
+      status = slice_index_or kept.statuses p Active;
+      last = slice_index_or kept.lasts p None;
+    }
+
+-- the tables with this as the partition's part; every other partition's part stays (own)
+abbrev pub put_part : ℕ → Part → Kept → Kept
+put_part p s kept =
+    record {
+      memory = slice_set kept.memory p s.memory;
+      threads = slice_set kept.threads p s.threads;
+      lines = slice_set kept.lines p s.line;
+      mutexes = slice_set kept.mutexes p s.mutexes;
+      conditions = slice_set kept.conditions p s.conditions;
+      running = slice_set kept.running p s.running;
+      deadlines = slice_set kept.deadlines p s.deadlines;
+      cancellations = slice_set kept.cancellations p s.cancellations;
+      cleanups = slice_set kept.cleanups p s.cleanups;
+      destructors = slice_set kept.destructors p s.keys.destructors;
+      values = slice_set kept.values p s.keys.values;
+      rounds = slice_set kept.rounds p s.keys.rounds;
+      consoles = slice_set kept.consoles p s.console;
+      statuses = slice_set kept.statuses p s.status;
+      lasts = slice_set kept.lasts p s.last;
+      limits = kept.limits;
+    }
+
+-- a list of the same length for each section (own)
+abbrev pub per_section : {A : Type 0} → (Limits → ℕ) → A → List Limits → List (List A)
+per_section count a limits = map (λ l. replicate (count l) a) limits
+
+-- so many partitions have an entry in every component (own)
+pub record AreParts (n : ℕ) (kept : Kept) : Type 0 where
+  pub few : n ≤ 8
+  pub memory : length kept.memory ≡ n
+  pub threads : length kept.threads ≡ n
+  pub lines : length kept.lines ≡ n
+  pub mutexes : length kept.mutexes ≡ n
+  pub conditions : length kept.conditions ≡ n
+  pub running : length kept.running ≡ n
+  pub deadlines : length kept.deadlines ≡ n
+  pub cancellations : length kept.cancellations ≡ n
+  pub cleanups : length kept.cleanups ≡ n
+  pub destructors : length kept.destructors ≡ n
+  pub values : length kept.values ≡ n
+  pub rounds : length kept.rounds ≡ n
+  pub consoles : length kept.consoles ≡ n
+  pub statuses : length kept.statuses ≡ n
+  pub lasts : length kept.lasts ≡ n
+
+-- every partition's part is whole (own)
+pub record AreWell (kept : Kept) : Type 0 where
+  pub parts : AreParts (length kept.limits) kept
+  pub wells : (p : ℕ) → p < length kept.limits → IsWell (limits_at p kept) (part_at p kept)
+
+-- each stored priority is the effective one, for every partition; no mutex is in use (pthread_mutexattr_getprotocol)
+pub record AreStored (stored : List (List ℕ)) (threads : List (List (Option Thread))) (limits : List Limits) : Type 0 where
+  pub each : (p : ℕ) → part_of stored p ≡ effective_priorities (part_of threads p) (replicate (slice_index_or limits p no_limits).mutexes None)

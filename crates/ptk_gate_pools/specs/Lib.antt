@@ -1,0 +1,7 @@
+pub mod Kept
+pub mod Moves
+pub mod Blank
+pub mod Joins
+pub mod Ends
+pub mod Creates
+pub mod StepMoves
