@@ -7,7 +7,7 @@ use Rattle.std.proofs.lemmas.List.Quantifiers.{all_pairs_push}
 use Rattle.std.proofs.lemmas.List.Sums.{sum_by_push, sum_by-le-sum_by}
 use Rattle.std.proofs.lemmas.List.Concat.{length-flat_map}
 use Rattle.ptk_words.specs.declared.sections.Arrival.{Arrival}
-use Rattle.ptk_config.specs.Ranges.{IsInput}
+use Rattle.ptk_words.specs.Ranges.{IsInput}
 use Rattle.ptk_config.specs.Inputs.{Input, last_tick, byte_count, arrivals_at, arrivals_of}
 use Rattle.ptk_config.proofs.Walks.{each_after-more, each_after-fault, each_after-end}
 

@@ -1,7 +1,7 @@
 -- The sections that were read, as one more comes.
 use Rattle.std.proofs.Common.{◌≡◌, List, [], ◌∷◌, ◌++◌}
 use Rattle.std.proofs.lemmas.List.Elements.{All-nil, All-push}
-use Rattle.ptk_config.specs.Ranges.{IsWithinLimits, IsInput}
+use Rattle.ptk_words.specs.Ranges.{IsWithinLimits, IsInput}
 use Rattle.ptk_config.specs.Sections.{Section, AreInRange}
 use Rattle.ptk_config.proofs.Walks.{each_after-more, each_after-fault, each_after-end}
 

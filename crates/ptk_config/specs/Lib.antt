@@ -1,5 +1,4 @@
 pub mod Reading
-pub mod Ranges
 pub mod Inputs
 pub mod Sections
 pub mod Windows

@@ -6,7 +6,7 @@ use Rattle.ptk_words.specs.declared.sections.Limits.{Limits}
 use Rattle.ptk_words.specs.declared.sections.Arrival.{Arrival}
 use Rattle.ptk_config.specs.declared.fault.ConfigFault.TheVariants.{OutOfRange}
 use Rattle.ptk_config.specs.Reading.{Checked, ◌>>=◌, tested, text, members, required, number, each_after, only}
-use Rattle.ptk_config.specs.Ranges.{IsWithinLimits, IsInput}
+use Rattle.ptk_words.specs.Ranges.{IsWithinLimits, IsInput}
 use Rattle.ptk_config.specs.Inputs.{input_of}
 
 -- what a partition is made from: its name, the name of its image or none, its numbers and its input (own)

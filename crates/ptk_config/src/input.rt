@@ -4,7 +4,7 @@ ghost use Rattle.std.specs.Prelude.{◌≡◌, ◌≤◌, ◌++◌, [], IfOk, On
 ghost use Rattle.toml.specs.Data.{get_member};
 ghost use Rattle.toml.specs.View.{view, table_view, items_view};
 ghost use Rattle.ptk_config.specs.Reading.{MemoryAside, each_after};
-ghost use Rattle.ptk_config.specs.Ranges.{IsInput};
+ghost use Rattle.ptk_words.specs.Ranges.{IsInput};
 ghost use Rattle.ptk_config.specs.Inputs.{bytes_in, input, input_in, inputs_of, input_of, arrivals_at, arrivals_of};
 
 use crate::fault::ConfigFault;

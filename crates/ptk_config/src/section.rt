@@ -6,7 +6,7 @@ ghost use Rattle.std.specs.Str.{bytes_eq};
 ghost use Rattle.toml.specs.Data.{get_member};
 ghost use Rattle.toml.specs.View.{view, table_view};
 ghost use Rattle.ptk_config.specs.Reading.{seen, MemoryAside};
-ghost use Rattle.ptk_config.specs.Ranges.{IsWithinLimits, IsInput};
+ghost use Rattle.ptk_words.specs.Ranges.{IsWithinLimits, IsInput};
 ghost use Rattle.ptk_config.specs.Sections.{is_name, is_name_byte, name, image_of, sixteens, stack, limits, section};
 
 use crate::fault::ConfigFault;
@@ -29,7 +29,7 @@ pub struct Section {
 impl Model for Section {
     ghost use Rattle.std.specs.Prelude.{option_map, string_bytes};
     ghost use Rattle.ptk_config.specs.Sections as sections;
-    ghost use Rattle.ptk_config.specs.Ranges.{IsWithinLimits, IsInput};
+    ghost use Rattle.ptk_words.specs.Ranges.{IsWithinLimits, IsInput};
 
     ghost Value = { sections.Section };
 

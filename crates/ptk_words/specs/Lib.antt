@@ -4,3 +4,4 @@ pub mod Processor
 pub mod Faults
 pub mod Costs
 pub mod Image
+pub mod Ranges
