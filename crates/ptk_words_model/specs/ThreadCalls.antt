@@ -168,25 +168,35 @@ yield i s = success [] i (after_placing at_tail i.caller s)
 abbrev pub after_placing_at_tail : ℕ → Part → Part
 after_placing_at_tail t s = if owns_raising s.locks t then s else after_placing at_tail t s
 
--- a policy and a priority; a running or ready target goes to the tail (pthread_setschedparam, XSH 2.8.4)
-abbrev pub setschedparam : Invocation → Part → Answer
-setschedparam i s =
-    using_thread i.a0 i s (λ target.
-    if is_none (policy_of i.a1) then refusal ENOTSUP i s
-    else if not (is_priority i.a2) then refusal EINVAL i s
+-- the answer to a call with this policy, or with an unknown one; a running or ready target goes to the tail (pthread_setschedparam, XSH 2.8.4)
+abbrev pub scheduled_with : Option Policy → Invocation → Part → Answer
+scheduled_with None i s = refusal ENOTSUP i s
+scheduled_with (Some policy) i s =
+    if not (is_priority i.a2) then refusal EINVAL i s
     else success [] i (after_placing_at_tail i.a0
-    (with_locks (with_thread i.a0 (λ thread. record thread { policy = unwrap_or (policy_of i.a1) Fifo; priority = i.a2; used = 0 })) s)))
+    (with_locks (with_thread i.a0 (λ thread. record thread { policy = policy; priority = i.a2; used = 0 })) s))
+
+-- a policy and a priority (pthread_setschedparam)
+abbrev pub setschedparam : Invocation → Part → Answer
+setschedparam i s = using_thread i.a0 i s (λ target. scheduled_with (policy_of i.a1) i s)
 
 -- the policy and the assigned priority (pthread_getschedparam)
 abbrev pub getschedparam : Invocation → Part → Answer
 getschedparam i s = using_thread i.a0 i s (λ target. success (policy_number target.policy ∷ target.priority ∷ []) i s)
 
--- to the tail where the priority rose, to the head where it fell (pthread_setschedprio)
-abbrev pub setschedprio : Invocation → Part → Answer
-setschedprio i s =
-    using_thread i.a0 i s (λ target.
-    let set : Part = with_locks (with_thread i.a0 (λ thread. record thread { priority = i.a1 })) s in
+-- a running or ready thread whose assigned priority was the old one goes to the tail where it rose, to the head where it fell (pthread_setschedprio, XSH 2.8.4)
+abbrev pub after_priority_change : ℕ → ℕ → ℕ → Part → Part
+after_priority_change old new t s =
+    if nat_lt old new then after_placing_at_tail t s
+    else if nat_lt new old then after_placing at_head t s
+    else s
+
+-- the answer to a call for a target of this old priority (pthread_setschedprio)
+abbrev pub prioritized_from : ℕ → Invocation → Part → Answer
+prioritized_from old i s =
     if not (is_priority i.a1) then refusal EINVAL i s
-    else if nat_lt target.priority i.a1 then success [] i (after_placing_at_tail i.a0 set)
-    else if nat_lt i.a1 target.priority then success [] i (after_placing at_head i.a0 set)
-    else success [] i set)
+    else success [] i (after_priority_change old i.a1 i.a0 (with_locks (with_thread i.a0 (λ thread. record thread { priority = i.a1 })) s))
+
+-- a priority (pthread_setschedprio)
+abbrev pub setschedprio : Invocation → Part → Answer
+setschedprio i s = using_thread i.a0 i s (λ target. prioritized_from target.priority i s)

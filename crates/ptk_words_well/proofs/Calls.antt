@@ -23,7 +23,7 @@ use Rattle.ptk_words_model.specs.Unwinding.{is_ended, is_alive, without_thread}
 use Rattle.ptk_words_model.specs.declared.Invocation.{Invocation}
 use Rattle.ptk_words_model.specs.Calls.{Answer, refusal, success, blocked_in, no_call, is_pointer, is_cancelled, cancellation_answer, using_thread}
 use Rattle.ptk_words_model.specs.ConsoleCalls.{exit_call, console_put, console_get_answer, console_get}
-use Rattle.ptk_words_model.specs.ThreadCalls.{Attributes, attributes_at, policy_of, policy_number, is_priority, start_cpu, new_thread, default_stack_top, with_new_thread, created_thread, create_answer, create, pthread_exit, is_taken, join, detach, self, after_placing, yield, after_placing_at_tail, setschedparam, getschedparam, setschedprio}
+use Rattle.ptk_words_model.specs.ThreadCalls.{Attributes, attributes_at, policy_of, policy_number, is_priority, start_cpu, new_thread, default_stack_top, with_new_thread, created_thread, create_answer, create, pthread_exit, is_taken, join, detach, self, after_placing, yield, after_placing_at_tail, scheduled_with, setschedparam, getschedparam, after_priority_change, prioritized_from, setschedprio}
 use Rattle.ptk_words_model.specs.CallTable.{CallRow, call, call_table, call_of}
 use Rattle.ptk_words_well.specs.Well.{IsWell, joiner_of}
 use Rattle.ptk_words_well.proofs.Lined.{ready_alive}
@@ -174,35 +174,37 @@ well_self i s runs well = well_success i.limits (i.caller ∷ []) i s well
 pub well_yield : (i : Invocation) (s : Part) → s.running ≡ Some i.caller → IsWell i.limits s → IsWell i.limits (yield i s).part
 well_yield i s runs well = well_success i.limits [] i (after_placing at_tail i.caller s) (well_placing_tail i.limits i.caller s well)
 
+well_scheduled_with : (policy : Option Policy) (i : Invocation) (s : Part) → IsWell i.limits s → IsWell i.limits (scheduled_with policy i s).part
+well_scheduled_with None i s well = well_refusal i.limits ENOTSUP i s well
+well_scheduled_with (Some policy) i s well =
+    let set : Part = with_locks (with_thread i.a0 (λ thread. record thread { policy = policy; priority = i.a2; used = 0 })) s in
+    either_well i.limits (not (is_priority i.a2)) (refusal EINVAL i s) (success [] i (after_placing_at_tail i.a0 set)) (λ e. well_refusal i.limits EINVAL i s well)
+    (λ e. well_success i.limits [] i (after_placing_at_tail i.a0 set) (well_placing_at_tail i.limits i.a0 set (well_policy i.limits i.a0 policy i.a2 s well)))
+
 pub well_setschedparam : (i : Invocation) (s : Part) → s.running ≡ Some i.caller → IsWell i.limits s → IsWell i.limits (setschedparam i s).part
 well_setschedparam i s runs well =
-    let set : Part = with_locks (with_thread i.a0 (λ thread. record thread { policy = unwrap_or (policy_of i.a1) Fifo; priority = i.a2; used = 0 })) s in
-    let placed : Answer = success [] i (after_placing_at_tail i.a0 set) in
-    well_using i.limits i.a0 i s (λ target. if is_none (policy_of i.a1) then refusal ENOTSUP i s else if not (is_priority i.a2) then refusal EINVAL i s else placed) well
-    (λ target there. either_well i.limits (is_none (policy_of i.a1)) (refusal ENOTSUP i s) (if not (is_priority i.a2) then refusal EINVAL i s else placed) (λ e. well_refusal i.limits ENOTSUP i s well)
-    (λ e. either_well i.limits (not (is_priority i.a2)) (refusal EINVAL i s) placed (λ f. well_refusal i.limits EINVAL i s well)
-    (λ f. well_success i.limits [] i (after_placing_at_tail i.a0 set) (well_placing_at_tail i.limits i.a0 set (well_policy i.limits i.a0 (unwrap_or (policy_of i.a1) Fifo) i.a2 s well)))))
+    well_using i.limits i.a0 i s (λ target. scheduled_with (policy_of i.a1) i s) well (λ target there. well_scheduled_with (policy_of i.a1) i s well)
 
 pub well_getschedparam : (i : Invocation) (s : Part) → s.running ≡ Some i.caller → IsWell i.limits s → IsWell i.limits (getschedparam i s).part
 well_getschedparam i s runs well =
     well_using i.limits i.a0 i s (λ target. success (policy_number target.policy ∷ target.priority ∷ []) i s) well
     (λ target there. well_success i.limits (policy_number target.policy ∷ target.priority ∷ []) i s well)
 
+changed_at : (limits : Limits) (t : ℕ) (s : Part) (rose fell : Bool) → IsWell limits s → IsWell limits (if rose then after_placing_at_tail t s else if fell then after_placing at_head t s else s)
+changed_at limits t s true fell well = well_placing_at_tail limits t s well
+changed_at limits t s false true well = well_placing_head limits t s well
+changed_at limits t s false false well = well
+
+well_prioritized_from : (old : ℕ) (i : Invocation) (s : Part) → IsWell i.limits s → IsWell i.limits (prioritized_from old i s).part
+well_prioritized_from old i s well =
+    let set : Part = with_locks (with_thread i.a0 (λ thread. record thread { priority = i.a1 })) s in
+    let placed : Part = after_priority_change old i.a1 i.a0 set in
+    either_well i.limits (not (is_priority i.a1)) (refusal EINVAL i s) (success [] i placed) (λ e. well_refusal i.limits EINVAL i s well)
+    (λ e. well_success i.limits [] i placed (changed_at i.limits i.a0 set (nat_lt old i.a1) (nat_lt i.a1 old) (well_priority i.limits i.a0 i.a1 s well)))
+
 pub well_setschedprio : (i : Invocation) (s : Part) → s.running ≡ Some i.caller → IsWell i.limits s → IsWell i.limits (setschedprio i s).part
 well_setschedprio i s runs well =
-    let set : Part = with_locks (with_thread i.a0 (λ thread. record thread { priority = i.a1 })) s in
-    let same : IsWell i.limits set = well_priority i.limits i.a0 i.a1 s well in
-    let risen : Answer = success [] i (after_placing_at_tail i.a0 set) in
-    let fallen : Answer = success [] i (after_placing at_head i.a0 set) in
-    well_using i.limits i.a0 i s
-    (λ target. if not (is_priority i.a1) then refusal EINVAL i s else if nat_lt target.priority i.a1 then risen else if nat_lt i.a1 target.priority then fallen else success [] i set) well
-    (λ target there. either_well i.limits (not (is_priority i.a1)) (refusal EINVAL i s) (if nat_lt target.priority i.a1 then risen else if nat_lt i.a1 target.priority then fallen else success [] i set)
-    (λ e. well_refusal i.limits EINVAL i s well)
-    (λ e. either_well i.limits (nat_lt target.priority i.a1) risen (if nat_lt i.a1 target.priority then fallen else success [] i set)
-    (λ f. well_success i.limits [] i (after_placing_at_tail i.a0 set) (well_placing_at_tail i.limits i.a0 set same))
-    (λ f. either_well i.limits (nat_lt i.a1 target.priority) fallen (success [] i set)
-    (λ g. well_success i.limits [] i (after_placing at_head i.a0 set) (well_placing_head i.limits i.a0 set same))
-    (λ g. well_success i.limits [] i set same))))
+    well_using i.limits i.a0 i s (λ target. prioritized_from target.priority i s) well (λ target there. well_prioritized_from target.priority i s well)
 
 -- ---- the table
 

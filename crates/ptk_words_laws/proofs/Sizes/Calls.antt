@@ -1,6 +1,6 @@
 -- The calls keep the sizes of a state.
 use Rattle.std.proofs.Common.{arith, ◌≡◌, ℕ, ◌+◌, ◌%◌, ◌≤◌, ◌<◌, Bool, true, false, List, [], ◌∷◌, ◌++◌, length, ◌∙◌, refl}
-use Rattle.std.specs.Prelude.{Option, Some, None, not, nat_lt, ◌==◌, if◌then◌else◌, option_map, unwrap_or, is_none}
+use Rattle.std.specs.Prelude.{Option, Some, None, not, nat_lt, ◌==◌, if◌then◌else◌, option_map, unwrap_or}
 use Rattle.std.specs.List.{list_any}
 use Rattle.ptk_words.specs.Faults.{errno_number}
 use Rattle.ptk_words.specs.Pools.{pool_set, without}
@@ -9,7 +9,7 @@ use Rattle.ptk_words.specs.declared.faults.Errno.{Errno}
 use Rattle.ptk_words.specs.declared.faults.Errno.TheVariants.{ESRCH, EAGAIN, EINVAL, EDEADLK, ENOSYS, ENOTSUP}
 use Rattle.ptk_words.specs.declared.faults.Status.TheVariants.{Exited}
 use Rattle.ptk_words.specs.declared.sections.Limits.{Limits}
-use Rattle.ptk_words.specs.declared.threads.Policy.TheVariants.{Fifo}
+use Rattle.ptk_words.specs.declared.threads.Policy.{Policy}
 use Rattle.ptk_words.specs.declared.threads.Thread.{Thread}
 use Rattle.ptk_words.specs.declared.threads.Wait.{Wait}
 use Rattle.ptk_words.specs.declared.threads.Wait.TheVariants.{InputWait, JoinWait}
@@ -23,7 +23,7 @@ use Rattle.ptk_words_model.specs.Unwinding.{without_thread, is_ended}
 use Rattle.ptk_words_model.specs.declared.Invocation.{Invocation}
 use Rattle.ptk_words_model.specs.Calls.{Answer, replied, refusal, success, blocked, blocked_in, no_call, is_cancelled, cancellation_answer, using_thread}
 use Rattle.ptk_words_model.specs.ConsoleCalls.{exit_call, console_put, console_get_answer, console_get}
-use Rattle.ptk_words_model.specs.ThreadCalls.{Attributes, policy_of, is_priority, new_cancellation, with_new_thread, created_thread, create_answer, create, pthread_exit, is_taken, join, detach, self, after_placing, yield, after_placing_at_tail, setschedparam, getschedparam, setschedprio}
+use Rattle.ptk_words_model.specs.ThreadCalls.{Attributes, policy_of, is_priority, new_cancellation, with_new_thread, created_thread, create_answer, create, pthread_exit, is_taken, join, detach, self, after_placing, yield, after_placing_at_tail, scheduled_with, setschedparam, getschedparam, after_priority_change, prioritized_from, setschedprio}
 use Rattle.ptk_words_laws.proofs.Sizes.Pools.{length-pool_set, below_from_full}
 use Rattle.ptk_words_laws.proofs.Sizes.Locks.{LocksSized, with_thread_sized, at_tail_with_sized, with_line_sized, without_thread_sized}
 use Rattle.ptk_words_laws.proofs.Sizes.Parts.{Sized, sized_if, with_locks_sized, with_cancellation_sized, with_cleanups_sized, with_keys_sized, with_console_sized, with_running_sized, with_halt_sized, length-pushed}
@@ -183,30 +183,37 @@ head_sized l t s h = placing_sized l at_head t s (λ x k. with_line_sized l (t �
 placing_at_tail_sized : (l : Limits) (t : ℕ) (s : Part) → Sized l s → Sized l (after_placing_at_tail t s)
 placing_at_tail_sized l t s h = sized_if l (owns_raising s.locks t) s (after_placing at_tail t s) h (tail_sized l t s h)
 
+scheduled_with_sized : (policy : Option Policy) (i : Invocation) (s : Part) → Sized i.limits s → AnswerSized i.limits (scheduled_with policy i s)
+scheduled_with_sized None i s h = refusal_sized i.limits ENOTSUP i s h
+scheduled_with_sized (Some policy) i s h =
+    let set : Part = with_locks (with_thread i.a0 (λ thread. record thread { policy = policy; priority = i.a2; used = 0 })) s in
+    let k : Sized i.limits set = thread_changed_sized i.limits i.a0 (λ thread. record thread { policy = policy; priority = i.a2; used = 0 }) s h in
+    answer_either i.limits (not (is_priority i.a2)) (refusal EINVAL i s) _ (refusal_sized i.limits EINVAL i s h)
+    (success_sized i.limits [] i (after_placing_at_tail i.a0 set) (placing_at_tail_sized i.limits i.a0 set k))
+
 pub setschedparam_sized : (i : Invocation) (s : Part) → Sized i.limits s → AnswerSized i.limits (setschedparam i s)
 setschedparam_sized i s h =
-    let set : Part = with_locks (with_thread i.a0 (λ thread. record thread { policy = unwrap_or (policy_of i.a1) Fifo; priority = i.a2; used = 0 })) s in
-    let k : Sized i.limits set = thread_changed_sized i.limits i.a0 (λ thread. record thread { policy = unwrap_or (policy_of i.a1) Fifo; priority = i.a2; used = 0 }) s h in
-    using_thread_sized i.limits i.a0 i s _
-    (λ target. answer_either i.limits (is_none (policy_of i.a1)) (refusal ENOTSUP i s) _ (refusal_sized i.limits ENOTSUP i s h)
-    (answer_either i.limits (not (is_priority i.a2)) (refusal EINVAL i s) _ (refusal_sized i.limits EINVAL i s h)
-    (success_sized i.limits [] i (after_placing_at_tail i.a0 set) (placing_at_tail_sized i.limits i.a0 set k)))) h
+    using_thread_sized i.limits i.a0 i s _ (λ target. scheduled_with_sized (policy_of i.a1) i s h) h
 
 pub getschedparam_sized : (i : Invocation) (s : Part) → Sized i.limits s → AnswerSized i.limits (getschedparam i s)
 getschedparam_sized i s h =
     search (using_thread_sized, success_sized, h) depth 12
 
-pub setschedprio_sized : (i : Invocation) (s : Part) → Sized i.limits s → AnswerSized i.limits (setschedprio i s)
-setschedprio_sized i s h =
+priority_change_sized : (l : Limits) (old new t : ℕ) (s : Part) → Sized l s → Sized l (after_priority_change old new t s)
+priority_change_sized l old new t s h =
+    sized_if l (nat_lt old new) (after_placing_at_tail t s) (if nat_lt new old then after_placing at_head t s else s) (placing_at_tail_sized l t s h)
+    (sized_if l (nat_lt new old) (after_placing at_head t s) s (head_sized l t s h) h)
+
+prioritized_from_sized : (old : ℕ) (i : Invocation) (s : Part) → Sized i.limits s → AnswerSized i.limits (prioritized_from old i s)
+prioritized_from_sized old i s h =
     let set : Part = with_locks (with_thread i.a0 (λ thread. record thread { priority = i.a1 })) s in
     let k : Sized i.limits set = thread_changed_sized i.limits i.a0 (λ thread. record thread { priority = i.a1 }) s h in
-    using_thread_sized i.limits i.a0 i s _
-    (λ target. answer_either i.limits (not (is_priority i.a1)) (refusal EINVAL i s) _ (refusal_sized i.limits EINVAL i s h)
-    (answer_either i.limits (nat_lt target.priority i.a1) (success [] i (after_placing_at_tail i.a0 set)) _
-    (success_sized i.limits [] i (after_placing_at_tail i.a0 set) (placing_at_tail_sized i.limits i.a0 set k))
-    (answer_either i.limits (nat_lt i.a1 target.priority) (success [] i (after_placing at_head i.a0 set)) _
-    (success_sized i.limits [] i (after_placing at_head i.a0 set) (head_sized i.limits i.a0 set k))
-    (success_sized i.limits [] i set k)))) h
+    answer_either i.limits (not (is_priority i.a1)) (refusal EINVAL i s) _ (refusal_sized i.limits EINVAL i s h)
+    (success_sized i.limits [] i (after_priority_change old i.a1 i.a0 set) (priority_change_sized i.limits old i.a1 i.a0 set k))
+
+pub setschedprio_sized : (i : Invocation) (s : Part) → Sized i.limits s → AnswerSized i.limits (setschedprio i s)
+setschedprio_sized i s h =
+    using_thread_sized i.limits i.a0 i s _ (λ target. prioritized_from_sized target.priority i s h) h
 
 -- ---- calls of one step
 
