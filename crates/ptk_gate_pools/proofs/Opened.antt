@@ -28,3 +28,5 @@ parts_of a i = record {
 
 pub parts_seen : (a : Inside) (kept : Kept) → the_view a ≡ kept → the_invariant a → AreParts (length kept.limits) kept
 parts_seen a kept e i = let P : Kept → Type 0 = λ k. AreParts (length k.limits) k in subst P e (parts_of a i)
+
+pub ruleset opened = (parts_seen)

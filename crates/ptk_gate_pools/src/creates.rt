@@ -262,8 +262,8 @@ fn attributes_fault(attributes: &ThreadAttributes, memory: usize) -> Option<Errn
     }
 }
 
-/// The policy of a guest's number (own choice).
-fn named_policy(word: u32) -> Option<Policy>
+/// The policy of a guest's number, None of another word (own choice).
+pub fn named_policy(word: u32) -> Option<Policy>
     ensures { result ≡ policy_of word }
 {
     match word {
@@ -274,7 +274,7 @@ fn named_policy(word: u32) -> Option<Policy>
 }
 
 /// Whether the number is a priority, 1 to 32.
-fn is_priority(word: u32) -> bool
+pub fn is_priority(word: u32) -> bool
     ensures { result ≡ is_priority word }
 {
     1 <= word && word <= 32

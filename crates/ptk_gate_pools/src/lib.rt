@@ -24,4 +24,5 @@ mod tests;
 mod thread_calls;
 mod unwinding;
 
+pub use creates::{is_priority, named_policy};
 pub use pools::Pools;

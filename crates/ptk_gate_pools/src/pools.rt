@@ -8,7 +8,7 @@ ghost use Rattle.ptk_words_model.specs.State.{with_halt};
 ghost use Rattle.ptk_words_model.specs.Calls.{replied, refusal, success, blocked_in};
 ghost use Rattle.ptk_words_model.specs.ConsoleCalls.{exit_call};
 ghost use Rattle.ptk_words_model.specs.ThreadCalls as threads;
-ghost use Rattle.ptk_gate_pools.specs.Kept.{part_at, put_part, limits_at};
+ghost use Rattle.ptk_gate_pools.specs.Kept.{part_at, put_part, limits_at, AreParts};
 
 use ptk_console::Consoles;
 use ptk_ready::VecLine;
@@ -77,9 +77,11 @@ impl Model for Pools {
 }
 
 impl Pools {
-    /// How many partitions there are, 1 to 8.
+    /// How many partitions there are, 1 to 8; each has an entry in every component.
+    #[tactic(auto, using(crate::proofs::Opened::opened))]
     pub fn parts(&self) -> usize
-        ensures { result ≡ length self.now.limits }
+        ensures count { result ≡ length self.now.limits }
+        ensures entries { AreParts (length self.now.limits) self.now }
     {
         self.limits.len()
     }

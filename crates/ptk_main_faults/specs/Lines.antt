@@ -1,0 +1,66 @@
+-- The lines on standard error, which refusal has which line, and the status of each.
+use Rattle.std.specs.Prelude.{ℕ, List, [], ◌∷◌, ◌++◌, ◌==◌, if◌then◌else◌, decimal, codes}
+use Rattle.std.specs.Borrow.{Bor}
+use Rattle.ptk_words.specs.Faults.{image_fault_number}
+use Rattle.ptk_words.specs.declared.faults.ImageFault.{ImageFault}
+use Rattle.ptk_words.specs.declared.faults.ImageFault.TheVariants as image
+use Rattle.ptk_words_windows.specs.FaultNumbers.{window_fault_number}
+use Rattle.ptk_words_windows.specs.declared.fault.WindowFault.{WindowFault}
+use Rattle.ptk_words_windows.specs.declared.fault.WindowFault.TheVariants as window
+use Rattle.ptk_config.specs.FaultNumbers.{config_fault_number}
+use Rattle.ptk_config.specs.declared.fault.ConfigFault.{ConfigFault}
+use Rattle.ptk_config.specs.declared.fault.ConfigFault.TheVariants as config
+use Rattle.ptk_main_faults.specs.declared.fault.Fault.{Fault}
+use Rattle.ptk_main_faults.specs.declared.fault.Fault.TheVariants.{Config, ConfigWindow, Asm, Image, MissingFile, NotText, NoPartition, ReadFailed, WriteFailed, NoMemory}
+use Rattle.ptk_main_faults.specs.declared.status.ExitStatus.{ExitStatus}
+use Rattle.ptk_main_faults.specs.declared.status.ExitStatus.TheVariants.{Refused, HostFailure}
+
+-- the byte that ends a line (own)
+abbrev pub newline : List ℕ
+newline = 10 ∷ []
+
+-- the line of a fault, without its end (own)
+abbrev pub line_of : Fault → List ℕ
+line_of (Config number) = codes "ptk: config fault " ++ decimal number
+line_of (ConfigWindow number) = codes "ptk: config fault 7 window " ++ decimal number
+line_of (Asm line kind) = codes "ptk: asm line " ++ (decimal line ++ (codes " fault " ++ decimal kind))
+line_of (Image name number) = codes "ptk: image " ++ (name.now ++ (codes " fault " ++ decimal number))
+line_of (MissingFile name) = codes "ptk: missing file " ++ name.now
+line_of (NotText name) = codes "ptk: not text " ++ name.now
+line_of (NoPartition name) = codes "ptk: no partition " ++ name.now
+line_of (ReadFailed name) = codes "ptk: read failed " ++ name.now
+line_of WriteFailed = codes "ptk: write failed"
+line_of NoMemory = codes "ptk: no memory"
+
+-- refused input, or a failure of the host: reading, writing or memory (own)
+abbrev pub status_of : Fault → ExitStatus
+status_of (Config number) = Refused
+status_of (ConfigWindow number) = Refused
+status_of (Asm line kind) = Refused
+status_of (Image name number) = Refused
+status_of (MissingFile name) = Refused
+status_of (NotText name) = Refused
+status_of (NoPartition name) = Refused
+status_of (ReadFailed name) = HostFailure
+status_of WriteFailed = HostFailure
+status_of NoMemory = HostFailure
+
+-- of a window table's fault; refused memory is want of memory (own)
+abbrev pub window_table_fault : WindowFault → Fault
+window_table_fault window.Memory = NoMemory
+window_table_fault fault = ConfigWindow (window_fault_number fault)
+
+-- of a configuration's fault; refused memory is want of memory (own)
+abbrev pub config_fault : ConfigFault → Fault
+config_fault config.Memory = NoMemory
+config_fault (config.Window fault) = window_table_fault fault
+config_fault fault = Config (config_fault_number fault)
+
+-- of the fault of an image of this name; refused memory is want of memory (own)
+abbrev pub image_fault : Bor (List ℕ) → ImageFault → Fault
+image_fault name image.Memory = NoMemory
+image_fault name fault = Image name (image_fault_number fault)
+
+-- of a source, refused at this line; fault 7 is want of memory (own)
+abbrev pub asm_fault : ℕ → ℕ → Fault
+asm_fault line kind = if kind == 7 then NoMemory else Asm line kind

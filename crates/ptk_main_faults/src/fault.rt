@@ -1,0 +1,127 @@
+//! The faults of the program and their lines.
+
+ghost use Rattle.std.specs.Prelude.{◌≡◌, ◌++◌, Some, IfOk};
+ghost use Rattle.std.specs.Io.KnownBytes.{Appends};
+ghost use Rattle.ptk_main_faults.specs.declared.fault.Fault.TheVariants.{NoMemory};
+ghost use Rattle.ptk_main_faults.specs.Lines.{asm_fault, config_fault, image_fault, line_of, newline, status_of};
+ghost use Rattle.ptk_main_faults.specs.Statuses.{status_number};
+
+use crate::status::ExitStatus;
+use ptk_config::ConfigFault;
+use ptk_words::ImageFault;
+use ptk_words_windows::WindowFault;
+use std::alloc::AllocError;
+use std::io::Write;
+use std::{fmt, io};
+
+/// Why the program stops: a case for each line that it writes on standard error.
+#[derive(Clone, Copy, Debug, PartialEq, Eq)]
+pub enum Fault<'a> {
+    /// `ptk: config fault N`: the configuration is refused, for another cause than its windows.
+    Config(u8),
+    /// `ptk: config fault 7 window K`: its window table is refused.
+    ConfigWindow(u8),
+    /// `ptk: asm line L fault K`: a source is refused at this line, counted from 1.
+    Asm(u64, u8),
+    /// `ptk: image NAME fault N`: an image is refused.
+    Image(&'a str, u8),
+    /// `ptk: missing file NAME`: there is no such file.
+    MissingFile(&'a str),
+    /// `ptk: not text NAME`: the file is not UTF-8.
+    NotText(&'a str),
+    /// `ptk: no partition NAME`: the configuration has no such partition.
+    NoPartition(&'a str),
+    /// `ptk: read failed NAME`: the file is there and can't be read.
+    ReadFailed(&'a str),
+    /// `ptk: write failed`.
+    WriteFailed,
+    /// `ptk: no memory`: memory was refused, whatever asked for it.
+    NoMemory,
+}
+
+impl fmt::Display for Fault<'_> {
+    ghost output = { λ f. Some (line_of f) };
+
+    fn fmt<W: fmt::Write>(&self, f: &mut fmt::Formatter<W>) -> fmt::Result {
+        match *self {
+            Fault::Config(number) => write!(f, "ptk: config fault {number}"),
+            Fault::ConfigWindow(number) => write!(f, "ptk: config fault 7 window {number}"),
+            Fault::Asm(line, kind) => write!(f, "ptk: asm line {line} fault {kind}"),
+            Fault::Image(name, number) => write!(f, "ptk: image {name} fault {number}"),
+            Fault::MissingFile(name) => write!(f, "ptk: missing file {name}"),
+            Fault::NotText(name) => write!(f, "ptk: not text {name}"),
+            Fault::NoPartition(name) => write!(f, "ptk: no partition {name}"),
+            Fault::ReadFailed(name) => write!(f, "ptk: read failed {name}"),
+            Fault::WriteFailed => f.write_str("ptk: write failed"),
+            Fault::NoMemory => f.write_str("ptk: no memory"),
+        }
+    }
+}
+
+impl<'a> Fault<'a> {
+    /// The fault of a refused configuration: its number, for a window table with the window fault's, and want of memory
+    /// for refused memory.
+    pub fn of_config(fault: ConfigFault) -> Fault<'a>
+        ensures { result ≡ config_fault fault }
+    {
+        match fault {
+            ConfigFault::Memory | ConfigFault::Window(WindowFault::Memory) => Fault::NoMemory,
+            ConfigFault::Window(window) => Fault::ConfigWindow(window.number()),
+            other => Fault::Config(other.number()),
+        }
+    }
+
+    /// The fault of a refused image of this name: its number, and want of memory for refused memory.
+    pub fn of_image(name: &'a str, fault: ImageFault) -> Fault<'a>
+        ensures { result ≡ image_fault name.entry fault }
+    {
+        match fault {
+            ImageFault::Memory => Fault::NoMemory,
+            other => Fault::Image(name, other.number()),
+        }
+    }
+
+    /// The fault of a source that is refused at this line for a fault of this kind, of which 7 is want of memory.
+    pub fn of_asm(line: u64, kind: u8) -> Fault<'a>
+        ensures { result ≡ asm_fault line kind }
+    {
+        if kind == 7 {
+            Fault::NoMemory
+        } else {
+            Fault::Asm(line, kind)
+        }
+    }
+
+    /// What the program ends with.
+    pub fn status(&self) -> ExitStatus
+        ensures { result ≡ status_of self.now }
+    {
+        match *self {
+            Fault::Config(_) | Fault::ConfigWindow(_) | Fault::Asm(..) | Fault::Image(..) => {
+                ExitStatus::Refused
+            }
+            Fault::MissingFile(_) | Fault::NotText(_) | Fault::NoPartition(_) => {
+                ExitStatus::Refused
+            }
+            Fault::ReadFailed(_) | Fault::WriteFailed | Fault::NoMemory => ExitStatus::HostFailure,
+        }
+    }
+}
+
+impl From<AllocError> for Fault<'_> {
+    ghost from_gives = { λ _ fault. fault ≡ NoMemory };
+
+    fn from(_error: AllocError) -> Self {
+        Fault::NoMemory
+    }
+}
+
+/// Writes the line of a fault, its newline with it, and gives the number of its status. It takes no memory. An error
+/// where the writer fails; how much of the line went out then is not told.
+pub fn fault_line<W: Write>(fault: &Fault<'_>, out: &mut W) -> io::Result<u8>
+    ensures { IfOk result (λ status. (status ≡ status_number (status_of fault.now))
+        × Appends (W.contents out.old) (W.contents out.new) (line_of fault.now ++ newline)) }
+{
+    writeln!(out, "{fault}")?;
+    Ok(fault.status().number())
+}

@@ -1,0 +1,31 @@
+//! The exit statuses of the program.
+
+ghost use Rattle.std.specs.Prelude.{◌≡◌};
+ghost use Rattle.ptk_main_faults.specs.Statuses.{status_number};
+
+/// What the program ends with.
+#[derive(Clone, Copy, Debug, PartialEq, Eq)]
+pub enum ExitStatus {
+    /// It did what was asked.
+    Done,
+    /// What it was given is refused.
+    Refused,
+    /// The words of the command line ask for nothing.
+    Usage,
+    /// The host failed: reading, writing or memory.
+    HostFailure,
+}
+
+impl ExitStatus {
+    /// The number of the status, 0 to 3.
+    pub fn number(self) -> u8
+        ensures { result ≡ status_number self }
+    {
+        match self {
+            ExitStatus::Done => 0,
+            ExitStatus::Refused => 1,
+            ExitStatus::Usage => 2,
+            ExitStatus::HostFailure => 3,
+        }
+    }
+}
