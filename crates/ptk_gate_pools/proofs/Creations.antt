@@ -1,9 +1,7 @@
 -- The creation of a thread in a whole state: what its parts make.
-use Rattle.std.proofs.Common.{arith, ◌≡◌, ℕ, zero, suc, ◌%◌, ◌<◌, Bool, true, false, not, ◌&&◌, ◌||◌, List, [], ◌∷◌, length, replicate, refl, sym, ◌∙◌, ap}
-use Rattle.std.specs.Prelude.{◌-◌, Option, Some, None, IsSome, is_none, option_map, unwrap_or, slice_get, slice_set, ◌==◌, nat_lt, if◌then◌else◌}
-use Rattle.std.proofs.lemmas.Bool.{lt-ltb}
+use Rattle.std.proofs.Common.{arith, ◌≡◌, ℕ, zero, suc, ◌<◌, false, List, [], ◌∷◌, length, refl, sym, ◌∙◌, ap}
+use Rattle.std.specs.Prelude.{◌-◌, Option, Some, IsSome, option_map, unwrap_or, slice_get, slice_set}
 use Rattle.ptk_words.specs.Pools.{least_free, pool_get, pool_set, pool_update}
-use Rattle.ptk_words.specs.declared.faults.Errno.TheVariants.{EINVAL, ENOTSUP}
 use Rattle.ptk_words.specs.declared.sections.Limits.{Limits}
 use Rattle.ptk_words.specs.declared.threads.Cleanup.{Cleanup}
 use Rattle.ptk_words.specs.declared.threads.Thread.{Thread}
@@ -11,31 +9,13 @@ use Rattle.ptk_words_parted.specs.Parts.{part_of}
 use Rattle.ptk_threads.specs.Table.{ThreadTable, with_slot, with_new, with_new_at}
 use Rattle.ptk_words_model.specs.State.{Part}
 use Rattle.ptk_words_model.specs.Keys.{no_values}
-use Rattle.ptk_words_model.specs.ThreadCalls.{Attributes, policy_of, is_priority, with_new_thread}
+use Rattle.ptk_words_model.specs.ThreadCalls.{with_new_thread}
 use Rattle.ptk_words_well.specs.Well.{IsWell, is_in, is_ready}
 use Rattle.ptk_words_well.proofs.Lined.{not_ready_out}
 use Rattle.ptk_words_well.proofs.Whole.{lined_of}
 use Rattle.ptk_words_well.proofs.Pools.{get-set_own, update-replicate}
 use Rattle.ptk_words_well.proofs.Starts.{IsFree, least_free_is}
-use Rattle.ptk_gate_pools.specs.Creates.{attributes_fault, begun}
-
--- ---- the priority
-
--- explicit attributes without a fault have a priority
-priority_of_checked : (n : ℕ) (b c d e : Bool) → (if (b || nat_lt 1 n) then Some EINVAL else if (n == 1 && c) then Some ENOTSUP else if (n == 1 && not d) then Some EINVAL else if e then Some EINVAL else None) ≡ None → (n == 0) ≡ false → d ≡ true
-priority_of_checked n b c true e none explicit = refl
-priority_of_checked zero b c false e none explicit = absurd (let no : ⊥ = cc in no)
-priority_of_checked (suc zero) true c false e none explicit = absurd (let no : ⊥ = cc in no)
-priority_of_checked (suc zero) false true false e none explicit = absurd (let no : ⊥ = cc in no)
-priority_of_checked (suc zero) false false false e none explicit = absurd (let no : ⊥ = cc in no)
-priority_of_checked (suc (suc n)) true c false e none explicit = absurd (let no : ⊥ = cc in no)
-priority_of_checked (suc (suc n)) false c false e none explicit =
-    let over : nat_lt 1 (suc (suc n)) ≡ true = lt-ltb 1 (suc (suc n)) (omega arith) in
-    absurd (let no : ⊥ = cc in no)
-
-pub explicit_priority : (a : Attributes) (memory : ℕ) → attributes_fault a memory ≡ None → (a.inherit == 0) ≡ false → is_priority a.priority ≡ true
-explicit_priority a memory none explicit =
-    priority_of_checked a.inherit (nat_lt 1 a.detach) (is_none (policy_of a.policy)) (is_priority a.priority) (not (a.stack_top % 16 == 0) || nat_lt memory a.stack_top) none explicit
+use Rattle.ptk_gate_pools.specs.Creates.{begun}
 
 -- ---- the number
 

@@ -1,7 +1,6 @@
 pub mod Kept
 pub mod Moves
 pub mod Blank
-pub mod Joins
 pub mod Ends
 pub mod Creates
 pub mod StepMoves

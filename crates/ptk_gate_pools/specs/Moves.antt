@@ -49,3 +49,7 @@ with_policy policy thread = record thread { policy = policy }
 -- an assigned priority (pthread_setschedprio)
 abbrev pub with_priority : ℕ → Thread → Thread
 with_priority priority thread = record thread { priority = priority }
+
+-- the thread's end is waited for by this one (pthread_join)
+abbrev pub with_joiner : ℕ → Thread → Thread
+with_joiner joiner thread = record thread { joiner = Some joiner }

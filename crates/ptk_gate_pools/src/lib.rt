@@ -1,6 +1,6 @@
 //! The pools of all partitions in one structure, and the moves of one partition that calls and decisions are made of:
 //! replies, places in the line, the choice of the running thread, round-robin intervals, blocking and waking, the
-//! creation, joining, unwinding and end of a thread, the console and its arrivals, an instruction. Each public call is
+//! beginning, unwinding and end of a thread, the console and its arrivals, an instruction. Each public call is
 //! one equation: the pools are the old ones with partition p's part replaced by the model's move, so that every other
 //! partition's part stays. That stored priorities are the effective ones is an invariant here. Below stand the pools
 //! of each kind (threads, line, memory, consoles) and the instructions; the gate's tables stand above. Dear to prove
@@ -14,7 +14,6 @@ mod console_calls;
 mod creates;
 mod ends;
 mod intervals;
-mod joins;
 mod places;
 mod pools;
 mod scheduling;
@@ -24,5 +23,5 @@ mod tests;
 mod thread_calls;
 mod unwinding;
 
-pub use creates::{is_priority, named_policy};
 pub use pools::Pools;
+pub use thread_calls::{is_ended, is_taken};

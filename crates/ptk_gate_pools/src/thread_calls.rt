@@ -1,76 +1,22 @@
-//! Calls 10 to 18: threads and their scheduling.
+//! One thread's entry, and the thread that a guest names: what calls 10 to 18 are made of.
 
-ghost use Rattle.std.specs.Prelude.{◌≡◌, ℕ, ◌<◌, ◌≤◌, true, [], ◌∷◌, length, slice_index_or, None, Some};
-ghost use Rattle.ptk_words_model.specs.ThreadCalls.{getschedparam, is_taken, policy_number};
-ghost use Rattle.ptk_words_model.specs.ThreadCalls as calls;
+ghost use Rattle.std.specs.Prelude.{◌≡◌, ◌<◌, ◌≤◌, true, length};
 ghost use Rattle.ptk_words.specs.Pools.{pool_get};
 ghost use Rattle.ptk_words_model.specs.State.{with_locks};
 ghost use Rattle.ptk_words_model.specs.Schedule.{with_thread};
 ghost use Rattle.ptk_words_model.specs.Decision.{runner_at};
+ghost use Rattle.ptk_words_model.specs.ThreadCalls.{is_taken};
 ghost use Rattle.ptk_words_model.specs.Unwinding.{is_ended, without_thread};
 ghost use Rattle.ptk_words_model.specs.Priority.{thread_at};
-ghost use Rattle.ptk_gate_pools.specs.Kept.{part_at, put_part, limits_at};
+ghost use Rattle.ptk_gate_pools.specs.Kept.{part_at, put_part};
+ghost use Rattle.ptk_gate_pools.specs.Moves.{with_joiner};
 
 use crate::pools::Pools;
 use ptk_threads::Slot;
-use ptk_words::{Errno, PartId, Phase, Policy, Thread, ThreadNo};
-use ptk_words_model::{Invocation, Reply, Runner};
-
-/// The number that a guest reads for a policy (own choice).
-fn policy_number(policy: Policy) -> u32
-    ensures { result ≡ policy_number policy }
-{
-    match policy {
-        Policy::Fifo => 1,
-        Policy::RoundRobin => 2,
-    }
-}
+use ptk_words::{PartId, Phase, Thread, ThreadNo};
+use ptk_words_model::Runner;
 
 impl Pools {
-    /// pthread_getschedparam: the policy in a1 and the assigned priority in a2; ESRCH.
-    pub fn scheduling(&mut self, p: PartId, i: Invocation) -> Reply
-        requires partition { p < length self.old.limits }
-        ensures told { result ≡ (getschedparam i (part_at p self.old)).reply }
-        ensures moved { self.new ≡ put_part p (getschedparam i (part_at p self.old)).part self.old }
-    {
-        match self.target(p, i.a0) {
-            Some(target) => {
-                let priority = target.thread.priority;
-                self.succeed_with_two(
-                    p,
-                    i,
-                    policy_number(target.thread.policy),
-                    priority.level() as u32,
-                )
-            }
-            None => self.refuse(p, i, Errno::ESRCH),
-        }
-    }
-
-    /// pthread_detach: an ended thread's number is free, another thread is detached; ESRCH, EINVAL.
-    #[tactic(auto, using(crate::proofs::Parted::parted, crate::proofs::Stored::stored))]
-    pub fn detach(&mut self, p: PartId, i: Invocation) -> Reply
-        requires partition { p < length self.old.limits }
-        ensures told { result ≡ (calls.detach i (part_at p self.old)).reply }
-        ensures moved { self.new ≡ put_part p (calls.detach i (part_at p self.old)).part self.old }
-    {
-        let _ = &self.threads;
-        match self.target(p, i.a0) {
-            Some(target) => {
-                if is_taken(&target.thread) {
-                    self.refuse(p, i, Errno::EINVAL)
-                } else if is_ended(target.thread.phase) {
-                    self.free(p, target.number);
-                    self.succeed(p, i)
-                } else {
-                    self.mark_detached(p, target.number);
-                    self.succeed(p, i)
-                }
-            }
-            None => self.refuse(p, i, Errno::ESRCH),
-        }
-    }
-
     /// The number is free.
     #[tactic(auto, using(crate::proofs::Parted::parted, crate::proofs::Stored::stored))]
     pub fn free(&mut self, p: PartId, t: ThreadNo)
@@ -87,6 +33,15 @@ impl Pools {
         ensures { self.new ≡ put_part p (with_locks (with_thread t (λ thread. record thread { is_detached = true })) (part_at p self.old)) self.old }
     {
         self.threads.set_detached(p, t, true);
+    }
+
+    /// The thread's end is waited for by this one.
+    #[tactic(auto, using(crate::proofs::Parted::parted, crate::proofs::Stored::stored))]
+    pub fn give_joiner(&mut self, p: PartId, t: ThreadNo, joiner: ThreadNo)
+        requires partition { p < length self.old.limits }
+        ensures { self.new ≡ put_part p (with_locks (with_thread t (with_joiner joiner)) (part_at p self.old)) self.old }
+    {
+        self.threads.set_joiner(p, t, Some(joiner));
     }
 
     /// The thread that a guest names by a word, if that is the number of one in use.

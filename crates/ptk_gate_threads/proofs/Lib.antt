@@ -1,1 +1,3 @@
 pub mod Scheduling
+pub mod Joinings
+pub mod Attributes

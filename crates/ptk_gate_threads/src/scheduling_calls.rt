@@ -11,7 +11,8 @@ ghost use Rattle.ptk_words_well.specs.Well.{IsWell, is_in};
 ghost use Rattle.ptk_gate_pools.specs.Kept.{part_at, put_part, limits_at};
 ghost use Rattle.ptk_gate_pools.specs.Moves.{with_scheduling, with_priority};
 
-use ptk_gate_pools::{Pools, is_priority, named_policy};
+use crate::creates::{is_priority, named_policy};
+use ptk_gate_pools::Pools;
 use ptk_words::{Errno, PartId, Policy, Priority, ThreadNo};
 use ptk_words_model::{Invocation, Reply};
 

@@ -1,5 +1,5 @@
 -- The join of a thread, in its parts.
-use Rattle.std.specs.Prelude.{ℕ, [], ◌∷◌, ◌==◌, if◌then◌else◌, Some}
+use Rattle.std.specs.Prelude.{ℕ, [], ◌∷◌, ◌==◌, if◌then◌else◌}
 use Rattle.ptk_words.specs.declared.faults.Errno.TheVariants.{EINVAL, EDEADLK}
 use Rattle.ptk_words.specs.declared.threads.Thread.{Thread}
 use Rattle.ptk_words.specs.declared.threads.Wait.TheVariants.{JoinWait}
@@ -9,10 +9,7 @@ use Rattle.ptk_words_model.specs.Schedule.{with_thread}
 use Rattle.ptk_words_model.specs.Unwinding.{is_ended, without_thread}
 use Rattle.ptk_words_model.specs.Calls.{Answer, refusal, success, blocked_in, using_thread}
 use Rattle.ptk_words_model.specs.ThreadCalls.{is_taken}
-
--- the thread's end is waited for by this one (pthread_join)
-abbrev pub with_joiner : ℕ → Thread → Thread
-with_joiner joiner thread = record thread { joiner = Some joiner }
+use Rattle.ptk_gate_pools.specs.Moves.{with_joiner}
 
 -- the result of an ended thread, whose number is then free; else the caller blocks (pthread_join)
 abbrev pub joined_thread : Invocation → ℕ → Thread → Part → Answer

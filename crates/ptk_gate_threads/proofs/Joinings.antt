@@ -9,7 +9,7 @@ use Rattle.ptk_words_model.specs.State.{Part}
 use Rattle.ptk_words_model.specs.Priority.{thread_at}
 use Rattle.ptk_words_model.specs.Calls.{refusal}
 use Rattle.ptk_words_model.specs.Decision.{runner_at}
-use Rattle.ptk_gate_pools.specs.Joins.{joined, joined_thread}
+use Rattle.ptk_gate_threads.specs.Joins.{joined, joined_thread}
 
 joined_at : (i : Invocation) (s : Part) (r : Runner) (o : Option Thread) → runner_at i.a0 o ≡ Some r → unwrap_or (option_map (λ target. joined_thread i i.a0 target s) o) (refusal ESRCH i s) ≡ joined_thread i r.number r.thread s
 joined_at i s r None e = absurd (let no : ⊥ = cc in no)

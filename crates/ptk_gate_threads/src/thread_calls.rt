@@ -1,0 +1,64 @@
+//! Calls 13 and 17: a thread detached, and its scheduling told.
+
+ghost use Rattle.std.specs.Prelude.{◌≡◌, ◌<◌, length};
+ghost use Rattle.ptk_words_model.specs.ThreadCalls.{getschedparam, policy_number};
+ghost use Rattle.ptk_words_model.specs.ThreadCalls as calls;
+ghost use Rattle.ptk_gate_pools.specs.Kept.{part_at, put_part};
+
+use ptk_gate_pools::{Pools, is_ended, is_taken};
+use ptk_words::{Errno, PartId, Policy};
+use ptk_words_model::{Invocation, Reply};
+
+/// The number that a guest reads for a policy (own choice).
+fn policy_number(policy: Policy) -> u32
+    ensures { result ≡ policy_number policy }
+{
+    match policy {
+        Policy::Fifo => 1,
+        Policy::RoundRobin => 2,
+    }
+}
+
+/// pthread_getschedparam: the policy in a1 and the assigned priority in a2; ESRCH.
+pub fn getschedparam(pools: &mut Pools, p: PartId, i: Invocation) -> Reply
+    requires partition { p < length pools.old.limits }
+    ensures told { result ≡ (getschedparam i (part_at p pools.old)).reply }
+    ensures moved { pools.new ≡ put_part p (getschedparam i (part_at p pools.old)).part pools.old }
+{
+    match pools.target(p, i.a0) {
+        Some(target) => {
+            let priority = target.thread.priority;
+            pools.succeed_with_two(
+                p,
+                i,
+                policy_number(target.thread.policy),
+                priority.level() as u32,
+            )
+        }
+        None => pools.refuse(p, i, Errno::ESRCH),
+    }
+}
+
+/// pthread_detach: an ended thread's number is free, another thread is detached; ESRCH, EINVAL.
+#[tactic(auto, using(ptk_gate_pools::proofs::Parted::parted))]
+pub fn detach(pools: &mut Pools, p: PartId, i: Invocation) -> Reply
+    requires partition { p < length pools.old.limits }
+    ensures told { result ≡ (calls.detach i (part_at p pools.old)).reply }
+    ensures moved { pools.new ≡ put_part p (calls.detach i (part_at p pools.old)).part pools.old }
+{
+    let _parts = pools.parts();
+    match pools.target(p, i.a0) {
+        Some(target) => {
+            if is_taken(&target.thread) {
+                pools.refuse(p, i, Errno::EINVAL)
+            } else if is_ended(target.thread.phase) {
+                pools.free(p, target.number);
+                pools.succeed(p, i)
+            } else {
+                pools.mark_detached(p, target.number);
+                pools.succeed(p, i)
+            }
+        }
+        None => pools.refuse(p, i, Errno::ESRCH),
+    }
+}
