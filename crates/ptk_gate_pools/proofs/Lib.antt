@@ -12,3 +12,5 @@ pub mod ArrivalSteps
 pub mod StepEffects
 pub mod Opened
 pub mod ArrivalLoop
+pub mod Filled
+pub mod LineLaws

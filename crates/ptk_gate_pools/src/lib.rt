@@ -14,8 +14,10 @@ mod console_calls;
 mod creates;
 mod ends;
 mod intervals;
+mod memory;
 mod places;
 mod pools;
+mod readings;
 mod scheduling;
 pub mod steps;
 #[cfg(test)]

@@ -1,0 +1,100 @@
+-- The tables before any image is loaded, and one partition's part of them.
+use Rattle.std.proofs.Common.{arith, ◌≡◌, ℕ, zero, suc, ◌<◌, ◌≤◌, List, [], ◌∷◌, length, map, refl, sym, ◌∙◌, ap, subst}
+use Rattle.std.specs.Prelude.{Option, None, replicate, slice_index_or, All}
+use Rattle.std.proofs.lemmas.List.{length-map, length-replicate, get_or-map, get_or-replicate}
+use Rattle.ptk_words.specs.Ranges.{IsWithinLimits}
+use Rattle.ptk_words.specs.declared.faults.Status.TheVariants.{Active}
+use Rattle.ptk_words.specs.declared.sections.Arrival.{Arrival}
+use Rattle.ptk_words.specs.declared.sections.Entry.{Entry}
+use Rattle.ptk_words.specs.declared.sections.Limits.{Limits}
+use Rattle.ptk_words.specs.declared.threads.Cleanup.{Cleanup}
+use Rattle.ptk_words.specs.declared.threads.Thread.{Thread}
+use Rattle.ptk_words_parted.specs.Parts.{part_of}
+use Rattle.ptk_words_model.specs.State.{Mutex, Condition, Part, Console}
+use Rattle.ptk_words_model.specs.Keys.{no_values, no_rounds}
+use Rattle.ptk_words_model.specs.ThreadCalls.{new_cancellation}
+use Rattle.ptk_words_model.specs.Run.{empty_part}
+use Rattle.ptk_words_well.specs.Well.{IsWell}
+use Rattle.ptk_words_well.proofs.Starts.{well_empty}
+use Rattle.ptk_console.specs.ConsoleTable.{fresh_console, no_limits}
+use Rattle.ptk_gate_pools.specs.Kept.{Kept, AreParts, part_at, limits_at, per_section}
+use Rattle.ptk_gate_pools.specs.Blank.{blank}
+use Rattle.ptk_gate.specs.Whole.{AreWhole}
+
+row : {A : Type 0} (count : Limits → ℕ) (a : A) (limits : List Limits) (p : ℕ) → p < length limits → part_of (per_section count a limits) p ≡ replicate (count (slice_index_or limits p no_limits)) a
+row count a limits p lt = get_or-map (λ (l : Limits). replicate (count l) a) limits p no_limits [] lt
+
+console_row : {X : Type 0} (input_of : X → List Arrival) (inputs : List X) (p : ℕ) → slice_index_or (map (λ x. fresh_console (input_of x)) inputs) p (fresh_console []) ≡ fresh_console (slice_index_or (map input_of inputs) p [])
+console_row input_of [] p = refl
+console_row input_of (x ∷ xs) zero = refl
+console_row input_of (x ∷ xs) (suc p) = console_row input_of xs p
+
+-- a partition's part of the blank tables has no thread, and all its input is still to come
+pub part_at-blank : {X : Type 0} (input_of : X → List Arrival) (limits : List Limits) (inputs : List X) (p : ℕ) → p < length limits
+    → part_at p (blank limits (map (λ x. fresh_console (input_of x)) inputs)) ≡ empty_part (slice_index_or limits p no_limits) (slice_index_or (map input_of inputs) p [])
+part_at-blank input_of limits inputs p lt =
+    rw (
+      row {A = ℕ} (λ l. l.memory) 0 limits p lt,
+      row {A = Option Thread} (λ l. l.threads) None limits p lt,
+      get_or-replicate {A = List ℕ} (length limits) p [] [] lt,
+      row {A = Option Mutex} (λ l. l.mutexes) None limits p lt,
+      row {A = Option Condition} (λ l. l.conditions) None limits p lt,
+      get_or-replicate {A = Option ℕ} (length limits) p None None lt,
+      row {A = Option ℕ} (λ l. l.threads) None limits p lt,
+      row (λ l. l.threads) new_cancellation limits p lt,
+      row {A = List Cleanup} (λ l. l.threads) [] limits p lt,
+      row {A = Option ℕ} (λ l. l.keys) None limits p lt,
+      get_or-map (λ (l : Limits). replicate l.threads (no_values l.keys)) limits p no_limits [] lt,
+      row (λ l. l.threads) no_rounds limits p lt,
+      console_row input_of inputs p,
+      get_or-replicate (length limits) p Active Active lt,
+      get_or-replicate {A = Option Entry} (length limits) p None None lt,
+    ) refl
+
+parts_blank : (limits : List Limits) (consoles : List Console) → length limits ≤ 8 → length consoles ≡ length limits → AreParts (length limits) (blank limits consoles)
+parts_blank limits consoles few same = record {
+  few = few;
+  memory = length-map limits _;
+  threads = length-map limits _;
+  lines = length-replicate (length limits) _;
+  mutexes = length-map limits _;
+  conditions = length-map limits _;
+  running = length-replicate (length limits) _;
+  deadlines = length-map limits _;
+  cancellations = length-map limits _;
+  cleanups = length-map limits _;
+  destructors = length-map limits _;
+  values = length-map limits _;
+  rounds = length-map limits _;
+  consoles = same;
+  statuses = length-replicate (length limits) _;
+  lasts = length-replicate (length limits) _;
+}
+
+-- the blank tables are whole
+pub whole_blank : {X : Type 0} (input_of : X → List Arrival) (limits : List Limits) (inputs : List X) → 1 ≤ length limits → length limits ≤ 8 → length inputs ≡ length limits → All IsWithinLimits limits
+    → AreWhole (blank limits (map (λ x. fresh_console (input_of x)) inputs))
+whole_blank input_of limits inputs some few same ranges =
+    let consoles : List Console = map (λ x. fresh_console (input_of x)) inputs in
+    record {
+      some = some;
+      wells = record {
+        parts = parts_blank limits consoles few (length-map inputs (λ x. fresh_console (input_of x)) ∙ same);
+        wells = λ p lt. (
+            let at : IsWithinLimits (slice_index_or limits p no_limits) = ranges p no_limits lt in
+            let Q : Part → Type 0 = λ s. IsWell (slice_index_or limits p no_limits) s in
+            let first : 1 ≤ (slice_index_or limits p no_limits).interval = at.interval_from in
+            subst Q (sym (part_at-blank input_of limits inputs p lt)) (well_empty (slice_index_or limits p no_limits) (slice_index_or (map input_of inputs) p []) (omega (arith, first))));
+      };
+      ranges = ranges;
+    }
+
+-- each section has at most 32 threads
+pub threads_few : (limits : List Limits) → All IsWithinLimits limits → All (λ count. count ≤ 32) (map (λ l. l.threads) limits)
+threads_few limits ranges k d lt =
+    let within : k < length limits = omega (arith, lt, length-map limits (λ (l : Limits). l.threads)) in
+    let at : IsWithinLimits (slice_index_or limits k no_limits) = ranges k no_limits within in
+    let most : (slice_index_or limits k no_limits).threads ≤ 32 = at.threads_to in
+    rw (get_or-map (λ (l : Limits). l.threads) limits k no_limits d within) most
+
+pub ruleset blanks = (whole_blank, threads_few)

@@ -1,0 +1,4 @@
+pub mod Wholes
+pub mod Blanks
+pub mod Loads
+pub mod Called

@@ -1,0 +1,110 @@
+-- The tables stay whole when one partition's part is replaced by a whole one.
+use Rattle.std.proofs.Common.{◌≡◌, ◌≢◌, ℕ, ◌<◌, List, length, sym, ap, ◌∙◌, subst, ◌⊎◌, inl, inr, true, false}
+use Rattle.std.specs.Prelude.{Option, Some}
+use Rattle.std.proofs.lemmas.Bool.{cases_eq}
+use Rattle.std.proofs.lemmas.List.{length-set}
+use Rattle.ptk_words.specs.declared.sections.Limits.{Limits}
+use Rattle.ptk_words_model.specs.State.{Part}
+use Rattle.ptk_words_model.specs.Priority.{thread_at}
+use Rattle.ptk_words_well.specs.Well.{IsWell, is_in}
+use Rattle.ptk_words.specs.declared.sections.Entry.{Entry}
+use Rattle.ptk_words_model.specs.Decision.{after_arrivals}
+use Rattle.ptk_words_model.specs.Schedule.{after_choice}
+use Rattle.ptk_words_model.specs.Unwinding.{after_unwinding_start}
+use Rattle.ptk_words_model.specs.Withdrawal.{after_expiries}
+use Rattle.ptk_words_model.specs.Run.{is_active}
+use Rattle.ptk_words_well.proofs.Lined.{ready_alive}
+use Rattle.ptk_words_well.proofs.Parts.{well_last}
+use Rattle.ptk_words_well.proofs.Turns.{well_choice}
+use Rattle.ptk_words_well.proofs.Waits.{well_arrivals}
+use Rattle.ptk_words_well.proofs.Unwindings.{well_unwinding_start}
+use Rattle.ptk_words_well.proofs.Expiries.{expiries_none}
+use Rattle.ptk_gate_pools.specs.StepMoves.{with_last}
+use Rattle.ptk_gate_pools.specs.Kept.{Kept, AreParts, AreWell, part_at, put_part, limits_at}
+use Rattle.ptk_gate_pools.proofs.Parted.{part_at-put, part_at-other}
+use Rattle.ptk_gate.specs.Whole.{AreWhole}
+
+-- every component keeps its length
+set_parts : (n p : ℕ) (s : Part) (kept : Kept) → AreParts n kept → AreParts n (put_part p s kept)
+set_parts n p s kept parts = record {
+  few = parts.few;
+  memory = length-set kept.memory p s.memory ∙ parts.memory;
+  threads = length-set kept.threads p s.threads ∙ parts.threads;
+  lines = length-set kept.lines p s.line ∙ parts.lines;
+  mutexes = length-set kept.mutexes p s.mutexes ∙ parts.mutexes;
+  conditions = length-set kept.conditions p s.conditions ∙ parts.conditions;
+  running = length-set kept.running p s.running ∙ parts.running;
+  deadlines = length-set kept.deadlines p s.deadlines ∙ parts.deadlines;
+  cancellations = length-set kept.cancellations p s.cancellations ∙ parts.cancellations;
+  cleanups = length-set kept.cleanups p s.cleanups ∙ parts.cleanups;
+  destructors = length-set kept.destructors p s.keys.destructors ∙ parts.destructors;
+  values = length-set kept.values p s.keys.values ∙ parts.values;
+  rounds = length-set kept.rounds p s.keys.rounds ∙ parts.rounds;
+  consoles = length-set kept.consoles p s.console ∙ parts.consoles;
+  statuses = length-set kept.statuses p s.status ∙ parts.statuses;
+  lasts = length-set kept.lasts p s.last ∙ parts.lasts;
+}
+
+well_put : (p q : ℕ) (s : Part) (kept : Kept) → AreWell kept → p < length kept.limits → q < length kept.limits → IsWell (limits_at p kept) s → (q ≡ p) ⊎ (q ≢ p)
+    → IsWell (limits_at q kept) (part_at q (put_part p s kept))
+well_put p q s kept are lt within well (inl e) =
+    let P : ℕ → Type 0 = λ i. IsWell (limits_at i kept) (part_at i (put_part p s kept)) in
+    let Q : Part → Type 0 = λ part. IsWell (limits_at p kept) part in
+    subst P (sym e) (subst Q (sym (part_at-put (length kept.limits) p s kept are.parts lt)) well)
+well_put p q s kept are lt within well (inr ne) =
+    let Q : Part → Type 0 = λ part. IsWell (limits_at q kept) part in
+    subst Q (sym (part_at-other p q s kept ne)) (are.wells q within)
+
+are_well_put : (p : ℕ) (s : Part) (kept : Kept) → AreWell kept → p < length kept.limits → IsWell (limits_at p kept) s → AreWell (put_part p s kept)
+are_well_put p s kept are lt well = record {
+  parts = set_parts (length kept.limits) p s kept are.parts;
+  wells = λ q within. well_put p q s kept are lt within well (cases_eq q p);
+}
+
+-- a whole part is put
+pub are_whole_put : (p : ℕ) (s : Part) (kept new : Kept) → new ≡ put_part p s kept → AreWhole kept → p < length kept.limits → IsWell (limits_at p kept) s → AreWhole new
+are_whole_put p s kept new e are lt well =
+    let P : Kept → Type 0 = AreWhole in
+    subst P (sym e) (record { some = are.some; wells = are_well_put p s kept are.wells lt well; ranges = are.ranges })
+
+-- each part is whole
+pub well_at : (p : ℕ) (kept : Kept) → AreWhole kept → p < length kept.limits → IsWell (limits_at p kept) (part_at p kept)
+well_at p kept are lt = are.wells.wells p lt
+
+-- the running thread is not in the line
+pub running_out_at : (p t : ℕ) (kept : Kept) → AreWhole kept → p < length kept.limits → (part_at p kept).running ≡ Some t → is_in t (part_at p kept).line ≡ false
+running_out_at p t kept are lt e = (are.wells.wells p lt).running_out t e
+
+-- ---- the moves whose result a tactic does not fit to a part by itself
+
+pub whole_arrivals : (p tick : ℕ) (kept new : Kept) → new ≡ put_part p (after_arrivals (limits_at p kept) tick (part_at p kept)) kept → AreWhole kept → p < length kept.limits → AreWhole new
+whole_arrivals p tick kept new e are lt =
+    are_whole_put p (after_arrivals (limits_at p kept) tick (part_at p kept)) kept new e are lt (well_arrivals (limits_at p kept) tick (part_at p kept) (well_at p kept are lt))
+
+-- no deadline is set, so none is due
+pub none_expires : (p tick : ℕ) (kept : Kept) → AreWhole kept → p < length kept.limits → after_expiries tick (after_arrivals (limits_at p kept) tick (part_at p kept)) ≡ after_arrivals (limits_at p kept) tick (part_at p kept)
+none_expires p tick kept are lt =
+    let arrived : Part = after_arrivals (limits_at p kept) tick (part_at p kept) in
+    let well : IsWell (limits_at p kept) arrived = well_arrivals (limits_at p kept) tick (part_at p kept) (well_at p kept are lt) in
+    expiries_none tick (limits_at p kept).threads arrived well.unused.deadlines
+
+pub whole_choice : (p : ℕ) (kept new : Kept) → new ≡ put_part p (after_choice (part_at p kept)) kept → AreWhole kept → p < length kept.limits → is_active (part_at p kept).status ≡ true → AreWhole new
+whole_choice p kept new e are lt active =
+    are_whole_put p (after_choice (part_at p kept)) kept new e are lt (well_choice (limits_at p kept) (part_at p kept) active (well_at p kept are lt))
+
+pub whole_unwinding : (p t value : ℕ) (kept new : Kept) → new ≡ put_part p (after_unwinding_start t value (part_at p kept)) kept → AreWhole kept → p < length kept.limits → (part_at p kept).running ≡ Some t → AreWhole new
+whole_unwinding p t value kept new e are lt runs =
+    let s : Part = part_at p kept in
+    let well : IsWell (limits_at p kept) s = well_at p kept are lt in
+    are_whole_put p (after_unwinding_start t value s) kept new e are lt
+    (well_unwinding_start (limits_at p kept) t value s (ready_alive (thread_at s.locks t) (well.running_ready t runs)) well)
+
+pub whole_last : (p : ℕ) (entry : Entry) (kept new : Kept) → new ≡ put_part p (with_last entry (part_at p kept)) kept → AreWhole kept → p < length kept.limits → AreWhole new
+whole_last p entry kept new e are lt =
+    are_whole_put p (with_last entry (part_at p kept)) kept new e are lt (well_last (limits_at p kept) (Some entry) (part_at p kept) (well_at p kept are lt))
+
+pub ruleset wholes = (are_whole_put, well_at)
+
+pub ruleset moves = (well_at, whole_arrivals, none_expires, whole_choice, whole_unwinding, whole_last)
+
+pub ruleset placed = (running_out_at)

@@ -1,0 +1,9 @@
+use Rattle.std.proofs.Common.{subst}
+use Rattle.ptk_gate_pools.specs.Kept.{Kept}
+use Rattle.ptk_gate.specs.Whole.{AreWhole}
+use Rattle.ptk_gate.proofs.Blanks.{whole_blank}
+use Rattle.ptk_gate.proofs.tables.Tables.new.Goals as goal
+
+pub invariant_of-result : goal.invariant_of-result
+invariant_of-result c =
+    rw c.in_ok-pools.ensures (whole_blank (λ input. input.now) c.args.limits.now c.args.inputs.now c.requires.some c.requires.few c.requires.inputs c.requires.ranges)

@@ -1,0 +1,15 @@
+//! The tables of all partitions, and the calls of their guests. `Tables` keeps what every crate below keeps, and as its
+//! invariant that each partition's part is whole (`ptk_words_well`) and its section's numbers are within their ranges.
+//! Each public call is one equation: the tables are the old ones with partition p's part replaced by the model's move,
+//! so that every other partition's part stays. `call` carries out the call that the running thread's registers state,
+//! by the call table. Below stand the pools; above, the kernel and the system. Dear to prove are `call` and `load`.
+#![tactic(auto)]
+
+mod calls;
+mod loading;
+mod names;
+mod steps;
+mod tables;
+
+pub use calls::call;
+pub use tables::Tables;

@@ -1,0 +1,137 @@
+//! What a decision of a partition is made of.
+
+ghost use Rattle.std.specs.Prelude.{◌≡◌, ◌<◌, true, length, Some};
+ghost use Rattle.ptk_words.specs.declared.TheConstants.{CANCELED};
+ghost use Rattle.ptk_words_instructions.specs.Instructions.{effect_at};
+ghost use Rattle.ptk_words_model.specs.Priority.{thread_at};
+ghost use Rattle.ptk_words_model.specs.Schedule.{after_choice, after_interval};
+ghost use Rattle.ptk_words_model.specs.Unwinding.{after_unwinding_start, after_gate_step};
+ghost use Rattle.ptk_words_model.specs.Withdrawal.{after_expiries};
+ghost use Rattle.ptk_words_model.specs.Decision.{after_arrivals, after_effect, runner_of, step_kind, traced_word};
+ghost use Rattle.ptk_words_model.specs.Run.{is_active};
+ghost use Rattle.ptk_gate_pools.specs.Kept.{part_at, put_part, limits_at};
+
+use crate::calls::call_with;
+use crate::tables::Tables;
+use ptk_words::{CANCELED, Cpu, Entry, PartId, Thread, ThreadNo, Tick};
+use ptk_words_model::{Runner, StepKind};
+
+impl Tables {
+    /// All input that comes at the tick or before arrives, in its order. No deadline is due then.
+    #[tactic(auto, using(crate::proofs::Wholes::moves))]
+    pub fn arrive_due(&mut self, p: PartId, tick: Tick)
+        requires partition { p < length self.old.limits }
+        ensures moved { self.new ≡ put_part p (after_arrivals (limits_at p self.old) tick (part_at p self.old)) self.old }
+        ensures none_due { after_expiries tick (after_arrivals (limits_at p self.old) tick (part_at p self.old)) ≡ after_arrivals (limits_at p self.old) tick (part_at p self.old) }
+    {
+        self.pools.arrive_due(p, tick);
+    }
+
+    /// The running thread is chosen: the first of the line's greatest effective priority, unless one runs whose
+    /// effective priority is as great (XSH 2.8.4).
+    #[tactic(auto, using(crate::proofs::Wholes::moves))]
+    pub fn choose(&mut self, p: PartId)
+        requires partition { p < length self.old.limits }
+        requires active { is_active (part_at p self.old).status ≡ true }
+        ensures { self.new ≡ put_part p (after_choice (part_at p self.old)) self.old }
+    {
+        self.pools.choose(p);
+    }
+
+    /// The thread that runs, if one does.
+    pub fn runner(&self, p: PartId) -> Option<Runner>
+        requires partition { p < length self.now.limits }
+        ensures { result ≡ runner_of (part_at p self.now) }
+    {
+        self.pools.runner(p)
+    }
+
+    /// What the thread's next step is, by its pc and the word there.
+    pub fn step_kind(&self, p: PartId, t: ThreadNo, thread: &Thread) -> StepKind
+        requires partition { p < length self.now.limits }
+        ensures { result ≡ step_kind (part_at p self.now) t thread.now }
+    {
+        self.pools.step_kind(p, t, thread)
+    }
+
+    /// The word that the trace keeps of a step at this pc, before it; 0 of a step that fetches none.
+    pub fn traced_word(&self, p: PartId, kind: StepKind, pc: u32) -> u32
+        requires partition { p < length self.now.limits }
+        ensures { result ≡ traced_word kind (part_at p self.now).memory pc }
+    {
+        self.pools.traced_word(p, kind, pc)
+    }
+
+    /// The thread of a number, None of a free one.
+    pub fn thread(&self, p: PartId, t: ThreadNo) -> Option<Thread>
+        requires partition { p < length self.now.limits }
+        ensures { result ≡ thread_at (part_at p self.now).locks t }
+    {
+        self.pools.thread(p, t)
+    }
+
+    /// The running thread, which is cancelled, begins its unwinding (XSH 2.9.5.2).
+    #[tactic(auto, using(crate::proofs::Wholes::moves))]
+    pub fn begin_unwinding(&mut self, p: PartId, t: ThreadNo)
+        requires partition { p < length self.old.limits }
+        requires running { (part_at p self.old).running ≡ Some t }
+        ensures { self.new ≡ put_part p (after_unwinding_start t CANCELED (part_at p self.old)) self.old }
+    {
+        self.pools.start_unwinding(p, t, CANCELED);
+    }
+
+    /// A step of the running thread at the return gate: a normal thread's start routine has returned, an unwinding one
+    /// ends (pthread_exit).
+    #[tactic(auto, using(crate::proofs::Wholes::wholes, ptk_words_well::proofs::Decisions::well_gate_step))]
+    pub fn step_at_gate(&mut self, p: PartId, t: ThreadNo, thread: Thread)
+        requires partition { p < length self.old.limits }
+        requires running { (part_at p self.old).running ≡ Some t }
+        ensures { self.new ≡ put_part p (after_gate_step thread.phase t thread (part_at p self.old)) self.old }
+    {
+        self.pools.step_at_gate(p, t, thread);
+    }
+
+    /// A step of the running thread from these registers: the instruction's effect, for an ECALL with its call, or the
+    /// partition stops at a break or a fault.
+    pub fn instruct(&mut self, p: PartId, tick: Tick, t: ThreadNo, cpu: Cpu)
+        requires partition { p < length self.old.limits }
+        requires running { (part_at p self.old).running ≡ Some t }
+        ensures { self.new ≡ put_part p (after_effect (limits_at p self.old) tick t cpu.pc (effect_at cpu (part_at p self.old).memory) (part_at p self.old)) self.old }
+    {
+        let called = self.pools.instruct(p, t, cpu);
+        match called {
+            Some(after) => {
+                let _reply = call_with(&mut self.pools, p, tick, t, after);
+            }
+            None => {}
+        }
+    }
+
+    /// A thread of SCHED_RR that still runs after a step of so many ticks has used them; at the interval it goes to the
+    /// tail, and no thread runs (XSH 2.8.4).
+    #[tactic(auto, using(crate::proofs::Wholes::wholes, crate::proofs::Wholes::placed, ptk_words_well::proofs::Turns::well_interval))]
+    pub fn count_interval(&mut self, p: PartId, cost: u32, t: ThreadNo)
+        requires partition { p < length self.old.limits }
+        ensures { self.new ≡ put_part p (after_interval (limits_at p self.old).interval cost t (thread_at (part_at p self.old).locks t) (part_at p self.old)) self.old }
+    {
+        let limits = self.pools.limits(p);
+        self.pools.count_interval(p, limits.interval, cost, t);
+    }
+
+    /// The last step is this one.
+    #[tactic(auto, using(crate::proofs::Wholes::moves))]
+    pub fn note_last(&mut self, p: PartId, entry: Entry)
+        requires partition { p < length self.old.limits }
+        ensures { self.new ≡ put_part p (record (part_at p self.old) { last = Some entry }) self.old }
+    {
+        self.pools.note_last(p, entry);
+    }
+
+    /// The partition's last step, None before the first.
+    pub fn last_step(&self, p: PartId) -> Option<Entry>
+        requires partition { p < length self.now.limits }
+        ensures { result ≡ (part_at p self.now).last }
+    {
+        self.pools.last_step(p)
+    }
+}

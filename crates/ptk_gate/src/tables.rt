@@ -1,0 +1,114 @@
+//! The tables.
+
+ghost use Rattle.std.specs.Prelude.{◌≡◌, ◌<◌, ◌≤◌, length, map, nat_lt, All, IfOk};
+ghost use Rattle.ptk_words.specs.Ranges.{IsWithinLimits};
+ghost use Rattle.ptk_console.specs.ConsoleTable.{fresh_console};
+ghost use Rattle.ptk_gate_pools.specs.Blank.{blank};
+ghost use Rattle.ptk_gate_pools.specs.Kept.{part_at};
+
+use ptk_gate_pools::Pools;
+use ptk_regions::Regions;
+use ptk_threads::Threads;
+use ptk_words::{Arrival, Limits, PartId, Status, ThreadNo};
+use std::alloc::{AllocError, Global};
+use std::marker::Model;
+
+/// What the kernel keeps of 1 to 8 partitions.
+#[derive(Drop)]
+pub struct Tables {
+    pub(crate) pools: Pools,
+}
+
+impl Model for Tables {
+    ghost use Rattle.ptk_gate_pools.specs.Kept.{Kept};
+    ghost use Rattle.ptk_gate.specs.Whole.{AreWhole};
+
+    ghost Value = { Kept };
+
+    ghost view = { λ a. a.pools };
+
+    ghost invariant = { λ a. AreWhole a.pools };
+}
+
+impl Tables {
+    /// The tables of 1 to 8 sections, from each one's numbers and input, with the room that all later calls fill: memory
+    /// all 0, no thread, and all input still to come. An error where memory ran out. No other call takes memory.
+    #[tactic(auto, using(crate::proofs::Blanks::blanks))]
+    pub fn new(
+        alloc: Global,
+        limits: &[Limits],
+        inputs: &[&[Arrival]],
+    ) -> Result<Tables, AllocError>
+        requires some { 1 ≤ length limits.now }
+        requires few { length limits.now ≤ 8 }
+        requires inputs { length inputs.now ≡ length limits.now }
+        requires ranges { All IsWithinLimits limits.now }
+        ensures { IfOk result (λ tables. tables ≡ blank limits.now (map (λ input. fresh_console input.now) inputs.now)) }
+    {
+        let pools = Pools::build(alloc, limits, inputs)?;
+        Ok(Tables { pools })
+    }
+
+    /// How many partitions there are, 1 to 8.
+    pub fn parts(&self) -> usize
+        ensures count { result ≡ length self.now.limits }
+        ensures some { 1 ≤ result }
+        ensures few { result ≤ 8 }
+    {
+        self.pools.parts()
+    }
+
+    /// The slot table of all partitions' threads.
+    pub fn threads(&self) -> &Threads
+        ensures { result.now.threads ≡ self.now.threads }
+    {
+        self.pools.threads()
+    }
+
+    /// The memory of all partitions.
+    pub fn regions(&self) -> &Regions
+        ensures { result.now ≡ self.now.memory }
+    {
+        self.pools.regions()
+    }
+
+    /// Whether the partition goes on, or why it is halted.
+    pub fn status(&self, p: PartId) -> Status
+        requires { p < length self.now.limits }
+        ensures { result ≡ (part_at p self.now).status }
+    {
+        self.pools.status(p)
+    }
+
+    /// The partition's running thread, if one runs.
+    pub fn running(&self, p: PartId) -> Option<ThreadNo>
+        requires { p < length self.now.limits }
+        ensures { result ≡ (part_at p self.now).running }
+    {
+        self.pools.running(p)
+    }
+
+    /// Whether a thread of the partition is ready, which the running one is not (XSH 2.8.4).
+    pub fn has_ready(&self, p: PartId) -> bool
+        requires { p < length self.now.limits }
+        ensures { result ≡ nat_lt 0 (length (part_at p self.now).line) }
+    {
+        self.pools.has_ready(p)
+    }
+
+    /// The partition's output so far.
+    pub fn output(&self, p: PartId) -> &[u8]
+        requires { p < length self.now.limits }
+        ensures { result.now ≡ (part_at p self.now).console.output }
+    {
+        self.pools.output(p)
+    }
+
+    /// How many of the partition's input bytes were lost.
+    pub fn dropped(&self, p: PartId) -> u64
+        requires { p < length self.now.limits }
+        ensures { result ≡ (part_at p self.now).console.dropped }
+    {
+        self.pools.dropped(p)
+    }
+}

@@ -1,0 +1,52 @@
+-- The choice of a line: None of an empty one alone.
+use Rattle.std.proofs.Common.{arith, ◌≡◌, ℕ, ◌<◌, ◌≤◌, Bool, true, false, List, [], ◌∷◌, length, refl, sym, ◌∙◌, ap, cond, ◌⊎◌, inl, inr}
+use Rattle.std.specs.Prelude.{Option, Some, is_some, nat_lt, find, fold, max, ◌==◌}
+use Rattle.std.proofs.lemmas.Bool.{false≢true, eq-eqb, lt-ltb}
+use Rattle.std.proofs.lemmas.Bool.Decides.{leb_tells}
+use Rattle.ptk_words.specs.Pools.{greatest, first_of_greatest}
+use Rattle.ptk_words_model.specs.State.{Locks}
+use Rattle.ptk_words_model.specs.Priority.{effective_priority}
+use Rattle.ptk_words_model.specs.Schedule.{first_ready}
+
+found_first : (t : ℕ) (o : Option ℕ) (b : Bool) → b ≡ true → is_some (cond b (Some t) o) ≡ true
+found_first t o true e = refl
+found_first t o false e = absurd (false≢true e)
+
+found_later : (t : ℕ) (o : Option ℕ) (b : Bool) → is_some o ≡ true → is_some (cond b (Some t) o) ≡ true
+found_later t o true e = refl
+found_later t o false e = e
+
+greater : (a b : ℕ) → (max a b ≡ a) ⊎ (max a b ≡ b)
+greater a b = elim (leb_tells a b) [
+  | inl up ↦ (let le : a ≤ b = up.1 in inr (omega arith))
+  | inr down ↦ (let lt : b < a = down.1 in inl (omega arith))
+]
+
+-- the greatest so far, or that of one that is found
+reached : (rank : ℕ → ℕ) (most : ℕ) (ts : List ℕ) → (fold (λ m k. max m (rank k)) most ts ≡ most) ⊎ (is_some (find (λ k. rank k == fold (λ m k. max m (rank k)) most ts) ts) ≡ true)
+reached rank most [] = inl refl
+reached rank most (t ∷ ts) =
+    let all : ℕ = fold (λ m k. max m (rank k)) (max most (rank t)) ts in
+    elim (reached rank (max most (rank t)) ts) [
+      | inl e ↦ elim (greater most (rank t)) [
+        | inl old ↦ inl (e ∙ old)
+        | inr new ↦ inr (found_first t (find (λ k. rank k == all) ts) (rank t == all) (eq-eqb (rank t) all (sym (e ∙ new))))
+      ]
+      | inr found ↦ inr (found_later t (find (λ k. rank k == all) ts) (rank t == all) found)
+    ]
+
+chosen : (rank : ℕ → ℕ) (t : ℕ) (ts : List ℕ) → is_some (first_of_greatest rank (t ∷ ts)) ≡ true
+chosen rank t ts =
+    let all : ℕ = fold (λ m k. max m (rank k)) (max 0 (rank t)) ts in
+    let from : max 0 (rank t) ≡ rank t = omega arith in
+    elim (reached rank (max 0 (rank t)) ts) [
+      | inl e ↦ found_first t (find (λ k. rank k == all) ts) (rank t == all) (eq-eqb (rank t) all (sym (e ∙ from)))
+      | inr found ↦ found_later t (find (λ k. rank k == all) ts) (rank t == all) found
+    ]
+
+first_some : (rank : ℕ → ℕ) (ts : List ℕ) → is_some (first_of_greatest rank ts) ≡ nat_lt 0 (length ts)
+first_some rank [] = refl
+first_some rank (t ∷ ts) = chosen rank t ts ∙ sym (lt-ltb 0 (length (t ∷ ts)) (omega arith))
+
+pub ready_seen : (o : Option ℕ) (b : Bool) (locks : Locks) → o ≡ first_ready locks → b ≡ is_some o → b ≡ nat_lt 0 (length locks.line)
+ready_seen o b locks e seen = seen ∙ ap is_some e ∙ first_some (effective_priority locks) locks.line
