@@ -4,7 +4,7 @@ ghost use Rattle.std.specs.Prelude.{◌≡◌, ◌<◌, ◌≤◌, length, map, 
 ghost use Rattle.ptk_words.specs.Ranges.{IsWithinLimits};
 ghost use Rattle.ptk_console.specs.ConsoleTable.{fresh_console};
 ghost use Rattle.ptk_gate_pools.specs.Blank.{blank};
-ghost use Rattle.ptk_gate_pools.specs.Kept.{part_at};
+ghost use Rattle.ptk_gate_pools.specs.Kept.{AreParts, part_at};
 
 use ptk_gate_pools::Pools;
 use ptk_regions::Regions;
@@ -54,6 +54,7 @@ impl Tables {
         ensures count { result ≡ length self.now.limits }
         ensures some { 1 ≤ result }
         ensures few { result ≤ 8 }
+        ensures whole { AreParts (length self.now.limits) self.now }
     {
         self.pools.parts()
     }

@@ -161,9 +161,10 @@ pub fn word_fetched(memory: &[u8], pc: u32) -> u32
     }
 }
 
-/// The ticks of a step.
+/// The ticks of a step, at most 16.
 pub fn step_cost(kind: StepKind) -> u32
-    ensures { result ≡ step_cost kind }
+    ensures value { result ≡ step_cost kind }
+    ensures short { result ≤ 16 }
 {
     match kind {
         StepKind::UnwindingStart | StepKind::GateStep => 4,
