@@ -1,0 +1,5 @@
+pub mod Bounds
+pub mod Runs
+pub mod Loading
+pub mod Reports
+pub mod Views

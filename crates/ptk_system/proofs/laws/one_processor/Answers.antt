@@ -1,0 +1,5 @@
+use Rattle.ptk_words_windows.proofs.OwnLaws.{own_apart}
+use Rattle.ptk_system.proofs.laws.one_processor.Goals as goal
+
+pub returns-clause-apart : goal.returns-clause-apart
+returns-clause-apart c = own_apart

@@ -1,0 +1,28 @@
+-- What holds of two systems, and of one processor.
+use Rattle.std.specs.Prelude.{◌≡◌, ◌≢◌, ℕ, ◌+◌, ◌-◌, ◌<◌, ◌≤◌, Some, None, length}
+use Rattle.ptk_words.specs.declared.sections.Limits.{Limits}
+use Rattle.ptk_words_windows.specs.Windows.{WindowTable, IsOwn, IsTable, own_ticks}
+use Rattle.ptk_words_model.specs.declared.Spent.TheVariants.{Step}
+use Rattle.ptk_words_model.specs.State.{Part}
+use Rattle.ptk_words_model.specs.Decision.{spent_by_decision}
+use Rattle.ptk_system.specs.Missing.{image_in}
+use Rattle.ptk_system.specs.World.{World, section_at}
+
+-- a partition of one system and one of another are told the same: own ticks and window ends, numbers, image and input (own)
+pub record SameView (a : World) (p : ℕ) (b : World) (q : ℕ) : Type 0 where
+  pub ends : (t : ℕ) → (own_ticks a.config.windows p).end_at t ≡ (own_ticks b.config.windows q).end_at t
+  pub nexts : (t : ℕ) → (own_ticks a.config.windows p).next_of t ≡ (own_ticks b.config.windows q).next_of t
+  pub limits : (section_at a.config p).limits ≡ (section_at b.config q).limits
+  pub image : image_in a.files (section_at a.config p).image ≡ image_in b.files (section_at b.config q).image
+  pub input : (section_at a.config p).input ≡ (section_at b.config q).input
+
+-- every other section names no image (own)
+abbrev pub IsIdleBut : ℕ → World → Type 0
+IsIdleBut q world = (r : ℕ) → r < length world.config.sections → r ≢ q → (section_at world.config r).image ≡ None
+
+-- all ticks of a decision's step lie in one window of the partition (own)
+abbrev pub StepStaysInWindow : Type 0
+StepStaysInWindow =
+    (table : WindowTable) (p tick end cost : ℕ) (limits : Limits) (s : Part) → IsTable table →
+    (own_ticks table p).end_at tick ≡ Some end → spent_by_decision limits tick (end - tick) s ≡ Step cost →
+    (k : ℕ) → tick ≤ k → k < tick + cost → (own_ticks table p).end_at k ≡ Some end

@@ -1,0 +1,38 @@
+-- The bytes of the report.
+use Rattle.std.specs.Prelude.{ℕ, zero, suc, List, [], ◌++◌, length, codes, decimal}
+use Rattle.ptk_words.specs.Faults.{image_fault_number}
+use Rattle.ptk_words_model.specs.Text.{cause_text, hex_word, newline, output_text, report_text}
+use Rattle.ptk_system.specs.World.{World, section_at, state_of}
+use Rattle.ptk_system.specs.declared.status.PartStatus.{PartStatus}
+use Rattle.ptk_system.specs.declared.status.PartStatus.TheVariants.{Idle, Running, Exited, Stopped, Refused}
+
+-- a status as the report spells it (own)
+abbrev pub shown_status : PartStatus → List ℕ
+shown_status Idle = codes "idle"
+shown_status Running = codes "running"
+shown_status (Exited code) = codes "exit " ++ decimal code
+shown_status (Stopped cause pc) = codes "fault " ++ (cause_text cause ++ (codes " pc " ++ hex_word pc))
+shown_status (Refused fault) = codes "refused image " ++ decimal (image_fault_number fault)
+
+-- the line of a partition of this name, with this status and these counts (own)
+abbrev pub head_line : List ℕ → PartStatus → ℕ → ℕ → List ℕ
+head_line name status steps lost =
+    codes "partition " ++ (name ++ (codes " " ++ (shown_status status
+    ++ (codes " steps " ++ (decimal steps ++ (codes " lost " ++ (decimal lost ++ newline)))))))
+
+-- that line, and the output after it (own)
+abbrev pub part_lines : List ℕ → PartStatus → ℕ → ℕ → List ℕ → List ℕ
+part_lines name status steps lost output = head_line name status steps lost ++ output_text output
+
+-- a partition's part of the report: the text of its state (own)
+abbrev pub part_report : World → ℕ → List ℕ
+part_report world p = report_text (section_at world.config p).name (state_of world p)
+
+-- the parts of so many sections, in their order (own)
+abbrev pub reports_to : World → ℕ → List ℕ
+reports_to world zero = []
+reports_to world (suc n) = reports_to world n ++ part_report world n
+
+-- the report (own)
+abbrev pub report_of : World → List ℕ
+report_of world = reports_to world (length world.config.sections)

@@ -1,0 +1,44 @@
+-- What is told of a partition's state.
+use Rattle.std.specs.Prelude.{ℕ, Bool, true, false, ◌||◌, Option, Some, None, option_map, option_and_then, is_some, length, nat_lt, if◌then◌else◌}
+use Rattle.ptk_words.specs.Processor.{Processor, register}
+use Rattle.ptk_words.specs.declared.faults.Status.{Status}
+use Rattle.ptk_words.specs.declared.faults.Status.TheVariants.{Active, Exited, Stopped, Refused}
+use Rattle.ptk_words.specs.declared.threads.Thread.{Thread}
+use Rattle.ptk_words_model.specs.State.{Part}
+use Rattle.ptk_words_model.specs.Priority.{thread_at}
+use Rattle.ptk_words_model.specs.Unwinding.{is_ended}
+use Rattle.ptk_system.specs.declared.status.PartStatus.{PartStatus}
+use Rattle.ptk_system.specs.declared.status.PartStatus.TheVariants as told
+
+-- the registers of a thread that has not ended (own)
+abbrev pub live_cpu : Option Thread → Option Processor
+live_cpu None = None
+live_cpu (Some thread) = if is_ended thread.phase then None else Some thread.cpu
+
+-- a register of a thread, if there is such a thread that has not ended, and such a register (own)
+abbrev pub register_in : ℕ → ℕ → Part → Option ℕ
+register_in t i s = option_and_then (λ cpu. if nat_lt i 32 then Some (register cpu i) else None) (live_cpu (thread_at s.locks t))
+
+-- the pc of a thread, if there is such a thread that has not ended (own)
+abbrev pub pc_in : ℕ → Part → Option ℕ
+pc_in t s = option_map (λ cpu. cpu.pc) (live_cpu (thread_at s.locks t))
+
+-- of a partition that is not halted: running where a thread is running or ready, else idle (own)
+abbrev pub activity_of : Bool → PartStatus
+activity_of true = told.Running
+activity_of false = told.Idle
+
+-- whether a thread is running or ready (own)
+abbrev pub is_busy : Part → Bool
+is_busy s = is_some s.running || nat_lt 0 (length s.line)
+
+-- the status by the state's own (own)
+abbrev pub told_status : Status → Bool → PartStatus
+told_status Active busy = activity_of busy
+told_status (Exited code) busy = told.Exited code
+told_status (Stopped cause pc) busy = told.Stopped cause pc
+told_status (Refused fault) busy = told.Refused fault
+
+-- the status of a partition (own)
+abbrev pub status_in : Part → PartStatus
+status_in s = told_status s.status (is_busy s)

@@ -1,0 +1,50 @@
+//! Laws of systems, each the contract of a function without code of its own.
+
+ghost use Rattle.std.specs.Prelude.{◌≡◌, ◌≤◌, ◌^◌, max};
+ghost use Rattle.ptk_words_windows.specs.OwnTicksLaws.{OwnTicksAreApart};
+ghost use Rattle.ptk_system.specs.Laws.{IsIdleBut, SameView, StepStaysInWindow};
+ghost use Rattle.ptk_system.specs.Shown.{part_report};
+ghost use Rattle.ptk_system.specs.World.{at_tick, section_at, state_of};
+
+use crate::system::System;
+use ptk_words::{PartId, Tick};
+
+/// Two systems that reached the same tick, and a partition of each, with the same own ticks, numbers, image and input:
+/// it is in the same state in both, and its part of the report is the same where its name is. Its place among the
+/// sections, the others, and the others' windows may differ.
+#[tactic(auto, using(crate::proofs::Views::views))]
+pub fn two_worlds(a: &System, b: &System, p: PartId, q: PartId)
+    requires view { SameView a.now p b.now q }
+    requires tick { a.now.tick ≡ b.now.tick }
+    ensures states { state_of a.now p ≡ state_of b.now q }
+    ensures reports { (section_at a.now.config p).name ≡ (section_at b.now.config q).name → part_report a.now p ≡ part_report b.now q }
+{}
+
+/// The same where the second system's other sections name no image: whatever the others run, the partition is what it
+/// is among idle ones.
+#[tactic(auto, using(crate::proofs::Views::views))]
+pub fn idle_world(a: &System, b: &System, p: PartId, q: PartId)
+    requires view { SameView a.now p b.now q }
+    requires idle { IsIdleBut q b.now }
+    requires tick { a.now.tick ≡ b.now.tick }
+    ensures states { state_of a.now p ≡ state_of b.now q }
+    ensures reports { (section_at a.now.config p).name ≡ (section_at b.now.config q).name → part_report a.now p ≡ part_report b.now q }
+{}
+
+/// All ticks of a decision's step lie in one window of its partition, and no tick is two partitions': so no two steps of
+/// a system share a tick.
+#[tactic(auto, using(crate::proofs::Views::processor))]
+pub fn one_processor()
+    ensures within { StepStaysInWindow }
+    ensures apart { OwnTicksAreApart }
+{}
+
+/// To stop on the way changes nothing.
+pub fn stop_on_the_way(system: &mut System, m: Tick, n: Tick)
+    requires order { m ≤ n }
+    requires small { n ≤ 2 ^ 40 }
+    ensures { system.new ≡ at_tick (max system.old.tick n) system.old }
+{
+    system.run_to(m);
+    system.run_to(n);
+}

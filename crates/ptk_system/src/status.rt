@@ -1,0 +1,89 @@
+//! What a partition does, as the report tells it.
+
+ghost use Rattle.std.specs.Prelude.{◌≡◌, Some};
+ghost use Rattle.ptk_words_model.specs.Text.{cause_text, fault_text};
+ghost use Rattle.ptk_system.specs.Told.{told_status};
+ghost use Rattle.ptk_system.specs.Shown.{shown_status};
+
+use ptk_trace::{Decimal, Word};
+use ptk_words::{Cause, FaultKind, ImageFault, Status};
+use std::fmt;
+
+/// What a partition does, or why it is halted.
+#[derive(Clone, Copy, Debug, PartialEq, Eq)]
+pub enum PartStatus {
+    /// It is not halted, and no thread is running or ready.
+    Idle,
+    /// It is not halted, and a thread is running or ready.
+    Running,
+    /// It exited with this code.
+    Exited(u8),
+    /// An instruction at this pc stopped it.
+    Stopped(Cause, u32),
+    /// Its image was refused.
+    Refused(ImageFault),
+}
+
+impl PartStatus {
+    /// The status of a partition by that of the tables, and by whether a thread is running or ready.
+    pub(crate) fn of(status: Status, busy: bool) -> PartStatus
+        ensures { result ≡ told_status status busy }
+    {
+        match status {
+            Status::Active if busy => PartStatus::Running,
+            Status::Active => PartStatus::Idle,
+            Status::Exited(code) => PartStatus::Exited(code),
+            Status::Stopped(cause, pc) => PartStatus::Stopped(cause, pc),
+            Status::Refused(fault) => PartStatus::Refused(fault),
+        }
+    }
+}
+
+/// The kind of a fault, as the report spells it.
+#[derive(Clone, Copy)]
+struct Kind(FaultKind);
+
+impl fmt::Display for Kind {
+    ghost output = { λ k. Some (fault_text k.0) };
+
+    fn fmt<W: fmt::Write>(&self, f: &mut fmt::Formatter<W>) -> fmt::Result {
+        match self.0 {
+            FaultKind::Illegal => f.write_str("illegal"),
+            FaultKind::Fetch => f.write_str("fetch"),
+            FaultKind::Load => f.write_str("load"),
+            FaultKind::Store => f.write_str("store"),
+            FaultKind::Misaligned => f.write_str("misaligned"),
+        }
+    }
+}
+
+/// What stopped a partition, as the report spells it.
+#[derive(Clone, Copy)]
+struct Reason(Cause);
+
+impl fmt::Display for Reason {
+    ghost output = { λ c. Some (cause_text c.0) };
+
+    fn fmt<W: fmt::Write>(&self, f: &mut fmt::Formatter<W>) -> fmt::Result {
+        match self.0 {
+            Cause::Break => f.write_str("break"),
+            Cause::Fault(kind) => Kind(kind).fmt(f),
+        }
+    }
+}
+
+impl fmt::Display for PartStatus {
+    ghost output = { λ s. Some (shown_status s) };
+
+    fn fmt<W: fmt::Write>(&self, f: &mut fmt::Formatter<W>) -> fmt::Result {
+        match *self {
+            PartStatus::Idle => f.write_str("idle"),
+            PartStatus::Running => f.write_str("running"),
+            PartStatus::Exited(code) => write!(f, "exit {}", Decimal(u64::from(code))),
+            PartStatus::Stopped(cause, pc) => write!(f, "fault {} pc {}", Reason(cause), Word(pc)),
+            PartStatus::Refused(fault) => {
+                write!(f, "refused image {}", Decimal(u64::from(fault.number())))
+            }
+        }
+    }
+}

@@ -1,0 +1,115 @@
+//! The system and its runs.
+
+ghost use Rattle.std.specs.Prelude.{◌≡◌, ◌+◌, ◌<◌, ◌≤◌, ◌^◌, None, IfOk, MatchResult, max};
+ghost use Rattle.ptk_system.specs.Missing.{first_missing, missing_in};
+ghost use Rattle.ptk_system.specs.World.{at_tick};
+
+use crate::booting::{first_machine, first_missing};
+use crate::fault::BootFault;
+use ptk_config::Config;
+use ptk_system_files::Files;
+use ptk_system_machine::Machine;
+use ptk_words::Tick;
+use std::alloc::Global;
+use std::marker::Model;
+
+/// The partitions of a configuration after some ticks. Each of them is what it would be alone: that is its invariant.
+#[derive(Drop)]
+pub struct System<'a> {
+    pub(crate) config: &'a Config,
+    files: &'a Files,
+    pub(crate) machine: Machine,
+    tick: Tick,
+}
+
+impl<'a> Model for System<'a> {
+    ghost use Rattle.ptk_system.specs.World.{IsRun, World};
+
+    ghost Value = { World };
+
+    ghost view = { λ a. record { config = a.config.now; files = a.files.now; tick = a.tick } };
+
+    ghost invariant = { λ a. IsRun a.config.now a.files.now a.machine a.tick };
+}
+
+impl<'a> System<'a> {
+    /// The system of a configuration at tick 0, with the images of these files. A section without an image starts no
+    /// thread, and one whose image is bad is halted alone.
+    ///
+    /// `BootFault::MissingFile` names the first section whose file is missing, and comes before any pool is made.
+    /// `BootFault::Memory` comes only where memory was refused. No later call takes memory.
+    pub fn boot(
+        alloc: Global,
+        config: &'a Config,
+        files: &'a Files,
+    ) -> Result<System<'a>, BootFault>
+        ensures booted { IfOk result (λ system. system ≡ record { config = config.now; files = files.now; tick = 0 }) }
+        ensures missing { MatchResult result
+            (λ _. first_missing files.now config.now.sections ≡ None)
+            (λ fault. first_missing files.now config.now.sections ≡ missing_in fault) }
+    {
+        if let Some(p) = first_missing(config, files) {
+            return Err(BootFault::MissingFile(p));
+        }
+        let machine = first_machine(alloc, config, files)?;
+        Ok(System {
+            config,
+            files,
+            machine,
+            tick: Tick::new(0),
+        })
+    }
+
+    /// Goes on to a tick of at most 2^40, and does nothing where it was already reached.
+    pub fn run_to(&mut self, n: Tick)
+        requires { n ≤ 2 ^ 40 }
+        ensures { self.new ≡ at_tick (max self.old.tick n) self.old }
+    {
+        while self.tick.ticks() < n.ticks() {
+            self.advance(n);
+        }
+    }
+
+    /// Goes on to the tick after the next decision of any partition, or to `n` where none comes before it.
+    fn advance(&mut self, n: Tick)
+        requires later { self.old.tick < n }
+        requires small { n ≤ 2 ^ 40 }
+        ensures same { self.new ≡ at_tick self.new.tick self.old }
+        ensures on { self.old.tick < self.new.tick }
+        ensures to { self.new.tick ≤ n }
+    {
+        self.jump(n);
+        if self.tick.ticks() < n.ticks() {
+            self.decide();
+        }
+    }
+
+    /// Goes on to the next tick up to `n` at which a decision is due, or to `n`.
+    fn jump(&mut self, n: Tick)
+        requires later { self.old.tick ≤ n }
+        requires small { n ≤ 2 ^ 40 }
+        ensures same { self.new ≡ at_tick self.new.tick self.old }
+        ensures on { self.old.tick ≤ self.new.tick }
+        ensures to { self.new.tick ≤ n }
+    {
+        let due = self.machine.next_due(self.tick, n);
+        self.tick = due;
+    }
+
+    /// One tick.
+    fn decide(&mut self)
+        requires { self.old.tick < 2 ^ 40 }
+        ensures { self.new ≡ at_tick (self.old.tick + 1) self.old }
+    {
+        let config = self.config;
+        self.machine.tick(config.windows(), self.tick);
+        self.tick = Tick::new(self.tick.ticks() + 1);
+    }
+
+    /// The tick that was reached.
+    pub fn tick(&self) -> Tick
+        ensures { result ≡ self.now.tick }
+    {
+        self.tick
+    }
+}

@@ -1,0 +1,132 @@
+-- What one partition's state is after another was put.
+use Rattle.std.proofs.Common.{◌≡◌, ◌≢◌, ℕ, ◌<◌, ◌+◌, List, Option, length, get_or, Bool, true, false, ◌==◌, eqb-true, eq-eqb, refl, sym, ap, subst, ◌∙◌, arith}
+use Rattle.std.proofs.lemmas.Bool.{false≢true}
+use Rattle.std.proofs.Math.ListN.{set}
+use Rattle.std.proofs.lemmas.List.{set-get_or, get_or-set_same, get_or-set_other, get_or_read, length-set}
+use Rattle.ptk_words.specs.declared.sections.Entry.{Entry}
+use Rattle.ptk_words.specs.declared.sections.Limits.{Limits}
+use Rattle.ptk_words_windows.specs.Windows.{OwnTicks}
+use Rattle.ptk_words_model.specs.declared.Spent.{Spent}
+use Rattle.ptk_words_model.specs.declared.Spent.TheVariants.{Step, Idle, Lost}
+use Rattle.ptk_words_model.specs.State.{Part, Account, State}
+use Rattle.ptk_words_model.specs.Run.{accounted, decided, next_from}
+use Rattle.ptk_words_model.specs.Decision.{after_decision, spent_by_decision}
+use Rattle.ptk_gate_pools.specs.Kept.{Kept, AreParts, limits_at, part_at, put_part}
+use Rattle.ptk_gate_pools.proofs.Parted.{part_at-put, part_at-other}
+use Rattle.ptk_system_machine.specs.Accounts.{HasEntry, KeptAccount, duration_of, spent_account}
+use Rattle.ptk_system_machine.specs.Whole.{Whole, IsWhole, no_account, account_at, state_at, put_state}
+use Rattle.ptk_system_machine.proofs.Entries.{decision_entry}
+
+pub state_at-put : (p : ℕ) (state : State) (whole : Whole) → IsWhole whole.kept whole.accounts → p < length whole.accounts → state_at p (put_state p state whole) ≡ state
+state_at-put p state whole is lt =
+    rw (part_at-put (length whole.accounts) p state.part whole.kept is.parts lt, get_or-set_same whole.accounts p (record (account_at p whole) { account = state.account }) no_account lt) refl
+
+pub state_at-other : (p q : ℕ) (state : State) (whole : Whole) → q ≢ p → state_at q (put_state p state whole) ≡ state_at q whole
+state_at-other p q state whole differ =
+    rw (part_at-other p q state.part whole.kept differ, get_or-set_other whole.accounts p q (record (account_at p whole) { account = state.account }) no_account differ) refl
+
+pub put_part-same : (p : ℕ) (kept : Kept) → put_part p (part_at p kept) kept ≡ kept
+put_part-same p kept = simp set-get_or
+
+pub put_state-same : (p : ℕ) (whole : Whole) → put_state p (state_at p whole) whole ≡ whole
+put_state-same p whole = rw (put_part-same p whole.kept, set-get_or whole.accounts p no_account) refl
+
+-- the account after a decision, by what it came to
+pub accounted_is : (ticks : OwnTicks) (limits : Limits) (tick room : ℕ) (part : Part) (spent : Spent) (account : Account)
+    → accounted ticks limits tick room part spent account ≡ spent_account (next_from ticks part.status (tick + duration_of room spent)) limits.trace room spent part.last account
+accounted_is ticks limits tick room part Idle account = refl
+accounted_is ticks limits tick room part Lost account = refl
+accounted_is ticks limits tick room part (Step cost) account = refl
+
+spent_is : (ticks : OwnTicks) (limits : Limits) (tick room : ℕ) (part after : Part) (spent came : Spent) (kept : ℕ) (account : Account) → part ≡ after → spent ≡ came → kept ≡ limits.trace
+    → spent_account (next_from ticks part.status (tick + duration_of room spent)) kept room spent part.last account ≡ accounted ticks limits tick room after came account
+spent_is ticks limits tick room part after spent came kept account e told trace =
+    ap (λ (k : ℕ). spent_account (next_from ticks part.status (tick + duration_of room spent)) k room spent part.last account) trace
+    ∙ (sym (accounted_is ticks limits tick room part spent account)
+    ∙ (ap (λ (s : Part). accounted ticks limits tick room s spent account) e ∙ ap (λ (s : Spent). accounted ticks limits tick room after s account) told))
+
+-- every list keeps its length
+pub put_parts : (n p : ℕ) (s : Part) (kept : Kept) → AreParts n kept → AreParts n (put_part p s kept)
+put_parts n p s kept parts =
+    record {
+      few = parts.few;
+      memory = length-set kept.memory p s.memory ∙ parts.memory;
+      threads = length-set kept.threads p s.threads ∙ parts.threads;
+      lines = length-set kept.lines p s.line ∙ parts.lines;
+      mutexes = length-set kept.mutexes p s.mutexes ∙ parts.mutexes;
+      conditions = length-set kept.conditions p s.conditions ∙ parts.conditions;
+      running = length-set kept.running p s.running ∙ parts.running;
+      deadlines = length-set kept.deadlines p s.deadlines ∙ parts.deadlines;
+      cancellations = length-set kept.cancellations p s.cancellations ∙ parts.cancellations;
+      cleanups = length-set kept.cleanups p s.cleanups ∙ parts.cleanups;
+      destructors = length-set kept.destructors p s.keys.destructors ∙ parts.destructors;
+      values = length-set kept.values p s.keys.values ∙ parts.values;
+      rounds = length-set kept.rounds p s.keys.rounds ∙ parts.rounds;
+      consoles = length-set kept.consoles p s.console ∙ parts.consoles;
+      statuses = length-set kept.statuses p s.status ∙ parts.statuses;
+      lasts = length-set kept.lasts p s.last ∙ parts.lasts;
+    }
+
+-- what was told of a decision has an entry
+pub entry_told : (n p tick room : ℕ) (limits : Limits) (kept new : Kept) (spent : Spent) (last : Option Entry) → AreParts n kept → p < n
+    → spent ≡ spent_by_decision limits tick room (part_at p kept) → new ≡ put_part p (after_decision limits tick room (part_at p kept)) kept → last ≡ (part_at p new).last → HasEntry spent last
+entry_told n p tick room limits kept new spent last parts lt told moved at =
+    let after : Part = after_decision limits tick room (part_at p kept) in
+    let now : part_at p new ≡ after_decision limits tick room (part_at p kept) = ap (part_at p) moved ∙ part_at-put n p _ kept parts lt in
+    let is : last ≡ (after_decision limits tick room (part_at p kept)).last = at ∙ ap (λ (s : Part). s.last) now in
+    subst (λ (s : Spent). HasEntry s last) (sym told)
+    (subst (λ (l : Option Entry). HasEntry (spent_by_decision limits tick room (part_at p kept)) l) (sym is) (decision_entry limits tick room (part_at p kept)))
+
+-- the tables and the account after a decision are the state after it
+pub decided_whole : (ticks : OwnTicks) (tick room p : ℕ) (kept new : Kept) (accounts : List KeptAccount) (account : KeptAccount) (spent : Spent) (next : Option ℕ) (last : Option Entry)
+    → IsWhole kept accounts → p < length accounts
+    → spent ≡ spent_by_decision (limits_at p kept) tick room (part_at p kept)
+    → new ≡ put_part p (after_decision (limits_at p kept) tick room (part_at p kept)) kept
+    → next ≡ next_from ticks (part_at p new).status (tick + duration_of room spent)
+    → last ≡ (part_at p new).last
+    → account ≡ record (get_or accounts p no_account) { account = spent_account next (get_or accounts p no_account).kept room spent last (get_or accounts p no_account).account }
+    → record { kept = new; accounts = set accounts p account } ≡ put_state p (decided ticks (limits_at p kept) tick room (state_at p (record { kept = kept; accounts = accounts }))) (record { kept = kept; accounts = accounts })
+decided_whole ticks tick room p kept new accounts account spent next last is lt told moved next_is last_is counted =
+    let old : KeptAccount = get_or accounts p no_account in
+    let limits : Limits = limits_at p kept in
+    let now : part_at p new ≡ after_decision (limits_at p kept) tick room (part_at p kept) = ap (part_at p) moved ∙ part_at-put (length accounts) p _ kept is.parts lt in
+    let by_law : spent_account (next_from ticks (part_at p new).status (tick + duration_of room spent)) (get_or accounts p no_account).kept room spent (part_at p new).last (get_or accounts p no_account).account
+        ≡ accounted ticks (limits_at p kept) tick room (after_decision (limits_at p kept) tick room (part_at p kept)) (spent_by_decision (limits_at p kept) tick room (part_at p kept)) (get_or accounts p no_account).account
+        = spent_is ticks (limits_at p kept) tick room (part_at p new) (after_decision (limits_at p kept) tick room (part_at p kept)) spent (spent_by_decision (limits_at p kept) tick room (part_at p kept)) (get_or accounts p no_account).kept (get_or accounts p no_account).account now told (is.traces p lt) in
+    let same : account ≡ record (get_or accounts p no_account) { account = accounted ticks (limits_at p kept) tick room (after_decision (limits_at p kept) tick room (part_at p kept)) (spent_by_decision (limits_at p kept) tick room (part_at p kept)) (get_or accounts p no_account).account }
+        = counted ∙ ap (λ (a : Account). record (get_or accounts p no_account) { account = a })
+          (ap (λ (n : Option ℕ). spent_account n (get_or accounts p no_account).kept room spent last (get_or accounts p no_account).account) next_is
+          ∙ (ap (λ (l : Option Entry). spent_account (next_from ticks (part_at p new).status (tick + duration_of room spent)) (get_or accounts p no_account).kept room spent l (get_or accounts p no_account).account) last_is ∙ by_law)) in
+    ap (λ (k : Kept). record { kept = k; accounts = set accounts p account }) moved
+    ∙ ap (λ (a : KeptAccount). record { kept = put_part p (after_decision (limits_at p kept) tick room (part_at p kept)) kept; accounts = set accounts p a }) same
+
+-- the account that was written is the partition's
+pub account_read : (p i : ℕ) (accounts : List KeptAccount) (x : KeptAccount) → x ≡ get_or accounts i x → i ≡ p → p < length accounts → x ≡ get_or accounts p no_account
+account_read p i accounts x read same lt = get_or_read accounts p x lt (subst (λ (j : ℕ). x ≡ get_or accounts j x) same read) no_account
+
+trace_still : (p q : ℕ) (accounts : List KeptAccount) (account : KeptAccount) (traces : ℕ) → account.kept ≡ (get_or accounts p no_account).kept → (get_or accounts q no_account).kept ≡ traces → q < length accounts
+    → (get_or (set accounts p account) q no_account).kept ≡ traces
+trace_still p q accounts account traces same at lt = by (p == q) refl
+  where
+    by : (b : Bool) → (p == q) ≡ b → (get_or (set accounts p account) q no_account).kept ≡ traces
+    by true e =
+        let is : p ≡ q = eqb-true p q e in
+        let here : (get_or (set accounts p account) q no_account).kept ≡ account.kept = ap (λ (a : KeptAccount). a.kept) (subst (λ (j : ℕ). get_or (set accounts j account) q no_account ≡ account) (sym is) (get_or-set_same accounts q account no_account lt)) in
+        here ∙ (same ∙ (ap (λ (j : ℕ). (get_or accounts j no_account).kept) is ∙ at))
+    by false e =
+        let differ : q ≢ p = λ one. false≢true (sym e ∙ eq-eqb p q (sym one)) in
+        ap (λ (a : KeptAccount). a.kept) (get_or-set_other accounts p q account no_account differ) ∙ at
+
+-- the invariant after one account and one part changed
+pub still_whole : (p : ℕ) (s : Part) (kept new : Kept) (accounts : List KeptAccount) (account : KeptAccount) → IsWhole kept accounts → new ≡ put_part p s kept → account.kept ≡ (get_or accounts p no_account).kept
+    → IsWhole new (set accounts p account)
+still_whole p s kept new accounts account is moved same =
+    let count : length (set accounts p account) ≡ length accounts = length-set accounts p account in
+    let parts : AreParts (length (set accounts p account)) (put_part p s kept) = subst (λ (n : ℕ). AreParts n (put_part p s kept)) (sym count) (put_parts (length accounts) p s kept is.parts) in
+    subst (λ (k : Kept). IsWhole k (set accounts p account)) (sym moved) (record {
+      parts = parts;
+      limits = is.limits ∙ sym count;
+      traces = λ q lt. let below : q < length accounts = subst (λ (n : ℕ). q < n) count lt in trace_still p q accounts account _ same (is.traces q below) below;
+    })
+
+pub ruleset same_part = (put_part-same)

@@ -1,0 +1,109 @@
+//! What is counted of one partition.
+
+ghost use Rattle.std.specs.Prelude.{◌≡◌, ◌≤◌, ◌^◌, IfOk};
+ghost use Rattle.ptk_kernel.specs.Spending.{cost_in};
+ghost use Rattle.ptk_system_machine.specs.Accounts.{HasEntry, first_account, spent_account, duration_of};
+
+use ptk_trace::Trace;
+use ptk_words::{Entry, Tick};
+use ptk_words_model::Spent;
+use std::alloc::{AllocError, Global};
+use std::marker::Model;
+
+/// The tick of a partition's next decision, if there is one, its steps, its lost ticks and its last steps.
+#[derive(Drop)]
+pub struct Account {
+    next: Option<Tick>,
+    steps: u64,
+    lost: u64,
+    trace: Trace,
+}
+
+impl Model for Account {
+    ghost use Rattle.ptk_system_machine.specs.Accounts.{KeptAccount};
+
+    ghost Value = { KeptAccount };
+
+    ghost view = { λ a. record {
+      account = record { next = a.next; steps = a.steps; lost = a.lost; trace = a.trace.entries };
+      kept = a.trace.kept;
+    } };
+}
+
+impl Account {
+    /// The account before the first decision, which is at this tick, with a trace of so many steps. An error where
+    /// memory ran out. No other call takes memory.
+    pub(crate) fn new(alloc: Global, next: Option<Tick>, kept: u32) -> Result<Account, AllocError>
+        ensures { IfOk result (λ account. account ≡ record { account = first_account next; kept = kept }) }
+    {
+        Ok(Account {
+            next,
+            steps: 0,
+            lost: 0,
+            trace: Trace::new(alloc, kept)?,
+        })
+    }
+
+    /// The tick of the next decision, None where there is none.
+    pub fn next(&self) -> Option<Tick>
+        ensures { result ≡ self.now.account.next }
+    {
+        self.next
+    }
+
+    /// How many steps there were.
+    pub fn steps(&self) -> u64
+        ensures { result ≡ self.now.account.steps }
+    {
+        self.steps
+    }
+
+    /// How many ticks were lost.
+    pub fn lost(&self) -> u64
+        ensures { result ≡ self.now.account.lost }
+    {
+        self.lost
+    }
+
+    /// The last steps.
+    pub fn trace(&self) -> &Trace
+        ensures { result.now ≡ record { kept = self.now.kept; entries = self.now.account.trace } }
+    {
+        &self.trace
+    }
+
+    /// Counts a decision with this room that came to `spent`: the tick of the next one, a step and its entry, or the
+    /// lost ticks.
+    pub(crate) fn count(&mut self, next: Option<Tick>, room: u32, spent: Spent, last: Option<Entry>)
+        requires steps { self.old.account.steps ≤ 2 ^ 40 }
+        requires lost { self.old.account.lost ≤ 2 ^ 60 }
+        requires entry { HasEntry spent last }
+        ensures { self.new ≡ record self.old { account = spent_account next self.old.kept room spent last self.old.account } }
+    {
+        self.next = next;
+        match spent {
+            Spent::Idle => {}
+            Spent::Lost => self.lost += u64::from(room),
+            Spent::Step(_) => {
+                self.steps += 1;
+                if let Some(entry) = last {
+                    self.trace.push(entry);
+                }
+            }
+        }
+    }
+}
+
+/// The ticks on which a decision with this room takes up.
+pub(crate) fn duration(room: u32, spent: Spent) -> u32
+    requires near { room ≤ 1000000 }
+    requires short { cost_in spent ≤ 16 }
+    ensures value { result ≡ duration_of room spent }
+    ensures near { result ≤ 1000000 }
+{
+    match spent {
+        Spent::Idle => 1,
+        Spent::Lost => room,
+        Spent::Step(cost) => cost,
+    }
+}

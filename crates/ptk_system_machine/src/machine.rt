@@ -1,0 +1,214 @@
+//! All partitions.
+
+ghost use Rattle.std.specs.Prelude.{◌≡◌, ◌<◌, ◌≤◌, ◌^◌, ◌+◌, ℕ, true, Some, IfOk, length, slice_index_or};
+ghost use Rattle.ptk_words_windows.specs.Windows.{own_ticks};
+ghost use Rattle.ptk_words_model.specs.Run.{after_tick, after_tick_until, decided, is_active, is_at, next_from};
+ghost use Rattle.ptk_gate_pools.specs.Kept.{AreParts, limits_at, part_at};
+ghost use Rattle.ptk_system_machine.specs.Accounts.{IsCounted};
+ghost use Rattle.ptk_system_machine.specs.Whole.{AreWindowsOf, account_at, first_account_of, no_account, put_state, state_at};
+
+use crate::account::{Account, duration};
+use ptk_gate::Tables;
+use ptk_kernel::{decide, last_step};
+use ptk_window::WindowTable;
+use ptk_words::{Limits, PartId, Status, Tick};
+use std::alloc::{AllocError, Global};
+use std::marker::Model;
+
+/// All partitions' states: the tables, and each partition's account.
+#[derive(Drop)]
+pub struct Machine {
+    tables: Tables,
+    accounts: Vec<Account>,
+}
+
+impl Model for Machine {
+    ghost use Rattle.ptk_system_machine.specs.Whole.{IsWhole, Whole};
+
+    ghost Value = { Whole };
+
+    ghost view = { λ a. record { kept = a.tables; accounts = a.accounts.items } };
+
+    ghost invariant = { λ a. IsWhole a.tables a.accounts.items };
+}
+
+impl Machine {
+    /// The tables before the first decision of any partition, with the numbers of their sections. An error where memory
+    /// ran out. No other call takes memory.
+    pub fn start(
+        alloc: Global,
+        tables: Tables,
+        limits: &[Limits],
+        windows: &WindowTable,
+    ) -> Result<Machine, AllocError>
+        requires few { length limits.now ≤ 8 }
+        requires limits { tables.limits ≡ limits.now }
+        requires parts { AreParts (length limits.now) tables }
+        ensures tables { IfOk result (λ machine. machine.kept ≡ tables) }
+        ensures count { IfOk result (λ machine. length machine.accounts ≡ length limits.now) }
+        ensures accounts { IfOk result (λ machine. (p : ℕ) → p < length limits.now →
+            account_at p machine ≡ first_account_of windows.now tables p) }
+    {
+        let accounts = first_accounts(alloc, &tables, limits, windows)?;
+        Ok(Machine { tables, accounts })
+    }
+
+    /// How many partitions there are.
+    pub fn parts(&self) -> usize
+        ensures { result ≡ length self.now.accounts }
+    {
+        self.accounts.len()
+    }
+
+    /// The tables of all partitions.
+    pub fn tables(&self) -> &Tables
+        ensures value { result.now ≡ self.now.kept }
+        ensures parts { AreParts (length self.now.accounts) self.now.kept }
+    {
+        let _ = &self.accounts;
+        &self.tables
+    }
+
+    /// What is counted of a partition.
+    pub fn account(&self, p: PartId) -> &Account
+        requires { p < length self.now.accounts }
+        ensures value { result.now ≡ account_at p self.now }
+        ensures kept { result.now.kept ≡ (limits_at p self.now.kept).trace }
+    {
+        &self.accounts[p.index()]
+    }
+}
+
+impl Machine {
+    /// A tick, below 2^40. To each partition it does what it would do to that partition alone.
+    #[tactic(auto, using(crate::proofs::Ticks::ticks))]
+    pub fn tick(&mut self, windows: &WindowTable, tick: Tick)
+        requires windows { AreWindowsOf (length self.old.accounts) windows.now }
+        requires time { tick < 2 ^ 40 }
+        requires counted { (p : ℕ) → p < length self.old.accounts → IsCounted (state_at p self.old) }
+        ensures parts { length self.new.accounts ≡ length self.old.accounts }
+        ensures limits { self.new.kept.limits ≡ self.old.kept.limits }
+        ensures each { (q : ℕ) → q < length self.old.accounts →
+            state_at q self.new ≡ after_tick (own_ticks windows.now q) (limits_at q self.old.kept) tick (state_at q self.old) }
+    {
+        let _ = &self.tables;
+        if let Some((p, end)) = windows.at(tick) {
+            self.turn(windows, p, tick, end);
+        }
+    }
+
+    /// A tick in a window of this partition, which ends then.
+    #[tactic(auto, using(crate::proofs::Ticks::states))]
+    fn turn(&mut self, windows: &WindowTable, p: PartId, tick: Tick, end: Tick)
+        requires partition { p < length self.old.accounts }
+        requires time { tick < 2 ^ 40 }
+        requires end { tick < end }
+        requires near { end ≤ tick + 1000000 }
+        requires counted { IsCounted (state_at p self.old) }
+        ensures { self.new ≡ put_state p (after_tick_until (Some end) (own_ticks windows.now p) (limits_at p self.old.kept) tick (state_at p self.old)) self.old }
+    {
+        if is_at(tick, self.account(p).next()) {
+            let room = (end.ticks() - tick.ticks()) as u32;
+            self.decide(windows, p, tick, room);
+        }
+    }
+
+    /// The decision of a partition at a tick of its own with this room.
+    #[tactic(auto, using(crate::proofs::Ticks::states))]
+    fn decide(&mut self, windows: &WindowTable, p: PartId, tick: Tick, room: u32)
+        requires partition { p < length self.old.accounts }
+        requires time { tick < 2 ^ 40 }
+        requires room { 1 ≤ room }
+        requires near { room ≤ 1000000 }
+        requires due { is_at tick (account_at p self.old).account.next ≡ true }
+        requires counted { IsCounted (state_at p self.old) }
+        ensures { self.new ≡ put_state p (decided (own_ticks windows.now p) (limits_at p self.old.kept) tick room (state_at p self.old)) self.old }
+    {
+        let spent = decide(&mut self.tables, p, tick, room);
+        let end = tick.ticks() + u64::from(duration(room, spent));
+        let next = next_from(windows, p, self.tables.status(p), Tick::new(end));
+        let last = last_step(&self.tables, p);
+        let account = &mut self.accounts[p.index()];
+        account.count(next, room, spent, last);
+    }
+
+    /// The first tick from `from` on that is below `to` and at which a partition decides next, or `to` where there is
+    /// none.
+    pub fn next_due(&self, from: Tick, to: Tick) -> Tick
+        requires { from ≤ to }
+        ensures not_before { from ≤ result }
+        ensures not_after { result ≤ to }
+        ensures none_between { (p k : ℕ) → p < length self.now.accounts →
+            (account_at p self.now).account.next ≡ Some k → from ≤ k → result ≤ k }
+    {
+        let mut due = to.ticks();
+        for account in &self.accounts {
+            due = earlier_due(account.next(), from.ticks(), due);
+        }
+        Tick::new(due)
+    }
+}
+
+/// The earlier of a due tick and the next decision's, if that is not before `from`.
+fn earlier_due(next: Option<Tick>, from: u64, due: u64) -> u64
+    requires { from ≤ due }
+    ensures not_before { from ≤ result }
+    ensures not_after { result ≤ due }
+    ensures none_between { (k : ℕ) → next ≡ Some k → from ≤ k → result ≤ k }
+{
+    match next {
+        Some(next) if from <= next.ticks() && next.ticks() < due => next.ticks(),
+        _ => due,
+    }
+}
+
+/// The partitions' accounts before the first decision.
+fn first_accounts(
+    alloc: Global,
+    tables: &Tables,
+    limits: &[Limits],
+    windows: &WindowTable,
+) -> Result<Vec<Account>, AllocError>
+    requires few { length limits.now ≤ 8 }
+    requires limits { tables.now.limits ≡ limits.now }
+    ensures count { IfOk result (λ accounts. length accounts.items ≡ length limits.now) }
+    ensures each { IfOk result (λ accounts. (p : ℕ) → p < length limits.now →
+        slice_index_or accounts.items p no_account ≡ first_account_of windows.now tables.now p) }
+{
+    let mut accounts = Vec::new(alloc);
+    for i in 0..limits.len() {
+        let p = PartId::new(i as u8);
+        let next = next_from(windows, p, tables.status(p), Tick::new(0));
+        accounts.push(Account::new(alloc, next, limits[i].trace)?)?;
+    }
+    Ok(accounts)
+}
+
+/// The partition's first own tick from this one on, none where it is halted.
+fn next_from(windows: &WindowTable, p: PartId, status: Status, tick: Tick) -> Option<Tick>
+    requires { tick ≤ 2 ^ 41 }
+    ensures { result ≡ next_from (own_ticks windows.now p) status tick }
+{
+    if is_active(status) {
+        windows.next_of(p, tick)
+    } else {
+        None
+    }
+}
+
+/// Whether the partition is not halted.
+fn is_active(status: Status) -> bool
+    ensures { result ≡ is_active status }
+{
+    matches!(status, Status::Active)
+}
+
+/// Whether the next decision is at the tick.
+fn is_at(tick: Tick, next: Option<Tick>) -> bool
+    ensures { result ≡ is_at tick next }
+{
+    match next {
+        Some(next) => next.ticks() == tick.ticks(),
+        None => false,
+    }
+}
