@@ -10,7 +10,9 @@ ghost use Rattle.ptk_gate.specs.Answers.{answer_of_call, registers_answer, call_
 use crate::names::{CallName, named_call};
 use crate::tables::Tables;
 use ptk_gate_pools::Pools;
-use ptk_gate_threads::{create, detach, getschedparam, join, setschedparam, setschedprio};
+use ptk_gate_threads::{
+    create, detach, getschedparam, join, setschedparam, setschedprio, yield_turn,
+};
 use ptk_words::{Cpu, Errno, Limits, PartId, ThreadNo, Tick};
 use ptk_words_model::{Invocation, Reply};
 
@@ -81,7 +83,7 @@ fn carry_out(pools: &mut Pools, call: CallName, p: PartId, i: Invocation) -> Rep
         CallName::Join => join(pools, p, i),
         CallName::Detach => detach(pools, p, i),
         CallName::OwnNumber => pools.own_number(p, i),
-        CallName::Yield => pools.yield_turn(p, i),
+        CallName::Yield => yield_turn(pools, p, i),
         CallName::SetScheduling => setschedparam(pools, p, i),
         CallName::Scheduling => getschedparam(pools, p, i),
         CallName::SetPriority => setschedprio(pools, p, i),

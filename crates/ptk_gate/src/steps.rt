@@ -13,6 +13,7 @@ ghost use Rattle.ptk_gate_pools.specs.Kept.{part_at, put_part, limits_at};
 
 use crate::calls::call_with;
 use crate::tables::Tables;
+use ptk_gate_threads::{choose, step_at_gate};
 use ptk_words::{CANCELED, Cpu, Entry, PartId, Thread, ThreadNo, Tick};
 use ptk_words_model::{Runner, StepKind};
 
@@ -35,7 +36,7 @@ impl Tables {
         requires active { is_active (part_at p self.old).status ≡ true }
         ensures { self.new ≡ put_part p (after_choice (part_at p self.old)) self.old }
     {
-        self.pools.choose(p);
+        choose(&mut self.pools, p);
     }
 
     /// The thread that runs, if one does.
@@ -88,7 +89,7 @@ impl Tables {
         requires running { (part_at p self.old).running ≡ Some t }
         ensures { self.new ≡ put_part p (after_gate_step thread.phase t thread (part_at p self.old)) self.old }
     {
-        self.pools.step_at_gate(p, t, thread);
+        step_at_gate(&mut self.pools, p, t, thread);
     }
 
     /// A step of the running thread from these registers: the instruction's effect, for an ECALL with its call, or the

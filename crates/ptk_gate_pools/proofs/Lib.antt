@@ -5,7 +5,6 @@ pub mod Rings
 pub mod Ready
 pub mod Priorities
 pub mod Built
-pub mod Endings
 pub mod Creations
 pub mod Ranks
 pub mod ArrivalSteps

@@ -53,3 +53,7 @@ with_priority priority thread = record thread { priority = priority }
 -- the thread's end is waited for by this one (pthread_join)
 abbrev pub with_joiner : ℕ → Thread → Thread
 with_joiner joiner thread = record thread { joiner = Some joiner }
+
+-- the thread has ended (pthread_exit)
+abbrev pub as_ended : Thread → Thread
+as_ended thread = record thread { phase = Ended }

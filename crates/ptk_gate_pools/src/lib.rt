@@ -1,10 +1,10 @@
 //! The pools of all partitions in one structure, and the moves of one partition that calls and decisions are made of:
-//! replies, places in the line, the choice of the running thread, round-robin intervals, blocking and waking, the
-//! beginning, unwinding and end of a thread, the console and its arrivals, an instruction. Each public call is
-//! one equation: the pools are the old ones with partition p's part replaced by the model's move, so that every other
-//! partition's part stays. That stored priorities are the effective ones is an invariant here. Below stand the pools
-//! of each kind (threads, line, memory, consoles) and the instructions; the gate's tables stand above. Dear to prove
-//! are `build`, `arrive_due`, `end` and `create`.
+//! replies, places in the line, round-robin intervals, blocking and waking, the beginning and unwinding of a thread,
+//! the console and its arrivals, an instruction. Each public call is one equation: the pools are the old ones with
+//! partition p's part replaced by the model's move, so that every other partition's part stays; `parts` tells what a
+//! composition of moves in another crate needs. That stored priorities are the effective ones is an invariant here.
+//! Below stand the pools of each kind (threads, line, memory, consoles) and the instructions; `ptk_gate_threads` and
+//! the gate's tables stand above. Dear to prove are `build`, `arrive_due` and `begin`.
 #![tactic(auto)]
 
 mod arrivals;
@@ -12,7 +12,6 @@ mod building;
 mod choices;
 mod console_calls;
 mod creates;
-mod ends;
 mod intervals;
 mod memory;
 mod places;

@@ -9,7 +9,7 @@ ghost use Rattle.ptk_words_model.specs.ThreadCalls.{is_taken};
 ghost use Rattle.ptk_words_model.specs.Unwinding.{is_ended, without_thread};
 ghost use Rattle.ptk_words_model.specs.Priority.{thread_at};
 ghost use Rattle.ptk_gate_pools.specs.Kept.{part_at, put_part};
-ghost use Rattle.ptk_gate_pools.specs.Moves.{with_joiner};
+ghost use Rattle.ptk_gate_pools.specs.Moves.{as_ended, with_joiner};
 
 use crate::pools::Pools;
 use ptk_threads::Slot;
@@ -42,6 +42,15 @@ impl Pools {
         ensures { self.new ≡ put_part p (with_locks (with_thread t (with_joiner joiner)) (part_at p self.old)) self.old }
     {
         self.threads.set_joiner(p, t, Some(joiner));
+    }
+
+    /// The thread has ended.
+    #[tactic(auto, using(crate::proofs::Parted::parted, crate::proofs::Stored::stored))]
+    pub fn mark_ended(&mut self, p: PartId, t: ThreadNo)
+        requires partition { p < length self.old.limits }
+        ensures { self.new ≡ put_part p (with_locks (with_thread t as_ended) (part_at p self.old)) self.old }
+    {
+        self.threads.set_phase(p, t, Phase::Ended);
     }
 
     /// The thread that a guest names by a word, if that is the number of one in use.

@@ -1,3 +1,4 @@
 pub mod Scheduling
 pub mod Joinings
 pub mod Attributes
+pub mod Endings

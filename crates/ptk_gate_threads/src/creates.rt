@@ -192,7 +192,7 @@ fn attributes_fault(attributes: &ThreadAttributes, memory: usize) -> Option<Errn
 }
 
 /// The policy of a guest's number, None of another word (own choice).
-pub fn named_policy(word: u32) -> Option<Policy>
+pub(crate) fn named_policy(word: u32) -> Option<Policy>
     ensures { result ≡ policy_of word }
 {
     match word {
@@ -203,7 +203,7 @@ pub fn named_policy(word: u32) -> Option<Policy>
 }
 
 /// Whether the number is a priority, 1 to 32.
-pub fn is_priority(word: u32) -> bool
+pub(crate) fn is_priority(word: u32) -> bool
     ensures { result ≡ is_priority word }
 {
     1 <= word && word <= 32

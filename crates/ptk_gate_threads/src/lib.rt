@@ -1,15 +1,22 @@
-//! Calls 10 to 18 as far as they are composed of moves: the creation, the join, the detaching and the scheduling of a
-//! thread. Each public call is one equation: the pools are the old ones with partition p's part replaced by what the
-//! call makes of it, so that every other partition's part stays. Below stand the pools and their moves,
-//! `ptk_gate_pools`; above, the gate's tables. Dear to prove are the compositions, each a state of all components.
+//! What is composed of the moves of `ptk_gate_pools`: calls 10, 12, 13 and 15 to 18 (creation, join, detaching, yield,
+//! scheduling), the step at the return gate with the end of a thread, and the choice of the running thread. Each public
+//! function is one equation: the pools are the old ones with partition p's part replaced by what the model makes of it,
+//! so that every other partition's part stays. Below stand the pools and their moves; above, the gate's tables. Dear to
+//! prove are the compositions, each a state of all components, and `create`.
 #![tactic(auto)]
 
+mod choices;
 mod creates;
+mod ends;
 mod joins;
+mod places;
 mod scheduling_calls;
 mod thread_calls;
 
+pub use choices::choose;
 pub use creates::create;
+pub use ends::step_at_gate;
 pub use joins::join;
+pub use places::yield_turn;
 pub use scheduling_calls::{setschedparam, setschedprio};
 pub use thread_calls::{detach, getschedparam};

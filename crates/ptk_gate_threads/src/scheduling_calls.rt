@@ -12,6 +12,7 @@ ghost use Rattle.ptk_gate_pools.specs.Kept.{part_at, put_part, limits_at};
 ghost use Rattle.ptk_gate_pools.specs.Moves.{with_scheduling, with_priority};
 
 use crate::creates::{is_priority, named_policy};
+use crate::places::{place_at_head, place_at_tail, reschedule};
 use ptk_gate_pools::Pools;
 use ptk_words::{Errno, PartId, Policy, Priority, ThreadNo};
 use ptk_words_model::{Invocation, Reply};
@@ -58,7 +59,7 @@ fn schedule_with(pools: &mut Pools, p: PartId, i: Invocation, t: ThreadNo, polic
     ensures moved { pools.new ≡ put_part p (scheduled_with (Some policy) i (part_at p pools.old)).part pools.old }
 {
     if is_priority(i.a2) {
-        reschedule(pools, p, i, t, policy, Priority::new(i.a2 as u8))
+        schedule_at(pools, p, i, t, policy, Priority::new(i.a2 as u8))
     } else {
         pools.refuse(p, i, Errno::EINVAL)
     }
@@ -66,7 +67,7 @@ fn schedule_with(pools: &mut Pools, p: PartId, i: Invocation, t: ThreadNo, polic
 
 /// The same with a policy and a priority.
 #[tactic(auto, using(ptk_gate_pools::proofs::Parted::parted))]
-fn reschedule(
+fn schedule_at(
     pools: &mut Pools,
     p: PartId,
     i: Invocation,
@@ -82,7 +83,7 @@ fn reschedule(
     ensures moved { pools.new ≡ put_part p (success [] i (after_placing_at_tail t (with_locks (with_thread t (with_scheduling policy priority)) (part_at p pools.old)))).part pools.old }
 {
     let _parts = pools.parts();
-    pools.reschedule(p, t, policy, priority);
+    reschedule(pools, p, t, policy, priority);
     pools.succeed(p, i)
 }
 
@@ -164,10 +165,9 @@ fn place_anew(pools: &mut Pools, p: PartId, t: ThreadNo, old: Priority, new: Pri
     requires raising { owns_raising (part_at p pools.old).locks t ≡ false }
     ensures { pools.new ≡ put_part p (after_priority_change old new t (part_at p pools.old)) pools.old }
 {
-    let _parts = pools.parts();
     if old.level() < new.level() {
-        pools.place_at_tail(p, t);
+        place_at_tail(pools, p, t);
     } else if new.level() < old.level() {
-        pools.place_at_head(p, t);
+        place_at_head(pools, p, t);
     }
 }

@@ -6,6 +6,6 @@ use Rattle.ptk_gate_threads.proofs.scheduling_calls.schedule_with.Goals as goal
 
 pub returns-then-is_priority-clause-moved : goal.returns-then-is_priority-clause-moved
 returns-then-is_priority-clause-moved c =
-    c.reschedule.ensures.moved
+    c.schedule_at.ensures.moved
     ∙ ap (λ (a : Answer). put_part c.args.p a.part c.args.pools.now)
     (scheduled_is c.args.policy c.args.t c.new.result c.args.i (part_at c.args.p c.args.pools.now) c.requires.named c.new.ensures (sym c.is_priority.ensures ∙ c.if-is_priority.true))

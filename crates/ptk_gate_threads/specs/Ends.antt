@@ -1,14 +1,8 @@
 -- The end of a thread, in its parts.
 use Rattle.std.specs.Prelude.{ℕ}
-use Rattle.ptk_words.specs.declared.threads.Thread.{Thread}
-use Rattle.ptk_words.specs.declared.threads.Phase.TheVariants.{Ended}
 use Rattle.ptk_words_model.specs.State.{Locks}
 use Rattle.ptk_words_model.specs.Priority.{thread_at}
 use Rattle.ptk_words_model.specs.Unwinding.{after_release}
-
--- the thread has ended (pthread_exit)
-abbrev pub as_ended : Thread → Thread
-as_ended thread = record thread { phase = Ended }
 
 -- the thread's number is free, or kept with its result until a joiner comes (pthread_exit, pthread_detach)
 abbrev pub released : ℕ → Locks → Locks

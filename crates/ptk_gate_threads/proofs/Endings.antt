@@ -17,7 +17,7 @@ use Rattle.ptk_words_well.proofs.Lined.{not_ready_out}
 use Rattle.ptk_words_well.proofs.Whole.{lined_of}
 use Rattle.ptk_words_well.proofs.Waits.{waits_not_ready}
 use Rattle.ptk_gate_pools.specs.Moves.{stopped}
-use Rattle.ptk_gate_pools.specs.Ends.{released}
+use Rattle.ptk_gate_threads.specs.Ends.{released}
 
 -- ---- the joiner
 

@@ -1,0 +1,155 @@
+//! The end of a thread, and the steps at the return gate.
+
+ghost use Rattle.std.specs.Prelude.{◌≡◌, ◌<◌, false, length, Some, IsSome, IfSome};
+ghost use Rattle.std.specs.List.{list_any};
+ghost use Rattle.ptk_words_model.specs.State.{with_locks};
+ghost use Rattle.ptk_words_model.specs.Priority.{thread_at};
+ghost use Rattle.ptk_words_model.specs.Unwinding.{is_alive, after_join_by, after_release, after_last_end, after_end, after_return, after_gate_step, after_unwinding_move, cleanups_of};
+ghost use Rattle.ptk_words_well.specs.Well.{IsWell, is_in, joiner_of};
+ghost use Rattle.ptk_gate_pools.specs.Kept.{part_at, put_part, limits_at};
+ghost use Rattle.ptk_gate_pools.specs.Moves.{stopped};
+ghost use Rattle.ptk_gate_threads.specs.Ends.{released};
+
+use ptk_gate_pools::{Pools, is_ended, is_taken};
+use ptk_threads::Slot;
+use ptk_words::{PartId, Phase, Status, Thread, ThreadNo};
+
+/// A step at the return gate: a normal thread's start routine has returned, an unwinding one ends (pthread_exit).
+#[tactic(auto, using(ptk_gate_pools::proofs::Parted::parted))]
+pub fn step_at_gate(pools: &mut Pools, p: PartId, t: ThreadNo, thread: Thread)
+    requires partition { p < length pools.old.limits }
+    requires well { IsWell (limits_at p pools.old) (part_at p pools.old) }
+    ensures { pools.new ≡ put_part p (after_gate_step thread.phase t thread (part_at p pools.old)) pools.old }
+{
+    match thread.phase {
+        Phase::Normal => return_from(pools, p, t, thread),
+        Phase::Unwinding => unwind_further(pools, p, t),
+        Phase::Ended => {}
+    }
+}
+
+/// A return of the main thread exits the partition with a0, of any other begins its unwinding (pthread_create).
+#[tactic(auto, using(ptk_gate_pools::proofs::Parted::parted))]
+fn return_from(pools: &mut Pools, p: PartId, t: ThreadNo, thread: Thread)
+    requires partition { p < length pools.old.limits }
+    ensures { pools.new ≡ put_part p (after_return t thread (part_at p pools.old)) pools.old }
+{
+    let value = thread.cpu.register(10);
+    if thread.is_main {
+        pools.halt(p, Status::Exited((value % 256) as u8));
+    } else {
+        pools.start_unwinding(p, t, value);
+    }
+}
+
+/// The next move of an unwinding thread, which has no handlers and no keys: its end (XSH 2.9.5.3).
+#[tactic(auto, using(ptk_gate_pools::proofs::Parted::parted))]
+fn unwind_further(pools: &mut Pools, p: PartId, t: ThreadNo)
+    requires partition { p < length pools.old.limits }
+    requires well { IsWell (limits_at p pools.old) (part_at p pools.old) }
+    ensures { pools.new ≡ put_part p (after_unwinding_move t (cleanups_of (part_at p pools.old) t) (part_at p pools.old)) pools.old }
+{
+    end(pools, p, t);
+}
+
+/// The thread has ended: its joiner is woken, its number free or kept, and the last thread's end exits the
+/// partition with 0 (pthread_exit).
+#[tactic(auto, using(ptk_gate_pools::proofs::Parted::parted, crate::proofs::Endings::ends))]
+fn end(pools: &mut Pools, p: PartId, t: ThreadNo)
+    requires partition { p < length pools.old.limits }
+    requires well { IsWell (limits_at p pools.old) (part_at p pools.old) }
+    ensures { pools.new ≡ put_part p (after_end t (part_at p pools.old)) pools.old }
+{
+    end_without_mutexes(pools, p, t);
+}
+
+/// The same of a thread that leaves no mutex behind.
+#[tactic(auto, using(ptk_gate_pools::proofs::Parted::parted))]
+fn end_without_mutexes(pools: &mut Pools, p: PartId, t: ThreadNo)
+    requires partition { p < length pools.old.limits }
+    requires in_use { IfSome (joiner_of (thread_at (part_at p pools.old).locks t)) (λ u. IsSome (thread_at (part_at p pools.old).locks u)) }
+    requires fresh { IfSome (joiner_of (thread_at (part_at p pools.old).locks t)) (λ u. is_in u (part_at p pools.old).line ≡ false) }
+    ensures { pools.new ≡ put_part p (after_last_end (stopped (with_locks (released t) (part_at p pools.old)))) pools.old }
+{
+    let _parts = pools.parts();
+    release(pools, p, t);
+    pools.stop(p);
+    halt_at_last_end(pools, p);
+}
+
+/// The thread's number is free, or kept with its result until a joiner comes (pthread_exit, pthread_detach).
+#[tactic(auto, using(ptk_gate_pools::proofs::Parted::parted))]
+fn release(pools: &mut Pools, p: PartId, t: ThreadNo)
+    requires partition { p < length pools.old.limits }
+    requires in_use { IfSome (joiner_of (thread_at (part_at p pools.old).locks t)) (λ u. IsSome (thread_at (part_at p pools.old).locks u)) }
+    requires fresh { IfSome (joiner_of (thread_at (part_at p pools.old).locks t)) (λ u. is_in u (part_at p pools.old).line ≡ false) }
+    ensures { pools.new ≡ put_part p (with_locks (released t) (part_at p pools.old)) pools.old }
+{
+    let _parts = pools.parts();
+    let thread = pools.threads().thread(p, t);
+    match thread {
+        Some(thread) => release_thread(pools, p, t, thread),
+        None => {}
+    }
+}
+
+/// The same of a thread in use.
+#[tactic(auto, using(ptk_gate_pools::proofs::Parted::parted))]
+fn release_thread(pools: &mut Pools, p: PartId, t: ThreadNo, thread: Thread)
+    requires partition { p < length pools.old.limits }
+    requires in_use { IfSome thread.joiner (λ u. IsSome (thread_at (part_at p pools.old).locks u)) }
+    requires fresh { IfSome thread.joiner (λ u. is_in u (part_at p pools.old).line ≡ false) }
+    ensures { pools.new ≡ put_part p (with_locks (after_release t (Some thread)) (part_at p pools.old)) pools.old }
+{
+    let _parts = pools.parts();
+    if is_taken(&thread) {
+        tell_joiner(pools, p, thread.joiner, thread.result);
+        pools.free(p, t);
+    } else {
+        pools.mark_ended(p, t);
+    }
+}
+
+/// The thread's result goes to the thread that joins it (pthread_join).
+#[tactic(auto, using(ptk_gate_pools::proofs::Parted::parted))]
+fn tell_joiner(pools: &mut Pools, p: PartId, joiner: Option<ThreadNo>, value: u32)
+    requires partition { p < length pools.old.limits }
+    requires in_use { IfSome joiner (λ u. IsSome (thread_at (part_at p pools.old).locks u)) }
+    requires fresh { IfSome joiner (λ u. is_in u (part_at p pools.old).line ≡ false) }
+    ensures { pools.new ≡ put_part p (with_locks (after_join_by joiner value) (part_at p pools.old)) pools.old }
+{
+    match joiner {
+        Some(u) => pools.wake(p, u, &[0, value]),
+        None => {}
+    }
+}
+
+/// With no thread alive, the partition exits with 0 (pthread_exit).
+#[tactic(auto, using(ptk_gate_pools::proofs::Parted::parted))]
+fn halt_at_last_end(pools: &mut Pools, p: PartId)
+    requires partition { p < length pools.old.limits }
+    ensures { pools.new ≡ put_part p (after_last_end (part_at p pools.old)) pools.old }
+{
+    let _parts = pools.parts();
+    if is_any_alive(pools.threads().part(p)) {
+        return;
+    }
+    pools.halt(p, Status::Exited(0));
+}
+
+/// Whether a thread is in use and has not ended.
+fn is_alive(slot: &Slot) -> bool
+    ensures { result ≡ is_alive slot.now }
+{
+    match slot.thread() {
+        Some(thread) => !is_ended(thread.phase),
+        None => false,
+    }
+}
+
+/// Whether any of the threads is.
+fn is_any_alive(slots: &[Slot]) -> bool
+    ensures { result ≡ list_any is_alive slots.now }
+{
+    slots.iter().any(|slot| is_alive(slot))
+}

@@ -1,0 +1,96 @@
+//! A thread's place after a change of its scheduling.
+
+ghost use Rattle.std.specs.Prelude.{◌≡◌, ◌<◌, false, length, Some, IsSome};
+ghost use Rattle.ptk_words_model.specs.State.{with_locks};
+ghost use Rattle.ptk_words_model.specs.Schedule.{at_tail, at_head, with_thread};
+ghost use Rattle.ptk_words_model.specs.Priority.{thread_at};
+ghost use Rattle.ptk_words_model.specs.Mutex.{owns_raising};
+ghost use Rattle.ptk_words_model.specs.ThreadCalls.{after_placing, after_placing_at_tail, yield};
+ghost use Rattle.ptk_words_well.specs.Well.{IsWell, is_in};
+ghost use Rattle.ptk_gate_pools.specs.Kept.{part_at, put_part, limits_at};
+ghost use Rattle.ptk_gate_pools.specs.Moves.{with_scheduling};
+
+use ptk_gate_pools::Pools;
+use ptk_words::{PartId, Policy, Priority, ThreadNo};
+use ptk_words_model::{Invocation, Reply};
+
+/// A running or ready thread goes to the tail; a running one no longer runs (pthread_setschedparam).
+#[tactic(auto, using(ptk_gate_pools::proofs::Parted::parted, ptk_gate_pools::proofs::Ready::ready))]
+pub(crate) fn place_at_tail(pools: &mut Pools, p: PartId, t: ThreadNo)
+    requires partition { p < length pools.old.limits }
+    requires in_use { IsSome (thread_at (part_at p pools.old).locks t) }
+    requires fresh { (part_at p pools.old).running ≡ Some t → is_in t (part_at p pools.old).line ≡ false }
+    ensures { pools.new ≡ put_part p (after_placing at_tail t (part_at p pools.old)) pools.old }
+{
+    let _parts = pools.parts();
+    if pools.is_running(p, t) {
+        pools.end_turn(p, t);
+    } else if pools.is_lined(p, t) {
+        pools.take_from_line(p, t);
+        pools.push_tail(p, t);
+    }
+}
+
+/// A running or ready thread goes to the head; a running one no longer runs (pthread_setschedprio).
+#[tactic(auto, using(ptk_gate_pools::proofs::Parted::parted, ptk_gate_pools::proofs::Ready::ready))]
+pub(crate) fn place_at_head(pools: &mut Pools, p: PartId, t: ThreadNo)
+    requires partition { p < length pools.old.limits }
+    requires in_use { IsSome (thread_at (part_at p pools.old).locks t) }
+    requires fresh { (part_at p pools.old).running ≡ Some t → is_in t (part_at p pools.old).line ≡ false }
+    ensures { pools.new ≡ put_part p (after_placing at_head t (part_at p pools.old)) pools.old }
+{
+    let _parts = pools.parts();
+    if pools.is_running(p, t) {
+        pools.step_back(p, t);
+    } else if pools.is_lined(p, t) {
+        pools.take_from_line(p, t);
+        pools.push_head(p, t);
+    }
+}
+
+/// sched_yield: the caller, which runs, goes to the tail.
+#[tactic(auto, using(ptk_gate_pools::proofs::Parted::parted, ptk_gate_pools::proofs::Ready::ready))]
+pub fn yield_turn(pools: &mut Pools, p: PartId, i: Invocation) -> Reply
+    requires partition { p < length pools.old.limits }
+    requires well { IsWell (limits_at p pools.old) (part_at p pools.old) }
+    requires running { (part_at p pools.old).running ≡ Some i.caller }
+    ensures told { result ≡ (yield i (part_at p pools.old)).reply }
+    ensures moved { pools.new ≡ put_part p (yield i (part_at p pools.old)).part pools.old }
+{
+    let _parts = pools.parts();
+    place_at_tail(pools, p, i.caller);
+    pools.succeed(p, i)
+}
+
+/// The target, which owns no INHERIT or PROTECT mutex, is scheduled anew, and goes to the tail if it runs or is
+/// ready.
+#[tactic(auto, using(ptk_gate_pools::proofs::Parted::parted, ptk_words_well::proofs::Pools::changed_own))]
+pub(crate) fn reschedule(
+    pools: &mut Pools,
+    p: PartId,
+    t: ThreadNo,
+    policy: Policy,
+    priority: Priority,
+)
+    requires partition { p < length pools.old.limits }
+    requires in_use { IsSome (thread_at (part_at p pools.old).locks t) }
+    requires fresh { (part_at p pools.old).running ≡ Some t → is_in t (part_at p pools.old).line ≡ false }
+    requires raising { owns_raising (part_at p pools.old).locks t ≡ false }
+    ensures { pools.new ≡ put_part p (after_placing_at_tail t (with_locks (with_thread t (with_scheduling policy priority)) (part_at p pools.old))) pools.old }
+{
+    let _parts = pools.parts();
+    give_scheduling(pools, p, t, policy, priority);
+    place_at_tail(pools, p, t);
+}
+
+/// The thread has this policy and assigned priority, and has used no tick.
+#[tactic(auto, using(ptk_gate_pools::proofs::Parted::parted, ptk_words_well::proofs::Pools::changed_twice))]
+fn give_scheduling(pools: &mut Pools, p: PartId, t: ThreadNo, policy: Policy, priority: Priority)
+    requires partition { p < length pools.old.limits }
+    ensures { pools.new ≡ put_part p (with_locks (with_thread t (with_scheduling policy priority)) (part_at p pools.old)) pools.old }
+{
+    let _parts = pools.parts();
+    pools.give_policy(p, t, policy);
+    pools.give_used(p, t, 0);
+    pools.give_priority(p, t, priority);
+}
