@@ -10,6 +10,8 @@ mod loading;
 mod names;
 mod steps;
 mod tables;
+#[cfg(test)]
+mod tests;
 
 pub use calls::call;
 pub use tables::Tables;

@@ -9,5 +9,7 @@
 
 mod decisions;
 mod steps;
+#[cfg(test)]
+mod tests;
 
 pub use decisions::{decide, last_step};

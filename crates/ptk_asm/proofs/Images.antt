@@ -1,0 +1,25 @@
+-- The lengths of an image.
+use Rattle.std.proofs.Common.{◌≡◌, ℕ, List, map, length, sym, ap, ◌∙◌}
+use Rattle.ptk_asm_model.specs.declared.statement.Section.TheVariants as part
+use Rattle.ptk_asm_model.specs.declared.place.Lengths.{Lengths}
+use Rattle.ptk_asm_model.specs.Source.{Layout, Placed, contents_of, layout_of}
+use Rattle.ptk_asm.specs.declared.layout.Layout as code
+use Rattle.ptk_asm.specs.Passing.{Shows, Names, state_after, shown_placed}
+use Rattle.ptk_asm_laws.proofs.Lengths.{text-length, data-length}
+
+pub names-after : (l : code.Layout) (before : List (List ℕ)) → Shows l (state_after before) → Names l (layout_of before)
+names-after l before h = record { lengths = h.lengths; labels = h.labels }
+
+-- the text is as long as the first pass says
+pub text_length : (l : code.Layout) (before : List (List ℕ)) (text : List ℕ) → Shows l (state_after before)
+    → ((known : Layout) → Names l known → text ≡ contents_of known part.Text (map shown_placed l.placed.items)) → length text ≡ l.lengths.text
+text_length l before text h e =
+    ap length (e (layout_of before) (names-after l before h) ∙ ap (λ (ps : List Placed). contents_of (layout_of before) part.Text ps) h.placed)
+    ∙ text-length (layout_of before) before ∙ sym (ap (λ (n : Lengths). n.text) h.lengths)
+
+-- the data too
+pub data_length : (l : code.Layout) (before : List (List ℕ)) (contents : List ℕ) → Shows l (state_after before)
+    → ((known : Layout) → Names l known → contents ≡ contents_of known part.Data (map shown_placed l.placed.items)) → length contents ≡ l.lengths.«data»
+data_length l before contents h e =
+    ap length (e (layout_of before) (names-after l before h) ∙ ap (λ (ps : List Placed). contents_of (layout_of before) part.Data ps) h.placed)
+    ∙ data-length (layout_of before) before ∙ sym (ap (λ (n : Lengths). n.«data») h.lengths)

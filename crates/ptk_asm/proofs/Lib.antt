@@ -1,0 +1,5 @@
+pub mod Contents
+pub mod Names
+pub mod States
+pub mod Texts
+pub mod Images

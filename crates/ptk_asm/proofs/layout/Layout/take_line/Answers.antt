@@ -1,0 +1,28 @@
+use Rattle.std.proofs.Common.{◌≡◌, Option, ◌∷◌, Some, None, subst}
+use Rattle.std.specs.Prelude.{OnOk, IfErr}
+use Rattle.ptk_asm_model.specs.declared.fault.FaultKind.{FaultKind}
+use Rattle.ptk_asm_model.specs.Tokens.{tokens_of}
+use Rattle.ptk_asm_model.specs.Reading.{views, Refuses}
+use Rattle.ptk_asm.specs.Passing.{State, Shows, Reaches, state_after}
+use Rattle.ptk_asm_model.specs.Source.{line_fault}
+use Rattle.ptk_asm_laws.proofs.Whole.{whole-line}
+use Rattle.ptk_asm.proofs.Texts.{state_line, fault_line, on_ok_map}
+use Rattle.ptk_asm.proofs.layout.Layout.take_line.Goals as goal
+
+pub returns-clause-ok : goal.returns-clause-ok
+returns-clause-ok c = λ before h.
+    let t : tokens_of c.without_comment-code.result.now ≡ Some (views c.deref.result.now) = rw c.deref.ensures.value c.in_ok-tokens.ensures.ok in
+    subst (λ (x : Option FaultKind). OnOk c.take_tokens.result (x ≡ None)) (fault_line before c.args.line.now _ _ _ c.without_ending.ensures.value c.without_comment-code.ensures.value t) (c.take_tokens.ensures.ok (state_after before) h.shows)
+
+pub returns-clause-next : goal.returns-clause-next
+returns-clause-next c = λ before s h.
+    let t : tokens_of c.without_comment-code.result.now ≡ Some (views c.deref.result.now) = rw c.deref.ensures.value c.in_ok-tokens.ensures.ok in
+    let shown : OnOk c.take_tokens.result (Shows c.take_tokens.new.self (state_after (c.args.line.now ∷ before))) =
+    subst (λ (x : State). OnOk c.take_tokens.result (Shows c.take_tokens.new.self x)) (state_line before c.args.line.now _ _ c.args.span _ c.without_ending.ensures.value c.without_comment-code.ensures.value t s) (c.take_tokens.ensures.next (state_after before) h.shows) in
+    on_ok_map c.take_tokens.result (line_fault before c.args.line.now ≡ None) (Shows c.take_tokens.new.self (state_after (c.args.line.now ∷ before))) (Reaches c.take_tokens.new.self (c.args.line.now ∷ before))
+    (λ e x. record { shows = x; whole = whole-line before c.args.line.now e h.whole }) (returns-clause-ok c before h) shown
+
+pub returns-clause-err : goal.returns-clause-err
+returns-clause-err c = λ before h.
+    let t : tokens_of c.without_comment-code.result.now ≡ Some (views c.deref.result.now) = rw c.deref.ensures.value c.in_ok-tokens.ensures.ok in
+    subst (λ (x : Option FaultKind). IfErr c.take_tokens.result (λ e. Refuses e.kind x)) (fault_line before c.args.line.now _ _ _ c.without_ending.ensures.value c.without_comment-code.ensures.value t) (c.take_tokens.ensures.err (state_after before) h.shows)

@@ -1,0 +1,2 @@
+pub mod OperandList
+pub mod RegisterNames

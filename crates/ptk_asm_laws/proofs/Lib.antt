@@ -1,0 +1,5 @@
+pub mod Statements
+pub mod Whole
+pub mod Lengths
+pub mod Offsets
+pub mod Sources

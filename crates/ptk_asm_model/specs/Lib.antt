@@ -1,0 +1,6 @@
+pub mod Lines
+pub mod Tokens
+pub mod Statements
+pub mod Source
+pub mod Reading
+pub mod Rows

@@ -1,0 +1,4 @@
+pub mod Pieces
+pub mod TokenList
+pub mod LineList
+pub mod Endings

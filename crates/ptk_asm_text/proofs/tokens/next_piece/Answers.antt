@@ -1,0 +1,15 @@
+use Rattle.std.proofs.Common.{arith, sym, ◌∙◌}
+use Rattle.std.proofs.lemmas.Grind.{common_steps}
+use Rattle.ptk_asm_text.proofs.Pieces.{pieces-run, pieces-mark, pieces-none}
+use Rattle.ptk_asm_text.proofs.tokens.next_piece.Goals as goal
+
+pub returns-then-begins_run-clause-some : goal.returns-then-begins_run-clause-some
+returns-then-begins_run-clause-some c =
+    rw (c.split_at.ensures.front, c.split_at.ensures.back) (pieces-run _ _ _ c.skip_blanks-rest.ensures.value (omega arith) (sym c.begins_run.ensures ∙ c.if-begins_run.true) (grind (arith, common_steps, c.run_length.ensures.value)))
+
+pub returns-clause-some : goal.returns-clause-some
+returns-clause-some c =
+    rw (c.split_at-2.ensures.front, c.split_at-2.ensures.back) (pieces-mark _ _ c.skip_blanks-rest.ensures.value (omega arith) (sym c.begins_run.ensures ∙ c.if-begins_run.false))
+
+pub returns-then-is_empty-clause-none : goal.returns-then-is_empty-clause-none
+returns-then-is_empty-clause-none c = pieces-none _ _ c.skip_blanks-rest.ensures.value (grind (arith, common_steps))

@@ -1,0 +1,36 @@
+//! The characters of the language.
+
+ghost use Rattle.std.specs.Prelude.{◌≡◌};
+ghost use Rattle.ptk_asm_model.specs.Tokens as is;
+
+/// A blank or a tab.
+#[tactic(auto, unfolding(ptk_asm_model::specs::Tokens::is_blank))]
+pub(crate) fn is_blank(c: u8) -> bool
+    ensures { result ≡ is.is_blank c }
+{
+    c == b' ' || c == b'\t'
+}
+
+/// A letter, `_` or `.`.
+#[tactic(auto, unfolding(ptk_asm_model::specs::Tokens::is_first, ptk_asm_model::specs::Tokens::is_letter))]
+pub(crate) fn is_first(c: u8) -> bool
+    ensures { result ≡ is.is_first c }
+{
+    (b'a' <= c && c <= b'z') || (b'A' <= c && c <= b'Z') || c == b'_' || c == b'.'
+}
+
+/// A character of names and numbers.
+#[tactic(auto, unfolding(ptk_asm_model::specs::Tokens::is_run, ptk_asm_model::specs::Tokens::is_digit))]
+pub(crate) fn is_run(c: u8) -> bool
+    ensures { result ≡ is.is_run c }
+{
+    is_first(c) || (b'0' <= c && c <= b'9')
+}
+
+/// One of `,`, `(`, `)` and `:`.
+#[tactic(auto, unfolding(ptk_asm_model::specs::Tokens::is_mark))]
+pub(crate) fn is_mark(c: u8) -> bool
+    ensures { result ≡ is.is_mark c }
+{
+    c == b',' || c == b'(' || c == b')' || c == b':'
+}
