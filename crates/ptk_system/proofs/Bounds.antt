@@ -1,5 +1,5 @@
 -- What a partition alone counts: no more steps than ticks, and no more lost ticks than a frame for each tick.
-use Rattle.std.proofs.Common.{◌≡◌, ℕ, zero, suc, ◌+◌, ◌*◌, ◌-◌, ◌<◌, ◌≤◌, Bool, true, false, List, Option, Some, None, refl, sym, ap, subst, ◌∙◌, arith}
+use Rattle.std.proofs.Common.{◌≡◌, ℕ, zero, suc, ◌+◌, ◌*◌, ◌-◌, ◌≤◌, Bool, true, false, List, Option, Some, None, refl, arith}
 use Rattle.std.specs.Prelude.{if◌then◌else◌, IsSome}
 use Rattle.std.proofs.lemmas.Bool.{false≢true}
 use Rattle.ptk_words.specs.declared.faults.Status.{Status}
@@ -11,7 +11,7 @@ use Rattle.ptk_words_model.specs.declared.Spent.{Spent}
 use Rattle.ptk_words_model.specs.declared.Spent.TheVariants.{Step, Idle, Lost}
 use Rattle.ptk_words_model.specs.State.{Part, Account, State}
 use Rattle.ptk_words_model.specs.Decision.{after_decision, spent_by_decision}
-use Rattle.ptk_words_model.specs.Run.{is_active, next_from, accounted, decided, is_at, after_tick_until, after_tick, alone, start}
+use Rattle.ptk_words_model.specs.Run.{is_active, next_from, accounted, decided, is_at, after_tick_until, alone, start}
 
 -- so many ticks are behind the state
 pub record IsBehind (n : ℕ) (s : State) : Type 0 where
@@ -44,6 +44,7 @@ until_behind ticks limits n (Some end) s near is = by (is_at n s.account.next)
   where
     room : end - n ≤ 1000000
     room = omega (arith, near end refl)
+
     by : (b : Bool) → IsBehind (suc n) (if b then decided ticks limits n (end - n) s else s)
     by true = accounted_behind ticks limits n (end - n) (after_decision limits n (end - n) s.part) (spent_by_decision limits n (end - n) s.part) s.account room is.steps is.lost
     by false = still_behind n s is

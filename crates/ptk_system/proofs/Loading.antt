@@ -1,6 +1,6 @@
 -- The tables while images are loaded, and the machine that starts from them.
-use Rattle.std.proofs.Common.{◌≡◌, ◌≢◌, ℕ, zero, suc, ◌+◌, ◌<◌, ◌≤◌, ◌==◌, Bool, true, false, All, List, [], Option, length, map, get_or, refl, sym, ap, subst, ◌∙◌, arith, eqb-true, eq-eqb}
-use Rattle.std.specs.Prelude.{replicate, Result, Ok}
+use Rattle.std.proofs.Common.{◌≡◌, ◌≢◌, ℕ, ◌+◌, ◌<◌, ◌≤◌, ◌==◌, Bool, true, false, All, List, [], length, map, get_or, refl, sym, ap, subst, ◌∙◌, arith, eqb-true, eq-eqb}
+use Rattle.std.specs.Prelude.{Result, Ok}
 use Rattle.ptk_words.specs.Image.{ImageParts}
 use Rattle.ptk_words.specs.declared.faults.ImageFault.{ImageFault}
 use Rattle.std.proofs.lemmas.Bool.{false≢true}
@@ -16,14 +16,14 @@ use Rattle.ptk_gate_pools.specs.Kept.{Kept, AreParts, limits_at, part_at, put_pa
 use Rattle.ptk_gate_pools.specs.Blank.{blank}
 use Rattle.ptk_gate_pools.proofs.Parted.{part_at-put, part_at-other}
 use Rattle.ptk_gate.proofs.Blanks.{part_at-blank}
-use Rattle.ptk_config.specs.Sections.{Section, AreInRange}
+use Rattle.ptk_config.specs.Sections.{Section}
 use Rattle.ptk_config.specs.Configuration.{Configuration, IsConfiguration}
 use Rattle.ptk_system_files.specs.NamedFiles.{NamedFile}
 use Rattle.ptk_system_machine.specs.Accounts.{KeptAccount, first_account}
-use Rattle.ptk_system_machine.specs.Whole.{Whole, account_at, first_account_of, state_at}
+use Rattle.ptk_system_machine.specs.Whole.{Whole, account_at, first_account_of}
 use Rattle.ptk_system_machine.proofs.States.{put_parts}
 use Rattle.ptk_system.specs.Missing.{image_in}
-use Rattle.ptk_system.specs.World.{IsRun, alone_in, no_section, section_at}
+use Rattle.ptk_system.specs.World.{IsRun, no_section, section_at}
 use Rattle.ptk_system.specs.Loaded.{AreLoaded}
 
 -- ---- before any image
@@ -63,19 +63,19 @@ blank_loaded input_of config files limits inputs kept is same_limits same_inputs
     let count : length limits ≡ length config.sections = ap length same_limits ∙ length-map config.sections (λ (s : Section). s.limits) in
     let few : length config.sections ≤ 8 = is.few in
     let consoles : length (map (λ x. fresh_console (input_of x)) inputs) ≡ length limits =
-        length-map inputs (λ x. fresh_console (input_of x))
-        ∙ (sym (length-map inputs input_of) ∙ (ap length same_inputs ∙ (length-map config.sections (λ (s : Section). s.input) ∙ sym count))) in
+    length-map inputs (λ x. fresh_console (input_of x))
+    ∙ (sym (length-map inputs input_of) ∙ (ap length same_inputs ∙ (length-map config.sections (λ (s : Section). s.input) ∙ sym count))) in
     let parts : AreParts (length limits) (blank limits (map (λ x. fresh_console (input_of x)) inputs)) = parts_blank limits (map (λ x. fresh_console (input_of x)) inputs) (omega arith) consoles in
     record {
       parts = subst (λ (n : ℕ). AreParts n kept) count (subst (λ (k : Kept). AreParts (length limits) k) (sym made) parts);
       limits = ap (λ (k : Kept). k.limits) made ∙ same_limits;
       loaded = λ p none lt. absurd (omega arith);
       blank = λ p later lt. (
-        let within : p < length limits = omega arith in
-        ap (part_at p) made
-        ∙ (part_at-blank input_of limits inputs p within
-        ∙ (ap (λ (l : Limits). empty_part l (get_or (map input_of inputs) p [])) (ap (λ (ls : List Limits). get_or ls p no_limits) same_limits ∙ get_or-map (λ (s : Section). s.limits) config.sections p no_section no_limits lt)
-        ∙ ap (empty_part (section_at config p).limits) (ap (λ (rows : List (List Arrival)). get_or rows p []) same_inputs ∙ get_or-map (λ (s : Section). s.input) config.sections p no_section [] lt))));
+          let within : p < length limits = omega arith in
+          ap (part_at p) made
+          ∙ (part_at-blank input_of limits inputs p within
+          ∙ (ap (λ (l : Limits). empty_part l (get_or (map input_of inputs) p [])) (ap (λ (ls : List Limits). get_or ls p no_limits) same_limits ∙ get_or-map (λ (s : Section). s.limits) config.sections p no_section no_limits lt)
+          ∙ ap (empty_part (section_at config p).limits) (ap (λ (rows : List (List Arrival)). get_or rows p []) same_inputs ∙ get_or-map (λ (s : Section). s.input) config.sections p no_section [] lt))));
     }
 
 -- ---- one image
@@ -111,6 +111,7 @@ more_loaded config files n section kept new are lt at moved = record {
         ∙ (ap (λ (l : Limits). with_image_bytes l (image_in files section.image) (part_at n kept)) (limits_section config kept n are.limits lt)
         ∙ (ap (λ (s : Section). with_image_bytes (section_at config n).limits (image_in files s.image) (part_at n kept)) at
         ∙ ap (with_image_bytes (section_at config n).limits (image_in files (section_at config n).image)) part)))
+
     loaded_by : (p : ℕ) → p < n + 1 → p < length config.sections → (b : Bool) → (p == n) ≡ b → part_at p new ≡ start_part (section_at config p).limits (image_in files (section_at config p).image) (section_at config p).input
     loaded_by p below within true e =
         subst (λ (q : ℕ). part_at q new ≡ start_part (section_at config q).limits (image_in files (section_at config q).image) (section_at config q).input) (sym (eqb-true p n e)) here
@@ -148,14 +149,16 @@ machine_starts config files limits tables machine is same are kept count account
       early = omega arith;
       limits = λ p lt. ap (limits_at p) kept ∙ limits_section config tables p are.limits lt;
       each = λ p lt. (
-        let within : p < length limits = subst (λ (n : ℕ). p < n) (sym sections) lt in
-        let loaded : part_at p tables ≡ start_part (section_at config p).limits (image_in files (section_at config p).image) (section_at config p).input = are.loaded p lt lt in
-        let part : part_at p machine.kept ≡ start_part (section_at config p).limits (image_in files (section_at config p).image) (section_at config p).input = ap (part_at p) kept ∙ loaded in
-        let account : (account_at p machine).account ≡ (start (own_ticks config.windows p) (section_at config p).limits (image_in files (section_at config p).image) (section_at config p).input).account =
-            ap (λ (a : KeptAccount). a.account) (accounts p within) ∙ ap (λ (s : Part). first_account (next_from (own_ticks config.windows p) s.status 0)) loaded in
-        started part account);
+          let within : p < length limits = subst (λ (n : ℕ). p < n) (sym sections) lt in
+          let loaded : part_at p tables ≡ start_part (section_at config p).limits (image_in files (section_at config p).image) (section_at config p).input = are.loaded p lt lt in
+          let part : part_at p machine.kept ≡ start_part (section_at config p).limits (image_in files (section_at config p).image) (section_at config p).input = ap (part_at p) kept ∙ loaded in
+          let account : (account_at p machine).account ≡ (start (own_ticks config.windows p) (section_at config p).limits (image_in files (section_at config p).image) (section_at config p).input).account =
+          ap (λ (a : KeptAccount). a.account) (accounts p within) ∙ ap (λ (s : Part). first_account (next_from (own_ticks config.windows p) s.status 0)) loaded in
+          started part account);
     }
 
 pub ruleset blanks = (limits_ranges, length-map)
+
 pub ruleset loading = (is_blank, loaded_sections)
+
 pub ruleset starts = (length-map)

@@ -1,5 +1,5 @@
 -- The texts of the report.
-use Rattle.std.proofs.Common.{◌≡◌, ℕ, suc, ◌+◌, ◌<◌, Bool, true, false, List, ◌++◌, Option, refl, sym, ap, subst, ◌∙◌, add-one}
+use Rattle.std.proofs.Common.{◌≡◌, ℕ, ◌+◌, Bool, true, false, List, ◌++◌, Option, refl, sym, ap, subst, add-one}
 use Rattle.std.specs.Prelude.{codes, decimal, if◌then◌else◌}
 use Rattle.std.specs.Io.KnownBytes.{Appends}
 use Rattle.std.proofs.KnownBytes.{Appends-trans}
@@ -33,4 +33,5 @@ more_reports world a b c i before part =
     subst (λ (j : ℕ). Appends a c (reports_to world j)) (sym (add-one i)) (Appends-trans a b c (reports_to world i) (part_report world i) before part)
 
 pub ruleset texts = (lines_told)
+
 pub ruleset reports = (more_reports)

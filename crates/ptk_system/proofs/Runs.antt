@@ -2,13 +2,12 @@
 use Rattle.std.proofs.Common.{◌≡◌, ℕ, zero, suc, ◌+◌, ◌*◌, ◌<◌, ◌≤◌, ◌^◌, ◌==◌, Bool, true, false, All, List, Option, Some, None, length, refl, sym, ap, subst, ◌∙◌, arith, add-one, get_or, ◌≢◌, eqb-true, eq-eqb}
 use Rattle.std.proofs.lemmas.Bool.{false≢true}
 use Rattle.ptk_console.specs.ConsoleTable.{no_limits}
-use Rattle.std.specs.Prelude.{if◌then◌else◌}
 use Rattle.ptk_words.specs.declared.sections.Arrival.{Arrival}
 use Rattle.ptk_words.specs.declared.sections.Limits.{Limits}
 use Rattle.ptk_words_windows.specs.Windows.{WindowTable, OwnTicks, IsTable, own_ticks}
 use Rattle.ptk_words_windows.proofs.FaultLaws.{accepted}
 use Rattle.ptk_words_model.specs.State.{State}
-use Rattle.ptk_words_model.specs.Run.{decided, is_at, after_tick_until, after_tick, alone}
+use Rattle.ptk_words_model.specs.Run.{is_at, after_tick_until, after_tick, alone}
 use Rattle.ptk_gate_pools.specs.Kept.{limits_at}
 use Rattle.ptk_config.specs.Configuration.{Configuration, IsConfiguration}
 use Rattle.ptk_system_files.specs.NamedFiles.{NamedFile}
@@ -56,12 +55,12 @@ run_on config files whole new tick t windows run early same next count limits ea
   early = omega arith;
   limits = λ p lt. ap (λ (ls : List Limits). get_or ls p no_limits) limits ∙ run.limits p lt;
   each = λ p lt. (
-    let within : p < length whole.accounts = subst (λ (n : ℕ). p < n) (sym run.parts) lt in
-    each p within
-    ∙ (ap (λ (w : WindowTable). after_tick (own_ticks w p) (limits_at p whole.kept) tick (state_at p whole)) same
-    ∙ (ap (λ (l : Limits). after_tick (own_ticks config.windows p) l tick (state_at p whole)) (run.limits p lt)
-    ∙ (ap (after_tick (own_ticks config.windows p) (section_at config p).limits tick) (run.each p lt)
-    ∙ ap (alone_in config files p) (sym (next ∙ add-one tick))))));
+      let within : p < length whole.accounts = subst (λ (n : ℕ). p < n) (sym run.parts) lt in
+      each p within
+      ∙ (ap (λ (w : WindowTable). after_tick (own_ticks w p) (limits_at p whole.kept) tick (state_at p whole)) same
+      ∙ (ap (λ (l : Limits). after_tick (own_ticks config.windows p) l tick (state_at p whole)) (run.limits p lt)
+      ∙ (ap (after_tick (own_ticks config.windows p) (section_at config p).limits tick) (run.each p lt)
+      ∙ ap (alone_in config files p) (sym (next ∙ add-one tick))))));
 }
 
 -- ---- jumps
@@ -105,11 +104,11 @@ run_still config files whole from to run le early later = record {
   early = early;
   limits = run.limits;
   each = λ p lt. (
-    let within : p < length whole.accounts = subst (λ (n : ℕ). p < n) (sym run.parts) lt in
-    let next : (account_at p whole).account.next ≡ (alone_in config files p from).account.next = ap (λ (s : State). s.account.next) (run.each p lt) in
-    run.each p lt
-    ∙ sym (still (own_ticks config.windows p) (section_at config p).limits (image_in files (section_at config p).image) (section_at config p).input from to le
-    (λ k a b. not_due (alone_in config files p from).account.next from to k (λ j e f. later p j within (next ∙ e) f) a b)));
+      let within : p < length whole.accounts = subst (λ (n : ℕ). p < n) (sym run.parts) lt in
+      let next : (account_at p whole).account.next ≡ (alone_in config files p from).account.next = ap (λ (s : State). s.account.next) (run.each p lt) in
+      run.each p lt
+      ∙ sym (still (own_ticks config.windows p) (section_at config p).limits (image_in files (section_at config p).image) (section_at config p).input from to le
+      (λ k a b. not_due (alone_in config files p from).account.next from to k (λ j e f. later p j within (next ∙ e) f) a b)));
 }
 
 -- the trace keeps what the section says

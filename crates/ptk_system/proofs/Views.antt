@@ -1,16 +1,15 @@
 -- What two systems have in common, and what steps share.
-use Rattle.std.proofs.Common.{◌≡◌, ◌≢◌, ℕ, ◌+◌, ◌-◌, ◌<◌, ◌≤◌, ltb, Bool, true, false, List, Option, Some, None, refl, sym, ap, subst, ◌∙◌, arith}
+use Rattle.std.proofs.Common.{◌≡◌, ℕ, ◌-◌, ◌<◌, ◌≤◌, Bool, true, false, List, Option, Some, None, refl, ap, subst, ◌∙◌, arith}
 use Rattle.std.specs.Prelude.{if◌then◌else◌, nat_lt}
 use Rattle.std.proofs.lemmas.Bool.{ltb-false}
 use Rattle.ptk_words.specs.declared.sections.Arrival.{Arrival}
 use Rattle.ptk_words.specs.declared.sections.Limits.{Limits}
-use Rattle.ptk_words_windows.specs.Windows.{WindowTable, OwnTicks, IsTable, own_ticks}
+use Rattle.ptk_words_windows.specs.Windows.{OwnTicks, own_ticks}
 use Rattle.ptk_words_windows.proofs.OwnLaws.{window_whole}
 use Rattle.ptk_words_model.specs.declared.Runner.{Runner}
-use Rattle.ptk_words_model.specs.declared.Spent.{Spent}
-use Rattle.ptk_words_model.specs.declared.Spent.TheVariants.{Step, Idle, Lost}
-use Rattle.ptk_words_model.specs.State.{Part, State}
-use Rattle.ptk_words_model.specs.Decision.{ready_at, runner_of, spent_by_decision, spent_in_turn, step_cost, step_kind}
+use Rattle.ptk_words_model.specs.declared.Spent.TheVariants.{Step, Lost}
+use Rattle.ptk_words_model.specs.State.{Part}
+use Rattle.ptk_words_model.specs.Decision.{ready_at, runner_of, spent_in_turn, step_cost, step_kind}
 use Rattle.ptk_words_model.specs.Run.{alone}
 use Rattle.ptk_words_model.specs.Text.{report_text}
 use Rattle.ptk_system.specs.Laws.{SameView, StepStaysInWindow}
@@ -57,4 +56,5 @@ step_stays table p tick end cost limits s is ends spent k from below =
     whole.2 k from within
 
 pub ruleset views = (same_state, same_report)
+
 pub ruleset processor = (step_stays)

@@ -34,7 +34,9 @@ fn place_of_missing(sections: &[Section], files: &Files) -> Option<usize>
     ensures place { result ≡ first_missing files.now sections.now }
     ensures within { IfSome result (λ place. place < length sections.now) }
 {
-    sections.iter().position(|section| is_missing(section, files))
+    sections
+        .iter()
+        .position(|section| is_missing(section, files))
 }
 
 /// Whether the section names an image and no file has the name.
@@ -110,7 +112,13 @@ fn loaded_tables(
     let sections = config.sections();
     let mut tables = blank_tables(alloc, config, limits)?;
     for i in 0..sections.len() {
-        load_section(alloc, &mut tables, PartId::new(i as u8), &sections[i], files)?;
+        load_section(
+            alloc,
+            &mut tables,
+            PartId::new(i as u8),
+            &sections[i],
+            files,
+        )?;
     }
     Ok(tables)
 }
@@ -148,12 +156,7 @@ fn load_section(
 }
 
 /// Loads these bytes as an image, or halts the partition as refused where they have a fault. Memory is its only fault.
-fn load_image(
-    alloc: Global,
-    tables: &mut Tables,
-    p: PartId,
-    bytes: &[u8],
-) -> Result<(), BootFault>
+fn load_image(alloc: Global, tables: &mut Tables, p: PartId, bytes: &[u8]) -> Result<(), BootFault>
     requires partition { p < length tables.old.limits }
     requires blank { part_at p tables.old ≡ empty_part (limits_at p tables.old) (part_at p tables.old).console.coming }
     ensures loaded { OnOk result (tables.new ≡ put_part p

@@ -43,10 +43,13 @@ replaced files i file name content other is at lt = by (bytes_eq name other) ref
   where
     first : i ≡ position_or_len (λ (f : NamedFile). bytes_eq f.name name) files
     first = place_is _ _ i at
+
     there : (get_or files i file).name ≡ name
     there = (bytes_eq-Decides _ name).0 (passes (λ (f : NamedFile). bytes_eq f.name name) files i file first lt)
+
     named : file.name ≡ name
     named = ap (λ (f : NamedFile). f.name) is
+
     by : (b : Bool) → bytes_eq name other ≡ b → content_of (set files i file) other ≡ cond b (Some content) (content_of files other)
     by true e =
         let same : name ≡ other = (bytes_eq-Decides name other).0 e in
@@ -93,21 +96,25 @@ appended files file name content other is at = by (bytes_eq name other) refl
   where
     named : bytes_eq file.name other ≡ bytes_eq name other
     named = ap (λ (f : NamedFile). bytes_eq f.name other) is
+
     p : NamedFile → Bool
     p f = bytes_eq f.name other
+
     last : (b : Bool) → bytes_eq name other ≡ b → find (λ (f : NamedFile). bytes_eq f.name other) (file ∷ []) ≡ cond b (Some file) None
     last b e = ap (λ t. cond t (Some file) None) (named ∙ e)
+
     by : (b : Bool) → bytes_eq name other ≡ b → content_of (files ++ file ∷ []) other ≡ cond b (Some content) (content_of files other)
     by true e =
         let same : name ≡ other = (bytes_eq-Decides name other).0 e in
         let none : find (λ (f : NamedFile). bytes_eq f.name other) files ≡ None = subst (λ (n : List ℕ). find (λ (f : NamedFile). bytes_eq f.name n) files ≡ None) same (not_found (λ (f : NamedFile). bytes_eq f.name name) files at) in
         let found : find (λ (f : NamedFile). bytes_eq f.name other) (files ++ file ∷ []) ≡ Some file =
-            find-append (λ (f : NamedFile). bytes_eq f.name other) files (file ∷ []) ∙ rw (none, last true e) refl in
+        find-append (λ (f : NamedFile). bytes_eq f.name other) files (file ∷ []) ∙ rw (none, last true e) refl in
         ap (option_map (λ (f : NamedFile). f.content)) found ∙ ap (λ (f : NamedFile). Some f.content) is
     by false e =
         let found : find (λ (f : NamedFile). bytes_eq f.name other) (files ++ file ∷ []) ≡ find (λ (f : NamedFile). bytes_eq f.name other) files =
-            find-append (λ (f : NamedFile). bytes_eq f.name other) files (file ∷ []) ∙ (ap (option_or (find (λ (f : NamedFile). bytes_eq f.name other) files)) (last false e) ∙ or_none _) in
+        find-append (λ (f : NamedFile). bytes_eq f.name other) files (file ∷ []) ∙ (ap (option_or (find (λ (f : NamedFile). bytes_eq f.name other) files)) (last false e) ∙ or_none _) in
         ap (option_map (λ (f : NamedFile). f.content)) found
 
 pub ruleset added = (replaced, appended)
+
 pub ruleset found = (at_place, without_place)

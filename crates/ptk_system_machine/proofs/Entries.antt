@@ -1,11 +1,10 @@
 -- A step has an entry for the trace.
-use Rattle.std.proofs.Common.{◌≡◌, ℕ, ◌+◌, Bool, true, false, ◌&&◌, nat_lt, nat_le, Option, Some, None, refl, sym, subst, rules}
-use Rattle.std.specs.Prelude.{if◌then◌else◌, IsSome}
-use Rattle.ptk_words.specs.declared.sections.Entry.{Entry}
+use Rattle.std.proofs.Common.{◌≡◌, ℕ, ◌+◌, Bool, true, false, ◌&&◌, nat_lt, nat_le, Option, Some, None, refl, rules}
+use Rattle.std.specs.Prelude.{if◌then◌else◌}
 use Rattle.ptk_words.specs.declared.sections.Limits.{Limits}
 use Rattle.ptk_words.specs.declared.threads.Thread.{Thread}
 use Rattle.ptk_words_model.specs.declared.Runner.{Runner}
-use Rattle.ptk_words_model.specs.declared.Spent.TheVariants.{Step, Idle, Lost}
+use Rattle.ptk_words_model.specs.declared.Spent.TheVariants.{Step, Lost}
 use Rattle.ptk_words_model.specs.State.{Part}
 use Rattle.ptk_words_model.specs.Schedule.{is_running, is_round_robin, after_turn_end, with_used, after_interval}
 use Rattle.ptk_words_model.specs.Decision.{step_kind, step_cost, after_whole_step, after_turn, spent_in_turn, after_decision, spent_by_decision, ready_at, runner_of}

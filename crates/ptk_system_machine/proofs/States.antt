@@ -1,5 +1,5 @@
 -- What one partition's state is after another was put.
-use Rattle.std.proofs.Common.{◌≡◌, ◌≢◌, ℕ, ◌<◌, ◌+◌, List, Option, length, get_or, Bool, true, false, ◌==◌, eqb-true, eq-eqb, refl, sym, ap, subst, ◌∙◌, arith}
+use Rattle.std.proofs.Common.{◌≡◌, ◌≢◌, ℕ, ◌<◌, ◌+◌, List, Option, length, get_or, Bool, true, false, ◌==◌, eqb-true, eq-eqb, refl, sym, ap, subst, ◌∙◌}
 use Rattle.std.proofs.lemmas.Bool.{false≢true}
 use Rattle.std.proofs.Math.ListN.{set}
 use Rattle.std.proofs.lemmas.List.{set-get_or, get_or-set_same, get_or-set_other, get_or_read, length-set}
@@ -91,12 +91,12 @@ decided_whole ticks tick room p kept new accounts account spent next last is lt 
     let limits : Limits = limits_at p kept in
     let now : part_at p new ≡ after_decision (limits_at p kept) tick room (part_at p kept) = ap (part_at p) moved ∙ part_at-put (length accounts) p _ kept is.parts lt in
     let by_law : spent_account (next_from ticks (part_at p new).status (tick + duration_of room spent)) (get_or accounts p no_account).kept room spent (part_at p new).last (get_or accounts p no_account).account
-        ≡ accounted ticks (limits_at p kept) tick room (after_decision (limits_at p kept) tick room (part_at p kept)) (spent_by_decision (limits_at p kept) tick room (part_at p kept)) (get_or accounts p no_account).account
-        = spent_is ticks (limits_at p kept) tick room (part_at p new) (after_decision (limits_at p kept) tick room (part_at p kept)) spent (spent_by_decision (limits_at p kept) tick room (part_at p kept)) (get_or accounts p no_account).kept (get_or accounts p no_account).account now told (is.traces p lt) in
+    ≡ accounted ticks (limits_at p kept) tick room (after_decision (limits_at p kept) tick room (part_at p kept)) (spent_by_decision (limits_at p kept) tick room (part_at p kept)) (get_or accounts p no_account).account
+    = spent_is ticks (limits_at p kept) tick room (part_at p new) (after_decision (limits_at p kept) tick room (part_at p kept)) spent (spent_by_decision (limits_at p kept) tick room (part_at p kept)) (get_or accounts p no_account).kept (get_or accounts p no_account).account now told (is.traces p lt) in
     let same : account ≡ record (get_or accounts p no_account) { account = accounted ticks (limits_at p kept) tick room (after_decision (limits_at p kept) tick room (part_at p kept)) (spent_by_decision (limits_at p kept) tick room (part_at p kept)) (get_or accounts p no_account).account }
-        = counted ∙ ap (λ (a : Account). record (get_or accounts p no_account) { account = a })
-          (ap (λ (n : Option ℕ). spent_account n (get_or accounts p no_account).kept room spent last (get_or accounts p no_account).account) next_is
-          ∙ (ap (λ (l : Option Entry). spent_account (next_from ticks (part_at p new).status (tick + duration_of room spent)) (get_or accounts p no_account).kept room spent l (get_or accounts p no_account).account) last_is ∙ by_law)) in
+    = counted ∙ ap (λ (a : Account). record (get_or accounts p no_account) { account = a })
+    (ap (λ (n : Option ℕ). spent_account n (get_or accounts p no_account).kept room spent last (get_or accounts p no_account).account) next_is
+    ∙ (ap (λ (l : Option Entry). spent_account (next_from ticks (part_at p new).status (tick + duration_of room spent)) (get_or accounts p no_account).kept room spent l (get_or accounts p no_account).account) last_is ∙ by_law)) in
     ap (λ (k : Kept). record { kept = k; accounts = set accounts p account }) moved
     ∙ ap (λ (a : KeptAccount). record { kept = put_part p (after_decision (limits_at p kept) tick room (part_at p kept)) kept; accounts = set accounts p a }) same
 

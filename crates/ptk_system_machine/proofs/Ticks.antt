@@ -1,8 +1,6 @@
 -- What a tick of one partition is to each.
-use Rattle.std.proofs.Common.{◌≡◌, ◌≢◌, ℕ, ◌<◌, ◌≤◌, ◌+◌, ◌-◌, Bool, true, false, ◌==◌, length, Option, Some, None, refl, sym, ap, subst, ◌∙◌, inl, inr, ⊎_elim, arith, All, get_or, eqb-true, eq-eqb}
+use Rattle.std.proofs.Common.{◌≡◌, ◌≢◌, ℕ, ◌<◌, Bool, true, false, ◌==◌, length, Some, None, refl, sym, ap, subst, ◌∙◌, All, eqb-true, eq-eqb}
 use Rattle.std.proofs.lemmas.Bool.{false≢true}
-use Rattle.std.proofs.Math.ListN.{set}
-use Rattle.std.proofs.lemmas.List.{length-set}
 use Rattle.ptk_words.specs.declared.sections.Limits.{Limits}
 use Rattle.ptk_words_windows.specs.declared.window.Window.{Window}
 use Rattle.ptk_words_windows.specs.Windows.{WindowTable, OwnTicks, IsOwnUntil, own_ticks}
@@ -10,7 +8,7 @@ use Rattle.ptk_window.specs.Order.{end_of}
 use Rattle.ptk_words_model.specs.State.{State}
 use Rattle.ptk_words_model.specs.Run.{after_tick, after_tick_until}
 use Rattle.ptk_gate_pools.specs.Kept.{limits_at}
-use Rattle.ptk_system_machine.specs.Whole.{Whole, IsWhole, account_at, state_at, put_state}
+use Rattle.ptk_system_machine.specs.Whole.{Whole, IsWhole, state_at, put_state}
 use Rattle.ptk_system_machine.proofs.States.{state_at-put, state_at-other, put_state-same, still_whole}
 use Rattle.ptk_system_machine.proofs.Entries.{decision_entry}
 
@@ -54,4 +52,5 @@ pub known_part : (table : WindowTable) (parts p tick end : ℕ) → All (λ w. w
 known_part table parts p tick end known own = subst (λ (r : ℕ). r < parts) own.4.0 (subst (λ (w : Window). w.partition < parts) own.3 (known own.0 own.1 own.2))
 
 pub ruleset states = (state_at-put, put_state-same, decision_entry, still_whole)
+
 pub ruleset ticks = (tick_each, tick_idle, known_part)

@@ -1,12 +1,10 @@
 -- What the system keeps of a partition beside its part of the tables.
-use Rattle.std.specs.Prelude.{◌≡◌, ◌≤◌, ◌^◌, ℕ, ◌+◌, List, [], ◌++◌, true, Option, None, IsSome, option_to_list, slice_index_or}
+use Rattle.std.specs.Prelude.{◌≡◌, ◌≤◌, ◌^◌, ℕ, ◌+◌, [], ◌++◌, true, Option, IsSome, option_to_list}
 use Rattle.ptk_words.specs.declared.sections.Entry.{Entry}
-use Rattle.ptk_words.specs.declared.faults.Status.{Status}
-use Rattle.ptk_words_windows.specs.Windows.{OwnTicks}
 use Rattle.ptk_words_model.specs.declared.Spent.{Spent}
 use Rattle.ptk_words_model.specs.declared.Spent.TheVariants.{Step, Idle, Lost}
 use Rattle.ptk_words_model.specs.State.{Account, State}
-use Rattle.ptk_words_model.specs.Run.{is_active, last_of, next_from}
+use Rattle.ptk_words_model.specs.Run.{is_active, last_of}
 
 -- an account, and how many steps its trace keeps (own)
 pub record KeptAccount : Type 0 where

@@ -1,7 +1,5 @@
 -- The states of all partitions at once.
-use Rattle.std.specs.Prelude.{◌≡◌, ℕ, ◌<◌, ◌≤◌, Bool, List, [], None, All, length, slice_index_or, slice_set}
-use Rattle.ptk_words.specs.declared.sections.Limits.{Limits}
-use Rattle.ptk_words_windows.specs.declared.window.Window.{Window}
+use Rattle.std.specs.Prelude.{◌≡◌, ℕ, ◌<◌, ◌≤◌, List, None, All, length, slice_index_or, slice_set}
 use Rattle.ptk_words_windows.specs.Windows.{WindowTable, own_ticks}
 use Rattle.ptk_words_model.specs.State.{State}
 use Rattle.ptk_words_model.specs.Run.{next_from}

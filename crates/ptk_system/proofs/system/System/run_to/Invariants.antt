@@ -1,4 +1,4 @@
-use Rattle.std.proofs.Common.{◌≡◌, ℕ, ◌≤◌, ◌-◌, max}
+use Rattle.std.proofs.Common.{◌≡◌, ◌≤◌, ◌-◌, max}
 use Rattle.ptk_system.proofs.system.System.run_to.Given as goal
 
 abbrev pub invariant-loop-n : goal.invariant-loop-n

@@ -1,7 +1,4 @@
-use Rattle.std.proofs.Common.{◌≡◌, ℕ, List, Option, Some, length, get_or, option_map, ap, sym, ◌∙◌, subst}
-use Rattle.std.specs.Prelude.{slice_get}
-use Rattle.std.proofs.lemmas.Option.{slice_get_read}
-use Rattle.ptk_system_files.specs.NamedFiles.{NamedFile, content_of}
+use Rattle.std.proofs.Common.{ℕ, List, Some, ap, sym, ◌∙◌}
 use Rattle.ptk_system_files.proofs.Added.{place_read}
 use Rattle.ptk_system_files.proofs.files.Files.get.Goals as goal
 

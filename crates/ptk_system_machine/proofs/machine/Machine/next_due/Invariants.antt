@@ -1,5 +1,4 @@
 use Rattle.std.proofs.Common.{◌≡◌, ℕ, ◌<◌, ◌≤◌, Some}
-use Rattle.std.specs.Prelude.{slice_index_or}
 use Rattle.ptk_system_machine.specs.Whole.{account_at}
 use Rattle.ptk_system_machine.proofs.machine.Machine.next_due.Given as goal
 
