@@ -1,5 +1,5 @@
-//! The numbers of the assembly language, by their texts: `is_number` answers whether a text is a number, `value_within`
-//! the number that it spells where this is within two bounds. Both are one equation with the grammar of
+//! The numbers of the assembly language, by their texts: `is_number` answers whether a text is a number, `magnitude` how
+//! great it is, `value_within` the number where it is within two bounds. Each is one equation with the grammar of
 //! `ptk_asm_model`, below; the scanner of lines and the operands stand above. Texts have any length and numbers are kept
 //! at 2^40 at most, which is above every bound; that this changes no test is the weight of the proofs (`Magnitudes`).
 #![tactic(auto)]
