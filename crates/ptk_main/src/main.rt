@@ -1,0 +1,66 @@
+//! The program `ptk`: it reads the words of its command line, does what they ask for, and ends with the status of the
+//! outcome. `run_with` and `trace_with` promise that an `Ok` wrote exactly the report, or the trace's lines, of the booted
+//! configuration after so many ticks. Below stand the command line (`ptk_main_line`), the lines of faults
+//! (`ptk_main_faults`), the configuration (`ptk_config`), the system (`ptk_system`), traces (`ptk_trace`) and the
+//! assembler (`ptk_asm`); nothing stands above. What the program writes on standard error and its statuses are only
+//! tested. No clause is dear to prove.
+#![tactic(auto)]
+
+mod commands;
+mod reading;
+#[cfg(test)]
+mod rows;
+mod runs;
+mod telling;
+#[cfg(test)]
+mod tests;
+
+use commands::obey;
+pub use ptk_main_faults::{Fault, fault_line};
+pub use ptk_main_line::{Request, read_line};
+pub use runs::{RunFault, run_with, trace_with};
+use std::alloc::AllocError;
+use std::env;
+use std::process::ExitCode;
+use telling::{tell, usage};
+
+fn main(rt: HostRuntime) -> ExitCode {
+    ExitCode::from(status(&rt))
+}
+
+// The exit status of what the command line asks for.
+fn status(rt: &HostRuntime) -> u8 {
+    match words(rt) {
+        Ok(words) => answer(rt, words.as_slice()),
+        Err(_) => tell(rt, &Fault::NoMemory),
+    }
+}
+
+// The words of the command line.
+fn words(rt: &HostRuntime) -> anyhow::Result<Vec<String>> {
+    let words = env::args(rt)?.collect(rt.alloc())?;
+    Ok(words)
+}
+
+fn answer(rt: &HostRuntime, owned: &[String]) -> u8 {
+    match borrowed(rt, owned) {
+        Ok(words) => answer_words(rt, words.as_slice()),
+        Err(_) => tell(rt, &Fault::NoMemory),
+    }
+}
+
+fn borrowed<'a>(rt: &HostRuntime, owned: &'a [String]) -> Result<Vec<&'a str>, AllocError> {
+    let mut words = Vec::new(rt.alloc());
+    for word in owned {
+        words.push(word.as_str())?;
+    }
+    Ok(words)
+}
+
+#[tactic(auto, using(crate::proofs::InTime::asks_in_time))]
+fn answer_words(rt: &HostRuntime, words: &[&str]) -> u8 {
+    match read_line(rt.alloc(), words) {
+        Ok(request) => obey(rt, request),
+        Err(error) => usage(rt, &error),
+    }
+}

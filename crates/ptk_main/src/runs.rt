@@ -1,0 +1,154 @@
+//! Whole runs: from a configuration, its files and a number of ticks to a report or a trace.
+
+ghost use Rattle.std.specs.Prelude.{◌≡◌, ◌≢◌, ◌<◌, ◌≤◌, ◌^◌, ℕ, Some, None, IfErr, IfOk, IfSome, IsSome, MatchResult, OnOk, length, position};
+ghost use Rattle.std.specs.Io.KnownBytes.{Appends};
+ghost use Rattle.std.specs.Str.{bytes_eq};
+ghost use Rattle.ptk_words_model.specs.Text.{trace_text};
+ghost use Rattle.ptk_system.specs.Missing.{first_missing};
+ghost use Rattle.ptk_system.specs.Shown.{report_of};
+ghost use Rattle.ptk_system.specs.World.{state_of};
+ghost use Rattle.ptk_main.specs.declared.runs.RunFault.TheVariants.{NoPartition};
+ghost use Rattle.ptk_main.specs.RunFaults.{missing_in_run};
+ghost use Rattle.ptk_main.specs.Parts.{part_named};
+
+use ptk_config::{Config, Section};
+use ptk_system::{BootFault, Files, System};
+use ptk_words::{PartId, Tick};
+use std::alloc::Global;
+use std::io::Write;
+use thiserror::Error;
+
+/// Why a run gives no report and no trace.
+#[derive(Clone, Copy, Debug, PartialEq, Eq, Error)]
+pub enum RunFault {
+    /// The system did not boot.
+    #[error("{0}")]
+    Boot(BootFault),
+    /// No partition has the name.
+    #[error("no partition has the name")]
+    NoPartition,
+    /// The writer failed.
+    #[error("the writer failed")]
+    Write,
+}
+
+/// Boots the system of a configuration, runs it for so many ticks, at most 2^40, and writes its report. A fault where
+/// the system does not boot or the writer fails.
+pub fn run_with<W: Write>(
+    alloc: Global,
+    config: &Config,
+    files: &Files,
+    ticks: Tick,
+    out: &mut W,
+) -> Result<(), RunFault>
+    requires { ticks ≤ 2 ^ 40 }
+    ensures report { OnOk result (Appends (W.contents out.old) (W.contents out.new)
+        (report_of (record { config = config.now; files = files.now; tick = ticks }))) }
+    ensures missing { MatchResult result
+        (λ _. first_missing files.now config.now.sections ≡ None)
+        (λ fault. first_missing files.now config.now.sections ≡ missing_in_run fault) }
+    ensures no_name { IfErr result (λ fault. fault ≢ NoPartition) }
+{
+    match system_at(alloc, config, files, ticks) {
+        Ok(system) => match system.report(out) {
+            Ok(()) => Ok(()),
+            Err(_) => Err(RunFault::Write),
+        },
+        Err(fault) => Err(fault),
+    }
+}
+
+/// The same, with the trace of the partition of this name in place of the report. That there is such a partition is tested
+/// before the system is booted.
+pub fn trace_with<W: Write>(
+    alloc: Global,
+    config: &Config,
+    files: &Files,
+    ticks: Tick,
+    name: &str,
+    out: &mut W,
+) -> Result<(), RunFault>
+    requires { ticks ≤ 2 ^ 40 }
+    ensures trace { OnOk result ((p : ℕ) → part_named config.now name.now ≡ Some p → Appends (W.contents out.old) (W.contents out.new)
+        (trace_text (state_of (record { config = config.now; files = files.now; tick = ticks }) p).account.trace)) }
+    ensures known { OnOk result (IsSome (part_named config.now name.now)) }
+    ensures unknown { IfErr result (λ fault. fault ≡ NoPartition → part_named config.now name.now ≡ None) }
+    ensures first { IfErr result (λ fault. part_named config.now name.now ≡ None → fault ≡ NoPartition) }
+    ensures missing { MatchResult result
+        (λ _. first_missing files.now config.now.sections ≡ None)
+        (λ fault. fault ≢ NoPartition → first_missing files.now config.now.sections ≡ missing_in_run fault) }
+{
+    match part_named(config, name) {
+        Some(p) => traced(alloc, config, files, ticks, p, out),
+        None => Err(RunFault::NoPartition),
+    }
+}
+
+// The partition of a name, None where no section has it.
+fn part_named(config: &Config, name: &str) -> Option<PartId>
+    ensures place { result ≡ part_named config.now name.now }
+    ensures within { IfSome result (λ p. p < length config.now.sections) }
+{
+    match place_named(config.sections(), name) {
+        Some(place) => Some(PartId::new(place as u8)),
+        None => None,
+    }
+}
+
+// The place of the section of a name, None where no section has it.
+fn place_named(sections: &[Section], name: &str) -> Option<usize>
+    ensures place { result ≡ position (λ section. bytes_eq section.name name.now) sections.now }
+    ensures within { IfSome result (λ place. place < length sections.now) }
+{
+    sections.iter().position(|section| section.has_name(name))
+}
+
+// The trace of a partition.
+fn traced<W: Write>(
+    alloc: Global,
+    config: &Config,
+    files: &Files,
+    ticks: Tick,
+    p: PartId,
+    out: &mut W,
+) -> Result<(), RunFault>
+    requires ticks { ticks ≤ 2 ^ 40 }
+    requires partition { p < length config.now.sections }
+    ensures trace { OnOk result (Appends (W.contents out.old) (W.contents out.new)
+        (trace_text (state_of (record { config = config.now; files = files.now; tick = ticks }) p).account.trace)) }
+    ensures known { IfErr result (λ fault. fault ≢ NoPartition) }
+    ensures missing { MatchResult result
+        (λ _. first_missing files.now config.now.sections ≡ None)
+        (λ fault. first_missing files.now config.now.sections ≡ missing_in_run fault) }
+{
+    match system_at(alloc, config, files, ticks) {
+        Ok(system) => match system.trace(p).lines(out) {
+            Ok(()) => Ok(()),
+            Err(_) => Err(RunFault::Write),
+        },
+        Err(fault) => Err(fault),
+    }
+}
+
+// The system of a configuration after so many ticks.
+fn system_at<'a>(
+    alloc: Global,
+    config: &'a Config,
+    files: &'a Files,
+    ticks: Tick,
+) -> Result<System<'a>, RunFault>
+    requires { ticks ≤ 2 ^ 40 }
+    ensures reached { IfOk result (λ system. system ≡ record { config = config.now; files = files.now; tick = ticks }) }
+    ensures known { IfErr result (λ fault. fault ≢ NoPartition) }
+    ensures missing { MatchResult result
+        (λ _. first_missing files.now config.now.sections ≡ None)
+        (λ fault. first_missing files.now config.now.sections ≡ missing_in_run fault) }
+{
+    match System::boot(alloc, config, files) {
+        Ok(mut system) => {
+            system.run_to(ticks);
+            Ok(system)
+        }
+        Err(fault) => Err(RunFault::Boot(fault)),
+    }
+}

@@ -1,0 +1,32 @@
+//! What the program says of an outcome, and the number of the status that it ends with.
+
+use clap::error::ErrorKind;
+use ptk_main_faults::{ExitStatus, Fault, fault_line};
+
+/// The status of an outcome. The line of a fault goes to standard error.
+pub(crate) fn end(rt: &HostRuntime, outcome: Result<(), Fault<'_>>) -> u8 {
+    match outcome {
+        Ok(()) => ExitStatus::Done.number(),
+        Err(fault) => tell(rt, &fault),
+    }
+}
+
+/// The status of a fault, whose line goes to standard error. Where that can't be written, the status alone tells.
+pub(crate) fn tell(rt: &HostRuntime, fault: &Fault<'_>) -> u8 {
+    match fault_line(fault, &mut rt.stderr()) {
+        Ok(status) => status,
+        Err(_) => fault.status().number(),
+    }
+}
+
+/// The status of words that `clap` does not take, with its text: a request for help is done, on standard output.
+pub(crate) fn usage(rt: &HostRuntime, error: &clap::Error) -> u8 {
+    if error.kind() == ErrorKind::OutOfMemory {
+        return tell(rt, &Fault::NoMemory);
+    }
+    match error.print(rt) {
+        Ok(()) if error.use_stderr() => ExitStatus::Usage.number(),
+        Ok(()) => ExitStatus::Done.number(),
+        Err(_) => tell(rt, &Fault::WriteFailed),
+    }
+}
