@@ -2,10 +2,13 @@
 use Rattle.std.proofs.Common.{◌≡◌, ℕ, ◌+◌, ◌<◌, length, get_or, drop, take, List, [], ◌∷◌, ◌++◌, Some, None, map, refl, sym, ap, ◌∙◌, add-one, drop-cons}
 use Rattle.std.proofs.lemmas.Grind.{flat_map-append}
 use Rattle.std.proofs.lemmas.List.{append-nil, map-append, take_more}
+use Rattle.std.proofs.lemmas.List.Elements.{All-nil, All-cons, All-same, All-append}
+use Rattle.std.specs.List.{All}
 use Rattle.ptk_asm_model.specs.declared.statement.Section.{Section}
 use Rattle.ptk_asm_model.specs.declared.fault.FaultKind.{FaultKind}
 use Rattle.ptk_asm_model.specs.declared.fault.FaultKind.TheVariants as fault
 use Rattle.ptk_asm_model.specs.Source.{Layout, second_pass, reference_fault, contents_of, bytes_in}
+use Rattle.ptk_asm_laws.specs.Laws.{IsDecoded}
 use Rattle.ptk_asm.specs.declared.placed.Placed as code
 use Rattle.ptk_asm.specs.declared.fault.AsmFault.{AsmFault}
 use Rattle.ptk_asm.specs.Passing.{shown_placed, IsAt, IsSecond}
@@ -41,6 +44,17 @@ contents-more known s ps i p inside is_p =
     ∙ ap (contents_of known s) (map-append shown_placed (take i ps) (get_or ps i p ∷ []))
     ∙ flat_map-append (bytes_in known s) (map shown_placed (take i ps)) (shown_placed (get_or ps i p) ∷ [])
     ∙ ap (λ (t : List ℕ). contents_of known s (map shown_placed (take i ps)) ++ t) (append-nil (bytes_in known s (shown_placed (get_or ps i p))) ∙ ap (λ (q : code.Placed). bytes_in known s (shown_placed q)) (sym is_p))
+
+-- a statement more whose words decode
+pub decoded-more : (known : Layout) (ps : List code.Placed) (i : ℕ) (p : code.Placed) → i < length ps → p ≡ get_or ps i p
+    → All (IsDecoded known) (map shown_placed (take i ps)) → IsDecoded known (shown_placed p) → All (IsDecoded known) (map shown_placed (take (i + 1) ps))
+decoded-more known ps i p inside is_p before here =
+    let same : map shown_placed (take (i + 1) ps) ≡ map shown_placed (take i ps) ++ (shown_placed p ∷ []) =
+    ap (map shown_placed) (take_more ps i p inside)
+    ∙ map-append shown_placed (take i ps) (get_or ps i p ∷ [])
+    ∙ ap (λ (q : code.Placed). map shown_placed (take i ps) ++ (shown_placed q ∷ [])) (sym is_p) in
+    All-same (IsDecoded known) (map shown_placed (take (i + 1) ps)) (map shown_placed (take i ps) ++ (shown_placed p ∷ [])) same
+    (All-append (IsDecoded known) (map shown_placed (take i ps)) (shown_placed p ∷ []) before (All-cons (IsDecoded known) (shown_placed p) [] here (All-nil (IsDecoded known))))
 
 -- what a statement more comes to
 pub ruleset contents_rules = (second-more, second-at, contents-more)

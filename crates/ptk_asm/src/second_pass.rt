@@ -1,15 +1,17 @@
 //! The second pass: the bytes of the statements, with the addresses of their labels.
 
 ghost use Rattle.std.specs.Prelude.{◌≡◌, ◌++◌, None, map, OnOk, IfOk, IfErr};
+ghost use Rattle.std.specs.List.{All};
 ghost use Rattle.ptk_asm_model.specs.declared.statement.Section.TheVariants as part;
 ghost use Rattle.ptk_asm_model.specs.Source as source;
 ghost use Rattle.ptk_asm_forms.specs.Operating.{shown_value};
+ghost use Rattle.ptk_asm_laws.specs.Laws.{IsDecoded};
 ghost use Rattle.ptk_asm.specs.Passing.{IsAt, IsSecond, Names, Tells, shown_placed};
 
 use crate::fault::{AsmFault, located};
 use crate::layout::Layout;
 use crate::placed::Placed;
-use ptk_asm_emission::push_statement;
+use ptk_asm_emission::{push_statement, words_decode};
 use ptk_asm_model::{FaultKind, LineFault, Section};
 use std::alloc::{AllocError, Global};
 
@@ -41,13 +43,23 @@ impl Contents {
         ensures ok { (known : source.Layout) → Names layout.now known → OnOk result (source.reference_fault known (shown_placed placed.now) ≡ None) }
         ensures text { (known : source.Layout) → Names layout.now known → OnOk result (self.new.text.items ≡ self.old.text.items ++ source.bytes_in known part.Text (shown_placed placed.now)) }
         ensures contents { (known : source.Layout) → Names layout.now known → OnOk result (self.new.«data».items ≡ self.old.«data».items ++ source.bytes_in known part.Data (shown_placed placed.now)) }
+        ensures words { (known : source.Layout) → Names layout.now known → OnOk result (IsDecoded known (shown_placed placed.now)) }
         ensures err { (known : source.Layout) → Names layout.now known → IfErr result (λ e. IsAt e.kind e placed.now.span (source.reference_fault known (shown_placed placed.now))) }
     {
         match layout.number_of(placed) {
-            Ok(number) => match self.push(placed, number) {
-                Ok(()) => Ok(()),
-                Err(_) => Err(fault_of(placed, FaultKind::Memory)),
-            },
+            Ok(number) => {
+                let statement = &placed.statement;
+                // A law, which writes nothing.
+                words_decode(
+                    statement.form,
+                    statement.operands.registers.as_slice(),
+                    number,
+                );
+                match self.push(placed, number) {
+                    Ok(()) => Ok(()),
+                    Err(_) => Err(fault_of(placed, FaultKind::Memory)),
+                }
+            }
             Err(kind) => Err(fault_of(placed, kind)),
         }
     }
@@ -67,6 +79,7 @@ pub(crate) fn second_pass(alloc: Global, layout: &Layout<'_>) -> Result<Contents
     ensures ok { (known : source.Layout) → Names layout.now known → IfOk result (λ o. source.second_pass known (map shown_placed layout.now.placed.items) ≡ None) }
     ensures text { (known : source.Layout) → Names layout.now known → IfOk result (λ o. o.text.items ≡ source.contents_of known part.Text (map shown_placed layout.now.placed.items)) }
     ensures contents { (known : source.Layout) → Names layout.now known → IfOk result (λ o. o.«data».items ≡ source.contents_of known part.Data (map shown_placed layout.now.placed.items)) }
+    ensures words { (known : source.Layout) → Names layout.now known → IfOk result (λ o. All (IsDecoded known) (map shown_placed layout.now.placed.items)) }
     ensures err { (known : source.Layout) → Names layout.now known → IfErr result (λ e. IsSecond e.kind e (source.second_pass known (map shown_placed layout.now.placed.items))) }
 {
     let mut contents = Contents {

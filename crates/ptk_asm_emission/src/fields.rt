@@ -62,13 +62,6 @@ pub fn jump_field(number: i64) -> JumpOffset
     JumpOffset::new((number.cast_unsigned() % 2_097_152 / 2 * 2) as u32)
 }
 
-/// Whether a number is an immediate of 12 bits: -2048 to 2047.
-pub fn is_short(number: i64) -> bool
-    ensures { result ≡ is.is_short number }
-{
-    -2048 <= number && number <= 2047
-}
-
 /// The register at an index, x0 where there is none.
 pub fn register_at(registers: &[Register], i: usize) -> Register
     ensures { result ≡ slice_index registers.now i }

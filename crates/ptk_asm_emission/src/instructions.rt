@@ -5,10 +5,10 @@ ghost use Rattle.ptk_asm_model.specs.Statements as is;
 ghost use Rattle.ptk_asm_emission.specs.Emitting.{listed};
 
 use crate::fields::{
-    amount_field, branch_field, immediate_field, is_short, jump_field, register_at, upper_field,
-    upper_part,
+    amount_field, branch_field, immediate_field, jump_field, register_at, upper_field, upper_part,
 };
 use ptk_asm_model::Form;
+use ptk_asm_numbers::is_short;
 use ptk_rv32i_code::{
     BranchTest, Immediate, ImmediateOp, Instr, LoadKind, Register, RegisterOp, ShiftOp, StoreKind,
 };

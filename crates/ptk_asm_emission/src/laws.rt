@@ -30,10 +30,10 @@ fn few_words_decode(instructions: Instructions)
     }
 }
 
-/// Law: the words of a statement that is not a directive, read from its bytes, decode to the instructions written.
+/// Law: the words of a statement, read from its bytes, decode to the instructions written, unless it is a directive that
+/// writes bytes.
 pub fn words_decode(form: Form, registers: &[Register], number: i64)
-    requires { writes_data form ≡ false }
-    ensures { DecodesToWritten form registers.now number }
+    ensures { writes_data form ≡ false → DecodesToWritten form registers.now number }
 {
     few_words_decode(instructions_of(form, registers, number));
 }

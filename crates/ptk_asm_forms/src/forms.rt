@@ -6,6 +6,7 @@ ghost use Rattle.ptk_asm_forms.specs.Operating.{shown_value};
 
 use crate::operands::Value;
 use ptk_asm_model::{Form, Section};
+use ptk_asm_numbers::is_short;
 
 /// Whether statements of a form may stand in a section.
 pub fn stands_in(form: Form, section: Section) -> bool
@@ -47,13 +48,6 @@ pub fn distances(form: Form) -> Option<(u32, u32)>
         Form::Jal | Form::Jump | Form::Call => Some((1_048_576, 1_048_574)),
         _ => None,
     }
-}
-
-/// Whether one addi from x0 makes the number: -2048 to 2047.
-fn is_short(number: i64) -> bool
-    ensures { result ≡ is.is_short number }
-{
-    -2048 <= number && number <= 2047
 }
 
 /// How many bytes a statement of a form takes with this number or label.

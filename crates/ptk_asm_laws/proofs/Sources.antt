@@ -1,19 +1,16 @@
 -- What both passes come to.
-use Rattle.std.proofs.Common.{◌≡◌, ℕ, ◌%◌, ◌≤◌, List, [], ◌∷◌, length, map, Option, Some, None, refl, sym, ap, subst, ◌∙◌, ℤ}
-use Rattle.std.specs.Prelude.{Result, Ok, Err}
+use Rattle.std.proofs.Common.{◌≡◌, ℕ, ◌%◌, ◌≤◌, List, [], ◌∷◌, length, map, Option, Some, None, refl, sym, ap, subst, ◌∙◌}
+use Rattle.std.specs.Prelude.{Result, Ok, Err, slice_index_or}
 use Rattle.std.specs.List.{All}
 use Rattle.ptk_words.specs.Image.{ImageParts}
 use Rattle.ptk_asm_model.specs.declared.statement.Section.TheVariants as section
 use Rattle.ptk_asm_model.specs.declared.fault.FaultKind.{FaultKind}
 use Rattle.ptk_asm_model.specs.Lines.{raw_lines}
-use Rattle.ptk_asm_model.specs.Source.{Layout, Fault, Placed, layout_of, line_fault, at_line, first_pass, second_pass, span_after, lengths_after, length_in, labels_after, placed_after, contents_of, entry_of, number_of, placed_bytes, image_of, unless, linked, source}
-use Rattle.ptk_asm_model.specs.declared.statement.Form.{Form}
-use Rattle.ptk_asm_model.specs.Statements.{instructions_of, bytes_of}
+use Rattle.ptk_asm_model.specs.Source.{Layout, Fault, Placed, layout_of, line_fault, at_line, first_pass, second_pass, span_after, lengths_after, length_in, labels_after, placed_after, contents_of, entry_of, image_of, unless, linked, source}
 use Rattle.ptk_rv32i_code.specs.Coding.{decoded}
-use Rattle.ptk_asm_emission.specs.Emitting.{words_in, DecodesToWritten}
-use Rattle.std.proofs.lemmas.List.Elements.{All-weaker}
+use Rattle.ptk_asm_emission.specs.Emitting.{words_in}
 use Rattle.ptk_asm_laws.specs.Whole.{IsWhole}
-use Rattle.ptk_asm_laws.specs.Laws.{IsWholeImage, TextsAreWhole, LengthsAreCounted, StandsAt, StatementsStand, IsWritten, bytes_there, WordsDecode}
+use Rattle.ptk_asm_laws.specs.Laws.{IsWholeImage, TextsAreWhole, LengthsAreCounted, StandsAt, StatementsStand, IsDecoded, IsDecodedThere, WordsDecode}
 use Rattle.ptk_asm_laws.proofs.Whole.{whole-none, whole-line}
 use Rattle.ptk_asm_laws.proofs.Lengths.{text-length, section-length}
 use Rattle.ptk_asm_laws.proofs.Offsets.{stands-all}
@@ -56,19 +53,15 @@ statements-stand text l e =
     subst (λ (m : Layout). All (StandsAt m m.placed) m.placed) from.1.0 (stands-all (layout_of from.0) from.0)
 
 -- the words of a statement decode where it stands
-decodes-there : (l : Layout) (f : Form) (rs : List ℕ) (n : ℤ) → DecodesToWritten f rs n → (p : Placed) → StandsAt l l.placed p → IsWritten l p f rs n
-    → map decoded (words_in (bytes_there l p)) ≡ map Some (instructions_of f rs n)
-decodes-there l f rs n decodes p stands written =
-    let same : placed_bytes l p ≡ bytes_of f rs n =
-    ap (λ (g : Form). bytes_of g p.statement.operands.registers (number_of l p p.statement.operands.value)) written.0
-    ∙ ap (λ (qs : List ℕ). bytes_of f qs (number_of l p p.statement.operands.value)) written.1.0
-    ∙ ap (bytes_of f rs) written.1.1 in
-    ap (λ (bytes : List ℕ). map decoded (words_in bytes)) (stands ∙ same) ∙ decodes
+decodes-there : (l : Layout) (p : Placed) → StandsAt l l.placed p → IsDecoded l p → IsDecodedThere l p
+decodes-there l p stands decodes other = ap (λ (bytes : List ℕ). map decoded (words_in bytes)) stands ∙ decodes other
 
-pub words-decode : (f : Form) (rs : List ℕ) (n : ℤ) → DecodesToWritten f rs n → (text : List ℕ) → WordsDecode text f rs n
-words-decode f rs n decodes text l e =
-    All-weaker (StandsAt l l.placed) (λ (p : Placed). IsWritten l p f rs n → map decoded (words_in (bytes_there l p)) ≡ map Some (instructions_of f rs n))
-    (decodes-there l f rs n decodes) l.placed (statements-stand text l e)
+-- where the words of each statement decode, they decode where it stands
+pub words-decode : (text : List ℕ) (known : Layout) → first_pass [] (raw_lines text) ≡ Ok known → All (IsDecoded known) known.placed → WordsDecode text
+words-decode text known first decode l e k d lt =
+    let same : known ≡ l = ap layout_shown (sym first ∙ e) in
+    let all : All (IsDecoded l) l.placed = subst (λ (m : Layout). All (IsDecoded m) m.placed) same decode in
+    decodes-there l (slice_index_or l.placed k d) (statements-stand text l e k d lt) (all k d lt)
 
 -- ---- the image
 

@@ -1,6 +1,7 @@
 //! Digits, magnitudes and numbers.
 
 ghost use Rattle.std.specs.Prelude.{◌≡◌, ℕ, ◌<◌, ◌≤◌, option_map, is_some, pos, neg_ℤ};
+ghost use Rattle.ptk_asm_model.specs.Statements as statement;
 ghost use Rattle.ptk_asm_model.specs.Tokens as is;
 ghost use Rattle.ptk_asm_model.specs.Reading.{capped, value_of};
 ghost use Rattle.ptk_asm_numbers.specs.Ranges.{kept_below, kept_within};
@@ -108,4 +109,11 @@ pub fn value_within(text: &[u8], below: u32, above: u32) -> Option<i64>
         Some(number) => positive_within(number, below, above),
         None => Some(0),
     }
+}
+
+/// Whether a number is an immediate of 12 bits, so that one addi from x0 makes it: -2048 to 2047 (RISC-V 2.4).
+pub fn is_short(number: i64) -> bool
+    ensures { result ≡ statement.is_short number }
+{
+    -2048 <= number && number <= 2047
 }

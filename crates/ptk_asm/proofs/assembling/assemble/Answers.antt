@@ -1,5 +1,6 @@
-use Rattle.std.proofs.Common.{◌≡◌, length}
-use Rattle.ptk_asm.proofs.Images.{text_length, data_length}
+use Rattle.std.proofs.Common.{◌≡◌, length, subst}
+use Rattle.ptk_asm_laws.specs.Laws.{WordsDecode}
+use Rattle.ptk_asm.proofs.Images.{text_length, data_length, words_there}
 use Rattle.ptk_asm.proofs.assembling.assemble.Goals as goal
 
 pub new-requires-clause-aligned : goal.new-requires-clause-aligned
@@ -30,3 +31,7 @@ new-requires-clause-data_fits c =
     let laid = c.in_ok-layout.ensures.ok in
     let e : length c.in_ok-contents.contents.«data».items ≡ c.in_ok-layout.layout.lengths.«data» = data_length _ laid.0 _ laid.1.0.shows c.in_ok-contents.ensures.contents in
     rw e c.lengths_fit.ensures.contents
+
+pub returns-clause-words : goal.returns-clause-words
+returns-clause-words c =
+    subst WordsDecode c.as_bytes.ensures.value (words_there c.in_ok-layout.layout c.as_bytes.result.now c.in_ok-layout.ensures.ok c.in_ok-contents.ensures.words)
