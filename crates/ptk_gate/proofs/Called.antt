@@ -21,9 +21,9 @@ use Rattle.ptk_words_well.proofs.Effects.{effect_length}
 use Rattle.ptk_words_well.proofs.Calls.{well_call}
 use Rattle.ptk_words_well.proofs.Decisions.{well_effect, runner_runs}
 use Rattle.ptk_gate_pools.specs.Kept.{Kept, part_at, put_part, limits_at}
-use Rattle.ptk_gate_pools.specs.StepMoves.{after_instruction, call_in, after_called}
 use Rattle.ptk_gate_pools.proofs.Parted.{part_at-put, put_part-put}
-use Rattle.ptk_gate_pools.proofs.StepEffects.{effect_called}
+use Rattle.ptk_gate_steps.specs.Instructions.{after_instruction, call_in, after_called}
+use Rattle.ptk_gate_steps.proofs.StepEffects.{effect_called}
 use Rattle.ptk_gate.specs.Whole.{AreWhole}
 use Rattle.ptk_gate.specs.Answers.{registers_answer, call_answer}
 use Rattle.ptk_gate.proofs.Wholes.{are_whole_put, well_at}

@@ -9,7 +9,9 @@ ghost use Rattle.ptk_gate.specs.Answers.{answer_of_call, registers_answer, call_
 
 use crate::names::{CallName, named_call};
 use crate::tables::Tables;
+use ptk_gate_console::{get, put};
 use ptk_gate_pools::Pools;
+use ptk_gate_steps::runner;
 use ptk_gate_threads::{
     create, detach, getschedparam, join, setschedparam, setschedprio, yield_turn,
 };
@@ -25,7 +27,7 @@ pub fn call(tables: &mut Tables, p: PartId, tick: Tick) -> Reply
     ensures told { result ≡ (call_answer (limits_at p tables.old) tick (part_at p tables.old)).reply }
     ensures moved { tables.new ≡ put_part p (call_answer (limits_at p tables.old) tick (part_at p tables.old)).part tables.old }
 {
-    let runner = tables.pools.runner(p);
+    let runner = runner(&tables.pools, p);
     match runner {
         Some(runner) => call_with(&mut tables.pools, p, tick, runner.number, runner.thread.cpu),
         None => Reply::Blocked,
@@ -76,8 +78,8 @@ fn carry_out(pools: &mut Pools, call: CallName, p: PartId, i: Invocation) -> Rep
 {
     match call {
         CallName::Exit => pools.exit(p, i),
-        CallName::Put => pools.put(p, i),
-        CallName::Get => pools.get(p, i),
+        CallName::Put => put(pools, p, i),
+        CallName::Get => get(pools, p, i),
         CallName::Create => create(pools, p, i),
         CallName::Leave => pools.leave(p, i),
         CallName::Join => join(pools, p, i),

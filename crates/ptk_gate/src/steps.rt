@@ -13,6 +13,8 @@ ghost use Rattle.ptk_gate_pools.specs.Kept.{part_at, put_part, limits_at};
 
 use crate::calls::call_with;
 use crate::tables::Tables;
+use ptk_gate_console::arrive_due;
+use ptk_gate_steps::{instruct, runner, step_kind, traced_word};
 use ptk_gate_threads::{choose, step_at_gate};
 use ptk_words::{CANCELED, Cpu, Entry, PartId, Thread, ThreadNo, Tick};
 use ptk_words_model::{Runner, StepKind};
@@ -25,7 +27,7 @@ impl Tables {
         ensures moved { self.new ≡ put_part p (after_arrivals (limits_at p self.old) tick (part_at p self.old)) self.old }
         ensures none_due { after_expiries tick (after_arrivals (limits_at p self.old) tick (part_at p self.old)) ≡ after_arrivals (limits_at p self.old) tick (part_at p self.old) }
     {
-        self.pools.arrive_due(p, tick);
+        arrive_due(&mut self.pools, p, tick);
     }
 
     /// The running thread is chosen: the first of the line's greatest effective priority, unless one runs whose
@@ -44,7 +46,7 @@ impl Tables {
         requires partition { p < length self.now.limits }
         ensures { result ≡ runner_of (part_at p self.now) }
     {
-        self.pools.runner(p)
+        runner(&self.pools, p)
     }
 
     /// What the thread's next step is, by its pc and the word there.
@@ -52,7 +54,7 @@ impl Tables {
         requires partition { p < length self.now.limits }
         ensures { result ≡ step_kind (part_at p self.now) t thread.now }
     {
-        self.pools.step_kind(p, t, thread)
+        step_kind(&self.pools, p, t, thread)
     }
 
     /// The word that the trace keeps of a step at this pc, before it; 0 of a step that fetches none.
@@ -60,7 +62,7 @@ impl Tables {
         requires partition { p < length self.now.limits }
         ensures { result ≡ traced_word kind (part_at p self.now).memory pc }
     {
-        self.pools.traced_word(p, kind, pc)
+        traced_word(&self.pools, p, kind, pc)
     }
 
     /// The thread of a number, None of a free one.
@@ -99,7 +101,7 @@ impl Tables {
         requires running { (part_at p self.old).running ≡ Some t }
         ensures { self.new ≡ put_part p (after_effect (limits_at p self.old) tick t cpu.pc (effect_at cpu (part_at p self.old).memory) (part_at p self.old)) self.old }
     {
-        let called = self.pools.instruct(p, t, cpu);
+        let called = instruct(&mut self.pools, p, t, cpu);
         match called {
             Some(after) => {
                 let _reply = call_with(&mut self.pools, p, tick, t, after);

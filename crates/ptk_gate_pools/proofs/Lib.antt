@@ -1,15 +1,11 @@
 pub mod Parted
 pub mod Registers
 pub mod Stored
-pub mod Rings
 pub mod Ready
 pub mod Priorities
 pub mod Built
 pub mod Creations
 pub mod Ranks
-pub mod ArrivalSteps
-pub mod StepEffects
 pub mod Opened
-pub mod ArrivalLoop
 pub mod Filled
 pub mod LineLaws

@@ -8,7 +8,7 @@ ghost use Rattle.ptk_kernel.specs.Spending.{cost_in};
 
 use crate::steps::whole_step;
 use ptk_gate::Tables;
-use ptk_gate_pools::steps::step_cost;
+use ptk_gate_steps::step_cost;
 use ptk_words::{Entry, PartId, Tick};
 use ptk_words_model::{Runner, Spent};
 

@@ -6,7 +6,7 @@ ghost use Rattle.ptk_gate_pools.specs.Kept.{part_at, put_part, limits_at};
 ghost use Rattle.ptk_kernel.specs.StepParts.{noted, stepped};
 
 use ptk_gate::Tables;
-use ptk_gate_pools::steps::{entry_of, step_cost};
+use ptk_gate_steps::{entry_of, step_cost};
 use ptk_words::{PartId, Tick};
 use ptk_words_model::{Runner, StepKind};
 

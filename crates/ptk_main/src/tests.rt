@@ -1,7 +1,9 @@
 //! The worked rows: whole runs with their reports and traces, and writers that fail. What is wanted was worked out by hand.
-//! Memory is ample here, so an answer that it is wanting fails too.
+//! Memory is ample here, so an answer that it is wanting fails too. A helper that promises nothing stands between each row
+//! and the calls that it tests, and answers whether the row holds: so the check neither computes the rows' runs nor
+//! follows an early return at each row.
 
-ghost use Rattle.std.specs.Prelude.{◌≤◌, ◌^◌};
+ghost use Rattle.std.specs.Prelude.{◌<◌, ◌≤◌, ◌^◌, length};
 
 use crate::{RunFault, rows, run_with, trace_with};
 use ptk_config::{Config, read_config};
@@ -9,7 +11,7 @@ use ptk_system::{BootFault, Files, System};
 use ptk_words::{PartId, Tick};
 use std::alloc::{AllocError, Global};
 use std::io::Write;
-use std::test::Fail;
+use std::process::Abort;
 
 const FRAME_20: &str = "frame = 20\n";
 
@@ -61,14 +63,46 @@ const WIDE: [&str; 4] = [FRAME_100, P, NUMBERS, FIRST_100];
 
 const TWO: [&str; 7] = [FRAME_40, P, NUMBERS, Q, NUMBERS, FIRST_20, SECOND_20];
 
+const SHORT: [&str; 4] = [FRAME_20, P, TRACE_2, FIRST_20];
+
+const SLOW: [&str; 7] = [
+    FRAME_40, P, INTERVAL_5, BARE_Q, NUMBERS, FIRST_20, SECOND_20,
+];
+
+const BARE: [&str; 7] = [FRAME_40, P, NUMBERS, BARE_Q, NUMBERS, FIRST_20, SECOND_20];
+
+const ONE_BYTE: [&str; 8] = [
+    FRAME_40, P, NUMBERS, BYTE_AT_19, BARE_Q, NUMBERS, FIRST_20, SECOND_20,
+];
+
+const FULL_RING: [&str; 8] = [
+    FRAME_40,
+    P,
+    RING_2,
+    BYTES_AT_30,
+    BARE_Q,
+    NUMBERS,
+    FIRST_20,
+    SECOND_20,
+];
+
+const BESIDE_QUIET: [&str; 7] = [FRAME_40, Q, ONE_THREAD, P, NUMBERS, FIRST_20, SECOND_20];
+
+const BESIDE_STORM: [&str; 7] = [FRAME_40, Q, MANY_THREADS, P, NUMBERS, FIRST_20, SECOND_20];
+
 const HELLO_REPORT: &str = "partition p exit 0 steps 9 lost 0\noutput 2\nhi\n";
 
-const IDLE_Q: &str = "partition q idle steps 0 lost 0\noutput 0\n\n";
+// The configuration whose text these parts make, None where there is none.
+fn config_of(alloc: Global, parts: &[&str]) -> Option<Config> {
+    match parts.concat(alloc) {
+        Ok(text) => config_in(alloc, text.as_str()),
+        Err(_) => None,
+    }
+}
 
-fn config_of(alloc: Global, parts: &[&str]) -> Result<Config, Fail> {
-    let text = parts.concat(alloc)?;
-    let config = read_config(alloc, text.as_str())?;
-    Ok(config)
+// The configuration of a text, or None.
+fn config_in(alloc: Global, text: &str) -> Option<Config> {
+    read_config(alloc, text).ok()
 }
 
 // The bytes of an image, from its words.
@@ -80,8 +114,20 @@ fn bytes_of(alloc: Global, words: &[u32]) -> Result<Vec<u8>, AllocError> {
     Ok(bytes)
 }
 
+// The same without the last byte.
+fn bytes_cut_short(alloc: Global, words: &[u32]) -> Result<Vec<u8>, AllocError> {
+    let mut bytes = bytes_of(alloc, words)?;
+    let _last = bytes.pop();
+    Ok(bytes)
+}
+
+// Whether the file was added.
+fn is_added(files: &mut Files, name: &str, bytes: &[u8]) -> bool {
+    files.add(name, bytes).is_ok()
+}
+
 // The images of p and q.
-fn files_of(alloc: Global, p: &[u32], q: &[u32]) -> Result<Files, AllocError> {
+fn images_of(alloc: Global, p: &[u32], q: &[u32]) -> Result<Files, AllocError> {
     let mut files = Files::new(alloc);
     let bytes = bytes_of(alloc, p)?;
     files.add("p.img", &bytes)?;
@@ -90,30 +136,66 @@ fn files_of(alloc: Global, p: &[u32], q: &[u32]) -> Result<Files, AllocError> {
     Ok(files)
 }
 
-// The report after so many ticks, with these images of p and q.
-fn report(alloc: Global, parts: &[&str], p: &[u32], q: &[u32], ticks: u64) -> Result<Vec<u8>, Fail>
-    requires { ticks ≤ 2 ^ 40 }
-{
-    let config = config_of(alloc, parts)?;
-    let files = files_of(alloc, p, q)?;
+// The same, None where memory ran out.
+fn files_of(alloc: Global, p: &[u32], q: &[u32]) -> Option<Files> {
+    images_of(alloc, p, q).ok()
+}
+
+// What `run_with` answers for so many ticks.
+fn run_on<W: Write>(
+    alloc: Global,
+    config: &Config,
+    files: &Files,
+    ticks: u32,
+    out: &mut W,
+) -> Result<(), RunFault> {
+    run_with(alloc, config, files, Tick::new(u64::from(ticks)), out)
+}
+
+// What `trace_with` answers for so many ticks.
+fn trace_on<W: Write>(
+    alloc: Global,
+    config: &Config,
+    files: &Files,
+    ticks: u32,
+    name: &str,
+    out: &mut W,
+) -> Result<(), RunFault> {
+    trace_with(alloc, config, files, Tick::new(u64::from(ticks)), name, out)
+}
+
+// The report after so many ticks.
+fn report_on(alloc: Global, config: &Config, files: &Files, ticks: u32) -> Option<Vec<u8>> {
     let mut out = Vec::new(alloc);
-    if run_with(alloc, &config, &files, Tick::new(ticks), &mut out).is_err() {
-        return Err(Fail::new("no report"));
+    match run_on(alloc, config, files, ticks, &mut out) {
+        Ok(()) => Some(out),
+        Err(_) => None,
     }
-    Ok(out)
+}
+
+// The trace of p after so many ticks.
+fn trace_of(alloc: Global, config: &Config, files: &Files, ticks: u32) -> Option<Vec<u8>> {
+    let mut out = Vec::new(alloc);
+    match trace_on(alloc, config, files, ticks, "p", &mut out) {
+        Ok(()) => Some(out),
+        Err(_) => None,
+    }
+}
+
+// The report after so many ticks, with these images of p and q.
+fn report(alloc: Global, parts: &[&str], p: &[u32], q: &[u32], ticks: u32) -> Option<Vec<u8>> {
+    match (config_of(alloc, parts), files_of(alloc, p, q)) {
+        (Some(config), Some(files)) => report_on(alloc, &config, &files, ticks),
+        _ => None,
+    }
 }
 
 // The trace of p after so many ticks, with these images of p and q.
-fn trace(alloc: Global, parts: &[&str], p: &[u32], q: &[u32], ticks: u64) -> Result<Vec<u8>, Fail>
-    requires { ticks ≤ 2 ^ 40 }
-{
-    let config = config_of(alloc, parts)?;
-    let files = files_of(alloc, p, q)?;
-    let mut out = Vec::new(alloc);
-    if trace_with(alloc, &config, &files, Tick::new(ticks), "p", &mut out).is_err() {
-        return Err(Fail::new("no trace"));
+fn trace(alloc: Global, parts: &[&str], p: &[u32], q: &[u32], ticks: u32) -> Option<Vec<u8>> {
+    match (config_of(alloc, parts), files_of(alloc, p, q)) {
+        (Some(config), Some(files)) => trace_of(alloc, &config, &files, ticks),
+        _ => None,
     }
-    Ok(out)
 }
 
 // Whether the bytes are those that are wanted.
@@ -121,269 +203,416 @@ fn is_text(got: &[u8], want: &[u8]) -> bool {
     got == want
 }
 
-// The system of a configuration after so many ticks.
-fn system_after<'a>(
-    alloc: Global,
-    config: &'a Config,
-    files: &'a Files,
-    ticks: u64,
-) -> Result<System<'a>, Fail>
-    requires { ticks ≤ 2 ^ 40 }
-{
-    let mut system = System::boot(alloc, config, files)?;
-    system.run_to(Tick::new(ticks));
-    Ok(system)
+// Whether there are bytes, and they are those of the text that is wanted.
+fn is_some_text(got: Option<Vec<u8>>, want: &str) -> bool {
+    match got {
+        Some(got) => is_text(&got, want.as_bytes()),
+        None => false,
+    }
 }
 
-// Runs on to a tick, and tells the steps of the first partition, its output and the report.
-fn told_at(
-    alloc: Global,
-    system: &mut System<'_>,
-    ticks: u64,
-) -> Result<(u64, Vec<u8>, Vec<u8>), Fail>
-    requires { ticks ≤ 2 ^ 40 }
+// Whether this is the report after so many ticks, with these images of p and q.
+fn is_report(alloc: Global, parts: &[&str], p: &[u32], q: &[u32], ticks: u32, want: &str) -> bool {
+    is_some_text(report(alloc, parts, p, q, ticks), want)
+}
+
+// Whether this is the trace of p after so many ticks, with these images of p and q.
+fn is_trace(alloc: Global, parts: &[&str], p: &[u32], q: &[u32], ticks: u32, want: &str) -> bool {
+    is_some_text(trace(alloc, parts, p, q, ticks), want)
+}
+
+// The system of a configuration at tick 0, None where it does not boot.
+fn booted<'a>(alloc: Global, config: &'a Config, files: &'a Files) -> Option<System<'a>> {
+    match System::boot(alloc, config, files) {
+        Ok(system) => Some(system),
+        Err(_) => None,
+    }
+}
+
+// Runs on to a tick.
+fn run_on_to(system: &mut System<'_>, ticks: u32) {
+    system.run_to(Tick::new(u64::from(ticks)));
+}
+
+// The first partition.
+fn first(system: &System<'_>) -> PartId
+    ensures { result < length system.now.config.sections }
 {
-    system.run_to(Tick::new(ticks));
-    let _ = system.parts();
-    let p = PartId::new(0);
-    let mut report = Vec::new(alloc);
-    system.report(&mut report)?;
-    let output = system.output(p).to_vec(alloc)?;
-    Ok((system.steps(p), output, report))
+    let _parts = system.parts();
+    PartId::new(0)
+}
+
+// How many partitions there are.
+fn parts_of(system: &System<'_>) -> usize {
+    system.parts()
+}
+
+// The steps of the first partition.
+fn first_steps(system: &System<'_>) -> u64 {
+    system.steps(first(system))
+}
+
+// The input bytes that the first partition lost.
+fn first_dropped(system: &System<'_>) -> u64 {
+    system.dropped(first(system))
+}
+
+// Whether this is the output of the first partition.
+fn is_first_output(system: &System<'_>, want: &str) -> bool {
+    is_text(system.output(first(system)), want.as_bytes())
+}
+
+// Whether the writer took the report.
+fn writes_report<W: Write>(system: &System<'_>, out: &mut W) -> bool {
+    system.report(out).is_ok()
+}
+
+// Whether the writer took the trace of the first partition.
+fn writes_trace<W: Write>(system: &System<'_>, out: &mut W) -> bool {
+    system.trace(first(system)).lines(out).is_ok()
+}
+
+// Whether this is the system's report.
+fn is_told(alloc: Global, system: &System<'_>, want: &str) -> bool {
+    let mut out = Vec::new(alloc);
+    writes_report(system, &mut out) && is_text(&out, want.as_bytes())
+}
+
+// Whether this is the trace of the system's first partition.
+fn is_traced(alloc: Global, system: &System<'_>, want: &str) -> bool {
+    let mut out = Vec::new(alloc);
+    writes_trace(system, &mut out) && is_text(&out, want.as_bytes())
+}
+
+// Whether a writer with so much room, of at most 80 bytes, takes the report.
+fn fits_report(system: &System<'_>, most: usize) -> bool
+    requires { most ≤ 80 }
+{
+    let mut bytes = [0u8; 80];
+    let mut room = &mut bytes[..most];
+    writes_report(system, &mut room)
+}
+
+// Whether a writer with so much room, of at most 80 bytes, takes the trace of the first partition.
+fn fits_trace(system: &System<'_>, most: usize) -> bool
+    requires { most ≤ 80 }
+{
+    let mut bytes = [0u8; 80];
+    let mut room = &mut bytes[..most];
+    writes_trace(system, &mut room)
 }
 
 #[test]
-fn an_image_is_its_words(rt: HostRuntime) -> Result<(), Fail> {
-    let bytes = bytes_of(rt.alloc(), &rows::HELLO)?;
+fn an_image_is_its_words(rt: HostRuntime) {
     let want =
         b"PTKI\x01\0\0\0\0\0\0\0\x24\0\0\0\0\0\0\0\0\0\0\0\x93\x08\x10\x00\x13\x05\x80\x06\x73\0\0\0\x93\x08\x10\x00\x13\x05\x90\x06\x73\0\0\0\x93\x08\0\0\x13\x05\0\0\x73\0\0\0";
-    assert!(rt; is_text(bytes.as_slice(), want.as_slice()));
-    Ok(())
+    match bytes_of(rt.alloc(), &rows::HELLO) {
+        Ok(bytes) => assert!(rt; is_text(&bytes, want.as_slice())),
+        Err(_) => assert!(rt; false, "no memory"),
+    }
 }
 
 #[test]
-fn one_partition_reports(rt: HostRuntime) -> Result<(), Fail> {
+fn one_partition_reports(rt: HostRuntime) {
     let alloc = rt.alloc();
-    let got = report(alloc, &ALONE, &rows::HELLO, &[], 20)?;
-    assert!(rt; is_text(got.as_slice(), HELLO_REPORT.as_bytes()));
-    assert_eq!(rt; got.len(), 46);
-    let got = report(alloc, &ALONE, &rows::EMPTY, &[], 20)?;
+    assert_eq!(rt; HELLO_REPORT.len(), 46);
+    assert!(rt; is_report(alloc, &ALONE, &rows::HELLO, &[], 20, HELLO_REPORT));
     assert!(rt;
-        is_text(
-            got.as_slice(),
-            b"partition p fault illegal pc 0x00000000 steps 1 lost 0\noutput 0\n\n".as_slice()
+        is_report(
+            alloc,
+            &ALONE,
+            &rows::EMPTY,
+            &[],
+            20,
+            "partition p fault illegal pc 0x00000000 steps 1 lost 0\noutput 0\n\n"
         )
     );
-    let got = report(alloc, &ALONE, &rows::LOAD_AT_END, &[], 20)?;
     assert!(rt;
-        is_text(
-            got.as_slice(),
-            b"partition p fault misaligned pc 0x0000000c steps 4 lost 0\noutput 0\n\n".as_slice()
+        is_report(
+            alloc,
+            &ALONE,
+            &rows::LOAD_AT_END,
+            &[],
+            20,
+            "partition p fault misaligned pc 0x0000000c steps 4 lost 0\noutput 0\n\n"
         )
     );
-    let got = report(alloc, &ALONE, &rows::LOAD_PAST_END, &[], 20)?;
     assert!(rt;
-        is_text(
-            got.as_slice(),
-            b"partition p fault load pc 0x0000000c steps 4 lost 0\noutput 0\n\n".as_slice()
+        is_report(
+            alloc,
+            &ALONE,
+            &rows::LOAD_PAST_END,
+            &[],
+            20,
+            "partition p fault load pc 0x0000000c steps 4 lost 0\noutput 0\n\n"
         )
     );
-    let got = report(alloc, &LATE, &rows::LATE_PUT, &[], 40)?;
     assert!(rt;
-        is_text(
-            got.as_slice(),
-            b"partition p running steps 13 lost 3\noutput 0\n\n".as_slice()
+        is_report(
+            alloc,
+            &LATE,
+            &rows::LATE_PUT,
+            &[],
+            40,
+            "partition p running steps 13 lost 3\noutput 0\n\n"
         )
     );
-    let got = report(alloc, &LATE, &rows::LATE_PUT, &[], 41)?;
     assert!(rt;
-        is_text(
-            got.as_slice(),
-            b"partition p running steps 14 lost 3\noutput 1\nh\n".as_slice()
+        is_report(
+            alloc,
+            &LATE,
+            &rows::LATE_PUT,
+            &[],
+            41,
+            "partition p running steps 14 lost 3\noutput 1\nh\n"
         )
     );
-    Ok(())
 }
 
 #[test]
-fn threads_report(rt: HostRuntime) -> Result<(), Fail> {
+fn threads_report(rt: HostRuntime) {
     let alloc = rt.alloc();
-    let got = report(alloc, &WIDE, &rows::CREATE_JOIN, &[], 40)?;
     assert!(rt;
-        is_text(
-            got.as_slice(),
-            b"partition p exit 7 steps 16 lost 0\noutput 0\n\n".as_slice()
+        is_report(
+            alloc,
+            &WIDE,
+            &rows::CREATE_JOIN,
+            &[],
+            40,
+            "partition p exit 7 steps 16 lost 0\noutput 0\n\n"
         )
     );
-    let got = report(alloc, &WIDE, &rows::NUMBER_ONE_REUSED, &[], 100)?;
     assert!(rt;
-        is_text(
-            got.as_slice(),
-            b"partition p exit 5 steps 32 lost 0\noutput 1\n1\n".as_slice()
+        is_report(
+            alloc,
+            &WIDE,
+            &rows::NUMBER_ONE_REUSED,
+            &[],
+            100,
+            "partition p exit 5 steps 32 lost 0\noutput 1\n1\n"
         )
     );
-    let got = report(alloc, &WIDE, &rows::FALLS_BY_PRIO, &[], 100)?;
     assert!(rt;
-        is_text(
-            got.as_slice(),
-            b"partition p exit 0 steps 27 lost 0\noutput 2\nxy\n".as_slice()
+        is_report(
+            alloc,
+            &WIDE,
+            &rows::FALLS_BY_PRIO,
+            &[],
+            100,
+            "partition p exit 0 steps 27 lost 0\noutput 2\nxy\n"
         )
     );
-    let got = report(alloc, &WIDE, &rows::FALLS_BY_PARAM, &[], 100)?;
     assert!(rt;
-        is_text(
-            got.as_slice(),
-            b"partition p exit 0 steps 28 lost 0\noutput 2\nyx\n".as_slice()
+        is_report(
+            alloc,
+            &WIDE,
+            &rows::FALLS_BY_PARAM,
+            &[],
+            100,
+            "partition p exit 0 steps 28 lost 0\noutput 2\nyx\n"
         )
     );
-    Ok(())
 }
 
 #[test]
-fn two_partitions_report(rt: HostRuntime) -> Result<(), Fail> {
+fn two_partitions_report(rt: HostRuntime) {
     let alloc = rt.alloc();
-    let got = report(alloc, &TWO, &rows::HELLO, &rows::HELLO, 40)?;
     assert!(rt;
-        is_text(
-            got.as_slice(),
-            b"partition p exit 0 steps 9 lost 0\noutput 2\nhi\npartition q exit 0 steps 9 lost 0\noutput 2\nhi\n".as_slice()
+        is_report(
+            alloc,
+            &TWO,
+            &rows::HELLO,
+            &rows::HELLO,
+            40,
+            "partition p exit 0 steps 9 lost 0\noutput 2\nhi\npartition q exit 0 steps 9 lost 0\noutput 2\nhi\n"
         )
     );
-    let got = report(alloc, &TWO, &rows::LOAD_PAST_END, &rows::HELLO, 40)?;
     assert!(rt;
-        is_text(
-            got.as_slice(),
-            b"partition p fault load pc 0x0000000c steps 4 lost 0\noutput 0\n\npartition q exit 0 steps 9 lost 0\noutput 2\nhi\n".as_slice()
+        is_report(
+            alloc,
+            &TWO,
+            &rows::LOAD_PAST_END,
+            &rows::HELLO,
+            40,
+            "partition p fault load pc 0x0000000c steps 4 lost 0\noutput 0\n\npartition q exit 0 steps 9 lost 0\noutput 2\nhi\n"
         )
     );
-    let slow = [
-        FRAME_40, P, INTERVAL_5, BARE_Q, NUMBERS, FIRST_20, SECOND_20,
-    ];
-    let got = report(alloc, &slow, &rows::ROUND_ROBIN, &[], 87)?;
     assert!(rt;
-        is_text(
-            got.as_slice(),
-            b"partition p running steps 19 lost 3\noutput 0\n\npartition q idle steps 0 lost 0\noutput 0\n\n".as_slice()
+        is_report(
+            alloc,
+            &SLOW,
+            &rows::ROUND_ROBIN,
+            &[],
+            87,
+            "partition p running steps 19 lost 3\noutput 0\n\npartition q idle steps 0 lost 0\noutput 0\n\n"
         )
     );
-    Ok(())
 }
 
 #[test]
-fn input_arrives(rt: HostRuntime) -> Result<(), Fail> {
+fn input_arrives(rt: HostRuntime) {
     let alloc = rt.alloc();
-    let one = [
-        FRAME_40, P, NUMBERS, BYTE_AT_19, BARE_Q, NUMBERS, FIRST_20, SECOND_20,
-    ];
-    let got = report(alloc, &one, &rows::GET_ONE, &[], 41)?;
     assert!(rt;
-        is_text(
-            got.as_slice(),
-            b"partition p exit 0 steps 4 lost 0\noutput 0\n\npartition q idle steps 0 lost 0\noutput 0\n\n".as_slice()
+        is_report(
+            alloc,
+            &ONE_BYTE,
+            &rows::GET_ONE,
+            &[],
+            41,
+            "partition p exit 0 steps 4 lost 0\noutput 0\n\npartition q idle steps 0 lost 0\noutput 0\n\n"
         )
     );
-    let got = trace(alloc, &one, &rows::GET_ONE, &[], 41)?;
     assert!(rt;
-        is_text(
-            got.as_slice(),
-            b"0 1 0x00000000 0x00200893 0x00000000\n1 1 0x00000004 0x00000073 0x00000000\n19 1 0x00000008 0x00000893 0x00000000\n40 1 0x0000000c 0x00000073 0x00000000\n".as_slice()
+        is_trace(
+            alloc,
+            &ONE_BYTE,
+            &rows::GET_ONE,
+            &[],
+            41,
+            "0 1 0x00000000 0x00200893 0x00000000\n1 1 0x00000004 0x00000073 0x00000000\n19 1 0x00000008 0x00000893 0x00000000\n40 1 0x0000000c 0x00000073 0x00000000\n"
         )
     );
-    let full = [
-        FRAME_40,
-        P,
-        RING_2,
-        BYTES_AT_30,
-        BARE_Q,
-        NUMBERS,
-        FIRST_20,
-        SECOND_20,
-    ];
-    let got = report(alloc, &full, &rows::GET_TWO, &[], 100)?;
     assert!(rt;
-        is_text(
-            got.as_slice(),
-            b"partition p exit 0 steps 33 lost 2\noutput 2\nab\npartition q idle steps 0 lost 0\noutput 0\n\n".as_slice()
+        is_report(
+            alloc,
+            &FULL_RING,
+            &rows::GET_TWO,
+            &[],
+            100,
+            "partition p exit 0 steps 33 lost 2\noutput 2\nab\npartition q idle steps 0 lost 0\noutput 0\n\n"
         )
     );
-    let config = config_of(alloc, &full)?;
-    let files = files_of(alloc, &rows::SPIN, &[])?;
-    let system = system_after(alloc, &config, &files, 41)?;
-    assert!(rt; system.parts() == 2);
-    assert_eq!(rt; system.dropped(PartId::new(0)), 1);
-    assert_eq!(rt; system.steps(PartId::new(0)), 21);
-    Ok(())
+}
+
+// The partitions of the system, and of the first the input bytes that were lost and the steps.
+fn counts_at(
+    alloc: Global,
+    config: &Config,
+    files: &Files,
+    ticks: u32,
+) -> Option<(usize, u64, u64)> {
+    match booted(alloc, config, files) {
+        Some(mut system) => {
+            run_on_to(&mut system, ticks);
+            Some((
+                parts_of(&system),
+                first_dropped(&system),
+                first_steps(&system),
+            ))
+        }
+        None => None,
+    }
 }
 
 #[test]
-fn a_neighbour_that_exhausts_changes_nothing(rt: HostRuntime) -> Result<(), Fail> {
+fn input_is_lost_where_the_ring_is_full(rt: HostRuntime) {
     let alloc = rt.alloc();
-    let quiet = [FRAME_40, Q, ONE_THREAD, P, NUMBERS, FIRST_20, SECOND_20];
-    let storm = [FRAME_40, Q, MANY_THREADS, P, NUMBERS, FIRST_20, SECOND_20];
-    let guest = &rows::PUTS_THE_NUMBER;
-    let got = report(alloc, &quiet, guest, &rows::QUIET, 1400)?;
-    assert!(rt;
-        is_text(
-            got.as_slice(),
-            b"partition q exit 0 steps 3 lost 0\noutput 0\n\npartition p exit 7 steps 20 lost 0\noutput 1\n2\n".as_slice()
-        )
-    );
-    let got = report(alloc, &storm, guest, &rows::STORM, 1400)?;
-    assert!(rt;
-        is_text(
-            got.as_slice(),
-            b"partition q fault break pc 0x00000024 steps 181 lost 121\noutput 4\n!!!!\npartition p exit 7 steps 20 lost 0\noutput 1\n2\n".as_slice()
-        )
-    );
-    let beside_quiet = trace(alloc, &quiet, guest, &rows::QUIET, 1400)?;
-    let beside_storm = trace(alloc, &storm, guest, &rows::STORM, 1400)?;
-    assert_eq!(rt; beside_quiet.as_slice(), beside_storm.as_slice());
-    assert!(rt; !beside_quiet.is_empty());
-    Ok(())
+    match (
+        config_of(alloc, &FULL_RING),
+        files_of(alloc, &rows::SPIN, &[]),
+    ) {
+        (Some(config), Some(files)) => {
+            assert_eq!(rt; counts_at(alloc, &config, &files, 41), Some((2, 1, 21)));
+        }
+        _ => assert!(rt; false, "no memory"),
+    }
 }
 
 #[test]
-fn a_refused_image_halts_its_partition_alone(rt: HostRuntime) -> Result<(), Fail> {
+fn a_neighbour_that_exhausts_changes_nothing(rt: HostRuntime) {
     let alloc = rt.alloc();
-    let mut files = files_of(alloc, &rows::HELLO, &[])?;
-    let mut bytes = bytes_of(alloc, &rows::HELLO)?;
-    let _last = bytes.pop();
-    assert_eq!(rt; bytes.len(), 59);
-    files.add("q.img", &bytes)?;
-    let config = config_of(alloc, &TWO)?;
-    let mut out = Vec::new(alloc);
-    assert!(rt; run_with(alloc, &config, &files, Tick::new(40), &mut out).is_ok());
     assert!(rt;
-        is_text(
-            out.as_slice(),
-            b"partition p exit 0 steps 9 lost 0\noutput 2\nhi\npartition q refused image 4 steps 0 lost 0\noutput 0\n\n".as_slice()
+        is_report(
+            alloc,
+            &BESIDE_QUIET,
+            &rows::PUTS_THE_NUMBER,
+            &rows::QUIET,
+            1400,
+            "partition q exit 0 steps 3 lost 0\noutput 0\n\npartition p exit 7 steps 20 lost 0\noutput 1\n2\n"
         )
     );
-    let bare = [FRAME_40, P, NUMBERS, BARE_Q, NUMBERS, FIRST_20, SECOND_20];
-    let got = report(alloc, &bare, &rows::HELLO, &[], 40)?;
-    assert_eq!(rt;
-        got.as_slice(),
-        [HELLO_REPORT, IDLE_Q].concat(alloc)?.as_bytes()
+    assert!(rt;
+        is_report(
+            alloc,
+            &BESIDE_STORM,
+            &rows::PUTS_THE_NUMBER,
+            &rows::STORM,
+            1400,
+            "partition q fault break pc 0x00000024 steps 181 lost 121\noutput 4\n!!!!\npartition p exit 7 steps 20 lost 0\noutput 1\n2\n"
+        )
     );
-    Ok(())
+    let beside_quiet = trace(
+        alloc,
+        &BESIDE_QUIET,
+        &rows::PUTS_THE_NUMBER,
+        &rows::QUIET,
+        1400,
+    );
+    let beside_storm = trace(
+        alloc,
+        &BESIDE_STORM,
+        &rows::PUTS_THE_NUMBER,
+        &rows::STORM,
+        1400,
+    );
+    assert!(rt; are_alike(beside_quiet, beside_storm));
+}
+
+// Whether both have bytes, some, and the same.
+fn are_alike(a: Option<Vec<u8>>, b: Option<Vec<u8>>) -> bool {
+    match (a, b) {
+        (Some(a), Some(b)) => !a.is_empty() && is_text(&a, &b),
+        _ => false,
+    }
+}
+
+// The report after so many ticks, where the image of q lacks its last byte.
+fn report_cut_short(
+    alloc: Global,
+    config: &Config,
+    mut files: Files,
+    q: &[u32],
+    ticks: u32,
+) -> Option<Vec<u8>> {
+    match bytes_cut_short(alloc, q) {
+        Ok(bytes) if bytes.len() == 59 && is_added(&mut files, "q.img", &bytes) => {
+            report_on(alloc, config, &files, ticks)
+        }
+        _ => None,
+    }
 }
 
 #[test]
-fn traces_are_the_last_steps(rt: HostRuntime) -> Result<(), Fail> {
+fn a_refused_image_halts_its_partition_alone(rt: HostRuntime) {
     let alloc = rt.alloc();
-    let short = [FRAME_20, P, TRACE_2, FIRST_20];
-    let got = trace(alloc, &short, &rows::HELLO, &[], 20)?;
-    assert!(rt; is_text(got.as_slice(), SHORT_TRACE.as_bytes()));
-    let got = trace(alloc, &ALONE, &rows::HELLO, &[], 20)?;
-    assert!(rt; is_text(got.as_slice(), FULL_TRACE.as_bytes()));
-    let got = trace(alloc, &WIDE, &rows::CREATE_JOIN, &[], 40)?;
-    assert!(rt; is_text(got.as_slice(), CREATE_JOIN_TRACE.as_bytes()));
-    let slow = [
-        FRAME_40, P, INTERVAL_5, BARE_Q, NUMBERS, FIRST_20, SECOND_20,
-    ];
-    let got = trace(alloc, &slow, &rows::ROUND_ROBIN, &[], 87)?;
-    assert!(rt; is_text(got.as_slice(), ROUND_ROBIN_TRACE.as_bytes()));
-    Ok(())
+    match (config_of(alloc, &TWO), files_of(alloc, &rows::HELLO, &[])) {
+        (Some(config), Some(files)) => assert!(rt;
+            is_some_text(
+                report_cut_short(alloc, &config, files, &rows::HELLO, 40),
+                "partition p exit 0 steps 9 lost 0\noutput 2\nhi\npartition q refused image 4 steps 0 lost 0\noutput 0\n\n"
+            )
+        ),
+        _ => assert!(rt; false, "no memory"),
+    }
+    assert!(rt;
+        is_report(
+            alloc,
+            &BARE,
+            &rows::HELLO,
+            &[],
+            40,
+            "partition p exit 0 steps 9 lost 0\noutput 2\nhi\npartition q idle steps 0 lost 0\noutput 0\n\n"
+        )
+    );
+}
+
+#[test]
+fn traces_are_the_last_steps(rt: HostRuntime) {
+    let alloc = rt.alloc();
+    assert!(rt; is_trace(alloc, &SHORT, &rows::HELLO, &[], 20, SHORT_TRACE));
+    assert!(rt; is_trace(alloc, &ALONE, &rows::HELLO, &[], 20, FULL_TRACE));
+    assert!(rt; is_trace(alloc, &WIDE, &rows::CREATE_JOIN, &[], 40, CREATE_JOIN_TRACE));
+    assert!(rt; is_trace(alloc, &SLOW, &rows::ROUND_ROBIN, &[], 87, ROUND_ROBIN_TRACE));
 }
 
 const SHORT_TRACE: &str =
@@ -398,112 +627,110 @@ const CREATE_JOIN_TRACE: &str =
 const ROUND_ROBIN_TRACE: &str =
     "3 1 0x0000000c 0x00000073 0x00000000\n15 1 0x00000010 0x02c00513 0x0000002c\n16 1 0x00000014 0x02800593 0x0000002c\n40 1 0x00000018 0x00000073 0x00000000\n52 1 0x0000001c 0x00f00893 0x00000000\n53 1 0x00000020 0x00000073 0x00000000\n57 2 0x00000028 0x0000006f 0x00000000\n58 2 0x00000028 0x0000006f 0x00000000\n59 2 0x00000028 0x0000006f 0x00000000\n80 2 0x00000028 0x0000006f 0x00000000\n81 2 0x00000028 0x0000006f 0x00000000\n82 3 0x00000028 0x0000006f 0x00000000\n83 3 0x00000028 0x0000006f 0x00000000\n84 3 0x00000028 0x0000006f 0x00000000\n85 3 0x00000028 0x0000006f 0x00000000\n86 3 0x00000028 0x0000006f 0x00000000\n";
 
-#[test]
-fn a_run_may_stop_on_the_way(rt: HostRuntime) -> Result<(), Fail> {
-    let alloc = rt.alloc();
-    let config = config_of(alloc, &ALONE)?;
-    let files = files_of(alloc, &rows::HELLO, &[])?;
-    let mut system = system_after(alloc, &config, &files, 0)?;
-    let (steps, output, _) = told_at(alloc, &mut system, 3)?;
-    assert_eq!(rt; steps, 3);
-    assert!(rt; is_text(output.as_slice(), b"h".as_slice()));
-    let (steps, output, report) = told_at(alloc, &mut system, 10)?;
-    assert_eq!(rt; steps, 6);
-    assert!(rt; is_text(output.as_slice(), b"hi".as_slice()));
+// Stops at 3, 10 and 40 on the way, and asserts what is told there.
+fn check_stops(rt: &impl Abort, alloc: Global, system: &mut System<'_>) {
+    run_on_to(system, 0);
+    run_on_to(system, 3);
+    assert_eq!(rt; first_steps(system), 3);
+    assert!(rt; is_first_output(system, "h"));
+    run_on_to(system, 10);
+    assert_eq!(rt; first_steps(system), 6);
+    assert!(rt; is_first_output(system, "hi"));
     assert!(rt;
-        is_text(
-            report.as_slice(),
-            b"partition p running steps 6 lost 0\noutput 2\nhi\n".as_slice()
+        is_told(
+            alloc,
+            system,
+            "partition p running steps 6 lost 0\noutput 2\nhi\n"
         )
     );
-    let (steps, _, report) = told_at(alloc, &mut system, 40)?;
-    assert_eq!(rt; steps, 9);
-    assert!(rt; is_text(report.as_slice(), HELLO_REPORT.as_bytes()));
-    Ok(())
+    run_on_to(system, 40);
+    assert_eq!(rt; first_steps(system), 9);
+    assert!(rt; is_told(alloc, system, HELLO_REPORT));
 }
 
 #[test]
-fn a_writer_that_fails_leaves_the_system(rt: HostRuntime) -> Result<(), Fail> {
+fn a_run_may_stop_on_the_way(rt: HostRuntime) {
     let alloc = rt.alloc();
-    let config = config_of(alloc, &[FRAME_20, P, TRACE_2, FIRST_20])?;
-    let files = files_of(alloc, &rows::HELLO, &[])?;
-    let system = system_after(alloc, &config, &files, 20)?;
-    let p = PartId::new(0);
-    assert!(rt; system.parts() == 1);
+    match (config_of(alloc, &ALONE), files_of(alloc, &rows::HELLO, &[])) {
+        (Some(config), Some(files)) => match booted(alloc, &config, &files) {
+            Some(mut system) => check_stops(&rt, alloc, &mut system),
+            None => assert!(rt; false, "no boot"),
+        },
+        _ => assert!(rt; false, "no memory"),
+    }
+}
+
+// Asserts that no writer with too little room takes the report or the trace, and that the system then tells both.
+fn check_writers(rt: &impl Abort, alloc: Global, system: &System<'_>) {
+    assert_eq!(rt; parts_of(system), 1);
     for most in 0..46 {
-        let mut bytes = [0u8; 46];
-        let mut room = &mut bytes[..most];
-        assert!(rt; system.report(&mut room).is_err(), "at {most}");
+        assert!(rt; !fits_report(system, most), "at {most}");
     }
     for most in 0..76 {
-        let mut bytes = [0u8; 76];
-        let mut room = &mut bytes[..most];
-        assert!(rt; system.trace(p).lines(&mut room).is_err(), "at {most}");
+        assert!(rt; !fits_trace(system, most), "at {most}");
     }
-    let mut out = Vec::new(alloc);
-    system.report(&mut out)?;
-    assert!(rt; is_text(out.as_slice(), HELLO_REPORT.as_bytes()));
-    let mut out = Vec::new(alloc);
-    system.trace(p).lines(&mut out)?;
-    assert!(rt; is_text(out.as_slice(), SHORT_TRACE.as_bytes()));
-    assert_eq!(rt; system.steps(p), 9);
-    assert!(rt; is_text(system.output(p), b"hi".as_slice()));
-    Ok(())
-}
-
-// What `run_with` answers for so many ticks.
-fn run_on<W: Write>(
-    alloc: Global,
-    config: &Config,
-    files: &Files,
-    ticks: u64,
-    out: &mut W,
-) -> Result<(), RunFault>
-    requires { ticks ≤ 2 ^ 40 }
-{
-    run_with(alloc, config, files, Tick::new(ticks), out)
-}
-
-// What `trace_with` answers for so many ticks.
-fn trace_on<W: Write>(
-    alloc: Global,
-    config: &Config,
-    files: &Files,
-    ticks: u64,
-    name: &str,
-    out: &mut W,
-) -> Result<(), RunFault>
-    requires { ticks ≤ 2 ^ 40 }
-{
-    trace_with(alloc, config, files, Tick::new(ticks), name, out)
+    assert!(rt; is_told(alloc, system, HELLO_REPORT));
+    assert!(rt; is_traced(alloc, system, SHORT_TRACE));
+    assert_eq!(rt; first_steps(system), 9);
+    assert!(rt; is_first_output(system, "hi"));
 }
 
 #[test]
-fn faults_of_runs(rt: HostRuntime) -> Result<(), Fail> {
+fn a_writer_that_fails_leaves_the_system(rt: HostRuntime) {
     let alloc = rt.alloc();
-    let config = config_of(alloc, &TWO)?;
-    let files = files_of(alloc, &rows::HELLO, &rows::HELLO)?;
+    match (config_of(alloc, &SHORT), files_of(alloc, &rows::HELLO, &[])) {
+        (Some(config), Some(files)) => match booted(alloc, &config, &files) {
+            Some(mut system) => {
+                run_on_to(&mut system, 20);
+                check_writers(&rt, alloc, &system);
+            }
+            None => assert!(rt; false, "no boot"),
+        },
+        _ => assert!(rt; false, "no memory"),
+    }
+}
+
+// Asserts what a writer of 40 bytes makes of a report and of two traces.
+fn check_short_writers(rt: &impl Abort, alloc: Global, config: &Config, files: &Files) {
     let mut bytes = [0u8; 40];
     let mut room = bytes.as_mut_slice();
-    let failed = run_on(alloc, &config, &files, 20, &mut room);
+    let failed = run_on(alloc, config, files, 20, &mut room);
     assert_eq!(rt; failed, Err(RunFault::Write));
     let mut bytes = [0u8; 40];
     let mut room = bytes.as_mut_slice();
-    let failed = trace_on(alloc, &config, &files, 20, "q", &mut room);
+    let failed = trace_on(alloc, config, files, 20, "q", &mut room);
     assert_eq!(rt; failed, Ok(()));
-    let failed = trace_on(alloc, &config, &files, 20, "p", &mut room);
+    let failed = trace_on(alloc, config, files, 20, "p", &mut room);
     assert_eq!(rt; failed, Err(RunFault::Write));
+}
+
+// Asserts that an unknown name comes before missing files, and the first missing file before the second.
+fn check_missing(rt: &impl Abort, alloc: Global, config: &Config) {
     let mut out = Vec::new(alloc);
     let mut files = Files::new(alloc);
-    let unknown = trace_on(alloc, &config, &files, 20, "z", &mut out);
+    let unknown = trace_on(alloc, config, &files, 20, "z", &mut out);
     assert_eq!(rt; unknown, Err(RunFault::NoPartition));
     let first = RunFault::Boot(BootFault::MissingFile(PartId::new(0)));
-    let missing = run_on(alloc, &config, &files, 20, &mut out);
+    let missing = run_on(alloc, config, &files, 20, &mut out);
     assert_eq!(rt; missing, Err(first));
-    files.add("p.img", b"")?;
+    assert!(rt; is_added(&mut files, "p.img", b""));
     let second = RunFault::Boot(BootFault::MissingFile(PartId::new(1)));
-    let missing = trace_on(alloc, &config, &files, 20, "p", &mut out);
+    let missing = trace_on(alloc, config, &files, 20, "p", &mut out);
     assert_eq!(rt; missing, Err(second));
     assert!(rt; out.is_empty());
-    Ok(())
+}
+
+#[test]
+fn faults_of_runs(rt: HostRuntime) {
+    let alloc = rt.alloc();
+    match (
+        config_of(alloc, &TWO),
+        files_of(alloc, &rows::HELLO, &rows::HELLO),
+    ) {
+        (Some(config), Some(files)) => {
+            check_short_writers(&rt, alloc, &config, &files);
+            check_missing(&rt, alloc, &config);
+        }
+        _ => assert!(rt; false, "no memory"),
+    }
 }

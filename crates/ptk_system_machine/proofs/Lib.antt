@@ -1,3 +1,4 @@
+pub mod Due
 pub mod Entries
 pub mod States
 pub mod Ticks

@@ -1,5 +1,5 @@
 -- The states of all partitions at once.
-use Rattle.std.specs.Prelude.{◌≡◌, ℕ, ◌<◌, ◌≤◌, List, None, All, length, slice_index_or, slice_set}
+use Rattle.std.specs.Prelude.{◌≡◌, ℕ, ◌<◌, ◌≤◌, List, None, Some, All, Any, length, slice_index_or, slice_set}
 use Rattle.ptk_words_windows.specs.Windows.{WindowTable, own_ticks}
 use Rattle.ptk_words_model.specs.State.{State}
 use Rattle.ptk_words_model.specs.Run.{next_from}
@@ -22,6 +22,10 @@ account_at p whole = slice_index_or whole.accounts p no_account
 -- the state of a partition (own)
 abbrev pub state_at : ℕ → Whole → State
 state_at p whole = record { part = part_at p whole.kept; account = (account_at p whole).account }
+
+-- the tick is the next decision of a partition (own)
+abbrev pub IsDue : ℕ → Whole → Type 0
+IsDue tick whole = Any (λ account. account.account.next ≡ Some tick) whole.accounts
 
 -- the states with this as the partition's; every other partition's stays (own)
 abbrev pub put_state : ℕ → State → Whole → Whole

@@ -5,7 +5,7 @@ ghost use Rattle.ptk_words_windows.specs.Windows.{own_ticks};
 ghost use Rattle.ptk_words_model.specs.Run.{after_tick, after_tick_until, decided, is_active, is_at, next_from};
 ghost use Rattle.ptk_gate_pools.specs.Kept.{AreParts, limits_at, part_at};
 ghost use Rattle.ptk_system_machine.specs.Accounts.{IsCounted};
-ghost use Rattle.ptk_system_machine.specs.Whole.{AreWindowsOf, account_at, first_account_of, no_account, put_state, state_at};
+ghost use Rattle.ptk_system_machine.specs.Whole.{AreWindowsOf, IsDue, account_at, first_account_of, no_account, put_state, state_at};
 
 use crate::account::{Account, duration};
 use ptk_gate::Tables;
@@ -140,6 +140,7 @@ impl Machine {
         ensures not_after { result ≤ to }
         ensures none_between { (p k : ℕ) → p < length self.now.accounts →
             (account_at p self.now).account.next ≡ Some k → from ≤ k → result ≤ k }
+        ensures due { result < to → IsDue result self.now }
     {
         let mut due = to.ticks();
         for account in &self.accounts {
@@ -155,6 +156,7 @@ fn earlier_due(next: Option<Tick>, from: u64, due: u64) -> u64
     ensures not_before { from ≤ result }
     ensures not_after { result ≤ due }
     ensures none_between { (k : ℕ) → next ≡ Some k → from ≤ k → result ≤ k }
+    ensures earlier { result < due → next ≡ Some result }
 {
     match next {
         Some(next) if from <= next.ticks() && next.ticks() < due => next.ticks(),

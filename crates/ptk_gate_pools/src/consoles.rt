@@ -1,0 +1,42 @@
+//! The console: its output, its ring and its waiters.
+
+ghost use Rattle.std.specs.Prelude.{◌≡◌, ◌<◌, not, length};
+ghost use Rattle.ptk_words_model.specs.State.{with_console};
+ghost use Rattle.ptk_words_model.specs.Console.{is_full, with_waiter};
+ghost use Rattle.ptk_console.specs.ConsoleTable.{after_put, first_byte, without_first, IsNotWaiting};
+ghost use Rattle.ptk_gate_pools.specs.Kept.{part_at, put_part, limits_at};
+
+use crate::pools::Pools;
+use ptk_words::{PartId, ThreadNo};
+
+impl Pools {
+    /// Appends a byte to the output; false, and nothing changes, where the output is full.
+    #[tactic(auto, using(crate::proofs::Parted::parted))]
+    pub fn put_byte(&mut self, p: PartId, byte: u8) -> bool
+        requires partition { p < length self.old.limits }
+        ensures told { result ≡ not (is_full (limits_at p self.old).output (part_at p self.old).console) }
+        ensures moved { self.new ≡ put_part p (with_console (after_put (limits_at p self.old).output byte) (part_at p self.old)) self.old }
+    {
+        self.consoles.put(p, byte)
+    }
+
+    /// Takes the ring's first byte.
+    #[tactic(auto, using(crate::proofs::Parted::parted))]
+    pub fn take_byte(&mut self, p: PartId) -> Option<u8>
+        requires partition { p < length self.old.limits }
+        ensures told { result ≡ first_byte (part_at p self.old).console }
+        ensures moved { self.new ≡ put_part p (with_console without_first (part_at p self.old)) self.old }
+    {
+        self.consoles.get(p)
+    }
+
+    /// The thread is the last waiter for a byte.
+    #[tactic(auto, using(crate::proofs::Parted::parted))]
+    pub fn add_waiter(&mut self, p: PartId, t: ThreadNo)
+        requires partition { p < length self.old.limits }
+        requires new { IsNotWaiting t (part_at p self.old).console }
+        ensures { self.new ≡ put_part p (with_console (with_waiter t) (part_at p self.old)) self.old }
+    {
+        self.consoles.add_waiter(p, t);
+    }
+}

@@ -1,0 +1,60 @@
+//! The step of an instruction.
+
+ghost use Rattle.std.specs.Prelude.{◌≡◌, ◌<◌, length};
+ghost use Rattle.ptk_words_instructions.specs.Instructions.{effect_at};
+ghost use Rattle.ptk_gate_pools.specs.Kept.{part_at, put_part};
+ghost use Rattle.ptk_gate_steps.specs.Instructions.{after_instruction, call_in, settled, called};
+
+use ptk_gate_pools::Pools;
+use ptk_rv32i::Outcome;
+use ptk_words::{Cause, Cpu, PartId, Status, ThreadNo};
+
+/// A step of the thread, which has these registers: the instruction's effect on the registers and the memory, or the
+/// partition stops at a break or a fault, which leaves both. The registers of a call, which is still to be carried
+/// out on the state that this leaves; None of another instruction.
+pub fn instruct(pools: &mut Pools, p: PartId, t: ThreadNo, cpu: Cpu) -> Option<Cpu>
+    requires partition { p < length pools.old.limits }
+    ensures told { result ≡ call_in (effect_at cpu (part_at p pools.old).memory) }
+    ensures moved { pools.new ≡ put_part p (after_instruction t cpu.pc (effect_at cpu (part_at p pools.old).memory) (part_at p pools.old)) pools.old }
+{
+    let _parts = pools.parts();
+    let pc = cpu.pc();
+    let mut after = cpu;
+    let outcome = pools.step_memory(p, &mut after);
+    settle(pools, p, t, pc, outcome, after)
+}
+
+/// After a step that came to this: the thread has the registers, or the partition has stopped at the pc. The
+/// registers of a call, which is still to be carried out; None of another outcome.
+#[tactic(auto, using(ptk_gate_pools::proofs::Parted::parted))]
+fn settle(
+    pools: &mut Pools,
+    p: PartId,
+    t: ThreadNo,
+    pc: u32,
+    outcome: Outcome,
+    cpu: Cpu,
+) -> Option<Cpu>
+    requires partition { p < length pools.old.limits }
+    ensures told { result ≡ called outcome cpu }
+    ensures moved { pools.new ≡ put_part p (settled t pc outcome cpu (part_at p pools.old)) pools.old }
+{
+    match outcome {
+        Outcome::Done => {
+            pools.give_cpu(p, t, cpu);
+            None
+        }
+        Outcome::Call => {
+            pools.give_cpu(p, t, cpu);
+            Some(cpu)
+        }
+        Outcome::Break => {
+            pools.halt(p, Status::Stopped(Cause::Break, pc));
+            None
+        }
+        Outcome::Fault(kind) => {
+            pools.halt(p, Status::Stopped(Cause::Fault(kind), pc));
+            None
+        }
+    }
+}
