@@ -1,4 +1,5 @@
 pub mod CostLaws
 pub mod ChainLaws
 pub mod PriorityLaws
+pub mod ArrivalLaws
 pub mod Sizes
