@@ -2,4 +2,5 @@ pub mod CostLaws
 pub mod ChainLaws
 pub mod PriorityLaws
 pub mod ArrivalLaws
+pub mod ExpiryLaws
 pub mod Sizes
