@@ -15,7 +15,7 @@ use Rattle.ptk_words_laws.specs.Rows.Waits.{part_with, call_by, call_with}
 
 -- ---- create
 
--- thread 1 of these creates another with the attributes at the pointer; these five words stand at 4, in 88 bytes of memory (own)
+-- thread 1 of these creates another with the attributes at the pointer; these words stand at 4, and 64 bytes follow them, so that memory has 88 bytes with five words (own)
 abbrev pub creation : List (Option Thread) → ℕ → List ℕ → Reply
 creation threads pointer words = (create (call_with pointer 0 0) (part_with (0 ∷ words) threads [])).reply
 
@@ -44,6 +44,8 @@ pub record CreateRefused : Type 0 where
   pub priorities : map (λ priority. creation_of (0 ∷ 1 ∷ 1 ∷ priority ∷ 0 ∷ [])) (0 ∷ 1 ∷ 32 ∷ 33 ∷ []) ≡ Done 22 ∷ Done 0 ∷ Done 0 ∷ Done 22 ∷ []
   pub not_looked_at : creation_of (0 ∷ 0 ∷ 3 ∷ 33 ∷ 0 ∷ []) ≡ Done 0
   pub stack_tops : map (λ top. creation_of (0 ∷ 0 ∷ 0 ∷ 0 ∷ top ∷ [])) (8 ∷ 80 ∷ 96 ∷ []) ≡ Done 22 ∷ Done 0 ∷ Done 22 ∷ []
+  -- two words more, and memory ends at 96
+  pub stack_top_at_end : creation_of (0 ∷ 0 ∷ 0 ∷ 0 ∷ 96 ∷ 0 ∷ 0 ∷ []) ≡ Done 0
   pub stack_top_first : last_creation 4 (0 ∷ 0 ∷ 0 ∷ 0 ∷ 8 ∷ []) ≡ Done 22
   pub no_number : last_creation 4 (0 ∷ 0 ∷ 0 ∷ 0 ∷ 0 ∷ []) ≡ Done 11
 
@@ -68,7 +70,7 @@ one_asked = with_cancellation 1 (λ c. record c { is_pending = true }) four_thre
 abbrev pub replies : (ℕ → Answer) → List ℕ → List Reply
 replies answer_to arguments = map (λ argument. (answer_to argument).reply) arguments
 
--- ESRCH is tested first, a policy before a priority, and oneself before a detached thread; a refused call changes a0 alone (pthread_join, pthread_detach, pthread_setschedparam, pthread_setschedprio; own, ESRCH, EDEADLK, EINVAL, ENOTSUP)
+-- at join a pending request acts first; ESRCH is tested before the rest, oneself before a detached thread, a policy before a priority; a refused call changes a0 alone (pthread_join, pthread_detach, pthread_setschedparam, pthread_getschedparam, pthread_setschedprio; own, ESRCH, EDEADLK, EINVAL, ENOTSUP)
 pub record ThreadRefused : Type 0 where
   pub join_unknown : replies (λ t. join (call_with t 0 0) four_threads) (0 ∷ 5 ∷ 6 ∷ []) ≡ Done 3 ∷ Done 3 ∷ Done 3 ∷ []
   pub join_oneself : (join (call_with 1 0 0) four_threads).reply ≡ Done 35
