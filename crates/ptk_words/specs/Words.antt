@@ -1,13 +1,9 @@
 -- Words of 32 bits, as numbers below 2 ^ 32, and words in a list of bytes.
-use Rattle.std.specs.Prelude.{ℕ, ◌+◌, ◌-◌, ◌/◌, ◌%◌, ◌^◌, ◌<◌, Bool, ℤ, List, length, nat_lt, if◌then◌else◌, slice_range}
+use Rattle.std.specs.Prelude.{ℕ, ◌+◌, ◌-◌, ◌/◌, ◌%◌, ◌^◌, Bool, ℤ, List, length, nat_lt, if◌then◌else◌, slice_range}
 use Rattle.std.specs.Int.{w32, cast_signed, from_le_bytes, to_le_bytes}
 use Rattle.std.specs.List.{replace_range}
 
 -- ---- words
-
--- a word of the register file (RISC-V 2.1)
-abbrev pub IsWord : ℕ → Type 0
-IsWord n = n < 2 ^ 32
 
 -- what is left of a number in 32 bits (RISC-V 2.4)
 abbrev pub word_of : ℕ → ℕ

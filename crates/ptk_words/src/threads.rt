@@ -35,7 +35,7 @@ pub enum Wait {
     RelockWait(MutexNo, Option<u32>),
 }
 
-/// A thread: its registers and what scheduling keeps of it (XSH 2.8.4, 2.9.1).
+/// A thread: its registers and what scheduling keeps of it (XSH 2.8.4, 2.9.2).
 #[derive(Clone, Copy)]
 pub struct Thread {
     /// Its registers and pc.

@@ -1,4 +1,6 @@
 pub mod CostLaws
 pub mod ChainLaws
 pub mod PriorityLaws
+pub mod ArrivalLaws
+pub mod ExpiryLaws
 pub mod Sizes

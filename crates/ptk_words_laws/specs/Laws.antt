@@ -1,11 +1,13 @@
 -- Laws of the definitions, as statements: each is the contract of a function without code.
-use Rattle.std.specs.Prelude.{◌≡◌, ℕ, ◌≤◌, ◌↔◌, Option, List, length, map, IsTrue, IsSome}
+use Rattle.std.specs.Prelude.{◌≡◌, ℕ, ◌≤◌, ◌↔◌, Option, List, length, map, filter, not, AllPairs, IsPermutation, IsTrue, IsSome}
 use Rattle.ptk_words.specs.Costs.{cost_table, cost_of}
 use Rattle.ptk_words.specs.Pools.{pool_get}
 use Rattle.ptk_words.specs.declared.threads.Thread.{Thread}
-use Rattle.ptk_words_model.specs.State.{Mutex}
+use Rattle.ptk_words_model.specs.State.{Mutex, Console}
 use Rattle.ptk_words_model.specs.Chain.{Leads, leads_to}
 use Rattle.ptk_words_model.specs.Priority.{next_of, effective_of, IsEffectivePriority}
+use Rattle.ptk_words_model.specs.Console.{is_due_at, arriving, without_arriving}
+use Rattle.ptk_words_model.specs.Withdrawal.{Expiry, in_order}
 use Rattle.ptk_words_model.specs.CallTable.{call_table}
 
 -- ---- costs
@@ -31,3 +33,25 @@ ChainIsDecided threads mutexes =
 abbrev pub PriorityIsGreatest : List (Option Thread) → List (Option Mutex) → Type 0
 PriorityIsGreatest threads mutexes =
     (t : ℕ) → IsSome (pool_get threads t) → IsEffectivePriority threads mutexes t (effective_of threads mutexes t)
+
+-- ---- arrivals
+
+-- what arrives by the tick is all the input that is due, and what stays to come is all the rest (own)
+pub record IsPartedAt (tick : ℕ) (console : Console) : Type 0 where
+  pub come : arriving tick console ≡ filter (is_due_at tick) console.coming
+  pub stay : without_arriving tick console ≡ record console { coming = filter (λ arrival. not (is_due_at tick arrival)) console.coming }
+
+-- so it is where the ticks of the input still to come never fall (own)
+abbrev pub ArrivalsAreDue : Console → Type 0
+ArrivalsAreDue console = AllPairs (λ a b. a.tick ≤ b.tick) console.coming → (tick : ℕ) → IsPartedAt tick console
+
+-- ---- expiries
+
+-- the deadline is no later, and of equal deadlines the thread's number is no greater (own)
+abbrev pub IsNotAfter : Expiry → Expiry → Type 0
+IsNotAfter a b = (a.deadline ≤ b.deadline) × (a.deadline ≡ b.deadline → a.thread ≤ b.thread)
+
+-- the order by deadline, then number, of the same expiries (own)
+pub record IsInOrder (expiries : List Expiry) : Type 0 where
+  pub same : IsPermutation expiries (in_order expiries)
+  pub ordered : AllPairs IsNotAfter (in_order expiries)

@@ -8,4 +8,5 @@ pub mod Times
 pub mod Priorities
 pub mod Waits
 pub mod Cancellations
+pub mod Refusals
 pub mod Words

@@ -5,8 +5,9 @@ ghost use Rattle.ptk_words.specs.declared.threads.Thread.{Thread};
 ghost use Rattle.ptk_words.specs.declared.sections.Arrival.{Arrival};
 ghost use Rattle.ptk_words.specs.declared.sections.Limits.{Limits};
 ghost use Rattle.ptk_words_windows.specs.Windows.{OwnTicks};
-ghost use Rattle.ptk_words_model.specs.State.{Mutex, Part};
-ghost use Rattle.ptk_words_laws.specs.Laws.{CostsAreSmall, CallsHaveCosts, ChainIsDecided, PriorityIsGreatest};
+ghost use Rattle.ptk_words_model.specs.State.{Mutex, Console, Part};
+ghost use Rattle.ptk_words_model.specs.Withdrawal.{Expiry};
+ghost use Rattle.ptk_words_laws.specs.Laws.{CostsAreSmall, CallsHaveCosts, ChainIsDecided, PriorityIsGreatest, ArrivalsAreDue, IsInOrder};
 ghost use Rattle.ptk_words_laws.specs.Sizes.{StartIsSized, CallsKeepSizes, DecisionsKeepSizes, SizesStay};
 
 /// Every number costs 1 to 16 ticks, and the greatest cost is 16.
@@ -27,6 +28,16 @@ pub fn chain_is_decided()
 /// The effective priority of a thread is the greatest held priority of the threads whose chain holds it.
 pub fn priority_is_greatest()
     ensures { (threads : List (Option Thread)) → (mutexes : List (Option Mutex)) → PriorityIsGreatest threads mutexes }
+{}
+
+/// Where the ticks of the input never fall, the input due by a tick is what arrives by it, and the rest stays to come.
+pub fn arrivals_are_due()
+    ensures { (console : Console) → ArrivalsAreDue console }
+{}
+
+/// The expiries of a tick are taken in the order of their deadlines, then of the threads' numbers, each once.
+pub fn expiries_are_in_order()
+    ensures { (expiries : List Expiry) → IsInOrder expiries }
 {}
 
 /// A partition starts with the sizes of its section, whatever its image and input.

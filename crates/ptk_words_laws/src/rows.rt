@@ -10,6 +10,7 @@ ghost use Rattle.ptk_words_laws.specs.Rows.Words.{DecodedWords};
 ghost use Rattle.ptk_words_laws.specs.Rows.Priorities.{InheritCycle, TwoStepChain, CeilingRefusal, NestedCeilings, RecursiveLimit, SelfDeadlock, InheritAfterHandover, InheritBasic, RaisedInPlace};
 ghost use Rattle.ptk_words_laws.specs.Rows.Waits.{FirstLock, BadNanosecondsOrder, ExpiredTimedlock, ExpiredWaitReleases, CountedRecursiveWait, EqualWakeups, CancelledWaiter, ZeroWordsWait, EdgePointers, CopiedWord};
 ghost use Rattle.ptk_words_laws.specs.Rows.Cancellations.{AsyncCancelReady, CancelledJoiner, DisableThenEnable, BadPointerWithRequest, SeventeenHandlers, DestructorLimit, DestructorRounds, ExitInDestructor};
+ghost use Rattle.ptk_words_laws.specs.Rows.Refusals.{CreateRefused, ThreadRefused, SmallCalls};
 
 /// The run of nine steps that prints `hi`.
 pub fn hello()
@@ -249,4 +250,19 @@ pub fn destructor_rounds()
 /// A destructor that exits.
 pub fn exit_in_destructor()
     ensures { ExitInDestructor }
+{}
+
+/// Creations that are refused, and the order of their checks.
+pub fn create_refused()
+    ensures { CreateRefused }
+{}
+
+/// Joins, detaches and scheduling calls that are refused, and the order of their checks.
+pub fn thread_refused()
+    ensures { ThreadRefused }
+{}
+
+/// What self and getschedparam tell, and numbers that are no call.
+pub fn small_calls()
+    ensures { SmallCalls }
 {}

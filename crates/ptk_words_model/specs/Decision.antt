@@ -61,7 +61,7 @@ runner_in (Some t) s = runner_at t (thread_at s.locks t)
 abbrev pub runner_of : Part → Option Runner
 runner_of s = runner_in s.running s
 
--- the thread is marked, or has a pending request and is ENABLE and ASYNCHRONOUS; a thread that unwinds begins no unwinding (XSH 2.9.5.2; own)
+-- the thread is marked, or has a pending request and is ENABLE and ASYNCHRONOUS; a thread that unwinds begins no unwinding (XSH 2.9.5.1; own)
 abbrev pub is_to_unwind : Part → ℕ → Thread → Bool
 is_to_unwind s t thread =
     is_normal thread.phase

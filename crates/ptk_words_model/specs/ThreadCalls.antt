@@ -92,7 +92,7 @@ with_new_thread limits t thread s =
     with_locks (λ locks. record locks { threads = pool_set locks.threads t (Some thread); line = locks.line ++ t ∷ [] })
     (with_keys (with_new_specific limits.keys t) (with_cleanups t (λ _. []) (with_cancellation t (λ _. new_cancellation) s)))
 
--- the policy and priority of a new thread: the creator's, or explicit (pthread_attr_setinheritsched)
+-- a new thread by its attributes: the creator's policy and priority or explicit ones, its stack top, and whether it is detached (pthread_attr_setinheritsched, pthread_attr_setdetachstate; own)
 abbrev pub created_thread : Invocation → Attributes → Thread → ℕ → Thread
 created_thread i attributes creator t =
     let top : ℕ = if attributes.stack_top == 0 then default_stack_top i.limits t else attributes.stack_top in
@@ -109,7 +109,7 @@ create_answer None i attributes s = refusal EAGAIN i s
 create_answer (Some t) i attributes s =
     using_thread i.caller i s (λ creator. success (t ∷ []) i (with_new_thread i.limits t (created_thread i attributes creator t) s))
 
--- a new thread with attributes, a start routine and its argument (pthread_create)
+-- a new thread with attributes, a start routine and its argument; the checks and their order are own (pthread_create; own, EFAULT, EINVAL, ENOTSUP)
 abbrev pub create : Invocation → Part → Answer
 create i s =
     let attributes : Attributes = attributes_at s i.a0 in
@@ -125,7 +125,7 @@ create i s =
 abbrev pub pthread_exit : Invocation → Part → Answer
 pthread_exit i s = answer Unwinding (after_unwinding_start i.caller i.a0 s)
 
--- a thread that can be neither joined nor detached any more (pthread_join, pthread_detach, EINVAL)
+-- a thread that is detached or being joined: it can be neither joined nor detached any more (pthread_join, pthread_detach; own, EINVAL)
 abbrev pub is_taken : Thread → Bool
 is_taken thread = thread.is_detached || is_some thread.joiner
 
@@ -168,7 +168,7 @@ yield i s = success [] i (after_placing at_tail i.caller s)
 abbrev pub after_placing_at_tail : ℕ → Part → Part
 after_placing_at_tail t s = if owns_raising s.locks t then s else after_placing at_tail t s
 
--- the answer to a call with this policy, or with an unknown one; a running or ready target goes to the tail (pthread_setschedparam, XSH 2.8.4)
+-- the answer to a call with this policy, or with an unknown one; a running or ready target goes to the tail; the interval begins anew (pthread_setschedparam, XSH 2.8.4; own)
 abbrev pub scheduled_with : Option Policy → Invocation → Part → Answer
 scheduled_with None i s = refusal ENOTSUP i s
 scheduled_with (Some policy) i s =

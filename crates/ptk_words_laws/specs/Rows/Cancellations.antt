@@ -45,7 +45,7 @@ started = after_decision small 20 20 asked
 abbrev pub ended : Part
 ended = after_decision small 24 16 started
 
--- an asynchronous thread without handlers and values ends in two steps (XSH 2.9.5.2)
+-- an asynchronous thread without handlers and values ends in two steps (XSH 2.9.5.1; own)
 pub record AsyncCancelReady : Type 0 where
   pub first : spent_by_decision small 20 20 asked ≡ Step 4
   pub second : spent_by_decision small 24 16 started ≡ Step 4
