@@ -32,7 +32,7 @@ pub record Locks : Type 0 where
   pub line : List ℕ
   pub mutexes : List (Option Mutex)
 
--- those and the condition variables: what the condition calls read and change (XSH 2.9.3)
+-- those and the condition variables: what the condition calls read and change (pthread_cond_wait)
 pub record Syncs : Type 0 where
   pub locks : Locks
   pub open locks use *
