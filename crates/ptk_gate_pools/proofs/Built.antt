@@ -1,11 +1,9 @@
 -- Lists made for each section.
-use Rattle.std.proofs.Common.{◌≡◌, ℕ, zero, suc, ◌≤◌, List, [], ◌∷◌, length, map, refl, sym, ◌∙◌, ap}
-use Rattle.std.specs.Prelude.{Option, None, replicate, slice_index_or}
+use Rattle.std.proofs.Common.{◌≡◌, ℕ, zero, suc, List, [], ◌∷◌, map, refl, sym, ◌∙◌, ap}
+use Rattle.std.specs.Prelude.{None, replicate, slice_index_or}
 use Rattle.std.proofs.lemmas.List.{length-map, length-replicate}
 use Rattle.ptk_words.specs.declared.sections.Limits.{Limits}
-use Rattle.ptk_words.specs.declared.threads.Thread.{Thread}
 use Rattle.ptk_words_parted.specs.Parts.{part_of, filled}
-use Rattle.ptk_words_model.specs.Priority.{effective_priorities}
 use Rattle.ptk_console.specs.ConsoleTable.{no_limits}
 use Rattle.ptk_gate_pools.specs.Kept.{AreStored, per_section}
 use Rattle.ptk_gate_pools.proofs.Stored.{level, priorities_levels}

@@ -1,11 +1,9 @@
 -- What one partition's part is after another was put.
 use Rattle.std.proofs.Common.{arith, ◌≡◌, ◌≢◌, ℕ, ◌<◌, List, length, refl, sym, ◌∙◌}
-use Rattle.std.proofs.Math.ListN.{set}
-use Rattle.std.specs.Prelude.{Option, None}
 use Rattle.std.proofs.lemmas.List.{set-get_or, set-set, get_or-set_same, get_or-set_other, length-set, set_past}
 use Rattle.ptk_words_parted.proofs.Cuts.{lent-same, set_part-same}
 use Rattle.ptk_words_model.specs.State.{Part}
-use Rattle.ptk_gate_pools.specs.Kept.{Kept, part_at, put_part, limits_at, AreParts}
+use Rattle.ptk_gate_pools.specs.Kept.{Kept, part_at, put_part, AreParts}
 
 within : {X : Type 0} (xs : List X) (n p : ℕ) → length xs ≡ n → p < n → p < length xs
 within xs n p e lt = omega (arith, e, lt)

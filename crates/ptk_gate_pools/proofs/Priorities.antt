@@ -1,9 +1,9 @@
 -- With no mutex in use, no thread owns one.
-use Rattle.std.proofs.Common.{◌≡◌, ℕ, zero, suc, false, refl, sym, ◌∙◌, ap}
-use Rattle.std.specs.Prelude.{Option, None, replicate}
+use Rattle.std.proofs.Common.{◌≡◌, ℕ, zero, suc, false, refl, ◌∙◌, ap}
+use Rattle.std.specs.Prelude.{None, replicate}
 use Rattle.std.specs.List.{list_any}
 use Rattle.ptk_words.specs.declared.sections.Limits.{Limits}
-use Rattle.ptk_words_model.specs.State.{Mutex, Part}
+use Rattle.ptk_words_model.specs.State.{Part}
 use Rattle.ptk_words_model.specs.Mutex.{is_raising_for, owns_raising}
 use Rattle.ptk_words_well.specs.Well.{IsWell}
 

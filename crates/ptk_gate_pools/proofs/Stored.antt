@@ -1,18 +1,18 @@
 -- Stored priorities stay the effective ones: with no mutex in use, the assigned ones.
-use Rattle.std.proofs.Common.{arith, ◌≡◌, ◌≢◌, ℕ, zero, suc, ◌+◌, ◌-◌, ◌<◌, ◌≤◌, List, [], ◌∷◌, ◌++◌, length, map, get_or, refl, sym, ◌∙◌, ap, ◌⊎◌, inl, inr, subst}
-use Rattle.std.specs.Prelude.{Option, Some, None, option_map, unwrap_or, replicate, slice_get, slice_index_or, slice_set}
+use Rattle.std.proofs.Common.{◌≡◌, ◌≢◌, ℕ, zero, suc, List, [], ◌∷◌, ◌++◌, length, map, get_or, refl, sym, ◌∙◌, ap, ◌⊎◌, inl, inr, subst}
+use Rattle.std.specs.Prelude.{Option, Some, None, option_map, unwrap_or, replicate, slice_get, slice_index_or}
 use Rattle.std.specs.Option.{option_flatten}
 use Rattle.std.proofs.Math.ListN.{set}
 use Rattle.std.proofs.Math.Seq.{map-set_same}
 use Rattle.std.proofs.lemmas.Bool.{cases_eq}
-use Rattle.std.proofs.lemmas.List.{get_or-set_other, length-set, map-set}
-use Rattle.ptk_words.specs.Pools.{pool_get, pool_set, pool_changed, numbers_of, numbers_to}
+use Rattle.std.proofs.lemmas.List.{get_or-set_other, map-set}
+use Rattle.ptk_words.specs.Pools.{pool_get, pool_set, pool_changed, numbers_to}
 use Rattle.ptk_words.specs.declared.sections.Limits.{Limits}
 use Rattle.ptk_words.specs.declared.threads.Thread.{Thread}
 use Rattle.ptk_words_parted.specs.Parts.{part_of}
 use Rattle.ptk_words_model.specs.Priority.{assigned_of, effective_priorities}
 use Rattle.ptk_words_well.proofs.Priorities.{priorities_free}
-use Rattle.ptk_threads.specs.Table.{ThreadTable, thread_in, with_changed, with_slot, with_stored}
+use Rattle.ptk_threads.specs.Table.{ThreadTable, thread_in, with_changed, with_slot}
 use Rattle.ptk_console.specs.ConsoleTable.{no_limits}
 use Rattle.ptk_gate_pools.specs.Kept.{AreStored}
 

@@ -1,5 +1,5 @@
 -- The pools before any image is loaded.
-use Rattle.std.specs.Prelude.{ℕ, List, [], map, replicate, length, None}
+use Rattle.std.specs.Prelude.{List, [], map, replicate, length, None}
 use Rattle.ptk_words.specs.declared.faults.Status.TheVariants.{Active}
 use Rattle.ptk_words.specs.declared.sections.Limits.{Limits}
 use Rattle.ptk_words_model.specs.Keys.{no_values, no_rounds}

@@ -10,7 +10,6 @@ use Rattle.ptk_words_parted.specs.Parts.{part_of}
 use Rattle.ptk_words_model.specs.declared.Cancellation.{Cancellation}
 use Rattle.ptk_words_model.specs.declared.Rounds.{Rounds}
 use Rattle.ptk_words_model.specs.State.{Mutex, Condition, Console, Part}
-use Rattle.ptk_words_model.specs.Keys.{no_values}
 use Rattle.ptk_words_model.specs.Priority.{effective_priorities}
 use Rattle.ptk_words_well.specs.Well.{IsWell}
 use Rattle.ptk_console.specs.ConsoleTable.{fresh_console, no_limits}

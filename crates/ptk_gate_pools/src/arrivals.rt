@@ -12,6 +12,7 @@ ghost use Rattle.ptk_gate_pools.specs.Kept.{part_at, put_part, limits_at};
 ghost use Rattle.ptk_gate_pools.specs.StepMoves.{with_next_taken};
 
 use crate::pools::Pools;
+use ptk_threads::stored_in;
 use ptk_words::{PartId, ThreadNo, Tick};
 
 impl Pools {
@@ -24,7 +25,7 @@ impl Pools {
         first_of_greatest(self.consoles.waiters(p), self.threads.stored(p))
     }
 
-    /// Takes the next input byte, if it comes at the tick or before.
+    /// Takes the next input byte, if it comes at the tick or before; None, and nothing changes, where none is due.
     #[tactic(auto, using(crate::proofs::Parted::parted))]
     pub fn next_arrival(&mut self, p: PartId, tick: Tick) -> Option<u8>
         requires partition { p < length self.old.limits }
@@ -34,7 +35,7 @@ impl Pools {
         self.consoles.next_arrival(p, tick)
     }
 
-    /// The thread no longer waits for input.
+    /// The thread no longer waits for input; one that does not wait changes nothing.
     #[tactic(auto, using(crate::proofs::Parted::parted))]
     pub fn leave_waiters(&mut self, p: PartId, t: ThreadNo)
         requires partition { p < length self.old.limits }
@@ -44,7 +45,7 @@ impl Pools {
     }
 
     /// Puts the next input byte, if it comes at the tick or before, into the ring, or loses and counts it where that is
-    /// full; whether one came.
+    /// full; false, and nothing changes, where none is due.
     #[tactic(auto, using(crate::proofs::Parted::parted))]
     pub fn keep_next(&mut self, p: PartId, tick: Tick) -> bool
         requires partition { p < length self.old.limits }
@@ -63,7 +64,7 @@ fn first_of_greatest(threads: &[ThreadNo], stored: &[u8]) -> Option<ThreadNo>
     threads
         .iter()
         .copied()
-        .find(|t| priority_of(stored, *t) == most)
+        .find(|t| stored_in(stored, *t) == most)
 }
 
 /// The greatest stored priority of these threads, 0 of none.
@@ -72,16 +73,7 @@ fn greatest_of(threads: &[ThreadNo], stored: &[u8]) -> u8
 {
     let mut most = 0;
     for t in threads {
-        most = most.max(priority_of(stored, *t));
+        most = most.max(stored_in(stored, *t));
     }
     most
-}
-
-/// The stored priority of a thread, 0 past the list.
-#[tactic(auto, using(ptk_threads::proofs::Slots::numbers))]
-fn priority_of(stored: &[u8], t: ThreadNo) -> u8
-    ensures { result ≡ stored_of stored.now t }
-{
-    let i = t.number() as usize - 1;
-    if i < stored.len() { stored[i] } else { 0 }
 }

@@ -1,6 +1,6 @@
 //! The pools are made once.
 
-ghost use Rattle.std.specs.Prelude.{◌≡◌, ◌≤◌, [], length, map, replicate, IfOk, All, None};
+ghost use Rattle.std.specs.Prelude.{◌≡◌, ◌≤◌, length, map, replicate, IfOk, All, None};
 ghost use Rattle.ptk_words.specs.declared.faults.Status.TheVariants.{Active};
 ghost use Rattle.ptk_words_model.specs.Keys.{no_rounds};
 ghost use Rattle.ptk_words_model.specs.ThreadCalls.{new_cancellation};
@@ -19,7 +19,7 @@ use ptk_words_parted::Parted;
 use std::alloc::{AllocError, Global};
 
 impl Pools {
-    /// All pools for 1 to 8 sections, from each one's numbers and input, with the room that all later calls fill. An
+    /// All pools for at most 8 sections, from each one's numbers and input, with the room that all later calls fill. An
     /// error where memory ran out. No other call takes memory.
     #[tactic(auto, using(crate::proofs::Built::built))]
     pub fn build(

@@ -20,7 +20,7 @@ impl Pools {
         self.consoles.put(p, byte)
     }
 
-    /// Takes the ring's first byte.
+    /// Takes the ring's first byte; None, and nothing changes, where the ring is empty.
     #[tactic(auto, using(crate::proofs::Parted::parted))]
     pub fn take_byte(&mut self, p: PartId) -> Option<u8>
         requires partition { p < length self.old.limits }

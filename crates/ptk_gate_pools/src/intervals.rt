@@ -1,6 +1,6 @@
 //! Round-robin intervals, and the last step (XSH 2.8.4).
 
-ghost use Rattle.std.specs.Prelude.{◌≡◌, ◌<◌, ◌&&◌, false, length, Some, None, IsSome};
+ghost use Rattle.std.specs.Prelude.{◌≡◌, ◌<◌, false, length, Some};
 ghost use Rattle.ptk_words_model.specs.Priority.{thread_at};
 ghost use Rattle.ptk_words_model.specs.Schedule.{is_round_robin, after_interval};
 ghost use Rattle.ptk_words_well.specs.Well.{is_in};

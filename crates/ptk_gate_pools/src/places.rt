@@ -1,12 +1,12 @@
 //! Places in the line.
 
-ghost use Rattle.std.specs.Prelude.{◌≡◌, ◌<◌, false, length, Some, None, IsSome};
+ghost use Rattle.std.specs.Prelude.{◌≡◌, ◌<◌, false, length, IsSome};
 ghost use Rattle.ptk_words_model.specs.State.{with_locks};
 ghost use Rattle.ptk_words_model.specs.Priority.{thread_at};
-ghost use Rattle.ptk_words_model.specs.Schedule.{at_tail, at_head, unused, with_thread, woken_with, after_wake, after_turn_end, is_running};
-ghost use Rattle.ptk_words_well.specs.Well.{IsWell, is_in};
+ghost use Rattle.ptk_words_model.specs.Schedule.{at_tail, at_head, with_thread, woken_with, after_wake, after_turn_end, is_running};
+ghost use Rattle.ptk_words_well.specs.Well.{is_in};
 ghost use Rattle.ptk_gate_pools.specs.Moves.{out_of_line, stopped, run_by};
-ghost use Rattle.ptk_gate_pools.specs.Kept.{part_at, put_part, limits_at};
+ghost use Rattle.ptk_gate_pools.specs.Kept.{part_at, put_part};
 
 use crate::pools::{Pools, with_values};
 use ptk_ready::Line;
@@ -89,7 +89,8 @@ impl Pools {
         self.stop(p);
     }
 
-    /// The thread waits for nothing any more, has these values in a0 and so on, and has used no tick.
+    /// The thread waits for nothing any more, has these values in a0 and so on, and has used no tick; a free number
+    /// stays free.
     #[tactic(auto, using(crate::proofs::Parted::parted, crate::proofs::Registers::changed_none, crate::proofs::Stored::stored, ptk_words_well::proofs::Pools::changed_twice))]
     pub fn rouse(&mut self, p: PartId, t: ThreadNo, values: &[u32])
         requires partition { p < length self.old.limits }

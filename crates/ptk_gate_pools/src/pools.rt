@@ -1,14 +1,12 @@
 //! The tables.
 
-ghost use Rattle.std.specs.Prelude.{◌≡◌, ℕ, ◌<◌, [], ◌∷◌, length, slice_index_or, None};
-ghost use Rattle.ptk_words.specs.Pools.{pool_get};
-ghost use Rattle.ptk_words_parted.specs.Parts.{part_of};
+ghost use Rattle.std.specs.Prelude.{◌≡◌, ◌<◌, [], ◌∷◌, length};
 ghost use Rattle.ptk_words_model.specs.Schedule.{with_registers};
 ghost use Rattle.ptk_words_model.specs.State.{with_halt};
 ghost use Rattle.ptk_words_model.specs.Calls.{replied, refusal, success, blocked_in};
 ghost use Rattle.ptk_words_model.specs.ConsoleCalls.{exit_call};
 ghost use Rattle.ptk_words_model.specs.ThreadCalls as threads;
-ghost use Rattle.ptk_gate_pools.specs.Kept.{part_at, put_part, limits_at, AreParts};
+ghost use Rattle.ptk_gate_pools.specs.Kept.{part_at, put_part, AreParts};
 
 use ptk_console::Consoles;
 use ptk_ready::VecLine;
@@ -35,7 +33,7 @@ pub struct Pools {
 }
 
 impl Model for Pools {
-    ghost use Rattle.std.specs.Prelude.{ℕ, ◌≡◌, ◌≤◌, length, None, [], map, replicate};
+    ghost use Rattle.std.specs.Prelude.{◌≡◌, ◌≤◌, length, None, [], map, replicate};
     ghost use Rattle.ptk_words_model.specs.Keys.{no_values};
     ghost use Rattle.ptk_gate_pools.specs.Kept.{Kept, AreStored, per_section};
 
@@ -77,7 +75,7 @@ impl Model for Pools {
 }
 
 impl Pools {
-    /// How many partitions there are, 1 to 8; each has an entry in every component.
+    /// How many partitions there are, at most 8; each has an entry in every component.
     #[tactic(auto, using(crate::proofs::Opened::opened))]
     pub fn parts(&self) -> usize
         ensures count { result ≡ length self.now.limits }
@@ -129,7 +127,7 @@ impl Pools {
 }
 
 impl Pools {
-    /// Puts the values into the thread's a0, a1 and so on.
+    /// Puts the values into the thread's a0, a1 and so on; a free number stays free.
     #[tactic(auto, using(crate::proofs::Parted::parted, crate::proofs::Registers::changed_none, crate::proofs::Stored::stored))]
     pub fn reply(&mut self, p: PartId, t: ThreadNo, values: &[u32])
         requires partition { p < length self.old.limits }

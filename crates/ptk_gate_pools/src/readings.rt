@@ -5,7 +5,6 @@ ghost use Rattle.ptk_words_model.specs.Priority.{thread_at};
 ghost use Rattle.ptk_gate_pools.specs.Kept.{part_at, limits_at};
 
 use crate::pools::Pools;
-use ptk_ready::Line;
 use ptk_words::{Limits, PartId, Thread, ThreadNo};
 
 impl Pools {

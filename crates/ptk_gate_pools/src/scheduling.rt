@@ -11,7 +11,7 @@ use ptk_ready::Line;
 use ptk_words::{PartId, Policy, Priority, ThreadNo};
 
 impl Pools {
-    /// The thread has this policy.
+    /// The thread has this policy; a free number stays free.
     #[tactic(auto, using(crate::proofs::Parted::parted, crate::proofs::Stored::stored))]
     pub fn give_policy(&mut self, p: PartId, t: ThreadNo, policy: Policy)
         requires partition { p < length self.old.limits }
@@ -20,7 +20,7 @@ impl Pools {
         self.threads.set_policy(p, t, policy);
     }
 
-    /// The thread has used so many ticks of its interval (XSH 2.8.4, SCHED_RR).
+    /// The thread has used so many ticks of its interval (XSH 2.8.4, SCHED_RR); a free number stays free.
     #[tactic(auto, using(crate::proofs::Parted::parted, crate::proofs::Stored::stored))]
     pub fn give_used(&mut self, p: PartId, t: ThreadNo, used: u32)
         requires partition { p < length self.old.limits }
@@ -29,7 +29,8 @@ impl Pools {
         self.threads.set_used(p, t, used);
     }
 
-    /// The thread has this assigned priority, which with no mutex in use is the effective one.
+    /// The thread has this assigned priority, which with no mutex in use is the effective one; a free number stays
+    /// free.
     #[tactic(auto, using(crate::proofs::Parted::parted, crate::proofs::Registers::changed_none, crate::proofs::Stored::raised))]
     pub fn give_priority(&mut self, p: PartId, t: ThreadNo, priority: Priority)
         requires partition { p < length self.old.limits }

@@ -22,7 +22,7 @@ impl Pools {
         is_normal(thread.phase) && is_asked(entry_in(self.cancellations.part(p), t))
     }
 
-    /// The thread has these registers.
+    /// The thread has these registers; a free number stays free.
     #[tactic(auto, using(crate::proofs::Parted::parted, crate::proofs::Stored::stored))]
     pub fn give_cpu(&mut self, p: PartId, t: ThreadNo, cpu: Cpu)
         requires partition { p < length self.old.limits }

@@ -17,7 +17,7 @@ use ptk_words::{PartId, Phase, Thread, ThreadNo};
 use ptk_words_model::Runner;
 
 impl Pools {
-    /// The number is free.
+    /// The number becomes free; a free number stays free.
     #[tactic(auto, using(crate::proofs::Parted::parted, crate::proofs::Stored::stored))]
     pub fn free(&mut self, p: PartId, t: ThreadNo)
         requires partition { p < length self.old.limits }
@@ -26,7 +26,7 @@ impl Pools {
         self.threads.free(p, t);
     }
 
-    /// The thread is detached.
+    /// The thread is detached; a free number stays free.
     #[tactic(auto, using(crate::proofs::Parted::parted, crate::proofs::Stored::stored))]
     pub fn mark_detached(&mut self, p: PartId, t: ThreadNo)
         requires partition { p < length self.old.limits }
@@ -35,7 +35,7 @@ impl Pools {
         self.threads.set_detached(p, t, true);
     }
 
-    /// The thread's end is waited for by this one.
+    /// The thread's end is waited for by this one; a free number stays free.
     #[tactic(auto, using(crate::proofs::Parted::parted, crate::proofs::Stored::stored))]
     pub fn give_joiner(&mut self, p: PartId, t: ThreadNo, joiner: ThreadNo)
         requires partition { p < length self.old.limits }
@@ -44,7 +44,7 @@ impl Pools {
         self.threads.set_joiner(p, t, Some(joiner));
     }
 
-    /// The thread has ended.
+    /// The thread has ended; a free number stays free.
     #[tactic(auto, using(crate::proofs::Parted::parted, crate::proofs::Stored::stored))]
     pub fn mark_ended(&mut self, p: PartId, t: ThreadNo)
         requires partition { p < length self.old.limits }

@@ -1,16 +1,14 @@
 //! Unwinding: its start, and cancellation points.
 
-ghost use Rattle.std.specs.Prelude.{◌≡◌, ◌<◌, length, Some, None, slice_set};
+ghost use Rattle.std.specs.Prelude.{◌≡◌, ◌<◌, length};
 ghost use Rattle.ptk_words.specs.Pools.{numbered, pool_update};
-ghost use Rattle.ptk_words_parted.specs.Parts.{part_of};
 ghost use Rattle.ptk_words_model.specs.State.{with_locks};
-ghost use Rattle.ptk_words_model.specs.Priority.{thread_at};
 ghost use Rattle.ptk_words_model.specs.Schedule.{with_thread};
 ghost use Rattle.ptk_words_model.specs.Keys.{with_first_round};
-ghost use Rattle.ptk_words_model.specs.Unwinding.{after_unwinding_start, phase_of, is_normal};
+ghost use Rattle.ptk_words_model.specs.Unwinding.{after_unwinding_start, is_normal};
 ghost use Rattle.ptk_words_model.specs.Calls.{is_cancelled, cancellation_answer};
 ghost use Rattle.ptk_words_model.specs.ThreadCalls.{pthread_exit};
-ghost use Rattle.ptk_gate_pools.specs.Kept.{part_at, put_part, limits_at};
+ghost use Rattle.ptk_gate_pools.specs.Kept.{part_at, put_part};
 ghost use Rattle.ptk_gate_pools.specs.Moves.{disabled, unwinding, phase_or_ended, is_acting};
 
 use crate::pools::Pools;

@@ -1,7 +1,7 @@
 //! The memory of all partitions in one vector of bytes. A contract sees a list of bytes for each partition: `read` and
 //! `write` act within one, `whole` lends them joined in order, and what is written through `lend` changes the lent list
 //! and leaves every other. Below stand `ptk_words_parted`, which cuts the vector, and `ptk_words`; above, the gate and
-//! the kernel.
+//! the kernel. No clause is dear to prove.
 #![tactic(auto)]
 
 ghost use Rattle.std.specs.Prelude.{◌≡◌, ℕ, ◌<◌, ◌≤◌, length, slice_get, slice_set, IfOk, IsTrue, ◌↔◌, map};
@@ -29,7 +29,7 @@ impl Model for Regions {
 }
 
 impl Regions {
-    /// A region of each of 1 to 8 lengths in bytes, all bytes 0. An error where memory ran out.
+    /// A region of each of at most 8 lengths in bytes, all bytes 0. An error where memory ran out.
     pub fn build(alloc: Global, lengths: &[u32]) -> Result<Regions, AllocError>
         requires { length lengths.now ≤ 8 }
         ensures { IfOk result (λ regions. regions ≡ map (filled 0) lengths.now) }

@@ -1,10 +1,10 @@
 //! The table: the life of numbers, and the fields of a thread.
 
-ghost use Rattle.std.specs.Prelude.{◌≡◌, ℕ, ◌<◌, ◌≤◌, List, length, map, slice_set, position, is_none, IfOk, IfSome, All, Some, None, option_map, option_and_then};
+ghost use Rattle.std.specs.Prelude.{◌≡◌, ◌<◌, ◌≤◌, length, slice_set, position, is_none, IfOk, All, option_map, option_and_then};
 ghost use Rattle.ptk_words.specs.Pools.{least_free, pool_get, pool_set, pool_changed};
 ghost use Rattle.ptk_words.specs.declared.threads.Thread.{Thread};
-ghost use Rattle.ptk_words_parted.specs.Parts.{part_of, joined, filled};
-ghost use Rattle.ptk_threads.specs.Table.{ThreadTable, free_table, thread_in, stored_of, with_slot, with_entry, with_changed, with_stored, with_free, with_new, with_left, left_at_end, with_end, left_at_detach, with_detached, with_cpu, with_policy, with_priority, with_used, with_phase, with_main, with_joiner, with_result, with_wait, with_detached_mark, replaced_by};
+ghost use Rattle.ptk_words_parted.specs.Parts.{part_of, joined};
+ghost use Rattle.ptk_threads.specs.Table.{free_table, thread_in, stored_of, with_slot, with_changed, with_stored, with_free, with_new, with_left, left_at_end, with_end, left_at_detach, with_detached, with_cpu, with_policy, with_priority, with_used, with_phase, with_main, with_joiner, with_result, with_wait, with_detached_mark, replaced_by};
 ghost use Rattle.ptk_threads.specs.Changes.{thread_changed};
 
 use crate::slot::{Change, Slot};
@@ -31,7 +31,7 @@ impl Model for Threads {
 }
 
 impl Threads {
-    /// As many free slots for each of 1 to 8 partitions as its count, at most 32. An error where memory ran out.
+    /// As many free slots for each of at most 8 partitions as its count, at most 32. An error where memory ran out.
     pub fn build(alloc: Global, counts: &[u32]) -> Result<Threads, AllocError>
         requires partitions { length counts.now ≤ 8 }
         requires threads { All (λ count. count ≤ 32) counts.now }
@@ -317,7 +317,7 @@ impl Threads {
         stored_in(self.stored(p), k)
     }
 
-    /// Stores the effective priority of a number.
+    /// Stores the effective priority of a number; nothing past the partition's slots.
     #[tactic(auto, using(crate::proofs::Slots::pools))]
     pub fn set_stored_priority(&mut self, p: PartId, k: ThreadNo, priority: u8)
         requires { p < length self.old.threads }
@@ -415,9 +415,9 @@ fn replace_in(slots: &mut [Slot], k: ThreadNo, thread: Thread)
     }
 }
 
-/// The stored priority of a number.
+/// The stored priority of a number among those of a partition, 0 past the last.
 #[tactic(auto, using(crate::proofs::Slots::numbers))]
-fn stored_in(stored: &[u8], k: ThreadNo) -> u8
+pub fn stored_in(stored: &[u8], k: ThreadNo) -> u8
     ensures { result ≡ stored_of stored.now k }
 {
     let i = (k.number() - 1) as usize;

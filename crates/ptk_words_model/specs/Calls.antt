@@ -104,6 +104,6 @@ using_condition pointer i s next =
     else if is_some (pool_get s.conditions (word_at s.memory pointer)) then next (word_at s.memory pointer) s
     else refusal EINVAL i s
 
--- the thread of a number in use (XSH 2.9.1; own, ESRCH)
+-- the thread of a number in use (XSH 2.9.2; own, ESRCH)
 abbrev pub using_thread : ℕ → Invocation → Part → (Thread → Answer) → Answer
 using_thread t i s next = unwrap_or (option_map next (thread_at s.locks t)) (refusal ESRCH i s)

@@ -1,4 +1,4 @@
-use Rattle.std.proofs.Common.{◌≡◌, sym, ◌∙◌, ap}
+use Rattle.std.proofs.Common.{sym, ◌∙◌, ap}
 use Rattle.ptk_words_model.specs.State.{Part}
 use Rattle.ptk_gate_pools.specs.Kept.{part_at, put_part, limits_at}
 use Rattle.ptk_gate_pools.proofs.Creations.{begun_is, free_fresh}
