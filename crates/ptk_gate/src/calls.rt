@@ -19,7 +19,9 @@ use ptk_words::{Cpu, Errno, Limits, PartId, ThreadNo, Tick};
 use ptk_words_model::{Invocation, Reply};
 
 /// Carries out the call that the running thread's registers state: the number in a7, the arguments in a0 to a4, at the
-/// tick at which the step begins. The reply is what the call came to; ENOSYS of a number that is not in use.
+/// tick at which the step begins. The reply is what the call came to; ENOSYS of a number that is not in use. The pc is
+/// already past the ECALL and stays, save that an unwinding puts the return gate there. A refusal changes a0 alone; no
+/// other partition changes.
 pub fn call(tables: &mut Tables, p: PartId, tick: Tick) -> Reply
     requires partition { p < length tables.old.limits }
     requires active { is_active (part_at p tables.old).status ≡ true }
@@ -30,6 +32,7 @@ pub fn call(tables: &mut Tables, p: PartId, tick: Tick) -> Reply
     let runner = runner(&tables.pools, p);
     match runner {
         Some(runner) => call_with(&mut tables.pools, p, tick, runner.number, runner.thread.cpu),
+        // never met: a thread runs, and a thread that runs is in use
         None => Reply::Blocked,
     }
 }

@@ -9,7 +9,8 @@ use ptk_gate_pools::Pools;
 use ptk_words::{Errno, PartId, Wait};
 use ptk_words_model::{Invocation, Reply};
 
-/// console_put: the low 8 bits of a0 at the end of the output; EAGAIN where it is full (own choice).
+/// console_put: the low 8 bits of a0 at the end of the output (own choice). A cancellation point: a cancelled caller
+/// begins its unwinding, and no byte is put. EAGAIN where the output is full; the refusal changes nothing but a0.
 #[tactic(auto, using(ptk_gate_pools::proofs::Parted::parted))]
 pub fn put(pools: &mut Pools, p: PartId, i: Invocation) -> Reply
     requires partition { p < length pools.old.limits }
@@ -27,7 +28,8 @@ pub fn put(pools: &mut Pools, p: PartId, i: Invocation) -> Reply
     }
 }
 
-/// console_get: the ring's first byte in a1, or the caller blocks as the last waiter (own choice).
+/// console_get: the ring's first byte in a1, or the caller blocks as the last waiter (own choice). A cancellation
+/// point: a cancelled caller begins its unwinding, and no byte is taken. It is never refused.
 pub fn get(pools: &mut Pools, p: PartId, i: Invocation) -> Reply
     requires partition { p < length pools.old.limits }
     requires new { IsNotWaiting i.caller (part_at p pools.old).console }

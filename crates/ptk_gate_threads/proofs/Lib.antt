@@ -1,4 +1,4 @@
 pub mod Scheduling
 pub mod Joinings
-pub mod Attributes
+pub mod Creating
 pub mod Endings

@@ -9,8 +9,10 @@ use ptk_gate_pools::{Pools, is_ended, is_taken};
 use ptk_words::{Errno, PartId, Wait};
 use ptk_words_model::{Invocation, Reply, Runner};
 
-/// pthread_join: the result of an ended thread in a1, whose number is then free; else the caller blocks. A
-/// cancellation point; ESRCH, EDEADLK, EINVAL.
+/// pthread_join: the result of the thread of a0 in a1, if it has ended, and its number is then free; else the caller
+/// blocks until its end. A cancellation point: a cancelled caller begins its unwinding, and joins nothing. ESRCH of a
+/// number that is not in use, EDEADLK of the caller's own, EINVAL of a thread that is detached or has a joiner; a
+/// refusal changes nothing but a0.
 pub fn join(pools: &mut Pools, p: PartId, i: Invocation) -> Reply
     requires partition { p < length pools.old.limits }
     ensures told { result ≡ (join i (part_at p pools.old)).reply }

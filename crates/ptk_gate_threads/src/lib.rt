@@ -5,6 +5,7 @@
 //! prove are the compositions, each a state of all components, and `create`.
 #![tactic(auto)]
 
+mod attributes;
 mod choices;
 mod creates;
 mod ends;

@@ -11,7 +11,7 @@ ghost use Rattle.ptk_words_well.specs.Well.{IsWell, is_in};
 ghost use Rattle.ptk_gate_pools.specs.Kept.{part_at, put_part, limits_at};
 ghost use Rattle.ptk_gate_pools.specs.Moves.{with_scheduling, with_priority};
 
-use crate::creates::{is_priority, named_policy};
+use crate::attributes::{is_priority, named_policy};
 use crate::places::{place_at_head, place_at_tail, reschedule};
 use ptk_gate_pools::Pools;
 use ptk_words::{Errno, PartId, Policy, Priority, ThreadNo};

@@ -19,7 +19,8 @@ fn policy_number(policy: Policy) -> u32
     }
 }
 
-/// pthread_getschedparam: the policy in a1 and the assigned priority in a2; ESRCH.
+/// pthread_getschedparam: the policy of the thread of a0 in a1 and its assigned priority in a2. ESRCH of a number that
+/// is not in use; a refusal changes nothing but a0.
 pub fn getschedparam(pools: &mut Pools, p: PartId, i: Invocation) -> Reply
     requires partition { p < length pools.old.limits }
     ensures told { result ≡ (getschedparam i (part_at p pools.old)).reply }
@@ -39,7 +40,8 @@ pub fn getschedparam(pools: &mut Pools, p: PartId, i: Invocation) -> Reply
     }
 }
 
-/// pthread_detach: an ended thread's number is free, another thread is detached; ESRCH, EINVAL.
+/// pthread_detach: the number of an ended thread is free, another thread is detached. ESRCH of a number that is not in
+/// use, EINVAL of a thread that is detached or has a joiner; a refusal changes nothing but a0.
 #[tactic(auto, using(ptk_gate_pools::proofs::Parted::parted))]
 pub fn detach(pools: &mut Pools, p: PartId, i: Invocation) -> Reply
     requires partition { p < length pools.old.limits }

@@ -1,0 +1,168 @@
+//! What call 10 asks for: the words of its attributes object, decoded.
+
+ghost use Rattle.std.specs.Prelude.{◌≡◌, ◌<◌, ◌≤◌, ◌+◌, length};
+ghost use Rattle.ptk_words.specs.Words.{word_at};
+ghost use Rattle.ptk_words_model.specs.ThreadCalls.{is_priority, policy_of};
+ghost use Rattle.ptk_gate_pools.specs.Kept.{part_at};
+ghost use Rattle.ptk_gate_threads.specs.Creates.{readable_attributes, priority_of, asked_scheduling, given_stack_top, asked_creation, asked_at};
+
+use ptk_gate_pools::Pools;
+use ptk_words::{Errno, PartId, Policy, Priority};
+use std::marker::Model;
+
+/// The attributes of a new thread as words of the guest (pthread_attr_init; own choice of their numbers).
+#[derive(Clone, Copy)]
+pub struct ThreadAttributes {
+    detach: u32,
+    inherit: u32,
+    policy: u32,
+    priority: u32,
+    stack_top: u32,
+}
+
+impl Model for ThreadAttributes {
+    ghost use Rattle.ptk_words_model.specs.ThreadCalls.{Attributes};
+
+    ghost Value = { Attributes };
+
+    ghost view = { λ a. record { detach = a.detach; inherit = a.inherit; policy = a.policy; priority = a.priority; stack_top = a.stack_top } };
+
+    ghost inverse = { λ d. record { detach = d.detach; inherit = d.inherit; policy = d.policy; priority = d.priority; stack_top = d.stack_top } };
+}
+
+/// Where the policy and the priority of a new thread come from (pthread_attr_setinheritsched).
+#[derive(Clone, Copy)]
+pub enum Scheduling {
+    /// From the creator.
+    Inherited,
+    /// They are these.
+    Explicit(Policy, Priority),
+}
+
+/// What the attributes of a new thread ask for.
+#[derive(Clone, Copy)]
+pub struct Creation {
+    /// Its policy and priority.
+    pub(crate) scheduling: Scheduling,
+    /// Whether it is detached (pthread_attr_setdetachstate).
+    pub(crate) is_detached: bool,
+    /// The end of its stack; None for its number's own.
+    pub(crate) stack_top: Option<u32>,
+}
+
+/// What the attributes object at the pointer asks for; pointer 0 stands for words that are all 0. EFAULT where the
+/// object can't be read, and the faults of `decode`.
+pub(crate) fn requested(pools: &Pools, p: PartId, pointer: u32) -> Result<Creation, Errno>
+    requires partition { p < length pools.now.limits }
+    ensures { result ≡ asked_at (part_at p pools.now) pointer }
+{
+    let _parts = pools.parts();
+    let attributes = read_attributes(pools, p, pointer)?;
+    decode(&attributes, pools.regions().part(p).len())
+}
+
+/// The attributes object at the pointer, all 0 at pointer 0. EFAULT where it can't be read.
+fn read_attributes(pools: &Pools, p: PartId, pointer: u32) -> Result<ThreadAttributes, Errno>
+    requires partition { p < length pools.now.limits }
+    ensures { result ≡ readable_attributes (part_at p pools.now) pointer }
+{
+    let _parts = pools.parts();
+    let memory = pools.regions().part(p);
+    if pointer == 0 {
+        return Ok(ThreadAttributes {
+            detach: 0,
+            inherit: 0,
+            policy: 0,
+            priority: 0,
+            stack_top: 0,
+        });
+    }
+    let at = pointer as usize;
+    if pointer % 4 != 0 || memory.len() < at + 20 {
+        return Err(Errno::EFAULT);
+    }
+    Ok(ThreadAttributes {
+        detach: word(memory, at),
+        inherit: word(memory, at + 4),
+        policy: word(memory, at + 8),
+        priority: word(memory, at + 12),
+        stack_top: word(memory, at + 16),
+    })
+}
+
+/// The word at an index.
+fn word(memory: &[u8], at: usize) -> u32
+    requires { at + 4 ≤ length memory.now }
+    ensures { result ≡ word_at memory.now at }
+{
+    u32::from_le_bytes([memory[at], memory[at + 1], memory[at + 2], memory[at + 3]])
+}
+
+/// What these attributes ask for, in a memory of so many bytes. In this order: EINVAL where detach or inherit is above
+/// 1, the faults of `decode_scheduling`, EINVAL where the stack top is no multiple of 16 or lies past the memory
+/// (pthread_create; own choice of the order).
+fn decode(attributes: &ThreadAttributes, memory: usize) -> Result<Creation, Errno>
+    ensures { result ≡ asked_creation attributes.now memory }
+{
+    if 1 < attributes.detach || 1 < attributes.inherit {
+        return Err(Errno::EINVAL);
+    }
+    let scheduling = decode_scheduling(attributes)?;
+    if attributes.stack_top % 16 != 0 || memory < attributes.stack_top as usize {
+        return Err(Errno::EINVAL);
+    }
+    Ok(Creation {
+        scheduling,
+        is_detached: attributes.detach == 1,
+        stack_top: given_stack_top(attributes.stack_top),
+    })
+}
+
+/// The scheduling that these attributes ask for. If it is explicit: ENOTSUP of an unknown policy, then EINVAL of a word
+/// that is no priority.
+fn decode_scheduling(attributes: &ThreadAttributes) -> Result<Scheduling, Errno>
+    ensures { result ≡ asked_scheduling attributes.now }
+{
+    if attributes.inherit != 1 {
+        return Ok(Scheduling::Inherited);
+    }
+    let policy = named_policy(attributes.policy).ok_or(Errno::ENOTSUP)?;
+    let priority = named_priority(attributes.priority).ok_or(Errno::EINVAL)?;
+    Ok(Scheduling::Explicit(policy, priority))
+}
+
+/// The stack top that a word gives, None of 0 (own choice).
+fn given_stack_top(word: u32) -> Option<u32>
+    ensures { result ≡ given_stack_top word }
+{
+    if word == 0 { None } else { Some(word) }
+}
+
+/// The policy of a guest's number, None of another word (own choice).
+pub(crate) fn named_policy(word: u32) -> Option<Policy>
+    ensures { result ≡ policy_of word }
+{
+    match word {
+        1 => Some(Policy::Fifo),
+        2 => Some(Policy::RoundRobin),
+        _ => None,
+    }
+}
+
+/// The priority of a guest's number, None of another word.
+fn named_priority(word: u32) -> Option<Priority>
+    ensures { result ≡ priority_of word }
+{
+    if is_priority(word) {
+        Some(Priority::new(word as u8))
+    } else {
+        None
+    }
+}
+
+/// Whether the number is a priority, 1 to 32.
+pub(crate) fn is_priority(word: u32) -> bool
+    ensures { result ≡ is_priority word }
+{
+    1 <= word && word <= 32
+}
