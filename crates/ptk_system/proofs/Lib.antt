@@ -2,4 +2,5 @@ pub mod Bounds
 pub mod Runs
 pub mod Loading
 pub mod Reports
+pub mod NextTicks
 pub mod Views

@@ -17,7 +17,8 @@ use Rattle.ptk_system.specs.Missing.{image_in}
 use Rattle.ptk_system.specs.World.{IsRun, alone_in, section_at}
 use Rattle.ptk_system.proofs.Bounds.{IsBehind, alone_behind}
 
-is_table : (config : Configuration) → IsConfiguration config → IsTable config.windows
+-- the windows of a configuration are a table
+pub is_table : (config : Configuration) → IsConfiguration config → IsTable config.windows
 is_table config is = (accepted config.windows.frame (length config.sections) config.windows.windows is.windows).0
 
 -- the windows are the partitions'

@@ -12,28 +12,35 @@ use Rattle.ptk_words_model.specs.State.{Part}
 use Rattle.ptk_words_model.specs.Decision.{ready_at, runner_of, spent_in_turn, step_cost, step_kind}
 use Rattle.ptk_words_model.specs.Run.{alone}
 use Rattle.ptk_words_model.specs.Text.{report_text}
+use Rattle.ptk_config.specs.Configuration.{IsConfiguration}
 use Rattle.ptk_system.specs.Laws.{SameView, StepStaysInWindow}
 use Rattle.ptk_system.specs.Missing.{image_in}
 use Rattle.ptk_system.specs.Shown.{part_report}
 use Rattle.ptk_system.specs.World.{World, section_at, state_of}
+use Rattle.ptk_system.proofs.NextTicks.{same_next}
+use Rattle.ptk_system.proofs.Runs.{is_table}
 
-same_ticks : (a b : World) (p q : ℕ) → SameView a p b q → own_ticks a.config.windows p ≡ own_ticks b.config.windows q
-same_ticks a b p q same = λ i. record { end_at = λ t. same.ends t i; next_of = λ t. same.nexts t i }
+same_ticks : (a b : World) (p q : ℕ) → IsConfiguration a.config → IsConfiguration b.config → SameView a p b q → own_ticks a.config.windows p ≡ own_ticks b.config.windows q
+same_ticks a b p q is_a is_b same =
+    λ i. record {
+      end_at = λ t. same.ends t i;
+      next_of = λ t. same_next a.config.windows b.config.windows p q t (is_table a.config is_a) (is_table b.config is_b) same.ends i;
+    }
 
 -- a partition that is told the same is in the same state
-pub same_state : (a b : World) (p q : ℕ) → SameView a p b q → a.tick ≡ b.tick → state_of a p ≡ state_of b q
-same_state a b p q same tick =
+pub same_state : (a b : World) (p q : ℕ) → IsConfiguration a.config → IsConfiguration b.config → SameView a p b q → a.tick ≡ b.tick → state_of a p ≡ state_of b q
+same_state a b p q is_a is_b same tick =
     let limits_a : Limits = (section_at a.config p).limits in
-    ap (λ (ticks : OwnTicks). alone ticks (section_at a.config p).limits (image_in a.files (section_at a.config p).image) (section_at a.config p).input a.tick) (same_ticks a b p q same)
+    ap (λ (ticks : OwnTicks). alone ticks (section_at a.config p).limits (image_in a.files (section_at a.config p).image) (section_at a.config p).input a.tick) (same_ticks a b p q is_a is_b same)
     ∙ (ap (λ (limits : Limits). alone (own_ticks b.config.windows q) limits (image_in a.files (section_at a.config p).image) (section_at a.config p).input a.tick) same.limits
     ∙ (ap (λ (image : Option (List ℕ)). alone (own_ticks b.config.windows q) (section_at b.config q).limits image (section_at a.config p).input a.tick) same.image
     ∙ (ap (λ (input : List Arrival). alone (own_ticks b.config.windows q) (section_at b.config q).limits (image_in b.files (section_at b.config q).image) input a.tick) same.input
     ∙ ap (alone (own_ticks b.config.windows q) (section_at b.config q).limits (image_in b.files (section_at b.config q).image) (section_at b.config q).input) tick)))
 
 -- and writes the same
-pub same_report : (a b : World) (p q : ℕ) → SameView a p b q → a.tick ≡ b.tick → (section_at a.config p).name ≡ (section_at b.config q).name → part_report a p ≡ part_report b q
-same_report a b p q same tick name =
-    ap (λ (n : List ℕ). report_text n (state_of a p)) name ∙ ap (report_text (section_at b.config q).name) (same_state a b p q same tick)
+pub same_report : (a b : World) (p q : ℕ) → IsConfiguration a.config → IsConfiguration b.config → SameView a p b q → a.tick ≡ b.tick → (section_at a.config p).name ≡ (section_at b.config q).name → part_report a p ≡ part_report b q
+same_report a b p q is_a is_b same tick name =
+    ap (λ (n : List ℕ). report_text n (state_of a p)) name ∙ ap (report_text (section_at b.config q).name) (same_state a b p q is_a is_b same tick)
 
 turn_fits : (room : ℕ) (r : Option Runner) (s : Part) (cost : ℕ) → spent_in_turn room r s ≡ Step cost → cost ≤ room
 turn_fits room None s cost e = absurd cc

@@ -11,7 +11,6 @@ use Rattle.ptk_system.specs.World.{World, section_at}
 -- a partition of one system and one of another are told the same: own ticks and window ends, numbers, image and input (own)
 pub record SameView (a : World) (p : ℕ) (b : World) (q : ℕ) : Type 0 where
   pub ends : (t : ℕ) → (own_ticks a.config.windows p).end_at t ≡ (own_ticks b.config.windows q).end_at t
-  pub nexts : (t : ℕ) → (own_ticks a.config.windows p).next_of t ≡ (own_ticks b.config.windows q).next_of t
   pub limits : (section_at a.config p).limits ≡ (section_at b.config q).limits
   pub image : image_in a.files (section_at a.config p).image ≡ image_in b.files (section_at b.config q).image
   pub input : (section_at a.config p).input ≡ (section_at b.config q).input

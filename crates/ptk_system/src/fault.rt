@@ -11,6 +11,7 @@ use thiserror::Error;
 /// Why a boot is refused.
 #[derive(Clone, Copy, Debug, PartialEq, Eq, Error)]
 pub enum BootFault {
+    /// Memory was refused.
     #[error("out of memory")]
     Memory,
     /// The first section whose file is missing.

@@ -9,37 +9,42 @@ ghost use Rattle.ptk_system.specs.World.{at_tick, section_at, state_of};
 use crate::system::System;
 use ptk_words::{PartId, Tick};
 
-/// Two systems that reached the same tick, and a partition of each, with the same own ticks, numbers, image and input:
-/// it is in the same state in both, and its part of the report is the same where its name is. Its place among the
-/// sections, the others, and the others' windows may differ.
+/// Two systems that reached the same tick, and a partition of each, with the same own ticks and window ends, numbers,
+/// image and input: it is in the same state in both, and its part of the report is the same where its name is. Its
+/// place among the sections, the others, and the others' windows may differ.
 #[tactic(auto, using(crate::proofs::Views::views))]
 pub fn two_worlds(a: &System, b: &System, p: PartId, q: PartId)
     requires view { SameView a.now p b.now q }
     requires tick { a.now.tick ≡ b.now.tick }
     ensures states { state_of a.now p ≡ state_of b.now q }
     ensures reports { (section_at a.now.config p).name ≡ (section_at b.now.config q).name → part_report a.now p ≡ part_report b.now q }
-{}
+{
+    // their invariants: the windows of both are tables
+    let _ = &a.machine;
+    let _ = &b.machine;
+}
 
 /// The same where the second system's other sections name no image: whatever the others run, the partition is what it
 /// is among idle ones.
-#[tactic(auto, using(crate::proofs::Views::views))]
 pub fn idle_world(a: &System, b: &System, p: PartId, q: PartId)
     requires view { SameView a.now p b.now q }
     requires idle { IsIdleBut q b.now }
     requires tick { a.now.tick ≡ b.now.tick }
     ensures states { state_of a.now p ≡ state_of b.now q }
     ensures reports { (section_at a.now.config p).name ≡ (section_at b.now.config q).name → part_report a.now p ≡ part_report b.now q }
-{}
+{
+    two_worlds(a, b, p, q);
+}
 
-/// All ticks of a decision's step lie in one window of its partition, and no tick is two partitions': so no two steps of
-/// a system share a tick.
+/// In a window table without a fault (`accepted_is_table` of `ptk_words_windows`) all ticks of a decision's step lie in
+/// one window of its partition, and no tick is two partitions': so no two steps of a system share a tick.
 #[tactic(auto, using(crate::proofs::Views::processor))]
 pub fn one_processor()
     ensures within { StepStaysInWindow }
     ensures apart { OwnTicksAreApart }
 {}
 
-/// To stop on the way changes nothing.
+/// Running to m and then to n, m at most n, is running to n.
 pub fn stop_on_the_way(system: &mut System, m: Tick, n: Tick)
     requires order { m ≤ n }
     requires small { n ≤ 2 ^ 40 }

@@ -20,7 +20,7 @@ pub enum PartStatus {
     Exited(u8),
     /// An instruction at this pc stopped it.
     Stopped(Cause, u32),
-    /// Its image was refused.
+    /// Its image was refused, for fault 1 to 5 or 7; want of memory refuses the boot instead.
     Refused(ImageFault),
 }
 

@@ -2,7 +2,7 @@
 
 ghost use Rattle.std.specs.Prelude.{◌≡◌, ◌<◌, ◌≤◌, ℕ, length, slice_get};
 ghost use Rattle.ptk_words_model.specs.Priority.{thread_at};
-ghost use Rattle.ptk_gate_pools.specs.Kept.{part_at};
+ghost use Rattle.ptk_gate_pools.specs.Kept.{AreParts, limits_at, part_at};
 ghost use Rattle.ptk_system.specs.Told.{live_cpu, pc_in, register_in, status_in};
 ghost use Rattle.ptk_system.specs.World.{section_at, state_of};
 
@@ -23,9 +23,12 @@ impl<'a> System<'a> {
         config.parts()
     }
 
-    /// The tables of all partitions.
+    /// The tables of all partitions: of each section's, and of no other.
     pub fn tables(&self) -> &Tables
-        ensures { (p : ℕ) → p < length self.now.config.sections → part_at p result.now ≡ (state_of self.now p).part }
+        ensures count { length result.now.limits ≡ length self.now.config.sections }
+        ensures parts { AreParts (length self.now.config.sections) result.now }
+        ensures limits { (p : ℕ) → p < length self.now.config.sections → limits_at p result.now ≡ (section_at self.now.config p).limits }
+        ensures states { (p : ℕ) → p < length self.now.config.sections → part_at p result.now ≡ (state_of self.now p).part }
     {
         self.machine.tables()
     }
