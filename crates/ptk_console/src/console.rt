@@ -78,23 +78,23 @@ impl PartitionConsole {
     }
 
     /// Puts the next input byte into the ring, or loses and counts it, if it comes at the tick or before.
-    pub fn arrive_next(&mut self, tick: Tick) -> bool
+    pub fn arrive(&mut self, tick: Tick) -> bool
         ensures told { result ≡ is_some (next_byte tick self.old.console) }
         ensures moved { self.new ≡ record self.old { console = after_next self.old.limits.ring tick self.old.console } }
     {
         let _counted = self.dropped;
         match self.next_arrival(tick) {
             Some(byte) => {
-                self.arrive(byte);
+                self.keep(byte);
                 true
             }
             None => false,
         }
     }
 
-    /// Puts a byte into the ring, or loses and counts it where the ring is full. The lost bytes and those still to come
-    /// stay countable.
-    pub fn arrive(&mut self, byte: u8)
+    // Puts a byte into the ring, or loses and counts it where the ring is full. The lost bytes and those still to come
+    // stay countable.
+    fn keep(&mut self, byte: u8)
         requires { self.old.console.dropped + 1 + length self.old.console.coming < 2 ^ 64 }
         ensures { self.new ≡ record self.old { console = with_input self.old.limits.ring byte self.old.console } }
     {

@@ -1,7 +1,7 @@
 //! The consoles of all partitions.
 
-ghost use Rattle.std.specs.Prelude.{◌≡◌, ◌<◌, ◌+◌, ◌^◌, not, length, map, is_some, IfOk};
-ghost use Rattle.ptk_words_model.specs.Console.{is_full, with_input, with_waiter, without_waiter};
+ghost use Rattle.std.specs.Prelude.{◌≡◌, ◌<◌, not, length, map, is_some, IfOk};
+ghost use Rattle.ptk_words_model.specs.Console.{is_full, with_waiter, without_waiter};
 ghost use Rattle.ptk_console.specs.ConsoleTable.{IsNotWaiting, after_next, after_put, console_at, first_byte, fresh_console, limits_at, next_byte, put_console, without_first, without_next};
 
 use crate::console::PartitionConsole;
@@ -68,24 +68,13 @@ impl Consoles {
 
     /// Puts the partition's next input byte into its ring, or loses and counts it where the ring is full, if it comes at
     /// the tick or before; false where none does.
-    pub fn arrive_next(&mut self, p: PartId, tick: Tick) -> bool
+    pub fn arrive(&mut self, p: PartId, tick: Tick) -> bool
         requires { p < length self.old.consoles }
         ensures told { result ≡ is_some (next_byte tick (console_at self.old p)) }
         ensures moved { self.new ≡ put_console p (after_next (limits_at self.old p).ring tick (console_at self.old p)) self.old }
     {
         let console = &mut self.items[p.index()];
-        console.arrive_next(tick)
-    }
-
-    /// Puts a byte into the partition's ring, or loses and counts it where the ring is full. The lost bytes and those
-    /// still to come stay countable.
-    pub fn arrive(&mut self, p: PartId, byte: u8)
-        requires partition { p < length self.old.consoles }
-        requires counted { (console_at self.old p).dropped + 1 + length (console_at self.old p).coming < 2 ^ 64 }
-        ensures { self.new ≡ put_console p (with_input (limits_at self.old p).ring byte (console_at self.old p)) self.old }
-    {
-        let console = &mut self.items[p.index()];
-        console.arrive(byte);
+        console.arrive(tick)
     }
 
     /// Takes the first byte of the partition's ring, None where it is empty.

@@ -29,12 +29,17 @@ fn arrival(tick: u64, byte: u8) -> Arrival {
     }
 }
 
-// Two partitions: the first has a ring of 2, an output of 2 and three bytes at tick 30, the second a ring of 1, an
+// Two partitions: the first has a ring of 2, an output of 2 and four bytes at tick 30, the second a ring of 1, an
 // output of 3 and no input.
 fn two(alloc: Global) -> Result<Consoles, AllocError>
     ensures { IfOk result (λ made. length made.consoles ≡ 2) }
 {
-    let input = [arrival(30, 97), arrival(30, 98), arrival(30, 99)];
+    let input = [
+        arrival(30, 96),
+        arrival(30, 97),
+        arrival(30, 98),
+        arrival(30, 99),
+    ];
     Consoles::build(alloc, &[limits(2, 2), limits(1, 3)], &[&input, &[]])
 }
 
@@ -44,16 +49,13 @@ fn a_full_ring_loses_what_comes(rt: HostRuntime) -> Result<(), Fail> {
     let mut consoles = two(rt.alloc())?;
     assert_eq!(rt; consoles.parts(), 2);
     let (early, due) = (Tick::new(29), Tick::new(40));
-    assert!(rt;
-        !consoles.arrive_next(p, early),
-        "nothing comes before its tick"
-    );
-    assert_eq!(rt; consoles.next_arrival(p, due), Some(97));
-    assert!(rt; consoles.dropped(p) == 0 && consoles.coming(p).len() == 2);
-    consoles.arrive(p, 97);
-    assert!(rt; consoles.arrive_next(p, due), "98 comes");
-    assert!(rt; consoles.arrive_next(p, due), "99 comes and is lost");
-    assert!(rt; !consoles.arrive_next(p, due), "nothing is left");
+    assert!(rt; !consoles.arrive(p, early), "nothing comes before its tick");
+    assert_eq!(rt; consoles.next_arrival(p, due), Some(96));
+    assert!(rt; consoles.dropped(p) == 0 && consoles.coming(p).len() == 3);
+    assert!(rt; consoles.arrive(p, due), "97 comes");
+    assert!(rt; consoles.arrive(p, due), "98 comes");
+    assert!(rt; consoles.arrive(p, due), "99 comes and is lost");
+    assert!(rt; !consoles.arrive(p, due), "nothing is left");
     assert_eq!(rt; consoles.coming(p).len(), 0);
     assert_eq!(rt; consoles.dropped(p), 1);
     assert_eq!(rt; consoles.get(p), Some(97));

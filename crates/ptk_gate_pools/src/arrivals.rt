@@ -52,7 +52,7 @@ impl Pools {
         ensures told { result ≡ is_some (next_byte tick (part_at p self.old).console) }
         ensures moved { self.new ≡ put_part p (with_console (console.after_next (limits_at p self.old).ring tick) (part_at p self.old)) self.old }
     {
-        self.consoles.arrive_next(p, tick)
+        self.consoles.arrive(p, tick)
     }
 }
 
