@@ -1,6 +1,6 @@
 //! A list of threads, none twice, with room for all.
 
-ghost use Rattle.std.specs.Prelude.{◌≡◌, ℕ, ◌<◌, ◌≤◌, ◌==◌, false, List, [], ◌∷◌, ◌++◌, length, find, slice_index, nat_eq};
+ghost use Rattle.std.specs.Prelude.{◌≡◌, ◌≤◌, ◌==◌, false, [], ◌∷◌, ◌++◌, length, find, nat_eq};
 ghost use Rattle.std.specs.List.{list_any};
 ghost use Rattle.ptk_words.specs.Pools.{without, greatest, first_of_greatest};
 ghost use Rattle.ptk_threads.specs.Table.{stored_of};

@@ -1,9 +1,6 @@
 //! Every call once, through the bound.
 
-ghost use Rattle.std.specs.Prelude.{◌≡◌, ◌<◌, length, IsSome, false};
-ghost use Rattle.ptk_words_parted.specs.Parts.{part_of};
-ghost use Rattle.ptk_threads.specs.Table.{thread_in};
-ghost use Rattle.ptk_ready.specs.Lists.{is_in};
+ghost use Rattle.std.specs.Prelude.{◌≡◌, ◌<◌, length};
 
 use crate::line::Line;
 use crate::vec_line::VecLine;

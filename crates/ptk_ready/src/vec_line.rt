@@ -1,6 +1,6 @@
 //! The form with a list of its own for each partition.
 
-ghost use Rattle.std.specs.Prelude.{◌≡◌, ℕ, ◌<◌, ◌≤◌, List, [], IfOk, replicate};
+ghost use Rattle.std.specs.Prelude.{◌≡◌, [], IfOk, replicate};
 
 use crate::line::Line;
 use crate::queue::Queue;
