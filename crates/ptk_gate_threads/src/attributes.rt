@@ -98,9 +98,9 @@ fn word(memory: &[u8], at: usize) -> u32
     u32::from_le_bytes([memory[at], memory[at + 1], memory[at + 2], memory[at + 3]])
 }
 
-/// What these attributes ask for, in a memory of so many bytes. In this order: EINVAL where detach or inherit is above
-/// 1, the faults of `decode_scheduling`, EINVAL where the stack top is no multiple of 16 or lies past the memory
-/// (pthread_create; own choice of the order).
+/// What these attributes ask for, in a memory of so many bytes. In this order (own choice): EINVAL where detach or
+/// inherit is neither 0 nor 1, the faults of `decode_scheduling`, EINVAL where the stack top is no multiple of 16 or
+/// lies past the memory.
 fn decode(attributes: &ThreadAttributes, memory: usize) -> Result<Creation, Errno>
     ensures { result ≡ asked_creation attributes.now memory }
 {
