@@ -1,5 +1,5 @@
 -- A call leaves the tables whole, and what an instruction with its call comes to.
-use Rattle.std.proofs.Common.{◌≡◌, ℕ, ◌<◌, Bool, true, false, List, length, refl, sym, ◌∙◌, ap, subst}
+use Rattle.std.proofs.Common.{◌≡◌, ℕ, ◌<◌, Bool, true, false, length, refl, sym, ◌∙◌, ap, subst}
 use Rattle.std.specs.Prelude.{Option, Some, None, nat_eq}
 use Rattle.std.specs.List.{list_any}
 use Rattle.std.proofs.lemmas.Bool.{false≢true}
@@ -12,14 +12,13 @@ use Rattle.ptk_words_model.specs.declared.Runner.{Runner}
 use Rattle.ptk_words_model.specs.State.{Part}
 use Rattle.ptk_words_model.specs.Priority.{thread_at}
 use Rattle.ptk_words_model.specs.Mutex.{wait_of}
-use Rattle.ptk_words_model.specs.Calls.{Answer}
 use Rattle.ptk_words_model.specs.Decision.{invocation, runner_of, after_effect}
 use Rattle.ptk_words_well.specs.Well.{IsWell, is_in, is_ready}
 use Rattle.ptk_words_well.proofs.Threads.{well_cpu}
 use Rattle.ptk_words_well.proofs.Waits.{waits_not_ready}
 use Rattle.ptk_words_well.proofs.Effects.{effect_length}
 use Rattle.ptk_words_well.proofs.Calls.{well_call}
-use Rattle.ptk_words_well.proofs.Decisions.{well_effect, runner_runs}
+use Rattle.ptk_words_well.proofs.Decisions.{well_effect}
 use Rattle.ptk_gate_pools.specs.Kept.{Kept, part_at, put_part, limits_at}
 use Rattle.ptk_gate_pools.proofs.Parted.{part_at-put, put_part-put}
 use Rattle.ptk_gate_steps.specs.Instructions.{after_instruction, call_in, after_called}

@@ -1,6 +1,6 @@
 -- An image in a partition that has none.
-use Rattle.std.proofs.Common.{arith, ◌≡◌, ℕ, zero, suc, ◌+◌, ◌-◌, ◌*◌, ◌<◌, ◌≤◌, Bool, true, false, List, [], ◌++◌, length, drop, refl, sym, ◌∙◌, ap, subst, length-append}
-use Rattle.std.specs.Prelude.{Option, Some, None, Result, Ok, Err, replicate, option_map, cond, nat_lt, if◌then◌else◌}
+use Rattle.std.proofs.Common.{arith, ◌≡◌, ℕ, zero, suc, ◌+◌, ◌-◌, ◌*◌, ◌<◌, ◌≤◌, Bool, true, false, List, ◌++◌, length, drop, refl, sym, ◌∙◌, ap, subst, length-append}
+use Rattle.std.specs.Prelude.{Option, Some, None, Ok, Err, replicate, option_map, cond}
 use Rattle.std.proofs.lemmas.Bool.{lt-ltb, ltb-false, not-true}
 use Rattle.std.proofs.lemmas.List.{length-replicate, drop-replicate}
 use Rattle.ptk_words.specs.Image.{ImageParts}
@@ -9,7 +9,6 @@ use Rattle.ptk_words.specs.Pools.{least_free}
 use Rattle.ptk_words.specs.declared.faults.ImageFault.{ImageFault}
 use Rattle.ptk_words.specs.declared.faults.ImageFault.TheVariants.{Unfit}
 use Rattle.ptk_words.specs.declared.faults.Status.TheVariants.{Refused}
-use Rattle.ptk_words.specs.declared.sections.Arrival.{Arrival}
 use Rattle.ptk_words.specs.declared.sections.Limits.{Limits}
 use Rattle.ptk_words.specs.declared.threads.Thread.{Thread}
 use Rattle.ptk_words_model.specs.State.{Part, with_halt}

@@ -2,7 +2,7 @@
 
 ghost use Rattle.std.specs.Prelude.{◌≡◌, ◌<◌, ◌≤◌, ◌+◌, length};
 ghost use Rattle.ptk_words.specs.Words.{word_at};
-ghost use Rattle.ptk_words_model.specs.ThreadCalls.{is_priority, policy_of};
+ghost use Rattle.ptk_words_model.specs.ThreadCalls.{policy_of};
 ghost use Rattle.ptk_gate_pools.specs.Kept.{part_at};
 ghost use Rattle.ptk_gate_threads.specs.Creates.{readable_attributes, priority_of, asked_scheduling, given_stack_top, asked_creation, asked_at};
 
@@ -98,9 +98,9 @@ fn word(memory: &[u8], at: usize) -> u32
     u32::from_le_bytes([memory[at], memory[at + 1], memory[at + 2], memory[at + 3]])
 }
 
-/// What these attributes ask for, in a memory of so many bytes. In this order: EINVAL where detach or inherit is above
-/// 1, the faults of `decode_scheduling`, EINVAL where the stack top is no multiple of 16 or lies past the memory
-/// (pthread_create; own choice of the order).
+/// What these attributes ask for, in a memory of so many bytes. In this order (own choice): EINVAL where detach or
+/// inherit is neither 0 nor 1, the faults of `decode_scheduling`, EINVAL where the stack top is no multiple of 16 or
+/// lies past the memory.
 fn decode(attributes: &ThreadAttributes, memory: usize) -> Result<Creation, Errno>
     ensures { result ≡ asked_creation attributes.now memory }
 {
@@ -149,20 +149,13 @@ pub(crate) fn named_policy(word: u32) -> Option<Policy>
     }
 }
 
-/// The priority of a guest's number, None of another word.
-fn named_priority(word: u32) -> Option<Priority>
+/// The priority of a guest's number, 1 to 32; None of another word.
+pub(crate) fn named_priority(word: u32) -> Option<Priority>
     ensures { result ≡ priority_of word }
 {
-    if is_priority(word) {
+    if 1 <= word && word <= 32 {
         Some(Priority::new(word as u8))
     } else {
         None
     }
-}
-
-/// Whether the number is a priority, 1 to 32.
-pub(crate) fn is_priority(word: u32) -> bool
-    ensures { result ≡ is_priority word }
-{
-    1 <= word && word <= 32
 }

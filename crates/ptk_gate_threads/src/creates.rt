@@ -17,8 +17,10 @@ use ptk_words::{
 use ptk_words_model::{Invocation, Reply};
 
 /// pthread_create: a thread with the attributes of a0, the start routine of a1 and its argument of a2, ready at the
-/// tail; its number, the least free one, in a1. EFAULT where the attributes can't be read, EINVAL or ENOTSUP where they
-/// have a fault, EAGAIN where no number is free; a refusal changes nothing but a0.
+/// tail; its number, the least free one, in a1. Refusals in this order (own choice), which change nothing but a0:
+/// EFAULT where the attributes can't be read; EINVAL where their detach or inherit is neither 0 nor 1; of explicit
+/// scheduling ENOTSUP where the policy is unknown and EINVAL where the priority is not 1 to 32; EINVAL where the stack
+/// top is no multiple of 16 or lies past the memory; EAGAIN where no number is free.
 pub fn create(pools: &mut Pools, p: PartId, i: Invocation) -> Reply
     requires partition { p < length pools.old.limits }
     requires limits { i.limits ≡ limits_at p pools.old }

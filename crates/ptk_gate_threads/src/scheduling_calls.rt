@@ -11,7 +11,7 @@ ghost use Rattle.ptk_words_well.specs.Well.{IsWell, is_in};
 ghost use Rattle.ptk_gate_pools.specs.Kept.{part_at, put_part, limits_at};
 ghost use Rattle.ptk_gate_pools.specs.Moves.{with_scheduling, with_priority};
 
-use crate::attributes::{is_priority, named_policy};
+use crate::attributes::{named_policy, named_priority};
 use crate::places::{place_at_head, place_at_tail, reschedule};
 use ptk_gate_pools::Pools;
 use ptk_words::{Errno, PartId, Policy, Priority, ThreadNo};
@@ -58,10 +58,9 @@ fn schedule_with(pools: &mut Pools, p: PartId, i: Invocation, t: ThreadNo, polic
     ensures told { result ≡ (scheduled_with (Some policy) i (part_at p pools.old)).reply }
     ensures moved { pools.new ≡ put_part p (scheduled_with (Some policy) i (part_at p pools.old)).part pools.old }
 {
-    if is_priority(i.a2) {
-        schedule_at(pools, p, i, t, policy, Priority::new(i.a2 as u8))
-    } else {
-        pools.refuse(p, i, Errno::EINVAL)
+    match named_priority(i.a2) {
+        Some(priority) => schedule_at(pools, p, i, t, policy, priority),
+        None => pools.refuse(p, i, Errno::EINVAL),
     }
 }
 
@@ -112,10 +111,9 @@ fn prioritize(pools: &mut Pools, p: PartId, i: Invocation, t: ThreadNo, old: Pri
     ensures told { result ≡ (prioritized_from old i (part_at p pools.old)).reply }
     ensures moved { pools.new ≡ put_part p (prioritized_from old i (part_at p pools.old)).part pools.old }
 {
-    if is_priority(i.a1) {
-        reprioritize(pools, p, i, t, old, Priority::new(i.a1 as u8))
-    } else {
-        pools.refuse(p, i, Errno::EINVAL)
+    match named_priority(i.a1) {
+        Some(new) => reprioritize(pools, p, i, t, old, new),
+        None => pools.refuse(p, i, Errno::EINVAL),
     }
 }
 

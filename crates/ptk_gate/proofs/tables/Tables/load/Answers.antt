@@ -1,8 +1,7 @@
-use Rattle.std.proofs.Common.{◌≡◌, ℕ, ◌<◌, Bool, true, false, length, refl, sym, ◌∙◌, ap}
+use Rattle.std.proofs.Common.{◌≡◌, ◌<◌, true, false, length, refl}
 use Rattle.ptk_words.specs.Image.{ImageParts}
 use Rattle.ptk_words_model.specs.Run.{fits, main_thread}
 use Rattle.ptk_gate_pools.specs.Kept.{Kept, part_at, limits_at}
-use Rattle.ptk_gate.specs.Whole.{AreWhole}
 use Rattle.ptk_gate.proofs.Loads.{IsBlank, room_at, fits_seen, main_seen, filled_at, loaded, loaded_whole, refused_unfit}
 use Rattle.ptk_gate.proofs.tables.Tables.load.Goals as goal
 

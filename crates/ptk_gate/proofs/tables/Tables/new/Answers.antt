@@ -1,6 +1,3 @@
-use Rattle.std.proofs.Common.{subst}
-use Rattle.ptk_gate_pools.specs.Kept.{Kept}
-use Rattle.ptk_gate.specs.Whole.{AreWhole}
 use Rattle.ptk_gate.proofs.Blanks.{whole_blank}
 use Rattle.ptk_gate.proofs.tables.Tables.new.Goals as goal
 
