@@ -3,6 +3,9 @@
 ghost use Rattle.std.specs.Prelude.{◌≤◌, ◌^◌};
 ghost use Rattle.ptk_main.specs.Requests.{IsInTime};
 
+#[cfg(test)]
+mod tests;
+
 use crate::reading::{config_in, image_in, images_of};
 use crate::runs::{RunFault, run_with, trace_with};
 use crate::telling::{end, tell};

@@ -2,8 +2,10 @@
 //! outcome. `run_with` and `trace_with` promise that an `Ok` wrote exactly the report, or the trace's lines, of the booted
 //! configuration after so many ticks. Below stand the command line (`ptk_main_line`), the lines of faults
 //! (`ptk_main_faults`), the configuration (`ptk_config`), the system (`ptk_system`), traces (`ptk_trace`) and the
-//! assembler (`ptk_asm`); nothing stands above. What the program writes on standard error and its statuses are only
-//! tested. No clause is dear to prove.
+//! assembler (`ptk_asm`); nothing stands above. What no contract says is tested in `commands/tests.rt`: the status of each
+//! request over real files and of words that are refused, the fault behind a status that several share, and the files that
+//! `asm` writes. Which stream a text goes to no test sees; the gate compares the standard output of the stored run. No
+//! clause is dear to prove.
 #![tactic(auto)]
 
 mod commands;
@@ -17,11 +19,12 @@ mod tests;
 
 use commands::obey;
 pub use ptk_main_faults::{Fault, fault_line};
+use ptk_main_line::not_text;
 pub use ptk_main_line::{Request, read_line};
 pub use runs::{RunFault, run_with, trace_with};
 use std::alloc::AllocError;
-use std::env;
 use std::process::ExitCode;
+use std::{env, io};
 use telling::{tell, usage};
 
 fn main(rt: HostRuntime) -> ExitCode {
@@ -30,16 +33,24 @@ fn main(rt: HostRuntime) -> ExitCode {
 
 // The exit status of what the command line asks for.
 fn status(rt: &HostRuntime) -> u8 {
-    match words(rt) {
-        Ok(words) => answer(rt, words.as_slice()),
-        Err(_) => tell(rt, &Fault::NoMemory),
+    match env::args(rt) {
+        Ok(words) => match words.collect::<Vec<String>>(rt.alloc()) {
+            Ok(words) => answer(rt, words.as_slice()),
+            Err(_) => tell(rt, &Fault::NoMemory),
+        },
+        Err(error) => unread(rt, error.kind()),
     }
 }
 
-// The words of the command line.
-fn words(rt: &HostRuntime) -> anyhow::Result<Vec<String>> {
-    let words = env::args(rt)?.collect(rt.alloc())?;
-    Ok(words)
+// The status of a command line that can't be read: memory ran out, or a word is not UTF-8.
+fn unread(rt: &HostRuntime, kind: io::ErrorKind) -> u8 {
+    if kind == io::ErrorKind::OutOfMemory {
+        return tell(rt, &Fault::NoMemory);
+    }
+    match not_text(rt.alloc()) {
+        Ok(error) => usage(rt, &error),
+        Err(_) => tell(rt, &Fault::NoMemory),
+    }
 }
 
 fn answer(rt: &HostRuntime, owned: &[String]) -> u8 {

@@ -7,12 +7,13 @@ use ptk_main_faults::Fault;
 use ptk_system::Files;
 use std::{fs, io};
 
-/// The bytes of a file. A fault where it is not there, can't be read, or memory ran out.
+/// The bytes of a file. A fault where it is not there, can't be read, or memory ran out. A path through a file is one of a
+/// file that is not there (own choice).
 pub(crate) fn bytes_in<'a>(rt: &HostRuntime, name: &'a str) -> Result<Vec<u8>, Fault<'a>> {
     match fs::read(rt, name) {
         Ok(bytes) => Ok(bytes),
         Err(error) => match error.kind() {
-            io::ErrorKind::NotFound => Err(Fault::MissingFile(name)),
+            io::ErrorKind::NotFound | io::ErrorKind::NotADirectory => Err(Fault::MissingFile(name)),
             io::ErrorKind::OutOfMemory => Err(Fault::NoMemory),
             _ => Err(Fault::ReadFailed(name)),
         },

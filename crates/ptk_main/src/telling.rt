@@ -19,13 +19,14 @@ pub(crate) fn tell(rt: &HostRuntime, fault: &Fault<'_>) -> u8 {
     }
 }
 
-/// The status of words that `clap` does not take, with its text: a request for help is done, on standard output.
+/// The status of words that `clap` does not take, with its text. Where the text belongs on standard error and that can't
+/// be written, the status alone tells. A request for help is done, on standard output, where that can be written.
 pub(crate) fn usage(rt: &HostRuntime, error: &clap::Error) -> u8 {
     if error.kind() == ErrorKind::OutOfMemory {
         return tell(rt, &Fault::NoMemory);
     }
     match error.print(rt) {
-        Ok(()) if error.use_stderr() => ExitStatus::Usage.number(),
+        _ if error.use_stderr() => ExitStatus::Usage.number(),
         Ok(()) => ExitStatus::Done.number(),
         Err(_) => tell(rt, &Fault::WriteFailed),
     }

@@ -1,14 +1,16 @@
-//! The worked rows: whole runs with their reports and traces, and writers that fail. What is wanted was worked out by hand.
+//! The worked rows: whole runs with their reports and traces. What is wanted was worked out by hand.
 //! Memory is ample here, so an answer that it is wanting fails too. A helper that promises nothing stands between each row
 //! and the calls that it tests, and answers whether the row holds: so the check neither computes the rows' runs nor
 //! follows an early return at each row.
 
-ghost use Rattle.std.specs.Prelude.{◌<◌, ◌≤◌, ◌^◌, length};
+ghost use Rattle.std.specs.Prelude.{◌<◌, length};
+
+mod ends;
 
 use crate::{RunFault, rows, run_with, trace_with};
 use ptk_config::{Config, read_config};
-use ptk_system::{BootFault, Files, System};
-use ptk_words::{PartId, Tick};
+use ptk_system::{Files, System};
+use ptk_words::{PartId, ThreadNo, Tick};
 use std::alloc::{AllocError, Global};
 use std::io::Write;
 use std::process::Abort;
@@ -55,13 +57,13 @@ const FIRST_100: &str = "[[window]]\nstart = 0\nlength = 100\npartition = \"p\"\
 
 const SECOND_20: &str = "[[window]]\nstart = 20\nlength = 20\npartition = \"q\"\n";
 
-const ALONE: [&str; 4] = [FRAME_20, P, NUMBERS, FIRST_20];
+pub(crate) const ALONE: [&str; 4] = [FRAME_20, P, NUMBERS, FIRST_20];
 
 const LATE: [&str; 4] = [FRAME_40, P, NUMBERS, FIRST_16];
 
 const WIDE: [&str; 4] = [FRAME_100, P, NUMBERS, FIRST_100];
 
-const TWO: [&str; 7] = [FRAME_40, P, NUMBERS, Q, NUMBERS, FIRST_20, SECOND_20];
+pub(crate) const TWO: [&str; 7] = [FRAME_40, P, NUMBERS, Q, NUMBERS, FIRST_20, SECOND_20];
 
 const SHORT: [&str; 4] = [FRAME_20, P, TRACE_2, FIRST_20];
 
@@ -106,7 +108,7 @@ fn config_in(alloc: Global, text: &str) -> Option<Config> {
 }
 
 // The bytes of an image, from its words.
-fn bytes_of(alloc: Global, words: &[u32]) -> Result<Vec<u8>, AllocError> {
+pub(crate) fn bytes_of(alloc: Global, words: &[u32]) -> Result<Vec<u8>, AllocError> {
     let mut bytes = Vec::new(alloc);
     for word in words {
         bytes.extend_from_slice(&word.to_le_bytes())?;
@@ -257,6 +259,21 @@ fn first_dropped(system: &System<'_>) -> u64 {
     system.dropped(first(system))
 }
 
+// A register of the first partition's main.
+fn first_register(system: &System<'_>, i: u32) -> Option<u32> {
+    system.register(first(system), ThreadNo::new(1), i)
+}
+
+// The pc of the first partition's main.
+fn first_pc(system: &System<'_>) -> Option<u32> {
+    system.pc(first(system), ThreadNo::new(1))
+}
+
+// The byte at an address of the first partition.
+fn first_byte(system: &System<'_>, address: u32) -> Option<u8> {
+    system.byte(first(system), address)
+}
+
 // Whether this is the output of the first partition.
 fn is_first_output(system: &System<'_>, want: &str) -> bool {
     is_text(system.output(first(system)), want.as_bytes())
@@ -284,28 +301,11 @@ fn is_traced(alloc: Global, system: &System<'_>, want: &str) -> bool {
     writes_trace(system, &mut out) && is_text(&out, want.as_bytes())
 }
 
-// Whether a writer with so much room, of at most 80 bytes, takes the report.
-fn fits_report(system: &System<'_>, most: usize) -> bool
-    requires { most ≤ 80 }
-{
-    let mut bytes = [0u8; 80];
-    let mut room = &mut bytes[..most];
-    writes_report(system, &mut room)
-}
-
-// Whether a writer with so much room, of at most 80 bytes, takes the trace of the first partition.
-fn fits_trace(system: &System<'_>, most: usize) -> bool
-    requires { most ≤ 80 }
-{
-    let mut bytes = [0u8; 80];
-    let mut room = &mut bytes[..most];
-    writes_trace(system, &mut room)
-}
-
 #[test]
 fn an_image_is_its_words(rt: HostRuntime) {
     let want =
         b"PTKI\x01\0\0\0\0\0\0\0\x24\0\0\0\0\0\0\0\0\0\0\0\x93\x08\x10\x00\x13\x05\x80\x06\x73\0\0\0\x93\x08\x10\x00\x13\x05\x90\x06\x73\0\0\0\x93\x08\0\0\x13\x05\0\0\x73\0\0\0";
+    // Row hello.
     match bytes_of(rt.alloc(), &rows::HELLO) {
         Ok(bytes) => assert!(rt; is_text(&bytes, want.as_slice())),
         Err(_) => assert!(rt; false, "no memory"),
@@ -315,8 +315,10 @@ fn an_image_is_its_words(rt: HostRuntime) {
 #[test]
 fn one_partition_reports(rt: HostRuntime) {
     let alloc = rt.alloc();
+    // Row hello.
     assert_eq!(rt; HELLO_REPORT.len(), 46);
     assert!(rt; is_report(alloc, &ALONE, &rows::HELLO, &[], 20, HELLO_REPORT));
+    // Row empty-image.
     assert!(rt;
         is_report(
             alloc,
@@ -327,6 +329,7 @@ fn one_partition_reports(rt: HostRuntime) {
             "partition p fault illegal pc 0x00000000 steps 1 lost 0\noutput 0\n\n"
         )
     );
+    // Row load-at-memory-end.
     assert!(rt;
         is_report(
             alloc,
@@ -347,6 +350,7 @@ fn one_partition_reports(rt: HostRuntime) {
             "partition p fault load pc 0x0000000c steps 4 lost 0\noutput 0\n\n"
         )
     );
+    // Row late-put.
     assert!(rt;
         is_report(
             alloc,
@@ -372,6 +376,7 @@ fn one_partition_reports(rt: HostRuntime) {
 #[test]
 fn threads_report(rt: HostRuntime) {
     let alloc = rt.alloc();
+    // Row create-join.
     assert!(rt;
         is_report(
             alloc,
@@ -382,6 +387,7 @@ fn threads_report(rt: HostRuntime) {
             "partition p exit 7 steps 16 lost 0\noutput 0\n\n"
         )
     );
+    // Row number-one-reused.
     assert!(rt;
         is_report(
             alloc,
@@ -392,6 +398,7 @@ fn threads_report(rt: HostRuntime) {
             "partition p exit 5 steps 32 lost 0\noutput 1\n1\n"
         )
     );
+    // Row own-priority-falls.
     assert!(rt;
         is_report(
             alloc,
@@ -417,6 +424,7 @@ fn threads_report(rt: HostRuntime) {
 #[test]
 fn two_partitions_report(rt: HostRuntime) {
     let alloc = rt.alloc();
+    // Row two-hellos.
     assert!(rt;
         is_report(
             alloc,
@@ -425,6 +433,17 @@ fn two_partitions_report(rt: HostRuntime) {
             &rows::HELLO,
             40,
             "partition p exit 0 steps 9 lost 0\noutput 2\nhi\npartition q exit 0 steps 9 lost 0\noutput 2\nhi\n"
+        )
+    );
+    // Row load-at-memory-end.
+    assert!(rt;
+        is_report(
+            alloc,
+            &TWO,
+            &rows::LOAD_AT_END,
+            &rows::HELLO,
+            40,
+            "partition p fault misaligned pc 0x0000000c steps 4 lost 0\noutput 0\n\npartition q exit 0 steps 9 lost 0\noutput 2\nhi\n"
         )
     );
     assert!(rt;
@@ -437,6 +456,7 @@ fn two_partitions_report(rt: HostRuntime) {
             "partition p fault load pc 0x0000000c steps 4 lost 0\noutput 0\n\npartition q exit 0 steps 9 lost 0\noutput 2\nhi\n"
         )
     );
+    // Row round-robin-windows.
     assert!(rt;
         is_report(
             alloc,
@@ -452,6 +472,7 @@ fn two_partitions_report(rt: HostRuntime) {
 #[test]
 fn input_arrives(rt: HostRuntime) {
     let alloc = rt.alloc();
+    // Row input-ring.
     assert!(rt;
         is_report(
             alloc,
@@ -484,6 +505,33 @@ fn input_arrives(rt: HostRuntime) {
     );
 }
 
+// Asserts what main's a1 is before and after the byte comes at tick 19, where main stands then, and bytes of its memory.
+fn check_byte_at_19(rt: &impl Abort, system: &mut System<'_>) {
+    run_on_to(system, 19);
+    assert_eq!(rt; first_register(system, 11), Some(0));
+    run_on_to(system, 20);
+    // Row input-ring.
+    assert_eq!(rt; first_register(system, 11), Some(97));
+    assert_eq!(rt; first_pc(system), Some(12));
+    assert_eq!(rt; first_byte(system, 0), Some(0x93));
+    assert_eq!(rt; first_byte(system, 4096), None);
+}
+
+#[test]
+fn a_byte_comes_into_a1(rt: HostRuntime) {
+    let alloc = rt.alloc();
+    match (
+        config_of(alloc, &ONE_BYTE),
+        files_of(alloc, &rows::GET_ONE, &[]),
+    ) {
+        (Some(config), Some(files)) => match booted(alloc, &config, &files) {
+            Some(mut system) => check_byte_at_19(&rt, &mut system),
+            None => assert!(rt; false, "no boot"),
+        },
+        _ => assert!(rt; false, "no memory"),
+    }
+}
+
 // The partitions of the system, and of the first the input bytes that were lost and the steps.
 fn counts_at(
     alloc: Global,
@@ -512,6 +560,7 @@ fn input_is_lost_where_the_ring_is_full(rt: HostRuntime) {
         files_of(alloc, &rows::SPIN, &[]),
     ) {
         (Some(config), Some(files)) => {
+            // Row input-ring.
             assert_eq!(rt; counts_at(alloc, &config, &files, 41), Some((2, 1, 21)));
         }
         _ => assert!(rt; false, "no memory"),
@@ -521,6 +570,7 @@ fn input_is_lost_where_the_ring_is_full(rt: HostRuntime) {
 #[test]
 fn a_neighbour_that_exhausts_changes_nothing(rt: HostRuntime) {
     let alloc = rt.alloc();
+    // Row neighbour-exhausts.
     assert!(rt;
         is_report(
             alloc,
@@ -586,6 +636,7 @@ fn report_cut_short(
 fn a_refused_image_halts_its_partition_alone(rt: HostRuntime) {
     let alloc = rt.alloc();
     match (config_of(alloc, &TWO), files_of(alloc, &rows::HELLO, &[])) {
+        // Row refused-neighbour-image.
         (Some(config), Some(files)) => assert!(rt;
             is_some_text(
                 report_cut_short(alloc, &config, files, &rows::HELLO, 40),
@@ -594,6 +645,7 @@ fn a_refused_image_halts_its_partition_alone(rt: HostRuntime) {
         ),
         _ => assert!(rt; false, "no memory"),
     }
+    // Row refused-neighbour-image.
     assert!(rt;
         is_report(
             alloc,
@@ -609,9 +661,13 @@ fn a_refused_image_halts_its_partition_alone(rt: HostRuntime) {
 #[test]
 fn traces_are_the_last_steps(rt: HostRuntime) {
     let alloc = rt.alloc();
+    // Row short-trace.
     assert!(rt; is_trace(alloc, &SHORT, &rows::HELLO, &[], 20, SHORT_TRACE));
+    // Row full-trace.
     assert!(rt; is_trace(alloc, &ALONE, &rows::HELLO, &[], 20, FULL_TRACE));
+    // Row create-join.
     assert!(rt; is_trace(alloc, &WIDE, &rows::CREATE_JOIN, &[], 40, CREATE_JOIN_TRACE));
+    // Row round-robin-windows.
     assert!(rt; is_trace(alloc, &SLOW, &rows::ROUND_ROBIN, &[], 87, ROUND_ROBIN_TRACE));
 }
 
@@ -626,111 +682,3 @@ const CREATE_JOIN_TRACE: &str =
 
 const ROUND_ROBIN_TRACE: &str =
     "3 1 0x0000000c 0x00000073 0x00000000\n15 1 0x00000010 0x02c00513 0x0000002c\n16 1 0x00000014 0x02800593 0x0000002c\n40 1 0x00000018 0x00000073 0x00000000\n52 1 0x0000001c 0x00f00893 0x00000000\n53 1 0x00000020 0x00000073 0x00000000\n57 2 0x00000028 0x0000006f 0x00000000\n58 2 0x00000028 0x0000006f 0x00000000\n59 2 0x00000028 0x0000006f 0x00000000\n80 2 0x00000028 0x0000006f 0x00000000\n81 2 0x00000028 0x0000006f 0x00000000\n82 3 0x00000028 0x0000006f 0x00000000\n83 3 0x00000028 0x0000006f 0x00000000\n84 3 0x00000028 0x0000006f 0x00000000\n85 3 0x00000028 0x0000006f 0x00000000\n86 3 0x00000028 0x0000006f 0x00000000\n";
-
-// Stops at 3, 10 and 40 on the way, and asserts what is told there.
-fn check_stops(rt: &impl Abort, alloc: Global, system: &mut System<'_>) {
-    run_on_to(system, 0);
-    run_on_to(system, 3);
-    assert_eq!(rt; first_steps(system), 3);
-    assert!(rt; is_first_output(system, "h"));
-    run_on_to(system, 10);
-    assert_eq!(rt; first_steps(system), 6);
-    assert!(rt; is_first_output(system, "hi"));
-    assert!(rt;
-        is_told(
-            alloc,
-            system,
-            "partition p running steps 6 lost 0\noutput 2\nhi\n"
-        )
-    );
-    run_on_to(system, 40);
-    assert_eq!(rt; first_steps(system), 9);
-    assert!(rt; is_told(alloc, system, HELLO_REPORT));
-}
-
-#[test]
-fn a_run_may_stop_on_the_way(rt: HostRuntime) {
-    let alloc = rt.alloc();
-    match (config_of(alloc, &ALONE), files_of(alloc, &rows::HELLO, &[])) {
-        (Some(config), Some(files)) => match booted(alloc, &config, &files) {
-            Some(mut system) => check_stops(&rt, alloc, &mut system),
-            None => assert!(rt; false, "no boot"),
-        },
-        _ => assert!(rt; false, "no memory"),
-    }
-}
-
-// Asserts that no writer with too little room takes the report or the trace, and that the system then tells both.
-fn check_writers(rt: &impl Abort, alloc: Global, system: &System<'_>) {
-    assert_eq!(rt; parts_of(system), 1);
-    for most in 0..46 {
-        assert!(rt; !fits_report(system, most), "at {most}");
-    }
-    for most in 0..76 {
-        assert!(rt; !fits_trace(system, most), "at {most}");
-    }
-    assert!(rt; is_told(alloc, system, HELLO_REPORT));
-    assert!(rt; is_traced(alloc, system, SHORT_TRACE));
-    assert_eq!(rt; first_steps(system), 9);
-    assert!(rt; is_first_output(system, "hi"));
-}
-
-#[test]
-fn a_writer_that_fails_leaves_the_system(rt: HostRuntime) {
-    let alloc = rt.alloc();
-    match (config_of(alloc, &SHORT), files_of(alloc, &rows::HELLO, &[])) {
-        (Some(config), Some(files)) => match booted(alloc, &config, &files) {
-            Some(mut system) => {
-                run_on_to(&mut system, 20);
-                check_writers(&rt, alloc, &system);
-            }
-            None => assert!(rt; false, "no boot"),
-        },
-        _ => assert!(rt; false, "no memory"),
-    }
-}
-
-// Asserts what a writer of 40 bytes makes of a report and of two traces.
-fn check_short_writers(rt: &impl Abort, alloc: Global, config: &Config, files: &Files) {
-    let mut bytes = [0u8; 40];
-    let mut room = bytes.as_mut_slice();
-    let failed = run_on(alloc, config, files, 20, &mut room);
-    assert_eq!(rt; failed, Err(RunFault::Write));
-    let mut bytes = [0u8; 40];
-    let mut room = bytes.as_mut_slice();
-    let failed = trace_on(alloc, config, files, 20, "q", &mut room);
-    assert_eq!(rt; failed, Ok(()));
-    let failed = trace_on(alloc, config, files, 20, "p", &mut room);
-    assert_eq!(rt; failed, Err(RunFault::Write));
-}
-
-// Asserts that an unknown name comes before missing files, and the first missing file before the second.
-fn check_missing(rt: &impl Abort, alloc: Global, config: &Config) {
-    let mut out = Vec::new(alloc);
-    let mut files = Files::new(alloc);
-    let unknown = trace_on(alloc, config, &files, 20, "z", &mut out);
-    assert_eq!(rt; unknown, Err(RunFault::NoPartition));
-    let first = RunFault::Boot(BootFault::MissingFile(PartId::new(0)));
-    let missing = run_on(alloc, config, &files, 20, &mut out);
-    assert_eq!(rt; missing, Err(first));
-    assert!(rt; is_added(&mut files, "p.img", b""));
-    let second = RunFault::Boot(BootFault::MissingFile(PartId::new(1)));
-    let missing = trace_on(alloc, config, &files, 20, "p", &mut out);
-    assert_eq!(rt; missing, Err(second));
-    assert!(rt; out.is_empty());
-}
-
-#[test]
-fn faults_of_runs(rt: HostRuntime) {
-    let alloc = rt.alloc();
-    match (
-        config_of(alloc, &TWO),
-        files_of(alloc, &rows::HELLO, &rows::HELLO),
-    ) {
-        (Some(config), Some(files)) => {
-            check_short_writers(&rt, alloc, &config, &files);
-            check_missing(&rt, alloc, &config);
-        }
-        _ => assert!(rt; false, "no memory"),
-    }
-}

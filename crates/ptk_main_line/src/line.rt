@@ -1,6 +1,8 @@
 //! The words of a command line and the request in them.
 ghost use Rattle.std.specs.Prelude.{◌≡◌, ◌⊎◌, [], codes, map, IfErr, IfOk, MatchOption, OnOk};
+ghost use Rattle.clap.specs.Values.{kind_of};
 ghost use Rattle.clap.specs.Words.{HasKind, fault_of, found_of, rows_of, subcommand_rows_of};
+ghost use Rattle.clap.specs.declared.error.kind.ErrorKind.TheVariants.{ValueValidation};
 ghost use Rattle.ptk_main_line.specs.CommandLine.{Asks, AsksNothing, FindsRequest, FindsTicks, MeansAny, ptk};
 
 use crate::commands::ptk_command;
@@ -47,8 +49,9 @@ pub enum Request<'a> {
 /// Reads the words of a command line, of which the first is the program's name.
 ///
 /// An error has one of the kinds that `clap` gives the words: `DisplayHelp` where they ask for help, and otherwise what is
-/// wrong with them. Its kind is `OutOfMemory` where memory runs out. An argument and its values are read as `clap` reads
-/// them, so options may stand before or after FILE, and `--ticks=N` is `--ticks N`.
+/// wrong with them, or `MissingSubcommand` where they ask for nothing. Its kind is `OutOfMemory` where memory runs out. An
+/// argument and its values are read as `clap` reads them, so options may stand before or after FILE, and `--ticks=N` is
+/// `--ticks N`.
 pub fn read_line<'a>(alloc: Global, words: &'a [&'a str]) -> Result<Request<'a>, Error>
     ensures asked { IfOk result (λ r. Asks (map (λ w. w.now) words.entry.now) r) }
     ensures taken { OnOk result (fault_of ptk (map (λ w. w.now) words.entry.now) ≡ []) }
@@ -67,6 +70,16 @@ pub fn read_line<'a>(alloc: Global, words: &'a [&'a str]) -> Result<Request<'a>,
 fn no_request(alloc: Global) -> Result<Error, AllocError> {
     let mut command = ptk_command(alloc)?;
     command.error(ErrorKind::MissingSubcommand, "a subcommand is wanted")
+}
+
+/// The error of a command line with a word that is not UTF-8, which `read_line` can't be given: a usage error with the
+/// command's usage in its text. `clap` has no kind of its own for it here, so its kind is that of a value that can't be read
+/// (own choice). An error where memory runs out.
+pub fn not_text(alloc: Global) -> Result<Error, AllocError>
+    ensures { IfOk result (λ e. kind_of e ≡ ValueValidation) }
+{
+    let mut command = ptk_command(alloc)?;
+    command.error(ErrorKind::ValueValidation, "a word is not UTF-8")
 }
 
 /// The request in the matches, if they have one.

@@ -1,6 +1,6 @@
 //! Each subcommand once with its values, the bounds of N, and the kinds of the errors.
 
-use super::{Request, read_line};
+use super::{Request, not_text, read_line};
 use clap::error::ErrorKind;
 use std::alloc::Global;
 
@@ -117,4 +117,15 @@ fn answers_help_as_an_error(rt: HostRuntime) {
     }
     let words = ["ptk", "run", "--help"];
     assert_eq!(rt; refusal(rt.alloc(), &words), Some(ErrorKind::DisplayHelp));
+}
+
+#[test]
+fn words_that_are_no_text_are_a_usage_error(rt: HostRuntime) {
+    match not_text(rt.alloc()) {
+        Ok(error) => {
+            assert_eq!(rt; error.kind(), ErrorKind::ValueValidation);
+            assert!(rt; error.use_stderr());
+        }
+        Err(_) => assert!(rt; false, "no memory"),
+    }
 }

@@ -1,0 +1,288 @@
+//! What the program does with the words of its command line, over real files: the status of each request, and behind the
+//! statuses that several faults share the fault itself. What is wanted comes from the table of lines and statuses. Each
+//! test that has files is a process of its own, and works in a folder of its own, which it removes. A helper that promises
+//! nothing stands between each row and the calls that it tests.
+
+use super::{asm, check, fault_of, obey, trace};
+use crate::reading::{bytes_in, config_in};
+use crate::telling::{tell, usage};
+use crate::tests::{ALONE, TWO, bytes_of};
+use crate::{RunFault, answer_words, rows, unread};
+use ptk_main_faults::Fault;
+use ptk_main_line::Request;
+use ptk_system::BootFault;
+use ptk_words::{PartId, Tick};
+use std::alloc::AllocError;
+use std::{env, fs, io};
+
+const HELLO_SOURCE: &str =
+    "li a7, 1\nli a0, 104\necall\nli a7, 1\nli a0, 105\necall\nli a7, 0\nli a0, 0\necall\n";
+
+// Whether the test is now in an empty folder of this name, below the one it was in.
+fn has_entered(rt: &HostRuntime, folder: &str) -> bool {
+    let _left = fs::remove_dir_all(rt, folder);
+    fs::create_dir(rt, folder).is_ok() && env::set_current_dir(rt, folder).is_ok()
+}
+
+// Whether the test is out of the folder again, and the folder is gone.
+fn has_left(rt: &HostRuntime, folder: &str) -> bool {
+    env::set_current_dir(rt, "..").is_ok() && fs::remove_dir_all(rt, folder).is_ok()
+}
+
+// Whether the file was written.
+fn is_written(rt: &HostRuntime, name: &str, bytes: &[u8]) -> bool {
+    fs::write(rt, name, bytes).is_ok()
+}
+
+// Whether the text that these parts make was written into a file.
+fn is_text_written(rt: &HostRuntime, name: &str, parts: &[&str]) -> bool {
+    match parts.concat(rt.alloc()) {
+        Ok(text) => is_written(rt, name, text.as_bytes()),
+        Err(_) => false,
+    }
+}
+
+// Whether the image of these words was written into a file.
+fn is_image_written(rt: &HostRuntime, name: &str, words: &[u32]) -> bool {
+    match bytes_of(rt.alloc(), words) {
+        Ok(bytes) => is_written(rt, name, &bytes),
+        Err(_) => false,
+    }
+}
+
+// Whether a file has these bytes.
+fn has_bytes(rt: &HostRuntime, name: &str, want: &[u8]) -> bool {
+    match fs::read(rt, name) {
+        Ok(bytes) => bytes.as_slice() == want,
+        Err(_) => false,
+    }
+}
+
+// Whether a file has the image of these words.
+fn has_image(rt: &HostRuntime, name: &str, words: &[u32]) -> bool {
+    match bytes_of(rt.alloc(), words) {
+        Ok(bytes) => has_bytes(rt, name, &bytes),
+        Err(_) => false,
+    }
+}
+
+// The status of `run` to 20 ticks.
+fn run_status(rt: &HostRuntime, file: &str) -> u8 {
+    obey(rt, Request::Run { file, ticks: 20 })
+}
+
+// The status of `trace` at 20 ticks.
+fn trace_status(rt: &HostRuntime, file: &str, partition: &str) -> u8 {
+    obey(
+        rt,
+        Request::Trace {
+            file,
+            ticks: 20,
+            partition,
+        },
+    )
+}
+
+// The status of `check`.
+fn check_status(rt: &HostRuntime, file: &str) -> u8 {
+    obey(rt, Request::Check { file })
+}
+
+// The status of `asm`.
+fn asm_status(rt: &HostRuntime, source: &str, image: &str) -> u8 {
+    obey(rt, Request::Asm { source, image })
+}
+
+// The fault of a file that can't be read.
+fn fault_in<'a>(rt: &HostRuntime, name: &'a str) -> Option<Fault<'a>> {
+    bytes_in(rt, name).err()
+}
+
+// The fault of a file that has no configuration.
+fn config_fault_in<'a>(rt: &HostRuntime, name: &'a str) -> Option<Fault<'a>> {
+    config_in(rt, name).err()
+}
+
+// Whether `check` answers this for the configuration in a file.
+fn is_checked(rt: &HostRuntime, file: &str, want: Result<(), Fault<'_>>) -> bool {
+    match config_in(rt, file) {
+        Ok(config) => check(rt, &config) == want,
+        Err(_) => false,
+    }
+}
+
+// Whether `trace` at 20 ticks has this fault for the configuration in a file.
+fn is_trace_refused(rt: &HostRuntime, file: &str, name: &str, want: Fault<'_>) -> bool {
+    match config_in(rt, file) {
+        Ok(config) => trace(rt, &config, Tick::new(20), name) == Err(want),
+        Err(_) => false,
+    }
+}
+
+// Whether the fault of a run of the configuration in a file is told so.
+fn is_told_as(rt: &HostRuntime, file: &str, fault: RunFault, want: Fault<'_>) -> bool {
+    match config_in(rt, file) {
+        Ok(config) => fault_of(&config, "z", fault) == want,
+        Err(_) => false,
+    }
+}
+
+#[test]
+fn a_file_that_is_not_there_is_refused(rt: HostRuntime) {
+    assert!(rt; has_entered(&rt, "a-file-that-is-not-there-is-refused"));
+    assert_eq!(rt;
+        fault_in(&rt, "none.toml"),
+        Some(Fault::MissingFile("none.toml"))
+    );
+    assert_eq!(rt; run_status(&rt, "none.toml"), 1);
+    assert_eq!(rt; trace_status(&rt, "none.toml", "p"), 1);
+    assert_eq!(rt; check_status(&rt, "none.toml"), 1);
+    assert_eq!(rt; asm_status(&rt, "none.s", "none.img"), 1);
+    assert!(rt; is_written(&rt, "a.toml", b""));
+    assert_eq!(rt;
+        fault_in(&rt, "a.toml/x"),
+        Some(Fault::MissingFile("a.toml/x"))
+    );
+    assert!(rt; has_left(&rt, "a-file-that-is-not-there-is-refused"));
+}
+
+#[test]
+fn a_folder_is_a_failed_read(rt: HostRuntime) {
+    assert!(rt; has_entered(&rt, "a-folder-is-a-failed-read"));
+    assert_eq!(rt; fault_in(&rt, "."), Some(Fault::ReadFailed(".")));
+    assert_eq!(rt; run_status(&rt, "."), 3);
+    assert!(rt; is_text_written(&rt, "hello.toml", &ALONE));
+    assert!(rt; fs::create_dir(&rt, "p.img").is_ok());
+    assert!(rt; is_checked(&rt, "hello.toml", Err(Fault::ReadFailed("p.img"))));
+    assert_eq!(rt; run_status(&rt, "hello.toml"), 3);
+    assert!(rt; has_left(&rt, "a-folder-is-a-failed-read"));
+}
+
+#[test]
+fn a_configuration_is_refused_by_its_text(rt: HostRuntime) {
+    assert!(rt; has_entered(&rt, "a-configuration-is-refused-by-its-text"));
+    assert!(rt; is_written(&rt, "bytes.toml", b"\xff"));
+    assert_eq!(rt;
+        config_fault_in(&rt, "bytes.toml"),
+        Some(Fault::NotText("bytes.toml"))
+    );
+    assert_eq!(rt; run_status(&rt, "bytes.toml"), 1);
+    assert!(rt; is_written(&rt, "empty.toml", b""));
+    assert_eq!(rt; config_fault_in(&rt, "empty.toml"), Some(Fault::Config(2)));
+    assert_eq!(rt; run_status(&rt, "empty.toml"), 1);
+    assert_eq!(rt; check_status(&rt, "empty.toml"), 1);
+    assert!(rt; has_left(&rt, "a-configuration-is-refused-by-its-text"));
+}
+
+#[test]
+fn a_missing_image_is_refused(rt: HostRuntime) {
+    assert!(rt; has_entered(&rt, "a-missing-image-is-refused"));
+    assert!(rt; is_text_written(&rt, "two.toml", &TWO));
+    assert_eq!(rt; run_status(&rt, "two.toml"), 1);
+    assert_eq!(rt; check_status(&rt, "two.toml"), 1);
+    assert!(rt; is_checked(&rt, "two.toml", Err(Fault::MissingFile("p.img"))));
+    assert!(rt; is_image_written(&rt, "p.img", &rows::HELLO));
+    assert!(rt; is_checked(&rt, "two.toml", Err(Fault::MissingFile("q.img"))));
+    assert!(rt; has_left(&rt, "a-missing-image-is-refused"));
+}
+
+#[test]
+fn a_bad_image_is_refused_by_check(rt: HostRuntime) {
+    assert!(rt; has_entered(&rt, "a-bad-image-is-refused-by-check"));
+    assert!(rt; is_text_written(&rt, "two.toml", &TWO));
+    assert!(rt; is_image_written(&rt, "p.img", &rows::HELLO));
+    assert!(rt; is_written(&rt, "q.img", b"PTKI"));
+    assert!(rt; is_checked(&rt, "two.toml", Err(Fault::Image("q.img", 1))));
+    assert_eq!(rt; check_status(&rt, "two.toml"), 1);
+    assert_eq!(rt; run_status(&rt, "two.toml"), 0);
+    assert!(rt; has_left(&rt, "a-bad-image-is-refused-by-check"));
+}
+
+#[test]
+fn a_sound_configuration_is_done(rt: HostRuntime) {
+    assert!(rt; has_entered(&rt, "a-sound-configuration-is-done"));
+    assert!(rt; is_text_written(&rt, "hello.toml", &ALONE));
+    assert!(rt; is_image_written(&rt, "p.img", &rows::HELLO));
+    assert!(rt; is_checked(&rt, "hello.toml", Ok(())));
+    assert_eq!(rt; check_status(&rt, "hello.toml"), 0);
+    assert_eq!(rt; run_status(&rt, "hello.toml"), 0);
+    assert_eq!(rt; trace_status(&rt, "hello.toml", "p"), 0);
+    assert!(rt; is_trace_refused(&rt, "hello.toml", "z", Fault::NoPartition("z")));
+    assert_eq!(rt; trace_status(&rt, "hello.toml", "z"), 1);
+    assert!(rt; has_left(&rt, "a-sound-configuration-is-done"));
+}
+
+#[test]
+fn each_fault_of_a_run_is_told(rt: HostRuntime) {
+    assert!(rt; has_entered(&rt, "each-fault-of-a-run-is-told"));
+    assert!(rt; is_text_written(&rt, "two.toml", &TWO));
+    assert!(rt;
+        is_told_as(
+            &rt,
+            "two.toml",
+            RunFault::NoPartition,
+            Fault::NoPartition("z")
+        )
+    );
+    assert!(rt; is_told_as(&rt, "two.toml", RunFault::Write, Fault::WriteFailed));
+    assert!(rt;
+        is_told_as(
+            &rt,
+            "two.toml",
+            RunFault::Boot(BootFault::Memory),
+            Fault::NoMemory
+        )
+    );
+    let missing = RunFault::Boot(BootFault::MissingFile(PartId::new(1)));
+    assert!(rt; is_told_as(&rt, "two.toml", missing, Fault::MissingFile("q.img")));
+    assert_eq!(rt; tell(&rt, &Fault::MissingFile("q.img")), 1);
+    assert_eq!(rt; tell(&rt, &Fault::WriteFailed), 3);
+    assert_eq!(rt; tell(&rt, &Fault::NoMemory), 3);
+    assert!(rt; has_left(&rt, "each-fault-of-a-run-is-told"));
+}
+
+#[test]
+fn an_image_is_made_of_a_sound_source(rt: HostRuntime) {
+    assert!(rt; has_entered(&rt, "an-image-is-made-of-a-sound-source"));
+    assert!(rt; is_written(&rt, "hello.s", HELLO_SOURCE.as_bytes()));
+    assert_eq!(rt; asm_status(&rt, "hello.s", "hello.img"), 0);
+    // Row hello-source.
+    assert!(rt; has_image(&rt, "hello.img", &rows::HELLO));
+    assert_eq!(rt;
+        asm(&rt, "hello.s", "none/hello.img"),
+        Err(Fault::WriteFailed)
+    );
+    assert_eq!(rt; asm_status(&rt, "hello.s", "none/hello.img"), 3);
+    assert!(rt; has_left(&rt, "an-image-is-made-of-a-sound-source"));
+}
+
+#[test]
+fn no_image_is_made_of_another_source(rt: HostRuntime) {
+    assert!(rt; has_entered(&rt, "no-image-is-made-of-another-source"));
+    assert!(rt; is_written(&rt, "bad.s", b"nop\naddi a0, a0, 2048\n"));
+    assert!(rt; is_written(&rt, "kept.img", b"kept"));
+    // Row operand-out-of-range.
+    assert_eq!(rt; asm(&rt, "bad.s", "kept.img"), Err(Fault::Asm(2, 4)));
+    assert_eq!(rt; asm_status(&rt, "bad.s", "kept.img"), 1);
+    assert!(rt; is_written(&rt, "bytes.s", b"\xff"));
+    assert_eq!(rt;
+        asm(&rt, "bytes.s", "kept.img"),
+        Err(Fault::NotText("bytes.s"))
+    );
+    assert!(rt; has_bytes(&rt, "kept.img", b"kept"));
+    assert!(rt; has_left(&rt, "no-image-is-made-of-another-source"));
+}
+
+#[test]
+fn words_have_their_statuses(rt: HostRuntime) {
+    assert_eq!(rt; answer_words(&rt, &["ptk"]), 2);
+    assert_eq!(rt;
+        answer_words(&rt, &["ptk", "run", "a.toml", "--ticks", "1099511627777"]),
+        2
+    );
+    assert_eq!(rt; answer_words(&rt, &["ptk", "--help"]), 0);
+    assert_eq!(rt; answer_words(&rt, &["ptk", "check", "none.toml"]), 1);
+    assert_eq!(rt; unread(&rt, io::ErrorKind::InvalidData), 2);
+    assert_eq!(rt; unread(&rt, io::ErrorKind::OutOfMemory), 3);
+    assert_eq!(rt; usage(&rt, &clap::Error::from(AllocError)), 3);
+}
