@@ -52,12 +52,12 @@ checked_creation (Ok scheduling) a memory =
 abbrev pub asked_creation : Attributes → ℕ → Result Creation Errno
 asked_creation a memory = if nat_lt 1 a.detach || nat_lt 1 a.inherit then Err EINVAL else checked_creation (asked_scheduling a) a memory
 
--- the same of attributes that may not be readable
+-- the same of attributes that may not be readable (pthread_create; own)
 abbrev pub asked_of : Result Attributes Errno → ℕ → Result Creation Errno
 asked_of (Err e) memory = Err e
 asked_of (Ok a) memory = asked_creation a memory
 
--- the same of the attributes object at the pointer
+-- the same of the attributes object at the pointer (pthread_create; own)
 abbrev pub asked_at : Part → ℕ → Result Creation Errno
 asked_at s pointer = asked_of (readable_attributes s pointer) (length s.memory)
 

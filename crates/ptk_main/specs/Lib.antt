@@ -1,3 +1,1 @@
-pub mod Parts
 pub mod Requests
-pub mod RunFaults

@@ -7,12 +7,12 @@ ghost use Rattle.ptk_main.specs.Requests.{IsInTime};
 mod tests;
 
 use crate::reading::{config_in, image_in, images_of};
-use crate::runs::{RunFault, run_with, trace_with};
 use crate::telling::{end, tell};
 use ptk_config::Config;
 use ptk_image::write_image;
 use ptk_main_faults::Fault;
 use ptk_main_line::Request;
+use ptk_main_runs::{RunFault, run_with, trace_with};
 use ptk_system::{BootFault, PartStatus, System};
 use ptk_words::{PartId, Tick};
 use std::fs;

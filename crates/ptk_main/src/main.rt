@@ -1,27 +1,21 @@
 //! The program `ptk`: it reads the words of its command line, does what they ask for, and ends with the status of the
-//! outcome. `run_with` and `trace_with` promise that an `Ok` wrote exactly the report, or the trace's lines, of the booted
-//! configuration after so many ticks. Below stand the command line (`ptk_main_line`), the lines of faults
-//! (`ptk_main_faults`), the configuration (`ptk_config`), the system (`ptk_system`), traces (`ptk_trace`) and the
-//! assembler (`ptk_asm`); nothing stands above. What no contract says is tested in `commands/tests.rt`: the status of each
-//! request over real files and of words that are refused, the fault behind a status that several share, and the files that
-//! `asm` writes. Which stream a text goes to no test sees; the gate compares the standard output of the stored run. No
-//! clause is dear to prove.
+//! outcome. Below stand the command line (`ptk_main_line`), the lines of faults (`ptk_main_faults`), whole runs
+//! (`ptk_main_runs`, whose `run_with` and `trace_with` promise what is written), the configuration (`ptk_config`), the
+//! system (`ptk_system`) and the assembler (`ptk_asm`); nothing stands above. What no contract says is tested in
+//! `commands/tests.rt`: the status of each request over real files and of words that are refused, the fault behind a
+//! status that several share, and the files that `asm` writes. Which stream a text goes to no test sees; the gate compares
+//! the standard output of the stored run. No clause is dear to prove.
 #![tactic(auto)]
 
 mod commands;
 mod reading;
-#[cfg(test)]
-mod rows;
-mod runs;
 mod telling;
-#[cfg(test)]
-mod tests;
 
 use commands::obey;
 pub use ptk_main_faults::{Fault, fault_line};
 use ptk_main_line::not_text;
 pub use ptk_main_line::{Request, read_line};
-pub use runs::{RunFault, run_with, trace_with};
+pub use ptk_main_runs::{RunFault, run_with, trace_with};
 use std::alloc::AllocError;
 use std::process::ExitCode;
 use std::{env, io};

@@ -6,8 +6,7 @@
 use super::{asm, check, fault_of, obey, trace};
 use crate::reading::{bytes_in, config_in};
 use crate::telling::{tell, usage};
-use crate::tests::{ALONE, TWO, bytes_of};
-use crate::{RunFault, answer_words, rows, unread};
+use crate::{RunFault, answer_words, unread};
 use ptk_main_faults::Fault;
 use ptk_main_line::Request;
 use ptk_system::BootFault;
@@ -15,8 +14,27 @@ use ptk_words::{PartId, Tick};
 use std::alloc::AllocError;
 use std::{env, fs, io};
 
+const P: &str = "[[partition]]\nname = \"p\"\nimage = \"p.img\"\n";
+
+const Q: &str = "[[partition]]\nname = \"q\"\nimage = \"q.img\"\n";
+
+const NUMBERS: &str =
+    "memory = 4096\nthreads = 4\nstack = 256\nmutexes = 4\nconds = 4\nkeys = 4\ninterval = 100\nring = 16\noutput = 64\ntrace = 16\n";
+
+const FIRST_20: &str = "[[window]]\nstart = 0\nlength = 20\npartition = \"p\"\n";
+
+const SECOND_20: &str = "[[window]]\nstart = 20\nlength = 20\npartition = \"q\"\n";
+
+const ALONE: [&str; 4] = ["frame = 20\n", P, NUMBERS, FIRST_20];
+
+const TWO: [&str; 7] = ["frame = 40\n", P, NUMBERS, Q, NUMBERS, FIRST_20, SECOND_20];
+
+// Puts `h` and `i` and exits with 0, as a source and as its image.
 const HELLO_SOURCE: &str =
     "li a7, 1\nli a0, 104\necall\nli a7, 1\nli a0, 105\necall\nli a7, 0\nli a0, 0\necall\n";
+
+const HELLO_IMAGE: &[u8] =
+    b"PTKI\x01\0\0\0\0\0\0\0\x24\0\0\0\0\0\0\0\0\0\0\0\x93\x08\x10\x00\x13\x05\x80\x06\x73\0\0\0\x93\x08\x10\x00\x13\x05\x90\x06\x73\0\0\0\x93\x08\0\0\x13\x05\0\0\x73\0\0\0";
 
 // Whether the test is now in an empty folder of this name, below the one it was in.
 fn has_entered(rt: &HostRuntime, folder: &str) -> bool {
@@ -42,26 +60,10 @@ fn is_text_written(rt: &HostRuntime, name: &str, parts: &[&str]) -> bool {
     }
 }
 
-// Whether the image of these words was written into a file.
-fn is_image_written(rt: &HostRuntime, name: &str, words: &[u32]) -> bool {
-    match bytes_of(rt.alloc(), words) {
-        Ok(bytes) => is_written(rt, name, &bytes),
-        Err(_) => false,
-    }
-}
-
 // Whether a file has these bytes.
 fn has_bytes(rt: &HostRuntime, name: &str, want: &[u8]) -> bool {
     match fs::read(rt, name) {
         Ok(bytes) => bytes.as_slice() == want,
-        Err(_) => false,
-    }
-}
-
-// Whether a file has the image of these words.
-fn has_image(rt: &HostRuntime, name: &str, words: &[u32]) -> bool {
-    match bytes_of(rt.alloc(), words) {
-        Ok(bytes) => has_bytes(rt, name, &bytes),
         Err(_) => false,
     }
 }
@@ -181,7 +183,7 @@ fn a_missing_image_is_refused(rt: HostRuntime) {
     assert_eq!(rt; run_status(&rt, "two.toml"), 1);
     assert_eq!(rt; check_status(&rt, "two.toml"), 1);
     assert!(rt; is_checked(&rt, "two.toml", Err(Fault::MissingFile("p.img"))));
-    assert!(rt; is_image_written(&rt, "p.img", &rows::HELLO));
+    assert!(rt; is_written(&rt, "p.img", HELLO_IMAGE));
     assert!(rt; is_checked(&rt, "two.toml", Err(Fault::MissingFile("q.img"))));
     assert!(rt; has_left(&rt, "a-missing-image-is-refused"));
 }
@@ -190,7 +192,7 @@ fn a_missing_image_is_refused(rt: HostRuntime) {
 fn a_bad_image_is_refused_by_check(rt: HostRuntime) {
     assert!(rt; has_entered(&rt, "a-bad-image-is-refused-by-check"));
     assert!(rt; is_text_written(&rt, "two.toml", &TWO));
-    assert!(rt; is_image_written(&rt, "p.img", &rows::HELLO));
+    assert!(rt; is_written(&rt, "p.img", HELLO_IMAGE));
     assert!(rt; is_written(&rt, "q.img", b"PTKI"));
     assert!(rt; is_checked(&rt, "two.toml", Err(Fault::Image("q.img", 1))));
     assert_eq!(rt; check_status(&rt, "two.toml"), 1);
@@ -202,7 +204,7 @@ fn a_bad_image_is_refused_by_check(rt: HostRuntime) {
 fn a_sound_configuration_is_done(rt: HostRuntime) {
     assert!(rt; has_entered(&rt, "a-sound-configuration-is-done"));
     assert!(rt; is_text_written(&rt, "hello.toml", &ALONE));
-    assert!(rt; is_image_written(&rt, "p.img", &rows::HELLO));
+    assert!(rt; is_written(&rt, "p.img", HELLO_IMAGE));
     assert!(rt; is_checked(&rt, "hello.toml", Ok(())));
     assert_eq!(rt; check_status(&rt, "hello.toml"), 0);
     assert_eq!(rt; run_status(&rt, "hello.toml"), 0);
@@ -247,7 +249,7 @@ fn an_image_is_made_of_a_sound_source(rt: HostRuntime) {
     assert!(rt; is_written(&rt, "hello.s", HELLO_SOURCE.as_bytes()));
     assert_eq!(rt; asm_status(&rt, "hello.s", "hello.img"), 0);
     // Row hello-source.
-    assert!(rt; has_image(&rt, "hello.img", &rows::HELLO));
+    assert!(rt; has_bytes(&rt, "hello.img", HELLO_IMAGE));
     assert_eq!(rt;
         asm(&rt, "hello.s", "none/hello.img"),
         Err(Fault::WriteFailed)

@@ -7,9 +7,9 @@ ghost use Rattle.ptk_words_model.specs.Text.{trace_text};
 ghost use Rattle.ptk_system.specs.Missing.{first_missing};
 ghost use Rattle.ptk_system.specs.Shown.{report_of};
 ghost use Rattle.ptk_system.specs.World.{state_of};
-ghost use Rattle.ptk_main.specs.declared.runs.RunFault.TheVariants.{NoPartition};
-ghost use Rattle.ptk_main.specs.RunFaults.{missing_in_run};
-ghost use Rattle.ptk_main.specs.Parts.{part_named};
+ghost use Rattle.ptk_main_runs.specs.declared.runs.RunFault.TheVariants.{NoPartition};
+ghost use Rattle.ptk_main_runs.specs.RunFaults.{missing_in_run};
+ghost use Rattle.ptk_main_runs.specs.Parts.{part_named};
 
 use ptk_config::{Config, Section};
 use ptk_system::{BootFault, Files, System};

@@ -57,13 +57,13 @@ const FIRST_100: &str = "[[window]]\nstart = 0\nlength = 100\npartition = \"p\"\
 
 const SECOND_20: &str = "[[window]]\nstart = 20\nlength = 20\npartition = \"q\"\n";
 
-pub(crate) const ALONE: [&str; 4] = [FRAME_20, P, NUMBERS, FIRST_20];
+const ALONE: [&str; 4] = [FRAME_20, P, NUMBERS, FIRST_20];
 
 const LATE: [&str; 4] = [FRAME_40, P, NUMBERS, FIRST_16];
 
 const WIDE: [&str; 4] = [FRAME_100, P, NUMBERS, FIRST_100];
 
-pub(crate) const TWO: [&str; 7] = [FRAME_40, P, NUMBERS, Q, NUMBERS, FIRST_20, SECOND_20];
+const TWO: [&str; 7] = [FRAME_40, P, NUMBERS, Q, NUMBERS, FIRST_20, SECOND_20];
 
 const SHORT: [&str; 4] = [FRAME_20, P, TRACE_2, FIRST_20];
 
@@ -108,7 +108,7 @@ fn config_in(alloc: Global, text: &str) -> Option<Config> {
 }
 
 // The bytes of an image, from its words.
-pub(crate) fn bytes_of(alloc: Global, words: &[u32]) -> Result<Vec<u8>, AllocError> {
+fn bytes_of(alloc: Global, words: &[u32]) -> Result<Vec<u8>, AllocError> {
     let mut bytes = Vec::new(alloc);
     for word in words {
         bytes.extend_from_slice(&word.to_le_bytes())?;

@@ -1,8 +1,8 @@
 -- What the fault of a run says of the configuration's files.
 use Rattle.std.specs.Prelude.{ℕ, Option, None}
 use Rattle.ptk_system.specs.Missing.{missing_in}
-use Rattle.ptk_main.specs.declared.runs.RunFault.{RunFault}
-use Rattle.ptk_main.specs.declared.runs.RunFault.TheVariants.{Boot, NoPartition, Write}
+use Rattle.ptk_main_runs.specs.declared.runs.RunFault.{RunFault}
+use Rattle.ptk_main_runs.specs.declared.runs.RunFault.TheVariants.{Boot, NoPartition, Write}
 
 -- the section whose missing file the fault names (own)
 abbrev pub missing_in_run : RunFault → Option ℕ
