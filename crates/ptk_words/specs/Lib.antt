@@ -2,6 +2,6 @@ pub mod Words
 pub mod Pools
 pub mod Processor
 pub mod Faults
-pub mod Costs
+pub mod Calls
 pub mod Image
 pub mod Ranges
