@@ -1,7 +1,7 @@
 -- The creation of a thread in a whole state: what its parts make.
 use Rattle.std.proofs.Common.{arith, ◌≡◌, ℕ, zero, suc, ◌<◌, false, List, [], ◌∷◌, length, refl, sym, ◌∙◌, ap}
 use Rattle.std.specs.Prelude.{◌-◌, Option, Some, IsSome, option_map, unwrap_or, slice_get, slice_set}
-use Rattle.ptk_words.specs.Pools.{least_free, pool_get, pool_set, pool_update}
+use Rattle.ptk_words.specs.Pools.{least_free, pool_get, pool_set, pool_update, is_in}
 use Rattle.ptk_words.specs.declared.sections.Limits.{Limits}
 use Rattle.ptk_words.specs.declared.threads.Cleanup.{Cleanup}
 use Rattle.ptk_words.specs.declared.threads.Thread.{Thread}
@@ -9,8 +9,8 @@ use Rattle.ptk_words_parted.specs.Parts.{part_of}
 use Rattle.ptk_threads.specs.Table.{ThreadTable, with_slot, with_new, with_new_at}
 use Rattle.ptk_words_model.specs.State.{Part}
 use Rattle.ptk_words_model.specs.Keys.{no_values}
-use Rattle.ptk_words_model.specs.ThreadCalls.{with_new_thread}
-use Rattle.ptk_words_well.specs.Well.{IsWell, is_in, is_ready}
+use Rattle.ptk_words_model.specs.ThreadCreation.{with_new_thread}
+use Rattle.ptk_words_well.specs.Well.{IsWell, is_ready}
 use Rattle.ptk_words_well.proofs.Lined.{not_ready_out}
 use Rattle.ptk_words_well.proofs.Whole.{lined_of}
 use Rattle.ptk_words_well.proofs.Pools.{get-set_own, update-replicate}

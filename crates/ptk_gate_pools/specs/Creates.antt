@@ -4,7 +4,7 @@ use Rattle.ptk_words.specs.Pools.{pool_set}
 use Rattle.ptk_words.specs.declared.threads.Thread.{Thread}
 use Rattle.ptk_words_model.specs.State.{Locks, Part, with_locks, with_cancellation, with_keys}
 use Rattle.ptk_words_model.specs.Keys.{no_rounds, with_rounds}
-use Rattle.ptk_words_model.specs.ThreadCalls.{new_cancellation}
+use Rattle.ptk_words_model.specs.ThreadCreation.{new_cancellation}
 
 -- the number is the thread's (pthread_create)
 abbrev pub with_number : ℕ → Thread → Locks → Locks

@@ -1,12 +1,12 @@
 //! The beginning of a new thread (call 10).
 
 ghost use Rattle.std.specs.Prelude.{◌≡◌, ◌<◌, false, length, Some, IsSome};
-ghost use Rattle.ptk_words.specs.Pools.{least_free, pool_update};
+ghost use Rattle.ptk_words.specs.Pools.{least_free, pool_update, is_in};
 ghost use Rattle.ptk_words_model.specs.State.{with_locks, with_cancellation, with_keys};
 ghost use Rattle.ptk_words_model.specs.Priority.{thread_at};
 ghost use Rattle.ptk_words_model.specs.Keys.{no_rounds, with_rounds};
-ghost use Rattle.ptk_words_model.specs.ThreadCalls.{new_cancellation, with_new_thread};
-ghost use Rattle.ptk_words_well.specs.Well.{IsWell, is_in};
+ghost use Rattle.ptk_words_model.specs.ThreadCreation.{new_cancellation, with_new_thread};
+ghost use Rattle.ptk_words_well.specs.Well.{IsWell};
 ghost use Rattle.ptk_gate_pools.specs.Kept.{part_at, put_part, limits_at};
 ghost use Rattle.ptk_gate_pools.specs.Creates.{with_number, with_last, begun};
 

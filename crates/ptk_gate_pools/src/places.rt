@@ -4,7 +4,7 @@ ghost use Rattle.std.specs.Prelude.{◌≡◌, ◌<◌, false, length, IsSome};
 ghost use Rattle.ptk_words_model.specs.State.{with_locks};
 ghost use Rattle.ptk_words_model.specs.Priority.{thread_at};
 ghost use Rattle.ptk_words_model.specs.Schedule.{at_tail, at_head, with_thread, woken_with, after_wake, after_turn_end, is_running};
-ghost use Rattle.ptk_words_well.specs.Well.{is_in};
+ghost use Rattle.ptk_words.specs.Pools.{is_in};
 ghost use Rattle.ptk_gate_pools.specs.Moves.{out_of_line, stopped, run_by};
 ghost use Rattle.ptk_gate_pools.specs.Kept.{part_at, put_part};
 

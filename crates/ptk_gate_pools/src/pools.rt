@@ -46,7 +46,6 @@ impl Model for Pools {
       mutexes = per_section (λ l. l.mutexes) None a.limits.items;
       conditions = per_section (λ l. l.conditions) None a.limits.items;
       running = a.running.items;
-      deadlines = per_section (λ l. l.threads) None a.limits.items;
       cancellations = a.cancellations;
       cleanups = per_section (λ l. l.threads) [] a.limits.items;
       destructors = per_section (λ l. l.keys) None a.limits.items;

@@ -1,3 +1,4 @@
+pub mod Names
 pub mod Words
 pub mod Pools
 pub mod Processor
@@ -5,3 +6,4 @@ pub mod Faults
 pub mod Calls
 pub mod Image
 pub mod Ranges
+pub mod Phases

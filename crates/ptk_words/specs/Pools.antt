@@ -1,5 +1,6 @@
 -- Pools: lists whose places count from 1, and the choice of a number by its rank.
-use Rattle.std.specs.Prelude.{ℕ, zero, suc, List, [], ◌∷◌, ◌++◌, length, fold, find, position, filter, not, ◌==◌, max, Option, None, option_map, unwrap_or, is_none, slice_get, slice_set}
+use Rattle.std.specs.Prelude.{ℕ, zero, suc, Bool, List, [], ◌∷◌, ◌++◌, length, fold, find, position, filter, not, ◌==◌, nat_eq, max, Option, None, option_map, unwrap_or, is_none, slice_get, slice_set}
+use Rattle.std.specs.List.{list_any}
 use Rattle.std.specs.Option.{option_flatten}
 
 -- ---- pools: the entry of number k is at index k - 1, None where the number is free (own)
@@ -49,6 +50,10 @@ greatest rank ks = fold (λ most k. max most (rank k)) 0 ks
 abbrev pub first_of_greatest : (ℕ → ℕ) → List ℕ → Option ℕ
 first_of_greatest rank ks = let most = greatest rank ks in find (λ k. rank k == most) ks
 
--- the list without a number (own)
+-- the number is in the list
+abbrev pub is_in : ℕ → List ℕ → Bool
+is_in k ks = list_any (nat_eq k) ks
+
+-- the list without a number
 abbrev pub without : ℕ → List ℕ → List ℕ
 without k ks = filter (λ j. not (j == k)) ks

@@ -17,7 +17,8 @@ use Rattle.ptk_words_model.specs.State.{Mutex, Condition, Part, with_locks, with
 use Rattle.ptk_words_model.specs.Priority.{thread_at}
 use Rattle.ptk_words_model.specs.Schedule.{with_thread, with_reply}
 use Rattle.ptk_words_model.specs.Mutex.{mutex_at, new_mutex}
-use Rattle.ptk_words_model.specs.Unwinding.{after_unwinding_start, phase_of, is_normal}
+use Rattle.ptk_words_model.specs.Unwinding.{after_unwinding_start, phase_of}
+use Rattle.ptk_words.specs.Phases.{is_normal}
 
 -- ---- calls and replies
 

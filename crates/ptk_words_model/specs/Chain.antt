@@ -1,5 +1,5 @@
 -- Chains, where each number may lead to a next one.
-use Rattle.std.specs.Prelude.{◌≡◌, ℕ, zero, suc, Bool, false, ◌||◌, filter, ◌==◌, Option, Some, None, option_map, option_and_then, unwrap_or}
+use Rattle.std.specs.Prelude.{◌≡◌, ℕ, zero, suc, Bool, false, ◌||◌, filter, ◌==◌, Option, Some, option_map, option_and_then, unwrap_or}
 use Rattle.ptk_words.specs.Pools.{numbers_to, greatest}
 
 -- the number that n steps of the chain of u lead to (pthread_mutexattr_getprotocol)

@@ -3,7 +3,7 @@ use Rattle.std.specs.Prelude.{ℕ, zero, suc, Bool, false, not, List, [], ◌∷
 use Rattle.std.specs.List.{list_any}
 use Rattle.ptk_words.specs.Pools.{pool_get, pool_set, without, first_of_greatest}
 use Rattle.ptk_words.specs.declared.threads.Wait.{Wait}
-use Rattle.ptk_words.specs.declared.threads.Wait.TheVariants.{ConditionWait}
+use Rattle.ptk_words.specs.declared.threads.Wait.TheVariants.{InputWait, SleepWait, JoinWait, MutexWait, ConditionWait, RelockWait}
 use Rattle.ptk_words_model.specs.State.{Locks, Syncs}
 use Rattle.ptk_words_model.specs.Priority.{thread_at, effective_priority}
 use Rattle.ptk_words_model.specs.Schedule.{with_thread}
@@ -21,8 +21,13 @@ with_condition_waiters c waiters syncs = record syncs { conditions = pool_set sy
 
 -- the mutex that a condition wait names (pthread_cond_wait)
 abbrev pub mutex_named : Option Wait → Option ℕ
-mutex_named (Some (ConditionWait c m)) = Some m
-mutex_named _ = None
+mutex_named None = None
+mutex_named (Some InputWait) = None
+mutex_named (Some (SleepWait deadline)) = None
+mutex_named (Some (JoinWait u)) = None
+mutex_named (Some (MutexWait m deadline)) = None
+mutex_named (Some (ConditionWait c m deadline)) = Some m
+mutex_named (Some (RelockWait m reply)) = None
 
 -- that mutex is m (own)
 abbrev pub is_named : ℕ → Option ℕ → Bool
@@ -40,11 +45,11 @@ names_another syncs c m =
 
 -- ---- moves
 
--- the mutex is released once and the thread blocks on the condition variable, as one action (pthread_cond_wait; own)
-abbrev pub after_condition_wait : ℕ → ℕ → ℕ → Syncs → Syncs
-after_condition_wait t c m syncs =
+-- the mutex is released once and the thread blocks on the condition variable, until the deadline if there is one, as one action (pthread_cond_wait, pthread_cond_timedwait; own)
+abbrev pub after_condition_wait : ℕ → ℕ → ℕ → Option ℕ → Syncs → Syncs
+after_condition_wait t c m deadline syncs =
     with_condition_waiters c (condition_waiters syncs c ++ t ∷ [])
-    (record syncs { locks = with_thread t (λ thread. record thread { wait = Some (ConditionWait c m) }) (after_unlock m syncs.locks) })
+    (record syncs { locks = with_thread t (λ thread. record thread { wait = Some (ConditionWait c m deadline) }) (after_unlock m syncs.locks) })
 
 -- the waiter has left the condition variable and re-locks the mutex that it named, with this reply (pthread_cond_wait)
 abbrev pub after_unblock_for : ℕ → ℕ → Option ℕ → Option ℕ → Syncs → Syncs

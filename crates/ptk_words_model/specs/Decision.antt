@@ -1,10 +1,10 @@
 -- One decision of a partition at a tick of its own: arrivals, expiries, the choice, then idle, lost or a step (own).
-use Rattle.std.specs.Prelude.{ℕ, ◌+◌, ◌%◌, Bool, true, false, ◌&&◌, ◌||◌, List, [], ◌∷◌, fold, ◌==◌, nat_lt, if◌then◌else◌, Option, Some, None, option_map, unwrap_or}
-use Rattle.ptk_words.specs.declared.TheConstants.{RETURN_GATE, CANCELED}
+use Rattle.std.specs.Prelude.{ℕ, ◌%◌, Bool, false, ◌&&◌, ◌||◌, List, [], ◌∷◌, fold, ◌==◌, nat_lt, if◌then◌else◌, Option, Some, None, option_map, unwrap_or}
+use Rattle.ptk_words.specs.declared.TheConstants.{A0, A1, A2, A3, A4, A7, ECALL, RETURN_GATE, CANCELED}
 use Rattle.ptk_words.specs.Words.{word_at}
 use Rattle.ptk_words.specs.Pools.{numbered, first_of_greatest}
 use Rattle.ptk_words.specs.Processor.{Processor, register}
-use Rattle.ptk_words.specs.Costs.{cost_of}
+use Rattle.ptk_words.specs.Calls.{call_of, cost_of}
 use Rattle.ptk_words.specs.declared.faults.Cause.TheVariants as cause
 use Rattle.ptk_words.specs.declared.faults.Status.TheVariants.{Stopped}
 use Rattle.ptk_words.specs.declared.sections.Arrival.{Arrival}
@@ -21,10 +21,11 @@ use Rattle.ptk_words_model.specs.State.{Part, with_locks, with_console, with_hal
 use Rattle.ptk_words_model.specs.Priority.{thread_at, effective_priority}
 use Rattle.ptk_words_model.specs.Schedule.{with_thread, after_wake, after_choice, after_interval}
 use Rattle.ptk_words_model.specs.Withdrawal.{after_expiries}
-use Rattle.ptk_words_model.specs.Unwinding.{after_unwinding_start, after_gate_step, is_normal, is_ended}
+use Rattle.ptk_words_model.specs.Unwinding.{after_unwinding_start, after_gate_step}
+use Rattle.ptk_words.specs.Phases.{is_normal, is_ended}
 use Rattle.ptk_words_model.specs.Console.{with_input, without_waiter, arriving, without_arriving}
 use Rattle.ptk_words_model.specs.declared.Invocation.{Invocation}
-use Rattle.ptk_words_model.specs.CallTable.{call_of}
+use Rattle.ptk_words_model.specs.CallTable.{answer_to}
 
 -- ---- arrivals
 
@@ -76,7 +77,7 @@ abbrev pub step_kind : Part → ℕ → Thread → StepKind
 step_kind s t thread =
     if is_to_unwind s t thread then UnwindingStart
     else if thread.cpu.pc == RETURN_GATE then GateStep
-    else if word_fetched s.memory thread.cpu.pc == 0x73 then CallStep (register thread.cpu 17)
+    else if word_fetched s.memory thread.cpu.pc == ECALL then CallStep (register thread.cpu A7)
     else InstructionStep
 
 -- the ticks of a step (own)
@@ -99,16 +100,16 @@ invocation limits tick t cpu =
       limits = limits;
       tick = tick;
       caller = t;
-      a0 = register cpu 10;
-      a1 = register cpu 11;
-      a2 = register cpu 12;
-      a3 = register cpu 13;
-      a4 = register cpu 14;
+      a0 = register cpu A0;
+      a1 = register cpu A1;
+      a2 = register cpu A2;
+      a3 = register cpu A3;
+      a4 = register cpu A4;
     }
 
 -- the call of a7 (RISC-V 2.8; own)
 abbrev pub after_call : Limits → ℕ → ℕ → Processor → Part → Part
-after_call limits tick t cpu s = ((call_of (register cpu 17)).answer_of (invocation limits tick t cpu) s).part
+after_call limits tick t cpu s = (answer_to (call_of (register cpu A7)) (invocation limits tick t cpu) s).part
 
 -- an instruction's effect on the state; a break or a fault leaves the registers and the memory (RISC-V 1.6, 2.8; own)
 abbrev pub after_effect : Limits → ℕ → ℕ → ℕ → Effect → Part → Part
@@ -121,7 +122,8 @@ after_effect limits tick t pc (Fault kind) s = with_halt (Stopped (cause.Fault k
 abbrev pub after_step : Limits → ℕ → Runner → StepKind → Part → Part
 after_step limits tick r UnwindingStart s = after_unwinding_start r.number CANCELED s
 after_step limits tick r GateStep s = after_gate_step r.thread.phase r.number r.thread s
-after_step limits tick r _ s = after_effect limits tick r.number r.thread.cpu.pc (effect_at r.thread.cpu s.memory) s
+after_step limits tick r (CallStep number) s = after_effect limits tick r.number r.thread.cpu.pc (effect_at r.thread.cpu s.memory) s
+after_step limits tick r InstructionStep s = after_effect limits tick r.number r.thread.cpu.pc (effect_at r.thread.cpu s.memory) s
 
 -- ---- the trace
 
@@ -129,12 +131,13 @@ after_step limits tick r _ s = after_effect limits tick r.number r.thread.cpu.pc
 abbrev pub traced_word : StepKind → List ℕ → ℕ → ℕ
 traced_word UnwindingStart memory pc = 0
 traced_word GateStep memory pc = 0
-traced_word _ memory pc = word_fetched memory pc
+traced_word (CallStep number) memory pc = word_fetched memory pc
+traced_word InstructionStep memory pc = word_fetched memory pc
 
 -- the thread's a0 after the step, before it where the thread ended (own)
 abbrev pub a0_after : Thread → Option Thread → ℕ
-a0_after before None = register before.cpu 10
-a0_after before (Some after) = if is_ended after.phase then register before.cpu 10 else register after.cpu 10
+a0_after before None = register before.cpu A0
+a0_after before (Some after) = if is_ended after.phase then register before.cpu A0 else register after.cpu A0
 
 -- the step as the trace keeps it: by the thread and the memory before it, and the thread after it (own)
 abbrev pub entry_of : ℕ → Runner → StepKind → List ℕ → Option Thread → Entry

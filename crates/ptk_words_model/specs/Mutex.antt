@@ -3,11 +3,10 @@ use Rattle.std.specs.Prelude.{ℕ, ◌+◌, ◌-◌, Bool, true, false, ◌&&◌
 use Rattle.std.specs.List.{list_any}
 use Rattle.ptk_words.specs.declared.TheConstants.{COUNT_LIMIT}
 use Rattle.ptk_words.specs.Pools.{pool_get, pool_changed, without, first_of_greatest}
-use Rattle.ptk_words.specs.declared.faults.Errno.{Errno}
 use Rattle.ptk_words.specs.declared.faults.Errno.TheVariants.{EAGAIN, EBUSY, EDEADLK, EINVAL}
 use Rattle.ptk_words.specs.declared.threads.Thread.{Thread}
 use Rattle.ptk_words.specs.declared.threads.Wait.{Wait}
-use Rattle.ptk_words.specs.declared.threads.Wait.TheVariants.{MutexWait, RelockWait}
+use Rattle.ptk_words.specs.declared.threads.Wait.TheVariants.{InputWait, SleepWait, JoinWait, MutexWait, ConditionWait, RelockWait}
 use Rattle.ptk_words.specs.declared.mutexes.MutexKind.{MutexKind}
 use Rattle.ptk_words.specs.declared.mutexes.MutexKind.TheVariants.{Normal, ErrorCheck, Recursive}
 use Rattle.ptk_words.specs.declared.mutexes.Protocol.{Protocol}
@@ -17,8 +16,8 @@ use Rattle.ptk_words.specs.declared.mutexes.Owner.TheVariants.{Free, Abandoned, 
 use Rattle.ptk_words_model.specs.declared.LockMove.{LockMove}
 use Rattle.ptk_words_model.specs.declared.LockMove.TheVariants.{Takes, Counts, Waits, Refuses}
 use Rattle.ptk_words_model.specs.State.{Mutex, Locks}
-use Rattle.ptk_words_model.specs.Priority.{thread_at, assigned_priority, effective_priority, is_owner}
-use Rattle.ptk_words_model.specs.Schedule.{with_thread, with_reply, at_tail_with, after_wake}
+use Rattle.ptk_words_model.specs.Priority.{assigned_priority, effective_priority, is_owner}
+use Rattle.ptk_words_model.specs.Schedule.{with_thread, woken_with, at_tail_with, after_wake}
 
 -- ---- parts
 
@@ -124,36 +123,28 @@ after_move Counts t m wait locks = with_mutex m (λ mutex. record mutex { count 
 after_move Waits t m wait locks = after_wait t m wait locks
 after_move (Refuses e) t m wait locks = locks
 
--- the thread locks the mutex (pthread_mutex_lock)
-abbrev pub after_lock : ℕ → ℕ → Locks → Locks
-after_lock t m locks = after_move (lock_move locks t (mutex_at locks m)) t m (MutexWait m) locks
-
--- the thread tries to lock the mutex (pthread_mutex_trylock)
-abbrev pub after_trylock : ℕ → ℕ → Locks → Locks
-after_trylock t m locks = after_move (trylock_move locks t (mutex_at locks m)) t m (MutexWait m) locks
-
 -- ---- unlock
 
 -- what a woken waiter is told: of a lock 0, of a re-lock its kept reply (pthread_mutex_lock, pthread_cond_wait)
 abbrev pub kept_reply : Option Wait → List ℕ
-kept_reply (Some (RelockWait m reply)) = option_to_list reply
-kept_reply (Some _) = 0 ∷ []
 kept_reply None = []
+kept_reply (Some InputWait) = 0 ∷ []
+kept_reply (Some (SleepWait deadline)) = 0 ∷ []
+kept_reply (Some (JoinWait u)) = 0 ∷ []
+kept_reply (Some (MutexWait m deadline)) = 0 ∷ []
+kept_reply (Some (ConditionWait c m deadline)) = 0 ∷ []
+kept_reply (Some (RelockWait m reply)) = option_to_list reply
 
 -- the wait of a thread (XSH 2.8.4)
 abbrev pub wait_of : Option Thread → Option Wait
 wait_of None = None
 wait_of (Some thread) = thread.wait
 
--- the waiter as the mutex is handed to it: woken, with the reply that its wait kept (pthread_mutex_unlock)
-abbrev pub handed : Thread → Thread
-handed thread = record (with_reply (kept_reply thread.wait) thread) { wait = None; used = 0 }
-
 -- the mutex goes to the waiter, with count 1, and that thread is woken; without one it is free (pthread_mutex_unlock)
 abbrev pub after_hand_over_to : Option ℕ → ℕ → Locks → Locks
 after_hand_over_to None m locks = with_mutex m (λ mutex. record mutex { owner = Free; count = 0 }) locks
 after_hand_over_to (Some t) m locks =
-    at_tail_with handed t
+    at_tail_with (λ thread. woken_with (kept_reply thread.wait) thread) t
     (with_mutex m (λ mutex. record mutex { owner = OwnedBy t; count = 1; waiters = without t mutex.waiters }) locks)
 
 -- the waiter of greatest effective priority, the earliest among equals (pthread_mutex_unlock; XSH 2.8.4; own)
@@ -185,8 +176,10 @@ relock_move t (Some m) = owner_move m.owner t Counts Waits
 
 -- the blocked thread has the mutex and is woken with the reply, or waits for it (pthread_cond_wait; own)
 abbrev pub after_relock_move : LockMove → ℕ → ℕ → Option ℕ → Locks → Locks
+after_relock_move Takes t m reply locks = after_wake t (option_to_list reply) (after_move Takes t m (RelockWait m reply) locks)
+after_relock_move Counts t m reply locks = after_wake t (option_to_list reply) (after_move Counts t m (RelockWait m reply) locks)
 after_relock_move Waits t m reply locks = after_wait t m (RelockWait m reply) locks
-after_relock_move move t m reply locks = after_wake t (option_to_list reply) (after_move move t m (RelockWait m reply) locks)
+after_relock_move (Refuses e) t m reply locks = after_wake t (option_to_list reply) locks
 
 -- the blocked thread re-locks the mutex (pthread_cond_wait; own)
 abbrev pub after_relock : ℕ → ℕ → Option ℕ → Locks → Locks

@@ -3,7 +3,7 @@ use Rattle.std.specs.Prelude.{◌≡◌, ◌≤◌, ℕ, Bool, false, List, fold
 use Rattle.ptk_words.specs.Pools.{pool_get, numbers_of}
 use Rattle.ptk_words.specs.declared.threads.Thread.{Thread}
 use Rattle.ptk_words.specs.declared.threads.Wait.{Wait}
-use Rattle.ptk_words.specs.declared.threads.Wait.TheVariants.{MutexWait, RelockWait}
+use Rattle.ptk_words.specs.declared.threads.Wait.TheVariants.{InputWait, SleepWait, JoinWait, MutexWait, ConditionWait, RelockWait}
 use Rattle.ptk_words.specs.declared.mutexes.Protocol.{Protocol}
 use Rattle.ptk_words.specs.declared.mutexes.Protocol.TheVariants.{NoProtocol, Inherit, Protect}
 use Rattle.ptk_words.specs.declared.mutexes.Owner.{Owner}
@@ -46,9 +46,13 @@ held_of threads mutexes t = fold (λ most m. max most (ceiling_for t m)) (assign
 
 -- the mutex that a wait is for; a condition wait is for none (pthread_mutex_lock, pthread_cond_wait)
 abbrev pub mutex_of_wait : Option Wait → Option ℕ
-mutex_of_wait (Some (MutexWait m)) = Some m
+mutex_of_wait None = None
+mutex_of_wait (Some InputWait) = None
+mutex_of_wait (Some (SleepWait deadline)) = None
+mutex_of_wait (Some (JoinWait u)) = None
+mutex_of_wait (Some (MutexWait m deadline)) = Some m
+mutex_of_wait (Some (ConditionWait c m deadline)) = None
 mutex_of_wait (Some (RelockWait m reply)) = Some m
-mutex_of_wait _ = None
 
 -- the mutex that a thread waits for (pthread_mutex_lock, pthread_cond_wait)
 abbrev pub awaited : Option Thread → Option ℕ
@@ -57,8 +61,11 @@ awaited (Some thread) = mutex_of_wait thread.wait
 
 -- the owner of an INHERIT mutex, where it is a thread (pthread_mutexattr_getprotocol)
 abbrev pub inheritor : Protocol → Owner → Option ℕ
+inheritor NoProtocol owner = None
+inheritor (Protect ceiling) owner = None
+inheritor Inherit Free = None
+inheritor Inherit Abandoned = None
 inheritor Inherit (OwnedBy u) = Some u
-inheritor _ _ = None
 
 -- the same of an entry of the pool (pthread_mutexattr_getprotocol)
 abbrev pub inheritor_of : Option Mutex → Option ℕ

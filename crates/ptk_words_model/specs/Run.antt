@@ -1,7 +1,6 @@
 -- A partition alone: from its own ticks, its section's numbers, its image and its input, its state after every number of ticks (own).
 use Rattle.std.specs.Prelude.{ℕ, zero, suc, ◌+◌, ◌-◌, Bool, true, false, List, [], ◌++◌, length, drop, replicate, not, ◌==◌, nat_lt, if◌then◌else◌, Option, Some, None, option_to_list, Result, Ok, Err, ◌*◌}
 use Rattle.ptk_words.specs.Image.{ImageParts, image_of}
-use Rattle.ptk_words.specs.Pools.{numbered}
 use Rattle.ptk_words.specs.declared.faults.ImageFault.{ImageFault}
 use Rattle.ptk_words.specs.declared.faults.ImageFault.TheVariants.{Unfit}
 use Rattle.ptk_words.specs.declared.faults.Status.{Status}
@@ -15,7 +14,7 @@ use Rattle.ptk_words_model.specs.declared.Spent.{Spent}
 use Rattle.ptk_words_model.specs.declared.Spent.TheVariants.{Step, Idle, Lost}
 use Rattle.ptk_words_model.specs.State.{Part, Account, State}
 use Rattle.ptk_words_model.specs.Keys.{no_values, no_rounds}
-use Rattle.ptk_words_model.specs.ThreadCalls.{start_cpu, new_thread, new_cancellation, default_stack_top, with_new_thread}
+use Rattle.ptk_words_model.specs.ThreadCreation.{start_cpu, new_thread, new_cancellation, default_stack_top, with_new_thread}
 use Rattle.ptk_words_model.specs.Decision.{after_decision, spent_by_decision}
 
 -- ---- the start
@@ -30,7 +29,6 @@ empty_part limits input =
         conditions = replicate limits.conditions None;
       };
       running = None;
-      deadlines = replicate limits.threads None;
       cancellations = replicate limits.threads new_cancellation;
       cleanups = replicate limits.threads [];
       keys = record {

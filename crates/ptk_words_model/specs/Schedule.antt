@@ -1,5 +1,6 @@
 -- Places in the line, waking, the choice of the running thread and round-robin intervals (XSH 2.8.4).
 use Rattle.std.specs.Prelude.{ℕ, suc, ◌+◌, Bool, true, false, ◌&&◌, List, [], ◌∷◌, ◌++◌, ◌==◌, nat_lt, nat_le, if◌then◌else◌, Option, Some, None}
+use Rattle.ptk_words.specs.declared.TheConstants.{A0}
 use Rattle.ptk_words.specs.Pools.{pool_changed, without, first_of_greatest}
 use Rattle.ptk_words.specs.Processor.{Processor, with_register}
 use Rattle.ptk_words.specs.declared.threads.Thread.{Thread}
@@ -21,7 +22,7 @@ with_registers cpu i (value ∷ values) = with_registers (with_register cpu i va
 
 -- the thread with the values in a0, a1 and so on (own)
 abbrev pub with_reply : List ℕ → Thread → Thread
-with_reply values thread = record thread { cpu = with_registers thread.cpu 10 values }
+with_reply values thread = record thread { cpu = with_registers thread.cpu A0 values }
 
 -- ---- places
 

@@ -1,5 +1,5 @@
 -- The state of one partition, by its parts. Threads, mutexes, condition variables and keys are entries of pools, numbered from 1.
-use Rattle.std.specs.Prelude.{ℕ, Bool, List, Option, None}
+use Rattle.std.specs.Prelude.{ℕ, List, Option, None}
 use Rattle.ptk_words.specs.Pools.{pool_update}
 use Rattle.ptk_words.specs.declared.threads.Thread.{Thread}
 use Rattle.ptk_words.specs.declared.threads.Cleanup.{Cleanup}
@@ -62,8 +62,6 @@ pub record Part : Type 0 where
   pub syncs : Syncs
   pub open syncs use *
   pub running : Option ℕ
-  -- by thread number: the deadline of a timed wait
-  pub deadlines : List (Option ℕ)
   -- by thread number: what it keeps of cancellation, and its cleanup handlers, the last pushed first
   pub cancellations : List Cancellation
   pub cleanups : List (List Cleanup)

@@ -1,11 +1,12 @@
 -- Unwinding: cleanup handlers, key destructors and a thread's end (XSH 2.9.5.3; pthread_exit, pthread_key_create).
-use Rattle.std.specs.Prelude.{ℕ, ◌%◌, Bool, true, false, not, ◌||◌, List, [], ◌∷◌, if◌then◌else◌, Option, Some, None, option_map, unwrap_or, is_some}
+use Rattle.std.specs.Prelude.{ℕ, ◌%◌, Bool, true, false, not, ◌||◌, List, [], ◌∷◌, if◌then◌else◌, Option, Some, None, unwrap_or, is_some}
 use Rattle.std.specs.List.{list_any}
-use Rattle.ptk_words.specs.declared.TheConstants.{RETURN_GATE}
+use Rattle.ptk_words.specs.declared.TheConstants.{A0, RA, RETURN_GATE}
 use Rattle.ptk_words.specs.Pools.{numbered, pool_set}
 use Rattle.ptk_words.specs.Processor.{Processor, register, with_register}
 use Rattle.ptk_words.specs.declared.threads.Thread.{Thread}
 use Rattle.ptk_words.specs.declared.threads.Cleanup.{Cleanup}
+use Rattle.ptk_words.specs.Phases.{is_ended}
 use Rattle.ptk_words.specs.declared.threads.Phase.{Phase}
 use Rattle.ptk_words.specs.declared.threads.Phase.TheVariants.{Normal, Unwinding, Ended}
 use Rattle.ptk_words.specs.declared.faults.Status.TheVariants.{Exited}
@@ -48,18 +49,6 @@ after_release t (Some thread) locks =
     then without_thread t (after_join_by thread.joiner thread.result locks)
     else with_thread t (λ th. record th { phase = Ended }) locks
 
--- the thread has ended (pthread_exit)
-abbrev pub is_ended : Phase → Bool
-is_ended Normal = false
-is_ended Unwinding = false
-is_ended Ended = true
-
--- the thread does not unwind and has not ended (own)
-abbrev pub is_normal : Phase → Bool
-is_normal Normal = true
-is_normal Unwinding = false
-is_normal Ended = false
-
 -- a thread is in use and has not ended (pthread_exit)
 abbrev pub is_alive : Option Thread → Bool
 is_alive thread = not (is_ended (phase_of thread))
@@ -78,7 +67,7 @@ after_end t s =
 
 -- the registers at the call of a routine that returns to the gate (own)
 abbrev pub cpu_at_call : ℕ → ℕ → Processor → Processor
-cpu_at_call routine argument cpu = record (with_register (with_register cpu 10 argument) 1 RETURN_GATE) { pc = routine }
+cpu_at_call routine argument cpu = record (with_register (with_register cpu A0 argument) RA RETURN_GATE) { pc = routine }
 
 -- the thread calls the routine (own)
 abbrev pub after_routine_call : ℕ → ℕ → ℕ → Part → Part
@@ -103,7 +92,7 @@ cleanups_of s t = unwrap_or (numbered s.cleanups t) []
 -- a return of main exits the partition with a0, of any other thread begins its unwinding with a0 (pthread_create)
 abbrev pub after_return : ℕ → Thread → Part → Part
 after_return t thread s =
-    if thread.is_main then with_halt (Exited (register thread.cpu 10 % 256)) s else after_unwinding_start t (register thread.cpu 10) s
+    if thread.is_main then with_halt (Exited (register thread.cpu A0 % 256)) s else after_unwinding_start t (register thread.cpu A0) s
 
 -- a step at the return gate, by the thread's phase (own)
 abbrev pub after_gate_step : Phase → ℕ → Thread → Part → Part

@@ -3,13 +3,13 @@ use Rattle.std.proofs.Common.{◌≡◌, ℕ, true, false, List, [], ◌∷◌, 
 use Rattle.std.specs.Prelude.{◌≢◌, Option, Some, None, nat_eq}
 use Rattle.std.specs.List.{IsDistinct}
 use Rattle.std.proofs.lemmas.Bool.{cases_eq, false_from_ne_true}
-use Rattle.ptk_words.specs.Pools.{pool_get, without}
+use Rattle.ptk_words.specs.Pools.{pool_get, without, is_in}
 use Rattle.ptk_words.specs.declared.threads.Thread.{Thread}
 use Rattle.ptk_words.specs.declared.threads.Wait.{Wait}
 use Rattle.ptk_words.specs.declared.threads.Wait.TheVariants.{InputWait, JoinWait}
 use Rattle.ptk_words_model.specs.Mutex.{wait_of}
 use Rattle.ptk_words_model.specs.Unwinding.{is_alive}
-use Rattle.ptk_words_well.specs.Well.{is_in, joiner_of}
+use Rattle.ptk_words_well.specs.Well.{joiner_of}
 use Rattle.ptk_words_well.proofs.Lines.{in_push, own_push, still_push, without_other, in_without, distinct_push, distinct_without}
 
 -- the console's waiters wait for input, a thread's joiner waits for its end, and each such wait is listed so; an ended thread waits for nothing (pthread_join, pthread_exit)
