@@ -1,5 +1,6 @@
 -- Calls 0 to 2: the partition's exit and its console (own).
 use Rattle.std.specs.Prelude.{ℕ, ◌%◌, List, [], ◌∷◌}
+use Rattle.ptk_words.specs.Names.{Byte}
 use Rattle.ptk_words.specs.declared.faults.Errno.TheVariants.{EAGAIN}
 use Rattle.ptk_words.specs.declared.faults.Status.TheVariants.{Exited}
 use Rattle.ptk_words.specs.declared.threads.Wait.TheVariants.{InputWait}
@@ -24,7 +25,7 @@ console_put = do
   succeed
 
 -- the first byte of the ring in a1, or the caller blocks as the last waiter (own)
-abbrev pub take_input : List ℕ → Row
+abbrev pub take_input : List Byte → Row
 take_input [] = do
   i ← registers
   change (with_console (with_waiter i.caller))

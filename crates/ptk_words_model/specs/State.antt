@@ -1,5 +1,6 @@
 -- The state of one partition, by its parts. Threads, mutexes, condition variables and keys are entries of pools, numbered from 1.
 use Rattle.std.specs.Prelude.{ℕ, List, Option, None}
+use Rattle.ptk_words.specs.Names.{Byte, Pointer, ThreadNumber, Tick, Ticks, Word}
 use Rattle.ptk_words.specs.Pools.{pool_update}
 use Rattle.ptk_words.specs.declared.threads.Thread.{Thread}
 use Rattle.ptk_words.specs.declared.threads.Cleanup.{Cleanup}
@@ -20,16 +21,16 @@ pub record Mutex : Type 0 where
   pub protocol : Protocol
   pub owner : Owner
   pub count : ℕ
-  pub waiters : List ℕ
+  pub waiters : List ThreadNumber
 
 -- a condition variable, its waiters in order of arrival (pthread_cond_wait)
 pub record Condition : Type 0 where
-  pub waiters : List ℕ
+  pub waiters : List ThreadNumber
 
 -- the threads, the line of those that are ready, and the mutexes: what the mutex calls read and change (XSH 2.8.4)
 pub record Locks : Type 0 where
   pub threads : List (Option Thread)
-  pub line : List ℕ
+  pub line : List ThreadNumber
   pub mutexes : List (Option Mutex)
 
 -- those and the condition variables: what the condition calls read and change (pthread_cond_wait)
@@ -42,26 +43,26 @@ pub record Syncs : Type 0 where
 
 -- the destructors of the keys in use, 0 for none, and by thread number its values by key and how far its destructor calls are (pthread_key_create)
 pub record Keys : Type 0 where
-  pub destructors : List (Option ℕ)
-  pub values : List (List ℕ)
+  pub destructors : List (Option Pointer)
+  pub values : List (List Word)
   pub rounds : List Rounds
 
 -- the console: input still to come, the ring, how many bytes were lost, the output, and the waiters in order of arrival (own)
 pub record Console : Type 0 where
   pub coming : List Arrival
-  pub ring : List ℕ
+  pub ring : List Byte
   pub dropped : ℕ
-  pub output : List ℕ
-  pub waiters : List ℕ
+  pub output : List Byte
+  pub waiters : List ThreadNumber
 
 -- ---- the partition
 
 -- what the kernel keeps of a partition: every part of it is its own (own)
 pub record Part : Type 0 where
-  pub memory : List ℕ
+  pub memory : List Byte
   pub syncs : Syncs
   pub open syncs use *
-  pub running : Option ℕ
+  pub running : Option ThreadNumber
   -- by thread number: what it keeps of cancellation, and its cleanup handlers, the last pushed first
   pub cancellations : List Cancellation
   pub cleanups : List (List Cleanup)
@@ -73,9 +74,9 @@ pub record Part : Type 0 where
 
 -- what the system adds: the tick of the next decision, if any, the steps, the lost ticks, and the last steps, oldest first (own)
 pub record Account : Type 0 where
-  pub next : Option ℕ
+  pub next : Option Tick
   pub steps : ℕ
-  pub lost : ℕ
+  pub lost : Ticks
   pub trace : List Entry
 
 -- the state of a partition (own)
@@ -94,11 +95,11 @@ abbrev pub with_syncs : (Syncs → Syncs) → Part → Part
 with_syncs f s = record s { syncs = f s.syncs }
 
 -- what one thread keeps of cancellation (own)
-abbrev pub with_cancellation : ℕ → (Cancellation → Cancellation) → Part → Part
+abbrev pub with_cancellation : ThreadNumber → (Cancellation → Cancellation) → Part → Part
 with_cancellation t f s = record s { cancellations = pool_update s.cancellations t f }
 
 -- the cleanup handlers of one thread (own)
-abbrev pub with_cleanups : ℕ → (List Cleanup → List Cleanup) → Part → Part
+abbrev pub with_cleanups : ThreadNumber → (List Cleanup → List Cleanup) → Part → Part
 with_cleanups t f s = record s { cleanups = pool_update s.cleanups t f }
 
 -- the keys (own)

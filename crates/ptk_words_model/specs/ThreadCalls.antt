@@ -1,7 +1,7 @@
 -- Calls 10 to 18: threads and their scheduling (pthread_create to pthread_setschedprio).
 use Rattle.std.specs.Prelude.{Bool, true, ◌||◌, ◌==◌, nat_lt, if◌then◌else◌, Some, None, is_some}
 use Rattle.std.specs.List.{list_any}
-use Rattle.ptk_words.specs.Names.{ThreadNumber, PriorityLevel}
+use Rattle.ptk_words.specs.Names.{ThreadNumber, Priority}
 use Rattle.ptk_words.specs.Pools.{least_free, without}
 use Rattle.ptk_words.specs.declared.faults.Errno.TheVariants.{EAGAIN, EINVAL, EDEADLK, ENOTSUP}
 use Rattle.ptk_words.specs.declared.threads.Thread.{Thread}
@@ -102,7 +102,7 @@ getschedparam = do
   succeed_with_both (policy_number target.policy) target.priority
 
 -- a running or ready thread whose assigned priority was the old one goes to the tail where it rose, to the head where it fell (pthread_setschedprio, XSH 2.8.4)
-abbrev pub after_priority_change : PriorityLevel → PriorityLevel → ThreadNumber → Part → Part
+abbrev pub after_priority_change : Priority → Priority → ThreadNumber → Part → Part
 after_priority_change old new t s =
     if nat_lt old new then after_placing_at_tail t s
     else if nat_lt new old then after_placing at_head t s
