@@ -23,16 +23,16 @@ use Rattle.ptk_words.specs.Phases.{is_normal}
 
 -- ---- calls and replies
 
--- the state after a call, with the reply in the caller's registers, and what the call came to (own)
+-- the state after a call, with the reply in the caller's registers, and what the call came to
 pub record Answer : Type 0 where
   pub part : Part
   pub reply : Reply
 
--- this state with this reply (own)
+-- this state with this reply
 abbrev pub answer : Reply → Part → Answer
 answer reply s = record { part = s; reply = reply }
 
--- the values in the thread's a0, a1 and so on (own)
+-- the values in the thread's a0, a1 and so on
 abbrev pub replied : ThreadNumber → List Word → Part → Part
 replied t values s = with_locks (with_thread t (with_reply values)) s
 
@@ -70,15 +70,15 @@ is_cancelled s t = is_normal (phase_of (thread_at s.locks t)) && unwrap_or (opti
 abbrev pub cancellation_answer : Invocation → Part → Answer
 cancellation_answer i s = answer Unwinding (after_unwinding_start i.caller CANCELED s)
 
--- a mutex at a number of the pool, or none (own)
+-- a mutex at a number of the pool, or none
 abbrev pub with_pool_mutex : MutexNumber → Option Mutex → Part → Part
 with_pool_mutex m mutex s = with_locks (λ locks. record locks { mutexes = pool_set locks.mutexes m mutex }) s
 
--- a condition variable at a number of the pool, or none (own)
+-- a condition variable at a number of the pool, or none
 abbrev pub with_pool_condition : ConditionNumber → Option Condition → Part → Part
 with_pool_condition c condition s = with_syncs (λ syncs. record syncs { conditions = pool_set syncs.conditions c condition }) s
 
--- the word stored at the pointer (own)
+-- the word stored at the pointer
 abbrev pub with_stored : Pointer → Word → Part → Part
 with_stored pointer word s = record s { memory = with_word s.memory pointer word }
 
@@ -94,12 +94,12 @@ using_mutex pointer i s next =
     else if is_some (mutex_at s.locks (word_at s.memory pointer)) then next (word_at s.memory pointer) s
     else refusal EINVAL i s
 
--- a condition variable likewise (PTHREAD_COND_INITIALIZER; own, ENOMEM)
+-- a condition variable at the least free number, which the word then holds (PTHREAD_COND_INITIALIZER; own, ENOMEM)
 abbrev pub set_up_condition : Option ConditionNumber → Pointer → Invocation → Part → (ConditionNumber → Part → Answer) → Answer
 set_up_condition None pointer i s next = refusal ENOMEM i s
 set_up_condition (Some c) pointer i s next = next c (with_stored pointer c (with_pool_condition c (Some (record { waiters = [] })) s))
 
--- the condition variable of a word, likewise (pthread_cond_init; own, EINVAL)
+-- the condition variable of a word: 0 sets one up, the number of one in use names it (pthread_cond_init; own, EINVAL)
 abbrev pub using_condition : Pointer → Invocation → Part → (ConditionNumber → Part → Answer) → Answer
 using_condition pointer i s next =
     if word_at s.memory pointer == 0 then set_up_condition (least_free s.conditions) pointer i s next

@@ -1,5 +1,5 @@
 -- Calls 40 to 45: cancellation and cleanup handlers (pthread_cancel, pthread_setcancelstate, pthread_cleanup_push).
-use Rattle.std.specs.Prelude.{ℕ, true, List, [], ◌∷◌, length, ◌==◌, nat_lt, nat_le, if◌then◌else◌, unwrap_or}
+use Rattle.std.specs.Prelude.{true, List, [], ◌∷◌, length, ◌==◌, nat_lt, nat_le, if◌then◌else◌, unwrap_or}
 use Rattle.ptk_words.specs.Names.{ThreadNumber}
 use Rattle.ptk_words.specs.Pools.{numbered}
 use Rattle.ptk_words.specs.declared.TheConstants.{CLEANUP_LIMIT}

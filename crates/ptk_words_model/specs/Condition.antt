@@ -16,7 +16,7 @@ use Rattle.ptk_words_model.specs.Mutex.{after_unlock, after_relock, wait_of}
 abbrev pub condition_waiters : Syncs → ConditionNumber → List ThreadNumber
 condition_waiters syncs c = unwrap_or (option_map (λ condition. condition.waiters) (pool_get syncs.conditions c)) []
 
--- the condition variable with these waiters (own)
+-- the condition variable with these waiters
 abbrev pub with_condition_waiters : ConditionNumber → List ThreadNumber → Syncs → Syncs
 with_condition_waiters c waiters syncs = record syncs { conditions = pool_set syncs.conditions c (Some (record { waiters = waiters })) }
 
@@ -30,7 +30,7 @@ mutex_named (Some (MutexWait m deadline)) = None
 mutex_named (Some (ConditionWait c m deadline)) = Some m
 mutex_named (Some (RelockWait m reply)) = None
 
--- that mutex is m (own)
+-- the mutex named is m
 abbrev pub is_named : MutexNumber → Option MutexNumber → Bool
 is_named m None = false
 is_named m (Some n) = n == m

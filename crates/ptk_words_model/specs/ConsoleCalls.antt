@@ -1,5 +1,5 @@
 -- Calls 0 to 2: the partition's exit and its console (own).
-use Rattle.std.specs.Prelude.{ℕ, ◌%◌, List, [], ◌∷◌}
+use Rattle.std.specs.Prelude.{◌%◌, List, [], ◌∷◌}
 use Rattle.ptk_words.specs.Names.{Byte}
 use Rattle.ptk_words.specs.declared.faults.Errno.TheVariants.{EAGAIN}
 use Rattle.ptk_words.specs.declared.faults.Status.TheVariants.{Exited}
@@ -34,7 +34,7 @@ take_input (byte ∷ ring) = do
   change (with_console (λ console. record console { ring = ring }))
   succeed_with byte
 
--- a byte of input (own)
+-- a byte of input
 abbrev pub console_get : Row
 console_get = do
   s ← state

@@ -35,11 +35,11 @@ abbrev pub after_arrival_for : Option ThreadNumber → ℕ → Byte → Part →
 after_arrival_for (Some t) limit byte s = with_locks (after_wake t (0 ∷ byte ∷ [])) (with_console (without_waiter t) s)
 after_arrival_for None limit byte s = with_console (with_input limit byte) s
 
--- the waiter of greatest effective priority, the earliest among equals (own)
+-- the console's waiter of greatest effective priority, the earliest among equals (own)
 abbrev pub first_waiter : Part → Option ThreadNumber
 first_waiter s = first_of_greatest (effective_priority s.locks) s.console.waiters
 
--- the byte goes to that waiter (own)
+-- the byte goes to the first waiter
 abbrev pub after_arrival : ℕ → Part → Arrival → Part
 after_arrival limit s arrival = after_arrival_for (first_waiter s) limit arrival.byte s
 
@@ -49,17 +49,17 @@ after_arrivals limits tick s = fold (after_arrival limits.ring) (with_console (w
 
 -- ---- the running thread's next step
 
--- the thread of this number, if it is in use (own)
+-- the thread of this number, if it is in use
 abbrev pub runner_at : ThreadNumber → Option Thread → Option Runner
 runner_at t None = None
 runner_at t (Some thread) = Some (record { number = t; thread = thread })
 
--- the thread that runs, if one does (own)
+-- the thread that runs, if one does
 abbrev pub runner_in : Option ThreadNumber → Part → Option Runner
 runner_in None s = None
 runner_in (Some t) s = runner_at t (thread_at s.locks t)
 
--- the same of the state (own)
+-- the running thread with its number, if one runs
 abbrev pub runner_of : Part → Option Runner
 runner_of s = runner_in s.running s
 
@@ -73,7 +73,7 @@ is_to_unwind s t thread =
 abbrev pub word_fetched : List Byte → Pointer → Word
 word_fetched memory pc = if pc % 4 == 0 && can_fetch memory pc then word_at memory pc else 0
 
--- by the thread, its pc and the word there (own)
+-- what the running thread's next step is, by the thread, its pc and the word there
 abbrev pub step_kind : Part → ThreadNumber → Thread → StepKind
 step_kind s t thread =
     if is_to_unwind s t thread then UnwindingStart
@@ -90,11 +90,11 @@ step_cost InstructionStep = 1
 
 -- ---- carrying it out
 
--- the thread with these registers (own)
+-- the thread with these registers
 abbrev pub with_cpu : ThreadNumber → Processor → Part → Part
 with_cpu t cpu s = with_locks (with_thread t (λ thread. record thread { cpu = cpu })) s
 
--- the call that the registers state (own)
+-- the call that the registers state
 abbrev pub invocation : Limits → Tick → ThreadNumber → Processor → Invocation
 invocation limits tick t cpu =
     record {
@@ -108,7 +108,7 @@ invocation limits tick t cpu =
       a4 = register cpu A4;
     }
 
--- the call of a7 (RISC-V 2.8; own)
+-- the call of a7 (RISC-V 2.8)
 abbrev pub after_call : Limits → Tick → ThreadNumber → Processor → Part → Part
 after_call limits tick t cpu s = (answer_to (call_of (register cpu A7)) (invocation limits tick t cpu) s).part
 
@@ -119,7 +119,7 @@ after_effect limits tick t pc (Call cpu) s = after_call limits tick t cpu (with_
 after_effect limits tick t pc Break s = with_halt (Stopped cause.Break pc) s
 after_effect limits tick t pc (Fault kind) s = with_halt (Stopped (cause.Fault kind) pc) s
 
--- the state after the step (own)
+-- the state after the step
 abbrev pub after_step : Limits → Tick → Runner → StepKind → Part → Part
 after_step limits tick r UnwindingStart s = after_unwinding_start r.number CANCELED s
 after_step limits tick r GateStep s = after_gate_step r.thread.phase r.number r.thread s
@@ -128,7 +128,7 @@ after_step limits tick r InstructionStep s = after_effect limits tick r.number r
 
 -- ---- the trace
 
--- the word of a step that fetches one, 0 of another (own)
+-- the word of a step that fetches one, 0 of another
 abbrev pub traced_word : StepKind → List Byte → Pointer → Word
 traced_word UnwindingStart memory pc = 0
 traced_word GateStep memory pc = 0
@@ -140,7 +140,7 @@ abbrev pub a0_after : Thread → Option Thread → Word
 a0_after before None = register before.cpu A0
 a0_after before (Some after) = if is_ended after.phase then register before.cpu A0 else register after.cpu A0
 
--- the step as the trace keeps it: by the thread and the memory before it, and the thread after it (own)
+-- the step as the trace keeps it: by the thread and the memory before it, and the thread after it
 abbrev pub entry_of : Tick → Runner → StepKind → List Byte → Option Thread → Entry
 entry_of tick r kind memory after =
     record {
@@ -153,7 +153,7 @@ entry_of tick r kind memory after =
 
 -- ---- the decision
 
--- a step with its place in the trace and in the round-robin interval (own)
+-- a step with its place in the trace and in the round-robin interval
 abbrev pub after_whole_step : Limits → Tick → Runner → StepKind → Part → Part
 after_whole_step limits tick r kind s =
     let after : Part = after_step limits tick r kind s in
@@ -166,13 +166,13 @@ after_turn limits tick room None s = s
 after_turn limits tick room (Some r) s =
     if nat_lt room (step_cost (step_kind s r.number r.thread)) then s else after_whole_step limits tick r (step_kind s r.number r.thread) s
 
--- what this comes to: no thread runs, the rest of the window is lost, or a step of so many ticks (own)
+-- what a turn comes to: no thread runs, the rest of the window is lost, or a step of so many ticks (own)
 abbrev pub spent_in_turn : Ticks → Option Runner → Part → Spent
 spent_in_turn room None s = Idle
 spent_in_turn room (Some r) s =
     if nat_lt room (step_cost (step_kind s r.number r.thread)) then Lost else Step (step_cost (step_kind s r.number r.thread))
 
--- after the arrivals, the expiries and the choice of a tick (own)
+-- after the arrivals, the expiries and the choice of a tick
 abbrev pub ready_at : Limits → Tick → Part → Part
 ready_at limits tick s = after_choice (after_expiries tick (after_arrivals limits tick s))
 
@@ -180,6 +180,6 @@ ready_at limits tick s = after_choice (after_expiries tick (after_arrivals limit
 abbrev pub after_decision : Limits → Tick → Ticks → Part → Part
 after_decision limits tick room s = let ready : Part = ready_at limits tick s in after_turn limits tick room (runner_of ready) ready
 
--- what the decision spends (own)
+-- what the decision spends
 abbrev pub spent_by_decision : Limits → Tick → Ticks → Part → Spent
 spent_by_decision limits tick room s = let ready : Part = ready_at limits tick s in spent_in_turn room (runner_of ready) ready

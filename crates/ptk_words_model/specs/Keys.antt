@@ -31,11 +31,11 @@ values_of keys t = unwrap_or (numbered keys.values t) []
 abbrev pub value_of : List Word → KeyNumber → Word
 value_of values k = unwrap_or (numbered values k) 0
 
--- the values of a thread changed by f (own)
+-- the values of a thread changed by f
 abbrev pub with_values : ThreadNumber → (List Word → List Word) → Keys → Keys
 with_values t f keys = record keys { values = pool_update keys.values t f }
 
--- how far the destructor calls of a thread are, changed by f (own)
+-- how far the destructor calls of a thread are, changed by f
 abbrev pub with_rounds : ThreadNumber → (Rounds → Rounds) → Keys → Keys
 with_rounds t f keys = record keys { rounds = pool_update keys.rounds t f }
 
@@ -62,7 +62,7 @@ destructor_of keys k = unwrap_or (pool_get keys.destructors k) 0
 abbrev pub is_due : Keys → List Word → KeyNumber → Bool
 is_due keys values k = not (destructor_of keys k == 0) && not (value_of values k == 0)
 
--- those keys, in ascending order (pthread_key_create; own)
+-- the keys whose destructor is due, in ascending order (pthread_key_create; own)
 abbrev pub due_keys : Keys → List Word → List KeyNumber
 due_keys keys values = filter (is_due keys values) (numbers_of keys.destructors)
 
@@ -85,7 +85,7 @@ abbrev pub due_in_next_round : Keys → List Word → Rounds → Option Destruct
 due_in_next_round keys values rounds =
     if nat_lt rounds.round DESTRUCTOR_ROUNDS then option_map (destructor_call values (suc rounds.round)) (slice_get (due_keys keys values) 0) else None
 
--- the next destructor of a thread (pthread_key_create; own)
+-- the next destructor of a thread (pthread_key_create)
 abbrev pub next_destructor : Keys → ThreadNumber → Option DestructorCall
 next_destructor keys t =
     option_and_then (λ rounds. option_or (due_in_round keys (values_of keys t) rounds) (due_in_next_round keys (values_of keys t) rounds))

@@ -22,11 +22,11 @@ use Rattle.ptk_words_model.specs.Schedule.{with_thread, woken_with, at_tail_with
 
 -- ---- parts
 
--- the mutex of a number (own)
+-- the mutex of a number
 abbrev pub mutex_at : Locks → MutexNumber → Option Mutex
 mutex_at locks m = pool_get locks.mutexes m
 
--- the mutex of a number changed by f; a free number stays free (own)
+-- the mutex of a number changed by f; a free number stays free
 abbrev pub with_mutex : MutexNumber → (Mutex → Mutex) → Locks → Locks
 with_mutex m f locks = record locks { mutexes = pool_changed m f locks.mutexes }
 
@@ -83,7 +83,7 @@ own_lock_move Normal count = Waits
 own_lock_move ErrorCheck count = Refuses EDEADLK
 own_lock_move Recursive count = count_move count
 
--- the same for trylock (pthread_mutex_trylock)
+-- trylock of a mutex of one's own, by its type (pthread_mutex_trylock)
 abbrev pub own_trylock_move : MutexKind → ℕ → LockMove
 own_trylock_move Normal count = Refuses EBUSY
 own_trylock_move ErrorCheck count = Refuses EBUSY
@@ -103,7 +103,7 @@ lock_move locks t (Some m) =
     then Refuses EINVAL
     else owner_move m.owner t (own_lock_move m.kind m.count) Waits
 
--- the move of trylock, likewise (pthread_mutex_trylock; own)
+-- the move of trylock; the ceiling is tested first (pthread_mutex_trylock; own)
 abbrev pub trylock_move : Locks → ThreadNumber → Option Mutex → LockMove
 trylock_move locks t None = Refuses EINVAL
 trylock_move locks t (Some m) =
@@ -152,7 +152,7 @@ after_hand_over_to (Some t) m locks =
 abbrev pub heir : MutexNumber → Locks → Option ThreadNumber
 heir m locks = first_of_greatest (effective_priority locks) (waiters_of (mutex_at locks m))
 
--- the mutex goes to that waiter (pthread_mutex_unlock)
+-- the mutex goes to its heir (pthread_mutex_unlock)
 abbrev pub after_hand_over : MutexNumber → Locks → Locks
 after_hand_over m locks = after_hand_over_to (heir m locks) m locks
 
@@ -197,6 +197,6 @@ abbrev pub mutex_after_end : ThreadNumber → Option Mutex → Option Mutex
 mutex_after_end t None = None
 mutex_after_end t (Some m) = Some (if is_owner t m.owner then record m { owner = Abandoned } else m)
 
--- so do all its mutexes (own)
+-- all mutexes of the ended thread stay locked, and nobody owns them (own)
 abbrev pub after_owner_end : ThreadNumber → Locks → Locks
 after_owner_end t locks = record locks { mutexes = map (mutex_after_end t) locks.mutexes }

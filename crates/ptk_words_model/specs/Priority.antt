@@ -12,7 +12,7 @@ use Rattle.ptk_words.specs.declared.mutexes.Owner.TheVariants.{Free, Abandoned, 
 use Rattle.ptk_words_model.specs.State.{Mutex, Locks}
 use Rattle.ptk_words_model.specs.Chain.{Leads, greatest_leading}
 
--- the thread of a number (own)
+-- the thread of a number
 abbrev pub thread_at : Locks → ThreadNumber → Option Thread
 thread_at locks t = pool_get locks.threads t
 
@@ -20,7 +20,7 @@ thread_at locks t = pool_get locks.threads t
 abbrev pub assigned_of : List (Option Thread) → ThreadNumber → Priority
 assigned_of threads t = unwrap_or (option_map (λ thread. thread.priority) (pool_get threads t)) 0
 
--- the same of the locks (XSH 2.8.4)
+-- the assigned priority of a thread of these locks (XSH 2.8.4)
 abbrev pub assigned_priority : Locks → ThreadNumber → Priority
 assigned_priority locks t = assigned_of locks.threads t
 
@@ -68,7 +68,7 @@ inheritor Inherit Free = None
 inheritor Inherit Abandoned = None
 inheritor Inherit (OwnedBy u) = Some u
 
--- the same of an entry of the pool (pthread_mutexattr_getprotocol)
+-- the owner of an INHERIT mutex of the pool, where it is a thread (pthread_mutexattr_getprotocol)
 abbrev pub inheritor_of : Option Mutex → Option ThreadNumber
 inheritor_of None = None
 inheritor_of (Some m) = inheritor m.protocol m.owner
@@ -81,11 +81,11 @@ next_of threads mutexes t = option_and_then (λ m. inheritor_of (pool_get mutexe
 abbrev pub effective_of : List (Option Thread) → List (Option Mutex) → ThreadNumber → Priority
 effective_of threads mutexes t = greatest_leading (length threads) (next_of threads mutexes) (held_of threads mutexes) t
 
--- the same of the locks (pthread_mutexattr_getprotocol)
+-- the effective priority of a thread of these locks (pthread_mutexattr_getprotocol)
 abbrev pub effective_priority : Locks → ThreadNumber → Priority
 effective_priority locks t = effective_of locks.threads locks.mutexes t
 
--- that of each number, in order (own)
+-- the effective priority of each number, in order
 abbrev pub effective_priorities : List (Option Thread) → List (Option Mutex) → List Priority
 effective_priorities threads mutexes = map (effective_of threads mutexes) (numbers_of threads)
 

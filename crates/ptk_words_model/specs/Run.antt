@@ -66,12 +66,12 @@ with_image limits (Ok image) s =
     then with_new_thread limits 1 (main_thread limits image) (record s { memory = memory_of limits image })
     else record s { status = Refused Unfit }
 
--- the same of bytes; without an image no thread starts (own)
+-- the start by the bytes of an image, or without one, when no thread starts (own)
 abbrev pub with_image_bytes : Limits → Option (List Byte) → Part → Part
 with_image_bytes limits None s = s
 with_image_bytes limits (Some bytes) s = with_image limits (image_of bytes) s
 
--- not halted (own)
+-- not halted
 abbrev pub is_active : Status → Bool
 is_active Active = true
 is_active (Exited code) = false
@@ -82,7 +82,7 @@ is_active (Refused fault) = false
 abbrev pub next_from : OwnTicks → Status → Tick → Option Tick
 next_from ticks status tick = if is_active status then ticks.next_of tick else None
 
--- what the partition starts with (own)
+-- what the partition starts with
 abbrev pub start_part : Limits → Option (List Byte) → List Arrival → Part
 start_part limits image input = with_image_bytes limits image (empty_part limits input)
 
@@ -94,7 +94,7 @@ start ticks limits image input =
 
 -- ---- ticks
 
--- the last of the list, at most so many (own)
+-- the last of the list, at most so many
 abbrev pub last_of : {A : Type 0} → ℕ → List A → List A
 last_of count xs = drop (length xs - count) xs
 
@@ -110,13 +110,13 @@ accounted ticks limits tick room part (Step cost) account =
       trace = last_of limits.trace (account.trace ++ option_to_list part.last);
     }
 
--- the state after the decision at a tick with this room (own)
+-- the state after the decision at a tick with this room
 abbrev pub decided : OwnTicks → Limits → Tick → Ticks → State → State
 decided ticks limits tick room s =
     let after : Part = after_decision limits tick room s.part in
     record { part = after; account = accounted ticks limits tick room after (spent_by_decision limits tick room s.part) s.account }
 
--- the next decision is at the tick (own)
+-- the next decision is at the tick
 abbrev pub is_at : Tick → Option Tick → Bool
 is_at tick None = false
 is_at tick (Some n) = n == tick
@@ -126,7 +126,7 @@ abbrev pub after_tick_until : Option Tick → OwnTicks → Limits → Tick → S
 after_tick_until None ticks limits tick s = s
 after_tick_until (Some end) ticks limits tick s = if is_at tick s.account.next then decided ticks limits tick (end - tick) s else s
 
--- the state after a tick (own)
+-- the state after a tick
 abbrev pub after_tick : OwnTicks → Limits → Tick → State → State
 after_tick ticks limits tick s = after_tick_until (ticks.end_at tick) ticks limits tick s
 

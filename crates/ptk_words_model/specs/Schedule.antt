@@ -12,16 +12,16 @@ use Rattle.ptk_words_model.specs.Priority.{effective_priority}
 
 -- ---- parts of the state
 
--- the thread of a number changed by f; a free number stays free (own)
+-- the thread of a number changed by f; a free number stays free
 abbrev pub with_thread : ThreadNumber → (Thread → Thread) → Locks → Locks
 with_thread t f locks = record locks { threads = pool_changed t f locks.threads }
 
--- the values in the registers from i on (own)
+-- the values in the registers from i on
 abbrev pub with_registers : Processor → ℕ → List Word → Processor
 with_registers cpu i [] = cpu
 with_registers cpu i (value ∷ values) = with_registers (with_register cpu i value) (suc i) values
 
--- the thread with the values in a0, a1 and so on (own)
+-- the thread with the values in a0, a1 and so on
 abbrev pub with_reply : List Word → Thread → Thread
 with_reply values thread = record thread { cpu = with_registers thread.cpu A0 values }
 

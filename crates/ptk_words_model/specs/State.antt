@@ -33,7 +33,7 @@ pub record Locks : Type 0 where
   pub line : List ThreadNumber
   pub mutexes : List (Option Mutex)
 
--- those and the condition variables: what the condition calls read and change (pthread_cond_wait)
+-- threads, line, mutexes and condition variables: what the condition calls read and change (pthread_cond_wait)
 pub record Syncs : Type 0 where
   pub locks : Locks
   pub open locks use *
@@ -57,7 +57,7 @@ pub record Console : Type 0 where
 
 -- ---- the partition
 
--- what the kernel keeps of a partition: every part of it is its own (own)
+-- what the kernel keeps of a partition: every part of it is its own
 pub record Part : Type 0 where
   pub memory : List Byte
   pub syncs : Syncs
@@ -72,41 +72,41 @@ pub record Part : Type 0 where
   -- the last step, if there was one
   pub last : Option Entry
 
--- what the system adds: the tick of the next decision, if any, the steps, the lost ticks, and the last steps, oldest first (own)
+-- what the system adds: the tick of the next decision, if any, the steps, the lost ticks, and the last steps, oldest first
 pub record Account : Type 0 where
   pub next : Option Tick
   pub steps : ℕ
   pub lost : Ticks
   pub trace : List Entry
 
--- the state of a partition (own)
+-- the state of a partition
 pub record State : Type 0 where
   pub part : Part
   pub account : Account
 
 -- ---- one part of the state changed
 
--- the threads, the line or the mutexes (own)
+-- the threads, the line or the mutexes
 abbrev pub with_locks : (Locks → Locks) → Part → Part
 with_locks f s = record s { syncs = record (s.syncs) { locks = f s.locks } }
 
--- those or the condition variables (own)
+-- the threads, the line, the mutexes or the condition variables
 abbrev pub with_syncs : (Syncs → Syncs) → Part → Part
 with_syncs f s = record s { syncs = f s.syncs }
 
--- what one thread keeps of cancellation (own)
+-- what one thread keeps of cancellation
 abbrev pub with_cancellation : ThreadNumber → (Cancellation → Cancellation) → Part → Part
 with_cancellation t f s = record s { cancellations = pool_update s.cancellations t f }
 
--- the cleanup handlers of one thread (own)
+-- the cleanup handlers of one thread
 abbrev pub with_cleanups : ThreadNumber → (List Cleanup → List Cleanup) → Part → Part
 with_cleanups t f s = record s { cleanups = pool_update s.cleanups t f }
 
--- the keys (own)
+-- the keys
 abbrev pub with_keys : (Keys → Keys) → Part → Part
 with_keys f s = record s { keys = f s.keys }
 
--- the console (own)
+-- the console
 abbrev pub with_console : (Console → Console) → Part → Part
 with_console f s = record s { console = f s.console }
 

@@ -58,7 +58,7 @@ head_text name s =
     codes "partition " ++ (name ++ (codes " " ++ (status_text s.part.status s.part
     ++ (codes " steps " ++ (decimal s.account.steps ++ (codes " lost " ++ (decimal s.account.lost ++ newline)))))))
 
--- its output, after a line with the length (own)
+-- the output, after a line with its length (own)
 abbrev pub output_text : List Byte → List Byte
 output_text output = codes "output " ++ (decimal (length output) ++ (newline ++ (output ++ newline)))
 

@@ -28,7 +28,7 @@ use Rattle.ptk_words_model.specs.Calls.{is_pointer}
 abbrev pub policy_of : Word → Option Policy
 policy_of n = if n == 1 then Some Fifo else if n == 2 then Some RoundRobin else None
 
--- the number of a policy, which names it (own)
+-- the number of a policy, which names it
 abbrev pub policy_number : Policy → Word
 policy_number Fifo = 1
 policy_number RoundRobin = 2
@@ -37,7 +37,7 @@ policy_number RoundRobin = 2
 abbrev pub is_priority : Word → Bool
 is_priority n = nat_le 1 n && nat_le n 32
 
--- the priority of a word, if it is one (own)
+-- the priority of a word, if it is one
 abbrev pub priority_of : Word → Option Priority
 priority_of word = if is_priority word then Some word else None
 
@@ -51,11 +51,11 @@ pub record Attributes : Type 0 where
   pub priority : ℕ
   pub stack_top : ℕ
 
--- a word of the attributes object, 0 of pointer 0 (own)
+-- a word of the attributes object, 0 of pointer 0
 abbrev pub attribute : Part → Pointer → ℕ → Word
 attribute s pointer offset = if pointer == 0 then 0 else word_at s.memory (pointer + offset)
 
--- the attributes object at the pointer (own)
+-- the attributes object at the pointer
 abbrev pub attributes_at : Part → Pointer → Attributes
 attributes_at s pointer =
     record {
@@ -71,12 +71,12 @@ abbrev pub readable_attributes : Part → Pointer → Result Attributes Errno
 readable_attributes s pointer = if pointer == 0 || is_pointer s pointer 20 then Ok (attributes_at s pointer) else Err EFAULT
 
 infixl 10 ◌>>=◌
--- the next check comes only where the one before found no fault (own)
+-- the next check comes only where the one before found no fault
 abbrev pub ◌>>=◌ : {A B : Type 0} → Result A Errno → (A → Result B Errno) → Result B Errno
 Ok a >>= f = f a
 Err e >>= f = Err e
 
--- the value, or this error where there is none (own)
+-- the value, or this error where there is none
 abbrev pub or_error : {A : Type 0} → Option A → Errno → Result A Errno
 or_error (Some a) e = Ok a
 or_error None e = Err e

@@ -1,5 +1,5 @@
 -- Calls 3 and 4: the clocks (clock_gettime, clock_nanosleep).
-use Rattle.std.specs.Prelude.{ℕ, Bool, nat_lt, nat_le}
+use Rattle.std.specs.Prelude.{Bool, nat_lt, nat_le}
 use Rattle.ptk_words.specs.Names.{Word}
 use Rattle.ptk_words.specs.Words.{with_bytes}
 use Rattle.ptk_words.specs.declared.faults.Errno.TheVariants.{EINVAL}

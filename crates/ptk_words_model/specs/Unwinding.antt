@@ -1,5 +1,5 @@
 -- Unwinding: cleanup handlers, key destructors and a thread's end (XSH 2.9.5.3; pthread_exit, pthread_key_create).
-use Rattle.std.specs.Prelude.{ℕ, ◌%◌, Bool, true, false, not, ◌||◌, List, [], ◌∷◌, if◌then◌else◌, Option, Some, None, unwrap_or, is_some}
+use Rattle.std.specs.Prelude.{◌%◌, Bool, false, not, ◌||◌, List, [], ◌∷◌, if◌then◌else◌, Option, Some, None, unwrap_or, is_some}
 use Rattle.std.specs.List.{list_any}
 use Rattle.ptk_words.specs.Names.{Pointer, ThreadNumber, Word}
 use Rattle.ptk_words.specs.declared.TheConstants.{A0, RA, RETURN_GATE}
@@ -19,7 +19,7 @@ use Rattle.ptk_words_model.specs.Keys.{DestructorCall, destructor_of, next_destr
 
 -- ---- the beginning
 
--- the phase of a thread (own)
+-- the phase of a thread
 abbrev pub phase_of : Option Thread → Phase
 phase_of None = Ended
 phase_of (Some thread) = thread.phase
@@ -70,7 +70,7 @@ after_end t s =
 abbrev pub cpu_at_call : Pointer → Word → Processor → Processor
 cpu_at_call routine argument cpu = record (with_register (with_register cpu A0 argument) RA RETURN_GATE) { pc = routine }
 
--- the thread calls the routine (own)
+-- the thread calls the routine
 abbrev pub after_routine_call : ThreadNumber → Pointer → Word → Part → Part
 after_routine_call t routine argument s = with_locks (with_thread t (λ thread. record thread { cpu = cpu_at_call routine argument thread.cpu })) s
 
@@ -95,7 +95,7 @@ abbrev pub after_return : ThreadNumber → Thread → Part → Part
 after_return t thread s =
     if thread.is_main then with_halt (Exited (register thread.cpu A0 % 256)) s else after_unwinding_start t (register thread.cpu A0) s
 
--- a step at the return gate, by the thread's phase (own)
+-- a step at the return gate, by the thread's phase
 abbrev pub after_gate_step : Phase → ThreadNumber → Thread → Part → Part
 after_gate_step Normal t thread s = after_return t thread s
 after_gate_step Unwinding t thread s = after_unwinding_move t (cleanups_of s t) s
