@@ -4,15 +4,15 @@ use Rattle.ptk_words.specs.Names.{Byte}
 use Rattle.ptk_words.specs.declared.faults.Errno.TheVariants.{EAGAIN}
 use Rattle.ptk_words.specs.declared.faults.Status.TheVariants.{Exited}
 use Rattle.ptk_words.specs.declared.threads.Wait.TheVariants.{InputWait}
-use Rattle.ptk_words_model.specs.declared.Reply.TheVariants.{Halted}
-use Rattle.ptk_words_model.specs.State.{with_console, with_halt}
+use Rattle.ptk_words_model.specs.State.{with_console}
 use Rattle.ptk_words_model.specs.Console.{is_full, with_output, with_waiter}
-use Rattle.ptk_words_model.specs.Calls.{answer}
-use Rattle.ptk_words_model.specs.Steps.{Row, ◌>>=◌, ◌>>◌, registers, state, refuse◌when◌, cancellation_point, change, succeed, succeed_with, block_in}
+use Rattle.ptk_words_model.specs.Steps.{Row, ◌>>=◌, ◌>>◌, registers, state, refuse◌when◌, cancellation_point, change, succeed, succeed_with, block_in, halt}
 
 -- the partition exits with the low 8 bits of the code (own)
 abbrev pub exit_call : Row
-exit_call i s = answer Halted (with_halt (Exited (i.a0 % 256)) s)
+exit_call = do
+  i ← registers
+  halt (Exited (i.a0 % 256))
 
 -- a byte at the end of the output, which has a limit (own, EAGAIN)
 abbrev pub console_put : Row

@@ -3,14 +3,16 @@ use Rattle.std.specs.Prelude.{ℕ, Bool, not, [], ◌∷◌, if◌then◌else◌
 use Rattle.ptk_words.specs.Names.{ThreadNumber, MutexNumber, ConditionNumber, Pointer, Word}
 use Rattle.ptk_words.specs.declared.faults.Errno.{Errno}
 use Rattle.ptk_words.specs.declared.faults.Errno.TheVariants.{ESRCH, EFAULT}
+use Rattle.ptk_words.specs.declared.faults.Status.{Status}
 use Rattle.ptk_words.specs.declared.threads.Thread.{Thread}
 use Rattle.ptk_words.specs.declared.threads.Wait.{Wait}
-use Rattle.ptk_words_model.specs.State.{Locks, Syncs, Part, with_locks, with_syncs}
+use Rattle.ptk_words_model.specs.State.{Locks, Syncs, Part, with_locks, with_syncs, with_halt}
 use Rattle.ptk_words_model.specs.Priority.{thread_at}
 use Rattle.ptk_words_model.specs.Schedule.{with_thread}
-use Rattle.ptk_words_model.specs.Unwinding.{without_thread}
+use Rattle.ptk_words_model.specs.Unwinding.{after_unwinding_start, without_thread}
 use Rattle.ptk_words_model.specs.declared.Invocation.{Invocation}
-use Rattle.ptk_words_model.specs.Calls.{Answer, refusal, success, blocked, blocked_in, is_pointer, is_cancelled, cancellation_answer, using_mutex, using_condition}
+use Rattle.ptk_words_model.specs.declared.Reply.TheVariants.{Halted, Unwinding}
+use Rattle.ptk_words_model.specs.Calls.{Answer, answer, refusal, success, blocked, blocked_in, is_pointer, is_cancelled, cancellation_answer, using_mutex, using_condition}
 
 -- ---- calls and their steps
 
@@ -136,3 +138,11 @@ block i s = blocked s
 -- the caller blocks in this wait (XSH 2.8.4)
 abbrev pub block_in : Wait → Row
 block_in wait i s = blocked_in wait i s
+
+-- the partition halts, and its caller gets no reply (own)
+abbrev pub halt : Status → Row
+halt status i s = answer Halted (with_halt status s)
+
+-- the caller begins unwinding with the value (XSH 2.9.5.3)
+abbrev pub unwind : Word → Row
+unwind value i s = answer Unwinding (after_unwinding_start i.caller value s)
