@@ -17,6 +17,7 @@ use Rattle.ptk_words_model.specs.declared.Cancellation.{Cancellation}
 use Rattle.ptk_words_model.specs.State.{Part, with_locks, with_cancellation, with_cleanups, with_keys}
 use Rattle.ptk_words_model.specs.Priority.{thread_at}
 use Rattle.ptk_words_model.specs.Mutex.{wait_of}
+use Rattle.ptk_words_model.specs.Withdrawal.{deadline_of_wait}
 use Rattle.ptk_words_model.specs.Keys.{no_values, no_rounds, with_rounds, with_values}
 use Rattle.ptk_words_model.specs.Unwinding.{is_alive}
 use Rattle.ptk_words.specs.Phases.{is_ended}
@@ -133,7 +134,7 @@ well_empty limits input interval = record {
   unused = record {
     mutexes = refl;
     conditions = refl;
-    deadlines = refl;
+    untimed = λ t. ap (λ o. deadline_of_wait (wait_of o)) (get-replicate limits.threads t);
     cleanups = refl;
     destructors = refl;
     values = refl;

@@ -27,7 +27,7 @@ well_kept_aside limits cancellations cleanups keys s size calm none destructors 
   unused = record {
     mutexes = well.unused.mutexes;
     conditions = well.unused.conditions;
-    deadlines = well.unused.deadlines;
+    untimed = well.unused.untimed;
     cleanups = none;
     destructors = destructors;
     values = values;

@@ -1,5 +1,5 @@
 -- What holds of a partition's state between moves.
-use Rattle.std.specs.Prelude.{◌≡◌, ℕ, ◌<◌, ◌≤◌, Bool, true, false, not, ◌&&◌, List, [], length, replicate, nat_eq, Option, Some, None, is_none}
+use Rattle.std.specs.Prelude.{◌≡◌, ℕ, ◌<◌, ◌≤◌, Bool, true, false, not, ◌&&◌, [], length, replicate, nat_eq, Option, Some, None, is_none}
 use Rattle.std.specs.List.{IsDistinct}
 use Rattle.ptk_words.specs.Pools.{numbered, is_in}
 use Rattle.ptk_words.specs.declared.sections.Limits.{Limits}
