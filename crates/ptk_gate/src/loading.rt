@@ -8,8 +8,10 @@ ghost use Rattle.ptk_words_model.specs.ThreadCreation.{with_new_thread};
 ghost use Rattle.ptk_gate_pools.specs.Kept.{part_at, put_part, limits_at};
 
 use crate::tables::Tables;
+use ptk_gate_moves::{begin, halt};
 use ptk_words::{
-    Cpu, ImageFault, Limits, PartId, Phase, Policy, Priority, RETURN_GATE, Status, Thread, ThreadNo,
+    Cpu, ImageFault, Limits, PartId, Phase, Policy, Priority, RA, RETURN_GATE, SP, Status, Thread,
+    ThreadNo,
 };
 
 impl Tables {
@@ -27,10 +29,10 @@ impl Tables {
         let limits = self.pools.limits(p);
         if fits(&limits, text, data, bss) {
             self.pools.fill_memory(p, text, data);
-            self.pools
-                .begin(p, ThreadNo::new(1), main_thread(&limits, entry));
+            let main = main_thread(&limits, entry);
+            begin(&mut self.pools, p, ThreadNo::new(1), main);
         } else {
-            self.pools.halt(p, Status::Refused(ImageFault::Unfit));
+            halt(&mut self.pools, p, Status::Refused(ImageFault::Unfit));
         }
     }
 
@@ -41,7 +43,7 @@ impl Tables {
         requires blank { part_at p self.old ≡ empty_part (limits_at p self.old) (part_at p self.old).console.coming }
         ensures { self.new ≡ put_part p (with_image (limits_at p self.old) (Err fault) (part_at p self.old)) self.old }
     {
-        self.pools.halt(p, Status::Refused(fault));
+        halt(&mut self.pools, p, Status::Refused(fault));
     }
 }
 
@@ -61,8 +63,8 @@ fn main_thread(limits: &Limits, entry: u32) -> Thread
     ensures { (image : ImageParts) → image.entry ≡ entry → result ≡ main_thread limits.now image }
 {
     let mut cpu = Cpu::at(entry);
-    cpu.set_register(2, limits.memory);
-    cpu.set_register(1, RETURN_GATE);
+    cpu.set_register(SP, limits.memory);
+    cpu.set_register(RA, RETURN_GATE);
     Thread {
         cpu,
         policy: Policy::Fifo,
