@@ -5,3 +5,4 @@ pub mod Faults
 pub mod Costs
 pub mod Image
 pub mod Ranges
+pub mod Threads

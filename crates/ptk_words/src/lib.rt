@@ -6,6 +6,7 @@
 
 mod costs;
 mod faults;
+mod memory;
 mod mutexes;
 mod numbers;
 mod processor;
@@ -14,6 +15,7 @@ mod threads;
 
 pub use costs::cost;
 pub use faults::{Cause, Errno, FaultKind, ImageFault, Status};
+pub use memory::read_word;
 pub use mutexes::{MutexKind, Owner, Protocol};
 pub use numbers::{CallNo, ConditionNo, MutexNo, PartId, Priority, SlotNo, ThreadNo, Tick};
 pub use processor::Cpu;
