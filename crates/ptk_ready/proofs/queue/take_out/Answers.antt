@@ -4,4 +4,4 @@ use Rattle.std.proofs.lemmas.Fn.{filter_same}
 use Rattle.ptk_ready.proofs.queue.take_out.Goals as goal
 
 pub returns-clause-items : goal.returns-clause-items
-returns-clause-items c = filter_same _ (λ (j : ℕ). not (j == c.args.thread)) _ (λ x b f' k. search rules) _ _ c.retain.ensures.filtered
+returns-clause-items c = filter_same _ (λ (j : ℕ). not (j == c.args.k)) _ (λ x b f' k. search rules) _ _ c.retain.ensures.filtered
