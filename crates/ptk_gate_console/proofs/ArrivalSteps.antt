@@ -8,7 +8,7 @@ use Rattle.ptk_words.specs.declared.threads.Thread.{Thread}
 use Rattle.ptk_words.specs.declared.threads.Wait.{Wait}
 use Rattle.ptk_words.specs.declared.threads.Wait.TheVariants.{InputWait}
 use Rattle.ptk_words_model.specs.Mutex.{wait_of}
-use Rattle.ptk_words.specs.Phases.{is_ended}
+use Rattle.ptk_words.specs.Threads.{is_ended}
 use Rattle.ptk_words.specs.declared.sections.Arrival.{Arrival}
 use Rattle.ptk_words.specs.declared.sections.Limits.{Limits}
 use Rattle.ptk_words_model.specs.State.{Console, Part, with_console}

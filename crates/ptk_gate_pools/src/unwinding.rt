@@ -6,7 +6,7 @@ ghost use Rattle.ptk_words_model.specs.State.{with_locks};
 ghost use Rattle.ptk_words_model.specs.Schedule.{with_thread};
 ghost use Rattle.ptk_words_model.specs.Keys.{with_first_round};
 ghost use Rattle.ptk_words_model.specs.Unwinding.{after_unwinding_start};
-ghost use Rattle.ptk_words.specs.Phases.{is_normal};
+ghost use Rattle.ptk_words.specs.Threads.{is_normal};
 ghost use Rattle.ptk_words_model.specs.Calls.{is_cancelled, cancellation_answer};
 ghost use Rattle.ptk_words_model.specs.ThreadCalls.{pthread_exit};
 ghost use Rattle.ptk_gate_pools.specs.Kept.{part_at, put_part};

@@ -7,9 +7,8 @@ use Rattle.ptk_words_model.specs.declared.Invocation.{Invocation}
 use Rattle.ptk_words_model.specs.State.{Part, with_locks}
 use Rattle.ptk_words_model.specs.Schedule.{with_thread}
 use Rattle.ptk_words_model.specs.Unwinding.{without_thread}
-use Rattle.ptk_words.specs.Phases.{is_ended}
+use Rattle.ptk_words.specs.Threads.{is_ended, is_taken}
 use Rattle.ptk_words_model.specs.Calls.{Answer, refusal, success, blocked_in, using_thread}
-use Rattle.ptk_words_model.specs.ThreadCalls.{is_taken}
 use Rattle.ptk_gate_pools.specs.Moves.{with_joiner}
 
 -- the result of an ended thread, whose number is then free; else the caller blocks (pthread_join)
