@@ -12,7 +12,7 @@ use Rattle.ptk_words.specs.declared.threads.Thread.{Thread}
 use Rattle.ptk_words_parted.specs.Parts.{part_of}
 use Rattle.ptk_words_model.specs.State.{Mutex, Condition, Part, Console}
 use Rattle.ptk_words_model.specs.Keys.{no_values, no_rounds}
-use Rattle.ptk_words_model.specs.ThreadCalls.{new_cancellation}
+use Rattle.ptk_words_model.specs.ThreadCreation.{new_cancellation}
 use Rattle.ptk_words_model.specs.Run.{empty_part}
 use Rattle.ptk_words_well.specs.Well.{IsWell}
 use Rattle.ptk_words_well.proofs.Starts.{well_empty}
@@ -60,7 +60,6 @@ parts_blank limits consoles few same = record {
   mutexes = length-map limits _;
   conditions = length-map limits _;
   running = length-replicate (length limits) _;
-  deadlines = length-map limits _;
   cancellations = length-map limits _;
   cleanups = length-map limits _;
   destructors = length-map limits _;

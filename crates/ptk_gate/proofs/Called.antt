@@ -13,7 +13,8 @@ use Rattle.ptk_words_model.specs.State.{Part}
 use Rattle.ptk_words_model.specs.Priority.{thread_at}
 use Rattle.ptk_words_model.specs.Mutex.{wait_of}
 use Rattle.ptk_words_model.specs.Decision.{invocation, runner_of, after_effect}
-use Rattle.ptk_words_well.specs.Well.{IsWell, is_in, is_ready}
+use Rattle.ptk_words_well.specs.Well.{IsWell, is_ready}
+use Rattle.ptk_words.specs.Pools.{is_in}
 use Rattle.ptk_words_well.proofs.Threads.{well_cpu}
 use Rattle.ptk_words_well.proofs.Waits.{waits_not_ready}
 use Rattle.ptk_words_well.proofs.Effects.{effect_length}

@@ -5,7 +5,8 @@ use Rattle.std.proofs.lemmas.Bool.{cases_eq}
 use Rattle.std.proofs.lemmas.List.{length-set}
 use Rattle.ptk_words_model.specs.State.{Part}
 use Rattle.ptk_words_model.specs.Priority.{thread_at}
-use Rattle.ptk_words_well.specs.Well.{IsWell, is_in}
+use Rattle.ptk_words_well.specs.Well.{IsWell}
+use Rattle.ptk_words.specs.Pools.{is_in}
 use Rattle.ptk_words.specs.declared.sections.Entry.{Entry}
 use Rattle.ptk_words_model.specs.Decision.{after_arrivals}
 use Rattle.ptk_words_model.specs.Schedule.{after_choice}
@@ -33,7 +34,6 @@ set_parts n p s kept parts = record {
   mutexes = length-set kept.mutexes p s.mutexes ∙ parts.mutexes;
   conditions = length-set kept.conditions p s.conditions ∙ parts.conditions;
   running = length-set kept.running p s.running ∙ parts.running;
-  deadlines = length-set kept.deadlines p s.deadlines ∙ parts.deadlines;
   cancellations = length-set kept.cancellations p s.cancellations ∙ parts.cancellations;
   cleanups = length-set kept.cleanups p s.cleanups ∙ parts.cleanups;
   destructors = length-set kept.destructors p s.keys.destructors ∙ parts.destructors;

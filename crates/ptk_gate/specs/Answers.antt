@@ -9,7 +9,7 @@ use Rattle.ptk_words_model.specs.State.{Part}
 use Rattle.ptk_words_model.specs.Calls.{Answer, answer, no_call}
 use Rattle.ptk_words_model.specs.ConsoleCalls.{exit_call, console_put, console_get}
 use Rattle.ptk_words_model.specs.ThreadCalls.{create, pthread_exit, join, detach, self, yield, setschedparam, getschedparam, setschedprio}
-use Rattle.ptk_words_model.specs.CallTable.{call_of}
+use Rattle.ptk_words.specs.Calls.{call_of}
 use Rattle.ptk_words_model.specs.Decision.{invocation, runner_of}
 use Rattle.ptk_gate.specs.declared.names.CallName.{CallName}
 use Rattle.ptk_gate.specs.declared.names.CallName.TheVariants as name

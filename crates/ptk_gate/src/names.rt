@@ -3,7 +3,7 @@
 ghost use Rattle.std.specs.Prelude.{◌≡◌};
 ghost use Rattle.ptk_words_model.specs.declared.Invocation.{Invocation};
 ghost use Rattle.ptk_words_model.specs.State.{Part};
-ghost use Rattle.ptk_words_model.specs.CallTable.{call_of};
+ghost use Rattle.ptk_words.specs.Calls.{call_of};
 ghost use Rattle.ptk_gate.specs.Answers.{answer_of_named};
 
 /// The calls in use.

@@ -41,7 +41,6 @@ set_parts n p s kept parts = record {
   mutexes = length-set kept.mutexes p s.mutexes ∙ parts.mutexes;
   conditions = length-set kept.conditions p s.conditions ∙ parts.conditions;
   running = length-set kept.running p s.running ∙ parts.running;
-  deadlines = length-set kept.deadlines p s.deadlines ∙ parts.deadlines;
   cancellations = length-set kept.cancellations p s.cancellations ∙ parts.cancellations;
   cleanups = length-set kept.cleanups p s.cleanups ∙ parts.cleanups;
   destructors = length-set kept.destructors p s.keys.destructors ∙ parts.destructors;

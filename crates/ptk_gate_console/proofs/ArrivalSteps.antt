@@ -8,14 +8,15 @@ use Rattle.ptk_words.specs.declared.threads.Thread.{Thread}
 use Rattle.ptk_words.specs.declared.threads.Wait.{Wait}
 use Rattle.ptk_words.specs.declared.threads.Wait.TheVariants.{InputWait}
 use Rattle.ptk_words_model.specs.Mutex.{wait_of}
-use Rattle.ptk_words_model.specs.Unwinding.{is_ended}
+use Rattle.ptk_words.specs.Threads.{is_ended}
 use Rattle.ptk_words.specs.declared.sections.Arrival.{Arrival}
 use Rattle.ptk_words.specs.declared.sections.Limits.{Limits}
 use Rattle.ptk_words_model.specs.State.{Console, Part, with_console}
 use Rattle.ptk_words_model.specs.Console.{arriving, is_due_at, without_arriving}
 use Rattle.ptk_words_model.specs.Priority.{thread_at, effective_priority}
 use Rattle.ptk_words_model.specs.Decision.{after_arrival_for, first_waiter, after_arrival, after_arrivals}
-use Rattle.ptk_words_well.specs.Well.{IsWell, is_in, is_ready}
+use Rattle.ptk_words_well.specs.Well.{IsWell, is_ready}
+use Rattle.ptk_words.specs.Pools.{is_in}
 use Rattle.ptk_words_well.proofs.Lines.{first_in}
 use Rattle.ptk_words_well.proofs.Parts.{well_console}
 use Rattle.ptk_words_well.proofs.Waits.{well_arrival_for}

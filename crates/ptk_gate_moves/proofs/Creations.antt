@@ -1,14 +1,14 @@
 -- The creation of a thread in a whole state: what its parts make.
 use Rattle.std.proofs.Common.{◌≡◌, ℕ, false, List, [], refl, sym, ◌∙◌, ap}
 use Rattle.std.specs.Prelude.{Option, Some, IsSome}
-use Rattle.ptk_words.specs.Pools.{least_free, pool_get, pool_set, pool_update}
+use Rattle.ptk_words.specs.Pools.{least_free, pool_get, pool_set, pool_update, is_in}
 use Rattle.ptk_words.specs.declared.sections.Limits.{Limits}
 use Rattle.ptk_words.specs.declared.threads.Cleanup.{Cleanup}
 use Rattle.ptk_words.specs.declared.threads.Thread.{Thread}
 use Rattle.ptk_words_model.specs.State.{Part}
 use Rattle.ptk_words_model.specs.Keys.{no_values}
-use Rattle.ptk_words_model.specs.ThreadCalls.{with_new_thread}
-use Rattle.ptk_words_well.specs.Well.{IsWell, is_in, is_ready}
+use Rattle.ptk_words_model.specs.ThreadCreation.{with_new_thread}
+use Rattle.ptk_words_well.specs.Well.{IsWell, is_ready}
 use Rattle.ptk_words_well.proofs.Lined.{not_ready_out}
 use Rattle.ptk_words_well.proofs.Whole.{lined_of}
 use Rattle.ptk_words_well.proofs.Pools.{get-set_own, update-replicate}

@@ -6,13 +6,13 @@ use Rattle.ptk_words.specs.declared.threads.Thread.{Thread}
 use Rattle.ptk_words_model.specs.State.{Part}
 use Rattle.ptk_words_model.specs.Priority.{thread_at}
 use Rattle.std.proofs.lemmas.Bool.{eqb-true}
-use Rattle.ptk_words.specs.Pools.{without}
+use Rattle.ptk_words.specs.Pools.{without, is_in}
 use Rattle.ptk_words_model.specs.declared.Runner.{Runner}
 use Rattle.ptk_words_model.specs.Schedule.{is_running}
 use Rattle.ptk_words_model.specs.Mutex.{owns_raising}
 use Rattle.ptk_words_model.specs.Decision.{runner_at}
 use Rattle.ptk_gate_moves.proofs.Priorities
-use Rattle.ptk_words_well.specs.Well.{IsWell, is_ready, is_in}
+use Rattle.ptk_words_well.specs.Well.{IsWell, is_ready}
 use Rattle.ptk_words_well.proofs.Lines.{without_own}
 use Rattle.ptk_words_well.proofs.Turns.{any_is_in}
 

@@ -7,7 +7,7 @@ use Rattle.ptk_words.specs.declared.threads.Policy.{Policy}
 use Rattle.ptk_words_model.specs.declared.Cancellation.{Cancellation}
 use Rattle.ptk_words_model.specs.State.{Part, with_locks, with_cancellation, with_keys}
 use Rattle.ptk_words_model.specs.Keys.{no_rounds, with_rounds}
-use Rattle.ptk_words_model.specs.ThreadCalls.{new_cancellation}
+use Rattle.ptk_words_model.specs.ThreadCreation.{new_cancellation}
 use Rattle.ptk_gate_pools.specs.Moves.{with_number, with_last}
 
 -- the thread unwinds with this result, and its next step is at the return gate (pthread_exit)

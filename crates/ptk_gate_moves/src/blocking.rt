@@ -5,7 +5,7 @@ ghost use Rattle.ptk_words_model.specs.State.{with_locks, with_halt};
 ghost use Rattle.ptk_words_model.specs.Priority.{thread_at};
 ghost use Rattle.ptk_words_model.specs.Schedule.{with_thread, woken_with, after_wake};
 ghost use Rattle.ptk_words_model.specs.Calls.{blocked_in};
-ghost use Rattle.ptk_words_well.specs.Well.{is_in};
+ghost use Rattle.ptk_words.specs.Pools.{is_in};
 ghost use Rattle.ptk_gate_pools.specs.Kept.{part_at, put_part};
 
 use crate::places::push_tail;

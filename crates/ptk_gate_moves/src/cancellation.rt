@@ -1,7 +1,7 @@
 //! Cancellation points (XSH 2.9.5.2).
 
 ghost use Rattle.std.specs.Prelude.{◌≡◌, ◌<◌, length};
-ghost use Rattle.ptk_words_model.specs.Unwinding.{is_normal};
+ghost use Rattle.ptk_words.specs.Threads.{is_normal};
 ghost use Rattle.ptk_words_model.specs.Calls.{is_cancelled, cancellation_answer};
 ghost use Rattle.ptk_words_model.specs.Decision.{is_to_unwind};
 ghost use Rattle.ptk_gate_pools.specs.Kept.{part_at, put_part};

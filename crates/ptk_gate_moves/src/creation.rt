@@ -1,9 +1,9 @@
 //! The beginning of a new thread (pthread_create).
 
 ghost use Rattle.std.specs.Prelude.{◌≡◌, ◌<◌, false, length, Some};
-ghost use Rattle.ptk_words.specs.Pools.{least_free};
-ghost use Rattle.ptk_words_model.specs.ThreadCalls.{with_new_thread};
-ghost use Rattle.ptk_words_well.specs.Well.{IsWell, is_in};
+ghost use Rattle.ptk_words.specs.Pools.{least_free, is_in};
+ghost use Rattle.ptk_words_model.specs.ThreadCreation.{with_new_thread};
+ghost use Rattle.ptk_words_well.specs.Well.{IsWell};
 ghost use Rattle.ptk_gate_pools.specs.Kept.{part_at, put_part, limits_at};
 ghost use Rattle.ptk_gate_moves.specs.Moves.{begun};
 

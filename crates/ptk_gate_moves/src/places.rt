@@ -4,7 +4,7 @@ ghost use Rattle.std.specs.Prelude.{◌≡◌, ◌<◌, false, length, IsSome};
 ghost use Rattle.ptk_words_model.specs.State.{with_locks};
 ghost use Rattle.ptk_words_model.specs.Priority.{thread_at};
 ghost use Rattle.ptk_words_model.specs.Schedule.{at_tail, at_head, after_turn_end};
-ghost use Rattle.ptk_words_well.specs.Well.{is_in};
+ghost use Rattle.ptk_words.specs.Pools.{is_in};
 ghost use Rattle.ptk_gate_pools.specs.Moves.{stopped};
 ghost use Rattle.ptk_gate_pools.specs.Kept.{part_at, put_part};
 

@@ -3,8 +3,7 @@
 ghost use Rattle.std.specs.Prelude.{◌≡◌, ◌<◌, ◌≤◌, length};
 ghost use Rattle.ptk_words.specs.Pools.{pool_get};
 ghost use Rattle.ptk_words_model.specs.Decision.{runner_at};
-ghost use Rattle.ptk_words_model.specs.ThreadCalls.{is_taken};
-ghost use Rattle.ptk_words_model.specs.Unwinding.{is_ended};
+ghost use Rattle.ptk_words.specs.Threads.{is_ended, is_taken};
 ghost use Rattle.ptk_words_model.specs.Priority.{thread_at};
 ghost use Rattle.ptk_gate_pools.specs.Kept.{part_at};
 

@@ -15,7 +15,6 @@ parts_of a i = record {
   mutexes = length-map a.limits.items _;
   conditions = length-map a.limits.items _;
   running = i.running;
-  deadlines = length-map a.limits.items _;
   cancellations = i.cancellations;
   cleanups = length-map a.limits.items _;
   destructors = length-map a.limits.items _;

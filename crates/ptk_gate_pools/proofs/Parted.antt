@@ -17,7 +17,6 @@ part_at-put n p s kept parts lt =
     let mutexes : p < length kept.mutexes = within kept.mutexes n p parts.mutexes lt in
     let conditions : p < length kept.conditions = within kept.conditions n p parts.conditions lt in
     let running : p < length kept.running = within kept.running n p parts.running lt in
-    let deadlines : p < length kept.deadlines = within kept.deadlines n p parts.deadlines lt in
     let cancellations : p < length kept.cancellations = within kept.cancellations n p parts.cancellations lt in
     let cleanups : p < length kept.cleanups = within kept.cleanups n p parts.cleanups lt in
     let destructors : p < length kept.destructors = within kept.destructors n p parts.destructors lt in
@@ -33,7 +32,6 @@ part_at-put n p s kept parts lt =
       get_or-set_same kept.mutexes p s.mutexes _ mutexes,
       get_or-set_same kept.conditions p s.conditions _ conditions,
       get_or-set_same kept.running p s.running _ running,
-      get_or-set_same kept.deadlines p s.deadlines _ deadlines,
       get_or-set_same kept.cancellations p s.cancellations _ cancellations,
       get_or-set_same kept.cleanups p s.cleanups _ cleanups,
       get_or-set_same kept.destructors p s.keys.destructors _ destructors,
@@ -54,7 +52,6 @@ put_part-put p a b kept =
       set-set kept.mutexes p b.mutexes a.mutexes,
       set-set kept.conditions p b.conditions a.conditions,
       set-set kept.running p b.running a.running,
-      set-set kept.deadlines p b.deadlines a.deadlines,
       set-set kept.cancellations p b.cancellations a.cancellations,
       set-set kept.cleanups p b.cleanups a.cleanups,
       set-set kept.destructors p b.keys.destructors a.keys.destructors,
@@ -75,7 +72,6 @@ part_at-other p q s kept differ =
       get_or-set_other kept.mutexes p q s.mutexes _ differ,
       get_or-set_other kept.conditions p q s.conditions _ differ,
       get_or-set_other kept.running p q s.running _ differ,
-      get_or-set_other kept.deadlines p q s.deadlines _ differ,
       get_or-set_other kept.cancellations p q s.cancellations _ differ,
       get_or-set_other kept.cleanups p q s.cleanups _ differ,
       get_or-set_other kept.destructors p q s.keys.destructors _ differ,

@@ -64,7 +64,6 @@ put_same p kept =
       set-get_or kept.mutexes p _,
       set-get_or kept.conditions p _,
       set-get_or kept.running p _,
-      set-get_or kept.deadlines p _,
       set-get_or kept.cancellations p _,
       set-get_or kept.cleanups p _,
       set-get_or kept.destructors p _,

@@ -3,7 +3,7 @@ use Rattle.std.specs.Prelude.{List, [], map, replicate, length, None}
 use Rattle.ptk_words.specs.declared.faults.Status.TheVariants.{Active}
 use Rattle.ptk_words.specs.declared.sections.Limits.{Limits}
 use Rattle.ptk_words_model.specs.Keys.{no_values, no_rounds}
-use Rattle.ptk_words_model.specs.ThreadCalls.{new_cancellation}
+use Rattle.ptk_words_model.specs.ThreadCreation.{new_cancellation}
 use Rattle.ptk_words_model.specs.State.{Console}
 use Rattle.ptk_gate_pools.specs.Kept.{Kept, per_section}
 
@@ -17,7 +17,6 @@ blank limits consoles =
       mutexes = per_section (λ l. l.mutexes) None limits;
       conditions = per_section (λ l. l.conditions) None limits;
       running = replicate (length limits) None;
-      deadlines = per_section (λ l. l.threads) None limits;
       cancellations = per_section (λ l. l.threads) new_cancellation limits;
       cleanups = per_section (λ l. l.threads) [] limits;
       destructors = per_section (λ l. l.keys) None limits;

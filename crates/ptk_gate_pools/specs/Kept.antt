@@ -22,7 +22,6 @@ pub record Kept : Type 0 where
   pub mutexes : List (List (Option Mutex))
   pub conditions : List (List (Option Condition))
   pub running : List (Option ℕ)
-  pub deadlines : List (List (Option ℕ))
   pub cancellations : List (List Cancellation)
   pub cleanups : List (List (List Cleanup))
   pub destructors : List (List (Option ℕ))
@@ -47,7 +46,6 @@ part_at p kept =
         conditions = part_of kept.conditions p;
       };
       running = slice_index_or kept.running p None;
-      deadlines = part_of kept.deadlines p;
       cancellations = part_of kept.cancellations p;
       cleanups = part_of kept.cleanups p;
       keys = record {
@@ -70,7 +68,6 @@ put_part p s kept =
       mutexes = slice_set kept.mutexes p s.mutexes;
       conditions = slice_set kept.conditions p s.conditions;
       running = slice_set kept.running p s.running;
-      deadlines = slice_set kept.deadlines p s.deadlines;
       cancellations = slice_set kept.cancellations p s.cancellations;
       cleanups = slice_set kept.cleanups p s.cleanups;
       destructors = slice_set kept.destructors p s.keys.destructors;
@@ -95,7 +92,6 @@ pub record AreParts (n : ℕ) (kept : Kept) : Type 0 where
   pub mutexes : length kept.mutexes ≡ n
   pub conditions : length kept.conditions ≡ n
   pub running : length kept.running ≡ n
-  pub deadlines : length kept.deadlines ≡ n
   pub cancellations : length kept.cancellations ≡ n
   pub cleanups : length kept.cleanups ≡ n
   pub destructors : length kept.destructors ≡ n

@@ -4,7 +4,7 @@ use Rattle.ptk_words_model.specs.Keys.{no_values}
 use Rattle.ptk_gate_pools.specs.declared.pools.Pools.TheInside.{Inside}
 use Rattle.ptk_gate_pools.specs.Kept.{Kept, AreStored, per_section}
 
--- the tables: mutexes, condition variables, keys, deadlines and cleanup handlers are not in use (own)
+-- the tables: mutexes, condition variables, keys and cleanup handlers are not in use (own)
 abbrev pub kept_of : Inside → Kept
 kept_of a =
     record {
@@ -14,7 +14,6 @@ kept_of a =
       mutexes = per_section (λ l. l.mutexes) None a.limits.items;
       conditions = per_section (λ l. l.conditions) None a.limits.items;
       running = a.running.items;
-      deadlines = per_section (λ l. l.threads) None a.limits.items;
       cancellations = a.cancellations;
       cleanups = per_section (λ l. l.threads) [] a.limits.items;
       destructors = per_section (λ l. l.keys) None a.limits.items;

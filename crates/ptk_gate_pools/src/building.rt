@@ -3,7 +3,7 @@
 ghost use Rattle.std.specs.Prelude.{◌≡◌, ◌≤◌, length, map, replicate, IfOk, All, None};
 ghost use Rattle.ptk_words.specs.declared.faults.Status.TheVariants.{Active};
 ghost use Rattle.ptk_words_model.specs.Keys.{no_rounds};
-ghost use Rattle.ptk_words_model.specs.ThreadCalls.{new_cancellation};
+ghost use Rattle.ptk_words_model.specs.ThreadCreation.{new_cancellation};
 ghost use Rattle.ptk_console.specs.ConsoleTable.{fresh_console};
 ghost use Rattle.ptk_gate_pools.specs.Blank.{blank};
 ghost use Rattle.ptk_gate_pools.specs.Kept.{per_section};

@@ -3,7 +3,7 @@
 ghost use Rattle.std.specs.Prelude.{◌≡◌, ◌<◌, length};
 ghost use Rattle.ptk_words.specs.Pools.{numbered, pool_update};
 ghost use Rattle.ptk_words_model.specs.State.{with_cancellation};
-ghost use Rattle.ptk_words_model.specs.ThreadCalls.{new_cancellation};
+ghost use Rattle.ptk_words_model.specs.ThreadCreation.{new_cancellation};
 ghost use Rattle.ptk_gate_pools.specs.Kept.{part_at, put_part};
 ghost use Rattle.ptk_gate_pools.specs.Moves.{disabled};
 

@@ -3,13 +3,15 @@ use Rattle.std.proofs.Common.{arith, ◌≡◌, ℕ, zero, suc, ◌%◌, Bool, t
 use Rattle.std.specs.Prelude.{Option, Some, None, unwrap_or, is_none, Ok, Err, ◌==◌, nat_lt, if◌then◌else◌}
 use Rattle.std.proofs.lemmas.Bool.{lt-ltb}
 use Rattle.ptk_words.specs.Pools.{least_free}
-use Rattle.ptk_words.specs.declared.faults.Errno.TheVariants.{EFAULT, EINVAL, ENOTSUP}
+use Rattle.ptk_words.specs.declared.faults.Errno.TheVariants.{EAGAIN, EFAULT, EINVAL, ENOTSUP}
 use Rattle.ptk_words.specs.declared.threads.Policy.{Policy}
 use Rattle.ptk_words.specs.declared.threads.Policy.TheVariants.{Fifo}
 use Rattle.ptk_words_model.specs.declared.Invocation.{Invocation}
 use Rattle.ptk_words_model.specs.State.{Part}
 use Rattle.ptk_words_model.specs.Calls.{Answer, refusal, success, is_pointer, using_thread}
-use Rattle.ptk_words_model.specs.ThreadCalls.{Attributes, attributes_at, policy_of, is_priority, start_cpu, new_thread, default_stack_top, with_new_thread, create_answer, create}
+use Rattle.ptk_words_model.specs.Steps.{◌>>=◌, ◌>>◌, ◌or_refuse◌, thread, change, succeed_with}
+use Rattle.ptk_words_model.specs.ThreadCalls.{create}
+use Rattle.ptk_words_model.specs.ThreadCreation.{Attributes, attributes_at, policy_of, is_priority, start_cpu, new_thread, default_stack_top, with_new_thread, created_thread}
 use Rattle.ptk_gate_threads.specs.declared.attributes.Creation.{Creation}
 use Rattle.ptk_gate_threads.specs.declared.attributes.Scheduling.TheVariants.{Inherited, Explicit}
 use Rattle.ptk_gate_threads.specs.Creates.{explicit_scheduling, creation_with, checked_creation, asked_creation, asked_of, asked_at, creation_answer, asked_answer}
@@ -28,7 +30,10 @@ made false true policy priority top t is_detached i s = refl
 made false false policy priority top t is_detached i s = refl
 
 created : (o : Option ℕ) (i : Invocation) (a : Attributes) (s : Part)
-    → creation_answer o i (creation_with a (if a.inherit == 0 then Inherited else Explicit (unwrap_or (policy_of a.policy) Fifo) a.priority)) s ≡ create_answer o i a s
+    → creation_answer o i (creation_with a (if a.inherit == 0 then Inherited else Explicit (unwrap_or (policy_of a.policy) Fifo) a.priority)) s ≡ (o or_refuse EAGAIN) (λ t. do
+      creator ← thread i.caller
+      change (with_new_thread i.limits t (created_thread i a creator t))
+      succeed_with t) i s
 created None i a s = refl
 created (Some t) i a s = made (a.inherit == 0) (a.stack_top == 0) (unwrap_or (policy_of a.policy) Fifo) a.priority a.stack_top t (a.detach == 1) i s
 
@@ -69,5 +74,5 @@ pub create_asked : (i : Invocation) (s : Part) → asked_answer (asked_at s i.a0
 create_asked i s =
     let a : Attributes = attributes_at s i.a0 in
     pointer_checked (i.a0 == 0 || is_pointer s i.a0 20) a (length s.memory) _ i s
-    (words_checked a.inherit a.priority (nat_lt 1 a.detach) (is_priority a.priority) (policy_of a.policy) a (create_answer (least_free s.threads) i a s) i s
+    (words_checked a.inherit a.priority (nat_lt 1 a.detach) (is_priority a.priority) (policy_of a.policy) a _ i s
     (created (least_free s.threads) i a s))

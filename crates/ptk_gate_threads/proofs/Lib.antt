@@ -1,4 +1,3 @@
 pub mod Scheduling
-pub mod Joinings
 pub mod Creating
 pub mod Endings

@@ -7,10 +7,12 @@ use Rattle.ptk_words_model.specs.declared.Invocation.{Invocation}
 use Rattle.ptk_words_model.specs.State.{Part, with_locks}
 use Rattle.ptk_words_model.specs.Schedule.{with_thread}
 use Rattle.ptk_words_model.specs.Calls.{Answer, refusal, success}
-use Rattle.ptk_words_model.specs.ThreadCalls.{is_priority, after_placing_at_tail, scheduled_with, after_priority_change, prioritized_from}
+use Rattle.ptk_words_model.specs.ThreadCalls.{after_placing_at_tail, after_priority_change}
+use Rattle.ptk_words_model.specs.ThreadCreation.{is_priority}
 use Rattle.ptk_threads.specs.Table.{with_priority}
 use Rattle.ptk_gate_moves.specs.Moves.{with_scheduling}
 use Rattle.ptk_gate_threads.specs.Creates.{priority_of}
+use Rattle.ptk_gate_threads.specs.Scheduling.{scheduled_with, prioritized_from}
 
 unrefused : (b : Bool) (x y : Answer) → b ≡ true → y ≡ (if not b then x else y)
 unrefused true x y e = refl

@@ -9,7 +9,7 @@ use Rattle.ptk_words.specs.declared.threads.Thread.{Thread}
 use Rattle.ptk_words_model.specs.declared.Invocation.{Invocation}
 use Rattle.ptk_words_model.specs.State.{Part}
 use Rattle.ptk_words_model.specs.Calls.{Answer, refusal, success, is_pointer, using_thread}
-use Rattle.ptk_words_model.specs.ThreadCalls.{Attributes, attributes_at, policy_of, is_priority, start_cpu, new_thread, default_stack_top, with_new_thread}
+use Rattle.ptk_words_model.specs.ThreadCreation.{Attributes, attributes_at, policy_of, is_priority, start_cpu, new_thread, default_stack_top, with_new_thread}
 use Rattle.ptk_gate_threads.specs.declared.attributes.Creation.{Creation}
 use Rattle.ptk_gate_threads.specs.declared.attributes.Scheduling.{Scheduling}
 use Rattle.ptk_gate_threads.specs.declared.attributes.Scheduling.TheVariants.{Inherited, Explicit}

@@ -6,9 +6,9 @@ use Rattle.ptk_words.specs.declared.threads.Wait.TheVariants.{JoinWait}
 use Rattle.ptk_words_model.specs.declared.Invocation.{Invocation}
 use Rattle.ptk_words_model.specs.State.{Part, with_locks}
 use Rattle.ptk_words_model.specs.Schedule.{with_thread}
-use Rattle.ptk_words_model.specs.Unwinding.{is_ended, without_thread}
+use Rattle.ptk_words_model.specs.Unwinding.{without_thread}
+use Rattle.ptk_words.specs.Threads.{is_ended, is_taken}
 use Rattle.ptk_words_model.specs.Calls.{Answer, refusal, success, blocked_in, using_thread}
-use Rattle.ptk_words_model.specs.ThreadCalls.{is_taken}
 use Rattle.ptk_threads.specs.Table.{with_joiner}
 
 -- the result of an ended thread, whose number is then free; else the caller blocks (pthread_join)

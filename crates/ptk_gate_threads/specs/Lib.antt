@@ -1,3 +1,3 @@
-pub mod Joins
 pub mod Creates
 pub mod Ends
+pub mod Scheduling

@@ -2,7 +2,7 @@
 
 ghost use Rattle.std.specs.Prelude.{◌≡◌, ◌<◌, ◌≤◌, ◌+◌, length};
 ghost use Rattle.ptk_words.specs.Words.{word_at};
-ghost use Rattle.ptk_words_model.specs.ThreadCalls.{policy_of};
+ghost use Rattle.ptk_words_model.specs.ThreadCreation.{policy_of};
 ghost use Rattle.ptk_gate_pools.specs.Kept.{part_at};
 ghost use Rattle.ptk_gate_threads.specs.Creates.{readable_attributes, priority_of, asked_scheduling, given_stack_top, asked_creation, asked_at};
 
@@ -21,7 +21,7 @@ pub struct ThreadAttributes {
 }
 
 impl Model for ThreadAttributes {
-    ghost use Rattle.ptk_words_model.specs.ThreadCalls.{Attributes};
+    ghost use Rattle.ptk_words_model.specs.ThreadCreation.{Attributes};
 
     ghost Value = { Attributes };
 

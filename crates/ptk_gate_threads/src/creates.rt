@@ -2,7 +2,8 @@
 
 ghost use Rattle.std.specs.Prelude.{◌≡◌, ◌<◌, ◌≤◌, length, position, is_none, unwrap_or, Some};
 ghost use Rattle.ptk_words.specs.Pools.{least_free};
-ghost use Rattle.ptk_words_model.specs.ThreadCalls.{default_stack_top, start_cpu, create};
+ghost use Rattle.ptk_words_model.specs.ThreadCalls.{create};
+ghost use Rattle.ptk_words_model.specs.ThreadCreation.{default_stack_top, start_cpu};
 ghost use Rattle.ptk_words_model.specs.ThreadCalls as calls;
 ghost use Rattle.ptk_words_well.specs.Well.{IsWell};
 ghost use Rattle.ptk_gate_pools.specs.Kept.{part_at, put_part, limits_at};

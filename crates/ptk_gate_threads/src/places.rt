@@ -6,7 +6,8 @@ ghost use Rattle.ptk_words_model.specs.Schedule.{at_tail, at_head, with_thread};
 ghost use Rattle.ptk_words_model.specs.Priority.{thread_at};
 ghost use Rattle.ptk_words_model.specs.Mutex.{owns_raising};
 ghost use Rattle.ptk_words_model.specs.ThreadCalls.{after_placing, after_placing_at_tail, yield};
-ghost use Rattle.ptk_words_well.specs.Well.{IsWell, is_in};
+ghost use Rattle.ptk_words_well.specs.Well.{IsWell};
+ghost use Rattle.ptk_words.specs.Pools.{is_in};
 ghost use Rattle.ptk_gate_pools.specs.Kept.{part_at, put_part, limits_at};
 ghost use Rattle.ptk_gate_moves.specs.Moves.{with_scheduling};
 

@@ -6,11 +6,14 @@ ghost use Rattle.ptk_words_model.specs.Schedule.{with_thread};
 ghost use Rattle.ptk_words_model.specs.Priority.{thread_at};
 ghost use Rattle.ptk_words_model.specs.Mutex.{owns_raising};
 ghost use Rattle.ptk_words_model.specs.Calls.{success};
-ghost use Rattle.ptk_words_model.specs.ThreadCalls.{policy_of, after_placing_at_tail, scheduled_with, setschedparam, after_priority_change, prioritized_from, setschedprio};
-ghost use Rattle.ptk_words_well.specs.Well.{IsWell, is_in};
+ghost use Rattle.ptk_words_model.specs.ThreadCalls.{after_placing_at_tail, setschedparam, after_priority_change, setschedprio};
+ghost use Rattle.ptk_words_model.specs.ThreadCreation.{policy_of};
+ghost use Rattle.ptk_words_well.specs.Well.{IsWell};
+ghost use Rattle.ptk_words.specs.Pools.{is_in};
 ghost use Rattle.ptk_gate_pools.specs.Kept.{part_at, put_part, limits_at};
 ghost use Rattle.ptk_threads.specs.Table.{with_priority};
 ghost use Rattle.ptk_gate_moves.specs.Moves.{with_scheduling};
+ghost use Rattle.ptk_gate_threads.specs.Scheduling.{scheduled_with, prioritized_from};
 
 use crate::attributes::{named_policy, named_priority};
 use crate::places::{place_at_head, place_at_tail, reschedule};

@@ -1,7 +1,8 @@
 //! Calls 13 and 17: a thread detached, and its scheduling told.
 
 ghost use Rattle.std.specs.Prelude.{◌≡◌, ◌<◌, length};
-ghost use Rattle.ptk_words_model.specs.ThreadCalls.{getschedparam, policy_number};
+ghost use Rattle.ptk_words_model.specs.ThreadCalls.{getschedparam};
+ghost use Rattle.ptk_words_model.specs.ThreadCreation.{policy_number};
 ghost use Rattle.ptk_words_model.specs.ThreadCalls as calls;
 ghost use Rattle.ptk_gate_pools.specs.Kept.{part_at, put_part};
 

@@ -37,7 +37,6 @@ parts_blank limits consoles few same = record {
   mutexes = length-map limits _;
   conditions = length-map limits _;
   running = length-replicate (length limits) _;
-  deadlines = length-map limits _;
   cancellations = length-map limits _;
   cleanups = length-map limits _;
   destructors = length-map limits _;

@@ -1,7 +1,9 @@
+pub mod Names
 pub mod Words
 pub mod Pools
 pub mod Processor
 pub mod Faults
-pub mod Costs
+pub mod Calls
 pub mod Image
 pub mod Ranges
+pub mod Threads

@@ -1,24 +1,54 @@
 //! The words that every crate of the kernel speaks: partition, thread, slot and tick numbers, the registers of a
-//! thread, threads and mutexes as plain data, faults, statuses, error numbers, limits and the cost of a call.
-//! In `specs/` stand words of 32 bits, bytes in memory, pools numbered from 1, registers and the cost table.
+//! thread, threads and mutexes as plain data, the calls of a guest with their numbers and costs, faults, statuses, error
+//! numbers and limits. In `specs/` stand words of 32 bits, bytes in memory, pools numbered from 1, registers and the list of
+//! calls.
 //! `cost` promises the table's entry for every number. Nothing stands below; every other crate stands above.
 #![tactic(auto)]
 
-mod costs;
+mod calls;
 mod faults;
+mod memory;
 mod mutexes;
 mod numbers;
 mod processor;
 mod sections;
 mod threads;
 
-pub use costs::cost;
+pub use calls::{Call, cost};
 pub use faults::{Cause, Errno, FaultKind, ImageFault, Status};
+pub use memory::read_word;
 pub use mutexes::{MutexKind, Owner, Protocol};
-pub use numbers::{CallNo, ConditionNo, MutexNo, PartId, Priority, SlotNo, ThreadNo, Tick};
+pub use numbers::{ConditionNo, MutexNo, PartId, Priority, SlotNo, ThreadNo, Tick};
 pub use processor::Cpu;
 pub use sections::{Arrival, Entry, Limits};
 pub use threads::{Cleanup, Phase, Policy, Thread, Wait};
+
+/// The register of the return address (RISC-V 2.1, the calling convention's ra).
+pub const RA: u32 = 1;
+
+/// The register of the stack pointer (RISC-V 2.1, the calling convention's sp).
+pub const SP: u32 = 2;
+
+/// The register of a call's first argument and of its reply (the calling convention's a0).
+pub const A0: u32 = 10;
+
+/// The register of a call's second argument and of the first value that it gives (the calling convention's a1).
+pub const A1: u32 = 11;
+
+/// The register of a call's third argument and of the second value that it gives (the calling convention's a2).
+pub const A2: u32 = 12;
+
+/// The register of a call's fourth argument (the calling convention's a3).
+pub const A3: u32 = 13;
+
+/// The register of a call's fifth argument (the calling convention's a4).
+pub const A4: u32 = 14;
+
+/// The register of a call's number (the calling convention's a7; own choice).
+pub const A7: u32 = 17;
+
+/// The word of ECALL (RISC-V 2.8).
+pub const ECALL: u32 = 0x0000_0073;
 
 /// The return gate: a step at this pc ends a routine (own choice).
 pub const RETURN_GATE: u32 = 0xFFFF_FFF0;

@@ -251,35 +251,3 @@ impl Tick {
         self.ticks
     }
 }
-
-/// The number of a call, as a guest gives it in a7. Any word is one (own choice).
-#[derive(Clone, Copy, Debug, PartialEq, Eq)]
-pub struct CallNo {
-    number: u32,
-}
-
-impl Model for CallNo {
-    ghost use Rattle.std.specs.Prelude.{ℕ};
-
-    ghost Value = { ℕ };
-
-    ghost view = { λ a. a.number };
-
-    ghost inverse = { λ n. record { number = n } };
-}
-
-impl CallNo {
-    /// The call of this number.
-    pub fn new(number: u32) -> CallNo
-        ensures { result ≡ number }
-    {
-        CallNo { number }
-    }
-
-    /// Its number.
-    pub fn number(self) -> u32
-        ensures { result ≡ self }
-    {
-        self.number
-    }
-}

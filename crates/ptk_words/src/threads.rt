@@ -1,6 +1,6 @@
 //! Threads as plain data.
 
-use crate::numbers::{ConditionNo, MutexNo, Priority, ThreadNo};
+use crate::numbers::{ConditionNo, MutexNo, Priority, ThreadNo, Tick};
 use crate::processor::Cpu;
 
 /// SCHED_FIFO and SCHED_RR (XSH 2.8.4).
@@ -18,19 +18,20 @@ pub enum Phase {
     Ended,
 }
 
-/// What a blocked thread waits for (pthread_join, pthread_mutex_lock, pthread_cond_wait, clock_nanosleep).
+/// What a blocked thread waits for, a timed one with its deadline (pthread_join, pthread_mutex_timedlock,
+/// pthread_cond_timedwait, clock_nanosleep).
 #[derive(Clone, Copy, Debug, PartialEq, Eq)]
 pub enum Wait {
     /// A byte of the console.
     InputWait,
-    /// A tick.
-    SleepWait,
+    /// This tick.
+    SleepWait(Tick),
     /// The end of this thread.
     JoinWait(ThreadNo),
-    /// This mutex.
-    MutexWait(MutexNo),
-    /// This condition variable, and the mutex to have again.
-    ConditionWait(ConditionNo, MutexNo),
+    /// This mutex, until its deadline if it has one.
+    MutexWait(MutexNo, Option<Tick>),
+    /// This condition variable, and the mutex to have again, until its deadline if it has one.
+    ConditionWait(ConditionNo, MutexNo, Option<Tick>),
     /// The mutex to have again after a condition wait, and the reply that is then given, none to a cancelled thread.
     RelockWait(MutexNo, Option<u32>),
 }

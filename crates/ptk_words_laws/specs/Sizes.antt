@@ -5,7 +5,7 @@ use Rattle.ptk_words.specs.declared.sections.Limits.{Limits}
 use Rattle.ptk_words_windows.specs.Windows.{OwnTicks}
 use Rattle.ptk_words_model.specs.State.{Part}
 use Rattle.ptk_words_model.specs.declared.Invocation.{Invocation}
-use Rattle.ptk_words_model.specs.CallTable.{call_of}
+use Rattle.ptk_words.specs.Calls.{call_of}
 use Rattle.ptk_words_model.specs.Decision.{after_decision}
 use Rattle.ptk_words_model.specs.Run.{start_part, alone}
 
@@ -31,7 +31,7 @@ StartIsSized limits image input = IsSized limits (start_part limits image input)
 
 -- and after any call (own)
 abbrev pub CallsKeepSizes : Part → Type 0
-CallsKeepSizes part = (number : ℕ) → (i : Invocation) → IsSized i.limits part → IsSized i.limits ((call_of number).answer_of i part).part
+CallsKeepSizes part = (number : ℕ) → (i : Invocation) → IsSized i.limits part → IsSized i.limits (answer_to (call_of number) i part).part
 
 -- and after any decision (own)
 abbrev pub DecisionsKeepSizes : Limits → Part → Type 0

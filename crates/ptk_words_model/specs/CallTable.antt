@@ -1,61 +1,52 @@
--- The call table: what each number does. Costs stand in ptk_words.
-use Rattle.std.specs.Prelude.{ℕ, List, [], ◌∷◌, find, ◌==◌, unwrap_or}
-use Rattle.ptk_words_model.specs.State.{Part}
-use Rattle.ptk_words_model.specs.declared.Invocation.{Invocation}
-use Rattle.ptk_words_model.specs.Calls.{Answer, no_call}
+-- The call table: what each call does. Numbers and ticks stand in the list of calls of ptk_words.
+use Rattle.std.specs.Prelude.{Option, Some, None}
+use Rattle.ptk_words.specs.declared.calls.Call.{Call}
+use Rattle.ptk_words.specs.declared.calls.Call.TheVariants as call
+use Rattle.ptk_words_model.specs.Calls.{no_call}
+use Rattle.ptk_words_model.specs.Steps.{Row}
 use Rattle.ptk_words_model.specs.ConsoleCalls.{exit_call, console_put, console_get}
 use Rattle.ptk_words_model.specs.ThreadCalls.{create, pthread_exit, join, detach, self, yield, setschedparam, getschedparam, setschedprio}
 
--- a number, and the new state and reply (own)
-pub record CallRow : Type 0 where
-  pub number : ℕ
-  pub answer_of : Invocation → Part → Answer
+-- what a call comes to; clocks, mutexes, condition variables, cancellation and keys name their definitions when code carries them, and answer ENOSYS until then (own)
+abbrev pub answer_of : Call → Row
+answer_of call.Exit = exit_call
+answer_of call.ConsolePut = console_put
+answer_of call.ConsoleGet = console_get
+answer_of call.ClockGettime = no_call
+answer_of call.ClockNanosleep = no_call
+answer_of call.PthreadCreate = create
+answer_of call.PthreadExit = pthread_exit
+answer_of call.PthreadJoin = join
+answer_of call.PthreadDetach = detach
+answer_of call.PthreadSelf = self
+answer_of call.SchedYield = yield
+answer_of call.PthreadSetschedparam = setschedparam
+answer_of call.PthreadGetschedparam = getschedparam
+answer_of call.PthreadSetschedprio = setschedprio
+answer_of call.MutexInit = no_call
+answer_of call.MutexDestroy = no_call
+answer_of call.MutexLock = no_call
+answer_of call.MutexTrylock = no_call
+answer_of call.MutexTimedlock = no_call
+answer_of call.MutexUnlock = no_call
+answer_of call.CondInit = no_call
+answer_of call.CondDestroy = no_call
+answer_of call.CondWait = no_call
+answer_of call.CondTimedwait = no_call
+answer_of call.CondSignal = no_call
+answer_of call.CondBroadcast = no_call
+answer_of call.PthreadCancel = no_call
+answer_of call.PthreadSetcancelstate = no_call
+answer_of call.PthreadSetcanceltype = no_call
+answer_of call.PthreadTestcancel = no_call
+answer_of call.CleanupPush = no_call
+answer_of call.CleanupPop = no_call
+answer_of call.KeyCreate = no_call
+answer_of call.KeyDelete = no_call
+answer_of call.PthreadSetspecific = no_call
+answer_of call.PthreadGetspecific = no_call
 
--- a row of the call table (own)
-abbrev pub call : ℕ → (Invocation → Part → Answer) → CallRow
-call number answer_of = record { number = number; answer_of = answer_of }
-
--- the calls by number; the rows of clocks, mutexes, condition variables, cancellation and keys name their definitions when code carries them, and answer ENOSYS until then (own)
-abbrev pub call_table : List CallRow
-call_table =
-    call 0 exit_call
-    ∷ call 1 console_put
-    ∷ call 2 console_get
-    ∷ call 3 no_call
-    ∷ call 4 no_call
-    ∷ call 10 create
-    ∷ call 11 pthread_exit
-    ∷ call 12 join
-    ∷ call 13 detach
-    ∷ call 14 self
-    ∷ call 15 yield
-    ∷ call 16 setschedparam
-    ∷ call 17 getschedparam
-    ∷ call 18 setschedprio
-    ∷ call 20 no_call
-    ∷ call 21 no_call
-    ∷ call 22 no_call
-    ∷ call 23 no_call
-    ∷ call 24 no_call
-    ∷ call 25 no_call
-    ∷ call 30 no_call
-    ∷ call 31 no_call
-    ∷ call 32 no_call
-    ∷ call 33 no_call
-    ∷ call 34 no_call
-    ∷ call 35 no_call
-    ∷ call 40 no_call
-    ∷ call 41 no_call
-    ∷ call 42 no_call
-    ∷ call 43 no_call
-    ∷ call 44 no_call
-    ∷ call 45 no_call
-    ∷ call 50 no_call
-    ∷ call 51 no_call
-    ∷ call 52 no_call
-    ∷ call 53 no_call
-    ∷ []
-
--- the row of a number; any other number is no call (own)
-abbrev pub call_of : ℕ → CallRow
-call_of number = unwrap_or (find (λ row. row.number == number) call_table) (call number no_call)
+-- what the call of a number comes to, if it is one's (own, ENOSYS)
+abbrev pub answer_to : Option Call → Row
+answer_to None = no_call
+answer_to (Some known) = answer_of known

@@ -10,7 +10,9 @@ pub mod Withdrawal
 pub mod Unwinding
 pub mod Time
 pub mod Calls
+pub mod Steps
 pub mod ConsoleCalls
+pub mod ThreadCreation
 pub mod ThreadCalls
 pub mod TimeCalls
 pub mod MutexCalls

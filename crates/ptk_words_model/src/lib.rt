@@ -4,7 +4,7 @@
 //! `ptk_words_instructions` and `ptk_words_windows`; every pool, the gate, the kernel and the system cite these words.
 #![tactic(auto)]
 
-use ptk_words::{Errno, Limits, Thread, ThreadNo, Tick};
+use ptk_words::{Errno, Limits, Policy, Priority, Thread, ThreadNo, Tick};
 
 /// What a call comes to.
 #[derive(Clone, Copy, Debug, PartialEq, Eq)]
@@ -35,6 +35,26 @@ pub struct Invocation {
     pub a2: u32,
     pub a3: u32,
     pub a4: u32,
+}
+
+/// Where the policy and the priority of a new thread come from (pthread_attr_setinheritsched).
+#[derive(Clone, Copy)]
+pub enum Scheduling {
+    /// From its creator.
+    Inherited,
+    /// They are these.
+    Explicit(Policy, Priority),
+}
+
+/// What the attributes of a new thread ask for (pthread_create).
+#[derive(Clone, Copy)]
+pub struct Creation {
+    /// Its policy and priority.
+    pub scheduling: Scheduling,
+    /// Whether it is detached (pthread_attr_setdetachstate).
+    pub is_detached: bool,
+    /// The end of its stack; None for its number's own.
+    pub stack_top: Option<u32>,
 }
 
 /// The thread that runs.

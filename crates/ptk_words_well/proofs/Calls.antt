@@ -1,30 +1,36 @@
 -- Each call in use leaves the state whole.
-use Rattle.std.proofs.Common.{◌≡◌, ℕ, ◌%◌, Bool, true, false, not, ◌&&◌, ◌||◌, List, [], ◌∷◌, length, refl, sym, ◌∙◌, ap}
-use Rattle.std.specs.Prelude.{Option, Some, None, option_map, unwrap_or, is_some, is_none, nat_lt, ◌==◌, if◌then◌else◌, find, cond}
-use Rattle.std.specs.List.{AllByRecursion}
+use Rattle.std.proofs.Common.{◌≡◌, ℕ, ◌%◌, Bool, true, false, not, List, [], ◌∷◌, refl, sym, ◌∙◌, ap}
+use Rattle.std.specs.Prelude.{Option, Some, None, unwrap_or, is_some, nat_lt, ◌==◌, if◌then◌else◌, Result, Ok, Err}
 use Rattle.std.proofs.lemmas.Bool.{false≢true, or_parts}
 use Rattle.ptk_words.specs.Pools.{least_free}
 use Rattle.ptk_words.specs.Processor.{Processor}
 use Rattle.ptk_words.specs.Faults.{errno_number}
 use Rattle.ptk_words.specs.declared.TheConstants.{CANCELED}
 use Rattle.ptk_words.specs.declared.faults.Errno.{Errno}
-use Rattle.ptk_words.specs.declared.faults.Errno.TheVariants.{ESRCH, EAGAIN, EFAULT, EINVAL, EDEADLK, ENOSYS, ENOTSUP}
+use Rattle.ptk_words.specs.declared.faults.Errno.TheVariants.{ESRCH, EAGAIN, EINVAL, EDEADLK, ENOSYS, ENOTSUP}
 use Rattle.ptk_words.specs.declared.faults.Status.TheVariants.{Exited}
 use Rattle.ptk_words.specs.declared.sections.Limits.{Limits}
-use Rattle.ptk_words.specs.declared.threads.Policy.{Policy}
-use Rattle.ptk_words.specs.declared.threads.Policy.TheVariants.{Fifo}
 use Rattle.ptk_words.specs.declared.threads.Thread.{Thread}
 use Rattle.ptk_words.specs.declared.threads.Wait.TheVariants.{JoinWait}
 use Rattle.ptk_words_model.specs.State.{Part, with_locks, with_console}
 use Rattle.ptk_words_model.specs.Priority.{thread_at}
 use Rattle.ptk_words_model.specs.Schedule.{with_thread, at_tail, at_head}
 use Rattle.ptk_words_model.specs.Console.{is_full, with_output}
-use Rattle.ptk_words_model.specs.Unwinding.{is_ended, is_alive, without_thread}
+use Rattle.ptk_words_model.specs.Unwinding.{is_alive, without_thread}
+use Rattle.ptk_words.specs.Threads.{is_ended, is_taken}
 use Rattle.ptk_words_model.specs.declared.Invocation.{Invocation}
-use Rattle.ptk_words_model.specs.Calls.{Answer, refusal, success, blocked_in, no_call, is_pointer, is_cancelled, cancellation_answer, using_thread}
-use Rattle.ptk_words_model.specs.ConsoleCalls.{exit_call, console_put, console_get_answer, console_get}
-use Rattle.ptk_words_model.specs.ThreadCalls.{Attributes, attributes_at, policy_of, policy_number, is_priority, start_cpu, new_thread, default_stack_top, with_new_thread, created_thread, create_answer, create, pthread_exit, is_taken, join, detach, self, after_placing, yield, after_placing_at_tail, scheduled_with, setschedparam, getschedparam, after_priority_change, prioritized_from, setschedprio}
-use Rattle.ptk_words_model.specs.CallTable.{CallRow, call, call_table, call_of}
+use Rattle.ptk_words_model.specs.declared.Creation.{Creation}
+use Rattle.ptk_words_model.specs.declared.Scheduling.{Scheduling}
+use Rattle.ptk_words_model.specs.declared.Scheduling.TheVariants.{Inherited, Explicit}
+use Rattle.ptk_words_model.specs.Calls.{Answer, refusal, success, blocked_in, no_call, is_cancelled, cancellation_answer, using_thread}
+use Rattle.ptk_words_model.specs.ConsoleCalls.{exit_call, console_put, take_input, console_get}
+use Rattle.ptk_words_model.specs.ThreadCalls.{create, pthread_exit, join, detach, self, after_placing, yield, after_placing_at_tail, setschedparam, getschedparam, after_priority_change, setschedprio}
+use Rattle.ptk_words_model.specs.ThreadCreation.{policy_of, policy_number, is_priority, start_cpu, default_stack_top, creation_at, scheduled_thread, with_new_thread, created_thread}
+use Rattle.ptk_words_model.specs.Steps.{Row, valid, refuse◌when◌, refuse◌unless◌, ◌or_refuse◌}
+use Rattle.ptk_words_model.specs.CallTable.{answer_of, answer_to}
+use Rattle.ptk_words.specs.declared.calls.Call.{Call}
+use Rattle.ptk_words.specs.declared.calls.Call.TheVariants as call
+use Rattle.ptk_words.specs.Calls.{call_of}
 use Rattle.ptk_words_well.specs.Well.{IsWell, joiner_of}
 use Rattle.ptk_words_well.proofs.Lined.{ready_alive}
 use Rattle.ptk_words_well.proofs.Threads.{well_replied, well_policy, well_priority, well_detached}
@@ -47,12 +53,29 @@ either_well : (limits : Limits) (b : Bool) (x y : Answer) → (b ≡ true → Is
 either_well limits true x y h k = h refl
 either_well limits false x y h k = k refl
 
-using_at : (limits : Limits) (t : ℕ) (i : Invocation) (s : Part) (next : Thread → Answer) (o : Option Thread) → IsWell limits s → ((target : Thread) → o ≡ Some target → IsWell limits (next target).part) → IsWell limits (unwrap_or (option_map next o) (refusal ESRCH i s)).part
-using_at limits t i s next None well each = well_refusal limits ESRCH i s well
-using_at limits t i s next (Some target) well each = each target refl
+-- ---- steps
+
+-- a check passed, or the error; the rest is named by its answer, so that `_` can stand for it
+well_when : (limits : Limits) (e : Errno) (b : Bool) (rest : Answer) (i : Invocation) (s : Part) → IsWell limits s → (b ≡ false → IsWell limits rest.part) → IsWell limits ((refuse e when b) (λ _ _. rest) i s).part
+well_when limits e true rest i s well k = well_refusal limits e i s well
+well_when limits e false rest i s well k = k refl
+
+well_unless : (limits : Limits) (e : Errno) (b : Bool) (rest : Answer) (i : Invocation) (s : Part) → IsWell limits s → (b ≡ true → IsWell limits rest.part) → IsWell limits ((refuse e unless b) (λ _ _. rest) i s).part
+well_unless limits e true rest i s well k = k refl
+well_unless limits e false rest i s well k = well_refusal limits e i s well
+
+-- a value that is there, or the error
+well_given : {A : Type 0} (limits : Limits) (o : Option A) (e : Errno) (rest : A → Answer) (i : Invocation) (s : Part) → IsWell limits s → ((a : A) → o ≡ Some a → IsWell limits (rest a).part) → IsWell limits ((o or_refuse e) (λ a _ _. rest a) i s).part
+well_given limits None e rest i s well each = well_refusal limits e i s well
+well_given limits (Some a) e rest i s well each = each a refl
+
+-- a value that is valid, or its error
+well_valid : {A : Type 0} (limits : Limits) (o : Result A Errno) (rest : A → Row) (i : Invocation) (s : Part) → IsWell limits s → ((a : A) → o ≡ Ok a → IsWell limits (rest a i s).part) → IsWell limits (valid o rest i s).part
+well_valid limits (Ok a) rest i s well each = each a refl
+well_valid limits (Err e) rest i s well each = well_refusal limits e i s well
 
 well_using : (limits : Limits) (t : ℕ) (i : Invocation) (s : Part) (next : Thread → Answer) → IsWell limits s → ((target : Thread) → thread_at s.locks t ≡ Some target → IsWell limits (next target).part) → IsWell limits (using_thread t i s next).part
-well_using limits t i s next well each = using_at limits t i s next (thread_at s.locks t) well each
+well_using limits t i s next well each = well_given limits (thread_at s.locks t) ESRCH next i s well each
 
 pub well_cancellation_answer : (limits : Limits) (i : Invocation) (s : Part) → s.running ≡ Some i.caller → IsWell limits s → IsWell limits (cancellation_answer i s).part
 well_cancellation_answer limits i s runs well = well_unwinding_start limits i.caller CANCELED s (ready_alive (thread_at s.locks i.caller) (well.running_ready i.caller runs)) well
@@ -73,54 +96,37 @@ well_console_put i s runs well =
     (λ f. well_refusal i.limits EAGAIN i s well)
     (λ f. well_success i.limits [] i (with_console (with_output (i.a0 % 256)) s) (well_output i.limits (i.a0 % 256) s f well)))
 
-get_at : (ring : List ℕ) (i : Invocation) (s : Part) → s.console.ring ≡ ring → s.running ≡ Some i.caller → IsWell i.limits s → IsWell i.limits (console_get_answer ring i s).part
+get_at : (ring : List ℕ) (i : Invocation) (s : Part) → s.console.ring ≡ ring → s.running ≡ Some i.caller → IsWell i.limits s → IsWell i.limits (take_input ring i s).part
 get_at [] i s e runs well = well_input_wait i.limits i s runs well
 get_at (byte ∷ ring) i s e runs well =
     well_success i.limits (byte ∷ []) i (with_console (λ console. record console { ring = ring }) s) (well_taken i.limits byte ring s e well)
 
 pub well_console_get : (i : Invocation) (s : Part) → s.running ≡ Some i.caller → IsWell i.limits s → IsWell i.limits (console_get i s).part
 well_console_get i s runs well =
-    either_well i.limits (is_cancelled s i.caller) (cancellation_answer i s) (console_get_answer s.console.ring i s)
+    either_well i.limits (is_cancelled s i.caller) (cancellation_answer i s) (take_input s.console.ring i s)
     (λ e. well_cancellation_answer i.limits i s runs well) (λ e. get_at s.console.ring i s refl runs well)
 
 -- ---- calls 10 and 11
 
-new_at : (b : Bool) (x y : Thread) (detached : Bool) → IsNew x → IsNew y → IsNew (record (if b then x else y) { is_detached = detached })
-new_at true x y detached h k = record { wait = h.wait; joiner = h.joiner; ended = h.ended; used = h.used }
-new_at false x y detached h k = record { wait = k.wait; joiner = k.joiner; ended = k.ended; used = k.used }
+detached_new : (thread : Thread) (detached : Bool) → IsNew thread → IsNew (record thread { is_detached = detached })
+detached_new thread detached new = record { wait = new.wait; joiner = new.joiner; ended = new.ended; used = new.used }
 
-fresh : (cpu : Processor) (policy : Policy) (priority : ℕ) → IsNew (new_thread cpu policy priority)
-fresh cpu policy priority = record { wait = refl; joiner = refl; ended = refl; used = refl }
+scheduled_new : (scheduling : Scheduling) (cpu : Processor) (creator : Thread) → IsNew (scheduled_thread scheduling cpu creator)
+scheduled_new Inherited cpu creator = record { wait = refl; joiner = refl; ended = refl; used = refl }
+scheduled_new (Explicit policy priority) cpu creator = record { wait = refl; joiner = refl; ended = refl; used = refl }
 
-created_new : (i : Invocation) (attributes : Attributes) (creator : Thread) (t : ℕ) → IsNew (created_thread i attributes creator t)
-created_new i attributes creator t =
-    let top : ℕ = if attributes.stack_top == 0 then default_stack_top i.limits t else attributes.stack_top in
-    let cpu : Processor = start_cpu i.a1 i.a2 top in
-    new_at (attributes.inherit == 0) (new_thread cpu creator.policy creator.priority) (new_thread cpu (unwrap_or (policy_of attributes.policy) Fifo) attributes.priority) (attributes.detach == 1)
-    (fresh cpu creator.policy creator.priority) (fresh cpu (unwrap_or (policy_of attributes.policy) Fifo) attributes.priority)
-
-create_at : (o : Option ℕ) (i : Invocation) (attributes : Attributes) (s : Part) → least_free s.threads ≡ o → IsWell i.limits s → IsWell i.limits (create_answer o i attributes s).part
-create_at None i attributes s e well = well_refusal i.limits EAGAIN i s well
-create_at (Some t) i attributes s e well =
-    well_using i.limits i.caller i s (λ creator. success (t ∷ []) i (with_new_thread i.limits t (created_thread i attributes creator t) s)) well
-    (λ creator there. well_success i.limits (t ∷ []) i (with_new_thread i.limits t (created_thread i attributes creator t) s)
-    (well_least_free i.limits t (created_thread i attributes creator t) s e (created_new i attributes creator t) well))
+pub created_new : (i : Invocation) (creation : Creation) (creator : Thread) (t : ℕ) → IsNew (created_thread i creation creator t)
+created_new i creation creator t =
+    let cpu : Processor = start_cpu i.a1 i.a2 (unwrap_or creation.stack_top (default_stack_top i.limits t)) in
+    detached_new (scheduled_thread creation.scheduling cpu creator) creation.is_detached (scheduled_new creation.scheduling cpu creator)
 
 pub well_create : (i : Invocation) (s : Part) → s.running ≡ Some i.caller → IsWell i.limits s → IsWell i.limits (create i s).part
 well_create i s runs well =
-    let attributes : Attributes = attributes_at s i.a0 in
-    let is_explicit : Bool = attributes.inherit == 1 in
-    let made : Answer = create_answer (least_free s.threads) i attributes s in
-    let fifth : Answer = if not (attributes.stack_top % 16 == 0) || nat_lt (length s.memory) attributes.stack_top then refusal EINVAL i s else made in
-    let fourth : Answer = if is_explicit && not (is_priority attributes.priority) then refusal EINVAL i s else fifth in
-    let third : Answer = if is_explicit && is_none (policy_of attributes.policy) then refusal ENOTSUP i s else fourth in
-    let second : Answer = if nat_lt 1 attributes.detach || nat_lt 1 attributes.inherit then refusal EINVAL i s else third in
-    either_well i.limits (not (i.a0 == 0 || is_pointer s i.a0 20)) (refusal EFAULT i s) second (λ e. well_refusal i.limits EFAULT i s well)
-    (λ e. either_well i.limits (nat_lt 1 attributes.detach || nat_lt 1 attributes.inherit) (refusal EINVAL i s) third (λ e. well_refusal i.limits EINVAL i s well)
-    (λ e. either_well i.limits (is_explicit && is_none (policy_of attributes.policy)) (refusal ENOTSUP i s) fourth (λ e. well_refusal i.limits ENOTSUP i s well)
-    (λ e. either_well i.limits (is_explicit && not (is_priority attributes.priority)) (refusal EINVAL i s) fifth (λ e. well_refusal i.limits EINVAL i s well)
-    (λ e. either_well i.limits (not (attributes.stack_top % 16 == 0) || nat_lt (length s.memory) attributes.stack_top) (refusal EINVAL i s) made (λ e. well_refusal i.limits EINVAL i s well)
-    (λ e. create_at (least_free s.threads) i attributes s refl well)))))
+    well_valid i.limits (creation_at s i.a0) _ i s well
+    (λ creation _. well_given i.limits (least_free s.threads) EAGAIN _ i s well
+    (λ t free. well_given i.limits (thread_at s.locks i.caller) ESRCH _ i s well
+    (λ creator _. well_success i.limits (t ∷ []) i (with_new_thread i.limits t (created_thread i creation creator t) s)
+    (well_least_free i.limits t (created_thread i creation creator t) s free (created_new i creation creator t) well))))
 
 pub well_pthread_exit : (i : Invocation) (s : Part) → s.running ≡ Some i.caller → IsWell i.limits s → IsWell i.limits (pthread_exit i s).part
 well_pthread_exit i s runs well = well_unwinding_start i.limits i.caller i.a0 s (ready_alive (thread_at s.locks i.caller) (well.running_ready i.caller runs)) well
@@ -174,16 +180,13 @@ well_self i s runs well = well_success i.limits (i.caller ∷ []) i s well
 pub well_yield : (i : Invocation) (s : Part) → s.running ≡ Some i.caller → IsWell i.limits s → IsWell i.limits (yield i s).part
 well_yield i s runs well = well_success i.limits [] i (after_placing at_tail i.caller s) (well_placing_tail i.limits i.caller s well)
 
-well_scheduled_with : (policy : Option Policy) (i : Invocation) (s : Part) → IsWell i.limits s → IsWell i.limits (scheduled_with policy i s).part
-well_scheduled_with None i s well = well_refusal i.limits ENOTSUP i s well
-well_scheduled_with (Some policy) i s well =
-    let set : Part = with_locks (with_thread i.a0 (λ thread. record thread { policy = policy; priority = i.a2; used = 0 })) s in
-    either_well i.limits (not (is_priority i.a2)) (refusal EINVAL i s) (success [] i (after_placing_at_tail i.a0 set)) (λ e. well_refusal i.limits EINVAL i s well)
-    (λ e. well_success i.limits [] i (after_placing_at_tail i.a0 set) (well_placing_at_tail i.limits i.a0 set (well_policy i.limits i.a0 policy i.a2 s well)))
-
 pub well_setschedparam : (i : Invocation) (s : Part) → s.running ≡ Some i.caller → IsWell i.limits s → IsWell i.limits (setschedparam i s).part
 well_setschedparam i s runs well =
-    well_using i.limits i.a0 i s (λ target. scheduled_with (policy_of i.a1) i s) well (λ target there. well_scheduled_with (policy_of i.a1) i s well)
+    well_given i.limits (thread_at s.locks i.a0) ESRCH _ i s well
+    (λ _ _. well_given i.limits (policy_of i.a1) ENOTSUP _ i s well
+    (λ policy _. well_unless i.limits EINVAL (is_priority i.a2) _ i s well
+    (λ _. let set : Part = with_locks (with_thread i.a0 (λ thread. record thread { policy = policy; priority = i.a2; used = 0 })) s in
+    well_success i.limits [] i (after_placing_at_tail i.a0 set) (well_placing_at_tail i.limits i.a0 set (well_policy i.limits i.a0 policy i.a2 s well)))))
 
 pub well_getschedparam : (i : Invocation) (s : Part) → s.running ≡ Some i.caller → IsWell i.limits s → IsWell i.limits (getschedparam i s).part
 well_getschedparam i s runs well =
@@ -195,130 +198,64 @@ changed_at limits t s true fell well = well_placing_at_tail limits t s well
 changed_at limits t s false true well = well_placing_head limits t s well
 changed_at limits t s false false well = well
 
-well_prioritized_from : (old : ℕ) (i : Invocation) (s : Part) → IsWell i.limits s → IsWell i.limits (prioritized_from old i s).part
-well_prioritized_from old i s well =
-    let set : Part = with_locks (with_thread i.a0 (λ thread. record thread { priority = i.a1 })) s in
-    let placed : Part = after_priority_change old i.a1 i.a0 set in
-    either_well i.limits (not (is_priority i.a1)) (refusal EINVAL i s) (success [] i placed) (λ e. well_refusal i.limits EINVAL i s well)
-    (λ e. well_success i.limits [] i placed (changed_at i.limits i.a0 set (nat_lt old i.a1) (nat_lt i.a1 old) (well_priority i.limits i.a0 i.a1 s well)))
-
 pub well_setschedprio : (i : Invocation) (s : Part) → s.running ≡ Some i.caller → IsWell i.limits s → IsWell i.limits (setschedprio i s).part
 well_setschedprio i s runs well =
-    well_using i.limits i.a0 i s (λ target. prioritized_from target.priority i s) well (λ target there. well_prioritized_from target.priority i s well)
+    well_given i.limits (thread_at s.locks i.a0) ESRCH _ i s well
+    (λ target _. well_unless i.limits EINVAL (is_priority i.a1) _ i s well
+    (λ _. let set : Part = with_locks (with_thread i.a0 (λ thread. record thread { priority = i.a1 })) s in
+    well_success i.limits [] i (after_priority_change target.priority i.a1 i.a0 set)
+    (changed_at i.limits i.a0 set (nat_lt target.priority i.a1) (nat_lt i.a1 target.priority) (well_priority i.limits i.a0 i.a1 s well))))
 
 -- ---- the table
 
--- the call of the row leaves the state whole (own)
-abbrev Keeps : CallRow → Type 0
-Keeps row = (i : Invocation) (s : Part) → s.running ≡ Some i.caller → IsWell i.limits s → IsWell i.limits (row.answer_of i s).part
+-- the row leaves the state whole (own)
+abbrev Keeps : Row → Type 0
+Keeps row = (i : Invocation) (s : Part) → s.running ≡ Some i.caller → IsWell i.limits s → IsWell i.limits (row i s).part
 
-found_keeps : (number : ℕ) (x : CallRow) (rest : Option CallRow) (b : Bool) → Keeps x → Keeps (unwrap_or rest (call number no_call)) → Keeps (unwrap_or (cond b (Some x) rest) (call number no_call))
-found_keeps number x rest true here more = here
-found_keeps number x rest false here more = more
+-- each call
+pub well_answer : (known : Call) → Keeps (answer_of known)
+well_answer call.Exit = well_exit_call
+well_answer call.ConsolePut = well_console_put
+well_answer call.ConsoleGet = well_console_get
+well_answer call.ClockGettime = well_no_call
+well_answer call.ClockNanosleep = well_no_call
+well_answer call.PthreadCreate = well_create
+well_answer call.PthreadExit = well_pthread_exit
+well_answer call.PthreadJoin = well_join
+well_answer call.PthreadDetach = well_detach
+well_answer call.PthreadSelf = well_self
+well_answer call.SchedYield = well_yield
+well_answer call.PthreadSetschedparam = well_setschedparam
+well_answer call.PthreadGetschedparam = well_getschedparam
+well_answer call.PthreadSetschedprio = well_setschedprio
+well_answer call.MutexInit = well_no_call
+well_answer call.MutexDestroy = well_no_call
+well_answer call.MutexLock = well_no_call
+well_answer call.MutexTrylock = well_no_call
+well_answer call.MutexTimedlock = well_no_call
+well_answer call.MutexUnlock = well_no_call
+well_answer call.CondInit = well_no_call
+well_answer call.CondDestroy = well_no_call
+well_answer call.CondWait = well_no_call
+well_answer call.CondTimedwait = well_no_call
+well_answer call.CondSignal = well_no_call
+well_answer call.CondBroadcast = well_no_call
+well_answer call.PthreadCancel = well_no_call
+well_answer call.PthreadSetcancelstate = well_no_call
+well_answer call.PthreadSetcanceltype = well_no_call
+well_answer call.PthreadTestcancel = well_no_call
+well_answer call.CleanupPush = well_no_call
+well_answer call.CleanupPop = well_no_call
+well_answer call.KeyCreate = well_no_call
+well_answer call.KeyDelete = well_no_call
+well_answer call.PthreadSetspecific = well_no_call
+well_answer call.PthreadGetspecific = well_no_call
 
-row_keeps : (number : ℕ) (rows : List CallRow) → AllByRecursion Keeps rows → Keeps (unwrap_or (find (λ row. row.number == number) rows) (call number no_call))
-row_keeps number [] all = well_no_call
-row_keeps number (x ∷ rows) all = found_keeps number x (find (λ row. row.number == number) rows) (x.number == number) all.0 (row_keeps number rows all.1)
-
-table_keeps : AllByRecursion Keeps call_table
-table_keeps = (
-  well_exit_call,
-  (
-    well_console_put,
-    (
-      well_console_get,
-      (
-        well_no_call,
-        (
-          well_no_call,
-          (
-            well_create,
-            (
-              well_pthread_exit,
-              (
-                well_join,
-                (
-                  well_detach,
-                  (
-                    well_self,
-                    (
-                      well_yield,
-                      (
-                        well_setschedparam,
-                        (
-                          well_getschedparam,
-                          (
-                            well_setschedprio,
-                            (
-                              well_no_call,
-                              (
-                                well_no_call,
-                                (
-                                  well_no_call,
-                                  (
-                                    well_no_call,
-                                    (
-                                      well_no_call,
-                                      (
-                                        well_no_call,
-                                        (
-                                          well_no_call,
-                                          (
-                                            well_no_call,
-                                            (
-                                              well_no_call,
-                                              (
-                                                well_no_call,
-                                                (
-                                                  well_no_call,
-                                                  (
-                                                    well_no_call,
-                                                    (
-                                                      well_no_call,
-                                                      (
-                                                        well_no_call,
-                                                        (
-                                                          well_no_call,
-                                                          (
-                                                            well_no_call,
-                                                            (
-                                                              well_no_call,
-                                                              (
-                                                                well_no_call,
-                                                                (well_no_call, (well_no_call, (well_no_call, (well_no_call, tt)))),
-                                                              ),
-                                                            ),
-                                                          ),
-                                                        ),
-                                                      ),
-                                                    ),
-                                                  ),
-                                                ),
-                                              ),
-                                            ),
-                                          ),
-                                        ),
-                                      ),
-                                    ),
-                                  ),
-                                ),
-                              ),
-                            ),
-                          ),
-                        ),
-                      ),
-                    ),
-                  ),
-                ),
-              ),
-            ),
-          ),
-        ),
-      ),
-    ),
-  ),
-)
+-- a call, or none
+pub well_answer_to : (known : Option Call) → Keeps (answer_to known)
+well_answer_to None = well_no_call
+well_answer_to (Some known) = well_answer known
 
 -- the call of any number
-pub well_call : (number : ℕ) (i : Invocation) (s : Part) → s.running ≡ Some i.caller → IsWell i.limits s → IsWell i.limits ((call_of number).answer_of i s).part
-well_call number = row_keeps number call_table table_keeps
+pub well_call : (number : ℕ) (i : Invocation) (s : Part) → s.running ≡ Some i.caller → IsWell i.limits s → IsWell i.limits (answer_to (call_of number) i s).part
+well_call number = well_answer_to (call_of number)

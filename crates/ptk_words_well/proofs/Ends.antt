@@ -3,7 +3,7 @@ use Rattle.std.proofs.Common.{◌≡◌, ℕ, zero, suc, ◌<◌, Bool, true, fa
 use Rattle.std.specs.Prelude.{◌≢◌, Option, Some, None, option_map, is_some, if◌then◌else◌}
 use Rattle.std.specs.List.{list_any}
 use Rattle.std.proofs.lemmas.Bool.{cases_eq, false≢true, false_from_ne_true}
-use Rattle.ptk_words.specs.Pools.{pool_get, pool_set, pool_changed}
+use Rattle.ptk_words.specs.Pools.{pool_get, pool_set, pool_changed, is_in}
 use Rattle.ptk_words.specs.declared.sections.Limits.{Limits}
 use Rattle.ptk_words.specs.declared.faults.Status.TheVariants.{Exited}
 use Rattle.ptk_words.specs.declared.threads.Thread.{Thread}
@@ -14,7 +14,7 @@ use Rattle.ptk_words_model.specs.Priority.{thread_at}
 use Rattle.ptk_words_model.specs.Mutex.{wait_of, mutex_after_end, after_owner_end}
 use Rattle.ptk_words_model.specs.Schedule.{with_thread, woken_with, after_wake}
 use Rattle.ptk_words_model.specs.Unwinding.{is_alive, after_join_by, without_thread, after_release, after_last_end, after_end}
-use Rattle.ptk_words_well.specs.Well.{IsWell, is_in, is_ready, joiner_of, used_of}
+use Rattle.ptk_words_well.specs.Well.{IsWell, is_ready, joiner_of, used_of}
 use Rattle.ptk_words_well.proofs.Pools.{get-set_other, free_own, length-pool_set, changed_own, changed_other, length-changed}
 use Rattle.ptk_words_well.proofs.Lines.{out_push}
 use Rattle.ptk_words_well.proofs.Lined.{AreLined, AreOthers, ready_waits, ready_alive, not_ready_out, not_ready_stopped, lined_stopped, lined_others, lined_push}

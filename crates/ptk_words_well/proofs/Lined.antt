@@ -3,11 +3,12 @@ use Rattle.std.proofs.Common.{◌≡◌, ℕ, true, false, not, List, [], ◌∷
 use Rattle.std.specs.Prelude.{◌≢◌, Option, Some, None, nat_eq, is_none}
 use Rattle.std.specs.List.{IsDistinct}
 use Rattle.std.proofs.lemmas.Bool.{false≢true, false_from_ne_true, and_parts}
-use Rattle.ptk_words.specs.Pools.{pool_get, without}
+use Rattle.ptk_words.specs.Pools.{pool_get, without, is_in}
 use Rattle.ptk_words.specs.declared.threads.Thread.{Thread}
 use Rattle.ptk_words_model.specs.Mutex.{wait_of}
-use Rattle.ptk_words_model.specs.Unwinding.{is_ended, is_alive}
-use Rattle.ptk_words_well.specs.Well.{is_ready, is_in}
+use Rattle.ptk_words_model.specs.Unwinding.{is_alive}
+use Rattle.ptk_words.specs.Threads.{is_ended}
+use Rattle.ptk_words_well.specs.Well.{is_ready}
 use Rattle.ptk_words_well.proofs.Lines.{in_head, in_push, out_head, out_push, without_own, in_without, distinct_head, distinct_push, distinct_without}
 
 -- the threads of the line and the running one are ready, and stand in one place (XSH 2.8.4)

@@ -7,8 +7,7 @@ use Rattle.std.proofs.lemmas.Bool.{cases_eq, eqb-true, eq-eqb, ne_eqb, or_cases,
 use Rattle.std.proofs.lemmas.List.Folds.{list_any-append}
 use Rattle.std.proofs.lemmas.Map.Keys.{IsDistinct-head, IsDistinct-tail, IsDistinct-cons, IsDistinct-push}
 use Rattle.std.proofs.lemmas.Map.Views.{any-filter_same}
-use Rattle.ptk_words.specs.Pools.{without, greatest, first_of_greatest}
-use Rattle.ptk_words_well.specs.Well.{is_in}
+use Rattle.ptk_words.specs.Pools.{without, greatest, first_of_greatest, is_in}
 
 -- ---- who is in
 

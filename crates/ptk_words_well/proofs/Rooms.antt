@@ -6,7 +6,7 @@ use Rattle.std.specs.Option.{option_flatten}
 use Rattle.std.proofs.lemmas.Bool.{cases_lt, false≢true, false_from_ne_true}
 use Rattle.std.proofs.lemmas.Option.{slice_get_past}
 use Rattle.std.proofs.lemmas.Map.Steps.{length-le_from_distinct_below}
-use Rattle.ptk_words.specs.Pools.{pool_get}
+use Rattle.ptk_words.specs.Pools.{pool_get, is_in}
 use Rattle.ptk_words.specs.declared.sections.Limits.{Limits}
 use Rattle.ptk_words.specs.declared.threads.Thread.{Thread}
 use Rattle.ptk_words.specs.declared.threads.Wait.{Wait}
@@ -14,7 +14,7 @@ use Rattle.ptk_words.specs.declared.threads.Wait.TheVariants.{InputWait}
 use Rattle.ptk_words_model.specs.State.{Part}
 use Rattle.ptk_words_model.specs.Priority.{thread_at}
 use Rattle.ptk_words_model.specs.Mutex.{wait_of}
-use Rattle.ptk_words_well.specs.Well.{IsWell, is_in, is_ready}
+use Rattle.ptk_words_well.specs.Well.{IsWell, is_ready}
 use Rattle.ptk_words_well.proofs.Lines.{in_head, distinct_head}
 
 -- ---- numbers

@@ -6,7 +6,7 @@ use Rattle.std.proofs.lemmas.List.{length-replicate}
 use Rattle.std.specs.Prelude.{cond, slice_get, nat_eq, ◌≢◌, Option, Some, None, option_map, is_none, nat_lt, Result, Ok, Err, if◌then◌else◌}
 use Rattle.std.proofs.lemmas.Bool.{cases_eq, false≢true, ltb-true, ltb-false, not-true}
 use Rattle.ptk_words.specs.Image.{ImageParts, image_of}
-use Rattle.ptk_words.specs.Pools.{numbered, pool_get, pool_set, least_free}
+use Rattle.ptk_words.specs.Pools.{numbered, pool_get, pool_set, least_free, is_in}
 use Rattle.ptk_words.specs.declared.sections.Limits.{Limits}
 use Rattle.ptk_words.specs.declared.sections.Arrival.{Arrival}
 use Rattle.ptk_words.specs.declared.faults.ImageFault.{ImageFault}
@@ -17,11 +17,13 @@ use Rattle.ptk_words_model.specs.declared.Cancellation.{Cancellation}
 use Rattle.ptk_words_model.specs.State.{Part, with_locks, with_cancellation, with_cleanups, with_keys}
 use Rattle.ptk_words_model.specs.Priority.{thread_at}
 use Rattle.ptk_words_model.specs.Mutex.{wait_of}
+use Rattle.ptk_words_model.specs.Withdrawal.{deadline_of_wait}
 use Rattle.ptk_words_model.specs.Keys.{no_values, no_rounds, with_rounds, with_values}
-use Rattle.ptk_words_model.specs.Unwinding.{is_ended, is_alive}
-use Rattle.ptk_words_model.specs.ThreadCalls.{new_cancellation, with_new_thread}
+use Rattle.ptk_words_model.specs.Unwinding.{is_alive}
+use Rattle.ptk_words.specs.Threads.{is_ended}
+use Rattle.ptk_words_model.specs.ThreadCreation.{new_cancellation, with_new_thread}
 use Rattle.ptk_words_model.specs.Run.{empty_part, main_thread, fits, memory_of, with_image, start_part}
-use Rattle.ptk_words_well.specs.Well.{IsWell, IsCalm, is_in, is_ready, joiner_of, used_of}
+use Rattle.ptk_words_well.specs.Well.{IsWell, IsCalm, is_ready, joiner_of, used_of}
 use Rattle.ptk_words_well.proofs.Pools.{get-set_own, get-set_other, length-pool_set, get-replicate, numbered-replicate}
 use Rattle.ptk_words_well.proofs.Lined.{AreOthers, not_ready_out, not_ready_stopped, lined_others, lined_push}
 use Rattle.ptk_words_well.proofs.Waiting.{AreSameWaits, waiting_same}
@@ -132,7 +134,7 @@ well_empty limits input interval = record {
   unused = record {
     mutexes = refl;
     conditions = refl;
-    deadlines = refl;
+    untimed = λ t. ap (λ o. deadline_of_wait (wait_of o)) (get-replicate limits.threads t);
     cleanups = refl;
     destructors = refl;
     values = refl;

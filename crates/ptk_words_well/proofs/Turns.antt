@@ -3,7 +3,7 @@ use Rattle.std.proofs.Common.{◌≡◌, ℕ, ◌+◌, Bool, true, false, ◌&&�
 use Rattle.std.specs.Prelude.{◌≢◌, Option, Some, None, nat_eq, nat_lt, nat_le, ◌==◌, if◌then◌else◌}
 use Rattle.std.specs.List.{list_any}
 use Rattle.std.proofs.lemmas.Bool.{cases_eq, false≢true, eqb-true, eq-eqb, ne_eqb, leb-false, and_parts, or_right}
-use Rattle.ptk_words.specs.Pools.{pool_changed, without}
+use Rattle.ptk_words.specs.Pools.{pool_changed, without, is_in}
 use Rattle.ptk_words.specs.declared.sections.Limits.{Limits}
 use Rattle.ptk_words.specs.declared.threads.Thread.{Thread}
 use Rattle.ptk_words_model.specs.State.{Part, with_locks}
@@ -12,7 +12,7 @@ use Rattle.ptk_words_model.specs.Mutex.{owns_raising}
 use Rattle.ptk_words_model.specs.Schedule.{unused, at_tail, at_head, first_ready, after_dispatch, after_choice_between, after_choice, is_round_robin, is_running, after_turn_end, with_used, after_interval}
 use Rattle.ptk_words_model.specs.ThreadCalls.{after_placing, after_placing_at_tail}
 use Rattle.ptk_words_model.specs.Run.{is_active}
-use Rattle.ptk_words_well.specs.Well.{IsWell, is_in, is_ready}
+use Rattle.ptk_words_well.specs.Well.{IsWell, is_ready}
 use Rattle.ptk_words_well.proofs.Pools.{length-changed}
 use Rattle.ptk_words_well.proofs.Lines.{without_own, first_in}
 use Rattle.ptk_words_well.proofs.Lined.{AreLined, lined_stopped, lined_alike, lined_push, lined_head, lined_without, lined_dispatch}

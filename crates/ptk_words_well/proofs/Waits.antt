@@ -2,7 +2,7 @@
 use Rattle.std.proofs.Common.{◌≡◌, ℕ, ◌<◌, true, false, List, [], ◌∷◌, ◌++◌, refl, sym, ◌∙◌, ap, ◌⊎◌, inl, inr}
 use Rattle.std.specs.Prelude.{◌≢◌, Option, Some, None, option_map, fold}
 use Rattle.std.proofs.lemmas.Bool.{cases_eq, false≢true, false_from_ne_true, true_from_ne_false}
-use Rattle.ptk_words.specs.Pools.{pool_get, pool_changed, without}
+use Rattle.ptk_words.specs.Pools.{pool_get, pool_changed, without, is_in}
 use Rattle.ptk_words.specs.declared.sections.Limits.{Limits}
 use Rattle.ptk_words.specs.declared.sections.Arrival.{Arrival}
 use Rattle.ptk_words.specs.declared.threads.Thread.{Thread}
@@ -17,7 +17,7 @@ use Rattle.ptk_words_model.specs.Decision.{after_arrival_for, first_waiter, afte
 use Rattle.ptk_words_model.specs.Unwinding.{is_alive}
 use Rattle.ptk_words_model.specs.declared.Invocation.{Invocation}
 use Rattle.ptk_words_model.specs.Calls.{blocked_in}
-use Rattle.ptk_words_well.specs.Well.{IsWell, is_in, is_ready, joiner_of, used_of}
+use Rattle.ptk_words_well.specs.Well.{IsWell, is_ready, joiner_of, used_of}
 use Rattle.ptk_words_well.proofs.Pools.{changed_own, changed_other, length-changed}
 use Rattle.ptk_words_well.proofs.Lines.{first_in}
 use Rattle.ptk_words_well.proofs.Lined.{ready_waits, ready_alive, not_ready_out, not_ready_stopped, lined_stopped, lined_alike, lined_others, lined_push}

@@ -1,7 +1,7 @@
 -- What holds of a partition's state between moves.
-use Rattle.std.specs.Prelude.{◌≡◌, ℕ, ◌<◌, ◌≤◌, Bool, true, false, not, ◌&&◌, List, [], length, replicate, nat_eq, Option, Some, None, is_none}
-use Rattle.std.specs.List.{list_any, IsDistinct}
-use Rattle.ptk_words.specs.Pools.{numbered}
+use Rattle.std.specs.Prelude.{◌≡◌, ℕ, ◌<◌, ◌≤◌, Bool, true, false, not, ◌&&◌, [], length, replicate, nat_eq, Option, Some, None, is_none}
+use Rattle.std.specs.List.{IsDistinct}
+use Rattle.ptk_words.specs.Pools.{numbered, is_in}
 use Rattle.ptk_words.specs.declared.sections.Limits.{Limits}
 use Rattle.ptk_words.specs.declared.threads.Thread.{Thread}
 use Rattle.ptk_words.specs.declared.threads.Wait.TheVariants.{InputWait, JoinWait}
@@ -9,8 +9,10 @@ use Rattle.ptk_words_model.specs.declared.Cancellation.{Cancellation}
 use Rattle.ptk_words_model.specs.State.{Part}
 use Rattle.ptk_words_model.specs.Priority.{thread_at}
 use Rattle.ptk_words_model.specs.Mutex.{wait_of}
+use Rattle.ptk_words_model.specs.Withdrawal.{deadline_of_wait}
 use Rattle.ptk_words_model.specs.Keys.{no_values}
-use Rattle.ptk_words_model.specs.Unwinding.{is_ended, is_alive}
+use Rattle.ptk_words_model.specs.Unwinding.{is_alive}
+use Rattle.ptk_words.specs.Threads.{is_ended}
 use Rattle.ptk_words_model.specs.Run.{is_active}
 
 -- the thread is in use, has not ended and waits for nothing: it runs or is ready (XSH 2.8.4)
@@ -28,10 +30,6 @@ abbrev pub used_of : Option Thread → ℕ
 used_of None = 0
 used_of (Some thread) = thread.used
 
--- the number is in the list (own)
-abbrev pub is_in : ℕ → List ℕ → Bool
-is_in t ts = list_any (nat_eq t) ts
-
 -- no request is pending, and no thread is marked (XSH 2.9.5)
 abbrev pub IsCalm : Option Cancellation → Type 0
 IsCalm None = Unit {0}
@@ -41,7 +39,7 @@ IsCalm (Some c) = (c.is_pending ≡ false) × (c.is_marked ≡ false)
 pub record IsUnused (limits : Limits) (s : Part) : Type 0 where
   pub mutexes : s.mutexes ≡ replicate limits.mutexes None
   pub conditions : s.conditions ≡ replicate limits.conditions None
-  pub deadlines : s.deadlines ≡ replicate limits.threads None
+  pub untimed : (t : ℕ) → deadline_of_wait (wait_of (thread_at s.locks t)) ≡ None
   pub cleanups : s.cleanups ≡ replicate limits.threads []
   pub destructors : s.keys.destructors ≡ replicate limits.keys None
   pub values : s.keys.values ≡ replicate limits.threads (no_values limits.keys)

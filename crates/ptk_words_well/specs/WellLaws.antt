@@ -7,7 +7,8 @@ use Rattle.ptk_words_windows.specs.Windows.{OwnTicks}
 use Rattle.ptk_words_model.specs.State.{Part}
 use Rattle.ptk_words_model.specs.Priority.{assigned_of, effective_priorities}
 use Rattle.ptk_words_model.specs.declared.Invocation.{Invocation}
-use Rattle.ptk_words_model.specs.CallTable.{call_of}
+use Rattle.ptk_words.specs.Calls.{call_of}
+use Rattle.ptk_words_model.specs.CallTable.{answer_to}
 use Rattle.ptk_words_model.specs.Decision.{after_decision}
 use Rattle.ptk_words_model.specs.Run.{is_active, start_part, alone}
 use Rattle.ptk_words_well.specs.Well.{IsWell}
@@ -18,7 +19,7 @@ StartIsWell limits image input = 1 ≤ limits.threads → 1 ≤ limits.interval 
 
 -- a call of the running thread leaves a whole state whole (own)
 abbrev pub CallsKeepWell : Part → Type 0
-CallsKeepWell s = (number : ℕ) (i : Invocation) → s.running ≡ Some i.caller → IsWell i.limits s → IsWell i.limits ((call_of number).answer_of i s).part
+CallsKeepWell s = (number : ℕ) (i : Invocation) → s.running ≡ Some i.caller → IsWell i.limits s → IsWell i.limits (answer_to (call_of number) i s).part
 
 -- so does a decision of a partition that has not halted (own)
 abbrev pub DecisionsKeepWell : Limits → Part → Type 0

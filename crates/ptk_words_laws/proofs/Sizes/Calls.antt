@@ -1,15 +1,14 @@
 -- The calls keep the sizes of a state.
 use Rattle.std.proofs.Common.{arith, ◌≡◌, ℕ, ◌+◌, ◌%◌, ◌≤◌, ◌<◌, Bool, true, false, List, [], ◌∷◌, ◌++◌, length, ◌∙◌, refl}
-use Rattle.std.specs.Prelude.{Option, Some, None, not, nat_lt, ◌==◌, if◌then◌else◌, option_map, unwrap_or}
+use Rattle.std.specs.Prelude.{Option, Some, None, not, nat_lt, ◌==◌, if◌then◌else◌, ◌&&◌, ◌||◌, is_none}
 use Rattle.std.specs.List.{list_any}
 use Rattle.ptk_words.specs.Faults.{errno_number}
-use Rattle.ptk_words.specs.Pools.{pool_set, without}
+use Rattle.ptk_words.specs.Pools.{pool_set, least_free, without}
 use Rattle.ptk_words.specs.declared.TheConstants.{CANCELED}
 use Rattle.ptk_words.specs.declared.faults.Errno.{Errno}
-use Rattle.ptk_words.specs.declared.faults.Errno.TheVariants.{ESRCH, EAGAIN, EINVAL, EDEADLK, ENOSYS, ENOTSUP}
+use Rattle.ptk_words.specs.declared.faults.Errno.TheVariants.{ESRCH, EAGAIN, EFAULT, EINVAL, EDEADLK, ENOSYS, ENOTSUP}
 use Rattle.ptk_words.specs.declared.faults.Status.TheVariants.{Exited}
 use Rattle.ptk_words.specs.declared.sections.Limits.{Limits}
-use Rattle.ptk_words.specs.declared.threads.Policy.{Policy}
 use Rattle.ptk_words.specs.declared.threads.Thread.{Thread}
 use Rattle.ptk_words.specs.declared.threads.Wait.{Wait}
 use Rattle.ptk_words.specs.declared.threads.Wait.TheVariants.{InputWait, JoinWait}
@@ -19,11 +18,14 @@ use Rattle.ptk_words_model.specs.Schedule.{with_thread, with_reply, at_tail, at_
 use Rattle.ptk_words_model.specs.Mutex.{owns_raising}
 use Rattle.ptk_words_model.specs.Keys.{with_new_specific}
 use Rattle.ptk_words_model.specs.Console.{is_full, with_output, with_waiter}
-use Rattle.ptk_words_model.specs.Unwinding.{without_thread, is_ended}
+use Rattle.ptk_words_model.specs.Unwinding.{without_thread}
+use Rattle.ptk_words.specs.Threads.{is_ended, is_taken}
 use Rattle.ptk_words_model.specs.declared.Invocation.{Invocation}
-use Rattle.ptk_words_model.specs.Calls.{Answer, replied, refusal, success, blocked, blocked_in, no_call, is_cancelled, cancellation_answer, using_thread}
+use Rattle.ptk_words_model.specs.Calls.{Answer, is_pointer, replied, refusal, success, blocked, blocked_in, no_call, is_cancelled, cancellation_answer, using_thread}
 use Rattle.ptk_words_model.specs.ConsoleCalls.{exit_call, console_put, console_get_answer, console_get}
-use Rattle.ptk_words_model.specs.ThreadCalls.{Attributes, policy_of, is_priority, new_cancellation, with_new_thread, created_thread, create_answer, create, pthread_exit, is_taken, join, detach, self, after_placing, yield, after_placing_at_tail, scheduled_with, setschedparam, getschedparam, after_priority_change, prioritized_from, setschedprio}
+use Rattle.ptk_words_model.specs.ThreadCalls.{is_explicit, is_no_choice, is_no_stack_top, create, pthread_exit, join, detach, self, after_placing, yield, after_placing_at_tail, setschedparam, getschedparam, after_priority_change, setschedprio}
+use Rattle.ptk_words_model.specs.ThreadCreation.{Attributes, attributes_at, policy_of, is_priority, new_cancellation, with_new_thread, created_thread}
+use Rattle.ptk_words_model.specs.Steps.{◌or_refuse◌}
 use Rattle.ptk_words_laws.proofs.Sizes.Pools.{length-pool_set, below_from_full}
 use Rattle.ptk_words_laws.proofs.Sizes.Locks.{LocksSized, with_thread_sized, at_tail_with_sized, with_line_sized, without_thread_sized}
 use Rattle.ptk_words_laws.proofs.Sizes.Parts.{Sized, sized_if, with_locks_sized, with_cancellation_sized, with_cleanups_sized, with_keys_sized, with_console_sized, with_running_sized, with_halt_sized, length-pushed}
@@ -67,12 +69,13 @@ blocked_in_sized l wait i s h =
 pub cancellation_sized : (l : Limits) (i : Invocation) (s : Part) → Sized l s → AnswerSized l (cancellation_answer i s)
 cancellation_sized l i s h = record { part = unwinding_start_sized l i.caller CANCELED s h }
 
-using_sized : (l : Limits) (i : Invocation) (s : Part) (next : Thread → Answer) (o : Option Thread) → ((thread : Thread) → AnswerSized l (next thread)) → Sized l s → AnswerSized l (unwrap_or (option_map next o) (refusal ESRCH i s))
-using_sized l i s next None k h = refusal_sized l ESRCH i s h
-using_sized l i s next (Some thread) k h = k thread
+-- a value that is there, or the error
+pub given_sized : {A : Type 0} (l : Limits) (o : Option A) (e : Errno) (i : Invocation) (s : Part) (rest : A → Answer) → ((a : A) → AnswerSized l (rest a)) → Sized l s → AnswerSized l ((o or_refuse e) (λ a _ _. rest a) i s)
+given_sized l None e i s rest k h = refusal_sized l e i s h
+given_sized l (Some a) e i s rest k h = k a
 
 pub using_thread_sized : (l : Limits) (t : ℕ) (i : Invocation) (s : Part) (next : Thread → Answer) → ((thread : Thread) → AnswerSized l (next thread)) → Sized l s → AnswerSized l (using_thread t i s next)
-using_thread_sized l t i s next k h = using_sized l i s next (thread_at s.locks t) k h
+using_thread_sized l t i s next k h = given_sized l (thread_at s.locks t) ESRCH i s next k h
 
 -- ---- calls 0 to 2
 
@@ -127,16 +130,20 @@ new_thread_sized l t thread s h =
       mutexes = c.sizes.syncs_sized.locks.mutexes;
     }) c
 
-create_answer_sized : (o : Option ℕ) (i : Invocation) (attributes : Attributes) (s : Part) → Sized i.limits s → AnswerSized i.limits (create_answer o i attributes s)
-create_answer_sized None i attributes s h = refusal_sized i.limits EAGAIN i s h
-create_answer_sized (Some t) i attributes s h =
-    using_thread_sized i.limits i.caller i s (λ creator. success (t ∷ []) i (with_new_thread i.limits t (created_thread i attributes creator t) s))
-    (λ creator. success_sized i.limits (t ∷ []) i (with_new_thread i.limits t (created_thread i attributes creator t) s)
-    (new_thread_sized i.limits t (created_thread i attributes creator t) s h)) h
+created_sized : (a : Attributes) (t : ℕ) (creator : Thread) (i : Invocation) (s : Part) → Sized i.limits s → AnswerSized i.limits (success (t ∷ []) i (with_new_thread i.limits t (created_thread i a creator t) s))
+created_sized a t creator i s h =
+    success_sized i.limits (t ∷ []) i (with_new_thread i.limits t (created_thread i a creator t) s) (new_thread_sized i.limits t (created_thread i a creator t) s h)
 
 pub create_sized : (i : Invocation) (s : Part) → Sized i.limits s → AnswerSized i.limits (create i s)
 create_sized i s h =
-    search (answer_either, refusal_sized, create_answer_sized, h) depth 12
+    let a : Attributes = attributes_at s i.a0 in
+    answer_either i.limits (not (i.a0 == 0 || is_pointer s i.a0 20)) (refusal EFAULT i s) _ (refusal_sized i.limits EFAULT i s h)
+    (answer_either i.limits (is_no_choice a.detach || is_no_choice a.inherit) (refusal EINVAL i s) _ (refusal_sized i.limits EINVAL i s h)
+    (answer_either i.limits (is_explicit a && is_none (policy_of a.policy)) (refusal ENOTSUP i s) _ (refusal_sized i.limits ENOTSUP i s h)
+    (answer_either i.limits (is_explicit a && not (is_priority a.priority)) (refusal EINVAL i s) _ (refusal_sized i.limits EINVAL i s h)
+    (answer_either i.limits (is_no_stack_top s a.stack_top) (refusal EINVAL i s) _ (refusal_sized i.limits EINVAL i s h)
+    (given_sized i.limits (least_free s.threads) EAGAIN i s _
+    (λ t. given_sized i.limits (thread_at s.locks i.caller) ESRCH i s _ (λ creator. created_sized a t creator i s h) h) h)))))
 
 without_sized : (l : Limits) (t : ℕ) (s : Part) → Sized l s → Sized l (with_locks (without_thread t) s)
 without_sized l t s h = with_locks_sized l (without_thread t) s (without_thread_sized l t s.locks h.sizes.syncs_sized.locks) h
@@ -183,17 +190,14 @@ head_sized l t s h = placing_sized l at_head t s (λ x k. with_line_sized l (t �
 placing_at_tail_sized : (l : Limits) (t : ℕ) (s : Part) → Sized l s → Sized l (after_placing_at_tail t s)
 placing_at_tail_sized l t s h = sized_if l (owns_raising s.locks t) s (after_placing at_tail t s) h (tail_sized l t s h)
 
-scheduled_with_sized : (policy : Option Policy) (i : Invocation) (s : Part) → Sized i.limits s → AnswerSized i.limits (scheduled_with policy i s)
-scheduled_with_sized None i s h = refusal_sized i.limits ENOTSUP i s h
-scheduled_with_sized (Some policy) i s h =
-    let set : Part = with_locks (with_thread i.a0 (λ thread. record thread { policy = policy; priority = i.a2; used = 0 })) s in
-    let k : Sized i.limits set = thread_changed_sized i.limits i.a0 (λ thread. record thread { policy = policy; priority = i.a2; used = 0 }) s h in
-    answer_either i.limits (not (is_priority i.a2)) (refusal EINVAL i s) _ (refusal_sized i.limits EINVAL i s h)
-    (success_sized i.limits [] i (after_placing_at_tail i.a0 set) (placing_at_tail_sized i.limits i.a0 set k))
-
 pub setschedparam_sized : (i : Invocation) (s : Part) → Sized i.limits s → AnswerSized i.limits (setschedparam i s)
 setschedparam_sized i s h =
-    using_thread_sized i.limits i.a0 i s _ (λ target. scheduled_with_sized (policy_of i.a1) i s h) h
+    using_thread_sized i.limits i.a0 i s _
+    (λ target. given_sized i.limits (policy_of i.a1) ENOTSUP i s _
+    (λ policy. let set : Part = with_locks (with_thread i.a0 (λ thread. record thread { policy = policy; priority = i.a2; used = 0 })) s in
+    let k : Sized i.limits set = thread_changed_sized i.limits i.a0 (λ thread. record thread { policy = policy; priority = i.a2; used = 0 }) s h in
+    answer_either i.limits (not (is_priority i.a2)) (refusal EINVAL i s) _ (refusal_sized i.limits EINVAL i s h)
+    (success_sized i.limits [] i (after_placing_at_tail i.a0 set) (placing_at_tail_sized i.limits i.a0 set k))) h) h
 
 pub getschedparam_sized : (i : Invocation) (s : Part) → Sized i.limits s → AnswerSized i.limits (getschedparam i s)
 getschedparam_sized i s h =
@@ -204,16 +208,13 @@ priority_change_sized l old new t s h =
     sized_if l (nat_lt old new) (after_placing_at_tail t s) (if nat_lt new old then after_placing at_head t s else s) (placing_at_tail_sized l t s h)
     (sized_if l (nat_lt new old) (after_placing at_head t s) s (head_sized l t s h) h)
 
-prioritized_from_sized : (old : ℕ) (i : Invocation) (s : Part) → Sized i.limits s → AnswerSized i.limits (prioritized_from old i s)
-prioritized_from_sized old i s h =
-    let set : Part = with_locks (with_thread i.a0 (λ thread. record thread { priority = i.a1 })) s in
-    let k : Sized i.limits set = thread_changed_sized i.limits i.a0 (λ thread. record thread { priority = i.a1 }) s h in
-    answer_either i.limits (not (is_priority i.a1)) (refusal EINVAL i s) _ (refusal_sized i.limits EINVAL i s h)
-    (success_sized i.limits [] i (after_priority_change old i.a1 i.a0 set) (priority_change_sized i.limits old i.a1 i.a0 set k))
-
 pub setschedprio_sized : (i : Invocation) (s : Part) → Sized i.limits s → AnswerSized i.limits (setschedprio i s)
 setschedprio_sized i s h =
-    using_thread_sized i.limits i.a0 i s _ (λ target. prioritized_from_sized target.priority i s h) h
+    let set : Part = with_locks (with_thread i.a0 (λ thread. record thread { priority = i.a1 })) s in
+    let k : Sized i.limits set = thread_changed_sized i.limits i.a0 (λ thread. record thread { priority = i.a1 }) s h in
+    using_thread_sized i.limits i.a0 i s _
+    (λ target. answer_either i.limits (not (is_priority i.a1)) (refusal EINVAL i s) _ (refusal_sized i.limits EINVAL i s h)
+    (success_sized i.limits [] i (after_priority_change target.priority i.a1 i.a0 set) (priority_change_sized i.limits target.priority i.a1 i.a0 set k))) h
 
 -- ---- calls of one step
 

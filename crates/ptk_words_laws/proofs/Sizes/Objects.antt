@@ -9,9 +9,7 @@ use Rattle.ptk_words.specs.Faults.{errno_number}
 use Rattle.ptk_words.specs.Pools.{pool_get, pool_set, least_free, first_of_greatest}
 use Rattle.ptk_words.specs.declared.TheConstants.{DESTROYED, CLEANUP_LIMIT}
 use Rattle.ptk_words.specs.declared.faults.Errno.TheVariants.{EPERM, EAGAIN, ENOMEM, EFAULT, EBUSY, EINVAL, ETIMEDOUT}
-use Rattle.ptk_words.specs.declared.mutexes.MutexKind.{MutexKind}
 use Rattle.ptk_words.specs.declared.mutexes.MutexKind.TheVariants.{Normal}
-use Rattle.ptk_words.specs.declared.mutexes.Protocol.{Protocol}
 use Rattle.ptk_words.specs.declared.mutexes.Protocol.TheVariants.{NoProtocol}
 use Rattle.ptk_words.specs.declared.sections.Limits.{Limits}
 use Rattle.ptk_words.specs.declared.threads.Cleanup.{Cleanup}
@@ -28,12 +26,13 @@ use Rattle.ptk_words_model.specs.Condition.{condition_waiters, names_mutex, name
 use Rattle.ptk_words_model.specs.Console.{without_waiter}
 use Rattle.ptk_words_model.specs.Keys.{is_key, with_values, with_key, specific}
 use Rattle.ptk_words_model.specs.Withdrawal.{with_live_deadlines, with_mark, without_joiner, after_cancelled_wait}
-use Rattle.ptk_words_model.specs.Unwinding.{is_ended, cleanups_of}
+use Rattle.ptk_words_model.specs.Unwinding.{cleanups_of}
+use Rattle.ptk_words.specs.Threads.{is_ended}
 use Rattle.ptk_words_model.specs.Time.{Timespec, timespec_at, time_bytes, is_timespec, deadline_of}
 use Rattle.ptk_words_model.specs.Calls.{Answer, refusal, success, is_pointer, is_cancelled, cancellation_answer, with_pool_mutex, with_pool_condition, with_stored, set_up_mutex, using_mutex, set_up_condition, using_condition}
 use Rattle.ptk_words_model.specs.TimeCalls.{with_deadline, clock_gettime, clock_nanosleep}
-use Rattle.ptk_words_model.specs.MutexCalls.{kind_of, protocol_of, mutex_init_answer, mutex_init, is_locked, mutex_destroy, mutex_answer, mutex_lock, mutex_trylock, timed_answer, mutex_timedlock, mutex_unlock}
-use Rattle.ptk_words_model.specs.ConditionCalls.{cond_init_answer, cond_init, cond_destroy, using_both, cond_wait, late_answer, late_wait_answer, cond_timedwait, cond_signal, cond_broadcast}
+use Rattle.ptk_words_model.specs.MutexCalls.{kind_of, protocol_of, mutex_init, is_locked, mutex_destroy, make_move, mutex_lock, mutex_trylock, make_timed_move, mutex_timedlock, mutex_unlock}
+use Rattle.ptk_words_model.specs.ConditionCalls.{cond_init, cond_destroy, may_wait, cond_wait, late_answer, late_wait_answer, cond_timedwait, cond_signal, cond_broadcast}
 use Rattle.ptk_words_model.specs.CancellationCalls.{cancel, cancellation_of, setcancelstate, setcanceltype, testcancel, cleanup_push, cleanup_pop_answer, cleanup_pop}
 use Rattle.ptk_words_model.specs.KeyCalls.{key_create_answer, key_create, key_delete, setspecific, getspecific}
 use Rattle.ptk_words_laws.proofs.Sizes.Pools.{length-pool_set, most_from_test}
@@ -41,7 +40,7 @@ use Rattle.ptk_words_laws.proofs.Sizes.Locks.{SyncsSized, with_thread_sized, aft
 use Rattle.ptk_words_laws.proofs.Sizes.Parts.{KeysSized, Sized, with_locks_sized, with_syncs_sized, with_deadlines_sized, with_memory_sized, with_cancellation_sized, with_cleanups_sized, with_keys_sized, with_console_sized, live_deadlines_sized, woken_sized}
 use Rattle.ptk_words_laws.proofs.Sizes.Unwindings.{with_values_sized}
 use Rattle.ptk_words_laws.proofs.Sizes.Effects.{length-stored}
-use Rattle.ptk_words_laws.proofs.Sizes.Calls.{AnswerSized, answer_if, answer_either, refusal_sized, success_sized, blocked_sized, blocked_in_sized, cancellation_sized, using_thread_sized}
+use Rattle.ptk_words_laws.proofs.Sizes.Calls.{AnswerSized, answer_if, answer_either, given_sized, refusal_sized, success_sized, blocked_sized, blocked_in_sized, cancellation_sized, using_thread_sized}
 
 -- ---- pointers
 
@@ -144,16 +143,14 @@ clock_nanosleep_sized i s h =
 
 -- ---- calls 20 to 25
 
-init_answer_sized : (kind : Option MutexKind) (prio : Option Protocol) (o : Option ℕ) (i : Invocation) (s : Part) → i.a0 + 4 ≤ i.limits.memory → Sized i.limits s → AnswerSized i.limits (mutex_init_answer kind prio o i s)
-init_answer_sized (Some kind) (Some prio) (Some m) i s le h =
-    success_sized i.limits [] i (with_stored i.a0 m (with_pool_mutex m (Some (new_mutex kind prio)) s))
-    (stored_sized i.limits i.a0 m (with_pool_mutex m (Some (new_mutex kind prio)) s) le (pool_mutex_sized i.limits m (Some (new_mutex kind prio)) s h))
-init_answer_sized (Some kind) (Some prio) None i s le h = refusal_sized i.limits ENOMEM i s h
-init_answer_sized _ _ _ i s le h = refusal_sized i.limits EINVAL i s h
-
 pub mutex_init_sized : (i : Invocation) (s : Part) → Sized i.limits s → AnswerSized i.limits (mutex_init i s)
 mutex_init_sized i s h =
-    checked i.limits i s i.a0 4 _ (λ le. init_answer_sized (kind_of i.a1) (protocol_of i.a2 i.a3) (least_free s.mutexes) i s le h) h
+    checked i.limits i s i.a0 4 _
+    (λ le. given_sized i.limits (kind_of i.a1) EINVAL i s _
+    (λ kind. given_sized i.limits (protocol_of i.a2 i.a3) EINVAL i s _
+    (λ prio. given_sized i.limits (least_free s.mutexes) ENOMEM i s _
+    (λ m. success_sized i.limits [] i (with_stored i.a0 m (with_pool_mutex m (Some (new_mutex kind prio)) s))
+    (stored_sized i.limits i.a0 m (with_pool_mutex m (Some (new_mutex kind prio)) s) le (pool_mutex_sized i.limits m (Some (new_mutex kind prio)) s h))) h) h) h) h
 
 pub mutex_destroy_sized : (i : Invocation) (s : Part) → Sized i.limits s → AnswerSized i.limits (mutex_destroy i s)
 mutex_destroy_sized i s h =
@@ -166,7 +163,7 @@ mutex_destroy_sized i s h =
 moved_sized : (l : Limits) (move : LockMove) (t m : ℕ) (wait : Wait) (s : Part) → Sized l s → Sized l (with_locks (after_move move t m wait) s)
 moved_sized l move t m wait s h = with_locks_sized l (after_move move t m wait) s (after_move_sized l move t m wait s.locks h.sizes.syncs_sized.locks) h
 
-mutex_answer_sized : (l : Limits) (move : LockMove) (m : ℕ) (i : Invocation) (s : Part) → Sized l s → AnswerSized l (mutex_answer move m i s)
+mutex_answer_sized : (l : Limits) (move : LockMove) (m : ℕ) (i : Invocation) (s : Part) → Sized l s → AnswerSized l (make_move move m i s)
 mutex_answer_sized l (Refuses e) m i s h = refusal_sized l e i s h
 mutex_answer_sized l Waits m i s h = blocked_sized l (with_locks (after_move Waits i.caller m (MutexWait m)) s) (moved_sized l Waits i.caller m (MutexWait m) s h)
 mutex_answer_sized l Takes m i s h = success_sized l [] i (with_locks (after_move Takes i.caller m (MutexWait m)) s) (moved_sized l Takes i.caller m (MutexWait m) s h)
@@ -184,7 +181,7 @@ mutex_trylock_sized i s h =
     (λ le. using_mutex_sized i.limits i.a0 i s _ le
     (λ m u k. mutex_answer_sized i.limits (trylock_move u.locks i.caller (mutex_at u.locks m)) m i u k) h) h
 
-timed_answer_sized : (l : Limits) (move : LockMove) (time : Timespec) (m : ℕ) (i : Invocation) (s : Part) → Sized l s → AnswerSized l (timed_answer move time m i s)
+timed_answer_sized : (l : Limits) (move : LockMove) (time : Timespec) (m : ℕ) (i : Invocation) (s : Part) → Sized l s → AnswerSized l (make_timed_move move time m i s)
 timed_answer_sized l Waits time m i s h =
     answer_either l (not (is_timespec time)) (refusal EINVAL i s) _ (refusal_sized l EINVAL i s h)
     (answer_either l (nat_le (deadline_of time) i.tick) (refusal ETIMEDOUT i s) _ (refusal_sized l ETIMEDOUT i s h)
@@ -213,14 +210,12 @@ mutex_unlock_sized i s h =
 
 -- ---- calls 30 to 35
 
-cond_init_answer_sized : (o : Option ℕ) (i : Invocation) (s : Part) → i.a0 + 4 ≤ i.limits.memory → Sized i.limits s → AnswerSized i.limits (cond_init_answer o i s)
-cond_init_answer_sized None i s le h = refusal_sized i.limits ENOMEM i s h
-cond_init_answer_sized (Some c) i s le h =
-    success_sized i.limits [] i (with_stored i.a0 c (with_pool_condition c (Some (record { waiters = [] })) s))
-    (stored_sized i.limits i.a0 c (with_pool_condition c (Some (record { waiters = [] })) s) le (pool_condition_sized i.limits c (Some (record { waiters = [] })) s h))
-
 pub cond_init_sized : (i : Invocation) (s : Part) → Sized i.limits s → AnswerSized i.limits (cond_init i s)
-cond_init_sized i s h = checked i.limits i s i.a0 4 _ (λ le. cond_init_answer_sized (least_free s.conditions) i s le h) h
+cond_init_sized i s h =
+    checked i.limits i s i.a0 4 _
+    (λ le. given_sized i.limits (least_free s.conditions) ENOMEM i s _
+    (λ c. success_sized i.limits [] i (with_stored i.a0 c (with_pool_condition c (Some (record { waiters = [] })) s))
+    (stored_sized i.limits i.a0 c (with_pool_condition c (Some (record { waiters = [] })) s) le (pool_condition_sized i.limits c (Some (record { waiters = [] })) s h))) h) h
 
 pub cond_destroy_sized : (i : Invocation) (s : Part) → Sized i.limits s → AnswerSized i.limits (cond_destroy i s)
 cond_destroy_sized i s h =
@@ -230,8 +225,10 @@ cond_destroy_sized i s h =
     (success_sized i.limits [] i (with_stored i.a0 DESTROYED (with_pool_condition c None u))
     (stored_sized i.limits i.a0 DESTROYED (with_pool_condition c None u) le (pool_condition_sized i.limits c None u k)))) h) h
 
-using_both_sized : (l : Limits) (i : Invocation) (s : Part) (next : ℕ → ℕ → Part → Answer) → i.a0 + 4 ≤ l.memory → i.a1 + 4 ≤ l.memory → ((c m : ℕ) (u : Part) → Sized l u → AnswerSized l (next c m u)) → Sized l s → AnswerSized l (using_both i s next)
-using_both_sized l i s next le me k h =
+-- both objects named and their checks made
+both_named_sized : (l : Limits) (i : Invocation) (s : Part) (next : ℕ → ℕ → Part → Answer) → i.a0 + 4 ≤ l.memory → i.a1 + 4 ≤ l.memory → ((c m : ℕ) (u : Part) → Sized l u → AnswerSized l (next c m u)) → Sized l s
+    → AnswerSized l (using_condition i.a0 i s (λ c u. using_mutex i.a1 i u (λ m v. may_wait c m (λ _ w. next c m w) i v)))
+both_named_sized l i s next le me k h =
     using_condition_sized l i.a0 i s _ le
     (λ c u a. using_mutex_sized l i.a1 i u _ me
     (λ m v b. answer_either l (not (owns i.caller (mutex_at v.locks m))) (refusal EPERM i v) _ (refusal_sized l EPERM i v b)
@@ -248,7 +245,7 @@ pub cond_wait_sized : (i : Invocation) (s : Part) → Sized i.limits s → Answe
 cond_wait_sized i s h =
     checked_both i.limits i s i.a0 4 i.a1 4 _
     (λ le me. answer_either i.limits (is_cancelled s i.caller) (cancellation_answer i s) _ (cancellation_sized i.limits i s h)
-    (using_both_sized i.limits i s _ le me
+    (both_named_sized i.limits i s _ le me
     (λ c m u k. blocked_sized i.limits (with_live_deadlines (with_syncs (after_condition_wait i.caller c m) u))
     (live_deadlines_sized i.limits (with_syncs (after_condition_wait i.caller c m) u)
     (with_syncs_sized i.limits (after_condition_wait i.caller c m) u (condition_wait_sized i.limits i.caller c m u.syncs k.sizes.syncs_sized) k))) h)) h
@@ -283,7 +280,7 @@ pub cond_timedwait_sized : (i : Invocation) (s : Part) → Sized i.limits s → 
 cond_timedwait_sized i s h =
     checked_three i.limits i s i.a0 i.a1 i.a2 _
     (λ le me. answer_either i.limits (is_cancelled s i.caller) (cancellation_answer i s) _ (cancellation_sized i.limits i s h)
-    (using_both_sized i.limits i s _ le me
+    (both_named_sized i.limits i s _ le me
     (λ c m u k. let deadline : ℕ = deadline_of (timespec_at u.memory i.a2) in
     answer_either i.limits (not (is_timespec (timespec_at u.memory i.a2))) (refusal EINVAL i u) _ (refusal_sized i.limits EINVAL i u k)
     (answer_either i.limits (nat_le deadline i.tick) (late_wait_answer m i u) _ (late_wait_sized i.limits m i u k)

@@ -21,8 +21,8 @@ use Rattle.ptk_words_model.specs.State.{Part, Account, State}
 use Rattle.ptk_words_model.specs.Priority.{thread_at}
 use Rattle.ptk_words_model.specs.Withdrawal.{after_expiries}
 use Rattle.ptk_words_model.specs.Keys.{no_values, no_rounds}
-use Rattle.ptk_words_model.specs.CallTable.{call_of}
-use Rattle.ptk_words_model.specs.ThreadCalls.{new_cancellation, with_new_thread}
+use Rattle.ptk_words.specs.Calls.{call_of}
+use Rattle.ptk_words_model.specs.ThreadCreation.{new_cancellation, with_new_thread}
 use Rattle.ptk_words_model.specs.declared.Runner.{Runner}
 use Rattle.ptk_words_model.specs.declared.StepKind.{StepKind}
 use Rattle.ptk_words_model.specs.declared.StepKind.TheVariants.{UnwindingStart, GateStep, CallStep, InstructionStep}
@@ -181,7 +181,7 @@ start_keeps l image input = from_sized l (start_part l image input) (start_sized
 
 pub calls_keep : (s : Part) → CallsKeepSizes s
 calls_keep s number i h =
-    from_sized i.limits ((call_of number).answer_of i s).part (call_sized number i s (to_sized i.limits s h)).part
+    from_sized i.limits (answer_to (call_of number) i s).part (call_sized number i s (to_sized i.limits s h)).part
 
 pub decisions_keep : (l : Limits) (s : Part) → DecisionsKeepSizes l s
 decisions_keep l s tick room h = from_sized l (after_decision l tick room s) (decision_sized l tick room s (to_sized l s h))

@@ -4,7 +4,8 @@ use Rattle.std.specs.Prelude.{Option, Some, find, ◌==◌, if◌then◌else◌,
 use Rattle.ptk_words_model.specs.declared.Invocation.{Invocation}
 use Rattle.ptk_words_model.specs.State.{Part}
 use Rattle.ptk_words_model.specs.Calls.{no_call}
-use Rattle.ptk_words_model.specs.CallTable.{CallRow, call, call_table, call_of}
+use Rattle.ptk_words_model.specs.CallTable.{CallRow, call, call_table}
+use Rattle.ptk_words.specs.Calls.{call_of}
 use Rattle.ptk_words_laws.proofs.Sizes.Parts.{Sized}
 use Rattle.ptk_words_laws.proofs.Sizes.Calls.{AnswerSized, no_call_sized, exit_sized, put_sized, get_sized, create_sized, pthread_exit_sized, join_sized, detach_sized, self_sized, yield_sized, setschedparam_sized, getschedparam_sized, setschedprio_sized}
 use Rattle.ptk_words_laws.proofs.Sizes.Objects.{clock_gettime_sized, clock_nanosleep_sized, mutex_init_sized, mutex_destroy_sized, mutex_lock_sized, mutex_trylock_sized, mutex_timedlock_sized, mutex_unlock_sized, cond_init_sized, cond_destroy_sized, cond_wait_sized, cond_timedwait_sized, cond_signal_sized, cond_broadcast_sized, cancel_sized, setcancelstate_sized, setcanceltype_sized, testcancel_sized, cleanup_push_sized, cleanup_pop_sized, key_create_sized, key_delete_sized, setspecific_sized, getspecific_sized}

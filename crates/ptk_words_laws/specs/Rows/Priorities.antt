@@ -15,7 +15,7 @@ use Rattle.ptk_words_model.specs.Priority.{effective_priority}
 use Rattle.ptk_words_model.specs.Schedule.{after_choice}
 use Rattle.ptk_words_model.specs.Mutex.{mutex_at, lock_move, trylock_move, after_lock, after_unlock, waiters_of}
 use Rattle.ptk_words_model.specs.Withdrawal.{after_expiries}
-use Rattle.ptk_words_model.specs.ThreadCalls.{start_cpu, new_thread}
+use Rattle.ptk_words_model.specs.ThreadCreation.{start_cpu, new_thread}
 use Rattle.ptk_words_model.specs.Run.{empty_part}
 use Rattle.ptk_words_laws.specs.Guests.{small, register_of}
 

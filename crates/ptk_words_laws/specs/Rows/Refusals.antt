@@ -8,7 +8,7 @@ use Rattle.ptk_words_model.specs.State.{Part, with_locks, with_cancellation}
 use Rattle.ptk_words_model.specs.Schedule.{with_thread}
 use Rattle.ptk_words_model.specs.Calls.{Answer, replied}
 use Rattle.ptk_words_model.specs.ThreadCalls.{create, join, detach, self, setschedparam, getschedparam, setschedprio}
-use Rattle.ptk_words_model.specs.CallTable.{call_of}
+use Rattle.ptk_words.specs.Calls.{call_of}
 use Rattle.ptk_words_laws.specs.Guests.{register_of}
 use Rattle.ptk_words_laws.specs.Rows.Priorities.{thread, waiting}
 use Rattle.ptk_words_laws.specs.Rows.Waits.{part_with, call_by, call_with}
@@ -100,5 +100,5 @@ pub record SmallCalls : Type 0 where
   pub priority : register_of (getschedparam (call_with 1 0 0) four_threads).part 1 12 ≡ Some 5
   pub set_policy : register_of (getschedparam (call_with 1 0 0) rescheduled).part 1 11 ≡ Some 2
   pub set_priority : register_of (getschedparam (call_with 1 0 0) rescheduled).part 1 12 ≡ Some 7
-  pub no_call : ((call_of 99).answer_of (call_with 1 0 0) four_threads).reply ≡ Done 38
-  pub not_yet : ((call_of 22).answer_of (call_with 0 0 0) four_threads).reply ≡ Done 38
+  pub no_call : (answer_to (call_of 99) (call_with 1 0 0) four_threads).reply ≡ Done 38
+  pub not_yet : (answer_to (call_of 22) (call_with 0 0 0) four_threads).reply ≡ Done 38
