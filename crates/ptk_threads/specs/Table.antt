@@ -1,10 +1,10 @@
 -- The slot table: the threads of each partition by number, their stored priorities, and what each call makes of it.
-use Rattle.std.specs.Prelude.{◌≡◌, ℕ, zero, suc, ◌≤◌, Bool, true, false, ◌||◌, if◌then◌else◌, List, length, Option, Some, None, option_and_then, is_some, slice_index, slice_set, map}
+use Rattle.std.specs.Prelude.{◌≡◌, ℕ, zero, suc, ◌≤◌, Bool, List, length, Option, Some, None, option_and_then, slice_index, slice_set, map}
 use Rattle.ptk_words.specs.Processor.{Processor}
 use Rattle.ptk_words.specs.Pools.{pool_get, pool_set, pool_changed, least_free}
+use Rattle.ptk_words.specs.Threads.{left_at_end, left_at_detach}
 use Rattle.ptk_words.specs.declared.threads.Thread.{Thread}
 use Rattle.ptk_words.specs.declared.threads.Phase.{Phase}
-use Rattle.ptk_words.specs.declared.threads.Phase.TheVariants.{Normal, Unwinding, Ended}
 use Rattle.ptk_words.specs.declared.threads.Policy.{Policy}
 use Rattle.ptk_words.specs.declared.threads.Wait.{Wait}
 use Rattle.ptk_words_parted.specs.Parts.{part_of, filled}
@@ -75,25 +75,11 @@ abbrev pub with_left : ℕ → ℕ → Option Thread → ThreadTable → ThreadT
 with_left p k None table = with_free p k table
 with_left p k (Some thread) table = with_entry p k (Some thread) table
 
--- a thread that has ended keeps its number and result until it is joined or detached; one that is detached or has a joiner leaves nothing (pthread_exit, pthread_join, pthread_detach)
-abbrev pub left_at_end : Thread → Option Thread
-left_at_end thread = if thread.is_detached || is_some thread.joiner then None else Some (record thread { phase = Ended })
-
--- the thread of a number after its end (pthread_exit)
+-- the number after its thread's end: kept with the result until a join or a detachment, or free (pthread_exit)
 abbrev pub with_end : ℕ → ℕ → ThreadTable → ThreadTable
 with_end p k table = with_left p k (option_and_then left_at_end (thread_in table p k)) table
 
--- the thread has ended (pthread_exit)
-abbrev pub has_ended : Phase → Bool
-has_ended Normal = false
-has_ended Unwinding = false
-has_ended Ended = true
-
--- an ended thread that is detached leaves nothing, another one is detached (pthread_detach)
-abbrev pub left_at_detach : Thread → Option Thread
-left_at_detach thread = if has_ended thread.phase then None else Some (record thread { is_detached = true })
-
--- the thread of a number once it is detached (pthread_detach)
+-- the number once its thread is detached: free where the thread has ended (pthread_detach)
 abbrev pub with_detached : ℕ → ℕ → ThreadTable → ThreadTable
 with_detached p k table = with_left p k (option_and_then left_at_detach (thread_in table p k)) table
 

@@ -1,5 +1,5 @@
 -- Pools: lists whose places count from 1, and the choice of a number by its rank.
-use Rattle.std.specs.Prelude.{ℕ, zero, suc, Bool, List, [], ◌∷◌, ◌++◌, length, fold, find, position, filter, not, ◌==◌, nat_eq, max, Option, None, option_map, unwrap_or, is_none, slice_get, slice_set}
+use Rattle.std.specs.Prelude.{ℕ, zero, suc, Bool, List, [], ◌∷◌, ◌++◌, length, fold, find, position, filter, not, ◌==◌, nat_eq, max, Option, None, option_map, option_and_then, unwrap_or, is_none, slice_get, slice_set}
 use Rattle.std.specs.List.{list_any}
 use Rattle.std.specs.Option.{option_flatten}
 
@@ -22,6 +22,10 @@ pool_set pool (suc i) a = slice_set pool i a
 -- the pool with the entry of a number changed by f; a free number stays free
 abbrev pub pool_changed : {A : Type 0} → ℕ → (A → A) → List (Option A) → List (Option A)
 pool_changed k f pool = pool_set pool k (option_map f (pool_get pool k))
+
+-- the pool with what f leaves at a number, which is free where f leaves nothing; a free number stays free
+abbrev pub pool_left : {A : Type 0} → ℕ → (A → Option A) → List (Option A) → List (Option A)
+pool_left k f pool = pool_set pool k (option_and_then f (pool_get pool k))
 
 -- the list with its k-th changed by f
 abbrev pub pool_update : {A : Type 0} → List A → ℕ → (A → A) → List A

@@ -19,7 +19,7 @@ use Rattle.ptk_words_model.specs.Priority.{thread_at}
 use Rattle.ptk_words_model.specs.Schedule.{with_thread, with_reply}
 use Rattle.ptk_words_model.specs.Mutex.{mutex_at, new_mutex}
 use Rattle.ptk_words_model.specs.Unwinding.{after_unwinding_start, phase_of}
-use Rattle.ptk_words.specs.Phases.{is_normal}
+use Rattle.ptk_words.specs.Threads.{is_normal}
 
 -- ---- calls and replies
 

@@ -8,7 +8,7 @@ use Rattle.ptk_words.specs.declared.threads.Cleanup.{Cleanup}
 use Rattle.ptk_words_model.specs.declared.Cancellation.{Cancellation}
 use Rattle.ptk_words_model.specs.State.{Part, with_cancellation, with_cleanups}
 use Rattle.ptk_words_model.specs.Unwinding.{cleanups_of}
-use Rattle.ptk_words.specs.Phases.{is_ended}
+use Rattle.ptk_words.specs.Threads.{is_ended}
 use Rattle.ptk_words_model.specs.Withdrawal.{after_cancelled_wait}
 use Rattle.ptk_words_model.specs.ThreadCreation.{new_cancellation}
 use Rattle.ptk_words_model.specs.Calls.{refusal, success, is_cancelled}

@@ -23,7 +23,7 @@ use Rattle.ptk_words_model.specs.Priority.{thread_at, effective_priority}
 use Rattle.ptk_words_model.specs.Schedule.{with_thread, after_wake, after_choice, after_interval}
 use Rattle.ptk_words_model.specs.Withdrawal.{after_expiries}
 use Rattle.ptk_words_model.specs.Unwinding.{after_unwinding_start, after_gate_step}
-use Rattle.ptk_words.specs.Phases.{is_normal, is_ended}
+use Rattle.ptk_words.specs.Threads.{is_normal, is_ended}
 use Rattle.ptk_words_model.specs.Console.{with_input, without_waiter, arriving, without_arriving}
 use Rattle.ptk_words_model.specs.declared.Invocation.{Invocation}
 use Rattle.ptk_words_model.specs.CallTable.{answer_to}

@@ -9,7 +9,7 @@ use Rattle.ptk_words.specs.declared.threads.Wait.TheVariants.{JoinWait}
 use Rattle.ptk_words_model.specs.State.{Locks, Part, with_locks}
 use Rattle.ptk_words_model.specs.Schedule.{at_tail, at_head, is_running}
 use Rattle.ptk_words_model.specs.Mutex.{owns_raising}
-use Rattle.ptk_words.specs.Phases.{is_ended}
+use Rattle.ptk_words.specs.Threads.{is_ended, is_taken}
 use Rattle.ptk_words_model.specs.Steps.{Row, ◌>>=◌, ◌>>◌, registers, state, refuse◌when◌, refuse◌unless◌, ◌or_refuse◌, valid, when◌finish◌, cancellation_point, thread, change, change_thread, free_number, succeed, succeed_with, succeed_with_both, block_in, unwind}
 use Rattle.ptk_words_model.specs.ThreadCreation.{policy_of, policy_number, is_priority, creation_at, created_thread, with_new_thread}
 
@@ -29,10 +29,6 @@ abbrev pub pthread_exit : Row
 pthread_exit = do
   i ← registers
   unwind i.a0
-
--- a thread that is detached or being joined: it can be neither joined nor detached any more (pthread_join, pthread_detach; own, EINVAL)
-abbrev pub is_taken : Thread → Bool
-is_taken thread = thread.is_detached || is_some thread.joiner
 
 -- the result of an ended thread in a1, whose number is then free; else the caller blocks until its end (pthread_join)
 abbrev pub join : Row

@@ -7,7 +7,7 @@ use Rattle.ptk_words.specs.Pools.{numbered, pool_set}
 use Rattle.ptk_words.specs.Processor.{Processor, register, with_register}
 use Rattle.ptk_words.specs.declared.threads.Thread.{Thread}
 use Rattle.ptk_words.specs.declared.threads.Cleanup.{Cleanup}
-use Rattle.ptk_words.specs.Phases.{is_ended}
+use Rattle.ptk_words.specs.Threads.{is_ended, is_taken}
 use Rattle.ptk_words.specs.declared.threads.Phase.{Phase}
 use Rattle.ptk_words.specs.declared.threads.Phase.TheVariants.{Normal, Unwinding, Ended}
 use Rattle.ptk_words.specs.declared.faults.Status.TheVariants.{Exited}
@@ -46,7 +46,7 @@ without_thread t locks = record locks { threads = pool_set locks.threads t None 
 abbrev pub after_release : ThreadNumber → Option Thread → Locks → Locks
 after_release t None locks = locks
 after_release t (Some thread) locks =
-    if thread.is_detached || is_some thread.joiner
+    if is_taken thread
     then without_thread t (after_join_by thread.joiner thread.result locks)
     else with_thread t (λ th. record th { phase = Ended }) locks
 
