@@ -1,13 +1,12 @@
 //! The calls of the running thread, by the call table.
 
 ghost use Rattle.std.specs.Prelude.{◌≡◌, ◌<◌, true, length, Some, IsSome};
-ghost use Rattle.ptk_words.specs.Calls.{call_of};
-ghost use Rattle.ptk_words_model.specs.CallTable.{answer_of, answer_to};
+ghost use Rattle.ptk_words_model.specs.CallTable.{answer_of};
 ghost use Rattle.ptk_words_model.specs.Decision.{invocation};
 ghost use Rattle.ptk_words_model.specs.Run.{is_active};
 ghost use Rattle.ptk_words_well.specs.Well.{IsWell};
 ghost use Rattle.ptk_gate_pools.specs.Kept.{part_at, put_part, limits_at};
-ghost use Rattle.ptk_gate.specs.Answers.{call_answer};
+ghost use Rattle.ptk_gate.specs.Answers.{call_answer, registers_answer};
 
 use crate::tables::Tables;
 use ptk_gate_console::{get, put};
@@ -18,7 +17,7 @@ use ptk_gate_threads::{
     create, detach, getschedparam, join, setschedparam, setschedprio, yield_turn,
 };
 use ptk_words::{A0, A1, A2, A3, A4, A7, Call, Cpu, Errno, Limits, PartId, ThreadNo, Tick};
-use ptk_words_model::{Invocation, Reply};
+use ptk_words_model::{Invocation, Reply, Runner};
 
 /// Carries out the call that the running thread's registers state: the number in a7, the arguments in a0 to a4, at the
 /// tick at which the step begins. The reply is what the call came to; ENOSYS of a number that is not in use. The pc is
@@ -33,13 +32,26 @@ pub fn call(tables: &mut Tables, p: PartId, tick: Tick) -> Reply
 {
     let runner = runner(&tables.pools, p);
     match runner {
-        Some(runner) => {
-            let cpu = runner.thread.cpu;
-            let i = invocation(tables.pools.limits(p), tick, runner.number, &cpu);
-            answer(&mut tables.pools, cpu.register(A7), p, i)
-        }
+        Some(runner) => answer(&mut tables.pools, p, tick, &runner),
         // never met: a thread runs, and a thread that runs is in use
         None => Reply::Blocked,
+    }
+}
+
+/// Carries out the call that the running thread's registers state; ENOSYS of a number that is no call.
+fn answer(pools: &mut Pools, p: PartId, tick: Tick, runner: &Runner) -> Reply
+    requires partition { p < length pools.old.limits }
+    requires well { IsWell (limits_at p pools.old) (part_at p pools.old) }
+    requires running { (part_at p pools.old).running ≡ Some runner.now.number }
+    ensures told { result ≡ (registers_answer (limits_at p pools.old) tick runner.now.number runner.now.thread.cpu (part_at p pools.old)).reply }
+    ensures moved { pools.new ≡ put_part p (registers_answer (limits_at p pools.old) tick runner.now.number runner.now.thread.cpu (part_at p pools.old)).part pools.old }
+{
+    let cpu = runner.thread.cpu;
+    let i = invocation(pools.limits(p), tick, runner.number, &cpu);
+    let known = Call::of_number(cpu.register(A7));
+    match known {
+        Some(call) => carry_out(pools, call, p, i),
+        None => refuse(pools, p, i, Errno::ENOSYS),
     }
 }
 
@@ -56,21 +68,6 @@ fn invocation(limits: Limits, at: Tick, t: ThreadNo, cpu: &Cpu) -> Invocation
         a2: cpu.register(A2),
         a3: cpu.register(A3),
         a4: cpu.register(A4),
-    }
-}
-
-/// Carries out the running thread's call of this number; ENOSYS of a number that is no call.
-fn answer(pools: &mut Pools, number: u32, p: PartId, i: Invocation) -> Reply
-    requires partition { p < length pools.old.limits }
-    requires limits { i.limits ≡ limits_at p pools.old }
-    requires well { IsWell (limits_at p pools.old) (part_at p pools.old) }
-    requires running { (part_at p pools.old).running ≡ Some i.caller }
-    ensures told { result ≡ (answer_to (call_of number) i (part_at p pools.old)).reply }
-    ensures moved { pools.new ≡ put_part p (answer_to (call_of number) i (part_at p pools.old)).part pools.old }
-{
-    match Call::of_number(number) {
-        Some(call) => carry_out(pools, call, p, i),
-        None => refuse(pools, p, i, Errno::ENOSYS),
     }
 }
 
