@@ -113,6 +113,7 @@ def prove(under, above, running):
     return None
 
 
+signal.signal(signal.SIGINT, lambda *_: sys.exit(130))
 (lines, uses), running = read_crates(), {}
 under = find_under(main, uses, {})
 # no other rt works in these crates until all but the program are proved
