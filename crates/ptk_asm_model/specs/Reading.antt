@@ -17,7 +17,7 @@ view (code.Name text) = Name text.now
 view (code.Number text) = Number (value_of text.now)
 view (code.Mark m) = Mark m
 
--- the same of each (own)
+-- each token of a line as the definitions see it
 abbrev pub views : List Spanned → List Token
 views tokens = map (λ (s : Spanned). view s.token) tokens
 
@@ -35,7 +35,7 @@ abbrev pub Refuses : FaultKind → Option FaultKind → Type 0
 Refuses fault.Memory found = Unit {0}
 Refuses k found = found ≡ Some k
 
--- the same where the definition answers a value or its first fault (own)
+-- what a refusal tells where the definition answers a value or its first fault: that fault, or want of memory (own)
 abbrev pub Answers : {A : Type 0} → FaultKind → Result A FaultKind → Type 0
 Answers fault.Memory found = Unit {0}
 Answers k found = found ≡ Err k

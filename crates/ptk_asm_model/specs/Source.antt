@@ -226,7 +226,7 @@ is_data_word at f = false
 abbrev pub is_misplaced : Place → Statement → Bool
 is_misplaced at s = (is_data_word at.section s.form && not (at.offset % 4 == 0)) || nat_lt longest (at.offset + taken s)
 
--- the same as a fault (own)
+-- the fault of a statement that is misplaced (own)
 abbrev pub place_fault : Place → Option Statement → Option FaultKind
 place_fault at None = None
 place_fault at (Some s) = fault_if (is_misplaced at s) fault.Range
@@ -306,7 +306,7 @@ abbrev pub address_fault : Placed → Option ℕ → Option FaultKind
 address_fault p None = Some fault.UnknownLabel
 address_fault p (Some a) = distance_fault (distances p.statement.form) (seen_from (distances p.statement.form) p.place.offset a)
 
--- the same of a statement's number or label (own)
+-- an unknown label of a statement, or a distance to it out of range; a number has neither (own)
 abbrev pub value_fault : Layout → Placed → Value → Option FaultKind
 value_fault l p (Labelled name) = address_fault p (address_of l name)
 value_fault l p v = None

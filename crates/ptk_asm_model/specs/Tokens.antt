@@ -82,7 +82,7 @@ abbrev pub magnitude : List ℕ → Option ℕ
 magnitude (c ∷ d ∷ ds) = if c == 48 && d == 120 then spelled 16 ds else spelled 10 (c ∷ d ∷ ds)
 magnitude ds = spelled 10 ds
 
--- the same with an optional - (own)
+-- a magnitude with an optional - before it (own)
 abbrev pub number : List ℕ → Option ℤ
 number [] = None
 number (c ∷ cs) = if c == 45 then option_map (λ n. neg_ℤ (pos n)) (magnitude cs) else option_map pos (magnitude (c ∷ cs))

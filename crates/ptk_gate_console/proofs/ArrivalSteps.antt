@@ -8,7 +8,7 @@ use Rattle.ptk_words.specs.declared.threads.Thread.{Thread}
 use Rattle.ptk_words.specs.declared.threads.Wait.{Wait}
 use Rattle.ptk_words.specs.declared.threads.Wait.TheVariants.{InputWait}
 use Rattle.ptk_words_model.specs.Mutex.{wait_of}
-use Rattle.ptk_words.specs.Phases.{is_ended}
+use Rattle.ptk_words.specs.Threads.{is_ended}
 use Rattle.ptk_words.specs.declared.sections.Arrival.{Arrival}
 use Rattle.ptk_words.specs.declared.sections.Limits.{Limits}
 use Rattle.ptk_words_model.specs.State.{Console, Part, with_console}
@@ -22,7 +22,7 @@ use Rattle.ptk_words_well.proofs.Parts.{well_console}
 use Rattle.ptk_words_well.proofs.Waits.{well_arrival_for}
 use Rattle.ptk_console.specs.ConsoleTable.{next_byte, without_next}
 use Rattle.ptk_console.proofs.Arrivals.{arriving-without_next, without_arriving-without_next}
-use Rattle.ptk_gate_pools.specs.StepMoves.{with_next_taken}
+use Rattle.ptk_gate_pools.specs.Moves.{with_next_taken}
 use Rattle.ptk_gate_console.specs.Arrivals.{after_byte}
 
 -- the byte goes to the waiter or into the ring, and the input to come is as it was

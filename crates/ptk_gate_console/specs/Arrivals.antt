@@ -3,7 +3,7 @@ use Rattle.std.specs.Prelude.{ℕ, Option, Some, None}
 use Rattle.ptk_words_model.specs.State.{Part}
 use Rattle.ptk_words_model.specs.Decision.{after_arrival_for, first_waiter}
 use Rattle.ptk_console.specs.ConsoleTable.{next_byte}
-use Rattle.ptk_gate_pools.specs.StepMoves.{with_next_taken}
+use Rattle.ptk_gate_pools.specs.Moves.{with_next_taken}
 
 -- a byte that arrives goes to the waiter of greatest effective priority, or into the ring, or is lost (own)
 abbrev pub after_byte : ℕ → ℕ → Part → Part

@@ -9,7 +9,7 @@ ghost use Rattle.ptk_threads.specs.Table.{stored_of};
 ghost use Rattle.ptk_console.specs.ConsoleTable.{next_byte};
 ghost use Rattle.ptk_console.specs.ConsoleTable as console;
 ghost use Rattle.ptk_gate_pools.specs.Kept.{part_at, put_part, limits_at};
-ghost use Rattle.ptk_gate_pools.specs.StepMoves.{with_next_taken};
+ghost use Rattle.ptk_gate_pools.specs.Moves.{with_next_taken};
 
 use crate::pools::Pools;
 use ptk_threads::stored_in;

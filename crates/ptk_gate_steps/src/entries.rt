@@ -3,7 +3,7 @@
 ghost use Rattle.std.specs.Prelude.{◌≡◌};
 ghost use Rattle.ptk_words_model.specs.Decision.{a0_after};
 
-use ptk_gate_pools::is_ended;
+use ptk_gate_moves::is_ended;
 use ptk_words::{Entry, Thread, Tick};
 use ptk_words_model::Runner;
 

@@ -1,14 +1,14 @@
 -- A list of threads after a push or a removal, and the room that is left.
 use Rattle.std.proofs.Common.{◌≡◌, ℕ, ◌<◌, ◌≤◌, List, [], ◌∷◌, ◌++◌, length, Bool, true, false, cond, ◌||◌, not, refl, sym, ◌∙◌, arith, ◌⊎◌, inl, inr}
-use Rattle.std.specs.Prelude.{nat_eq, filter, find, ◌==◌, Option, Some}
+use Rattle.std.specs.Prelude.{nat_eq, filter, ◌==◌}
 use Rattle.std.specs.List.{IsDistinct, AllByRecursion}
 use Rattle.std.specs.Cmp.{nat_eq_equiv}
 use Rattle.std.proofs.lemmas.Bool.{eqb-true, or_left, or_right}
 use Rattle.std.proofs.lemmas.List.Folds.{list_any-append}
 use Rattle.std.proofs.lemmas.Map.Keys.{IsDistinct-cons, IsDistinct-head, IsDistinct-tail, IsDistinct-push}
 use Rattle.std.proofs.lemmas.Map.Steps.{length-le_from_distinct_below}
-use Rattle.ptk_words.specs.Pools.{without}
-use Rattle.ptk_ready.specs.Lists.{is_in, IsLine}
+use Rattle.ptk_words.specs.Pools.{without, is_in}
+use Rattle.ptk_ready.specs.Lists.{IsLine}
 
 both_false : (a b : Bool) → (a || b) ≡ false → (a ≡ false) × (b ≡ false)
 both_false true b h = ((cc), (cc))
@@ -105,20 +105,6 @@ few_distinct ks line =
 -- so there is room for one that is not in the list
 pub line_room : (k : ℕ) (ks : List ℕ) → 0 < k → k ≤ 32 → is_in k ks ≡ false → IsLine ks → length ks < 32
 line_room k ks pos small out line = let all : length (k ∷ ks) ≤ 32 = few_distinct (k ∷ ks) (line_front k ks pos small out line) in omega arith
-
--- ---- a search
-
-found-cond : (test : ℕ → Bool) (x k : ℕ) (xs : List ℕ) (b : Bool) (rest : Option ℕ) → (rest ≡ Some k → is_in k xs ≡ true) → cond b (Some x) rest ≡ Some k → is_in k (x ∷ xs) ≡ true
-found-cond test x k xs true rest later h = let e : k ≡ x = cc in or_left (nat_eq k x) (is_in k xs) (rw e (nat_eq_equiv.refl x))
-found-cond test x k xs false rest later h = or_right (nat_eq k x) (is_in k xs) (later h)
-
-in_from_find : (test : ℕ → Bool) (k : ℕ) (ks : List ℕ) → find test ks ≡ Some k → is_in k ks ≡ true
-in_from_find test k [] h = cc
-in_from_find test k (x ∷ xs) h = found-cond test x k xs (test x) (find test xs) (in_from_find test k xs) h
-
--- what is found is a number of a thread
-pub line_found : (test : ℕ → Bool) (k : ℕ) (ks : List ℕ) → IsLine ks → find test ks ≡ Some k → (0 < k) × (k ≤ 32)
-line_found test k ks line h = line.numbers k (in_from_find test k ks h)
 
 none_distinct : IsDistinct nat_eq []
 unfolding IsDistinct

@@ -1,12 +1,9 @@
 -- A list of threads without repetition.
-use Rattle.std.specs.Prelude.{◌≡◌, ℕ, ◌<◌, ◌≤◌, Bool, true, List, nat_eq}
-use Rattle.std.specs.List.{list_any, IsDistinct}
+use Rattle.std.specs.Prelude.{◌≡◌, ℕ, ◌<◌, ◌≤◌, true, List, nat_eq}
+use Rattle.std.specs.List.{IsDistinct}
+use Rattle.ptk_words.specs.Pools.{is_in}
 
--- the number is in the list (own)
-abbrev pub is_in : ℕ → List ℕ → Bool
-is_in k ks = list_any (nat_eq k) ks
-
--- numbers of threads, 1 to 32, none twice (own)
+-- numbers of threads, 1 to 32, none twice
 pub record IsLine (ks : List ℕ) : Type 0 where
   pub distinct : IsDistinct nat_eq ks
   pub numbers : (k : ℕ) → is_in k ks ≡ true → (0 < k) × (k ≤ 32)

@@ -1,10 +1,9 @@
 //! The trait of all forms.
 
 ghost use Rattle.std.specs.Prelude.{◌≡◌, ℕ, ◌<◌, false, List, [], ◌∷◌, ◌++◌, length, slice_set, IsSome};
-ghost use Rattle.ptk_words.specs.Pools.{pool_set, without, first_of_greatest};
+ghost use Rattle.ptk_words.specs.Pools.{pool_set, without, first_of_greatest, is_in};
 ghost use Rattle.ptk_words_parted.specs.Parts.{part_of};
 ghost use Rattle.ptk_threads.specs.Table.{ThreadTable, thread_in, stored_of};
-ghost use Rattle.ptk_ready.specs.Lists.{is_in};
 
 use ptk_threads::Threads;
 use ptk_words::{PartId, Priority, ThreadNo};

@@ -1,7 +1,8 @@
 //! The form with a list of its own for each partition.
 
-ghost use Rattle.std.specs.Prelude.{◌≡◌, [], IfOk, replicate};
+ghost use Rattle.std.specs.Prelude.{◌≡◌, [], length, IfOk, replicate};
 
+use crate::choice::first_of_greatest;
 use crate::line::Line;
 use crate::queue::Queue;
 use ptk_threads::Threads;
@@ -30,9 +31,16 @@ impl VecLine {
     {
         let mut lines = Vec::new(alloc);
         for i in 0..parts {
-            lines.push(Queue::new())?;
+            lines.push(Queue::new(alloc)?)?;
         }
         Ok(VecLine { lines })
+    }
+
+    /// How many partitions there are.
+    pub fn parts(&self) -> usize
+        ensures { result ≡ length self.now }
+    {
+        self.lines.len()
     }
 }
 
@@ -56,7 +64,7 @@ impl Line for VecLine {
 
     fn first_of_greatest(&self, threads: &Threads, p: PartId) -> Option<ThreadNo> {
         let line = &self.lines[p.index()];
-        line.first_of_greatest(threads.stored(p))
+        first_of_greatest(threads, p, line.threads())
     }
 
     fn contains(&self, threads: &Threads, p: PartId, k: ThreadNo) -> bool {

@@ -1,4 +1,4 @@
-//! Halves and words in memory, least byte first.
+//! Bytes and halves read, and bytes, halves and words written, least byte first.
 
 ghost use Rattle.std.specs.Prelude.{◌≡◌, ◌≤◌, ◌+◌, length};
 ghost use Rattle.std.specs.Int.{w8, w16, w32, from_le_bytes, to_le_bytes};
@@ -20,15 +20,6 @@ pub fn read_half(memory: &[u8], at: usize) -> u32
     ensures { result ≡ from_le_bytes w16 (bytes_at memory.now at 2) }
 {
     u32::from(u16::from_le_bytes([memory[at], memory[at + 1]]))
-}
-
-/// The word at an index.
-#[inline(always)]
-pub fn read_word(memory: &[u8], at: usize) -> u32
-    requires { at + 4 ≤ length memory.now }
-    ensures { result ≡ from_le_bytes w32 (bytes_at memory.now at 4) }
-{
-    u32::from_le_bytes([memory[at], memory[at + 1], memory[at + 2], memory[at + 3]])
 }
 
 /// Writes the low byte of a word at an index.

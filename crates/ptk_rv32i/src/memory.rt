@@ -4,10 +4,10 @@ ghost use Rattle.std.specs.Prelude.{◌≡◌, ◌≤◌, ◌<◌, ◌+◌, leng
 ghost use Rattle.std.specs.Result.{result_map_both};
 ghost use Rattle.ptk_rv32i.specs.Effects.{place_of, loaded, stored};
 
-use crate::bytes::{read_byte, read_half, read_word, write_byte, write_half, write_word};
+use crate::bytes::{read_byte, read_half, write_byte, write_half, write_word};
 use crate::values::{extend_8, extend_16};
 use ptk_rv32i_code::{LoadKind, StoreKind};
-use ptk_words::FaultKind;
+use ptk_words::{FaultKind, read_word};
 
 /// Where an access of so many bytes begins; a misaligned address is tested before the range.
 #[inline(always)]

@@ -4,11 +4,10 @@ ghost use Rattle.std.specs.Prelude.{◌≡◌};
 ghost use Rattle.ptk_words_instructions.specs.Instructions.{effect_at};
 ghost use Rattle.ptk_rv32i.specs.Effects.{seen, after};
 
-use crate::bytes::read_word;
 use crate::outcome::Outcome;
 use crate::stepping::execute;
 use ptk_rv32i_code::decode;
-use ptk_words::{Cpu, FaultKind};
+use ptk_words::{Cpu, FaultKind, read_word};
 
 /// Carries out the instruction at the pc on these registers and this memory, whose addresses count from 0: what the
 /// instruction table says of the word there, and no more. Faults, each of which changes nothing: `Misaligned` where

@@ -2,9 +2,10 @@
 
 ghost use Rattle.std.specs.Prelude.{◌≡◌, ◌<◌, ◌≤◌, length, slice_set, position, is_none, IfOk, All, option_map, option_and_then};
 ghost use Rattle.ptk_words.specs.Pools.{least_free, pool_get, pool_set, pool_changed};
+ghost use Rattle.ptk_words.specs.Threads.{left_at_end, left_at_detach};
 ghost use Rattle.ptk_words.specs.declared.threads.Thread.{Thread};
 ghost use Rattle.ptk_words_parted.specs.Parts.{part_of, joined};
-ghost use Rattle.ptk_threads.specs.Table.{free_table, thread_in, stored_of, with_slot, with_changed, with_stored, with_free, with_new, with_left, left_at_end, with_end, left_at_detach, with_detached, with_cpu, with_policy, with_priority, with_used, with_phase, with_main, with_joiner, with_result, with_wait, with_detached_mark, replaced_by};
+ghost use Rattle.ptk_threads.specs.Table.{free_table, thread_in, stored_of, with_slot, with_changed, with_stored, with_free, with_new, with_rest, with_left, with_cpu, with_policy, with_priority, with_used, with_phase, with_main, with_joiner, with_result, with_wait, with_detached_mark, replaced_by};
 ghost use Rattle.ptk_threads.specs.Changes.{thread_changed};
 
 use crate::slot::{Change, Slot};
@@ -73,6 +74,18 @@ impl Threads {
         self.slot(p, k).thread()
     }
 
+    /// The least free number of a partition; None where no number is free.
+    #[tactic(auto, using(crate::proofs::Slots::numbers))]
+    pub fn first_free(&self, p: PartId) -> Option<ThreadNo>
+        requires { p < length self.now.threads }
+        ensures { result ≡ least_free (part_of self.now.threads p) }
+    {
+        match first_free_place(self.part(p)) {
+            Some(i) => Some(ThreadNo::new(i as u8 + 1)),
+            None => None,
+        }
+    }
+
     /// A new thread at the least free number, with its assigned priority as the stored one; None, and nothing changes,
     /// where no number is free (pthread_create).
     #[tactic(auto, using(crate::proofs::Slots::pools))]
@@ -83,7 +96,7 @@ impl Threads {
     {
         let priority = thread.priority;
         let level = priority.level();
-        let free = first_free(self.part(p));
+        let free = self.first_free(p);
         if let Some(k) = free {
             self.put(p, k, Some(thread), level);
         }
@@ -95,7 +108,7 @@ impl Threads {
     #[tactic(auto, using(crate::proofs::Slots::pools))]
     pub fn end(&mut self, p: PartId, k: ThreadNo)
         requires { p < length self.old.threads }
-        ensures { self.new ≡ with_end p k self.old }
+        ensures { self.new ≡ with_left p k left_at_end self.old }
     {
         let left = left_at_end(self.thread(p, k));
         self.leave(p, k, left);
@@ -105,7 +118,7 @@ impl Threads {
     #[tactic(auto, using(crate::proofs::Slots::pools))]
     pub fn detach(&mut self, p: PartId, k: ThreadNo)
         requires { p < length self.old.threads }
-        ensures { self.new ≡ with_detached p k self.old }
+        ensures { self.new ≡ with_left p k left_at_detach self.old }
     {
         let left = left_at_detach(self.thread(p, k));
         self.leave(p, k, left);
@@ -357,7 +370,7 @@ impl Threads {
     #[tactic(auto, using(crate::proofs::Slots::pools))]
     fn leave(&mut self, p: PartId, k: ThreadNo, left: Option<Thread>)
         requires { p < length self.old.threads }
-        ensures { self.new ≡ with_left p k left self.old }
+        ensures { self.new ≡ with_rest p k left self.old }
     {
         match left {
             Some(thread) => put_slot(self.slots.lend(p), k, Some(thread)),
@@ -443,18 +456,6 @@ fn put_stored(stored: &mut [u8], k: ThreadNo, priority: u8)
     let i = (k.number() - 1) as usize;
     if i < stored.len() {
         stored[i] = priority;
-    }
-}
-
-/// The least free number of a partition.
-#[tactic(auto, using(crate::proofs::Slots::numbers))]
-fn first_free(slots: &[Slot]) -> Option<ThreadNo>
-    requires { length slots.now ≤ 32 }
-    ensures { result ≡ least_free slots.now }
-{
-    match first_free_place(slots) {
-        Some(i) => Some(ThreadNo::new(i as u8 + 1)),
-        None => None,
     }
 }
 

@@ -3,16 +3,16 @@ use Rattle.std.specs.Prelude.{ℕ, List, [], ◌∷◌, find, ◌==◌, Option, 
 use Rattle.ptk_words.specs.declared.calls.Call.{Call}
 use Rattle.ptk_words.specs.declared.calls.Call.TheVariants.{Exit, ConsolePut, ConsoleGet, ClockGettime, ClockNanosleep, PthreadCreate, PthreadExit, PthreadJoin, PthreadDetach, PthreadSelf, SchedYield, PthreadSetschedparam, PthreadGetschedparam, PthreadSetschedprio, MutexInit, MutexDestroy, MutexLock, MutexTrylock, MutexTimedlock, MutexUnlock, CondInit, CondDestroy, CondWait, CondTimedwait, CondSignal, CondBroadcast, PthreadCancel, PthreadSetcancelstate, PthreadSetcanceltype, PthreadTestcancel, CleanupPush, CleanupPop, KeyCreate, KeyDelete, PthreadSetspecific, PthreadGetspecific}
 
--- the number of a call and its ticks (own)
+-- the number of a call and its ticks
 pub record CallRow : Type 0 where
   pub number : ℕ
   pub ticks : ℕ
 
--- a row of the list (own)
+-- a row of the list
 abbrev pub row : ℕ → ℕ → CallRow
 row number ticks = record { number = number; ticks = ticks }
 
--- each call's number and ticks (own)
+-- each call's number and its ticks (own)
 abbrev pub row_of : Call → CallRow
 row_of Exit = row 0 4
 row_of ConsolePut = row 1 4
@@ -51,7 +51,7 @@ row_of KeyDelete = row 51 4
 row_of PthreadSetspecific = row 52 2
 row_of PthreadGetspecific = row 53 2
 
--- all calls (own)
+-- all calls
 abbrev pub calls : List Call
 calls =
     Exit

@@ -6,4 +6,4 @@ pub mod Faults
 pub mod Calls
 pub mod Image
 pub mod Ranges
-pub mod Phases
+pub mod Threads

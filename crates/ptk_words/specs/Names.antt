@@ -18,16 +18,16 @@ abbrev pub KeyNumber : Type 0
 KeyNumber = ℕ
 
 -- an assigned or effective priority, or a ceiling, 0 of a number that is not in use (XSH 2.8.4)
-abbrev pub PriorityLevel : Type 0
-PriorityLevel = ℕ
+abbrev pub Priority : Type 0
+Priority = ℕ
 
 -- a time in ticks, from 0 (own)
-abbrev pub TickNumber : Type 0
-TickNumber = ℕ
+abbrev pub Tick : Type 0
+Tick = ℕ
 
 -- a number of ticks that something takes or has used (own)
-abbrev pub TickCount : Type 0
-TickCount = ℕ
+abbrev pub Ticks : Type 0
+Ticks = ℕ
 
 -- an address of a partition's memory (RISC-V 1.4)
 abbrev pub Pointer : Type 0
@@ -38,5 +38,5 @@ abbrev pub Word : Type 0
 Word = ℕ
 
 -- a number below 2^8 (RISC-V 1.4)
-abbrev pub ByteValue : Type 0
-ByteValue = ℕ
+abbrev pub Byte : Type 0
+Byte = ℕ

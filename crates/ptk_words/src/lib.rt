@@ -7,6 +7,7 @@
 
 mod calls;
 mod faults;
+mod memory;
 mod mutexes;
 mod numbers;
 mod processor;
@@ -15,6 +16,7 @@ mod threads;
 
 pub use calls::{Call, cost};
 pub use faults::{Cause, Errno, FaultKind, ImageFault, Status};
+pub use memory::read_word;
 pub use mutexes::{MutexKind, Owner, Protocol};
 pub use numbers::{ConditionNo, MutexNo, PartId, Priority, SlotNo, ThreadNo, Tick};
 pub use processor::Cpu;

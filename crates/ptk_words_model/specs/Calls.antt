@@ -1,5 +1,6 @@
 -- Calls: what a call is given, what it comes to, and the checks that several calls make.
 use Rattle.std.specs.Prelude.{ℕ, ◌+◌, ◌%◌, Bool, false, ◌&&◌, List, [], ◌∷◌, length, ◌==◌, nat_le, if◌then◌else◌, Option, Some, None, option_map, unwrap_or, is_some}
+use Rattle.ptk_words.specs.Names.{ConditionNumber, MutexNumber, Pointer, ThreadNumber, Word}
 use Rattle.ptk_words.specs.Words.{word_at, with_word}
 use Rattle.ptk_words.specs.Pools.{pool_get, pool_set, numbered, least_free}
 use Rattle.ptk_words.specs.Faults.{errno_number}
@@ -18,21 +19,21 @@ use Rattle.ptk_words_model.specs.Priority.{thread_at}
 use Rattle.ptk_words_model.specs.Schedule.{with_thread, with_reply}
 use Rattle.ptk_words_model.specs.Mutex.{mutex_at, new_mutex}
 use Rattle.ptk_words_model.specs.Unwinding.{after_unwinding_start, phase_of}
-use Rattle.ptk_words.specs.Phases.{is_normal}
+use Rattle.ptk_words.specs.Threads.{is_normal}
 
 -- ---- calls and replies
 
--- the state after a call, with the reply in the caller's registers, and what the call came to (own)
+-- the state after a call, with the reply in the caller's registers, and what the call came to
 pub record Answer : Type 0 where
   pub part : Part
   pub reply : Reply
 
--- this state with this reply (own)
+-- this state with this reply
 abbrev pub answer : Reply → Part → Answer
 answer reply s = record { part = s; reply = reply }
 
--- the values in the thread's a0, a1 and so on (own)
-abbrev pub replied : ℕ → List ℕ → Part → Part
+-- the values in the thread's a0, a1 and so on
+abbrev pub replied : ThreadNumber → List Word → Part → Part
 replied t values s = with_locks (with_thread t (with_reply values)) s
 
 -- an error number in a0, and the state unchanged (XSH 2.3; own)
@@ -40,7 +41,7 @@ abbrev pub refusal : Errno → Invocation → Part → Answer
 refusal e i s = answer (Done (errno_number e)) (replied i.caller (errno_number e ∷ []) s)
 
 -- 0 in a0, and these values in a1 and so on (XSH 2.3; own)
-abbrev pub success : List ℕ → Invocation → Part → Answer
+abbrev pub success : List Word → Invocation → Part → Answer
 success values i s = answer (Done 0) (replied i.caller (0 ∷ values) s)
 
 -- the caller blocks and no longer runs; its reply comes when it is woken (XSH 2.8.4)
@@ -58,53 +59,53 @@ no_call i s = refusal ENOSYS i s
 -- ---- checks
 
 -- a pointer to so many bytes: a multiple of 4, and the bytes lie in memory (own, EFAULT)
-abbrev pub is_pointer : Part → ℕ → ℕ → Bool
+abbrev pub is_pointer : Part → Pointer → ℕ → Bool
 is_pointer s pointer count = pointer % 4 == 0 && nat_le (pointer + count) (length s.memory)
 
 -- a normal thread, with cancellation enabled, has a pending request (XSH 2.9.5.2)
-abbrev pub is_cancelled : Part → ℕ → Bool
+abbrev pub is_cancelled : Part → ThreadNumber → Bool
 is_cancelled s t = is_normal (phase_of (thread_at s.locks t)) && unwrap_or (option_map (λ c. c.is_enabled && c.is_pending) (numbered s.cancellations t)) false
 
 -- a cancellation point at which a pending request is acted on: the call is not carried out (XSH 2.9.5.2)
 abbrev pub cancellation_answer : Invocation → Part → Answer
 cancellation_answer i s = answer Unwinding (after_unwinding_start i.caller CANCELED s)
 
--- a mutex at a number of the pool, or none (own)
-abbrev pub with_pool_mutex : ℕ → Option Mutex → Part → Part
+-- a mutex at a number of the pool, or none
+abbrev pub with_pool_mutex : MutexNumber → Option Mutex → Part → Part
 with_pool_mutex m mutex s = with_locks (λ locks. record locks { mutexes = pool_set locks.mutexes m mutex }) s
 
--- a condition variable at a number of the pool, or none (own)
-abbrev pub with_pool_condition : ℕ → Option Condition → Part → Part
+-- a condition variable at a number of the pool, or none
+abbrev pub with_pool_condition : ConditionNumber → Option Condition → Part → Part
 with_pool_condition c condition s = with_syncs (λ syncs. record syncs { conditions = pool_set syncs.conditions c condition }) s
 
--- the word stored at the pointer (own)
-abbrev pub with_stored : ℕ → ℕ → Part → Part
+-- the word stored at the pointer
+abbrev pub with_stored : Pointer → Word → Part → Part
 with_stored pointer word s = record s { memory = with_word s.memory pointer word }
 
 -- a mutex of default attributes at the least free number, which the word then holds (PTHREAD_MUTEX_INITIALIZER; own, ENOMEM)
-abbrev pub set_up_mutex : Option ℕ → ℕ → Invocation → Part → (ℕ → Part → Answer) → Answer
+abbrev pub set_up_mutex : Option MutexNumber → Pointer → Invocation → Part → (MutexNumber → Part → Answer) → Answer
 set_up_mutex None pointer i s next = refusal ENOMEM i s
 set_up_mutex (Some m) pointer i s next = next m (with_stored pointer m (with_pool_mutex m (Some (new_mutex Normal NoProtocol)) s))
 
 -- the mutex of a word: 0 sets one up, the number of a mutex in use names it (pthread_mutex_init; own, EINVAL)
-abbrev pub using_mutex : ℕ → Invocation → Part → (ℕ → Part → Answer) → Answer
+abbrev pub using_mutex : Pointer → Invocation → Part → (MutexNumber → Part → Answer) → Answer
 using_mutex pointer i s next =
     if word_at s.memory pointer == 0 then set_up_mutex (least_free s.mutexes) pointer i s next
     else if is_some (mutex_at s.locks (word_at s.memory pointer)) then next (word_at s.memory pointer) s
     else refusal EINVAL i s
 
--- a condition variable likewise (PTHREAD_COND_INITIALIZER; own, ENOMEM)
-abbrev pub set_up_condition : Option ℕ → ℕ → Invocation → Part → (ℕ → Part → Answer) → Answer
+-- a condition variable at the least free number, which the word then holds (PTHREAD_COND_INITIALIZER; own, ENOMEM)
+abbrev pub set_up_condition : Option ConditionNumber → Pointer → Invocation → Part → (ConditionNumber → Part → Answer) → Answer
 set_up_condition None pointer i s next = refusal ENOMEM i s
 set_up_condition (Some c) pointer i s next = next c (with_stored pointer c (with_pool_condition c (Some (record { waiters = [] })) s))
 
--- the condition variable of a word, likewise (pthread_cond_init; own, EINVAL)
-abbrev pub using_condition : ℕ → Invocation → Part → (ℕ → Part → Answer) → Answer
+-- the condition variable of a word: 0 sets one up, the number of one in use names it (pthread_cond_init; own, EINVAL)
+abbrev pub using_condition : Pointer → Invocation → Part → (ConditionNumber → Part → Answer) → Answer
 using_condition pointer i s next =
     if word_at s.memory pointer == 0 then set_up_condition (least_free s.conditions) pointer i s next
     else if is_some (pool_get s.conditions (word_at s.memory pointer)) then next (word_at s.memory pointer) s
     else refusal EINVAL i s
 
 -- the thread of a number in use (XSH 2.9.2; own, ESRCH)
-abbrev pub using_thread : ℕ → Invocation → Part → (Thread → Answer) → Answer
+abbrev pub using_thread : ThreadNumber → Invocation → Part → (Thread → Answer) → Answer
 using_thread t i s next = unwrap_or (option_map next (thread_at s.locks t)) (refusal ESRCH i s)

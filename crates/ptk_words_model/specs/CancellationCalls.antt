@@ -1,5 +1,6 @@
 -- Calls 40 to 45: cancellation and cleanup handlers (pthread_cancel, pthread_setcancelstate, pthread_cleanup_push).
-use Rattle.std.specs.Prelude.{ℕ, true, List, [], ◌∷◌, length, ◌==◌, nat_lt, nat_le, if◌then◌else◌, unwrap_or}
+use Rattle.std.specs.Prelude.{true, List, [], ◌∷◌, length, ◌==◌, nat_lt, nat_le, if◌then◌else◌, unwrap_or}
+use Rattle.ptk_words.specs.Names.{ThreadNumber}
 use Rattle.ptk_words.specs.Pools.{numbered}
 use Rattle.ptk_words.specs.declared.TheConstants.{CLEANUP_LIMIT}
 use Rattle.ptk_words.specs.declared.faults.Errno.TheVariants.{EAGAIN, EINVAL}
@@ -7,7 +8,7 @@ use Rattle.ptk_words.specs.declared.threads.Cleanup.{Cleanup}
 use Rattle.ptk_words_model.specs.declared.Cancellation.{Cancellation}
 use Rattle.ptk_words_model.specs.State.{Part, with_cancellation, with_cleanups}
 use Rattle.ptk_words_model.specs.Unwinding.{cleanups_of}
-use Rattle.ptk_words.specs.Phases.{is_ended}
+use Rattle.ptk_words.specs.Threads.{is_ended}
 use Rattle.ptk_words_model.specs.Withdrawal.{after_cancelled_wait}
 use Rattle.ptk_words_model.specs.ThreadCreation.{new_cancellation}
 use Rattle.ptk_words_model.specs.Calls.{refusal, success, is_cancelled}
@@ -25,7 +26,7 @@ cancel = do
   succeed
 
 -- what the thread keeps of cancellation (XSH 2.9.5.1)
-abbrev pub cancellation_of : Part → ℕ → Cancellation
+abbrev pub cancellation_of : Part → ThreadNumber → Cancellation
 cancellation_of s t = unwrap_or (numbered s.cancellations t) new_cancellation
 
 -- PTHREAD_CANCEL_ENABLE 0 and DISABLE 1; the old state in a1 (pthread_setcancelstate; own)

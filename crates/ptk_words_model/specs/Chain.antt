@@ -11,11 +11,11 @@ steps_from next u (suc n) = option_and_then next (steps_from next u n)
 abbrev pub Leads : (ℕ → Option ℕ) → ℕ → ℕ → Type 0
 Leads next u t = (n : ℕ) × (steps_from next u n ≡ Some t)
 
--- the same as a test, by at most so many steps (own)
+-- whether at most so many steps lead from u to t; a chain without repetition has no more steps than numbers
 abbrev pub leads_to : (ℕ → Option ℕ) → ℕ → ℕ → ℕ → Bool
 leads_to next t zero u = u == t
 leads_to next t (suc fuel) u = u == t || unwrap_or (option_map (leads_to next t fuel) (next u)) false
 
--- of the numbers 1 to n, the greatest rank of those whose chain holds t; a chain without repetition has at most n numbers (own)
+-- of the numbers 1 to n, the greatest rank of those whose chain holds t
 abbrev pub greatest_leading : ℕ → (ℕ → Option ℕ) → (ℕ → ℕ) → ℕ → ℕ
 greatest_leading n next rank t = greatest rank (filter (λ u. leads_to next t n u) (numbers_to n))

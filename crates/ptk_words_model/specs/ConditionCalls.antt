@@ -8,12 +8,12 @@ use Rattle.ptk_words.specs.declared.faults.Errno.TheVariants.{EPERM, ENOMEM, EBU
 use Rattle.ptk_words.specs.declared.threads.Wait.TheVariants.{RelockWait}
 use Rattle.ptk_words_model.specs.declared.LockMove.{LockMove}
 use Rattle.ptk_words_model.specs.declared.LockMove.TheVariants.{Takes, Counts, Waits, Refuses}
-use Rattle.ptk_words_model.specs.State.{Part, with_locks}
+use Rattle.ptk_words_model.specs.State.{with_locks}
 use Rattle.ptk_words_model.specs.Mutex.{mutex_at, owns, relock_move, after_move, after_unlock}
 use Rattle.ptk_words_model.specs.Condition.{condition_waiters, names_another, after_condition_wait, after_signal, after_broadcast}
 use Rattle.ptk_words_model.specs.Time.{timespec_at, is_timespec, deadline_of}
 use Rattle.ptk_words_model.specs.Calls.{refusal, blocked, with_stored, with_pool_condition}
-use Rattle.ptk_words_model.specs.Steps.{Row, Step, ◌>>=◌, ◌>>◌, registers, state, refuse◌when◌, refuse◌unless◌, ◌or_refuse◌, when◌finish◌, cancellation_point, readable, mutex_named, condition_named, change, change_syncs, succeed, block}
+use Rattle.ptk_words_model.specs.Steps.{Row, Step, ◌>>=◌, ◌>>◌, registers, state, refuse◌when◌, refuse◌unless◌, ◌or_refuse◌, when◌finish◌, cancellation_point, readable, mutex_named, condition_named, change, change_locks, change_syncs, succeed, block}
 
 -- a condition variable at the least free number; the old word is not looked at (pthread_cond_init, ENOMEM; own)
 abbrev pub cond_init : Row
@@ -69,9 +69,11 @@ late_answer (Refuses e) m i s = refusal ETIMEDOUT i s
 
 -- a deadline already reached: the mutex is released and locked again (pthread_cond_timedwait)
 abbrev pub late_wait_answer : MutexNumber → Row
-late_wait_answer m i s =
-    let out : Part = with_locks (after_unlock m) s in
-    late_answer (relock_move i.caller (mutex_at out.locks m)) m i out
+late_wait_answer m = do
+  i ← registers
+  change_locks (after_unlock m)
+  s ← state
+  late_answer (relock_move i.caller (mutex_at s.locks m)) m
 
 -- a wait with a deadline (pthread_cond_timedwait)
 abbrev pub cond_timedwait : Row

@@ -1,40 +1,41 @@
--- The console: its ring, its output and its waiters (own).
+-- The console: its ring, its output and its waiters.
 use Rattle.std.specs.Prelude.{ℕ, ◌+◌, Bool, List, [], ◌∷◌, ◌++◌, length, take_while, drop, nat_lt, nat_le, if◌then◌else◌}
+use Rattle.ptk_words.specs.Names.{Byte, ThreadNumber, Tick}
 use Rattle.ptk_words.specs.Pools.{without}
 use Rattle.ptk_words.specs.declared.sections.Arrival.{Arrival}
 use Rattle.ptk_words_model.specs.State.{Console}
 
--- the output has so many bytes (own)
+-- the output has so many bytes
 abbrev pub is_full : ℕ → Console → Bool
 is_full limit console = nat_le limit (length console.output)
 
--- a byte at the end of the output (own)
-abbrev pub with_output : ℕ → Console → Console
+-- a byte at the end of the output
+abbrev pub with_output : Byte → Console → Console
 with_output byte console = record console { output = console.output ++ byte ∷ [] }
 
 -- a byte into the ring, or lost and counted where it has so many (own)
-abbrev pub with_input : ℕ → ℕ → Console → Console
+abbrev pub with_input : ℕ → Byte → Console → Console
 with_input limit byte console =
     if nat_lt (length console.ring) limit
     then record console { ring = console.ring ++ byte ∷ [] }
     else record console { dropped = console.dropped + 1 }
 
--- the thread as the last waiter (own)
-abbrev pub with_waiter : ℕ → Console → Console
+-- the thread as the last waiter
+abbrev pub with_waiter : ThreadNumber → Console → Console
 with_waiter t console = record console { waiters = console.waiters ++ t ∷ [] }
 
--- the thread has left the waiters (own)
-abbrev pub without_waiter : ℕ → Console → Console
+-- the thread has left the waiters
+abbrev pub without_waiter : ThreadNumber → Console → Console
 without_waiter t console = record console { waiters = without t console.waiters }
 
--- the input comes at the tick or before (own)
-abbrev pub is_due_at : ℕ → Arrival → Bool
+-- the input comes at the tick or before
+abbrev pub is_due_at : Tick → Arrival → Bool
 is_due_at tick arrival = nat_le arrival.tick tick
 
--- the input that comes at the tick or before, in order (own)
-abbrev pub arriving : ℕ → Console → List Arrival
+-- the input that comes at the tick or before, in order
+abbrev pub arriving : Tick → Console → List Arrival
 arriving tick console = take_while (is_due_at tick) console.coming
 
--- the console with the rest of the input still to come (own)
-abbrev pub without_arriving : ℕ → Console → Console
+-- the console with the rest of the input still to come
+abbrev pub without_arriving : Tick → Console → Console
 without_arriving tick console = record console { coming = drop (length (arriving tick console)) console.coming }

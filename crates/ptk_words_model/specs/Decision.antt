@@ -1,5 +1,6 @@
 -- One decision of a partition at a tick of its own: arrivals, expiries, the choice, then idle, lost or a step (own).
 use Rattle.std.specs.Prelude.{ℕ, ◌%◌, Bool, false, ◌&&◌, ◌||◌, List, [], ◌∷◌, fold, ◌==◌, nat_lt, if◌then◌else◌, Option, Some, None, option_map, unwrap_or}
+use Rattle.ptk_words.specs.Names.{Byte, Pointer, ThreadNumber, Tick, Ticks, Word}
 use Rattle.ptk_words.specs.declared.TheConstants.{A0, A1, A2, A3, A4, A7, ECALL, RETURN_GATE, CANCELED}
 use Rattle.ptk_words.specs.Words.{word_at}
 use Rattle.ptk_words.specs.Pools.{numbered, first_of_greatest}
@@ -22,7 +23,7 @@ use Rattle.ptk_words_model.specs.Priority.{thread_at, effective_priority}
 use Rattle.ptk_words_model.specs.Schedule.{with_thread, after_wake, after_choice, after_interval}
 use Rattle.ptk_words_model.specs.Withdrawal.{after_expiries}
 use Rattle.ptk_words_model.specs.Unwinding.{after_unwinding_start, after_gate_step}
-use Rattle.ptk_words.specs.Phases.{is_normal, is_ended}
+use Rattle.ptk_words.specs.Threads.{is_normal, is_ended}
 use Rattle.ptk_words_model.specs.Console.{with_input, without_waiter, arriving, without_arriving}
 use Rattle.ptk_words_model.specs.declared.Invocation.{Invocation}
 use Rattle.ptk_words_model.specs.CallTable.{answer_to}
@@ -30,50 +31,50 @@ use Rattle.ptk_words_model.specs.CallTable.{answer_to}
 -- ---- arrivals
 
 -- the byte wakes the waiter; without one it goes into the ring, or is lost where that is full (own)
-abbrev pub after_arrival_for : Option ℕ → ℕ → ℕ → Part → Part
+abbrev pub after_arrival_for : Option ThreadNumber → ℕ → Byte → Part → Part
 after_arrival_for (Some t) limit byte s = with_locks (after_wake t (0 ∷ byte ∷ [])) (with_console (without_waiter t) s)
 after_arrival_for None limit byte s = with_console (with_input limit byte) s
 
--- the waiter of greatest effective priority, the earliest among equals (own)
-abbrev pub first_waiter : Part → Option ℕ
+-- the console's waiter of greatest effective priority, the earliest among equals (own)
+abbrev pub first_waiter : Part → Option ThreadNumber
 first_waiter s = first_of_greatest (effective_priority s.locks) s.console.waiters
 
--- the byte goes to that waiter (own)
+-- the byte goes to the first waiter
 abbrev pub after_arrival : ℕ → Part → Arrival → Part
 after_arrival limit s arrival = after_arrival_for (first_waiter s) limit arrival.byte s
 
 -- the input with tick at most this one has arrived, in order (own)
-abbrev pub after_arrivals : Limits → ℕ → Part → Part
+abbrev pub after_arrivals : Limits → Tick → Part → Part
 after_arrivals limits tick s = fold (after_arrival limits.ring) (with_console (without_arriving tick) s) (arriving tick s.console)
 
 -- ---- the running thread's next step
 
--- the thread of this number, if it is in use (own)
-abbrev pub runner_at : ℕ → Option Thread → Option Runner
+-- the thread of this number, if it is in use
+abbrev pub runner_at : ThreadNumber → Option Thread → Option Runner
 runner_at t None = None
 runner_at t (Some thread) = Some (record { number = t; thread = thread })
 
--- the thread that runs, if one does (own)
-abbrev pub runner_in : Option ℕ → Part → Option Runner
+-- the thread that runs, if one does
+abbrev pub runner_in : Option ThreadNumber → Part → Option Runner
 runner_in None s = None
 runner_in (Some t) s = runner_at t (thread_at s.locks t)
 
--- the same of the state (own)
+-- the running thread with its number, if one runs
 abbrev pub runner_of : Part → Option Runner
 runner_of s = runner_in s.running s
 
 -- the thread is marked, or has a pending request and is ENABLE and ASYNCHRONOUS; a thread that unwinds begins no unwinding (XSH 2.9.5.1; own)
-abbrev pub is_to_unwind : Part → ℕ → Thread → Bool
+abbrev pub is_to_unwind : Part → ThreadNumber → Thread → Bool
 is_to_unwind s t thread =
     is_normal thread.phase
     && unwrap_or (option_map (λ c. c.is_marked || (c.is_pending && c.is_enabled && c.is_asynchronous)) (numbered s.cancellations t)) false
 
 -- the word at the pc, 0 where none can be fetched (RISC-V 1.5; own)
-abbrev pub word_fetched : List ℕ → ℕ → ℕ
+abbrev pub word_fetched : List Byte → Pointer → Word
 word_fetched memory pc = if pc % 4 == 0 && can_fetch memory pc then word_at memory pc else 0
 
--- by the thread, its pc and the word there (own)
-abbrev pub step_kind : Part → ℕ → Thread → StepKind
+-- what the running thread's next step is, by the thread, its pc and the word there
+abbrev pub step_kind : Part → ThreadNumber → Thread → StepKind
 step_kind s t thread =
     if is_to_unwind s t thread then UnwindingStart
     else if thread.cpu.pc == RETURN_GATE then GateStep
@@ -81,7 +82,7 @@ step_kind s t thread =
     else InstructionStep
 
 -- the ticks of a step (own)
-abbrev pub step_cost : StepKind → ℕ
+abbrev pub step_cost : StepKind → Ticks
 step_cost UnwindingStart = 4
 step_cost GateStep = 4
 step_cost (CallStep number) = cost_of number
@@ -89,12 +90,12 @@ step_cost InstructionStep = 1
 
 -- ---- carrying it out
 
--- the thread with these registers (own)
-abbrev pub with_cpu : ℕ → Processor → Part → Part
+-- the thread with these registers
+abbrev pub with_cpu : ThreadNumber → Processor → Part → Part
 with_cpu t cpu s = with_locks (with_thread t (λ thread. record thread { cpu = cpu })) s
 
--- the call that the registers state (own)
-abbrev pub invocation : Limits → ℕ → ℕ → Processor → Invocation
+-- the call that the registers state
+abbrev pub invocation : Limits → Tick → ThreadNumber → Processor → Invocation
 invocation limits tick t cpu =
     record {
       limits = limits;
@@ -107,19 +108,19 @@ invocation limits tick t cpu =
       a4 = register cpu A4;
     }
 
--- the call of a7 (RISC-V 2.8; own)
-abbrev pub after_call : Limits → ℕ → ℕ → Processor → Part → Part
+-- the call of a7 (RISC-V 2.8)
+abbrev pub after_call : Limits → Tick → ThreadNumber → Processor → Part → Part
 after_call limits tick t cpu s = (answer_to (call_of (register cpu A7)) (invocation limits tick t cpu) s).part
 
 -- an instruction's effect on the state; a break or a fault leaves the registers and the memory (RISC-V 1.6, 2.8; own)
-abbrev pub after_effect : Limits → ℕ → ℕ → ℕ → Effect → Part → Part
+abbrev pub after_effect : Limits → Tick → ThreadNumber → Pointer → Effect → Part → Part
 after_effect limits tick t pc (Done cpu memory) s = with_cpu t cpu (record s { memory = memory })
 after_effect limits tick t pc (Call cpu) s = after_call limits tick t cpu (with_cpu t cpu s)
 after_effect limits tick t pc Break s = with_halt (Stopped cause.Break pc) s
 after_effect limits tick t pc (Fault kind) s = with_halt (Stopped (cause.Fault kind) pc) s
 
--- the state after the step (own)
-abbrev pub after_step : Limits → ℕ → Runner → StepKind → Part → Part
+-- the state after the step
+abbrev pub after_step : Limits → Tick → Runner → StepKind → Part → Part
 after_step limits tick r UnwindingStart s = after_unwinding_start r.number CANCELED s
 after_step limits tick r GateStep s = after_gate_step r.thread.phase r.number r.thread s
 after_step limits tick r (CallStep number) s = after_effect limits tick r.number r.thread.cpu.pc (effect_at r.thread.cpu s.memory) s
@@ -127,20 +128,20 @@ after_step limits tick r InstructionStep s = after_effect limits tick r.number r
 
 -- ---- the trace
 
--- the word of a step that fetches one, 0 of another (own)
-abbrev pub traced_word : StepKind → List ℕ → ℕ → ℕ
+-- the word of a step that fetches one, 0 of another
+abbrev pub traced_word : StepKind → List Byte → Pointer → Word
 traced_word UnwindingStart memory pc = 0
 traced_word GateStep memory pc = 0
 traced_word (CallStep number) memory pc = word_fetched memory pc
 traced_word InstructionStep memory pc = word_fetched memory pc
 
 -- the thread's a0 after the step, before it where the thread ended (own)
-abbrev pub a0_after : Thread → Option Thread → ℕ
+abbrev pub a0_after : Thread → Option Thread → Word
 a0_after before None = register before.cpu A0
 a0_after before (Some after) = if is_ended after.phase then register before.cpu A0 else register after.cpu A0
 
--- the step as the trace keeps it: by the thread and the memory before it, and the thread after it (own)
-abbrev pub entry_of : ℕ → Runner → StepKind → List ℕ → Option Thread → Entry
+-- the step as the trace keeps it: by the thread and the memory before it, and the thread after it
+abbrev pub entry_of : Tick → Runner → StepKind → List Byte → Option Thread → Entry
 entry_of tick r kind memory after =
     record {
       tick = tick;
@@ -152,33 +153,33 @@ entry_of tick r kind memory after =
 
 -- ---- the decision
 
--- a step with its place in the trace and in the round-robin interval (own)
-abbrev pub after_whole_step : Limits → ℕ → Runner → StepKind → Part → Part
+-- a step with its place in the trace and in the round-robin interval
+abbrev pub after_whole_step : Limits → Tick → Runner → StepKind → Part → Part
 after_whole_step limits tick r kind s =
     let after : Part = after_step limits tick r kind s in
     let thread : Option Thread = thread_at after.locks r.number in
     after_interval limits.interval (step_cost kind) r.number thread (record after { last = Some (entry_of tick r kind s.memory thread) })
 
 -- a step begins only if its whole cost fits (own)
-abbrev pub after_turn : Limits → ℕ → ℕ → Option Runner → Part → Part
+abbrev pub after_turn : Limits → Tick → Ticks → Option Runner → Part → Part
 after_turn limits tick room None s = s
 after_turn limits tick room (Some r) s =
     if nat_lt room (step_cost (step_kind s r.number r.thread)) then s else after_whole_step limits tick r (step_kind s r.number r.thread) s
 
--- what this comes to: no thread runs, the rest of the window is lost, or a step of so many ticks (own)
-abbrev pub spent_in_turn : ℕ → Option Runner → Part → Spent
+-- what a turn comes to: no thread runs, the rest of the window is lost, or a step of so many ticks (own)
+abbrev pub spent_in_turn : Ticks → Option Runner → Part → Spent
 spent_in_turn room None s = Idle
 spent_in_turn room (Some r) s =
     if nat_lt room (step_cost (step_kind s r.number r.thread)) then Lost else Step (step_cost (step_kind s r.number r.thread))
 
--- after the arrivals, the expiries and the choice of a tick (own)
-abbrev pub ready_at : Limits → ℕ → Part → Part
+-- after the arrivals, the expiries and the choice of a tick
+abbrev pub ready_at : Limits → Tick → Part → Part
 ready_at limits tick s = after_choice (after_expiries tick (after_arrivals limits tick s))
 
 -- the state after the decision at an own tick with so many ticks to its window's end (own)
-abbrev pub after_decision : Limits → ℕ → ℕ → Part → Part
+abbrev pub after_decision : Limits → Tick → Ticks → Part → Part
 after_decision limits tick room s = let ready : Part = ready_at limits tick s in after_turn limits tick room (runner_of ready) ready
 
--- what the decision spends (own)
-abbrev pub spent_by_decision : Limits → ℕ → ℕ → Part → Spent
+-- what the decision spends
+abbrev pub spent_by_decision : Limits → Tick → Ticks → Part → Spent
 spent_by_decision limits tick room s = let ready : Part = ready_at limits tick s in spent_in_turn room (runner_of ready) ready

@@ -1,6 +1,6 @@
 -- Calls 20 to 25: mutexes (pthread_mutex_init to pthread_mutex_unlock).
 use Rattle.std.specs.Prelude.{Bool, false, not, ◌&&◌, ◌||◌, [], ◌==◌, nat_le, if◌then◌else◌, Option, Some, None}
-use Rattle.ptk_words.specs.Names.{MutexNumber, TickNumber, Word}
+use Rattle.ptk_words.specs.Names.{MutexNumber, Tick, Word}
 use Rattle.ptk_words.specs.Pools.{least_free}
 use Rattle.ptk_words.specs.declared.TheConstants.{DESTROYED}
 use Rattle.ptk_words.specs.declared.faults.Errno.TheVariants.{EPERM, ENOMEM, EBUSY, EINVAL, ETIMEDOUT}
@@ -62,7 +62,7 @@ mutex_destroy = do
   succeed
 
 -- the caller makes its move on the mutex; where it waits, until the deadline if there is one (pthread_mutex_lock, pthread_mutex_timedlock)
-abbrev pub make_move : LockMove → MutexNumber → Option TickNumber → Row
+abbrev pub make_move : LockMove → MutexNumber → Option Tick → Row
 make_move Takes m deadline i s = success [] i (with_locks (after_move Takes i.caller m (MutexWait m deadline)) s)
 make_move Counts m deadline i s = success [] i (with_locks (after_move Counts i.caller m (MutexWait m deadline)) s)
 make_move Waits m deadline i s = blocked (with_locks (after_move Waits i.caller m (MutexWait m deadline)) s)

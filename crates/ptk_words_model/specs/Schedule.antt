@@ -1,5 +1,6 @@
 -- Places in the line, waking, the choice of the running thread and round-robin intervals (XSH 2.8.4).
 use Rattle.std.specs.Prelude.{ℕ, suc, ◌+◌, Bool, true, false, ◌&&◌, List, [], ◌∷◌, ◌++◌, ◌==◌, nat_lt, nat_le, if◌then◌else◌, Option, Some, None}
+use Rattle.ptk_words.specs.Names.{ThreadNumber, Ticks, Word}
 use Rattle.ptk_words.specs.declared.TheConstants.{A0}
 use Rattle.ptk_words.specs.Pools.{pool_changed, without, first_of_greatest}
 use Rattle.ptk_words.specs.Processor.{Processor, with_register}
@@ -11,23 +12,23 @@ use Rattle.ptk_words_model.specs.Priority.{effective_priority}
 
 -- ---- parts of the state
 
--- the thread of a number changed by f; a free number stays free (own)
-abbrev pub with_thread : ℕ → (Thread → Thread) → Locks → Locks
+-- the thread of a number changed by f; a free number stays free
+abbrev pub with_thread : ThreadNumber → (Thread → Thread) → Locks → Locks
 with_thread t f locks = record locks { threads = pool_changed t f locks.threads }
 
--- the values in the registers from i on (own)
-abbrev pub with_registers : Processor → ℕ → List ℕ → Processor
+-- the values in the registers from i on
+abbrev pub with_registers : Processor → ℕ → List Word → Processor
 with_registers cpu i [] = cpu
 with_registers cpu i (value ∷ values) = with_registers (with_register cpu i value) (suc i) values
 
--- the thread with the values in a0, a1 and so on (own)
-abbrev pub with_reply : List ℕ → Thread → Thread
+-- the thread with the values in a0, a1 and so on
+abbrev pub with_reply : List Word → Thread → Thread
 with_reply values thread = record thread { cpu = with_registers thread.cpu A0 values }
 
 -- ---- places
 
 -- the thread changed by f and put at the tail of the line (XSH 2.8.4)
-abbrev pub at_tail_with : (Thread → Thread) → ℕ → Locks → Locks
+abbrev pub at_tail_with : (Thread → Thread) → ThreadNumber → Locks → Locks
 at_tail_with f t locks = record locks { threads = pool_changed t f locks.threads; line = locks.line ++ t ∷ [] }
 
 -- a thread that has used no tick of its interval (XSH 2.8.4, SCHED_RR; own)
@@ -35,33 +36,33 @@ abbrev pub unused : Thread → Thread
 unused thread = record thread { used = 0 }
 
 -- the thread at the tail of the line, with no ticks used (XSH 2.8.4; own)
-abbrev pub at_tail : ℕ → Locks → Locks
+abbrev pub at_tail : ThreadNumber → Locks → Locks
 at_tail t locks = at_tail_with unused t locks
 
 -- the thread at the head of the line (XSH 2.8.4)
-abbrev pub at_head : ℕ → Locks → Locks
+abbrev pub at_head : ThreadNumber → Locks → Locks
 at_head t locks = record locks { line = t ∷ locks.line }
 
 -- a thread that waits for nothing any more, with these values in a0 and so on, and no ticks used (XSH 2.8.4)
-abbrev pub woken_with : List ℕ → Thread → Thread
+abbrev pub woken_with : List Word → Thread → Thread
 woken_with values thread = record (with_reply values thread) { wait = None; used = 0 }
 
 -- the blocked thread is ready, at the tail, with these values in a0 and so on (XSH 2.8.4)
-abbrev pub after_wake : ℕ → List ℕ → Locks → Locks
+abbrev pub after_wake : ThreadNumber → List Word → Locks → Locks
 after_wake t values locks = at_tail_with (woken_with values) t locks
 
 -- ---- the choice
 
 -- the first thread of the line's greatest effective priority (XSH 2.8.4)
-abbrev pub first_ready : Locks → Option ℕ
+abbrev pub first_ready : Locks → Option ThreadNumber
 first_ready locks = first_of_greatest (effective_priority locks) locks.line
 
 -- the thread is out of the line and runs (XSH 2.8.4)
-abbrev pub after_dispatch : ℕ → Part → Part
+abbrev pub after_dispatch : ThreadNumber → Part → Part
 after_dispatch t s = let next : Part = with_locks (λ locks. record locks { line = without t locks.line }) s in record next { running = Some t }
 
 -- the running thread stays but for a greater effective priority, and then stands first in the line (XSH 2.8.4)
-abbrev pub after_choice_between : Option ℕ → Option ℕ → Part → Part
+abbrev pub after_choice_between : Option ThreadNumber → Option ThreadNumber → Part → Part
 after_choice_between running None s = s
 after_choice_between None (Some t) s = after_dispatch t s
 after_choice_between (Some r) (Some t) s =
@@ -81,20 +82,20 @@ is_round_robin Fifo = false
 is_round_robin RoundRobin = true
 
 -- the thread is the running one (XSH 2.8.4)
-abbrev pub is_running : ℕ → Option ℕ → Bool
+abbrev pub is_running : ThreadNumber → Option ThreadNumber → Bool
 is_running t None = false
 is_running t (Some r) = r == t
 
 -- the running thread goes to the tail, and no thread runs (XSH 2.8.4)
-abbrev pub after_turn_end : ℕ → Part → Part
+abbrev pub after_turn_end : ThreadNumber → Part → Part
 after_turn_end t s = let next : Part = with_locks (at_tail t) s in record next { running = None }
 
 -- the thread has used so many ticks of its interval (XSH 2.8.4, SCHED_RR)
-abbrev pub with_used : ℕ → ℕ → Part → Part
+abbrev pub with_used : ThreadNumber → Ticks → Part → Part
 with_used t used s = with_locks (with_thread t (λ thread. record thread { used = used })) s
 
 -- a thread of SCHED_RR that is still running after a step has used its ticks; at the interval it goes to the tail (XSH 2.8.4, SCHED_RR; own)
-abbrev pub after_interval : ℕ → ℕ → ℕ → Option Thread → Part → Part
+abbrev pub after_interval : Ticks → Ticks → ThreadNumber → Option Thread → Part → Part
 after_interval interval cost t None s = s
 after_interval interval cost t (Some thread) s =
     if is_running t s.running && is_round_robin thread.policy

@@ -1,5 +1,6 @@
 -- The state of one partition, by its parts. Threads, mutexes, condition variables and keys are entries of pools, numbered from 1.
 use Rattle.std.specs.Prelude.{ℕ, List, Option, None}
+use Rattle.ptk_words.specs.Names.{Byte, Pointer, ThreadNumber, Tick, Ticks, Word}
 use Rattle.ptk_words.specs.Pools.{pool_update}
 use Rattle.ptk_words.specs.declared.threads.Thread.{Thread}
 use Rattle.ptk_words.specs.declared.threads.Cleanup.{Cleanup}
@@ -20,19 +21,19 @@ pub record Mutex : Type 0 where
   pub protocol : Protocol
   pub owner : Owner
   pub count : ℕ
-  pub waiters : List ℕ
+  pub waiters : List ThreadNumber
 
 -- a condition variable, its waiters in order of arrival (pthread_cond_wait)
 pub record Condition : Type 0 where
-  pub waiters : List ℕ
+  pub waiters : List ThreadNumber
 
 -- the threads, the line of those that are ready, and the mutexes: what the mutex calls read and change (XSH 2.8.4)
 pub record Locks : Type 0 where
   pub threads : List (Option Thread)
-  pub line : List ℕ
+  pub line : List ThreadNumber
   pub mutexes : List (Option Mutex)
 
--- those and the condition variables: what the condition calls read and change (pthread_cond_wait)
+-- threads, line, mutexes and condition variables: what the condition calls read and change (pthread_cond_wait)
 pub record Syncs : Type 0 where
   pub locks : Locks
   pub open locks use *
@@ -42,26 +43,26 @@ pub record Syncs : Type 0 where
 
 -- the destructors of the keys in use, 0 for none, and by thread number its values by key and how far its destructor calls are (pthread_key_create)
 pub record Keys : Type 0 where
-  pub destructors : List (Option ℕ)
-  pub values : List (List ℕ)
+  pub destructors : List (Option Pointer)
+  pub values : List (List Word)
   pub rounds : List Rounds
 
 -- the console: input still to come, the ring, how many bytes were lost, the output, and the waiters in order of arrival (own)
 pub record Console : Type 0 where
   pub coming : List Arrival
-  pub ring : List ℕ
+  pub ring : List Byte
   pub dropped : ℕ
-  pub output : List ℕ
-  pub waiters : List ℕ
+  pub output : List Byte
+  pub waiters : List ThreadNumber
 
 -- ---- the partition
 
--- what the kernel keeps of a partition: every part of it is its own (own)
+-- what the kernel keeps of a partition: every part of it is its own
 pub record Part : Type 0 where
-  pub memory : List ℕ
+  pub memory : List Byte
   pub syncs : Syncs
   pub open syncs use *
-  pub running : Option ℕ
+  pub running : Option ThreadNumber
   -- by thread number: what it keeps of cancellation, and its cleanup handlers, the last pushed first
   pub cancellations : List Cancellation
   pub cleanups : List (List Cleanup)
@@ -71,41 +72,41 @@ pub record Part : Type 0 where
   -- the last step, if there was one
   pub last : Option Entry
 
--- what the system adds: the tick of the next decision, if any, the steps, the lost ticks, and the last steps, oldest first (own)
+-- what the system adds: the tick of the next decision, if any, the steps, the lost ticks, and the last steps, oldest first
 pub record Account : Type 0 where
-  pub next : Option ℕ
+  pub next : Option Tick
   pub steps : ℕ
-  pub lost : ℕ
+  pub lost : Ticks
   pub trace : List Entry
 
--- the state of a partition (own)
+-- the state of a partition
 pub record State : Type 0 where
   pub part : Part
   pub account : Account
 
 -- ---- one part of the state changed
 
--- the threads, the line or the mutexes (own)
+-- the threads, the line or the mutexes
 abbrev pub with_locks : (Locks → Locks) → Part → Part
 with_locks f s = record s { syncs = record (s.syncs) { locks = f s.locks } }
 
--- those or the condition variables (own)
+-- the threads, the line, the mutexes or the condition variables
 abbrev pub with_syncs : (Syncs → Syncs) → Part → Part
 with_syncs f s = record s { syncs = f s.syncs }
 
--- what one thread keeps of cancellation (own)
-abbrev pub with_cancellation : ℕ → (Cancellation → Cancellation) → Part → Part
+-- what one thread keeps of cancellation
+abbrev pub with_cancellation : ThreadNumber → (Cancellation → Cancellation) → Part → Part
 with_cancellation t f s = record s { cancellations = pool_update s.cancellations t f }
 
--- the cleanup handlers of one thread (own)
-abbrev pub with_cleanups : ℕ → (List Cleanup → List Cleanup) → Part → Part
+-- the cleanup handlers of one thread
+abbrev pub with_cleanups : ThreadNumber → (List Cleanup → List Cleanup) → Part → Part
 with_cleanups t f s = record s { cleanups = pool_update s.cleanups t f }
 
--- the keys (own)
+-- the keys
 abbrev pub with_keys : (Keys → Keys) → Part → Part
 with_keys f s = record s { keys = f s.keys }
 
--- the console (own)
+-- the console
 abbrev pub with_console : (Console → Console) → Part → Part
 with_console f s = record s { console = f s.console }
 

@@ -3,46 +3,48 @@ use Rattle.std.specs.Prelude.{ℕ, Bool, not, [], ◌∷◌, if◌then◌else◌
 use Rattle.ptk_words.specs.Names.{ThreadNumber, MutexNumber, ConditionNumber, Pointer, Word}
 use Rattle.ptk_words.specs.declared.faults.Errno.{Errno}
 use Rattle.ptk_words.specs.declared.faults.Errno.TheVariants.{ESRCH, EFAULT}
+use Rattle.ptk_words.specs.declared.faults.Status.{Status}
 use Rattle.ptk_words.specs.declared.threads.Thread.{Thread}
 use Rattle.ptk_words.specs.declared.threads.Wait.{Wait}
-use Rattle.ptk_words_model.specs.State.{Locks, Syncs, Part, with_locks, with_syncs}
+use Rattle.ptk_words_model.specs.State.{Locks, Syncs, Part, with_locks, with_syncs, with_halt}
 use Rattle.ptk_words_model.specs.Priority.{thread_at}
 use Rattle.ptk_words_model.specs.Schedule.{with_thread}
-use Rattle.ptk_words_model.specs.Unwinding.{without_thread}
+use Rattle.ptk_words_model.specs.Unwinding.{after_unwinding_start, without_thread}
 use Rattle.ptk_words_model.specs.declared.Invocation.{Invocation}
-use Rattle.ptk_words_model.specs.Calls.{Answer, refusal, success, blocked, blocked_in, is_pointer, is_cancelled, cancellation_answer, using_mutex, using_condition}
+use Rattle.ptk_words_model.specs.declared.Reply.TheVariants.{Halted, Unwinding}
+use Rattle.ptk_words_model.specs.Calls.{Answer, answer, refusal, success, blocked, blocked_in, is_pointer, is_cancelled, cancellation_answer, using_mutex, using_condition}
 
 -- ---- calls and their steps
 
--- a row of the call table: what a call comes to, by its registers and the state (own)
+-- a row of the call table: what a call comes to, by its registers and the state
 abbrev pub Row : Type 0
 Row = Invocation → Part → Answer
 
--- one step of a call, before the rest of it (own)
+-- one step of a call, before the rest of it
 abbrev pub Step : Type 0
 Step = Row → Row
 
--- a step that gives the rest a value (own)
+-- a step that gives the rest a value
 abbrev pub Gives : Type 0 → Type 0
 Gives A = (A → Row) → Row
 
 infixl 10 ◌>>=◌
 infixl 10 ◌>>◌
--- the step, then the rest with its value (own)
+-- the step, then the rest with its value
 abbrev pub ◌>>=◌ : {A : Type 0} → Gives A → (A → Row) → Row
 step >>= rest = step rest
 
--- the step, then the rest (own)
+-- the step, then the rest
 abbrev pub ◌>>◌ : Step → Row → Row
 step >> rest = step rest
 
 -- ---- steps that read
 
--- the registers of the call (own)
+-- the registers of the call
 abbrev pub registers : Gives Invocation
 registers rest i s = rest i i s
 
--- the state as it is now (own)
+-- the state as it is now
 abbrev pub state : Gives Part
 state rest i s = rest s i s
 
@@ -69,7 +71,7 @@ valid (Ok a) rest i s = rest a i s
 valid (Err e) rest i s = refusal e i s
 
 infix 5 when◌finish◌
--- where the condition holds, the call ends so (own)
+-- where the condition holds, the call ends so
 abbrev pub when◌finish◌ : Bool → Row → Step
 (when b finish ending) rest i s = if b then ending i s else rest i s
 
@@ -95,19 +97,19 @@ condition_named pointer rest i s = using_condition pointer i s (λ c u. rest c i
 
 -- ---- steps that change the state
 
--- the state changed (own)
+-- the state changed
 abbrev pub change : (Part → Part) → Step
 change f rest i s = rest i (f s)
 
--- its threads, line or mutexes changed (own)
+-- the threads, the line or the mutexes changed
 abbrev pub change_locks : (Locks → Locks) → Step
 change_locks f rest i s = rest i (with_locks f s)
 
--- the threads, line, mutexes or condition variables changed (own)
+-- the threads, line, mutexes or condition variables changed
 abbrev pub change_syncs : (Syncs → Syncs) → Step
 change_syncs f rest i s = rest i (with_syncs f s)
 
--- one thread changed (own)
+-- one thread changed
 abbrev pub change_thread : ThreadNumber → (Thread → Thread) → Step
 change_thread t f rest i s = rest i (with_locks (with_thread t f) s)
 
@@ -136,3 +138,11 @@ block i s = blocked s
 -- the caller blocks in this wait (XSH 2.8.4)
 abbrev pub block_in : Wait → Row
 block_in wait i s = blocked_in wait i s
+
+-- the partition halts, and its caller gets no reply (own)
+abbrev pub halt : Status → Row
+halt status i s = answer Halted (with_halt status s)
+
+-- the caller begins unwinding with the value (XSH 2.9.5.3)
+abbrev pub unwind : Word → Row
+unwind value i s = answer Unwinding (after_unwinding_start i.caller value s)

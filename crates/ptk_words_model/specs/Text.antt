@@ -1,5 +1,6 @@
 -- The texts of a partition's report and of its trace, as bytes (own).
 use Rattle.std.specs.Prelude.{ℕ, zero, suc, ◌+◌, ◌/◌, ◌%◌, ◌^◌, List, [], ◌∷◌, ◌++◌, length, nat_lt, if◌then◌else◌, decimal, codes, flat_map, is_some, ◌||◌}
+use Rattle.ptk_words.specs.Names.{Byte, Word}
 use Rattle.ptk_words.specs.Faults.{image_fault_number}
 use Rattle.ptk_words.specs.declared.faults.FaultKind.{FaultKind}
 use Rattle.ptk_words.specs.declared.faults.FaultKind.TheVariants.{Illegal, Fetch, Load, Store, Misaligned}
@@ -11,24 +12,24 @@ use Rattle.ptk_words.specs.declared.sections.Entry.{Entry}
 use Rattle.ptk_words_model.specs.State.{Part, State}
 
 -- the byte that ends a line (own)
-abbrev pub newline : List ℕ
+abbrev pub newline : List Byte
 newline = 10 ∷ []
 
 -- a digit to base 16, in lower case (own)
-abbrev pub hex_digit : ℕ → ℕ
+abbrev pub hex_digit : ℕ → Byte
 hex_digit n = if nat_lt n 10 then 48 + n else 87 + n
 
 -- the last digits of a number to base 16, so many (own)
-abbrev pub hex_digits : ℕ → ℕ → List ℕ
+abbrev pub hex_digits : ℕ → ℕ → List Byte
 hex_digits zero n = []
 hex_digits (suc k) n = hex_digit (n / 16 ^ k % 16) ∷ hex_digits k n
 
 -- a word with eight digits (own)
-abbrev pub hex_word : ℕ → List ℕ
+abbrev pub hex_word : Word → List Byte
 hex_word word = codes "0x" ++ hex_digits 8 word
 
 -- the kind of a fault (own)
-abbrev pub fault_text : FaultKind → List ℕ
+abbrev pub fault_text : FaultKind → List Byte
 fault_text Illegal = codes "illegal"
 fault_text Fetch = codes "fetch"
 fault_text Load = codes "load"
@@ -36,41 +37,41 @@ fault_text Store = codes "store"
 fault_text Misaligned = codes "misaligned"
 
 -- what stopped a partition (own)
-abbrev pub cause_text : Cause → List ℕ
+abbrev pub cause_text : Cause → List Byte
 cause_text Break = codes "break"
 cause_text (Fault kind) = fault_text kind
 
 -- running where a thread is running or ready, else idle (own)
-abbrev pub activity_text : Part → List ℕ
+abbrev pub activity_text : Part → List Byte
 activity_text s = if is_some s.running || nat_lt 0 (length s.line) then codes "running" else codes "idle"
 
 -- the status of a partition (own)
-abbrev pub status_text : Status → Part → List ℕ
+abbrev pub status_text : Status → Part → List Byte
 status_text Active s = activity_text s
 status_text (Exited code) s = codes "exit " ++ decimal code
 status_text (Stopped cause pc) s = codes "fault " ++ (cause_text cause ++ (codes " pc " ++ hex_word pc))
 status_text (Refused fault) s = codes "refused image " ++ decimal (image_fault_number fault)
 
 -- the line with a partition's name, status, steps and lost ticks (own)
-abbrev pub head_text : List ℕ → State → List ℕ
+abbrev pub head_text : List Byte → State → List Byte
 head_text name s =
     codes "partition " ++ (name ++ (codes " " ++ (status_text s.part.status s.part
     ++ (codes " steps " ++ (decimal s.account.steps ++ (codes " lost " ++ (decimal s.account.lost ++ newline)))))))
 
--- its output, after a line with the length (own)
-abbrev pub output_text : List ℕ → List ℕ
+-- the output, after a line with its length (own)
+abbrev pub output_text : List Byte → List Byte
 output_text output = codes "output " ++ (decimal (length output) ++ (newline ++ (output ++ newline)))
 
 -- a partition's part of the report (own)
-abbrev pub report_text : List ℕ → State → List ℕ
+abbrev pub report_text : List Byte → State → List Byte
 report_text name s = head_text name s ++ output_text s.part.console.output
 
 -- the line of a step (own)
-abbrev pub trace_line : Entry → List ℕ
+abbrev pub trace_line : Entry → List Byte
 trace_line entry =
     decimal entry.tick ++ (codes " " ++ (decimal entry.thread ++ (codes " " ++ (hex_word entry.pc ++ (codes " "
     ++ (hex_word entry.word ++ (codes " " ++ (hex_word entry.a0 ++ newline))))))))
 
 -- the lines of steps, in order (own)
-abbrev pub trace_text : List Entry → List ℕ
+abbrev pub trace_text : List Entry → List Byte
 trace_text entries = flat_map trace_line entries

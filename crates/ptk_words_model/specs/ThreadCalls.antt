@@ -1,19 +1,16 @@
 -- Calls 10 to 18: threads and their scheduling (pthread_create to pthread_setschedprio).
 use Rattle.std.specs.Prelude.{Bool, true, ◌||◌, ◌==◌, nat_lt, if◌then◌else◌, Some, None, is_some}
 use Rattle.std.specs.List.{list_any}
-use Rattle.ptk_words.specs.Names.{ThreadNumber, PriorityLevel}
+use Rattle.ptk_words.specs.Names.{ThreadNumber, Priority}
 use Rattle.ptk_words.specs.Pools.{least_free, without}
 use Rattle.ptk_words.specs.declared.faults.Errno.TheVariants.{EAGAIN, EINVAL, EDEADLK, ENOTSUP}
 use Rattle.ptk_words.specs.declared.threads.Thread.{Thread}
 use Rattle.ptk_words.specs.declared.threads.Wait.TheVariants.{JoinWait}
-use Rattle.ptk_words_model.specs.declared.Reply.TheVariants.{Unwinding}
 use Rattle.ptk_words_model.specs.State.{Locks, Part, with_locks}
 use Rattle.ptk_words_model.specs.Schedule.{at_tail, at_head, is_running}
 use Rattle.ptk_words_model.specs.Mutex.{owns_raising}
-use Rattle.ptk_words_model.specs.Unwinding.{after_unwinding_start}
-use Rattle.ptk_words.specs.Phases.{is_ended}
-use Rattle.ptk_words_model.specs.Calls.{answer}
-use Rattle.ptk_words_model.specs.Steps.{Row, ◌>>=◌, ◌>>◌, registers, state, refuse◌when◌, refuse◌unless◌, ◌or_refuse◌, valid, when◌finish◌, cancellation_point, thread, change, change_thread, free_number, succeed, succeed_with, succeed_with_both, block_in}
+use Rattle.ptk_words.specs.Threads.{is_ended, is_taken}
+use Rattle.ptk_words_model.specs.Steps.{Row, ◌>>=◌, ◌>>◌, registers, state, refuse◌when◌, refuse◌unless◌, ◌or_refuse◌, valid, when◌finish◌, cancellation_point, thread, change, change_thread, free_number, succeed, succeed_with, succeed_with_both, block_in, unwind}
 use Rattle.ptk_words_model.specs.ThreadCreation.{policy_of, policy_number, is_priority, creation_at, created_thread, with_new_thread}
 
 -- a new thread with attributes, a start routine and its argument: its number, the least free one, in a1 (pthread_create, EAGAIN)
@@ -29,11 +26,9 @@ create = do
 
 -- the value is the thread's result (pthread_exit)
 abbrev pub pthread_exit : Row
-pthread_exit i s = answer Unwinding (after_unwinding_start i.caller i.a0 s)
-
--- a thread that is detached or being joined: it can be neither joined nor detached any more (pthread_join, pthread_detach; own, EINVAL)
-abbrev pub is_taken : Thread → Bool
-is_taken thread = thread.is_detached || is_some thread.joiner
+pthread_exit = do
+  i ← registers
+  unwind i.a0
 
 -- the result of an ended thread in a1, whose number is then free; else the caller blocks until its end (pthread_join)
 abbrev pub join : Row
@@ -102,7 +97,7 @@ getschedparam = do
   succeed_with_both (policy_number target.policy) target.priority
 
 -- a running or ready thread whose assigned priority was the old one goes to the tail where it rose, to the head where it fell (pthread_setschedprio, XSH 2.8.4)
-abbrev pub after_priority_change : PriorityLevel → PriorityLevel → ThreadNumber → Part → Part
+abbrev pub after_priority_change : Priority → Priority → ThreadNumber → Part → Part
 after_priority_change old new t s =
     if nat_lt old new then after_placing_at_tail t s
     else if nat_lt new old then after_placing at_head t s

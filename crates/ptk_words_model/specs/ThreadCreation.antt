@@ -1,6 +1,6 @@
 -- A new thread: what its attributes ask for, and the thread that is made (pthread_create, pthread_attr_init).
 use Rattle.std.specs.Prelude.{ℕ, ◌+◌, ◌-◌, ◌*◌, ◌%◌, Bool, true, false, not, ◌&&◌, ◌||◌, [], ◌∷◌, ◌++◌, length, replicate, ◌==◌, nat_lt, nat_le, if◌then◌else◌, Option, Some, None, unwrap_or, Result, Ok, Err}
-use Rattle.ptk_words.specs.Names.{ThreadNumber, PriorityLevel, Pointer, Word}
+use Rattle.ptk_words.specs.Names.{ThreadNumber, Priority, Pointer, Word}
 use Rattle.ptk_words.specs.Words.{word_at}
 use Rattle.ptk_words.specs.declared.TheConstants.{SP}
 use Rattle.ptk_words.specs.Pools.{pool_set}
@@ -25,20 +25,20 @@ use Rattle.ptk_words_model.specs.Calls.{is_pointer}
 -- ---- the numbers that a guest gives
 
 -- SCHED_FIFO 1 and SCHED_RR 2 (own)
-abbrev pub policy_of : ℕ → Option Policy
+abbrev pub policy_of : Word → Option Policy
 policy_of n = if n == 1 then Some Fifo else if n == 2 then Some RoundRobin else None
 
--- the number of a policy, which names it (own)
-abbrev pub policy_number : Policy → ℕ
+-- the number of a policy, which names it
+abbrev pub policy_number : Policy → Word
 policy_number Fifo = 1
 policy_number RoundRobin = 2
 
 -- the priorities of both policies (sched_get_priority_max; own)
-abbrev pub is_priority : ℕ → Bool
+abbrev pub is_priority : Word → Bool
 is_priority n = nat_le 1 n && nat_le n 32
 
--- the priority of a word, if it is one (own)
-abbrev pub priority_of : Word → Option PriorityLevel
+-- the priority of a word, if it is one
+abbrev pub priority_of : Word → Option Priority
 priority_of word = if is_priority word then Some word else None
 
 -- ---- what the attributes ask for
@@ -51,12 +51,12 @@ pub record Attributes : Type 0 where
   pub priority : ℕ
   pub stack_top : ℕ
 
--- a word of the attributes object, 0 of pointer 0 (own)
-abbrev pub attribute : Part → ℕ → ℕ → ℕ
+-- a word of the attributes object, 0 of pointer 0
+abbrev pub attribute : Part → Pointer → ℕ → Word
 attribute s pointer offset = if pointer == 0 then 0 else word_at s.memory (pointer + offset)
 
--- the attributes object at the pointer (own)
-abbrev pub attributes_at : Part → ℕ → Attributes
+-- the attributes object at the pointer
+abbrev pub attributes_at : Part → Pointer → Attributes
 attributes_at s pointer =
     record {
       detach = attribute s pointer 0;
@@ -71,12 +71,12 @@ abbrev pub readable_attributes : Part → Pointer → Result Attributes Errno
 readable_attributes s pointer = if pointer == 0 || is_pointer s pointer 20 then Ok (attributes_at s pointer) else Err EFAULT
 
 infixl 10 ◌>>=◌
--- the next check comes only where the one before found no fault (own)
+-- the next check comes only where the one before found no fault
 abbrev pub ◌>>=◌ : {A B : Type 0} → Result A Errno → (A → Result B Errno) → Result B Errno
 Ok a >>= f = f a
 Err e >>= f = Err e
 
--- the value, or this error where there is none (own)
+-- the value, or this error where there is none
 abbrev pub or_error : {A : Type 0} → Option A → Errno → Result A Errno
 or_error (Some a) e = Ok a
 or_error None e = Err e
@@ -124,11 +124,11 @@ creation_at s pointer = do
 -- ---- the thread that is made
 
 -- the registers of a new thread: all 0 but the pc, a0, ra and sp (own)
-abbrev pub start_cpu : ℕ → ℕ → ℕ → Processor
+abbrev pub start_cpu : Pointer → Word → Pointer → Processor
 start_cpu routine argument top = cpu_at_call routine argument (with_register (record { registers = replicate 32 0; pc = 0 }) SP top)
 
 -- a new thread (pthread_create)
-abbrev pub new_thread : Processor → Policy → ℕ → Thread
+abbrev pub new_thread : Processor → Policy → Priority → Thread
 new_thread cpu policy priority =
     record {
       cpu = cpu;
@@ -144,7 +144,7 @@ new_thread cpu policy priority =
     }
 
 -- the stacks lie below one another, from the end of memory (own)
-abbrev pub default_stack_top : Limits → ℕ → ℕ
+abbrev pub default_stack_top : Limits → ThreadNumber → Pointer
 default_stack_top limits t = limits.memory - (t - 1) * limits.stack
 
 -- a new thread with these registers, with this scheduling or with its creator's (pthread_attr_setinheritsched)
@@ -164,7 +164,7 @@ new_cancellation =
     record { is_enabled = true; is_asynchronous = false; is_pending = false; is_marked = false }
 
 -- a thread begins, at the tail (pthread_create)
-abbrev pub with_new_thread : Limits → ℕ → Thread → Part → Part
+abbrev pub with_new_thread : Limits → ThreadNumber → Thread → Part → Part
 with_new_thread limits t thread s =
     with_locks (λ locks. record locks { threads = pool_set locks.threads t (Some thread); line = locks.line ++ t ∷ [] })
     (with_keys (with_new_specific limits.keys t) (with_cleanups t (λ _. []) (with_cancellation t (λ _. new_cancellation) s)))

@@ -1,5 +1,6 @@
 -- Calls 3 and 4: the clocks (clock_gettime, clock_nanosleep).
-use Rattle.std.specs.Prelude.{ℕ, Bool, nat_lt, nat_le}
+use Rattle.std.specs.Prelude.{Bool, nat_lt, nat_le}
+use Rattle.ptk_words.specs.Names.{Word}
 use Rattle.ptk_words.specs.Words.{with_bytes}
 use Rattle.ptk_words.specs.declared.faults.Errno.TheVariants.{EINVAL}
 use Rattle.ptk_words.specs.declared.threads.Wait.TheVariants.{SleepWait}
@@ -7,7 +8,7 @@ use Rattle.ptk_words_model.specs.Time.{timespec_at, time_bytes, is_timespec, dea
 use Rattle.ptk_words_model.specs.Steps.{Row, ◌>>=◌, ◌>>◌, registers, state, refuse◌when◌, refuse◌unless◌, when◌finish◌, cancellation_point, readable, change, succeed, block_in}
 
 -- neither CLOCK_REALTIME, 0, nor CLOCK_MONOTONIC, 1 (clock_gettime, EINVAL; own)
-abbrev pub is_no_clock : ℕ → Bool
+abbrev pub is_no_clock : Word → Bool
 is_no_clock word = nat_lt 1 word
 
 -- the tick as a timespec, stored at the pointer; both clocks read it (clock_gettime; own)

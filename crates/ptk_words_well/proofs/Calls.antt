@@ -1,18 +1,15 @@
 -- Each call in use leaves the state whole.
-use Rattle.std.proofs.Common.{◌≡◌, ℕ, ◌%◌, Bool, true, false, not, ◌&&◌, ◌||◌, List, [], ◌∷◌, refl, sym, ◌∙◌, ap}
-use Rattle.std.specs.Prelude.{Option, Some, None, unwrap_or, is_some, is_none, nat_lt, ◌==◌, if◌then◌else◌, find, cond}
-use Rattle.std.specs.List.{AllByRecursion}
+use Rattle.std.proofs.Common.{◌≡◌, ℕ, ◌%◌, Bool, true, false, not, List, [], ◌∷◌, refl, sym, ◌∙◌, ap}
+use Rattle.std.specs.Prelude.{Option, Some, None, unwrap_or, is_some, nat_lt, ◌==◌, if◌then◌else◌, Result, Ok, Err}
 use Rattle.std.proofs.lemmas.Bool.{false≢true, or_parts}
 use Rattle.ptk_words.specs.Pools.{least_free}
 use Rattle.ptk_words.specs.Processor.{Processor}
 use Rattle.ptk_words.specs.Faults.{errno_number}
 use Rattle.ptk_words.specs.declared.TheConstants.{CANCELED}
 use Rattle.ptk_words.specs.declared.faults.Errno.{Errno}
-use Rattle.ptk_words.specs.declared.faults.Errno.TheVariants.{ESRCH, EAGAIN, EFAULT, EINVAL, EDEADLK, ENOSYS, ENOTSUP}
+use Rattle.ptk_words.specs.declared.faults.Errno.TheVariants.{ESRCH, EAGAIN, EINVAL, EDEADLK, ENOSYS, ENOTSUP}
 use Rattle.ptk_words.specs.declared.faults.Status.TheVariants.{Exited}
 use Rattle.ptk_words.specs.declared.sections.Limits.{Limits}
-use Rattle.ptk_words.specs.declared.threads.Policy.{Policy}
-use Rattle.ptk_words.specs.declared.threads.Policy.TheVariants.{Fifo}
 use Rattle.ptk_words.specs.declared.threads.Thread.{Thread}
 use Rattle.ptk_words.specs.declared.threads.Wait.TheVariants.{JoinWait}
 use Rattle.ptk_words_model.specs.State.{Part, with_locks, with_console}
@@ -20,14 +17,19 @@ use Rattle.ptk_words_model.specs.Priority.{thread_at}
 use Rattle.ptk_words_model.specs.Schedule.{with_thread, at_tail, at_head}
 use Rattle.ptk_words_model.specs.Console.{is_full, with_output}
 use Rattle.ptk_words_model.specs.Unwinding.{is_alive, without_thread}
-use Rattle.ptk_words.specs.Phases.{is_ended}
+use Rattle.ptk_words.specs.Threads.{is_ended, is_taken}
 use Rattle.ptk_words_model.specs.declared.Invocation.{Invocation}
-use Rattle.ptk_words_model.specs.Calls.{Answer, refusal, success, blocked_in, no_call, is_pointer, is_cancelled, cancellation_answer, using_thread}
-use Rattle.ptk_words_model.specs.ConsoleCalls.{exit_call, console_put, console_get_answer, console_get}
-use Rattle.ptk_words_model.specs.ThreadCalls.{is_explicit, is_no_choice, is_no_stack_top, create, pthread_exit, is_taken, join, detach, self, after_placing, yield, after_placing_at_tail, setschedparam, getschedparam, after_priority_change, setschedprio}
-use Rattle.ptk_words_model.specs.ThreadCreation.{Attributes, attributes_at, policy_of, policy_number, is_priority, start_cpu, new_thread, default_stack_top, with_new_thread, created_thread}
-use Rattle.ptk_words_model.specs.Steps.{refuse◌when◌, refuse◌unless◌, ◌or_refuse◌}
-use Rattle.ptk_words_model.specs.CallTable.{CallRow, call, call_table}
+use Rattle.ptk_words_model.specs.declared.Creation.{Creation}
+use Rattle.ptk_words_model.specs.declared.Scheduling.{Scheduling}
+use Rattle.ptk_words_model.specs.declared.Scheduling.TheVariants.{Inherited, Explicit}
+use Rattle.ptk_words_model.specs.Calls.{Answer, refusal, success, blocked_in, no_call, is_cancelled, cancellation_answer, using_thread}
+use Rattle.ptk_words_model.specs.ConsoleCalls.{exit_call, console_put, take_input, console_get}
+use Rattle.ptk_words_model.specs.ThreadCalls.{create, pthread_exit, join, detach, self, after_placing, yield, after_placing_at_tail, setschedparam, getschedparam, after_priority_change, setschedprio}
+use Rattle.ptk_words_model.specs.ThreadCreation.{policy_of, policy_number, is_priority, start_cpu, default_stack_top, creation_at, scheduled_thread, with_new_thread, created_thread}
+use Rattle.ptk_words_model.specs.Steps.{Row, valid, refuse◌when◌, refuse◌unless◌, ◌or_refuse◌}
+use Rattle.ptk_words_model.specs.CallTable.{answer_of, answer_to}
+use Rattle.ptk_words.specs.declared.calls.Call.{Call}
+use Rattle.ptk_words.specs.declared.calls.Call.TheVariants as call
 use Rattle.ptk_words.specs.Calls.{call_of}
 use Rattle.ptk_words_well.specs.Well.{IsWell, joiner_of}
 use Rattle.ptk_words_well.proofs.Lined.{ready_alive}
@@ -67,6 +69,11 @@ well_given : {A : Type 0} (limits : Limits) (o : Option A) (e : Errno) (rest : A
 well_given limits None e rest i s well each = well_refusal limits e i s well
 well_given limits (Some a) e rest i s well each = each a refl
 
+-- a value that is valid, or its error
+well_valid : {A : Type 0} (limits : Limits) (o : Result A Errno) (rest : A → Row) (i : Invocation) (s : Part) → IsWell limits s → ((a : A) → o ≡ Ok a → IsWell limits (rest a i s).part) → IsWell limits (valid o rest i s).part
+well_valid limits (Ok a) rest i s well each = each a refl
+well_valid limits (Err e) rest i s well each = well_refusal limits e i s well
+
 well_using : (limits : Limits) (t : ℕ) (i : Invocation) (s : Part) (next : Thread → Answer) → IsWell limits s → ((target : Thread) → thread_at s.locks t ≡ Some target → IsWell limits (next target).part) → IsWell limits (using_thread t i s next).part
 well_using limits t i s next well each = well_given limits (thread_at s.locks t) ESRCH next i s well each
 
@@ -89,44 +96,37 @@ well_console_put i s runs well =
     (λ f. well_refusal i.limits EAGAIN i s well)
     (λ f. well_success i.limits [] i (with_console (with_output (i.a0 % 256)) s) (well_output i.limits (i.a0 % 256) s f well)))
 
-get_at : (ring : List ℕ) (i : Invocation) (s : Part) → s.console.ring ≡ ring → s.running ≡ Some i.caller → IsWell i.limits s → IsWell i.limits (console_get_answer ring i s).part
+get_at : (ring : List ℕ) (i : Invocation) (s : Part) → s.console.ring ≡ ring → s.running ≡ Some i.caller → IsWell i.limits s → IsWell i.limits (take_input ring i s).part
 get_at [] i s e runs well = well_input_wait i.limits i s runs well
 get_at (byte ∷ ring) i s e runs well =
     well_success i.limits (byte ∷ []) i (with_console (λ console. record console { ring = ring }) s) (well_taken i.limits byte ring s e well)
 
 pub well_console_get : (i : Invocation) (s : Part) → s.running ≡ Some i.caller → IsWell i.limits s → IsWell i.limits (console_get i s).part
 well_console_get i s runs well =
-    either_well i.limits (is_cancelled s i.caller) (cancellation_answer i s) (console_get_answer s.console.ring i s)
+    either_well i.limits (is_cancelled s i.caller) (cancellation_answer i s) (take_input s.console.ring i s)
     (λ e. well_cancellation_answer i.limits i s runs well) (λ e. get_at s.console.ring i s refl runs well)
 
 -- ---- calls 10 and 11
 
-new_at : (b : Bool) (x y : Thread) (detached : Bool) → IsNew x → IsNew y → IsNew (record (if b then x else y) { is_detached = detached })
-new_at true x y detached h k = record { wait = h.wait; joiner = h.joiner; ended = h.ended; used = h.used }
-new_at false x y detached h k = record { wait = k.wait; joiner = k.joiner; ended = k.ended; used = k.used }
+detached_new : (thread : Thread) (detached : Bool) → IsNew thread → IsNew (record thread { is_detached = detached })
+detached_new thread detached new = record { wait = new.wait; joiner = new.joiner; ended = new.ended; used = new.used }
 
-fresh : (cpu : Processor) (policy : Policy) (priority : ℕ) → IsNew (new_thread cpu policy priority)
-fresh cpu policy priority = record { wait = refl; joiner = refl; ended = refl; used = refl }
+scheduled_new : (scheduling : Scheduling) (cpu : Processor) (creator : Thread) → IsNew (scheduled_thread scheduling cpu creator)
+scheduled_new Inherited cpu creator = record { wait = refl; joiner = refl; ended = refl; used = refl }
+scheduled_new (Explicit policy priority) cpu creator = record { wait = refl; joiner = refl; ended = refl; used = refl }
 
-created_new : (i : Invocation) (attributes : Attributes) (creator : Thread) (t : ℕ) → IsNew (created_thread i attributes creator t)
-created_new i attributes creator t =
-    let top : ℕ = if attributes.stack_top == 0 then default_stack_top i.limits t else attributes.stack_top in
-    let cpu : Processor = start_cpu i.a1 i.a2 top in
-    new_at (attributes.inherit == 0) (new_thread cpu creator.policy creator.priority) (new_thread cpu (unwrap_or (policy_of attributes.policy) Fifo) attributes.priority) (attributes.detach == 1)
-    (fresh cpu creator.policy creator.priority) (fresh cpu (unwrap_or (policy_of attributes.policy) Fifo) attributes.priority)
+pub created_new : (i : Invocation) (creation : Creation) (creator : Thread) (t : ℕ) → IsNew (created_thread i creation creator t)
+created_new i creation creator t =
+    let cpu : Processor = start_cpu i.a1 i.a2 (unwrap_or creation.stack_top (default_stack_top i.limits t)) in
+    detached_new (scheduled_thread creation.scheduling cpu creator) creation.is_detached (scheduled_new creation.scheduling cpu creator)
 
 pub well_create : (i : Invocation) (s : Part) → s.running ≡ Some i.caller → IsWell i.limits s → IsWell i.limits (create i s).part
 well_create i s runs well =
-    let a : Attributes = attributes_at s i.a0 in
-    well_unless i.limits EFAULT (i.a0 == 0 || is_pointer s i.a0 20) _ i s well
-    (λ _. well_when i.limits EINVAL (is_no_choice a.detach || is_no_choice a.inherit) _ i s well
-    (λ _. well_when i.limits ENOTSUP (is_explicit a && is_none (policy_of a.policy)) _ i s well
-    (λ _. well_when i.limits EINVAL (is_explicit a && not (is_priority a.priority)) _ i s well
-    (λ _. well_when i.limits EINVAL (is_no_stack_top s a.stack_top) _ i s well
-    (λ _. well_given i.limits (least_free s.threads) EAGAIN _ i s well
+    well_valid i.limits (creation_at s i.a0) _ i s well
+    (λ creation _. well_given i.limits (least_free s.threads) EAGAIN _ i s well
     (λ t free. well_given i.limits (thread_at s.locks i.caller) ESRCH _ i s well
-    (λ creator _. well_success i.limits (t ∷ []) i (with_new_thread i.limits t (created_thread i a creator t) s)
-    (well_least_free i.limits t (created_thread i a creator t) s free (created_new i a creator t) well))))))))
+    (λ creator _. well_success i.limits (t ∷ []) i (with_new_thread i.limits t (created_thread i creation creator t) s)
+    (well_least_free i.limits t (created_thread i creation creator t) s free (created_new i creation creator t) well))))
 
 pub well_pthread_exit : (i : Invocation) (s : Part) → s.running ≡ Some i.caller → IsWell i.limits s → IsWell i.limits (pthread_exit i s).part
 well_pthread_exit i s runs well = well_unwinding_start i.limits i.caller i.a0 s (ready_alive (thread_at s.locks i.caller) (well.running_ready i.caller runs)) well
@@ -208,117 +208,54 @@ well_setschedprio i s runs well =
 
 -- ---- the table
 
--- the call of the row leaves the state whole (own)
-abbrev Keeps : CallRow → Type 0
-Keeps row = (i : Invocation) (s : Part) → s.running ≡ Some i.caller → IsWell i.limits s → IsWell i.limits (row.answer_of i s).part
+-- the row leaves the state whole (own)
+abbrev Keeps : Row → Type 0
+Keeps row = (i : Invocation) (s : Part) → s.running ≡ Some i.caller → IsWell i.limits s → IsWell i.limits (row i s).part
 
-found_keeps : (number : ℕ) (x : CallRow) (rest : Option CallRow) (b : Bool) → Keeps x → Keeps (unwrap_or rest (call number no_call)) → Keeps (unwrap_or (cond b (Some x) rest) (call number no_call))
-found_keeps number x rest true here more = here
-found_keeps number x rest false here more = more
+-- each call
+pub well_answer : (known : Call) → Keeps (answer_of known)
+well_answer call.Exit = well_exit_call
+well_answer call.ConsolePut = well_console_put
+well_answer call.ConsoleGet = well_console_get
+well_answer call.ClockGettime = well_no_call
+well_answer call.ClockNanosleep = well_no_call
+well_answer call.PthreadCreate = well_create
+well_answer call.PthreadExit = well_pthread_exit
+well_answer call.PthreadJoin = well_join
+well_answer call.PthreadDetach = well_detach
+well_answer call.PthreadSelf = well_self
+well_answer call.SchedYield = well_yield
+well_answer call.PthreadSetschedparam = well_setschedparam
+well_answer call.PthreadGetschedparam = well_getschedparam
+well_answer call.PthreadSetschedprio = well_setschedprio
+well_answer call.MutexInit = well_no_call
+well_answer call.MutexDestroy = well_no_call
+well_answer call.MutexLock = well_no_call
+well_answer call.MutexTrylock = well_no_call
+well_answer call.MutexTimedlock = well_no_call
+well_answer call.MutexUnlock = well_no_call
+well_answer call.CondInit = well_no_call
+well_answer call.CondDestroy = well_no_call
+well_answer call.CondWait = well_no_call
+well_answer call.CondTimedwait = well_no_call
+well_answer call.CondSignal = well_no_call
+well_answer call.CondBroadcast = well_no_call
+well_answer call.PthreadCancel = well_no_call
+well_answer call.PthreadSetcancelstate = well_no_call
+well_answer call.PthreadSetcanceltype = well_no_call
+well_answer call.PthreadTestcancel = well_no_call
+well_answer call.CleanupPush = well_no_call
+well_answer call.CleanupPop = well_no_call
+well_answer call.KeyCreate = well_no_call
+well_answer call.KeyDelete = well_no_call
+well_answer call.PthreadSetspecific = well_no_call
+well_answer call.PthreadGetspecific = well_no_call
 
-row_keeps : (number : ℕ) (rows : List CallRow) → AllByRecursion Keeps rows → Keeps (unwrap_or (find (λ row. row.number == number) rows) (call number no_call))
-row_keeps number [] all = well_no_call
-row_keeps number (x ∷ rows) all = found_keeps number x (find (λ row. row.number == number) rows) (x.number == number) all.0 (row_keeps number rows all.1)
-
-table_keeps : AllByRecursion Keeps call_table
-table_keeps = (
-  well_exit_call,
-  (
-    well_console_put,
-    (
-      well_console_get,
-      (
-        well_no_call,
-        (
-          well_no_call,
-          (
-            well_create,
-            (
-              well_pthread_exit,
-              (
-                well_join,
-                (
-                  well_detach,
-                  (
-                    well_self,
-                    (
-                      well_yield,
-                      (
-                        well_setschedparam,
-                        (
-                          well_getschedparam,
-                          (
-                            well_setschedprio,
-                            (
-                              well_no_call,
-                              (
-                                well_no_call,
-                                (
-                                  well_no_call,
-                                  (
-                                    well_no_call,
-                                    (
-                                      well_no_call,
-                                      (
-                                        well_no_call,
-                                        (
-                                          well_no_call,
-                                          (
-                                            well_no_call,
-                                            (
-                                              well_no_call,
-                                              (
-                                                well_no_call,
-                                                (
-                                                  well_no_call,
-                                                  (
-                                                    well_no_call,
-                                                    (
-                                                      well_no_call,
-                                                      (
-                                                        well_no_call,
-                                                        (
-                                                          well_no_call,
-                                                          (
-                                                            well_no_call,
-                                                            (
-                                                              well_no_call,
-                                                              (
-                                                                well_no_call,
-                                                                (well_no_call, (well_no_call, (well_no_call, (well_no_call, tt)))),
-                                                              ),
-                                                            ),
-                                                          ),
-                                                        ),
-                                                      ),
-                                                    ),
-                                                  ),
-                                                ),
-                                              ),
-                                            ),
-                                          ),
-                                        ),
-                                      ),
-                                    ),
-                                  ),
-                                ),
-                              ),
-                            ),
-                          ),
-                        ),
-                      ),
-                    ),
-                  ),
-                ),
-              ),
-            ),
-          ),
-        ),
-      ),
-    ),
-  ),
-)
+-- a call, or none
+pub well_answer_to : (known : Option Call) → Keeps (answer_to known)
+well_answer_to None = well_no_call
+well_answer_to (Some known) = well_answer known
 
 -- the call of any number
 pub well_call : (number : ℕ) (i : Invocation) (s : Part) → s.running ≡ Some i.caller → IsWell i.limits s → IsWell i.limits (answer_to (call_of number) i s).part
-well_call number = row_keeps number call_table table_keeps
+well_call number = well_answer_to (call_of number)

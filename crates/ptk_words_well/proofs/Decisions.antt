@@ -2,7 +2,7 @@
 use Rattle.std.proofs.Common.{◌≡◌, ℕ, ◌%◌, Bool, true, false, List, [], ◌∷◌, length, refl, sym, ◌∙◌, ap, subst}
 use Rattle.std.specs.Prelude.{Option, Some, None, fold, nat_lt, if◌then◌else◌}
 use Rattle.ptk_words.specs.Processor.{Processor, register}
-use Rattle.ptk_words.specs.declared.TheConstants.{CANCELED}
+use Rattle.ptk_words.specs.declared.TheConstants.{A0, A7, CANCELED}
 use Rattle.ptk_words.specs.declared.faults.Cause.TheVariants as cause
 use Rattle.ptk_words.specs.declared.faults.Status.TheVariants.{Exited, Stopped}
 use Rattle.ptk_words.specs.declared.sections.Arrival.{Arrival}
@@ -47,9 +47,9 @@ well_unwinding_move limits t s runs well =
     subst at_move (sym none) (subst at_end (sym last) (well_end limits t s runs well))
 
 return_at : (limits : Limits) (t : ℕ) (thread : Thread) (s : Part) (b : Bool) → s.running ≡ Some t → IsWell limits s
-    → IsWell limits (if b then with_halt (Exited (register thread.cpu 10 % 256)) s else after_unwinding_start t (register thread.cpu 10) s)
-return_at limits t thread s true runs well = well_halt limits (Exited (register thread.cpu 10 % 256)) s well
-return_at limits t thread s false runs well = well_unwinding_start limits t (register thread.cpu 10) s (ready_alive (thread_at s.locks t) (well.running_ready t runs)) well
+    → IsWell limits (if b then with_halt (Exited (register thread.cpu A0 % 256)) s else after_unwinding_start t (register thread.cpu A0) s)
+return_at limits t thread s true runs well = well_halt limits (Exited (register thread.cpu A0 % 256)) s well
+return_at limits t thread s false runs well = well_unwinding_start limits t (register thread.cpu A0) s (ready_alive (thread_at s.locks t) (well.running_ready t runs)) well
 
 pub well_return : (limits : Limits) (t : ℕ) (thread : Thread) (s : Part) → s.running ≡ Some t → IsWell limits s → IsWell limits (after_return t thread s)
 well_return limits t thread s runs well = return_at limits t thread s thread.is_main runs well
@@ -62,7 +62,7 @@ well_gate_step limits Ended t thread s runs well = well
 -- ---- a step
 
 pub well_after_call : (limits : Limits) (tick t : ℕ) (cpu : Processor) (s : Part) → s.running ≡ Some t → IsWell limits s → IsWell limits (after_call limits tick t cpu s)
-well_after_call limits tick t cpu s runs well = well_call (register cpu 17) (invocation limits tick t cpu) s runs well
+well_after_call limits tick t cpu s runs well = well_call (register cpu A7) (invocation limits tick t cpu) s runs well
 
 pub well_effect : (limits : Limits) (tick t pc : ℕ) (e : Effect) (s : Part) → HasLength (length s.memory) e → s.running ≡ Some t → IsWell limits s → IsWell limits (after_effect limits tick t pc e s)
 well_effect limits tick t pc (Done cpu memory) s same runs well = well_cpu limits t cpu (record s { memory = memory }) (well_memory limits memory s same well)
@@ -126,7 +126,7 @@ well_ready limits tick s active well =
     let arrived : Part = after_arrivals limits tick s in
     let whole : IsWell limits arrived = well_arrivals limits tick s well in
     let still : is_active arrived.status ≡ true = ap is_active (arrivals_status limits tick s) ∙ active in
-    let none : after_expiries tick arrived ≡ arrived = expiries_none tick limits.threads arrived whole.unused.deadlines in
+    let none : after_expiries tick arrived ≡ arrived = expiries_none tick arrived whole.unused.untimed in
     let chosen : Part → Type 0 = λ (part : Part). IsWell limits (after_choice part) in
     subst chosen (sym none) (well_choice limits arrived still whole)
 

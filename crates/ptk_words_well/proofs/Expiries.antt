@@ -1,33 +1,46 @@
--- Where no thread has a deadline, no deadline comes; where no key has a destructor, none is due.
+-- Where no thread waits with a deadline, none comes; where no key has a destructor, none is due.
 use Rattle.std.proofs.Common.{◌≡◌, ℕ, zero, suc, ◌+◌, Bool, true, false, not, ◌&&◌, List, [], ◌∷◌, replicate, refl, ◌∙◌, ap}
-use Rattle.std.specs.Prelude.{Option, Some, None, option_map, option_and_then, unwrap_or, filter, filter_map, find, fold, nat_le, nat_lt, ◌==◌, slice_get, if◌then◌else◌}
+use Rattle.std.specs.Prelude.{Option, Some, None, option_map, option_and_then, unwrap_or, filter, filter_map, find, fold, map, nat_le, nat_lt, ◌==◌, slice_get, if◌then◌else◌}
 use Rattle.std.specs.List.{enumerate_from}
 use Rattle.std.specs.Option.{option_or}
 use Rattle.ptk_words.specs.Pools.{pool_get, numbered, numbers_of}
 use Rattle.ptk_words.specs.declared.TheConstants.{DESTRUCTOR_ROUNDS}
 use Rattle.ptk_words.specs.declared.threads.Cleanup.{Cleanup}
+use Rattle.ptk_words.specs.declared.threads.Thread.{Thread}
 use Rattle.ptk_words_model.specs.declared.Rounds.{Rounds}
 use Rattle.ptk_words_model.specs.State.{Part, Keys}
 use Rattle.ptk_words_model.specs.Priority.{thread_at}
 use Rattle.ptk_words_model.specs.Mutex.{wait_of}
 use Rattle.ptk_words_model.specs.Keys.{DestructorCall, value_of, values_of, is_due, due_keys, destructor_call, due_in_round, due_in_next_round, next_destructor}
-use Rattle.ptk_words_model.specs.Withdrawal.{Expiry, expiry_of, in_order, due, after_timeout, after_expiries}
+use Rattle.ptk_words_model.specs.Withdrawal.{deadline_of_wait, Expiry, expiry_of, in_order, due, after_timeout, after_expiries}
 use Rattle.ptk_words_model.specs.Unwinding.{cleanups_of}
 use Rattle.ptk_words_well.proofs.Pools.{get-replicate, numbered-replicate}
 
 -- ---- deadlines
 
-no_expiry : (k n : ℕ) → filter_map expiry_of (enumerate_from k (replicate n None)) ≡ []
-no_expiry k zero = refl
-no_expiry k (suc n) = no_expiry (k + 1) n
+-- no thread waits with a deadline (own)
+abbrev AreUntimed : List (Option Thread) → Type 0
+AreUntimed threads = (t : ℕ) → deadline_of_wait (wait_of (pool_get threads t)) ≡ None
 
-pub due_none : (tick n : ℕ) (s : Part) → s.deadlines ≡ replicate n None → due tick s ≡ []
-due_none tick n s e =
-    ap (λ (deadlines : List (Option ℕ)). filter (λ a. nat_le a.deadline tick) (filter_map expiry_of (enumerate_from 1 deadlines))) e
-    ∙ ap (λ (expiries : List Expiry). filter (λ a. nat_le a.deadline tick) expiries) (no_expiry 1 n)
+rest_untimed : (thread : Option Thread) (threads : List (Option Thread)) → AreUntimed (thread ∷ threads) → AreUntimed threads
+rest_untimed thread threads untimed zero = refl
+rest_untimed thread threads untimed (suc i) = untimed (suc (suc i))
 
-pub expiries_none : (tick n : ℕ) (s : Part) → s.deadlines ≡ replicate n None → after_expiries tick s ≡ s
-expiries_none tick n s e = ap (λ (expiries : List Expiry). fold (λ u a. after_timeout a.thread (wait_of (thread_at u.locks a.thread)) u) s (in_order expiries)) (due_none tick n s e)
+no_expiry_of : (k : ℕ) (deadline : Option ℕ) (rest : List (ℕ × Option ℕ)) → deadline ≡ None → filter_map expiry_of ((k, deadline) ∷ rest) ≡ filter_map expiry_of rest
+no_expiry_of k None rest e = refl
+no_expiry_of k (Some deadline) rest e = absurd (let no : ⊥ = cc in no)
+
+no_expiry : (k : ℕ) (threads : List (Option Thread)) → AreUntimed threads → filter_map expiry_of (enumerate_from k (map (λ thread. deadline_of_wait (wait_of thread)) threads)) ≡ []
+no_expiry k [] untimed = refl
+no_expiry k (thread ∷ threads) untimed =
+    no_expiry_of k (deadline_of_wait (wait_of thread)) (enumerate_from (k + 1) (map (λ thread. deadline_of_wait (wait_of thread)) threads)) (untimed 1)
+    ∙ no_expiry (k + 1) threads (rest_untimed thread threads untimed)
+
+pub due_none : (tick : ℕ) (s : Part) → ((t : ℕ) → deadline_of_wait (wait_of (thread_at s.locks t)) ≡ None) → due tick s ≡ []
+due_none tick s untimed = ap (λ (expiries : List Expiry). filter (λ a. nat_le a.deadline tick) expiries) (no_expiry 1 s.threads untimed)
+
+pub expiries_none : (tick : ℕ) (s : Part) → ((t : ℕ) → deadline_of_wait (wait_of (thread_at s.locks t)) ≡ None) → after_expiries tick s ≡ s
+expiries_none tick s untimed = ap (λ (expiries : List Expiry). fold (λ u a. after_timeout a.thread (wait_of (thread_at u.locks a.thread)) u) s (in_order expiries)) (due_none tick s untimed)
 
 -- ---- destructors
 

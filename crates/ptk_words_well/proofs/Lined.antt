@@ -7,7 +7,7 @@ use Rattle.ptk_words.specs.Pools.{pool_get, without, is_in}
 use Rattle.ptk_words.specs.declared.threads.Thread.{Thread}
 use Rattle.ptk_words_model.specs.Mutex.{wait_of}
 use Rattle.ptk_words_model.specs.Unwinding.{is_alive}
-use Rattle.ptk_words.specs.Phases.{is_ended}
+use Rattle.ptk_words.specs.Threads.{is_ended}
 use Rattle.ptk_words_well.specs.Well.{is_ready}
 use Rattle.ptk_words_well.proofs.Lines.{in_head, in_push, out_head, out_push, without_own, in_without, distinct_head, distinct_push, distinct_without}
 

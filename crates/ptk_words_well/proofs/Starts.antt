@@ -17,9 +17,10 @@ use Rattle.ptk_words_model.specs.declared.Cancellation.{Cancellation}
 use Rattle.ptk_words_model.specs.State.{Part, with_locks, with_cancellation, with_cleanups, with_keys}
 use Rattle.ptk_words_model.specs.Priority.{thread_at}
 use Rattle.ptk_words_model.specs.Mutex.{wait_of}
+use Rattle.ptk_words_model.specs.Withdrawal.{deadline_of_wait}
 use Rattle.ptk_words_model.specs.Keys.{no_values, no_rounds, with_rounds, with_values}
 use Rattle.ptk_words_model.specs.Unwinding.{is_alive}
-use Rattle.ptk_words.specs.Phases.{is_ended}
+use Rattle.ptk_words.specs.Threads.{is_ended}
 use Rattle.ptk_words_model.specs.ThreadCreation.{new_cancellation, with_new_thread}
 use Rattle.ptk_words_model.specs.Run.{empty_part, main_thread, fits, memory_of, with_image, start_part}
 use Rattle.ptk_words_well.specs.Well.{IsWell, IsCalm, is_ready, joiner_of, used_of}
@@ -133,7 +134,7 @@ well_empty limits input interval = record {
   unused = record {
     mutexes = refl;
     conditions = refl;
-    deadlines = refl;
+    untimed = λ t. ap (λ o. deadline_of_wait (wait_of o)) (get-replicate limits.threads t);
     cleanups = refl;
     destructors = refl;
     values = refl;

@@ -14,7 +14,7 @@ use Rattle.ptk_words_model.specs.Schedule.{with_thread, with_reply, with_used}
 use Rattle.ptk_words_model.specs.Calls.{replied}
 use Rattle.ptk_words_model.specs.Decision.{with_cpu}
 use Rattle.ptk_words_model.specs.Unwinding.{is_alive, cpu_at_call, after_routine_call}
-use Rattle.ptk_words.specs.Phases.{is_ended}
+use Rattle.ptk_words.specs.Threads.{is_ended}
 use Rattle.ptk_words_well.specs.Well.{IsWell, is_ready, joiner_of, used_of}
 use Rattle.ptk_words_well.proofs.Pools.{changed_own, changed_other, length-changed}
 use Rattle.ptk_words_well.proofs.Lined.{lined_alike}

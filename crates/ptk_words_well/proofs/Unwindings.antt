@@ -14,7 +14,7 @@ use Rattle.ptk_words_model.specs.State.{Part, Keys, with_cancellation, with_clea
 use Rattle.ptk_words_model.specs.Priority.{thread_at}
 use Rattle.ptk_words_model.specs.Keys.{no_values, with_rounds, with_values, with_first_round}
 use Rattle.ptk_words_model.specs.Unwinding.{phase_of, is_alive, after_unwinding_start}
-use Rattle.ptk_words.specs.Phases.{is_ended}
+use Rattle.ptk_words.specs.Threads.{is_ended}
 use Rattle.ptk_words_well.specs.Well.{IsWell, IsCalm, used_of}
 use Rattle.ptk_words_well.proofs.Pools.{length-update, update_own, update_other, update-replicate}
 use Rattle.ptk_words_well.proofs.Threads.{well_changed}
@@ -27,7 +27,7 @@ well_kept_aside limits cancellations cleanups keys s size calm none destructors 
   unused = record {
     mutexes = well.unused.mutexes;
     conditions = well.unused.conditions;
-    deadlines = well.unused.deadlines;
+    untimed = well.unused.untimed;
     cleanups = none;
     destructors = destructors;
     values = values;

@@ -8,11 +8,12 @@ use Rattle.ptk_words.specs.declared.threads.Thread.{Thread}
 use Rattle.ptk_words.specs.declared.threads.Wait.{Wait}
 use Rattle.ptk_words.specs.declared.threads.Wait.TheVariants.{InputWait, JoinWait}
 use Rattle.ptk_words_model.specs.Mutex.{wait_of}
+use Rattle.ptk_words_model.specs.Withdrawal.{deadline_of_wait}
 use Rattle.ptk_words_model.specs.Unwinding.{is_alive}
 use Rattle.ptk_words_well.specs.Well.{joiner_of}
 use Rattle.ptk_words_well.proofs.Lines.{in_push, own_push, still_push, without_other, in_without, distinct_push, distinct_without}
 
--- the console's waiters wait for input, a thread's joiner waits for its end, and each such wait is listed so; an ended thread waits for nothing (pthread_join, pthread_exit)
+-- the console's waiters wait for input, a thread's joiner waits for its end, and each such wait is listed so; an ended thread waits for nothing, and no wait has a deadline (pthread_join, pthread_exit)
 pub record AreWaiting (threads : List (Option Thread)) (waiters : List ℕ) : Type 0 where
   pub waiters_wait : (t : ℕ) → is_in t waiters ≡ true → wait_of (pool_get threads t) ≡ Some InputWait
   pub waiters_distinct : IsDistinct nat_eq waiters
@@ -20,6 +21,7 @@ pub record AreWaiting (threads : List (Option Thread)) (waiters : List ℕ) : Ty
   pub joiners_wait : (t u : ℕ) → joiner_of (pool_get threads u) ≡ Some t → wait_of (pool_get threads t) ≡ Some (JoinWait u)
   pub joins_listed : (t u : ℕ) → wait_of (pool_get threads t) ≡ Some (JoinWait u) → joiner_of (pool_get threads u) ≡ Some t
   pub ended_wait : (t : ℕ) → is_alive (pool_get threads t) ≡ false → wait_of (pool_get threads t) ≡ None
+  pub untimed : (t : ℕ) → deadline_of_wait (wait_of (pool_get threads t)) ≡ None
 
 -- ---- no wait begins or ends
 
@@ -37,6 +39,7 @@ waiting_same threads after waiters same ended are = record {
   joiners_wait = λ t u e. same.wait t ∙ are.joiners_wait t u (sym (same.joiner u) ∙ e);
   joins_listed = λ t u e. same.joiner u ∙ are.joins_listed t u (sym (same.wait t) ∙ e);
   ended_wait = ended;
+  untimed = λ t. ap deadline_of_wait (same.wait t) ∙ are.untimed t;
 }
 
 -- ---- one wait begins or ends
@@ -46,6 +49,14 @@ pub record IsWaitChange (t : ℕ) (before after : List (Option Thread)) : Type 0
   pub wait : (u : ℕ) → u ≢ t → wait_of (pool_get after u) ≡ wait_of (pool_get before u)
   pub joiner : (u : ℕ) → joiner_of (pool_get after u) ≡ joiner_of (pool_get before u)
   pub ended : (u : ℕ) → is_alive (pool_get after u) ≡ false → wait_of (pool_get after u) ≡ None
+
+-- the one thread that changed waits with no deadline, and no other did
+still_untimed : (t : ℕ) (before after : List (Option Thread)) → ((u : ℕ) → u ≢ t → wait_of (pool_get after u) ≡ wait_of (pool_get before u)) → deadline_of_wait (wait_of (pool_get after t)) ≡ None
+    → ((u : ℕ) → deadline_of_wait (wait_of (pool_get before u)) ≡ None) → (u : ℕ) → deadline_of_wait (wait_of (pool_get after u)) ≡ None
+still_untimed t before after others own untimed u = elim (cases_eq u t) [
+  | inl same ↦ ap (λ v. deadline_of_wait (wait_of (pool_get after v))) same ∙ own
+  | inr ne ↦ ap deadline_of_wait (others u ne) ∙ untimed u
+]
 
 away : (t u : ℕ) (threads : List (Option Thread)) (wait : Wait) → wait_of (pool_get threads t) ≡ None → wait_of (pool_get threads u) ≡ Some wait → u ≢ t
 away t u threads wait free e same = let joined : wait_of (pool_get threads u) ≡ wait_of (pool_get threads t) = ap (λ v. wait_of (pool_get threads v)) same in let no : ⊥ = cc in no
@@ -73,6 +84,7 @@ waiting_input t threads after waiters change free waits are =
         | inr ne ↦ change.joiner u ∙ are.joins_listed v u (sym (change.wait v ne) ∙ e)
       ];
       ended_wait = change.ended;
+      untimed = still_untimed t threads after change.wait (ap deadline_of_wait waits) are.untimed;
     }
 
 -- a thread no longer waits for input
@@ -88,6 +100,7 @@ waiting_answered t threads after waiters change was free are = record {
       change.wait v ne ∙ old;
   joins_listed = λ v u e. let ne : v ≢ t = away t v after (JoinWait u) free e in change.joiner u ∙ are.joins_listed v u (sym (change.wait v ne) ∙ e);
   ended_wait = change.ended;
+  untimed = still_untimed t threads after change.wait (ap deadline_of_wait free) are.untimed;
 }
 
 -- ---- joins
@@ -130,6 +143,7 @@ waiting_join t u threads after waiters change free single waits joined are = rec
         change.joiner w (unjoined u w threads v single was) ∙ was)
   ];
   ended_wait = change.ended;
+  untimed = still_untimed t threads after change.wait (ap deadline_of_wait waits) are.untimed;
 }
 
 -- a thread no longer waits for the end of u
@@ -155,4 +169,5 @@ waiting_joined t u threads after waiters change joined free single are =
           let other : w ≢ u = λ same. let here : joiner_of (pool_get threads w) ≡ Some t = ap (λ x. joiner_of (pool_get threads x)) same ∙ joined in let one : v ≡ t = cc in ne one in
           change.joiner w other ∙ was;
       ended_wait = change.ended;
+      untimed = still_untimed t threads after change.wait (ap deadline_of_wait free) are.untimed;
     }

@@ -24,6 +24,7 @@ waiting_of limits s well = record {
   joiners_wait = well.joiners_wait;
   joins_listed = well.joins_listed;
   ended_wait = well.ended_wait;
+  untimed = well.unused.untimed;
 }
 
 -- ---- scheduling alone changed
@@ -44,7 +45,7 @@ well_scheduled limits s threads line running waiters same lined waiting used hal
   unused = record {
     mutexes = well.unused.mutexes;
     conditions = well.unused.conditions;
-    deadlines = well.unused.deadlines;
+    untimed = waiting.untimed;
     cleanups = well.unused.cleanups;
     destructors = well.unused.destructors;
     values = well.unused.values;

@@ -1,5 +1,5 @@
 -- What holds of a partition's state between moves.
-use Rattle.std.specs.Prelude.{◌≡◌, ℕ, ◌<◌, ◌≤◌, Bool, true, false, not, ◌&&◌, List, [], length, replicate, nat_eq, Option, Some, None, is_none}
+use Rattle.std.specs.Prelude.{◌≡◌, ℕ, ◌<◌, ◌≤◌, Bool, true, false, not, ◌&&◌, [], length, replicate, nat_eq, Option, Some, None, is_none}
 use Rattle.std.specs.List.{IsDistinct}
 use Rattle.ptk_words.specs.Pools.{numbered, is_in}
 use Rattle.ptk_words.specs.declared.sections.Limits.{Limits}
@@ -12,7 +12,7 @@ use Rattle.ptk_words_model.specs.Mutex.{wait_of}
 use Rattle.ptk_words_model.specs.Withdrawal.{deadline_of_wait}
 use Rattle.ptk_words_model.specs.Keys.{no_values}
 use Rattle.ptk_words_model.specs.Unwinding.{is_alive}
-use Rattle.ptk_words.specs.Phases.{is_ended}
+use Rattle.ptk_words.specs.Threads.{is_ended}
 use Rattle.ptk_words_model.specs.Run.{is_active}
 
 -- the thread is in use, has not ended and waits for nothing: it runs or is ready (XSH 2.8.4)

@@ -8,6 +8,7 @@ use Rattle.ptk_words_model.specs.State.{Part}
 use Rattle.ptk_words_model.specs.Priority.{assigned_of, effective_priorities}
 use Rattle.ptk_words_model.specs.declared.Invocation.{Invocation}
 use Rattle.ptk_words.specs.Calls.{call_of}
+use Rattle.ptk_words_model.specs.CallTable.{answer_to}
 use Rattle.ptk_words_model.specs.Decision.{after_decision}
 use Rattle.ptk_words_model.specs.Run.{is_active, start_part, alone}
 use Rattle.ptk_words_well.specs.Well.{IsWell}

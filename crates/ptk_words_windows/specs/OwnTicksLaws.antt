@@ -19,11 +19,6 @@ abbrev pub NextIsOne : Type 0
 NextIsOne =
     (table : WindowTable) (p tick n : ℕ) → IsTable table → IsFirstOwn table p tick n → (own_ticks table p).next_of tick ≡ Some n
 
--- the next own tick comes less than a frame after the tick (own)
-abbrev pub NextIsNear : Type 0
-NextIsNear =
-    (table : WindowTable) (p tick n : ℕ) → IsTable table → (own_ticks table p).next_of tick ≡ Some n → n < tick + table.frame
-
 -- the end is that of the partition's window that holds the tick, and there is none only where the tick is not its own (own)
 abbrev pub EndIsOfWindow : Type 0
 EndIsOfWindow =

@@ -12,7 +12,7 @@ pub record WindowTable : Type 0 where
 abbrev pub Holds : Window → ℕ → Type 0
 Holds w place = (w.start ≤ place) × (place < w.start + w.length)
 
--- the same as a test (own)
+-- whether the place in the frame lies in the window
 abbrev pub holds : Window → ℕ → Bool
 holds w place = nat_le w.start place && nat_lt place (w.start + w.length)
 

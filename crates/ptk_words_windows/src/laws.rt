@@ -1,6 +1,6 @@
 //! Laws of the own ticks, each the contract of a function without code.
 
-ghost use Rattle.ptk_words_windows.specs.OwnTicksLaws.{AcceptedIsTable, NextIsFirst, NextIsOne, NextIsNear, EndIsOfWindow, EndIsOne, WindowIsWhole, OwnTicksAreApart};
+ghost use Rattle.ptk_words_windows.specs.OwnTicksLaws.{AcceptedIsTable, NextIsFirst, NextIsOne, EndIsOfWindow, EndIsOne, WindowIsWhole, OwnTicksAreApart};
 
 /// Windows without a fault are a table, and each is a known partition's.
 pub fn accepted_is_table()
@@ -15,11 +15,6 @@ pub fn next_is_first()
 /// Only one tick is the first own one not before the tick.
 pub fn next_is_one()
     ensures { NextIsOne }
-{}
-
-/// The next own tick comes less than a frame after the tick.
-pub fn next_is_near()
-    ensures { NextIsNear }
 {}
 
 /// The end is that of the partition's window that holds the tick. There is none only for a tick not its own.

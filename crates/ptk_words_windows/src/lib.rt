@@ -10,7 +10,7 @@ mod window;
 
 pub use fault::WindowFault;
 pub use laws::{
-    accepted_is_table, end_is_of_window, end_is_one, next_is_first, next_is_near, next_is_one,
+    accepted_is_table, end_is_of_window, end_is_one, next_is_first, next_is_one,
     own_ticks_are_apart, window_is_whole,
 };
 pub use window::Window;

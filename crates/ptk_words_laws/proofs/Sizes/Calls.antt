@@ -19,11 +19,11 @@ use Rattle.ptk_words_model.specs.Mutex.{owns_raising}
 use Rattle.ptk_words_model.specs.Keys.{with_new_specific}
 use Rattle.ptk_words_model.specs.Console.{is_full, with_output, with_waiter}
 use Rattle.ptk_words_model.specs.Unwinding.{without_thread}
-use Rattle.ptk_words.specs.Phases.{is_ended}
+use Rattle.ptk_words.specs.Threads.{is_ended, is_taken}
 use Rattle.ptk_words_model.specs.declared.Invocation.{Invocation}
 use Rattle.ptk_words_model.specs.Calls.{Answer, is_pointer, replied, refusal, success, blocked, blocked_in, no_call, is_cancelled, cancellation_answer, using_thread}
 use Rattle.ptk_words_model.specs.ConsoleCalls.{exit_call, console_put, console_get_answer, console_get}
-use Rattle.ptk_words_model.specs.ThreadCalls.{is_explicit, is_no_choice, is_no_stack_top, create, pthread_exit, is_taken, join, detach, self, after_placing, yield, after_placing_at_tail, setschedparam, getschedparam, after_priority_change, setschedprio}
+use Rattle.ptk_words_model.specs.ThreadCalls.{is_explicit, is_no_choice, is_no_stack_top, create, pthread_exit, join, detach, self, after_placing, yield, after_placing_at_tail, setschedparam, getschedparam, after_priority_change, setschedprio}
 use Rattle.ptk_words_model.specs.ThreadCreation.{Attributes, attributes_at, policy_of, is_priority, new_cancellation, with_new_thread, created_thread}
 use Rattle.ptk_words_model.specs.Steps.{◌or_refuse◌}
 use Rattle.ptk_words_laws.proofs.Sizes.Pools.{length-pool_set, below_from_full}

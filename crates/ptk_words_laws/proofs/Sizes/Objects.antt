@@ -27,7 +27,7 @@ use Rattle.ptk_words_model.specs.Console.{without_waiter}
 use Rattle.ptk_words_model.specs.Keys.{is_key, with_values, with_key, specific}
 use Rattle.ptk_words_model.specs.Withdrawal.{with_live_deadlines, with_mark, without_joiner, after_cancelled_wait}
 use Rattle.ptk_words_model.specs.Unwinding.{cleanups_of}
-use Rattle.ptk_words.specs.Phases.{is_ended}
+use Rattle.ptk_words.specs.Threads.{is_ended}
 use Rattle.ptk_words_model.specs.Time.{Timespec, timespec_at, time_bytes, is_timespec, deadline_of}
 use Rattle.ptk_words_model.specs.Calls.{Answer, refusal, success, is_pointer, is_cancelled, cancellation_answer, with_pool_mutex, with_pool_condition, with_stored, set_up_mutex, using_mutex, set_up_condition, using_condition}
 use Rattle.ptk_words_model.specs.TimeCalls.{with_deadline, clock_gettime, clock_nanosleep}
