@@ -29,6 +29,7 @@ struct NewThread {
 /// EFAULT where the attributes can't be read; EINVAL where their detach or inherit is neither 0 nor 1; of explicit
 /// scheduling ENOTSUP where the policy is unknown and EINVAL where the priority is not 1 to 32; EINVAL where the stack
 /// top is no multiple of 16 or lies past the memory; EAGAIN where no number is free.
+#[tactic(auto, using(ptk_gate_pools::proofs::Parted::parted))]
 pub fn create(pools: &mut Pools, p: PartId, i: Invocation) -> Reply
     requires partition { p < length pools.old.limits }
     requires limits { i.limits ≡ limits_at p pools.old }
@@ -36,6 +37,7 @@ pub fn create(pools: &mut Pools, p: PartId, i: Invocation) -> Reply
     ensures told { result ≡ (create i (part_at p pools.old)).reply }
     ensures moved { pools.new ≡ put_part p (create i (part_at p pools.old)).part pools.old }
 {
+    let _parts = pools.parts();
     let new = match asked_thread(pools, p, &i) {
         Ok(new) => new,
         Err(errno) => return refuse(pools, p, i, errno),

@@ -56,6 +56,7 @@ pub fn setschedparam(pools: &mut Pools, p: PartId, i: Invocation) -> Reply
 
 /// What call 16 gives a thread, or the error that refuses it: ESRCH of a number that is not in use, then ENOTSUP of an
 /// unknown policy, then EINVAL of a word that is no priority.
+#[tactic(auto, using(crate::proofs::Decoding::decoded))]
 fn asked_scheduling(pools: &Pools, p: PartId, i: &Invocation) -> Result<NewScheduling, Errno>
     requires partition { p < length pools.now.limits }
     ensures call { setschedparam i.now (part_at p pools.now) ≡ valid result (λ asked. change_thread asked.thread (with_scheduling asked.policy asked.priority) (change (after_placing_at_tail asked.thread) succeed)) i.now (part_at p pools.now) }
@@ -64,8 +65,12 @@ fn asked_scheduling(pools: &Pools, p: PartId, i: &Invocation) -> Result<NewSched
     let Some(target) = target(pools, p, i.a0) else {
         return Err(Errno::ESRCH);
     };
-    let policy = named_policy(i.a1).ok_or(Errno::ENOTSUP)?;
-    let priority = named_priority(i.a2).ok_or(Errno::EINVAL)?;
+    let Some(policy) = named_policy(i.a1) else {
+        return Err(Errno::ENOTSUP);
+    };
+    let Some(priority) = named_priority(i.a2) else {
+        return Err(Errno::EINVAL);
+    };
     Ok(NewScheduling {
         thread: target.number,
         policy,
@@ -93,6 +98,7 @@ pub fn setschedprio(pools: &mut Pools, p: PartId, i: Invocation) -> Reply
 
 /// What call 18 gives a thread, or the error that refuses it: ESRCH of a number that is not in use, then EINVAL of a
 /// word that is no priority.
+#[tactic(auto, using(crate::proofs::Decoding::decoded))]
 fn asked_priority(pools: &Pools, p: PartId, i: &Invocation) -> Result<NewPriority, Errno>
     requires partition { p < length pools.now.limits }
     ensures call { setschedprio i.now (part_at p pools.now) ≡ valid result (λ asked. change_thread asked.thread (with_priority asked.new) (change (after_priority_change asked.old asked.new asked.thread) succeed)) i.now (part_at p pools.now) }
@@ -101,7 +107,9 @@ fn asked_priority(pools: &Pools, p: PartId, i: &Invocation) -> Result<NewPriorit
     let Some(target) = target(pools, p, i.a0) else {
         return Err(Errno::ESRCH);
     };
-    let new = named_priority(i.a1).ok_or(Errno::EINVAL)?;
+    let Some(new) = named_priority(i.a1) else {
+        return Err(Errno::EINVAL);
+    };
     Ok(NewPriority {
         thread: target.number,
         old: target.thread.priority,

@@ -1,5 +1,0 @@
-use Rattle.ptk_gate_threads.proofs.Scheduling.{scheduled_is}
-use Rattle.ptk_gate_threads.proofs.scheduling_calls.asked_scheduling.Goals as goal
-
-pub returns-clause-call : goal.returns-clause-call
-returns-clause-call c = ?
