@@ -1,7 +1,7 @@
 //! Calls 1 and 2: the console.
 
 ghost use Rattle.std.specs.Prelude.{◌≡◌, ◌<◌, length};
-ghost use Rattle.ptk_words_model.specs.ConsoleCalls.{console_put, console_get, console_get_answer};
+ghost use Rattle.ptk_words_model.specs.ConsoleCalls.{console_put, console_get, take_input};
 ghost use Rattle.ptk_console.specs.ConsoleTable.{IsNotWaiting};
 ghost use Rattle.ptk_gate_pools.specs.Kept.{part_at, put_part, limits_at};
 
@@ -50,8 +50,8 @@ pub fn get(pools: &mut Pools, p: PartId, i: Invocation) -> Reply
 fn take_or_wait(pools: &mut Pools, p: PartId, i: Invocation) -> Reply
     requires partition { p < length pools.old.limits }
     requires new { IsNotWaiting i.caller (part_at p pools.old).console }
-    ensures told { result ≡ (console_get_answer (part_at p pools.old).console.ring i (part_at p pools.old)).reply }
-    ensures moved { pools.new ≡ put_part p (console_get_answer (part_at p pools.old).console.ring i (part_at p pools.old)).part pools.old }
+    ensures told { result ≡ (take_input (part_at p pools.old).console.ring i (part_at p pools.old)).reply }
+    ensures moved { pools.new ≡ put_part p (take_input (part_at p pools.old).console.ring i (part_at p pools.old)).part pools.old }
 {
     let _parts = pools.parts();
     let taken = pools.take_byte(p);

@@ -5,14 +5,14 @@ use Rattle.ptk_words.specs.Processor.{Processor, with_register}
 use Rattle.ptk_words_model.specs.Schedule.{with_registers}
 
 -- one more value
-pub registers-more : (cpu whole : Processor) (i v : ℕ) (values : List ℕ) → i < length values → v ≡ get_or values i v
-    → with_registers cpu (10 + i) (drop i values) ≡ whole → with_registers (with_register cpu (10 + i) v) (10 + (i + 1)) (drop (i + 1) values) ≡ whole
-registers-more cpu whole i v values lt is e =
-    let next : 10 + (i + 1) ≡ suc (10 + i) = omega arith in
+pub registers-more : (cpu whole : Processor) (first i v : ℕ) (values : List ℕ) → i < length values → v ≡ get_or values i v
+    → with_registers cpu (first + i) (drop i values) ≡ whole → with_registers (with_register cpu (first + i) v) (first + (i + 1)) (drop (i + 1) values) ≡ whole
+registers-more cpu whole first i v values lt is e =
+    let next : first + (i + 1) ≡ suc (first + i) = omega arith in
     let one : i + 1 ≡ suc i = omega arith in
     rw (next, one) (rw (drop-cons values i v, ← is) at e)
 
-pub registers-end : (cpu whole : Processor) (i : ℕ) (values : List ℕ) → length values ≤ i → with_registers cpu (10 + i) (drop i values) ≡ whole → cpu ≡ whole
-registers-end cpu whole i values le h = rw (drop_all i values le) at h
+pub registers-end : (cpu whole : Processor) (first i : ℕ) (values : List ℕ) → length values ≤ i → with_registers cpu (first + i) (drop i values) ≡ whole → cpu ≡ whole
+registers-end cpu whole first i values le h = rw (drop_all i values le) at h
 
 pub ruleset registers = (registers-more, registers-end)

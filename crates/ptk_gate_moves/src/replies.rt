@@ -6,7 +6,7 @@ ghost use Rattle.ptk_words_model.specs.Calls.{replied, refusal, success};
 ghost use Rattle.ptk_gate_pools.specs.Kept.{part_at, put_part};
 
 use ptk_gate_pools::Pools;
-use ptk_words::{Cpu, Errno, PartId, ThreadNo};
+use ptk_words::{A0, Cpu, Errno, PartId, ThreadNo};
 use ptk_words_model::{Invocation, Reply};
 
 /// Puts the values into the thread's a0, a1 and so on; a free number stays free.
@@ -26,11 +26,11 @@ pub fn reply(pools: &mut Pools, p: PartId, t: ThreadNo, values: &[u32])
 #[tactic(auto, using(crate::proofs::Registers::registers))]
 pub(crate) fn with_values(cpu: Cpu, values: &[u32]) -> Cpu
     requires { length values.now < 4 }
-    ensures { result ≡ with_registers cpu 10 values.now }
+    ensures { result ≡ with_registers cpu A0 values.now }
 {
     let mut cpu = cpu;
     for (i, value) in values.iter().enumerate() {
-        cpu.set_register(10 + i as u32, *value);
+        cpu.set_register(A0 + i as u32, *value);
     }
     cpu
 }

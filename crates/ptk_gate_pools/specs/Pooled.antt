@@ -4,7 +4,7 @@ use Rattle.ptk_words_model.specs.Keys.{no_values}
 use Rattle.ptk_gate_pools.specs.declared.pools.Pools.TheInside.{Inside}
 use Rattle.ptk_gate_pools.specs.Kept.{Kept, AreStored, per_section}
 
--- the tables: mutexes, condition variables, keys and cleanup handlers are not in use (own)
+-- the tables: mutexes, condition variables, keys and cleanup handlers are not in use
 abbrev pub kept_of : Inside → Kept
 kept_of a =
     record {
@@ -25,7 +25,7 @@ kept_of a =
       limits = a.limits.items;
     }
 
--- every pool has an entry for each of at most 8 partitions, the consoles have the sections' numbers, and the stored priorities are the effective ones (own)
+-- every pool has an entry for each of at most 8 partitions, the consoles have the sections' numbers, and the stored priorities are the effective ones
 pub record ArePooled (a : Inside) : Type 0 where
   pub few : length a.limits.items ≤ 8
   pub memory : length a.regions ≡ length a.limits.items

@@ -44,9 +44,9 @@ impl Pools {
 fn entry_in(cancellations: &[Cancellation], t: ThreadNo) -> Option<Cancellation>
     ensures { result ≡ numbered cancellations.now t }
 {
-    let index = t.number() as usize - 1;
-    if index < cancellations.len() {
-        Some(cancellations[index])
+    let place = t.place();
+    if place < cancellations.len() {
+        Some(cancellations[place])
     } else {
         None
     }
@@ -57,9 +57,9 @@ fn entry_in(cancellations: &[Cancellation], t: ThreadNo) -> Option<Cancellation>
 fn enable(cancellations: &mut [Cancellation], t: ThreadNo)
     ensures { cancellations.new ≡ pool_update cancellations.old t (λ _. new_cancellation) }
 {
-    let index = t.number() as usize - 1;
-    if index < cancellations.len() {
-        cancellations[index] = Cancellation {
+    let place = t.place();
+    if place < cancellations.len() {
+        cancellations[place] = Cancellation {
             is_enabled: true,
             is_asynchronous: false,
             is_pending: false,
@@ -73,10 +73,10 @@ fn enable(cancellations: &mut [Cancellation], t: ThreadNo)
 fn disable(cancellations: &mut [Cancellation], t: ThreadNo)
     ensures { cancellations.new ≡ pool_update cancellations.old t disabled }
 {
-    let index = t.number() as usize - 1;
-    if index < cancellations.len() {
-        let is_pending = cancellations[index].is_pending;
-        cancellations[index] = Cancellation {
+    let place = t.place();
+    if place < cancellations.len() {
+        let is_pending = cancellations[place].is_pending;
+        cancellations[place] = Cancellation {
             is_enabled: false,
             is_asynchronous: false,
             is_pending,

@@ -35,9 +35,9 @@ impl Pools {
 fn clear(rounds: &mut [Rounds], t: ThreadNo)
     ensures { rounds.new ≡ pool_update rounds.old t (λ _. no_rounds) }
 {
-    let index = t.number() as usize - 1;
-    if index < rounds.len() {
-        rounds[index] = Rounds {
+    let place = t.place();
+    if place < rounds.len() {
+        rounds[place] = Rounds {
             round: 0,
             passed: 0,
         };
@@ -49,9 +49,9 @@ fn clear(rounds: &mut [Rounds], t: ThreadNo)
 fn begin(rounds: &mut [Rounds], t: ThreadNo, phase: Phase)
     ensures { rounds.new ≡ pool_update rounds.old t (with_first_round phase) }
 {
-    let index = t.number() as usize - 1;
-    if index < rounds.len() {
-        rounds[index] = first_round(phase, rounds[index]);
+    let place = t.place();
+    if place < rounds.len() {
+        rounds[place] = first_round(phase, rounds[place]);
     }
 }
 

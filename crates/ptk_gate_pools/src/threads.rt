@@ -1,14 +1,15 @@
 //! A thread's number, and the fields of its entry. A move of a field leaves a free number free.
 
-ghost use Rattle.std.specs.Prelude.{◌≡◌, ◌<◌, true, length, Some};
+ghost use Rattle.std.specs.Prelude.{◌≡◌, ◌<◌, length, Some};
 ghost use Rattle.ptk_words.specs.Pools.{least_free};
+ghost use Rattle.ptk_words.specs.Threads.{left_at_end, left_at_detach};
 ghost use Rattle.ptk_words_model.specs.State.{with_locks};
 ghost use Rattle.ptk_words_model.specs.Schedule.{with_thread, with_used};
 ghost use Rattle.ptk_words_model.specs.Unwinding.{without_thread};
 ghost use Rattle.ptk_words_model.specs.Decision.{with_cpu};
-ghost use Rattle.ptk_threads.specs.Table.{with_policy, with_priority, with_joiner, with_result, with_phase, with_wait, with_detached_mark};
+ghost use Rattle.ptk_threads.specs.Table.{with_policy, with_priority, with_joiner, with_result, with_phase, with_wait};
 ghost use Rattle.ptk_gate_pools.specs.Kept.{part_at, put_part};
-ghost use Rattle.ptk_gate_pools.specs.Moves.{with_number};
+ghost use Rattle.ptk_gate_pools.specs.Moves.{with_number, with_left};
 
 use crate::pools::Pools;
 use ptk_ready::Line;
@@ -109,12 +110,21 @@ impl Pools {
         self.threads.set_joiner(p, t, Some(joiner));
     }
 
-    /// The thread is detached (pthread_detach).
-    #[tactic(auto, using(crate::proofs::Parted::parted, crate::proofs::Stored::stored))]
-    pub fn mark_detached(&mut self, p: PartId, t: ThreadNo)
+    /// The thread is detached: its number is free where it has ended (pthread_detach).
+    #[tactic(auto, using(crate::proofs::Parted::parted, crate::proofs::Stored::left))]
+    pub fn detach(&mut self, p: PartId, t: ThreadNo)
         requires partition { p < length self.old.limits }
-        ensures { self.new ≡ put_part p (with_locks (with_thread t (with_detached_mark true)) (part_at p self.old)) self.old }
+        ensures { self.new ≡ put_part p (with_locks (with_left t left_at_detach) (part_at p self.old)) self.old }
     {
-        self.threads.set_detached(p, t, true);
+        self.threads.detach(p, t);
+    }
+
+    /// The thread has ended: its number stays with the result until a join or a detachment, or is free (pthread_exit).
+    #[tactic(auto, using(crate::proofs::Parted::parted, crate::proofs::Stored::left))]
+    pub fn end(&mut self, p: PartId, t: ThreadNo)
+        requires partition { p < length self.old.limits }
+        ensures { self.new ≡ put_part p (with_locks (with_left t left_at_end) (part_at p self.old)) self.old }
+    {
+        self.threads.end(p, t);
     }
 }

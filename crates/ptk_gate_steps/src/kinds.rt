@@ -6,7 +6,7 @@ ghost use Rattle.ptk_gate_pools.specs.Kept.{part_at};
 
 use ptk_gate_moves::is_to_unwind;
 use ptk_gate_pools::Pools;
-use ptk_words::{PartId, RETURN_GATE, Thread, ThreadNo, cost};
+use ptk_words::{A7, ECALL, PartId, RETURN_GATE, Thread, ThreadNo, cost, read_word};
 use ptk_words_model::{Runner, StepKind};
 
 /// The thread that runs, if one does.
@@ -35,8 +35,8 @@ pub fn step_kind(pools: &Pools, p: PartId, t: ThreadNo, thread: &Thread) -> Step
         StepKind::UnwindingStart
     } else if cpu.pc() == RETURN_GATE {
         StepKind::GateStep
-    } else if word_fetched(pools.regions().part(p), cpu.pc()) == 0x73 {
-        StepKind::CallStep(cpu.register(17))
+    } else if word_fetched(pools.regions().part(p), cpu.pc()) == ECALL {
+        StepKind::CallStep(cpu.register(A7))
     } else {
         StepKind::InstructionStep
     }
@@ -63,7 +63,7 @@ fn word_fetched(memory: &[u8], pc: u32) -> u32
 {
     let at = pc as usize;
     if pc % 4 == 0 && at + 4 <= memory.len() {
-        u32::from_le_bytes([memory[at], memory[at + 1], memory[at + 2], memory[at + 3]])
+        read_word(memory, at)
     } else {
         0
     }
