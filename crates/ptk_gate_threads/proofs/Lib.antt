@@ -1,3 +1,2 @@
-pub mod Scheduling
-pub mod Creating
+pub mod Decoding
 pub mod Endings

@@ -31,13 +31,8 @@ pub fn getschedparam(pools: &mut Pools, p: PartId, i: Invocation) -> Reply
     match target(pools, p, i.a0) {
         Some(target) => {
             let priority = target.thread.priority;
-            succeed_with_two(
-                pools,
-                p,
-                i,
-                policy_number(target.thread.policy),
-                priority.level() as u32,
-            )
+            let policy = policy_number(target.thread.policy);
+            succeed_with_two(pools, p, i, policy, priority.level() as u32)
         }
         None => refuse(pools, p, i, Errno::ESRCH),
     }
