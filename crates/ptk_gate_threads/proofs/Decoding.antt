@@ -53,5 +53,3 @@ pub prioritized_is : (i : Invocation) (s : Part) (target : Runner) (priority : �
     → runner_at i.a0 (thread_at s.locks i.a0) ≡ Some target → priority_of i.a1 ≡ Some priority
     → setschedprio i s ≡ change_thread target.number (with_priority priority) (change (after_priority_change target.thread.priority priority target.number) succeed) i s
 prioritized_is i s target priority named f = prioritized (thread_at s.locks i.a0) (is_priority i.a1) i s target priority named f
-
-pub ruleset decoded = (scheduled_is, prioritized_is)

@@ -10,7 +10,7 @@ ghost use Rattle.ptk_words.specs.Pools.{is_in};
 ghost use Rattle.ptk_gate_pools.specs.Kept.{part_at, put_part, limits_at};
 ghost use Rattle.ptk_gate_pools.specs.Moves.{stopped};
 
-use ptk_gate_moves::{halt, is_ended, is_taken, start_unwinding, wake};
+use ptk_gate_moves::{halt, is_ended, start_unwinding, wake};
 use ptk_gate_pools::Pools;
 use ptk_threads::Slot;
 use ptk_words::{A0, PartId, Phase, Status, Thread, ThreadNo};
@@ -95,22 +95,19 @@ fn release(pools: &mut Pools, p: PartId, t: ThreadNo)
     }
 }
 
-/// A thread that is detached or has a joiner leaves its number free, and the joiner is woken with its result; another
-/// one keeps its number and result (pthread_exit, pthread_detach).
+/// The joiner of a thread in use is woken with its result, and its number is free or kept (pthread_exit,
+/// pthread_detach).
 #[tactic(auto, using(ptk_gate_pools::proofs::Parted::parted))]
 fn release_thread(pools: &mut Pools, p: PartId, t: ThreadNo, thread: Thread)
     requires partition { p < length pools.old.limits }
+    requires named { thread_at (part_at p pools.old).locks t ≡ Some thread }
     requires in_use { IfSome thread.joiner (λ u. IsSome (thread_at (part_at p pools.old).locks u)) }
     requires fresh { IfSome thread.joiner (λ u. is_in u (part_at p pools.old).line ≡ false) }
     ensures { pools.new ≡ put_part p (with_locks (after_release t (Some thread)) (part_at p pools.old)) pools.old }
 {
     let _parts = pools.parts();
-    if is_taken(&thread) {
-        tell_joiner(pools, p, thread.joiner, thread.result);
-        pools.free(p, t);
-    } else {
-        pools.give_phase(p, t, Phase::Ended);
-    }
+    tell_joiner(pools, p, thread.joiner, thread.result);
+    pools.end(p, t);
 }
 
 /// The thread's result goes to the thread that joins it (pthread_join).

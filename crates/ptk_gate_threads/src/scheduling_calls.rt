@@ -56,7 +56,6 @@ pub fn setschedparam(pools: &mut Pools, p: PartId, i: Invocation) -> Reply
 
 /// What call 16 gives a thread, or the error that refuses it: ESRCH of a number that is not in use, then ENOTSUP of an
 /// unknown policy, then EINVAL of a word that is no priority.
-#[tactic(auto, using(crate::proofs::Decoding::decoded))]
 fn asked_scheduling(pools: &Pools, p: PartId, i: &Invocation) -> Result<NewScheduling, Errno>
     requires partition { p < length pools.now.limits }
     ensures call { setschedparam i.now (part_at p pools.now) ≡ valid result (λ asked. change_thread asked.thread (with_scheduling asked.policy asked.priority) (change (after_placing_at_tail asked.thread) succeed)) i.now (part_at p pools.now) }
@@ -98,7 +97,6 @@ pub fn setschedprio(pools: &mut Pools, p: PartId, i: Invocation) -> Reply
 
 /// What call 18 gives a thread, or the error that refuses it: ESRCH of a number that is not in use, then EINVAL of a
 /// word that is no priority.
-#[tactic(auto, using(crate::proofs::Decoding::decoded))]
 fn asked_priority(pools: &Pools, p: PartId, i: &Invocation) -> Result<NewPriority, Errno>
     requires partition { p < length pools.now.limits }
     ensures call { setschedprio i.now (part_at p pools.now) ≡ valid result (λ asked. change_thread asked.thread (with_priority asked.new) (change (after_priority_change asked.old asked.new asked.thread) succeed)) i.now (part_at p pools.now) }
