@@ -1,6 +1,6 @@
 -- The tables stay whole when one partition's part is replaced by a whole one.
-use Rattle.std.proofs.Common.{◌≡◌, ◌≢◌, ℕ, ◌<◌, Bool, length, refl, sym, ◌∙◌, subst, ◌⊎◌, inl, inr, true, false}
-use Rattle.std.specs.Prelude.{Option, Some, None, IsSome}
+use Rattle.std.proofs.Common.{◌≡◌, ◌≢◌, ℕ, ◌<◌, Bool, length, refl, sym, ◌∙◌, ap, subst, ◌⊎◌, inl, inr, true, false}
+use Rattle.std.specs.Prelude.{Some, IsSome}
 use Rattle.std.proofs.lemmas.Bool.{cases_eq, false≢true}
 use Rattle.std.proofs.lemmas.List.{length-set}
 use Rattle.ptk_words.specs.Processor.{Processor}
@@ -8,13 +8,12 @@ use Rattle.ptk_words.specs.declared.faults.Cause.TheVariants as cause
 use Rattle.ptk_words.specs.declared.faults.Status.TheVariants.{Stopped}
 use Rattle.ptk_words.specs.declared.sections.Limits.{Limits}
 use Rattle.ptk_words_instructions.specs.Instructions.{Effect, Done, Call, Break, Fault, effect_at}
-use Rattle.ptk_words_model.specs.declared.Runner.{Runner}
 use Rattle.ptk_words_model.specs.State.{Part}
 use Rattle.ptk_words_model.specs.Priority.{thread_at}
 use Rattle.ptk_words_well.specs.Well.{IsWell}
 use Rattle.ptk_words.specs.Pools.{is_in}
 use Rattle.ptk_words.specs.declared.sections.Entry.{Entry}
-use Rattle.ptk_words_model.specs.Decision.{after_arrivals, runner_in, runner_of}
+use Rattle.ptk_words_model.specs.Decision.{after_arrivals}
 use Rattle.ptk_words_model.specs.Schedule.{after_choice}
 use Rattle.ptk_words_model.specs.Unwinding.{after_unwinding_start}
 use Rattle.ptk_words_model.specs.Withdrawal.{after_expiries}
@@ -30,7 +29,7 @@ use Rattle.ptk_words_well.proofs.Expiries.{expiries_none}
 use Rattle.ptk_gate_pools.specs.Moves.{with_last_step}
 use Rattle.ptk_gate_pools.specs.Kept.{Kept, AreParts, AreWell, part_at, put_part, limits_at}
 use Rattle.ptk_gate_pools.proofs.Parted.{part_at-put, part_at-other}
-use Rattle.ptk_gate_steps.specs.Instructions.{after_instruction}
+use Rattle.ptk_gate_steps.specs.Instructions.{after_instruction, is_call}
 use Rattle.ptk_gate.specs.Whole.{AreWhole}
 
 -- every component keeps its length
@@ -129,16 +128,27 @@ active_at : (limits : Limits) (s : Part) (b : Bool) → IsWell limits s → IsSo
 active_at limits s true well runs e = refl
 active_at limits s false well runs e = absurd (false≢true (subst IsSome (well.halted e) runs))
 
-some_running : (running : Option ℕ) (s : Part) → IsSome (runner_in running s) → IsSome running
-some_running None s h = h
-some_running (Some t) s h = refl
+-- the thread of an ECALL still runs
+calling_running : (t pc : ℕ) (e : Effect) (s : Part) → is_call e ≡ true → s.running ≡ Some t → IsSome (after_instruction t pc e s).running
+calling_running t pc (Done cpu memory) s calls runs = absurd (false≢true calls)
+calling_running t pc (Call cpu) s calls runs = subst IsSome (sym runs) refl
+calling_running t pc Break s calls runs = absurd (false≢true calls)
+calling_running t pc (Fault kind) s calls runs = absurd (false≢true calls)
 
-pub runner_active : (p : ℕ) (kept : Kept) (r : Option Runner) → r ≡ runner_of (part_at p kept) → AreWhole kept → p < length kept.limits → IsSome r → is_active (part_at p kept).status ≡ true
-runner_active p kept r e are lt some =
+pub call_running : (p t : ℕ) (cpu : Processor) (calls : Bool) (kept new : Kept) → new ≡ put_part p (after_instruction t cpu.pc (effect_at cpu (part_at p kept).memory) (part_at p kept)) kept → AreWhole kept → p < length kept.limits
+    → (part_at p kept).running ≡ Some t → calls ≡ is_call (effect_at cpu (part_at p kept).memory) → calls ≡ true → IsSome (part_at p new).running
+call_running p t cpu calls kept new e are lt runs told called =
     let s : Part = part_at p kept in
-    active_at (limits_at p kept) s (is_active s.status) (well_at p kept are lt) (some_running s.running s (subst IsSome e some)) refl
+    let after : Part = after_instruction t cpu.pc (effect_at cpu s.memory) s in
+    let at : part_at p new ≡ after = ap (part_at p) e ∙ part_at-put (length kept.limits) p after kept are.wells.parts lt in
+    subst (λ (part : Part). IsSome part.running) (sym at) (calling_running t cpu.pc (effect_at cpu s.memory) s (sym told ∙ called) runs)
 
-pub ruleset runners = (runner_active)
+pub call_active : (p t : ℕ) (cpu : Processor) (calls : Bool) (kept new : Kept) → new ≡ put_part p (after_instruction t cpu.pc (effect_at cpu (part_at p kept).memory) (part_at p kept)) kept → AreWhole kept → p < length kept.limits
+    → (part_at p kept).running ≡ Some t → calls ≡ is_call (effect_at cpu (part_at p kept).memory) → calls ≡ true → is_active (part_at p new).status ≡ true
+call_active p t cpu calls kept new e are lt runs told called =
+    let within : p < length new.limits = subst (λ (n : ℕ). p < n) (sym (ap (λ (k : Kept). length k.limits) e)) lt in
+    active_at (limits_at p new) (part_at p new) (is_active (part_at p new).status) (well_at p new (whole_instruction p t cpu kept new e are lt) within)
+    (call_running p t cpu calls kept new e are lt runs told called) refl
 
 pub ruleset wholes = (are_whole_put, well_at)
 

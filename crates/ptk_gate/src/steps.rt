@@ -1,6 +1,6 @@
 //! What a decision of a partition is made of.
 
-ghost use Rattle.std.specs.Prelude.{◌≡◌, ◌<◌, true, length, Some, IsSome};
+ghost use Rattle.std.specs.Prelude.{◌≡◌, ◌<◌, true, length, Some, IsSome, IsTrue};
 ghost use Rattle.ptk_words.specs.declared.TheConstants.{CANCELED};
 ghost use Rattle.ptk_words_instructions.specs.Instructions.{effect_at};
 ghost use Rattle.ptk_words_model.specs.Priority.{thread_at};
@@ -42,12 +42,10 @@ impl Tables {
         choose(&mut self.pools, p);
     }
 
-    /// The thread that runs, if one does; none runs in a partition that is halted.
-    #[tactic(auto, using(crate::proofs::Wholes::runners))]
+    /// The thread that runs, if one does.
     pub fn runner(&self, p: PartId) -> Option<Runner>
         requires partition { p < length self.now.limits }
-        ensures value { result ≡ runner_of (part_at p self.now) }
-        ensures active { IsSome result → is_active (part_at p self.now).status ≡ true }
+        ensures { result ≡ runner_of (part_at p self.now) }
     {
         runner(&self.pools, p)
     }
@@ -97,14 +95,17 @@ impl Tables {
         step_at_gate(&mut self.pools, p, t, thread);
     }
 
-    /// A step of the thread from these registers: the instruction's effect on the registers and the memory, or the
-    /// partition stops at a break or a fault. Whether it is an ECALL, whose call is still to be carried out: the
-    /// thread's registers then state it, with the pc past it.
+    /// A step of the running thread from these registers: the instruction's effect on the registers and the memory, or
+    /// the partition stops at a break or a fault. Whether it is an ECALL, whose call is still to be carried out: the
+    /// thread still runs then, and its registers state the call, with the pc past the ECALL.
     #[tactic(auto, using(crate::proofs::Wholes::moves))]
     pub fn instruct(&mut self, p: PartId, t: ThreadNo, cpu: Cpu) -> bool
         requires partition { p < length self.old.limits }
+        requires running { (part_at p self.old).running ≡ Some t }
         ensures told { result ≡ is_call (effect_at cpu (part_at p self.old).memory) }
         ensures moved { self.new ≡ put_part p (after_instruction t cpu.pc (effect_at cpu (part_at p self.old).memory) (part_at p self.old)) self.old }
+        ensures active { IsTrue result → is_active (part_at p self.new).status ≡ true }
+        ensures still_running { IsTrue result → IsSome (part_at p self.new).running }
     {
         instruct(&mut self.pools, p, t, cpu)
     }

@@ -1,21 +1,20 @@
 -- An instruction's effect is its own, and then that of its call.
-use Rattle.std.proofs.Common.{◌≡◌, ℕ, ◌<◌, Bool, true, false, sym, ◌∙◌, ap, subst, refl}
-use Rattle.std.specs.Prelude.{Option, Some, None, IsSome, option_map}
+use Rattle.std.proofs.Common.{◌≡◌, ℕ, ◌<◌, Bool, true, false, sym, ◌∙◌, ap, refl}
+use Rattle.std.specs.Prelude.{Option, Some, None, option_map}
 use Rattle.ptk_words.specs.Processor.{Processor}
 use Rattle.ptk_words.specs.declared.sections.Limits.{Limits}
 use Rattle.ptk_words.specs.declared.threads.Thread.{Thread}
-use Rattle.ptk_words_instructions.specs.Instructions.{Effect, Done, Call, Break, Fault}
+use Rattle.ptk_words_instructions.specs.Instructions.{Effect, Done, Call, Break, Fault, effect_at}
 use Rattle.ptk_words_model.specs.declared.Runner.{Runner}
 use Rattle.ptk_words_model.specs.State.{Part}
 use Rattle.ptk_words_model.specs.Priority.{thread_at}
 use Rattle.ptk_words_model.specs.Decision.{runner_at, runner_in, runner_of, with_cpu, after_effect}
-use Rattle.ptk_words_model.specs.Run.{is_active}
 use Rattle.ptk_words_well.proofs.Pools.{changed_own}
 use Rattle.ptk_words_well.proofs.Decisions.{runner_runs}
 use Rattle.ptk_gate_pools.specs.Kept.{Kept, AreParts, part_at, put_part, limits_at}
 use Rattle.ptk_gate_steps.specs.Instructions.{after_instruction, is_call}
 use Rattle.ptk_gate.specs.Answers.{call_answer, runner_answer}
-use Rattle.ptk_kernel.proofs.Moves.{part_after, moved_then}
+use Rattle.ptk_kernel.proofs.Moves.{moved_then}
 
 -- ---- the runner, whose registers change
 
@@ -51,51 +50,31 @@ effect_parts limits tick pc r (Call cpu) s runs = ap (λ (o : Option Runner). (r
 effect_parts limits tick pc r Break s runs = refl
 effect_parts limits tick pc r (Fault kind) s runs = refl
 
--- an ECALL leaves what a call needs
-calling_active : (t pc : ℕ) (e : Effect) (s : Part) → is_call e ≡ true → is_active s.status ≡ true → is_active (after_instruction t pc e s).status ≡ true
-calling_active t pc (Done cpu memory) s calls active = active
-calling_active t pc (Call cpu) s calls active = active
-calling_active t pc Break s calls active = absurd (let no : ⊥ = cc in no)
-calling_active t pc (Fault kind) s calls active = absurd (let no : ⊥ = cc in no)
-
-calling_running : (t pc : ℕ) (e : Effect) (s : Part) → is_call e ≡ true → s.running ≡ Some t → IsSome (after_instruction t pc e s).running
-calling_running t pc (Done cpu memory) s calls runs = subst IsSome (sym runs) refl
-calling_running t pc (Call cpu) s calls runs = subst IsSome (sym runs) refl
-calling_running t pc Break s calls runs = absurd (let no : ⊥ = cc in no)
-calling_running t pc (Fault kind) s calls runs = absurd (let no : ⊥ = cc in no)
-
 -- ---- of a partition's part
 
--- the partition still goes on when the call is carried out
-pub call_active : (n p t pc : ℕ) (e : Effect) (old mid : Kept) → AreParts n old → p < n → is_call e ≡ true → is_active (part_at p old).status ≡ true
-    → mid ≡ put_part p (after_instruction t pc e (part_at p old)) old → is_active (part_at p mid).status ≡ true
-call_active n p t pc e old mid parts lt calls active first =
-    ap (λ (s : Part). is_active s.status) (part_after n p (after_instruction t pc e (part_at p old)) old mid parts lt first)
-    ∙ calling_active t pc e (part_at p old) calls active
+-- an instruction and then its call are the step
+pub call_made : (n p tick : ℕ) (r : Runner) (calls : Bool) (old mid new : Kept) → AreParts n old → p < n → runner_of (part_at p old) ≡ Some r
+    → calls ≡ is_call (effect_at r.thread.cpu (part_at p old).memory) → calls ≡ true
+    → mid ≡ put_part p (after_instruction r.number r.thread.cpu.pc (effect_at r.thread.cpu (part_at p old).memory) (part_at p old)) old
+    → new ≡ put_part p (call_answer (limits_at p mid) tick (part_at p mid)).part mid
+    → new ≡ put_part p (after_effect (limits_at p old) tick r.number r.thread.cpu.pc (effect_at r.thread.cpu (part_at p old).memory) (part_at p old)) old
+call_made n p tick r calls old mid new parts lt runs told taken first second =
+    let s : Part = part_at p old in
+    let e : Effect = effect_at r.thread.cpu s.memory in
+    let alone : Part = after_instruction r.number r.thread.cpu.pc e s in
+    moved_then n p alone (λ limits part. (call_answer limits tick part).part) old mid new parts lt first second
+    ∙ ap (λ (b : Bool). put_part p (after_calling b (limits_at p old) tick alone) old) (sym (sym told ∙ taken))
+    ∙ ap (λ (part : Part). put_part p part old) (effect_parts (limits_at p old) tick r.thread.cpu.pc r e s runs)
 
--- and its thread still runs
-pub call_running : (n p pc : ℕ) (r : Runner) (e : Effect) (old mid : Kept) → AreParts n old → p < n → is_call e ≡ true → runner_of (part_at p old) ≡ Some r
-    → mid ≡ put_part p (after_instruction r.number pc e (part_at p old)) old → IsSome (part_at p mid).running
-call_running n p pc r e old mid parts lt calls runs first =
-    let at : part_at p mid ≡ after_instruction r.number pc e (part_at p old) = part_after n p (after_instruction r.number pc e (part_at p old)) old mid parts lt first in
-    subst (λ (s : Part). IsSome s.running) (sym at) (calling_running r.number pc e (part_at p old) calls (runner_runs (part_at p old) r runs))
-
--- the instruction and then its call
-pub call_made : (n p tick pc : ℕ) (r : Runner) (e : Effect) (old mid new : Kept) → AreParts n old → p < n → is_call e ≡ true → runner_of (part_at p old) ≡ Some r
-    → mid ≡ put_part p (after_instruction r.number pc e (part_at p old)) old → new ≡ put_part p (call_answer (limits_at p mid) tick (part_at p mid)).part mid
-    → new ≡ put_part p (after_effect (limits_at p old) tick r.number pc e (part_at p old)) old
-call_made n p tick pc r e old mid new parts lt calls runs first second =
-    let alone : Part = after_instruction r.number pc e (part_at p old) in
-    moved_then n p alone (λ limits s. (call_answer limits tick s).part) old mid new parts lt first second
-    ∙ ap (λ (b : Bool). put_part p (after_calling b (limits_at p old) tick alone) old) (sym calls)
-    ∙ ap (λ (s : Part). put_part p s old) (effect_parts (limits_at p old) tick pc r e (part_at p old) runs)
-
--- an instruction that makes no call
-pub no_call_made : (p tick pc : ℕ) (r : Runner) (e : Effect) (old new : Kept) → is_call e ≡ false → runner_of (part_at p old) ≡ Some r
-    → new ≡ put_part p (after_instruction r.number pc e (part_at p old)) old
-    → new ≡ put_part p (after_effect (limits_at p old) tick r.number pc e (part_at p old)) old
-no_call_made p tick pc r e old new calls runs first =
-    let alone : Part = after_instruction r.number pc e (part_at p old) in
+-- an instruction that makes no call is the step
+pub no_call_made : (p tick : ℕ) (r : Runner) (calls : Bool) (old new : Kept) → runner_of (part_at p old) ≡ Some r
+    → calls ≡ is_call (effect_at r.thread.cpu (part_at p old).memory) → calls ≡ false
+    → new ≡ put_part p (after_instruction r.number r.thread.cpu.pc (effect_at r.thread.cpu (part_at p old).memory) (part_at p old)) old
+    → new ≡ put_part p (after_effect (limits_at p old) tick r.number r.thread.cpu.pc (effect_at r.thread.cpu (part_at p old).memory) (part_at p old)) old
+no_call_made p tick r calls old new runs told left first =
+    let s : Part = part_at p old in
+    let e : Effect = effect_at r.thread.cpu s.memory in
+    let alone : Part = after_instruction r.number r.thread.cpu.pc e s in
     first
-    ∙ ap (λ (b : Bool). put_part p (after_calling b (limits_at p old) tick alone) old) (sym calls)
-    ∙ ap (λ (s : Part). put_part p s old) (effect_parts (limits_at p old) tick pc r e (part_at p old) runs)
+    ∙ ap (λ (b : Bool). put_part p (after_calling b (limits_at p old) tick alone) old) (sym (sym told ∙ left))
+    ∙ ap (λ (part : Part). put_part p part old) (effect_parts (limits_at p old) tick r.thread.cpu.pc r e s runs)

@@ -65,7 +65,6 @@ fn take_turn(tables: &mut Tables, p: PartId, tick: Tick, room: u32) -> Spent
 /// The step of the running thread, if its whole cost fits; Lost where it does not, and nothing changes.
 fn begin_step(tables: &mut Tables, p: PartId, tick: Tick, room: u32, runner: &Runner) -> Spent
     requires partition { p < length tables.old.limits }
-    requires active { is_active (part_at p tables.old).status ≡ true }
     requires runs { runner_of (part_at p tables.old) ≡ Some runner.now }
     ensures told { result ≡ spent_in_turn room (Some runner.now) (part_at p tables.old) }
     ensures moved { tables.new ≡ put_part p (after_turn (limits_at p tables.old) tick room (Some runner.now) (part_at p tables.old)) tables.old }

@@ -1,9 +1,8 @@
 //! One step of the running thread.
 
-ghost use Rattle.std.specs.Prelude.{◌≡◌, ◌<◌, true, length, Some};
+ghost use Rattle.std.specs.Prelude.{◌≡◌, ◌<◌, length, Some};
 ghost use Rattle.ptk_words_instructions.specs.Instructions.{effect_at};
 ghost use Rattle.ptk_words_model.specs.Decision.{after_effect, after_step, after_whole_step, runner_of};
-ghost use Rattle.ptk_words_model.specs.Run.{is_active};
 ghost use Rattle.ptk_gate_pools.specs.Kept.{part_at, put_part, limits_at};
 ghost use Rattle.ptk_kernel.specs.StepParts.{noted, stepped};
 
@@ -21,7 +20,6 @@ pub(crate) fn whole_step(
     kind: StepKind,
 )
     requires partition { p < length tables.old.limits }
-    requires active { is_active (part_at p tables.old).status ≡ true }
     requires runs { runner_of (part_at p tables.old) ≡ Some runner.now }
     ensures { tables.new ≡ put_part p (after_whole_step (limits_at p tables.old) tick runner.now kind (part_at p tables.old)) tables.old }
 {
@@ -33,7 +31,6 @@ pub(crate) fn whole_step(
 /// The step with its entry in the trace: the word before it, and the thread after it.
 fn make_step(tables: &mut Tables, p: PartId, tick: Tick, runner: &Runner, kind: StepKind)
     requires partition { p < length tables.old.limits }
-    requires active { is_active (part_at p tables.old).status ≡ true }
     requires runs { runner_of (part_at p tables.old) ≡ Some runner.now }
     ensures { tables.new ≡ put_part p (stepped (limits_at p tables.old) tick runner.now kind (part_at p tables.old)) tables.old }
 {
@@ -47,7 +44,6 @@ fn make_step(tables: &mut Tables, p: PartId, tick: Tick, runner: &Runner, kind: 
 #[tactic(auto, using(ptk_words_well::proofs::Decisions::runner_runs))]
 fn carry_out(tables: &mut Tables, p: PartId, tick: Tick, runner: &Runner, kind: StepKind)
     requires partition { p < length tables.old.limits }
-    requires active { is_active (part_at p tables.old).status ≡ true }
     requires runs { runner_of (part_at p tables.old) ≡ Some runner.now }
     ensures { tables.new ≡ put_part p (after_step (limits_at p tables.old) tick runner.now kind (part_at p tables.old)) tables.old }
 {
@@ -60,9 +56,9 @@ fn carry_out(tables: &mut Tables, p: PartId, tick: Tick, runner: &Runner, kind: 
 
 /// The step of an instruction: its effect on the registers and the memory, and then, of an ECALL, the call that the
 /// registers state.
+#[tactic(auto, using(ptk_words_well::proofs::Decisions::runner_runs))]
 fn instruct(tables: &mut Tables, p: PartId, tick: Tick, runner: &Runner)
     requires partition { p < length tables.old.limits }
-    requires active { is_active (part_at p tables.old).status ≡ true }
     requires runs { runner_of (part_at p tables.old) ≡ Some runner.now }
     ensures { tables.new ≡ put_part p (after_effect (limits_at p tables.old) tick runner.now.number runner.now.thread.cpu.pc (effect_at runner.now.thread.cpu (part_at p tables.old).memory) (part_at p tables.old)) tables.old }
 {

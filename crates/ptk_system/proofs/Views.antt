@@ -37,7 +37,7 @@ same_state a b p q is_a is_b same tick =
     ∙ (ap (λ (input : List Arrival). alone (own_ticks b.config.windows q) (section_at b.config q).limits (image_in b.files (section_at b.config q).image) input a.tick) same.input
     ∙ ap (alone (own_ticks b.config.windows q) (section_at b.config q).limits (image_in b.files (section_at b.config q).image) (section_at b.config q).input) tick)))
 
--- and writes the same
+-- a partition that is told the same writes the same part of the report
 pub same_report : (a b : World) (p q : ℕ) → IsConfiguration a.config → IsConfiguration b.config → SameView a p b q → a.tick ≡ b.tick → (section_at a.config p).name ≡ (section_at b.config q).name → part_report a p ≡ part_report b q
 same_report a b p q is_a is_b same tick name =
     ap (λ (n : List ℕ). report_text n (state_of a p)) name ∙ ap (report_text (section_at b.config q).name) (same_state a b p q is_a is_b same tick)
