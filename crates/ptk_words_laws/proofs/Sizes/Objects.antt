@@ -39,7 +39,7 @@ use Rattle.ptk_words_laws.proofs.Sizes.Pools.{length-pool_set, most_from_test}
 use Rattle.ptk_words_laws.proofs.Sizes.Locks.{SyncsSized, with_thread_sized, after_wake_sized, after_move_sized, after_unlock_sized, without_joiner_sized, after_unblock_sized}
 use Rattle.ptk_words_laws.proofs.Sizes.Parts.{KeysSized, Sized, with_locks_sized, with_syncs_sized, with_memory_sized, with_cancellation_sized, with_cleanups_sized, with_keys_sized, with_console_sized, woken_sized}
 use Rattle.ptk_words_laws.proofs.Sizes.Unwindings.{with_values_sized}
-use Rattle.ptk_words_laws.proofs.Sizes.Effects.{length-stored}
+use Rattle.ptk_words_laws.proofs.Sizes.Stores.{length-stored}
 use Rattle.ptk_words_laws.proofs.Sizes.Calls.{AnswerSized, answer_if, answer_either, given_sized, refusal_sized, success_sized, blocked_sized, blocked_in_sized, cancellation_sized, using_thread_sized}
 
 -- ---- pointers
