@@ -19,7 +19,7 @@ use Rattle.ptk_words_well.proofs.Parts.{well_memory, well_halt}
 use Rattle.ptk_words_well.proofs.Starts.{well_least_free}
 use Rattle.ptk_console.specs.ConsoleTable.{no_limits}
 use Rattle.ptk_gate_pools.specs.Kept.{Kept, part_at, put_part, limits_at}
-use Rattle.ptk_gate_pools.specs.StepMoves.{with_memory}
+use Rattle.ptk_gate_pools.specs.Moves.{with_memory}
 use Rattle.ptk_gate_pools.proofs.Parted.{part_at-put, put_part-put}
 use Rattle.ptk_gate.specs.Whole.{AreWhole}
 use Rattle.ptk_gate.proofs.Wholes.{are_whole_put, well_at}

@@ -19,7 +19,7 @@ use Rattle.ptk_words_well.proofs.Turns.{well_choice}
 use Rattle.ptk_words_well.proofs.Waits.{well_arrivals}
 use Rattle.ptk_words_well.proofs.Unwindings.{well_unwinding_start}
 use Rattle.ptk_words_well.proofs.Expiries.{expiries_none}
-use Rattle.ptk_gate_pools.specs.StepMoves.{with_last}
+use Rattle.ptk_gate_pools.specs.Moves.{with_last_step}
 use Rattle.ptk_gate_pools.specs.Kept.{Kept, AreParts, AreWell, part_at, put_part, limits_at}
 use Rattle.ptk_gate_pools.proofs.Parted.{part_at-put, part_at-other}
 use Rattle.ptk_gate.specs.Whole.{AreWhole}
@@ -98,9 +98,9 @@ whole_unwinding p t value kept new e are lt runs =
     are_whole_put p (after_unwinding_start t value s) kept new e are lt
     (well_unwinding_start (limits_at p kept) t value s (ready_alive (thread_at s.locks t) (well.running_ready t runs)) well)
 
-pub whole_last : (p : ℕ) (entry : Entry) (kept new : Kept) → new ≡ put_part p (with_last entry (part_at p kept)) kept → AreWhole kept → p < length kept.limits → AreWhole new
+pub whole_last : (p : ℕ) (entry : Entry) (kept new : Kept) → new ≡ put_part p (with_last_step entry (part_at p kept)) kept → AreWhole kept → p < length kept.limits → AreWhole new
 whole_last p entry kept new e are lt =
-    are_whole_put p (with_last entry (part_at p kept)) kept new e are lt (well_last (limits_at p kept) (Some entry) (part_at p kept) (well_at p kept are lt))
+    are_whole_put p (with_last_step entry (part_at p kept)) kept new e are lt (well_last (limits_at p kept) (Some entry) (part_at p kept) (well_at p kept are lt))
 
 pub ruleset wholes = (are_whole_put, well_at)
 

@@ -10,6 +10,7 @@ ghost use Rattle.ptk_gate.specs.Answers.{answer_of_call, registers_answer, call_
 use crate::names::{CallName, named_call};
 use crate::tables::Tables;
 use ptk_gate_console::{get, put};
+use ptk_gate_moves::{exit, leave, own_number, refuse};
 use ptk_gate_pools::Pools;
 use ptk_gate_steps::runner;
 use ptk_gate_threads::{
@@ -49,7 +50,7 @@ pub(crate) fn call_with(pools: &mut Pools, p: PartId, tick: Tick, t: ThreadNo, c
     let named = named_call(cpu.register(17));
     match named {
         Some(call) => carry_out(pools, call, p, i),
-        None => pools.refuse(p, i, Errno::ENOSYS),
+        None => refuse(pools, p, i, Errno::ENOSYS),
     }
 }
 
@@ -80,14 +81,14 @@ fn carry_out(pools: &mut Pools, call: CallName, p: PartId, i: Invocation) -> Rep
     ensures moved { pools.new ≡ put_part p (answer_of_call call i (part_at p pools.old)).part pools.old }
 {
     match call {
-        CallName::Exit => pools.exit(p, i),
+        CallName::Exit => exit(pools, p, i),
         CallName::Put => put(pools, p, i),
         CallName::Get => get(pools, p, i),
         CallName::Create => create(pools, p, i),
-        CallName::Leave => pools.leave(p, i),
+        CallName::Leave => leave(pools, p, i),
         CallName::Join => join(pools, p, i),
         CallName::Detach => detach(pools, p, i),
-        CallName::OwnNumber => pools.own_number(p, i),
+        CallName::OwnNumber => own_number(pools, p, i),
         CallName::Yield => yield_turn(pools, p, i),
         CallName::SetScheduling => setschedparam(pools, p, i),
         CallName::Scheduling => getschedparam(pools, p, i),

@@ -8,6 +8,7 @@ ghost use Rattle.ptk_words_model.specs.ThreadCreation.{with_new_thread};
 ghost use Rattle.ptk_gate_pools.specs.Kept.{part_at, put_part, limits_at};
 
 use crate::tables::Tables;
+use ptk_gate_moves::{begin, halt};
 use ptk_words::{
     Cpu, ImageFault, Limits, PartId, Phase, Policy, Priority, RETURN_GATE, Status, Thread, ThreadNo,
 };
@@ -27,10 +28,14 @@ impl Tables {
         let limits = self.pools.limits(p);
         if fits(&limits, text, data, bss) {
             self.pools.fill_memory(p, text, data);
-            self.pools
-                .begin(p, ThreadNo::new(1), main_thread(&limits, entry));
+            begin(
+                &mut self.pools,
+                p,
+                ThreadNo::new(1),
+                main_thread(&limits, entry),
+            );
         } else {
-            self.pools.halt(p, Status::Refused(ImageFault::Unfit));
+            halt(&mut self.pools, p, Status::Refused(ImageFault::Unfit));
         }
     }
 
@@ -41,7 +46,7 @@ impl Tables {
         requires blank { part_at p self.old ≡ empty_part (limits_at p self.old) (part_at p self.old).console.coming }
         ensures { self.new ≡ put_part p (with_image (limits_at p self.old) (Err fault) (part_at p self.old)) self.old }
     {
-        self.pools.halt(p, Status::Refused(fault));
+        halt(&mut self.pools, p, Status::Refused(fault));
     }
 }
 

@@ -14,6 +14,7 @@ ghost use Rattle.ptk_gate_pools.specs.Kept.{part_at, put_part, limits_at};
 use crate::calls::call_with;
 use crate::tables::Tables;
 use ptk_gate_console::arrive_due;
+use ptk_gate_moves::{count_interval, start_unwinding};
 use ptk_gate_steps::{instruct, runner, step_kind, traced_word};
 use ptk_gate_threads::{choose, step_at_gate};
 use ptk_words::{CANCELED, Cpu, Entry, PartId, Thread, ThreadNo, Tick};
@@ -70,7 +71,7 @@ impl Tables {
         requires partition { p < length self.now.limits }
         ensures { result ≡ thread_at (part_at p self.now).locks t }
     {
-        self.pools.thread(p, t)
+        self.pools.threads().thread(p, t)
     }
 
     /// The running thread, which is cancelled, begins its unwinding (XSH 2.9.5.2).
@@ -80,7 +81,7 @@ impl Tables {
         requires running { (part_at p self.old).running ≡ Some t }
         ensures { self.new ≡ put_part p (after_unwinding_start t CANCELED (part_at p self.old)) self.old }
     {
-        self.pools.start_unwinding(p, t, CANCELED);
+        start_unwinding(&mut self.pools, p, t, CANCELED);
     }
 
     /// A step of the running thread at the return gate: a normal thread's start routine has returned, an unwinding one
@@ -118,7 +119,7 @@ impl Tables {
         ensures { self.new ≡ put_part p (after_interval (limits_at p self.old).interval cost t (thread_at (part_at p self.old).locks t) (part_at p self.old)) self.old }
     {
         let limits = self.pools.limits(p);
-        self.pools.count_interval(p, limits.interval, cost, t);
+        count_interval(&mut self.pools, p, limits.interval, cost, t);
     }
 
     /// The last step is this one.

@@ -13,7 +13,7 @@ use Rattle.ptk_words_well.specs.Well.{IsWell}
 use Rattle.ptk_console.specs.ConsoleTable.{next_byte, without_next, with_any_input, no_limits}
 use Rattle.ptk_console.specs.ConsoleTable as console
 use Rattle.ptk_gate_pools.specs.Kept.{Kept, AreParts, part_at, put_part, limits_at}
-use Rattle.ptk_gate_pools.specs.StepMoves.{with_next_taken}
+use Rattle.ptk_gate_pools.specs.Moves.{with_next_taken}
 use Rattle.ptk_gate_console.specs.Arrivals.{after_byte, after_next, after_next_of}
 use Rattle.ptk_gate_pools.proofs.Parted.{part_at-put, put_part-put}
 use Rattle.ptk_gate_pools.proofs.Ranks.{put_same}

@@ -1,19 +1,20 @@
 -- One byte that arrives.
 use Rattle.std.specs.Prelude.{ℕ, Option, Some, None}
+use Rattle.ptk_words.specs.Names.{Byte, Tick}
 use Rattle.ptk_words_model.specs.State.{Part}
 use Rattle.ptk_words_model.specs.Decision.{after_arrival_for, first_waiter}
 use Rattle.ptk_console.specs.ConsoleTable.{next_byte}
-use Rattle.ptk_gate_pools.specs.StepMoves.{with_next_taken}
+use Rattle.ptk_gate_pools.specs.Moves.{with_next_taken}
 
--- a byte that arrives goes to the waiter of greatest effective priority, or into the ring, or is lost (own)
-abbrev pub after_byte : ℕ → ℕ → Part → Part
+-- the byte goes to the waiter of greatest effective priority, or into a ring of this limit, or is lost (own)
+abbrev pub after_byte : ℕ → Byte → Part → Part
 after_byte limit byte s = after_arrival_for (first_waiter s) limit byte s
 
--- the next byte, if it is due, taken and brought to its place (own)
-abbrev pub after_next_of : Option ℕ → ℕ → ℕ → Part → Part
+-- this byte, if one is due, is taken from the input to come and brought to its place
+abbrev pub after_next_of : Option Byte → ℕ → Tick → Part → Part
 after_next_of None limit tick s = s
 after_next_of (Some byte) limit tick s = after_byte limit byte (with_next_taken tick s)
 
--- the same of the state's next byte (own)
-abbrev pub after_next : ℕ → ℕ → Part → Part
+-- the next byte to come, if it is due at the tick, is brought to its place
+abbrev pub after_next : ℕ → Tick → Part → Part
 after_next limit tick s = after_next_of (next_byte tick s.console) limit tick s

@@ -12,6 +12,7 @@ ghost use Rattle.ptk_console.specs.ConsoleTable.{next_byte};
 ghost use Rattle.ptk_gate_pools.specs.Kept.{AreParts, part_at, put_part, limits_at};
 ghost use Rattle.ptk_gate_console.specs.Arrivals.{after_next};
 
+use ptk_gate_moves::wake;
 use ptk_gate_pools::Pools;
 use ptk_words::{PartId, ThreadNo, Tick};
 
@@ -25,7 +26,7 @@ fn hand_byte(pools: &mut Pools, p: PartId, t: ThreadNo, byte: u8)
 {
     let _parts = pools.parts();
     pools.leave_waiters(p, t);
-    pools.wake(p, t, &[0, byte as u32]);
+    wake(pools, p, t, &[0, byte as u32]);
 }
 
 /// Hands the next input byte, if it comes at the tick or before, to the first waiter; whether one came.

@@ -1,10 +1,11 @@
 //! Calls 1 and 2: the console.
 
 ghost use Rattle.std.specs.Prelude.{◌≡◌, ◌<◌, length};
-ghost use Rattle.ptk_words_model.specs.ConsoleCalls.{console_put, console_get, console_get_answer};
+ghost use Rattle.ptk_words_model.specs.ConsoleCalls.{console_put, console_get, take_input};
 ghost use Rattle.ptk_console.specs.ConsoleTable.{IsNotWaiting};
 ghost use Rattle.ptk_gate_pools.specs.Kept.{part_at, put_part, limits_at};
 
+use ptk_gate_moves::{block, cancel, is_cancelled, refuse, succeed, succeed_with};
 use ptk_gate_pools::Pools;
 use ptk_words::{Errno, PartId, Wait};
 use ptk_words_model::{Invocation, Reply};
@@ -19,12 +20,12 @@ pub fn put(pools: &mut Pools, p: PartId, i: Invocation) -> Reply
     ensures moved { pools.new ≡ put_part p (console_put i (part_at p pools.old)).part pools.old }
 {
     let _parts = pools.parts();
-    if pools.is_cancelled(p, i.caller) {
-        pools.cancel(p, i)
+    if is_cancelled(pools, p, i.caller) {
+        cancel(pools, p, i)
     } else if pools.put_byte(p, (i.a0 % 256) as u8) {
-        pools.succeed(p, i)
+        succeed(pools, p, i)
     } else {
-        pools.refuse(p, i, Errno::EAGAIN)
+        refuse(pools, p, i, Errno::EAGAIN)
     }
 }
 
@@ -37,8 +38,8 @@ pub fn get(pools: &mut Pools, p: PartId, i: Invocation) -> Reply
     ensures moved { pools.new ≡ put_part p (console_get i (part_at p pools.old)).part pools.old }
 {
     let _parts = pools.parts();
-    if pools.is_cancelled(p, i.caller) {
-        pools.cancel(p, i)
+    if is_cancelled(pools, p, i.caller) {
+        cancel(pools, p, i)
     } else {
         take_or_wait(pools, p, i)
     }
@@ -49,16 +50,16 @@ pub fn get(pools: &mut Pools, p: PartId, i: Invocation) -> Reply
 fn take_or_wait(pools: &mut Pools, p: PartId, i: Invocation) -> Reply
     requires partition { p < length pools.old.limits }
     requires new { IsNotWaiting i.caller (part_at p pools.old).console }
-    ensures told { result ≡ (console_get_answer (part_at p pools.old).console.ring i (part_at p pools.old)).reply }
-    ensures moved { pools.new ≡ put_part p (console_get_answer (part_at p pools.old).console.ring i (part_at p pools.old)).part pools.old }
+    ensures told { result ≡ (take_input (part_at p pools.old).console.ring i (part_at p pools.old)).reply }
+    ensures moved { pools.new ≡ put_part p (take_input (part_at p pools.old).console.ring i (part_at p pools.old)).part pools.old }
 {
     let _parts = pools.parts();
     let taken = pools.take_byte(p);
     match taken {
-        Some(byte) => pools.succeed_with(p, i, byte as u32),
+        Some(byte) => succeed_with(pools, p, i, byte as u32),
         None => {
             pools.add_waiter(p, i.caller);
-            pools.block(p, i, Wait::InputWait)
+            block(pools, p, i, Wait::InputWait)
         }
     }
 }

@@ -1,10 +1,7 @@
 pub mod Parted
-pub mod Registers
+pub mod Numbers
 pub mod Stored
-pub mod Ready
-pub mod Priorities
 pub mod Built
-pub mod Creations
 pub mod Ranks
 pub mod Opened
 pub mod Filled

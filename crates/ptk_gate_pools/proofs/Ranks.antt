@@ -44,10 +44,10 @@ pub stored_first : (p : ℕ) (o : Option ℕ) (ts : List ℕ) (stored : List (Li
 stored_first p o ts stored threads limits e are = e ∙ stored_choice p ts stored threads limits are
 
 -- the first waiter by the stored priorities
-pub stored_waiter : (p : ℕ) (o : Option ℕ) (s : Part) (row ws : List ℕ) (stored : List (List ℕ)) (threads : List (List (Option Thread))) (limits : List Limits) → o ≡ first_of_greatest (stored_of row) ws → row ≡ part_of stored p → ws ≡ s.console.waiters → AreStored stored threads limits
+pub stored_waiter : (p : ℕ) (o : Option ℕ) (s : Part) (ws : List ℕ) (stored : List (List ℕ)) (threads : List (List (Option Thread))) (limits : List Limits) → o ≡ first_of_greatest (stored_of (part_of stored p)) ws → ws ≡ s.console.waiters → AreStored stored threads limits
     → s.threads ≡ part_of threads p → s.mutexes ≡ part_of (per_section {A = Option Mutex} (λ l. l.mutexes) None limits) p → o ≡ first_waiter s
-stored_waiter p o s row ws stored threads limits e row_is ws_is are same free =
-    e ∙ ap (λ (r : List ℕ). first_of_greatest (stored_of r) ws) row_is ∙ ap (first_of_greatest (stored_of (part_of stored p))) ws_is
+stored_waiter p o s ws stored threads limits e ws_is are same free =
+    e ∙ ap (first_of_greatest (stored_of (part_of stored p))) ws_is
     ∙ stored_choice p s.console.waiters stored threads limits are
     ∙ ap (λ (ts : List (Option Thread)). first_of_greatest (effective_of ts (part_of (per_section {A = Option Mutex} (λ l. l.mutexes) None limits) p)) s.console.waiters) (sym same)
     ∙ ap (λ (ms : List (Option Mutex)). first_of_greatest (effective_of s.threads ms) s.console.waiters) (sym free)

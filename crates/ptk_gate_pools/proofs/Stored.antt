@@ -1,6 +1,6 @@
 -- Stored priorities stay the effective ones: with no mutex in use, the assigned ones.
 use Rattle.std.proofs.Common.{◌≡◌, ◌≢◌, ℕ, zero, suc, List, [], ◌∷◌, ◌++◌, length, map, get_or, refl, sym, ◌∙◌, ap, ◌⊎◌, inl, inr, subst}
-use Rattle.std.specs.Prelude.{Option, Some, None, option_map, unwrap_or, replicate, slice_get, slice_index_or}
+use Rattle.std.specs.Prelude.{Bool, true, false, if◌then◌else◌, Option, Some, None, option_map, option_and_then, unwrap_or, replicate, slice_get, slice_index_or}
 use Rattle.std.specs.Option.{option_flatten}
 use Rattle.std.proofs.Math.ListN.{set}
 use Rattle.std.proofs.Math.Seq.{map-set_same}
@@ -12,7 +12,9 @@ use Rattle.ptk_words.specs.declared.threads.Thread.{Thread}
 use Rattle.ptk_words_parted.specs.Parts.{part_of}
 use Rattle.ptk_words_model.specs.Priority.{assigned_of, effective_priorities}
 use Rattle.ptk_words_well.proofs.Priorities.{priorities_free}
-use Rattle.ptk_threads.specs.Table.{ThreadTable, thread_in, with_changed, with_slot}
+use Rattle.ptk_threads.specs.Table.{ThreadTable, thread_in, with_changed, with_slot, with_rest, with_left}
+use Rattle.ptk_words.specs.Threads.{is_ended, is_taken, left_at_end, left_at_detach}
+use Rattle.ptk_words.specs.declared.threads.Phase.TheVariants.{Ended}
 use Rattle.ptk_console.specs.ConsoleTable.{no_limits}
 use Rattle.ptk_gate_pools.specs.Kept.{AreStored}
 
@@ -128,7 +130,31 @@ stored_changed p k f table new limits e keeps are =
     rw e (of_levels table.stored (set table.threads p (pool_changed k f (part_of table.threads p))) limits
     (λ q. changed_row p q k f table.stored table.threads keeps (levels_of table.stored table.threads limits are) (cases_eq q p)))
 
+-- a thread is changed as its priority stays, or its number is free
+stored_rest : (p k : ℕ) (b : Bool) (g : Thread → Thread) (thread : Thread) (table new : ThreadTable) (limits : List Limits) → thread_in table p k ≡ Some thread → new ≡ with_rest p k (if b then None else Some (g thread)) table
+    → ((th : Thread) → (g th).priority ≡ th.priority) → AreStored table.stored table.threads limits → AreStored new.stored new.threads limits
+stored_rest p k true g thread table new limits is e keeps are = stored_slot p k None table new limits e are
+stored_rest p k false g thread table new limits is e keeps are =
+    stored_changed p k g table new limits (e ∙ ap (λ o. record table { threads = set table.threads p (pool_set (part_of table.threads p) k (option_map g o)) }) (sym is)) keeps are
+
+stored_left_by : (p k : ℕ) (b : Thread → Bool) (g : Thread → Thread) (o : Option Thread) (table new : ThreadTable) (limits : List Limits) → thread_in table p k ≡ o
+    → new ≡ with_rest p k (option_and_then (λ thread. if b thread then None else Some (g thread)) o) table → ((th : Thread) → (g th).priority ≡ th.priority) → AreStored table.stored table.threads limits → AreStored new.stored new.threads limits
+stored_left_by p k b g None table new limits is e keeps are = stored_slot p k None table new limits e are
+stored_left_by p k b g (Some thread) table new limits is e keeps are = stored_rest p k (b thread) g thread table new limits is e keeps are
+
+-- what a thread leaves at its end
+pub stored_end : (p k : ℕ) (table new : ThreadTable) (limits : List Limits) → new ≡ with_left p k left_at_end table → AreStored table.stored table.threads limits → AreStored new.stored new.threads limits
+stored_end p k table new limits e are =
+    stored_left_by p k is_taken (λ thread. record thread { phase = Ended }) (thread_in table p k) table new limits refl e (λ th. refl) are
+
+-- and once it is detached
+pub stored_detached : (p k : ℕ) (table new : ThreadTable) (limits : List Limits) → new ≡ with_left p k left_at_detach table → AreStored table.stored table.threads limits → AreStored new.stored new.threads limits
+stored_detached p k table new limits e are =
+    stored_left_by p k (λ thread. is_ended thread.phase) (λ thread. record thread { is_detached = true }) (thread_in table p k) table new limits refl e (λ th. refl) are
+
 pub ruleset stored = (stored_changed, stored_slot)
+
+pub ruleset left = (stored_end, stored_detached)
 
 -- a thread's assigned priority and its stored one are written
 pub stored_raised : (p k n : ℕ) (f : Thread → Thread) (thread : Thread) (table mid new : ThreadTable) (limits : List Limits) → thread_in table p k ≡ Some thread → (f thread).priority ≡ n

@@ -7,7 +7,7 @@ use Rattle.ptk_words_model.specs.ThreadCreation.{new_cancellation}
 use Rattle.ptk_words_model.specs.State.{Console}
 use Rattle.ptk_gate_pools.specs.Kept.{Kept, per_section}
 
--- for each section: memory all 0, every number free, the line empty, no thread running, and these consoles (own)
+-- for each section: memory all 0, every number free, the line empty, no thread running, and these consoles
 abbrev pub blank : List Limits → List Console → Kept
 blank limits consoles =
     record {

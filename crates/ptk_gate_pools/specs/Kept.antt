@@ -14,7 +14,7 @@ use Rattle.ptk_words_model.specs.Priority.{effective_priorities}
 use Rattle.ptk_words_well.specs.Well.{IsWell}
 use Rattle.ptk_console.specs.ConsoleTable.{fresh_console, no_limits}
 
--- each component as a list with an entry for each partition (own)
+-- each component as a list with an entry for each partition
 pub record Kept : Type 0 where
   pub memory : List (List ℕ)
   pub threads : List (List (Option Thread))
@@ -32,11 +32,11 @@ pub record Kept : Type 0 where
   pub lasts : List (Option Entry)
   pub limits : List Limits
 
--- the numbers of a partition's section (own)
+-- the numbers of a partition's section
 abbrev pub limits_at : ℕ → Kept → Limits
 limits_at p kept = slice_index_or kept.limits p no_limits
 
--- one partition's part of the tables (own)
+-- one partition's part of the tables
 abbrev pub part_at : ℕ → Kept → Part
 part_at p kept =
     record {
@@ -58,7 +58,7 @@ part_at p kept =
       last = slice_index_or kept.lasts p None;
     }
 
--- the tables with this as the partition's part; every other partition's part stays (own)
+-- the tables with this as the partition's part; every other partition's part stays
 abbrev pub put_part : ℕ → Part → Kept → Kept
 put_part p s kept =
     record {
@@ -79,11 +79,11 @@ put_part p s kept =
       limits = kept.limits;
     }
 
--- a list of the same length for each section (own)
+-- for each section a list of as many entries as its count
 abbrev pub per_section : {A : Type 0} → (Limits → ℕ) → A → List Limits → List (List A)
 per_section count a limits = map (λ l. replicate (count l) a) limits
 
--- so many partitions have an entry in every component (own)
+-- so many partitions have an entry in every component
 pub record AreParts (n : ℕ) (kept : Kept) : Type 0 where
   pub few : n ≤ 8
   pub memory : length kept.memory ≡ n
@@ -101,7 +101,7 @@ pub record AreParts (n : ℕ) (kept : Kept) : Type 0 where
   pub statuses : length kept.statuses ≡ n
   pub lasts : length kept.lasts ≡ n
 
--- every partition's part is whole (own)
+-- every partition's part is whole
 pub record AreWell (kept : Kept) : Type 0 where
   pub parts : AreParts (length kept.limits) kept
   pub wells : (p : ℕ) → p < length kept.limits → IsWell (limits_at p kept) (part_at p kept)

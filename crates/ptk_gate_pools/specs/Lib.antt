@@ -1,5 +1,4 @@
 pub mod Kept
+pub mod Pooled
 pub mod Moves
 pub mod Blank
-pub mod Creates
-pub mod StepMoves

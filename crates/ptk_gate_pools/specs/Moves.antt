@@ -1,59 +1,54 @@
--- Changes of one entry, by name.
-use Rattle.std.specs.Prelude.{ℕ, Bool, false, ◌&&◌, Option, Some, None, option_map, unwrap_or}
-use Rattle.ptk_words.specs.declared.TheConstants.{RETURN_GATE}
+-- Changes of one component, by name.
+use Rattle.std.specs.Prelude.{false, List, [], ◌∷◌, ◌++◌, Option, Some, None}
+use Rattle.ptk_words.specs.Names.{ThreadNumber, Tick, Byte}
+use Rattle.ptk_words.specs.declared.faults.Status.{Status}
+use Rattle.ptk_words.specs.declared.sections.Entry.{Entry}
 use Rattle.ptk_words.specs.declared.threads.Thread.{Thread}
-use Rattle.ptk_words.specs.declared.threads.Policy.{Policy}
-use Rattle.ptk_words.specs.declared.threads.Phase.{Phase}
-use Rattle.ptk_words.specs.declared.threads.Phase.TheVariants.{Unwinding, Ended}
-use Rattle.ptk_words.specs.Pools.{without}
+use Rattle.ptk_words.specs.Pools.{pool_set, pool_left, without}
 use Rattle.ptk_words_model.specs.declared.Cancellation.{Cancellation}
-use Rattle.ptk_words_model.specs.State.{Locks, Part}
+use Rattle.ptk_words_model.specs.State.{Locks, Part, with_console}
+use Rattle.ptk_console.specs.ConsoleTable.{without_next}
+
+-- the number is the thread's (pthread_create)
+abbrev pub with_number : ThreadNumber → Thread → Locks → Locks
+with_number t thread locks = record locks { threads = pool_set locks.threads t (Some thread) }
+
+-- what f leaves of the thread of a number, which is free where f leaves nothing
+abbrev pub with_left : ThreadNumber → (Thread → Option Thread) → Locks → Locks
+with_left t f locks = record locks { threads = pool_left t f locks.threads }
+
+-- the thread is the last in the line (XSH 2.8.4)
+abbrev pub with_last : ThreadNumber → Locks → Locks
+with_last t locks = record locks { line = locks.line ++ t ∷ [] }
+
+-- the line without a thread (XSH 2.8.4)
+abbrev pub out_of_line : ThreadNumber → Locks → Locks
+out_of_line t locks = record locks { line = without t locks.line }
+
+-- no thread runs
+abbrev pub stopped : Part → Part
+stopped s = record s { running = None }
+
+-- this thread runs
+abbrev pub run_by : ThreadNumber → Part → Part
+run_by t s = record s { running = Some t }
 
 -- cancellation is disabled and deferred, and the mark is taken (XSH 2.9.5.3)
 abbrev pub disabled : Cancellation → Cancellation
 disabled c = record c { is_enabled = false; is_asynchronous = false; is_marked = false }
 
--- the thread unwinds with this result, and its next step is at the return gate (pthread_exit)
-abbrev pub unwinding : ℕ → Thread → Thread
-unwinding value thread = record thread { cpu = record (thread.cpu) { pc = RETURN_GATE }; result = value; phase = Unwinding }
+-- this status
+abbrev pub with_status : Status → Part → Part
+with_status status s = record s { status = status }
 
--- the phase of a thread, that of an ended one for a free number (own)
-abbrev pub phase_or_ended : Option Phase → Phase
-phase_or_ended None = Ended
-phase_or_ended (Some phase) = phase
+-- the last step is this one
+abbrev pub with_last_step : Entry → Part → Part
+with_last_step entry s = record s { last = Some entry }
 
--- enabled, with a pending request (XSH 2.9.5.2)
-abbrev pub is_acting : Option Cancellation → Bool
-is_acting c = unwrap_or (option_map (λ c. c.is_enabled && c.is_pending) c) false
+-- another memory (RISC-V 1.4)
+abbrev pub with_memory : List Byte → Part → Part
+with_memory memory s = record s { memory = memory }
 
--- the line without a thread (XSH 2.8.4)
-abbrev pub out_of_line : ℕ → Locks → Locks
-out_of_line t locks = record locks { line = without t locks.line }
-
--- no thread runs (own)
-abbrev pub stopped : Part → Part
-stopped s = record s { running = None }
-
--- this thread runs (own)
-abbrev pub run_by : ℕ → Part → Part
-run_by t s = record s { running = Some t }
-
--- a policy and a priority, with no ticks used (pthread_setschedparam)
-abbrev pub with_scheduling : Policy → ℕ → Thread → Thread
-with_scheduling policy priority thread = record thread { policy = policy; priority = priority; used = 0 }
-
--- a policy (pthread_setschedparam)
-abbrev pub with_policy : Policy → Thread → Thread
-with_policy policy thread = record thread { policy = policy }
-
--- an assigned priority (pthread_setschedprio)
-abbrev pub with_priority : ℕ → Thread → Thread
-with_priority priority thread = record thread { priority = priority }
-
--- the thread's end is waited for by this one (pthread_join)
-abbrev pub with_joiner : ℕ → Thread → Thread
-with_joiner joiner thread = record thread { joiner = Some joiner }
-
--- the thread has ended (pthread_exit)
-abbrev pub as_ended : Thread → Thread
-as_ended thread = record thread { phase = Ended }
+-- the next byte that is due is no longer to come
+abbrev pub with_next_taken : Tick → Part → Part
+with_next_taken tick s = with_console (without_next tick) s

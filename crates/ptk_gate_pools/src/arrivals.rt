@@ -1,18 +1,16 @@
 //! Input that arrives: the next byte, and the waiter that it goes to (own choice).
 
 ghost use Rattle.std.specs.Prelude.{◌≡◌, ◌<◌, length, is_some};
-ghost use Rattle.ptk_words.specs.Pools.{greatest, first_of_greatest};
 ghost use Rattle.ptk_words_model.specs.State.{with_console};
 ghost use Rattle.ptk_words_model.specs.Console.{without_waiter};
 ghost use Rattle.ptk_words_model.specs.Decision.{first_waiter};
-ghost use Rattle.ptk_threads.specs.Table.{stored_of};
 ghost use Rattle.ptk_console.specs.ConsoleTable.{next_byte};
 ghost use Rattle.ptk_console.specs.ConsoleTable as console;
 ghost use Rattle.ptk_gate_pools.specs.Kept.{part_at, put_part, limits_at};
-ghost use Rattle.ptk_gate_pools.specs.StepMoves.{with_next_taken};
+ghost use Rattle.ptk_gate_pools.specs.Moves.{with_next_taken};
 
 use crate::pools::Pools;
-use ptk_threads::stored_in;
+use ptk_ready::first_of_greatest;
 use ptk_words::{PartId, ThreadNo, Tick};
 
 impl Pools {
@@ -22,7 +20,7 @@ impl Pools {
         requires partition { p < length self.now.limits }
         ensures { result ≡ first_waiter (part_at p self.now) }
     {
-        first_of_greatest(self.consoles.waiters(p), self.threads.stored(p))
+        first_of_greatest(&self.threads, p, self.consoles.waiters(p))
     }
 
     /// Takes the next input byte, if it comes at the tick or before; None, and nothing changes, where none is due.
@@ -54,26 +52,4 @@ impl Pools {
     {
         self.consoles.arrive(p, tick)
     }
-}
-
-/// The first of these threads of the greatest stored priority, None of none.
-fn first_of_greatest(threads: &[ThreadNo], stored: &[u8]) -> Option<ThreadNo>
-    ensures { result ≡ first_of_greatest (stored_of stored.now) threads.now }
-{
-    let most = greatest_of(threads, stored);
-    threads
-        .iter()
-        .copied()
-        .find(|t| stored_in(stored, *t) == most)
-}
-
-/// The greatest stored priority of these threads, 0 of none.
-fn greatest_of(threads: &[ThreadNo], stored: &[u8]) -> u8
-    ensures { result ≡ greatest (stored_of stored.now) threads.now }
-{
-    let mut most = 0;
-    for t in threads {
-        most = most.max(stored_in(stored, *t));
-    }
-    most
 }

@@ -10,6 +10,22 @@ use crate::pools::Pools;
 use ptk_words::{PartId, ThreadNo};
 
 impl Pools {
+    /// The partition's output so far.
+    pub fn output(&self, p: PartId) -> &[u8]
+        requires { p < length self.now.limits }
+        ensures { result.now ≡ (part_at p self.now).console.output }
+    {
+        self.consoles.output(p)
+    }
+
+    /// How many of the partition's input bytes were lost.
+    pub fn dropped(&self, p: PartId) -> u64
+        requires { p < length self.now.limits }
+        ensures { result ≡ (part_at p self.now).console.dropped }
+    {
+        self.consoles.dropped(p)
+    }
+
     /// Appends a byte to the output; false, and nothing changes, where the output is full.
     #[tactic(auto, using(crate::proofs::Parted::parted))]
     pub fn put_byte(&mut self, p: PartId, byte: u8) -> bool

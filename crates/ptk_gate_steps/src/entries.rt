@@ -3,8 +3,8 @@
 ghost use Rattle.std.specs.Prelude.{◌≡◌};
 ghost use Rattle.ptk_words_model.specs.Decision.{a0_after};
 
-use ptk_gate_pools::is_ended;
-use ptk_words::{Entry, Thread, Tick};
+use ptk_gate_moves::is_ended;
+use ptk_words::{A0, Entry, Thread, Tick};
 use ptk_words_model::Runner;
 
 /// A step as the trace keeps it, with the word that it fetched and the thread after it.
@@ -29,8 +29,8 @@ fn a0_after(before: &Thread, after: Option<Thread>) -> u32
     match after {
         Some(thread) if !is_ended(thread.phase) => {
             let cpu = thread.cpu;
-            cpu.register(10)
+            cpu.register(A0)
         }
-        _ => earlier.register(10),
+        _ => earlier.register(A0),
     }
 }

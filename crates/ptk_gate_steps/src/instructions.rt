@@ -5,6 +5,7 @@ ghost use Rattle.ptk_words_instructions.specs.Instructions.{effect_at};
 ghost use Rattle.ptk_gate_pools.specs.Kept.{part_at, put_part};
 ghost use Rattle.ptk_gate_steps.specs.Instructions.{after_instruction, call_in, settled, called};
 
+use ptk_gate_moves::halt;
 use ptk_gate_pools::Pools;
 use ptk_rv32i::Outcome;
 use ptk_words::{Cause, Cpu, PartId, Status, ThreadNo};
@@ -49,11 +50,11 @@ fn settle(
             Some(cpu)
         }
         Outcome::Break => {
-            pools.halt(p, Status::Stopped(Cause::Break, pc));
+            halt(pools, p, Status::Stopped(Cause::Break, pc));
             None
         }
         Outcome::Fault(kind) => {
-            pools.halt(p, Status::Stopped(Cause::Fault(kind), pc));
+            halt(pools, p, Status::Stopped(Cause::Fault(kind), pc));
             None
         }
     }

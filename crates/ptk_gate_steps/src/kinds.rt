@@ -4,8 +4,9 @@ ghost use Rattle.std.specs.Prelude.{◌≡◌, ◌<◌, ◌≤◌, length};
 ghost use Rattle.ptk_words_model.specs.Decision.{runner_of, word_fetched, step_kind, step_cost, traced_word};
 ghost use Rattle.ptk_gate_pools.specs.Kept.{part_at};
 
+use ptk_gate_moves::is_to_unwind;
 use ptk_gate_pools::Pools;
-use ptk_words::{PartId, RETURN_GATE, Thread, ThreadNo, cost};
+use ptk_words::{A7, ECALL, PartId, RETURN_GATE, Thread, ThreadNo, cost, read_word};
 use ptk_words_model::{Runner, StepKind};
 
 /// The thread that runs, if one does.
@@ -13,8 +14,9 @@ pub fn runner(pools: &Pools, p: PartId) -> Option<Runner>
     requires partition { p < length pools.now.limits }
     ensures { result ≡ runner_of (part_at p pools.now) }
 {
+    let _parts = pools.parts();
     match pools.running(p) {
-        Some(number) => match pools.thread(p, number) {
+        Some(number) => match pools.threads().thread(p, number) {
             Some(thread) => Some(Runner { number, thread }),
             None => None,
         },
@@ -29,12 +31,12 @@ pub fn step_kind(pools: &Pools, p: PartId, t: ThreadNo, thread: &Thread) -> Step
 {
     let _parts = pools.parts();
     let cpu = thread.cpu;
-    if pools.is_to_unwind(p, t, thread) {
+    if is_to_unwind(pools, p, t, thread) {
         StepKind::UnwindingStart
     } else if cpu.pc() == RETURN_GATE {
         StepKind::GateStep
-    } else if word_fetched(pools.regions().part(p), cpu.pc()) == 0x73 {
-        StepKind::CallStep(cpu.register(17))
+    } else if word_fetched(pools.regions().part(p), cpu.pc()) == ECALL {
+        StepKind::CallStep(cpu.register(A7))
     } else {
         StepKind::InstructionStep
     }
@@ -61,7 +63,7 @@ fn word_fetched(memory: &[u8], pc: u32) -> u32
 {
     let at = pc as usize;
     if pc % 4 == 0 && at + 4 <= memory.len() {
-        u32::from_le_bytes([memory[at], memory[at + 1], memory[at + 2], memory[at + 3]])
+        read_word(memory, at)
     } else {
         0
     }

@@ -9,7 +9,8 @@ use Rattle.ptk_words_model.specs.Schedule.{with_thread}
 use Rattle.ptk_words_model.specs.Calls.{Answer, refusal, success}
 use Rattle.ptk_words_model.specs.ThreadCalls.{after_placing_at_tail, after_priority_change}
 use Rattle.ptk_words_model.specs.ThreadCreation.{is_priority}
-use Rattle.ptk_gate_pools.specs.Moves.{with_scheduling, with_priority}
+use Rattle.ptk_threads.specs.Table.{with_priority}
+use Rattle.ptk_gate_moves.specs.Moves.{with_scheduling}
 use Rattle.ptk_gate_threads.specs.Creates.{priority_of}
 use Rattle.ptk_gate_threads.specs.Scheduling.{scheduled_with, prioritized_from}
 

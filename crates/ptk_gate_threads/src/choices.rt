@@ -37,7 +37,7 @@ fn preempt(pools: &mut Pools, p: PartId, running: ThreadNo, t: ThreadNo)
 
 /// The running thread stays but for a greater effective priority; it then stands first in the line, and the thread
 /// of that priority runs.
-#[tactic(auto, using(ptk_gate_pools::proofs::Parted::parted, ptk_gate_pools::proofs::Ready::ready, ptk_gate_pools::proofs::Ranks::same))]
+#[tactic(auto, using(ptk_gate_pools::proofs::Parted::parted, ptk_gate_moves::proofs::Ready::ready, ptk_gate_pools::proofs::Ranks::same))]
 fn choose_over(pools: &mut Pools, p: PartId, running: ThreadNo, t: ThreadNo)
     requires partition { p < length pools.old.limits }
     requires in_use { IsSome (thread_at (part_at p pools.old).locks running) }
@@ -51,7 +51,7 @@ fn choose_over(pools: &mut Pools, p: PartId, running: ThreadNo, t: ThreadNo)
 
 /// The running thread is chosen: the first of the line's greatest effective priority, unless one runs whose
 /// effective priority is as great.
-#[tactic(auto, using(ptk_gate_pools::proofs::Parted::parted, ptk_gate_pools::proofs::Ready::ready, ptk_gate_pools::proofs::Ranks::same))]
+#[tactic(auto, using(ptk_gate_pools::proofs::Parted::parted, ptk_gate_moves::proofs::Ready::ready, ptk_gate_pools::proofs::Ranks::same))]
 pub fn choose(pools: &mut Pools, p: PartId)
     requires partition { p < length pools.old.limits }
     requires well { IsWell (limits_at p pools.old) (part_at p pools.old) }

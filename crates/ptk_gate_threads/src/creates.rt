@@ -10,6 +10,7 @@ ghost use Rattle.ptk_gate_pools.specs.Kept.{part_at, put_part, limits_at};
 ghost use Rattle.ptk_gate_threads.specs.Creates.{asked_thread, creation_answer, asked_answer};
 
 use crate::attributes::{Creation, Scheduling, requested};
+use ptk_gate_moves::{begin, refuse, succeed_with};
 use ptk_gate_pools::Pools;
 use ptk_threads::Slot;
 use ptk_words::{
@@ -48,7 +49,7 @@ fn create_asked(
 {
     match asked {
         Ok(creation) => create_free(pools, p, i, creation),
-        Err(errno) => pools.refuse(p, i, errno),
+        Err(errno) => refuse(pools, p, i, errno),
     }
 }
 
@@ -64,7 +65,7 @@ fn create_free(pools: &mut Pools, p: PartId, i: Invocation, creation: Creation) 
     let free = first_free(pools.threads().part(p));
     match free {
         Some(t) => create_at(pools, p, i, creation, t),
-        None => pools.refuse(p, i, Errno::EAGAIN),
+        None => refuse(pools, p, i, Errno::EAGAIN),
     }
 }
 
@@ -82,11 +83,11 @@ fn create_at(pools: &mut Pools, p: PartId, i: Invocation, creation: Creation, t:
     let creator = pools.threads().thread(p, i.caller);
     match creator {
         Some(creator) => {
-            pools.begin(p, t, created_thread(&i, &creation, &creator, t));
-            pools.succeed_with(p, i, t.number() as u32)
+            begin(pools, p, t, created_thread(&i, &creation, &creator, t));
+            succeed_with(pools, p, i, t.number() as u32)
         }
         // never met at the gate: the caller runs, so it is in use
-        None => pools.refuse(p, i, Errno::ESRCH),
+        None => refuse(pools, p, i, Errno::ESRCH),
     }
 }
 

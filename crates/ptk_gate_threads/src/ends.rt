@@ -11,7 +11,8 @@ ghost use Rattle.ptk_gate_pools.specs.Kept.{part_at, put_part, limits_at};
 ghost use Rattle.ptk_gate_pools.specs.Moves.{stopped};
 ghost use Rattle.ptk_gate_threads.specs.Ends.{released};
 
-use ptk_gate_pools::{Pools, is_ended, is_taken};
+use ptk_gate_moves::{halt, is_ended, is_taken, start_unwinding, wake};
+use ptk_gate_pools::Pools;
 use ptk_threads::Slot;
 use ptk_words::{PartId, Phase, Status, Thread, ThreadNo};
 
@@ -37,9 +38,9 @@ fn return_from(pools: &mut Pools, p: PartId, t: ThreadNo, thread: Thread)
 {
     let value = thread.cpu.register(10);
     if thread.is_main {
-        pools.halt(p, Status::Exited((value % 256) as u8));
+        halt(pools, p, Status::Exited((value % 256) as u8));
     } else {
-        pools.start_unwinding(p, t, value);
+        start_unwinding(pools, p, t, value);
     }
 }
 
@@ -107,7 +108,7 @@ fn release_thread(pools: &mut Pools, p: PartId, t: ThreadNo, thread: Thread)
         tell_joiner(pools, p, thread.joiner, thread.result);
         pools.free(p, t);
     } else {
-        pools.mark_ended(p, t);
+        pools.give_phase(p, t, Phase::Ended);
     }
 }
 
@@ -120,7 +121,7 @@ fn tell_joiner(pools: &mut Pools, p: PartId, joiner: Option<ThreadNo>, value: u3
     ensures { pools.new ≡ put_part p (with_locks (after_join_by joiner value) (part_at p pools.old)) pools.old }
 {
     match joiner {
-        Some(u) => pools.wake(p, u, &[0, value]),
+        Some(u) => wake(pools, p, u, &[0, value]),
         None => {}
     }
 }
@@ -135,7 +136,7 @@ fn halt_at_last_end(pools: &mut Pools, p: PartId)
     if is_any_alive(pools.threads().part(p)) {
         return;
     }
-    pools.halt(p, Status::Exited(0));
+    halt(pools, p, Status::Exited(0));
 }
 
 /// Whether a thread is in use and has not ended.

@@ -9,14 +9,15 @@ ghost use Rattle.ptk_words_model.specs.ThreadCalls.{after_placing, after_placing
 ghost use Rattle.ptk_words_well.specs.Well.{IsWell};
 ghost use Rattle.ptk_words.specs.Pools.{is_in};
 ghost use Rattle.ptk_gate_pools.specs.Kept.{part_at, put_part, limits_at};
-ghost use Rattle.ptk_gate_pools.specs.Moves.{with_scheduling};
+ghost use Rattle.ptk_gate_moves.specs.Moves.{with_scheduling};
 
+use ptk_gate_moves::{end_turn, push_tail, step_back, succeed};
 use ptk_gate_pools::Pools;
 use ptk_words::{PartId, Policy, Priority, ThreadNo};
 use ptk_words_model::{Invocation, Reply};
 
 /// A running or ready thread goes to the tail; a running one no longer runs (pthread_setschedparam).
-#[tactic(auto, using(ptk_gate_pools::proofs::Parted::parted, ptk_gate_pools::proofs::Ready::ready))]
+#[tactic(auto, using(ptk_gate_pools::proofs::Parted::parted, ptk_gate_moves::proofs::Ready::ready))]
 pub(crate) fn place_at_tail(pools: &mut Pools, p: PartId, t: ThreadNo)
     requires partition { p < length pools.old.limits }
     requires in_use { IsSome (thread_at (part_at p pools.old).locks t) }
@@ -25,15 +26,15 @@ pub(crate) fn place_at_tail(pools: &mut Pools, p: PartId, t: ThreadNo)
 {
     let _parts = pools.parts();
     if pools.is_running(p, t) {
-        pools.end_turn(p, t);
+        end_turn(pools, p, t);
     } else if pools.is_lined(p, t) {
         pools.take_from_line(p, t);
-        pools.push_tail(p, t);
+        push_tail(pools, p, t);
     }
 }
 
 /// A running or ready thread goes to the head; a running one no longer runs (pthread_setschedprio).
-#[tactic(auto, using(ptk_gate_pools::proofs::Parted::parted, ptk_gate_pools::proofs::Ready::ready))]
+#[tactic(auto, using(ptk_gate_pools::proofs::Parted::parted, ptk_gate_moves::proofs::Ready::ready))]
 pub(crate) fn place_at_head(pools: &mut Pools, p: PartId, t: ThreadNo)
     requires partition { p < length pools.old.limits }
     requires in_use { IsSome (thread_at (part_at p pools.old).locks t) }
@@ -42,7 +43,7 @@ pub(crate) fn place_at_head(pools: &mut Pools, p: PartId, t: ThreadNo)
 {
     let _parts = pools.parts();
     if pools.is_running(p, t) {
-        pools.step_back(p, t);
+        step_back(pools, p, t);
     } else if pools.is_lined(p, t) {
         pools.take_from_line(p, t);
         pools.push_head(p, t);
@@ -50,7 +51,7 @@ pub(crate) fn place_at_head(pools: &mut Pools, p: PartId, t: ThreadNo)
 }
 
 /// sched_yield: the caller, which runs, goes to the tail.
-#[tactic(auto, using(ptk_gate_pools::proofs::Parted::parted, ptk_gate_pools::proofs::Ready::ready))]
+#[tactic(auto, using(ptk_gate_pools::proofs::Parted::parted, ptk_gate_moves::proofs::Ready::ready))]
 pub fn yield_turn(pools: &mut Pools, p: PartId, i: Invocation) -> Reply
     requires partition { p < length pools.old.limits }
     requires well { IsWell (limits_at p pools.old) (part_at p pools.old) }
@@ -60,7 +61,7 @@ pub fn yield_turn(pools: &mut Pools, p: PartId, i: Invocation) -> Reply
 {
     let _parts = pools.parts();
     place_at_tail(pools, p, i.caller);
-    pools.succeed(p, i)
+    succeed(pools, p, i)
 }
 
 /// The target, which owns no INHERIT or PROTECT mutex, is scheduled anew, and goes to the tail if it runs or is

@@ -11,27 +11,29 @@ ghost use Rattle.ptk_words_model.specs.ThreadCreation.{policy_of};
 ghost use Rattle.ptk_words_well.specs.Well.{IsWell};
 ghost use Rattle.ptk_words.specs.Pools.{is_in};
 ghost use Rattle.ptk_gate_pools.specs.Kept.{part_at, put_part, limits_at};
-ghost use Rattle.ptk_gate_pools.specs.Moves.{with_scheduling, with_priority};
+ghost use Rattle.ptk_threads.specs.Table.{with_priority};
+ghost use Rattle.ptk_gate_moves.specs.Moves.{with_scheduling};
 ghost use Rattle.ptk_gate_threads.specs.Scheduling.{scheduled_with, prioritized_from};
 
 use crate::attributes::{named_policy, named_priority};
 use crate::places::{place_at_head, place_at_tail, reschedule};
+use ptk_gate_moves::{refuse, succeed, target};
 use ptk_gate_pools::Pools;
 use ptk_words::{Errno, PartId, Policy, Priority, ThreadNo};
 use ptk_words_model::{Invocation, Reply};
 
 /// pthread_setschedparam: the thread of a0 has the policy of a1 and the priority of a2, and goes to the tail if it runs
 /// or is ready. ESRCH, ENOTSUP, EINVAL; a refusal changes nothing but a0.
-#[tactic(auto, using(ptk_gate_pools::proofs::Ready::ready))]
+#[tactic(auto, using(ptk_gate_moves::proofs::Ready::ready))]
 pub fn setschedparam(pools: &mut Pools, p: PartId, i: Invocation) -> Reply
     requires partition { p < length pools.old.limits }
     requires well { IsWell (limits_at p pools.old) (part_at p pools.old) }
     ensures told { result ≡ (setschedparam i (part_at p pools.old)).reply }
     ensures moved { pools.new ≡ put_part p (setschedparam i (part_at p pools.old)).part pools.old }
 {
-    match pools.target(p, i.a0) {
+    match target(pools, p, i.a0) {
         Some(target) => schedule(pools, p, i, target.number),
-        None => pools.refuse(p, i, Errno::ESRCH),
+        None => refuse(pools, p, i, Errno::ESRCH),
     }
 }
 
@@ -47,7 +49,7 @@ fn schedule(pools: &mut Pools, p: PartId, i: Invocation, t: ThreadNo) -> Reply
 {
     match named_policy(i.a1) {
         Some(policy) => schedule_with(pools, p, i, t, policy),
-        None => pools.refuse(p, i, Errno::ENOTSUP),
+        None => refuse(pools, p, i, Errno::ENOTSUP),
     }
 }
 
@@ -63,7 +65,7 @@ fn schedule_with(pools: &mut Pools, p: PartId, i: Invocation, t: ThreadNo, polic
 {
     match named_priority(i.a2) {
         Some(priority) => schedule_at(pools, p, i, t, policy, priority),
-        None => pools.refuse(p, i, Errno::EINVAL),
+        None => refuse(pools, p, i, Errno::EINVAL),
     }
 }
 
@@ -86,21 +88,21 @@ fn schedule_at(
 {
     let _parts = pools.parts();
     reschedule(pools, p, t, policy, priority);
-    pools.succeed(p, i)
+    succeed(pools, p, i)
 }
 
 /// pthread_setschedprio: the thread of a0 has the priority of a1. If it runs or is ready, it goes to the tail where its
 /// priority rose, to the head where it fell. ESRCH, EINVAL; a refusal changes nothing but a0.
-#[tactic(auto, using(ptk_gate_pools::proofs::Ready::ready))]
+#[tactic(auto, using(ptk_gate_moves::proofs::Ready::ready))]
 pub fn setschedprio(pools: &mut Pools, p: PartId, i: Invocation) -> Reply
     requires partition { p < length pools.old.limits }
     requires well { IsWell (limits_at p pools.old) (part_at p pools.old) }
     ensures told { result ≡ (setschedprio i (part_at p pools.old)).reply }
     ensures moved { pools.new ≡ put_part p (setschedprio i (part_at p pools.old)).part pools.old }
 {
-    match pools.target(p, i.a0) {
+    match target(pools, p, i.a0) {
         Some(target) => prioritize(pools, p, i, target.number, target.thread.priority),
-        None => pools.refuse(p, i, Errno::ESRCH),
+        None => refuse(pools, p, i, Errno::ESRCH),
     }
 }
 
@@ -116,7 +118,7 @@ fn prioritize(pools: &mut Pools, p: PartId, i: Invocation, t: ThreadNo, old: Pri
 {
     match named_priority(i.a1) {
         Some(new) => reprioritize(pools, p, i, t, old, new),
-        None => pools.refuse(p, i, Errno::EINVAL),
+        None => refuse(pools, p, i, Errno::EINVAL),
     }
 }
 
@@ -139,7 +141,7 @@ fn reprioritize(
 {
     let _parts = pools.parts();
     change_priority(pools, p, t, old, new);
-    pools.succeed(p, i)
+    succeed(pools, p, i)
 }
 
 /// The thread, whose priority was the old one, has the new one, and its place follows.

@@ -6,7 +6,8 @@ ghost use Rattle.ptk_words_model.specs.ThreadCreation.{policy_number};
 ghost use Rattle.ptk_words_model.specs.ThreadCalls as calls;
 ghost use Rattle.ptk_gate_pools.specs.Kept.{part_at, put_part};
 
-use ptk_gate_pools::{Pools, is_ended, is_taken};
+use ptk_gate_moves::{is_ended, is_taken, refuse, succeed, succeed_with_two, target};
+use ptk_gate_pools::Pools;
 use ptk_words::{Errno, PartId, Policy};
 use ptk_words_model::{Invocation, Reply};
 
@@ -27,17 +28,18 @@ pub fn getschedparam(pools: &mut Pools, p: PartId, i: Invocation) -> Reply
     ensures told { result ≡ (getschedparam i (part_at p pools.old)).reply }
     ensures moved { pools.new ≡ put_part p (getschedparam i (part_at p pools.old)).part pools.old }
 {
-    match pools.target(p, i.a0) {
+    match target(pools, p, i.a0) {
         Some(target) => {
             let priority = target.thread.priority;
-            pools.succeed_with_two(
+            succeed_with_two(
+                pools,
                 p,
                 i,
                 policy_number(target.thread.policy),
                 priority.level() as u32,
             )
         }
-        None => pools.refuse(p, i, Errno::ESRCH),
+        None => refuse(pools, p, i, Errno::ESRCH),
     }
 }
 
@@ -50,18 +52,18 @@ pub fn detach(pools: &mut Pools, p: PartId, i: Invocation) -> Reply
     ensures moved { pools.new ≡ put_part p (calls.detach i (part_at p pools.old)).part pools.old }
 {
     let _parts = pools.parts();
-    match pools.target(p, i.a0) {
+    match target(pools, p, i.a0) {
         Some(target) => {
             if is_taken(&target.thread) {
-                pools.refuse(p, i, Errno::EINVAL)
+                refuse(pools, p, i, Errno::EINVAL)
             } else if is_ended(target.thread.phase) {
                 pools.free(p, target.number);
-                pools.succeed(p, i)
+                succeed(pools, p, i)
             } else {
                 pools.mark_detached(p, target.number);
-                pools.succeed(p, i)
+                succeed(pools, p, i)
             }
         }
-        None => pools.refuse(p, i, Errno::ESRCH),
+        None => refuse(pools, p, i, Errno::ESRCH),
     }
 }

@@ -1,6 +1,6 @@
 //! Numbers that must not be mixed up. A clause sees each as the number that it is.
 
-ghost use Rattle.std.specs.Prelude.{◌≡◌, ◌<◌, ◌≤◌};
+ghost use Rattle.std.specs.Prelude.{◌≡◌, ◌-◌, ◌<◌, ◌≤◌};
 
 use std::marker::Model;
 
@@ -71,6 +71,15 @@ impl ThreadNo {
         ensures in_range { result ≤ 32 }
     {
         self.number
+    }
+
+    /// Its place in a list of the partition's threads by number, from 0.
+    pub fn place(self) -> usize
+        ensures value { result ≡ self - 1 }
+        ensures positive { 0 < self }
+        ensures in_range { self ≤ 32 }
+    {
+        (self.number - 1) as usize
     }
 }
 

@@ -38,7 +38,7 @@ invariant_of-self c =
     let lt : c.args.p < length now.limits = rw c.self.view_is c.requires.partition in
     let fit : fits (limits_at c.args.p now) image ≡ true = fits_seen c.limits-limits.result (limits_at c.args.p now) image c.fits.result true c.limits-limits.ensures (c.fits.ensures c.args.entry) c.if-fits.true in
     let main : c.main_thread.result ≡ main_thread (limits_at c.args.p now) image = main_seen c.limits-limits.result (limits_at c.args.p now) image c.main_thread.result c.limits-limits.ensures (c.main_thread.ensures image refl) in
-    loaded_whole c.args.p c.new.result image c.main_thread.result now c.fill_memory.new.self c.begin.new.self c.self.invariant lt blank fit main c.new.ensures c.fill_memory.ensures c.begin.ensures
+    loaded_whole c.args.p c.new.result image c.main_thread.result now c.fill_memory.new.self c.begin.new.pools c.self.invariant lt blank fit main c.new.ensures c.fill_memory.ensures c.begin.ensures
 
 pub returns-then-fits : goal.returns-then-fits
 returns-then-fits c =
@@ -48,7 +48,7 @@ returns-then-fits c =
     let lt : c.args.p < length now.limits = rw c.self.view_is c.requires.partition in
     let fit : fits (limits_at c.args.p now) image ≡ true = fits_seen c.limits-limits.result (limits_at c.args.p now) image c.fits.result true c.limits-limits.ensures (c.fits.ensures c.args.entry) c.if-fits.true in
     let main : c.main_thread.result ≡ main_thread (limits_at c.args.p now) image = main_seen c.limits-limits.result (limits_at c.args.p now) image c.main_thread.result c.limits-limits.ensures (c.main_thread.ensures image refl) in
-    rw (← c.self.view_is) (loaded c.args.p c.new.result image c.main_thread.result now c.fill_memory.new.self c.begin.new.self c.self.invariant lt blank fit main c.new.ensures c.fill_memory.ensures c.begin.ensures)
+    rw (← c.self.view_is) (loaded c.args.p c.new.result image c.main_thread.result now c.fill_memory.new.self c.begin.new.pools c.self.invariant lt blank fit main c.new.ensures c.fill_memory.ensures c.begin.ensures)
 
 pub returns-else-fits : goal.returns-else-fits
 returns-else-fits c =
@@ -56,4 +56,4 @@ returns-else-fits c =
     let now : Kept = c.self.inside.pools in
     let blank : IsBlank (limits_at c.args.p now) (part_at c.args.p now) = rw c.self.view_is c.requires.blank in
     let unfit : fits (limits_at c.args.p now) image ≡ false = fits_seen c.limits-limits.result (limits_at c.args.p now) image c.fits.result false c.limits-limits.ensures (c.fits.ensures c.args.entry) c.if-fits.false in
-    rw (← c.self.view_is) (refused_unfit c.args.p image now c.halt.new.self blank unfit c.halt.ensures)
+    rw (← c.self.view_is) (refused_unfit c.args.p image now c.halt.new.pools blank unfit c.halt.ensures)

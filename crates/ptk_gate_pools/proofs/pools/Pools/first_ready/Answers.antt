@@ -2,7 +2,6 @@ use Rattle.ptk_words_parted.specs.Parts.{part_of}
 use Rattle.ptk_gate_pools.proofs.Ranks.{stored_first}
 use Rattle.ptk_gate_pools.proofs.pools.Pools.first_ready.Goals as goal
 
--- src/choices.rt:16:5
 pub returns : goal.returns
 returns c =
     rw (← c.self.view_is)

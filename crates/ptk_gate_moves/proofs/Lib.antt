@@ -1,0 +1,4 @@
+pub mod Registers
+pub mod Creations
+pub mod Priorities
+pub mod Ready

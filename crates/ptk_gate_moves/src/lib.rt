@@ -1,0 +1,28 @@
+//! The moves of one partition that are composed of several of `ptk_gate_pools`, as functions over `&mut Pools`: a reply
+//! in the caller's registers, a refusal, a success, blocking, waking, halting, the places of the running thread, its
+//! round-robin interval, the beginning of a thread and of an unwinding, cancellation points, and the calls that are no
+//! more than one of these. Each is one equation: the pools are the old ones with partition p's part replaced by the
+//! model's move, so that every other partition's part stays. A function of several moves begins with `parts`, which
+//! opens the invariant of the pools. Below stands `ptk_gate_pools`; above, `ptk_gate_console`, `ptk_gate_threads` and
+//! the gate's tables, which make calls and decisions of these moves. Dear to prove is `begin`.
+#![tactic(auto)]
+
+mod blocking;
+mod calls;
+mod cancellation;
+mod creation;
+mod intervals;
+mod places;
+mod replies;
+mod targets;
+mod unwinding;
+
+pub use blocking::{block, halt, wake};
+pub use calls::{exit, leave, own_number};
+pub use cancellation::{cancel, is_cancelled, is_to_unwind};
+pub use creation::begin;
+pub use intervals::count_interval;
+pub use places::{end_turn, push_tail, step_back};
+pub use replies::{refuse, reply, succeed, succeed_with, succeed_with_two};
+pub use targets::{is_ended, is_taken, target};
+pub use unwinding::start_unwinding;

@@ -1,0 +1,61 @@
+//! The thread that a guest names, and what is told of it.
+
+ghost use Rattle.std.specs.Prelude.{◌≡◌, ◌<◌, ◌≤◌, length};
+ghost use Rattle.ptk_words.specs.Pools.{pool_get};
+ghost use Rattle.ptk_words_model.specs.Decision.{runner_at};
+ghost use Rattle.ptk_words.specs.Threads.{is_ended, is_taken};
+ghost use Rattle.ptk_words_model.specs.Priority.{thread_at};
+ghost use Rattle.ptk_gate_pools.specs.Kept.{part_at};
+
+use ptk_gate_pools::Pools;
+use ptk_threads::Slot;
+use ptk_words::{PartId, Phase, Thread, ThreadNo};
+use ptk_words_model::Runner;
+
+/// The thread that a guest names by a word, if that is the number of one in use.
+pub fn target(pools: &Pools, p: PartId, word: u32) -> Option<Runner>
+    requires partition { p < length pools.now.limits }
+    ensures { result ≡ runner_at word (thread_at (part_at p pools.now).locks word) }
+{
+    let _parts = pools.parts();
+    named(pools.threads().part(p), word)
+}
+
+/// The thread of a word among the slots, which are at most 32.
+#[tactic(auto, using(ptk_threads::proofs::Slots::numbers))]
+fn named(slots: &[Slot], word: u32) -> Option<Runner>
+    requires few { length slots.now ≤ 32 }
+    ensures { result ≡ runner_at word (pool_get slots.now word) }
+{
+    if word == 0 {
+        return None;
+    }
+    let index = word as usize - 1;
+    if index >= slots.len() {
+        return None;
+    }
+    match slots[index].thread() {
+        Some(thread) => Some(Runner {
+            number: ThreadNo::new(word as u8),
+            thread,
+        }),
+        None => None,
+    }
+}
+
+/// A thread that can be neither joined nor detached any more.
+pub fn is_taken(thread: &Thread) -> bool
+    ensures { result ≡ is_taken thread.now }
+{
+    thread.is_detached || thread.joiner.is_some()
+}
+
+/// Whether the thread has ended.
+pub fn is_ended(phase: Phase) -> bool
+    ensures { result ≡ is_ended phase }
+{
+    match phase {
+        Phase::Normal | Phase::Unwinding => false,
+        Phase::Ended => true,
+    }
+}

@@ -1,0 +1,50 @@
+//! The start of an unwinding (pthread_exit, XSH 2.9.5.3).
+
+ghost use Rattle.std.specs.Prelude.{◌≡◌, ◌<◌, length};
+ghost use Rattle.ptk_words_model.specs.State.{with_locks};
+ghost use Rattle.ptk_words_model.specs.Schedule.{with_thread};
+ghost use Rattle.ptk_words_model.specs.Unwinding.{after_unwinding_start, phase_of};
+ghost use Rattle.ptk_gate_pools.specs.Kept.{part_at, put_part};
+ghost use Rattle.ptk_gate_moves.specs.Moves.{unwinding};
+
+use ptk_gate_pools::Pools;
+use ptk_words::{PartId, Phase, RETURN_GATE, Thread, ThreadNo};
+
+/// Cancellation is disabled and deferred, the value is the result, and the next step is at the return gate
+/// (pthread_exit, XSH 2.9.5.3).
+#[tactic(auto, using(ptk_gate_pools::proofs::Parted::parted))]
+pub fn start_unwinding(pools: &mut Pools, p: PartId, t: ThreadNo, value: u32)
+    requires partition { p < length pools.old.limits }
+    ensures { pools.new ≡ put_part p (after_unwinding_start t value (part_at p pools.old)) pools.old }
+{
+    let _parts = pools.parts();
+    let phase = phase_of(pools.threads().thread(p, t));
+    pools.disable_cancellation(p, t);
+    pools.begin_rounds(p, t, phase);
+    unwind(pools, p, t, value);
+}
+
+/// The thread unwinds with this result, and its next step is at the return gate.
+#[tactic(auto, using(ptk_gate_pools::proofs::Parted::parted, ptk_gate_pools::proofs::Numbers::changed_none, ptk_gate_pools::proofs::Ranks::put_same, ptk_words_well::proofs::Pools::changed_twice))]
+fn unwind(pools: &mut Pools, p: PartId, t: ThreadNo, value: u32)
+    requires partition { p < length pools.old.limits }
+    ensures { pools.new ≡ put_part p (with_locks (with_thread t (unwinding value)) (part_at p pools.old)) pools.old }
+{
+    let _parts = pools.parts();
+    if let Some(mut cpu) = pools.threads().cpu(p, t) {
+        cpu.set_pc(RETURN_GATE);
+        pools.give_cpu(p, t, cpu);
+        pools.give_result(p, t, value);
+        pools.give_phase(p, t, Phase::Unwinding);
+    }
+}
+
+/// The phase of a thread; a free number's is that of one that has ended.
+pub(crate) fn phase_of(thread: Option<Thread>) -> Phase
+    ensures { result ≡ phase_of thread }
+{
+    match thread {
+        Some(thread) => thread.phase,
+        None => Phase::Ended,
+    }
+}

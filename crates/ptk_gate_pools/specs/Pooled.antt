@@ -1,0 +1,41 @@
+-- What the pools have inside, as the tables of all partitions, and what holds of it.
+use Rattle.std.specs.Prelude.{◌≡◌, ◌≤◌, [], length, map, replicate, None}
+use Rattle.ptk_words_model.specs.Keys.{no_values}
+use Rattle.ptk_gate_pools.specs.declared.pools.Pools.TheInside.{Inside}
+use Rattle.ptk_gate_pools.specs.Kept.{Kept, AreStored, per_section}
+
+-- the tables: mutexes, condition variables, keys and cleanup handlers are not in use
+abbrev pub kept_of : Inside → Kept
+kept_of a =
+    record {
+      memory = a.regions;
+      threads = a.threads.threads;
+      lines = a.line;
+      mutexes = per_section (λ l. l.mutexes) None a.limits.items;
+      conditions = per_section (λ l. l.conditions) None a.limits.items;
+      running = a.running.items;
+      cancellations = a.cancellations;
+      cleanups = per_section (λ l. l.threads) [] a.limits.items;
+      destructors = per_section (λ l. l.keys) None a.limits.items;
+      values = map (λ l. replicate l.threads (no_values l.keys)) a.limits.items;
+      rounds = a.rounds;
+      consoles = a.consoles.consoles;
+      statuses = a.statuses.items;
+      lasts = a.lasts.items;
+      limits = a.limits.items;
+    }
+
+-- every pool has an entry for each of at most 8 partitions, the consoles have the sections' numbers, and the stored priorities are the effective ones
+pub record ArePooled (a : Inside) : Type 0 where
+  pub few : length a.limits.items ≤ 8
+  pub memory : length a.regions ≡ length a.limits.items
+  pub threads : length a.threads.threads ≡ length a.limits.items
+  pub lines : length a.line ≡ length a.limits.items
+  pub running : length a.running.items ≡ length a.limits.items
+  pub cancellations : length a.cancellations ≡ length a.limits.items
+  pub rounds : length a.rounds ≡ length a.limits.items
+  pub consoles : length a.consoles.consoles ≡ length a.limits.items
+  pub sections : a.consoles.limits ≡ a.limits.items
+  pub statuses : length a.statuses.items ≡ length a.limits.items
+  pub lasts : length a.lasts.items ≡ length a.limits.items
+  pub stored : AreStored a.threads.stored a.threads.threads a.limits.items

@@ -1,0 +1,130 @@
+//! A thread's number, and the fields of its entry. A move of a field leaves a free number free.
+
+ghost use Rattle.std.specs.Prelude.{◌≡◌, ◌<◌, length, Some};
+ghost use Rattle.ptk_words.specs.Pools.{least_free};
+ghost use Rattle.ptk_words.specs.Threads.{left_at_end, left_at_detach};
+ghost use Rattle.ptk_words_model.specs.State.{with_locks};
+ghost use Rattle.ptk_words_model.specs.Schedule.{with_thread, with_used};
+ghost use Rattle.ptk_words_model.specs.Unwinding.{without_thread};
+ghost use Rattle.ptk_words_model.specs.Decision.{with_cpu};
+ghost use Rattle.ptk_threads.specs.Table.{with_policy, with_priority, with_joiner, with_result, with_phase, with_wait};
+ghost use Rattle.ptk_gate_pools.specs.Kept.{part_at, put_part};
+ghost use Rattle.ptk_gate_pools.specs.Moves.{with_number, with_left};
+
+use crate::pools::Pools;
+use ptk_ready::Line;
+use ptk_words::{Cpu, PartId, Phase, Policy, Priority, Thread, ThreadNo, Wait};
+
+impl Pools {
+    /// The least free number is the thread's.
+    #[tactic(auto, using(crate::proofs::Parted::parted, crate::proofs::Stored::stored, crate::proofs::Numbers::taken))]
+    pub fn take_number(&mut self, p: PartId, t: ThreadNo, thread: Thread)
+        requires partition { p < length self.old.limits }
+        requires free { least_free (part_at p self.old).threads ≡ Some t }
+        ensures { self.new ≡ put_part p (with_locks (with_number t thread) (part_at p self.old)) self.old }
+    {
+        self.threads.create(p, thread);
+    }
+
+    /// The number becomes free; a free number stays free.
+    #[tactic(auto, using(crate::proofs::Parted::parted, crate::proofs::Stored::stored))]
+    pub fn free(&mut self, p: PartId, t: ThreadNo)
+        requires partition { p < length self.old.limits }
+        ensures { self.new ≡ put_part p (with_locks (without_thread t) (part_at p self.old)) self.old }
+    {
+        self.threads.free(p, t);
+    }
+
+    /// The thread has these registers.
+    #[tactic(auto, using(crate::proofs::Parted::parted, crate::proofs::Stored::stored))]
+    pub fn give_cpu(&mut self, p: PartId, t: ThreadNo, cpu: Cpu)
+        requires partition { p < length self.old.limits }
+        ensures { self.new ≡ put_part p (with_cpu t cpu (part_at p self.old)) self.old }
+    {
+        self.threads.set_cpu(p, t, cpu);
+    }
+
+    /// The thread has this policy (XSH 2.8.4).
+    #[tactic(auto, using(crate::proofs::Parted::parted, crate::proofs::Stored::stored))]
+    pub fn give_policy(&mut self, p: PartId, t: ThreadNo, policy: Policy)
+        requires partition { p < length self.old.limits }
+        ensures { self.new ≡ put_part p (with_locks (with_thread t (with_policy policy)) (part_at p self.old)) self.old }
+    {
+        self.threads.set_policy(p, t, policy);
+    }
+
+    /// The thread has this assigned priority, which with no mutex in use is the effective one (XSH 2.8.4).
+    #[tactic(auto, using(crate::proofs::Parted::parted, crate::proofs::Numbers::changed_none, crate::proofs::Stored::raised))]
+    pub fn give_priority(&mut self, p: PartId, t: ThreadNo, priority: Priority)
+        requires partition { p < length self.old.limits }
+        ensures { self.new ≡ put_part p (with_locks (with_thread t (with_priority priority)) (part_at p self.old)) self.old }
+    {
+        if let Some(_thread) = self.threads.thread(p, t) {
+            self.threads.set_assigned_priority(p, t, priority);
+            self.line.set_priority(&mut self.threads, p, t, priority);
+        }
+    }
+
+    /// The thread has used so many ticks of its interval (XSH 2.8.4, SCHED_RR).
+    #[tactic(auto, using(crate::proofs::Parted::parted, crate::proofs::Stored::stored))]
+    pub fn give_used(&mut self, p: PartId, t: ThreadNo, used: u32)
+        requires partition { p < length self.old.limits }
+        ensures { self.new ≡ put_part p (with_used t used (part_at p self.old)) self.old }
+    {
+        self.threads.set_used(p, t, used);
+    }
+
+    /// The thread waits for this, or for nothing (XSH 2.8.4).
+    #[tactic(auto, using(crate::proofs::Parted::parted, crate::proofs::Stored::stored))]
+    pub fn give_wait(&mut self, p: PartId, t: ThreadNo, wait: Option<Wait>)
+        requires partition { p < length self.old.limits }
+        ensures { self.new ≡ put_part p (with_locks (with_thread t (with_wait wait)) (part_at p self.old)) self.old }
+    {
+        self.threads.set_wait(p, t, wait);
+    }
+
+    /// The thread is this far (pthread_exit).
+    #[tactic(auto, using(crate::proofs::Parted::parted, crate::proofs::Stored::stored))]
+    pub fn give_phase(&mut self, p: PartId, t: ThreadNo, phase: Phase)
+        requires partition { p < length self.old.limits }
+        ensures { self.new ≡ put_part p (with_locks (with_thread t (with_phase phase)) (part_at p self.old)) self.old }
+    {
+        self.threads.set_phase(p, t, phase);
+    }
+
+    /// The thread has this result (pthread_exit).
+    #[tactic(auto, using(crate::proofs::Parted::parted, crate::proofs::Stored::stored))]
+    pub fn give_result(&mut self, p: PartId, t: ThreadNo, value: u32)
+        requires partition { p < length self.old.limits }
+        ensures { self.new ≡ put_part p (with_locks (with_thread t (with_result value)) (part_at p self.old)) self.old }
+    {
+        self.threads.set_result(p, t, value);
+    }
+
+    /// The thread's end is waited for by this one (pthread_join).
+    #[tactic(auto, using(crate::proofs::Parted::parted, crate::proofs::Stored::stored))]
+    pub fn give_joiner(&mut self, p: PartId, t: ThreadNo, joiner: ThreadNo)
+        requires partition { p < length self.old.limits }
+        ensures { self.new ≡ put_part p (with_locks (with_thread t (with_joiner (Some joiner))) (part_at p self.old)) self.old }
+    {
+        self.threads.set_joiner(p, t, Some(joiner));
+    }
+
+    /// The thread is detached: its number is free where it has ended (pthread_detach).
+    #[tactic(auto, using(crate::proofs::Parted::parted, crate::proofs::Stored::left))]
+    pub fn detach(&mut self, p: PartId, t: ThreadNo)
+        requires partition { p < length self.old.limits }
+        ensures { self.new ≡ put_part p (with_locks (with_left t left_at_detach) (part_at p self.old)) self.old }
+    {
+        self.threads.detach(p, t);
+    }
+
+    /// The thread has ended: its number stays with the result until a join or a detachment, or is free (pthread_exit).
+    #[tactic(auto, using(crate::proofs::Parted::parted, crate::proofs::Stored::left))]
+    pub fn end(&mut self, p: PartId, t: ThreadNo)
+        requires partition { p < length self.old.limits }
+        ensures { self.new ≡ put_part p (with_locks (with_left t left_at_end) (part_at p self.old)) self.old }
+    {
+        self.threads.end(p, t);
+    }
+}
