@@ -20,6 +20,7 @@ use Rattle.ptk_console.specs.ConsoleTable.{fresh_console, no_limits}
 use Rattle.ptk_gate_pools.specs.Kept.{AreParts, part_at, per_section}
 use Rattle.ptk_gate_pools.specs.Blank.{blank}
 use Rattle.ptk_gate.specs.Whole.{AreWhole}
+use Rattle.ptk_gate_pools.proofs.Built.{parts_blank}
 
 row : {A : Type 0} (count : Limits → ℕ) (a : A) (limits : List Limits) (p : ℕ) → p < length limits → part_of (per_section count a limits) p ≡ replicate (count (slice_index_or limits p no_limits)) a
 row count a limits p lt = get_or-map (λ (l : Limits). replicate (count l) a) limits p no_limits [] lt
@@ -50,25 +51,6 @@ part_at-blank input_of limits inputs p lt =
       get_or-replicate (length limits) p Active Active lt,
       get_or-replicate {A = Option Entry} (length limits) p None None lt,
     ) refl
-
-parts_blank : (limits : List Limits) (consoles : List Console) → length limits ≤ 8 → length consoles ≡ length limits → AreParts (length limits) (blank limits consoles)
-parts_blank limits consoles few same = record {
-  few = few;
-  memory = length-map limits _;
-  threads = length-map limits _;
-  lines = length-replicate (length limits) _;
-  mutexes = length-map limits _;
-  conditions = length-map limits _;
-  running = length-replicate (length limits) _;
-  cancellations = length-map limits _;
-  cleanups = length-map limits _;
-  destructors = length-map limits _;
-  values = length-map limits _;
-  rounds = length-map limits _;
-  consoles = same;
-  statuses = length-replicate (length limits) _;
-  lasts = length-replicate (length limits) _;
-}
 
 -- the blank tables are whole
 pub whole_blank : {X : Type 0} (input_of : X → List Arrival) (limits : List Limits) (inputs : List X) → 1 ≤ length limits → length limits ≤ 8 → length inputs ≡ length limits → All IsWithinLimits limits

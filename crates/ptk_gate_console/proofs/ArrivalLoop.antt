@@ -15,7 +15,7 @@ use Rattle.ptk_console.specs.ConsoleTable as console
 use Rattle.ptk_gate_pools.specs.Kept.{Kept, AreParts, part_at, put_part, limits_at}
 use Rattle.ptk_gate_pools.specs.Moves.{with_next_taken}
 use Rattle.ptk_gate_console.specs.Arrivals.{after_byte, after_next, after_next_of}
-use Rattle.ptk_gate_pools.proofs.Parted.{part_at-put, put_part-put}
+use Rattle.ptk_gate_pools.proofs.Parted.{part_at-put, put_part-put, parts_put}
 use Rattle.ptk_gate_pools.proofs.Ranks.{put_same}
 use Rattle.ptk_gate_console.proofs.ArrivalSteps.{arrivals_step, arrivals_end, next_well, byte_well, next_fewer, arrival_coming}
 
@@ -31,25 +31,6 @@ none_of (Some byte) e = absurd (false≢true (sym e))
 
 next_is : (o : Option ℕ) (limit tick byte : ℕ) (s : Part) → o ≡ Some byte → after_next_of o limit tick s ≡ after_byte limit byte (with_next_taken tick s)
 next_is o limit tick byte s e = rw e refl
-
-set_parts : (n p : ℕ) (s : Part) (kept : Kept) → AreParts n kept → AreParts n (put_part p s kept)
-set_parts n p s kept parts = record {
-  few = parts.few;
-  memory = length-set kept.memory p s.memory ∙ parts.memory;
-  threads = length-set kept.threads p s.threads ∙ parts.threads;
-  lines = length-set kept.lines p s.line ∙ parts.lines;
-  mutexes = length-set kept.mutexes p s.mutexes ∙ parts.mutexes;
-  conditions = length-set kept.conditions p s.conditions ∙ parts.conditions;
-  running = length-set kept.running p s.running ∙ parts.running;
-  cancellations = length-set kept.cancellations p s.cancellations ∙ parts.cancellations;
-  cleanups = length-set kept.cleanups p s.cleanups ∙ parts.cleanups;
-  destructors = length-set kept.destructors p s.keys.destructors ∙ parts.destructors;
-  values = length-set kept.values p s.keys.values ∙ parts.values;
-  rounds = length-set kept.rounds p s.keys.rounds ∙ parts.rounds;
-  consoles = length-set kept.consoles p s.console ∙ parts.consoles;
-  statuses = length-set kept.statuses p s.status ∙ parts.statuses;
-  lasts = length-set kept.lasts p s.last ∙ parts.lasts;
-}
 
 untaken : (s : Part) (xs : List Arrival) → option_map (λ (arrival : Arrival). arrival.byte) (slice_get xs 0) ≡ None → with_console (λ console. record console { coming = drop (length (take 1 xs)) console.coming }) s ≡ s
 untaken s [] e = refl
