@@ -90,23 +90,21 @@ def lanes():
 
 
 def prove(under, above, running):
-    """Proves all crates, lowest first, and returns the one that was refused, if one was."""
-    proved, idle, told = [], lanes(), time.monotonic()
+    """Proves all crates, lowest first, and returns the one that was refused, if one was. The one with the longest chain
+    gets as many jobs as there are lanes, 4 at most, since the chain takes longer than all that goes on beside it."""
+    proved, count, told = [], lanes(), time.monotonic()
     while len(proved) < len(under):
-        ready = [it for it in under if it not in proved and it not in running and under[it] <= {*proved}]
-        ready.sort(key=lambda it: -above[it])
-        for at, name in enumerate(ready[:idle]):
-            jobs = max(1, min(4, idle // (len(ready) - at)))
-            running[name] = start(name, under[name], jobs), jobs
-            idle -= jobs
+        left = sorted((it for it in under if it not in proved), key=lambda it: -above[it])
+        ready = [it for it in left if it not in running and under[it] <= {*proved}]
+        for name in ready[: count - len(running)]:
+            running[name] = start(name, under[name], min(count, 4) if name == left[0] else 1)
         time.sleep(0.1)
-        for name in [it for it, (proof, _) in running.items() if proof.poll() is not None]:
-            proof, jobs = running.pop(name)
+        for name in [it for it, proof in running.items() if proof.poll() is not None]:
+            proof = running.pop(name)
             take_back(name)
             if not (os.path.exists(f"{crates}/{main}/out/{main}") if name == main else proof.returncode == 0):
                 return name
             proved.append(name)
-            idle += jobs
         if time.monotonic() - told > 30:
             told += 30
             print(f"ptk: proved {len(proved)} of {len(under)} crates", file=sys.stderr)
@@ -124,7 +122,7 @@ try:
     shutil.rmtree(aside, ignore_errors=True)
     refused = prove(under, chains(uses, under), running)
 finally:
-    for name, (proof, _) in running.items():
+    for name, proof in running.items():
         os.killpg(proof.pid, signal.SIGTERM)
         proof.wait()
         take_back(name)

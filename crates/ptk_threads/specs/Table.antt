@@ -2,7 +2,6 @@
 use Rattle.std.specs.Prelude.{◌≡◌, ℕ, zero, suc, ◌≤◌, Bool, List, length, Option, Some, None, option_and_then, slice_index, slice_set, map}
 use Rattle.ptk_words.specs.Processor.{Processor}
 use Rattle.ptk_words.specs.Pools.{pool_get, pool_set, pool_changed, least_free}
-use Rattle.ptk_words.specs.Threads.{left_at_end, left_at_detach}
 use Rattle.ptk_words.specs.declared.threads.Thread.{Thread}
 use Rattle.ptk_words.specs.declared.threads.Phase.{Phase}
 use Rattle.ptk_words.specs.declared.threads.Policy.{Policy}
