@@ -8,7 +8,7 @@ use Rattle.ptk_main_faults.specs.declared.fault.Fault.TheVariants.{Config, Confi
 abbrev pub text : List ℕ → Bor (List ℕ)
 text bytes = record { ref_ptr = (0, 0); now = bytes }
 
--- the fault with its name as a text alone: line and status are the fault's (own)
+-- the fault with its name as a text alone, which is all that its line and its status are made of (own)
 abbrev pub told : Fault → Fault
 told (Config number) = Config number
 told (ConfigWindow number) = ConfigWindow number

@@ -1,9 +1,10 @@
 //! A system at the greatest limits, past 2^20 ticks. A body that answers want of memory, or a writer's error, only for many
-//! sections, many windows, large pools or a long run meets every contract: this row sees it.
+//! sections, many windows, large pools or a long run meets every contract: this row sees it. What is wanted was worked out
+//! by hand.
 //!
 //! Frame 1000000, 64 windows: window k begins at 15625 * k and is of section k modulo 8. Those of `spin` are 1000 ticks
-//! long, those of `late` and `bare`, which are idle at each of their ticks, 16; all others fill the frame. After 2^21 ticks,
-//! two frames and 97152 ticks:
+//! long, those of `late` and `bare`, which are idle at each of their ticks, 16; the others go up to the next window. After
+//! 2^21 ticks, two frames and 97152 ticks:
 //! - `spin` jumps to itself: a step at each of its ticks, 8 windows of 1000 in each of two frames and one window in the
 //!   third, whose second begins at 125000; its last 1024 steps are traced;
 //! - `hello`, `join` and `quiet` exit in their first windows, as they do alone in a frame of 100;
