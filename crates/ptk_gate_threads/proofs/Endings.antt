@@ -18,7 +18,6 @@ use Rattle.ptk_words_well.proofs.Lined.{not_ready_out}
 use Rattle.ptk_words_well.proofs.Whole.{lined_of}
 use Rattle.ptk_words_well.proofs.Waits.{waits_not_ready}
 use Rattle.ptk_gate_pools.specs.Moves.{stopped}
-use Rattle.ptk_gate_threads.specs.Ends.{released}
 
 -- ---- the joiner
 
@@ -44,7 +43,7 @@ joiner_fresh limits t s well = joiner_fresh_at limits t s (joiner_of (thread_at 
 -- ---- the end
 
 -- the end, with no mutex in use
-pub end_is : (limits : Limits) (t : ℕ) (s : Part) → IsWell limits s → after_end t s ≡ after_last_end (stopped (with_locks (released t) s))
+pub end_is : (limits : Limits) (t : ℕ) (s : Part) → IsWell limits s → after_end t s ≡ after_last_end (stopped (with_locks (after_release t (thread_at s.locks t)) s))
 end_is limits t s well =
     ap (λ (locks : Locks). after_last_end (stopped (with_locks (λ _. after_release t (thread_at s.locks t) locks) s))) (owner_end_same t limits.mutexes s.locks well.unused.mutexes)
 

@@ -1,3 +1,3 @@
-pub mod Scheduling
-pub mod Creating
+pub mod Decoding
 pub mod Endings
+pub mod Leaving

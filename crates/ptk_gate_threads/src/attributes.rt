@@ -1,18 +1,17 @@
 //! What call 10 asks for: the words of its attributes object, decoded.
 
-ghost use Rattle.std.specs.Prelude.{◌≡◌, ◌<◌, ◌≤◌, ◌+◌, length};
-ghost use Rattle.ptk_words.specs.Words.{word_at};
-ghost use Rattle.ptk_words_model.specs.ThreadCreation.{policy_of};
+ghost use Rattle.std.specs.Prelude.{◌≡◌, ◌<◌, length};
+ghost use Rattle.ptk_words_model.specs.ThreadCreation.{policy_of, priority_of, readable_attributes, asked_scheduling, given_stack_top, asked_creation, creation_at};
 ghost use Rattle.ptk_gate_pools.specs.Kept.{part_at};
-ghost use Rattle.ptk_gate_threads.specs.Creates.{readable_attributes, priority_of, asked_scheduling, given_stack_top, asked_creation, asked_at};
 
 use ptk_gate_pools::Pools;
-use ptk_words::{Errno, PartId, Policy, Priority};
+use ptk_words::{Errno, PartId, Policy, Priority, read_word};
+use ptk_words_model::{Creation, Scheduling};
 use std::marker::Model;
 
 /// The attributes of a new thread as words of the guest (pthread_attr_init; own choice of their numbers).
 #[derive(Clone, Copy)]
-pub struct ThreadAttributes {
+struct ThreadAttributes {
     detach: u32,
     inherit: u32,
     policy: u32,
@@ -30,31 +29,11 @@ impl Model for ThreadAttributes {
     ghost inverse = { λ d. record { detach = d.detach; inherit = d.inherit; policy = d.policy; priority = d.priority; stack_top = d.stack_top } };
 }
 
-/// Where the policy and the priority of a new thread come from (pthread_attr_setinheritsched).
-#[derive(Clone, Copy)]
-pub enum Scheduling {
-    /// From the creator.
-    Inherited,
-    /// They are these.
-    Explicit(Policy, Priority),
-}
-
-/// What the attributes of a new thread ask for.
-#[derive(Clone, Copy)]
-pub struct Creation {
-    /// Its policy and priority.
-    pub(crate) scheduling: Scheduling,
-    /// Whether it is detached (pthread_attr_setdetachstate).
-    pub(crate) is_detached: bool,
-    /// The end of its stack; None for its number's own.
-    pub(crate) stack_top: Option<u32>,
-}
-
 /// What the attributes object at the pointer asks for; pointer 0 stands for words that are all 0. EFAULT where the
 /// object can't be read, and the faults of `decode`.
 pub(crate) fn requested(pools: &Pools, p: PartId, pointer: u32) -> Result<Creation, Errno>
     requires partition { p < length pools.now.limits }
-    ensures { result ≡ asked_at (part_at p pools.now) pointer }
+    ensures { result ≡ creation_at (part_at p pools.now) pointer }
 {
     let _parts = pools.parts();
     let attributes = read_attributes(pools, p, pointer)?;
@@ -82,20 +61,12 @@ fn read_attributes(pools: &Pools, p: PartId, pointer: u32) -> Result<ThreadAttri
         return Err(Errno::EFAULT);
     }
     Ok(ThreadAttributes {
-        detach: word(memory, at),
-        inherit: word(memory, at + 4),
-        policy: word(memory, at + 8),
-        priority: word(memory, at + 12),
-        stack_top: word(memory, at + 16),
+        detach: read_word(memory, at),
+        inherit: read_word(memory, at + 4),
+        policy: read_word(memory, at + 8),
+        priority: read_word(memory, at + 12),
+        stack_top: read_word(memory, at + 16),
     })
-}
-
-/// The word at an index.
-fn word(memory: &[u8], at: usize) -> u32
-    requires { at + 4 ≤ length memory.now }
-    ensures { result ≡ word_at memory.now at }
-{
-    u32::from_le_bytes([memory[at], memory[at + 1], memory[at + 2], memory[at + 3]])
 }
 
 /// What these attributes ask for, in a memory of so many bytes. In this order (own choice): EINVAL where detach or

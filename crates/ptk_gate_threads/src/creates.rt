@@ -1,28 +1,35 @@
 //! Call 10: a new thread.
 
-ghost use Rattle.std.specs.Prelude.{◌≡◌, ◌<◌, ◌≤◌, length, position, is_none, unwrap_or, Some};
+ghost use Rattle.std.specs.Prelude.{◌≡◌, ◌<◌, length, unwrap_or, Some, IfOk};
 ghost use Rattle.ptk_words.specs.Pools.{least_free};
+ghost use Rattle.ptk_words_model.specs.Steps.{valid, change, succeed_with};
 ghost use Rattle.ptk_words_model.specs.ThreadCalls.{create};
-ghost use Rattle.ptk_words_model.specs.ThreadCreation.{default_stack_top, start_cpu};
-ghost use Rattle.ptk_words_model.specs.ThreadCalls as calls;
+ghost use Rattle.ptk_words_model.specs.ThreadCreation.{default_stack_top, start_cpu, created_thread, with_new_thread};
+ghost use Rattle.ptk_words_model.specs.ThreadCreation as creation;
 ghost use Rattle.ptk_words_well.specs.Well.{IsWell};
 ghost use Rattle.ptk_gate_pools.specs.Kept.{part_at, put_part, limits_at};
-ghost use Rattle.ptk_gate_threads.specs.Creates.{asked_thread, creation_answer, asked_answer};
 
-use crate::attributes::{Creation, Scheduling, requested};
+use crate::attributes::requested;
 use ptk_gate_moves::{begin, refuse, succeed_with};
 use ptk_gate_pools::Pools;
-use ptk_threads::Slot;
 use ptk_words::{
-    Cpu, Errno, Limits, PartId, Phase, Policy, Priority, RETURN_GATE, Thread, ThreadNo,
+    A0, Cpu, Errno, Limits, PartId, Phase, Policy, Priority, RA, RETURN_GATE, SP, Thread, ThreadNo,
 };
-use ptk_words_model::{Invocation, Reply};
+use ptk_words_model::{Creation, Invocation, Reply, Scheduling};
+
+/// A thread to be made, and its number.
+#[derive(Clone, Copy)]
+struct NewThread {
+    number: ThreadNo,
+    thread: Thread,
+}
 
 /// pthread_create: a thread with the attributes of a0, the start routine of a1 and its argument of a2, ready at the
 /// tail; its number, the least free one, in a1. Refusals in this order (own choice), which change nothing but a0:
 /// EFAULT where the attributes can't be read; EINVAL where their detach or inherit is neither 0 nor 1; of explicit
 /// scheduling ENOTSUP where the policy is unknown and EINVAL where the priority is not 1 to 32; EINVAL where the stack
 /// top is no multiple of 16 or lies past the memory; EAGAIN where no number is free.
+#[tactic(auto, using(ptk_gate_pools::proofs::Parted::parted))]
 pub fn create(pools: &mut Pools, p: PartId, i: Invocation) -> Reply
     requires partition { p < length pools.old.limits }
     requires limits { i.limits ≡ limits_at p pools.old }
@@ -30,70 +37,42 @@ pub fn create(pools: &mut Pools, p: PartId, i: Invocation) -> Reply
     ensures told { result ≡ (create i (part_at p pools.old)).reply }
     ensures moved { pools.new ≡ put_part p (create i (part_at p pools.old)).part pools.old }
 {
-    let asked = requested(pools, p, i.a0);
-    create_asked(pools, p, i, asked)
+    let _parts = pools.parts();
+    let new = match asked_thread(pools, p, &i) {
+        Ok(new) => new,
+        Err(errno) => return refuse(pools, p, i, errno),
+    };
+    begin(pools, p, new.number, new.thread);
+    succeed_with(pools, p, i, new.number.number() as u32)
 }
 
-/// The call that asks for this, or has this fault.
-fn create_asked(
-    pools: &mut Pools,
-    p: PartId,
-    i: Invocation,
-    asked: Result<Creation, Errno>,
-) -> Reply
-    requires partition { p < length pools.old.limits }
-    requires limits { i.limits ≡ limits_at p pools.old }
-    requires well { IsWell (limits_at p pools.old) (part_at p pools.old) }
-    ensures told { result ≡ (asked_answer asked i (part_at p pools.old)).reply }
-    ensures moved { pools.new ≡ put_part p (asked_answer asked i (part_at p pools.old)).part pools.old }
-{
-    match asked {
-        Ok(creation) => create_free(pools, p, i, creation),
-        Err(errno) => refuse(pools, p, i, errno),
-    }
-}
-
-/// The call that asks for this: EAGAIN where no number is free.
-fn create_free(pools: &mut Pools, p: PartId, i: Invocation, creation: Creation) -> Reply
-    requires partition { p < length pools.old.limits }
-    requires limits { i.limits ≡ limits_at p pools.old }
-    requires well { IsWell (limits_at p pools.old) (part_at p pools.old) }
-    ensures told { result ≡ (creation_answer (least_free (part_at p pools.old).threads) i creation (part_at p pools.old)).reply }
-    ensures moved { pools.new ≡ put_part p (creation_answer (least_free (part_at p pools.old).threads) i creation (part_at p pools.old)).part pools.old }
+/// The thread that the call makes at the least free number, or the error that refuses the call.
+fn asked_thread(pools: &Pools, p: PartId, i: &Invocation) -> Result<NewThread, Errno>
+    requires partition { p < length pools.now.limits }
+    ensures call { create i.now (part_at p pools.now) ≡ valid result (λ new. change (with_new_thread i.now.limits new.number new.thread) (succeed_with new.number)) i.now (part_at p pools.now) }
+    ensures free { IfOk result (λ new. least_free (part_at p pools.now).threads ≡ Some new.number) }
 {
     let _parts = pools.parts();
-    let free = first_free(pools.threads().part(p));
-    match free {
-        Some(t) => create_at(pools, p, i, creation, t),
-        None => refuse(pools, p, i, Errno::EAGAIN),
-    }
-}
-
-/// The same at the least free number.
-#[tactic(auto, using(ptk_gate_pools::proofs::Parted::parted))]
-fn create_at(pools: &mut Pools, p: PartId, i: Invocation, creation: Creation, t: ThreadNo) -> Reply
-    requires partition { p < length pools.old.limits }
-    requires limits { i.limits ≡ limits_at p pools.old }
-    requires well { IsWell (limits_at p pools.old) (part_at p pools.old) }
-    requires free { least_free (part_at p pools.old).threads ≡ Some t }
-    ensures told { result ≡ (creation_answer (Some t) i creation (part_at p pools.old)).reply }
-    ensures moved { pools.new ≡ put_part p (creation_answer (Some t) i creation (part_at p pools.old)).part pools.old }
-{
-    let _parts = pools.parts();
-    let creator = pools.threads().thread(p, i.caller);
-    match creator {
-        Some(creator) => {
-            begin(pools, p, t, created_thread(&i, &creation, &creator, t));
-            succeed_with(pools, p, i, t.number() as u32)
-        }
+    let creation = match requested(pools, p, i.a0) {
+        Ok(creation) => creation,
+        Err(errno) => return Err(errno),
+    };
+    let Some(number) = pools.threads().first_free(p) else {
+        return Err(Errno::EAGAIN);
+    };
+    let Some(creator) = pools.threads().thread(p, i.caller) else {
         // never met at the gate: the caller runs, so it is in use
-        None => refuse(pools, p, i, Errno::ESRCH),
-    }
+        return Err(Errno::ESRCH);
+    };
+    Ok(NewThread {
+        number,
+        thread: created_thread(i, &creation, &creator, number),
+    })
 }
 
 /// The thread that the creator makes.
 fn created_thread(i: &Invocation, creation: &Creation, creator: &Thread, t: ThreadNo) -> Thread
-    ensures { result ≡ asked_thread i.now creation.now creator.now t }
+    ensures { result ≡ created_thread i.now creation.now creator.now t }
 {
     let top = stack_top(&i.limits, creation.stack_top, t);
     let cpu = start_cpu(i.a1, i.a2, top);
@@ -122,16 +101,16 @@ fn start_cpu(routine: u32, argument: u32, top: u32) -> Cpu
     ensures { result ≡ start_cpu routine argument top }
 {
     let mut cpu = Cpu::at(0);
-    cpu.set_register(2, top);
-    cpu.set_register(10, argument);
-    cpu.set_register(1, RETURN_GATE);
+    cpu.set_register(SP, top);
+    cpu.set_register(A0, argument);
+    cpu.set_register(RA, RETURN_GATE);
     cpu.set_pc(routine);
     cpu
 }
 
 /// A thread that has done nothing yet.
 fn new_thread(cpu: Cpu, policy: Policy, priority: Priority, is_detached: bool) -> Thread
-    ensures { result ≡ record (calls.new_thread cpu policy priority) { is_detached = is_detached } }
+    ensures { result ≡ record (creation.new_thread cpu policy priority) { is_detached = is_detached } }
 {
     Thread {
         cpu,
@@ -145,23 +124,4 @@ fn new_thread(cpu: Cpu, policy: Policy, priority: Priority, is_detached: bool) -
         phase: Phase::Normal,
         wait: None,
     }
-}
-
-/// The least free number.
-#[tactic(auto, using(ptk_threads::proofs::Slots::numbers))]
-fn first_free(slots: &[Slot]) -> Option<ThreadNo>
-    requires { length slots.now ≤ 32 }
-    ensures { result ≡ least_free slots.now }
-{
-    match first_free_place(slots) {
-        Some(index) => Some(ThreadNo::new(index as u8 + 1)),
-        None => None,
-    }
-}
-
-/// The place of the first free slot, from 0.
-fn first_free_place(slots: &[Slot]) -> Option<usize>
-    ensures { result ≡ position is_none slots.now }
-{
-    slots.iter().position(|slot| slot.is_free())
 }

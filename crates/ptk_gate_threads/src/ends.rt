@@ -9,12 +9,11 @@ ghost use Rattle.ptk_words_well.specs.Well.{IsWell, joiner_of};
 ghost use Rattle.ptk_words.specs.Pools.{is_in};
 ghost use Rattle.ptk_gate_pools.specs.Kept.{part_at, put_part, limits_at};
 ghost use Rattle.ptk_gate_pools.specs.Moves.{stopped};
-ghost use Rattle.ptk_gate_threads.specs.Ends.{released};
 
-use ptk_gate_moves::{halt, is_ended, is_taken, start_unwinding, wake};
+use ptk_gate_moves::{halt, is_ended, start_unwinding, wake};
 use ptk_gate_pools::Pools;
 use ptk_threads::Slot;
-use ptk_words::{PartId, Phase, Status, Thread, ThreadNo};
+use ptk_words::{A0, PartId, Phase, Status, Thread, ThreadNo};
 
 /// A step at the return gate: a normal thread's start routine has returned, an unwinding one ends (pthread_exit).
 #[tactic(auto, using(ptk_gate_pools::proofs::Parted::parted))]
@@ -36,7 +35,7 @@ fn return_from(pools: &mut Pools, p: PartId, t: ThreadNo, thread: Thread)
     requires partition { p < length pools.old.limits }
     ensures { pools.new ≡ put_part p (after_return t thread (part_at p pools.old)) pools.old }
 {
-    let value = thread.cpu.register(10);
+    let value = thread.cpu.register(A0);
     if thread.is_main {
         halt(pools, p, Status::Exited((value % 256) as u8));
     } else {
@@ -65,13 +64,14 @@ fn end(pools: &mut Pools, p: PartId, t: ThreadNo)
     end_without_mutexes(pools, p, t);
 }
 
-/// The same of a thread that leaves no mutex behind.
+/// The end of a thread that owns no mutex: its joiner is woken, its number free or kept, no thread runs, and the last
+/// thread's end exits the partition with 0 (pthread_exit).
 #[tactic(auto, using(ptk_gate_pools::proofs::Parted::parted))]
 fn end_without_mutexes(pools: &mut Pools, p: PartId, t: ThreadNo)
     requires partition { p < length pools.old.limits }
     requires in_use { IfSome (joiner_of (thread_at (part_at p pools.old).locks t)) (λ u. IsSome (thread_at (part_at p pools.old).locks u)) }
     requires fresh { IfSome (joiner_of (thread_at (part_at p pools.old).locks t)) (λ u. is_in u (part_at p pools.old).line ≡ false) }
-    ensures { pools.new ≡ put_part p (after_last_end (stopped (with_locks (released t) (part_at p pools.old)))) pools.old }
+    ensures { pools.new ≡ put_part p (after_last_end (stopped (with_locks (after_release t (thread_at (part_at p pools.old).locks t)) (part_at p pools.old)))) pools.old }
 {
     let _parts = pools.parts();
     release(pools, p, t);
@@ -85,7 +85,7 @@ fn release(pools: &mut Pools, p: PartId, t: ThreadNo)
     requires partition { p < length pools.old.limits }
     requires in_use { IfSome (joiner_of (thread_at (part_at p pools.old).locks t)) (λ u. IsSome (thread_at (part_at p pools.old).locks u)) }
     requires fresh { IfSome (joiner_of (thread_at (part_at p pools.old).locks t)) (λ u. is_in u (part_at p pools.old).line ≡ false) }
-    ensures { pools.new ≡ put_part p (with_locks (released t) (part_at p pools.old)) pools.old }
+    ensures { pools.new ≡ put_part p (with_locks (after_release t (thread_at (part_at p pools.old).locks t)) (part_at p pools.old)) pools.old }
 {
     let _parts = pools.parts();
     let thread = pools.threads().thread(p, t);
@@ -95,21 +95,19 @@ fn release(pools: &mut Pools, p: PartId, t: ThreadNo)
     }
 }
 
-/// The same of a thread in use.
+/// The joiner of a thread in use is woken with its result, and its number is free or kept (pthread_exit,
+/// pthread_detach).
 #[tactic(auto, using(ptk_gate_pools::proofs::Parted::parted))]
 fn release_thread(pools: &mut Pools, p: PartId, t: ThreadNo, thread: Thread)
     requires partition { p < length pools.old.limits }
+    requires named { thread_at (part_at p pools.old).locks t ≡ Some thread }
     requires in_use { IfSome thread.joiner (λ u. IsSome (thread_at (part_at p pools.old).locks u)) }
     requires fresh { IfSome thread.joiner (λ u. is_in u (part_at p pools.old).line ≡ false) }
     ensures { pools.new ≡ put_part p (with_locks (after_release t (Some thread)) (part_at p pools.old)) pools.old }
 {
     let _parts = pools.parts();
-    if is_taken(&thread) {
-        tell_joiner(pools, p, thread.joiner, thread.result);
-        pools.free(p, t);
-    } else {
-        pools.give_phase(p, t, Phase::Ended);
-    }
+    tell_joiner(pools, p, thread.joiner, thread.result);
+    pools.end(p, t);
 }
 
 /// The thread's result goes to the thread that joins it (pthread_join).
@@ -139,7 +137,7 @@ fn halt_at_last_end(pools: &mut Pools, p: PartId)
     halt(pools, p, Status::Exited(0));
 }
 
-/// Whether a thread is in use and has not ended.
+/// Whether the slot's thread is in use and has not ended.
 fn is_alive(slot: &Slot) -> bool
     ensures { result ≡ is_alive slot.now }
 {
@@ -149,7 +147,7 @@ fn is_alive(slot: &Slot) -> bool
     }
 }
 
-/// Whether any of the threads is.
+/// Whether a thread of the slots is in use and has not ended.
 fn is_any_alive(slots: &[Slot]) -> bool
     ensures { result ≡ list_any is_alive slots.now }
 {

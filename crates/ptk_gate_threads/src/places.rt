@@ -64,8 +64,8 @@ pub fn yield_turn(pools: &mut Pools, p: PartId, i: Invocation) -> Reply
     succeed(pools, p, i)
 }
 
-/// The target, which owns no INHERIT or PROTECT mutex, is scheduled anew, and goes to the tail if it runs or is
-/// ready.
+/// The thread, which owns no INHERIT or PROTECT mutex, has this policy and priority, and goes to the tail if it runs or
+/// is ready (pthread_setschedparam).
 #[tactic(auto, using(ptk_gate_pools::proofs::Parted::parted, ptk_words_well::proofs::Pools::changed_own))]
 pub(crate) fn reschedule(
     pools: &mut Pools,

@@ -1,19 +1,17 @@
 //! Calls 16 and 18: the policy and the priority of a thread.
 
-ghost use Rattle.std.specs.Prelude.{◌≡◌, ◌<◌, false, [], length, Some, IsSome};
+ghost use Rattle.std.specs.Prelude.{◌≡◌, ◌<◌, false, length, Some, IsSome, IfOk};
 ghost use Rattle.ptk_words_model.specs.State.{with_locks};
 ghost use Rattle.ptk_words_model.specs.Schedule.{with_thread};
 ghost use Rattle.ptk_words_model.specs.Priority.{thread_at};
 ghost use Rattle.ptk_words_model.specs.Mutex.{owns_raising};
-ghost use Rattle.ptk_words_model.specs.Calls.{success};
+ghost use Rattle.ptk_words_model.specs.Steps.{valid, change, change_thread, succeed};
 ghost use Rattle.ptk_words_model.specs.ThreadCalls.{after_placing_at_tail, setschedparam, after_priority_change, setschedprio};
-ghost use Rattle.ptk_words_model.specs.ThreadCreation.{policy_of};
+ghost use Rattle.ptk_threads.specs.Table.{with_priority};
 ghost use Rattle.ptk_words_well.specs.Well.{IsWell};
 ghost use Rattle.ptk_words.specs.Pools.{is_in};
 ghost use Rattle.ptk_gate_pools.specs.Kept.{part_at, put_part, limits_at};
-ghost use Rattle.ptk_threads.specs.Table.{with_priority};
 ghost use Rattle.ptk_gate_moves.specs.Moves.{with_scheduling};
-ghost use Rattle.ptk_gate_threads.specs.Scheduling.{scheduled_with, prioritized_from};
 
 use crate::attributes::{named_policy, named_priority};
 use crate::places::{place_at_head, place_at_tail, reschedule};
@@ -22,126 +20,99 @@ use ptk_gate_pools::Pools;
 use ptk_words::{Errno, PartId, Policy, Priority, ThreadNo};
 use ptk_words_model::{Invocation, Reply};
 
+/// A thread in use, and the policy and the priority that it is to have.
+#[derive(Clone, Copy)]
+struct NewScheduling {
+    thread: ThreadNo,
+    policy: Policy,
+    priority: Priority,
+}
+
+/// A thread in use, the priority that it has and the one that it is to have.
+#[derive(Clone, Copy)]
+struct NewPriority {
+    thread: ThreadNo,
+    old: Priority,
+    new: Priority,
+}
+
 /// pthread_setschedparam: the thread of a0 has the policy of a1 and the priority of a2, and goes to the tail if it runs
 /// or is ready. ESRCH, ENOTSUP, EINVAL; a refusal changes nothing but a0.
-#[tactic(auto, using(ptk_gate_moves::proofs::Ready::ready))]
+#[tactic(auto, using(ptk_gate_pools::proofs::Parted::parted, ptk_gate_moves::proofs::Ready::ready))]
 pub fn setschedparam(pools: &mut Pools, p: PartId, i: Invocation) -> Reply
     requires partition { p < length pools.old.limits }
     requires well { IsWell (limits_at p pools.old) (part_at p pools.old) }
     ensures told { result ≡ (setschedparam i (part_at p pools.old)).reply }
     ensures moved { pools.new ≡ put_part p (setschedparam i (part_at p pools.old)).part pools.old }
 {
-    match target(pools, p, i.a0) {
-        Some(target) => schedule(pools, p, i, target.number),
-        None => refuse(pools, p, i, Errno::ESRCH),
-    }
-}
-
-/// The same of a thread in use.
-fn schedule(pools: &mut Pools, p: PartId, i: Invocation, t: ThreadNo) -> Reply
-    requires partition { p < length pools.old.limits }
-    requires named { t ≡ i.a0 }
-    requires in_use { IsSome (thread_at (part_at p pools.old).locks t) }
-    requires fresh { (part_at p pools.old).running ≡ Some t → is_in t (part_at p pools.old).line ≡ false }
-    requires raising { owns_raising (part_at p pools.old).locks t ≡ false }
-    ensures told { result ≡ (scheduled_with (policy_of i.a1) i (part_at p pools.old)).reply }
-    ensures moved { pools.new ≡ put_part p (scheduled_with (policy_of i.a1) i (part_at p pools.old)).part pools.old }
-{
-    match named_policy(i.a1) {
-        Some(policy) => schedule_with(pools, p, i, t, policy),
-        None => refuse(pools, p, i, Errno::ENOTSUP),
-    }
-}
-
-/// The same with a policy.
-fn schedule_with(pools: &mut Pools, p: PartId, i: Invocation, t: ThreadNo, policy: Policy) -> Reply
-    requires partition { p < length pools.old.limits }
-    requires named { t ≡ i.a0 }
-    requires in_use { IsSome (thread_at (part_at p pools.old).locks t) }
-    requires fresh { (part_at p pools.old).running ≡ Some t → is_in t (part_at p pools.old).line ≡ false }
-    requires raising { owns_raising (part_at p pools.old).locks t ≡ false }
-    ensures told { result ≡ (scheduled_with (Some policy) i (part_at p pools.old)).reply }
-    ensures moved { pools.new ≡ put_part p (scheduled_with (Some policy) i (part_at p pools.old)).part pools.old }
-{
-    match named_priority(i.a2) {
-        Some(priority) => schedule_at(pools, p, i, t, policy, priority),
-        None => refuse(pools, p, i, Errno::EINVAL),
-    }
-}
-
-/// The same with a policy and a priority.
-#[tactic(auto, using(ptk_gate_pools::proofs::Parted::parted))]
-fn schedule_at(
-    pools: &mut Pools,
-    p: PartId,
-    i: Invocation,
-    t: ThreadNo,
-    policy: Policy,
-    priority: Priority,
-) -> Reply
-    requires partition { p < length pools.old.limits }
-    requires in_use { IsSome (thread_at (part_at p pools.old).locks t) }
-    requires fresh { (part_at p pools.old).running ≡ Some t → is_in t (part_at p pools.old).line ≡ false }
-    requires raising { owns_raising (part_at p pools.old).locks t ≡ false }
-    ensures told { result ≡ (success [] i (after_placing_at_tail t (with_locks (with_thread t (with_scheduling policy priority)) (part_at p pools.old)))).reply }
-    ensures moved { pools.new ≡ put_part p (success [] i (after_placing_at_tail t (with_locks (with_thread t (with_scheduling policy priority)) (part_at p pools.old)))).part pools.old }
-{
     let _parts = pools.parts();
-    reschedule(pools, p, t, policy, priority);
+    let asked = match asked_scheduling(pools, p, &i) {
+        Ok(asked) => asked,
+        Err(errno) => return refuse(pools, p, i, errno),
+    };
+    reschedule(pools, p, asked.thread, asked.policy, asked.priority);
     succeed(pools, p, i)
+}
+
+/// What call 16 gives a thread, or the error that refuses it: ESRCH of a number that is not in use, then ENOTSUP of an
+/// unknown policy, then EINVAL of a word that is no priority.
+fn asked_scheduling(pools: &Pools, p: PartId, i: &Invocation) -> Result<NewScheduling, Errno>
+    requires partition { p < length pools.now.limits }
+    ensures call { setschedparam i.now (part_at p pools.now) ≡ valid result (λ asked. change_thread asked.thread (with_scheduling asked.policy asked.priority) (change (after_placing_at_tail asked.thread) succeed)) i.now (part_at p pools.now) }
+    ensures in_use { IfOk result (λ asked. IsSome (thread_at (part_at p pools.now).locks asked.thread)) }
+{
+    let Some(target) = target(pools, p, i.a0) else {
+        return Err(Errno::ESRCH);
+    };
+    let Some(policy) = named_policy(i.a1) else {
+        return Err(Errno::ENOTSUP);
+    };
+    let Some(priority) = named_priority(i.a2) else {
+        return Err(Errno::EINVAL);
+    };
+    Ok(NewScheduling {
+        thread: target.number,
+        policy,
+        priority,
+    })
 }
 
 /// pthread_setschedprio: the thread of a0 has the priority of a1. If it runs or is ready, it goes to the tail where its
 /// priority rose, to the head where it fell. ESRCH, EINVAL; a refusal changes nothing but a0.
-#[tactic(auto, using(ptk_gate_moves::proofs::Ready::ready))]
+#[tactic(auto, using(ptk_gate_pools::proofs::Parted::parted, ptk_gate_moves::proofs::Ready::ready))]
 pub fn setschedprio(pools: &mut Pools, p: PartId, i: Invocation) -> Reply
     requires partition { p < length pools.old.limits }
     requires well { IsWell (limits_at p pools.old) (part_at p pools.old) }
     ensures told { result ≡ (setschedprio i (part_at p pools.old)).reply }
     ensures moved { pools.new ≡ put_part p (setschedprio i (part_at p pools.old)).part pools.old }
 {
-    match target(pools, p, i.a0) {
-        Some(target) => prioritize(pools, p, i, target.number, target.thread.priority),
-        None => refuse(pools, p, i, Errno::ESRCH),
-    }
-}
-
-/// The same of a thread in use, whose priority was the old one.
-fn prioritize(pools: &mut Pools, p: PartId, i: Invocation, t: ThreadNo, old: Priority) -> Reply
-    requires partition { p < length pools.old.limits }
-    requires named { t ≡ i.a0 }
-    requires in_use { IsSome (thread_at (part_at p pools.old).locks t) }
-    requires fresh { (part_at p pools.old).running ≡ Some t → is_in t (part_at p pools.old).line ≡ false }
-    requires raising { owns_raising (part_at p pools.old).locks t ≡ false }
-    ensures told { result ≡ (prioritized_from old i (part_at p pools.old)).reply }
-    ensures moved { pools.new ≡ put_part p (prioritized_from old i (part_at p pools.old)).part pools.old }
-{
-    match named_priority(i.a1) {
-        Some(new) => reprioritize(pools, p, i, t, old, new),
-        None => refuse(pools, p, i, Errno::EINVAL),
-    }
-}
-
-/// The same with a priority.
-#[tactic(auto, using(ptk_gate_pools::proofs::Parted::parted))]
-fn reprioritize(
-    pools: &mut Pools,
-    p: PartId,
-    i: Invocation,
-    t: ThreadNo,
-    old: Priority,
-    new: Priority,
-) -> Reply
-    requires partition { p < length pools.old.limits }
-    requires in_use { IsSome (thread_at (part_at p pools.old).locks t) }
-    requires fresh { (part_at p pools.old).running ≡ Some t → is_in t (part_at p pools.old).line ≡ false }
-    requires raising { owns_raising (part_at p pools.old).locks t ≡ false }
-    ensures told { result ≡ (success [] i (after_priority_change old new t (with_locks (with_thread t (with_priority new)) (part_at p pools.old)))).reply }
-    ensures moved { pools.new ≡ put_part p (success [] i (after_priority_change old new t (with_locks (with_thread t (with_priority new)) (part_at p pools.old)))).part pools.old }
-{
     let _parts = pools.parts();
-    change_priority(pools, p, t, old, new);
+    let asked = match asked_priority(pools, p, &i) {
+        Ok(asked) => asked,
+        Err(errno) => return refuse(pools, p, i, errno),
+    };
+    change_priority(pools, p, asked.thread, asked.old, asked.new);
     succeed(pools, p, i)
+}
+
+/// What call 18 gives a thread, or the error that refuses it: ESRCH of a number that is not in use, then EINVAL of a
+/// word that is no priority.
+fn asked_priority(pools: &Pools, p: PartId, i: &Invocation) -> Result<NewPriority, Errno>
+    requires partition { p < length pools.now.limits }
+    ensures call { setschedprio i.now (part_at p pools.now) ≡ valid result (λ asked. change_thread asked.thread (with_priority asked.new) (change (after_priority_change asked.old asked.new asked.thread) succeed)) i.now (part_at p pools.now) }
+    ensures in_use { IfOk result (λ asked. IsSome (thread_at (part_at p pools.now).locks asked.thread)) }
+{
+    let Some(target) = target(pools, p, i.a0) else {
+        return Err(Errno::ESRCH);
+    };
+    let Some(new) = named_priority(i.a1) else {
+        return Err(Errno::EINVAL);
+    };
+    Ok(NewPriority {
+        thread: target.number,
+        old: target.thread.priority,
+        new,
+    })
 }
 
 /// The thread, whose priority was the old one, has the new one, and its place follows.

@@ -6,7 +6,7 @@ ghost use Rattle.ptk_words_model.specs.ThreadCreation.{policy_number};
 ghost use Rattle.ptk_words_model.specs.ThreadCalls as calls;
 ghost use Rattle.ptk_gate_pools.specs.Kept.{part_at, put_part};
 
-use ptk_gate_moves::{is_ended, is_taken, refuse, succeed, succeed_with_two, target};
+use ptk_gate_moves::{is_taken, refuse, succeed, succeed_with_two, target};
 use ptk_gate_pools::Pools;
 use ptk_words::{Errno, PartId, Policy};
 use ptk_words_model::{Invocation, Reply};
@@ -31,13 +31,8 @@ pub fn getschedparam(pools: &mut Pools, p: PartId, i: Invocation) -> Reply
     match target(pools, p, i.a0) {
         Some(target) => {
             let priority = target.thread.priority;
-            succeed_with_two(
-                pools,
-                p,
-                i,
-                policy_number(target.thread.policy),
-                priority.level() as u32,
-            )
+            let policy = policy_number(target.thread.policy);
+            succeed_with_two(pools, p, i, policy, priority.level() as u32)
         }
         None => refuse(pools, p, i, Errno::ESRCH),
     }
@@ -52,18 +47,12 @@ pub fn detach(pools: &mut Pools, p: PartId, i: Invocation) -> Reply
     ensures moved { pools.new ≡ put_part p (calls.detach i (part_at p pools.old)).part pools.old }
 {
     let _parts = pools.parts();
-    match target(pools, p, i.a0) {
-        Some(target) => {
-            if is_taken(&target.thread) {
-                refuse(pools, p, i, Errno::EINVAL)
-            } else if is_ended(target.thread.phase) {
-                pools.free(p, target.number);
-                succeed(pools, p, i)
-            } else {
-                pools.mark_detached(p, target.number);
-                succeed(pools, p, i)
-            }
-        }
-        None => refuse(pools, p, i, Errno::ESRCH),
+    let Some(target) = target(pools, p, i.a0) else {
+        return refuse(pools, p, i, Errno::ESRCH);
+    };
+    if is_taken(&target.thread) {
+        return refuse(pools, p, i, Errno::EINVAL);
     }
+    pools.detach(p, target.number);
+    succeed(pools, p, i)
 }

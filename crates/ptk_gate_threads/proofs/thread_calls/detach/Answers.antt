@@ -1,0 +1,24 @@
+use Rattle.std.proofs.Common.{[], length, sym, ◌∙◌, ap}
+use Rattle.ptk_words.specs.Threads.{left_at_detach}
+use Rattle.ptk_words_model.specs.Calls.{Answer, success}
+use Rattle.ptk_words_model.specs.State.{Part, with_locks}
+use Rattle.ptk_words_model.specs.ThreadCalls as calls
+use Rattle.ptk_gate_pools.specs.Kept.{part_at}
+use Rattle.ptk_gate_pools.specs.Moves.{with_left}
+use Rattle.ptk_gate_threads.proofs.Leaving.{moved_twice, detached_is}
+use Rattle.ptk_gate_threads.proofs.thread_calls.detach.Goals as goal
+
+pub returns-clause-told : goal.returns-clause-told
+returns-clause-told c =
+    c.succeed.ensures.told
+    ∙ ap (λ (a : Answer). a.reply)
+    (detached_is c.args.i (part_at c.args.p c.args.pools.now) c.in-Some.target (sym c.target.ensures ∙ c.in-Some.is) (sym c.is_taken.ensures ∙ c.if-is_taken.false))
+
+pub returns-clause-moved : goal.returns-clause-moved
+returns-clause-moved c =
+    let s : Part = part_at c.args.p c.args.pools.now in
+    moved_twice (length c.args.pools.now.limits) c.args.p
+    (with_locks (with_left c.in-Some.target.number left_at_detach) s)
+    (calls.detach c.args.i s).part
+    (λ (u : Part). (success [] c.args.i u).part) c.args.pools.now _ _ c.parts-parts.ensures.entries c.requires.partition c.detach.ensures c.succeed.ensures.moved
+    (ap (λ (a : Answer). a.part) (detached_is c.args.i s c.in-Some.target (sym c.target.ensures ∙ c.in-Some.is) (sym c.is_taken.ensures ∙ c.if-is_taken.false)))

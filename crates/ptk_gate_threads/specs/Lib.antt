@@ -1,3 +1,0 @@
-pub mod Creates
-pub mod Ends
-pub mod Scheduling
