@@ -45,10 +45,6 @@ with_slot p k slot priority table =
       stored = slice_set table.stored p (pool_set (part_of table.stored p) k priority);
     }
 
--- the entry of a number alone (own)
-abbrev pub with_entry : ℕ → ℕ → Option Thread → ThreadTable → ThreadTable
-with_entry p k slot table = record table { threads = slice_set table.threads p (pool_set (part_of table.threads p) k slot) }
-
 -- the thread of a number changed by f; a free number stays free (own)
 abbrev pub with_changed : ℕ → ℕ → (Thread → Thread) → ThreadTable → ThreadTable
 with_changed p k f table = record table { threads = slice_set table.threads p (pool_changed k f (part_of table.threads p)) }
@@ -70,18 +66,22 @@ with_new_at (Some k) p thread table = with_slot p k (Some thread) thread.priorit
 abbrev pub with_new : ℕ → Thread → ThreadTable → ThreadTable
 with_new p thread table = with_new_at (least_free (part_of table.threads p)) p thread table
 
--- what is left at a number: the thread, or a free number (own)
-abbrev pub with_left : ℕ → ℕ → Option Thread → ThreadTable → ThreadTable
-with_left p k None table = with_free p k table
-with_left p k (Some thread) table = with_entry p k (Some thread) table
+-- the stored priorities where this is left at a number: 0 of a free number, and else they stay (own)
+abbrev pub stored_left : ℕ → ℕ → Option Thread → List (List ℕ) → List (List ℕ)
+stored_left p k None stored = slice_set stored p (pool_set (part_of stored p) k 0)
+stored_left p k (Some thread) stored = stored
 
--- the number after its thread's end: kept with the result until a join or a detachment, or free (pthread_exit)
-abbrev pub with_end : ℕ → ℕ → ThreadTable → ThreadTable
-with_end p k table = with_left p k (option_and_then left_at_end (thread_in table p k)) table
+-- this is left at a number (own)
+abbrev pub with_rest : ℕ → ℕ → Option Thread → ThreadTable → ThreadTable
+with_rest p k rest table =
+    record {
+      threads = slice_set table.threads p (pool_set (part_of table.threads p) k rest);
+      stored = stored_left p k rest table.stored;
+    }
 
--- the number once its thread is detached: free where the thread has ended (pthread_detach)
-abbrev pub with_detached : ℕ → ℕ → ThreadTable → ThreadTable
-with_detached p k table = with_left p k (option_and_then left_at_detach (thread_in table p k)) table
+-- what f leaves of the thread of a number, which is free where f leaves nothing (own)
+abbrev pub with_left : ℕ → ℕ → (Thread → Option Thread) → ThreadTable → ThreadTable
+with_left p k f table = with_rest p k (option_and_then f (thread_in table p k)) table
 
 -- ---- one field of a thread changed
 

@@ -5,7 +5,7 @@ ghost use Rattle.ptk_words.specs.Pools.{least_free, pool_get, pool_set, pool_cha
 ghost use Rattle.ptk_words.specs.Threads.{left_at_end, left_at_detach};
 ghost use Rattle.ptk_words.specs.declared.threads.Thread.{Thread};
 ghost use Rattle.ptk_words_parted.specs.Parts.{part_of, joined};
-ghost use Rattle.ptk_threads.specs.Table.{free_table, thread_in, stored_of, with_slot, with_changed, with_stored, with_free, with_new, with_left, with_end, with_detached, with_cpu, with_policy, with_priority, with_used, with_phase, with_main, with_joiner, with_result, with_wait, with_detached_mark, replaced_by};
+ghost use Rattle.ptk_threads.specs.Table.{free_table, thread_in, stored_of, with_slot, with_changed, with_stored, with_free, with_new, with_rest, with_left, with_cpu, with_policy, with_priority, with_used, with_phase, with_main, with_joiner, with_result, with_wait, with_detached_mark, replaced_by};
 ghost use Rattle.ptk_threads.specs.Changes.{thread_changed};
 
 use crate::slot::{Change, Slot};
@@ -108,7 +108,7 @@ impl Threads {
     #[tactic(auto, using(crate::proofs::Slots::pools))]
     pub fn end(&mut self, p: PartId, k: ThreadNo)
         requires { p < length self.old.threads }
-        ensures { self.new ≡ with_end p k self.old }
+        ensures { self.new ≡ with_left p k left_at_end self.old }
     {
         let left = left_at_end(self.thread(p, k));
         self.leave(p, k, left);
@@ -118,7 +118,7 @@ impl Threads {
     #[tactic(auto, using(crate::proofs::Slots::pools))]
     pub fn detach(&mut self, p: PartId, k: ThreadNo)
         requires { p < length self.old.threads }
-        ensures { self.new ≡ with_detached p k self.old }
+        ensures { self.new ≡ with_left p k left_at_detach self.old }
     {
         let left = left_at_detach(self.thread(p, k));
         self.leave(p, k, left);
@@ -370,7 +370,7 @@ impl Threads {
     #[tactic(auto, using(crate::proofs::Slots::pools))]
     fn leave(&mut self, p: PartId, k: ThreadNo, left: Option<Thread>)
         requires { p < length self.old.threads }
-        ensures { self.new ≡ with_left p k left self.old }
+        ensures { self.new ≡ with_rest p k left self.old }
     {
         match left {
             Some(thread) => put_slot(self.slots.lend(p), k, Some(thread)),

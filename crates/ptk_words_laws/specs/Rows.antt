@@ -5,6 +5,7 @@ pub mod Traces
 pub mod Threads
 pub mod Inputs
 pub mod Times
+pub mod States
 pub mod Priorities
 pub mod Waits
 pub mod Cancellations

@@ -8,8 +8,8 @@ ghost use Rattle.ptk_words_laws.specs.Rows.Inputs.{InputRing};
 ghost use Rattle.ptk_words_laws.specs.Rows.Times.{TickConversion};
 ghost use Rattle.ptk_words_laws.specs.Rows.Words.{DecodedWords};
 ghost use Rattle.ptk_words_laws.specs.Rows.Priorities.{InheritCycle, TwoStepChain, CeilingRefusal, NestedCeilings, RecursiveLimit, SelfDeadlock, InheritAfterHandover, InheritBasic, RaisedInPlace};
-ghost use Rattle.ptk_words_laws.specs.Rows.Waits.{FirstLock, BadNanosecondsOrder, ExpiredTimedlock, ExpiredWaitReleases, CountedRecursiveWait, EqualWakeups, CancelledWaiter, ZeroWordsWait, EdgePointers, CopiedWord};
-ghost use Rattle.ptk_words_laws.specs.Rows.Cancellations.{AsyncCancelReady, CancelledJoiner, DisableThenEnable, BadPointerWithRequest, SeventeenHandlers, DestructorLimit, DestructorRounds, ExitInDestructor};
+ghost use Rattle.ptk_words_laws.specs.Rows.Waits.{FirstLock, BadNanosecondsOrder, ExpiredTimedlock, ExpiredWaitReleases, CountedRecursiveWait, EqualWakeups, ZeroWordsWait, EdgePointers, CopiedWord};
+ghost use Rattle.ptk_words_laws.specs.Rows.Cancellations.{AsyncCancelReady, CancelledWaiter, CancelledJoiner, DisableThenEnable, BadPointerWithRequest, SeventeenHandlers, DestructorLimit, DestructorRounds, ExitInDestructor};
 ghost use Rattle.ptk_words_laws.specs.Rows.Refusals.{CreateRefused, ThreadRefused, SmallCalls};
 
 /// The run of nine steps that prints `hi`.
@@ -17,7 +17,7 @@ pub fn hello()
     ensures { Hello }
 {}
 
-/// The same run after 3 and after 10 ticks.
+/// The run that prints `hi`, after 3 and after 10 ticks.
 pub fn cut_run()
     ensures { CutRun }
 {}
@@ -192,7 +192,7 @@ pub fn equal_wakeups()
     ensures { EqualWakeups }
 {}
 
-/// A condition waiter that is cancelled, and a signal afterwards.
+/// A condition waiter that is cancelled, a signal afterwards, and its handler.
 pub fn cancelled_waiter()
     ensures { CancelledWaiter }
 {}

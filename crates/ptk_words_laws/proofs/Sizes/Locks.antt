@@ -14,7 +14,7 @@ use Rattle.ptk_words_model.specs.declared.LockMove.TheVariants.{Takes, Counts, W
 use Rattle.ptk_words_model.specs.State.{Mutex, Locks, Syncs}
 use Rattle.ptk_words_model.specs.Priority.{thread_at}
 use Rattle.ptk_words_model.specs.Schedule.{with_thread, at_tail_with, after_wake, woken_with}
-use Rattle.ptk_words_model.specs.Mutex.{mutex_at, with_mutex, after_wait, after_move, after_hand_over_to, after_hand_over, after_unlock, after_relock_move, after_relock, relock_move, without_mutex_waiter, after_owner_end, mutex_after_end, heir, handed, count_of, wait_of}
+use Rattle.ptk_words_model.specs.Mutex.{mutex_at, with_mutex, after_wait, after_move, after_hand_over_to, after_hand_over, after_unlock, after_relock_move, after_relock, relock_move, without_mutex_waiter, after_owner_end, mutex_after_end, heir, kept_reply, count_of, wait_of}
 use Rattle.ptk_words_model.specs.Condition.{after_unblock_for, after_unblock, mutex_named}
 use Rattle.ptk_words_model.specs.Unwinding.{after_join_by, without_thread, after_release}
 use Rattle.ptk_words_model.specs.Withdrawal.{without_joiner}
@@ -63,7 +63,7 @@ after_move_sized l (Refuses e) t m wait x h = h
 hand_over_to_sized : (l : Limits) (o : Option ℕ) (m : ℕ) (x : Locks) → LocksSized l x → LocksSized l (after_hand_over_to o m x)
 hand_over_to_sized l None m x h = with_mutex_sized l m (λ mutex. record mutex { owner = Free; count = 0 }) x h
 hand_over_to_sized l (Some t) m x h =
-    at_tail_with_sized l handed t (with_mutex m (λ mutex. record mutex { owner = OwnedBy t; count = 1; waiters = without t mutex.waiters }) x)
+    at_tail_with_sized l (λ thread. woken_with (kept_reply thread.wait) thread) t (with_mutex m (λ mutex. record mutex { owner = OwnedBy t; count = 1; waiters = without t mutex.waiters }) x)
     (with_mutex_sized l m (λ mutex. record mutex { owner = OwnedBy t; count = 1; waiters = without t mutex.waiters }) x h)
 
 pub after_unlock_sized : (l : Limits) (m : ℕ) (x : Locks) → LocksSized l x → LocksSized l (after_unlock m x)
@@ -77,8 +77,7 @@ relock_move_sized l Takes t m reply x h =
     after_wake_sized l t (option_to_list reply) (after_move Takes t m (RelockWait m reply) x) (after_move_sized l Takes t m (RelockWait m reply) x h)
 relock_move_sized l Counts t m reply x h =
     after_wake_sized l t (option_to_list reply) (after_move Counts t m (RelockWait m reply) x) (after_move_sized l Counts t m (RelockWait m reply) x h)
-relock_move_sized l (Refuses e) t m reply x h =
-    after_wake_sized l t (option_to_list reply) (after_move (Refuses e) t m (RelockWait m reply) x) (after_move_sized l (Refuses e) t m (RelockWait m reply) x h)
+relock_move_sized l (Refuses e) t m reply x h = after_wake_sized l t (option_to_list reply) x h
 
 pub after_relock_sized : (l : Limits) (t m : ℕ) (reply : Option ℕ) (x : Locks) → LocksSized l x → LocksSized l (after_relock t m reply x)
 after_relock_sized l t m reply x h = relock_move_sized l (relock_move t (mutex_at x m)) t m reply x h
@@ -111,7 +110,7 @@ after_release_sized l t (Some thread) x h =
 
 -- ---- condition variables
 
--- those and the pool of condition variables
+-- the pools of threads, mutexes and condition variables have their sizes
 pub record SyncsSized (l : Limits) (x : Syncs) : Type 0 where
   pub locks : LocksSized l x.locks
   pub conditions : length x.conditions ≡ l.conditions
