@@ -9,7 +9,7 @@ ghost use Rattle.ptk_words_laws.specs.Rows.Times.{TickConversion};
 ghost use Rattle.ptk_words_laws.specs.Rows.Words.{DecodedWords};
 ghost use Rattle.ptk_words_laws.specs.Rows.Priorities.{InheritCycle, TwoStepChain, CeilingRefusal, NestedCeilings, RecursiveLimit, SelfDeadlock, InheritAfterHandover, InheritBasic, RaisedInPlace};
 ghost use Rattle.ptk_words_laws.specs.Rows.Waits.{FirstLock, BadNanosecondsOrder, ExpiredTimedlock, ExpiredWaitReleases, CountedRecursiveWait, EqualWakeups, ZeroWordsWait, EdgePointers, CopiedWord};
-ghost use Rattle.ptk_words_laws.specs.Rows.Robust.{OwnerDied, UnrecoverableMutex, ConsistentRefusals, RecoveredLock, DeadlineOfADeadOwnersWaiter, HeirsBeforeJoiner, WaitOnDeadOwner, WaitOnLostMutex, CancelledHeir};
+ghost use Rattle.ptk_words_laws.specs.Rows.Robust.{OwnerDied, UnrecoverableMutex, ConsistentRefusals, RecoveredLock, PlainOwnerDied, DeadlineOfADeadOwnersWaiter, HeirsBeforeJoiner, WaitOnDeadOwner, WaitOnLostMutex, CancelledHeir};
 ghost use Rattle.ptk_words_laws.specs.Rows.Cancellations.{AsyncCancelReady, CancelledWaiter, CancelledJoiner, DisableThenEnable, BadPointerWithRequest, SeventeenHandlers, DestructorLimit, DestructorRounds, ExitInDestructor};
 ghost use Rattle.ptk_words_laws.specs.Rows.Refusals.{CreateRefused, ThreadRefused, SmallCalls};
 
@@ -283,9 +283,14 @@ pub fn consistent_refusals()
     ensures { ConsistentRefusals }
 {}
 
-/// A dead owner's mutex locked by another thread, and by it once more.
+/// A mutex of a thread that ended with no other waiting for it, locked by another thread.
 pub fn recovered_lock()
     ensures { RecoveredLock }
+{}
+
+/// A mutex that is not robust and whose owner ended.
+pub fn plain_owner_died()
+    ensures { PlainOwnerDied }
 {}
 
 /// The deadline of a timed lock that ended with the owner's death.

@@ -6,13 +6,13 @@ use Rattle.ptk_words.specs.declared.mutexes.MutexKind.TheVariants.{Normal}
 use Rattle.ptk_words.specs.declared.mutexes.Protocol.TheVariants.{NoProtocol}
 use Rattle.ptk_words.specs.declared.mutexes.Soundness.{Soundness}
 use Rattle.ptk_words.specs.declared.mutexes.Soundness.TheVariants.{Consistent, Inconsistent, Unrecoverable}
-use Rattle.ptk_words.specs.declared.mutexes.Owner.TheVariants.{OwnedBy}
+use Rattle.ptk_words.specs.declared.mutexes.Owner.TheVariants.{Abandoned, OwnedBy}
 use Rattle.ptk_words.specs.declared.threads.Wait.TheVariants.{MutexWait, RelockWait}
 use Rattle.ptk_words_model.specs.declared.Reply.TheVariants.{Done, Blocked}
 use Rattle.ptk_words_model.specs.declared.StepKind.TheVariants.{UnwindingStart}
 use Rattle.ptk_words_model.specs.State.{Mutex, Part}
 use Rattle.ptk_words_model.specs.Priority.{thread_at}
-use Rattle.ptk_words_model.specs.Mutex.{new_mutex, mutex_at, wait_of, count_of}
+use Rattle.ptk_words_model.specs.Mutex.{new_mutex, mutex_at, wait_of, count_of, soundness_of}
 use Rattle.ptk_words_model.specs.Withdrawal.{deadlines_of, after_expiries}
 use Rattle.ptk_words_model.specs.Calls.{Answer, replied}
 use Rattle.ptk_words_model.specs.ThreadCalls.{pthread_exit, join}
@@ -104,16 +104,37 @@ pub record ConsistentRefusals : Type 0 where
   pub type_3 : (mutex_init (call_with 0 3 0) (four_threads (0 ∷ []))).reply ≡ Done 22
   pub type_7 : (mutex_init (call_with 0 7 0) (four_threads (0 ∷ []))).reply ≡ Done 22
 
--- 1 makes a mutex of type 6, locks it and ends; 2 locks it, and then again
-abbrev pub counted_again : Answer
-counted_again = mutex_lock (call_by 2 0 0 0) (after_lock_by 2 0 (after_exit_of 1 (after_lock_by 1 0 (after_init 6 0 (four_threads (0 ∷ []))))))
+-- 1 makes a mutex of this type, locks it and ends; at 4 stands a time of 1,000,000,000 ns, which is none
+abbrev pub left_behind : Word → Part
+left_behind type = after_exit_of 1 (after_lock_by 1 0 (after_init type 0 (four_threads (0 ∷ 0 ∷ 0 ∷ 1000000000 ∷ []))))
 
--- a free inconsistent mutex is locked with notice, by its owner once more without (pthread_mutex_lock, EOWNERDEAD)
+-- 2 locks such a mutex of type 6 twice
+abbrev pub counted_again : Answer
+counted_again = mutex_lock (call_by 2 0 0 0) (after_lock_by 2 0 (left_behind 6))
+
+-- 2 unlocks it once
+abbrev pub counted_down : Answer
+counted_down = mutex_unlock (call_by 2 0 0 0) counted_again.part
+
+-- a free inconsistent mutex is locked with notice, by its owner once more without; the unlock that frees it loses it (pthread_mutex_lock, EOWNERDEAD)
 pub record RecoveredLock : Type 0 where
-  pub left_free : mutex_at (after_exit_of 1 (after_lock_by 1 0 (after_init 4 0 (four_threads (0 ∷ []))))).locks 1 ≡ robust_free Inconsistent
-  pub trylock : (mutex_trylock (call_by 2 0 0 0) (after_exit_of 1 (after_lock_by 1 0 (after_init 4 0 (four_threads (0 ∷ [])))))).reply ≡ Done 130
+  pub left_free : mutex_at (left_behind 4).locks 1 ≡ robust_free Inconsistent
+  pub lock : (mutex_lock (call_by 2 0 0 0) (left_behind 4)).reply ≡ Done 130
+  pub trylock : (mutex_trylock (call_by 2 0 0 0) (left_behind 4)).reply ≡ Done 130
+  pub timedlock : (mutex_timedlock (call_by 2 0 4 0) (left_behind 4)).reply ≡ Done 130
   pub counts : counted_again.reply ≡ Done 0
   pub count : count_of (mutex_at counted_again.part.locks 1) ≡ 2
+  pub count_once : count_of (mutex_at counted_down.part.locks 1) ≡ 1
+  pub still_inconsistent : soundness_of (mutex_at counted_down.part.locks 1) ≡ Inconsistent
+  pub lost : soundness_of (mutex_at (mutex_unlock (call_by 2 0 0 0) counted_down.part).part.locks 1) ≡ Unrecoverable
+
+-- a mutex that is not robust stays locked when its owner ends, and nobody owns it (own)
+pub record PlainOwnerDied : Type 0 where
+  pub owner : option_map (λ mutex. mutex.owner) (mutex_at (left_behind 0).locks 1) ≡ Some Abandoned
+  pub lock : (mutex_lock (call_by 2 0 0 0) (left_behind 0)).reply ≡ Blocked
+  pub trylock : (mutex_trylock (call_by 2 0 0 0) (left_behind 0)).reply ≡ Done 16
+  pub unlock : (mutex_unlock (call_by 2 0 0 0) (left_behind 0)).reply ≡ Done 1
+  pub consistent : (mutex_consistent (call_by 2 0 0 0) (left_behind 0)).reply ≡ Done 22
 
 -- ---- the deadline of an heir
 
