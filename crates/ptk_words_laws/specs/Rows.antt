@@ -8,6 +8,7 @@ pub mod Times
 pub mod States
 pub mod Priorities
 pub mod Waits
+pub mod Robust
 pub mod Cancellations
 pub mod Refusals
 pub mod Words

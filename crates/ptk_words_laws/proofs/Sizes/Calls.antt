@@ -22,7 +22,7 @@ use Rattle.ptk_words_model.specs.Unwinding.{without_thread}
 use Rattle.ptk_words.specs.Threads.{is_ended, is_taken}
 use Rattle.ptk_words_model.specs.declared.Creation.{Creation}
 use Rattle.ptk_words_model.specs.declared.Invocation.{Invocation}
-use Rattle.ptk_words_model.specs.Calls.{Answer, replied, refusal, success, blocked, blocked_in, no_call, is_cancelled, cancellation_answer, using_thread}
+use Rattle.ptk_words_model.specs.Calls.{Answer, replied, refusal, success, blocked, told, blocked_in, no_call, is_cancelled, cancellation_answer, using_thread}
 use Rattle.ptk_words_model.specs.ConsoleCalls.{exit_call, console_put, take_input, console_get}
 use Rattle.ptk_words_model.specs.ThreadCalls.{create, pthread_exit, join, detach, self, after_placing, yield, after_placing_at_tail, setschedparam, getschedparam, after_priority_change, setschedprio}
 use Rattle.ptk_words_model.specs.ThreadCreation.{policy_of, is_priority, creation_at, new_cancellation, with_new_thread, created_thread}
@@ -60,6 +60,10 @@ success_sized l values i s h = record { part = replied_sized l i.caller (0 ∷ v
 
 pub blocked_sized : (l : Limits) (s : Part) → Sized l s → AnswerSized l (blocked s)
 blocked_sized l s h = record { part = with_running_sized l None s h }
+
+pub told_sized : (l : Limits) (reply : Option ℕ) (i : Invocation) (s : Part) → Sized l s → AnswerSized l (told reply i s)
+told_sized l None i s h = blocked_sized l s h
+told_sized l (Some word) i s h = record { part = replied_sized l i.caller (word ∷ []) s h }
 
 pub blocked_in_sized : (l : Limits) (wait : Wait) (i : Invocation) (s : Part) → Sized l s → AnswerSized l (blocked_in wait i s)
 blocked_in_sized l wait i s h =

@@ -1,14 +1,15 @@
 -- Built states: threads, mutexes, a partition that has them, and calls that threads make in it.
-use Rattle.std.specs.Prelude.{ℕ, List, [], ◌++◌, replicate, Option, Some}
+use Rattle.std.specs.Prelude.{ℕ, false, List, [], ◌++◌, replicate, Option, Some}
 use Rattle.ptk_words.specs.Names.{ThreadNumber, Priority, Word}
 use Rattle.ptk_words.specs.declared.mutexes.MutexKind.TheVariants.{Normal, Recursive}
 use Rattle.ptk_words.specs.declared.mutexes.Protocol.{Protocol}
 use Rattle.ptk_words.specs.declared.mutexes.Protocol.TheVariants.{NoProtocol}
-use Rattle.ptk_words.specs.declared.mutexes.Owner.TheVariants.{Free, OwnedBy}
+use Rattle.ptk_words.specs.declared.mutexes.Owner.TheVariants.{OwnedBy}
 use Rattle.ptk_words.specs.declared.threads.Policy.TheVariants.{Fifo}
 use Rattle.ptk_words.specs.declared.threads.Thread.{Thread}
 use Rattle.ptk_words.specs.declared.threads.Wait.{Wait}
 use Rattle.ptk_words_model.specs.State.{Mutex, Locks, Part, with_locks}
+use Rattle.ptk_words_model.specs.Mutex.{new_mutex}
 use Rattle.ptk_words_model.specs.ThreadCreation.{start_cpu, new_thread}
 use Rattle.ptk_words_model.specs.declared.Invocation.{Invocation}
 use Rattle.ptk_words_model.specs.Run.{empty_part}
@@ -28,15 +29,15 @@ waiting priority wait = Some (let th : Thread = new_thread (start_cpu 0 0 4096) 
 
 -- a NORMAL mutex that the thread owns once, with these waiters
 abbrev pub owned : Protocol → ThreadNumber → List ThreadNumber → Option Mutex
-owned protocol t waiters = Some (record { kind = Normal; protocol = protocol; owner = OwnedBy t; count = 1; waiters = waiters })
+owned protocol t waiters = Some (record (new_mutex Normal protocol false) { owner = OwnedBy t; count = 1; waiters = waiters })
 
 -- a free NORMAL mutex
 abbrev pub free : Protocol → Option Mutex
-free protocol = Some (record { kind = Normal; protocol = protocol; owner = Free; count = 0; waiters = [] })
+free protocol = Some (new_mutex Normal protocol false)
 
 -- a RECURSIVE mutex that thread 1 counted so often
 abbrev pub counted : ℕ → Option Mutex
-counted count = Some (record { kind = Recursive; protocol = NoProtocol; owner = OwnedBy 1; count = count; waiters = [] })
+counted count = Some (record (new_mutex Recursive NoProtocol false) { owner = OwnedBy 1; count = count })
 
 -- ---- partitions
 
