@@ -1,20 +1,28 @@
 -- The tables stay whole when one partition's part is replaced by a whole one.
-use Rattle.std.proofs.Common.{◌≡◌, ◌≢◌, ℕ, ◌<◌, length, sym, ◌∙◌, subst, ◌⊎◌, inl, inr, true, false}
-use Rattle.std.specs.Prelude.{Some}
-use Rattle.std.proofs.lemmas.Bool.{cases_eq}
+use Rattle.std.proofs.Common.{◌≡◌, ◌≢◌, ℕ, ◌<◌, Bool, length, refl, sym, ◌∙◌, subst, ◌⊎◌, inl, inr, true, false}
+use Rattle.std.specs.Prelude.{Option, Some, None, IsSome}
+use Rattle.std.proofs.lemmas.Bool.{cases_eq, false≢true}
 use Rattle.std.proofs.lemmas.List.{length-set}
+use Rattle.ptk_words.specs.Processor.{Processor}
+use Rattle.ptk_words.specs.declared.faults.Cause.TheVariants as cause
+use Rattle.ptk_words.specs.declared.faults.Status.TheVariants.{Stopped}
+use Rattle.ptk_words.specs.declared.sections.Limits.{Limits}
+use Rattle.ptk_words_instructions.specs.Instructions.{Effect, Done, Call, Break, Fault, effect_at}
+use Rattle.ptk_words_model.specs.declared.Runner.{Runner}
 use Rattle.ptk_words_model.specs.State.{Part}
 use Rattle.ptk_words_model.specs.Priority.{thread_at}
 use Rattle.ptk_words_well.specs.Well.{IsWell}
 use Rattle.ptk_words.specs.Pools.{is_in}
 use Rattle.ptk_words.specs.declared.sections.Entry.{Entry}
-use Rattle.ptk_words_model.specs.Decision.{after_arrivals}
+use Rattle.ptk_words_model.specs.Decision.{after_arrivals, runner_in, runner_of}
 use Rattle.ptk_words_model.specs.Schedule.{after_choice}
 use Rattle.ptk_words_model.specs.Unwinding.{after_unwinding_start}
 use Rattle.ptk_words_model.specs.Withdrawal.{after_expiries}
 use Rattle.ptk_words_model.specs.Run.{is_active}
 use Rattle.ptk_words_well.proofs.Lined.{ready_alive}
-use Rattle.ptk_words_well.proofs.Parts.{well_last}
+use Rattle.ptk_words_well.proofs.Effects.{HasLength, effect_length}
+use Rattle.ptk_words_well.proofs.Parts.{well_last, well_memory, well_halt}
+use Rattle.ptk_words_well.proofs.Threads.{well_cpu}
 use Rattle.ptk_words_well.proofs.Turns.{well_choice}
 use Rattle.ptk_words_well.proofs.Waits.{well_arrivals}
 use Rattle.ptk_words_well.proofs.Unwindings.{well_unwinding_start}
@@ -22,6 +30,7 @@ use Rattle.ptk_words_well.proofs.Expiries.{expiries_none}
 use Rattle.ptk_gate_pools.specs.Moves.{with_last_step}
 use Rattle.ptk_gate_pools.specs.Kept.{Kept, AreParts, AreWell, part_at, put_part, limits_at}
 use Rattle.ptk_gate_pools.proofs.Parted.{part_at-put, part_at-other, parts_put}
+use Rattle.ptk_gate_steps.specs.Instructions.{after_instruction}
 use Rattle.ptk_gate.specs.Whole.{AreWhole}
 
 well_put : (p q : ℕ) (s : Part) (kept : Kept) → AreWell kept → p < length kept.limits → q < length kept.limits → IsWell (limits_at p kept) s → (q ≡ p) ⊎ (q ≢ p)
@@ -60,12 +69,12 @@ pub whole_arrivals : (p tick : ℕ) (kept new : Kept) → new ≡ put_part p (af
 whole_arrivals p tick kept new e are lt =
     are_whole_put p (after_arrivals (limits_at p kept) tick (part_at p kept)) kept new e are lt (well_arrivals (limits_at p kept) tick (part_at p kept) (well_at p kept are lt))
 
--- no deadline is set, so none is due
+-- no thread waits with a deadline, so none is due
 pub none_expires : (p tick : ℕ) (kept : Kept) → AreWhole kept → p < length kept.limits → after_expiries tick (after_arrivals (limits_at p kept) tick (part_at p kept)) ≡ after_arrivals (limits_at p kept) tick (part_at p kept)
 none_expires p tick kept are lt =
     let arrived : Part = after_arrivals (limits_at p kept) tick (part_at p kept) in
     let well : IsWell (limits_at p kept) arrived = well_arrivals (limits_at p kept) tick (part_at p kept) (well_at p kept are lt) in
-    expiries_none tick (limits_at p kept).threads arrived well.unused.deadlines
+    expiries_none tick arrived well.unused.untimed
 
 pub whole_choice : (p : ℕ) (kept new : Kept) → new ≡ put_part p (after_choice (part_at p kept)) kept → AreWhole kept → p < length kept.limits → is_active (part_at p kept).status ≡ true → AreWhole new
 whole_choice p kept new e are lt active =
@@ -82,8 +91,37 @@ pub whole_last : (p : ℕ) (entry : Entry) (kept new : Kept) → new ≡ put_par
 whole_last p entry kept new e are lt =
     are_whole_put p (with_last_step entry (part_at p kept)) kept new e are lt (well_last (limits_at p kept) (Some entry) (part_at p kept) (well_at p kept are lt))
 
+-- an instruction leaves the part whole, before its call
+pub well_instruction : (limits : Limits) (t pc : ℕ) (e : Effect) (s : Part) → HasLength (length s.memory) e → IsWell limits s → IsWell limits (after_instruction t pc e s)
+well_instruction limits t pc (Done cpu memory) s same well = well_cpu limits t cpu (record s { memory = memory }) (well_memory limits memory s same well)
+well_instruction limits t pc (Call cpu) s same well = well_cpu limits t cpu s well
+well_instruction limits t pc Break s same well = well_halt limits (Stopped cause.Break pc) s well
+well_instruction limits t pc (Fault kind) s same well = well_halt limits (Stopped (cause.Fault kind) pc) s well
+
+pub whole_instruction : (p t : ℕ) (cpu : Processor) (kept new : Kept) → new ≡ put_part p (after_instruction t cpu.pc (effect_at cpu (part_at p kept).memory) (part_at p kept)) kept → AreWhole kept → p < length kept.limits → AreWhole new
+whole_instruction p t cpu kept new e are lt =
+    let s : Part = part_at p kept in
+    are_whole_put p (after_instruction t cpu.pc (effect_at cpu s.memory) s) kept new e are lt
+    (well_instruction (limits_at p kept) t cpu.pc (effect_at cpu s.memory) s (effect_length (length s.memory) cpu s.memory refl) (well_at p kept are lt))
+
+-- a partition in which a thread runs is not halted
+active_at : (limits : Limits) (s : Part) (b : Bool) → IsWell limits s → IsSome s.running → is_active s.status ≡ b → b ≡ true
+active_at limits s true well runs e = refl
+active_at limits s false well runs e = absurd (false≢true (subst IsSome (well.halted e) runs))
+
+some_running : (running : Option ℕ) (s : Part) → IsSome (runner_in running s) → IsSome running
+some_running None s h = h
+some_running (Some t) s h = refl
+
+pub runner_active : (p : ℕ) (kept : Kept) (r : Option Runner) → r ≡ runner_of (part_at p kept) → AreWhole kept → p < length kept.limits → IsSome r → is_active (part_at p kept).status ≡ true
+runner_active p kept r e are lt some =
+    let s : Part = part_at p kept in
+    active_at (limits_at p kept) s (is_active s.status) (well_at p kept are lt) (some_running s.running s (subst IsSome e some)) refl
+
+pub ruleset runners = (runner_active)
+
 pub ruleset wholes = (are_whole_put, well_at)
 
-pub ruleset moves = (well_at, whole_arrivals, none_expires, whole_choice, whole_unwinding, whole_last)
+pub ruleset moves = (well_at, whole_instruction, whole_arrivals, none_expires, whole_choice, whole_unwinding, whole_last)
 
 pub ruleset placed = (running_out_at)

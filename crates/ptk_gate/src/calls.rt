@@ -1,13 +1,13 @@
 //! The calls of the running thread, by the call table.
 
 ghost use Rattle.std.specs.Prelude.{◌≡◌, ◌<◌, true, length, Some, IsSome};
+ghost use Rattle.ptk_words_model.specs.CallTable.{answer_of};
 ghost use Rattle.ptk_words_model.specs.Decision.{invocation};
 ghost use Rattle.ptk_words_model.specs.Run.{is_active};
 ghost use Rattle.ptk_words_well.specs.Well.{IsWell};
 ghost use Rattle.ptk_gate_pools.specs.Kept.{part_at, put_part, limits_at};
-ghost use Rattle.ptk_gate.specs.Answers.{answer_of_call, registers_answer, call_answer};
+ghost use Rattle.ptk_gate.specs.Answers.{call_answer, registers_answer};
 
-use crate::names::{CallName, named_call};
 use crate::tables::Tables;
 use ptk_gate_console::{get, put};
 use ptk_gate_moves::{exit, leave, own_number, refuse};
@@ -16,8 +16,8 @@ use ptk_gate_steps::runner;
 use ptk_gate_threads::{
     create, detach, getschedparam, join, setschedparam, setschedprio, yield_turn,
 };
-use ptk_words::{Cpu, Errno, Limits, PartId, ThreadNo, Tick};
-use ptk_words_model::{Invocation, Reply};
+use ptk_words::{A0, A1, A2, A3, A4, A7, Call, Cpu, Errno, Limits, PartId, ThreadNo, Tick};
+use ptk_words_model::{Invocation, Reply, Runner};
 
 /// Carries out the call that the running thread's registers state: the number in a7, the arguments in a0 to a4, at the
 /// tick at which the step begins. The reply is what the call came to; ENOSYS of a number that is not in use. The pc is
@@ -32,23 +32,24 @@ pub fn call(tables: &mut Tables, p: PartId, tick: Tick) -> Reply
 {
     let runner = runner(&tables.pools, p);
     match runner {
-        Some(runner) => call_with(&mut tables.pools, p, tick, runner.number, runner.thread.cpu),
+        Some(runner) => answer(&mut tables.pools, p, tick, &runner),
         // never met: a thread runs, and a thread that runs is in use
         None => Reply::Blocked,
     }
 }
 
-/// Carries out the call of these registers of the running thread.
-pub(crate) fn call_with(pools: &mut Pools, p: PartId, tick: Tick, t: ThreadNo, cpu: Cpu) -> Reply
+/// Carries out the call that the running thread's registers state; ENOSYS of a number that is no call.
+fn answer(pools: &mut Pools, p: PartId, tick: Tick, runner: &Runner) -> Reply
     requires partition { p < length pools.old.limits }
     requires well { IsWell (limits_at p pools.old) (part_at p pools.old) }
-    requires running { (part_at p pools.old).running ≡ Some t }
-    ensures told { result ≡ (registers_answer (limits_at p pools.old) tick t cpu (part_at p pools.old)).reply }
-    ensures moved { pools.new ≡ put_part p (registers_answer (limits_at p pools.old) tick t cpu (part_at p pools.old)).part pools.old }
+    requires running { (part_at p pools.old).running ≡ Some runner.now.number }
+    ensures told { result ≡ (registers_answer (limits_at p pools.old) tick runner.now.number runner.now.thread.cpu (part_at p pools.old)).reply }
+    ensures moved { pools.new ≡ put_part p (registers_answer (limits_at p pools.old) tick runner.now.number runner.now.thread.cpu (part_at p pools.old)).part pools.old }
 {
-    let i = invocation(pools.limits(p), tick, t, &cpu);
-    let named = named_call(cpu.register(17));
-    match named {
+    let cpu = runner.thread.cpu;
+    let i = invocation(pools.limits(p), tick, runner.number, &cpu);
+    let known = Call::of_number(cpu.register(A7));
+    match known {
         Some(call) => carry_out(pools, call, p, i),
         None => refuse(pools, p, i, Errno::ENOSYS),
     }
@@ -62,36 +63,61 @@ fn invocation(limits: Limits, at: Tick, t: ThreadNo, cpu: &Cpu) -> Invocation
         limits,
         tick: at,
         caller: t,
-        a0: cpu.register(10),
-        a1: cpu.register(11),
-        a2: cpu.register(12),
-        a3: cpu.register(13),
-        a4: cpu.register(14),
+        a0: cpu.register(A0),
+        a1: cpu.register(A1),
+        a2: cpu.register(A2),
+        a3: cpu.register(A3),
+        a4: cpu.register(A4),
     }
 }
 
-/// Carries out the call of the running thread.
+/// Carries out the call of the running thread; ENOSYS of one that is not in use yet.
 #[tactic(auto, using(crate::proofs::Called::called))]
-fn carry_out(pools: &mut Pools, call: CallName, p: PartId, i: Invocation) -> Reply
+fn carry_out(pools: &mut Pools, call: Call, p: PartId, i: Invocation) -> Reply
     requires partition { p < length pools.old.limits }
     requires limits { i.limits ≡ limits_at p pools.old }
     requires well { IsWell (limits_at p pools.old) (part_at p pools.old) }
     requires running { (part_at p pools.old).running ≡ Some i.caller }
-    ensures told { result ≡ (answer_of_call call i (part_at p pools.old)).reply }
-    ensures moved { pools.new ≡ put_part p (answer_of_call call i (part_at p pools.old)).part pools.old }
+    ensures told { result ≡ (answer_of call i (part_at p pools.old)).reply }
+    ensures moved { pools.new ≡ put_part p (answer_of call i (part_at p pools.old)).part pools.old }
 {
     match call {
-        CallName::Exit => exit(pools, p, i),
-        CallName::Put => put(pools, p, i),
-        CallName::Get => get(pools, p, i),
-        CallName::Create => create(pools, p, i),
-        CallName::Leave => leave(pools, p, i),
-        CallName::Join => join(pools, p, i),
-        CallName::Detach => detach(pools, p, i),
-        CallName::OwnNumber => own_number(pools, p, i),
-        CallName::Yield => yield_turn(pools, p, i),
-        CallName::SetScheduling => setschedparam(pools, p, i),
-        CallName::Scheduling => getschedparam(pools, p, i),
-        CallName::SetPriority => setschedprio(pools, p, i),
+        Call::Exit => exit(pools, p, i),
+        Call::ConsolePut => put(pools, p, i),
+        Call::ConsoleGet => get(pools, p, i),
+        Call::PthreadCreate => create(pools, p, i),
+        Call::PthreadExit => leave(pools, p, i),
+        Call::PthreadJoin => join(pools, p, i),
+        Call::PthreadDetach => detach(pools, p, i),
+        Call::PthreadSelf => own_number(pools, p, i),
+        Call::SchedYield => yield_turn(pools, p, i),
+        Call::PthreadSetschedparam => setschedparam(pools, p, i),
+        Call::PthreadGetschedparam => getschedparam(pools, p, i),
+        Call::PthreadSetschedprio => setschedprio(pools, p, i),
+        Call::ClockGettime
+        | Call::ClockNanosleep
+        | Call::MutexInit
+        | Call::MutexDestroy
+        | Call::MutexLock
+        | Call::MutexTrylock
+        | Call::MutexTimedlock
+        | Call::MutexUnlock
+        | Call::MutexConsistent
+        | Call::CondInit
+        | Call::CondDestroy
+        | Call::CondWait
+        | Call::CondTimedwait
+        | Call::CondSignal
+        | Call::CondBroadcast
+        | Call::PthreadCancel
+        | Call::PthreadSetcancelstate
+        | Call::PthreadSetcanceltype
+        | Call::PthreadTestcancel
+        | Call::CleanupPush
+        | Call::CleanupPop
+        | Call::KeyCreate
+        | Call::KeyDelete
+        | Call::PthreadSetspecific
+        | Call::PthreadGetspecific => refuse(pools, p, i, Errno::ENOSYS),
     }
 }

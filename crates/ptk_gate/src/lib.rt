@@ -2,12 +2,12 @@
 //! invariant that each partition's part is whole (`ptk_words_well`) and its section's numbers are within their ranges.
 //! Each public call is one equation: the tables are the old ones with partition p's part replaced by the model's move,
 //! so that every other partition's part stays. `call` carries out the call that the running thread's registers state,
-//! by the call table. Below stand the pools; above, the kernel and the system. Dear to prove are `call` and `load`.
+//! by the call table, and nothing else here does: `Tables::instruct` makes an instruction's own effect stand and tells
+//! an ECALL. Below stand the pools and their moves; above, the kernel and the system. Dear to prove are `call` and `load`.
 #![tactic(auto)]
 
 mod calls;
 mod loading;
-mod names;
 mod steps;
 mod tables;
 #[cfg(test)]

@@ -10,7 +10,8 @@ ghost use Rattle.ptk_gate_pools.specs.Kept.{part_at, put_part, limits_at};
 use crate::tables::Tables;
 use ptk_gate_moves::{begin, halt};
 use ptk_words::{
-    Cpu, ImageFault, Limits, PartId, Phase, Policy, Priority, RETURN_GATE, Status, Thread, ThreadNo,
+    Cpu, ImageFault, Limits, PartId, Phase, Policy, Priority, RA, RETURN_GATE, SP, Status, Thread,
+    ThreadNo,
 };
 
 impl Tables {
@@ -28,12 +29,8 @@ impl Tables {
         let limits = self.pools.limits(p);
         if fits(&limits, text, data, bss) {
             self.pools.fill_memory(p, text, data);
-            begin(
-                &mut self.pools,
-                p,
-                ThreadNo::new(1),
-                main_thread(&limits, entry),
-            );
+            let main = main_thread(&limits, entry);
+            begin(&mut self.pools, p, ThreadNo::new(1), main);
         } else {
             halt(&mut self.pools, p, Status::Refused(ImageFault::Unfit));
         }
@@ -66,8 +63,8 @@ fn main_thread(limits: &Limits, entry: u32) -> Thread
     ensures { (image : ImageParts) → image.entry ≡ entry → result ≡ main_thread limits.now image }
 {
     let mut cpu = Cpu::at(entry);
-    cpu.set_register(2, limits.memory);
-    cpu.set_register(1, RETURN_GATE);
+    cpu.set_register(SP, limits.memory);
+    cpu.set_register(RA, RETURN_GATE);
     Thread {
         cpu,
         policy: Policy::Fifo,

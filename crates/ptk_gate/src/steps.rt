@@ -1,17 +1,17 @@
 //! What a decision of a partition is made of.
 
-ghost use Rattle.std.specs.Prelude.{◌≡◌, ◌<◌, true, length, Some};
+ghost use Rattle.std.specs.Prelude.{◌≡◌, ◌<◌, true, length, Some, IsSome};
 ghost use Rattle.ptk_words.specs.declared.TheConstants.{CANCELED};
 ghost use Rattle.ptk_words_instructions.specs.Instructions.{effect_at};
 ghost use Rattle.ptk_words_model.specs.Priority.{thread_at};
 ghost use Rattle.ptk_words_model.specs.Schedule.{after_choice, after_interval};
 ghost use Rattle.ptk_words_model.specs.Unwinding.{after_unwinding_start, after_gate_step};
 ghost use Rattle.ptk_words_model.specs.Withdrawal.{after_expiries};
-ghost use Rattle.ptk_words_model.specs.Decision.{after_arrivals, after_effect, runner_of, step_kind, traced_word};
+ghost use Rattle.ptk_words_model.specs.Decision.{after_arrivals, runner_of, step_kind, traced_word};
 ghost use Rattle.ptk_words_model.specs.Run.{is_active};
 ghost use Rattle.ptk_gate_pools.specs.Kept.{part_at, put_part, limits_at};
+ghost use Rattle.ptk_gate_steps.specs.Instructions.{after_instruction, is_call};
 
-use crate::calls::call_with;
 use crate::tables::Tables;
 use ptk_gate_console::arrive_due;
 use ptk_gate_moves::{count_interval, start_unwinding};
@@ -42,10 +42,12 @@ impl Tables {
         choose(&mut self.pools, p);
     }
 
-    /// The thread that runs, if one does.
+    /// The thread that runs, if one does; none runs in a partition that is halted.
+    #[tactic(auto, using(crate::proofs::Wholes::runners))]
     pub fn runner(&self, p: PartId) -> Option<Runner>
         requires partition { p < length self.now.limits }
-        ensures { result ≡ runner_of (part_at p self.now) }
+        ensures value { result ≡ runner_of (part_at p self.now) }
+        ensures active { IsSome result → is_active (part_at p self.now).status ≡ true }
     {
         runner(&self.pools, p)
     }
@@ -95,20 +97,16 @@ impl Tables {
         step_at_gate(&mut self.pools, p, t, thread);
     }
 
-    /// A step of the running thread from these registers: the instruction's effect, for an ECALL with its call, or the
-    /// partition stops at a break or a fault.
-    pub fn instruct(&mut self, p: PartId, tick: Tick, t: ThreadNo, cpu: Cpu)
+    /// A step of the thread from these registers: the instruction's effect on the registers and the memory, or the
+    /// partition stops at a break or a fault. Whether it is an ECALL, whose call is still to be carried out: the
+    /// thread's registers then state it, with the pc past it.
+    #[tactic(auto, using(crate::proofs::Wholes::moves))]
+    pub fn instruct(&mut self, p: PartId, t: ThreadNo, cpu: Cpu) -> bool
         requires partition { p < length self.old.limits }
-        requires running { (part_at p self.old).running ≡ Some t }
-        ensures { self.new ≡ put_part p (after_effect (limits_at p self.old) tick t cpu.pc (effect_at cpu (part_at p self.old).memory) (part_at p self.old)) self.old }
+        ensures told { result ≡ is_call (effect_at cpu (part_at p self.old).memory) }
+        ensures moved { self.new ≡ put_part p (after_instruction t cpu.pc (effect_at cpu (part_at p self.old).memory) (part_at p self.old)) self.old }
     {
-        let called = instruct(&mut self.pools, p, t, cpu);
-        match called {
-            Some(after) => {
-                let _reply = call_with(&mut self.pools, p, tick, t, after);
-            }
-            None => {}
-        }
+        instruct(&mut self.pools, p, t, cpu)
     }
 
     /// A thread of SCHED_RR that still runs after a step of so many ticks has used them; at the interval it goes to the

@@ -3,7 +3,7 @@
 ghost use Rattle.std.specs.Prelude.{◌≡◌, ◌<◌, length};
 ghost use Rattle.ptk_words_instructions.specs.Instructions.{effect_at};
 ghost use Rattle.ptk_gate_pools.specs.Kept.{part_at, put_part};
-ghost use Rattle.ptk_gate_steps.specs.Instructions.{after_instruction, call_in, settled, called};
+ghost use Rattle.ptk_gate_steps.specs.Instructions.{after_instruction, is_call, settled, is_called};
 
 use ptk_gate_moves::halt;
 use ptk_gate_pools::Pools;
@@ -11,11 +11,11 @@ use ptk_rv32i::Outcome;
 use ptk_words::{Cause, Cpu, PartId, Status, ThreadNo};
 
 /// A step of the thread, which has these registers: the instruction's effect on the registers and the memory, or the
-/// partition stops at a break or a fault, which leaves both. The registers of a call, which is still to be carried
-/// out on the state that this leaves; None of another instruction.
-pub fn instruct(pools: &mut Pools, p: PartId, t: ThreadNo, cpu: Cpu) -> Option<Cpu>
+/// partition stops at a break or a fault, which leaves both. Whether it is an ECALL, whose call is still to be carried
+/// out on the state that this leaves.
+pub fn instruct(pools: &mut Pools, p: PartId, t: ThreadNo, cpu: Cpu) -> bool
     requires partition { p < length pools.old.limits }
-    ensures told { result ≡ call_in (effect_at cpu (part_at p pools.old).memory) }
+    ensures told { result ≡ is_call (effect_at cpu (part_at p pools.old).memory) }
     ensures moved { pools.new ≡ put_part p (after_instruction t cpu.pc (effect_at cpu (part_at p pools.old).memory) (part_at p pools.old)) pools.old }
 {
     let _parts = pools.parts();
@@ -25,8 +25,8 @@ pub fn instruct(pools: &mut Pools, p: PartId, t: ThreadNo, cpu: Cpu) -> Option<C
     settle(pools, p, t, pc, outcome, after)
 }
 
-/// After a step that came to this: the thread has the registers, or the partition has stopped at the pc. The
-/// registers of a call, which is still to be carried out; None of another outcome.
+/// After a step that came to this: the thread has the registers, or the partition has stopped at the pc. Whether it
+/// is an ECALL, whose call is still to be carried out.
 #[tactic(auto, using(ptk_gate_pools::proofs::Parted::parted))]
 fn settle(
     pools: &mut Pools,
@@ -35,27 +35,27 @@ fn settle(
     pc: u32,
     outcome: Outcome,
     cpu: Cpu,
-) -> Option<Cpu>
+) -> bool
     requires partition { p < length pools.old.limits }
-    ensures told { result ≡ called outcome cpu }
+    ensures told { result ≡ is_called outcome }
     ensures moved { pools.new ≡ put_part p (settled t pc outcome cpu (part_at p pools.old)) pools.old }
 {
     match outcome {
         Outcome::Done => {
             pools.give_cpu(p, t, cpu);
-            None
+            false
         }
         Outcome::Call => {
             pools.give_cpu(p, t, cpu);
-            Some(cpu)
+            true
         }
         Outcome::Break => {
             halt(pools, p, Status::Stopped(Cause::Break, pc));
-            None
+            false
         }
         Outcome::Fault(kind) => {
             halt(pools, p, Status::Stopped(Cause::Fault(kind), pc));
-            None
+            false
         }
     }
 }

@@ -3,7 +3,7 @@ use Rattle.std.specs.Prelude.{ℕ}
 use Rattle.ptk_words_model.specs.declared.Spent.{Spent}
 use Rattle.ptk_words_model.specs.declared.Spent.TheVariants.{Step, Idle, Lost}
 
--- the ticks of its step, 0 where it made none (own)
+-- the ticks of its step, 0 where it made none
 abbrev pub cost_in : Spent → ℕ
 cost_in (Step cost) = cost
 cost_in Idle = 0

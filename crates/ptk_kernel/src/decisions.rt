@@ -24,7 +24,7 @@ pub fn decide(tables: &mut Tables, p: PartId, tick: Tick, room: u32) -> Spent
     ensures moved { tables.new ≡ put_part p (after_decision (limits_at p tables.old) tick room (part_at p tables.old)) tables.old }
     ensures short { cost_in result ≤ 16 }
 {
-    let _ = tables.parts();
+    let _parts = tables.parts();
     make_ready(tables, p, tick);
     take_turn(tables, p, tick, room)
 }
@@ -43,7 +43,7 @@ fn make_ready(tables: &mut Tables, p: PartId, tick: Tick)
     requires active { is_active (part_at p tables.old).status ≡ true }
     ensures { tables.new ≡ put_part p (ready_at (limits_at p tables.old) tick (part_at p tables.old)) tables.old }
 {
-    let _ = tables.parts();
+    let _parts = tables.parts();
     tables.arrive_due(p, tick);
     tables.choose(p);
 }
@@ -65,7 +65,8 @@ fn take_turn(tables: &mut Tables, p: PartId, tick: Tick, room: u32) -> Spent
 /// The step of the running thread, if its whole cost fits; Lost where it does not, and nothing changes.
 fn begin_step(tables: &mut Tables, p: PartId, tick: Tick, room: u32, runner: &Runner) -> Spent
     requires partition { p < length tables.old.limits }
-    requires running { (part_at p tables.old).running ≡ Some runner.now.number }
+    requires active { is_active (part_at p tables.old).status ≡ true }
+    requires runs { runner_of (part_at p tables.old) ≡ Some runner.now }
     ensures told { result ≡ spent_in_turn room (Some runner.now) (part_at p tables.old) }
     ensures moved { tables.new ≡ put_part p (after_turn (limits_at p tables.old) tick room (Some runner.now) (part_at p tables.old)) tables.old }
     ensures short { cost_in result ≤ 16 }

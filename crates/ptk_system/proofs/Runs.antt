@@ -1,6 +1,7 @@
 -- A run goes on: over ticks at which nothing is due, and by one tick of each partition's own.
 use Rattle.std.proofs.Common.{◌≡◌, ℕ, zero, suc, ◌+◌, ◌*◌, ◌<◌, ◌≤◌, ◌^◌, ◌==◌, Bool, true, false, All, List, Option, Some, None, length, refl, sym, ap, subst, ◌∙◌, arith, add-one, get_or, ◌≢◌, eqb-true, eq-eqb}
 use Rattle.std.proofs.lemmas.Bool.{false≢true}
+use Rattle.ptk_words.specs.declared.TheConstants.{LAST_TICK}
 use Rattle.ptk_console.specs.ConsoleTable.{no_limits}
 use Rattle.ptk_words.specs.declared.sections.Arrival.{Arrival}
 use Rattle.ptk_words.specs.declared.sections.Limits.{Limits}
@@ -30,7 +31,7 @@ windows_known config files whole tick run =
       known = subst (λ (n : ℕ). All (λ w. w.partition < n) config.windows.windows) (sym run.parts) known;
     }
 
-behind_counted : (n : ℕ) (s : State) → n ≤ 2 ^ 40 → IsBehind n s → IsCounted s
+behind_counted : (n : ℕ) (s : State) → n ≤ LAST_TICK → IsBehind n s → IsCounted s
 behind_counted n s early is =
     let steps : s.account.steps ≤ n = is.steps in
     let lost : s.account.lost ≤ 1000000 * n = is.lost in
@@ -45,7 +46,7 @@ run_counted config files whole tick run p lt =
     (alone_behind config.windows p (section_at config p).limits (image_in files (section_at config p).image) (section_at config p).input tick (is_table config run.configured) run.configured.frame_to))
 
 -- a tick of each partition's own
-pub run_on : (config : Configuration) (files : List NamedFile) (whole new : Whole) (tick t : ℕ) (windows : WindowTable) → IsRun config files whole tick → tick < 2 ^ 40 → windows ≡ config.windows → t ≡ tick + 1
+pub run_on : (config : Configuration) (files : List NamedFile) (whole new : Whole) (tick t : ℕ) (windows : WindowTable) → IsRun config files whole tick → tick < LAST_TICK → windows ≡ config.windows → t ≡ tick + 1
     → length new.accounts ≡ length whole.accounts → new.kept.limits ≡ whole.kept.limits
     → ((q : ℕ) → q < length whole.accounts → state_at q new ≡ after_tick (own_ticks windows q) (limits_at q whole.kept) tick (state_at q whole))
     → IsRun config files new t
@@ -95,7 +96,7 @@ not_due (Some j) from to k later le lt = by (j == k) refl
     by true e = let same : j ≡ k = eqb-true j k e in absurd (omega (arith, later j refl))
 
 -- nothing is due before a tick
-pub run_still : (config : Configuration) (files : List NamedFile) (whole : Whole) (from to : ℕ) → IsRun config files whole from → from ≤ to → to ≤ 2 ^ 40
+pub run_still : (config : Configuration) (files : List NamedFile) (whole : Whole) (from to : ℕ) → IsRun config files whole from → from ≤ to → to ≤ LAST_TICK
     → ((p k : ℕ) → p < length whole.accounts → (account_at p whole).account.next ≡ Some k → from ≤ k → to ≤ k)
     → IsRun config files whole to
 run_still config files whole from to run le early later = record {

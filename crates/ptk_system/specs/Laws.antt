@@ -8,18 +8,18 @@ use Rattle.ptk_words_model.specs.Decision.{spent_by_decision}
 use Rattle.ptk_system.specs.Missing.{image_in}
 use Rattle.ptk_system.specs.World.{World, section_at}
 
--- a partition of one system and one of another are told the same: own ticks and window ends, numbers, image and input (own)
+-- a partition of one system and one of another are told the same: own ticks and window ends, numbers, image and input
 pub record SameView (a : World) (p : ℕ) (b : World) (q : ℕ) : Type 0 where
   pub ends : (t : ℕ) → (own_ticks a.config.windows p).end_at t ≡ (own_ticks b.config.windows q).end_at t
   pub limits : (section_at a.config p).limits ≡ (section_at b.config q).limits
   pub image : image_in a.files (section_at a.config p).image ≡ image_in b.files (section_at b.config q).image
   pub input : (section_at a.config p).input ≡ (section_at b.config q).input
 
--- every other section names no image (own)
+-- every other section names no image
 abbrev pub IsIdleBut : ℕ → World → Type 0
 IsIdleBut q world = (r : ℕ) → r < length world.config.sections → r ≢ q → (section_at world.config r).image ≡ None
 
--- all ticks of a decision's step lie in one window of the partition (own)
+-- all ticks of a decision's step lie in one window of the partition
 abbrev pub StepStaysInWindow : Type 0
 StepStaysInWindow =
     (table : WindowTable) (p tick end cost : ℕ) (limits : Limits) (s : Part) → IsTable table →

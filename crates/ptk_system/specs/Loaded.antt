@@ -7,7 +7,7 @@ use Rattle.ptk_system_files.specs.NamedFiles.{NamedFile}
 use Rattle.ptk_system.specs.Missing.{image_in}
 use Rattle.ptk_system.specs.World.{section_at}
 
--- the first n partitions are as they start, the others have no image yet (own)
+-- the first n partitions are as they start, the others have no image yet
 pub record AreLoaded (config : Configuration) (files : List NamedFile) (n : ℕ) (kept : Kept) : Type 0 where
   pub parts : AreParts (length config.sections) kept
   pub limits : kept.limits ≡ map (λ section. section.limits) config.sections

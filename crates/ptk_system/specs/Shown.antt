@@ -20,11 +20,11 @@ head_line name status steps lost =
     codes "partition " ++ (name ++ (codes " " ++ (shown_status status
     ++ (codes " steps " ++ (decimal steps ++ (codes " lost " ++ (decimal lost ++ newline)))))))
 
--- that line, and the output after it (own)
+-- the line of a partition, and its output after it (own)
 abbrev pub part_lines : List ℕ → PartStatus → ℕ → ℕ → List ℕ → List ℕ
 part_lines name status steps lost output = head_line name status steps lost ++ output_text output
 
--- a partition's part of the report: the text of its state (own)
+-- a partition's part of the report: the text of its state
 abbrev pub part_report : World → ℕ → List ℕ
 part_report world p = report_text (section_at world.config p).name (state_of world p)
 

@@ -10,16 +10,16 @@ use Rattle.ptk_words.specs.Threads.{is_ended}
 use Rattle.ptk_system.specs.declared.status.PartStatus.{PartStatus}
 use Rattle.ptk_system.specs.declared.status.PartStatus.TheVariants as told
 
--- the registers of a thread that has not ended (own)
+-- the registers of a thread that has not ended
 abbrev pub live_cpu : Option Thread → Option Processor
 live_cpu None = None
 live_cpu (Some thread) = if is_ended thread.phase then None else Some thread.cpu
 
--- a register of a thread, if there is such a thread that has not ended, and such a register (own)
+-- a register of a thread, if there is such a thread that has not ended, and such a register
 abbrev pub register_in : ℕ → ℕ → Part → Option ℕ
 register_in t i s = option_and_then (λ cpu. if nat_lt i 32 then Some (register cpu i) else None) (live_cpu (thread_at s.locks t))
 
--- the pc of a thread, if there is such a thread that has not ended (own)
+-- the pc of a thread, if there is such a thread that has not ended
 abbrev pub pc_in : ℕ → Part → Option ℕ
 pc_in t s = option_map (λ cpu. cpu.pc) (live_cpu (thread_at s.locks t))
 
@@ -28,17 +28,17 @@ abbrev pub activity_of : Bool → PartStatus
 activity_of true = told.Running
 activity_of false = told.Idle
 
--- whether a thread is running or ready (own)
+-- whether a thread is running or ready
 abbrev pub is_busy : Part → Bool
 is_busy s = is_some s.running || nat_lt 0 (length s.line)
 
--- the status by the state's own (own)
+-- the status that is told, by the state's own and by whether a thread is running or ready (own)
 abbrev pub told_status : Status → Bool → PartStatus
 told_status Active busy = activity_of busy
 told_status (Exited code) busy = told.Exited code
 told_status (Stopped cause pc) busy = told.Stopped cause pc
 told_status (Refused fault) busy = told.Refused fault
 
--- the status of a partition (own)
+-- the status of a partition
 abbrev pub status_in : Part → PartStatus
 status_in s = told_status s.status (is_busy s)

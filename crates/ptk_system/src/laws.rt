@@ -1,6 +1,7 @@
 //! Laws of systems, each the contract of a function without code of its own.
 
-ghost use Rattle.std.specs.Prelude.{◌≡◌, ◌≤◌, ◌^◌, max};
+ghost use Rattle.std.specs.Prelude.{◌≡◌, ◌≤◌, max};
+ghost use Rattle.ptk_words.specs.declared.TheConstants.{LAST_TICK};
 ghost use Rattle.ptk_words_windows.specs.OwnTicksLaws.{OwnTicksAreApart};
 ghost use Rattle.ptk_system.specs.Laws.{IsIdleBut, SameView, StepStaysInWindow};
 ghost use Rattle.ptk_system.specs.Shown.{part_report};
@@ -24,8 +25,8 @@ pub fn two_worlds(a: &System, b: &System, p: PartId, q: PartId)
     let _ = &b.machine;
 }
 
-/// The same where the second system's other sections name no image: whatever the others run, the partition is what it
-/// is among idle ones.
+/// Two systems that reached the same tick, and a partition of each as in `two_worlds`, where the second system's other
+/// sections name no image: whatever the others run, the partition is what it is among idle ones.
 pub fn idle_world(a: &System, b: &System, p: PartId, q: PartId)
     requires view { SameView a.now p b.now q }
     requires idle { IsIdleBut q b.now }
@@ -47,7 +48,7 @@ pub fn one_processor()
 /// Running to m and then to n, m at most n, is running to n.
 pub fn stop_on_the_way(system: &mut System, m: Tick, n: Tick)
     requires order { m ≤ n }
-    requires small { n ≤ 2 ^ 40 }
+    requires small { n ≤ LAST_TICK }
     ensures { system.new ≡ at_tick (max system.old.tick n) system.old }
 {
     system.run_to(m);

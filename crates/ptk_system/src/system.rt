@@ -1,6 +1,7 @@
 //! The system and its runs.
 
-ghost use Rattle.std.specs.Prelude.{◌≡◌, ◌+◌, ◌<◌, ◌≤◌, ◌^◌, None, IfOk, MatchResult, max};
+ghost use Rattle.std.specs.Prelude.{◌≡◌, ◌+◌, ◌<◌, ◌≤◌, None, IfOk, MatchResult, max};
+ghost use Rattle.ptk_words.specs.declared.TheConstants.{LAST_TICK};
 ghost use Rattle.ptk_system.specs.Missing.{first_missing, missing_in};
 ghost use Rattle.ptk_system.specs.World.{at_tick};
 
@@ -62,7 +63,7 @@ impl<'a> System<'a> {
 
     /// Goes on to a tick of at most 2^40, and does nothing where it was already reached.
     pub fn run_to(&mut self, n: Tick)
-        requires { n ≤ 2 ^ 40 }
+        requires { n ≤ LAST_TICK }
         ensures { self.new ≡ at_tick (max self.old.tick n) self.old }
     {
         while self.tick.ticks() < n.ticks() {
@@ -73,7 +74,7 @@ impl<'a> System<'a> {
     /// Goes on to the tick after the next decision of any partition, or to `n` where none comes before it.
     fn advance(&mut self, n: Tick)
         requires later { self.old.tick < n }
-        requires small { n ≤ 2 ^ 40 }
+        requires small { n ≤ LAST_TICK }
         ensures same { self.new ≡ at_tick self.new.tick self.old }
         ensures on { self.old.tick < self.new.tick }
         ensures to { self.new.tick ≤ n }
@@ -87,7 +88,7 @@ impl<'a> System<'a> {
     /// Goes on to the next tick up to `n` at which a decision is due, or to `n`.
     fn jump(&mut self, n: Tick)
         requires later { self.old.tick ≤ n }
-        requires small { n ≤ 2 ^ 40 }
+        requires small { n ≤ LAST_TICK }
         ensures same { self.new ≡ at_tick self.new.tick self.old }
         ensures on { self.old.tick ≤ self.new.tick }
         ensures to { self.new.tick ≤ n }
@@ -98,7 +99,7 @@ impl<'a> System<'a> {
 
     /// One tick.
     fn decide(&mut self)
-        requires { self.old.tick < 2 ^ 40 }
+        requires { self.old.tick < LAST_TICK }
         ensures { self.new ≡ at_tick (self.old.tick + 1) self.old }
     {
         let config = self.config;

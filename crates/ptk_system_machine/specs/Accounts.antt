@@ -1,17 +1,27 @@
 -- What the system keeps of a partition beside its part of the tables.
 use Rattle.std.specs.Prelude.{◌≡◌, ◌≤◌, ◌^◌, ℕ, ◌+◌, [], ◌++◌, true, Option, IsSome, option_to_list}
+use Rattle.ptk_words.specs.declared.TheConstants.{LAST_TICK}
 use Rattle.ptk_words.specs.declared.sections.Entry.{Entry}
 use Rattle.ptk_words_model.specs.declared.Spent.{Spent}
 use Rattle.ptk_words_model.specs.declared.Spent.TheVariants.{Step, Idle, Lost}
 use Rattle.ptk_words_model.specs.State.{Account, State}
 use Rattle.ptk_words_model.specs.Run.{is_active, last_of}
+use Rattle.ptk_system_machine.specs.declared.account.Account.TheInside.{Inside}
 
--- an account, and how many steps its trace keeps (own)
+-- an account, and how many steps its trace keeps
 pub record KeptAccount : Type 0 where
   pub account : Account
   pub kept : ℕ
 
--- the account before the first decision, which is at this tick (own)
+-- an account as it is kept, with how many steps its trace keeps
+abbrev pub kept_account_of : Inside → KeptAccount
+kept_account_of a =
+    record {
+      account = record { next = a.next; steps = a.steps; lost = a.lost; trace = a.trace.entries };
+      kept = a.trace.kept;
+    }
+
+-- the account before the first decision, which is at this tick
 abbrev pub first_account : Option ℕ → Account
 first_account next = record { next = next; steps = 0; lost = 0; trace = [] }
 
@@ -21,21 +31,21 @@ duration_of room Idle = 1
 duration_of room Lost = room
 duration_of room (Step cost) = cost
 
--- the account after a decision with this room that came to this: the next decision, and of a step its entry in the trace (own)
+-- the account after a decision with this room that came to this: the next decision, and of a step its entry in the trace
 abbrev pub spent_account : Option ℕ → ℕ → ℕ → Spent → Option Entry → Account → Account
 spent_account next kept room Idle last account = record account { next = next }
 spent_account next kept room Lost last account = record account { next = next; lost = account.lost + room }
 spent_account next kept room (Step cost) last account =
     record account { next = next; steps = account.steps + 1; trace = last_of kept (account.trace ++ option_to_list last) }
 
--- the step of a decision has an entry (own)
+-- the step of a decision has an entry
 abbrev pub HasEntry : Spent → Option Entry → Type 0
 HasEntry Idle last = Unit {0}
 HasEntry Lost last = Unit {0}
 HasEntry (Step cost) last = IsSome last
 
--- the counts leave room for one more decision, and a partition that has one to come is not halted (own)
+-- the counts leave room for one more decision, and a partition that has one to come is not halted
 pub record IsCounted (state : State) : Type 0 where
-  pub steps : state.account.steps ≤ 2 ^ 40
+  pub steps : state.account.steps ≤ LAST_TICK
   pub lost : state.account.lost ≤ 2 ^ 60
   pub active : IsSome state.account.next → is_active state.part.status ≡ true

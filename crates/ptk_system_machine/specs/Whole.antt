@@ -6,28 +6,28 @@ use Rattle.ptk_words_model.specs.Run.{next_from}
 use Rattle.ptk_gate_pools.specs.Kept.{Kept, AreParts, limits_at, part_at, put_part}
 use Rattle.ptk_system_machine.specs.Accounts.{KeptAccount, first_account}
 
--- the tables, and each partition's account (own)
+-- the tables, and each partition's account
 pub record Whole : Type 0 where
   pub kept : Kept
   pub accounts : List KeptAccount
 
--- the account past the last partition (own)
+-- the account past the last partition
 abbrev pub no_account : KeptAccount
 no_account = record { account = first_account None; kept = 0 }
 
--- the account of a partition (own)
+-- the account of a partition
 abbrev pub account_at : ℕ → Whole → KeptAccount
 account_at p whole = slice_index_or whole.accounts p no_account
 
--- the state of a partition (own)
+-- the state of a partition
 abbrev pub state_at : ℕ → Whole → State
 state_at p whole = record { part = part_at p whole.kept; account = (account_at p whole).account }
 
--- the tick is the next decision of a partition (own)
+-- the tick is the next decision of a partition
 abbrev pub IsDue : ℕ → Whole → Type 0
 IsDue tick whole = Any (λ account. account.account.next ≡ Some tick) whole.accounts
 
--- the states with this as the partition's; every other partition's stays (own)
+-- the states with this as the partition's; every other partition's stays
 abbrev pub put_state : ℕ → State → Whole → Whole
 put_state p state whole =
     record {
@@ -35,18 +35,18 @@ put_state p state whole =
       accounts = slice_set whole.accounts p (record (account_at p whole) { account = state.account });
     }
 
--- every partition has an entry in each list, and its trace keeps what its section says (own)
+-- every partition has an entry in each list, and its trace keeps what its section says
 pub record IsWhole (kept : Kept) (accounts : List KeptAccount) : Type 0 where
   pub parts : AreParts (length accounts) kept
   pub limits : length kept.limits ≡ length accounts
   pub traces : (p : ℕ) → p < length accounts → (slice_index_or accounts p no_account).kept ≡ (limits_at p kept).trace
 
--- the windows are those of so many partitions, in a frame of a configuration's range (own)
+-- the windows are those of so many partitions, in a frame of a configuration's range
 pub record AreWindowsOf (parts : ℕ) (table : WindowTable) : Type 0 where
   pub frame : table.frame ≤ 1000000
   pub known : All (λ w. w.partition < parts) table.windows
 
--- a partition's account before its first decision (own)
+-- a partition's account before its first decision
 abbrev pub first_account_of : WindowTable → Kept → ℕ → KeptAccount
 first_account_of table kept p =
     record {

@@ -1,6 +1,7 @@
 //! What is counted of one partition.
 
 ghost use Rattle.std.specs.Prelude.{◌≡◌, ◌≤◌, ◌^◌, IfOk};
+ghost use Rattle.ptk_words.specs.declared.TheConstants.{LAST_TICK};
 ghost use Rattle.ptk_kernel.specs.Spending.{cost_in};
 ghost use Rattle.ptk_system_machine.specs.Accounts.{HasEntry, first_account, spent_account, duration_of};
 
@@ -20,14 +21,11 @@ pub struct Account {
 }
 
 impl Model for Account {
-    ghost use Rattle.ptk_system_machine.specs.Accounts.{KeptAccount};
+    ghost use Rattle.ptk_system_machine.specs.Accounts.{KeptAccount, kept_account_of};
 
     ghost Value = { KeptAccount };
 
-    ghost view = { λ a. record {
-      account = record { next = a.next; steps = a.steps; lost = a.lost; trace = a.trace.entries };
-      kept = a.trace.kept;
-    } };
+    ghost view = { λ a. kept_account_of a };
 }
 
 impl Account {
@@ -75,7 +73,7 @@ impl Account {
     /// Counts a decision with this room that came to `spent`: the tick of the next one, a step and its entry, or the
     /// lost ticks.
     pub(crate) fn count(&mut self, next: Option<Tick>, room: u32, spent: Spent, last: Option<Entry>)
-        requires steps { self.old.account.steps ≤ 2 ^ 40 }
+        requires steps { self.old.account.steps ≤ LAST_TICK }
         requires lost { self.old.account.lost ≤ 2 ^ 60 }
         requires entry { HasEntry spent last }
         ensures { self.new ≡ record self.old { account = spent_account next self.old.kept room spent last self.old.account } }

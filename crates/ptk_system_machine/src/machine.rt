@@ -1,6 +1,7 @@
 //! All partitions.
 
 ghost use Rattle.std.specs.Prelude.{◌≡◌, ◌<◌, ◌≤◌, ◌^◌, ◌+◌, ℕ, true, Some, IfOk, length, slice_index_or};
+ghost use Rattle.ptk_words.specs.declared.TheConstants.{LAST_TICK};
 ghost use Rattle.ptk_words_windows.specs.Windows.{own_ticks};
 ghost use Rattle.ptk_words_model.specs.Run.{after_tick, after_tick_until, decided, is_active, is_at, next_from};
 ghost use Rattle.ptk_gate_pools.specs.Kept.{AreParts, limits_at, part_at};
@@ -84,7 +85,7 @@ impl Machine {
     #[tactic(auto, using(crate::proofs::Ticks::ticks))]
     pub fn tick(&mut self, windows: &WindowTable, tick: Tick)
         requires windows { AreWindowsOf (length self.old.accounts) windows.now }
-        requires time { tick < 2 ^ 40 }
+        requires time { tick < LAST_TICK }
         requires counted { (p : ℕ) → p < length self.old.accounts → IsCounted (state_at p self.old) }
         ensures parts { length self.new.accounts ≡ length self.old.accounts }
         ensures limits { self.new.kept.limits ≡ self.old.kept.limits }
@@ -101,7 +102,7 @@ impl Machine {
     #[tactic(auto, using(crate::proofs::Ticks::states))]
     fn turn(&mut self, windows: &WindowTable, p: PartId, tick: Tick, end: Tick)
         requires partition { p < length self.old.accounts }
-        requires time { tick < 2 ^ 40 }
+        requires time { tick < LAST_TICK }
         requires end { tick < end }
         requires near { end ≤ tick + 1000000 }
         requires counted { IsCounted (state_at p self.old) }
@@ -117,7 +118,7 @@ impl Machine {
     #[tactic(auto, using(crate::proofs::Ticks::states))]
     fn decide(&mut self, windows: &WindowTable, p: PartId, tick: Tick, room: u32)
         requires partition { p < length self.old.accounts }
-        requires time { tick < 2 ^ 40 }
+        requires time { tick < LAST_TICK }
         requires room { 1 ≤ room }
         requires near { room ≤ 1000000 }
         requires due { is_at tick (account_at p self.old).account.next ≡ true }

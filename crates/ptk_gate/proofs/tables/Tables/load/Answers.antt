@@ -37,8 +37,8 @@ invariant_of-self c =
     let blank : IsBlank (limits_at c.args.p now) (part_at c.args.p now) = rw c.self.view_is c.requires.blank in
     let lt : c.args.p < length now.limits = rw c.self.view_is c.requires.partition in
     let fit : fits (limits_at c.args.p now) image ≡ true = fits_seen c.limits-limits.result (limits_at c.args.p now) image c.fits.result true c.limits-limits.ensures (c.fits.ensures c.args.entry) c.if-fits.true in
-    let main : c.main_thread.result ≡ main_thread (limits_at c.args.p now) image = main_seen c.limits-limits.result (limits_at c.args.p now) image c.main_thread.result c.limits-limits.ensures (c.main_thread.ensures image refl) in
-    loaded_whole c.args.p c.new.result image c.main_thread.result now c.fill_memory.new.self c.begin.new.pools c.self.invariant lt blank fit main c.new.ensures c.fill_memory.ensures c.begin.ensures
+    let main : c.main_thread-main.result ≡ main_thread (limits_at c.args.p now) image = main_seen c.limits-limits.result (limits_at c.args.p now) image c.main_thread-main.result c.limits-limits.ensures (c.main_thread-main.ensures image refl) in
+    loaded_whole c.args.p c.new.result image c.main_thread-main.result now c.fill_memory.new.self c.begin.new.pools c.self.invariant lt blank fit main c.new.ensures c.fill_memory.ensures c.begin.ensures
 
 pub returns-then-fits : goal.returns-then-fits
 returns-then-fits c =
@@ -47,8 +47,8 @@ returns-then-fits c =
     let blank : IsBlank (limits_at c.args.p now) (part_at c.args.p now) = rw c.self.view_is c.requires.blank in
     let lt : c.args.p < length now.limits = rw c.self.view_is c.requires.partition in
     let fit : fits (limits_at c.args.p now) image ≡ true = fits_seen c.limits-limits.result (limits_at c.args.p now) image c.fits.result true c.limits-limits.ensures (c.fits.ensures c.args.entry) c.if-fits.true in
-    let main : c.main_thread.result ≡ main_thread (limits_at c.args.p now) image = main_seen c.limits-limits.result (limits_at c.args.p now) image c.main_thread.result c.limits-limits.ensures (c.main_thread.ensures image refl) in
-    rw (← c.self.view_is) (loaded c.args.p c.new.result image c.main_thread.result now c.fill_memory.new.self c.begin.new.pools c.self.invariant lt blank fit main c.new.ensures c.fill_memory.ensures c.begin.ensures)
+    let main : c.main_thread-main.result ≡ main_thread (limits_at c.args.p now) image = main_seen c.limits-limits.result (limits_at c.args.p now) image c.main_thread-main.result c.limits-limits.ensures (c.main_thread-main.ensures image refl) in
+    rw (← c.self.view_is) (loaded c.args.p c.new.result image c.main_thread-main.result now c.fill_memory.new.self c.begin.new.pools c.self.invariant lt blank fit main c.new.ensures c.fill_memory.ensures c.begin.ensures)
 
 pub returns-else-fits : goal.returns-else-fits
 returns-else-fits c =

@@ -1,4 +1,5 @@
 use Rattle.std.proofs.Common.{ℕ, ◌+◌, ◌<◌, ◌^◌, length, subst, sym, ap, ◌∙◌}
+use Rattle.ptk_words.specs.declared.TheConstants.{LAST_TICK}
 use Rattle.ptk_words_windows.specs.Windows.{WindowTable}
 use Rattle.ptk_system_machine.specs.Whole.{AreWindowsOf}
 use Rattle.ptk_system.specs.World.{World}
@@ -16,5 +17,5 @@ tick-requires-clause-counted c = run_counted c.self.inside.config.now c.self.ins
 pub invariant_of-self : goal.invariant_of-self
 invariant_of-self c =
     run_on c.self.inside.config.now c.self.inside.files.now c.self.inside.machine c.tick.new.self c.self.inside.tick _ c.windows.result.now c.self.invariant
-    (subst (λ (w : World). w.tick < 2 ^ 40) (sym c.self.view_is) c.requires) c.windows.ensures.value
+    (subst (λ (w : World). w.tick < LAST_TICK) (sym c.self.view_is) c.requires) c.windows.ensures.value
     (c.new-self-inside.ensures ∙ ap (λ (n : ℕ). n + 1) c.ticks.ensures) c.tick.ensures.parts c.tick.ensures.limits c.tick.ensures.each
