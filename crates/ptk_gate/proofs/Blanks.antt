@@ -41,7 +41,6 @@ part_at-blank input_of limits inputs p lt =
       row {A = Option Mutex} (λ l. l.mutexes) None limits p lt,
       row {A = Option Condition} (λ l. l.conditions) None limits p lt,
       get_or-replicate {A = Option ℕ} (length limits) p None None lt,
-      row {A = Option ℕ} (λ l. l.threads) None limits p lt,
       row (λ l. l.threads) new_cancellation limits p lt,
       row {A = List Cleanup} (λ l. l.threads) [] limits p lt,
       row {A = Option ℕ} (λ l. l.keys) None limits p lt,
