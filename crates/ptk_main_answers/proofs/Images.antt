@@ -1,7 +1,6 @@
 -- Which images a boot refuses.
-use Rattle.std.proofs.Common.{◌≡◌, ◌∙◌, ◌<◌, ◌≤◌, ℕ, Bool, true, false, List, Option, Some, None, Result, Ok, Err, length, get_or, position, refl, sym, ap, arith, rules, ◌+◌, ◌⊎◌, inl, inr, is_some}
+use Rattle.std.proofs.Common.{◌≡◌, ◌∙◌, ◌<◌, ℕ, Bool, true, false, List, Option, Some, None, Result, Ok, Err, length, get_or, position, refl, sym, ap, arith, rules, ◌+◌, inl, inr, is_some}
 use Rattle.std.specs.Prelude.{if◌then◌else◌, nat_lt}
-use Rattle.std.specs.List.{position_or_len}
 use Rattle.std.proofs.lemmas.Bool.{cases_order}
 use Rattle.std.proofs.lemmas.List.Sums.{position_or_len_is}
 use Rattle.ptk_words.specs.Image.{ImageParts, image_of}
@@ -13,7 +12,6 @@ use Rattle.ptk_words.specs.declared.faults.Status.TheVariants.{Refused}
 use Rattle.ptk_words_model.specs.Run.{empty_part, fits, main_thread, memory_of, start_part, with_image}
 use Rattle.ptk_words_model.specs.ThreadCalls.{with_new_thread}
 use Rattle.ptk_words_model.specs.State.{Part}
-use Rattle.ptk_config.specs.Sections.{Section}
 use Rattle.ptk_system.specs.Missing.{image_in}
 use Rattle.ptk_system.specs.Told.{activity_of, is_busy, status_in}
 use Rattle.ptk_system.specs.World.{World, alone_in, no_section, section_at, state_of}

@@ -1,7 +1,6 @@
-use Rattle.std.proofs.Common.{◌∙◌, sym, arith, subst}
+use Rattle.std.proofs.Common.{◌∙◌, ap, sym, arith}
 use Rattle.ptk_main_answers.proofs.Images.{first_refused_is, none_refused, none_refused_to, refused_image_is}
 use Rattle.ptk_main_answers.specs.Images.{refusal_in}
-use Rattle.std.proofs.Common.{ap}
 use Rattle.ptk_main_answers.proofs.check.first_refused.Goals as goal
 
 pub returns-in-Some-clause-place : goal.returns-in-Some-clause-place
