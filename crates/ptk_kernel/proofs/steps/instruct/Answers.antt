@@ -1,4 +1,4 @@
-use Rattle.std.proofs.Common.{◌≡◌, true, false, sym, ◌∙◌, ap, length}
+use Rattle.std.proofs.Common.{◌≡◌, true, false, sym, ◌∙◌, length}
 use Rattle.ptk_words_instructions.specs.Instructions.{Effect, effect_at}
 use Rattle.ptk_gate_pools.specs.Kept.{part_at}
 use Rattle.ptk_gate_steps.specs.Instructions.{is_call}
