@@ -1,5 +1,5 @@
 -- A run goes on: over ticks at which nothing is due, and by one tick of each partition's own.
-use Rattle.std.proofs.Common.{◌≡◌, ℕ, zero, suc, ◌+◌, ◌*◌, ◌<◌, ◌≤◌, ◌^◌, ◌==◌, Bool, true, false, All, List, Option, Some, None, length, refl, sym, ap, subst, ◌∙◌, arith, add-one, get_or, ◌≢◌, eqb-true, eq-eqb}
+use Rattle.std.proofs.Common.{◌≡◌, ℕ, zero, suc, ◌+◌, ◌*◌, ◌<◌, ◌≤◌, ◌==◌, Bool, true, false, All, List, Option, Some, None, length, refl, sym, ap, subst, ◌∙◌, arith, add-one, get_or, ◌≢◌, eqb-true, eq-eqb}
 use Rattle.std.proofs.lemmas.Bool.{false≢true}
 use Rattle.ptk_words.specs.declared.TheConstants.{LAST_TICK}
 use Rattle.ptk_console.specs.ConsoleTable.{no_limits}

@@ -1,4 +1,4 @@
-use Rattle.std.proofs.Common.{ℕ, ◌+◌, ◌<◌, ◌^◌, length, subst, sym, ap, ◌∙◌}
+use Rattle.std.proofs.Common.{ℕ, ◌+◌, ◌<◌, length, subst, sym, ap, ◌∙◌}
 use Rattle.ptk_words.specs.declared.TheConstants.{LAST_TICK}
 use Rattle.ptk_words_windows.specs.Windows.{WindowTable}
 use Rattle.ptk_system_machine.specs.Whole.{AreWindowsOf}

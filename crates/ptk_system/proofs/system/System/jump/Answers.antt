@@ -1,4 +1,4 @@
-use Rattle.std.proofs.Common.{◌≤◌, ◌^◌, arith}
+use Rattle.std.proofs.Common.{◌≤◌, arith}
 use Rattle.ptk_words.specs.declared.TheConstants.{LAST_TICK}
 use Rattle.ptk_system.proofs.Runs.{run_still}
 use Rattle.ptk_system.proofs.system.System.jump.Goals as goal
