@@ -10,7 +10,7 @@ use Rattle.ptk_words.specs.declared.sections.Arrival.{Arrival}
 use Rattle.ptk_words.specs.declared.sections.Limits.{Limits}
 use Rattle.ptk_words.specs.declared.faults.Status.TheVariants.{Refused}
 use Rattle.ptk_words_model.specs.Run.{empty_part, fits, main_thread, memory_of, start_part, with_image}
-use Rattle.ptk_words_model.specs.ThreadCalls.{with_new_thread}
+use Rattle.ptk_words_model.specs.ThreadCreation.{with_new_thread}
 use Rattle.ptk_words_model.specs.State.{Part}
 use Rattle.ptk_system.specs.Missing.{image_in}
 use Rattle.ptk_system.specs.Told.{activity_of, is_busy, status_in}
