@@ -1,7 +1,7 @@
 -- The tables before any image is loaded, and one partition's part of them.
 use Rattle.std.proofs.Common.{arith, ◌≡◌, ℕ, zero, suc, ◌<◌, ◌≤◌, List, [], ◌∷◌, length, map, refl, sym, ◌∙◌, subst}
 use Rattle.std.specs.Prelude.{Option, None, replicate, slice_index_or, All}
-use Rattle.std.proofs.lemmas.List.{length-map, length-replicate, get_or-map, get_or-replicate}
+use Rattle.std.proofs.lemmas.List.{length-map, get_or-map, get_or-replicate}
 use Rattle.ptk_words.specs.Ranges.{IsWithinLimits}
 use Rattle.ptk_words.specs.declared.faults.Status.TheVariants.{Active}
 use Rattle.ptk_words.specs.declared.sections.Arrival.{Arrival}
@@ -17,7 +17,7 @@ use Rattle.ptk_words_model.specs.Run.{empty_part}
 use Rattle.ptk_words_well.specs.Well.{IsWell}
 use Rattle.ptk_words_well.proofs.Starts.{well_empty}
 use Rattle.ptk_console.specs.ConsoleTable.{fresh_console, no_limits}
-use Rattle.ptk_gate_pools.specs.Kept.{AreParts, part_at, per_section}
+use Rattle.ptk_gate_pools.specs.Kept.{part_at, per_section}
 use Rattle.ptk_gate_pools.specs.Blank.{blank}
 use Rattle.ptk_gate.specs.Whole.{AreWhole}
 use Rattle.ptk_gate_pools.proofs.Built.{parts_blank}

@@ -1,8 +1,7 @@
 -- The tables stay whole when one partition's part is replaced by a whole one.
-use Rattle.std.proofs.Common.{◌≡◌, ◌≢◌, ℕ, ◌<◌, Bool, length, refl, sym, ◌∙◌, subst, ◌⊎◌, inl, inr, true, false}
+use Rattle.std.proofs.Common.{◌≡◌, ◌≢◌, ℕ, ◌<◌, Bool, length, refl, sym, subst, ◌⊎◌, inl, inr, true, false}
 use Rattle.std.specs.Prelude.{Option, Some, None, IsSome}
 use Rattle.std.proofs.lemmas.Bool.{cases_eq, false≢true}
-use Rattle.std.proofs.lemmas.List.{length-set}
 use Rattle.ptk_words.specs.Processor.{Processor}
 use Rattle.ptk_words.specs.declared.faults.Cause.TheVariants as cause
 use Rattle.ptk_words.specs.declared.faults.Status.TheVariants.{Stopped}
@@ -28,7 +27,7 @@ use Rattle.ptk_words_well.proofs.Waits.{well_arrivals}
 use Rattle.ptk_words_well.proofs.Unwindings.{well_unwinding_start}
 use Rattle.ptk_words_well.proofs.Expiries.{expiries_none}
 use Rattle.ptk_gate_pools.specs.Moves.{with_last_step}
-use Rattle.ptk_gate_pools.specs.Kept.{Kept, AreParts, AreWell, part_at, put_part, limits_at}
+use Rattle.ptk_gate_pools.specs.Kept.{Kept, AreWell, part_at, put_part, limits_at}
 use Rattle.ptk_gate_pools.proofs.Parted.{part_at-put, part_at-other, parts_put}
 use Rattle.ptk_gate_steps.specs.Instructions.{after_instruction}
 use Rattle.ptk_gate.specs.Whole.{AreWhole}

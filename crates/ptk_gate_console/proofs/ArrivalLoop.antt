@@ -1,7 +1,6 @@
 -- What a loop that takes the due bytes one by one keeps.
 use Rattle.std.proofs.Common.{arith, ◌≡◌, ℕ, ◌+◌, ◌<◌, true, false, List, [], ◌∷◌, length, drop, take, refl, sym, ◌∙◌, ap, subst}
 use Rattle.std.specs.Prelude.{Option, Some, None, is_some, option_map, slice_get, slice_index_or}
-use Rattle.std.proofs.lemmas.List.{length-set}
 use Rattle.std.proofs.lemmas.Bool.{false≢true}
 use Rattle.ptk_words.specs.declared.sections.Limits.{Limits}
 use Rattle.ptk_words_model.specs.State.{Part, with_locks, with_console}
@@ -15,7 +14,7 @@ use Rattle.ptk_console.specs.ConsoleTable as console
 use Rattle.ptk_gate_pools.specs.Kept.{Kept, AreParts, part_at, put_part, limits_at}
 use Rattle.ptk_gate_pools.specs.Moves.{with_next_taken}
 use Rattle.ptk_gate_console.specs.Arrivals.{after_byte, after_next, after_next_of}
-use Rattle.ptk_gate_pools.proofs.Parted.{part_at-put, put_part-put, parts_put}
+use Rattle.ptk_gate_pools.proofs.Parted.{part_at-put, put_part-put}
 use Rattle.ptk_gate_pools.proofs.Ranks.{put_same}
 use Rattle.ptk_gate_console.proofs.ArrivalSteps.{arrivals_step, arrivals_end, next_well, byte_well, next_fewer, arrival_coming}
 
