@@ -4,11 +4,11 @@ use Rattle.std.specs.Borrow.{Bor}
 use Rattle.ptk_main_faults.specs.declared.fault.Fault.{Fault}
 use Rattle.ptk_main_faults.specs.declared.fault.Fault.TheVariants.{Config, ConfigWindow, Asm, Image, MissingFile, NotText, NoPartition, ReadFailed, WriteFailed, NoMemory}
 
--- a name as its text alone, wherever it stands (own)
+-- a name as its text alone, wherever it stands
 abbrev pub text : List ℕ → Bor (List ℕ)
 text bytes = record { ref_ptr = (0, 0); now = bytes }
 
--- the fault with its name as a text alone, which is all that its line and its status are made of (own)
+-- the fault with its name as a text alone, which is all that its line and its status are made of
 abbrev pub told : Fault → Fault
 told (Config number) = Config number
 told (ConfigWindow number) = ConfigWindow number
