@@ -2,3 +2,4 @@ pub mod Slots
 pub mod Changes
 pub mod Raised
 pub mod Tables
+pub mod Moves

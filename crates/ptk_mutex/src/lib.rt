@@ -1,10 +1,13 @@
 //! The mutexes of all partitions in one pool.
 #![tactic(auto)]
 
+mod locking;
+mod moves;
 mod mutexes;
 mod priorities;
 mod slot;
 
+pub use moves::reply_of;
 pub use mutexes::Mutexes;
 pub use priorities::effective;
 pub use slot::{MutexSlot, MutexState};

@@ -1,13 +1,22 @@
 //! One place of the pool, and what becomes of the mutex at it.
 
-ghost use Rattle.std.specs.Prelude.{◌≡◌, [], Some, None, IfOk, is_none, option_map};
-ghost use Rattle.ptk_words_model.specs.Mutex.{new_mutex, waiters_of};
+ghost use Rattle.std.specs.Prelude.{◌≡◌, [], Some, None, IfOk, is_none, option_map, if◌then◌else◌};
+ghost use Rattle.ptk_words.specs.declared.faults.Errno.TheVariants.{EINVAL};
+ghost use Rattle.ptk_words_model.specs.declared.LockMove.TheVariants.{Refuses};
+ghost use Rattle.ptk_words_model.specs.Mutex.{new_mutex, waiters_of, lock_move, trylock_move, relock_move, owns, is_raising_for, is_raising, soundness_of, count_of, is_above_ceiling, owner_move, free_move};
 ghost use Rattle.ptk_words_model.specs.Priority.{inheritor, inheritor_of, ceiling_for, ceiling_of, is_owner};
 ghost use Rattle.ptk_mutex.specs.Slots.{mutex_with, state_of};
 ghost use Rattle.ptk_mutex.specs.Changes.{mutex_changed, SlotMayChange};
+ghost use Rattle.ptk_mutex.specs.Tables.{locks_of};
 
+use crate::moves::{
+    OwnerMoves, free_move, is_above_ceiling, own_lock_move, own_trylock_move, owner_move,
+};
+use crate::priorities::assigned;
 use ptk_ready::Queue;
-use ptk_words::{MutexKind, Owner, Protocol, Soundness, ThreadNo};
+use ptk_threads::Slot;
+use ptk_words::{Errno, MutexKind, Owner, Protocol, Soundness, ThreadNo};
+use ptk_words_model::LockMove;
 use std::alloc::{AllocError, Global};
 use std::marker::Model;
 
@@ -216,5 +225,127 @@ fn ceiling_of(protocol: Protocol) -> u8
     match protocol {
         Protocol::Protect(ceiling) => ceiling.level(),
         Protocol::NoProtocol | Protocol::Inherit => 0,
+    }
+}
+
+impl MutexSlot {
+    /// The move of lock; the ceiling is tested first (pthread_mutex_lock).
+    pub(crate) fn lock_move(&self, threads: &[Slot], t: ThreadNo) -> LockMove
+        ensures { result ≡ lock_move (locks_of threads.now []) t self.now }
+    {
+        match &self.state {
+            Some(state) => {
+                let of_own = own_lock_move(state.kind, state.count);
+                move_of_state(state, assigned(threads, t), t, of_own, LockMove::Waits)
+            }
+            None => LockMove::Refuses(Errno::EINVAL),
+        }
+    }
+
+    /// The move of trylock; the ceiling is tested first (pthread_mutex_trylock).
+    pub(crate) fn trylock_move(&self, threads: &[Slot], t: ThreadNo) -> LockMove
+        ensures { result ≡ trylock_move (locks_of threads.now []) t self.now }
+    {
+        match &self.state {
+            Some(state) => {
+                let busy = LockMove::Refuses(Errno::EBUSY);
+                let of_own = own_trylock_move(state.kind, state.count);
+                move_of_state(state, assigned(threads, t), t, of_own, busy)
+            }
+            None => LockMove::Refuses(Errno::EINVAL),
+        }
+    }
+
+    /// The move after a condition wait (pthread_cond_wait; own choice).
+    pub(crate) fn relock_move(&self, t: ThreadNo) -> LockMove
+        ensures { result ≡ relock_move t self.now }
+    {
+        match &self.state {
+            Some(state) => owner_move(
+                state.owner,
+                t,
+                OwnerMoves {
+                    of_free: free_move(state.soundness),
+                    of_own: LockMove::Counts,
+                    of_another: LockMove::Waits,
+                },
+            ),
+            None => LockMove::Waits,
+        }
+    }
+
+    /// Whether the thread owns its mutex (pthread_mutex_unlock).
+    pub(crate) fn is_owned_by(&self, t: ThreadNo) -> bool
+        ensures { result ≡ owns t self.now }
+    {
+        match &self.state {
+            Some(state) => is_owner(t, state.owner),
+            None => false,
+        }
+    }
+
+    /// Whether the thread owns its mutex, which is INHERIT or PROTECT (pthread_mutexattr_getprotocol).
+    pub(crate) fn is_raising_for(&self, t: ThreadNo) -> bool
+        ensures { result ≡ is_raising_for t self.now }
+    {
+        match &self.state {
+            Some(state) => is_owner(t, state.owner) && is_raising(state.protocol),
+            None => false,
+        }
+    }
+
+    /// The state of what its mutex guards; consistent at a free place (pthread_mutex_consistent).
+    pub(crate) fn soundness(&self) -> Soundness
+        ensures { result ≡ soundness_of self.now }
+    {
+        match &self.state {
+            Some(state) => state.soundness,
+            None => Soundness::Consistent,
+        }
+    }
+
+    /// How often its mutex is locked; 0 at a free place.
+    pub(crate) fn count(&self) -> u32
+        ensures { result ≡ count_of self.now }
+    {
+        match &self.state {
+            Some(state) => state.count,
+            None => 0,
+        }
+    }
+}
+
+/// The move of a lock of this mutex: the ceiling is tested first, against the assigned priority.
+fn move_of_state(
+    state: &MutexState,
+    priority: u8,
+    t: ThreadNo,
+    of_own: LockMove,
+    of_another: LockMove,
+) -> LockMove
+    ensures { result ≡ (if is_above_ceiling priority state.now.protocol then Refuses EINVAL else owner_move state.now.owner t (record { of_free = free_move state.now.soundness; of_own = of_own; of_another = of_another })) }
+{
+    if is_above_ceiling(priority, state.protocol) {
+        return LockMove::Refuses(Errno::EINVAL);
+    }
+    let of_free = free_move(state.soundness);
+    owner_move(
+        state.owner,
+        t,
+        OwnerMoves {
+            of_free,
+            of_own,
+            of_another,
+        },
+    )
+}
+
+/// INHERIT or PROTECT.
+fn is_raising(protocol: Protocol) -> bool
+    ensures { result ≡ is_raising protocol }
+{
+    match protocol {
+        Protocol::Inherit | Protocol::Protect(_) => true,
+        Protocol::NoProtocol => false,
     }
 }
