@@ -1,3 +1,4 @@
 pub mod Slots
 pub mod Levels
 pub mod Moved
+pub mod Locked

@@ -13,6 +13,15 @@ use Rattle.ptk_threads.specs.Table.{ThreadTable, thread_in}
 use Rattle.ptk_threads.proofs.Pools.{pool_get-changed, pool_changed-changed, part_of-set}
 use Rattle.ptk_mutex.specs.declared.slot.Change.TheVariants.{CountUp, Enqueue}
 use Rattle.ptk_mutex.specs.Changes.{SlotMayChange}
+use Rattle.std.specs.Prelude.{option_and_then, option_to_list}
+use Rattle.ptk_words.specs.Pools.{pool_set}
+use Rattle.ptk_words.specs.declared.threads.Thread.{Thread}
+use Rattle.ptk_words_model.specs.declared.LockMove.{LockMove}
+use Rattle.ptk_words_model.specs.Schedule.{woken_with}
+use Rattle.ptk_words_model.specs.Mutex.{move_reply, kept_reply, handed}
+use Rattle.ptk_threads.specs.Table.{with_changed, replaced_by}
+use Rattle.ptk_threads.proofs.Pools.{pool_changed-free}
+use Rattle.ptk_mutex.proofs.Locked.{waiter_used}
 use Rattle.ptk_mutex.specs.Tables.{locks_at, HasPart, IsWaiter, AreLocked, AreReady}
 
 -- ---- room
@@ -41,4 +50,28 @@ fresh p t m table lines mutexes ready awake =
 pub has_part : (p : ℕ) (table : ThreadTable) (lines : List (List ℕ)) (mutexes : List (List (Option Mutex))) → AreReady p table lines mutexes → HasPart p table lines mutexes
 has_part p table lines mutexes ready = ready.part
 
-pub ruleset moves = (countable, fresh, has_part, pool_get-changed, pool_changed-changed, part_of-set, set-set, set-get_or, length-set)
+-- ---- a thread woken
+
+replaced_row : (t : ℕ) (f : Thread → Thread) (thread : Thread) (row : List (Option Thread)) (o : Option Thread) → o ≡ Some thread → pool_set row t (option_map (replaced_by (f thread)) o) ≡ pool_set row t (option_map f o)
+replaced_row t f thread row o e = rw e refl
+
+-- the thread of a number replaced by what f makes of it
+pub replaced-is : (p t : ℕ) (f : Thread → Thread) (thread new : Thread) (table : ThreadTable) → thread_in table p t ≡ Some thread → new ≡ f thread → with_changed p t (replaced_by new) table ≡ with_changed p t f table
+replaced-is p t f thread new table e same =
+    rw same (ap (λ (row : List (Option Thread)). record table { threads = set table.threads p row }) (replaced_row t f thread (part_of table.threads p) (thread_in table p t) e))
+
+-- a free number stays free
+pub free-is : (p t : ℕ) (f : Thread → Thread) (table : ThreadTable) → thread_in table p t ≡ None → with_changed p t f table ≡ table
+free-is p t f table e = rw (pool_changed-free t f (part_of table.threads p) e, set-get_or) refl
+
+handed_entry : (made : LockMove) (x : Option Thread) → option_map (woken_with (option_to_list (move_reply made (kept_reply (option_and_then (λ (thread : Thread). thread.wait) x))))) x ≡ option_map (handed made) x
+handed_entry made None = refl
+handed_entry made (Some thread) = refl
+
+-- a waiter that leaves is told what its wait kept
+pub handed-is : (t : ℕ) (made : LockMove) (row : List (Option Thread)) → pool_set row t (option_map (woken_with (option_to_list (move_reply made (kept_reply (option_and_then (λ (thread : Thread). thread.wait) (pool_get row t)))))) (pool_get row t)) ≡ pool_set row t (option_map (handed made) (pool_get row t))
+handed-is t made row = ap (pool_set row t) (handed_entry made (pool_get row t))
+
+pub ruleset moves = (waiter_used, countable, fresh, has_part, pool_get-changed, pool_changed-changed, part_of-set, set-set, set-get_or, length-set)
+
+pub ruleset wakes = (replaced-is, free-is, handed-is, pool_get-changed, pool_changed-changed, part_of-set, set-set, set-get_or, length-set)

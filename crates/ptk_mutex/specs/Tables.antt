@@ -59,3 +59,8 @@ pub record AreReady (p : ℕ) (table : ThreadTable) (lines : List (List ℕ)) (m
   pub part : HasPart p table lines mutexes
   pub locked : AreLocked (locks_at p table lines mutexes)
   pub stored : part_of table.stored p ≡ effective_priorities (part_of table.threads p) (part_of mutexes p)
+
+-- nobody, or one that waits for the mutex (pthread_mutex_unlock)
+abbrev pub MayGet : Option ℕ → Locks → ℕ → Type 0
+MayGet None locks m = Unit {0}
+MayGet (Some t) locks m = IsWaiter locks m t

@@ -6,6 +6,7 @@ mod moves;
 mod mutexes;
 mod priorities;
 mod slot;
+mod waking;
 
 pub use moves::reply_of;
 pub use mutexes::Mutexes;
