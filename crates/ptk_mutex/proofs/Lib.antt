@@ -2,3 +2,4 @@ pub mod Slots
 pub mod Levels
 pub mod Moved
 pub mod Locked
+pub mod Steps

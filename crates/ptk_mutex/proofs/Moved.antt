@@ -21,7 +21,11 @@ use Rattle.ptk_words_model.specs.Schedule.{woken_with}
 use Rattle.ptk_words_model.specs.Mutex.{move_reply, kept_reply, handed}
 use Rattle.ptk_threads.specs.Table.{with_changed, replaced_by}
 use Rattle.ptk_threads.proofs.Pools.{pool_changed-free}
-use Rattle.ptk_mutex.proofs.Locked.{waiter_used}
+use Rattle.ptk_words.specs.Pools.{first_of_greatest}
+use Rattle.ptk_words_model.specs.Mutex.{heir}
+use Rattle.ptk_threads.specs.Table.{stored_of}
+use Rattle.ptk_mutex.specs.Tables.{MayGet}
+use Rattle.ptk_mutex.proofs.Locked.{waiter_used, stored_heir, heir_may_get}
 use Rattle.ptk_mutex.specs.Tables.{locks_at, HasPart, IsWaiter, AreLocked, AreReady}
 
 -- ---- room
@@ -71,6 +75,18 @@ handed_entry made (Some thread) = refl
 -- a waiter that leaves is told what its wait kept
 pub handed-is : (t : ℕ) (made : LockMove) (row : List (Option Thread)) → pool_set row t (option_map (woken_with (option_to_list (move_reply made (kept_reply (option_and_then (λ (thread : Thread). thread.wait) (pool_get row t)))))) (pool_get row t)) ≡ pool_set row t (option_map (handed made) (pool_get row t))
 handed-is t made row = ap (pool_set row t) (handed_entry made (pool_get row t))
+
+-- ---- the choice
+
+-- the first waiter of the greatest stored priority is the heir
+pub choice-is : (p m : ℕ) (o : Option ℕ) (table : ThreadTable) (lines : List (List ℕ)) (mutexes : List (List (Option Mutex))) → AreReady p table lines mutexes → o ≡ first_of_greatest (stored_of (part_of table.stored p)) (waiters_of (pool_get (part_of mutexes p) m)) → o ≡ heir m (locks_at p table lines mutexes)
+choice-is p m o table lines mutexes ready e = e ∙ stored_heir m (locks_at p table lines mutexes) (part_of table.stored p) ready.locked ready.stored
+
+-- and may get the mutex
+pub choice_may : (p m : ℕ) (o : Option ℕ) (table : ThreadTable) (lines : List (List ℕ)) (mutexes : List (List (Option Mutex))) → AreReady p table lines mutexes → o ≡ first_of_greatest (stored_of (part_of table.stored p)) (waiters_of (pool_get (part_of mutexes p) m)) → MayGet o (locks_at p table lines mutexes) m
+choice_may p m o table lines mutexes ready e = heir_may_get m (locks_at p table lines mutexes) o ready.locked (choice-is p m o table lines mutexes ready e)
+
+pub ruleset choices = (choice-is, choice_may, has_part)
 
 pub ruleset moves = (waiter_used, countable, fresh, has_part, pool_get-changed, pool_changed-changed, part_of-set, set-set, set-get_or, length-set)
 

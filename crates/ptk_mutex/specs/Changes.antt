@@ -33,3 +33,14 @@ MayChange (Dequeue t) m = Unit {0}
 abbrev pub SlotMayChange : Change → Option Mutex → Type 0
 SlotMayChange change None = Unit {0}
 SlotMayChange change (Some m) = MayChange change m
+
+-- the change leaves the waiters, and no greater count but 1 (own)
+abbrev pub IsQuiet : Change → Type 0
+IsQuiet (Take t) = Unit {0}
+IsQuiet CountUp = ⊥
+IsQuiet CountDown = Unit {0}
+IsQuiet Release = Unit {0}
+IsQuiet Abandon = Unit {0}
+IsQuiet (Mark soundness) = Unit {0}
+IsQuiet (Enqueue t) = ⊥
+IsQuiet (Dequeue t) = ⊥

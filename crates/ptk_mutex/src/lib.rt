@@ -6,6 +6,7 @@ mod moves;
 mod mutexes;
 mod priorities;
 mod slot;
+mod unlocking;
 mod waking;
 
 pub use moves::reply_of;
