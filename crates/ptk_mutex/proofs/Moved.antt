@@ -11,7 +11,7 @@ use Rattle.ptk_words_model.specs.Mutex.{waiters_of, count_of}
 use Rattle.ptk_words_parted.specs.Parts.{part_of}
 use Rattle.ptk_threads.specs.Table.{ThreadTable, thread_in}
 use Rattle.ptk_threads.proofs.Pools.{pool_get-changed, pool_changed-changed, part_of-set}
-use Rattle.ptk_mutex.specs.declared.slot.Change.TheVariants.{CountUp, Enqueue}
+use Rattle.ptk_mutex.specs.declared.slot.Change.TheVariants.{CountUp, CountDown, Enqueue}
 use Rattle.ptk_mutex.specs.Changes.{SlotMayChange}
 use Rattle.std.specs.Prelude.{option_and_then, option_to_list}
 use Rattle.ptk_words.specs.Pools.{pool_set}
@@ -22,7 +22,10 @@ use Rattle.ptk_words_model.specs.Mutex.{move_reply, kept_reply, handed}
 use Rattle.ptk_threads.specs.Table.{with_changed, replaced_by}
 use Rattle.ptk_threads.proofs.Pools.{pool_changed-free}
 use Rattle.ptk_words.specs.Pools.{first_of_greatest}
-use Rattle.ptk_words_model.specs.Mutex.{heir}
+use Rattle.ptk_words_parted.proofs.Cuts.{set_part-same}
+use Rattle.ptk_words_model.specs.Mutex.{heir, owns, after_mutex_end, after_bequest, after_abandonment}
+use Rattle.ptk_mutex.specs.Slots.{is_robust_at}
+use Rattle.ptk_mutex.specs.Tables.{with_threads}
 use Rattle.ptk_threads.specs.Table.{stored_of}
 use Rattle.ptk_mutex.specs.Tables.{MayGet}
 use Rattle.ptk_mutex.proofs.Locked.{waiter_used, stored_heir, heir_may_get}
@@ -88,6 +91,31 @@ choice_may p m o table lines mutexes ready e = heir_may_get m (locks_at p table 
 
 pub ruleset choices = (choice-is, choice_may, has_part)
 
-pub ruleset moves = (waiter_used, countable, fresh, has_part, pool_get-changed, pool_changed-changed, part_of-set, set-set, set-get_or, length-set)
+-- a count above 1 can go down
+pub count_down_room : (x : Option Mutex) → 1 < count_of x → SlotMayChange CountDown x
+count_down_room None h = tt
+count_down_room (Some m) h = omega arith
+
+-- ---- the end of an owner
+
+pub end-other : (t m : ℕ) (x : Option Mutex) (locks : Locks) → owns t x ≡ false → after_mutex_end t x m locks ≡ locks
+end-other t m None locks e = refl
+end-other t m (Some x) locks e = rw e refl
+
+pub end-robust : (t m : ℕ) (x : Option Mutex) (locks : Locks) → owns t x ≡ true → is_robust_at x ≡ true → after_mutex_end t x m locks ≡ after_bequest m locks
+end-robust t m None locks e r = cc
+end-robust t m (Some x) locks e r = rw (e, r) refl
+
+pub end-plain : (t m : ℕ) (x : Option Mutex) (locks : Locks) → owns t x ≡ true → is_robust_at x ≡ false → after_mutex_end t x m locks ≡ after_abandonment m locks
+end-plain t m None locks e r = cc
+end-plain t m (Some x) locks e r = rw (e, r) refl
+
+-- nothing moved
+pub stays : (p : ℕ) (table : ThreadTable) (lines : List (List ℕ)) (mutexes : List (List (Option Mutex))) → AreReady p table lines mutexes → with_threads p (locks_at p table lines mutexes) table ≡ table
+stays p table lines mutexes ready = rw (← ready.stored, set_part-same, set_part-same) refl
+
+pub ruleset ends = (end-other, end-robust, end-plain, stays, has_part, set_part-same)
+
+pub ruleset moves = (set_part-same, count_down_room, waiter_used, countable, fresh, has_part, pool_get-changed, pool_changed-changed, part_of-set, set-set, set-get_or, length-set)
 
 pub ruleset wakes = (replaced-is, free-is, handed-is, pool_get-changed, pool_changed-changed, part_of-set, set-set, set-get_or, length-set)

@@ -1,4 +1,9 @@
 -- Several moves of one partition, one after the other.
+use Rattle.std.specs.Fn.{iterate}
+use Rattle.std.specs.Prelude.{fold, suc}
+use Rattle.std.proofs.lemmas.List.Sums.{fold-append}
+use Rattle.ptk_words.specs.Pools.{numbers_to}
+use Rattle.ptk_words_model.specs.Mutex.{after_mutex_end}
 use Rattle.std.proofs.Common.{◌≡◌, ℕ, ◌+◌, ◌<◌, ◌≤◌, List, [], ◌∷◌, ◌++◌, length, refl, sym, ◌∙◌, ap, subst, arith}
 use Rattle.std.specs.Prelude.{Option, Some, None}
 use Rattle.std.proofs.Math.ListN.{set}
@@ -113,3 +118,56 @@ refuse_to_locked m (Some t) locks may locked = locked_left m t (handed (Refuses 
 -- a refusal
 pub locked_refusal : (m : ℕ) (locks : Locks) → AreLocked locks → AreLocked (after_refusal m locks)
 locked_refusal m locks locked = refuse_to_locked m (heir m locks) locks (heir_may_get m locks (heir m locks) locked refl) locked
+
+-- ---- all waiters refused, one after the other
+
+-- so many refusals are left of all
+pub record AreRefused (p m left total : ℕ) (table : ThreadTable) (lines : List (List ℕ)) (mutexes : List (List (Option Mutex))) (table' : ThreadTable) (lines' : List (List ℕ)) (mutexes' : List (List (Option Mutex))) : Type 0 where
+  pub ready : AreReady p table' lines' mutexes'
+  pub moved : AreMoved p table lines mutexes table' lines' mutexes' (locks_at p table' lines' mutexes')
+  pub same : iterate (after_refusal m) left (locks_at p table' lines' mutexes') ≡ iterate (after_refusal m) total (locks_at p table lines mutexes)
+
+pub refused_none : (p m total : ℕ) (table : ThreadTable) (lines : List (List ℕ)) (mutexes : List (List (Option Mutex))) → AreReady p table lines mutexes → AreRefused p m total total table lines mutexes table lines mutexes
+refused_none p m total table lines mutexes ready = record { ready = ready; moved = moved_none p table lines mutexes ready; same = refl }
+
+pub refused_more : (p m left rest total : ℕ) (table table' new : ThreadTable) (lines lines' after : List (List ℕ)) (mutexes mutexes' others : List (List (Option Mutex))) → HasPart p table lines mutexes → rest ≡ suc left → AreRefused p m rest total table lines mutexes table' lines' mutexes'
+    → AreMoved p table' lines' mutexes' new after others (after_refusal m (locks_at p table' lines' mutexes')) → AreReady p new after others → AreRefused p m left total table lines mutexes new after others
+refused_more p m left rest total table table' new lines lines' after mutexes mutexes' others has e refused more ready =
+    let now : Locks = locks_at p table' lines' mutexes' in
+    let at : locks_at p new after others ≡ after_refusal m now = moved_locks p table' new lines' after mutexes' others (after_refusal m now) refused.ready.part more in
+    let moved : AreMoved p table lines mutexes new after others (after_refusal m now) = moved_more p (after_refusal m) table table' new lines lines' after mutexes mutexes' others now has refused.moved more in
+    record {
+      ready = ready;
+      moved = subst (λ (l : Locks). AreMoved p table lines mutexes new after others l) (sym at) moved;
+      same = ap (iterate (after_refusal m) left) at ∙ ap (λ (n : ℕ). iterate (after_refusal m) n now) (sym e) ∙ refused.same;
+    }
+
+pub refused_all : (p m left total : ℕ) (table table' : ThreadTable) (lines lines' : List (List ℕ)) (mutexes mutexes' : List (List (Option Mutex))) → left ≡ 0 → AreRefused p m left total table lines mutexes table' lines' mutexes'
+    → AreMoved p table lines mutexes table' lines' mutexes' (iterate (after_refusal m) total (locks_at p table lines mutexes))
+refused_all p m left total table table' lines lines' mutexes mutexes' e refused =
+    let done : locks_at p table' lines' mutexes' ≡ iterate (after_refusal m) total (locks_at p table lines mutexes) = ap (λ (n : ℕ). iterate (after_refusal m) n (locks_at p table' lines' mutexes')) (sym e) ∙ refused.same in
+    subst (λ (l : Locks). AreMoved p table lines mutexes table' lines' mutexes' l) done refused.moved
+
+-- ---- all mutexes of an owner that ended
+
+-- what the end makes of mutex m
+abbrev pub end_of : ℕ → Locks → ℕ → Locks
+end_of t locks m = after_mutex_end t (mutex_at locks m) m locks
+
+-- once the mutexes 1 to k have been seen
+pub record AreEnded (p t k : ℕ) (table : ThreadTable) (lines : List (List ℕ)) (mutexes : List (List (Option Mutex))) (table' : ThreadTable) (lines' : List (List ℕ)) (mutexes' : List (List (Option Mutex))) : Type 0 where
+  pub ready : AreReady p table' lines' mutexes'
+  pub moved : AreMoved p table lines mutexes table' lines' mutexes' (fold (end_of t) (locks_at p table lines mutexes) (numbers_to k))
+
+pub ended_none : (p t : ℕ) (table : ThreadTable) (lines : List (List ℕ)) (mutexes : List (List (Option Mutex))) → AreReady p table lines mutexes → AreEnded p t 0 table lines mutexes table lines mutexes
+ended_none p t table lines mutexes ready = record { ready = ready; moved = moved_none p table lines mutexes ready }
+
+pub ended_more : (p t k m : ℕ) (table table' new : ThreadTable) (lines lines' after : List (List ℕ)) (mutexes mutexes' others : List (List (Option Mutex))) → HasPart p table lines mutexes → m ≡ k + 1 → AreEnded p t k table lines mutexes table' lines' mutexes'
+    → AreMoved p table' lines' mutexes' new after others (end_of t (locks_at p table' lines' mutexes') m) → AreReady p new after others → AreEnded p t (k + 1) table lines mutexes new after others
+ended_more p t k m table table' new lines lines' after mutexes mutexes' others has e ended more ready =
+    let was : Locks = fold (end_of t) (locks_at p table lines mutexes) (numbers_to k) in
+    let number : m ≡ suc k = omega (arith, e) in
+    let moved : AreMoved p table lines mutexes new after others (end_of t was m) = moved_more p (λ (l : Locks). end_of t l m) table table' new lines lines' after mutexes mutexes' others was has ended.moved more in
+    let all : fold (end_of t) (locks_at p table lines mutexes) (numbers_to (suc k)) ≡ end_of t was m = fold-append (end_of t) (locks_at p table lines mutexes) (numbers_to k) (suc k ∷ []) ∙ ap (end_of t was) (sym number) in
+    let one : k + 1 ≡ suc k = omega arith in
+    rw one (record { ready = ready; moved = subst (λ (l : Locks). AreMoved p table lines mutexes new after others l) (sym all) moved })

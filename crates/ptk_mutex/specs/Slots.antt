@@ -1,5 +1,5 @@
 -- A mutex as its slot keeps it: what it is, and its waiters beside it.
-use Rattle.std.specs.Prelude.{◌≡◌, ℕ, ◌≤◌, List, [], length, Option, Some, None, option_map, unwrap_or}
+use Rattle.std.specs.Prelude.{Bool, false, ◌≡◌, ℕ, ◌≤◌, List, [], length, Option, Some, None, option_map, unwrap_or}
 use Rattle.ptk_words.specs.Pools.{pool_set, least_free}
 use Rattle.ptk_words_parted.specs.Parts.{part_of}
 use Rattle.ptk_words_model.specs.State.{Mutex}
@@ -42,3 +42,8 @@ IsPool mutexes = (p : ℕ) → length (part_of mutexes p) ≤ 64
 -- the mutex at the least free number, if there is one (pthread_mutex_init)
 abbrev pub with_new_mutex : Mutex → List (Option Mutex) → List (Option Mutex)
 with_new_mutex mutex mutexes = unwrap_or (option_map (λ m. pool_set mutexes m (Some mutex)) (least_free mutexes)) mutexes
+
+-- the mutex is robust (pthread_mutexattr_setrobust)
+abbrev pub is_robust_at : Option Mutex → Bool
+is_robust_at None = false
+is_robust_at (Some m) = m.is_robust

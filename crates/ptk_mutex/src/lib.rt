@@ -1,6 +1,7 @@
 //! The mutexes of all partitions in one pool.
 #![tactic(auto)]
 
+mod ends;
 mod locking;
 mod moves;
 mod mutexes;

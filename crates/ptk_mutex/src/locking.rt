@@ -1,6 +1,6 @@
 //! The calls after which nobody is woken: lock, trylock, a change of a mutex, and a changed assigned priority.
 
-ghost use Rattle.std.specs.Prelude.{◌≡◌, ◌<◌, Some, None, length, slice_set};
+ghost use Rattle.std.specs.Prelude.{◌≡◌, ◌<◌, [], Some, None, length, slice_set};
 ghost use Rattle.std.specs.List.{list_any};
 ghost use Rattle.ptk_words.specs.Pools.{pool_get};
 ghost use Rattle.ptk_words.specs.declared.mutexes.Soundness.TheVariants.{Consistent};
@@ -78,9 +78,9 @@ impl Mutexes {
     }
 
     /// Whether the thread owns an INHERIT or PROTECT mutex (pthread_mutexattr_getprotocol).
-    pub fn owns_raising(&self, threads: &Threads, line: &VecLine, p: PartId, t: ThreadNo) -> bool
+    pub fn owns_raising(&self, p: PartId, t: ThreadNo) -> bool
         requires { p < length self.now }
-        ensures { result ≡ owns_raising (locks_at p threads.now line.now self.now) t }
+        ensures { result ≡ owns_raising (locks_of [] (part_of self.now p)) t }
     {
         is_any_raising_for(self.part(p), t)
     }
@@ -91,9 +91,10 @@ impl Mutexes {
         requires ready { AreReady p threads.old line.now self.old }
         ensures threads { threads.new ≡ with_threads p (with_soundness Consistent m (locks_at p threads.old line.now self.old)) threads.old }
         ensures mutexes { self.new ≡ slice_set self.old p (with_soundness Consistent m (locks_at p threads.old line.now self.old)).mutexes }
+        ensures ready { AreReady p threads.new line.now self.new }
     {
-        self.change(p, m, Change::Mark(Soundness::Consistent));
-        self.refresh(threads, p);
+        let marked = Change::Mark(Soundness::Consistent);
+        self.alter(line, threads, p, m, marked);
     }
 
     /// A thread has this assigned priority (pthread_setschedprio).

@@ -60,7 +60,8 @@ impl Mutexes {
     /// The places of a partition, by number from 1.
     pub fn part(&self, p: PartId) -> &[MutexSlot]
         requires { p < length self.now }
-        ensures { result.now ≡ part_of self.now p }
+        ensures slots { result.now ≡ part_of self.now p }
+        ensures few { length result.now ≤ 64 }
     {
         self.slots.part(p)
     }

@@ -5,7 +5,7 @@ ghost use Rattle.ptk_words.specs.declared.faults.Errno.TheVariants.{EINVAL};
 ghost use Rattle.ptk_words_model.specs.declared.LockMove.TheVariants.{Refuses};
 ghost use Rattle.ptk_words_model.specs.Mutex.{new_mutex, waiters_of, lock_move, trylock_move, relock_move, owns, is_raising_for, is_raising, soundness_of, count_of, is_above_ceiling, owner_move, free_move};
 ghost use Rattle.ptk_words_model.specs.Priority.{inheritor, inheritor_of, ceiling_for, ceiling_of, is_owner};
-ghost use Rattle.ptk_mutex.specs.Slots.{mutex_with, state_of};
+ghost use Rattle.ptk_mutex.specs.Slots.{mutex_with, state_of, is_robust_at};
 ghost use Rattle.ptk_mutex.specs.Changes.{mutex_changed, SlotMayChange};
 ghost use Rattle.ptk_mutex.specs.Tables.{locks_of};
 
@@ -301,6 +301,16 @@ impl MutexSlot {
         match &self.state {
             Some(state) => state.soundness,
             None => Soundness::Consistent,
+        }
+    }
+
+    /// Whether its mutex is robust; false at a free place (pthread_mutexattr_setrobust).
+    pub(crate) fn is_robust(&self) -> bool
+        ensures { result ≡ is_robust_at self.now }
+    {
+        match &self.state {
+            Some(state) => state.is_robust,
+            None => false,
         }
     }
 

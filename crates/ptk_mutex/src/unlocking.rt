@@ -3,7 +3,7 @@
 ghost use Rattle.std.specs.Prelude.{◌≡◌, ◌<◌, length, slice_set};
 ghost use Rattle.ptk_words.specs.Pools.{pool_get};
 ghost use Rattle.ptk_words_parted.specs.Parts.{part_of};
-ghost use Rattle.ptk_words_model.specs.Mutex.{heir, soundness_of, count_of, after_hand_over, after_hand_over_to, after_refusal, after_refusal_to};
+ghost use Rattle.ptk_words_model.specs.Mutex.{heir, soundness_of, count_of, after_hand_over, after_hand_over_to, after_refusal, after_refusal_to, after_refusals, after_loss, after_last_unlock, after_unlock};
 ghost use Rattle.ptk_mutex.specs.Changes.{SlotMayChange, IsQuiet};
 ghost use Rattle.ptk_mutex.specs.Tables.{locks_at, with_threads, with_threads_alone, HasPart, MayGet, AreReady};
 ghost use Rattle.ptk_mutex.specs.Moves.{after_change};
@@ -17,6 +17,67 @@ use ptk_words::{Errno, MutexNo, PartId, Soundness, ThreadNo};
 use ptk_words_model::LockMove;
 
 impl Mutexes {
+    /// An owner unlocks its mutex once. The last unlock hands it over to the waiter of greatest effective priority, the
+    /// earliest among equals, who is woken; but a mutex that was not made consistent is lost, and every waiter is woken
+    /// without it (pthread_mutex_unlock, pthread_mutex_consistent).
+    #[tactic(auto, using(crate::proofs::Moved::moves))]
+    pub fn unlock(&mut self, line: &mut VecLine, threads: &mut Threads, p: PartId, m: MutexNo)
+        requires ready { AreReady p threads.old line.old self.old }
+        ensures threads { threads.new ≡ with_threads p (after_unlock m (locks_at p threads.old line.old self.old)) threads.old }
+        ensures line { line.new ≡ slice_set line.old p (after_unlock m (locks_at p threads.old line.old self.old)).line }
+        ensures mutexes { self.new ≡ slice_set self.old p (after_unlock m (locks_at p threads.old line.old self.old)).mutexes }
+        ensures ready { AreReady p threads.new line.new self.new }
+    {
+        if self.count(p, m) > 1 {
+            self.alter(line, threads, p, m, Change::CountDown);
+        } else {
+            self.unlock_last(line, threads, p, m);
+        }
+    }
+
+    /// The last unlock, by what the mutex guards.
+    #[tactic(auto, using(crate::proofs::Moved::moves))]
+    fn unlock_last(&mut self, line: &mut VecLine, threads: &mut Threads, p: PartId, m: MutexNo)
+        requires ready { AreReady p threads.old line.old self.old }
+        ensures threads { threads.new ≡ with_threads p (after_last_unlock (soundness_of (pool_get (part_of self.old p) m)) m (locks_at p threads.old line.old self.old)) threads.old }
+        ensures line { line.new ≡ slice_set line.old p (after_last_unlock (soundness_of (pool_get (part_of self.old p) m)) m (locks_at p threads.old line.old self.old)).line }
+        ensures mutexes { self.new ≡ slice_set self.old p (after_last_unlock (soundness_of (pool_get (part_of self.old p) m)) m (locks_at p threads.old line.old self.old)).mutexes }
+        ensures ready { AreReady p threads.new line.new self.new }
+    {
+        match self.soundness(p, m) {
+            Soundness::Consistent => self.hand_over(line, threads, p, m),
+            Soundness::Inconsistent | Soundness::Unrecoverable => self.lose(line, threads, p, m),
+        }
+    }
+
+    /// The mutex is free for good, and every waiter leaves without it.
+    fn lose(&mut self, line: &mut VecLine, threads: &mut Threads, p: PartId, m: MutexNo)
+        requires ready { AreReady p threads.old line.old self.old }
+        ensures threads { threads.new ≡ with_threads p (after_loss m (locks_at p threads.old line.old self.old)) threads.old }
+        ensures line { line.new ≡ slice_set line.old p (after_loss m (locks_at p threads.old line.old self.old)).line }
+        ensures mutexes { self.new ≡ slice_set self.old p (after_loss m (locks_at p threads.old line.old self.old)).mutexes }
+        ensures ready { AreReady p threads.new line.new self.new }
+    {
+        self.alter(line, threads, p, m, Change::Release);
+        let lost = Change::Mark(Soundness::Unrecoverable);
+        self.alter(line, threads, p, m, lost);
+        self.refuse_all(line, threads, p, m);
+    }
+
+    /// Every waiter leaves without the mutex, each choice in the state that the one before left.
+    fn refuse_all(&mut self, line: &mut VecLine, threads: &mut Threads, p: PartId, m: MutexNo)
+        requires ready { AreReady p threads.old line.old self.old }
+        ensures threads { threads.new ≡ with_threads p (after_refusals m (locks_at p threads.old line.old self.old)) threads.old }
+        ensures line { line.new ≡ slice_set line.old p (after_refusals m (locks_at p threads.old line.old self.old)).line }
+        ensures mutexes { self.new ≡ slice_set self.old p (after_refusals m (locks_at p threads.old line.old self.old)).mutexes }
+        ensures ready { AreReady p threads.new line.new self.new }
+    {
+        let count = self.waiters(p, m).len();
+        for i in 0..count {
+            self.refuse_next(line, threads, p, m);
+        }
+    }
+
     /// The mutex goes to the waiter of greatest effective priority, the earliest among equals; without one it is free.
     #[tactic(auto, using(crate::proofs::Moved::moves))]
     pub(crate) fn hand_over(

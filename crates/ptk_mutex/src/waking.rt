@@ -66,6 +66,7 @@ impl Mutexes {
         ensures threads { threads.new ≡ with_threads p (after_withdrawal t m reply (locks_at p threads.old line.old self.old)) threads.old }
         ensures line { line.new ≡ slice_set line.old p (after_withdrawal t m reply (locks_at p threads.old line.old self.old)).line }
         ensures mutexes { self.new ≡ slice_set self.old p (after_withdrawal t m reply (locks_at p threads.old line.old self.old)).mutexes }
+        ensures ready { AreReady p threads.new line.new self.new }
     {
         self.take_out(line, threads, p, t, m, reply);
         self.refresh(threads, p);
