@@ -1,5 +1,5 @@
 -- Whom a hand over chooses, and that every move leaves waiters that wait and counts within their limit.
-use Rattle.std.proofs.Common.{rules, ◌≡◌, ◌≢◌, ℕ, zero, suc, ◌+◌, ◌<◌, ◌≤◌, List, [], ◌∷◌, ◌++◌, length, map, get_or, max, refl, sym, ◌∙◌, ap, subst, arith, Bool, true, false, ◌⊎◌, inl, inr}
+use Rattle.std.proofs.Common.{◌≡◌, ◌≢◌, ℕ, zero, suc, ◌+◌, ◌<◌, ◌≤◌, List, [], ◌∷◌, ◌++◌, length, map, get_or, max, refl, sym, ◌∙◌, ap, subst, arith, Bool, true, false, ◌⊎◌, inl, inr}
 use Rattle.std.specs.Prelude.{Option, Some, None, IsSome, option_map, option_and_then, option_to_list, slice_get, fold, find, ◌==◌}
 use Rattle.std.specs.Option.{option_flatten}
 use Rattle.std.proofs.lemmas.Bool.{cases_eq, or_right}
@@ -7,12 +7,16 @@ use Rattle.std.proofs.lemmas.List.{get_or-map}
 use Rattle.ptk_words.specs.Pools.{pool_get, pool_set, pool_changed, numbers_to, numbers_of, greatest, first_of_greatest, is_in, without}
 use Rattle.ptk_words.specs.declared.TheConstants.{COUNT_LIMIT}
 use Rattle.ptk_words.specs.declared.threads.Thread.{Thread}
+use Rattle.ptk_words.specs.declared.threads.Wait.{Wait}
+use Rattle.ptk_words_model.specs.Priority.{mutex_of_wait}
+use Rattle.ptk_words_model.specs.Mutex.{after_wait, after_count}
+use Rattle.ptk_mutex.specs.Moves.{after_assignment}
 use Rattle.ptk_words_model.specs.declared.LockMove.{LockMove}
 use Rattle.ptk_words_model.specs.State.{Mutex, Locks}
 use Rattle.ptk_words_model.specs.Priority.{awaited, thread_at, effective_of, effective_priority, effective_priorities}
 use Rattle.ptk_words_model.specs.Schedule.{woken_with, at_tail_with}
 use Rattle.ptk_words_model.specs.Mutex.{mutex_at, with_mutex, waiters_of, count_of, heir, handed, kept_reply, move_reply, without_mutex_waiter, after_leave}
-use Rattle.ptk_words_well.proofs.Lines.{in_without, out_push, own_head, first_in}
+use Rattle.ptk_words_well.proofs.Lines.{in_push, in_without, out_push, own_head, first_in}
 use Rattle.ptk_threads.specs.Table.{stored_of}
 use Rattle.ptk_threads.proofs.Pools.{pool_get-changed, pool_get-changed_other}
 use Rattle.ptk_mutex.specs.Tables.{IsWaiter, AreLocked, MayGet}
@@ -32,7 +36,7 @@ waiter_number m (suc i) threads e = let rest : i < length threads = waiter_at m 
 
 some_of : (m : ℕ) (x : Option Thread) → awaited x ≡ Some m → IsSome x
 some_of m None e = let no : ⊥ = cc in absurd no
-some_of m (Some thread) e = search rules
+some_of m (Some thread) e = refl
 
 -- it is in use
 pub waiter_used : (m k : ℕ) (locks : Locks) → IsWaiter locks m k → IsSome (pool_get locks.threads k)
@@ -165,3 +169,108 @@ locked_left m t f locks waiter locked =
           };
       counts = λ n. before.counts n;
     }
+
+-- ---- a waiter more
+
+more_entry : (t k : ℕ) (x : Option Mutex) → is_in k (waiters_of (option_map (λ (mutex : Mutex). record mutex { waiters = mutex.waiters ++ t ∷ [] }) x)) ≡ true → (k ≡ t) ⊎ (is_in k (waiters_of x) ≡ true)
+more_entry t k None h = let no : ⊥ = cc in absurd no
+more_entry t k (Some x) h = in_push t k x.waiters h
+
+-- who waits for n once t waits for m
+more_in : (m n t k : ℕ) (mutexes : List (Option Mutex)) → (n ≡ m) ⊎ (n ≢ m) → is_in k (waiters_of (pool_get (pool_changed m (λ (mutex : Mutex). record mutex { waiters = mutex.waiters ++ t ∷ [] }) mutexes) n)) ≡ true
+    → ((n ≡ m) × (k ≡ t)) ⊎ (is_in k (waiters_of (pool_get mutexes n)) ≡ true)
+more_in m n t k mutexes (inl e) h =
+    let own : is_in k (waiters_of (pool_get (pool_changed m (λ (mutex : Mutex). record mutex { waiters = mutex.waiters ++ t ∷ [] }) mutexes) m)) ≡ true = subst (λ (j : ℕ). is_in k (waiters_of (pool_get (pool_changed m (λ (mutex : Mutex). record mutex { waiters = mutex.waiters ++ t ∷ [] }) mutexes) j)) ≡ true) e h in
+    elim (more_entry t k (pool_get mutexes m) (subst (λ (x : Option Mutex). is_in k (waiters_of x) ≡ true) (pool_get-changed m (λ (mutex : Mutex). record mutex { waiters = mutex.waiters ++ t ∷ [] }) mutexes) own)) [
+      | inl same ↦ inl (e, same)
+      | inr was ↦ inr (subst (λ (j : ℕ). is_in k (waiters_of (pool_get mutexes j)) ≡ true) (sym e) was)
+    ]
+more_in m n t k mutexes (inr ne) h = inr (subst (λ (x : Option Mutex). is_in k (waiters_of x) ≡ true) (pool_get-changed_other m n (λ (mutex : Mutex). record mutex { waiters = mutex.waiters ++ t ∷ [] }) mutexes ne) h)
+
+waiting_entry : (m : ℕ) (wait : Wait) (x : Option Thread) → mutex_of_wait (Some wait) ≡ Some m → IsSome x → awaited (option_map (λ (thread : Thread). record thread { wait = Some wait }) x) ≡ Some m
+waiting_entry m wait None e used = let no : ⊥ = cc in absurd no
+waiting_entry m wait (Some thread) e used = e
+
+more_count : (t : ℕ) (x : Option Mutex) → count_of (option_map (λ (mutex : Mutex). record mutex { waiters = mutex.waiters ++ t ∷ [] }) x) ≡ count_of x
+more_count t None = refl
+more_count t (Some x) = refl
+
+count_kept : (m n : ℕ) (f : Mutex → Mutex) (mutexes : List (Option Mutex)) → ((x : Option Mutex) → count_of (option_map f x) ≡ count_of x) → (n ≡ m) ⊎ (n ≢ m) → count_of (pool_get (pool_changed m f mutexes) n) ≡ count_of (pool_get mutexes n)
+count_kept m n f mutexes keeps (inl e) =
+    subst (λ (j : ℕ). count_of (pool_get (pool_changed m f mutexes) j) ≡ count_of (pool_get mutexes j)) (sym e) (ap count_of (pool_get-changed m f mutexes) ∙ keeps (pool_get mutexes m))
+count_kept m n f mutexes keeps (inr ne) = ap count_of (pool_get-changed_other m n f mutexes ne)
+
+other_than : (n t k : ℕ) (locks : Locks) → awaited (thread_at locks t) ≡ None → IsWaiter locks n k → k ≢ t
+other_than n t k locks awake was = λ same.
+    let named : awaited (thread_at locks t) ≡ Some n = subst (λ (j : ℕ). awaited (thread_at locks j) ≡ Some n) same was.waits in
+    cc
+
+-- a thread that waits for no mutex, in use and not in the line, becomes the last waiter
+pub locked_wait : (t m : ℕ) (wait : Wait) (locks : Locks) → mutex_of_wait (Some wait) ≡ Some m → awaited (thread_at locks t) ≡ None → IsSome (thread_at locks t) → is_in t locks.line ≡ false → AreLocked locks → AreLocked (after_wait t m wait locks)
+locked_wait t m wait locks names awake used out locked = record {
+  waiters = λ n k h.
+      elim (more_in m n t k locks.mutexes (cases_eq n m) h) as (λ _. IsWaiter (after_wait t m wait locks) n k) [
+        | inl (own, same) ↦ subst (λ (j : ℕ). IsWaiter (after_wait t m wait locks) n j) (sym same) (subst (λ (j : ℕ). IsWaiter (after_wait t m wait locks) j t) (sym own) (record {
+          waits = ap awaited (pool_get-changed t (λ (thread : Thread). record thread { wait = Some wait }) locks.threads) ∙ waiting_entry m wait (thread_at locks t) names used;
+          out = out;
+        }))
+        | inr old ↦ (let was = locked.waiters n k old in record {
+          waits = ap awaited (pool_get-changed_other t k (λ (thread : Thread). record thread { wait = Some wait }) locks.threads (other_than n t k locks awake was)) ∙ was.waits;
+          out = was.out;
+        })
+      ];
+  counts = λ n. let same = count_kept m n (λ (mutex : Mutex). record mutex { waiters = mutex.waiters ++ t ∷ [] }) locks.mutexes (more_count t) (cases_eq n m) in rw same (locked.counts n);
+}
+
+-- ---- a count more
+
+counted_waiters : (k : ℕ) (x : Option Mutex) → is_in k (waiters_of (option_map (λ (mutex : Mutex). record mutex { count = mutex.count + 1 }) x)) ≡ true → is_in k (waiters_of x) ≡ true
+counted_waiters k None h = h
+counted_waiters k (Some x) h = h
+
+counted_below : (x : Option Mutex) → count_of x < COUNT_LIMIT → count_of (option_map (λ (mutex : Mutex). record mutex { count = mutex.count + 1 }) x) ≤ COUNT_LIMIT
+counted_below None lt = omega arith
+counted_below (Some x) lt = omega (arith, lt)
+
+counted_in : (m n k : ℕ) (mutexes : List (Option Mutex)) → (n ≡ m) ⊎ (n ≢ m) → is_in k (waiters_of (pool_get (pool_changed m (λ (mutex : Mutex). record mutex { count = mutex.count + 1 }) mutexes) n)) ≡ true → is_in k (waiters_of (pool_get mutexes n)) ≡ true
+counted_in m n k mutexes (inl e) h =
+    let own : is_in k (waiters_of (pool_get (pool_changed m (λ (mutex : Mutex). record mutex { count = mutex.count + 1 }) mutexes) m)) ≡ true = subst (λ (j : ℕ). is_in k (waiters_of (pool_get (pool_changed m (λ (mutex : Mutex). record mutex { count = mutex.count + 1 }) mutexes) j)) ≡ true) e h in
+    let was : is_in k (waiters_of (pool_get mutexes m)) ≡ true = counted_waiters k (pool_get mutexes m) (subst (λ (x : Option Mutex). is_in k (waiters_of x) ≡ true) (pool_get-changed m (λ (mutex : Mutex). record mutex { count = mutex.count + 1 }) mutexes) own) in
+    subst (λ (j : ℕ). is_in k (waiters_of (pool_get mutexes j)) ≡ true) (sym e) was
+counted_in m n k mutexes (inr ne) h = subst (λ (x : Option Mutex). is_in k (waiters_of x) ≡ true) (pool_get-changed_other m n (λ (mutex : Mutex). record mutex { count = mutex.count + 1 }) mutexes ne) h
+
+counted_limit : (m n : ℕ) (mutexes : List (Option Mutex)) → (n ≡ m) ⊎ (n ≢ m) → count_of (pool_get mutexes m) < COUNT_LIMIT → count_of (pool_get mutexes n) ≤ COUNT_LIMIT → count_of (pool_get (pool_changed m (λ (mutex : Mutex). record mutex { count = mutex.count + 1 }) mutexes) n) ≤ COUNT_LIMIT
+counted_limit m n mutexes (inl e) lt le =
+    let own : count_of (pool_get (pool_changed m (λ (mutex : Mutex). record mutex { count = mutex.count + 1 }) mutexes) m) ≤ COUNT_LIMIT = subst (λ (x : Option Mutex). count_of x ≤ COUNT_LIMIT) (sym (pool_get-changed m (λ (mutex : Mutex). record mutex { count = mutex.count + 1 }) mutexes)) (counted_below (pool_get mutexes m) lt) in
+    subst (λ (j : ℕ). count_of (pool_get (pool_changed m (λ (mutex : Mutex). record mutex { count = mutex.count + 1 }) mutexes) j) ≤ COUNT_LIMIT) (sym e) own
+counted_limit m n mutexes (inr ne) lt le = subst (λ (x : Option Mutex). count_of x ≤ COUNT_LIMIT) (sym (pool_get-changed_other m n (λ (mutex : Mutex). record mutex { count = mutex.count + 1 }) mutexes ne)) le
+
+-- a count below the limit goes up
+pub locked_count : (m : ℕ) (locks : Locks) → count_of (mutex_at locks m) < COUNT_LIMIT → AreLocked locks → AreLocked (after_count m locks)
+locked_count m locks lt locked = record {
+  waiters = λ n k h.
+      let was = locked.waiters n k (counted_in m n k locks.mutexes (cases_eq n m) h) in
+      record { waits = was.waits; out = was.out };
+  counts = λ n. counted_limit m n locks.mutexes (cases_eq n m) lt (locked.counts n);
+}
+
+-- ---- a thread changed
+
+assigned_entry : (priority : ℕ) (x : Option Thread) → awaited (option_map (λ (thread : Thread). record thread { priority = priority }) x) ≡ awaited x
+assigned_entry priority None = refl
+assigned_entry priority (Some thread) = refl
+
+assigned_at : (t k priority : ℕ) (threads : List (Option Thread)) → (k ≡ t) ⊎ (k ≢ t) → awaited (pool_get (pool_changed t (λ (thread : Thread). record thread { priority = priority }) threads) k) ≡ awaited (pool_get threads k)
+assigned_at t k priority threads (inl e) =
+    subst (λ (j : ℕ). awaited (pool_get (pool_changed t (λ (thread : Thread). record thread { priority = priority }) threads) j) ≡ awaited (pool_get threads j)) (sym e)
+    (ap awaited (pool_get-changed t (λ (thread : Thread). record thread { priority = priority }) threads) ∙ assigned_entry priority (pool_get threads t))
+assigned_at t k priority threads (inr ne) = ap awaited (pool_get-changed_other t k (λ (thread : Thread). record thread { priority = priority }) threads ne)
+
+-- another assigned priority
+pub locked_assignment : (t priority : ℕ) (locks : Locks) → AreLocked locks → AreLocked (after_assignment t priority locks)
+locked_assignment t priority locks locked = record {
+  waiters = λ n k h.
+      let was = locked.waiters n k h in
+      record { waits = assigned_at t k priority locks.threads (cases_eq k t) ∙ was.waits; out = was.out };
+  counts = λ n. locked.counts n;
+}

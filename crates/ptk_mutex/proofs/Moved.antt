@@ -27,7 +27,7 @@ use Rattle.ptk_words_model.specs.Mutex.{heir, owns, after_mutex_end, after_beque
 use Rattle.ptk_mutex.specs.Slots.{is_robust_at}
 use Rattle.ptk_mutex.specs.Tables.{with_threads}
 use Rattle.ptk_threads.specs.Table.{stored_of}
-use Rattle.ptk_mutex.specs.Tables.{MayGet}
+use Rattle.ptk_mutex.specs.Tables.{MayGet, MayWait}
 use Rattle.ptk_mutex.proofs.Locked.{waiter_used, stored_heir, heir_may_get}
 use Rattle.ptk_mutex.specs.Tables.{locks_at, HasPart, IsWaiter, AreLocked, AreReady}
 
@@ -50,9 +50,9 @@ out_by locks t m true locked awake e = let named : awaited (thread_at locks t) �
 out_by locks t m false locked awake e = e
 
 -- a thread that waits for no mutex can begin to
-pub fresh : (p t m : ℕ) (table : ThreadTable) (lines : List (List ℕ)) (mutexes : List (List (Option Mutex))) → AreReady p table lines mutexes → awaited (thread_in table p t) ≡ None → SlotMayChange (Enqueue t) (pool_get (part_of mutexes p) m)
-fresh p t m table lines mutexes ready awake =
-    enqueue_room t (pool_get (part_of mutexes p) m) (out_by (locks_at p table lines mutexes) t m (is_in t (waiters_of (pool_get (part_of mutexes p) m))) ready.locked awake refl)
+pub fresh : (p t m : ℕ) (table : ThreadTable) (lines : List (List ℕ)) (mutexes : List (List (Option Mutex))) → AreReady p table lines mutexes → MayWait (locks_at p table lines mutexes) t → SlotMayChange (Enqueue t) (pool_get (part_of mutexes p) m)
+fresh p t m table lines mutexes ready may =
+    enqueue_room t (pool_get (part_of mutexes p) m) (out_by (locks_at p table lines mutexes) t m (is_in t (waiters_of (pool_get (part_of mutexes p) m))) ready.locked may.awake refl)
 
 pub has_part : (p : ℕ) (table : ThreadTable) (lines : List (List ℕ)) (mutexes : List (List (Option Mutex))) → AreReady p table lines mutexes → HasPart p table lines mutexes
 has_part p table lines mutexes ready = ready.part

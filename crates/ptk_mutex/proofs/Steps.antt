@@ -16,8 +16,23 @@ use Rattle.ptk_words_model.specs.declared.LockMove.{LockMove}
 use Rattle.ptk_words_model.specs.State.{Mutex, Locks}
 use Rattle.ptk_words_model.specs.Priority.{effective_priorities}
 use Rattle.ptk_words_model.specs.Mutex.{mutex_at, soundness_of, free_move, handed, heir, with_mutex, after_take, after_hand_over_to, after_hand_over, after_refusal_to, after_refusal}
-use Rattle.ptk_words_model.specs.declared.LockMove.TheVariants.{Refuses}
-use Rattle.ptk_words.specs.declared.faults.Errno.TheVariants.{ENOTRECOVERABLE}
+use Rattle.ptk_words_model.specs.declared.LockMove.TheVariants.{Takes, Recovers, Counts, Waits, Refuses}
+use Rattle.ptk_words.specs.declared.faults.Errno.{Errno}
+use Rattle.ptk_words.specs.declared.faults.Errno.TheVariants.{EAGAIN, EBUSY, EINVAL, ENOTRECOVERABLE}
+use Rattle.ptk_words.specs.declared.mutexes.MutexKind.{MutexKind}
+use Rattle.ptk_words.specs.declared.mutexes.MutexKind.TheVariants.{Normal, ErrorCheck, Recursive}
+use Rattle.ptk_words.specs.declared.mutexes.Soundness.{Soundness}
+use Rattle.ptk_words.specs.declared.mutexes.Soundness.TheVariants.{Consistent, Inconsistent, Unrecoverable}
+use Rattle.ptk_words.specs.declared.mutexes.Owner.{Owner}
+use Rattle.ptk_words.specs.declared.mutexes.Owner.TheVariants.{Free, Abandoned, OwnedBy}
+use Rattle.ptk_words.specs.declared.threads.Wait.{Wait}
+use Rattle.std.proofs.Common.{Bool, true, false}
+use Rattle.std.specs.Prelude.{nat_lt, ◌==◌, if◌then◌else◌}
+use Rattle.std.proofs.lemmas.Bool.{ltb-true}
+use Rattle.ptk_words_model.specs.Priority.{assigned_priority, mutex_of_wait}
+use Rattle.ptk_words_model.specs.Mutex.{count_of, own_lock_move, own_trylock_move, owner_move, is_above_ceiling, lock_move, trylock_move, after_move}
+use Rattle.ptk_mutex.specs.Tables.{MayWait}
+use Rattle.ptk_mutex.proofs.Locked.{locked_wait, locked_count}
 use Rattle.ptk_threads.specs.Table.{ThreadTable}
 use Rattle.ptk_threads.proofs.Pools.{part_of-set}
 use Rattle.ptk_mutex.specs.declared.slot.Change.{Change}
@@ -171,3 +186,70 @@ ended_more p t k m table table' new lines lines' after mutexes mutexes' others h
     let all : fold (end_of t) (locks_at p table lines mutexes) (numbers_to (suc k)) ≡ end_of t was m = fold-append (end_of t) (locks_at p table lines mutexes) (numbers_to k) (suc k ∷ []) ∙ ap (end_of t was) (sym number) in
     let one : k + 1 ≡ suc k = omega arith in
     rw one (record { ready = ready; moved = subst (λ (l : Locks). AreMoved p table lines mutexes new after others l) (sym all) moved })
+
+-- ---- a lock
+
+count_counts : (n : ℕ) (b : Bool) → nat_lt n COUNT_LIMIT ≡ b → (if b then Counts else Refuses EAGAIN) ≡ Counts → n < COUNT_LIMIT
+count_counts n true lt e = ltb-true n COUNT_LIMIT lt
+count_counts n false lt e = let no : ⊥ = cc in absurd no
+
+own_lock_counts : (kind : MutexKind) (n : ℕ) → own_lock_move kind n ≡ Counts → n < COUNT_LIMIT
+own_lock_counts Normal n e = let no : ⊥ = cc in absurd no
+own_lock_counts ErrorCheck n e = let no : ⊥ = cc in absurd no
+own_lock_counts Recursive n e = count_counts n (nat_lt n COUNT_LIMIT) refl e
+
+own_trylock_counts : (kind : MutexKind) (n : ℕ) → own_trylock_move kind n ≡ Counts → n < COUNT_LIMIT
+own_trylock_counts Normal n e = let no : ⊥ = cc in absurd no
+own_trylock_counts ErrorCheck n e = let no : ⊥ = cc in absurd no
+own_trylock_counts Recursive n e = count_counts n (nat_lt n COUNT_LIMIT) refl e
+
+free_counts : (soundness : Soundness) (n : ℕ) → free_move soundness ≡ Counts → n < COUNT_LIMIT
+free_counts Consistent n e = let no : ⊥ = cc in absurd no
+free_counts Inconsistent n e = let no : ⊥ = cc in absurd no
+free_counts Unrecoverable n e = let no : ⊥ = cc in absurd no
+
+either_counts : (b : Bool) (own another : LockMove) (n : ℕ) → (own ≡ Counts → n < COUNT_LIMIT) → (another ≡ Counts → n < COUNT_LIMIT) → (if b then own else another) ≡ Counts → n < COUNT_LIMIT
+either_counts true own another n first second e = first e
+either_counts false own another n first second e = second e
+
+owner_counts : (owner : Owner) (t n : ℕ) (free own another : LockMove) → (free ≡ Counts → n < COUNT_LIMIT) → (own ≡ Counts → n < COUNT_LIMIT) → (another ≡ Counts → n < COUNT_LIMIT)
+    → owner_move owner t (record { of_free = free; of_own = own; of_another = another }) ≡ Counts → n < COUNT_LIMIT
+owner_counts Free t n free own another first second third e = first e
+owner_counts Abandoned t n free own another first second third e = third e
+owner_counts (OwnedBy u) t n free own another first second third e = either_counts (u == t) own another n second third e
+
+refused_counts : (error : Errno) (n : ℕ) → Refuses error ≡ Counts → n < COUNT_LIMIT
+refused_counts error n e = let no : ⊥ = cc in absurd no
+
+waits_counts : (n : ℕ) → Waits ≡ Counts → n < COUNT_LIMIT
+waits_counts n e = let no : ⊥ = cc in absurd no
+
+-- a lock counts up only below the limit
+pub lock_counts : (locks : Locks) (t : ℕ) (x : Option Mutex) → lock_move locks t x ≡ Counts → count_of x < COUNT_LIMIT
+lock_counts locks t None e = refused_counts EINVAL 0 e
+lock_counts locks t (Some m) e =
+    either_counts (is_above_ceiling (assigned_priority locks t) m.protocol) (Refuses EINVAL) _ m.count (refused_counts EINVAL m.count)
+    (owner_counts m.owner t m.count (free_move m.soundness) (own_lock_move m.kind m.count) Waits (free_counts m.soundness m.count) (own_lock_counts m.kind m.count) (waits_counts m.count)) e
+
+-- a trylock counts up only below the limit
+pub trylock_counts : (locks : Locks) (t : ℕ) (x : Option Mutex) → trylock_move locks t x ≡ Counts → count_of x < COUNT_LIMIT
+trylock_counts locks t None e = refused_counts EINVAL 0 e
+trylock_counts locks t (Some m) e =
+    either_counts (is_above_ceiling (assigned_priority locks t) m.protocol) (Refuses EINVAL) _ m.count (refused_counts EINVAL m.count)
+    (owner_counts m.owner t m.count (free_move m.soundness) (own_trylock_move m.kind m.count) (Refuses EBUSY) (free_counts m.soundness m.count) (own_trylock_counts m.kind m.count) (refused_counts EBUSY m.count)) e
+
+-- a move of one that may wait
+pub locked_move : (made : LockMove) (t m : ℕ) (wait : Wait) (locks : Locks) → (made ≡ Counts → count_of (mutex_at locks m) < COUNT_LIMIT) → mutex_of_wait (Some wait) ≡ Some m → MayWait locks t → AreLocked locks → AreLocked (after_move made t m wait locks)
+locked_move Takes t m wait locks room names may locked = locked_change (Take t) m locks tt locked
+locked_move Recovers t m wait locks room names may locked = locked_change (Take t) m locks tt locked
+locked_move Counts t m wait locks room names may locked = locked_count m locks (room refl) locked
+locked_move Waits t m wait locks room names may locked = locked_wait t m wait locks names may.awake may.used may.out locked
+locked_move (Refuses e) t m wait locks room names may locked = locked
+
+-- and it leaves the line
+pub line_after_move : (made : LockMove) (t m : ℕ) (wait : Wait) (locks : Locks) → (after_move made t m wait locks).line ≡ locks.line
+line_after_move Takes t m wait locks = refl
+line_after_move Recovers t m wait locks = refl
+line_after_move Counts t m wait locks = refl
+line_after_move Waits t m wait locks = refl
+line_after_move (Refuses e) t m wait locks = refl

@@ -1,5 +1,5 @@
 -- The tables of all partitions, and of them one partition's threads, line and mutexes.
-use Rattle.std.specs.Prelude.{◌≡◌, ℕ, ◌<◌, ◌≤◌, true, false, List, [], length, Option, Some, None, slice_set, is_some, if◌then◌else◌}
+use Rattle.std.specs.Prelude.{IsSome, ◌≡◌, ℕ, ◌<◌, ◌≤◌, true, false, List, [], length, Option, Some, None, slice_set, is_some, if◌then◌else◌}
 use Rattle.ptk_words.specs.Pools.{pool_get, is_in}
 use Rattle.ptk_words.specs.Threads.{is_ended}
 use Rattle.ptk_words.specs.declared.TheConstants.{COUNT_LIMIT}
@@ -64,3 +64,9 @@ pub record AreReady (p : ℕ) (table : ThreadTable) (lines : List (List ℕ)) (m
 abbrev pub MayGet : Option ℕ → Locks → ℕ → Type 0
 MayGet None locks m = Unit {0}
 MayGet (Some t) locks m = IsWaiter locks m t
+
+-- a thread that may begin to wait for a mutex: it is in use, not in the line, and waits for no mutex (pthread_mutex_lock)
+pub record MayWait (locks : Locks) (t : ℕ) : Type 0 where
+  pub used : IsSome (thread_at locks t)
+  pub out : is_in t locks.line ≡ false
+  pub awake : awaited (thread_at locks t) ≡ None

@@ -10,7 +10,7 @@ ghost use Rattle.ptk_words_model.specs.Mutex.{lock_move, trylock_move, owns, own
 ghost use Rattle.ptk_threads.specs.Table.{thread_in};
 ghost use Rattle.ptk_mutex.specs.declared.slot.Change.TheVariants.{CountUp, Enqueue};
 ghost use Rattle.ptk_mutex.specs.Changes.{SlotMayChange};
-ghost use Rattle.ptk_mutex.specs.Tables.{locks_at, locks_of, with_threads, with_threads_alone, HasPart, AreReady};
+ghost use Rattle.ptk_mutex.specs.Tables.{locks_at, locks_of, with_threads, with_threads_alone, HasPart, MayWait, AreReady};
 ghost use Rattle.ptk_mutex.specs.Moves.{after_lock, after_trylock, after_assignment};
 
 use crate::mutexes::{Mutexes, slot_in};
@@ -33,10 +33,11 @@ impl Mutexes {
         m: MutexNo,
     ) -> LockMove
         requires ready { AreReady p threads.old line.now self.old }
-        requires awake { awaited (thread_in threads.old p t) ≡ None }
+        requires caller { MayWait (locks_at p threads.old line.now self.old) t }
         ensures told { result ≡ lock_move (locks_at p threads.old line.now self.old) t (pool_get (part_of self.old p) m) }
         ensures threads { threads.new ≡ with_threads p (after_lock t m (locks_at p threads.old line.now self.old)) threads.old }
         ensures mutexes { self.new ≡ slice_set self.old p (after_lock t m (locks_at p threads.old line.now self.old)).mutexes }
+        ensures ready { AreReady p threads.new line.now self.new }
     {
         let made = lock_move(threads.part(p), self.part(p), t, m);
         self.make(line, threads, p, t, m, Wait::MutexWait(m, None), made);
@@ -55,10 +56,11 @@ impl Mutexes {
         m: MutexNo,
     ) -> LockMove
         requires ready { AreReady p threads.old line.now self.old }
-        requires awake { awaited (thread_in threads.old p t) ≡ None }
+        requires caller { MayWait (locks_at p threads.old line.now self.old) t }
         ensures told { result ≡ trylock_move (locks_at p threads.old line.now self.old) t (pool_get (part_of self.old p) m) }
         ensures threads { threads.new ≡ with_threads p (after_trylock t m (locks_at p threads.old line.now self.old)) threads.old }
         ensures mutexes { self.new ≡ slice_set self.old p (after_trylock t m (locks_at p threads.old line.now self.old)).mutexes }
+        ensures ready { AreReady p threads.new line.now self.new }
     {
         let made = trylock_move(threads.part(p), self.part(p), t, m);
         self.make(line, threads, p, t, m, Wait::MutexWait(m, None), made);
@@ -108,7 +110,8 @@ impl Mutexes {
         priority: Priority,
     )
         requires ready { AreReady p threads.old line.now self.now }
-        ensures { threads.new ≡ with_threads p (after_assignment t priority (locks_at p threads.old line.now self.now)) threads.old }
+        ensures threads { threads.new ≡ with_threads p (after_assignment t priority (locks_at p threads.old line.now self.now)) threads.old }
+        ensures ready { AreReady p threads.new line.now self.now }
     {
         threads.set_assigned_priority(p, t, priority);
         self.refresh(threads, p);

@@ -1,7 +1,7 @@
 //! The life of numbers, by the calls that may want memory.
 
 use crate::mutexes::Mutexes;
-use ptk_words::{MutexKind, MutexNo, PartId, Priority, Protocol};
+use ptk_words::{MutexKind, MutexNo, PartId, Protocol};
 use std::test::Fail;
 
 #[test]
@@ -11,7 +11,6 @@ fn the_least_number_is_used_again(rt: HostRuntime) -> Result<(), Fail> {
     let second = PartId::new(1);
     let one = MutexNo::new(1);
     let two = MutexNo::new(2);
-    let ceiling = Protocol::Protect(Priority::new(20));
     let mut mutexes = Mutexes::build(rt.alloc(), &[2, 1])?;
     assert_eq!(rt; mutexes.parts(), 2);
     assert_eq!(rt;
@@ -19,10 +18,13 @@ fn the_least_number_is_used_again(rt: HostRuntime) -> Result<(), Fail> {
         Some(one)
     );
     assert_eq!(rt;
-        mutexes.init(first, MutexKind::Recursive, ceiling, true),
+        mutexes.init(first, MutexKind::Recursive, Protocol::Inherit, true),
         Some(two)
     );
-    assert_eq!(rt; mutexes.init(first, MutexKind::Normal, ceiling, true), None);
+    assert_eq!(rt;
+        mutexes.init(first, MutexKind::Normal, Protocol::Inherit, true),
+        None
+    );
     assert_eq!(rt;
         mutexes.init(second, MutexKind::ErrorCheck, Protocol::NoProtocol, false),
         Some(one)

@@ -10,7 +10,7 @@ ghost use Rattle.ptk_words_model.specs.Mutex.{relock_move, after_relock, after_r
 ghost use Rattle.ptk_threads.specs.Table.{thread_in, with_changed};
 ghost use Rattle.ptk_mutex.specs.declared.slot.Change.TheVariants.{CountUp, Enqueue};
 ghost use Rattle.ptk_mutex.specs.Changes.{SlotMayChange};
-ghost use Rattle.ptk_mutex.specs.Tables.{locks_at, with_threads, with_threads_alone, HasPart, IsWaiter, AreReady};
+ghost use Rattle.ptk_mutex.specs.Tables.{locks_at, with_threads, with_threads_alone, HasPart, IsWaiter, MayWait, AreReady};
 ghost use Rattle.ptk_mutex.specs.Moves.{after_withdrawal};
 
 use crate::moves::{kept_reply, reply_of};
@@ -36,9 +36,7 @@ impl Mutexes {
         reply: Option<u32>,
     ) -> LockMove
         requires ready { AreReady p threads.old line.old self.old }
-        requires awake { awaited (thread_in threads.old p t) ≡ None }
-        requires in_use { IsSome (thread_in threads.old p t) }
-        requires out { is_in t (part_of line.old p) ≡ false }
+        requires caller { MayWait (locks_at p threads.old line.old self.old) t }
         ensures told { result ≡ relock_move t (pool_get (part_of self.old p) m) }
         ensures threads { threads.new ≡ with_threads p (after_relock t m reply (locks_at p threads.old line.old self.old)) threads.old }
         ensures line { line.new ≡ slice_set line.old p (after_relock t m reply (locks_at p threads.old line.old self.old)).line }
