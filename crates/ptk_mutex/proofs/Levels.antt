@@ -1,23 +1,20 @@
 -- What a chain that is raised holds, and what is left once each number raised its chain.
-use Rattle.std.proofs.Common.{◌≡◌, ◌≢◌, ℕ, zero, suc, ◌+◌, ◌-◌, ◌<◌, ◌≤◌, List, [], ◌∷◌, ◌++◌, length, map, get_or, max, Bool, true, false, refl, sym, ◌∙◌, ap, arith, ◌⊎◌, inl, inr, add-one}
+use Rattle.std.proofs.Common.{◌≡◌, ◌≢◌, ℕ, zero, suc, ◌+◌, ◌-◌, ◌<◌, List, [], ◌∷◌, ◌++◌, length, map, get_or, max, Bool, true, false, refl, sym, ◌∙◌, ap, arith, ◌⊎◌, inl, inr, add-one}
 use Rattle.std.specs.Prelude.{◌==◌, ◌||◌, if◌then◌else◌, Option, Some, None, option_map, unwrap_or, filter, fold, replicate}
 use Rattle.std.proofs.Math.ListN.{set}
-use Rattle.std.proofs.lemmas.Bool.{cases_eq, eq-eqb}
+use Rattle.std.proofs.lemmas.Bool.{cases_eq}
 use Rattle.std.proofs.lemmas.Bool.Decides.{nat_tests}
 use Rattle.std.proofs.lemmas.Grind.{common_steps, elements}
 use Rattle.std.proofs.lemmas.List.{length-set, get_or-set_same, get_or-set_other, length-map, get_or-map, get_or_append_left, get_or-append_right, length-append}
 use Rattle.std.proofs.lemmas.List.Elements.{filter-append}
 use Rattle.std.proofs.lemmas.List.Sums.{fold-append}
-use Rattle.ptk_words.specs.Pools.{greatest, numbers_to, numbers_of}
+use Rattle.ptk_words.specs.Pools.{greatest, numbers_to}
 use Rattle.ptk_words_model.specs.Chain.{leads_to, greatest_leading}
 use Rattle.std.specs.Prelude.{slice_set, slice_index, option_and_then}
 use Rattle.std.proofs.lemmas.List.{set_past}
 use Rattle.ptk_words.specs.declared.threads.Thread.{Thread}
-use Rattle.ptk_words.specs.declared.threads.Phase.{Phase}
-use Rattle.ptk_words.specs.declared.threads.Phase.TheVariants.{Normal, Unwinding, Ended}
 use Rattle.ptk_words_model.specs.Priority.{mutex_of_wait, awaited}
 use Rattle.ptk_mutex.specs.Raised.{raised, raised_along}
-use Rattle.ptk_mutex.specs.Tables.{effective_at}
 
 -- ---- what a slot tells
 

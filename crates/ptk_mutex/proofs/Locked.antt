@@ -1,21 +1,20 @@
 -- Whom a hand over chooses, and that every move leaves waiters that wait and counts within their limit.
-use Rattle.std.proofs.Common.{◌≡◌, ◌≢◌, ℕ, zero, suc, ◌+◌, ◌<◌, ◌≤◌, List, [], ◌∷◌, ◌++◌, length, map, get_or, max, refl, sym, ◌∙◌, ap, subst, arith, Bool, true, false, ◌⊎◌, inl, inr}
-use Rattle.std.specs.Prelude.{Option, Some, None, IsSome, option_map, option_and_then, option_to_list, slice_get, fold, find, ◌==◌}
+use Rattle.std.proofs.Common.{◌≡◌, ◌≢◌, ℕ, zero, suc, ◌+◌, ◌<◌, ◌≤◌, List, [], ◌∷◌, ◌++◌, length, map, get_or, max, refl, sym, ◌∙◌, ap, subst, arith, true, false, ◌⊎◌, inl, inr}
+use Rattle.std.specs.Prelude.{Option, Some, None, IsSome, option_map, slice_get, fold, find, ◌==◌}
 use Rattle.std.specs.Option.{option_flatten}
 use Rattle.std.proofs.lemmas.Bool.{cases_eq, or_right}
 use Rattle.std.proofs.lemmas.List.{get_or-map}
-use Rattle.ptk_words.specs.Pools.{pool_get, pool_set, pool_changed, numbers_to, numbers_of, greatest, first_of_greatest, is_in, without}
+use Rattle.ptk_words.specs.Pools.{pool_get, pool_changed, numbers_to, greatest, first_of_greatest, is_in, without}
 use Rattle.ptk_words.specs.declared.TheConstants.{COUNT_LIMIT}
 use Rattle.ptk_words.specs.declared.threads.Thread.{Thread}
 use Rattle.ptk_words.specs.declared.threads.Wait.{Wait}
 use Rattle.ptk_words_model.specs.Priority.{mutex_of_wait}
 use Rattle.ptk_words_model.specs.Mutex.{after_wait, after_count}
 use Rattle.ptk_mutex.specs.Moves.{after_assignment}
-use Rattle.ptk_words_model.specs.declared.LockMove.{LockMove}
 use Rattle.ptk_words_model.specs.State.{Mutex, Locks}
 use Rattle.ptk_words_model.specs.Priority.{awaited, thread_at, effective_of, effective_priority, effective_priorities}
-use Rattle.ptk_words_model.specs.Schedule.{woken_with, at_tail_with}
-use Rattle.ptk_words_model.specs.Mutex.{mutex_at, with_mutex, waiters_of, count_of, heir, handed, kept_reply, move_reply, without_mutex_waiter, after_leave}
+use Rattle.ptk_words_model.specs.Schedule.{at_tail_with}
+use Rattle.ptk_words_model.specs.Mutex.{mutex_at, with_mutex, waiters_of, count_of, heir, without_mutex_waiter}
 use Rattle.ptk_words_well.proofs.Lines.{in_push, in_without, out_push, own_head, first_in}
 use Rattle.ptk_threads.specs.Table.{stored_of}
 use Rattle.ptk_threads.proofs.Pools.{pool_get-changed, pool_get-changed_other}

@@ -29,7 +29,7 @@ use Rattle.ptk_mutex.specs.Tables.{with_threads}
 use Rattle.ptk_threads.specs.Table.{stored_of}
 use Rattle.ptk_mutex.specs.Tables.{MayGet, MayWait}
 use Rattle.ptk_mutex.proofs.Locked.{waiter_used, stored_heir, heir_may_get}
-use Rattle.ptk_mutex.specs.Tables.{locks_at, HasPart, IsWaiter, AreLocked, AreReady}
+use Rattle.ptk_mutex.specs.Tables.{locks_at, HasPart, AreLocked, AreReady}
 
 -- ---- room
 

@@ -9,7 +9,7 @@ use Rattle.ptk_words_model.specs.Mutex.{waiters_of}
 use Rattle.ptk_words_parted.specs.Parts.{part_of, filled}
 use Rattle.ptk_words_parted.specs.Cuts.{lent}
 use Rattle.ptk_words_parted.proofs.Cuts.{lent-same}
-use Rattle.ptk_words.specs.Pools.{pool_get, pool_set, pool_changed, least_free}
+use Rattle.ptk_words.specs.Pools.{pool_get, least_free}
 use Rattle.ptk_threads.proofs.Slots.{pool_get_below, pool_set_below, length-pool_set, length-pool_changed, changed_at, changed_past}
 use Rattle.std.proofs.Common.{get_or, add-one, false, true, Bool}
 use Rattle.std.specs.Prelude.{slice_get, position}

@@ -4,18 +4,17 @@ use Rattle.std.specs.Prelude.{fold, suc}
 use Rattle.std.proofs.lemmas.List.Sums.{fold-append}
 use Rattle.ptk_words.specs.Pools.{numbers_to}
 use Rattle.ptk_words_model.specs.Mutex.{after_mutex_end}
-use Rattle.std.proofs.Common.{◌≡◌, ℕ, ◌+◌, ◌<◌, ◌≤◌, List, [], ◌∷◌, ◌++◌, length, refl, sym, ◌∙◌, ap, subst, arith}
+use Rattle.std.proofs.Common.{◌≡◌, ℕ, ◌+◌, ◌<◌, List, [], ◌∷◌, length, refl, sym, ◌∙◌, ap, subst, arith}
 use Rattle.std.specs.Prelude.{Option, Some, None}
 use Rattle.std.proofs.Math.ListN.{set}
-use Rattle.std.proofs.lemmas.List.{length-set, set-set, set-get_or}
+use Rattle.std.proofs.lemmas.List.{length-set, set-set}
 use Rattle.ptk_words.specs.declared.TheConstants.{COUNT_LIMIT}
-use Rattle.ptk_words.specs.declared.threads.Thread.{Thread}
 use Rattle.ptk_words_parted.specs.Parts.{part_of}
 use Rattle.ptk_words_parted.proofs.Cuts.{set_part-same}
 use Rattle.ptk_words_model.specs.declared.LockMove.{LockMove}
 use Rattle.ptk_words_model.specs.State.{Mutex, Locks}
 use Rattle.ptk_words_model.specs.Priority.{effective_priorities}
-use Rattle.ptk_words_model.specs.Mutex.{mutex_at, soundness_of, free_move, handed, heir, with_mutex, after_take, after_hand_over_to, after_hand_over, after_refusal_to, after_refusal}
+use Rattle.ptk_words_model.specs.Mutex.{mutex_at, soundness_of, free_move, handed, heir, after_take, after_hand_over_to, after_hand_over, after_refusal_to, after_refusal}
 use Rattle.ptk_words_model.specs.declared.LockMove.TheVariants.{Takes, Recovers, Counts, Waits, Refuses}
 use Rattle.ptk_words.specs.declared.faults.Errno.{Errno}
 use Rattle.ptk_words.specs.declared.faults.Errno.TheVariants.{EAGAIN, EBUSY, EINVAL, ENOTRECOVERABLE}
@@ -38,7 +37,7 @@ use Rattle.ptk_threads.proofs.Pools.{part_of-set}
 use Rattle.ptk_mutex.specs.declared.slot.Change.{Change}
 use Rattle.ptk_mutex.specs.declared.slot.Change.TheVariants.{Take, CountUp, CountDown, Release, Abandon, Mark, Enqueue, Dequeue}
 use Rattle.ptk_mutex.specs.Changes.{mutex_changed, IsQuiet}
-use Rattle.ptk_mutex.specs.Tables.{locks_at, with_threads, HasPart, IsWaiter, AreLocked, AreReady, MayGet}
+use Rattle.ptk_mutex.specs.Tables.{locks_at, with_threads, HasPart, AreLocked, AreReady, MayGet}
 use Rattle.ptk_mutex.specs.Moves.{after_change}
 use Rattle.ptk_mutex.proofs.Locked.{IsMild, locked_mild, locked_left, heir_may_get}
 

@@ -1,8 +1,7 @@
 -- The moves of the mutex calls, each on one partition's locks.
-use Rattle.std.specs.Prelude.{ℕ, [], ◌∷◌, Option, Some, None, option_to_list}
+use Rattle.std.specs.Prelude.{Option, None, option_to_list}
 use Rattle.ptk_words.specs.Names.{MutexNumber, Priority, ThreadNumber, Word}
 use Rattle.ptk_words.specs.declared.threads.Wait.TheVariants.{MutexWait}
-use Rattle.ptk_words_model.specs.declared.LockMove.{LockMove}
 use Rattle.ptk_words_model.specs.State.{Locks}
 use Rattle.ptk_words_model.specs.Schedule.{with_thread, after_wake}
 use Rattle.ptk_words_model.specs.Mutex.{mutex_at, with_mutex, lock_move, trylock_move, after_move, without_mutex_waiter}

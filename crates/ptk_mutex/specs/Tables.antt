@@ -1,6 +1,6 @@
 -- The tables of all partitions, and of them one partition's threads, line and mutexes.
-use Rattle.std.specs.Prelude.{IsSome, ◌≡◌, ℕ, ◌<◌, ◌≤◌, true, false, List, [], length, Option, Some, None, slice_set, is_some, if◌then◌else◌}
-use Rattle.ptk_words.specs.Pools.{pool_get, is_in}
+use Rattle.std.specs.Prelude.{IsSome, ◌≡◌, ℕ, ◌<◌, ◌≤◌, true, false, List, [], length, Option, Some, None, slice_set, if◌then◌else◌}
+use Rattle.ptk_words.specs.Pools.{is_in}
 use Rattle.ptk_words.specs.Threads.{is_ended}
 use Rattle.ptk_words.specs.declared.TheConstants.{COUNT_LIMIT}
 use Rattle.ptk_words.specs.declared.threads.Thread.{Thread}
@@ -8,7 +8,7 @@ use Rattle.ptk_words_parted.specs.Parts.{part_of}
 use Rattle.ptk_words_model.specs.State.{Mutex, Locks}
 use Rattle.ptk_words_model.specs.Priority.{thread_at, awaited, effective_priorities}
 use Rattle.ptk_words_model.specs.Mutex.{mutex_at, waiters_of, count_of}
-use Rattle.ptk_threads.specs.Table.{ThreadTable, thread_in, stored_of}
+use Rattle.ptk_threads.specs.Table.{ThreadTable}
 
 -- what the mutex calls read and change of a partition (own)
 abbrev pub locks_at : ℕ → ThreadTable → List (List ℕ) → List (List (Option Mutex)) → Locks

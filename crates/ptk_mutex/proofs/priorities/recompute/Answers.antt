@@ -1,4 +1,4 @@
-use Rattle.std.proofs.Common.{◌≡◌, ◌≤◌, length, subst, arith, ℕ}
+use Rattle.std.proofs.Common.{◌≡◌, length, subst, arith, ℕ}
 use Rattle.ptk_words_model.specs.Priority.{next_of, held_of}
 use Rattle.ptk_mutex.proofs.Levels.{IsSwept, swept_more, swept_all}
 use Rattle.ptk_mutex.proofs.priorities.recompute.Goals as goal

@@ -1,4 +1,3 @@
-use Rattle.std.proofs.Common.{◌≡◌, ◌+◌, arith}
 use Rattle.ptk_mutex.proofs.Steps.{ended_more}
 use Rattle.ptk_mutex.proofs.mutexes.Mutexes.abandon.Goals as goal
 

@@ -1,7 +1,5 @@
 use Rattle.std.proofs.Common.{◌≡◌, arith, sym}
-use Rattle.std.specs.Prelude.{slice_set}
 use Rattle.ptk_words_model.specs.State.{Locks}
-use Rattle.ptk_words_parted.specs.Parts.{part_of}
 use Rattle.ptk_words_parted.proofs.Cuts.{set_part-same}
 use Rattle.ptk_mutex.specs.Tables.{locks_at, with_threads}
 use Rattle.ptk_mutex.specs.Moves.{after_change}

@@ -2,7 +2,7 @@ use Rattle.std.proofs.Common.{sym}
 use Rattle.ptk_words.specs.declared.mutexes.Soundness.TheVariants.{Inconsistent}
 use Rattle.ptk_words_parted.proofs.Cuts.{set_part-same}
 use Rattle.ptk_words_model.specs.State.{Locks}
-use Rattle.ptk_words_model.specs.Mutex.{after_hand_over, after_bequest, with_soundness}
+use Rattle.ptk_words_model.specs.Mutex.{after_hand_over, with_soundness}
 use Rattle.ptk_mutex.specs.Tables.{locks_at}
 use Rattle.ptk_mutex.proofs.Steps.{AreMoved, moved_more}
 use Rattle.ptk_mutex.proofs.mutexes.Mutexes.bequeath.Goals as goal

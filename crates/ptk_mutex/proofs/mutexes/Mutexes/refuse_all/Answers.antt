@@ -1,7 +1,5 @@
 use Rattle.std.proofs.Common.{◌≡◌, ◌+◌, ◌-◌, length, suc, arith}
-use Rattle.ptk_mutex.proofs.Steps.{AreMoved, refused_none, refused_more, refused_all}
-use Rattle.ptk_words_model.specs.Mutex.{after_refusals}
-use Rattle.ptk_mutex.specs.Tables.{locks_at}
+use Rattle.ptk_mutex.proofs.Steps.{refused_more}
 use Rattle.ptk_mutex.proofs.mutexes.Mutexes.refuse_all.Goals as goal
 
 pub loop-i-preserved : goal.loop-i-preserved
