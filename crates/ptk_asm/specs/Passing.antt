@@ -23,32 +23,32 @@ use Rattle.ptk_asm_laws.specs.Whole.{IsWhole}
 
 -- ---- the code's data as the definition's
 
--- the place of a label in the code's map (own)
+-- the place of a label in the code's map
 abbrev pub place_named : {S : Type 0} → HashMap (Bor (List ℕ)) Place S → List ℕ → Option Place
 place_named labels q = get_by (λ k. bytes_eq q k.now) labels
 
--- the name of an optional label (own)
+-- the name of an optional label
 abbrev pub label_name : Option code_label.Label → Option (List ℕ)
 label_name label = option_map (λ (l : code_label.Label). l.name.now) label
 
--- a statement of the code (own)
+-- a statement of the code
 abbrev pub shown_statement : code_statement.Statement → Statement
 shown_statement s = record { form = s.form; operands = shown s.operands }
 
--- a statement of the code where it stands (own)
+-- a statement of the code where it stands
 abbrev pub shown_placed : code_placed.Placed → Placed
 shown_placed p = record { span = p.span; place = p.place; statement = shown_statement p.statement }
 
 -- ---- the state of the first pass
 
--- the section, the lengths, the labels and the statements so far (own)
+-- the section, the lengths, the labels and the statements so far
 pub record State : Type 0 where
   pub section : Section
   pub lengths : Lengths
   pub labels : List (List ℕ × Place)
   pub placed : List Placed
 
--- the state behind these lines, the latest first (own)
+-- the state behind these lines, the latest first
 abbrev pub state_after : List (List ℕ) → State
 state_after before = record {
   section = section_after before;
@@ -57,15 +57,15 @@ state_after before = record {
   placed = placed_after before;
 }
 
--- where the next statement stands (own)
+-- where the next statement stands
 abbrev pub place_of : State → Place
 place_of m = place_in m.lengths m.section
 
--- the state with a label at its place (own)
+-- the state with a label at its place
 abbrev pub labelled : State → Option (List ℕ) → State
 labelled m label = record m { labels = with_label label (place_of m) m.labels }
 
--- the state with a statement at its place (own)
+-- the state with a statement at its place
 abbrev pub with_statement : State → Span → Statement → State
 with_statement m span s = record {
   section = turned_by m.section s.form;
@@ -74,20 +74,20 @@ with_statement m span s = record {
   placed = m.placed ++ (record { span = span; place = place_of m; statement = s } ∷ []);
 }
 
--- the state with an optional statement at its place (own)
+-- the state with an optional statement at its place
 abbrev pub stepped : State → Span → Option Statement → State
 stepped m span None = m
 stepped m span (Some s) = with_statement m span s
 
--- the state behind a line with these tokens (own)
+-- the state behind a line with these tokens
 abbrev pub behind : State → Span → List Token → State
 behind m span ts = stepped (labelled m (label_in ts)) span (stated (statement_in ts))
 
--- the first fault of a line with these tokens (own)
+-- the first fault of a line with these tokens
 abbrev pub fault_at : State → Option (List Token) → Option FaultKind
 fault_at m ts = tokens_fault m.labels (place_of m) ts
 
--- the code's layout is this state (own)
+-- the code's layout is this state
 pub record Shows (l : code.Layout) (m : State) : Type 0 where
   pub section : l.section ≡ m.section
   pub lengths : l.lengths ≡ m.lengths
@@ -95,14 +95,14 @@ pub record Shows (l : code.Layout) (m : State) : Type 0 where
   pub labels : (q : List ℕ) → place_named l.labels q ≡ named m.labels q
   pub placed : map shown_placed l.placed.items ≡ m.placed
 
--- the code's layout is that of these lines, which hold no fault (own)
+-- the code's layout is that of these lines, which hold no fault
 pub record Reaches (l : code.Layout) (before : List (List ℕ)) : Type 0 where
   pub shows : Shows l (state_after before)
   pub whole : IsWhole before
 
 -- ---- faults
 
--- the code's fault tells this one (own)
+-- the code's fault tells this one
 pub record Tells (e : AsmFault) (f : Fault) : Type 0 where
   pub kind : e.kind ≡ f.kind
   pub line : e.line ≡ f.span.line
@@ -110,40 +110,40 @@ pub record Tells (e : AsmFault) (f : Fault) : Type 0 where
   pub ordered : e.from ≤ e.to
   pub before_end : e.to ≤ f.span.end
 
--- want of memory, or the first fault (own)
+-- want of memory, or the first fault
 abbrev pub IsFirst : {A : Type 0} → FaultKind → AsmFault → Result A Fault → Type 0
 IsFirst fault.Memory e found = Unit {0}
 IsFirst k e found = (f : Fault) × (Tells e f × (found ≡ Err f))
 
 -- ---- the loop over the lines
 
--- these lines stand before the rest of the source, and hold no fault (own)
+-- these lines stand before the rest of the source, and hold no fault
 pub record IsBehind (text rest : List ℕ) (number : ℕ) (before : List (List ℕ)) : Type 0 where
   pub count : length before ≡ number
   pub lengths : sum_by length before + length rest ≡ length text
   pub same : first_pass before (raw_lines rest) ≡ first_pass [] (raw_lines text)
 
--- the layout is that of all lines of this text, which hold no fault (own)
+-- the layout is that of all lines of this text, which hold no fault
 abbrev pub IsLaidOut : List ℕ → code.Layout → Type 0
 IsLaidOut text l = (before : List (List ℕ)) × (Reaches l before × (first_pass [] (raw_lines text) ≡ Ok (layout_of before)))
 
--- want of memory, or the first fault of the lines of this text (own)
+-- want of memory, or the first fault of the lines of this text
 abbrev pub IsFirstFault : List ℕ → AsmFault → Type 0
 IsFirstFault text e = IsFirst e.kind e (first_pass [] (raw_lines text))
 
 -- ---- the second pass
 
--- the code's layout has these labels and lengths (own)
+-- the code's layout has these labels and lengths
 pub record Names (l : code.Layout) (known : Layout) : Type 0 where
   pub lengths : l.lengths ≡ known.lengths
   pub labels : (q : List ℕ) → place_named l.labels q ≡ named known.labels q
 
--- want of memory, or the first fault (own)
+-- want of memory, or the first fault
 abbrev pub IsSecond : FaultKind → AsmFault → Option Fault → Type 0
 IsSecond fault.Memory e found = Unit {0}
 IsSecond k e found = (f : Fault) × (Tells e f × (found ≡ Some f))
 
--- want of memory, or the fault found in this line (own)
+-- want of memory, or the fault found in this line
 abbrev pub IsAt : FaultKind → AsmFault → Span → Option FaultKind → Type 0
 IsAt fault.Memory e span found = Unit {0}
 IsAt k e span found = (found ≡ Some k) × Tells e (record { span = span; kind = k })

@@ -9,7 +9,7 @@ use Rattle.ptk_asm_model.specs.Statements.{instructions_of, bytes_of, field}
 use Rattle.ptk_asm_emission.specs.declared.instructions.Instructions as code
 use Rattle.ptk_asm_emission.specs.declared.instructions.Instructions.TheVariants as few
 
--- the instructions of the code as a list (own)
+-- the instructions of the code as a list
 abbrev pub listed : code.Instructions → List Instr
 listed few.None = []
 listed (few.One a) = a ∷ []
@@ -24,14 +24,14 @@ abbrev pub words_in : List ℕ → List ℕ
 words_in (a ∷ b ∷ c ∷ d ∷ rest) = from_le_bytes w32 (a ∷ b ∷ c ∷ d ∷ []) ∷ words_in rest
 words_in bytes = []
 
--- the form is a directive that writes bytes (own)
+-- the form is a directive that writes bytes
 abbrev pub writes_data : Form → Bool
 writes_data form.Word = true
 writes_data form.Byte = true
 writes_data form.Space = true
 writes_data f = false
 
--- the bytes that a directive writes for a number, none for another form (own)
+-- the bytes that a directive writes for a number, none for another form
 abbrev pub data_bytes : Form → ℤ → List ℕ
 data_bytes form.Word n = to_le_bytes w32 (field 32 n)
 data_bytes form.Byte n = field 8 n ∷ []

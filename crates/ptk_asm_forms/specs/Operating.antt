@@ -7,16 +7,16 @@ use Rattle.ptk_asm_model.specs.declared.fault.FaultKind.{FaultKind}
 use Rattle.ptk_asm_model.specs.declared.fault.FaultKind.TheVariants as fault
 use Rattle.ptk_asm_model.specs.Statements.{Operands, Value, Nothing, Given, Labelled}
 
--- the number or label of the code as the definition's (own)
+-- the number or label of the code as the definition's
 abbrev pub shown_value : code_value.Value → Value
 shown_value value.Nothing = Nothing
 shown_value (value.Given n) = Given n
 shown_value (value.Labelled name) = Labelled name.now
 
--- the operands of the code as the definition's (own)
+-- the operands of the code as the definition's
 abbrev pub shown : code.Operands → Operands
 shown o = record { registers = o.registers.items; value = shown_value o.value }
 
--- the number where it passes a test, or a number out of range (own)
+-- the number where it passes a test, or a number out of range
 abbrev pub number_if : Bool → ℤ → Result ℤ FaultKind
 number_if fits n = if fits then Ok n else Err fault.Range

@@ -7,11 +7,11 @@ use Rattle.ptk_asm_model.specs.declared.fault.FaultKind.{FaultKind}
 use Rattle.ptk_asm_model.specs.declared.fault.FaultKind.TheVariants as fault
 use Rattle.ptk_asm_model.specs.Tokens.{Token, Name, Number, Mark, number, tokens_of}
 
--- the value of the bytes of a number (own)
+-- the value of the bytes of a number
 abbrev pub value_of : List ℕ → ℤ
 value_of text = unwrap_or (number text) (pos 0)
 
--- the token that a token of the code is (own)
+-- the token that a token of the code is
 abbrev pub view : written.Token → Token
 view (code.Name text) = Name text.now
 view (code.Number text) = Number (value_of text.now)
@@ -21,25 +21,25 @@ view (code.Mark m) = Mark m
 abbrev pub views : List Spanned → List Token
 views tokens = map (λ (s : Spanned). view s.token) tokens
 
--- a fault of tokens, where they are none (own)
+-- a fault of tokens, where they are none
 abbrev pub fault_unless : Option (List Token) → Option FaultKind
 fault_unless (Some ts) = None
 fault_unless None = Some fault.Token
 
--- the fault of tokens in a line (own)
+-- the fault of tokens in a line
 abbrev pub token_fault : List ℕ → Option FaultKind
 token_fault line = fault_unless (tokens_of line)
 
--- what a refusal tells: the first fault, or want of memory (own)
+-- what a refusal tells: the first fault, or want of memory
 abbrev pub Refuses : FaultKind → Option FaultKind → Type 0
 Refuses fault.Memory found = Unit {0}
 Refuses k found = found ≡ Some k
 
--- what a refusal tells where the definition answers a value or its first fault: that fault, or want of memory (own)
+-- what a refusal tells where the definition answers a value or its first fault: that fault, or want of memory
 abbrev pub Answers : {A : Type 0} → FaultKind → Result A FaultKind → Type 0
 Answers fault.Memory found = Unit {0}
 Answers k found = found ≡ Err k
 
--- a number that the code keeps: numbers above 2 ^ 40 are out of every range (own)
+-- a number that the code keeps: numbers above 2 ^ 40 are out of every range
 unfoldable pub capped : ℕ → ℕ
 capped n = min n (2 ^ 40)

@@ -1,6 +1,7 @@
 -- The faults that a document's table can state: neither that of the text nor want of memory.
 use Rattle.std.proofs.Common.{◌≡◌, ℕ, ℤ, pos, negsuc, List, [], ◌∷◌, ◌++◌, Bool, true, false, Option, Some, None, Ok, Err, subst}
 use Rattle.std.specs.Prelude.{codes, IfErr}
+use Rattle.ptk_words.specs.declared.TheConstants.{LAST_TICK}
 use Rattle.toml.specs.Data.{Data, Items, no_items, item, Members, as_integer, as_str, as_array, as_table, get_member}
 use Rattle.ptk_words_windows.specs.declared.fault.WindowFault.{WindowFault}
 use Rattle.ptk_config.specs.declared.fault.ConfigFault.{ConfigFault}
@@ -80,7 +81,7 @@ of_bytes_in ds = of_each_after (λ _. integer 0 255) (λ _ d. of_integer 0 255 d
 of_input : (low room : ℕ) (d : Data) → HasDocumentFault (input low room d)
 of_input low room d =
     bind _ _ (of_members d) (λ t.
-    bind _ _ (of_number (codes "at") low 1099511627776 t) (λ tick.
+    bind _ _ (of_number (codes "at") low LAST_TICK t) (λ tick.
     bind _ _ (of_array (codes "bytes") 0 room t) (λ values.
     bind _ _ (of_bytes_in values) (λ bytes.
     of_only (codes "at" ∷ codes "bytes" ∷ []) t (record { tick = tick; bytes = bytes })))))

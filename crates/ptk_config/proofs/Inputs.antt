@@ -6,6 +6,7 @@ use Rattle.std.proofs.lemmas.List.Elements.{All-weaker, All-push}
 use Rattle.std.proofs.lemmas.List.Quantifiers.{all_pairs_push}
 use Rattle.std.proofs.lemmas.List.Sums.{sum_by_push, sum_by-le-sum_by}
 use Rattle.std.proofs.lemmas.List.Concat.{length-flat_map}
+use Rattle.ptk_words.specs.declared.TheConstants.{LAST_TICK}
 use Rattle.ptk_words.specs.declared.sections.Arrival.{Arrival}
 use Rattle.ptk_words.specs.Ranges.{IsInput}
 use Rattle.ptk_config.specs.Inputs.{Input, last_tick, byte_count, arrivals_at, arrivals_of}
@@ -65,10 +66,10 @@ length-arrivals_of is =
     omega (arith, length-flat_map arrivals_at is, each)
 
 -- ordered inputs of so many bytes are within their ranges
-pub IsInput-arrivals_of : (last : ℕ) (is : List Input) → IsInOrder last (arrivals_of is) → last ≤ 1099511627776 → byte_count is ≤ 65536 → IsInput (arrivals_of is)
+pub IsInput-arrivals_of : (last : ℕ) (is : List Input) → IsInOrder last (arrivals_of is) → last ≤ LAST_TICK → byte_count is ≤ 65536 → IsInput (arrivals_of is)
 IsInput-arrivals_of last is order in_time few = record {
   never_falling = order.never_falling;
-  in_time = (IsInOrder-later last 1099511627776 (arrivals_of is) order in_time).up_to;
+  in_time = (IsInOrder-later last LAST_TICK (arrivals_of is) order in_time).up_to;
   few = omega (arith, length-arrivals_of is);
 }
 

@@ -1,5 +1,6 @@
 -- What the input of a section states.
 use Rattle.std.specs.Prelude.{ℕ, ◌-◌, List, [], ◌∷◌, codes, length, map, Option, Some, None, Ok, sum_by, fold, flat_map}
+use Rattle.ptk_words.specs.declared.TheConstants.{LAST_TICK}
 use Rattle.toml.specs.Data.{Data, Items}
 use Rattle.ptk_words.specs.declared.sections.Arrival.{Arrival}
 use Rattle.ptk_config.specs.Reading.{Checked, ◌>>=◌, integer, items, members, number, array, each_after, only}
@@ -25,7 +26,7 @@ bytes_in ds = each_after (λ _. integer 0 255) [] ds
 abbrev pub input : ℕ → ℕ → Data → Checked Input
 input low room d = do
   t ← members d
-  tick ← number (codes "at") low 1099511627776 t
+  tick ← number (codes "at") low LAST_TICK t
   values ← array (codes "bytes") 0 room t
   bytes ← bytes_in values
   only (codes "at" ∷ codes "bytes" ∷ []) t (record { tick = tick; bytes = bytes })

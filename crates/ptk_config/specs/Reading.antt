@@ -6,83 +6,83 @@ use Rattle.toml.specs.Data.{Data, as_integer, as_str, as_array, as_table, Items,
 use Rattle.ptk_config.specs.declared.fault.ConfigFault.{ConfigFault}
 use Rattle.ptk_config.specs.declared.fault.ConfigFault.TheVariants.{MissingKey, WrongType, OutOfRange, UnknownKey, Memory}
 
--- a value, or the first fault (own)
+-- a value, or the first fault
 abbrev pub Checked : Type 0 → Type 0
 Checked A = Result A ConfigFault
 
 infixl 10 ◌>>=◌
--- the next check comes only where the one before found no fault (own)
+-- the next check comes only where the one before found no fault
 abbrev pub ◌>>=◌ : {A B : Type 0} → Checked A → (A → Checked B) → Checked B
 Ok a >>= f = f a
 Err e >>= f = Err e
 
--- what the value is seen as, or the same fault (own)
+-- what the value is seen as, or the same fault
 abbrev pub seen : {A B : Type 0} → (A → B) → Checked A → Checked B
 seen view (Ok a) = Ok (view a)
 seen view (Err e) = Err e
 
--- want of memory aside, the result is seen as this value or is this fault (own)
+-- want of memory aside, the result is seen as this value or is this fault
 abbrev pub MemoryAside : {A B : Type 0} → (A → B) → Checked A → Checked B → Type 0
 MemoryAside view (Ok a) d = d ≡ Ok (view a)
 MemoryAside view (Err e) d = e ≢ Memory → d ≡ Err e
 
--- the value, or this fault where there is none (own)
+-- the value, or this fault where there is none
 abbrev pub or_fault : {A : Type 0} → Option A → ConfigFault → Checked A
 or_fault (Some a) e = Ok a
 or_fault None e = Err e
 
--- the value, or this fault where the test fails (own)
+-- the value, or this fault where the test fails
 abbrev pub tested : {A : Type 0} → Bool → ConfigFault → A → Checked A
 tested b e a = if b then Ok a else Err e
 
--- the number, if it lies within these bounds (own)
+-- the number, if it lies within these bounds
 abbrev pub within : ℕ → ℕ → ℤ → Checked ℕ
 within low high (pos n) = tested (nat_le low n && nat_le n high) OutOfRange n
 within low high (negsuc n) = Err OutOfRange
 
--- the number within these bounds that a value states (own)
+-- the number within these bounds that a value states
 abbrev pub integer : ℕ → ℕ → Data → Checked ℕ
 integer low high d = or_fault (as_integer d) WrongType >>= within low high
 
--- the text that a value states (own)
+-- the text that a value states
 abbrev pub text : Data → Checked (List ℕ)
 text d = or_fault (as_str d) WrongType
 
--- the array that a value states (own)
+-- the array that a value states
 abbrev pub items : Data → Checked Items
 items d = or_fault (as_array d) WrongType
 
--- the table that a value states (own)
+-- the table that a value states
 abbrev pub members : Data → Checked Members
 members d = or_fault (as_table d) WrongType
 
--- how many items there are (own)
+-- how many items there are
 abbrev pub count_of : Items → ℕ
 count_of no_items = 0
 count_of (item d ds) = 1 + count_of ds
 
--- the value at a key that may not be missing (own)
+-- the value at a key that may not be missing
 abbrev pub required : List ℕ → Members → Checked Data
 required key t = or_fault (get_member key t) MissingKey
 
--- the number at a key (own)
+-- the number at a key
 abbrev pub number : List ℕ → ℕ → ℕ → Members → Checked ℕ
 number key low high t = required key t >>= integer low high
 
--- the array at a key, of so many items (own)
+-- the array at a key, of so many items
 abbrev pub array : List ℕ → ℕ → ℕ → Members → Checked Items
 array key low high t = required key t >>= items >>= (λ ds. tested (nat_le low (count_of ds) && nat_le (count_of ds) high) OutOfRange ds)
 
--- each item in turn, read in view of what was read before it (own)
+-- each item in turn, read in view of what was read before it
 abbrev pub each_after : {A : Type 0} → (List A → Data → Checked A) → List A → Items → Checked (List A)
 each_after f done no_items = Ok done
 each_after f done (item d ds) = f done d >>= (λ a. each_after f (done ++ a ∷ []) ds)
 
--- each key of the table is one of these (own)
+-- each key of the table is one of these
 abbrev pub are_known : List (List ℕ) → Members → Bool
 are_known keys no_members = true
 are_known keys (member k d ms) = list_any (bytes_eq k) keys && are_known keys ms
 
--- the value, if each key of the table is one of these (own)
+-- the value, if each key of the table is one of these
 abbrev pub only : {A : Type 0} → List (List ℕ) → Members → A → Checked A
 only keys t a = tested (are_known keys t) UnknownKey a

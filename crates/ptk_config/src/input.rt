@@ -5,11 +5,12 @@ ghost use Rattle.toml.specs.Data.{get_member};
 ghost use Rattle.toml.specs.View.{view, table_view, items_view};
 ghost use Rattle.ptk_config.specs.Reading.{MemoryAside, each_after};
 ghost use Rattle.ptk_words.specs.Ranges.{IsInput};
+ghost use Rattle.ptk_words.specs.declared.TheConstants.{LAST_TICK};
 ghost use Rattle.ptk_config.specs.Inputs.{bytes_in, input, input_in, inputs_of, input_of, arrivals_at, arrivals_of};
 
 use crate::fault::ConfigFault;
 use crate::reading::{are_known, array, integer, items, members, number, value_at};
-use ptk_words::{Arrival, Tick};
+use ptk_words::{Arrival, LAST_TICK, Tick};
 use std::alloc::{AllocError, Global};
 use std::marker::Model;
 use toml::{Table, Value};
@@ -47,11 +48,11 @@ fn read_bytes(alloc: Global, values: &[Value]) -> Result<Vec<u8>, ConfigFault>
 fn read_input(alloc: Global, value: &Value, low: u64, room: usize) -> Result<Input, ConfigFault>
     ensures value { MemoryAside (λ i. i) result (input low room (view value.now)) }
     ensures from { IfOk result (λ i. low ≤ i.tick) }
-    ensures to { IfOk result (λ i. i.tick ≤ 1099511627776) }
+    ensures to { IfOk result (λ i. i.tick ≤ LAST_TICK) }
     ensures room { IfOk result (λ i. length i.bytes ≤ room) }
 {
     let table = members(value)?;
-    let tick = number(table, "at", low, 1_099_511_627_776)?;
+    let tick = number(table, "at", low, LAST_TICK)?;
     let values = array(table, "bytes", 0, room)?;
     let bytes = read_bytes(alloc, values)?;
     if are_known(table, &["at", "bytes"]) {

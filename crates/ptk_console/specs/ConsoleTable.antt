@@ -8,38 +8,38 @@ use Rattle.ptk_words_model.specs.Console.{arriving, is_full, with_input, with_ou
 
 -- ---- by partition
 
--- each partition's console, and the numbers of its section, which never change (own)
+-- each partition's console, and the numbers of its section, which never change
 pub record ConsoleTable : Type 0 where
   pub consoles : List Console
   pub limits : List Limits
 
--- the console of a partition that has this input and no byte yet (own)
+-- the console of a partition that has this input and no byte yet
 abbrev pub fresh_console : List Arrival → Console
 fresh_console input = record { coming = input; ring = []; dropped = 0; output = []; waiters = [] }
 
--- the numbers past the last section (own)
+-- the numbers past the last section
 abbrev pub no_limits : Limits
 no_limits = record { memory = 0; threads = 0; stack = 0; mutexes = 0; conditions = 0; keys = 0; interval = 0; ring = 0; output = 0; trace = 0 }
 
--- the console of a partition (own)
+-- the console of a partition
 abbrev pub console_at : ConsoleTable → ℕ → Console
 console_at table p = slice_index_or table.consoles p (fresh_console [])
 
--- the numbers of a partition's section (own)
+-- the numbers of a partition's section
 abbrev pub limits_at : ConsoleTable → ℕ → Limits
 limits_at table p = slice_index_or table.limits p no_limits
 
--- the table with another console of one partition (own)
+-- the table with another console of one partition
 abbrev pub put_console : ℕ → Console → ConsoleTable → ConsoleTable
 put_console p console table = record table { consoles = slice_set table.consoles p console }
 
 -- ---- one console
 
--- the byte that comes next, where it comes at the tick or before (own)
+-- the byte that comes next, where it comes at the tick or before
 abbrev pub next_byte : ℕ → Console → Option ℕ
 next_byte tick console = option_map (λ arrival. arrival.byte) (slice_get (arriving tick console) 0)
 
--- the console without that byte to come (own)
+-- the console without that byte to come
 abbrev pub without_next : ℕ → Console → Console
 without_next tick console = record console { coming = drop (length (take 1 (arriving tick console))) console.coming }
 
@@ -48,38 +48,38 @@ abbrev pub with_any_input : ℕ → Option ℕ → Console → Console
 with_any_input limit None console = console
 with_any_input limit (Some byte) console = with_input limit byte console
 
--- the byte that comes next has arrived (own)
+-- the byte that comes next has arrived
 abbrev pub after_next : ℕ → ℕ → Console → Console
 after_next limit tick console = with_any_input limit (next_byte tick console) (without_next tick console)
 
--- the first byte of the ring (own)
+-- the first byte of the ring
 abbrev pub first_byte : Console → Option ℕ
 first_byte console = slice_get console.ring 0
 
--- the console without that byte (own)
+-- the console without that byte
 abbrev pub without_first : Console → Console
 without_first console = record console { ring = drop 1 console.ring }
 
--- a byte at the end of the output, where it has fewer than so many (own)
+-- a byte at the end of the output, where it has fewer than so many
 abbrev pub after_put : ℕ → ℕ → Console → Console
 after_put limit byte console = if is_full limit console then console else with_output byte console
 
--- the thread does not wait (own)
+-- the thread does not wait
 abbrev pub IsNotWaiting : ℕ → Console → Type 0
 IsNotWaiting t console = list_any (nat_eq t) console.waiters ≡ false
 
 -- ---- what the crate keeps of one partition
 
--- a console and the numbers of its section (own)
+-- a console and the numbers of its section
 pub record LimitedConsole : Type 0 where
   pub console : Console
   pub limits : Limits
 
--- the consoles and the numbers of all partitions (own)
+-- the consoles and the numbers of all partitions
 abbrev pub table_of : List LimitedConsole → ConsoleTable
 table_of consoles = record { consoles = map (λ c. c.console) consoles; limits = map (λ c. c.limits) consoles }
 
--- the numbers of threads, no two equal (own)
+-- the numbers of threads, no two equal
 pub record AreWaiters (waiters : List ℕ) : Type 0 where
   pub distinct : IsDistinct nat_eq waiters
   pub positive : All (λ t. 0 < t) waiters

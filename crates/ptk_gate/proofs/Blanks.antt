@@ -1,7 +1,7 @@
 -- The tables before any image is loaded, and one partition's part of them.
 use Rattle.std.proofs.Common.{arith, ◌≡◌, ℕ, zero, suc, ◌<◌, ◌≤◌, List, [], ◌∷◌, length, map, refl, sym, ◌∙◌, subst}
 use Rattle.std.specs.Prelude.{Option, None, replicate, slice_index_or, All}
-use Rattle.std.proofs.lemmas.List.{length-map, length-replicate, get_or-map, get_or-replicate}
+use Rattle.std.proofs.lemmas.List.{length-map, get_or-map, get_or-replicate}
 use Rattle.ptk_words.specs.Ranges.{IsWithinLimits}
 use Rattle.ptk_words.specs.declared.faults.Status.TheVariants.{Active}
 use Rattle.ptk_words.specs.declared.sections.Arrival.{Arrival}
@@ -17,9 +17,10 @@ use Rattle.ptk_words_model.specs.Run.{empty_part}
 use Rattle.ptk_words_well.specs.Well.{IsWell}
 use Rattle.ptk_words_well.proofs.Starts.{well_empty}
 use Rattle.ptk_console.specs.ConsoleTable.{fresh_console, no_limits}
-use Rattle.ptk_gate_pools.specs.Kept.{AreParts, part_at, per_section}
+use Rattle.ptk_gate_pools.specs.Kept.{part_at, per_section}
 use Rattle.ptk_gate_pools.specs.Blank.{blank}
 use Rattle.ptk_gate.specs.Whole.{AreWhole}
+use Rattle.ptk_gate_pools.proofs.Built.{parts_blank}
 
 row : {A : Type 0} (count : Limits → ℕ) (a : A) (limits : List Limits) (p : ℕ) → p < length limits → part_of (per_section count a limits) p ≡ replicate (count (slice_index_or limits p no_limits)) a
 row count a limits p lt = get_or-map (λ (l : Limits). replicate (count l) a) limits p no_limits [] lt
@@ -49,25 +50,6 @@ part_at-blank input_of limits inputs p lt =
       get_or-replicate (length limits) p Active Active lt,
       get_or-replicate {A = Option Entry} (length limits) p None None lt,
     ) refl
-
-parts_blank : (limits : List Limits) (consoles : List Console) → length limits ≤ 8 → length consoles ≡ length limits → AreParts (length limits) (blank limits consoles)
-parts_blank limits consoles few same = record {
-  few = few;
-  memory = length-map limits _;
-  threads = length-map limits _;
-  lines = length-replicate (length limits) _;
-  mutexes = length-map limits _;
-  conditions = length-map limits _;
-  running = length-replicate (length limits) _;
-  cancellations = length-map limits _;
-  cleanups = length-map limits _;
-  destructors = length-map limits _;
-  values = length-map limits _;
-  rounds = length-map limits _;
-  consoles = same;
-  statuses = length-replicate (length limits) _;
-  lasts = length-replicate (length limits) _;
-}
 
 -- the blank tables are whole
 pub whole_blank : {X : Type 0} (input_of : X → List Arrival) (limits : List Limits) (inputs : List X) → 1 ≤ length limits → length limits ≤ 8 → length inputs ≡ length limits → All IsWithinLimits limits

@@ -2,7 +2,6 @@
 use Rattle.std.proofs.Common.{◌≡◌, ◌≢◌, ℕ, ◌<◌, Bool, length, refl, sym, ◌∙◌, ap, subst, ◌⊎◌, inl, inr, true, false}
 use Rattle.std.specs.Prelude.{Some, IsSome}
 use Rattle.std.proofs.lemmas.Bool.{cases_eq, false≢true}
-use Rattle.std.proofs.lemmas.List.{length-set}
 use Rattle.ptk_words.specs.Processor.{Processor}
 use Rattle.ptk_words.specs.declared.faults.Cause.TheVariants as cause
 use Rattle.ptk_words.specs.declared.faults.Status.TheVariants.{Stopped}
@@ -27,30 +26,10 @@ use Rattle.ptk_words_well.proofs.Waits.{well_arrivals}
 use Rattle.ptk_words_well.proofs.Unwindings.{well_unwinding_start}
 use Rattle.ptk_words_well.proofs.Expiries.{expiries_none}
 use Rattle.ptk_gate_pools.specs.Moves.{with_last_step}
-use Rattle.ptk_gate_pools.specs.Kept.{Kept, AreParts, AreWell, part_at, put_part, limits_at}
-use Rattle.ptk_gate_pools.proofs.Parted.{part_at-put, part_at-other}
+use Rattle.ptk_gate_pools.specs.Kept.{Kept, AreWell, part_at, put_part, limits_at}
+use Rattle.ptk_gate_pools.proofs.Parted.{part_at-put, part_at-other, parts_put}
 use Rattle.ptk_gate_steps.specs.Instructions.{after_instruction, is_call}
 use Rattle.ptk_gate.specs.Whole.{AreWhole}
-
--- every component keeps its length
-set_parts : (n p : ℕ) (s : Part) (kept : Kept) → AreParts n kept → AreParts n (put_part p s kept)
-set_parts n p s kept parts = record {
-  few = parts.few;
-  memory = length-set kept.memory p s.memory ∙ parts.memory;
-  threads = length-set kept.threads p s.threads ∙ parts.threads;
-  lines = length-set kept.lines p s.line ∙ parts.lines;
-  mutexes = length-set kept.mutexes p s.mutexes ∙ parts.mutexes;
-  conditions = length-set kept.conditions p s.conditions ∙ parts.conditions;
-  running = length-set kept.running p s.running ∙ parts.running;
-  cancellations = length-set kept.cancellations p s.cancellations ∙ parts.cancellations;
-  cleanups = length-set kept.cleanups p s.cleanups ∙ parts.cleanups;
-  destructors = length-set kept.destructors p s.keys.destructors ∙ parts.destructors;
-  values = length-set kept.values p s.keys.values ∙ parts.values;
-  rounds = length-set kept.rounds p s.keys.rounds ∙ parts.rounds;
-  consoles = length-set kept.consoles p s.console ∙ parts.consoles;
-  statuses = length-set kept.statuses p s.status ∙ parts.statuses;
-  lasts = length-set kept.lasts p s.last ∙ parts.lasts;
-}
 
 well_put : (p q : ℕ) (s : Part) (kept : Kept) → AreWell kept → p < length kept.limits → q < length kept.limits → IsWell (limits_at p kept) s → (q ≡ p) ⊎ (q ≢ p)
     → IsWell (limits_at q kept) (part_at q (put_part p s kept))
@@ -64,7 +43,7 @@ well_put p q s kept are lt within well (inr ne) =
 
 are_well_put : (p : ℕ) (s : Part) (kept : Kept) → AreWell kept → p < length kept.limits → IsWell (limits_at p kept) s → AreWell (put_part p s kept)
 are_well_put p s kept are lt well = record {
-  parts = set_parts (length kept.limits) p s kept are.parts;
+  parts = parts_put (length kept.limits) p s kept are.parts;
   wells = λ q within. well_put p q s kept are lt within well (cases_eq q p);
 }
 

@@ -102,6 +102,7 @@ fn carry_out(pools: &mut Pools, call: Call, p: PartId, i: Invocation) -> Reply
         | Call::MutexTrylock
         | Call::MutexTimedlock
         | Call::MutexUnlock
+        | Call::MutexConsistent
         | Call::CondInit
         | Call::CondDestroy
         | Call::CondWait

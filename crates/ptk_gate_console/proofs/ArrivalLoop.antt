@@ -1,7 +1,6 @@
 -- What a loop that takes the due bytes one by one keeps.
 use Rattle.std.proofs.Common.{arith, ◌≡◌, ℕ, ◌+◌, ◌<◌, true, false, List, [], ◌∷◌, length, drop, take, refl, sym, ◌∙◌, ap, subst}
 use Rattle.std.specs.Prelude.{Option, Some, None, is_some, option_map, slice_get, slice_index_or}
-use Rattle.std.proofs.lemmas.List.{length-set}
 use Rattle.std.proofs.lemmas.Bool.{false≢true}
 use Rattle.ptk_words.specs.declared.sections.Limits.{Limits}
 use Rattle.ptk_words_model.specs.State.{Part, with_locks, with_console}
@@ -31,25 +30,6 @@ none_of (Some byte) e = absurd (false≢true (sym e))
 
 next_is : (o : Option ℕ) (limit tick byte : ℕ) (s : Part) → o ≡ Some byte → after_next_of o limit tick s ≡ after_byte limit byte (with_next_taken tick s)
 next_is o limit tick byte s e = rw e refl
-
-set_parts : (n p : ℕ) (s : Part) (kept : Kept) → AreParts n kept → AreParts n (put_part p s kept)
-set_parts n p s kept parts = record {
-  few = parts.few;
-  memory = length-set kept.memory p s.memory ∙ parts.memory;
-  threads = length-set kept.threads p s.threads ∙ parts.threads;
-  lines = length-set kept.lines p s.line ∙ parts.lines;
-  mutexes = length-set kept.mutexes p s.mutexes ∙ parts.mutexes;
-  conditions = length-set kept.conditions p s.conditions ∙ parts.conditions;
-  running = length-set kept.running p s.running ∙ parts.running;
-  cancellations = length-set kept.cancellations p s.cancellations ∙ parts.cancellations;
-  cleanups = length-set kept.cleanups p s.cleanups ∙ parts.cleanups;
-  destructors = length-set kept.destructors p s.keys.destructors ∙ parts.destructors;
-  values = length-set kept.values p s.keys.values ∙ parts.values;
-  rounds = length-set kept.rounds p s.keys.rounds ∙ parts.rounds;
-  consoles = length-set kept.consoles p s.console ∙ parts.consoles;
-  statuses = length-set kept.statuses p s.status ∙ parts.statuses;
-  lasts = length-set kept.lasts p s.last ∙ parts.lasts;
-}
 
 untaken : (s : Part) (xs : List Arrival) → option_map (λ (arrival : Arrival). arrival.byte) (slice_get xs 0) ≡ None → with_console (λ console. record console { coming = drop (length (take 1 xs)) console.coming }) s ≡ s
 untaken s [] e = refl

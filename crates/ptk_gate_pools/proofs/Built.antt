@@ -1,11 +1,13 @@
 -- Lists made for each section.
-use Rattle.std.proofs.Common.{◌≡◌, ℕ, zero, suc, List, [], ◌∷◌, map, refl, sym, ◌∙◌, ap}
+use Rattle.std.proofs.Common.{◌≡◌, ℕ, ◌≤◌, zero, suc, List, length, [], ◌∷◌, map, refl, sym, ◌∙◌, ap}
 use Rattle.std.specs.Prelude.{None, replicate, slice_index_or}
 use Rattle.std.proofs.lemmas.List.{length-map, length-replicate}
 use Rattle.ptk_words.specs.declared.sections.Limits.{Limits}
 use Rattle.ptk_words_parted.specs.Parts.{part_of, filled}
 use Rattle.ptk_console.specs.ConsoleTable.{no_limits}
-use Rattle.ptk_gate_pools.specs.Kept.{AreStored, per_section}
+use Rattle.ptk_words_model.specs.State.{Console}
+use Rattle.ptk_gate_pools.specs.Blank.{blank}
+use Rattle.ptk_gate_pools.specs.Kept.{AreParts, AreStored, per_section}
 use Rattle.ptk_gate_pools.proofs.Stored.{level, priorities_levels}
 
 pub filled_per : {A : Type 0} (count : Limits → ℕ) (a : A) (limits : List Limits) → map (filled a) (map count limits) ≡ per_section count a limits
@@ -27,5 +29,25 @@ stored_blank limits =
     record {
       each = λ p. blank_row limits p ∙ sym (priorities_levels (part_of (per_section (λ l. l.threads) None limits) p) (slice_index_or limits p no_limits).mutexes);
     }
+
+-- every component of the pools before any image has an entry for each section
+pub parts_blank : (limits : List Limits) (consoles : List Console) → length limits ≤ 8 → length consoles ≡ length limits → AreParts (length limits) (blank limits consoles)
+parts_blank limits consoles few same = record {
+  few = few;
+  memory = length-map limits _;
+  threads = length-map limits _;
+  lines = length-replicate (length limits) _;
+  mutexes = length-map limits _;
+  conditions = length-map limits _;
+  running = length-replicate (length limits) _;
+  cancellations = length-map limits _;
+  cleanups = length-map limits _;
+  destructors = length-map limits _;
+  values = length-map limits _;
+  rounds = length-map limits _;
+  consoles = same;
+  statuses = length-replicate (length limits) _;
+  lasts = length-replicate (length limits) _;
+}
 
 pub ruleset built = (filled_per, stored_blank, length-map, length-replicate)

@@ -82,4 +82,25 @@ part_at-other p q s kept differ =
       get_or-set_other kept.lasts p q s.last _ differ,
     ) refl
 
+-- every component keeps its length
+pub parts_put : (n p : ℕ) (s : Part) (kept : Kept) → AreParts n kept → AreParts n (put_part p s kept)
+parts_put n p s kept parts =
+    record {
+      few = parts.few;
+      memory = length-set kept.memory p s.memory ∙ parts.memory;
+      threads = length-set kept.threads p s.threads ∙ parts.threads;
+      lines = length-set kept.lines p s.line ∙ parts.lines;
+      mutexes = length-set kept.mutexes p s.mutexes ∙ parts.mutexes;
+      conditions = length-set kept.conditions p s.conditions ∙ parts.conditions;
+      running = length-set kept.running p s.running ∙ parts.running;
+      cancellations = length-set kept.cancellations p s.cancellations ∙ parts.cancellations;
+      cleanups = length-set kept.cleanups p s.cleanups ∙ parts.cleanups;
+      destructors = length-set kept.destructors p s.keys.destructors ∙ parts.destructors;
+      values = length-set kept.values p s.keys.values ∙ parts.values;
+      rounds = length-set kept.rounds p s.keys.rounds ∙ parts.rounds;
+      consoles = length-set kept.consoles p s.console ∙ parts.consoles;
+      statuses = length-set kept.statuses p s.status ∙ parts.statuses;
+      lasts = length-set kept.lasts p s.last ∙ parts.lasts;
+    }
+
 pub ruleset parted = (lent-same, set_part-same, set-get_or, set-set, length-set, get_or-set_same)

@@ -28,14 +28,7 @@ pub fn instruct(pools: &mut Pools, p: PartId, t: ThreadNo, cpu: Cpu) -> bool
 /// After a step that came to this: the thread has the registers, or the partition has stopped at the pc. Whether it
 /// is an ECALL, whose call is still to be carried out.
 #[tactic(auto, using(ptk_gate_pools::proofs::Parted::parted))]
-fn settle(
-    pools: &mut Pools,
-    p: PartId,
-    t: ThreadNo,
-    pc: u32,
-    outcome: Outcome,
-    cpu: Cpu,
-) -> bool
+fn settle(pools: &mut Pools, p: PartId, t: ThreadNo, pc: u32, outcome: Outcome, cpu: Cpu) -> bool
     requires partition { p < length pools.old.limits }
     ensures told { result ≡ is_called outcome }
     ensures moved { pools.new ≡ put_part p (settled t pc outcome cpu (part_at p pools.old)) pools.old }

@@ -4,7 +4,7 @@ use Rattle.clap.specs.Words.{Text}
 use Rattle.ptk_main_line.specs.CommandLine.{Asks}
 use Rattle.ptk_main_line.specs.declared.line.Request.{Request}
 use Rattle.ptk_main_line.specs.declared.line.Request.TheVariants.{Run, Trace, Asm, Check}
-use Rattle.ptk_main.specs.Requests.{IsInTime}
+use Rattle.ptk_main_answers.specs.Requests.{IsInTime}
 
 pub asks_in_time : (words : List Text) (request : Request) → Asks words request → IsInTime request
 asks_in_time words (Run file ticks) h = h.3.2.4

@@ -1,7 +1,6 @@
 //! What the words of the command line ask for.
 
-ghost use Rattle.std.specs.Prelude.{◌≤◌, ◌^◌};
-ghost use Rattle.ptk_main.specs.Requests.{IsInTime};
+ghost use Rattle.ptk_main_answers.specs.Requests.{IsInTime, IsOfConfiguration};
 
 #[cfg(test)]
 mod tests;
@@ -10,11 +9,9 @@ use crate::reading::{config_in, image_in, images_of};
 use crate::telling::{end, tell};
 use ptk_config::Config;
 use ptk_image::write_image;
+use ptk_main_answers::answer_with;
 use ptk_main_faults::Fault;
 use ptk_main_line::Request;
-use ptk_main_runs::{RunFault, run_with, trace_with};
-use ptk_system::{BootFault, PartStatus, System};
-use ptk_words::{PartId, Tick};
 use std::fs;
 
 /// Does what is asked for, and gives the number of its status. The line of a fault goes to standard error.
@@ -22,99 +19,29 @@ pub(crate) fn obey(rt: &HostRuntime, request: Request<'_>) -> u8
     requires { IsInTime request }
 {
     match request {
-        Request::Run { file, ticks } => match config_in(rt, file) {
-            Ok(config) => end(rt, run(rt, &config, Tick::new(ticks))),
-            Err(fault) => tell(rt, &fault),
-        },
-        Request::Trace {
-            file,
-            ticks,
-            partition,
-        } => match config_in(rt, file) {
-            Ok(config) => end(rt, trace(rt, &config, Tick::new(ticks), partition)),
-            Err(fault) => tell(rt, &fault),
-        },
-        Request::Check { file } => match config_in(rt, file) {
-            Ok(config) => end(rt, check(rt, &config)),
-            Err(fault) => tell(rt, &fault),
-        },
+        Request::Run { file, .. } => obey_over(rt, file, request),
+        Request::Trace { file, .. } => obey_over(rt, file, request),
+        Request::Check { file } => obey_over(rt, file, request),
         Request::Asm { source, image } => end(rt, asm(rt, source, image)),
     }
 }
 
-// `run`: the report of a run, on standard output.
-fn run<'a>(rt: &HostRuntime, config: &'a Config, ticks: Tick) -> Result<(), Fault<'a>>
-    requires { ticks ≤ 2 ^ 40 }
+// Does what is asked of the configuration in a file.
+fn obey_over(rt: &HostRuntime, file: &str, request: Request<'_>) -> u8
+    requires { IsOfConfiguration request }
+{
+    match config_in(rt, file) {
+        Ok(config) => end(rt, answer(rt, &config, request)),
+        Err(fault) => tell(rt, &fault),
+    }
+}
+
+// What a request asks of a configuration, on standard output, with the images read from their files.
+fn answer<'a>(rt: &HostRuntime, config: &'a Config, request: Request<'a>) -> Result<(), Fault<'a>>
+    requires { IsOfConfiguration request }
 {
     let files = images_of(rt, config)?;
-    match run_with(rt.alloc(), config, &files, ticks, &mut rt.stdout()) {
-        Ok(()) => Ok(()),
-        Err(fault) => Err(fault_of(config, "", fault)),
-    }
-}
-
-// `trace`: the lines of a partition's last steps, on standard output.
-fn trace<'a>(
-    rt: &HostRuntime,
-    config: &'a Config,
-    ticks: Tick,
-    name: &'a str,
-) -> Result<(), Fault<'a>>
-    requires { ticks ≤ 2 ^ 40 }
-{
-    let files = images_of(rt, config)?;
-    match trace_with(rt.alloc(), config, &files, ticks, name, &mut rt.stdout()) {
-        Ok(()) => Ok(()),
-        Err(fault) => Err(fault_of(config, name, fault)),
-    }
-}
-
-// `check`: whether every named image is there and fits its partition. A boot refuses each that does not.
-fn check<'a>(rt: &HostRuntime, config: &'a Config) -> Result<(), Fault<'a>> {
-    let files = images_of(rt, config)?;
-    match System::boot(rt.alloc(), config, &files) {
-        Ok(system) => match first_refused(&system, config) {
-            Some(fault) => Err(fault),
-            None => println!(rt; "ok").map_err(|_| Fault::WriteFailed),
-        },
-        Err(fault) => Err(boot_fault(config, fault)),
-    }
-}
-
-// The fault of the first partition whose image was refused.
-fn first_refused<'a>(system: &System<'_>, config: &'a Config) -> Option<Fault<'a>> {
-    for p in 0..system.parts() {
-        let p = PartId::new(p as u8);
-        if let PartStatus::Refused(fault) = system.status(p) {
-            return Some(Fault::of_image(image_name(config, p), fault));
-        }
-    }
-    None
-}
-
-// The name of a partition's image.
-fn image_name(config: &Config, p: PartId) -> &str {
-    match config.sections().get(p.index()) {
-        Some(section) => section.image().unwrap_or(""),
-        None => "",
-    }
-}
-
-// The program's fault for a run's, where the partition of this name was asked for.
-fn fault_of<'a>(config: &'a Config, name: &'a str, fault: RunFault) -> Fault<'a> {
-    match fault {
-        RunFault::Boot(fault) => boot_fault(config, fault),
-        RunFault::NoPartition => Fault::NoPartition(name),
-        RunFault::Write => Fault::WriteFailed,
-    }
-}
-
-// The program's fault for a boot's.
-fn boot_fault(config: &Config, fault: BootFault) -> Fault<'_> {
-    match fault {
-        BootFault::Memory => Fault::NoMemory,
-        BootFault::MissingFile(p) => Fault::MissingFile(image_name(config, p)),
-    }
+    answer_with(rt.alloc(), config, &files, request, &mut rt.stdout())
 }
 
 // `asm`: the image of a source, into a file. Nothing is written where the source is refused.

@@ -1,10 +1,12 @@
 //! The program `ptk`: it reads the words of its command line, does what they ask for, and ends with the status of the
-//! outcome. Below stand the command line (`ptk_main_line`), the lines of faults (`ptk_main_faults`), whole runs
-//! (`ptk_main_runs`, whose `run_with` and `trace_with` promise what is written), the configuration (`ptk_config`), the
-//! system (`ptk_system`) and the assembler (`ptk_asm`); nothing stands above. What no contract says is tested in
-//! `commands/tests.rt`: the status of each request over real files and of words that are refused, the fault behind a
-//! status that several share, and the files that `asm` writes. Which stream a text goes to no test sees; the gate compares
-//! the standard output of the stored run. No clause is dear to prove.
+//! outcome. Below stand the command line (`ptk_main_line`), the lines of faults (`ptk_main_faults`), the answers to
+//! requests over files already read (`ptk_main_answers`, whose `answer_with` promises what is written and which fault
+//! comes), whole runs (`ptk_main_runs`), the configuration (`ptk_config`), the system (`ptk_system`) and the assembler
+//! (`ptk_asm`); nothing stands above. Proved here is that each request goes to no tick after the last, and that an outcome
+//! has its status. What no contract can say of real files and streams is tested in `commands/tests.rt`: the status of each
+//! request and of words that are refused, the fault behind a status that several share, and the files that `asm` writes.
+//! Which stream a text goes to no test sees; the gate compares the standard output of the stored run. No clause is dear to
+//! prove.
 #![tactic(auto)]
 
 mod commands;

@@ -1,10 +1,18 @@
 //! What the program says of an outcome, and the number of the status that it ends with.
 
+ghost use Rattle.std.specs.Prelude.{◌≡◌, IfErr, OnOk};
+ghost use Rattle.ptk_main_faults.specs.Lines.{status_of};
+ghost use Rattle.ptk_main_faults.specs.Statuses.{status_number};
+ghost use Rattle.ptk_main_faults.specs.declared.status.ExitStatus.TheVariants.{Done};
+
 use clap::error::ErrorKind;
 use ptk_main_faults::{ExitStatus, Fault, fault_line};
 
 /// The status of an outcome. The line of a fault goes to standard error.
-pub(crate) fn end(rt: &HostRuntime, outcome: Result<(), Fault<'_>>) -> u8 {
+pub(crate) fn end(rt: &HostRuntime, outcome: Result<(), Fault<'_>>) -> u8
+    ensures done { OnOk outcome.entry (result ≡ status_number Done) }
+    ensures failed { IfErr outcome.entry (λ fault. result ≡ status_number (status_of fault)) }
+{
     match outcome {
         Ok(()) => ExitStatus::Done.number(),
         Err(fault) => tell(rt, &fault),
@@ -12,7 +20,9 @@ pub(crate) fn end(rt: &HostRuntime, outcome: Result<(), Fault<'_>>) -> u8 {
 }
 
 /// The status of a fault, whose line goes to standard error. Where that can't be written, the status alone tells.
-pub(crate) fn tell(rt: &HostRuntime, fault: &Fault<'_>) -> u8 {
+pub(crate) fn tell(rt: &HostRuntime, fault: &Fault<'_>) -> u8
+    ensures { result ≡ status_number (status_of fault.now) }
+{
     match fault_line(fault, &mut rt.stderr()) {
         Ok(status) => status,
         Err(_) => fault.status().number(),

@@ -1,8 +1,10 @@
 -- The command `ptk` as `clap` reads it, and what its words ask for.
-use Rattle.std.specs.Prelude.{◌≡◌, ◌≤◌, ◌^◌, ℕ, List, Option, Some, MatchOption, true, codes}
+use Rattle.std.specs.Prelude.{◌≡◌, ◌≤◌, ◌^◌, ◌⊎◌, ◌∷◌, [], ℕ, List, Option, Some, MatchOption, true, codes}
 use Rattle.std.specs.Str.Parse.{IsNumeral, without_leading_plus, digits_value}
-use Rattle.clap.specs.Words.{App, Row, Rule, Text, first_of, new_app, one_of, new_rule, subcommand_of, with_rule, with_subcommand}
+use Rattle.clap.specs.Words.{App, HasKind, Row, Rule, Text, fault_of, first_of, new_app, one_of, new_rule, subcommand_of, with_rule, with_subcommand}
 use Rattle.clap.specs.Simple.{on_top}
+use Rattle.clap.specs.declared.error.Error.{Error}
+use Rattle.clap.specs.declared.error.kind.ErrorKind.TheVariants.{MissingSubcommand}
 use Rattle.clap.specs.declared.builder.value_parser.ValueParser.TheVariants as parser
 use Rattle.ptk_main_line.specs.declared.line.Request.{Request}
 use Rattle.ptk_main_line.specs.declared.line.Request.TheVariants.{Run, Trace, Asm, Check}
@@ -82,6 +84,11 @@ Asks words request = Means (subcommand_of ptk words) request
 -- these words ask for nothing that the program does (own)
 abbrev pub AsksNothing : List Text → Type 0
 AsksNothing words = (request : Request) → ¬ Asks words request
+
+-- an error of one of clap's kinds for these words, or of no subcommand where clap takes them and they ask for nothing; or memory ran out (own)
+abbrev pub IsRefusal : List Text → Error → Type 0
+IsRefusal words e = HasKind (fault_of ptk words) e
+    ⊎ ((fault_of ptk words ≡ []) × AsksNothing words × HasKind (MissingSubcommand ∷ []) e)
 
 -- ---- answers, where there may be none
 

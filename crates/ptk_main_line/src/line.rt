@@ -1,9 +1,9 @@
 //! The words of a command line and the request in them.
-ghost use Rattle.std.specs.Prelude.{◌≡◌, ◌⊎◌, [], codes, map, IfErr, IfOk, MatchOption, OnOk};
+ghost use Rattle.std.specs.Prelude.{◌≡◌, [], codes, map, IfErr, IfOk, MatchOption, OnOk};
 ghost use Rattle.clap.specs.Values.{kind_of};
-ghost use Rattle.clap.specs.Words.{HasKind, fault_of, found_of, rows_of, subcommand_rows_of};
-ghost use Rattle.clap.specs.declared.error.kind.ErrorKind.TheVariants.{ValueValidation};
-ghost use Rattle.ptk_main_line.specs.CommandLine.{Asks, AsksNothing, FindsRequest, FindsTicks, MeansAny, ptk};
+ghost use Rattle.clap.specs.Words.{fault_of, found_of, rows_of, subcommand_rows_of};
+ghost use Rattle.clap.specs.declared.error.kind.ErrorKind.TheVariants.{MissingSubcommand, ValueValidation};
+ghost use Rattle.ptk_main_line.specs.CommandLine.{Asks, FindsRequest, FindsTicks, IsRefusal, MeansAny, ptk};
 
 use crate::commands::ptk_command;
 use clap::error::ErrorKind;
@@ -49,14 +49,13 @@ pub enum Request<'a> {
 /// Reads the words of a command line, of which the first is the program's name.
 ///
 /// An error has one of the kinds that `clap` gives the words: `DisplayHelp` where they ask for help, and otherwise what is
-/// wrong with them, or `MissingSubcommand` where they ask for nothing. Its kind is `OutOfMemory` where memory runs out. An
-/// argument and its values are read as `clap` reads them, so options may stand before or after FILE, and `--ticks=N` is
-/// `--ticks N`.
+/// wrong with them. Its kind is `MissingSubcommand` where `clap` takes the words and they ask for nothing, and
+/// `OutOfMemory` where memory runs out. An argument and its values are read as `clap` reads them, so options may stand
+/// before or after FILE, and `--ticks=N` is `--ticks N`.
 pub fn read_line<'a>(alloc: Global, words: &'a [&'a str]) -> Result<Request<'a>, Error>
     ensures asked { IfOk result (λ r. Asks (map (λ w. w.now) words.entry.now) r) }
     ensures taken { OnOk result (fault_of ptk (map (λ w. w.now) words.entry.now) ≡ []) }
-    ensures refused { IfErr result (λ e. HasKind (fault_of ptk (map (λ w. w.now) words.entry.now)) e
-        ⊎ AsksNothing (map (λ w. w.now) words.entry.now)) }
+    ensures refused { IfErr result (λ e. IsRefusal (map (λ w. w.now) words.entry.now) e) }
 {
     let command = ptk_command(alloc)?;
     let matches = command.try_get_matches_from(words)?;
@@ -67,7 +66,9 @@ pub fn read_line<'a>(alloc: Global, words: &'a [&'a str]) -> Result<Request<'a>,
 }
 
 /// The error of words that are taken and ask for nothing.
-fn no_request(alloc: Global) -> Result<Error, AllocError> {
+fn no_request(alloc: Global) -> Result<Error, AllocError>
+    ensures { IfOk result (λ e. kind_of e ≡ MissingSubcommand) }
+{
     let mut command = ptk_command(alloc)?;
     command.error(ErrorKind::MissingSubcommand, "a subcommand is wanted")
 }

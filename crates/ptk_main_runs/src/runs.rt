@@ -1,8 +1,9 @@
 //! Whole runs: from a configuration, its files and a number of ticks to a report or a trace.
 
-ghost use Rattle.std.specs.Prelude.{◌≡◌, ◌≢◌, ◌<◌, ◌≤◌, ◌^◌, ℕ, Some, None, IfErr, IfOk, IfSome, IsSome, MatchResult, OnOk, length, position};
+ghost use Rattle.std.specs.Prelude.{◌≡◌, ◌≢◌, ◌<◌, ◌≤◌, ℕ, Some, None, IfErr, IfOk, IfSome, IsSome, MatchResult, OnOk, length, position};
 ghost use Rattle.std.specs.Io.KnownBytes.{Appends};
 ghost use Rattle.std.specs.Str.{bytes_eq};
+ghost use Rattle.ptk_words.specs.declared.TheConstants.{LAST_TICK};
 ghost use Rattle.ptk_words_model.specs.Text.{trace_text};
 ghost use Rattle.ptk_system.specs.Missing.{first_missing};
 ghost use Rattle.ptk_system.specs.Shown.{report_of};
@@ -41,7 +42,7 @@ pub fn run_with<W: Write>(
     ticks: Tick,
     out: &mut W,
 ) -> Result<(), RunFault>
-    requires { ticks ≤ 2 ^ 40 }
+    requires { ticks ≤ LAST_TICK }
     ensures report { OnOk result (Appends (W.contents out.old) (W.contents out.new)
         (report_of (record { config = config.now; files = files.now; tick = ticks }))) }
     ensures missing { MatchResult result
@@ -68,7 +69,7 @@ pub fn trace_with<W: Write>(
     name: &str,
     out: &mut W,
 ) -> Result<(), RunFault>
-    requires { ticks ≤ 2 ^ 40 }
+    requires { ticks ≤ LAST_TICK }
     ensures trace { OnOk result ((p : ℕ) → part_named config.now name.now ≡ Some p → Appends (W.contents out.old) (W.contents out.new)
         (trace_text (state_of (record { config = config.now; files = files.now; tick = ticks }) p).account.trace)) }
     ensures known { OnOk result (IsSome (part_named config.now name.now)) }
@@ -112,7 +113,7 @@ fn traced<W: Write>(
     p: PartId,
     out: &mut W,
 ) -> Result<(), RunFault>
-    requires ticks { ticks ≤ 2 ^ 40 }
+    requires ticks { ticks ≤ LAST_TICK }
     requires partition { p < length config.now.sections }
     ensures trace { OnOk result (Appends (W.contents out.old) (W.contents out.new)
         (trace_text (state_of (record { config = config.now; files = files.now; tick = ticks }) p).account.trace)) }
@@ -137,7 +138,7 @@ fn system_at<'a>(
     files: &'a Files,
     ticks: Tick,
 ) -> Result<System<'a>, RunFault>
-    requires { ticks ≤ 2 ^ 40 }
+    requires { ticks ≤ LAST_TICK }
     ensures reached { IfOk result (λ system. system ≡ record { config = config.now; files = files.now; tick = ticks }) }
     ensures known { IfErr result (λ fault. fault ≢ NoPartition) }
     ensures missing { MatchResult result

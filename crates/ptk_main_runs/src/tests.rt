@@ -6,6 +6,7 @@
 ghost use Rattle.std.specs.Prelude.{◌<◌, length};
 
 mod ends;
+mod greatest;
 
 use crate::{RunFault, rows, run_with, trace_with};
 use ptk_config::{Config, read_config};

@@ -14,38 +14,19 @@ use Rattle.ptk_words_model.specs.Run.{empty_part, next_from, start, start_part, 
 use Rattle.ptk_console.specs.ConsoleTable.{fresh_console, no_limits}
 use Rattle.ptk_gate_pools.specs.Kept.{Kept, AreParts, limits_at, part_at, put_part}
 use Rattle.ptk_gate_pools.specs.Blank.{blank}
-use Rattle.ptk_gate_pools.proofs.Parted.{part_at-put, part_at-other}
+use Rattle.ptk_gate_pools.proofs.Parted.{part_at-put, part_at-other, parts_put}
 use Rattle.ptk_gate.proofs.Blanks.{part_at-blank}
 use Rattle.ptk_config.specs.Sections.{Section}
 use Rattle.ptk_config.specs.Configuration.{Configuration, IsConfiguration}
 use Rattle.ptk_system_files.specs.NamedFiles.{NamedFile}
 use Rattle.ptk_system_machine.specs.Accounts.{KeptAccount, first_account}
 use Rattle.ptk_system_machine.specs.Whole.{Whole, account_at, first_account_of}
-use Rattle.ptk_system_machine.proofs.States.{put_parts}
 use Rattle.ptk_system.specs.Missing.{image_in}
 use Rattle.ptk_system.specs.World.{IsRun, no_section, section_at}
 use Rattle.ptk_system.specs.Loaded.{AreLoaded}
+use Rattle.ptk_gate_pools.proofs.Built.{parts_blank}
 
 -- ---- before any image
-
-parts_blank : (limits : List Limits) (consoles : List Console) → length limits ≤ 8 → length consoles ≡ length limits → AreParts (length limits) (blank limits consoles)
-parts_blank limits consoles few same = record {
-  few = few;
-  memory = length-map limits _;
-  threads = length-map limits _;
-  lines = length-replicate (length limits) _;
-  mutexes = length-map limits _;
-  conditions = length-map limits _;
-  running = length-replicate (length limits) _;
-  cancellations = length-map limits _;
-  cleanups = length-map limits _;
-  destructors = length-map limits _;
-  values = length-map limits _;
-  rounds = length-map limits _;
-  consoles = same;
-  statuses = length-replicate (length limits) _;
-  lasts = length-replicate (length limits) _;
-}
 
 -- the numbers of the sections are in their ranges
 pub limits_ranges : (config : Configuration) (limits : List Limits) → IsConfiguration config → limits ≡ map (λ section. section.limits) config.sections → All IsWithinLimits limits
@@ -94,7 +75,7 @@ is_blank config files n kept are lt =
 pub more_loaded : (config : Configuration) (files : List NamedFile) (n : ℕ) (section : Section) (kept new : Kept) → AreLoaded config files n kept → n < length config.sections → section ≡ section_at config n
     → new ≡ put_part n (with_image_bytes (limits_at n kept) (image_in files section.image) (part_at n kept)) kept → AreLoaded config files (n + 1) new
 more_loaded config files n section kept new are lt at moved = record {
-  parts = subst (λ (k : Kept). AreParts (length config.sections) k) (sym moved) (put_parts (length config.sections) n _ kept are.parts);
+  parts = subst (λ (k : Kept). AreParts (length config.sections) k) (sym moved) (parts_put (length config.sections) n _ kept are.parts);
   limits = ap (λ (k : Kept). k.limits) moved ∙ are.limits;
   loaded = λ p below within. loaded_by p below within (p == n) refl;
   blank = λ p later within.

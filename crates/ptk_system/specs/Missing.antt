@@ -13,7 +13,7 @@ image_in files image = option_and_then (content_of files) image
 abbrev pub is_missing : List NamedFile → Section → Bool
 is_missing files section = is_some section.image && is_none (image_in files section.image)
 
--- the first section, in their order, whose file is missing (own)
+-- the first section, in their order, whose file is missing
 abbrev pub first_missing : List NamedFile → List Section → Option ℕ
 first_missing files sections = position (is_missing files) sections
 

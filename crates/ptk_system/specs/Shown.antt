@@ -6,7 +6,7 @@ use Rattle.ptk_system.specs.World.{World, section_at, state_of}
 use Rattle.ptk_system.specs.declared.status.PartStatus.{PartStatus}
 use Rattle.ptk_system.specs.declared.status.PartStatus.TheVariants.{Idle, Running, Exited, Stopped, Refused}
 
--- a status as the report spells it (own)
+-- a status as the report spells it
 abbrev pub shown_status : PartStatus → List ℕ
 shown_status Idle = codes "idle"
 shown_status Running = codes "running"
@@ -14,13 +14,13 @@ shown_status (Exited code) = codes "exit " ++ decimal code
 shown_status (Stopped cause pc) = codes "fault " ++ (cause_text cause ++ (codes " pc " ++ hex_word pc))
 shown_status (Refused fault) = codes "refused image " ++ decimal (image_fault_number fault)
 
--- the line of a partition of this name, with this status and these counts (own)
+-- the line of a partition of this name, with this status and these counts
 abbrev pub head_line : List ℕ → PartStatus → ℕ → ℕ → List ℕ
 head_line name status steps lost =
     codes "partition " ++ (name ++ (codes " " ++ (shown_status status
     ++ (codes " steps " ++ (decimal steps ++ (codes " lost " ++ (decimal lost ++ newline)))))))
 
--- the line of a partition, and its output after it (own)
+-- the line of a partition, and its output after it
 abbrev pub part_lines : List ℕ → PartStatus → ℕ → ℕ → List ℕ → List ℕ
 part_lines name status steps lost output = head_line name status steps lost ++ output_text output
 
@@ -28,11 +28,11 @@ part_lines name status steps lost output = head_line name status steps lost ++ o
 abbrev pub part_report : World → ℕ → List ℕ
 part_report world p = report_text (section_at world.config p).name (state_of world p)
 
--- the parts of so many sections, in their order (own)
+-- the parts of so many sections, in their order
 abbrev pub reports_to : World → ℕ → List ℕ
 reports_to world zero = []
 reports_to world (suc n) = reports_to world n ++ part_report world n
 
--- the report (own)
+-- the report
 abbrev pub report_of : World → List ℕ
 report_of world = reports_to world (length world.config.sections)

@@ -23,7 +23,7 @@ register_in t i s = option_and_then (λ cpu. if nat_lt i 32 then Some (register 
 abbrev pub pc_in : ℕ → Part → Option ℕ
 pc_in t s = option_map (λ cpu. cpu.pc) (live_cpu (thread_at s.locks t))
 
--- of a partition that is not halted: running where a thread is running or ready, else idle (own)
+-- of a partition that is not halted: running where a thread is running or ready, else idle
 abbrev pub activity_of : Bool → PartStatus
 activity_of true = told.Running
 activity_of false = told.Idle
@@ -32,7 +32,7 @@ activity_of false = told.Idle
 abbrev pub is_busy : Part → Bool
 is_busy s = is_some s.running || nat_lt 0 (length s.line)
 
--- the status that is told, by the state's own and by whether a thread is running or ready (own)
+-- the status that is told, by the state's own and by whether a thread is running or ready
 abbrev pub told_status : Status → Bool → PartStatus
 told_status Active busy = activity_of busy
 told_status (Exited code) busy = told.Exited code

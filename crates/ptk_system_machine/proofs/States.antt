@@ -12,7 +12,7 @@ use Rattle.ptk_words_model.specs.State.{Part, Account, State}
 use Rattle.ptk_words_model.specs.Run.{accounted, decided, next_from}
 use Rattle.ptk_words_model.specs.Decision.{after_decision, spent_by_decision}
 use Rattle.ptk_gate_pools.specs.Kept.{Kept, AreParts, limits_at, part_at, put_part}
-use Rattle.ptk_gate_pools.proofs.Parted.{part_at-put, part_at-other}
+use Rattle.ptk_gate_pools.proofs.Parted.{part_at-put, part_at-other, parts_put}
 use Rattle.ptk_system_machine.specs.Accounts.{HasEntry, KeptAccount, duration_of, spent_account}
 use Rattle.ptk_system_machine.specs.Whole.{Whole, IsWhole, no_account, account_at, state_at, put_state}
 use Rattle.ptk_system_machine.proofs.Entries.{decision_entry}
@@ -44,27 +44,6 @@ spent_is ticks limits tick room part after spent came kept account e told trace 
     ap (λ (k : ℕ). spent_account (next_from ticks part.status (tick + duration_of room spent)) k room spent part.last account) trace
     ∙ (sym (accounted_is ticks limits tick room part spent account)
     ∙ (ap (λ (s : Part). accounted ticks limits tick room s spent account) e ∙ ap (λ (s : Spent). accounted ticks limits tick room after s account) told))
-
--- every list keeps its length
-pub put_parts : (n p : ℕ) (s : Part) (kept : Kept) → AreParts n kept → AreParts n (put_part p s kept)
-put_parts n p s kept parts =
-    record {
-      few = parts.few;
-      memory = length-set kept.memory p s.memory ∙ parts.memory;
-      threads = length-set kept.threads p s.threads ∙ parts.threads;
-      lines = length-set kept.lines p s.line ∙ parts.lines;
-      mutexes = length-set kept.mutexes p s.mutexes ∙ parts.mutexes;
-      conditions = length-set kept.conditions p s.conditions ∙ parts.conditions;
-      running = length-set kept.running p s.running ∙ parts.running;
-      cancellations = length-set kept.cancellations p s.cancellations ∙ parts.cancellations;
-      cleanups = length-set kept.cleanups p s.cleanups ∙ parts.cleanups;
-      destructors = length-set kept.destructors p s.keys.destructors ∙ parts.destructors;
-      values = length-set kept.values p s.keys.values ∙ parts.values;
-      rounds = length-set kept.rounds p s.keys.rounds ∙ parts.rounds;
-      consoles = length-set kept.consoles p s.console ∙ parts.consoles;
-      statuses = length-set kept.statuses p s.status ∙ parts.statuses;
-      lasts = length-set kept.lasts p s.last ∙ parts.lasts;
-    }
 
 -- what was told of a decision has an entry
 pub entry_told : (n p tick room : ℕ) (limits : Limits) (kept new : Kept) (spent : Spent) (last : Option Entry) → AreParts n kept → p < n
@@ -121,7 +100,7 @@ pub still_whole : (p : ℕ) (s : Part) (kept new : Kept) (accounts : List KeptAc
     → IsWhole new (set accounts p account)
 still_whole p s kept new accounts account is moved same =
     let count : length (set accounts p account) ≡ length accounts = length-set accounts p account in
-    let parts : AreParts (length (set accounts p account)) (put_part p s kept) = subst (λ (n : ℕ). AreParts n (put_part p s kept)) (sym count) (put_parts (length accounts) p s kept is.parts) in
+    let parts : AreParts (length (set accounts p account)) (put_part p s kept) = subst (λ (n : ℕ). AreParts n (put_part p s kept)) (sym count) (parts_put (length accounts) p s kept is.parts) in
     subst (λ (k : Kept). IsWhole k (set accounts p account)) (sym moved) (record {
       parts = parts;
       limits = is.limits ∙ sym count;

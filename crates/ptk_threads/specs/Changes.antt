@@ -4,7 +4,7 @@ use Rattle.ptk_threads.specs.declared.slot.Change.{Change}
 use Rattle.ptk_threads.specs.declared.slot.Change.TheVariants.{Policy, AssignedPriority, Used, Phase, Main, Detached, Joiner, Result, Wait}
 use Rattle.ptk_threads.specs.Table.{with_policy, with_priority, with_used, with_phase, with_main, with_detached_mark, with_joiner, with_result, with_wait}
 
--- the thread with that field set (own)
+-- the thread with that field set
 abbrev pub thread_changed : Change → Thread → Thread
 thread_changed (Policy policy) thread = with_policy policy thread
 thread_changed (AssignedPriority priority) thread = with_priority priority thread

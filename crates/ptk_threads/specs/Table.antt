@@ -2,42 +2,41 @@
 use Rattle.std.specs.Prelude.{◌≡◌, ℕ, zero, suc, ◌≤◌, Bool, List, length, Option, Some, None, option_and_then, slice_index, slice_set, map}
 use Rattle.ptk_words.specs.Processor.{Processor}
 use Rattle.ptk_words.specs.Pools.{pool_get, pool_set, pool_changed, least_free}
-use Rattle.ptk_words.specs.Threads.{left_at_end, left_at_detach}
 use Rattle.ptk_words.specs.declared.threads.Thread.{Thread}
 use Rattle.ptk_words.specs.declared.threads.Phase.{Phase}
 use Rattle.ptk_words.specs.declared.threads.Policy.{Policy}
 use Rattle.ptk_words.specs.declared.threads.Wait.{Wait}
 use Rattle.ptk_words_parted.specs.Parts.{part_of, filled}
 
--- by partition and then by number: the threads, None where the number is free, and their stored effective priorities (own)
+-- by partition and then by number: the threads, None where the number is free, and their stored effective priorities
 pub record ThreadTable : Type 0 where
   pub threads : List (List (Option Thread))
   pub stored : List (List ℕ)
 
--- every partition has as many stored priorities as slots, at most 32 (own)
+-- every partition has as many stored priorities as slots, at most 32
 pub record IsTable (threads : List (List (Option Thread))) (stored : List (List ℕ)) : Type 0 where
   pub parts : length stored ≡ length threads
   pub same : (p : ℕ) → length (part_of stored p) ≡ length (part_of threads p)
   pub few : (p : ℕ) → length (part_of threads p) ≤ 32
 
--- as many free numbers for each partition as its count, with stored priority 0 (own)
+-- as many free numbers for each partition as its count, with stored priority 0
 abbrev pub free_table : List ℕ → ThreadTable
 free_table counts = record { threads = map (filled None) counts; stored = map (filled 0) counts }
 
 -- ---- reading
 
--- the thread of a number, None of a free one (own)
+-- the thread of a number, None of a free one
 abbrev pub thread_in : ThreadTable → ℕ → ℕ → Option Thread
 thread_in table p k = pool_get (part_of table.threads p) k
 
--- the stored priority of a number, 0 past the list (own)
+-- the stored priority of a number, 0 past the list
 abbrev pub stored_of : List ℕ → ℕ → ℕ
 stored_of stored zero = 0
 stored_of stored (suc i) = slice_index stored i
 
 -- ---- one partition's entries changed
 
--- the entry of a number, and its stored priority (own)
+-- the entry of a number, and its stored priority
 abbrev pub with_slot : ℕ → ℕ → Option Thread → ℕ → ThreadTable → ThreadTable
 with_slot p k slot priority table =
     record {
@@ -45,11 +44,11 @@ with_slot p k slot priority table =
       stored = slice_set table.stored p (pool_set (part_of table.stored p) k priority);
     }
 
--- the thread of a number changed by f; a free number stays free (own)
+-- the thread of a number changed by f; a free number stays free
 abbrev pub with_changed : ℕ → ℕ → (Thread → Thread) → ThreadTable → ThreadTable
 with_changed p k f table = record table { threads = slice_set table.threads p (pool_changed k f (part_of table.threads p)) }
 
--- the stored priority of a number (own)
+-- the stored priority of a number
 abbrev pub with_stored : ℕ → ℕ → ℕ → ThreadTable → ThreadTable
 with_stored p k priority table = record table { stored = slice_set table.stored p (pool_set (part_of table.stored p) k priority) }
 
@@ -66,12 +65,12 @@ with_new_at (Some k) p thread table = with_slot p k (Some thread) thread.priorit
 abbrev pub with_new : ℕ → Thread → ThreadTable → ThreadTable
 with_new p thread table = with_new_at (least_free (part_of table.threads p)) p thread table
 
--- the stored priorities where this is left at a number: 0 of a free number, and else they stay (own)
+-- the stored priorities where this is left at a number: 0 of a free number, and else they stay
 abbrev pub stored_left : ℕ → ℕ → Option Thread → List (List ℕ) → List (List ℕ)
 stored_left p k None stored = slice_set stored p (pool_set (part_of stored p) k 0)
 stored_left p k (Some thread) stored = stored
 
--- this is left at a number (own)
+-- this is left at a number
 abbrev pub with_rest : ℕ → ℕ → Option Thread → ThreadTable → ThreadTable
 with_rest p k rest table =
     record {
@@ -79,7 +78,7 @@ with_rest p k rest table =
       stored = stored_left p k rest table.stored;
     }
 
--- what f leaves of the thread of a number, which is free where f leaves nothing (own)
+-- what f leaves of the thread of a number, which is free where f leaves nothing
 abbrev pub with_left : ℕ → ℕ → (Thread → Option Thread) → ThreadTable → ThreadTable
 with_left p k f table = with_rest p k (option_and_then f (thread_in table p k)) table
 
@@ -89,7 +88,7 @@ with_left p k f table = with_rest p k (option_and_then f (thread_in table p k)) 
 abbrev pub with_cpu : Processor → Thread → Thread
 with_cpu cpu thread = record thread { cpu = cpu }
 
--- this thread in place of the other (own)
+-- this thread in place of the other
 abbrev pub replaced_by : Thread → Thread → Thread
 replaced_by thread old = thread
 
@@ -109,7 +108,7 @@ with_used used thread = record thread { used = used }
 abbrev pub with_phase : Phase → Thread → Thread
 with_phase phase thread = record thread { phase = phase }
 
--- whether the image started it (own)
+-- whether the image started it
 abbrev pub with_main : Bool → Thread → Thread
 with_main is_main thread = record thread { is_main = is_main }
 

@@ -384,7 +384,7 @@ impl Threads {
 fn change_in(slots: &mut [Slot], k: ThreadNo, change: Change)
     ensures { slots.new ≡ pool_changed k (thread_changed change) slots.old }
 {
-    let i = (k.number() - 1) as usize;
+    let i = k.place();
     if i < slots.len() {
         let slot = &mut slots[i];
         slot.change(change);
@@ -396,7 +396,7 @@ fn change_in(slots: &mut [Slot], k: ThreadNo, change: Change)
 fn set_cpu_in(slots: &mut [Slot], k: ThreadNo, cpu: Cpu)
     ensures { slots.new ≡ pool_changed k (with_cpu cpu) slots.old }
 {
-    let i = (k.number() - 1) as usize;
+    let i = k.place();
     if i < slots.len() {
         let slot = &mut slots[i];
         slot.set_cpu(cpu);
@@ -408,7 +408,7 @@ fn set_cpu_in(slots: &mut [Slot], k: ThreadNo, cpu: Cpu)
 fn slot_of(slots: &[Slot], k: ThreadNo) -> Slot
     ensures { result ≡ pool_get slots.now k }
 {
-    let i = (k.number() - 1) as usize;
+    let i = k.place();
     if i < slots.len() {
         slots[i]
     } else {
@@ -421,7 +421,7 @@ fn slot_of(slots: &[Slot], k: ThreadNo) -> Slot
 fn replace_in(slots: &mut [Slot], k: ThreadNo, thread: Thread)
     ensures { slots.new ≡ pool_changed k (replaced_by thread) slots.old }
 {
-    let i = (k.number() - 1) as usize;
+    let i = k.place();
     if i < slots.len() {
         let slot = &mut slots[i];
         slot.replace(thread);
@@ -433,7 +433,7 @@ fn replace_in(slots: &mut [Slot], k: ThreadNo, thread: Thread)
 pub fn stored_in(stored: &[u8], k: ThreadNo) -> u8
     ensures { result ≡ stored_of stored.now k }
 {
-    let i = (k.number() - 1) as usize;
+    let i = k.place();
     if i < stored.len() { stored[i] } else { 0 }
 }
 
@@ -442,7 +442,7 @@ pub fn stored_in(stored: &[u8], k: ThreadNo) -> u8
 fn put_slot(slots: &mut [Slot], k: ThreadNo, thread: Option<Thread>)
     ensures { slots.new ≡ pool_set slots.old k thread }
 {
-    let i = (k.number() - 1) as usize;
+    let i = k.place();
     if i < slots.len() {
         slots[i] = Slot::new(thread);
     }
@@ -453,7 +453,7 @@ fn put_slot(slots: &mut [Slot], k: ThreadNo, thread: Option<Thread>)
 fn put_stored(stored: &mut [u8], k: ThreadNo, priority: u8)
     ensures { stored.new ≡ pool_set stored.old k priority }
 {
-    let i = (k.number() - 1) as usize;
+    let i = k.place();
     if i < stored.len() {
         stored[i] = priority;
     }

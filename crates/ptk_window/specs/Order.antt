@@ -3,16 +3,16 @@ use Rattle.std.specs.Prelude.{◌≡◌, ℕ, ◌+◌, ◌≤◌, ◌==◌, ◌&
 use Rattle.ptk_words_windows.specs.declared.window.Window.{Window}
 use Rattle.ptk_words_windows.specs.Windows as windows
 
--- each window ends before the next begins (own)
+-- each window ends before the next begins
 abbrev pub AreInOrder : List Window → Type 0
 AreInOrder = AllPairs (λ v w. v.start + v.length ≤ w.start)
 
--- the windows stand by partition, and each partition's in order (own)
+-- the windows stand by partition, and each partition's in order
 abbrev pub AreGrouped : List Window → Type 0
 AreGrouped =
     AllPairs (λ v w. (v.partition ≤ w.partition) × (v.partition ≡ w.partition → v.start + v.length ≤ w.start))
 
--- the windows are a table, and the two lists have them in their orders (own)
+-- the windows are a table, and the two lists have them in their orders
 pub record IsKept (frame : ℕ) (given by_start by_partition : List Window) : Type 0 where
   pub table : windows.IsTable (record { frame = frame; windows = given })
   pub starts : IsPermutation given by_start
@@ -20,11 +20,11 @@ pub record IsKept (frame : ℕ) (given by_start by_partition : List Window) : Ty
   pub groups : IsPermutation given by_partition
   pub grouped : AreGrouped by_partition
 
--- the window is of a partition before p, or is p's and ends by the place (own)
+-- the window is of a partition before p, or is p's and ends by the place
 abbrev pub is_past : ℕ → ℕ → Window → Bool
 is_past p place w = nat_lt w.partition p || (w.partition == p && nat_le (w.start + w.length) place)
 
--- of the partition and the end that were found, the end where the partition is p (own)
+-- of the partition and the end that were found, the end where the partition is p
 abbrev pub end_of : ℕ → Option (ℕ × ℕ) → Option ℕ
 end_of p None = None
 end_of p (Some found) = if found.0 == p then Some found.1 else None

@@ -1,7 +1,7 @@
 -- The calls of a guest: the number of each in a7, and the ticks that it takes.
 use Rattle.std.specs.Prelude.{ℕ, List, [], ◌∷◌, find, ◌==◌, Option, unwrap_or, option_map}
 use Rattle.ptk_words.specs.declared.calls.Call.{Call}
-use Rattle.ptk_words.specs.declared.calls.Call.TheVariants.{Exit, ConsolePut, ConsoleGet, ClockGettime, ClockNanosleep, PthreadCreate, PthreadExit, PthreadJoin, PthreadDetach, PthreadSelf, SchedYield, PthreadSetschedparam, PthreadGetschedparam, PthreadSetschedprio, MutexInit, MutexDestroy, MutexLock, MutexTrylock, MutexTimedlock, MutexUnlock, CondInit, CondDestroy, CondWait, CondTimedwait, CondSignal, CondBroadcast, PthreadCancel, PthreadSetcancelstate, PthreadSetcanceltype, PthreadTestcancel, CleanupPush, CleanupPop, KeyCreate, KeyDelete, PthreadSetspecific, PthreadGetspecific}
+use Rattle.ptk_words.specs.declared.calls.Call.TheVariants.{Exit, ConsolePut, ConsoleGet, ClockGettime, ClockNanosleep, PthreadCreate, PthreadExit, PthreadJoin, PthreadDetach, PthreadSelf, SchedYield, PthreadSetschedparam, PthreadGetschedparam, PthreadSetschedprio, MutexInit, MutexDestroy, MutexLock, MutexTrylock, MutexTimedlock, MutexUnlock, MutexConsistent, CondInit, CondDestroy, CondWait, CondTimedwait, CondSignal, CondBroadcast, PthreadCancel, PthreadSetcancelstate, PthreadSetcanceltype, PthreadTestcancel, CleanupPush, CleanupPop, KeyCreate, KeyDelete, PthreadSetspecific, PthreadGetspecific}
 
 -- the number of a call and its ticks
 pub record CallRow : Type 0 where
@@ -34,6 +34,7 @@ row_of MutexLock = row 22 8
 row_of MutexTrylock = row 23 6
 row_of MutexTimedlock = row 24 10
 row_of MutexUnlock = row 25 10
+row_of MutexConsistent = row 26 6
 row_of CondInit = row 30 6
 row_of CondDestroy = row 31 6
 row_of CondWait = row 32 12
@@ -74,6 +75,7 @@ calls =
     ∷ MutexTrylock
     ∷ MutexTimedlock
     ∷ MutexUnlock
+    ∷ MutexConsistent
     ∷ CondInit
     ∷ CondDestroy
     ∷ CondWait

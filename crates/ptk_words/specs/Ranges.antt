@@ -1,5 +1,6 @@
 -- The ranges within which the numbers and the input of a section lie.
 use Rattle.std.specs.Prelude.{◌≡◌, ◌≤◌, ◌*◌, ◌%◌, List, length, All, AllPairs}
+use Rattle.ptk_words.specs.declared.TheConstants.{LAST_TICK}
 use Rattle.ptk_words.specs.declared.sections.Limits.{Limits}
 use Rattle.ptk_words.specs.declared.sections.Arrival.{Arrival}
 
@@ -27,5 +28,5 @@ pub record IsWithinLimits (limits : Limits) : Type 0 where
 -- the ticks of the input never fall, none is above 2^40, and there are at most 65536 bytes (own)
 pub record IsInput (arrivals : List Arrival) : Type 0 where
   pub never_falling : AllPairs (λ a b. a.tick ≤ b.tick) arrivals
-  pub in_time : All (λ a. a.tick ≤ 1099511627776) arrivals
+  pub in_time : All (λ a. a.tick ≤ LAST_TICK) arrivals
   pub few : length arrivals ≤ 65536

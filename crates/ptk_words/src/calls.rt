@@ -47,6 +47,8 @@ pub enum Call {
     MutexTimedlock,
     /// pthread_mutex_unlock.
     MutexUnlock,
+    /// pthread_mutex_consistent.
+    MutexConsistent,
     /// pthread_cond_init.
     CondInit,
     /// pthread_cond_destroy.
@@ -107,6 +109,7 @@ impl Call {
             23 => Some(Call::MutexTrylock),
             24 => Some(Call::MutexTimedlock),
             25 => Some(Call::MutexUnlock),
+            26 => Some(Call::MutexConsistent),
             30 => Some(Call::CondInit),
             31 => Some(Call::CondDestroy),
             32 => Some(Call::CondWait),
@@ -153,6 +156,7 @@ impl Call {
             Call::MutexTrylock => 23,
             Call::MutexTimedlock => 24,
             Call::MutexUnlock => 25,
+            Call::MutexConsistent => 26,
             Call::CondInit => 30,
             Call::CondDestroy => 31,
             Call::CondWait => 32,
@@ -201,6 +205,7 @@ impl Call {
             | Call::MutexInit
             | Call::MutexDestroy
             | Call::MutexTrylock
+            | Call::MutexConsistent
             | Call::CondInit
             | Call::CondDestroy => 6,
             Call::PthreadJoin

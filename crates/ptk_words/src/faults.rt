@@ -5,7 +5,7 @@ ghost use Rattle.ptk_words.specs.Faults.{errno_number, image_fault_number};
 
 use thiserror::Error;
 
-/// Why a call is refused, by the name that POSIX gives it (errno.h; the numbers are Linux's).
+/// What a call tells in place of 0, by the name that POSIX gives it (errno.h; the numbers are Linux's).
 #[derive(Clone, Copy, Debug, PartialEq, Eq)]
 pub enum Errno {
     EPERM,
@@ -19,6 +19,8 @@ pub enum Errno {
     ENOSYS,
     ENOTSUP,
     ETIMEDOUT,
+    EOWNERDEAD,
+    ENOTRECOVERABLE,
 }
 
 impl Errno {
@@ -38,6 +40,8 @@ impl Errno {
             Errno::ENOSYS => 38,
             Errno::ENOTSUP => 95,
             Errno::ETIMEDOUT => 110,
+            Errno::EOWNERDEAD => 130,
+            Errno::ENOTRECOVERABLE => 131,
         }
     }
 }

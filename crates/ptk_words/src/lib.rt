@@ -17,7 +17,7 @@ mod threads;
 pub use calls::{Call, cost};
 pub use faults::{Cause, Errno, FaultKind, ImageFault, Status};
 pub use memory::read_word;
-pub use mutexes::{MutexKind, Owner, Protocol};
+pub use mutexes::{MutexKind, Owner, Protocol, Soundness};
 pub use numbers::{ConditionNo, MutexNo, PartId, Priority, SlotNo, ThreadNo, Tick};
 pub use processor::Cpu;
 pub use sections::{Arrival, Entry, Limits};

@@ -1,4 +1,4 @@
-pub mod CostLaws
+pub mod CallLaws
 pub mod ChainLaws
 pub mod PriorityLaws
 pub mod ArrivalLaws

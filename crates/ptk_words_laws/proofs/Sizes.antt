@@ -3,7 +3,7 @@ pub mod Pools
 pub mod Locks
 pub mod Parts
 pub mod Unwindings
-pub mod Effects
+pub mod Stores
 pub mod Calls
 pub mod Objects
 pub mod Table

@@ -1,6 +1,7 @@
 -- Small guests, sections and windows, and what is read of a run.
 use Rattle.std.specs.Prelude.{ℕ, ◌*◌, List, [], ◌∷◌, ◌++◌, length, map, flat_map, codes, Option, Some, option_map}
 use Rattle.std.specs.Int.{w32, to_le_bytes}
+use Rattle.ptk_words.specs.Names.{ThreadNumber, Tick, Ticks, Word}
 use Rattle.ptk_words.specs.Processor.{register}
 use Rattle.ptk_words.specs.declared.sections.Limits.{Limits}
 use Rattle.ptk_words_windows.specs.declared.window.Window.{Window}
@@ -11,17 +12,17 @@ use Rattle.ptk_words_model.specs.Text.{newline}
 use Rattle.ptk_words_model.specs.Run.{alone}
 
 -- words as bytes, least byte first (RISC-V 2.6)
-abbrev pub bytes_of_words : List ℕ → List ℕ
+abbrev pub bytes_of_words : List Word → List ℕ
 bytes_of_words words = flat_map (to_le_bytes w32) words
 
--- an image of these words of text and data, with entry 0 and no zeros after them (own)
-abbrev pub image_of_words : List ℕ → List ℕ → List ℕ
+-- an image of these words of text and data, with entry 0 and no zeros after them
+abbrev pub image_of_words : List Word → List Word → List ℕ
 image_of_words text words =
     codes "PTKI"
     ++ (bytes_of_words (1 ∷ 0 ∷ 4 * length text ∷ 4 * length words ∷ 0 ∷ [])
     ++ (bytes_of_words text ++ bytes_of_words words))
 
--- the numbers of the section that the rows use (own)
+-- the numbers of the section that the rows use
 abbrev pub small : Limits
 small =
     record {
@@ -37,42 +38,42 @@ small =
       trace = 16;
     }
 
--- a window of the partition (own)
-abbrev pub window : ℕ → ℕ → ℕ → Window
+-- a window of this start and length
+abbrev pub window : Tick → Ticks → ℕ → Window
 window start len partition = record { start = start; length = len; partition = partition }
 
--- the own ticks of a partition that has one window, which begins with the frame (own)
-abbrev pub one_window : ℕ → ℕ → OwnTicks
+-- the own ticks of a partition that has one window, which begins with the frame
+abbrev pub one_window : Ticks → Ticks → OwnTicks
 one_window frame len = own_ticks (record { frame = frame; windows = window 0 len 0 ∷ [] }) 0
 
--- the own ticks of the first of two partitions that share a frame of 40 ticks by halves (own)
+-- the own ticks of the first of two partitions that share a frame of 40 ticks by halves
 abbrev pub first_half : OwnTicks
 first_half = own_ticks (record { frame = 40; windows = window 0 20 0 ∷ window 20 20 1 ∷ [] }) 0
 
--- the own ticks of the second of them (own)
+-- the own ticks of the second of two partitions that share a frame of 40 ticks by halves
 abbrev pub second_half : OwnTicks
 second_half = own_ticks (record { frame = 40; windows = window 0 20 0 ∷ window 20 20 1 ∷ [] }) 1
 
--- the state after so many ticks of a guest without input (own)
-abbrev pub run : OwnTicks → Limits → List ℕ → ℕ → State
+-- the state after so many ticks of a guest without input
+abbrev pub run : OwnTicks → Limits → List ℕ → Ticks → State
 run ticks limits image n = alone ticks limits (Some image) [] n
 
--- the name of the section that the rows use (own)
+-- the name of the section that the rows use
 abbrev pub name : List ℕ
 name = codes "p"
 
--- lines of text (own)
+-- lines of text
 abbrev pub lines : List (List ℕ) → List ℕ
 lines texts = flat_map (λ text. text ++ newline) texts
 
--- the ticks of the steps that the trace keeps (own)
-abbrev pub step_ticks : State → List ℕ
+-- the ticks of the steps that the trace keeps
+abbrev pub step_ticks : State → List Tick
 step_ticks s = map (λ entry. entry.tick) s.account.trace
 
--- the threads of these steps (own)
-abbrev pub step_threads : State → List ℕ
+-- the threads of the steps that the trace keeps
+abbrev pub step_threads : State → List ThreadNumber
 step_threads s = map (λ entry. entry.thread) s.account.trace
 
--- a register of a thread, None where there is no such thread (own)
-abbrev pub register_of : Part → ℕ → ℕ → Option ℕ
+-- a register of a thread, None where there is no such thread
+abbrev pub register_of : Part → ThreadNumber → ℕ → Option Word
 register_of s t i = option_map (λ thread. register thread.cpu i) (thread_at s.locks t)

@@ -5,8 +5,10 @@ pub mod Traces
 pub mod Threads
 pub mod Inputs
 pub mod Times
+pub mod States
 pub mod Priorities
 pub mod Waits
+pub mod Robust
 pub mod Cancellations
 pub mod Refusals
 pub mod Words

@@ -7,7 +7,7 @@ ghost use Rattle.ptk_words.specs.declared.sections.Limits.{Limits};
 ghost use Rattle.ptk_words_windows.specs.Windows.{OwnTicks};
 ghost use Rattle.ptk_words_model.specs.State.{Mutex, Console, Part};
 ghost use Rattle.ptk_words_model.specs.Withdrawal.{Expiry};
-ghost use Rattle.ptk_words_laws.specs.Laws.{CostsAreSmall, CallsHaveCosts, ChainIsDecided, PriorityIsGreatest, ArrivalsAreDue, IsInOrder};
+ghost use Rattle.ptk_words_laws.specs.Laws.{CostsAreSmall, CallsAreNumbered, ChainIsDecided, PriorityIsGreatest, ArrivalsAreDue, IsInOrder};
 ghost use Rattle.ptk_words_laws.specs.Sizes.{StartIsSized, CallsKeepSizes, DecisionsKeepSizes, SizesStay};
 
 /// Every number costs 1 to 16 ticks, and the greatest cost is 16.
@@ -15,17 +15,18 @@ pub fn costs_are_small()
     ensures { CostsAreSmall }
 {}
 
-/// Every call has a cost, and only a call has a cost of its own.
-pub fn calls_have_costs()
-    ensures { CallsHaveCosts }
+/// Every call stands in the list of calls, and is the call of its own number and of no other.
+pub fn calls_are_numbered()
+    ensures { CallsAreNumbered }
 {}
 
-/// So many steps as there are numbers of threads decide a chain, on a cycle too.
+/// As many steps as there are numbers of threads decide whether a chain leads from one thread to another, on a cycle too.
 pub fn chain_is_decided()
     ensures { (threads : List (Option Thread)) → (mutexes : List (Option Mutex)) → ChainIsDecided threads mutexes }
 {}
 
-/// The effective priority of a thread is the greatest held priority of the threads whose chain holds it.
+/// The effective priority, as the definitions compute it, is the maximum over all threads: the greatest held priority of
+/// the threads in use whose chain leads to the thread, each chain followed over any number of steps.
 pub fn priority_is_greatest()
     ensures { (threads : List (Option Thread)) → (mutexes : List (Option Mutex)) → PriorityIsGreatest threads mutexes }
 {}
@@ -50,7 +51,7 @@ pub fn calls_keep_sizes()
     ensures { (part : Part) → CallsKeepSizes part }
 {}
 
-/// So does every decision.
+/// Every decision leaves each part of the state as long as it was, and the ring and the output within their limits.
 pub fn decisions_keep_sizes()
     ensures { (limits : Limits) → (part : Part) → DecisionsKeepSizes limits part }
 {}

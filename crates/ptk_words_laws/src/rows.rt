@@ -8,8 +8,9 @@ ghost use Rattle.ptk_words_laws.specs.Rows.Inputs.{InputRing};
 ghost use Rattle.ptk_words_laws.specs.Rows.Times.{TickConversion};
 ghost use Rattle.ptk_words_laws.specs.Rows.Words.{DecodedWords};
 ghost use Rattle.ptk_words_laws.specs.Rows.Priorities.{InheritCycle, TwoStepChain, CeilingRefusal, NestedCeilings, RecursiveLimit, SelfDeadlock, InheritAfterHandover, InheritBasic, RaisedInPlace};
-ghost use Rattle.ptk_words_laws.specs.Rows.Waits.{FirstLock, BadNanosecondsOrder, ExpiredTimedlock, ExpiredWaitReleases, CountedRecursiveWait, EqualWakeups, CancelledWaiter, ZeroWordsWait, EdgePointers, CopiedWord};
-ghost use Rattle.ptk_words_laws.specs.Rows.Cancellations.{AsyncCancelReady, CancelledJoiner, DisableThenEnable, BadPointerWithRequest, SeventeenHandlers, DestructorLimit, DestructorRounds, ExitInDestructor};
+ghost use Rattle.ptk_words_laws.specs.Rows.Waits.{FirstLock, BadNanosecondsOrder, ExpiredTimedlock, ExpiredWaitReleases, CountedRecursiveWait, EqualWakeups, ZeroWordsWait, EdgePointers, CopiedWord};
+ghost use Rattle.ptk_words_laws.specs.Rows.Robust.{OwnerDied, UnrecoverableMutex, ConsistentRefusals, RecoveredLock, PlainOwnerDied, DeadlineOfADeadOwnersWaiter, HeirsBeforeJoiner, WaitOnDeadOwner, WaitOnLostMutex, CancelledHeir};
+ghost use Rattle.ptk_words_laws.specs.Rows.Cancellations.{AsyncCancelReady, CancelledWaiter, CancelledJoiner, DisableThenEnable, BadPointerWithRequest, SeventeenHandlers, DestructorLimit, DestructorRounds, ExitInDestructor};
 ghost use Rattle.ptk_words_laws.specs.Rows.Refusals.{CreateRefused, ThreadRefused, SmallCalls};
 
 /// The run of nine steps that prints `hi`.
@@ -17,7 +18,7 @@ pub fn hello()
     ensures { Hello }
 {}
 
-/// The same run after 3 and after 10 ticks.
+/// The run that prints `hi`, after 3 and after 10 ticks.
 pub fn cut_run()
     ensures { CutRun }
 {}
@@ -192,7 +193,7 @@ pub fn equal_wakeups()
     ensures { EqualWakeups }
 {}
 
-/// A condition waiter that is cancelled, and a signal afterwards.
+/// A condition waiter that is cancelled, a signal afterwards, and its handler.
 pub fn cancelled_waiter()
     ensures { CancelledWaiter }
 {}
@@ -265,4 +266,54 @@ pub fn thread_refused()
 /// What self and getschedparam tell, and numbers that are no call.
 pub fn small_calls()
     ensures { SmallCalls }
+{}
+
+/// An owner of a robust mutex that ends while another thread waits.
+pub fn owner_died()
+    ensures { OwnerDied }
+{}
+
+/// A dead owner's mutex that is unlocked as it is.
+pub fn unrecoverable()
+    ensures { UnrecoverableMutex }
+{}
+
+/// Mutexes that are not made consistent, and types that are none.
+pub fn consistent_refusals()
+    ensures { ConsistentRefusals }
+{}
+
+/// A mutex of a thread that ended with no other waiting for it, locked by another thread.
+pub fn recovered_lock()
+    ensures { RecoveredLock }
+{}
+
+/// A mutex that is not robust and whose owner ended.
+pub fn plain_owner_died()
+    ensures { PlainOwnerDied }
+{}
+
+/// The deadline of a timed lock that ended with the owner's death.
+pub fn deadline_of_a_dead_owners_waiter()
+    ensures { DeadlineOfADeadOwnersWaiter }
+{}
+
+/// Two mutexes of a thread that ends and is joined.
+pub fn heirs_before_joiner()
+    ensures { HeirsBeforeJoiner }
+{}
+
+/// A condition waiter that has a dead owner's mutex again.
+pub fn wait_on_dead_owner()
+    ensures { WaitOnDeadOwner }
+{}
+
+/// Condition waiters whose mutex is unrecoverable.
+pub fn wait_on_lost_mutex()
+    ensures { WaitOnLostMutex }
+{}
+
+/// A cancelled condition waiter that gets a dead owner's mutex.
+pub fn cancelled_heir()
+    ensures { CancelledHeir }
 {}

@@ -29,6 +29,7 @@ answer_of call.MutexLock = no_call
 answer_of call.MutexTrylock = no_call
 answer_of call.MutexTimedlock = no_call
 answer_of call.MutexUnlock = no_call
+answer_of call.MutexConsistent = no_call
 answer_of call.CondInit = no_call
 answer_of call.CondDestroy = no_call
 answer_of call.CondWait = no_call

@@ -48,6 +48,11 @@ success values i s = answer (Done 0) (replied i.caller (0 ∷ values) s)
 abbrev pub blocked : Part → Answer
 blocked s = answer Blocked (record s { running = None })
 
+-- this in a0; where there is no reply yet, the caller blocks (XSH 2.3, 2.8.4)
+abbrev pub told : Option Word → Invocation → Part → Answer
+told None i s = blocked s
+told (Some word) i s = answer (Done word) (replied i.caller (word ∷ []) s)
+
 -- the caller blocks in this wait (XSH 2.8.4)
 abbrev pub blocked_in : Wait → Invocation → Part → Answer
 blocked_in wait i s = blocked (with_locks (with_thread i.caller (λ thread. record thread { wait = Some wait })) s)
@@ -85,7 +90,7 @@ with_stored pointer word s = record s { memory = with_word s.memory pointer word
 -- a mutex of default attributes at the least free number, which the word then holds (PTHREAD_MUTEX_INITIALIZER; own, ENOMEM)
 abbrev pub set_up_mutex : Option MutexNumber → Pointer → Invocation → Part → (MutexNumber → Part → Answer) → Answer
 set_up_mutex None pointer i s next = refusal ENOMEM i s
-set_up_mutex (Some m) pointer i s next = next m (with_stored pointer m (with_pool_mutex m (Some (new_mutex Normal NoProtocol)) s))
+set_up_mutex (Some m) pointer i s next = next m (with_stored pointer m (with_pool_mutex m (Some (new_mutex Normal NoProtocol false)) s))
 
 -- the mutex of a word: 0 sets one up, the number of a mutex in use names it (pthread_mutex_init; own, EINVAL)
 abbrev pub using_mutex : Pointer → Invocation → Part → (MutexNumber → Part → Answer) → Answer

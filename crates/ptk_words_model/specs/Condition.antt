@@ -1,5 +1,6 @@
 -- Condition variables: wait, signal and broadcast (pthread_cond_wait, pthread_cond_signal).
-use Rattle.std.specs.Prelude.{ℕ, zero, suc, Bool, false, not, List, [], ◌∷◌, ◌++◌, length, ◌==◌, Option, Some, None, option_map, unwrap_or}
+use Rattle.std.specs.Prelude.{Bool, false, not, List, [], ◌∷◌, ◌++◌, length, ◌==◌, Option, Some, None, option_map, unwrap_or}
+use Rattle.std.specs.Fn.{iterate}
 use Rattle.std.specs.List.{list_any}
 use Rattle.ptk_words.specs.Names.{ConditionNumber, MutexNumber, ThreadNumber, Tick, Word}
 use Rattle.ptk_words.specs.Pools.{pool_get, pool_set, without, first_of_greatest}
@@ -71,11 +72,6 @@ after_signal_to (Some t) c syncs = after_unblock t c (Some 0) syncs
 abbrev pub after_signal : ConditionNumber → Syncs → Syncs
 after_signal c syncs = after_signal_to (first_of_greatest (effective_priority syncs.locks) (condition_waiters syncs c)) c syncs
 
--- signal so many times, each choice in the state that the one before left (pthread_cond_broadcast; own)
-abbrev pub after_signals : ℕ → ConditionNumber → Syncs → Syncs
-after_signals zero c syncs = syncs
-after_signals (suc n) c syncs = after_signals n c (after_signal c syncs)
-
--- signal, once for each waiter (pthread_cond_broadcast; own)
+-- signal, once for each waiter, each choice in the state that the one before left (pthread_cond_broadcast; own)
 abbrev pub after_broadcast : ConditionNumber → Syncs → Syncs
-after_broadcast c syncs = after_signals (length (condition_waiters syncs c)) c syncs
+after_broadcast c syncs = iterate (after_signal c) (length (condition_waiters syncs c)) syncs

@@ -7,13 +7,11 @@ use Rattle.ptk_words.specs.declared.TheConstants.{DESTROYED}
 use Rattle.ptk_words.specs.declared.faults.Errno.TheVariants.{EPERM, ENOMEM, EBUSY, EINVAL, ETIMEDOUT}
 use Rattle.ptk_words.specs.declared.threads.Wait.TheVariants.{RelockWait}
 use Rattle.ptk_words_model.specs.declared.LockMove.{LockMove}
-use Rattle.ptk_words_model.specs.declared.LockMove.TheVariants.{Takes, Counts, Waits, Refuses}
-use Rattle.ptk_words_model.specs.State.{with_locks}
-use Rattle.ptk_words_model.specs.Mutex.{mutex_at, owns, relock_move, after_move, after_unlock}
+use Rattle.ptk_words_model.specs.Mutex.{mutex_at, owns, relock_move, move_reply, after_move, after_unlock}
 use Rattle.ptk_words_model.specs.Condition.{condition_waiters, names_another, after_condition_wait, after_signal, after_broadcast}
 use Rattle.ptk_words_model.specs.Time.{timespec_at, is_timespec, deadline_of}
-use Rattle.ptk_words_model.specs.Calls.{refusal, blocked, with_stored, with_pool_condition}
-use Rattle.ptk_words_model.specs.Steps.{Row, Step, ◌>>=◌, ◌>>◌, registers, state, refuse◌when◌, refuse◌unless◌, ◌or_refuse◌, when◌finish◌, cancellation_point, readable, mutex_named, condition_named, change, change_locks, change_syncs, succeed, block}
+use Rattle.ptk_words_model.specs.Calls.{with_stored, with_pool_condition}
+use Rattle.ptk_words_model.specs.Steps.{Row, Step, ◌>>=◌, ◌>>◌, registers, state, refuse◌when◌, refuse◌unless◌, ◌or_refuse◌, when◌finish◌, cancellation_point, readable, mutex_named, condition_named, change, change_locks, change_syncs, succeed, reply_if_any, block}
 
 -- a condition variable at the least free number; the old word is not looked at (pthread_cond_init, ENOMEM; own)
 abbrev pub cond_init : Row
@@ -60,12 +58,13 @@ cond_wait = do
   change_syncs (after_condition_wait i.caller c m None)
   block
 
--- a running thread has its mutex again, or waits for it, with reply ETIMEDOUT (pthread_cond_timedwait; own)
+-- a running thread makes the move to have its mutex again, and is to be told ETIMEDOUT, at once or when it is woken (pthread_cond_timedwait; own)
 abbrev pub late_answer : LockMove → MutexNumber → Row
-late_answer Takes m i s = refusal ETIMEDOUT i (with_locks (after_move Takes i.caller m (RelockWait m (Some (errno_number ETIMEDOUT)))) s)
-late_answer Counts m i s = refusal ETIMEDOUT i (with_locks (after_move Counts i.caller m (RelockWait m (Some (errno_number ETIMEDOUT)))) s)
-late_answer Waits m i s = blocked (with_locks (after_move Waits i.caller m (RelockWait m (Some (errno_number ETIMEDOUT)))) s)
-late_answer (Refuses e) m i s = refusal ETIMEDOUT i s
+late_answer move m = do
+  i ← registers
+  let reply = Some (errno_number ETIMEDOUT)
+  change_locks (after_move move i.caller m (RelockWait m reply))
+  reply_if_any (move_reply move reply)
 
 -- a deadline already reached: the mutex is released and locked again (pthread_cond_timedwait)
 abbrev pub late_wait_answer : MutexNumber → Row

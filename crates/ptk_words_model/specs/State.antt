@@ -1,11 +1,12 @@
 -- The state of one partition, by its parts. Threads, mutexes, condition variables and keys are entries of pools, numbered from 1.
-use Rattle.std.specs.Prelude.{ℕ, List, Option, None}
+use Rattle.std.specs.Prelude.{ℕ, Bool, List, Option, None}
 use Rattle.ptk_words.specs.Names.{Byte, Pointer, ThreadNumber, Tick, Ticks, Word}
 use Rattle.ptk_words.specs.Pools.{pool_update}
 use Rattle.ptk_words.specs.declared.threads.Thread.{Thread}
 use Rattle.ptk_words.specs.declared.threads.Cleanup.{Cleanup}
 use Rattle.ptk_words.specs.declared.mutexes.MutexKind.{MutexKind}
 use Rattle.ptk_words.specs.declared.mutexes.Protocol.{Protocol}
+use Rattle.ptk_words.specs.declared.mutexes.Soundness.{Soundness}
 use Rattle.ptk_words.specs.declared.mutexes.Owner.{Owner}
 use Rattle.ptk_words.specs.declared.sections.Arrival.{Arrival}
 use Rattle.ptk_words.specs.declared.sections.Entry.{Entry}
@@ -15,10 +16,12 @@ use Rattle.ptk_words_model.specs.declared.Rounds.{Rounds}
 
 -- ---- mutexes and condition variables
 
--- a mutex, its waiters in order of arrival (pthread_mutex_lock)
+-- a mutex, its waiters in order of arrival; a robust one may be left inconsistent or unrecoverable (pthread_mutex_lock, pthread_mutexattr_setrobust)
 pub record Mutex : Type 0 where
   pub kind : MutexKind
   pub protocol : Protocol
+  pub is_robust : Bool
+  pub soundness : Soundness
   pub owner : Owner
   pub count : ℕ
   pub waiters : List ThreadNumber

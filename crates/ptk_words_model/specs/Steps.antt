@@ -12,7 +12,7 @@ use Rattle.ptk_words_model.specs.Schedule.{with_thread}
 use Rattle.ptk_words_model.specs.Unwinding.{after_unwinding_start, without_thread}
 use Rattle.ptk_words_model.specs.declared.Invocation.{Invocation}
 use Rattle.ptk_words_model.specs.declared.Reply.TheVariants.{Halted, Unwinding}
-use Rattle.ptk_words_model.specs.Calls.{Answer, answer, refusal, success, blocked, blocked_in, is_pointer, is_cancelled, cancellation_answer, using_mutex, using_condition}
+use Rattle.ptk_words_model.specs.Calls.{Answer, answer, refusal, success, blocked, told, blocked_in, is_pointer, is_cancelled, cancellation_answer, using_mutex, using_condition}
 
 -- ---- calls and their steps
 
@@ -134,6 +134,10 @@ succeed_with_both first second i s = success (first ∷ second ∷ []) i s
 -- the caller blocks (XSH 2.8.4)
 abbrev pub block : Row
 block i s = blocked s
+
+-- this in a0; where there is no reply yet, the caller blocks (XSH 2.3, 2.8.4)
+abbrev pub reply_if_any : Option Word → Row
+reply_if_any reply i s = told reply i s
 
 -- the caller blocks in this wait (XSH 2.8.4)
 abbrev pub block_in : Wait → Row

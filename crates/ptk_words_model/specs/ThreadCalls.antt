@@ -1,10 +1,9 @@
 -- Calls 10 to 18: threads and their scheduling (pthread_create to pthread_setschedprio).
-use Rattle.std.specs.Prelude.{Bool, true, ◌||◌, ◌==◌, nat_lt, if◌then◌else◌, Some, None, is_some}
+use Rattle.std.specs.Prelude.{true, ◌==◌, nat_lt, if◌then◌else◌, Some, None}
 use Rattle.std.specs.List.{list_any}
 use Rattle.ptk_words.specs.Names.{ThreadNumber, Priority}
 use Rattle.ptk_words.specs.Pools.{least_free, without}
 use Rattle.ptk_words.specs.declared.faults.Errno.TheVariants.{EAGAIN, EINVAL, EDEADLK, ENOTSUP}
-use Rattle.ptk_words.specs.declared.threads.Thread.{Thread}
 use Rattle.ptk_words.specs.declared.threads.Wait.TheVariants.{JoinWait}
 use Rattle.ptk_words_model.specs.State.{Locks, Part, with_locks}
 use Rattle.ptk_words_model.specs.Schedule.{at_tail, at_head, is_running}

@@ -1,5 +1,5 @@
 -- Unwinding: cleanup handlers, key destructors and a thread's end (XSH 2.9.5.3; pthread_exit, pthread_key_create).
-use Rattle.std.specs.Prelude.{◌%◌, Bool, false, not, ◌||◌, List, [], ◌∷◌, if◌then◌else◌, Option, Some, None, unwrap_or, is_some}
+use Rattle.std.specs.Prelude.{◌%◌, Bool, false, not, List, [], ◌∷◌, if◌then◌else◌, Option, Some, None, unwrap_or}
 use Rattle.std.specs.List.{list_any}
 use Rattle.ptk_words.specs.Names.{Pointer, ThreadNumber, Word}
 use Rattle.ptk_words.specs.declared.TheConstants.{A0, RA, RETURN_GATE}
@@ -58,7 +58,7 @@ is_alive thread = not (is_ended (phase_of thread))
 abbrev pub after_last_end : Part → Part
 after_last_end s = if list_any is_alive s.threads then s else with_halt (Exited 0) s
 
--- the thread has ended: its mutexes are nobody's, its joiner is woken, its number free or kept (pthread_exit; own)
+-- the thread has ended: its robust mutexes go to their heirs and the others are nobody's, then its joiner is woken, its number free or kept (pthread_exit, pthread_mutexattr_setrobust; own)
 abbrev pub after_end : ThreadNumber → Part → Part
 after_end t s =
     let after : Part = with_locks (λ locks. after_release t (thread_at locks t) (after_owner_end t locks)) s in

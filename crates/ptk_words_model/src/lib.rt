@@ -117,6 +117,8 @@ pub enum Spent {
 pub enum LockMove {
     /// The caller owns the free mutex.
     Takes,
+    /// The caller owns the free mutex, whose last owner ended, and is told so (EOWNERDEAD).
+    Recovers,
     /// The caller's own recursive mutex counts up.
     Counts,
     /// The caller blocks as the last waiter.

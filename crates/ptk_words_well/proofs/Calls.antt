@@ -234,6 +234,7 @@ well_answer call.MutexLock = well_no_call
 well_answer call.MutexTrylock = well_no_call
 well_answer call.MutexTimedlock = well_no_call
 well_answer call.MutexUnlock = well_no_call
+well_answer call.MutexConsistent = well_no_call
 well_answer call.CondInit = well_no_call
 well_answer call.CondDestroy = well_no_call
 well_answer call.CondWait = well_no_call

@@ -1,9 +1,10 @@
 -- Numbers that get free, and the end of a thread.
-use Rattle.std.proofs.Common.{◌≡◌, ℕ, zero, suc, ◌<◌, Bool, true, false, ◌||◌, List, [], ◌∷◌, ◌++◌, map, replicate, refl, sym, ◌∙◌, ap, subst, inl, inr}
+use Rattle.std.proofs.Common.{◌≡◌, ℕ, ◌<◌, Bool, true, false, ◌||◌, List, [], ◌∷◌, ◌++◌, fold, replicate, refl, sym, ◌∙◌, ap, subst, inl, inr}
 use Rattle.std.specs.Prelude.{◌≢◌, Option, Some, None, option_map, is_some, if◌then◌else◌}
 use Rattle.std.specs.List.{list_any}
 use Rattle.std.proofs.lemmas.Bool.{cases_eq, false≢true, false_from_ne_true}
-use Rattle.ptk_words.specs.Pools.{pool_get, pool_set, pool_changed, is_in}
+use Rattle.ptk_words.specs.Names.{ThreadNumber, MutexNumber}
+use Rattle.ptk_words.specs.Pools.{pool_get, pool_set, pool_changed, numbers_of, is_in}
 use Rattle.ptk_words.specs.declared.sections.Limits.{Limits}
 use Rattle.ptk_words.specs.declared.faults.Status.TheVariants.{Exited}
 use Rattle.ptk_words.specs.declared.threads.Thread.{Thread}
@@ -11,11 +12,11 @@ use Rattle.ptk_words.specs.declared.threads.Phase.TheVariants.{Ended}
 use Rattle.ptk_words.specs.declared.threads.Wait.TheVariants.{JoinWait}
 use Rattle.ptk_words_model.specs.State.{Mutex, Locks, Part, with_locks}
 use Rattle.ptk_words_model.specs.Priority.{thread_at}
-use Rattle.ptk_words_model.specs.Mutex.{wait_of, mutex_after_end, after_owner_end}
+use Rattle.ptk_words_model.specs.Mutex.{mutex_at, wait_of, after_mutex_end, after_owner_end}
 use Rattle.ptk_words_model.specs.Schedule.{with_thread, woken_with, after_wake}
 use Rattle.ptk_words_model.specs.Unwinding.{is_alive, after_join_by, without_thread, after_release, after_last_end, after_end}
 use Rattle.ptk_words_well.specs.Well.{IsWell, is_ready, joiner_of, used_of}
-use Rattle.ptk_words_well.proofs.Pools.{get-set_other, free_own, length-pool_set, changed_own, changed_other, length-changed}
+use Rattle.ptk_words_well.proofs.Pools.{get-replicate, get-set_other, free_own, length-pool_set, changed_own, changed_other, length-changed}
 use Rattle.ptk_words_well.proofs.Lines.{out_push}
 use Rattle.ptk_words_well.proofs.Lined.{AreLined, AreOthers, ready_waits, ready_alive, not_ready_out, not_ready_stopped, lined_stopped, lined_others, lined_push}
 use Rattle.ptk_words_well.proofs.Waiting.{AreWaiting, AreSameWaits, IsJoinChange, waiting_same, waiting_joined}
@@ -168,15 +169,20 @@ released limits t (Some thread) s there runs well = release_at limits t thread t
 pub well_release : (limits : Limits) (t : ℕ) (s : Part) → s.running ≡ Some t → IsWell limits s → IsWell limits (record (with_locks (after_release t (thread_at s.locks t)) s) { running = None })
 well_release limits t s runs well = released limits t (thread_at s.locks t) s refl runs well
 
-mutexes_free : (t n : ℕ) → map (mutex_after_end t) (replicate n None) ≡ replicate n None
-mutexes_free t zero = refl
-mutexes_free t (suc n) = ap (λ mutexes. None ∷ mutexes) (mutexes_free t n)
+-- what the thread's end makes of these mutexes, one after the other
+abbrev ends_of : ThreadNumber → List MutexNumber → Locks → Locks
+ends_of t ms locks = fold (λ out m. after_mutex_end t (mutex_at out m) m out) locks ms
 
--- where every mutex number is free, no mutex is left behind
+ends_of_free : (t : ThreadNumber) (ms : List MutexNumber) (locks : Locks) → ((m : MutexNumber) → mutex_at locks m ≡ None) → ends_of t ms locks ≡ locks
+ends_of_free t [] locks free = refl
+ends_of_free t (m ∷ ms) locks free =
+    let same : after_mutex_end t (mutex_at locks m) m locks ≡ locks = ap (λ (mutex : Option Mutex). after_mutex_end t mutex m locks) (free m) in
+    ap (ends_of t ms) same ∙ ends_of_free t ms locks free
+
+-- where every mutex number is free, a thread's end changes no mutex and wakes nobody
 pub owner_end_same : (t n : ℕ) (locks : Locks) → locks.mutexes ≡ replicate n None → after_owner_end t locks ≡ locks
 owner_end_same t n locks e =
-    let same : map (mutex_after_end t) locks.mutexes ≡ locks.mutexes = ap (map (mutex_after_end t)) e ∙ mutexes_free t n ∙ sym e in
-    ap (λ (mutexes : List (Option Mutex)). record locks { mutexes = mutexes }) same
+    ends_of_free t (numbers_of locks.mutexes) locks (λ m. ap (λ (mutexes : List (Option Mutex)). pool_get mutexes m) e ∙ get-replicate n m)
 
 pub well_end : (limits : Limits) (t : ℕ) (s : Part) → s.running ≡ Some t → IsWell limits s → IsWell limits (after_end t s)
 well_end limits t s runs well =

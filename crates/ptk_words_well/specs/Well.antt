@@ -35,7 +35,7 @@ abbrev pub IsCalm : Option Cancellation → Type 0
 IsCalm None = Unit {0}
 IsCalm (Some c) = (c.is_pending ≡ false) × (c.is_marked ≡ false)
 
--- the parts that no call in use changes are as at the start (own)
+-- the parts that no call in use changes are as at the start
 pub record IsUnused (limits : Limits) (s : Part) : Type 0 where
   pub mutexes : s.mutexes ≡ replicate limits.mutexes None
   pub conditions : s.conditions ≡ replicate limits.conditions None
@@ -45,7 +45,7 @@ pub record IsUnused (limits : Limits) (s : Part) : Type 0 where
   pub values : s.keys.values ≡ replicate limits.threads (no_values limits.keys)
   pub calm : (t : ℕ) → IsCalm (numbered s.cancellations t)
 
--- the state is whole: its lists have their sizes, the running thread and those of the line are ready, none stands in two places, and waits agree with the waiters (own)
+-- the state is whole: its lists have their sizes, the running thread and those of the line are ready, none stands in two places, and waits agree with the waiters
 pub record IsWell (limits : Limits) (s : Part) : Type 0 where
   pub unused : IsUnused limits s
   pub memory : length s.memory ≡ limits.memory

@@ -5,17 +5,17 @@ use Rattle.ptk_words_windows.specs.declared.fault.WindowFault.{WindowFault}
 use Rattle.ptk_words_windows.specs.declared.fault.WindowFault.TheVariants.{Empty, Short, Overlap, PastFrame, UnknownPartition}
 use Rattle.ptk_words_windows.specs.declared.window.Window.{Window}
 
--- some element and one after it are so related (own)
+-- some element and one after it are so related
 abbrev pub some_pair : {A : Type 0} → (A → A → Bool) → List A → Bool
 some_pair r [] = false
 some_pair r (x ∷ xs) = list_any (r x) xs || some_pair r xs
 
--- the first of the two (own)
+-- the first of the two
 abbrev pub earlier : {E : Type 0} → Option E → Option E → Option E
 earlier (Some e) o = Some e
 earlier None o = o
 
--- the first fault that f finds (own)
+-- the first fault that f finds
 abbrev pub first_fault : {A E : Type 0} → (A → Option E) → List A → Option E
 first_fault f [] = None
 first_fault f (x ∷ xs) = earlier (f x) (first_fault f xs)
@@ -28,7 +28,7 @@ fault_of frame parts w =
     else if nat_le parts w.partition then Some UnknownPartition
     else None
 
--- the two, neither of them empty, have a common tick (own)
+-- the two, neither of them empty, have a common tick
 abbrev pub are_overlapping : Window → Window → Bool
 are_overlapping v w = nat_lt v.start (w.start + w.length) && nat_lt w.start (v.start + v.length)
 

@@ -8,7 +8,7 @@ pub record WindowTable : Type 0 where
   pub frame : ℕ
   pub windows : List Window
 
--- the place in the frame lies in the window (own)
+-- the place in the frame lies in the window
 abbrev pub Holds : Window → ℕ → Type 0
 Holds w place = (w.start ≤ place) × (place < w.start + w.length)
 
@@ -16,25 +16,25 @@ Holds w place = (w.start ≤ place) × (place < w.start + w.length)
 abbrev pub holds : Window → ℕ → Bool
 holds w place = nat_le w.start place && nat_lt place (w.start + w.length)
 
--- the first tick of the frame that holds the tick (own)
+-- the first tick of the frame that holds the tick
 abbrev pub frame_start : ℕ → ℕ → ℕ
 frame_start frame tick = tick - tick % frame
 
--- the first tick after the window, in the frame of the tick (own)
+-- the first tick after the window, in the frame of the tick
 abbrev pub end_from : ℕ → ℕ → Window → ℕ
 end_from frame tick w = frame_start frame tick + (w.start + w.length)
 
--- the tick lies in a window of the partition (own)
+-- the tick lies in a window of the partition
 abbrev pub IsOwn : WindowTable → ℕ → ℕ → Type 0
 IsOwn table p tick = Any (λ w. (w.partition ≡ p) × Holds w (tick % table.frame)) table.windows
 
--- n is the partition's first tick that is not before the tick (own)
+-- n is the partition's first tick that is not before the tick
 pub record IsFirstOwn (table : WindowTable) (p tick n : ℕ) : Type 0 where
   pub own : IsOwn table p n
   pub not_before : tick ≤ n
   pub least : (k : ℕ) → tick ≤ k → k < n → ¬ IsOwn table p k
 
--- the tick lies in a window of the partition, and end is the first tick after that window (own)
+-- the tick lies in a window of the partition, and end is the first tick after that window
 abbrev pub IsOwnUntil : WindowTable → ℕ → ℕ → ℕ → Type 0
 IsOwnUntil table p tick end =
     Any (λ w. (w.partition ≡ p) × Holds w (tick % table.frame) × (end ≡ end_from table.frame tick w)) table.windows
@@ -48,23 +48,23 @@ pub record IsTable (table : WindowTable) : Type 0 where
 
 -- ---- looked up in the list
 
--- the windows of a partition (own)
+-- the windows of a partition
 abbrev pub windows_of : WindowTable → ℕ → List Window
 windows_of table p = filter (λ w. w.partition == p) table.windows
 
--- the first tick of the window that is not before the tick, in its frame or the next (own)
+-- the first tick of the window that is not before the tick, in its frame or the next
 abbrev pub first_from : ℕ → ℕ → Window → ℕ
 first_from frame tick w =
     if nat_lt (tick % frame) (w.start + w.length)
     then frame_start frame tick + max (tick % frame) w.start
     else frame_start frame tick + frame + w.start
 
--- what one partition sees of the table: the end of its window that holds a tick, None where the tick is not its own, and its first tick not before a tick (own)
+-- what one partition sees of the table: the end of its window that holds a tick, None where the tick is not its own, and its first tick not before a tick
 pub record OwnTicks : Type 0 where
   pub end_at : ℕ → Option ℕ
   pub next_of : ℕ → Option ℕ
 
--- what the partition sees (own)
+-- what the partition sees
 abbrev pub own_ticks : WindowTable → ℕ → OwnTicks
 own_ticks table p =
     record {

@@ -3,14 +3,12 @@
 //! test that has files is a process of its own, and works in a folder of its own, which it removes. A helper that promises
 //! nothing stands between each row and the calls that it tests.
 
-use super::{asm, check, fault_of, obey, trace};
+use super::{answer, asm, obey};
 use crate::reading::{bytes_in, config_in};
-use crate::telling::{tell, usage};
-use crate::{RunFault, answer_words, unread};
+use crate::telling::usage;
+use crate::{answer_words, unread};
 use ptk_main_faults::Fault;
 use ptk_main_line::Request;
-use ptk_system::BootFault;
-use ptk_words::{PartId, Tick};
 use std::alloc::AllocError;
 use std::{env, fs, io};
 
@@ -108,23 +106,7 @@ fn config_fault_in<'a>(rt: &HostRuntime, name: &'a str) -> Option<Fault<'a>> {
 // Whether `check` answers this for the configuration in a file.
 fn is_checked(rt: &HostRuntime, file: &str, want: Result<(), Fault<'_>>) -> bool {
     match config_in(rt, file) {
-        Ok(config) => check(rt, &config) == want,
-        Err(_) => false,
-    }
-}
-
-// Whether `trace` at 20 ticks has this fault for the configuration in a file.
-fn is_trace_refused(rt: &HostRuntime, file: &str, name: &str, want: Fault<'_>) -> bool {
-    match config_in(rt, file) {
-        Ok(config) => trace(rt, &config, Tick::new(20), name) == Err(want),
-        Err(_) => false,
-    }
-}
-
-// Whether the fault of a run of the configuration in a file is told so.
-fn is_told_as(rt: &HostRuntime, file: &str, fault: RunFault, want: Fault<'_>) -> bool {
-    match config_in(rt, file) {
-        Ok(config) => fault_of(&config, "z", fault) == want,
+        Ok(config) => answer(rt, &config, Request::Check { file }) == want,
         Err(_) => false,
     }
 }
@@ -209,38 +191,8 @@ fn a_sound_configuration_is_done(rt: HostRuntime) {
     assert_eq!(rt; check_status(&rt, "hello.toml"), 0);
     assert_eq!(rt; run_status(&rt, "hello.toml"), 0);
     assert_eq!(rt; trace_status(&rt, "hello.toml", "p"), 0);
-    assert!(rt; is_trace_refused(&rt, "hello.toml", "z", Fault::NoPartition("z")));
     assert_eq!(rt; trace_status(&rt, "hello.toml", "z"), 1);
     assert!(rt; has_left(&rt, "a-sound-configuration-is-done"));
-}
-
-#[test]
-fn each_fault_of_a_run_is_told(rt: HostRuntime) {
-    assert!(rt; has_entered(&rt, "each-fault-of-a-run-is-told"));
-    assert!(rt; is_text_written(&rt, "two.toml", &TWO));
-    assert!(rt;
-        is_told_as(
-            &rt,
-            "two.toml",
-            RunFault::NoPartition,
-            Fault::NoPartition("z")
-        )
-    );
-    assert!(rt; is_told_as(&rt, "two.toml", RunFault::Write, Fault::WriteFailed));
-    assert!(rt;
-        is_told_as(
-            &rt,
-            "two.toml",
-            RunFault::Boot(BootFault::Memory),
-            Fault::NoMemory
-        )
-    );
-    let missing = RunFault::Boot(BootFault::MissingFile(PartId::new(1)));
-    assert!(rt; is_told_as(&rt, "two.toml", missing, Fault::MissingFile("q.img")));
-    assert_eq!(rt; tell(&rt, &Fault::MissingFile("q.img")), 1);
-    assert_eq!(rt; tell(&rt, &Fault::WriteFailed), 3);
-    assert_eq!(rt; tell(&rt, &Fault::NoMemory), 3);
-    assert!(rt; has_left(&rt, "each-fault-of-a-run-is-told"));
 }
 
 #[test]

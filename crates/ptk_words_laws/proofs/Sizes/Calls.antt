@@ -1,12 +1,12 @@
 -- The calls keep the sizes of a state.
 use Rattle.std.proofs.Common.{arith, ◌≡◌, ℕ, ◌+◌, ◌%◌, ◌≤◌, ◌<◌, Bool, true, false, List, [], ◌∷◌, ◌++◌, length, ◌∙◌, refl}
-use Rattle.std.specs.Prelude.{Option, Some, None, not, nat_lt, ◌==◌, if◌then◌else◌, ◌&&◌, ◌||◌, is_none}
+use Rattle.std.specs.Prelude.{Option, Some, None, Result, Ok, Err, not, nat_lt, ◌==◌, if◌then◌else◌}
 use Rattle.std.specs.List.{list_any}
 use Rattle.ptk_words.specs.Faults.{errno_number}
 use Rattle.ptk_words.specs.Pools.{pool_set, least_free, without}
 use Rattle.ptk_words.specs.declared.TheConstants.{CANCELED}
 use Rattle.ptk_words.specs.declared.faults.Errno.{Errno}
-use Rattle.ptk_words.specs.declared.faults.Errno.TheVariants.{ESRCH, EAGAIN, EFAULT, EINVAL, EDEADLK, ENOSYS, ENOTSUP}
+use Rattle.ptk_words.specs.declared.faults.Errno.TheVariants.{ESRCH, EAGAIN, EINVAL, EDEADLK, ENOSYS, ENOTSUP}
 use Rattle.ptk_words.specs.declared.faults.Status.TheVariants.{Exited}
 use Rattle.ptk_words.specs.declared.sections.Limits.{Limits}
 use Rattle.ptk_words.specs.declared.threads.Thread.{Thread}
@@ -20,12 +20,13 @@ use Rattle.ptk_words_model.specs.Keys.{with_new_specific}
 use Rattle.ptk_words_model.specs.Console.{is_full, with_output, with_waiter}
 use Rattle.ptk_words_model.specs.Unwinding.{without_thread}
 use Rattle.ptk_words.specs.Threads.{is_ended, is_taken}
+use Rattle.ptk_words_model.specs.declared.Creation.{Creation}
 use Rattle.ptk_words_model.specs.declared.Invocation.{Invocation}
-use Rattle.ptk_words_model.specs.Calls.{Answer, is_pointer, replied, refusal, success, blocked, blocked_in, no_call, is_cancelled, cancellation_answer, using_thread}
-use Rattle.ptk_words_model.specs.ConsoleCalls.{exit_call, console_put, console_get_answer, console_get}
-use Rattle.ptk_words_model.specs.ThreadCalls.{is_explicit, is_no_choice, is_no_stack_top, create, pthread_exit, join, detach, self, after_placing, yield, after_placing_at_tail, setschedparam, getschedparam, after_priority_change, setschedprio}
-use Rattle.ptk_words_model.specs.ThreadCreation.{Attributes, attributes_at, policy_of, is_priority, new_cancellation, with_new_thread, created_thread}
-use Rattle.ptk_words_model.specs.Steps.{◌or_refuse◌}
+use Rattle.ptk_words_model.specs.Calls.{Answer, replied, refusal, success, blocked, told, blocked_in, no_call, is_cancelled, cancellation_answer, using_thread}
+use Rattle.ptk_words_model.specs.ConsoleCalls.{exit_call, console_put, take_input, console_get}
+use Rattle.ptk_words_model.specs.ThreadCalls.{create, pthread_exit, join, detach, self, after_placing, yield, after_placing_at_tail, setschedparam, getschedparam, after_priority_change, setschedprio}
+use Rattle.ptk_words_model.specs.ThreadCreation.{policy_of, is_priority, creation_at, new_cancellation, with_new_thread, created_thread}
+use Rattle.ptk_words_model.specs.Steps.{Row, ◌>>=◌, ◌>>◌, ◌or_refuse◌, valid, thread, change, succeed_with}
 use Rattle.ptk_words_laws.proofs.Sizes.Pools.{length-pool_set, below_from_full}
 use Rattle.ptk_words_laws.proofs.Sizes.Locks.{LocksSized, with_thread_sized, at_tail_with_sized, with_line_sized, without_thread_sized}
 use Rattle.ptk_words_laws.proofs.Sizes.Parts.{Sized, sized_if, with_locks_sized, with_cancellation_sized, with_cleanups_sized, with_keys_sized, with_console_sized, with_running_sized, with_halt_sized, length-pushed}
@@ -42,7 +43,7 @@ pub answer_if : (l : Limits) (b : Bool) (x y : Answer) → AnswerSized l x → (
 answer_if l true x y h k = h
 answer_if l false x y h k = k refl
 
--- the same without that fact
+-- by a test, each answer
 pub answer_either : (l : Limits) (b : Bool) (x y : Answer) → AnswerSized l x → AnswerSized l y → AnswerSized l (if b then x else y)
 answer_either l true x y h k = h
 answer_either l false x y h k = k
@@ -60,6 +61,10 @@ success_sized l values i s h = record { part = replied_sized l i.caller (0 ∷ v
 pub blocked_sized : (l : Limits) (s : Part) → Sized l s → AnswerSized l (blocked s)
 blocked_sized l s h = record { part = with_running_sized l None s h }
 
+pub told_sized : (l : Limits) (reply : Option ℕ) (i : Invocation) (s : Part) → Sized l s → AnswerSized l (told reply i s)
+told_sized l None i s h = blocked_sized l s h
+told_sized l (Some word) i s h = record { part = replied_sized l i.caller (word ∷ []) s h }
+
 pub blocked_in_sized : (l : Limits) (wait : Wait) (i : Invocation) (s : Part) → Sized l s → AnswerSized l (blocked_in wait i s)
 blocked_in_sized l wait i s h =
     blocked_sized l (with_locks (with_thread i.caller (λ thread. record thread { wait = Some wait })) s)
@@ -73,6 +78,11 @@ cancellation_sized l i s h = record { part = unwinding_start_sized l i.caller CA
 pub given_sized : {A : Type 0} (l : Limits) (o : Option A) (e : Errno) (i : Invocation) (s : Part) (rest : A → Answer) → ((a : A) → AnswerSized l (rest a)) → Sized l s → AnswerSized l ((o or_refuse e) (λ a _ _. rest a) i s)
 given_sized l None e i s rest k h = refusal_sized l e i s h
 given_sized l (Some a) e i s rest k h = k a
+
+-- a value, or the error that stands in its place
+valid_sized : {A : Type 0} (l : Limits) (r : Result A Errno) (i : Invocation) (s : Part) (rest : A → Row) → ((a : A) → AnswerSized l (rest a i s)) → Sized l s → AnswerSized l (valid r rest i s)
+valid_sized l (Ok a) i s rest k h = k a
+valid_sized l (Err e) i s rest k h = refusal_sized l e i s h
 
 pub using_thread_sized : (l : Limits) (t : ℕ) (i : Invocation) (s : Part) (next : Thread → Answer) → ((thread : Thread) → AnswerSized l (next thread)) → Sized l s → AnswerSized l (using_thread t i s next)
 using_thread_sized l t i s next k h = given_sized l (thread_at s.locks t) ESRCH i s next k h
@@ -101,18 +111,18 @@ length_tail l byte ring s e h =
     let le : length s.console.ring ≤ l.ring = h.sizes.console_sized.ring in
     omega (arith, same, le)
 
-get_answer_sized : (l : Limits) (ring : List ℕ) (i : Invocation) (s : Part) → s.console.ring ≡ ring → Sized l s → AnswerSized l (console_get_answer ring i s)
-get_answer_sized l [] i s e h =
+take_input_sized : (l : Limits) (ring : List ℕ) (i : Invocation) (s : Part) → s.console.ring ≡ ring → Sized l s → AnswerSized l (take_input ring i s)
+take_input_sized l [] i s e h =
     blocked_in_sized l InputWait i (with_console (with_waiter i.caller) s)
     (with_console_sized l (with_waiter i.caller) s (record { ring = h.sizes.console_sized.ring; output = h.sizes.console_sized.output }) h)
-get_answer_sized l (byte ∷ ring) i s e h =
+take_input_sized l (byte ∷ ring) i s e h =
     success_sized l (byte ∷ []) i (with_console (λ console. record console { ring = ring }) s)
     (with_console_sized l (λ console. record console { ring = ring }) s (record { ring = length_tail l byte ring s e h; output = h.sizes.console_sized.output }) h)
 
 pub get_sized : (i : Invocation) (s : Part) → Sized i.limits s → AnswerSized i.limits (console_get i s)
 get_sized i s h =
-    answer_if i.limits (is_cancelled s i.caller) (cancellation_answer i s) (console_get_answer s.console.ring i s) (cancellation_sized i.limits i s h)
-    (λ _. get_answer_sized i.limits s.console.ring i s refl h)
+    answer_if i.limits (is_cancelled s i.caller) (cancellation_answer i s) (take_input s.console.ring i s) (cancellation_sized i.limits i s h)
+    (λ _. take_input_sized i.limits s.console.ring i s refl h)
 
 -- ---- calls 10 to 18
 
@@ -130,20 +140,20 @@ new_thread_sized l t thread s h =
       mutexes = c.sizes.syncs_sized.locks.mutexes;
     }) c
 
-created_sized : (a : Attributes) (t : ℕ) (creator : Thread) (i : Invocation) (s : Part) → Sized i.limits s → AnswerSized i.limits (success (t ∷ []) i (with_new_thread i.limits t (created_thread i a creator t) s))
-created_sized a t creator i s h =
-    success_sized i.limits (t ∷ []) i (with_new_thread i.limits t (created_thread i a creator t) s) (new_thread_sized i.limits t (created_thread i a creator t) s h)
+created_sized : (creation : Creation) (t : ℕ) (creator : Thread) (i : Invocation) (s : Part) → Sized i.limits s → AnswerSized i.limits (success (t ∷ []) i (with_new_thread i.limits t (created_thread i creation creator t) s))
+created_sized creation t creator i s h =
+    success_sized i.limits (t ∷ []) i (with_new_thread i.limits t (created_thread i creation creator t) s) (new_thread_sized i.limits t (created_thread i creation creator t) s h)
 
 pub create_sized : (i : Invocation) (s : Part) → Sized i.limits s → AnswerSized i.limits (create i s)
 create_sized i s h =
-    let a : Attributes = attributes_at s i.a0 in
-    answer_either i.limits (not (i.a0 == 0 || is_pointer s i.a0 20)) (refusal EFAULT i s) _ (refusal_sized i.limits EFAULT i s h)
-    (answer_either i.limits (is_no_choice a.detach || is_no_choice a.inherit) (refusal EINVAL i s) _ (refusal_sized i.limits EINVAL i s h)
-    (answer_either i.limits (is_explicit a && is_none (policy_of a.policy)) (refusal ENOTSUP i s) _ (refusal_sized i.limits ENOTSUP i s h)
-    (answer_either i.limits (is_explicit a && not (is_priority a.priority)) (refusal EINVAL i s) _ (refusal_sized i.limits EINVAL i s h)
-    (answer_either i.limits (is_no_stack_top s a.stack_top) (refusal EINVAL i s) _ (refusal_sized i.limits EINVAL i s h)
-    (given_sized i.limits (least_free s.threads) EAGAIN i s _
-    (λ t. given_sized i.limits (thread_at s.locks i.caller) ESRCH i s _ (λ creator. created_sized a t creator i s h) h) h)))))
+    valid_sized i.limits (creation_at s i.a0) i s
+    (λ creation. do
+      t ← least_free s.threads or_refuse EAGAIN
+      creator ← thread i.caller
+      change (with_new_thread i.limits t (created_thread i creation creator t))
+      succeed_with t)
+    (λ creation. given_sized i.limits (least_free s.threads) EAGAIN i s _
+    (λ t. given_sized i.limits (thread_at s.locks i.caller) ESRCH i s _ (λ creator. created_sized creation t creator i s h) h) h) h
 
 without_sized : (l : Limits) (t : ℕ) (s : Part) → Sized l s → Sized l (with_locks (without_thread t) s)
 without_sized l t s h = with_locks_sized l (without_thread t) s (without_thread_sized l t s.locks h.sizes.syncs_sized.locks) h

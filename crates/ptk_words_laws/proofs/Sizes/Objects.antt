@@ -2,6 +2,7 @@
 use Rattle.std.proofs.Common.{arith, ◌≡◌, ℕ, zero, suc, ◌+◌, ◌≤◌, Bool, true, false, List, [], ◌∷◌, length, ◌∙◌, refl}
 use Rattle.std.proofs.lemmas.List.{length-map}
 use Rattle.std.proofs.lemmas.List.Elements.{All-map, All-weaker}
+use Rattle.std.specs.Fn.{iterate}
 use Rattle.std.specs.Prelude.{Option, Some, None, not, ◌&&◌, ◌||◌, nat_lt, nat_le, ◌==◌, ◌%◌, if◌then◌else◌, is_some}
 use Rattle.ptk_words.specs.Words.{word_at, with_bytes}
 use Rattle.std.specs.Int.{w32, to_le_bytes}
@@ -11,36 +12,36 @@ use Rattle.ptk_words.specs.declared.TheConstants.{DESTROYED, CLEANUP_LIMIT}
 use Rattle.ptk_words.specs.declared.faults.Errno.TheVariants.{EPERM, EAGAIN, ENOMEM, EFAULT, EBUSY, EINVAL, ETIMEDOUT}
 use Rattle.ptk_words.specs.declared.mutexes.MutexKind.TheVariants.{Normal}
 use Rattle.ptk_words.specs.declared.mutexes.Protocol.TheVariants.{NoProtocol}
+use Rattle.ptk_words.specs.declared.mutexes.Soundness.TheVariants.{Consistent}
 use Rattle.ptk_words.specs.declared.sections.Limits.{Limits}
 use Rattle.ptk_words.specs.declared.threads.Cleanup.{Cleanup}
 use Rattle.ptk_words.specs.declared.threads.Wait.{Wait}
 use Rattle.ptk_words.specs.declared.threads.Wait.TheVariants.{InputWait, SleepWait, JoinWait, MutexWait, ConditionWait, RelockWait}
 use Rattle.ptk_words_model.specs.declared.Invocation.{Invocation}
 use Rattle.ptk_words_model.specs.declared.LockMove.{LockMove}
-use Rattle.ptk_words_model.specs.declared.LockMove.TheVariants.{Takes, Counts, Waits, Refuses}
 use Rattle.ptk_words_model.specs.State.{Mutex, Condition, Syncs, Keys, Part, with_locks, with_syncs, with_cancellation, with_cleanups, with_keys, with_console}
 use Rattle.ptk_words_model.specs.Priority.{effective_priority}
 use Rattle.ptk_words_model.specs.Schedule.{after_wake}
-use Rattle.ptk_words_model.specs.Mutex.{mutex_at, new_mutex, owns, lock_move, trylock_move, relock_move, after_move, after_unlock}
-use Rattle.ptk_words_model.specs.Condition.{condition_waiters, names_mutex, names_another, after_condition_wait, after_unblock, after_signal_to, after_signal, after_signals, after_broadcast}
+use Rattle.ptk_words_model.specs.Mutex.{mutex_at, new_mutex, with_soundness, owns, lock_move, trylock_move, relock_move, move_reply, after_move, after_unlock}
+use Rattle.ptk_words_model.specs.Condition.{condition_waiters, names_mutex, names_another, after_condition_wait, after_unblock, after_signal_to, after_signal, after_broadcast}
 use Rattle.ptk_words_model.specs.Console.{without_waiter}
 use Rattle.ptk_words_model.specs.Keys.{is_key, with_values, with_key, specific}
-use Rattle.ptk_words_model.specs.Withdrawal.{with_live_deadlines, with_mark, without_joiner, after_cancelled_wait}
+use Rattle.ptk_words_model.specs.Withdrawal.{with_mark, without_joiner, after_cancelled_wait}
 use Rattle.ptk_words_model.specs.Unwinding.{cleanups_of}
 use Rattle.ptk_words.specs.Threads.{is_ended}
 use Rattle.ptk_words_model.specs.Time.{Timespec, timespec_at, time_bytes, is_timespec, deadline_of}
 use Rattle.ptk_words_model.specs.Calls.{Answer, refusal, success, is_pointer, is_cancelled, cancellation_answer, with_pool_mutex, with_pool_condition, with_stored, set_up_mutex, using_mutex, set_up_condition, using_condition}
-use Rattle.ptk_words_model.specs.TimeCalls.{with_deadline, clock_gettime, clock_nanosleep}
-use Rattle.ptk_words_model.specs.MutexCalls.{kind_of, protocol_of, mutex_init, is_locked, mutex_destroy, make_move, mutex_lock, mutex_trylock, make_timed_move, mutex_timedlock, mutex_unlock}
+use Rattle.ptk_words_model.specs.TimeCalls.{is_no_clock, clock_gettime, clock_nanosleep}
+use Rattle.ptk_words_model.specs.MutexCalls.{is_robust_type, kind_of, protocol_of, mutex_init, is_locked, mutex_destroy, make_move, mutex_lock, mutex_trylock, timed_move, mutex_timedlock, mutex_unlock, is_repairable, mutex_consistent}
 use Rattle.ptk_words_model.specs.ConditionCalls.{cond_init, cond_destroy, may_wait, cond_wait, late_answer, late_wait_answer, cond_timedwait, cond_signal, cond_broadcast}
 use Rattle.ptk_words_model.specs.CancellationCalls.{cancel, cancellation_of, setcancelstate, setcanceltype, testcancel, cleanup_push, cleanup_pop_answer, cleanup_pop}
-use Rattle.ptk_words_model.specs.KeyCalls.{key_create_answer, key_create, key_delete, setspecific, getspecific}
+use Rattle.ptk_words_model.specs.KeyCalls.{key_create, key_delete, setspecific, getspecific}
 use Rattle.ptk_words_laws.proofs.Sizes.Pools.{length-pool_set, most_from_test}
-use Rattle.ptk_words_laws.proofs.Sizes.Locks.{SyncsSized, with_thread_sized, after_wake_sized, after_move_sized, after_unlock_sized, without_joiner_sized, after_unblock_sized}
-use Rattle.ptk_words_laws.proofs.Sizes.Parts.{KeysSized, Sized, with_locks_sized, with_syncs_sized, with_deadlines_sized, with_memory_sized, with_cancellation_sized, with_cleanups_sized, with_keys_sized, with_console_sized, live_deadlines_sized, woken_sized}
+use Rattle.ptk_words_laws.proofs.Sizes.Locks.{SyncsSized, with_thread_sized, after_wake_sized, with_soundness_sized, after_move_sized, after_unlock_sized, without_joiner_sized, after_unblock_sized}
+use Rattle.ptk_words_laws.proofs.Sizes.Parts.{KeysSized, Sized, with_locks_sized, with_syncs_sized, with_memory_sized, with_cancellation_sized, with_cleanups_sized, with_keys_sized, with_console_sized, woken_sized}
 use Rattle.ptk_words_laws.proofs.Sizes.Unwindings.{with_values_sized}
-use Rattle.ptk_words_laws.proofs.Sizes.Effects.{length-stored}
-use Rattle.ptk_words_laws.proofs.Sizes.Calls.{AnswerSized, answer_if, answer_either, given_sized, refusal_sized, success_sized, blocked_sized, blocked_in_sized, cancellation_sized, using_thread_sized}
+use Rattle.ptk_words_laws.proofs.Sizes.Stores.{length-stored}
+use Rattle.ptk_words_laws.proofs.Sizes.Calls.{AnswerSized, answer_if, answer_either, given_sized, refusal_sized, success_sized, blocked_sized, told_sized, blocked_in_sized, cancellation_sized, using_thread_sized}
 
 -- ---- pointers
 
@@ -82,8 +83,8 @@ pool_condition_sized l c o s h =
 set_up_mutex_sized : (l : Limits) (o : Option ℕ) (pointer : ℕ) (i : Invocation) (s : Part) (next : ℕ → Part → Answer) → pointer + 4 ≤ l.memory → ((m : ℕ) (u : Part) → Sized l u → AnswerSized l (next m u)) → Sized l s → AnswerSized l (set_up_mutex o pointer i s next)
 set_up_mutex_sized l None pointer i s next le k h = refusal_sized l ENOMEM i s h
 set_up_mutex_sized l (Some m) pointer i s next le k h =
-    k m (with_stored pointer m (with_pool_mutex m (Some (new_mutex Normal NoProtocol)) s))
-    (stored_sized l pointer m (with_pool_mutex m (Some (new_mutex Normal NoProtocol)) s) le (pool_mutex_sized l m (Some (new_mutex Normal NoProtocol)) s h))
+    k m (with_stored pointer m (with_pool_mutex m (Some (new_mutex Normal NoProtocol false)) s))
+    (stored_sized l pointer m (with_pool_mutex m (Some (new_mutex Normal NoProtocol false)) s) le (pool_mutex_sized l m (Some (new_mutex Normal NoProtocol false)) s h))
 
 using_mutex_sized : (l : Limits) (pointer : ℕ) (i : Invocation) (s : Part) (next : ℕ → Part → Answer) → pointer + 4 ≤ l.memory → ((m : ℕ) (u : Part) → Sized l u → AnswerSized l (next m u)) → Sized l s → AnswerSized l (using_mutex pointer i s next)
 using_mutex_sized l pointer i s next le k h =
@@ -113,23 +114,12 @@ checked l i s pointer count y k h =
     answer_if l (not (is_pointer s pointer count)) (refusal EFAULT i s) y (refusal_sized l EFAULT i s h)
     (λ e. k (in_memory l s pointer count h (not-false (is_pointer s pointer count) e)))
 
--- where two are
-checked_both : (l : Limits) (i : Invocation) (s : Part) (p m q n : ℕ) (y : Answer) → (p + m ≤ l.memory → q + n ≤ l.memory → AnswerSized l y) → Sized l s → AnswerSized l (if not (is_pointer s p m && is_pointer s q n) then refusal EFAULT i s else y)
-checked_both l i s p m q n y k h =
-    answer_if l (not (is_pointer s p m && is_pointer s q n)) (refusal EFAULT i s) y (refusal_sized l EFAULT i s h)
-    (λ e. let b : (is_pointer s p m ≡ true) × (is_pointer s q n ≡ true) = both (is_pointer s p m) (is_pointer s q n) (not-false (is_pointer s p m && is_pointer s q n) e) in
-    k (in_memory l s p m h b.0) (in_memory l s q n h b.1))
-
 -- ---- calls 3 and 4
-
-deadline_sized : (l : Limits) (t deadline : ℕ) (s : Part) → Sized l s → Sized l (with_deadline t deadline s)
-deadline_sized l t deadline s h =
-    with_deadlines_sized l (pool_set s.deadlines t (Some deadline)) s (length-pool_set s.deadlines t (Some deadline) ∙ h.sizes.deadlines_sized) h
 
 pub clock_gettime_sized : (i : Invocation) (s : Part) → Sized i.limits s → AnswerSized i.limits (clock_gettime i s)
 clock_gettime_sized i s h =
     checked i.limits i s i.a1 12 _
-    (λ le. answer_either i.limits (nat_lt 1 i.a0) (refusal EINVAL i s) _ (refusal_sized i.limits EINVAL i s h)
+    (λ le. answer_either i.limits (is_no_clock i.a0) (refusal EINVAL i s) _ (refusal_sized i.limits EINVAL i s h)
     (success_sized i.limits [] i (record s { memory = with_bytes s.memory i.a1 (time_bytes i.tick) }) (bytes_sized i.limits i.a1 12 (time_bytes i.tick) s refl le h))) h
 
 pub clock_nanosleep_sized : (i : Invocation) (s : Part) → Sized i.limits s → AnswerSized i.limits (clock_nanosleep i s)
@@ -137,11 +127,12 @@ clock_nanosleep_sized i s h =
     let deadline : ℕ = deadline_of (timespec_at s.memory i.a1) in
     checked i.limits i s i.a1 12 _
     (λ le. answer_either i.limits (is_cancelled s i.caller) (cancellation_answer i s) _ (cancellation_sized i.limits i s h)
-    (answer_either i.limits (nat_lt 1 i.a0 || not (is_timespec (timespec_at s.memory i.a1))) (refusal EINVAL i s) _ (refusal_sized i.limits EINVAL i s h)
+    (answer_either i.limits (is_no_clock i.a0) (refusal EINVAL i s) _ (refusal_sized i.limits EINVAL i s h)
+    (answer_either i.limits (not (is_timespec (timespec_at s.memory i.a1))) (refusal EINVAL i s) _ (refusal_sized i.limits EINVAL i s h)
     (answer_either i.limits (nat_le deadline i.tick) (success [] i s) _ (success_sized i.limits [] i s h)
-    (blocked_in_sized i.limits SleepWait i (with_deadline i.caller deadline s) (deadline_sized i.limits i.caller deadline s h))))) h
+    (blocked_in_sized i.limits (SleepWait deadline) i s h))))) h
 
--- ---- calls 20 to 25
+-- ---- calls 20 to 26
 
 pub mutex_init_sized : (i : Invocation) (s : Part) → Sized i.limits s → AnswerSized i.limits (mutex_init i s)
 mutex_init_sized i s h =
@@ -149,8 +140,8 @@ mutex_init_sized i s h =
     (λ le. given_sized i.limits (kind_of i.a1) EINVAL i s _
     (λ kind. given_sized i.limits (protocol_of i.a2 i.a3) EINVAL i s _
     (λ prio. given_sized i.limits (least_free s.mutexes) ENOMEM i s _
-    (λ m. success_sized i.limits [] i (with_stored i.a0 m (with_pool_mutex m (Some (new_mutex kind prio)) s))
-    (stored_sized i.limits i.a0 m (with_pool_mutex m (Some (new_mutex kind prio)) s) le (pool_mutex_sized i.limits m (Some (new_mutex kind prio)) s h))) h) h) h) h
+    (λ m. success_sized i.limits [] i (with_stored i.a0 m (with_pool_mutex m (Some (new_mutex kind prio (is_robust_type i.a1))) s))
+    (stored_sized i.limits i.a0 m (with_pool_mutex m (Some (new_mutex kind prio (is_robust_type i.a1))) s) le (pool_mutex_sized i.limits m (Some (new_mutex kind prio (is_robust_type i.a1))) s h))) h) h) h) h
 
 pub mutex_destroy_sized : (i : Invocation) (s : Part) → Sized i.limits s → AnswerSized i.limits (mutex_destroy i s)
 mutex_destroy_sized i s h =
@@ -163,50 +154,50 @@ mutex_destroy_sized i s h =
 moved_sized : (l : Limits) (move : LockMove) (t m : ℕ) (wait : Wait) (s : Part) → Sized l s → Sized l (with_locks (after_move move t m wait) s)
 moved_sized l move t m wait s h = with_locks_sized l (after_move move t m wait) s (after_move_sized l move t m wait s.locks h.sizes.syncs_sized.locks) h
 
-mutex_answer_sized : (l : Limits) (move : LockMove) (m : ℕ) (i : Invocation) (s : Part) → Sized l s → AnswerSized l (make_move move m i s)
-mutex_answer_sized l (Refuses e) m i s h = refusal_sized l e i s h
-mutex_answer_sized l Waits m i s h = blocked_sized l (with_locks (after_move Waits i.caller m (MutexWait m)) s) (moved_sized l Waits i.caller m (MutexWait m) s h)
-mutex_answer_sized l Takes m i s h = success_sized l [] i (with_locks (after_move Takes i.caller m (MutexWait m)) s) (moved_sized l Takes i.caller m (MutexWait m) s h)
-mutex_answer_sized l Counts m i s h = success_sized l [] i (with_locks (after_move Counts i.caller m (MutexWait m)) s) (moved_sized l Counts i.caller m (MutexWait m) s h)
+move_made_sized : (l : Limits) (move : LockMove) (m : ℕ) (deadline : Option ℕ) (i : Invocation) (s : Part) → Sized l s → AnswerSized l (make_move move m deadline i s)
+move_made_sized l move m deadline i s h =
+    told_sized l (move_reply move (Some 0)) i (with_locks (after_move move i.caller m (MutexWait m deadline)) s) (moved_sized l move i.caller m (MutexWait m deadline) s h)
 
 pub mutex_lock_sized : (i : Invocation) (s : Part) → Sized i.limits s → AnswerSized i.limits (mutex_lock i s)
 mutex_lock_sized i s h =
     checked i.limits i s i.a0 4 _
     (λ le. using_mutex_sized i.limits i.a0 i s _ le
-    (λ m u k. mutex_answer_sized i.limits (lock_move u.locks i.caller (mutex_at u.locks m)) m i u k) h) h
+    (λ m u k. move_made_sized i.limits (lock_move u.locks i.caller (mutex_at u.locks m)) m None i u k) h) h
 
 pub mutex_trylock_sized : (i : Invocation) (s : Part) → Sized i.limits s → AnswerSized i.limits (mutex_trylock i s)
 mutex_trylock_sized i s h =
     checked i.limits i s i.a0 4 _
     (λ le. using_mutex_sized i.limits i.a0 i s _ le
-    (λ m u k. mutex_answer_sized i.limits (trylock_move u.locks i.caller (mutex_at u.locks m)) m i u k) h) h
-
-timed_answer_sized : (l : Limits) (move : LockMove) (time : Timespec) (m : ℕ) (i : Invocation) (s : Part) → Sized l s → AnswerSized l (make_timed_move move time m i s)
-timed_answer_sized l Waits time m i s h =
-    answer_either l (not (is_timespec time)) (refusal EINVAL i s) _ (refusal_sized l EINVAL i s h)
-    (answer_either l (nat_le (deadline_of time) i.tick) (refusal ETIMEDOUT i s) _ (refusal_sized l ETIMEDOUT i s h)
-    (mutex_answer_sized l Waits m i (with_deadline i.caller (deadline_of time) s) (deadline_sized l i.caller (deadline_of time) s h)))
-timed_answer_sized l Takes time m i s h = mutex_answer_sized l Takes m i s h
-timed_answer_sized l Counts time m i s h = mutex_answer_sized l Counts m i s h
-timed_answer_sized l (Refuses e) time m i s h = mutex_answer_sized l (Refuses e) m i s h
+    (λ m u k. move_made_sized i.limits (trylock_move u.locks i.caller (mutex_at u.locks m)) m None i u k) h) h
 
 pub mutex_timedlock_sized : (i : Invocation) (s : Part) → Sized i.limits s → AnswerSized i.limits (mutex_timedlock i s)
 mutex_timedlock_sized i s h =
-    checked_both i.limits i s i.a0 4 i.a1 12 _
-    (λ le _. using_mutex_sized i.limits i.a0 i s _ le
-    (λ m u k. timed_answer_sized i.limits (lock_move u.locks i.caller (mutex_at u.locks m)) (timespec_at u.memory i.a1) m i u k) h) h
+    checked i.limits i s i.a0 4 _
+    (λ le. checked i.limits i s i.a1 12 _
+    (λ _. using_mutex_sized i.limits i.a0 i s _ le
+    (λ m u k. let time : Timespec = timespec_at u.memory i.a1 in
+    move_made_sized i.limits (timed_move (lock_move u.locks i.caller (mutex_at u.locks m)) time i.tick) m (Some (deadline_of time)) i u k) h) h) h
 
-unlocked_sized : (l : Limits) (m : ℕ) (s : Part) → Sized l s → Sized l (with_live_deadlines (with_locks (after_unlock m) s))
-unlocked_sized l m s h =
-    live_deadlines_sized l (with_locks (after_unlock m) s)
-    (with_locks_sized l (after_unlock m) s (after_unlock_sized l m s.locks h.sizes.syncs_sized.locks) h)
+unlocked_sized : (l : Limits) (m : ℕ) (s : Part) → Sized l s → Sized l (with_locks (after_unlock m) s)
+unlocked_sized l m s h = with_locks_sized l (after_unlock m) s (after_unlock_sized l m s.locks h.sizes.syncs_sized.locks) h
 
 pub mutex_unlock_sized : (i : Invocation) (s : Part) → Sized i.limits s → AnswerSized i.limits (mutex_unlock i s)
 mutex_unlock_sized i s h =
     checked i.limits i s i.a0 4 _
     (λ le. using_mutex_sized i.limits i.a0 i s _ le
     (λ m u k. answer_either i.limits (not (owns i.caller (mutex_at u.locks m))) (refusal EPERM i u) _ (refusal_sized i.limits EPERM i u k)
-    (success_sized i.limits [] i (with_live_deadlines (with_locks (after_unlock m) u)) (unlocked_sized i.limits m u k))) h) h
+    (success_sized i.limits [] i (with_locks (after_unlock m) u) (unlocked_sized i.limits m u k))) h) h
+
+repaired_sized : (l : Limits) (m : ℕ) (s : Part) → Sized l s → Sized l (with_locks (with_soundness Consistent m) s)
+repaired_sized l m s h = with_locks_sized l (with_soundness Consistent m) s (with_soundness_sized l Consistent m s.locks h.sizes.syncs_sized.locks) h
+
+pub mutex_consistent_sized : (i : Invocation) (s : Part) → Sized i.limits s → AnswerSized i.limits (mutex_consistent i s)
+mutex_consistent_sized i s h =
+    checked i.limits i s i.a0 4 _
+    (λ le. using_mutex_sized i.limits i.a0 i s _ le
+    (λ m u k. answer_either i.limits (not (is_repairable (mutex_at u.locks m))) (refusal EINVAL i u) _ (refusal_sized i.limits EINVAL i u k)
+    (answer_either i.limits (not (owns i.caller (mutex_at u.locks m))) (refusal EPERM i u) _ (refusal_sized i.limits EPERM i u k)
+    (success_sized i.limits [] i (with_locks (with_soundness Consistent m) u) (repaired_sized i.limits m u k)))) h) h
 
 -- ---- calls 30 to 35
 
@@ -234,60 +225,43 @@ both_named_sized l i s next le me k h =
     (λ m v b. answer_either l (not (owns i.caller (mutex_at v.locks m))) (refusal EPERM i v) _ (refusal_sized l EPERM i v b)
     (answer_either l (names_another v.syncs c m) (refusal EINVAL i v) _ (refusal_sized l EINVAL i v b) (k c m v b))) a) h
 
-condition_wait_sized : (l : Limits) (t c m : ℕ) (x : Syncs) → SyncsSized l x → SyncsSized l (after_condition_wait t c m x)
-condition_wait_sized l t c m x h =
-    record {
-      locks = with_thread_sized l t (λ thread. record thread { wait = Some (ConditionWait c m) }) (after_unlock m x.locks) (after_unlock_sized l m x.locks h.locks);
-      conditions = length-pool_set x.conditions c _ ∙ h.conditions;
-    }
+condition_wait_sized : (l : Limits) (t c m : ℕ) (deadline : Option ℕ) (s : Part) → Sized l s → Sized l (with_syncs (after_condition_wait t c m deadline) s)
+condition_wait_sized l t c m deadline s h =
+    with_syncs_sized l (after_condition_wait t c m deadline) s
+    (record {
+      locks = with_thread_sized l t (λ thread. record thread { wait = Some (ConditionWait c m deadline) }) (after_unlock m s.locks) (after_unlock_sized l m s.locks h.sizes.syncs_sized.locks);
+      conditions = length-pool_set s.conditions c _ ∙ h.sizes.syncs_sized.conditions;
+    }) h
 
 pub cond_wait_sized : (i : Invocation) (s : Part) → Sized i.limits s → AnswerSized i.limits (cond_wait i s)
 cond_wait_sized i s h =
-    checked_both i.limits i s i.a0 4 i.a1 4 _
-    (λ le me. answer_either i.limits (is_cancelled s i.caller) (cancellation_answer i s) _ (cancellation_sized i.limits i s h)
+    checked i.limits i s i.a0 4 _
+    (λ le. checked i.limits i s i.a1 4 _
+    (λ me. answer_either i.limits (is_cancelled s i.caller) (cancellation_answer i s) _ (cancellation_sized i.limits i s h)
     (both_named_sized i.limits i s _ le me
-    (λ c m u k. blocked_sized i.limits (with_live_deadlines (with_syncs (after_condition_wait i.caller c m) u))
-    (live_deadlines_sized i.limits (with_syncs (after_condition_wait i.caller c m) u)
-    (with_syncs_sized i.limits (after_condition_wait i.caller c m) u (condition_wait_sized i.limits i.caller c m u.syncs k.sizes.syncs_sized) k))) h)) h
+    (λ c m u k. blocked_sized i.limits (with_syncs (after_condition_wait i.caller c m None) u) (condition_wait_sized i.limits i.caller c m None u k)) h)) h) h
 
 late_answer_sized : (l : Limits) (move : LockMove) (m : ℕ) (i : Invocation) (s : Part) → Sized l s → AnswerSized l (late_answer move m i s)
-late_answer_sized l Waits m i s h =
-    blocked_sized l (with_locks (after_move Waits i.caller m (RelockWait m (Some (errno_number ETIMEDOUT)))) s)
-    (moved_sized l Waits i.caller m (RelockWait m (Some (errno_number ETIMEDOUT))) s h)
-late_answer_sized l Takes m i s h =
-    refusal_sized l ETIMEDOUT i (with_locks (after_move Takes i.caller m (RelockWait m (Some (errno_number ETIMEDOUT)))) s)
-    (moved_sized l Takes i.caller m (RelockWait m (Some (errno_number ETIMEDOUT))) s h)
-late_answer_sized l Counts m i s h =
-    refusal_sized l ETIMEDOUT i (with_locks (after_move Counts i.caller m (RelockWait m (Some (errno_number ETIMEDOUT)))) s)
-    (moved_sized l Counts i.caller m (RelockWait m (Some (errno_number ETIMEDOUT))) s h)
-late_answer_sized l (Refuses e) m i s h =
-    refusal_sized l ETIMEDOUT i (with_locks (after_move (Refuses e) i.caller m (RelockWait m (Some (errno_number ETIMEDOUT)))) s)
-    (moved_sized l (Refuses e) i.caller m (RelockWait m (Some (errno_number ETIMEDOUT))) s h)
+late_answer_sized l move m i s h =
+    let reply : Option ℕ = Some (errno_number ETIMEDOUT) in
+    told_sized l (move_reply move reply) i (with_locks (after_move move i.caller m (RelockWait m reply)) s) (moved_sized l move i.caller m (RelockWait m reply) s h)
 
 late_wait_sized : (l : Limits) (m : ℕ) (i : Invocation) (s : Part) → Sized l s → AnswerSized l (late_wait_answer m i s)
 late_wait_sized l m i s h =
-    let out : Part = with_live_deadlines (with_locks (after_unlock m) s) in
+    let out : Part = with_locks (after_unlock m) s in
     late_answer_sized l (relock_move i.caller (mutex_at out.locks m)) m i out (unlocked_sized l m s h)
-
-checked_three : (l : Limits) (i : Invocation) (s : Part) (p q r : ℕ) (y : Answer) → (p + 4 ≤ l.memory → q + 4 ≤ l.memory → AnswerSized l y) → Sized l s → AnswerSized l (if not (is_pointer s p 4 && is_pointer s q 4 && is_pointer s r 12) then refusal EFAULT i s else y)
-checked_three l i s p q r y k h =
-    answer_if l (not (is_pointer s p 4 && is_pointer s q 4 && is_pointer s r 12)) (refusal EFAULT i s) y (refusal_sized l EFAULT i s h)
-    (λ e. let b : ((is_pointer s p 4 && is_pointer s q 4) ≡ true) × (is_pointer s r 12 ≡ true) = both (is_pointer s p 4 && is_pointer s q 4) (is_pointer s r 12) (not-false (is_pointer s p 4 && is_pointer s q 4 && is_pointer s r 12) e) in
-    let d : (is_pointer s p 4 ≡ true) × (is_pointer s q 4 ≡ true) = both (is_pointer s p 4) (is_pointer s q 4) b.0 in
-    k (in_memory l s p 4 h d.0) (in_memory l s q 4 h d.1))
 
 pub cond_timedwait_sized : (i : Invocation) (s : Part) → Sized i.limits s → AnswerSized i.limits (cond_timedwait i s)
 cond_timedwait_sized i s h =
-    checked_three i.limits i s i.a0 i.a1 i.a2 _
-    (λ le me. answer_either i.limits (is_cancelled s i.caller) (cancellation_answer i s) _ (cancellation_sized i.limits i s h)
+    checked i.limits i s i.a0 4 _
+    (λ le. checked i.limits i s i.a1 4 _
+    (λ me. checked i.limits i s i.a2 12 _
+    (λ _. answer_either i.limits (is_cancelled s i.caller) (cancellation_answer i s) _ (cancellation_sized i.limits i s h)
     (both_named_sized i.limits i s _ le me
     (λ c m u k. let deadline : ℕ = deadline_of (timespec_at u.memory i.a2) in
     answer_either i.limits (not (is_timespec (timespec_at u.memory i.a2))) (refusal EINVAL i u) _ (refusal_sized i.limits EINVAL i u k)
     (answer_either i.limits (nat_le deadline i.tick) (late_wait_answer m i u) _ (late_wait_sized i.limits m i u k)
-    (blocked_sized i.limits (with_live_deadlines (with_deadline i.caller deadline (with_syncs (after_condition_wait i.caller c m) u)))
-    (live_deadlines_sized i.limits (with_deadline i.caller deadline (with_syncs (after_condition_wait i.caller c m) u))
-    (deadline_sized i.limits i.caller deadline (with_syncs (after_condition_wait i.caller c m) u)
-    (with_syncs_sized i.limits (after_condition_wait i.caller c m) u (condition_wait_sized i.limits i.caller c m u.syncs k.sizes.syncs_sized) k)))))) h)) h
+    (blocked_sized i.limits (with_syncs (after_condition_wait i.caller c m (Some deadline)) u) (condition_wait_sized i.limits i.caller c m (Some deadline) u k)))) h)) h) h) h
 
 signal_to_sized : (l : Limits) (o : Option ℕ) (c : ℕ) (x : Syncs) → SyncsSized l x → SyncsSized l (after_signal_to o c x)
 signal_to_sized l None c x h = h
@@ -296,7 +270,7 @@ signal_to_sized l (Some t) c x h = after_unblock_sized l t c (Some 0) x h
 signal_sized : (l : Limits) (c : ℕ) (x : Syncs) → SyncsSized l x → SyncsSized l (after_signal c x)
 signal_sized l c x h = signal_to_sized l (first_of_greatest (effective_priority x.locks) (condition_waiters x c)) c x h
 
-signals_sized : (l : Limits) (n c : ℕ) (x : Syncs) → SyncsSized l x → SyncsSized l (after_signals n c x)
+signals_sized : (l : Limits) (n c : ℕ) (x : Syncs) → SyncsSized l x → SyncsSized l (iterate (after_signal c) n x)
 signals_sized l zero c x h = h
 signals_sized l (suc n) c x h = signals_sized l n c (after_signal c x) (signal_sized l c x h)
 
@@ -304,17 +278,13 @@ pub cond_signal_sized : (i : Invocation) (s : Part) → Sized i.limits s → Ans
 cond_signal_sized i s h =
     checked i.limits i s i.a0 4 _
     (λ le. using_condition_sized i.limits i.a0 i s _ le
-    (λ c u k. success_sized i.limits [] i (with_live_deadlines (with_syncs (after_signal c) u))
-    (live_deadlines_sized i.limits (with_syncs (after_signal c) u)
-    (with_syncs_sized i.limits (after_signal c) u (signal_sized i.limits c u.syncs k.sizes.syncs_sized) k))) h) h
+    (λ c u k. success_sized i.limits [] i (with_syncs (after_signal c) u) (with_syncs_sized i.limits (after_signal c) u (signal_sized i.limits c u.syncs k.sizes.syncs_sized) k)) h) h
 
 pub cond_broadcast_sized : (i : Invocation) (s : Part) → Sized i.limits s → AnswerSized i.limits (cond_broadcast i s)
 cond_broadcast_sized i s h =
     checked i.limits i s i.a0 4 _
     (λ le. using_condition_sized i.limits i.a0 i s _ le
-    (λ c u k. success_sized i.limits [] i (with_live_deadlines (with_syncs (after_broadcast c) u))
-    (live_deadlines_sized i.limits (with_syncs (after_broadcast c) u)
-    (with_syncs_sized i.limits (after_broadcast c) u (signals_sized i.limits (length (condition_waiters u.syncs c)) c u.syncs k.sizes.syncs_sized) k))) h) h
+    (λ c u k. success_sized i.limits [] i (with_syncs (after_broadcast c) u) (with_syncs_sized i.limits (after_broadcast c) u (signals_sized i.limits (length (condition_waiters u.syncs c)) c u.syncs k.sizes.syncs_sized) k)) h) h
 
 -- ---- calls 40 to 45
 
@@ -327,17 +297,15 @@ cancelled_wait_sized l t (Some InputWait) s h =
     mark_sized l t (with_locks (after_wake t []) (with_console (without_waiter t) s))
     (woken_sized l t [] (with_console (without_waiter t) s)
     (with_console_sized l (without_waiter t) s (record { ring = h.sizes.console_sized.ring; output = h.sizes.console_sized.output }) h))
-cancelled_wait_sized l t (Some SleepWait) s h =
-    live_deadlines_sized l (with_mark t (with_locks (after_wake t []) s)) (mark_sized l t (with_locks (after_wake t []) s) (woken_sized l t [] s h))
+cancelled_wait_sized l t (Some (SleepWait deadline)) s h = mark_sized l t (with_locks (after_wake t []) s) (woken_sized l t [] s h)
 cancelled_wait_sized l t (Some (JoinWait u)) s h =
     mark_sized l t (with_locks (λ locks. after_wake t [] (without_joiner u locks)) s)
     (with_locks_sized l (λ locks. after_wake t [] (without_joiner u locks)) s
     (after_wake_sized l t [] (without_joiner u s.locks) (without_joiner_sized l u s.locks h.sizes.syncs_sized.locks)) h)
-cancelled_wait_sized l t (Some (MutexWait m)) s h = h
-cancelled_wait_sized l t (Some (ConditionWait c m)) s h =
-    live_deadlines_sized l (with_mark t (with_syncs (after_unblock t c None) s))
-    (mark_sized l t (with_syncs (after_unblock t c None) s)
-    (with_syncs_sized l (after_unblock t c None) s (after_unblock_sized l t c None s.syncs h.sizes.syncs_sized) h))
+cancelled_wait_sized l t (Some (MutexWait m deadline)) s h = h
+cancelled_wait_sized l t (Some (ConditionWait c m deadline)) s h =
+    mark_sized l t (with_syncs (after_unblock t c None) s)
+    (with_syncs_sized l (after_unblock t c None) s (after_unblock_sized l t c None s.syncs h.sizes.syncs_sized) h)
 cancelled_wait_sized l t (Some (RelockWait m reply)) s h = h
 
 pub cancel_sized : (i : Invocation) (s : Part) → Sized i.limits s → AnswerSized i.limits (cancel i s)
@@ -392,29 +360,24 @@ with_key_sized l k destructor x h =
       rounds = h.rounds;
     }
 
-key_create_answer_sized : (o : Option ℕ) (i : Invocation) (s : Part) → Sized i.limits s → AnswerSized i.limits (key_create_answer o i s)
-key_create_answer_sized None i s h = refusal_sized i.limits EAGAIN i s h
-key_create_answer_sized (Some k) i s h =
-    success_sized i.limits (k ∷ []) i (with_keys (with_key k (Some i.a0)) s)
-    (with_keys_sized i.limits (with_key k (Some i.a0)) s (with_key_sized i.limits k (Some i.a0) s.keys h.sizes.keys_sized) h)
-
 pub key_create_sized : (i : Invocation) (s : Part) → Sized i.limits s → AnswerSized i.limits (key_create i s)
-key_create_sized i s h = key_create_answer_sized (least_free s.keys.destructors) i s h
+key_create_sized i s h =
+    given_sized i.limits (least_free s.keys.destructors) EAGAIN i s _
+    (λ k. success_sized i.limits (k ∷ []) i (with_keys (with_key k (Some i.a0)) s)
+    (with_keys_sized i.limits (with_key k (Some i.a0)) s (with_key_sized i.limits k (Some i.a0) s.keys h.sizes.keys_sized) h)) h
 
 pub key_delete_sized : (i : Invocation) (s : Part) → Sized i.limits s → AnswerSized i.limits (key_delete i s)
 key_delete_sized i s h =
-    answer_either i.limits (is_key s.keys i.a0) (success [] i (with_keys (with_key i.a0 None) s)) (refusal EINVAL i s)
+    answer_either i.limits (not (is_key s.keys i.a0)) (refusal EINVAL i s) _ (refusal_sized i.limits EINVAL i s h)
     (success_sized i.limits [] i (with_keys (with_key i.a0 None) s)
     (with_keys_sized i.limits (with_key i.a0 None) s (with_key_sized i.limits i.a0 None s.keys h.sizes.keys_sized) h))
-    (refusal_sized i.limits EINVAL i s h)
 
 pub setspecific_sized : (i : Invocation) (s : Part) → Sized i.limits s → AnswerSized i.limits (setspecific i s)
 setspecific_sized i s h =
-    answer_either i.limits (is_key s.keys i.a0) (success [] i (with_keys (with_values i.caller (λ values. pool_set values i.a0 i.a1)) s)) (refusal EINVAL i s)
+    answer_either i.limits (not (is_key s.keys i.a0)) (refusal EINVAL i s) _ (refusal_sized i.limits EINVAL i s h)
     (success_sized i.limits [] i (with_keys (with_values i.caller (λ values. pool_set values i.a0 i.a1)) s)
     (with_keys_sized i.limits (with_values i.caller (λ values. pool_set values i.a0 i.a1)) s
     (with_values_sized i.limits i.caller (λ values. pool_set values i.a0 i.a1) s.keys (λ values e. length-pool_set values i.a0 i.a1 ∙ e) h.sizes.keys_sized) h))
-    (refusal_sized i.limits EINVAL i s h)
 
 pub getspecific_sized : (i : Invocation) (s : Part) → Sized i.limits s → AnswerSized i.limits (getspecific i s)
 getspecific_sized i s h = success_sized i.limits (specific s.keys i.caller i.a0 ∷ []) i s h

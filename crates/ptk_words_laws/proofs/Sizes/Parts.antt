@@ -1,8 +1,6 @@
 -- The moves of a whole state keep its sizes: choice, round robin, deadlines and arrivals.
-use Rattle.std.proofs.Common.{arith, ◌≡◌, ℕ, ◌+◌, ◌<◌, ◌≤◌, min, Bool, true, false, List, [], ◌∷◌, ◌++◌, length, ◌∙◌, refl, length-append}
-use Rattle.std.proofs.lemmas.List.{length-map}
-use Rattle.std.proofs.lemmas.Slice.Zip.{length-zip}
-use Rattle.std.specs.Prelude.{Option, Some, None, fold, zip, All, nat_lt, nat_le, nat_eq, ◌&&◌, if◌then◌else◌}
+use Rattle.std.proofs.Common.{arith, ◌≡◌, ℕ, ◌+◌, ◌<◌, ◌≤◌, Bool, true, false, List, [], ◌∷◌, ◌++◌, length, ◌∙◌, refl, length-append}
+use Rattle.std.specs.Prelude.{Option, Some, None, fold, All, nat_lt, nat_le, ◌&&◌, if◌then◌else◌}
 use Rattle.ptk_words.specs.Faults.{errno_number}
 use Rattle.ptk_words.specs.Pools.{pool_update, without}
 use Rattle.ptk_words.specs.declared.faults.Errno.TheVariants.{ETIMEDOUT}
@@ -21,7 +19,7 @@ use Rattle.ptk_words_model.specs.Schedule.{with_thread, at_tail, at_head, unused
 use Rattle.ptk_words_model.specs.Mutex.{wait_of, without_mutex_waiter}
 use Rattle.ptk_words_model.specs.Condition.{after_unblock}
 use Rattle.ptk_words_model.specs.Console.{with_input, without_waiter, without_arriving, arriving}
-use Rattle.ptk_words_model.specs.Withdrawal.{live_deadline, with_live_deadlines, after_timeout, Expiry, due, in_order, after_expiries}
+use Rattle.ptk_words_model.specs.Withdrawal.{after_timeout, Expiry, due, in_order, after_expiries}
 use Rattle.ptk_words_model.specs.Decision.{after_arrival_for, first_waiter, after_arrival, after_arrivals}
 use Rattle.ptk_words_laws.specs.Sizes.{IsSized}
 use Rattle.ptk_words_laws.proofs.Sizes.Pools.{length-pool_update, below_from_test}
@@ -42,10 +40,9 @@ pub record ConsoleSized (l : Limits) (x : Console) : Type 0 where
   pub output : length x.output ≤ l.output
 
 -- by the parts that have sizes
-pub record Sizes (l : Limits) (memory : List ℕ) (syncs : Syncs) (deadlines : List (Option ℕ)) (cancellations : List Cancellation) (cleanups : List (List Cleanup)) (keys : Keys) (console : Console) : Type 0 where
+pub record Sizes (l : Limits) (memory : List ℕ) (syncs : Syncs) (cancellations : List Cancellation) (cleanups : List (List Cleanup)) (keys : Keys) (console : Console) : Type 0 where
   pub memory_sized : length memory ≡ l.memory
   pub syncs_sized : SyncsSized l syncs
-  pub deadlines_sized : length deadlines ≡ l.threads
   pub cancellations_sized : length cancellations ≡ l.threads
   pub cleanups_sized : length cleanups ≡ l.threads
   pub keys_sized : KeysSized l keys
@@ -53,7 +50,7 @@ pub record Sizes (l : Limits) (memory : List ℕ) (syncs : Syncs) (deadlines : L
 
 -- a state by its parts
 pub record Sized (l : Limits) (s : Part) : Type 0 where
-  pub sizes : Sizes l s.memory s.syncs s.deadlines s.cancellations s.cleanups s.keys s.console
+  pub sizes : Sizes l s.memory s.syncs s.cancellations s.cleanups s.keys s.console
 
 pub from_sized : (l : Limits) (s : Part) → Sized l s → IsSized l s
 from_sized l s h = assumption h
@@ -72,9 +69,6 @@ with_syncs_sized l f s k h = assumption (k, h)
 
 pub with_locks_sized : (l : Limits) (f : Locks → Locks) (s : Part) → LocksSized l (f s.locks) → Sized l s → Sized l (with_locks f s)
 with_locks_sized l f s k h = assumption (k, h)
-
-pub with_deadlines_sized : (l : Limits) (deadlines : List (Option ℕ)) (s : Part) → length deadlines ≡ l.threads → Sized l s → Sized l (record s { deadlines = deadlines })
-with_deadlines_sized l deadlines s k h = assumption (k, h)
 
 pub with_memory_sized : (l : Limits) (memory : List ℕ) (s : Part) → length memory ≡ l.memory → Sized l s → Sized l (record s { memory = memory })
 with_memory_sized l memory s k h = assumption (k, h)
@@ -143,32 +137,20 @@ interval_sized l interval cost t (Some thread) s h =
 
 -- ---- deadlines
 
-min-same : (a b n : ℕ) → a ≡ n → b ≡ n → min a b ≡ n
-min-same a b n e f = omega (arith, e, f)
-
-pub live_deadlines_sized : (l : Limits) (s : Part) → Sized l s → Sized l (with_live_deadlines s)
-live_deadlines_sized l s h =
-    with_deadlines_sized l (Rattle.std.specs.Prelude.map live_deadline (zip s.threads s.deadlines)) s
-    (length-map (zip s.threads s.deadlines) live_deadline
-    ∙ length-zip s.threads s.deadlines
-    ∙ min-same (length s.threads) (length s.deadlines) l.threads h.sizes.syncs_sized.locks.threads h.sizes.deadlines_sized) h
-
 pub woken_sized : (l : Limits) (t : ℕ) (values : List ℕ) (s : Part) → Sized l s → Sized l (with_locks (after_wake t values) s)
 woken_sized l t values s h = with_locks_sized l (after_wake t values) s (after_wake_sized l t values s.locks h.sizes.syncs_sized.locks) h
 
 timeout_sized : (l : Limits) (t : ℕ) (wait : Option Wait) (s : Part) → Sized l s → Sized l (after_timeout t wait s)
 timeout_sized l t None s h = h
 timeout_sized l t (Some InputWait) s h = h
-timeout_sized l t (Some SleepWait) s h = live_deadlines_sized l (with_locks (after_wake t (0 ∷ [])) s) (woken_sized l t (0 ∷ []) s h)
+timeout_sized l t (Some (SleepWait deadline)) s h = woken_sized l t (0 ∷ []) s h
 timeout_sized l t (Some (JoinWait u)) s h = h
-timeout_sized l t (Some (MutexWait m)) s h =
-    live_deadlines_sized l (with_locks (λ locks. after_wake t (errno_number ETIMEDOUT ∷ []) (without_mutex_waiter t m locks)) s)
-    (with_locks_sized l (λ locks. after_wake t (errno_number ETIMEDOUT ∷ []) (without_mutex_waiter t m locks)) s
-    (after_wake_sized l t (errno_number ETIMEDOUT ∷ []) (without_mutex_waiter t m s.locks) (without_mutex_waiter_sized l t m s.locks h.sizes.syncs_sized.locks)) h)
-timeout_sized l t (Some (ConditionWait c m)) s h =
-    live_deadlines_sized l (with_syncs (after_unblock t c (Some (errno_number ETIMEDOUT))) s)
-    (with_syncs_sized l (after_unblock t c (Some (errno_number ETIMEDOUT))) s
-    (after_unblock_sized l t c (Some (errno_number ETIMEDOUT)) s.syncs h.sizes.syncs_sized) h)
+timeout_sized l t (Some (MutexWait m deadline)) s h =
+    with_locks_sized l (λ locks. after_wake t (errno_number ETIMEDOUT ∷ []) (without_mutex_waiter t m locks)) s
+    (after_wake_sized l t (errno_number ETIMEDOUT ∷ []) (without_mutex_waiter t m s.locks) (without_mutex_waiter_sized l t m s.locks h.sizes.syncs_sized.locks)) h
+timeout_sized l t (Some (ConditionWait c m deadline)) s h =
+    with_syncs_sized l (after_unblock t c (Some (errno_number ETIMEDOUT))) s
+    (after_unblock_sized l t c (Some (errno_number ETIMEDOUT)) s.syncs h.sizes.syncs_sized) h
 timeout_sized l t (Some (RelockWait m reply)) s h = h
 
 timeouts_sized : (l : Limits) (expiries : List Expiry) (s : Part) → Sized l s → Sized l (fold (λ u a. after_timeout a.thread (wait_of (thread_at u.locks a.thread)) u) s expiries)

@@ -3,9 +3,10 @@ use Rattle.std.proofs.Common.{arith, ◌≡◌, ℕ, zero, suc, ◌+◌, ◌-◌
 use Rattle.std.proofs.lemmas.List.{length-replicate}
 use Rattle.std.proofs.lemmas.List.Elements.{All-replicate}
 use Rattle.std.specs.Prelude.{Option, Some, None, Result, Ok, Err, not, nat_lt, replicate, option_to_list, if◌then◌else◌}
+use Rattle.ptk_words.specs.Calls.{call_of}
 use Rattle.ptk_words.specs.Image.{ImageParts, image_of}
 use Rattle.ptk_words.specs.Processor.{Processor, register}
-use Rattle.ptk_words.specs.declared.TheConstants.{CANCELED}
+use Rattle.ptk_words.specs.declared.TheConstants.{A7, CANCELED}
 use Rattle.ptk_words.specs.declared.faults.Cause.TheVariants as cause
 use Rattle.ptk_words.specs.declared.faults.ImageFault.{ImageFault}
 use Rattle.ptk_words.specs.declared.faults.ImageFault.TheVariants.{Unfit}
@@ -21,7 +22,7 @@ use Rattle.ptk_words_model.specs.State.{Part, Account, State}
 use Rattle.ptk_words_model.specs.Priority.{thread_at}
 use Rattle.ptk_words_model.specs.Withdrawal.{after_expiries}
 use Rattle.ptk_words_model.specs.Keys.{no_values, no_rounds}
-use Rattle.ptk_words.specs.Calls.{call_of}
+use Rattle.ptk_words_model.specs.CallTable.{answer_to}
 use Rattle.ptk_words_model.specs.ThreadCreation.{new_cancellation, with_new_thread}
 use Rattle.ptk_words_model.specs.declared.Runner.{Runner}
 use Rattle.ptk_words_model.specs.declared.StepKind.{StepKind}
@@ -32,7 +33,7 @@ use Rattle.ptk_words_laws.specs.Sizes.{StartIsSized, CallsKeepSizes, DecisionsKe
 use Rattle.ptk_words_laws.proofs.Sizes.Pools.{least_from_test}
 use Rattle.ptk_words_laws.proofs.Sizes.Parts.{Sized, from_sized, to_sized, with_memory_sized, with_last_sized, with_halt_sized, with_status_sized, choice_sized, interval_sized, expiries_sized, arrivals_sized}
 use Rattle.ptk_words_laws.proofs.Sizes.Unwindings.{unwinding_start_sized, gate_step_sized}
-use Rattle.ptk_words_laws.proofs.Sizes.Effects.{HasLength, effect_length}
+use Rattle.ptk_words_well.proofs.Effects.{HasLength, effect_length}
 use Rattle.ptk_words_laws.proofs.Sizes.Calls.{thread_changed_sized, new_thread_sized}
 use Rattle.ptk_words_laws.proofs.Sizes.Table.{call_sized}
 
@@ -44,7 +45,7 @@ cpu_sized l t cpu s h = thread_changed_sized l t (λ thread. record thread { cpu
 effect_sized : (l : Limits) (tick t pc : ℕ) (effect : Effect) (s : Part) → HasLength l.memory effect → Sized l s → Sized l (after_effect l tick t pc effect s)
 effect_sized l tick t pc (Done cpu memory) s k h = cpu_sized l t cpu (record s { memory = memory }) (with_memory_sized l memory s k h)
 effect_sized l tick t pc (Call cpu) s k h =
-    (call_sized (register cpu 17) (invocation l tick t cpu) (with_cpu t cpu s) (cpu_sized l t cpu s h)).part
+    (call_sized (call_of (register cpu A7)) (invocation l tick t cpu) (with_cpu t cpu s) (cpu_sized l t cpu s h)).part
 effect_sized l tick t pc Break s k h = with_halt_sized l (Stopped cause.Break pc) s h
 effect_sized l tick t pc (Fault kind) s k h = with_halt_sized l (Stopped (cause.Fault kind) pc) s h
 
@@ -93,7 +94,6 @@ empty_sized l input =
       threads = length-replicate l.threads None;
       mutexes = length-replicate l.mutexes None;
       conditions = length-replicate l.conditions None;
-      deadlines = length-replicate l.threads None;
       cancellations = length-replicate l.threads new_cancellation;
       cleanups = length-replicate l.threads [];
       destructors = length-replicate l.keys None;
@@ -181,7 +181,7 @@ start_keeps l image input = from_sized l (start_part l image input) (start_sized
 
 pub calls_keep : (s : Part) → CallsKeepSizes s
 calls_keep s number i h =
-    from_sized i.limits (answer_to (call_of number) i s).part (call_sized number i s (to_sized i.limits s h)).part
+    from_sized i.limits (answer_to (call_of number) i s).part (call_sized (call_of number) i s (to_sized i.limits s h)).part
 
 pub decisions_keep : (l : Limits) (s : Part) → DecisionsKeepSizes l s
 decisions_keep l s tick room h = from_sized l (after_decision l tick room s) (decision_sized l tick room s (to_sized l s h))

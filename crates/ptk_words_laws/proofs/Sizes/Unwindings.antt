@@ -3,7 +3,7 @@ use Rattle.std.proofs.Common.{◌≡◌, ℕ, ◌%◌, false, List, [], ◌∷�
 use Rattle.std.proofs.lemmas.List.{length-replicate}
 use Rattle.std.specs.Prelude.{Option, Some, None}
 use Rattle.std.specs.List.{list_any}
-use Rattle.ptk_words.specs.declared.TheConstants.{RETURN_GATE}
+use Rattle.ptk_words.specs.declared.TheConstants.{A0, RETURN_GATE}
 use Rattle.ptk_words.specs.Pools.{pool_set}
 use Rattle.ptk_words.specs.Processor.{register}
 use Rattle.ptk_words.specs.declared.faults.Status.TheVariants.{Exited}
@@ -96,7 +96,7 @@ unwinding_move_sized l t (cleanup ∷ cleanups) s h =
 
 pub gate_step_sized : (l : Limits) (phase : Phase) (t : ℕ) (thread : Thread) (s : Part) → Sized l s → Sized l (after_gate_step phase t thread s)
 gate_step_sized l Normal t thread s h =
-    sized_if l thread.is_main (with_halt (Exited (register thread.cpu 10 % 256)) s) (after_unwinding_start t (register thread.cpu 10) s)
-    (with_halt_sized l (Exited (register thread.cpu 10 % 256)) s h) (unwinding_start_sized l t (register thread.cpu 10) s h)
+    sized_if l thread.is_main (with_halt (Exited (register thread.cpu A0 % 256)) s) (after_unwinding_start t (register thread.cpu A0) s)
+    (with_halt_sized l (Exited (register thread.cpu A0 % 256)) s h) (unwinding_start_sized l t (register thread.cpu A0) s h)
 gate_step_sized l Unwinding t thread s h = unwinding_move_sized l t (cleanups_of s t) s h
 gate_step_sized l Ended t thread s h = h

@@ -1,5 +1,8 @@
 -- Calls that threads are refused, in built states, with the order of their checks, and what small calls tell.
-use Rattle.std.specs.Prelude.{◌≡◌, ℕ, true, List, [], ◌∷◌, map, Option, Some, None}
+use Rattle.std.specs.Prelude.{◌≡◌, true, List, [], ◌∷◌, map, Option, Some, None}
+use Rattle.ptk_words.specs.Names.{Pointer, Word}
+use Rattle.ptk_words.specs.Calls.{call_of}
+use Rattle.ptk_words.specs.declared.TheConstants.{A1, A2}
 use Rattle.ptk_words.specs.declared.threads.Thread.{Thread}
 use Rattle.ptk_words.specs.declared.threads.Wait.TheVariants.{JoinWait}
 use Rattle.ptk_words_model.specs.declared.Reply.{Reply}
@@ -8,27 +11,26 @@ use Rattle.ptk_words_model.specs.State.{Part, with_locks, with_cancellation}
 use Rattle.ptk_words_model.specs.Schedule.{with_thread}
 use Rattle.ptk_words_model.specs.Calls.{Answer, replied}
 use Rattle.ptk_words_model.specs.ThreadCalls.{create, join, detach, self, setschedparam, getschedparam, setschedprio}
-use Rattle.ptk_words.specs.Calls.{call_of}
+use Rattle.ptk_words_model.specs.CallTable.{answer_to}
 use Rattle.ptk_words_laws.specs.Guests.{register_of}
-use Rattle.ptk_words_laws.specs.Rows.Priorities.{thread, waiting}
-use Rattle.ptk_words_laws.specs.Rows.Waits.{part_with, call_by, call_with}
+use Rattle.ptk_words_laws.specs.Rows.States.{thread, waiting, part_with, call_by, call_with}
 
 -- ---- create
 
--- thread 1 of these creates another with the attributes at the pointer; these words stand at 4, and 64 bytes follow them, so that memory has 88 bytes with five words (own)
-abbrev pub creation : List (Option Thread) → ℕ → List ℕ → Reply
+-- thread 1 of these creates another with the attributes at the pointer; these words stand at 4, and 64 bytes follow them, so that memory has 88 bytes with five words
+abbrev pub creation : List (Option Thread) → Pointer → List Word → Reply
 creation threads pointer words = (create (call_with pointer 0 0) (part_with (0 ∷ words) threads [])).reply
 
--- the same with number 2 free (own)
-abbrev pub creation_at : ℕ → List ℕ → Reply
+-- a creation where number 2 is free
+abbrev pub creation_at : Pointer → List Word → Reply
 creation_at pointer words = creation (thread 5 ∷ None ∷ []) pointer words
 
--- the same with these words as attributes: detach, inherit, policy, priority, stack top (own)
-abbrev pub creation_of : List ℕ → Reply
+-- a creation with these words as attributes: detach, inherit, policy, priority, stack top
+abbrev pub creation_of : List Word → Reply
 creation_of words = creation_at 4 words
 
--- the same with no number free (own)
-abbrev pub last_creation : ℕ → List ℕ → Reply
+-- a creation where no number is free
+abbrev pub last_creation : Pointer → List Word → Reply
 last_creation pointer words = creation (thread 5 ∷ []) pointer words
 
 -- the pointer is tested first, then detach and inherit, then explicit policies and priorities, then the stack top, then the numbers; pointer 0 names no attributes (pthread_create; own, EFAULT, EINVAL, ENOTSUP, EAGAIN)
@@ -51,24 +53,24 @@ pub record CreateRefused : Type 0 where
 
 -- ---- the other calls of threads
 
--- 1 runs, 2 is detached, 3 is joined by 4, and 5 is free (own)
+-- 1 runs, 2 is detached, 3 is joined by 4, and 5 is free
 abbrev pub four_threads : Part
 four_threads =
     with_locks (with_thread 2 (λ th. record th { is_detached = true }))
     (with_locks (with_thread 3 (λ th. record th { joiner = Some 4 }))
     (part_with [] (thread 5 ∷ thread 5 ∷ thread 5 ∷ waiting 5 (JoinWait 3) ∷ None ∷ []) []))
 
--- the same with 1 detached (own)
+-- 1 and 2 are detached, 3 is joined by 4, and 5 is free
 abbrev pub one_detached : Part
 one_detached = with_locks (with_thread 1 (λ th. record th { is_detached = true })) four_threads
 
--- the same with a request to end pending for 1 (own)
+-- 1 has a pending request, 2 is detached, 3 is joined by 4, and 5 is free
 abbrev pub one_asked : Part
 one_asked = with_cancellation 1 (λ c. record c { is_pending = true }) four_threads
 
--- the replies to a call with each of these arguments (own)
-abbrev pub replies : (ℕ → Answer) → List ℕ → List Reply
-replies answer_to arguments = map (λ argument. (answer_to argument).reply) arguments
+-- the replies to a call with each of these arguments
+abbrev pub replies : (Word → Answer) → List Word → List Reply
+replies answer_with arguments = map (λ argument. (answer_with argument).reply) arguments
 
 -- at join a pending request acts first; ESRCH is tested before the rest, oneself before a detached thread, a policy before a priority; a refused call changes a0 alone (pthread_join, pthread_detach, pthread_setschedparam, pthread_getschedparam, pthread_setschedprio; own, ESRCH, EDEADLK, EINVAL, ENOTSUP)
 pub record ThreadRefused : Type 0 where
@@ -89,16 +91,16 @@ pub record ThreadRefused : Type 0 where
 
 -- ---- small calls
 
--- after 1 has set its own policy to SCHED_RR and its priority to 7 (own)
+-- 1 has set its own policy to SCHED_RR and its priority to 7
 abbrev pub rescheduled : Part
 rescheduled = (setschedparam (call_with 1 2 7) four_threads).part
 
 -- a thread's number, its policy and its assigned priority are told; a number that is no call and a call not in use yet are refused (pthread_self, pthread_getschedparam; own, ENOSYS)
 pub record SmallCalls : Type 0 where
-  pub number : map (λ t. register_of (self (call_by t 0 0 0) four_threads).part t 11) (1 ∷ 2 ∷ []) ≡ Some 1 ∷ Some 2 ∷ []
-  pub policy : register_of (getschedparam (call_with 1 0 0) four_threads).part 1 11 ≡ Some 1
-  pub priority : register_of (getschedparam (call_with 1 0 0) four_threads).part 1 12 ≡ Some 5
-  pub set_policy : register_of (getschedparam (call_with 1 0 0) rescheduled).part 1 11 ≡ Some 2
-  pub set_priority : register_of (getschedparam (call_with 1 0 0) rescheduled).part 1 12 ≡ Some 7
+  pub number : map (λ t. register_of (self (call_by t 0 0 0) four_threads).part t A1) (1 ∷ 2 ∷ []) ≡ Some 1 ∷ Some 2 ∷ []
+  pub policy : register_of (getschedparam (call_with 1 0 0) four_threads).part 1 A1 ≡ Some 1
+  pub priority : register_of (getschedparam (call_with 1 0 0) four_threads).part 1 A2 ≡ Some 5
+  pub set_policy : register_of (getschedparam (call_with 1 0 0) rescheduled).part 1 A1 ≡ Some 2
+  pub set_priority : register_of (getschedparam (call_with 1 0 0) rescheduled).part 1 A2 ≡ Some 7
   pub no_call : (answer_to (call_of 99) (call_with 1 0 0) four_threads).reply ≡ Done 38
   pub not_yet : (answer_to (call_of 22) (call_with 0 0 0) four_threads).reply ≡ Done 38

@@ -1,5 +1,6 @@
 -- Runs of several threads: create and join, numbers, round robin and places in the line.
 use Rattle.std.specs.Prelude.{◌≡◌, ℕ, false, List, [], ◌∷◌, codes, Some, option_map}
+use Rattle.ptk_words.specs.Names.{Ticks}
 use Rattle.ptk_words.specs.declared.faults.Status.TheVariants.{Active}
 use Rattle.ptk_words.specs.declared.threads.Phase.TheVariants.{Ended}
 use Rattle.ptk_words_model.specs.Text.{report_text}
@@ -7,7 +8,7 @@ use Rattle.ptk_words_model.specs.State.{State}
 use Rattle.ptk_words_model.specs.Priority.{thread_at}
 use Rattle.ptk_words_laws.specs.Guests.{image_of_words, small, one_window, first_half, run, name, lines, step_ticks, step_threads, register_of}
 
--- main creates t with argument 5, joins it and exits with its result; t returns its argument plus 2 (own)
+-- main creates t with argument 5, joins it and exits with its result; t returns its argument plus 2
 abbrev pub create_join_image : List ℕ
 create_join_image =
     image_of_words
@@ -22,7 +23,7 @@ pub record CreateJoin : Type 0 where
   pub steps : step_ticks (run (one_window 100 100) small create_join_image 40) ≡ 0 ∷ 1 ∷ 2 ∷ 3 ∷ 4 ∷ 5 ∷ 17 ∷ 18 ∷ 19 ∷ 27 ∷ 28 ∷ 29 ∷ 33 ∷ 37 ∷ 38 ∷ 39 ∷ []
   pub report : report_text name (run (one_window 100 100) small create_join_image 40) ≡ lines (codes "partition p exit 7 steps 16 lost 0" ∷ codes "output 0" ∷ [] ∷ [])
 
--- main creates t and calls pthread_exit; t detaches main, creates a thread that returns, yields and jumps to itself (own)
+-- main creates t and calls pthread_exit; t detaches main, creates a thread that returns, yields and jumps to itself
 abbrev pub reused_image : List ℕ
 reused_image =
     image_of_words
@@ -34,8 +35,8 @@ reused_image =
     ∷ 0x00008067 ∷ [])
     []
 
--- its run (own)
-abbrev pub reused_at : ℕ → State
+-- the run in which number 1 is taken anew, after so many ticks
+abbrev pub reused_at : Ticks → State
 reused_at n = run (one_window 400 400) small reused_image n
 
 -- a thread that gets number 1 anew is not main: its return ends it alone (own)
@@ -47,7 +48,7 @@ pub record NumberOneReused : Type 0 where
   pub goes_on : (reused_at 80).part.status ≡ Active
   pub runs : (reused_at 80).part.running ≡ Some 2
 
--- main makes two SCHED_RR threads of its own priority that jump to themselves, and yields (own)
+-- main makes two SCHED_RR threads of its own priority that jump to themselves, and yields
 abbrev pub round_robin_image : List ℕ
 round_robin_image =
     image_of_words
@@ -62,7 +63,7 @@ pub record RoundRobinWindows : Type 0 where
   pub ticks : step_ticks (run first_half (record small { interval = 5 }) round_robin_image 87) ≡ 3 ∷ 15 ∷ 16 ∷ 40 ∷ 52 ∷ 53 ∷ 57 ∷ 58 ∷ 59 ∷ 80 ∷ 81 ∷ 82 ∷ 83 ∷ 84 ∷ 85 ∷ 86 ∷ []
   pub threads : step_threads (run first_half (record small { interval = 5 }) round_robin_image 87) ≡ 1 ∷ 1 ∷ 1 ∷ 1 ∷ 1 ∷ 1 ∷ 2 ∷ 2 ∷ 2 ∷ 2 ∷ 2 ∷ 3 ∷ 3 ∷ 3 ∷ 3 ∷ 3 ∷ []
 
--- main at 10 creates a thread of priority 8 and sets its own priority to 8 by setschedprio (own)
+-- main at 10 creates a thread of priority 8 and sets its own priority to 8 by setschedprio
 abbrev pub fall_by_prio_image : List ℕ
 fall_by_prio_image =
     image_of_words
@@ -72,7 +73,7 @@ fall_by_prio_image =
     ∷ 0x0000006f ∷ [])
     (0x00000000 ∷ 0x00000001 ∷ 0x00000001 ∷ 0x00000008 ∷ 0x00000000 ∷ [])
 
--- the same by setschedparam (own)
+-- main at 10 creates a thread of priority 8 and sets its own priority to 8 by setschedparam
 abbrev pub fall_by_param_image : List ℕ
 fall_by_param_image =
     image_of_words

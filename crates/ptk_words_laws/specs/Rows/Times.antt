@@ -1,10 +1,11 @@
 -- Ticks as timespecs and back.
-use Rattle.std.specs.Prelude.{◌≡◌, ℕ, [], ◌∷◌, map}
+use Rattle.std.specs.Prelude.{◌≡◌, [], ◌∷◌, map}
+use Rattle.ptk_words.specs.Names.{Word}
 use Rattle.ptk_words_model.specs.Time.{Timespec, time_bytes, deadline_of}
 use Rattle.ptk_words_laws.specs.Guests.{bytes_of_words}
 
--- a timespec of these words (own)
-abbrev pub timespec : ℕ → ℕ → ℕ → Timespec
+-- a timespec of these words: seconds low and high, and nanoseconds
+abbrev pub timespec : Word → Word → Word → Timespec
 timespec low high nanoseconds = record { low = low; high = high; nanoseconds = nanoseconds }
 
 -- the clocks tell the tick, and a deadline is the least tick not before its time, 0 of a negative time, and the tick after the last of one past it (clock_gettime, clock_nanosleep; own)

@@ -6,7 +6,7 @@ use Rattle.ptk_words_instructions.specs.Instructions.{Name, Lui, Jal, Jalr, Addi
 abbrev pub names : List ℕ → List (Option Name)
 names words = map (λ word. option_map (λ r. r.name) (decode_of word)) words
 
--- the table has 40 rows; words of them, words whose upper bits no row has, and immediates that are copied upward (RISC-V 2.3, 24)
+-- the table has 40 rows; some words are of its rows, others have upper bits that no row has; immediates are copied upward (RISC-V 2.3, 24)
 pub record DecodedWords : Type 0 where
   pub rows : length instruction_table ≡ 40
   pub inside : names (0x000012b7 ∷ 0x00100893 ∷ 0xfff2c503 ∷ 0xffe2a503 ∷ 0x00008067 ∷ 0xff5ff06f ∷ 0x0ff0000f ∷ 0x00000073 ∷ 0x00100073 ∷ []) ≡ Some Lui ∷ Some Addi ∷ Some Lbu ∷ Some Lw ∷ Some Jalr ∷ Some Jal ∷ Some Fence ∷ Some Ecall ∷ Some Ebreak ∷ []

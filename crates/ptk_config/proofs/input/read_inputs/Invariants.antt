@@ -1,4 +1,5 @@
 use Rattle.std.proofs.Common.{◌≡◌, ◌≤◌, [], drop}
+use Rattle.ptk_words.specs.declared.TheConstants.{LAST_TICK}
 use Rattle.toml.specs.View.{items_view}
 use Rattle.ptk_config.specs.Reading.{each_after}
 use Rattle.ptk_config.specs.Inputs.{input_in, last_tick, byte_count, arrivals_of}
@@ -11,6 +12,6 @@ invariant-loop-value l = record {
   last : l.last ≡ last_tick l.inputs.items;
   count : l.count ≡ byte_count l.inputs.items;
   room : l.count ≤ 65536;
-  in_time : l.last ≤ 1099511627776;
+  in_time : l.last ≤ LAST_TICK;
   order : IsInOrder l.last (arrivals_of l.inputs.items);
 }

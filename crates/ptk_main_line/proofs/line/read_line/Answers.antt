@@ -1,4 +1,4 @@
-use Rattle.std.proofs.Common.{◌≡◌, ◌∙◌, List, Option, sym, ap, map, subst, inr}
+use Rattle.std.proofs.Common.{◌≡◌, ◌∙◌, List, Option, sym, ap, map, subst, inl, inr, []}
 use Rattle.clap.specs.Words.{Row, Text, fault_of, is_simple, is_simple_and_free, subcommand_of, subcommand_rows_of}
 use Rattle.ptk_main_line.specs.CommandLine.{Means, ptk}
 use Rattle.ptk_main_line.proofs.line.read_line.Goals as goal
@@ -13,4 +13,10 @@ returns-clause-refused c =
     let words = map (λ w. w.now) c.args.words.now in
     let met : subcommand_rows_of c.in_ok-matches.matches ≡ subcommand_of ptk words =
     (c.in_ok-matches.ensures.matches (ap is_simple c.in_ok-command.ensures)).1 ∙ ap (λ a. subcommand_of a words) c.in_ok-command.ensures in
-    inr (λ request asks. c.in-None.ensures request (subst (λ (m : Option (Text × List Row)). Means m request) (sym met) asks))
+    let taken : fault_of ptk words ≡ [] =
+    ap (λ a. fault_of a words) (sym c.in_ok-command.ensures) ∙ c.in_ok-matches.ensures.kinds (ap is_simple_and_free c.in_ok-command.ensures) in
+    inr (
+      taken,
+      λ request asks. c.in-None.ensures request (subst (λ (m : Option (Text × List Row)). Means m request) (sym met) asks),
+      inr (inl c.in_ok-no_request-in-None.ensures),
+    )

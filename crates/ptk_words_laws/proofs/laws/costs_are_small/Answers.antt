@@ -1,5 +1,5 @@
 use Rattle.std.proofs.Common.{refl}
-use Rattle.ptk_words_laws.proofs.CostLaws.{cost_small}
+use Rattle.ptk_words_laws.proofs.CallLaws.{cost_small}
 use Rattle.ptk_words_laws.proofs.laws.costs_are_small.Goals as goal
 
 pub returns : goal.returns

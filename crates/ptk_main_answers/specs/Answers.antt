@@ -1,0 +1,30 @@
+-- What a request over a configuration and files has written.
+use Rattle.std.specs.Prelude.{ℕ, List, [], Option, Some, None, ◌++◌, codes}
+use Rattle.ptk_words_model.specs.Text.{newline, trace_text}
+use Rattle.ptk_config.specs.Configuration.{Configuration}
+use Rattle.ptk_system_files.specs.NamedFiles.{NamedFile}
+use Rattle.ptk_system.specs.Shown.{report_of}
+use Rattle.ptk_system.specs.World.{World, state_of}
+use Rattle.ptk_main_line.specs.declared.line.Request.{Request}
+use Rattle.ptk_main_line.specs.declared.line.Request.TheVariants.{Run, Trace, Asm, Check}
+use Rattle.ptk_main_runs.specs.Parts.{part_named}
+
+-- the system after so many ticks (own)
+abbrev pub world_at : Configuration → List NamedFile → ℕ → World
+world_at config files tick = record { config = config; files = files; tick = tick }
+
+-- the trace of a partition, if there is one (own)
+abbrev pub trace_of : Option ℕ → World → List ℕ
+trace_of None world = []
+trace_of (Some p) world = trace_text (state_of world p).account.trace
+
+-- the line of a check (own)
+abbrev pub ok_line : List ℕ
+ok_line = codes "ok" ++ newline
+
+-- a run's report, the trace of the partition named, or the line of a check (own)
+abbrev pub answer_of : Configuration → List NamedFile → Request → List ℕ
+answer_of config files (Run file ticks) = report_of (world_at config files ticks)
+answer_of config files (Trace file ticks partition) = trace_of (part_named config partition.now) (world_at config files ticks)
+answer_of config files (Asm source image) = []
+answer_of config files (Check file) = ok_line

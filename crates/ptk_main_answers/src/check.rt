@@ -1,0 +1,88 @@
+//! Whether a configuration and the images that it names are in order.
+
+ghost use Rattle.std.specs.Prelude.{◌≡◌, ◌<◌, None, Some, IfErr, IfSome, OnOk, MatchResult, length, option_map};
+ghost use Rattle.std.specs.Option.{option_or};
+ghost use Rattle.std.specs.Io.KnownBytes.{Appends};
+ghost use Rattle.ptk_system.specs.World.{section_at};
+ghost use Rattle.ptk_main_faults.specs.Told.{told};
+ghost use Rattle.ptk_main_answers.specs.Answers.{ok_line};
+ghost use Rattle.ptk_main_answers.specs.Images.{first_refused, image_refusal, refusal_in};
+ghost use Rattle.ptk_main_answers.specs.Refusals.{IsFaultOf, missing_image, refused_image};
+
+use crate::naming::{boot_fault, image_name};
+use ptk_config::Config;
+use ptk_main_faults::Fault;
+use ptk_system::{Files, PartStatus, System};
+use ptk_words::{ImageFault, PartId};
+use std::alloc::Global;
+use std::io::Write;
+
+/// Writes `ok` and a newline where every image that the configuration names is there, is sound and fits its partition. A
+/// boot refuses each that does not. A missing file comes before any other fault of an image.
+pub fn check_with<'a, W: Write>(
+    alloc: Global,
+    config: &'a Config,
+    files: &Files,
+    out: &mut W,
+) -> Result<(), Fault<'a>>
+    ensures written { OnOk result (Appends (W.contents out.old) (W.contents out.new) ok_line) }
+    ensures refused { let refusal = option_or (missing_image config.now files.now) (refused_image config.now files.now) in
+        MatchResult result (λ _. refusal ≡ None) (IsFaultOf (missing_image config.now files.now) refusal) }
+{
+    match System::boot(alloc, config, files) {
+        Ok(system) => match refused_image(config, &system) {
+            Some(fault) => Err(fault),
+            None => put_ok(out),
+        },
+        Err(fault) => Err(boot_fault(config, fault)),
+    }
+}
+
+/// Writes the line of a check.
+fn put_ok<W: Write>(out: &mut W) -> Result<(), Fault<'static>>
+    ensures written { OnOk result (Appends (W.contents out.old) (W.contents out.new) ok_line) }
+    ensures failed { IfErr result (λ fault. fault ≡ Fault.WriteFailed) }
+{
+    match out.write_all(b"ok\n") {
+        Ok(()) => Ok(()),
+        Err(_) => Err(Fault::WriteFailed),
+    }
+}
+
+/// The fault of the first partition whose image is refused, of a system at tick 0.
+fn refused_image<'a>(config: &'a Config, system: &System<'_>) -> Option<Fault<'a>>
+    requires same { system.now.config ≡ config.now }
+    requires start { system.now.tick ≡ 0 }
+    ensures { option_map told result ≡ refused_image config.now system.now.files }
+{
+    match first_refused(system) {
+        Some((p, fault)) => Some(Fault::of_image(image_name(config, p), fault)),
+        None => None,
+    }
+}
+
+/// The first partition whose image is refused, with its fault, of a system at tick 0.
+fn first_refused(system: &System<'_>) -> Option<(PartId, ImageFault)>
+    requires { system.now.tick ≡ 0 }
+    ensures place { option_map (λ r. r.0) result ≡ first_refused system.now.files system.now.config.sections }
+    ensures fault { IfSome result (λ r. image_refusal system.now.files (section_at system.now.config r.0) ≡ Some r.1) }
+{
+    for i in 0..system.parts() {
+        let p = PartId::new(i as u8);
+        if let Some(fault) = refusal_in(system.status(p)) {
+            return Some((p, fault));
+        }
+    }
+    None
+}
+
+/// The fault of an image by the status of its partition, if it was refused.
+fn refusal_in(status: PartStatus) -> Option<ImageFault>
+    ensures { result ≡ refusal_in status }
+{
+    match status {
+        PartStatus::Refused(fault) => Some(fault),
+        PartStatus::Idle | PartStatus::Running | PartStatus::Exited(_) | PartStatus::Stopped(..) =>
+            None,
+    }
+}

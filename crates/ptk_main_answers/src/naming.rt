@@ -1,0 +1,43 @@
+//! The program's faults for those of the layers below, with the names that a configuration gives.
+
+ghost use Rattle.std.specs.Prelude.{◌≡◌};
+ghost use Rattle.ptk_main_faults.specs.Told.{told};
+ghost use Rattle.ptk_main_answers.specs.Images.{image_name};
+ghost use Rattle.ptk_main_answers.specs.Refusals.{boot_fault, run_fault};
+
+use ptk_config::Config;
+use ptk_main_faults::Fault;
+use ptk_main_runs::RunFault;
+use ptk_system::BootFault;
+use ptk_words::PartId;
+
+/// The name of a partition's image, empty where it has none.
+pub(crate) fn image_name(config: &Config, p: PartId) -> &str
+    ensures { result.now ≡ image_name config.now p }
+{
+    match config.sections().get(p.index()) {
+        Some(section) => section.image().unwrap_or(""),
+        None => "",
+    }
+}
+
+/// The program's fault for a boot's.
+pub(crate) fn boot_fault(config: &Config, fault: BootFault) -> Fault<'_>
+    ensures { told result ≡ boot_fault config.now fault }
+{
+    match fault {
+        BootFault::Memory => Fault::NoMemory,
+        BootFault::MissingFile(p) => Fault::MissingFile(image_name(config, p)),
+    }
+}
+
+/// The program's fault for a run's, where the partition of this name was asked for.
+pub(crate) fn run_fault<'a>(config: &'a Config, name: &'a str, fault: RunFault) -> Fault<'a>
+    ensures { told result ≡ run_fault config.now name.now fault }
+{
+    match fault {
+        RunFault::Boot(fault) => boot_fault(config, fault),
+        RunFault::NoPartition => Fault::NoPartition(name),
+        RunFault::Write => Fault::WriteFailed,
+    }
+}

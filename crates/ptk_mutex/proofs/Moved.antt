@@ -1,0 +1,121 @@
+-- What the calls need of the tables, and what the tables are after a move of one partition.
+use Rattle.std.proofs.Common.{◌≡◌, ◌≢◌, ℕ, zero, suc, ◌+◌, ◌-◌, ◌<◌, ◌≤◌, List, [], ◌∷◌, ◌++◌, length, refl, sym, ◌∙◌, ap, arith, Bool, true, false, ◌⊎◌, inl, inr}
+use Rattle.std.specs.Prelude.{Option, Some, None, option_map}
+use Rattle.std.proofs.Math.ListN.{set}
+use Rattle.std.proofs.lemmas.List.{length-set, set-set, set-get_or}
+use Rattle.ptk_words.specs.Pools.{pool_get, is_in}
+use Rattle.ptk_words.specs.declared.TheConstants.{COUNT_LIMIT}
+use Rattle.ptk_words_model.specs.State.{Mutex, Locks}
+use Rattle.ptk_words_model.specs.Priority.{awaited, thread_at}
+use Rattle.ptk_words_model.specs.Mutex.{waiters_of, count_of}
+use Rattle.ptk_words_parted.specs.Parts.{part_of}
+use Rattle.ptk_threads.specs.Table.{ThreadTable, thread_in}
+use Rattle.ptk_threads.proofs.Pools.{pool_get-changed, pool_changed-changed, part_of-set}
+use Rattle.ptk_mutex.specs.declared.slot.Change.TheVariants.{CountUp, CountDown, Enqueue}
+use Rattle.ptk_mutex.specs.Changes.{SlotMayChange}
+use Rattle.std.specs.Prelude.{option_and_then, option_to_list}
+use Rattle.ptk_words.specs.Pools.{pool_set}
+use Rattle.ptk_words.specs.declared.threads.Thread.{Thread}
+use Rattle.ptk_words_model.specs.declared.LockMove.{LockMove}
+use Rattle.ptk_words_model.specs.Schedule.{woken_with}
+use Rattle.ptk_words_model.specs.Mutex.{move_reply, kept_reply, handed}
+use Rattle.ptk_threads.specs.Table.{with_changed, replaced_by}
+use Rattle.ptk_threads.proofs.Pools.{pool_changed-free}
+use Rattle.ptk_words.specs.Pools.{first_of_greatest}
+use Rattle.ptk_words_parted.proofs.Cuts.{set_part-same}
+use Rattle.ptk_words_model.specs.Mutex.{heir, owns, after_mutex_end, after_bequest, after_abandonment}
+use Rattle.ptk_mutex.specs.Slots.{is_robust_at}
+use Rattle.ptk_mutex.specs.Tables.{with_threads}
+use Rattle.ptk_threads.specs.Table.{stored_of}
+use Rattle.ptk_mutex.specs.Tables.{MayGet, MayWait}
+use Rattle.ptk_mutex.proofs.Locked.{waiter_used, stored_heir, heir_may_get}
+use Rattle.ptk_mutex.specs.Tables.{locks_at, HasPart, AreLocked, AreReady}
+
+-- ---- room
+
+count_room : (x : Option Mutex) → count_of x ≤ COUNT_LIMIT → SlotMayChange CountUp x
+count_room None h = tt
+count_room (Some m) h = h
+
+enqueue_room : (t : ℕ) (x : Option Mutex) → is_in t (waiters_of x) ≡ false → SlotMayChange (Enqueue t) x
+enqueue_room t None h = tt
+enqueue_room t (Some m) h = h
+
+-- a count can go up
+pub countable : (p m : ℕ) (table : ThreadTable) (lines : List (List ℕ)) (mutexes : List (List (Option Mutex))) → AreReady p table lines mutexes → SlotMayChange CountUp (pool_get (part_of mutexes p) m)
+countable p m table lines mutexes ready = count_room (pool_get (part_of mutexes p) m) (ready.locked.counts m)
+
+out_by : (locks : Locks) (t m : ℕ) (b : Bool) → AreLocked locks → awaited (thread_at locks t) ≡ None → is_in t (waiters_of (pool_get locks.mutexes m)) ≡ b → is_in t (waiters_of (pool_get locks.mutexes m)) ≡ false
+out_by locks t m true locked awake e = let named : awaited (thread_at locks t) ≡ Some m = (locked.waiters m t e).waits in cc
+out_by locks t m false locked awake e = e
+
+-- a thread that waits for no mutex can begin to
+pub fresh : (p t m : ℕ) (table : ThreadTable) (lines : List (List ℕ)) (mutexes : List (List (Option Mutex))) → AreReady p table lines mutexes → MayWait (locks_at p table lines mutexes) t → SlotMayChange (Enqueue t) (pool_get (part_of mutexes p) m)
+fresh p t m table lines mutexes ready may =
+    enqueue_room t (pool_get (part_of mutexes p) m) (out_by (locks_at p table lines mutexes) t m (is_in t (waiters_of (pool_get (part_of mutexes p) m))) ready.locked may.awake refl)
+
+pub has_part : (p : ℕ) (table : ThreadTable) (lines : List (List ℕ)) (mutexes : List (List (Option Mutex))) → AreReady p table lines mutexes → HasPart p table lines mutexes
+has_part p table lines mutexes ready = ready.part
+
+-- ---- a thread woken
+
+replaced_row : (t : ℕ) (f : Thread → Thread) (thread : Thread) (row : List (Option Thread)) (o : Option Thread) → o ≡ Some thread → pool_set row t (option_map (replaced_by (f thread)) o) ≡ pool_set row t (option_map f o)
+replaced_row t f thread row o e = rw e refl
+
+-- the thread of a number replaced by what f makes of it
+pub replaced-is : (p t : ℕ) (f : Thread → Thread) (thread new : Thread) (table : ThreadTable) → thread_in table p t ≡ Some thread → new ≡ f thread → with_changed p t (replaced_by new) table ≡ with_changed p t f table
+replaced-is p t f thread new table e same =
+    rw same (ap (λ (row : List (Option Thread)). record table { threads = set table.threads p row }) (replaced_row t f thread (part_of table.threads p) (thread_in table p t) e))
+
+-- a free number stays free
+pub free-is : (p t : ℕ) (f : Thread → Thread) (table : ThreadTable) → thread_in table p t ≡ None → with_changed p t f table ≡ table
+free-is p t f table e = rw (pool_changed-free t f (part_of table.threads p) e, set-get_or) refl
+
+handed_entry : (made : LockMove) (x : Option Thread) → option_map (woken_with (option_to_list (move_reply made (kept_reply (option_and_then (λ (thread : Thread). thread.wait) x))))) x ≡ option_map (handed made) x
+handed_entry made None = refl
+handed_entry made (Some thread) = refl
+
+-- a waiter that leaves is told what its wait kept
+pub handed-is : (t : ℕ) (made : LockMove) (row : List (Option Thread)) → pool_set row t (option_map (woken_with (option_to_list (move_reply made (kept_reply (option_and_then (λ (thread : Thread). thread.wait) (pool_get row t)))))) (pool_get row t)) ≡ pool_set row t (option_map (handed made) (pool_get row t))
+handed-is t made row = ap (pool_set row t) (handed_entry made (pool_get row t))
+
+-- ---- the choice
+
+-- the first waiter of the greatest stored priority is the heir
+pub choice-is : (p m : ℕ) (o : Option ℕ) (table : ThreadTable) (lines : List (List ℕ)) (mutexes : List (List (Option Mutex))) → AreReady p table lines mutexes → o ≡ first_of_greatest (stored_of (part_of table.stored p)) (waiters_of (pool_get (part_of mutexes p) m)) → o ≡ heir m (locks_at p table lines mutexes)
+choice-is p m o table lines mutexes ready e = e ∙ stored_heir m (locks_at p table lines mutexes) (part_of table.stored p) ready.locked ready.stored
+
+-- and may get the mutex
+pub choice_may : (p m : ℕ) (o : Option ℕ) (table : ThreadTable) (lines : List (List ℕ)) (mutexes : List (List (Option Mutex))) → AreReady p table lines mutexes → o ≡ first_of_greatest (stored_of (part_of table.stored p)) (waiters_of (pool_get (part_of mutexes p) m)) → MayGet o (locks_at p table lines mutexes) m
+choice_may p m o table lines mutexes ready e = heir_may_get m (locks_at p table lines mutexes) o ready.locked (choice-is p m o table lines mutexes ready e)
+
+pub ruleset choices = (choice-is, choice_may, has_part)
+
+-- a count above 1 can go down
+pub count_down_room : (x : Option Mutex) → 1 < count_of x → SlotMayChange CountDown x
+count_down_room None h = tt
+count_down_room (Some m) h = omega arith
+
+-- ---- the end of an owner
+
+pub end-other : (t m : ℕ) (x : Option Mutex) (locks : Locks) → owns t x ≡ false → after_mutex_end t x m locks ≡ locks
+end-other t m None locks e = refl
+end-other t m (Some x) locks e = rw e refl
+
+pub end-robust : (t m : ℕ) (x : Option Mutex) (locks : Locks) → owns t x ≡ true → is_robust_at x ≡ true → after_mutex_end t x m locks ≡ after_bequest m locks
+end-robust t m None locks e r = cc
+end-robust t m (Some x) locks e r = rw (e, r) refl
+
+pub end-plain : (t m : ℕ) (x : Option Mutex) (locks : Locks) → owns t x ≡ true → is_robust_at x ≡ false → after_mutex_end t x m locks ≡ after_abandonment m locks
+end-plain t m None locks e r = cc
+end-plain t m (Some x) locks e r = rw (e, r) refl
+
+-- nothing moved
+pub stays : (p : ℕ) (table : ThreadTable) (lines : List (List ℕ)) (mutexes : List (List (Option Mutex))) → AreReady p table lines mutexes → with_threads p (locks_at p table lines mutexes) table ≡ table
+stays p table lines mutexes ready = rw (← ready.stored, set_part-same, set_part-same) refl
+
+pub ruleset ends = (end-other, end-robust, end-plain, stays, has_part, set_part-same)
+
+pub ruleset moves = (set_part-same, count_down_room, waiter_used, countable, fresh, has_part, pool_get-changed, pool_changed-changed, part_of-set, set-set, set-get_or, length-set)
+
+pub ruleset wakes = (replaced-is, free-is, handed-is, pool_get-changed, pool_changed-changed, part_of-set, set-set, set-get_or, length-set)

@@ -1,0 +1,5 @@
+pub mod Slots
+pub mod Changes
+pub mod Raised
+pub mod Tables
+pub mod Moves

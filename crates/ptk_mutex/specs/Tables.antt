@@ -1,0 +1,72 @@
+-- The tables of all partitions, and of them one partition's threads, line and mutexes.
+use Rattle.std.specs.Prelude.{IsSome, ◌≡◌, ℕ, ◌<◌, ◌≤◌, true, false, List, [], length, Option, Some, None, slice_set, if◌then◌else◌}
+use Rattle.ptk_words.specs.Pools.{is_in}
+use Rattle.ptk_words.specs.Threads.{is_ended}
+use Rattle.ptk_words.specs.declared.TheConstants.{COUNT_LIMIT}
+use Rattle.ptk_words.specs.declared.threads.Thread.{Thread}
+use Rattle.ptk_words_parted.specs.Parts.{part_of}
+use Rattle.ptk_words_model.specs.State.{Mutex, Locks}
+use Rattle.ptk_words_model.specs.Priority.{thread_at, awaited, effective_priorities}
+use Rattle.ptk_words_model.specs.Mutex.{mutex_at, waiters_of, count_of}
+use Rattle.ptk_threads.specs.Table.{ThreadTable}
+
+-- what the mutex calls read and change of a partition (own)
+abbrev pub locks_at : ℕ → ThreadTable → List (List ℕ) → List (List (Option Mutex)) → Locks
+locks_at p table lines mutexes = record { threads = part_of table.threads p; line = part_of lines p; mutexes = part_of mutexes p }
+
+-- threads and mutexes without a line, on which no priority and no move of a lock depends (own)
+abbrev pub locks_of : List (Option Thread) → List (Option Mutex) → Locks
+locks_of threads mutexes = record { threads = threads; line = []; mutexes = mutexes }
+
+-- the threads of a partition, with the effective priorities that they then have as the stored ones (pthread_mutexattr_getprotocol)
+abbrev pub with_threads : ℕ → Locks → ThreadTable → ThreadTable
+with_threads p locks table =
+    record {
+      threads = slice_set table.threads p locks.threads;
+      stored = slice_set table.stored p (effective_priorities locks.threads locks.mutexes);
+    }
+
+-- the threads of a partition; the stored priorities stay (own)
+abbrev pub with_threads_alone : ℕ → Locks → ThreadTable → ThreadTable
+with_threads_alone p locks table = record table { threads = slice_set table.threads p locks.threads }
+
+-- the stored effective priority of a number, None where it names no thread or an ended one (pthread_mutexattr_getprotocol; own)
+abbrev pub effective_at : ℕ → Option Thread → Option ℕ
+effective_at priority None = None
+effective_at priority (Some thread) = if is_ended thread.phase then None else Some priority
+
+-- every table has the partition (own)
+pub record HasPart (p : ℕ) (table : ThreadTable) (lines : List (List ℕ)) (mutexes : List (List (Option Mutex))) : Type 0 where
+  pub of_threads : p < length table.threads
+  pub of_stored : p < length table.stored
+  pub of_lines : p < length lines
+  pub of_mutexes : p < length mutexes
+
+-- who waits for mutex m: a thread whose wait names it, and which is not in the line (pthread_mutex_lock)
+pub record IsWaiter (locks : Locks) (m k : ℕ) : Type 0 where
+  pub waits : awaited (thread_at locks k) ≡ Some m
+  pub out : is_in k locks.line ≡ false
+
+-- what mutexes are while they are used (own)
+pub record AreLocked (locks : Locks) : Type 0 where
+  -- every waiter waits for its mutex
+  pub waiters : (m k : ℕ) → is_in k (waiters_of (mutex_at locks m)) ≡ true → IsWaiter locks m k
+  -- no count is above the limit
+  pub counts : (m : ℕ) → count_of (mutex_at locks m) ≤ COUNT_LIMIT
+
+-- what the mutex calls need of the tables at a partition, and what they leave: its part is there and used as it should be, and its stored priorities are the effective ones (own)
+pub record AreReady (p : ℕ) (table : ThreadTable) (lines : List (List ℕ)) (mutexes : List (List (Option Mutex))) : Type 0 where
+  pub part : HasPart p table lines mutexes
+  pub locked : AreLocked (locks_at p table lines mutexes)
+  pub stored : part_of table.stored p ≡ effective_priorities (part_of table.threads p) (part_of mutexes p)
+
+-- nobody, or one that waits for the mutex (pthread_mutex_unlock)
+abbrev pub MayGet : Option ℕ → Locks → ℕ → Type 0
+MayGet None locks m = Unit {0}
+MayGet (Some t) locks m = IsWaiter locks m t
+
+-- a thread that may begin to wait for a mutex: it is in use, not in the line, and waits for no mutex (pthread_mutex_lock)
+pub record MayWait (locks : Locks) (t : ℕ) : Type 0 where
+  pub used : IsSome (thread_at locks t)
+  pub out : is_in t locks.line ≡ false
+  pub awake : awaited (thread_at locks t) ≡ None

@@ -1,0 +1,27 @@
+//! The mutexes of all partitions in one pool, robust ones among them, and the stored effective priorities. A contract
+//! sees, by partition and then by number, the mutexes with their waiters in order of arrival. A call that also changes
+//! threads or the line says in one equation for each of these structures what it leaves: the model's move for
+//! partition p, with every other partition as it was; and the threads' equation has the effective priorities that they
+//! then have as the stored ones. What a call needs of the tables, and leaves of them, is `AreReady` of `specs/Tables`.
+//! A refused lock changes nothing; who is woken goes to the tail of the line. No call but the constructor takes memory.
+//! One function writes a mutex (`change`), and after every change the partition's priorities are all computed again:
+//! each thread raises its chain (`proofs/Levels`). Dear to prove are that the stored priorities choose the heir
+//! (`proofs/Locked`) and the calls of many moves (`proofs/Steps`). Below stand `ptk_threads` and `ptk_ready`; nothing
+//! above uses it yet.
+#![tactic(auto)]
+
+mod ends;
+mod locking;
+mod moves;
+mod mutexes;
+mod priorities;
+mod slot;
+#[cfg(test)]
+mod tests;
+mod unlocking;
+mod waking;
+
+pub use moves::reply_of;
+pub use mutexes::Mutexes;
+pub use priorities::effective;
+pub use slot::{MutexSlot, MutexState};

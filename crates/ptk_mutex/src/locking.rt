@@ -1,0 +1,175 @@
+//! The calls after which nobody is woken: lock, trylock, a change of a mutex, and a changed assigned priority.
+
+ghost use Rattle.std.specs.Prelude.{◌≡◌, ◌<◌, [], Some, None, length, slice_set};
+ghost use Rattle.std.specs.List.{list_any};
+ghost use Rattle.ptk_words.specs.Pools.{pool_get};
+ghost use Rattle.ptk_words.specs.declared.mutexes.Soundness.TheVariants.{Consistent};
+ghost use Rattle.ptk_words_parted.specs.Parts.{part_of};
+ghost use Rattle.ptk_words_model.specs.Priority.{awaited};
+ghost use Rattle.ptk_words_model.specs.Mutex.{lock_move, trylock_move, owns, owns_raising, is_raising_for, after_move, with_soundness};
+ghost use Rattle.ptk_threads.specs.Table.{thread_in};
+ghost use Rattle.ptk_mutex.specs.declared.slot.Change.TheVariants.{CountUp, Enqueue};
+ghost use Rattle.ptk_mutex.specs.Changes.{SlotMayChange};
+ghost use Rattle.ptk_mutex.specs.Tables.{locks_at, locks_of, with_threads, with_threads_alone, HasPart, MayWait, AreReady};
+ghost use Rattle.ptk_mutex.specs.Moves.{after_lock, after_trylock, after_assignment};
+
+use crate::mutexes::{Mutexes, slot_in};
+use crate::slot::{Change, MutexSlot};
+use ptk_ready::VecLine;
+use ptk_threads::{Slot, Threads};
+use ptk_words::{Errno, MutexNo, PartId, Priority, Soundness, ThreadNo, Wait};
+use ptk_words_model::LockMove;
+
+impl Mutexes {
+    /// A thread that waits for no mutex locks this one, or waits for it without a deadline, or is refused
+    /// (pthread_mutex_lock). The line stays.
+    #[tactic(auto, using(crate::proofs::Moved::moves))]
+    pub fn lock(
+        &mut self,
+        line: &VecLine,
+        threads: &mut Threads,
+        p: PartId,
+        t: ThreadNo,
+        m: MutexNo,
+    ) -> LockMove
+        requires ready { AreReady p threads.old line.now self.old }
+        requires caller { MayWait (locks_at p threads.old line.now self.old) t }
+        ensures told { result ≡ lock_move (locks_at p threads.old line.now self.old) t (pool_get (part_of self.old p) m) }
+        ensures threads { threads.new ≡ with_threads p (after_lock t m (locks_at p threads.old line.now self.old)) threads.old }
+        ensures mutexes { self.new ≡ slice_set self.old p (after_lock t m (locks_at p threads.old line.now self.old)).mutexes }
+        ensures ready { AreReady p threads.new line.now self.new }
+    {
+        let made = lock_move(threads.part(p), self.part(p), t, m);
+        self.make(line, threads, p, t, m, Wait::MutexWait(m, None), made);
+        self.refresh(threads, p);
+        made
+    }
+
+    /// A thread that waits for no mutex locks this one, or is refused (pthread_mutex_trylock). The line stays.
+    #[tactic(auto, using(crate::proofs::Moved::moves))]
+    pub fn trylock(
+        &mut self,
+        line: &VecLine,
+        threads: &mut Threads,
+        p: PartId,
+        t: ThreadNo,
+        m: MutexNo,
+    ) -> LockMove
+        requires ready { AreReady p threads.old line.now self.old }
+        requires caller { MayWait (locks_at p threads.old line.now self.old) t }
+        ensures told { result ≡ trylock_move (locks_at p threads.old line.now self.old) t (pool_get (part_of self.old p) m) }
+        ensures threads { threads.new ≡ with_threads p (after_trylock t m (locks_at p threads.old line.now self.old)) threads.old }
+        ensures mutexes { self.new ≡ slice_set self.old p (after_trylock t m (locks_at p threads.old line.now self.old)).mutexes }
+        ensures ready { AreReady p threads.new line.now self.new }
+    {
+        let made = trylock_move(threads.part(p), self.part(p), t, m);
+        self.make(line, threads, p, t, m, Wait::MutexWait(m, None), made);
+        self.refresh(threads, p);
+        made
+    }
+
+    /// Whether the thread owns the mutex (pthread_mutex_unlock).
+    pub fn owns(&self, p: PartId, t: ThreadNo, m: MutexNo) -> bool
+        requires { p < length self.now }
+        ensures { result ≡ owns t (pool_get (part_of self.now p) m) }
+    {
+        match slot_in(self.part(p), m) {
+            Some(slot) => slot.is_owned_by(t),
+            None => false,
+        }
+    }
+
+    /// Whether the thread owns an INHERIT or PROTECT mutex (pthread_mutexattr_getprotocol).
+    pub fn owns_raising(&self, p: PartId, t: ThreadNo) -> bool
+        requires { p < length self.now }
+        ensures { result ≡ owns_raising (locks_of [] (part_of self.now p)) t }
+    {
+        is_any_raising_for(self.part(p), t)
+    }
+
+    /// What a mutex guards is sound again (pthread_mutex_consistent).
+    #[tactic(auto, using(crate::proofs::Moved::moves))]
+    pub fn consistent(&mut self, line: &VecLine, threads: &mut Threads, p: PartId, m: MutexNo)
+        requires ready { AreReady p threads.old line.now self.old }
+        ensures threads { threads.new ≡ with_threads p (with_soundness Consistent m (locks_at p threads.old line.now self.old)) threads.old }
+        ensures mutexes { self.new ≡ slice_set self.old p (with_soundness Consistent m (locks_at p threads.old line.now self.old)).mutexes }
+        ensures ready { AreReady p threads.new line.now self.new }
+    {
+        let marked = Change::Mark(Soundness::Consistent);
+        self.alter(line, threads, p, m, marked);
+    }
+
+    /// A thread has this assigned priority (pthread_setschedprio).
+    #[tactic(auto, using(crate::proofs::Moved::moves))]
+    pub fn assign(
+        &self,
+        line: &VecLine,
+        threads: &mut Threads,
+        p: PartId,
+        t: ThreadNo,
+        priority: Priority,
+    )
+        requires ready { AreReady p threads.old line.now self.now }
+        ensures threads { threads.new ≡ with_threads p (after_assignment t priority (locks_at p threads.old line.now self.now)) threads.old }
+        ensures ready { AreReady p threads.new line.now self.now }
+    {
+        threads.set_assigned_priority(p, t, priority);
+        self.refresh(threads, p);
+    }
+
+    /// A thread makes a move; the stored priorities stay.
+    #[tactic(auto, using(crate::proofs::Moved::moves))]
+    pub(crate) fn make(
+        &mut self,
+        line: &VecLine,
+        threads: &mut Threads,
+        p: PartId,
+        t: ThreadNo,
+        m: MutexNo,
+        wait: Wait,
+        made: LockMove,
+    )
+        requires part { HasPart p threads.old line.now self.old }
+        requires countable { SlotMayChange CountUp (pool_get (part_of self.old p) m) }
+        requires fresh { SlotMayChange (Enqueue t) (pool_get (part_of self.old p) m) }
+        ensures threads { threads.new ≡ with_threads_alone p (after_move made t m wait (locks_at p threads.old line.now self.old)) threads.old }
+        ensures mutexes { self.new ≡ slice_set self.old p (after_move made t m wait (locks_at p threads.old line.now self.old)).mutexes }
+    {
+        match made {
+            LockMove::Takes | LockMove::Recovers => self.change(p, m, Change::Take(t)),
+            LockMove::Counts => self.change(p, m, Change::CountUp),
+            LockMove::Waits => {
+                self.change(p, m, Change::Enqueue(t));
+                threads.set_wait(p, t, Some(wait));
+            }
+            LockMove::Refuses(_) => {}
+        }
+    }
+}
+
+/// The move of lock.
+fn lock_move(threads: &[Slot], mutexes: &[MutexSlot], t: ThreadNo, m: MutexNo) -> LockMove
+    ensures { result ≡ lock_move (locks_of threads.now mutexes.now) t (pool_get mutexes.now m) }
+{
+    match slot_in(mutexes, m) {
+        Some(slot) => slot.lock_move(threads, t),
+        None => LockMove::Refuses(Errno::EINVAL),
+    }
+}
+
+/// The move of trylock.
+fn trylock_move(threads: &[Slot], mutexes: &[MutexSlot], t: ThreadNo, m: MutexNo) -> LockMove
+    ensures { result ≡ trylock_move (locks_of threads.now mutexes.now) t (pool_get mutexes.now m) }
+{
+    match slot_in(mutexes, m) {
+        Some(slot) => slot.trylock_move(threads, t),
+        None => LockMove::Refuses(Errno::EINVAL),
+    }
+}
+
+/// Whether the thread owns one of these that is INHERIT or PROTECT.
+fn is_any_raising_for(mutexes: &[MutexSlot], t: ThreadNo) -> bool
+    ensures { result ≡ list_any (is_raising_for t) mutexes.now }
+{
+    mutexes.iter().any(|slot| slot.is_raising_for(t))
+}
