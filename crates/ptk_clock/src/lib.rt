@@ -12,6 +12,8 @@ mod pairs;
 mod plain;
 mod queue;
 mod shared;
+#[cfg(test)]
+mod tests;
 mod ticks;
 
 pub use deadlines::Deadlines;
