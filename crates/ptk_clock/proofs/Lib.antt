@@ -1,0 +1,3 @@
+pub mod Rooms
+pub mod Places
+pub mod Leasts

@@ -1,0 +1,3 @@
+pub mod Ticks
+pub mod Pairs
+pub mod Queues
