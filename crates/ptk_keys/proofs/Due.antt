@@ -96,6 +96,8 @@ next_none destructors values rounds o lt e is =
     let first : slice_get (due_keys (keys_of destructors) values) 0 ≡ None = sym (first_of_all (is_due (keys_of destructors) values) (length destructors)) ∙ sym e ∙ is in
     rw (below rounds.round DESTRUCTOR_ROUNDS lt, first) refl
 
+pub ruleset due = (next_some, next_none)
+
 -- the call that the tables give is the thread's next
 pub next_is : (kept table : KeptKeys) (p t : ℕ) (destructors : List (Option ℕ)) (rows : List (List ℕ)) (values : List ℕ) (far : List Rounds) (o : Option Rounds) (rounds : Rounds) (call : Option DestructorCall)
     → kept ≡ table → destructors ≡ part_of kept.destructors p → rows ≡ part_of kept.values p → values ≡ unwrap_or (numbered rows t) [] → far ≡ part_of kept.rounds p → o ≡ numbered far t → o ≡ Some rounds

@@ -67,6 +67,7 @@ pub(crate) fn next_call(
 }
 
 /// The least key whose destructor is due, in the next round, if there is one.
+#[tactic(auto, using(crate::proofs::Due::due))]
 fn call_in_next_round(
     destructors: &[Option<u32>],
     values: &[u32],

@@ -1,7 +1,7 @@
 //! A key's number, and what a list has at it.
 
-ghost use Rattle.std.specs.Prelude.{◌≡◌, ◌-◌, ◌<◌, unwrap_or, position, is_none, length, ◌≤◌};
-ghost use Rattle.ptk_words.specs.Pools.{least_free, numbered, pool_get, pool_set};
+ghost use Rattle.std.specs.Prelude.{◌≡◌, ◌≤◌, length, position, is_none};
+ghost use Rattle.ptk_words.specs.Pools.{least_free, pool_get, pool_set};
 ghost use Rattle.ptk_words_model.specs.Keys.{value_of};
 
 use std::marker::Model;

@@ -1,9 +1,8 @@
 //! The values of threads by key.
 
-ghost use Rattle.std.specs.Prelude.{◌≡◌, ℕ, [], length, map, replicate, unwrap_or, IfOk};
+ghost use Rattle.std.specs.Prelude.{◌≡◌, [], length, map, replicate, unwrap_or, IfOk};
 ghost use Rattle.ptk_words.specs.Pools.{numbered, pool_set, pool_update};
 ghost use Rattle.ptk_words_model.specs.Keys.{no_values};
-ghost use Rattle.ptk_words_parted.specs.Parts.{filled};
 
 use crate::numbers::{KeyNo, set_value_at};
 use ptk_words::ThreadNo;

@@ -1,6 +1,6 @@
 //! The keys of all partitions.
 
-ghost use Rattle.std.specs.Prelude.{◌≡◌, ◌<◌, ◌≤◌, List, Option, None, length, map, replicate, slice_set, All, IfOk};
+ghost use Rattle.std.specs.Prelude.{◌≡◌, ◌<◌, ◌≤◌, None, length, map, replicate, slice_set, All, IfOk};
 ghost use Rattle.ptk_words.specs.Pools.{least_free, pool_set, pool_update};
 ghost use Rattle.ptk_words_parted.specs.Parts.{part_of};
 ghost use Rattle.ptk_words_model.specs.Keys.{no_rounds, no_values, is_key, specific, destructor_of, next_destructor, values_of, with_values, with_rounds, with_key, with_first_round, after_destructor_call};
