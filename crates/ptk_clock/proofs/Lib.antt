@@ -1,3 +1,5 @@
 pub mod Rooms
 pub mod Places
 pub mod Leasts
+pub mod BySlot
+pub mod Signs

@@ -152,5 +152,3 @@ deadlines_room n k xs lt out all =
 pub when_ok : {T E : Type 0} (r : Result T E) (xs ys : List Pair) → IsOk r → cond (is_ok r) xs ys ≡ xs
 when_ok (Ok v) xs ys h = refl
 when_ok (Err e) xs ys h = absurd (cc)
-
-pub ruleset rooms = (deadlines_none, deadlines_with, deadlines_without, deadlines_room)

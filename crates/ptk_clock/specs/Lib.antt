@@ -1,3 +1,4 @@
 pub mod Ticks
 pub mod Pairs
 pub mod Queues
+pub mod BySlot

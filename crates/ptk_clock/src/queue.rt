@@ -30,7 +30,6 @@ impl Model for Queue {
 
 impl Queue {
     /// No pair, and room for one of each of so many slots. An error where memory ran out.
-    #[tactic(auto, using(crate::proofs::Rooms::rooms))]
     pub fn new(alloc: Global, slots: usize) -> Result<Queue, AllocError>
         ensures { IfOk result (λ queue. queue ≡ record { slots = slots; pairs = [] }) }
     {
@@ -47,7 +46,6 @@ impl Queue {
     }
 
     /// A slot without a pair gets one, at its place in the order.
-    #[tactic(auto, using(crate::proofs::Rooms::rooms))]
     pub fn insert(&mut self, place: usize, deadline: Tick, slot: SlotNo)
         requires made_for { slot < self.old.slots }
         requires fresh { is_in slot (slots_of self.old.pairs) ≡ false }
@@ -61,7 +59,6 @@ impl Queue {
     }
 
     /// The pair of a slot leaves, if there is one.
-    #[tactic(auto, using(crate::proofs::Rooms::rooms))]
     pub fn remove(&mut self, slot: SlotNo)
         ensures pairs { self.new.pairs ≡ without_slot slot self.old.pairs }
         ensures slots { self.new.slots ≡ self.old.slots }

@@ -6,7 +6,7 @@ ghost use Rattle.ptk_clock.specs.Ticks.{tick_of, IsNotBefore, seconds_of, nanose
 
 use ptk_words::{LAST_TICK, Tick};
 
-/// The last second whose ticks are ticks of a run, or begin after the last one (own choice).
+/// A second that begins after the last tick of any run; a later one is as late (own choice).
 const LAST_SECOND: u64 = LAST_TICK / 1_000_000 + 1;
 
 /// The tick of a deadline: the least one of 1,000 ns that is not before the time, 0 for negative times, and
