@@ -31,8 +31,9 @@ use Rattle.ptk_words_model.specs.CallTable.{answer_of, answer_to}
 use Rattle.ptk_words.specs.declared.calls.Call.{Call}
 use Rattle.ptk_words.specs.declared.calls.Call.TheVariants as call
 use Rattle.ptk_words.specs.Calls.{call_of}
-use Rattle.ptk_words_well.specs.Well.{IsWell, joiner_of}
-use Rattle.ptk_words_well.proofs.Lined.{ready_alive}
+use Rattle.ptk_words_locks.specs.Locks.{joiner_of}
+use Rattle.ptk_words_well.specs.Well.{IsWell}
+use Rattle.ptk_words_locks.proofs.Lined.{ready_alive}
 use Rattle.ptk_words_well.proofs.Threads.{well_replied, well_policy, well_priority, well_detached}
 use Rattle.ptk_words_well.proofs.Parts.{well_output, well_taken, well_halt}
 use Rattle.ptk_words_well.proofs.Turns.{well_placing_tail, well_placing_head, well_placing_at_tail}

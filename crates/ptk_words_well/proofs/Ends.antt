@@ -15,11 +15,12 @@ use Rattle.ptk_words_model.specs.Priority.{thread_at}
 use Rattle.ptk_words_model.specs.Mutex.{mutex_at, wait_of, after_mutex_end, after_owner_end}
 use Rattle.ptk_words_model.specs.Schedule.{with_thread, woken_with, after_wake}
 use Rattle.ptk_words_model.specs.Unwinding.{is_alive, after_join_by, without_thread, after_release, after_last_end, after_end}
-use Rattle.ptk_words_well.specs.Well.{IsWell, is_ready, joiner_of, used_of}
-use Rattle.ptk_words_well.proofs.Pools.{get-replicate, get-set_other, free_own, length-pool_set, changed_own, changed_other, length-changed}
-use Rattle.ptk_words_well.proofs.Lines.{out_push}
-use Rattle.ptk_words_well.proofs.Lined.{AreLined, AreOthers, ready_waits, ready_alive, not_ready_out, not_ready_stopped, lined_stopped, lined_others, lined_push}
-use Rattle.ptk_words_well.proofs.Waiting.{AreWaiting, AreSameWaits, IsJoinChange, waiting_same, waiting_joined}
+use Rattle.ptk_words_locks.specs.Locks.{is_ready, joiner_of, used_of}
+use Rattle.ptk_words_well.specs.Well.{IsWell}
+use Rattle.ptk_words_locks.proofs.Pools.{get-replicate, get-set_other, free_own, length-pool_set, changed_own, changed_other, length-changed}
+use Rattle.ptk_words_locks.proofs.Lines.{out_push}
+use Rattle.ptk_words_locks.proofs.Lined.{AreLined, AreOthers, ready_waits, ready_alive, not_ready_out, not_ready_stopped, lined_stopped, lined_others, lined_push}
+use Rattle.ptk_words_locks.proofs.Waiting.{AreWaiting, AreSameWaits, IsJoinChange, waiting_same, waiting_joined}
 use Rattle.ptk_words_well.proofs.Whole.{lined_of, waiting_of, well_scheduled, used_others}
 use Rattle.ptk_words_well.proofs.Threads.{changed_same, used_changed_at}
 use Rattle.ptk_words_well.proofs.Parts.{well_halt}

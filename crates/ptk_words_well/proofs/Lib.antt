@@ -1,7 +1,3 @@
-pub mod Pools
-pub mod Lines
-pub mod Lined
-pub mod Waiting
 pub mod Whole
 pub mod Threads
 pub mod Priorities

@@ -10,7 +10,7 @@ use Rattle.ptk_words_model.specs.State.{Part}
 use Rattle.ptk_words_model.specs.Chain.{leads_to, greatest_leading}
 use Rattle.ptk_words_model.specs.Priority.{assigned_of, assigned_priority, ceiling_for, held_of, awaited, inheritor_of, next_of, effective_of, effective_priority, effective_priorities}
 use Rattle.ptk_words_well.specs.Well.{IsWell}
-use Rattle.ptk_words_well.proofs.Pools.{get-replicate}
+use Rattle.ptk_words_locks.proofs.Pools.{get-replicate}
 
 next_at : (n : ℕ) (o : Option ℕ) → option_and_then (λ m. inheritor_of (pool_get (replicate n None) m)) o ≡ None
 next_at n None = refl

@@ -23,10 +23,11 @@ use Rattle.ptk_words_model.specs.Unwinding.{is_alive}
 use Rattle.ptk_words.specs.Threads.{is_ended}
 use Rattle.ptk_words_model.specs.ThreadCreation.{new_cancellation, with_new_thread}
 use Rattle.ptk_words_model.specs.Run.{empty_part, main_thread, fits, memory_of, with_image, start_part}
-use Rattle.ptk_words_well.specs.Well.{IsWell, IsCalm, is_ready, joiner_of, used_of}
-use Rattle.ptk_words_well.proofs.Pools.{get-set_own, get-set_other, length-pool_set, get-replicate, numbered-replicate}
-use Rattle.ptk_words_well.proofs.Lined.{AreOthers, not_ready_out, not_ready_stopped, lined_others, lined_push}
-use Rattle.ptk_words_well.proofs.Waiting.{AreSameWaits, waiting_same}
+use Rattle.ptk_words_locks.specs.Locks.{is_ready, joiner_of, used_of}
+use Rattle.ptk_words_well.specs.Well.{IsWell, IsCalm}
+use Rattle.ptk_words_locks.proofs.Pools.{get-set_own, get-set_other, length-pool_set, get-replicate, numbered-replicate}
+use Rattle.ptk_words_locks.proofs.Lined.{AreOthers, not_ready_out, not_ready_stopped, lined_others, lined_push}
+use Rattle.ptk_words_locks.proofs.Waiting.{AreSameWaits, waiting_same}
 use Rattle.ptk_words_well.proofs.Whole.{lined_of, waiting_of, well_scheduled, used_others}
 use Rattle.ptk_words_well.proofs.Parts.{well_memory, well_halt}
 use Rattle.ptk_words_well.proofs.Unwindings.{well_cancellation, well_rounds, well_no_cleanups, well_no_values}

@@ -15,10 +15,11 @@ use Rattle.ptk_words_model.specs.Calls.{replied}
 use Rattle.ptk_words_model.specs.Decision.{with_cpu}
 use Rattle.ptk_words_model.specs.Unwinding.{is_alive, cpu_at_call, after_routine_call}
 use Rattle.ptk_words.specs.Threads.{is_ended}
-use Rattle.ptk_words_well.specs.Well.{IsWell, is_ready, joiner_of, used_of}
-use Rattle.ptk_words_well.proofs.Pools.{changed_own, changed_other, length-changed}
-use Rattle.ptk_words_well.proofs.Lined.{lined_alike}
-use Rattle.ptk_words_well.proofs.Waiting.{AreSameWaits, waiting_same}
+use Rattle.ptk_words_locks.specs.Locks.{is_ready, joiner_of, used_of}
+use Rattle.ptk_words_well.specs.Well.{IsWell}
+use Rattle.ptk_words_locks.proofs.Pools.{changed_own, changed_other, length-changed}
+use Rattle.ptk_words_locks.proofs.Lined.{lined_alike}
+use Rattle.ptk_words_locks.proofs.Waiting.{AreSameWaits, waiting_same}
 use Rattle.ptk_words_well.proofs.Whole.{lined_of, waiting_of, well_scheduled, used_others}
 
 -- the thread has the wait and the joiner that it had, and has ended only if it had (own)

@@ -12,11 +12,12 @@ use Rattle.ptk_words_model.specs.Mutex.{owns_raising}
 use Rattle.ptk_words_model.specs.Schedule.{unused, at_tail, at_head, first_ready, after_dispatch, after_choice_between, after_choice, is_round_robin, is_running, after_turn_end, with_used, after_interval}
 use Rattle.ptk_words_model.specs.ThreadCalls.{after_placing, after_placing_at_tail}
 use Rattle.ptk_words_model.specs.Run.{is_active}
-use Rattle.ptk_words_well.specs.Well.{IsWell, is_ready}
-use Rattle.ptk_words_well.proofs.Pools.{length-changed}
-use Rattle.ptk_words_well.proofs.Lines.{without_own, first_in}
-use Rattle.ptk_words_well.proofs.Lined.{AreLined, lined_stopped, lined_alike, lined_push, lined_head, lined_without, lined_dispatch}
-use Rattle.ptk_words_well.proofs.Waiting.{AreSameWaits, waiting_same}
+use Rattle.ptk_words_locks.specs.Locks.{is_ready}
+use Rattle.ptk_words_well.specs.Well.{IsWell}
+use Rattle.ptk_words_locks.proofs.Pools.{length-changed}
+use Rattle.ptk_words_locks.proofs.Lines.{without_own, first_in}
+use Rattle.ptk_words_locks.proofs.Lined.{AreLined, lined_stopped, lined_alike, lined_push, lined_head, lined_without, lined_dispatch}
+use Rattle.ptk_words_locks.proofs.Waiting.{AreSameWaits, waiting_same}
 use Rattle.ptk_words_well.proofs.Whole.{lined_of, waiting_of, well_scheduled}
 use Rattle.ptk_words_well.proofs.Threads.{AreAlike, alike_changed, used_changed_at, well_used}
 

@@ -15,8 +15,9 @@ use Rattle.ptk_words_model.specs.Priority.{thread_at}
 use Rattle.ptk_words_model.specs.Keys.{no_values, with_rounds, with_values, with_first_round}
 use Rattle.ptk_words_model.specs.Unwinding.{phase_of, is_alive, after_unwinding_start}
 use Rattle.ptk_words.specs.Threads.{is_ended}
-use Rattle.ptk_words_well.specs.Well.{IsWell, IsCalm, used_of}
-use Rattle.ptk_words_well.proofs.Pools.{length-update, update_own, update_other, update-replicate}
+use Rattle.ptk_words_locks.specs.Locks.{used_of}
+use Rattle.ptk_words_well.specs.Well.{IsWell, IsCalm}
+use Rattle.ptk_words_locks.proofs.Pools.{length-update, update_own, update_other, update-replicate}
 use Rattle.ptk_words_well.proofs.Threads.{well_changed}
 
 -- the parts of a thread that are in no pool of threads changed

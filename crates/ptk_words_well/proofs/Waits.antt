@@ -17,11 +17,12 @@ use Rattle.ptk_words_model.specs.Decision.{after_arrival_for, first_waiter, afte
 use Rattle.ptk_words_model.specs.Unwinding.{is_alive}
 use Rattle.ptk_words_model.specs.declared.Invocation.{Invocation}
 use Rattle.ptk_words_model.specs.Calls.{blocked_in}
-use Rattle.ptk_words_well.specs.Well.{IsWell, is_ready, joiner_of, used_of}
-use Rattle.ptk_words_well.proofs.Pools.{changed_own, changed_other, length-changed}
-use Rattle.ptk_words_well.proofs.Lines.{first_in}
-use Rattle.ptk_words_well.proofs.Lined.{ready_waits, ready_alive, not_ready_out, not_ready_stopped, lined_stopped, lined_alike, lined_others, lined_push}
-use Rattle.ptk_words_well.proofs.Waiting.{IsWaitChange, IsJoinChange, waiting_input, waiting_answered, waiting_join}
+use Rattle.ptk_words_locks.specs.Locks.{is_ready, joiner_of, used_of}
+use Rattle.ptk_words_well.specs.Well.{IsWell}
+use Rattle.ptk_words_locks.proofs.Pools.{changed_own, changed_other, length-changed}
+use Rattle.ptk_words_locks.proofs.Lines.{first_in}
+use Rattle.ptk_words_locks.proofs.Lined.{ready_waits, ready_alive, not_ready_out, not_ready_stopped, lined_stopped, lined_alike, lined_others, lined_push}
+use Rattle.ptk_words_locks.proofs.Waiting.{IsWaitChange, IsJoinChange, waiting_input, waiting_answered, waiting_join}
 use Rattle.ptk_words_well.proofs.Whole.{lined_of, waiting_of, well_scheduled}
 use Rattle.ptk_words_well.proofs.Threads.{changed_same, used_changed_at}
 use Rattle.ptk_words_well.proofs.Parts.{well_input, well_arriving}

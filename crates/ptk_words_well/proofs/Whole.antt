@@ -7,9 +7,10 @@ use Rattle.ptk_words.specs.declared.sections.Limits.{Limits}
 use Rattle.ptk_words.specs.declared.threads.Thread.{Thread}
 use Rattle.ptk_words_model.specs.State.{Part}
 use Rattle.ptk_words_model.specs.Run.{is_active}
-use Rattle.ptk_words_well.specs.Well.{IsWell, used_of}
-use Rattle.ptk_words_well.proofs.Lined.{AreLined, AreOthers}
-use Rattle.ptk_words_well.proofs.Waiting.{AreWaiting}
+use Rattle.ptk_words_locks.specs.Locks.{used_of}
+use Rattle.ptk_words_well.specs.Well.{IsWell}
+use Rattle.ptk_words_locks.proofs.Lined.{AreLined, AreOthers}
+use Rattle.ptk_words_locks.proofs.Waiting.{AreWaiting}
 
 -- ---- the parts of a whole state
 

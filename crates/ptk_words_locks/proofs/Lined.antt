@@ -8,8 +8,8 @@ use Rattle.ptk_words.specs.declared.threads.Thread.{Thread}
 use Rattle.ptk_words_model.specs.Mutex.{wait_of}
 use Rattle.ptk_words_model.specs.Unwinding.{is_alive}
 use Rattle.ptk_words.specs.Threads.{is_ended}
-use Rattle.ptk_words_well.specs.Well.{is_ready}
-use Rattle.ptk_words_well.proofs.Lines.{in_head, in_push, out_head, out_push, without_own, in_without, distinct_head, distinct_push, distinct_without}
+use Rattle.ptk_words_locks.specs.Locks.{is_ready}
+use Rattle.ptk_words_locks.proofs.Lines.{in_head, in_push, out_head, out_push, without_own, in_without, distinct_head, distinct_push, distinct_without}
 
 -- the threads of the line and the running one are ready, and stand in one place (XSH 2.8.4)
 pub record AreLined (threads : List (Option Thread)) (line : List ℕ) (running : Option ℕ) : Type 0 where

@@ -10,8 +10,8 @@ use Rattle.ptk_words.specs.declared.threads.Wait.TheVariants.{InputWait, JoinWai
 use Rattle.ptk_words_model.specs.Mutex.{wait_of}
 use Rattle.ptk_words_model.specs.Withdrawal.{deadline_of_wait}
 use Rattle.ptk_words_model.specs.Unwinding.{is_alive}
-use Rattle.ptk_words_well.specs.Well.{joiner_of}
-use Rattle.ptk_words_well.proofs.Lines.{in_push, own_push, still_push, without_other, in_without, distinct_push, distinct_without}
+use Rattle.ptk_words_locks.specs.Locks.{joiner_of}
+use Rattle.ptk_words_locks.proofs.Lines.{in_push, own_push, still_push, without_other, in_without, distinct_push, distinct_without}
 
 -- the console's waiters wait for input, a thread's joiner waits for its end, and each such wait is listed so; an ended thread waits for nothing, and no wait has a deadline (pthread_join, pthread_exit)
 pub record AreWaiting (threads : List (Option Thread)) (waiters : List ℕ) : Type 0 where

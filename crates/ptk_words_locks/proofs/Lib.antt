@@ -1,0 +1,4 @@
+pub mod Pools
+pub mod Lines
+pub mod Lined
+pub mod Waiting
