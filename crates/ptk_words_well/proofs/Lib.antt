@@ -1,4 +1,5 @@
 pub mod Whole
+pub mod Exclusion
 pub mod Threads
 pub mod Priorities
 pub mod Parts
