@@ -10,6 +10,8 @@ pub mod Effects
 pub mod Ends
 pub mod Starts
 pub mod Expiries
+pub mod Steps
+pub mod MutexCalls
 pub mod Calls
 pub mod Decisions
 pub mod Runs

@@ -6,7 +6,8 @@ use Rattle.ptk_words_well.proofs.Waits.{well_input_wait, well_answered, well_arr
 use Rattle.ptk_words_well.proofs.Unwindings.{well_unwinding_start}
 use Rattle.ptk_words_well.proofs.Ends.{well_freed, well_last_end, well_end}
 use Rattle.ptk_words_well.proofs.Starts.{well_least_free, well_empty, well_start}
-use Rattle.ptk_words_well.proofs.Calls.{well_refusal, well_success, well_cancellation_answer, well_no_call, well_exit_call, well_console_put, well_console_get, well_create, well_pthread_exit, well_join, well_detach, well_self, well_yield, well_setschedparam, well_getschedparam, well_setschedprio, well_call}
+use Rattle.ptk_words_well.proofs.Steps.{well_refusal, well_success, well_cancellation_answer, well_no_call}
+use Rattle.ptk_words_well.proofs.Calls.{well_exit_call, well_console_put, well_console_get, well_create, well_pthread_exit, well_join, well_detach, well_self, well_yield, well_setschedparam, well_getschedparam, well_setschedprio, well_call}
 use Rattle.ptk_words_well.proofs.Decisions.{well_gate_step, well_effect, well_step, well_whole_step, well_turn, well_ready, well_decision}
 
 -- one change of a thread, of the console, of memory or of the status
