@@ -2,3 +2,6 @@ pub mod Pools
 pub mod Lines
 pub mod Lined
 pub mod Waiting
+pub mod Threads
+pub mod Exclusion
+pub mod Whole
