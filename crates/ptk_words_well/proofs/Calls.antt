@@ -1,13 +1,10 @@
 -- Each call in use leaves the state whole.
 use Rattle.std.proofs.Common.{◌≡◌, ℕ, ◌%◌, Bool, true, false, not, List, [], ◌∷◌, refl, sym, ◌∙◌, ap}
-use Rattle.std.specs.Prelude.{Option, Some, None, unwrap_or, is_some, nat_lt, ◌==◌, if◌then◌else◌, Result, Ok, Err}
+use Rattle.std.specs.Prelude.{Option, Some, None, unwrap_or, is_some, nat_lt, ◌==◌, if◌then◌else◌}
 use Rattle.std.proofs.lemmas.Bool.{false≢true, or_parts}
 use Rattle.ptk_words.specs.Pools.{least_free}
 use Rattle.ptk_words.specs.Processor.{Processor}
-use Rattle.ptk_words.specs.Faults.{errno_number}
-use Rattle.ptk_words.specs.declared.TheConstants.{CANCELED}
-use Rattle.ptk_words.specs.declared.faults.Errno.{Errno}
-use Rattle.ptk_words.specs.declared.faults.Errno.TheVariants.{ESRCH, EAGAIN, EINVAL, EDEADLK, ENOSYS, ENOTSUP}
+use Rattle.ptk_words.specs.declared.faults.Errno.TheVariants.{ESRCH, EAGAIN, EINVAL, EDEADLK, ENOTSUP}
 use Rattle.ptk_words.specs.declared.faults.Status.TheVariants.{Exited}
 use Rattle.ptk_words.specs.declared.sections.Limits.{Limits}
 use Rattle.ptk_words.specs.declared.threads.Thread.{Thread}
@@ -22,11 +19,10 @@ use Rattle.ptk_words_model.specs.declared.Invocation.{Invocation}
 use Rattle.ptk_words_model.specs.declared.Creation.{Creation}
 use Rattle.ptk_words_model.specs.declared.Scheduling.{Scheduling}
 use Rattle.ptk_words_model.specs.declared.Scheduling.TheVariants.{Inherited, Explicit}
-use Rattle.ptk_words_model.specs.Calls.{Answer, refusal, success, blocked_in, no_call, is_cancelled, cancellation_answer, using_thread}
+use Rattle.ptk_words_model.specs.Calls.{Answer, refusal, success, blocked_in, is_cancelled, cancellation_answer, using_thread}
 use Rattle.ptk_words_model.specs.ConsoleCalls.{exit_call, console_put, take_input, console_get}
 use Rattle.ptk_words_model.specs.ThreadCalls.{create, pthread_exit, join, detach, self, after_placing, yield, after_placing_at_tail, setschedparam, getschedparam, after_priority_change, setschedprio}
 use Rattle.ptk_words_model.specs.ThreadCreation.{policy_of, policy_number, is_priority, start_cpu, default_stack_top, creation_at, scheduled_thread, with_new_thread, created_thread}
-use Rattle.ptk_words_model.specs.Steps.{Row, valid, refuse◌when◌, refuse◌unless◌, ◌or_refuse◌}
 use Rattle.ptk_words_model.specs.CallTable.{answer_of, answer_to}
 use Rattle.ptk_words.specs.declared.calls.Call.{Call}
 use Rattle.ptk_words.specs.declared.calls.Call.TheVariants as call

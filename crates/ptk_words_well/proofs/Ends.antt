@@ -19,12 +19,13 @@ use Rattle.ptk_words_well.specs.Well.{IsWell}
 use Rattle.ptk_words_locks.proofs.Pools.{get-set_other, free_own, length-pool_set, changed_own, changed_other, length-changed}
 use Rattle.ptk_words_locks.proofs.Lines.{out_push}
 use Rattle.ptk_words_locks.proofs.Lined.{AreLined, AreOthers, ready_waits, ready_alive, not_ready_out, not_ready_stopped, lined_stopped, lined_others, lined_push}
+use Rattle.ptk_words_locks.proofs.Threads.{changed_same, idle_awaits}
 use Rattle.ptk_words_locks.proofs.Waiting.{AreWaiting, AreSameWaits, IsJoinChange, waiting_same, waiting_joined}
 use Rattle.ptk_words_locks.proofs.Whole.{AreLocks}
 use Rattle.ptk_words_locks.proofs.Ends.{locks_owner_end, owns_none, end_same, length-owner_end_threads, length-owner_end_mutexes}
 use Rattle.ptk_words_well.proofs.Whole.{lined_of, waiting_of, locks_of, well_scheduled, well_locks, used_others}
-use Rattle.ptk_words_well.proofs.Exclusion.{awaits_none, awaits_other, ended_owns, exclusion_unowning}
-use Rattle.ptk_words_well.proofs.Threads.{changed_same, used_changed_at}
+use Rattle.ptk_words_well.proofs.Exclusion.{awaits_other, ended_owns, exclusion_unowning}
+use Rattle.ptk_words_well.proofs.Threads.{used_changed_at}
 use Rattle.ptk_words_well.proofs.Parts.{well_halt}
 use Rattle.ptk_words_well.proofs.Waits.{waits_not_ready, waits_alive, woken_ready, woken_waits, joiner_woken, exclusion_woken}
 
@@ -52,7 +53,7 @@ freed_ended u threads ended v e = elim (cases_eq v u) [
 -- the mutexes where the thread of the freed number owned none and waited for none
 exclusion_freed : (u : ℕ) (threads : List (Option Thread)) (mutexes : List (Option Mutex)) → wait_of (pool_get threads u) ≡ None → ((m : ℕ) → owns u (pool_get mutexes m) ≡ false) → AreMutexes threads mutexes → AreMutexes (pool_set threads u None) mutexes
 exclusion_freed u threads mutexes free none are =
-    exclusion_unowning u threads (pool_set threads u None) mutexes (freed_others u threads) (ap awaited (free_own u threads) ∙ sym (awaits_none (pool_get threads u) free)) none are
+    exclusion_unowning u threads (pool_set threads u None) mutexes (freed_others u threads) (ap awaited (free_own u threads) ∙ sym (idle_awaits (pool_get threads u) free)) none are
 
 -- a thread that neither waits nor is waited for, and owns no mutex, is gone; no thread runs, or another one
 well_gone : (limits : Limits) (u : ℕ) (running : Option ℕ) (s : Part) → wait_of (thread_at s.locks u) ≡ None → joiner_of (thread_at s.locks u) ≡ None → is_in u s.line ≡ false → running ≢ Some u → AreLined s.threads s.line running
@@ -193,7 +194,7 @@ well_release limits t s runs none well = released limits t (thread_at s.locks t)
 
 -- the running thread waits for no mutex
 running_awaits : (limits : Limits) (t : ℕ) (s : Part) → s.running ≡ Some t → IsWell limits s → awaited (thread_at s.locks t) ≡ None
-running_awaits limits t s runs well = awaits_none (thread_at s.locks t) (ready_waits (thread_at s.locks t) (well.running_ready t runs))
+running_awaits limits t s runs well = idle_awaits (thread_at s.locks t) (ready_waits (thread_at s.locks t) (well.running_ready t runs))
 
 -- the running thread has given up its mutexes
 pub well_owner_end : (limits : Limits) (t : ℕ) (s : Part) → s.running ≡ Some t → IsWell limits s → IsWell limits (with_locks (after_owner_end t) s)

@@ -1,5 +1,5 @@
 -- The mutexes agree with the threads still, where one thread changed that awaits the mutex that it did.
-use Rattle.std.proofs.Common.{◌≡◌, ℕ, true, false, List, refl, sym, ◌∙◌, ap, inl, inr}
+use Rattle.std.proofs.Common.{◌≡◌, ℕ, true, false, List, sym, ◌∙◌, ap, inl, inr}
 use Rattle.std.specs.Prelude.{Option, Some, None}
 use Rattle.std.proofs.lemmas.Bool.{cases_eq, false≢true, false_from_ne_true}
 use Rattle.ptk_words.specs.Pools.{pool_get}
@@ -11,50 +11,32 @@ use Rattle.ptk_words_model.specs.Mutex.{wait_of, owns}
 use Rattle.ptk_words_model.specs.Unwinding.{is_alive}
 use Rattle.ptk_words_locks.specs.Locks.{AreMutexes}
 use Rattle.ptk_words_locks.proofs.Lined.{AreOthers}
+use Rattle.ptk_words_locks.proofs.Threads.{awaits_by}
+use Rattle.ptk_words_locks.proofs.Exclusion.{exclusion_kept, exclusion_same}
 
 -- ---- what a thread awaits
 
-pub awaited_of : (o : Option Thread) → awaited o ≡ mutex_of_wait (wait_of o)
-awaited_of None = refl
-awaited_of (Some thread) = refl
-
--- a thread that waits for nothing awaits no mutex
-pub awaits_none : (o : Option Thread) → wait_of o ≡ None → awaited o ≡ None
-awaits_none o e = awaited_of o ∙ ap mutex_of_wait e
-
--- nor does one whose wait is for no mutex
+-- a thread whose wait is for no mutex awaits none
 pub awaits_other : (wait : Wait) (o : Option Thread) → mutex_of_wait (Some wait) ≡ None → wait_of o ≡ Some wait → awaited o ≡ None
-awaits_other wait o other e = awaited_of o ∙ ap mutex_of_wait e ∙ other
+awaits_other wait o other e = awaits_by o ∙ ap mutex_of_wait e ∙ other
 
 -- threads of the same wait await the same mutex
-pub awaited_alike : (before after : Option Thread) → wait_of after ≡ wait_of before → awaited after ≡ awaited before
-awaited_alike before after e = awaited_of after ∙ ap mutex_of_wait e ∙ sym (awaited_of before)
+awaited_alike : (before after : Option Thread) → wait_of after ≡ wait_of before → awaited after ≡ awaited before
+awaited_alike before after e = awaits_by after ∙ ap mutex_of_wait e ∙ sym (awaits_by before)
 
 -- ---- the threads changed
-
--- each thread awaits the mutex that it did, and the owners have not ended
-exclusion_owners : (threads after : List (Option Thread)) (mutexes : List (Option Mutex)) → ((u : ℕ) → awaited (pool_get after u) ≡ awaited (pool_get threads u))
-    → ((m u : ℕ) → owns u (pool_get mutexes m) ≡ true → is_alive (pool_get after u) ≡ true) → AreMutexes threads mutexes → AreMutexes after mutexes
-exclusion_owners threads after mutexes same alive are = record {
-  waiters_wait = λ m t e. same t ∙ are.waiters_wait m t e;
-  waits_listed = λ m t e. are.waits_listed m t (sym (same t) ∙ e);
-  waiters_distinct = are.waiters_distinct;
-  owners_alive = alive;
-  free_unwaited = are.free_unwaited;
-  counts = are.counts;
-}
 
 -- each thread has the wait that it had, and has ended only if it had
 pub exclusion_waits : (threads after : List (Option Thread)) (mutexes : List (Option Mutex)) → ((u : ℕ) → wait_of (pool_get after u) ≡ wait_of (pool_get threads u))
     → ((u : ℕ) → is_alive (pool_get after u) ≡ is_alive (pool_get threads u)) → AreMutexes threads mutexes → AreMutexes after mutexes
 exclusion_waits threads after mutexes waits alive are =
-    exclusion_owners threads after mutexes (λ u. awaited_alike (pool_get threads u) (pool_get after u) (waits u)) (λ m u e. alive u ∙ are.owners_alive m u e) are
+    exclusion_same threads after mutexes (λ u. awaited_alike (pool_get threads u) (pool_get after u) (waits u)) alive are
 
 -- one thread is another, which awaits what that did, and which has ended only if it owns no mutex
 pub exclusion_one : (t : ℕ) (threads after : List (Option Thread)) (mutexes : List (Option Mutex)) → AreOthers t threads after → awaited (pool_get after t) ≡ awaited (pool_get threads t)
     → ((m : ℕ) → owns t (pool_get mutexes m) ≡ true → is_alive (pool_get after t) ≡ true) → AreMutexes threads mutexes → AreMutexes after mutexes
 exclusion_one t threads after mutexes others same alive are =
-    exclusion_owners threads after mutexes
+    exclusion_kept threads after mutexes
     (λ u. elim (cases_eq u t) [ inl one ↦ (rw one same) | inr ne ↦ ap awaited (others u ne) ])
     (λ m u e. elim (cases_eq u t) [
       | inl one ↦ ap (λ v. is_alive (pool_get after v)) one ∙ alive m (ap (λ v. owns v (pool_get mutexes m)) (sym one) ∙ e)

@@ -1,5 +1,5 @@
 -- Each call on a mutex leaves the state whole, and so does the set-up of a static initialiser.
-use Rattle.std.proofs.Common.{◌≡◌, ℕ, ◌+◌, ◌%◌, ◌≤◌, Bool, true, false, ◌&&◌, ◌||◌, List, [], ◌∷◌, length, refl, sym, ◌∙◌, ap, subst}
+use Rattle.std.proofs.Common.{◌≡◌, ℕ, ◌+◌, ◌%◌, Bool, true, false, ◌&&◌, ◌||◌, [], ◌∷◌, length, refl, sym, ◌∙◌, ap, subst}
 use Rattle.std.specs.Prelude.{Option, Some, None, not, is_some, nat_le, ◌==◌, if◌then◌else◌}
 use Rattle.std.specs.Int.{w32, to_le_bytes}
 use Rattle.std.proofs.lemmas.Bool.{leb-true, and_parts, or_parts}
@@ -14,17 +14,15 @@ use Rattle.ptk_words.specs.declared.mutexes.Protocol.{Protocol}
 use Rattle.ptk_words.specs.declared.mutexes.Protocol.TheVariants.{NoProtocol}
 use Rattle.ptk_words.specs.declared.mutexes.Soundness.TheVariants.{Consistent}
 use Rattle.ptk_words.specs.declared.sections.Limits.{Limits}
-use Rattle.ptk_words.specs.declared.threads.Wait.{Wait}
 use Rattle.ptk_words.specs.declared.threads.Wait.TheVariants.{MutexWait}
 use Rattle.ptk_words_model.specs.declared.Invocation.{Invocation}
 use Rattle.ptk_words_model.specs.declared.LockMove.{LockMove}
 use Rattle.ptk_words_model.specs.declared.LockMove.TheVariants.{Takes, Recovers, Counts, Waits, Refuses}
-use Rattle.ptk_words_model.specs.State.{Mutex, Locks, Part, with_locks}
+use Rattle.ptk_words_model.specs.State.{Locks, Part, with_locks}
 use Rattle.ptk_words_model.specs.Mutex.{mutex_at, new_mutex, owns, with_soundness, lock_move, trylock_move, after_move, after_unlock}
 use Rattle.ptk_words_model.specs.Condition.{names_mutex}
 use Rattle.ptk_words_model.specs.Calls.{Answer, refusal, told, is_pointer, with_pool_mutex, with_stored, set_up_mutex, using_mutex}
 use Rattle.ptk_words_model.specs.MutexCalls.{kind_of, protocol_of, is_robust_type, is_locked, is_repairable, make_move, mutex_init, mutex_destroy, mutex_lock, mutex_trylock, mutex_unlock, mutex_consistent}
-use Rattle.ptk_words_model.specs.Steps.{Row, succeed}
 use Rattle.ptk_words_well.specs.Well.{IsWell}
 use Rattle.ptk_words_locks.proofs.Pools.{length-pool_set, length-changed}
 use Rattle.ptk_words_locks.proofs.Whole.{AreLocks}

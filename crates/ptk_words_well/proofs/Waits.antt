@@ -22,32 +22,17 @@ use Rattle.ptk_words_well.specs.Well.{IsWell}
 use Rattle.ptk_words_locks.proofs.Pools.{changed_own, changed_other, length-changed}
 use Rattle.ptk_words_locks.proofs.Lines.{first_in}
 use Rattle.ptk_words_locks.proofs.Lined.{ready_waits, ready_alive, not_ready_out, not_ready_stopped, lined_stopped, lined_alike, lined_others, lined_push}
+use Rattle.ptk_words_locks.proofs.Threads.{changed_same, idle_awaits, in_wait, in_wait_waits, in_wait_joiner, in_wait_alive}
 use Rattle.ptk_words_locks.proofs.Waiting.{IsWaitChange, IsJoinChange, waiting_input, waiting_answered, waiting_join}
 use Rattle.ptk_words_well.proofs.Whole.{lined_of, waiting_of, well_scheduled}
-use Rattle.ptk_words_well.proofs.Exclusion.{awaits_none, awaits_other, exclusion_waits, exclusion_one}
-use Rattle.ptk_words_well.proofs.Threads.{changed_same, used_changed_at}
+use Rattle.ptk_words_well.proofs.Exclusion.{awaits_other, exclusion_waits, exclusion_one}
+use Rattle.ptk_words_well.proofs.Threads.{used_changed_at}
 use Rattle.ptk_words_well.proofs.Parts.{well_input, well_arriving}
 
 -- ---- what a wait makes of a thread
 
--- the thread in this wait (own)
-abbrev pub in_wait : Wait → Thread → Thread
-in_wait wait thread = record thread { wait = Some wait }
-
 stopped : (t : ℕ) → None ≢ Some t
 stopped t e = let no : ⊥ = cc in no
-
-wait_set : (wait : Wait) (o : Option Thread) → is_ready o ≡ true → wait_of (option_map (in_wait wait) o) ≡ Some wait
-wait_set wait None e = absurd (false≢true e)
-wait_set wait (Some thread) e = refl
-
-joiner_in_wait : (wait : Wait) (o : Option Thread) → joiner_of (option_map (in_wait wait) o) ≡ joiner_of o
-joiner_in_wait wait None = refl
-joiner_in_wait wait (Some thread) = refl
-
-alive_in_wait : (wait : Wait) (o : Option Thread) → is_alive (option_map (in_wait wait) o) ≡ is_alive o
-alive_in_wait wait None = refl
-alive_in_wait wait (Some thread) = refl
 
 -- a wait that is for no mutex, where the thread waited for none
 awaited_in_wait : (wait : Wait) (o : Option Thread) → mutex_of_wait (Some wait) ≡ None → awaited o ≡ None → awaited (option_map (in_wait wait) o) ≡ awaited o
@@ -88,8 +73,8 @@ exclusion_in_wait : (t : ℕ) (wait : Wait) (threads : List (Option Thread)) (mu
 exclusion_in_wait t wait threads mutexes other free are =
     let own : pool_get (pool_changed t (in_wait wait) threads) t ≡ option_map (in_wait wait) (pool_get threads t) = changed_own t (in_wait wait) threads in
     exclusion_one t threads (pool_changed t (in_wait wait) threads) mutexes (λ u ne. changed_other t u (in_wait wait) threads ne)
-    (ap awaited own ∙ awaited_in_wait wait (pool_get threads t) other (awaits_none (pool_get threads t) free))
-    (λ m e. ap is_alive own ∙ alive_in_wait wait (pool_get threads t) ∙ are.owners_alive m t e) are
+    (ap awaited own ∙ awaited_in_wait wait (pool_get threads t) other (idle_awaits (pool_get threads t) free))
+    (λ m e. ap is_alive own ∙ in_wait_alive wait (pool_get threads t) ∙ are.owners_alive m t e) are
 
 -- a thread that waited for no mutex is woken
 pub exclusion_woken : (t : ℕ) (values : List ℕ) (threads : List (Option Thread)) (mutexes : List (Option Mutex)) → awaited (pool_get threads t) ≡ None → AreMutexes threads mutexes
@@ -109,7 +94,7 @@ used_in_wait limits t wait threads each =
 ended_in_wait : (t : ℕ) (wait : Wait) (threads : List (Option Thread)) → is_alive (pool_get threads t) ≡ true → ((u : ℕ) → is_alive (pool_get threads u) ≡ false → wait_of (pool_get threads u) ≡ None)
     → (u : ℕ) → is_alive (pool_get (pool_changed t (in_wait wait) threads) u) ≡ false → wait_of (pool_get (pool_changed t (in_wait wait) threads) u) ≡ None
 ended_in_wait t wait threads alive ended u e =
-    let was : is_alive (pool_get threads u) ≡ false = sym (changed_same is_alive t (in_wait wait) threads (alive_in_wait wait (pool_get threads t)) u) ∙ e in
+    let was : is_alive (pool_get threads u) ≡ false = sym (changed_same is_alive t (in_wait wait) threads (in_wait_alive wait (pool_get threads t)) u) ∙ e in
     let ne : u ≢ t = λ same. false≢true (sym was ∙ ap (λ v. is_alive (pool_get threads v)) same ∙ alive) in
     ap wait_of (changed_other t u (in_wait wait) threads ne) ∙ ended u was
 
@@ -121,12 +106,12 @@ well_input_wait limits i s runs well =
     let ready : is_ready (pool_get s.threads t) ≡ true = well.running_ready t runs in
     let change : IsWaitChange t s.threads after = record {
       wait = λ u ne. ap wait_of (changed_other t u (in_wait InputWait) s.threads ne);
-      joiner = changed_same joiner_of t (in_wait InputWait) s.threads (joiner_in_wait InputWait (pool_get s.threads t));
+      joiner = changed_same joiner_of t (in_wait InputWait) s.threads (in_wait_joiner InputWait (pool_get s.threads t));
       ended = ended_in_wait t InputWait s.threads (ready_alive (pool_get s.threads t) ready) well.ended_wait;
     } in
     well_scheduled limits s after s.line s.mutexes None (s.console.waiters ++ t ∷ []) (length-changed t (in_wait InputWait) s.threads) refl
     (lined_others t s.threads after s.line None (λ u ne. changed_other t u (in_wait InputWait) s.threads ne) (well.running_out t runs) (stopped t) (lined_stopped s.threads s.line s.running (lined_of limits s well)))
-    (waiting_input t s.threads after s.console.waiters change (ready_waits (pool_get s.threads t) ready) (ap wait_of (changed_own t (in_wait InputWait) s.threads) ∙ wait_set InputWait (pool_get s.threads t) ready) (waiting_of limits s well))
+    (waiting_input t s.threads after s.console.waiters change (ready_waits (pool_get s.threads t) ready) (ap wait_of (changed_own t (in_wait InputWait) s.threads) ∙ in_wait_waits InputWait (pool_get s.threads t) ready) (waiting_of limits s well))
     (exclusion_in_wait t InputWait s.threads s.mutexes refl (ready_waits (pool_get s.threads t) ready) well.exclusion)
     (used_in_wait limits t InputWait s.threads well.used)
     (λ e. refl) well
@@ -206,7 +191,7 @@ well_join_wait limits i u target s runs there free well =
     let middle_ready : (v : ℕ) → is_ready (pool_get middle v) ≡ is_ready (pool_get s.threads v) = changed_same is_ready u (joined_by t) s.threads (ready_joined t (pool_get s.threads u)) in
     let middle_waits : (v : ℕ) → wait_of (pool_get middle v) ≡ wait_of (pool_get s.threads v) = changed_same wait_of u (joined_by t) s.threads (wait_joined t (pool_get s.threads u)) in
     let middle_alive : (v : ℕ) → is_alive (pool_get middle v) ≡ is_alive (pool_get s.threads v) = changed_same is_alive u (joined_by t) s.threads (alive_joined t (pool_get s.threads u)) in
-    let after_joiner : (v : ℕ) → joiner_of (pool_get after v) ≡ joiner_of (pool_get middle v) = changed_same joiner_of t (in_wait (JoinWait u)) middle (joiner_in_wait (JoinWait u) (pool_get middle t)) in
+    let after_joiner : (v : ℕ) → joiner_of (pool_get after v) ≡ joiner_of (pool_get middle v) = changed_same joiner_of t (in_wait (JoinWait u)) middle (in_wait_joiner (JoinWait u) (pool_get middle t)) in
     let single : joiner_of (pool_get s.threads u) ≡ None = ap joiner_of there ∙ free in
     let joined : joiner_of (pool_get middle u) ≡ Some t = ap joiner_of (changed_own u (joined_by t) s.threads ∙ ap (option_map (joined_by t)) there) in
     let change : IsJoinChange t u s.threads after = record {
@@ -218,7 +203,7 @@ well_join_wait limits i u target s runs there free well =
     (lined_others t middle after s.line None (λ v ne. changed_other t v (in_wait (JoinWait u)) middle ne) (well.running_out t runs) (stopped t)
     (lined_alike s.threads middle s.line None middle_ready (lined_stopped s.threads s.line s.running (lined_of limits s well))))
     (waiting_join t u s.threads after s.console.waiters change (ready_waits (pool_get s.threads t) ready) single
-    (ap wait_of (changed_own t (in_wait (JoinWait u)) middle) ∙ wait_set (JoinWait u) (pool_get middle t) (middle_ready t ∙ ready)) (after_joiner u ∙ joined) (waiting_of limits s well))
+    (ap wait_of (changed_own t (in_wait (JoinWait u)) middle) ∙ in_wait_waits (JoinWait u) (pool_get middle t) (middle_ready t ∙ ready)) (after_joiner u ∙ joined) (waiting_of limits s well))
     (exclusion_in_wait t (JoinWait u) middle s.mutexes refl (middle_waits t ∙ ready_waits (pool_get s.threads t) ready) (exclusion_waits s.threads middle s.mutexes middle_waits middle_alive well.exclusion))
     (used_in_wait limits t (JoinWait u) middle (used_changed_at limits.interval u (joined_by t) s.threads well.used (λ thread e. let lt : used_of (pool_get s.threads u) < limits.interval = well.used u in rw e at lt)))
     (λ e. refl) well
