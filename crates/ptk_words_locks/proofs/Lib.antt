@@ -5,3 +5,6 @@ pub mod Waiting
 pub mod Threads
 pub mod Exclusion
 pub mod Whole
+pub mod Handovers
+pub mod Sizes
+pub mod Ends
