@@ -11,7 +11,6 @@ pub mod Ends
 pub mod Starts
 pub mod Expiries
 pub mod Steps
-pub mod MutexCalls
 pub mod Calls
 pub mod Decisions
 pub mod Runs
