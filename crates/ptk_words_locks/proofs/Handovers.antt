@@ -121,7 +121,7 @@ lined_handed t m move threads line running alive waits lined =
     lined_push t after line running (ap is_ready (changed_own t (handed move) threads) ∙ handed_ready move (pool_get threads t) alive) out stops
     (lined_others t threads after line running (λ u ne. changed_other t u (handed move) threads ne) out stops lined)
 
-one_mutex : (n m : ℕ) (o : Option ℕ) → o ≡ Some n → o ≡ Some m → n ≡ m
+pub one_mutex : (n m : ℕ) (o : Option ℕ) → o ≡ Some n → o ≡ Some m → n ≡ m
 one_mutex n m o e f = cc
 
 -- a waiter leaves the mutex and is woken
