@@ -11,6 +11,7 @@ pub mod Ends
 pub mod Starts
 pub mod Expiries
 pub mod Steps
+pub mod MutexCalls
 pub mod Calls
 pub mod Decisions
 pub mod Runs
