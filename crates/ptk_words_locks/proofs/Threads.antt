@@ -30,7 +30,7 @@ used_changed n t f threads own each = each_changed (λ (u : ℕ) (o : Option Thr
 
 -- ---- a thread that waits for a mutex
 
-awaits_by : (o : Option Thread) → awaited o ≡ mutex_of_wait (wait_of o)
+pub awaits_by : (o : Option Thread) → awaited o ≡ mutex_of_wait (wait_of o)
 awaits_by None = refl
 awaits_by (Some thread) = refl
 
