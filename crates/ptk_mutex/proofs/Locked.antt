@@ -19,7 +19,7 @@ use Rattle.ptk_words_well.proofs.Lines.{in_push, in_without, out_push, own_head,
 use Rattle.ptk_threads.specs.Table.{stored_of}
 use Rattle.ptk_threads.proofs.Pools.{pool_get-changed, pool_get-changed_other}
 use Rattle.ptk_mutex.specs.Tables.{IsWaiter, AreLocked, MayGet}
-use Rattle.ptk_mutex.proofs.Levels.{length-numbers_to, get_or-numbers_to}
+use Rattle.ptk_mutex_slots.proofs.Levels.{length-numbers_to, get_or-numbers_to}
 
 -- ---- one that waits
 

@@ -34,9 +34,9 @@ use Rattle.ptk_mutex.specs.Tables.{MayWait}
 use Rattle.ptk_mutex.proofs.Locked.{locked_wait, locked_count}
 use Rattle.ptk_threads.specs.Table.{ThreadTable}
 use Rattle.ptk_threads.proofs.Pools.{part_of-set}
-use Rattle.ptk_mutex.specs.declared.slot.Change.{Change}
-use Rattle.ptk_mutex.specs.declared.slot.Change.TheVariants.{Take, CountUp, CountDown, Release, Abandon, Mark, Enqueue, Dequeue}
-use Rattle.ptk_mutex.specs.Changes.{mutex_changed, IsQuiet}
+use Rattle.ptk_mutex_slots.specs.declared.slot.Change.{Change}
+use Rattle.ptk_mutex_slots.specs.declared.slot.Change.TheVariants.{Take, CountUp, CountDown, Release, Abandon, Mark, Enqueue, Dequeue}
+use Rattle.ptk_mutex_slots.specs.Changes.{mutex_changed, IsQuiet}
 use Rattle.ptk_mutex.specs.Tables.{locks_at, with_threads, HasPart, AreLocked, AreReady, MayGet}
 use Rattle.ptk_mutex.specs.Moves.{after_change}
 use Rattle.ptk_mutex.proofs.Locked.{IsMild, locked_mild, locked_left, heir_may_get}

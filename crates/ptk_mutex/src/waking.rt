@@ -8,14 +8,13 @@ ghost use Rattle.ptk_words_model.specs.Priority.{awaited};
 ghost use Rattle.ptk_words_model.specs.Schedule.{woken_with};
 ghost use Rattle.ptk_words_model.specs.Mutex.{relock_move, after_relock, after_relock_move, after_leave};
 ghost use Rattle.ptk_threads.specs.Table.{thread_in, with_changed};
-ghost use Rattle.ptk_mutex.specs.declared.slot.Change.TheVariants.{CountUp, Enqueue};
-ghost use Rattle.ptk_mutex.specs.Changes.{SlotMayChange};
+ghost use Rattle.ptk_mutex_slots.specs.declared.slot.Change.TheVariants.{CountUp, Enqueue};
+ghost use Rattle.ptk_mutex_slots.specs.Changes.{SlotMayChange};
 ghost use Rattle.ptk_mutex.specs.Tables.{locks_at, with_threads, with_threads_alone, HasPart, IsWaiter, MayWait, AreReady};
 ghost use Rattle.ptk_mutex.specs.Moves.{after_withdrawal};
 
-use crate::moves::{kept_reply, reply_of};
-use crate::mutexes::{Mutexes, slot_in};
-use crate::slot::{Change, MutexSlot};
+use crate::mutexes::Mutexes;
+use ptk_mutex_slots::{Change, MutexSlot, kept_reply, reply_of, slot_in};
 use ptk_ready::{Line, VecLine};
 use ptk_threads::Threads;
 use ptk_words::{A0, MutexNo, PartId, Thread, ThreadNo, Wait};
