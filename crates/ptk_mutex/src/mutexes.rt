@@ -139,9 +139,10 @@ impl Mutexes {
         change_in(self.slots.lend(p), m, change);
     }
 
-    /// Computes the stored priorities of a partition again (pthread_mutexattr_getprotocol).
+    /// Computes the stored priorities of a partition again, as after a change of its threads that no call here made;
+    /// every other partition's stay (pthread_mutexattr_getprotocol).
     #[tactic(auto, using(crate::proofs::Pool::pools))]
-    pub(crate) fn refresh(&self, threads: &mut Threads, p: PartId)
+    pub fn refresh(&self, threads: &mut Threads, p: PartId)
         requires partition { (p < length self.now) × (p < length threads.old.threads) }
         ensures { threads.new ≡ record threads.old { stored = slice_set threads.old.stored p (effective_priorities (part_of threads.old.threads p) (part_of self.now p)) } }
     {
