@@ -221,6 +221,19 @@ locked_wait t m wait locks names awake used out locked = record {
   counts = λ n. let same = count_kept m n (λ (mutex : Mutex). record mutex { waiters = mutex.waiters ++ t ∷ [] }) locks.mutexes (more_count t) (cases_eq n m) in rw same (locked.counts n);
 }
 
+-- a thread that waits for no mutex is woken
+pub locked_wake : (t : ℕ) (f : Thread → Thread) (locks : Locks) → awaited (thread_at locks t) ≡ None → AreLocked locks → AreLocked (at_tail_with f t locks)
+locked_wake t f locks awake locked = record {
+  waiters = λ n k h.
+      let was = locked.waiters n k h in
+      let other : k ≢ t = other_than n t k locks awake was in
+      record {
+        waits = ap awaited (pool_get-changed_other t k f locks.threads other) ∙ was.waits;
+        out = out_push t k locks.line other was.out;
+      };
+  counts = λ n. locked.counts n;
+}
+
 -- ---- a count more
 
 counted_waiters : (k : ℕ) (x : Option Mutex) → is_in k (waiters_of (option_map (λ (mutex : Mutex). record mutex { count = mutex.count + 1 }) x)) ≡ true → is_in k (waiters_of x) ≡ true
