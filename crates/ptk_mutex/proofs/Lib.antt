@@ -2,3 +2,4 @@ pub mod Pool
 pub mod Moved
 pub mod Locked
 pub mod Steps
+pub mod Ready
