@@ -74,7 +74,7 @@ fn raise_chain(
 fn raise(stored: &mut [u8], t: ThreadNo, priority: u8)
     ensures { stored.new ≡ raised priority t stored.old }
 {
-    let i = (t.number() - 1) as usize;
+    let i = t.place();
     if i < stored.len() {
         stored[i] = stored[i].max(priority);
     }
@@ -152,5 +152,5 @@ pub(crate) fn assigned(threads: &[Slot], t: ThreadNo) -> u8
 fn thread_slot(threads: &[Slot], t: ThreadNo) -> Option<&Slot>
     ensures { option_flatten (option_map (λ r. r.now) result) ≡ pool_get threads.now t }
 {
-    threads.get((t.number() - 1) as usize)
+    threads.get(t.place())
 }
