@@ -19,7 +19,7 @@ use Rattle.ptk_words_locks.proofs.Lines.{in_push, in_without, out_push, own_head
 use Rattle.ptk_threads.specs.Table.{stored_of}
 use Rattle.ptk_threads.proofs.Pools.{pool_get-changed, pool_get-changed_other}
 use Rattle.ptk_mutex.specs.Tables.{IsWaiter, AreLocked, MayGet}
-use Rattle.ptk_mutex.proofs.Levels.{length-numbers_to, get_or-numbers_to}
+use Rattle.ptk_mutex_slots.proofs.Levels.{length-numbers_to, get_or-numbers_to}
 
 -- ---- one that waits
 
@@ -219,6 +219,19 @@ locked_wait t m wait locks names awake used out locked = record {
         })
       ];
   counts = λ n. let same = count_kept m n (λ (mutex : Mutex). record mutex { waiters = mutex.waiters ++ t ∷ [] }) locks.mutexes (more_count t) (cases_eq n m) in rw same (locked.counts n);
+}
+
+-- a thread that waits for no mutex is woken
+pub locked_wake : (t : ℕ) (f : Thread → Thread) (locks : Locks) → awaited (thread_at locks t) ≡ None → AreLocked locks → AreLocked (at_tail_with f t locks)
+locked_wake t f locks awake locked = record {
+  waiters = λ n k h.
+      let was = locked.waiters n k h in
+      let other : k ≢ t = other_than n t k locks awake was in
+      record {
+        waits = ap awaited (pool_get-changed_other t k f locks.threads other) ∙ was.waits;
+        out = out_push t k locks.line other was.out;
+      };
+  counts = λ n. locked.counts n;
 }
 
 -- ---- a count more

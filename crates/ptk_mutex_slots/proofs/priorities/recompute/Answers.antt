@@ -1,7 +1,7 @@
 use Rattle.std.proofs.Common.{◌≡◌, length, subst, arith, ℕ}
 use Rattle.ptk_words_model.specs.Priority.{next_of, held_of}
-use Rattle.ptk_mutex.proofs.Levels.{IsSwept, swept_more, swept_all}
-use Rattle.ptk_mutex.proofs.priorities.recompute.Goals as goal
+use Rattle.ptk_mutex_slots.proofs.Levels.{IsSwept, swept_more, swept_all}
+use Rattle.ptk_mutex_slots.proofs.priorities.recompute.Goals as goal
 
 pub loop-k-preserved : goal.loop-k-preserved
 loop-k-preserved c = swept_more _ _ _ _ _ _ _ _ c.new-u.ensures c.raise_chain.ensures c.held_of.ensures c.loop-k.invariant

@@ -14,7 +14,7 @@ use Rattle.std.specs.Prelude.{slice_set, slice_index, option_and_then}
 use Rattle.std.proofs.lemmas.List.{set_past}
 use Rattle.ptk_words.specs.declared.threads.Thread.{Thread}
 use Rattle.ptk_words_model.specs.Priority.{mutex_of_wait, awaited}
-use Rattle.ptk_mutex.specs.Raised.{raised, raised_along}
+use Rattle.ptk_mutex_slots.specs.Raised.{raised, raised_along}
 
 -- ---- what a slot tells
 

@@ -4,8 +4,8 @@ use Rattle.ptk_words.specs.Pools.{without, is_in}
 use Rattle.ptk_words.specs.declared.TheConstants.{COUNT_LIMIT}
 use Rattle.ptk_words.specs.declared.mutexes.Owner.TheVariants.{Free, Abandoned, OwnedBy}
 use Rattle.ptk_words_model.specs.State.{Mutex}
-use Rattle.ptk_mutex.specs.declared.slot.Change.{Change}
-use Rattle.ptk_mutex.specs.declared.slot.Change.TheVariants.{Take, CountUp, CountDown, Release, Abandon, Mark, Enqueue, Dequeue}
+use Rattle.ptk_mutex_slots.specs.declared.slot.Change.{Change}
+use Rattle.ptk_mutex_slots.specs.declared.slot.Change.TheVariants.{Take, CountUp, CountDown, Release, Abandon, Mark, Enqueue, Dequeue}
 
 -- the mutex with that change (own)
 abbrev pub mutex_changed : Change → Mutex → Mutex

@@ -43,7 +43,7 @@ pub(crate) fn is_above_ceiling(priority: u8, protocol: Protocol) -> bool
 }
 
 /// A lock of a free mutex, by what it guards.
-pub(crate) fn free_move(soundness: Soundness) -> LockMove
+pub fn free_move(soundness: Soundness) -> LockMove
     ensures { result ≡ free_move soundness }
 {
     match soundness {
@@ -108,7 +108,7 @@ fn in_place_of(reply: Option<u32>, e: Errno) -> Option<u32>
 }
 
 /// What a mutex's waiter is to be told once it has the mutex: of a lock 0, of a re-lock what its wait keeps.
-pub(crate) fn kept_reply(wait: Option<Wait>) -> Option<u32>
+pub fn kept_reply(wait: Option<Wait>) -> Option<u32>
     ensures { result ≡ kept_reply wait }
 {
     match wait {

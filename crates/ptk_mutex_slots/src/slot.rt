@@ -1,13 +1,15 @@
-//! One place of the pool, and what becomes of the mutex at it.
+//! One place of the pool, what becomes of the mutex at it, and the place of a number.
 
 ghost use Rattle.std.specs.Prelude.{◌≡◌, [], Some, None, IfOk, is_none, option_map, if◌then◌else◌};
+ghost use Rattle.std.specs.Option.{option_flatten};
+ghost use Rattle.ptk_words.specs.Pools.{pool_get};
 ghost use Rattle.ptk_words.specs.declared.faults.Errno.TheVariants.{EINVAL};
 ghost use Rattle.ptk_words_model.specs.declared.LockMove.TheVariants.{Refuses};
 ghost use Rattle.ptk_words_model.specs.Mutex.{new_mutex, waiters_of, lock_move, trylock_move, relock_move, owns, is_raising_for, is_raising, soundness_of, count_of, is_above_ceiling, owner_move, free_move};
 ghost use Rattle.ptk_words_model.specs.Priority.{inheritor, inheritor_of, ceiling_for, ceiling_of, is_owner};
-ghost use Rattle.ptk_mutex.specs.Slots.{mutex_with, state_of, is_robust_at};
-ghost use Rattle.ptk_mutex.specs.Changes.{mutex_changed, SlotMayChange};
-ghost use Rattle.ptk_mutex.specs.Tables.{locks_of};
+ghost use Rattle.ptk_mutex_slots.specs.Slots.{mutex_with, state_of, is_robust_at};
+ghost use Rattle.ptk_mutex_slots.specs.Changes.{mutex_changed, SlotMayChange};
+ghost use Rattle.ptk_mutex_slots.specs.Tables.{locks_of};
 
 use crate::moves::{
     OwnerMoves, free_move, is_above_ceiling, own_lock_move, own_trylock_move, owner_move,
@@ -15,7 +17,7 @@ use crate::moves::{
 use crate::priorities::assigned;
 use ptk_ready::Queue;
 use ptk_threads::Slot;
-use ptk_words::{Errno, MutexKind, Owner, Protocol, Soundness, ThreadNo};
+use ptk_words::{Errno, MutexKind, MutexNo, Owner, Protocol, Soundness, ThreadNo};
 use ptk_words_model::LockMove;
 use std::alloc::{AllocError, Global};
 use std::marker::Model;
@@ -47,7 +49,7 @@ pub struct MutexSlot {
 impl Model for MutexSlot {
     ghost use Rattle.std.specs.Prelude.{Option, option_map};
     ghost use Rattle.ptk_words_model.specs.State.{Mutex};
-    ghost use Rattle.ptk_mutex.specs.Slots.{mutex_with, IsVacant};
+    ghost use Rattle.ptk_mutex_slots.specs.Slots.{mutex_with, IsVacant};
 
     ghost Value = { Option Mutex };
 
@@ -58,7 +60,7 @@ impl Model for MutexSlot {
 
 /// What becomes of a mutex.
 #[derive(Clone, Copy)]
-pub(crate) enum Change {
+pub enum Change {
     /// The thread owns it, counted once.
     Take(ThreadNo),
     /// Its owner locked it once more.
@@ -79,7 +81,7 @@ pub(crate) enum Change {
 
 impl MutexSlot {
     /// A free place. An error where memory ran out.
-    pub(crate) fn new(alloc: Global) -> Result<MutexSlot, AllocError>
+    pub fn new(alloc: Global) -> Result<MutexSlot, AllocError>
         ensures { IfOk result (λ slot. slot ≡ None) }
     {
         let waiters = Queue::new(alloc)?;
@@ -115,7 +117,7 @@ impl MutexSlot {
 
     /// A new mutex, which is free and consistent, at a free place (pthread_mutex_init).
     #[tactic(auto, using(crate::proofs::Slots::slots))]
-    pub(crate) fn open(&mut self, kind: MutexKind, protocol: Protocol, is_robust: bool)
+    pub fn open(&mut self, kind: MutexKind, protocol: Protocol, is_robust: bool)
         requires { self.old ≡ None }
         ensures { self.new ≡ Some (new_mutex kind protocol is_robust) }
     {
@@ -131,7 +133,7 @@ impl MutexSlot {
 
     /// The place is free (pthread_mutex_destroy).
     #[tactic(auto, using(crate::proofs::Slots::slots))]
-    pub(crate) fn close(&mut self)
+    pub fn close(&mut self)
         requires { waiters_of self.old ≡ [] }
         ensures { self.new ≡ None }
     {
@@ -140,7 +142,7 @@ impl MutexSlot {
 
     /// Changes its mutex, if there is one.
     #[tactic(auto, using(crate::proofs::Slots::slots))]
-    pub(crate) fn change(&mut self, change: Change)
+    pub fn change(&mut self, change: Change)
         requires { SlotMayChange change self.old }
         ensures { self.new ≡ option_map (mutex_changed change) self.old }
     {
@@ -196,7 +198,7 @@ impl MutexSlot {
 }
 
 /// Whether the thread is the owner.
-pub(crate) fn is_owner(t: ThreadNo, owner: Owner) -> bool
+fn is_owner(t: ThreadNo, owner: Owner) -> bool
     ensures { result ≡ is_owner t owner }
 {
     match owner {
@@ -230,7 +232,7 @@ fn ceiling_of(protocol: Protocol) -> u8
 
 impl MutexSlot {
     /// The move of lock; the ceiling is tested first (pthread_mutex_lock).
-    pub(crate) fn lock_move(&self, threads: &[Slot], t: ThreadNo) -> LockMove
+    pub fn lock_move(&self, threads: &[Slot], t: ThreadNo) -> LockMove
         ensures { result ≡ lock_move (locks_of threads.now []) t self.now }
     {
         match &self.state {
@@ -243,7 +245,7 @@ impl MutexSlot {
     }
 
     /// The move of trylock; the ceiling is tested first (pthread_mutex_trylock).
-    pub(crate) fn trylock_move(&self, threads: &[Slot], t: ThreadNo) -> LockMove
+    pub fn trylock_move(&self, threads: &[Slot], t: ThreadNo) -> LockMove
         ensures { result ≡ trylock_move (locks_of threads.now []) t self.now }
     {
         match &self.state {
@@ -257,7 +259,7 @@ impl MutexSlot {
     }
 
     /// The move after a condition wait (pthread_cond_wait; own choice).
-    pub(crate) fn relock_move(&self, t: ThreadNo) -> LockMove
+    pub fn relock_move(&self, t: ThreadNo) -> LockMove
         ensures { result ≡ relock_move t self.now }
     {
         match &self.state {
@@ -275,7 +277,7 @@ impl MutexSlot {
     }
 
     /// Whether the thread owns its mutex (pthread_mutex_unlock).
-    pub(crate) fn is_owned_by(&self, t: ThreadNo) -> bool
+    pub fn is_owned_by(&self, t: ThreadNo) -> bool
         ensures { result ≡ owns t self.now }
     {
         match &self.state {
@@ -285,7 +287,7 @@ impl MutexSlot {
     }
 
     /// Whether the thread owns its mutex, which is INHERIT or PROTECT (pthread_mutexattr_getprotocol).
-    pub(crate) fn is_raising_for(&self, t: ThreadNo) -> bool
+    pub fn is_raising_for(&self, t: ThreadNo) -> bool
         ensures { result ≡ is_raising_for t self.now }
     {
         match &self.state {
@@ -295,7 +297,7 @@ impl MutexSlot {
     }
 
     /// The state of what its mutex guards; consistent at a free place (pthread_mutex_consistent).
-    pub(crate) fn soundness(&self) -> Soundness
+    pub fn soundness(&self) -> Soundness
         ensures { result ≡ soundness_of self.now }
     {
         match &self.state {
@@ -305,7 +307,7 @@ impl MutexSlot {
     }
 
     /// Whether its mutex is robust; false at a free place (pthread_mutexattr_setrobust).
-    pub(crate) fn is_robust(&self) -> bool
+    pub fn is_robust(&self) -> bool
         ensures { result ≡ is_robust_at self.now }
     {
         match &self.state {
@@ -315,7 +317,7 @@ impl MutexSlot {
     }
 
     /// How often its mutex is locked; 0 at a free place.
-    pub(crate) fn count(&self) -> u32
+    pub fn count(&self) -> u32
         ensures { result ≡ count_of self.now }
     {
         match &self.state {
@@ -358,4 +360,12 @@ fn is_raising(protocol: Protocol) -> bool
         Protocol::Inherit | Protocol::Protect(_) => true,
         Protocol::NoProtocol => false,
     }
+}
+
+/// The place of a number, None past the partition's.
+#[tactic(auto, using(crate::proofs::Slots::numbers))]
+pub fn slot_in(slots: &[MutexSlot], m: MutexNo) -> Option<&MutexSlot>
+    ensures { option_flatten (option_map (λ r. r.now) result) ≡ pool_get slots.now m }
+{
+    slots.get((m.number() - 1) as usize)
 }

@@ -1,50 +1,18 @@
--- A slot's mutex by its state and waiters, and the pool after a change of one partition.
-use Rattle.std.proofs.Common.{◌≡◌, ◌≢◌, ℕ, zero, suc, ◌+◌, ◌-◌, ◌<◌, ◌≤◌, List, [], ◌∷◌, length, map, refl, sym, ◌∙◌, ap, arith, All}
-use Rattle.std.specs.Prelude.{Option, Some, None, option_map, is_none}
+-- The pool after a change of one partition.
+use Rattle.std.proofs.Common.{◌≡◌, ℕ, zero, suc, ◌<◌, ◌≤◌, List, [], ◌∷◌, length, map, get_or, refl, sym, ◌∙◌, arith, All, true}
+use Rattle.std.specs.Prelude.{Option, Some, None, option_map, is_none, slice_get, position}
+use Rattle.std.specs.Option.{option_flatten}
 use Rattle.std.proofs.Math.ListN.{set}
-use Rattle.std.proofs.lemmas.List.{length-set, length-replicate, set-set, set-get_or}
+use Rattle.std.proofs.lemmas.List.{length-set, length-replicate, set-set, set-get_or, set_past}
 use Rattle.std.proofs.lemmas.List.Elements.{All-head, All-tail}
+use Rattle.std.proofs.lemmas.List.Quantifiers.{position-Some}
+use Rattle.ptk_words.specs.Pools.{pool_get, least_free}
 use Rattle.ptk_words_model.specs.State.{Mutex}
-use Rattle.ptk_words_model.specs.Mutex.{waiters_of}
 use Rattle.ptk_words_parted.specs.Parts.{part_of, filled}
 use Rattle.ptk_words_parted.specs.Cuts.{lent}
 use Rattle.ptk_words_parted.proofs.Cuts.{lent-same}
-use Rattle.ptk_words.specs.Pools.{pool_get, least_free}
-use Rattle.ptk_threads.proofs.Slots.{pool_get_below, pool_set_below, length-pool_set, length-pool_changed, changed_at, changed_past}
-use Rattle.std.proofs.Common.{get_or, add-one, false, true, Bool}
-use Rattle.std.specs.Prelude.{slice_get, position}
-use Rattle.std.specs.Option.{option_flatten}
-use Rattle.std.proofs.lemmas.List.Quantifiers.{position-Some}
-use Rattle.std.proofs.lemmas.List.{set_past}
-use Rattle.ptk_mutex.specs.declared.slot.MutexState.{MutexState}
-use Rattle.ptk_mutex.specs.Slots.{mutex_with, state_of, IsVacant, IsPool}
-
--- ---- a slot
-
-pub state_of-mutex : (waiters : List ℕ) (state : Option MutexState) → option_map state_of (option_map (mutex_with waiters) state) ≡ state
-state_of-mutex waiters None = refl
-state_of-mutex waiters (Some state) = refl
-
-pub is_none-mutex : (waiters : List ℕ) (state : Option MutexState) → is_none (option_map (mutex_with waiters) state) ≡ is_none state
-is_none-mutex waiters None = refl
-is_none-mutex waiters (Some state) = refl
-
-pub waiters_of-mutex : (waiters : List ℕ) (state : Option MutexState) → IsVacant state waiters → waiters_of (option_map (mutex_with waiters) state) ≡ waiters
-waiters_of-mutex waiters None vacant = sym vacant
-waiters_of-mutex waiters (Some state) vacant = refl
-
--- a free slot has no waiters
-pub vacant_is : (waiters : List ℕ) (state : Option MutexState) → IsVacant state waiters → option_map (mutex_with waiters) state ≡ None → waiters ≡ []
-vacant_is waiters None vacant e = vacant
-vacant_is waiters (Some state) vacant e = cc
-
--- a slot without waiters may be free
-pub vacated : (waiters : List ℕ) (state : Option MutexState) → IsVacant state waiters → waiters_of (option_map (mutex_with waiters) state) ≡ [] → waiters ≡ []
-vacated waiters state vacant e = sym (waiters_of-mutex waiters state vacant) ∙ e
-
-pub ruleset slots = (state_of-mutex, is_none-mutex, waiters_of-mutex, vacant_is, vacated)
-
--- ---- the pool
+use Rattle.ptk_threads.proofs.Slots.{length-pool_set, length-pool_changed, changed_at, changed_past}
+use Rattle.ptk_mutex.specs.Pool.{IsPool}
 
 length_part-set : {X : Type 0} (rows : List (List X)) (p q : ℕ) (row : List X) → length row ≡ length (part_of rows p) → length (part_of (set rows p row) q) ≡ length (part_of rows q)
 length_part-set [] p q row e = refl
@@ -80,8 +48,6 @@ place_of (Some j) i e = cc
 pub least_free_is : (pool : List (Option Mutex)) (m : ℕ) → least_free pool ≡ Some m → pool_get pool m ≡ None
 least_free_is pool zero e = refl
 least_free_is pool (suc i) e = free_place pool i (position-Some is_none pool i None (place_of (position is_none pool) i e)).1
-
-pub ruleset numbers = (pool_get_below, pool_set_below, add-one, set_past)
 
 pub ruleset changes = (changed_at, changed_past)
 

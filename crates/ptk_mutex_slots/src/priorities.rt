@@ -6,11 +6,10 @@ ghost use Rattle.ptk_words.specs.Pools.{pool_get};
 ghost use Rattle.ptk_words_model.specs.Priority.{mutex_of_wait, awaited, assigned_of, next_of, held_of, inheritor_of, effective_priorities};
 ghost use Rattle.ptk_words_parted.specs.Parts.{part_of};
 ghost use Rattle.ptk_threads.specs.Table.{thread_in, stored_of};
-ghost use Rattle.ptk_mutex.specs.Raised.{raised, raised_along};
-ghost use Rattle.ptk_mutex.specs.Tables.{effective_at};
+ghost use Rattle.ptk_mutex_slots.specs.Raised.{raised, raised_along};
+ghost use Rattle.ptk_mutex_slots.specs.Tables.{effective_at};
 
-use crate::mutexes::slot_in;
-use crate::slot::MutexSlot;
+use crate::slot::{MutexSlot, slot_in};
 use ptk_threads::{Slot, Threads};
 use ptk_words::{MutexNo, PartId, Phase, ThreadNo, Wait};
 
@@ -29,7 +28,7 @@ pub fn effective(threads: &Threads, p: PartId, t: ThreadNo) -> Option<u8>
 
 /// Computes the priorities again: each thread raises its chain (pthread_mutexattr_getprotocol).
 #[tactic(auto, using(crate::proofs::Levels::sweeps))]
-pub(crate) fn recompute(threads: &[Slot], mutexes: &[MutexSlot], stored: &mut [u8])
+pub fn recompute(threads: &[Slot], mutexes: &[MutexSlot], stored: &mut [u8])
     requires same { length stored.old ≡ length threads.now }
     requires few { length threads.now ≤ 32 }
     ensures { stored.new ≡ effective_priorities threads.now mutexes.now }
@@ -75,7 +74,7 @@ fn raise_chain(
 fn raise(stored: &mut [u8], t: ThreadNo, priority: u8)
     ensures { stored.new ≡ raised priority t stored.old }
 {
-    let i = (t.number() - 1) as usize;
+    let i = t.place();
     if i < stored.len() {
         stored[i] = stored[i].max(priority);
     }
@@ -153,5 +152,5 @@ pub(crate) fn assigned(threads: &[Slot], t: ThreadNo) -> u8
 fn thread_slot(threads: &[Slot], t: ThreadNo) -> Option<&Slot>
     ensures { option_flatten (option_map (λ r. r.now) result) ≡ pool_get threads.now t }
 {
-    threads.get((t.number() - 1) as usize)
+    threads.get(t.place())
 }
