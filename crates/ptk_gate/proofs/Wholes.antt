@@ -17,7 +17,7 @@ use Rattle.ptk_words_model.specs.Schedule.{after_choice}
 use Rattle.ptk_words_model.specs.Unwinding.{after_unwinding_start}
 use Rattle.ptk_words_model.specs.Withdrawal.{after_expiries}
 use Rattle.ptk_words_model.specs.Run.{is_active}
-use Rattle.ptk_words_well.proofs.Lined.{ready_alive}
+use Rattle.ptk_words_locks.proofs.Lined.{ready_alive}
 use Rattle.ptk_words_well.proofs.Effects.{HasLength, effect_length}
 use Rattle.ptk_words_well.proofs.Parts.{well_last, well_memory, well_halt}
 use Rattle.ptk_words_well.proofs.Threads.{well_cpu}

@@ -15,9 +15,10 @@ use Rattle.ptk_words_model.specs.State.{Console, Part, with_console}
 use Rattle.ptk_words_model.specs.Console.{arriving, is_due_at, without_arriving}
 use Rattle.ptk_words_model.specs.Priority.{thread_at, effective_priority}
 use Rattle.ptk_words_model.specs.Decision.{after_arrival_for, first_waiter, after_arrival, after_arrivals}
-use Rattle.ptk_words_well.specs.Well.{IsWell, is_ready}
+use Rattle.ptk_words_locks.specs.Locks.{is_ready}
+use Rattle.ptk_words_well.specs.Well.{IsWell}
 use Rattle.ptk_words.specs.Pools.{is_in}
-use Rattle.ptk_words_well.proofs.Lines.{first_in}
+use Rattle.ptk_words_locks.proofs.Lines.{first_in}
 use Rattle.ptk_words_well.proofs.Parts.{well_console}
 use Rattle.ptk_words_well.proofs.Waits.{well_arrival_for}
 use Rattle.ptk_console.specs.ConsoleTable.{next_byte, without_next}

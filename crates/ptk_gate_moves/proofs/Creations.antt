@@ -8,10 +8,11 @@ use Rattle.ptk_words.specs.declared.threads.Thread.{Thread}
 use Rattle.ptk_words_model.specs.State.{Part}
 use Rattle.ptk_words_model.specs.Keys.{no_values}
 use Rattle.ptk_words_model.specs.ThreadCreation.{with_new_thread}
-use Rattle.ptk_words_well.specs.Well.{IsWell, is_ready}
-use Rattle.ptk_words_well.proofs.Lined.{not_ready_out}
+use Rattle.ptk_words_locks.specs.Locks.{is_ready}
+use Rattle.ptk_words_well.specs.Well.{IsWell}
+use Rattle.ptk_words_locks.proofs.Lined.{not_ready_out}
 use Rattle.ptk_words_well.proofs.Whole.{lined_of}
-use Rattle.ptk_words_well.proofs.Pools.{get-set_own, update-replicate}
+use Rattle.ptk_words_locks.proofs.Pools.{get-set_own, update-replicate}
 use Rattle.ptk_words_well.proofs.Starts.{IsFree, least_free_is}
 use Rattle.ptk_gate_moves.specs.Moves.{begun}
 

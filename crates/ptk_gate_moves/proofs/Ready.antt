@@ -12,8 +12,9 @@ use Rattle.ptk_words_model.specs.Schedule.{is_running}
 use Rattle.ptk_words_model.specs.Mutex.{owns_raising}
 use Rattle.ptk_words_model.specs.Decision.{runner_at}
 use Rattle.ptk_gate_moves.proofs.Priorities
-use Rattle.ptk_words_well.specs.Well.{IsWell, is_ready}
-use Rattle.ptk_words_well.proofs.Lines.{without_own}
+use Rattle.ptk_words_locks.specs.Locks.{is_ready}
+use Rattle.ptk_words_well.specs.Well.{IsWell}
+use Rattle.ptk_words_locks.proofs.Lines.{without_own}
 use Rattle.ptk_words_well.proofs.Turns.{any_is_in}
 
 ready_some : (o : Option Thread) → is_ready o ≡ true → IsSome o

@@ -28,7 +28,7 @@ pub fn block(pools: &mut Pools, p: PartId, i: Invocation, wait: Wait) -> Reply
 }
 
 /// A blocked thread is ready, at the tail, with these values in a0 and so on (XSH 2.8.4).
-#[tactic(auto, using(ptk_gate_pools::proofs::Parted::parted, ptk_words_well::proofs::Pools::changed_twice))]
+#[tactic(auto, using(ptk_gate_pools::proofs::Parted::parted, ptk_words_locks::proofs::Pools::changed_twice))]
 pub fn wake(pools: &mut Pools, p: PartId, t: ThreadNo, values: &[u32])
     requires partition { p < length pools.old.limits }
     requires few { length values.now < 4 }
@@ -43,7 +43,7 @@ pub fn wake(pools: &mut Pools, p: PartId, t: ThreadNo, values: &[u32])
 
 /// The thread waits for nothing any more, has these values in a0 and so on, and has used no tick; a free number
 /// stays free.
-#[tactic(auto, using(ptk_gate_pools::proofs::Parted::parted, ptk_words_well::proofs::Pools::changed_twice))]
+#[tactic(auto, using(ptk_gate_pools::proofs::Parted::parted, ptk_words_locks::proofs::Pools::changed_twice))]
 fn rouse(pools: &mut Pools, p: PartId, t: ThreadNo, values: &[u32])
     requires partition { p < length pools.old.limits }
     requires few { length values.now < 4 }

@@ -25,7 +25,7 @@ pub fn start_unwinding(pools: &mut Pools, p: PartId, t: ThreadNo, value: u32)
 }
 
 /// The thread unwinds with this result, and its next step is at the return gate.
-#[tactic(auto, using(ptk_gate_pools::proofs::Parted::parted, ptk_gate_pools::proofs::Numbers::changed_none, ptk_gate_pools::proofs::Ranks::put_same, ptk_words_well::proofs::Pools::changed_twice))]
+#[tactic(auto, using(ptk_gate_pools::proofs::Parted::parted, ptk_gate_pools::proofs::Numbers::changed_none, ptk_gate_pools::proofs::Ranks::put_same, ptk_words_locks::proofs::Pools::changed_twice))]
 fn unwind(pools: &mut Pools, p: PartId, t: ThreadNo, value: u32)
     requires partition { p < length pools.old.limits }
     ensures { pools.new ≡ put_part p (with_locks (with_thread t (unwinding value)) (part_at p pools.old)) pools.old }

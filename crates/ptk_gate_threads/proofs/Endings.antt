@@ -10,11 +10,12 @@ use Rattle.ptk_words_model.specs.Priority.{thread_at}
 use Rattle.ptk_words_model.specs.Mutex.{wait_of}
 use Rattle.ptk_words_model.specs.Keys.{DestructorCall}
 use Rattle.ptk_words_model.specs.Unwinding.{after_release, after_last_end, after_end, after_unwinding_move, after_destructor_or_end, cleanups_of}
-use Rattle.ptk_words_well.specs.Well.{IsWell, joiner_of}
+use Rattle.ptk_words_locks.specs.Locks.{joiner_of}
+use Rattle.ptk_words_well.specs.Well.{IsWell}
 use Rattle.ptk_words.specs.Pools.{is_in}
 use Rattle.ptk_words_well.proofs.Ends.{owner_end_same}
 use Rattle.ptk_words_well.proofs.Expiries.{cleanups_none, next_destructor_none}
-use Rattle.ptk_words_well.proofs.Lined.{not_ready_out}
+use Rattle.ptk_words_locks.proofs.Lined.{not_ready_out}
 use Rattle.ptk_words_well.proofs.Whole.{lined_of}
 use Rattle.ptk_words_well.proofs.Waits.{waits_not_ready}
 use Rattle.ptk_gate_pools.specs.Moves.{stopped}

@@ -15,7 +15,7 @@ use Rattle.ptk_words_model.specs.Decision.{runner_at}
 use Rattle.ptk_words_model.specs.Calls.{success}
 use Rattle.ptk_words_model.specs.ThreadCalls.{detach}
 use Rattle.ptk_words_model.specs.Unwinding.{after_join_by, after_release, without_thread}
-use Rattle.ptk_words_well.proofs.Pools.{changed_own, changed_other}
+use Rattle.ptk_words_locks.proofs.Pools.{changed_own, changed_other}
 use Rattle.ptk_gate_pools.specs.Kept.{Kept, part_at, put_part, AreParts}
 use Rattle.ptk_gate_pools.specs.Moves.{with_left}
 use Rattle.ptk_gate_pools.proofs.Parted.{part_at-put, put_part-put}

@@ -66,7 +66,7 @@ pub fn yield_turn(pools: &mut Pools, p: PartId, i: Invocation) -> Reply
 
 /// The thread, which owns no INHERIT or PROTECT mutex, has this policy and priority, and goes to the tail if it runs or
 /// is ready (pthread_setschedparam).
-#[tactic(auto, using(ptk_gate_pools::proofs::Parted::parted, ptk_words_well::proofs::Pools::changed_own))]
+#[tactic(auto, using(ptk_gate_pools::proofs::Parted::parted, ptk_words_locks::proofs::Pools::changed_own))]
 pub(crate) fn reschedule(
     pools: &mut Pools,
     p: PartId,
@@ -86,7 +86,7 @@ pub(crate) fn reschedule(
 }
 
 /// The thread has this policy and assigned priority, and has used no tick.
-#[tactic(auto, using(ptk_gate_pools::proofs::Parted::parted, ptk_words_well::proofs::Pools::changed_twice))]
+#[tactic(auto, using(ptk_gate_pools::proofs::Parted::parted, ptk_words_locks::proofs::Pools::changed_twice))]
 fn give_scheduling(pools: &mut Pools, p: PartId, t: ThreadNo, policy: Policy, priority: Priority)
     requires partition { p < length pools.old.limits }
     ensures { pools.new ≡ put_part p (with_locks (with_thread t (with_scheduling policy priority)) (part_at p pools.old)) pools.old }

@@ -116,7 +116,7 @@ fn asked_priority(pools: &Pools, p: PartId, i: &Invocation) -> Result<NewPriorit
 }
 
 /// The thread, whose priority was the old one, has the new one, and its place follows.
-#[tactic(auto, using(ptk_gate_pools::proofs::Parted::parted, ptk_words_well::proofs::Pools::changed_own))]
+#[tactic(auto, using(ptk_gate_pools::proofs::Parted::parted, ptk_words_locks::proofs::Pools::changed_own))]
 fn change_priority(pools: &mut Pools, p: PartId, t: ThreadNo, old: Priority, new: Priority)
     requires partition { p < length pools.old.limits }
     requires in_use { IsSome (thread_at (part_at p pools.old).locks t) }

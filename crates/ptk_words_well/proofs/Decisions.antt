@@ -25,7 +25,7 @@ use Rattle.ptk_words_model.specs.Console.{arriving, without_arriving}
 use Rattle.ptk_words_model.specs.Decision.{after_arrival_for, first_waiter, after_arrival, after_arrivals, runner_at, runner_in, runner_of, step_kind, step_cost, with_cpu, invocation, after_call, after_effect, after_step, entry_of, after_whole_step, after_turn, ready_at, after_decision}
 use Rattle.ptk_words_model.specs.Run.{is_active}
 use Rattle.ptk_words_well.specs.Well.{IsWell}
-use Rattle.ptk_words_well.proofs.Lined.{ready_alive}
+use Rattle.ptk_words_locks.proofs.Lined.{ready_alive}
 use Rattle.ptk_words_well.proofs.Threads.{well_cpu}
 use Rattle.ptk_words_well.proofs.Parts.{well_memory, well_last, well_halt}
 use Rattle.ptk_words_well.proofs.Turns.{well_choice, well_interval}

@@ -14,7 +14,7 @@ use Rattle.ptk_words_model.specs.Mutex.{wait_of}
 use Rattle.ptk_words_model.specs.Keys.{DestructorCall, value_of, values_of, is_due, due_keys, destructor_call, due_in_round, due_in_next_round, next_destructor}
 use Rattle.ptk_words_model.specs.Withdrawal.{deadline_of_wait, Expiry, expiry_of, in_order, due, after_timeout, after_expiries}
 use Rattle.ptk_words_model.specs.Unwinding.{cleanups_of}
-use Rattle.ptk_words_well.proofs.Pools.{get-replicate, numbered-replicate}
+use Rattle.ptk_words_locks.proofs.Pools.{get-replicate, numbered-replicate}
 
 -- ---- deadlines
 

@@ -1,8 +1,5 @@
-pub mod Pools
-pub mod Lines
-pub mod Lined
-pub mod Waiting
 pub mod Whole
+pub mod Exclusion
 pub mod Threads
 pub mod Priorities
 pub mod Parts
@@ -13,6 +10,8 @@ pub mod Effects
 pub mod Ends
 pub mod Starts
 pub mod Expiries
+pub mod Steps
+pub mod MutexCalls
 pub mod Calls
 pub mod Decisions
 pub mod Runs

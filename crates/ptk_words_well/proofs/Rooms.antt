@@ -14,8 +14,9 @@ use Rattle.ptk_words.specs.declared.threads.Wait.TheVariants.{InputWait}
 use Rattle.ptk_words_model.specs.State.{Part}
 use Rattle.ptk_words_model.specs.Priority.{thread_at}
 use Rattle.ptk_words_model.specs.Mutex.{wait_of}
-use Rattle.ptk_words_well.specs.Well.{IsWell, is_ready}
-use Rattle.ptk_words_well.proofs.Lines.{in_head, distinct_head}
+use Rattle.ptk_words_locks.specs.Locks.{is_ready}
+use Rattle.ptk_words_well.specs.Well.{IsWell}
+use Rattle.ptk_words_locks.proofs.Lines.{in_head, distinct_head}
 
 -- ---- numbers
 

@@ -15,8 +15,9 @@ use Rattle.ptk_words_model.specs.Priority.{thread_at}
 use Rattle.ptk_words_model.specs.Keys.{no_values, with_rounds, with_values, with_first_round}
 use Rattle.ptk_words_model.specs.Unwinding.{phase_of, is_alive, after_unwinding_start}
 use Rattle.ptk_words.specs.Threads.{is_ended}
-use Rattle.ptk_words_well.specs.Well.{IsWell, IsCalm, used_of}
-use Rattle.ptk_words_well.proofs.Pools.{length-update, update_own, update_other, update-replicate}
+use Rattle.ptk_words_locks.specs.Locks.{used_of}
+use Rattle.ptk_words_well.specs.Well.{IsWell, IsCalm}
+use Rattle.ptk_words_locks.proofs.Pools.{length-update, update_own, update_other, update-replicate}
 use Rattle.ptk_words_well.proofs.Threads.{well_changed}
 
 -- the parts of a thread that are in no pool of threads changed
@@ -25,7 +26,6 @@ pub well_kept_aside : (limits : Limits) (cancellations : List Cancellation) (cle
     → IsWell limits s → IsWell limits (record s { cancellations = cancellations; cleanups = cleanups; keys = keys })
 well_kept_aside limits cancellations cleanups keys s size calm none destructors values rounds well = record {
   unused = record {
-    mutexes = well.unused.mutexes;
     conditions = well.unused.conditions;
     untimed = well.unused.untimed;
     cleanups = none;
@@ -35,6 +35,7 @@ well_kept_aside limits cancellations cleanups keys s size calm none destructors 
   };
   memory = well.memory;
   threads = well.threads;
+  mutexes = well.mutexes;
   cancellations = size;
   rounds = rounds;
   line_ready = well.line_ready;
@@ -47,6 +48,7 @@ well_kept_aside limits cancellations cleanups keys s size calm none destructors 
   joiners_wait = well.joiners_wait;
   joins_listed = well.joins_listed;
   ended_wait = well.ended_wait;
+  exclusion = well.exclusion;
   used = well.used;
   halted = well.halted;
   ring = well.ring;

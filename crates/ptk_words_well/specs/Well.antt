@@ -1,9 +1,8 @@
 -- What holds of a partition's state between moves.
-use Rattle.std.specs.Prelude.{◌≡◌, ℕ, ◌<◌, ◌≤◌, Bool, true, false, not, ◌&&◌, [], length, replicate, nat_eq, Option, Some, None, is_none}
+use Rattle.std.specs.Prelude.{◌≡◌, ℕ, ◌<◌, ◌≤◌, true, false, [], length, replicate, nat_eq, Option, Some, None}
 use Rattle.std.specs.List.{IsDistinct}
 use Rattle.ptk_words.specs.Pools.{numbered, is_in}
 use Rattle.ptk_words.specs.declared.sections.Limits.{Limits}
-use Rattle.ptk_words.specs.declared.threads.Thread.{Thread}
 use Rattle.ptk_words.specs.declared.threads.Wait.TheVariants.{InputWait, JoinWait}
 use Rattle.ptk_words_model.specs.declared.Cancellation.{Cancellation}
 use Rattle.ptk_words_model.specs.State.{Part}
@@ -12,23 +11,8 @@ use Rattle.ptk_words_model.specs.Mutex.{wait_of}
 use Rattle.ptk_words_model.specs.Withdrawal.{deadline_of_wait}
 use Rattle.ptk_words_model.specs.Keys.{no_values}
 use Rattle.ptk_words_model.specs.Unwinding.{is_alive}
-use Rattle.ptk_words.specs.Threads.{is_ended}
 use Rattle.ptk_words_model.specs.Run.{is_active}
-
--- the thread is in use, has not ended and waits for nothing: it runs or is ready (XSH 2.8.4)
-abbrev pub is_ready : Option Thread → Bool
-is_ready None = false
-is_ready (Some thread) = is_none thread.wait && not (is_ended thread.phase)
-
--- the thread that waits for this one's end (pthread_join)
-abbrev pub joiner_of : Option Thread → Option ℕ
-joiner_of None = None
-joiner_of (Some thread) = thread.joiner
-
--- the ticks that a thread used of its interval, 0 of a free number (XSH 2.8.4, SCHED_RR)
-abbrev pub used_of : Option Thread → ℕ
-used_of None = 0
-used_of (Some thread) = thread.used
+use Rattle.ptk_words_locks.specs.Locks.{is_ready, joiner_of, used_of, AreMutexes}
 
 -- no request is pending, and no thread is marked (XSH 2.9.5)
 abbrev pub IsCalm : Option Cancellation → Type 0
@@ -37,7 +21,6 @@ IsCalm (Some c) = (c.is_pending ≡ false) × (c.is_marked ≡ false)
 
 -- the parts that no call in use changes are as at the start
 pub record IsUnused (limits : Limits) (s : Part) : Type 0 where
-  pub mutexes : s.mutexes ≡ replicate limits.mutexes None
   pub conditions : s.conditions ≡ replicate limits.conditions None
   pub untimed : (t : ℕ) → deadline_of_wait (wait_of (thread_at s.locks t)) ≡ None
   pub cleanups : s.cleanups ≡ replicate limits.threads []
@@ -50,6 +33,7 @@ pub record IsWell (limits : Limits) (s : Part) : Type 0 where
   pub unused : IsUnused limits s
   pub memory : length s.memory ≡ limits.memory
   pub threads : length s.threads ≡ limits.threads
+  pub mutexes : length s.mutexes ≡ limits.mutexes
   pub cancellations : length s.cancellations ≡ limits.threads
   pub rounds : length s.keys.rounds ≡ limits.threads
   pub line_ready : (t : ℕ) → is_in t s.line ≡ true → is_ready (thread_at s.locks t) ≡ true
@@ -62,6 +46,7 @@ pub record IsWell (limits : Limits) (s : Part) : Type 0 where
   pub joiners_wait : (t u : ℕ) → joiner_of (thread_at s.locks u) ≡ Some t → wait_of (thread_at s.locks t) ≡ Some (JoinWait u)
   pub joins_listed : (t u : ℕ) → wait_of (thread_at s.locks t) ≡ Some (JoinWait u) → joiner_of (thread_at s.locks u) ≡ Some t
   pub ended_wait : (t : ℕ) → is_alive (thread_at s.locks t) ≡ false → wait_of (thread_at s.locks t) ≡ None
+  pub exclusion : AreMutexes s.threads s.mutexes
   pub used : (t : ℕ) → used_of (thread_at s.locks t) < limits.interval
   pub halted : is_active s.status ≡ false → s.running ≡ None
   pub ring : length s.console.ring ≤ limits.ring

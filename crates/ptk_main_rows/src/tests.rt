@@ -8,8 +8,9 @@ ghost use Rattle.std.specs.Prelude.{◌<◌, length};
 mod ends;
 mod greatest;
 
-use crate::{RunFault, rows, run_with, trace_with};
+use crate::rows;
 use ptk_config::{Config, read_config};
+use ptk_main_runs::{RunFault, run_with, trace_with};
 use ptk_system::{Files, System};
 use ptk_words::{PartId, ThreadNo, Tick};
 use std::alloc::{AllocError, Global};

@@ -8,8 +8,9 @@ use super::{
     first_steps, is_added, is_first_output, is_report, is_told, is_traced, parts_of, run_on,
     run_on_to, trace_on, writes_report, writes_trace,
 };
-use crate::{RunFault, rows};
+use crate::rows;
 use ptk_config::Config;
+use ptk_main_runs::RunFault;
 use ptk_system::{BootFault, Files, System};
 use ptk_words::PartId;
 use std::alloc::Global;
