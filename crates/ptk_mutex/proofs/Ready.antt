@@ -191,7 +191,7 @@ map_zero : (f : ℕ → ℕ) (ks : List ℕ) → ((k : ℕ) → f k ≡ 0) → m
 map_zero f [] h = refl
 map_zero f (k ∷ ks) h = rw (h k, map_zero f ks h) refl
 
-effective_blank : (n k : ℕ) → effective_priorities (replicate n None) (replicate k None) ≡ replicate n 0
+pub effective_blank : (n k : ℕ) → effective_priorities (replicate n None) (replicate k None) ≡ replicate n 0
 effective_blank n k =
     map_zero (effective_of (replicate n None) (replicate k None)) (numbers_of (replicate {A = Option Thread} n None)) (λ t. leading_zero (length (replicate {A = Option Thread} n None)) (next_of (replicate n None) (replicate k None)) (held_of (replicate n None) (replicate k None)) t (held_blank n k))
     ∙ ap (λ (j : ℕ). replicate j 0) (length-numbers_to (length (replicate {A = Option Thread} n None)) ∙ length-replicate n None)
