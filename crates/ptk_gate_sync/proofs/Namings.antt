@@ -93,7 +93,7 @@ pub set_up : (limits : Limits) (i : Invocation) (s u : Part) (word m : ℕ) → 
 set_up limits i s u word m well can is zero found e =
     let within : i.a0 + 4 ≤ length s.memory = pointer_within s i.a0 4 can in
     let made : Part = with_stored i.a0 m (with_pool_mutex m (Some (new_mutex Normal NoProtocol false)) s) in
-    let whole : IsWell limits made = well_set_up limits m i.a0 s found within well in
+    let whole : IsWell limits made = well_set_up limits m i.a0 s found can well in
     rw e
     (record {
       call = λ rest. set_up_is i s word rest can is zero ∙ ap (λ o. set_up_mutex o i.a0 i s (λ m u. rest m i u)) found;

@@ -59,7 +59,7 @@ fn asked_mutex(pools: &Pools, p: PartId, i: &Invocation) -> Result<NewMutex, Err
     let Some(protocol) = protocol_of(i.a2, i.a3) else {
         return Err(Errno::EINVAL);
     };
-    let Some(number) = pools.mutexes().first_free(p) else {
+    let Some(number) = pools.first_free_mutex(p) else {
         return Err(Errno::ENOMEM);
     };
     Ok(NewMutex {

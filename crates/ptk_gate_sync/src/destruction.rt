@@ -1,11 +1,10 @@
 //! Call 21: a mutex destroyed.
 
 ghost use Rattle.std.specs.Prelude.{◌≡◌, ◌<◌, ◌≤◌, ◌+◌, ◌||◌, [], None, length, option_map};
-ghost use Rattle.std.specs.List.{list_any};
 ghost use Rattle.ptk_words.specs.declared.TheConstants.{DESTROYED};
 ghost use Rattle.ptk_words.specs.declared.faults.Errno.TheVariants.{EBUSY};
-ghost use Rattle.ptk_words_model.specs.Mutex.{mutex_at, wait_of};
-ghost use Rattle.ptk_words_model.specs.Condition.{mutex_named, is_named, names_mutex};
+ghost use Rattle.ptk_words_model.specs.Mutex.{mutex_at};
+ghost use Rattle.ptk_words_model.specs.Condition.{names_mutex};
 ghost use Rattle.ptk_words_model.specs.Calls.{with_stored, with_pool_mutex};
 ghost use Rattle.ptk_words_model.specs.Steps.{refuse◌when◌, change, succeed};
 ghost use Rattle.ptk_words_model.specs.MutexCalls.{is_locked, mutex_destroy};
@@ -17,8 +16,7 @@ use crate::naming::named_mutex;
 use ptk_gate_moves::{refuse, succeed};
 use ptk_gate_pools::Pools;
 use ptk_mutex::MutexState;
-use ptk_threads::Slot;
-use ptk_words::{DESTROYED, Errno, MutexNo, Owner, PartId, Wait};
+use ptk_words::{DESTROYED, Errno, MutexNo, Owner, PartId};
 use ptk_words_model::{Invocation, Reply};
 
 /// pthread_mutex_destroy: the number of the mutex that the word at the pointer of a0 names is free, and the word is
@@ -61,7 +59,7 @@ fn is_in_use(pools: &Pools, p: PartId, m: MutexNo) -> bool
     ensures { result ≡ (is_locked (mutex_at (part_at p pools.now).locks m) || names_mutex (part_at p pools.now).locks m) }
 {
     let _parts = pools.parts();
-    is_locked(pools.mutexes().state(p, m)) || is_named_by_any(pools.threads().part(p), m)
+    is_locked(pools.mutex(p, m)) || pools.names_mutex(p, m)
 }
 
 /// Whether a mutex of this state is there and locked.
@@ -74,37 +72,5 @@ fn is_locked(state: Option<MutexState>) -> bool
             Owner::Abandoned | Owner::OwnedBy(_) => true,
         },
         None => false,
-    }
-}
-
-/// Whether a thread of the slots waits on a condition variable and is to have the mutex again.
-fn is_named_by_any(slots: &[Slot], m: MutexNo) -> bool
-    ensures { result ≡ list_any (λ thread. is_named m (mutex_named (wait_of thread))) slots.now }
-{
-    slots.iter().any(|slot| is_named_by(slot, m))
-}
-
-/// Whether the slot's thread waits on a condition variable and is to have the mutex again.
-fn is_named_by(slot: &Slot, m: MutexNo) -> bool
-    ensures { result ≡ is_named m (mutex_named (wait_of slot.now)) }
-{
-    match slot.thread() {
-        Some(thread) => is_named_in(thread.wait, m),
-        None => false,
-    }
-}
-
-/// Whether the wait is on a condition variable and names the mutex.
-fn is_named_in(wait: Option<Wait>, m: MutexNo) -> bool
-    ensures { result ≡ is_named m (mutex_named wait) }
-{
-    match wait {
-        Some(Wait::ConditionWait(_, named, _)) => named.number() == m.number(),
-        Some(Wait::InputWait)
-        | Some(Wait::SleepWait(_))
-        | Some(Wait::JoinWait(_))
-        | Some(Wait::MutexWait(_, _))
-        | Some(Wait::RelockWait(_, _))
-        | None => false,
     }
 }

@@ -33,7 +33,7 @@ pub(crate) fn named_mutex(pools: &mut Pools, p: PartId, i: &Invocation) -> Resul
     if word != 0 {
         return known_mutex(pools.mutexes().part(p), word);
     }
-    let Some(number) = pools.mutexes().first_free(p) else {
+    let Some(number) = pools.first_free_mutex(p) else {
         return Err(Errno::ENOMEM);
     };
     let new = NewMutex {

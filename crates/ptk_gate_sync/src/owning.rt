@@ -42,11 +42,12 @@ fn unlock_named(pools: &mut Pools, p: PartId, i: Invocation, m: MutexNo) -> Repl
     ensures moved { pools.new ≡ put_part p ((refuse EPERM unless owns i.caller (mutex_at (part_at p pools.old).locks m)) (change_locks (after_unlock m) succeed) i (part_at p pools.old)).part pools.old }
 {
     let _parts = pools.parts();
-    if !pools.mutexes().owns(p, i.caller, m) {
-        return refuse(pools, p, i, Errno::EPERM);
+    if pools.owns(p, i.caller, m) {
+        pools.unlock(p, m);
+        succeed(pools, p, i)
+    } else {
+        refuse(pools, p, i, Errno::EPERM)
     }
-    pools.unlock(p, m);
-    succeed(pools, p, i)
 }
 
 /// pthread_mutex_consistent: what the caller's robust mutex guards, which the word at the pointer of a0 names, is sound
@@ -77,7 +78,7 @@ fn repair_named(pools: &mut Pools, p: PartId, i: Invocation, m: MutexNo) -> Repl
     if !is_repairable(pools, p, m) {
         return refuse(pools, p, i, Errno::EINVAL);
     }
-    if !pools.mutexes().owns(p, i.caller, m) {
+    if !pools.owns(p, i.caller, m) {
         return refuse(pools, p, i, Errno::EPERM);
     }
     pools.make_consistent(p, m);
@@ -91,7 +92,7 @@ fn is_repairable(pools: &Pools, p: PartId, m: MutexNo) -> bool
     ensures { result ≡ is_repairable (mutex_at (part_at p pools.now).locks m) }
 {
     let _parts = pools.parts();
-    is_state_repairable(pools.mutexes().state(p, m))
+    is_state_repairable(pools.mutex(p, m))
 }
 
 /// Whether a mutex of this state is there, robust and inconsistent.
