@@ -2,3 +2,11 @@ pub mod Pools
 pub mod Lines
 pub mod Lined
 pub mod Waiting
+pub mod Threads
+pub mod Exclusion
+pub mod Whole
+pub mod Handovers
+pub mod Sizes
+pub mod Ends
+pub mod Unlocks
+pub mod Moves

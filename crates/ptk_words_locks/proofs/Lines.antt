@@ -1,9 +1,9 @@
 -- Lists of numbers, none twice: who is in, and the choice of the first of greatest rank.
-use Rattle.std.proofs.Common.{◌≡◌, ℕ, Bool, true, false, not, cond, List, [], ◌∷◌, ◌++◌, refl, sym, ◌∙◌, ap, ◌⊎◌, inl, inr}
-use Rattle.std.specs.Prelude.{◌≢◌, Some, find, filter, nat_eq, ◌==◌}
+use Rattle.std.proofs.Common.{◌≡◌, ℕ, ◌<◌, ◌≤◌, max, Bool, true, false, not, cond, List, [], ◌∷◌, ◌++◌, length, fold, refl, sym, ◌∙◌, ap, arith, ◌⊎◌, inl, inr}
+use Rattle.std.specs.Prelude.{◌≢◌, Option, Some, None, find, filter, nat_eq, ◌==◌}
 use Rattle.std.specs.List.{list_any, IsDistinct, AllByRecursion}
 use Rattle.std.specs.Cmp.{nat_eq_equiv}
-use Rattle.std.proofs.lemmas.Bool.{cases_eq, eqb-true, eq-eqb, ne_eqb, or_cases, or_from, or_left, or_right, or_parts, false≢true}
+use Rattle.std.proofs.lemmas.Bool.{cases_eq, cases_lt, eqb-true, eq-eqb, ne_eqb, or_cases, or_from, or_left, or_right, or_parts, false≢true}
 use Rattle.std.proofs.lemmas.List.Folds.{list_any-append}
 use Rattle.std.proofs.lemmas.Map.Keys.{IsDistinct-head, IsDistinct-tail, IsDistinct-cons, IsDistinct-push}
 use Rattle.std.proofs.lemmas.Map.Views.{any-filter_same}
@@ -55,6 +55,29 @@ pub in_without : (t u : ℕ) (ts : List ℕ) → is_in u (without t ts) ≡ true
 in_without t u ts e = elim (cases_eq u t) [
   | inl same ↦ absurd (false≢true (sym (without_own t ts) ∙ ap (λ v. is_in v (without t ts)) (sym same) ∙ e))
   | inr ne ↦ (ne, sym (without_other t u ts ne) ∙ e)
+]
+
+within_at : (x : ℕ) (ts rest : List ℕ) (b : Bool) → length rest ≤ length ts → length (cond b (x ∷ rest) rest) ≤ length (x ∷ ts)
+within_at x ts rest true le = omega (arith, le)
+within_at x ts rest false le = omega (arith, le)
+
+without_within : (t : ℕ) (ts : List ℕ) → length (without t ts) ≤ length ts
+without_within t [] = omega arith
+without_within t (x ∷ ts) = within_at x ts (without t ts) (not (x == t)) (without_within t ts)
+
+-- without one that was in it the list is shorter
+pub without_shorter : (t : ℕ) (ts : List ℕ) → is_in t ts ≡ true → length (without t ts) < length ts
+without_shorter t [] here = absurd (false≢true here)
+without_shorter t (x ∷ ts) here = elim (cases_eq x t) [
+  | inl same ↦
+      (let gone : without t (x ∷ ts) ≡ without t ts = ap (λ b. cond b (x ∷ without t ts) (without t ts)) (ap not (eq-eqb x t same)) in
+      let le : length (without t ts) ≤ length ts = without_within t ts in
+      rw gone (omega (arith, le)))
+  | inr ne ↦
+      (let kept : without t (x ∷ ts) ≡ x ∷ without t ts = ap (λ b. cond b (x ∷ without t ts) (without t ts)) (ap not (ne_eqb x t ne)) in
+      let rest : is_in t ts ≡ true = elim (in_head x t ts here) [ inl same ↦ absurd (ne (sym same)) | inr rest ↦ rest ] in
+      let lt : length (without t ts) < length ts = without_shorter t ts rest in
+      rw kept (omega (arith, lt)))
 ]
 
 -- ---- none twice
@@ -113,5 +136,43 @@ found_in p t (x ∷ ts) e = found_at p x t ts (p x) e (found_in p t ts)
 -- so is the one chosen
 pub first_in : (rank : ℕ → ℕ) (t : ℕ) (ts : List ℕ) → first_of_greatest rank ts ≡ Some t → is_in t ts ≡ true
 first_in rank t ts e = found_in (λ k. rank k == greatest rank ts) t ts e
+
+none_at : (b : Bool) (k : ℕ) (rest : Option ℕ) → cond b (Some k) rest ≡ None → (b ≡ false) × (rest ≡ None)
+none_at true k rest e = absurd (let no : ⊥ = cc in no)
+none_at false k rest e = (refl, e)
+
+find_none : (p : ℕ → Bool) (j : ℕ) (ks : List ℕ) → find p ks ≡ None → is_in j ks ≡ true → p j ≡ false
+find_none p j [] e here = absurd (false≢true here)
+find_none p j (k ∷ ks) e here =
+    let parts = none_at (p k) k (find p ks) e in
+    elim (in_head k j ks here) [
+      | inl same ↦ ap p same ∙ parts.0
+      | inr rest ↦ find_none p j ks parts.1 rest
+    ]
+
+-- the greatest rank is one of the list's, or what it began with
+reached : (rank : ℕ → ℕ) (a : ℕ) (ks : List ℕ) → (fold (λ most k. max most (rank k)) a ks ≡ a) ⊎ ((j : ℕ) × (is_in j ks ≡ true) × (rank j ≡ fold (λ most k. max most (rank k)) a ks))
+reached rank a [] = inl refl
+reached rank a (k ∷ ks) = elim (reached rank (max a (rank k)) ks) [
+  | inl same ↦ elim (cases_lt a (rank k)) [
+    | inl lt ↦ inr (k, own_head k ks, omega (arith, same, lt))
+    | inr le ↦ inl (omega (arith, same, le))
+  ]
+  | inr (j, here, e) ↦ inr (j, or_right (nat_eq j k) (is_in j ks) here, e)
+]
+
+greatest_reached : (rank : ℕ → ℕ) (k : ℕ) (ks : List ℕ) → (j : ℕ) × (is_in j (k ∷ ks) ≡ true) × (rank j ≡ greatest rank (k ∷ ks))
+greatest_reached rank k ks = elim (reached rank (max 0 (rank k)) ks) [
+  | inl same ↦ (k, own_head k ks, omega (arith, same))
+  | inr (j, here, e) ↦ (j, or_right (nat_eq j k) (is_in j ks) here, e)
+]
+
+-- of a list that has one, one is chosen
+pub first_none : (rank : ℕ → ℕ) (ts : List ℕ) → first_of_greatest rank ts ≡ None → ts ≡ []
+first_none rank [] e = refl
+first_none rank (k ∷ ks) e =
+    let most = greatest_reached rank k ks in
+    let out : (rank most.0 == greatest rank (k ∷ ks)) ≡ false = find_none (λ j. rank j == greatest rank (k ∷ ks)) most.0 (k ∷ ks) e most.1 in
+    absurd (false≢true (sym out ∙ eq-eqb (rank most.0) (greatest rank (k ∷ ks)) most.2))
 
 pub ruleset lines = (in_head, in_push, out_head, out_push, own_head, own_push, still_push, without_other, without_own, in_without, distinct_head, distinct_push, distinct-filter, distinct_without, found_in, first_in)

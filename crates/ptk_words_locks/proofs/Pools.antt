@@ -1,7 +1,8 @@
 -- Pools: what a number has after a change of it or of another.
-use Rattle.std.proofs.Common.{◌≡◌, ℕ, zero, suc, ◌<◌, ◌≤◌, List, [], ◌∷◌, length, replicate, refl, ◌∙◌, ap, arith}
+use Rattle.std.proofs.Common.{◌≡◌, ℕ, zero, suc, ◌<◌, ◌≤◌, List, [], ◌∷◌, length, replicate, refl, sym, ◌∙◌, ap, subst, arith, ◌⊎◌, inl, inr}
 use Rattle.std.specs.Prelude.{◌≢◌, Option, Some, None, option_map, unwrap_or, slice_get, slice_set}
 use Rattle.std.specs.Option.{option_flatten}
+use Rattle.std.proofs.lemmas.Bool.{cases_eq}
 use Rattle.std.proofs.lemmas.List.{length-set}
 use Rattle.std.proofs.lemmas.Option.{slice_get_within}
 use Rattle.ptk_words.specs.Pools.{numbered, pool_get, pool_set, pool_changed, pool_update}
@@ -51,6 +52,39 @@ pub free_own : {A : Type 0} (k : ℕ) (pool : List (Option A)) → pool_get (poo
 free_own zero pool = refl
 free_own (suc i) pool = free_own_at i pool
 
+set_either_at : {A : Type 0} (i : ℕ) (o : Option A) (pool : List (Option A)) → (option_flatten (slice_get (slice_set pool i o) i) ≡ o) ⊎ (option_flatten (slice_get (slice_set pool i o) i) ≡ option_flatten (slice_get pool i))
+set_either_at i o [] = inr refl
+set_either_at zero o (x ∷ pool) = inl refl
+set_either_at (suc i) o (x ∷ pool) = set_either_at i o pool
+
+-- a number whose entry is set has it, or is none of the pool
+pub set_either : {A : Type 0} (k : ℕ) (o : Option A) (pool : List (Option A)) → (pool_get (pool_set pool k o) k ≡ o) ⊎ (pool_get (pool_set pool k o) k ≡ pool_get pool k)
+set_either zero o pool = inr refl
+set_either (suc i) o pool = set_either_at i o pool
+
+set_own_has : {A : Type 0} (P : ℕ → Option A → Type 0) (k : ℕ) (o : Option A) (pool : List (Option A)) → P k o → P k (pool_get pool k) → P k (pool_get (pool_set pool k o) k)
+set_own_has P k o pool own was = elim (set_either k o pool) [
+  | inl new ↦ subst (P k) (sym new) own
+  | inr same ↦ subst (P k) (sym same) was
+]
+
+-- what holds of each number's entry, and of the one set, holds of each after it
+pub each_set : {A : Type 0} (P : ℕ → Option A → Type 0) (k : ℕ) (o : Option A) (pool : List (Option A)) → P k o → ((j : ℕ) → P j (pool_get pool j)) → (j : ℕ) → P j (pool_get (pool_set pool k o) j)
+each_set P k o pool own each j = elim (cases_eq j k) [
+  | inl same ↦ subst (λ (i : ℕ). P i (pool_get (pool_set pool k o) i)) (sym same) (set_own_has P k o pool own (each k))
+  | inr ne ↦ subst (P j) (sym (get-set_other k j o pool ne)) (each j)
+]
+
+beyond_at : {A : Type 0} (i : ℕ) (pool : List (Option A)) → length pool ≤ i → option_flatten (slice_get pool i) ≡ None
+beyond_at i [] le = refl
+beyond_at zero (x ∷ pool) le = absurd (omega (arith, le))
+beyond_at (suc i) (x ∷ pool) le = beyond_at i pool (omega (arith, le))
+
+-- a number above the pool's length has no entry
+pub get_beyond : {A : Type 0} (k : ℕ) (pool : List (Option A)) → length pool < k → pool_get pool k ≡ None
+get_beyond zero pool lt = refl
+get_beyond (suc i) pool lt = beyond_at i pool (omega (arith, lt))
+
 -- ---- one entry of a pool changed
 
 changed_own_at : {A : Type 0} (i : ℕ) (f : A → A) (pool : List (Option A)) → pool_get (pool_changed (suc i) f pool) (suc i) ≡ option_map f (pool_get pool (suc i))
@@ -64,6 +98,13 @@ changed_own (suc i) f pool = changed_own_at i f pool
 
 pub changed_other : {A : Type 0} (k j : ℕ) (f : A → A) (pool : List (Option A)) → j ≢ k → pool_get (pool_changed k f pool) j ≡ pool_get pool j
 changed_other k j f pool ne = get-set_other k j (option_map f (pool_get pool k)) pool ne
+
+-- what holds of each other number's entry, and of the one changed, holds of each after it
+pub each_changed : {A : Type 0} (P : ℕ → Option A → Type 0) (k : ℕ) (f : A → A) (pool : List (Option A)) → P k (option_map f (pool_get pool k)) → ((j : ℕ) → j ≢ k → P j (pool_get pool j)) → (j : ℕ) → P j (pool_get (pool_changed k f pool) j)
+each_changed P k f pool own others j = elim (cases_eq j k) [
+  | inl same ↦ subst (λ (i : ℕ). P i (pool_get (pool_changed k f pool) i)) (sym same) (subst (P k) (sym (changed_own k f pool)) own)
+  | inr ne ↦ subst (P j) (sym (changed_other k j f pool ne)) (others j ne)
+]
 
 pub length-changed : {A : Type 0} (k : ℕ) (f : A → A) (pool : List (Option A)) → length (pool_changed k f pool) ≡ length pool
 length-changed k f pool = length-pool_set pool k (option_map f (pool_get pool k))

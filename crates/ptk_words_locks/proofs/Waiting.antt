@@ -7,6 +7,7 @@ use Rattle.ptk_words.specs.Pools.{pool_get, without, is_in}
 use Rattle.ptk_words.specs.declared.threads.Thread.{Thread}
 use Rattle.ptk_words.specs.declared.threads.Wait.{Wait}
 use Rattle.ptk_words.specs.declared.threads.Wait.TheVariants.{InputWait, JoinWait}
+use Rattle.ptk_words_model.specs.Priority.{mutex_of_wait}
 use Rattle.ptk_words_model.specs.Mutex.{wait_of}
 use Rattle.ptk_words_model.specs.Withdrawal.{deadline_of_wait}
 use Rattle.ptk_words_model.specs.Unwinding.{is_alive}
@@ -170,4 +171,41 @@ waiting_joined t u threads after waiters change joined free single are =
           change.joiner w other ∙ was;
       ended_wait = change.ended;
       untimed = still_untimed t threads after change.wait (ap deadline_of_wait free) are.untimed;
+    }
+
+-- ---- waits for what neither the console nor a thread lists
+
+-- no wait, or one that is neither for input nor for a thread's end and has no deadline (own)
+pub record IsUnlisted (wait : Option Wait) : Type 0 where
+  pub no_input : wait ≢ Some InputWait
+  pub no_join : (u : ℕ) → wait ≢ Some (JoinWait u)
+  pub untimed : deadline_of_wait wait ≡ None
+
+pub unlisted_none : IsUnlisted None
+unlisted_none = record { no_input = λ e. let no : ⊥ = cc in no; no_join = λ u e. let no : ⊥ = cc in no; untimed = refl }
+
+-- a wait for a mutex
+pub unlisted_mutex : (m : ℕ) (wait : Option Wait) → mutex_of_wait wait ≡ Some m → deadline_of_wait wait ≡ None → IsUnlisted wait
+unlisted_mutex m wait e untimed = record {
+  no_input = λ same. let none : mutex_of_wait wait ≡ None = ap mutex_of_wait same in let no : ⊥ = cc in no;
+  no_join = λ u same. let none : mutex_of_wait wait ≡ None = ap mutex_of_wait same in let no : ⊥ = cc in no;
+  untimed = untimed;
+}
+
+-- a thread begins or ends such a wait
+pub waiting_unlisted : (t : ℕ) (threads after : List (Option Thread)) (waiters : List ℕ) → IsWaitChange t threads after → IsUnlisted (wait_of (pool_get threads t)) → IsUnlisted (wait_of (pool_get after t))
+    → AreWaiting threads waiters → AreWaiting after waiters
+waiting_unlisted t threads after waiters change was now are =
+    let apart : (u : ℕ) (wait : Wait) → wait_of (pool_get threads u) ≡ Some wait → wait_of (pool_get threads t) ≢ Some wait → u ≢ t = λ u wait e other same. other (ap (λ v. wait_of (pool_get threads v)) (sym same) ∙ e) in
+    let aside : (u : ℕ) (wait : Wait) → wait_of (pool_get after u) ≡ Some wait → wait_of (pool_get after t) ≢ Some wait → u ≢ t = λ u wait e other same. other (ap (λ v. wait_of (pool_get after v)) (sym same) ∙ e) in
+    record {
+      waiters_wait = λ u e. let old : wait_of (pool_get threads u) ≡ Some InputWait = are.waiters_wait u e in change.wait u (apart u InputWait old was.no_input) ∙ old;
+      waiters_distinct = are.waiters_distinct;
+      waits_listed = λ u e. are.waits_listed u (sym (change.wait u (aside u InputWait e now.no_input)) ∙ e);
+      joiners_wait = λ v u e.
+          let old : wait_of (pool_get threads v) ≡ Some (JoinWait u) = are.joiners_wait v u (sym (change.joiner u) ∙ e) in
+          change.wait v (apart v (JoinWait u) old (was.no_join u)) ∙ old;
+      joins_listed = λ v u e. change.joiner u ∙ are.joins_listed v u (sym (change.wait v (aside v (JoinWait u) e (now.no_join u))) ∙ e);
+      ended_wait = change.ended;
+      untimed = still_untimed t threads after change.wait now.untimed are.untimed;
     }

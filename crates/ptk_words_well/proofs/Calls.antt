@@ -1,13 +1,10 @@
 -- Each call in use leaves the state whole.
 use Rattle.std.proofs.Common.{◌≡◌, ℕ, ◌%◌, Bool, true, false, not, List, [], ◌∷◌, refl, sym, ◌∙◌, ap}
-use Rattle.std.specs.Prelude.{Option, Some, None, unwrap_or, is_some, nat_lt, ◌==◌, if◌then◌else◌, Result, Ok, Err}
+use Rattle.std.specs.Prelude.{Option, Some, None, unwrap_or, is_some, nat_lt, ◌==◌, if◌then◌else◌}
 use Rattle.std.proofs.lemmas.Bool.{false≢true, or_parts}
 use Rattle.ptk_words.specs.Pools.{least_free}
 use Rattle.ptk_words.specs.Processor.{Processor}
-use Rattle.ptk_words.specs.Faults.{errno_number}
-use Rattle.ptk_words.specs.declared.TheConstants.{CANCELED}
-use Rattle.ptk_words.specs.declared.faults.Errno.{Errno}
-use Rattle.ptk_words.specs.declared.faults.Errno.TheVariants.{ESRCH, EAGAIN, EINVAL, EDEADLK, ENOSYS, ENOTSUP}
+use Rattle.ptk_words.specs.declared.faults.Errno.TheVariants.{ESRCH, EAGAIN, EINVAL, EDEADLK, ENOTSUP}
 use Rattle.ptk_words.specs.declared.faults.Status.TheVariants.{Exited}
 use Rattle.ptk_words.specs.declared.sections.Limits.{Limits}
 use Rattle.ptk_words.specs.declared.threads.Thread.{Thread}
@@ -22,11 +19,10 @@ use Rattle.ptk_words_model.specs.declared.Invocation.{Invocation}
 use Rattle.ptk_words_model.specs.declared.Creation.{Creation}
 use Rattle.ptk_words_model.specs.declared.Scheduling.{Scheduling}
 use Rattle.ptk_words_model.specs.declared.Scheduling.TheVariants.{Inherited, Explicit}
-use Rattle.ptk_words_model.specs.Calls.{Answer, refusal, success, blocked_in, no_call, is_cancelled, cancellation_answer, using_thread}
+use Rattle.ptk_words_model.specs.Calls.{Answer, refusal, success, blocked_in, is_cancelled, cancellation_answer, using_thread}
 use Rattle.ptk_words_model.specs.ConsoleCalls.{exit_call, console_put, take_input, console_get}
 use Rattle.ptk_words_model.specs.ThreadCalls.{create, pthread_exit, join, detach, self, after_placing, yield, after_placing_at_tail, setschedparam, getschedparam, after_priority_change, setschedprio}
 use Rattle.ptk_words_model.specs.ThreadCreation.{policy_of, policy_number, is_priority, start_cpu, default_stack_top, creation_at, scheduled_thread, with_new_thread, created_thread}
-use Rattle.ptk_words_model.specs.Steps.{Row, valid, refuse◌when◌, refuse◌unless◌, ◌or_refuse◌}
 use Rattle.ptk_words_model.specs.CallTable.{answer_of, answer_to}
 use Rattle.ptk_words.specs.declared.calls.Call.{Call}
 use Rattle.ptk_words.specs.declared.calls.Call.TheVariants as call
@@ -34,7 +30,8 @@ use Rattle.ptk_words.specs.Calls.{call_of}
 use Rattle.ptk_words_locks.specs.Locks.{joiner_of}
 use Rattle.ptk_words_well.specs.Well.{IsWell}
 use Rattle.ptk_words_locks.proofs.Lined.{ready_alive}
-use Rattle.ptk_words_well.proofs.Threads.{well_replied, well_policy, well_priority, well_detached}
+use Rattle.ptk_words_well.proofs.Steps.{well_refusal, well_success, either_well, well_unless, well_given, well_valid, well_using, well_cancellation_answer, Keeps, well_no_call}
+use Rattle.ptk_words_well.proofs.Threads.{well_policy, well_priority, well_detached}
 use Rattle.ptk_words_well.proofs.Parts.{well_output, well_taken, well_halt}
 use Rattle.ptk_words_well.proofs.Turns.{well_placing_tail, well_placing_head, well_placing_at_tail}
 use Rattle.ptk_words_well.proofs.Waits.{well_input_wait, well_join_wait}
@@ -42,49 +39,7 @@ use Rattle.ptk_words_well.proofs.Unwindings.{well_unwinding_start}
 use Rattle.ptk_words_well.proofs.Ends.{well_freed}
 use Rattle.ptk_words_well.proofs.Starts.{IsNew, well_least_free}
 
--- ---- answers
-
-pub well_refusal : (limits : Limits) (e : Errno) (i : Invocation) (s : Part) → IsWell limits s → IsWell limits (refusal e i s).part
-well_refusal limits e i s well = well_replied limits i.caller (errno_number e ∷ []) s well
-
-pub well_success : (limits : Limits) (values : List ℕ) (i : Invocation) (s : Part) → IsWell limits s → IsWell limits (success values i s).part
-well_success limits values i s well = well_replied limits i.caller (0 ∷ values) s well
-
-either_well : (limits : Limits) (b : Bool) (x y : Answer) → (b ≡ true → IsWell limits x.part) → (b ≡ false → IsWell limits y.part) → IsWell limits (if b then x else y).part
-either_well limits true x y h k = h refl
-either_well limits false x y h k = k refl
-
--- ---- steps
-
--- a check passed, or the error; the rest is named by its answer, so that `_` can stand for it
-well_when : (limits : Limits) (e : Errno) (b : Bool) (rest : Answer) (i : Invocation) (s : Part) → IsWell limits s → (b ≡ false → IsWell limits rest.part) → IsWell limits ((refuse e when b) (λ _ _. rest) i s).part
-well_when limits e true rest i s well k = well_refusal limits e i s well
-well_when limits e false rest i s well k = k refl
-
-well_unless : (limits : Limits) (e : Errno) (b : Bool) (rest : Answer) (i : Invocation) (s : Part) → IsWell limits s → (b ≡ true → IsWell limits rest.part) → IsWell limits ((refuse e unless b) (λ _ _. rest) i s).part
-well_unless limits e true rest i s well k = k refl
-well_unless limits e false rest i s well k = well_refusal limits e i s well
-
--- a value that is there, or the error
-well_given : {A : Type 0} (limits : Limits) (o : Option A) (e : Errno) (rest : A → Answer) (i : Invocation) (s : Part) → IsWell limits s → ((a : A) → o ≡ Some a → IsWell limits (rest a).part) → IsWell limits ((o or_refuse e) (λ a _ _. rest a) i s).part
-well_given limits None e rest i s well each = well_refusal limits e i s well
-well_given limits (Some a) e rest i s well each = each a refl
-
--- a value that is valid, or its error
-well_valid : {A : Type 0} (limits : Limits) (o : Result A Errno) (rest : A → Row) (i : Invocation) (s : Part) → IsWell limits s → ((a : A) → o ≡ Ok a → IsWell limits (rest a i s).part) → IsWell limits (valid o rest i s).part
-well_valid limits (Ok a) rest i s well each = each a refl
-well_valid limits (Err e) rest i s well each = well_refusal limits e i s well
-
-well_using : (limits : Limits) (t : ℕ) (i : Invocation) (s : Part) (next : Thread → Answer) → IsWell limits s → ((target : Thread) → thread_at s.locks t ≡ Some target → IsWell limits (next target).part) → IsWell limits (using_thread t i s next).part
-well_using limits t i s next well each = well_given limits (thread_at s.locks t) ESRCH next i s well each
-
-pub well_cancellation_answer : (limits : Limits) (i : Invocation) (s : Part) → s.running ≡ Some i.caller → IsWell limits s → IsWell limits (cancellation_answer i s).part
-well_cancellation_answer limits i s runs well = well_unwinding_start limits i.caller CANCELED s (ready_alive (thread_at s.locks i.caller) (well.running_ready i.caller runs)) well
-
 -- ---- calls 0 to 2
-
-pub well_no_call : (i : Invocation) (s : Part) → s.running ≡ Some i.caller → IsWell i.limits s → IsWell i.limits (no_call i s).part
-well_no_call i s runs well = well_refusal i.limits ENOSYS i s well
 
 pub well_exit_call : (i : Invocation) (s : Part) → s.running ≡ Some i.caller → IsWell i.limits s → IsWell i.limits (exit_call i s).part
 well_exit_call i s runs well = well_halt i.limits (Exited (i.a0 % 256)) s well
@@ -208,10 +163,6 @@ well_setschedprio i s runs well =
     (changed_at i.limits i.a0 set (nat_lt target.priority i.a1) (nat_lt i.a1 target.priority) (well_priority i.limits i.a0 i.a1 s well))))
 
 -- ---- the table
-
--- the row leaves the state whole (own)
-abbrev Keeps : Row → Type 0
-Keeps row = (i : Invocation) (s : Part) → s.running ≡ Some i.caller → IsWell i.limits s → IsWell i.limits (row i s).part
 
 -- each call
 pub well_answer : (known : Call) → Keeps (answer_of known)

@@ -1,4 +1,5 @@
 pub mod Whole
+pub mod Exclusion
 pub mod Threads
 pub mod Priorities
 pub mod Parts
@@ -9,6 +10,8 @@ pub mod Effects
 pub mod Ends
 pub mod Starts
 pub mod Expiries
+pub mod Steps
+pub mod MutexCalls
 pub mod Calls
 pub mod Decisions
 pub mod Runs

@@ -15,7 +15,6 @@ same_places : (limits : Limits) (s : Part) (memory : List ℕ) (console : Consol
     → IsWell limits s → IsWell limits (record s { memory = memory; console = console; last = last })
 same_places limits s memory console last size waiters ring output well = record {
   unused = record {
-    mutexes = well.unused.mutexes;
     conditions = well.unused.conditions;
     untimed = well.unused.untimed;
     cleanups = well.unused.cleanups;
@@ -25,6 +24,7 @@ same_places limits s memory console last size waiters ring output well = record 
   };
   memory = size;
   threads = well.threads;
+  mutexes = well.mutexes;
   cancellations = well.cancellations;
   rounds = well.rounds;
   line_ready = well.line_ready;
@@ -37,6 +37,7 @@ same_places limits s memory console last size waiters ring output well = record 
   joiners_wait = well.joiners_wait;
   joins_listed = well.joins_listed;
   ended_wait = well.ended_wait;
+  exclusion = well.exclusion;
   used = well.used;
   halted = well.halted;
   ring = ring;
@@ -78,7 +79,6 @@ well_arriving limits tick s well = well_console limits (without_arriving tick s.
 pub well_halt : (limits : Limits) (status : Status) (s : Part) → IsWell limits s → IsWell limits (with_halt status s)
 well_halt limits status s well = record {
   unused = record {
-    mutexes = well.unused.mutexes;
     conditions = well.unused.conditions;
     untimed = well.unused.untimed;
     cleanups = well.unused.cleanups;
@@ -88,6 +88,7 @@ well_halt limits status s well = record {
   };
   memory = well.memory;
   threads = well.threads;
+  mutexes = well.mutexes;
   cancellations = well.cancellations;
   rounds = well.rounds;
   line_ready = well.line_ready;
@@ -100,6 +101,7 @@ well_halt limits status s well = record {
   joiners_wait = well.joiners_wait;
   joins_listed = well.joins_listed;
   ended_wait = well.ended_wait;
+  exclusion = well.exclusion;
   used = well.used;
   halted = λ e. refl;
   ring = well.ring;

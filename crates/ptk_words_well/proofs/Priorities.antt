@@ -4,12 +4,9 @@ use Rattle.std.specs.Prelude.{◌≢◌, Option, Some, None, option_map, option_
 use Rattle.std.proofs.lemmas.Bool.{cases_eq, cases_lt, eq-eqb, ne_eqb}
 use Rattle.std.proofs.lemmas.Option.{slice_get_past}
 use Rattle.ptk_words.specs.Pools.{pool_get, numbers_to, numbers_of, greatest}
-use Rattle.ptk_words.specs.declared.sections.Limits.{Limits}
 use Rattle.ptk_words.specs.declared.threads.Thread.{Thread}
-use Rattle.ptk_words_model.specs.State.{Part}
 use Rattle.ptk_words_model.specs.Chain.{leads_to, greatest_leading}
-use Rattle.ptk_words_model.specs.Priority.{assigned_of, assigned_priority, ceiling_for, held_of, awaited, inheritor_of, next_of, effective_of, effective_priority, effective_priorities}
-use Rattle.ptk_words_well.specs.Well.{IsWell}
+use Rattle.ptk_words_model.specs.Priority.{assigned_of, ceiling_for, held_of, awaited, inheritor_of, next_of, effective_of, effective_priorities}
 use Rattle.ptk_words_locks.proofs.Pools.{get-replicate}
 
 next_at : (n : ℕ) (o : Option ℕ) → option_and_then (λ m. inheritor_of (pool_get (replicate n None) m)) o ≡ None
@@ -95,12 +92,5 @@ effective_free threads n t = effective_at threads n t (at_most t (length threads
 
 pub priorities_free : (threads : List (Option Thread)) (n : ℕ) → effective_priorities threads (replicate n None) ≡ map (assigned_of threads) (numbers_of threads)
 priorities_free threads n = ap (λ (f : ℕ → ℕ). map f (numbers_of threads)) (λ i t. effective_free threads n t i)
-
--- the same of a whole state
-pub well_effective : (limits : Limits) (s : Part) (t : ℕ) → IsWell limits s → effective_priority s.locks t ≡ assigned_priority s.locks t
-well_effective limits s t well = ap (λ mutexes. effective_of s.threads mutexes t) well.unused.mutexes ∙ effective_free s.threads limits.mutexes t
-
-pub well_priorities : (limits : Limits) (s : Part) → IsWell limits s → effective_priorities s.threads s.mutexes ≡ map (assigned_of s.threads) (numbers_of s.threads)
-well_priorities limits s well = ap (λ mutexes. effective_priorities s.threads mutexes) well.unused.mutexes ∙ priorities_free s.threads limits.mutexes
 
 pub ruleset priorities = (effective_free, priorities_free)

@@ -1,5 +1,5 @@
 -- New threads, and the state that a partition starts with.
-use Rattle.std.proofs.Common.{◌≡◌, ℕ, suc, ◌+◌, ◌-◌, ◌*◌, ◌<◌, ◌≤◌, Bool, true, false, List, [], ◌∷◌, ◌++◌, length, replicate, refl, sym, ◌∙◌, ap, arith, inl, inr, length-append}
+use Rattle.std.proofs.Common.{◌≡◌, ℕ, suc, ◌+◌, ◌-◌, ◌*◌, ◌<◌, ◌≤◌, Bool, true, false, List, [], ◌∷◌, ◌++◌, length, replicate, refl, sym, ◌∙◌, ap, subst, arith, inl, inr, length-append}
 use Rattle.std.specs.List.{position_or_len, IsDistinct}
 use Rattle.std.specs.Option.{option_flatten}
 use Rattle.std.proofs.lemmas.List.{length-replicate}
@@ -14,21 +14,22 @@ use Rattle.ptk_words.specs.declared.faults.ImageFault.TheVariants.{Unfit}
 use Rattle.ptk_words.specs.declared.faults.Status.TheVariants.{Refused}
 use Rattle.ptk_words.specs.declared.threads.Thread.{Thread}
 use Rattle.ptk_words_model.specs.declared.Cancellation.{Cancellation}
-use Rattle.ptk_words_model.specs.State.{Part, with_locks, with_cancellation, with_cleanups, with_keys}
-use Rattle.ptk_words_model.specs.Priority.{thread_at}
-use Rattle.ptk_words_model.specs.Mutex.{wait_of}
+use Rattle.ptk_words_model.specs.State.{Mutex, Part, with_locks, with_cancellation, with_cleanups, with_keys}
+use Rattle.ptk_words_model.specs.Priority.{thread_at, mutex_of_wait, awaited}
+use Rattle.ptk_words_model.specs.Mutex.{wait_of, waiters_of, count_of, owns}
 use Rattle.ptk_words_model.specs.Withdrawal.{deadline_of_wait}
 use Rattle.ptk_words_model.specs.Keys.{no_values, no_rounds, with_rounds, with_values}
 use Rattle.ptk_words_model.specs.Unwinding.{is_alive}
 use Rattle.ptk_words.specs.Threads.{is_ended}
 use Rattle.ptk_words_model.specs.ThreadCreation.{new_cancellation, with_new_thread}
 use Rattle.ptk_words_model.specs.Run.{empty_part, main_thread, fits, memory_of, with_image, start_part}
-use Rattle.ptk_words_locks.specs.Locks.{is_ready, joiner_of, used_of}
+use Rattle.ptk_words_locks.specs.Locks.{is_ready, joiner_of, used_of, AreMutexes}
 use Rattle.ptk_words_well.specs.Well.{IsWell, IsCalm}
 use Rattle.ptk_words_locks.proofs.Pools.{get-set_own, get-set_other, length-pool_set, get-replicate, numbered-replicate}
 use Rattle.ptk_words_locks.proofs.Lined.{AreOthers, not_ready_out, not_ready_stopped, lined_others, lined_push}
 use Rattle.ptk_words_locks.proofs.Waiting.{AreSameWaits, waiting_same}
 use Rattle.ptk_words_well.proofs.Whole.{lined_of, waiting_of, well_scheduled, used_others}
+use Rattle.ptk_words_well.proofs.Exclusion.{ended_owns, exclusion_unowning}
 use Rattle.ptk_words_well.proofs.Parts.{well_memory, well_halt}
 use Rattle.ptk_words_well.proofs.Unwindings.{well_cancellation, well_rounds, well_no_cleanups, well_no_values}
 
@@ -67,9 +68,10 @@ well_added limits t thread s h le free new well =
       | inr ne ↦ well.ended_wait u (sym (ap is_alive (others u ne)) ∙ e)
     ] in
     let below : used_of (pool_get after t) < limits.interval = rw (own, new.used) (well.used 0) in
-    well_scheduled limits s after (s.line ++ t ∷ []) s.running s.console.waiters (length-pool_set s.threads t (Some thread))
+    well_scheduled limits s after (s.line ++ t ∷ []) s.mutexes s.running s.console.waiters (length-pool_set s.threads t (Some thread)) refl
     (lined_push t after s.line s.running (ap is_ready own ∙ new_ready thread new) out stops (lined_others t s.threads after s.line s.running others out stops (lined_of limits s well)))
     (waiting_same s.threads after s.console.waiters same ended (waiting_of limits s well))
+    (exclusion_unowning t s.threads after s.mutexes others (ap awaited own ∙ ap mutex_of_wait new.wait ∙ sym (ap awaited free)) (ended_owns t s.threads s.mutexes (ap is_alive free) well.exclusion) well.exclusion)
     (used_others limits.interval t s.threads after others below well.used)
     well.halted well
 
@@ -130,10 +132,20 @@ none_twice : IsDistinct nat_eq []
 unfolding IsDistinct
 none_twice = tt
 
+-- the mutexes of which each number is free, with threads of which each number is free
+no_mutexes : (n k : ℕ) → AreMutexes (replicate n None) (replicate k None)
+no_mutexes n k = record {
+  waiters_wait = λ m t e. absurd (false≢true (sym (ap (λ (o : Option Mutex). is_in t (waiters_of o)) (get-replicate k m)) ∙ e));
+  waits_listed = λ m t e. absurd (no_wait n t m awaited refl e);
+  waiters_distinct = λ m. subst (λ (o : Option Mutex). IsDistinct nat_eq (waiters_of o)) (sym (get-replicate k m)) none_twice;
+  owners_alive = λ m t e. absurd (false≢true (sym (ap (owns t) (get-replicate k m)) ∙ e));
+  free_unwaited = λ m e. ap waiters_of (get-replicate k m);
+  counts = λ m. rw (ap count_of (get-replicate {A = Mutex} k m)) (omega arith);
+}
+
 pub well_empty : (limits : Limits) (input : List Arrival) → 0 < limits.interval → IsWell limits (empty_part limits input)
 well_empty limits input interval = record {
   unused = record {
-    mutexes = refl;
     conditions = refl;
     untimed = λ t. ap (λ o. deadline_of_wait (wait_of o)) (get-replicate limits.threads t);
     cleanups = refl;
@@ -143,6 +155,7 @@ well_empty limits input interval = record {
   };
   memory = length-replicate limits.memory 0;
   threads = length-replicate limits.threads None;
+  mutexes = length-replicate limits.mutexes None;
   cancellations = length-replicate limits.threads new_cancellation;
   rounds = length-replicate limits.threads no_rounds;
   line_ready = λ t e. absurd (false≢true e);
@@ -155,6 +168,7 @@ well_empty limits input interval = record {
   joiners_wait = λ t u e. absurd (no_wait limits.threads u t joiner_of refl e);
   joins_listed = λ t u e. absurd (no_wait limits.threads t _ wait_of refl e);
   ended_wait = λ t e. ap wait_of (get-replicate limits.threads t);
+  exclusion = no_mutexes limits.threads limits.mutexes;
   used = λ t. rw (unused_of limits.threads t) interval;
   halted = λ e. refl;
   ring = omega arith;

@@ -5,13 +5,10 @@ use Rattle.std.specs.Option.{option_flatten}
 use Rattle.std.proofs.lemmas.Bool.{cases_lt}
 use Rattle.std.proofs.lemmas.List.{length-map, length_push, get_or_append_left, get_or_push, get_or-map, get_or_past, map-set, same_lists}
 use Rattle.std.proofs.lemmas.Option.{slice_get-get_or, slice_get_past}
-use Rattle.ptk_words.specs.Pools.{pool_get, pool_set, pool_changed, numbers_to, numbers_of, first_of_greatest}
-use Rattle.ptk_words.specs.declared.sections.Limits.{Limits}
+use Rattle.ptk_words.specs.Pools.{pool_get, pool_set, pool_changed, numbers_to, numbers_of}
 use Rattle.ptk_words.specs.declared.threads.Thread.{Thread}
-use Rattle.ptk_words_model.specs.State.{Part}
-use Rattle.ptk_words_model.specs.Priority.{assigned_of, effective_priority, effective_priorities}
-use Rattle.ptk_words_well.specs.Well.{IsWell}
-use Rattle.ptk_words_well.proofs.Priorities.{priorities_free, well_effective, well_priorities}
+use Rattle.ptk_words_model.specs.Priority.{assigned_of, effective_priorities}
+use Rattle.ptk_words_well.proofs.Priorities.{priorities_free}
 
 -- the assigned priority of an entry, 0 of a free number (XSH 2.8.4)
 abbrev pub priority_in : Option Thread → ℕ
@@ -61,9 +58,6 @@ assigned_list threads =
 pub effective_list : (threads : List (Option Thread)) (n : ℕ) → effective_priorities threads (replicate n None) ≡ map priority_in threads
 effective_list threads n = priorities_free threads n ∙ assigned_list threads
 
-pub well_effective_list : (limits : Limits) (s : Part) → IsWell limits s → effective_priorities s.threads s.mutexes ≡ map priority_in s.threads
-well_effective_list limits s well = well_priorities limits s well ∙ assigned_list s.threads
-
 -- ---- changes
 
 -- an entry set
@@ -94,9 +88,5 @@ listed_priority threads i = elim (cases_lt i (length threads)) [
   | inl lt ↦ sym (assigned_within threads i lt)
   | inr past ↦ get_or_past (map priority_in threads) i 0 (rw (length-map threads priority_in) past) ∙ sym (assigned_entry threads (suc i) ∙ ap (λ (o : Option (Option Thread)). priority_in (option_flatten o)) (slice_get_past threads i past))
 ]
-
--- a rank that is the assigned priority at every number chooses as the effective one does
-pub same_choice : (limits : Limits) (s : Part) (rank : ℕ → ℕ) (ts : List ℕ) → IsWell limits s → ((t : ℕ) → rank t ≡ assigned_of s.threads t) → first_of_greatest rank ts ≡ first_of_greatest (effective_priority s.locks) ts
-same_choice limits s rank ts well same = ap (λ (r : ℕ → ℕ). first_of_greatest r ts) (λ i t. (same t ∙ sym (well_effective limits s t well)) i)
 
 pub ruleset stored = (assigned_list, effective_list, priorities-set, priorities_kept, priorities_changed, listed_priority)

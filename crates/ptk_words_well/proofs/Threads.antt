@@ -1,7 +1,6 @@
 -- A thread changed where its wait, its joiner and its end stay.
-use Rattle.std.proofs.Common.{◌≡◌, ℕ, ◌<◌, true, not, ◌&&◌, List, refl, sym, ◌∙◌, ap, inl, inr}
+use Rattle.std.proofs.Common.{◌≡◌, ℕ, ◌<◌, true, not, ◌&&◌, List, refl, sym, ◌∙◌, ap}
 use Rattle.std.specs.Prelude.{Option, Some, None, option_map, is_none}
-use Rattle.std.proofs.lemmas.Bool.{cases_eq}
 use Rattle.ptk_words.specs.Pools.{pool_get, pool_changed}
 use Rattle.ptk_words.specs.Processor.{Processor}
 use Rattle.ptk_words.specs.declared.sections.Limits.{Limits}
@@ -17,10 +16,12 @@ use Rattle.ptk_words_model.specs.Unwinding.{is_alive, cpu_at_call, after_routine
 use Rattle.ptk_words.specs.Threads.{is_ended}
 use Rattle.ptk_words_locks.specs.Locks.{is_ready, joiner_of, used_of}
 use Rattle.ptk_words_well.specs.Well.{IsWell}
-use Rattle.ptk_words_locks.proofs.Pools.{changed_own, changed_other, length-changed}
+use Rattle.ptk_words_locks.proofs.Pools.{length-changed}
 use Rattle.ptk_words_locks.proofs.Lined.{lined_alike}
+use Rattle.ptk_words_locks.proofs.Threads.{changed_same, used_changed}
 use Rattle.ptk_words_locks.proofs.Waiting.{AreSameWaits, waiting_same}
-use Rattle.ptk_words_well.proofs.Whole.{lined_of, waiting_of, well_scheduled, used_others}
+use Rattle.ptk_words_well.proofs.Whole.{lined_of, waiting_of, well_scheduled}
+use Rattle.ptk_words_well.proofs.Exclusion.{exclusion_waits}
 
 -- the thread has the wait and the joiner that it had, and has ended only if it had (own)
 pub record IsKept (before after : Thread) : Type 0 where
@@ -56,13 +57,6 @@ alive_kept : (f : Thread → Thread) (o : Option Thread) → Kept f o → is_ali
 alive_kept f None kept = refl
 alive_kept f (Some thread) kept = ap not (kept thread refl).ended
 
--- what is the same of the changed thread is the same at every number
-pub changed_same : {A : Type 0} (word : Option Thread → A) (t : ℕ) (f : Thread → Thread) (threads : List (Option Thread)) → word (option_map f (pool_get threads t)) ≡ word (pool_get threads t) → (u : ℕ) → word (pool_get (pool_changed t f threads) u) ≡ word (pool_get threads u)
-changed_same word t f threads here u = elim (cases_eq u t) [
-  | inl same ↦ (rw same (ap word (changed_own t f threads) ∙ here))
-  | inr ne ↦ ap word (changed_other t u f threads ne)
-]
-
 pub alike_changed : (t : ℕ) (f : Thread → Thread) (threads : List (Option Thread)) → ((thread : Thread) → pool_get threads t ≡ Some thread → IsKept thread (f thread)) → AreAlike threads (pool_changed t f threads)
 alike_changed t f threads kept = record {
   ready = changed_same is_ready t f threads (ready_kept f (pool_get threads t) kept);
@@ -71,15 +65,14 @@ alike_changed t f threads kept = record {
   alive = changed_same is_alive t f threads (alive_kept f (pool_get threads t) kept);
 }
 
-used_changed : (n : ℕ) (f : Thread → Thread) (o : Option Thread) → used_of o < n → ((thread : Thread) → o ≡ Some thread → (f thread).used < n) → used_of (option_map f o) < n
-used_changed n f None lt each = lt
-used_changed n f (Some thread) lt each = each thread refl
+changed_below : (n : ℕ) (f : Thread → Thread) (o : Option Thread) → used_of o < n → ((thread : Thread) → o ≡ Some thread → (f thread).used < n) → used_of (option_map f o) < n
+changed_below n f None lt each = lt
+changed_below n f (Some thread) lt each = each thread refl
 
 -- the ticks used stay below the interval where those of the changed thread do
 pub used_changed_at : (n t : ℕ) (f : Thread → Thread) (threads : List (Option Thread)) → ((u : ℕ) → used_of (pool_get threads u) < n) → ((thread : Thread) → pool_get threads t ≡ Some thread → (f thread).used < n)
     → (u : ℕ) → used_of (pool_get (pool_changed t f threads) u) < n
-used_changed_at n t f threads each below =
-    used_others n t threads (pool_changed t f threads) (λ u ne. changed_other t u f threads ne) (rw (changed_own t f threads) (used_changed n f (pool_get threads t) (each t) below)) each
+used_changed_at n t f threads each below = used_changed n t f threads (changed_below n f (pool_get threads t) (each t) below) each
 
 -- a thread changed by f
 pub well_changed : (limits : Limits) (t : ℕ) (f : Thread → Thread) (s : Part) → ((thread : Thread) → thread_at s.locks t ≡ Some thread → IsKept thread (f thread))
@@ -88,9 +81,10 @@ well_changed limits t f s kept below well =
     let after : List (Option Thread) = pool_changed t f s.threads in
     let alike : AreAlike s.threads after = alike_changed t f s.threads kept in
     let same : AreSameWaits s.threads after = record { wait = alike.wait; joiner = alike.joiner } in
-    well_scheduled limits s after s.line s.running s.console.waiters (length-changed t f s.threads)
+    well_scheduled limits s after s.line s.mutexes s.running s.console.waiters (length-changed t f s.threads) refl
     (lined_alike s.threads after s.line s.running alike.ready (lined_of limits s well))
     (waiting_same s.threads after s.console.waiters same (λ u e. alike.wait u ∙ well.ended_wait u (sym (alike.alive u) ∙ e)) (waiting_of limits s well))
+    (exclusion_waits s.threads after s.mutexes alike.wait alike.alive well.exclusion)
     (used_changed_at limits.interval t f s.threads well.used below)
     well.halted well
 

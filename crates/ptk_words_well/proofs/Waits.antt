@@ -8,8 +8,8 @@ use Rattle.ptk_words.specs.declared.sections.Arrival.{Arrival}
 use Rattle.ptk_words.specs.declared.threads.Thread.{Thread}
 use Rattle.ptk_words.specs.declared.threads.Wait.{Wait}
 use Rattle.ptk_words.specs.declared.threads.Wait.TheVariants.{InputWait, JoinWait}
-use Rattle.ptk_words_model.specs.State.{Part, with_locks, with_console}
-use Rattle.ptk_words_model.specs.Priority.{thread_at, effective_priority}
+use Rattle.ptk_words_model.specs.State.{Mutex, Part, with_locks, with_console}
+use Rattle.ptk_words_model.specs.Priority.{thread_at, effective_priority, mutex_of_wait, awaited}
 use Rattle.ptk_words_model.specs.Mutex.{wait_of}
 use Rattle.ptk_words_model.specs.Schedule.{with_thread, woken_with, after_wake}
 use Rattle.ptk_words_model.specs.Console.{with_waiter, without_waiter, without_arriving, arriving}
@@ -17,36 +17,27 @@ use Rattle.ptk_words_model.specs.Decision.{after_arrival_for, first_waiter, afte
 use Rattle.ptk_words_model.specs.Unwinding.{is_alive}
 use Rattle.ptk_words_model.specs.declared.Invocation.{Invocation}
 use Rattle.ptk_words_model.specs.Calls.{blocked_in}
-use Rattle.ptk_words_locks.specs.Locks.{is_ready, joiner_of, used_of}
+use Rattle.ptk_words_locks.specs.Locks.{is_ready, joiner_of, used_of, AreMutexes}
 use Rattle.ptk_words_well.specs.Well.{IsWell}
 use Rattle.ptk_words_locks.proofs.Pools.{changed_own, changed_other, length-changed}
 use Rattle.ptk_words_locks.proofs.Lines.{first_in}
 use Rattle.ptk_words_locks.proofs.Lined.{ready_waits, ready_alive, not_ready_out, not_ready_stopped, lined_stopped, lined_alike, lined_others, lined_push}
+use Rattle.ptk_words_locks.proofs.Threads.{changed_same, idle_awaits, in_wait, in_wait_waits, in_wait_joiner, in_wait_alive}
 use Rattle.ptk_words_locks.proofs.Waiting.{IsWaitChange, IsJoinChange, waiting_input, waiting_answered, waiting_join}
 use Rattle.ptk_words_well.proofs.Whole.{lined_of, waiting_of, well_scheduled}
-use Rattle.ptk_words_well.proofs.Threads.{changed_same, used_changed_at}
+use Rattle.ptk_words_well.proofs.Exclusion.{awaits_other, exclusion_waits, exclusion_one}
+use Rattle.ptk_words_well.proofs.Threads.{used_changed_at}
 use Rattle.ptk_words_well.proofs.Parts.{well_input, well_arriving}
 
 -- ---- what a wait makes of a thread
 
--- the thread in this wait (own)
-abbrev pub in_wait : Wait → Thread → Thread
-in_wait wait thread = record thread { wait = Some wait }
-
 stopped : (t : ℕ) → None ≢ Some t
 stopped t e = let no : ⊥ = cc in no
 
-wait_set : (wait : Wait) (o : Option Thread) → is_ready o ≡ true → wait_of (option_map (in_wait wait) o) ≡ Some wait
-wait_set wait None e = absurd (false≢true e)
-wait_set wait (Some thread) e = refl
-
-joiner_in_wait : (wait : Wait) (o : Option Thread) → joiner_of (option_map (in_wait wait) o) ≡ joiner_of o
-joiner_in_wait wait None = refl
-joiner_in_wait wait (Some thread) = refl
-
-alive_in_wait : (wait : Wait) (o : Option Thread) → is_alive (option_map (in_wait wait) o) ≡ is_alive o
-alive_in_wait wait None = refl
-alive_in_wait wait (Some thread) = refl
+-- a wait that is for no mutex, where the thread waited for none
+awaited_in_wait : (wait : Wait) (o : Option Thread) → mutex_of_wait (Some wait) ≡ None → awaited o ≡ None → awaited (option_map (in_wait wait) o) ≡ awaited o
+awaited_in_wait wait None other e = refl
+awaited_in_wait wait (Some thread) other e = other ∙ sym e
 
 pub waits_not_ready : (wait : Wait) (o : Option Thread) → wait_of o ≡ Some wait → is_ready o ≡ false
 waits_not_ready wait o e = false_from_ne_true (is_ready o) (λ ready. let free : wait_of o ≡ None = ready_waits o ready in let no : ⊥ = cc in no)
@@ -62,9 +53,37 @@ pub woken_waits : (values : List ℕ) (o : Option Thread) → wait_of (option_ma
 woken_waits values None = refl
 woken_waits values (Some thread) = refl
 
+pub alive_woken : (values : List ℕ) (o : Option Thread) → is_alive (option_map (woken_with values) o) ≡ is_alive o
+alive_woken values None = refl
+alive_woken values (Some thread) = refl
+
+awaited_woken : (values : List ℕ) (o : Option Thread) → awaited o ≡ None → awaited (option_map (woken_with values) o) ≡ awaited o
+awaited_woken values None e = refl
+awaited_woken values (Some thread) e = sym e
+
 pub joiner_woken : (values : List ℕ) (o : Option Thread) → joiner_of (option_map (woken_with values) o) ≡ joiner_of o
 joiner_woken values None = refl
 joiner_woken values (Some thread) = refl
+
+-- ---- the mutexes
+
+-- a thread begins a wait that is for no mutex, where it waited for nothing
+exclusion_in_wait : (t : ℕ) (wait : Wait) (threads : List (Option Thread)) (mutexes : List (Option Mutex)) → mutex_of_wait (Some wait) ≡ None → wait_of (pool_get threads t) ≡ None
+    → AreMutexes threads mutexes → AreMutexes (pool_changed t (in_wait wait) threads) mutexes
+exclusion_in_wait t wait threads mutexes other free are =
+    let own : pool_get (pool_changed t (in_wait wait) threads) t ≡ option_map (in_wait wait) (pool_get threads t) = changed_own t (in_wait wait) threads in
+    exclusion_one t threads (pool_changed t (in_wait wait) threads) mutexes (λ u ne. changed_other t u (in_wait wait) threads ne)
+    (ap awaited own ∙ awaited_in_wait wait (pool_get threads t) other (idle_awaits (pool_get threads t) free))
+    (λ m e. ap is_alive own ∙ in_wait_alive wait (pool_get threads t) ∙ are.owners_alive m t e) are
+
+-- a thread that waited for no mutex is woken
+pub exclusion_woken : (t : ℕ) (values : List ℕ) (threads : List (Option Thread)) (mutexes : List (Option Mutex)) → awaited (pool_get threads t) ≡ None → AreMutexes threads mutexes
+    → AreMutexes (pool_changed t (woken_with values) threads) mutexes
+exclusion_woken t values threads mutexes free are =
+    let own : pool_get (pool_changed t (woken_with values) threads) t ≡ option_map (woken_with values) (pool_get threads t) = changed_own t (woken_with values) threads in
+    exclusion_one t threads (pool_changed t (woken_with values) threads) mutexes (λ u ne. changed_other t u (woken_with values) threads ne)
+    (ap awaited own ∙ awaited_woken values (pool_get threads t) free)
+    (λ m e. ap is_alive own ∙ alive_woken values (pool_get threads t) ∙ are.owners_alive m t e) are
 
 -- ---- input
 
@@ -75,7 +94,7 @@ used_in_wait limits t wait threads each =
 ended_in_wait : (t : ℕ) (wait : Wait) (threads : List (Option Thread)) → is_alive (pool_get threads t) ≡ true → ((u : ℕ) → is_alive (pool_get threads u) ≡ false → wait_of (pool_get threads u) ≡ None)
     → (u : ℕ) → is_alive (pool_get (pool_changed t (in_wait wait) threads) u) ≡ false → wait_of (pool_get (pool_changed t (in_wait wait) threads) u) ≡ None
 ended_in_wait t wait threads alive ended u e =
-    let was : is_alive (pool_get threads u) ≡ false = sym (changed_same is_alive t (in_wait wait) threads (alive_in_wait wait (pool_get threads t)) u) ∙ e in
+    let was : is_alive (pool_get threads u) ≡ false = sym (changed_same is_alive t (in_wait wait) threads (in_wait_alive wait (pool_get threads t)) u) ∙ e in
     let ne : u ≢ t = λ same. false≢true (sym was ∙ ap (λ v. is_alive (pool_get threads v)) same ∙ alive) in
     ap wait_of (changed_other t u (in_wait wait) threads ne) ∙ ended u was
 
@@ -87,12 +106,13 @@ well_input_wait limits i s runs well =
     let ready : is_ready (pool_get s.threads t) ≡ true = well.running_ready t runs in
     let change : IsWaitChange t s.threads after = record {
       wait = λ u ne. ap wait_of (changed_other t u (in_wait InputWait) s.threads ne);
-      joiner = changed_same joiner_of t (in_wait InputWait) s.threads (joiner_in_wait InputWait (pool_get s.threads t));
+      joiner = changed_same joiner_of t (in_wait InputWait) s.threads (in_wait_joiner InputWait (pool_get s.threads t));
       ended = ended_in_wait t InputWait s.threads (ready_alive (pool_get s.threads t) ready) well.ended_wait;
     } in
-    well_scheduled limits s after s.line None (s.console.waiters ++ t ∷ []) (length-changed t (in_wait InputWait) s.threads)
+    well_scheduled limits s after s.line s.mutexes None (s.console.waiters ++ t ∷ []) (length-changed t (in_wait InputWait) s.threads) refl
     (lined_others t s.threads after s.line None (λ u ne. changed_other t u (in_wait InputWait) s.threads ne) (well.running_out t runs) (stopped t) (lined_stopped s.threads s.line s.running (lined_of limits s well)))
-    (waiting_input t s.threads after s.console.waiters change (ready_waits (pool_get s.threads t) ready) (ap wait_of (changed_own t (in_wait InputWait) s.threads) ∙ wait_set InputWait (pool_get s.threads t) ready) (waiting_of limits s well))
+    (waiting_input t s.threads after s.console.waiters change (ready_waits (pool_get s.threads t) ready) (ap wait_of (changed_own t (in_wait InputWait) s.threads) ∙ in_wait_waits InputWait (pool_get s.threads t) ready) (waiting_of limits s well))
+    (exclusion_in_wait t InputWait s.threads s.mutexes refl (ready_waits (pool_get s.threads t) ready) well.exclusion)
     (used_in_wait limits t InputWait s.threads well.used)
     (λ e. refl) well
 
@@ -119,10 +139,11 @@ well_answered limits t values s here well =
       joiner = changed_same joiner_of t (woken_with values) s.threads (joiner_woken values (pool_get s.threads t));
       ended = λ u e. ended_woken t values s.threads u (cases_eq u t) well.ended_wait e;
     } in
-    well_scheduled limits s after (s.line ++ t ∷ []) s.running (without t s.console.waiters) (length-changed t (woken_with values) s.threads)
+    well_scheduled limits s after (s.line ++ t ∷ []) s.mutexes s.running (without t s.console.waiters) (length-changed t (woken_with values) s.threads) refl
     (lined_push t after s.line s.running (ap is_ready (changed_own t (woken_with values) s.threads) ∙ woken_ready values (pool_get s.threads t) alive) out stops
     (lined_others t s.threads after s.line s.running (λ u ne. changed_other t u (woken_with values) s.threads ne) out stops (lined_of limits s well)))
     (waiting_answered t s.threads after s.console.waiters change was (ap wait_of (changed_own t (woken_with values) s.threads) ∙ woken_waits values (pool_get s.threads t)) (waiting_of limits s well))
+    (exclusion_woken t values s.threads s.mutexes (awaits_other InputWait (pool_get s.threads t) refl was) well.exclusion)
     (used_changed_at limits.interval t (woken_with values) s.threads well.used (λ thread e. well.used 0))
     well.halted well
 
@@ -170,7 +191,7 @@ well_join_wait limits i u target s runs there free well =
     let middle_ready : (v : ℕ) → is_ready (pool_get middle v) ≡ is_ready (pool_get s.threads v) = changed_same is_ready u (joined_by t) s.threads (ready_joined t (pool_get s.threads u)) in
     let middle_waits : (v : ℕ) → wait_of (pool_get middle v) ≡ wait_of (pool_get s.threads v) = changed_same wait_of u (joined_by t) s.threads (wait_joined t (pool_get s.threads u)) in
     let middle_alive : (v : ℕ) → is_alive (pool_get middle v) ≡ is_alive (pool_get s.threads v) = changed_same is_alive u (joined_by t) s.threads (alive_joined t (pool_get s.threads u)) in
-    let after_joiner : (v : ℕ) → joiner_of (pool_get after v) ≡ joiner_of (pool_get middle v) = changed_same joiner_of t (in_wait (JoinWait u)) middle (joiner_in_wait (JoinWait u) (pool_get middle t)) in
+    let after_joiner : (v : ℕ) → joiner_of (pool_get after v) ≡ joiner_of (pool_get middle v) = changed_same joiner_of t (in_wait (JoinWait u)) middle (in_wait_joiner (JoinWait u) (pool_get middle t)) in
     let single : joiner_of (pool_get s.threads u) ≡ None = ap joiner_of there ∙ free in
     let joined : joiner_of (pool_get middle u) ≡ Some t = ap joiner_of (changed_own u (joined_by t) s.threads ∙ ap (option_map (joined_by t)) there) in
     let change : IsJoinChange t u s.threads after = record {
@@ -178,10 +199,11 @@ well_join_wait limits i u target s runs there free well =
       joiner = λ v ne. after_joiner v ∙ ap joiner_of (changed_other u v (joined_by t) s.threads ne);
       ended = ended_in_wait t (JoinWait u) middle (middle_alive t ∙ ready_alive (pool_get s.threads t) ready) (λ v e. middle_waits v ∙ well.ended_wait v (sym (middle_alive v) ∙ e));
     } in
-    well_scheduled limits s after s.line None s.console.waiters (length-changed t (in_wait (JoinWait u)) middle ∙ length-changed u (joined_by t) s.threads)
+    well_scheduled limits s after s.line s.mutexes None s.console.waiters (length-changed t (in_wait (JoinWait u)) middle ∙ length-changed u (joined_by t) s.threads) refl
     (lined_others t middle after s.line None (λ v ne. changed_other t v (in_wait (JoinWait u)) middle ne) (well.running_out t runs) (stopped t)
     (lined_alike s.threads middle s.line None middle_ready (lined_stopped s.threads s.line s.running (lined_of limits s well))))
     (waiting_join t u s.threads after s.console.waiters change (ready_waits (pool_get s.threads t) ready) single
-    (ap wait_of (changed_own t (in_wait (JoinWait u)) middle) ∙ wait_set (JoinWait u) (pool_get middle t) (middle_ready t ∙ ready)) (after_joiner u ∙ joined) (waiting_of limits s well))
+    (ap wait_of (changed_own t (in_wait (JoinWait u)) middle) ∙ in_wait_waits (JoinWait u) (pool_get middle t) (middle_ready t ∙ ready)) (after_joiner u ∙ joined) (waiting_of limits s well))
+    (exclusion_in_wait t (JoinWait u) middle s.mutexes refl (middle_waits t ∙ ready_waits (pool_get s.threads t) ready) (exclusion_waits s.threads middle s.mutexes middle_waits middle_alive well.exclusion))
     (used_in_wait limits t (JoinWait u) middle (used_changed_at limits.interval u (joined_by t) s.threads well.used (λ thread e. let lt : used_of (pool_get s.threads u) < limits.interval = well.used u in rw e at lt)))
     (λ e. refl) well

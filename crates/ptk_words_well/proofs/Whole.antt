@@ -5,12 +5,13 @@ use Rattle.std.proofs.lemmas.Bool.{cases_eq}
 use Rattle.ptk_words.specs.Pools.{pool_get}
 use Rattle.ptk_words.specs.declared.sections.Limits.{Limits}
 use Rattle.ptk_words.specs.declared.threads.Thread.{Thread}
-use Rattle.ptk_words_model.specs.State.{Part}
+use Rattle.ptk_words_model.specs.State.{Mutex, Locks, Part}
 use Rattle.ptk_words_model.specs.Run.{is_active}
-use Rattle.ptk_words_locks.specs.Locks.{used_of}
+use Rattle.ptk_words_locks.specs.Locks.{used_of, AreMutexes}
 use Rattle.ptk_words_well.specs.Well.{IsWell}
 use Rattle.ptk_words_locks.proofs.Lined.{AreLined, AreOthers}
 use Rattle.ptk_words_locks.proofs.Waiting.{AreWaiting}
+use Rattle.ptk_words_locks.proofs.Whole.{AreLocks}
 
 -- ---- the parts of a whole state
 
@@ -28,23 +29,26 @@ waiting_of limits s well = record {
   untimed = well.unused.untimed;
 }
 
+-- its threads, line and mutexes
+pub locks_of : (limits : Limits) (s : Part) → IsWell limits s → AreLocks limits.interval s.running s.console.waiters s.locks
+locks_of limits s well = record { lined = lined_of limits s well; waiting = waiting_of limits s well; exclusion = well.exclusion; used = well.used }
+
 -- ---- scheduling alone changed
 
--- the state with these threads, this line, this running thread and these waiters (own)
-abbrev pub scheduled : List (Option Thread) → List ℕ → Option ℕ → List ℕ → Part → Part
-scheduled threads line running waiters s =
+-- the state with these threads, this line, these mutexes, this running thread and these waiters (own)
+abbrev pub scheduled : List (Option Thread) → List ℕ → List (Option Mutex) → Option ℕ → List ℕ → Part → Part
+scheduled threads line mutexes running waiters s =
     record s {
-      syncs = record (s.syncs) { locks = record (s.locks) { threads = threads; line = line } };
+      syncs = record (s.syncs) { locks = record { threads = threads; line = line; mutexes = mutexes } };
       running = running;
       console = record (s.console) { waiters = waiters };
     }
 
-pub well_scheduled : (limits : Limits) (s : Part) (threads : List (Option Thread)) (line : List ℕ) (running : Option ℕ) (waiters : List ℕ)
-    → length threads ≡ length s.threads → AreLined threads line running → AreWaiting threads waiters → ((t : ℕ) → used_of (pool_get threads t) < limits.interval)
-    → (is_active s.status ≡ false → running ≡ None) → IsWell limits s → IsWell limits (scheduled threads line running waiters s)
-well_scheduled limits s threads line running waiters same lined waiting used halted well = record {
+pub well_scheduled : (limits : Limits) (s : Part) (threads : List (Option Thread)) (line : List ℕ) (mutexes : List (Option Mutex)) (running : Option ℕ) (waiters : List ℕ)
+    → length threads ≡ length s.threads → length mutexes ≡ length s.mutexes → AreLined threads line running → AreWaiting threads waiters → AreMutexes threads mutexes
+    → ((t : ℕ) → used_of (pool_get threads t) < limits.interval) → (is_active s.status ≡ false → running ≡ None) → IsWell limits s → IsWell limits (scheduled threads line mutexes running waiters s)
+well_scheduled limits s threads line mutexes running waiters same size lined waiting exclusion used halted well = record {
   unused = record {
-    mutexes = well.unused.mutexes;
     conditions = well.unused.conditions;
     untimed = waiting.untimed;
     cleanups = well.unused.cleanups;
@@ -54,6 +58,7 @@ well_scheduled limits s threads line running waiters same lined waiting used hal
   };
   memory = well.memory;
   threads = same ∙ well.threads;
+  mutexes = size ∙ well.mutexes;
   cancellations = well.cancellations;
   rounds = well.rounds;
   line_ready = lined.line_ready;
@@ -66,11 +71,18 @@ well_scheduled limits s threads line running waiters same lined waiting used hal
   joiners_wait = waiting.joiners_wait;
   joins_listed = waiting.joins_listed;
   ended_wait = waiting.ended_wait;
+  exclusion = exclusion;
   used = used;
   halted = halted;
   ring = well.ring;
   output = well.output;
 }
+
+-- other threads, line and mutexes, and another running thread
+pub well_locks : (limits : Limits) (s : Part) (locks : Locks) (running : Option ℕ) → length locks.threads ≡ length s.threads → length locks.mutexes ≡ length s.mutexes → AreLocks limits.interval running s.console.waiters locks
+    → (is_active s.status ≡ false → running ≡ None) → IsWell limits s → IsWell limits (record s { syncs = record (s.syncs) { locks = locks }; running = running })
+well_locks limits s locks running threads mutexes are halted well =
+    well_scheduled limits s locks.threads locks.line locks.mutexes running s.console.waiters threads mutexes are.lined are.waiting are.exclusion are.used halted well
 
 -- ---- ticks used
 

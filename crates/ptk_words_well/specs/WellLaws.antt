@@ -1,11 +1,9 @@
--- That states stay whole, and what their priorities are.
-use Rattle.std.specs.Prelude.{◌≡◌, ℕ, ◌≤◌, true, List, map, Option, Some}
-use Rattle.ptk_words.specs.Pools.{numbers_of}
+-- That states stay whole.
+use Rattle.std.specs.Prelude.{◌≡◌, ℕ, ◌≤◌, true, List, Option, Some}
 use Rattle.ptk_words.specs.declared.sections.Arrival.{Arrival}
 use Rattle.ptk_words.specs.declared.sections.Limits.{Limits}
 use Rattle.ptk_words_windows.specs.Windows.{OwnTicks}
 use Rattle.ptk_words_model.specs.State.{Part}
-use Rattle.ptk_words_model.specs.Priority.{assigned_of, effective_priorities}
 use Rattle.ptk_words_model.specs.declared.Invocation.{Invocation}
 use Rattle.ptk_words.specs.Calls.{call_of}
 use Rattle.ptk_words_model.specs.CallTable.{answer_to}
@@ -28,7 +26,3 @@ DecisionsKeepWell limits s = (tick room : ℕ) → is_active s.status ≡ true �
 -- the state is whole after every number of ticks
 abbrev pub StaysWell : OwnTicks → Limits → Option (List ℕ) → List Arrival → Type 0
 StaysWell ticks limits image input = 1 ≤ limits.threads → 1 ≤ limits.interval → (n : ℕ) → IsWell limits (alone ticks limits image input n).part
-
--- where no call has locked a mutex, each thread's effective priority is its assigned one (XSH 2.8.4; own)
-abbrev pub EffectiveIsAssigned : Limits → Part → Type 0
-EffectiveIsAssigned limits s = IsWell limits s → effective_priorities s.threads s.mutexes ≡ map (assigned_of s.threads) (numbers_of s.threads)

@@ -1,9 +1,9 @@
 //! What holds of a partition's state in every table (`specs/Well`): the running thread is ready and not in the line,
-//! the line has ready threads and none twice, waits agree with the console's waiters and the joiners, an ended thread
-//! waits for nothing, and all lists have their sizes. The functions promise that a partition starts so and that every
-//! call and every decision leaves it so; `proofs/` has the same for each move of the model, over plain variables, and
-//! the laws of pools and of lines that such proofs use. Below stands `ptk_words_model`; above, the gate's tables have
-//! `IsWell` as their invariant.
+//! the line has ready threads and none twice, waits agree with the console's waiters, the joiners and the mutexes, an
+//! ended thread waits for nothing and owns no mutex, and all lists have their sizes. The functions promise that a
+//! partition starts so and that every call and every decision leaves it so; `proofs/` has the same for each move of the
+//! model, over plain variables. Below stand `ptk_words_model` and `ptk_words_locks`, which has the laws of pools, lines
+//! and mutexes; above, the gate's tables have `IsWell` as their invariant.
 #![tactic(auto)]
 
 ghost use Rattle.std.specs.Prelude.{ℕ, List, Option};
@@ -11,7 +11,7 @@ ghost use Rattle.ptk_words.specs.declared.sections.Arrival.{Arrival};
 ghost use Rattle.ptk_words.specs.declared.sections.Limits.{Limits};
 ghost use Rattle.ptk_words_windows.specs.Windows.{OwnTicks};
 ghost use Rattle.ptk_words_model.specs.State.{Part};
-ghost use Rattle.ptk_words_well.specs.WellLaws.{StartIsWell, CallsKeepWell, DecisionsKeepWell, StaysWell, EffectiveIsAssigned};
+ghost use Rattle.ptk_words_well.specs.WellLaws.{StartIsWell, CallsKeepWell, DecisionsKeepWell, StaysWell};
 
 /// A partition starts whole, whatever its image and input.
 pub fn start_is_well()
@@ -31,9 +31,4 @@ pub fn decisions_keep_well()
 /// A partition alone is whole after every number of ticks.
 pub fn stays_well()
     ensures { (ticks : OwnTicks) → (limits : Limits) → (image : Option (List ℕ)) → (input : List Arrival) → StaysWell ticks limits image input }
-{}
-
-/// In a whole state each thread's effective priority is its assigned one: no call in use locks a mutex.
-pub fn effective_is_assigned()
-    ensures { (limits : Limits) → (part : Part) → EffectiveIsAssigned limits part }
 {}
