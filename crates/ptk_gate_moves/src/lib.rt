@@ -16,6 +16,7 @@ mod places;
 mod replies;
 mod targets;
 mod unwinding;
+mod words;
 
 pub use blocking::{block, halt, wake};
 pub use calls::{exit, leave, own_number};
@@ -26,3 +27,4 @@ pub use places::{end_turn, push_tail, step_back};
 pub use replies::{refuse, reply, succeed, succeed_with, succeed_with_two};
 pub use targets::{is_ended, is_taken, target};
 pub use unwinding::start_unwinding;
+pub use words::{is_pointer, named_priority};

@@ -1,11 +1,12 @@
 //! What call 10 asks for: the words of its attributes object, decoded.
 
 ghost use Rattle.std.specs.Prelude.{◌≡◌, ◌<◌, length};
-ghost use Rattle.ptk_words_model.specs.ThreadCreation.{policy_of, priority_of, readable_attributes, asked_scheduling, given_stack_top, asked_creation, creation_at};
+ghost use Rattle.ptk_words_model.specs.ThreadCreation.{policy_of, readable_attributes, asked_scheduling, given_stack_top, asked_creation, creation_at};
 ghost use Rattle.ptk_gate_pools.specs.Kept.{part_at};
 
+use ptk_gate_moves::{is_pointer, named_priority};
 use ptk_gate_pools::Pools;
-use ptk_words::{Errno, PartId, Policy, Priority, read_word};
+use ptk_words::{Errno, PartId, Policy, read_word};
 use ptk_words_model::{Creation, Scheduling};
 use std::marker::Model;
 
@@ -46,7 +47,6 @@ fn read_attributes(pools: &Pools, p: PartId, pointer: u32) -> Result<ThreadAttri
     ensures { result ≡ readable_attributes (part_at p pools.now) pointer }
 {
     let _parts = pools.parts();
-    let memory = pools.regions().part(p);
     if pointer == 0 {
         return Ok(ThreadAttributes {
             detach: 0,
@@ -56,10 +56,11 @@ fn read_attributes(pools: &Pools, p: PartId, pointer: u32) -> Result<ThreadAttri
             stack_top: 0,
         });
     }
-    let at = pointer as usize;
-    if pointer % 4 != 0 || memory.len() < at + 20 {
+    if !is_pointer(pools, p, pointer, 20) {
         return Err(Errno::EFAULT);
     }
+    let memory = pools.regions().part(p);
+    let at = pointer as usize;
     Ok(ThreadAttributes {
         detach: read_word(memory, at),
         inherit: read_word(memory, at + 4),
@@ -117,16 +118,5 @@ pub(crate) fn named_policy(word: u32) -> Option<Policy>
         1 => Some(Policy::Fifo),
         2 => Some(Policy::RoundRobin),
         _ => None,
-    }
-}
-
-/// The priority of a guest's number, 1 to 32; None of another word.
-pub(crate) fn named_priority(word: u32) -> Option<Priority>
-    ensures { result ≡ priority_of word }
-{
-    if 1 <= word && word <= 32 {
-        Some(Priority::new(word as u8))
-    } else {
-        None
     }
 }

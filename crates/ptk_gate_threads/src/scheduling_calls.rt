@@ -13,9 +13,9 @@ ghost use Rattle.ptk_words.specs.Pools.{is_in};
 ghost use Rattle.ptk_gate_pools.specs.Kept.{part_at, put_part, limits_at};
 ghost use Rattle.ptk_gate_moves.specs.Moves.{with_scheduling};
 
-use crate::attributes::{named_policy, named_priority};
+use crate::attributes::named_policy;
 use crate::places::{place_at_head, place_at_tail, reschedule};
-use ptk_gate_moves::{refuse, succeed, target};
+use ptk_gate_moves::{named_priority, refuse, succeed, target};
 use ptk_gate_pools::Pools;
 use ptk_words::{Errno, PartId, Policy, Priority, ThreadNo};
 use ptk_words_model::{Invocation, Reply};

@@ -1,0 +1,29 @@
+//! What a word of a guest stands for: a priority, or a place in memory.
+
+ghost use Rattle.std.specs.Prelude.{◌≡◌, ◌<◌, length};
+ghost use Rattle.ptk_words_model.specs.Calls.{is_pointer};
+ghost use Rattle.ptk_words_model.specs.ThreadCreation.{priority_of};
+ghost use Rattle.ptk_gate_pools.specs.Kept.{part_at};
+
+use ptk_gate_pools::Pools;
+use ptk_words::{PartId, Priority};
+
+/// The priority of a guest's number, 1 to 32; None of another word.
+pub fn named_priority(word: u32) -> Option<Priority>
+    ensures { result ≡ priority_of word }
+{
+    if 1 <= word && word <= 32 {
+        Some(Priority::new(word as u8))
+    } else {
+        None
+    }
+}
+
+/// Whether the word is a multiple of 4 at which so many bytes lie in memory (own choice).
+pub fn is_pointer(pools: &Pools, p: PartId, word: u32, count: u32) -> bool
+    requires partition { p < length pools.now.limits }
+    ensures { result ≡ is_pointer (part_at p pools.now) word count }
+{
+    let _parts = pools.parts();
+    word % 4 == 0 && word as usize + count as usize <= pools.regions().part(p).len()
+}

@@ -1,0 +1,66 @@
+//! The mutex of the word that a call points to.
+
+ghost use Rattle.std.specs.Prelude.{◌≡◌, ◌<◌, ◌≤◌, length, is_some, Ok, Err, if◌then◌else◌};
+ghost use Rattle.ptk_words.specs.Pools.{pool_get};
+ghost use Rattle.ptk_words.specs.declared.faults.Errno.TheVariants.{EINVAL};
+ghost use Rattle.ptk_words_well.specs.Well.{IsWell};
+ghost use Rattle.ptk_gate_pools.specs.Kept.{part_at, put_part, limits_at};
+ghost use Rattle.ptk_gate_sync.specs.Named.{IsNamed};
+
+use crate::creation::{NewMutex, make};
+use ptk_gate_moves::is_pointer;
+use ptk_gate_pools::Pools;
+use ptk_mutex::MutexSlot;
+use ptk_words::{Errno, MutexKind, MutexNo, PartId, Protocol, read_word};
+use ptk_words_model::Invocation;
+
+/// The mutex that the word at the pointer of a0 names. A word of 0 (PTHREAD_MUTEX_INITIALIZER) sets up a mutex of default
+/// attributes at the least free number, which the word then holds; it stays also where the call is then refused.
+/// EFAULT where the pointer is no multiple of 4 or the word lies outside memory, ENOMEM where a mutex is to be set up
+/// and no number is free, EINVAL of a word that is neither 0 nor the number of a mutex in use (own choice): nothing
+/// changes then.
+pub(crate) fn named_mutex(pools: &mut Pools, p: PartId, i: &Invocation) -> Result<MutexNo, Errno>
+    requires partition { p < length pools.old.limits }
+    requires well { IsWell (limits_at p pools.old) (part_at p pools.old) }
+    ensures named { IsNamed (limits_at p pools.old) i.now (part_at p pools.old) result (part_at p pools.new) }
+    ensures moved { pools.new ≡ put_part p (part_at p pools.new) pools.old }
+{
+    let _parts = pools.parts();
+    if !is_pointer(pools, p, i.a0, 4) {
+        return Err(Errno::EFAULT);
+    }
+    let word = read_word(pools.regions().part(p), i.a0 as usize);
+    if word != 0 {
+        return known_mutex(pools.mutexes().part(p), word);
+    }
+    let Some(number) = pools.first_free_mutex(p) else {
+        return Err(Errno::ENOMEM);
+    };
+    let new = NewMutex {
+        number,
+        kind: MutexKind::Normal,
+        protocol: Protocol::NoProtocol,
+        is_robust: false,
+    };
+    make(pools, p, i.a0, new);
+    Ok(number)
+}
+
+/// The mutex of a word that is the number of one in use, among a partition's places; else EINVAL (own choice).
+#[tactic(auto, using(ptk_threads::proofs::Slots::numbers))]
+fn known_mutex(places: &[MutexSlot], word: u32) -> Result<MutexNo, Errno>
+    requires few { length places.now ≤ 64 }
+    ensures { result ≡ (if is_some (pool_get places.now word) then Ok word else Err EINVAL) }
+{
+    if word == 0 {
+        return Err(Errno::EINVAL);
+    }
+    let index = word as usize - 1;
+    if index >= places.len() {
+        return Err(Errno::EINVAL);
+    }
+    if places[index].is_free() {
+        return Err(Errno::EINVAL);
+    }
+    Ok(MutexNo::new(word as u8))
+}

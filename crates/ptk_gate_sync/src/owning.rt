@@ -1,0 +1,116 @@
+//! Calls 25 and 26: what the owner of a mutex does with it.
+
+ghost use Rattle.std.specs.Prelude.{◌≡◌, ◌<◌, [], length, option_map};
+ghost use Rattle.ptk_words.specs.declared.faults.Errno.TheVariants.{EPERM, EINVAL};
+ghost use Rattle.ptk_words.specs.declared.mutexes.Soundness.TheVariants.{Consistent};
+ghost use Rattle.ptk_words_model.specs.Mutex.{mutex_at, owns, after_unlock, with_soundness};
+ghost use Rattle.ptk_words_model.specs.Steps.{refuse◌unless◌, change_locks, succeed};
+ghost use Rattle.ptk_words_model.specs.MutexCalls.{mutex_unlock, is_inconsistent, is_repairable, mutex_consistent};
+ghost use Rattle.ptk_words_well.specs.Well.{IsWell};
+ghost use Rattle.ptk_mutex.specs.Slots.{mutex_with};
+ghost use Rattle.ptk_gate_pools.specs.Kept.{part_at, put_part, limits_at};
+
+use crate::naming::named_mutex;
+use ptk_gate_moves::{refuse, succeed};
+use ptk_gate_pools::Pools;
+use ptk_mutex::MutexState;
+use ptk_words::{Errno, MutexNo, PartId, Soundness};
+use ptk_words_model::{Invocation, Reply};
+
+/// pthread_mutex_unlock: the caller's mutex that the word at the pointer of a0 names counts down, or goes to the waiter
+/// of greatest effective priority, or is free; an inconsistent one is lost, and its waiters are refused. The errors of
+/// `named_mutex`, then EPERM of a mutex that the caller does not own (own choice for NORMAL); a refusal changes nothing
+/// but a0 and what naming the mutex set up.
+pub fn mutex_unlock(pools: &mut Pools, p: PartId, i: Invocation) -> Reply
+    requires partition { p < length pools.old.limits }
+    requires well { IsWell (limits_at p pools.old) (part_at p pools.old) }
+    ensures told { result ≡ (mutex_unlock i (part_at p pools.old)).reply }
+    ensures moved { pools.new ≡ put_part p (mutex_unlock i (part_at p pools.old)).part pools.old }
+{
+    match named_mutex(pools, p, &i) {
+        Ok(m) => unlock_named(pools, p, i, m),
+        Err(errno) => refuse(pools, p, i, errno),
+    }
+}
+
+/// The caller's unlock of the mutex named, or EPERM.
+#[tactic(auto, using(ptk_gate_pools::proofs::Parted::parted))]
+fn unlock_named(pools: &mut Pools, p: PartId, i: Invocation, m: MutexNo) -> Reply
+    requires partition { p < length pools.old.limits }
+    requires well { IsWell (limits_at p pools.old) (part_at p pools.old) }
+    ensures told { result ≡ ((refuse EPERM unless owns i.caller (mutex_at (part_at p pools.old).locks m)) (change_locks (after_unlock m) succeed) i (part_at p pools.old)).reply }
+    ensures moved { pools.new ≡ put_part p ((refuse EPERM unless owns i.caller (mutex_at (part_at p pools.old).locks m)) (change_locks (after_unlock m) succeed) i (part_at p pools.old)).part pools.old }
+{
+    let _parts = pools.parts();
+    if pools.owns(p, i.caller, m) {
+        pools.unlock(p, m);
+        succeed(pools, p, i)
+    } else {
+        refuse(pools, p, i, Errno::EPERM)
+    }
+}
+
+/// pthread_mutex_consistent: what the caller's robust mutex guards, which the word at the pointer of a0 names, is sound
+/// again after an owner's end. The errors of `named_mutex`, then EINVAL of a mutex that is not robust and inconsistent,
+/// EPERM of one that the caller does not own (own choice); a refusal changes nothing but a0 and what naming the mutex
+/// set up.
+pub fn mutex_consistent(pools: &mut Pools, p: PartId, i: Invocation) -> Reply
+    requires partition { p < length pools.old.limits }
+    requires well { IsWell (limits_at p pools.old) (part_at p pools.old) }
+    ensures told { result ≡ (mutex_consistent i (part_at p pools.old)).reply }
+    ensures moved { pools.new ≡ put_part p (mutex_consistent i (part_at p pools.old)).part pools.old }
+{
+    match named_mutex(pools, p, &i) {
+        Ok(m) => repair_named(pools, p, i, m),
+        Err(errno) => refuse(pools, p, i, errno),
+    }
+}
+
+/// The mutex named is made consistent, or EINVAL, or EPERM.
+#[tactic(auto, using(ptk_gate_pools::proofs::Parted::parted))]
+fn repair_named(pools: &mut Pools, p: PartId, i: Invocation, m: MutexNo) -> Reply
+    requires partition { p < length pools.old.limits }
+    requires well { IsWell (limits_at p pools.old) (part_at p pools.old) }
+    ensures told { result ≡ ((refuse EINVAL unless is_repairable (mutex_at (part_at p pools.old).locks m)) ((refuse EPERM unless owns i.caller (mutex_at (part_at p pools.old).locks m)) (change_locks (with_soundness Consistent m) succeed)) i (part_at p pools.old)).reply }
+    ensures moved { pools.new ≡ put_part p ((refuse EINVAL unless is_repairable (mutex_at (part_at p pools.old).locks m)) ((refuse EPERM unless owns i.caller (mutex_at (part_at p pools.old).locks m)) (change_locks (with_soundness Consistent m) succeed)) i (part_at p pools.old)).part pools.old }
+{
+    let _parts = pools.parts();
+    if !is_repairable(pools, p, m) {
+        return refuse(pools, p, i, Errno::EINVAL);
+    }
+    if !pools.owns(p, i.caller, m) {
+        return refuse(pools, p, i, Errno::EPERM);
+    }
+    pools.make_consistent(p, m);
+    succeed(pools, p, i)
+}
+
+/// Whether the mutex is robust and inconsistent.
+#[tactic(auto, using(crate::proofs::States::states))]
+fn is_repairable(pools: &Pools, p: PartId, m: MutexNo) -> bool
+    requires partition { p < length pools.now.limits }
+    ensures { result ≡ is_repairable (mutex_at (part_at p pools.now).locks m) }
+{
+    let _parts = pools.parts();
+    is_state_repairable(pools.mutex(p, m))
+}
+
+/// Whether a mutex of this state is there, robust and inconsistent.
+fn is_state_repairable(state: Option<MutexState>) -> bool
+    ensures { result ≡ is_repairable (option_map (mutex_with []) state) }
+{
+    match state {
+        Some(state) => state.is_robust && is_inconsistent(state.soundness),
+        None => false,
+    }
+}
+
+/// Whether an owner ended, and the mutex was not made consistent since.
+fn is_inconsistent(soundness: Soundness) -> bool
+    ensures { result ≡ is_inconsistent soundness }
+{
+    match soundness {
+        Soundness::Inconsistent => true,
+        Soundness::Consistent | Soundness::Unrecoverable => false,
+    }
+}
