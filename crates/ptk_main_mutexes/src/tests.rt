@@ -1,7 +1,8 @@
-//! The worked rows of mutexes. What is wanted was worked out by hand from the costs of calls; the ticks stand beside the
-//! guests, a column for each step's first tick. No guest can read an effective priority: the rows show it by who runs, and
-//! look up the stored one. Memory is ample here, so an answer that it is wanting fails too. A helper that promises nothing
-//! stands between each row and the calls that it tests, so the check does not compute the rows' runs.
+//! The worked rows of mutexes. What is wanted was worked out by hand from the costs of calls; the ticks stand beside
+//! the guests, a column for each step's first tick. No guest can read an effective priority: the rows show it by who
+//! runs, and look up the stored one. Memory is ample here, so an answer that it is wanting fails too. A helper that
+//! promises nothing stands between each row and the calls that it tests, so the check does not compute the rows'
+//! runs.
 
 mod kinds;
 mod priorities;
@@ -30,10 +31,10 @@ const ALONE: [&str; 4] = [
     "[[window]]\nstart = 0\nlength = 1000000\npartition = \"p\"\n",
 ];
 
-/// What guests end with. `create` makes a thread that begins at a1, with argument a2 and priority a3; its number is in a1
-/// then. From its call on, by tick: 0 call, 1 and 2 la, 3 sw, 4 li, 5 ecall, 17 ret, 18 behind the call. The new thread is
-/// ready from 17 on. `letter` is a thread that puts its argument and ends: 0 li, 1 ecall, 5 ret, 6 and 10 the return gate,
-/// 14 ended.
+/// What guests end with. `create` makes a thread that begins at a1, with argument a2 and priority a3; its number is
+/// in a1 then. From its call on, by tick: 0 call, 1 and 2 la, 3 sw, 4 li, 5 ecall, 17 ret, 18 behind the call. The
+/// new thread is ready from 17 on. `letter` is a thread that puts its argument and ends: 0 li, 1 ecall, 5 ret, 6 and
+/// 10 the return gate, 14 ended.
 const LIBRARY: &str = "
 create:
     la a0, attributes

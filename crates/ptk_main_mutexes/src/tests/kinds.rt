@@ -2,8 +2,8 @@
 
 use super::{ALONE, LIBRARY, NUMBERS, P, Sight, check_row, is_report, is_trace};
 
-// Row lock-over-window-end: the instructions are at 0 to 17; the lock, of 8 ticks, does not fit the 2 that are left, and
-// begins at 40.
+// Row lock-over-window-end: the instructions are at 0 to 17; the lock, of 8 ticks, does not fit the 2 that are left,
+// and begins at 40.
 const LOCK_OVER_WINDOW_END: &str =
     "nop\nnop\nnop\nnop\nnop\nnop\nnop\nnop\nnop\nnop\nnop\nnop\nnop\nnop\nnop\nnop\nli a0, 1024\nli a7, 22\necall\n";
 
@@ -43,8 +43,8 @@ fn a_lock_waits_for_the_next_window(rt: HostRuntime) {
     );
 }
 
-// Row recursive-limit. A lock takes 12 ticks with what is beside it, an unlock 14. The window ends at 1000000: the unlock
-// of the tick before it does not fit, and that tick is lost.
+// Row recursive-limit. A lock takes 12 ticks with what is beside it, an unlock 14. The window ends at 1000000: the
+// unlock of the tick before it does not fit, and that tick is lost.
 const RECURSIVE_LIMIT: &str = "
     li a0, 1024         #   0
     li a1, 2            #   1  RECURSIVE
@@ -170,8 +170,9 @@ fn a_lock_of_ones_own_mutex_goes_by_its_type(rt: HostRuntime) {
     );
 }
 
-// Row edge-pointers: every call on a mutex with each of three bad pointers, then a lock at the last word of memory. Main
-// exits with the first reply that is not 14. With c ticks for the call a round takes 10 + 3 c: 28, 28, 34, 28, 40, 28.
+// Row edge-pointers: every call on a mutex with each of three bad pointers, then a lock at the last word of memory.
+// Main exits with the first reply that is not 14. With c ticks for the call a round takes 10 + 3 c: 28, 28, 34, 28,
+// 40, 28.
 const EDGE_POINTERS: &str = "
     la s1, calls        #   0
     li s2, 14           #   2
@@ -303,8 +304,8 @@ fn what_a_refused_call_set_up_stays(rt: HostRuntime) {
     );
 }
 
-// Row number-one-reused, where main owns a mutex when it ends: nobody owns it then, the later thread 1 neither. That thread
-// puts its replies to unlock and trylock, each 48 more.
+// Row number-one-reused, where main owns a mutex when it ends: nobody owns it then, the later thread 1 neither. That
+// thread puts its replies to unlock and trylock, each 48 more.
 const NUMBER_ONE_REUSED: &str = "
     li a0, 1024         #   0
     li a7, 22           #   1  mutex_lock

@@ -2,8 +2,8 @@
 
 use super::{ALONE, LIBRARY, NUMBERS, P, Sight, check_row, is_report};
 
-// Row inherit-basic. Low is main, 1; high, 2, makes `m`, between them, and `o`, of low's priority, before it locks. Low then
-// runs before both; after its unlock it stands first in the line, so later it runs before `o`.
+// Row inherit-basic. Low is main, 1; high, 2, makes `m`, between them, and `o`, of low's priority, before it locks.
+// Low then runs before both; after its unlock it stands first in the line, so later it runs before `o`.
 const INHERIT_BASIC: &str = "
     li a0, 1            #   0  low
     li a1, 5            #   1
@@ -94,8 +94,8 @@ fn mutexes_are_a_partitions_own(rt: HostRuntime) {
     );
 }
 
-// Row inherit-cycle, without a deadline. A, 2, at 2 owns mutex 1 and waits for mutex 2; B, 3, at 3 owns mutex 2 and waits
-// for mutex 1; H, 4, at 10 locks mutex 1. Main, at 1, then unlocks mutex 3, and sets H to 1.
+// Row inherit-cycle, without a deadline. A, 2, at 2 owns mutex 1 and waits for mutex 2; B, 3, at 3 owns mutex 2 and
+// waits for mutex 1; H, 4, at 10 locks mutex 1. Main, at 1, then unlocks mutex 3, and sets H to 1.
 const INHERIT_CYCLE: &str = "
     li a0, 1            #   0
     li a1, 1            #   1
@@ -172,9 +172,9 @@ fn a_cycle_is_raised_as_a_whole(rt: HostRuntime) {
     check_row(&rt, rt.alloc(), &ALONE, &source, &sights, 182, want);
 }
 
-// Row two-step-chain. A is main, 1, at 2 and owns mutex 1; B, 2, at 3 owns mutex 2 and waits for mutex 1; C, 3, at 9 waits
-// for mutex 2; `x`, 4, at 5 is ready. The protocol of mutex 1 stands between the two parts. The second column of ticks is
-// for the protocol NONE, where x runs before A.
+// Row two-step-chain. A is main, 1, at 2 and owns mutex 1; B, 2, at 3 owns mutex 2 and waits for mutex 1; C, 3, at 9
+// waits for mutex 2; `x`, 4, at 5 is ready. The protocol of mutex 1 stands between the two parts. The second column
+// of ticks is for the protocol NONE, where x runs before A.
 const CHAIN: &str = "
     li a0, 1            #   0
     li a1, 2            #   1
@@ -271,9 +271,9 @@ fn a_mutex_of_protocol_none_ends_a_chain(rt: HostRuntime) {
     check_row(&rt, rt.alloc(), &ALONE, &source, &sights, 191, want);
 }
 
-// Row inherit-after-handover. O is main, 1, at 2; `x`, 2, at 5, `y`, 3, at 9 and `z`, 4, wait for its mutex in this order.
-// z begins at 10, so that it comes to wait, and O then sets it to 7. Each of them, once it has the mutex, puts its letter,
-// sets itself to 3 and unlocks; the ticks beside are those of x, y and z.
+// Row inherit-after-handover. O is main, 1, at 2; `x`, 2, at 5, `y`, 3, at 9 and `z`, 4, wait for its mutex in this
+// order. z begins at 10, so that it comes to wait, and O then sets it to 7. Each of them, once it has the mutex, puts
+// its letter, sets itself to 3 and unlocks; the ticks beside are those of x, y and z.
 const HANDOVER: &str = "
     li a0, 1            #   0
     li a1, 2            #   1

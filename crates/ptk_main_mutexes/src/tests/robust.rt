@@ -128,8 +128,8 @@ fn an_inconsistent_mutex_that_is_unlocked_is_lost(rt: HostRuntime) {
     check_row(&rt, rt.alloc(), &ALONE, &source, &sights, 148, want);
 }
 
-// Row consistent-refusals. Thread 2, at 20, ends as the owner of the robust RECURSIVE mutex at 1032, which is then free and
-// inconsistent: main does not own it at first, and then recovers it.
+// Row consistent-refusals. Thread 2, at 20, ends as the owner of the robust RECURSIVE mutex at 1032, which is then
+// free and inconsistent: main does not own it at first, and then recovers it.
 const CONSISTENT_REFUSALS: &str = "
     li a0, 1024         #   0
     li a7, 20           #   1  mutex_init
