@@ -1,5 +1,5 @@
 -- Lists made for each section.
-use Rattle.std.proofs.Common.{◌≡◌, ℕ, ◌≤◌, zero, suc, List, length, [], ◌∷◌, map, refl, sym, ◌∙◌, ap}
+use Rattle.std.proofs.Common.{◌≡◌, ℕ, ◌≤◌, zero, suc, List, length, [], ◌∷◌, map, refl, sym, ap}
 use Rattle.std.specs.Prelude.{None, replicate}
 use Rattle.std.proofs.lemmas.List.{length-map, length-replicate}
 use Rattle.ptk_words.specs.declared.sections.Limits.{Limits}

@@ -1,6 +1,6 @@
 -- Stored priorities stay the effective ones where threads change.
-use Rattle.std.proofs.Common.{◌≡◌, ◌≢◌, ℕ, ◌<◌, zero, suc, List, [], ◌∷◌, length, map, fold, max, get_or, refl, sym, ◌∙◌, ap, ◌⊎◌, inl, inr, subst}
-use Rattle.std.specs.Prelude.{Bool, true, false, Option, Some, None, is_some, option_map, option_and_then, unwrap_or}
+use Rattle.std.proofs.Common.{◌≡◌, ◌≢◌, ℕ, ◌<◌, zero, suc, List, [], ◌∷◌, length, map, fold, max, refl, sym, ◌∙◌, ap, ◌⊎◌, inl, inr, subst}
+use Rattle.std.specs.Prelude.{false, Option, Some, None, is_some, option_map, option_and_then, unwrap_or}
 use Rattle.std.proofs.Math.ListN.{set}
 use Rattle.std.proofs.lemmas.Bool.{cases_eq}
 use Rattle.std.proofs.lemmas.List.{get_or-set_other, length-set}
@@ -10,7 +10,7 @@ use Rattle.ptk_words.specs.declared.threads.Wait.{Wait}
 use Rattle.ptk_words_parted.specs.Parts.{part_of}
 use Rattle.ptk_words_model.specs.State.{Mutex}
 use Rattle.ptk_words_model.specs.Chain.{greatest_leading}
-use Rattle.ptk_words_model.specs.Priority.{assigned_of, ceiling_for, held_of, mutex_of_wait, awaited, inheritor_of, next_of, effective_priorities}
+use Rattle.ptk_words_model.specs.Priority.{ceiling_for, held_of, mutex_of_wait, awaited, inheritor_of, next_of, effective_priorities}
 use Rattle.ptk_threads.specs.Table.{ThreadTable, thread_in, stored_left, with_changed, with_slot, with_left, with_wait}
 use Rattle.ptk_threads.proofs.Slots.{length-pool_changed}
 use Rattle.ptk_threads.proofs.Pools.{pool_get-changed, pool_get-changed_other, part_of-set}
