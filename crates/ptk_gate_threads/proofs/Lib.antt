@@ -1,3 +1,4 @@
 pub mod Decoding
-pub mod Endings
+pub mod Owners
 pub mod Leaving
+pub mod Endings
