@@ -8,3 +8,5 @@ pub mod Whole
 pub mod Handovers
 pub mod Sizes
 pub mod Ends
+pub mod Unlocks
+pub mod Moves

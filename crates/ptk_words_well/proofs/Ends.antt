@@ -22,7 +22,8 @@ use Rattle.ptk_words_locks.proofs.Lined.{AreLined, AreOthers, ready_waits, ready
 use Rattle.ptk_words_locks.proofs.Threads.{changed_same, idle_awaits}
 use Rattle.ptk_words_locks.proofs.Waiting.{AreWaiting, AreSameWaits, IsJoinChange, waiting_same, waiting_joined}
 use Rattle.ptk_words_locks.proofs.Whole.{AreLocks}
-use Rattle.ptk_words_locks.proofs.Ends.{locks_owner_end, owns_none, end_same, length-owner_end_threads, length-owner_end_mutexes}
+use Rattle.ptk_words_locks.proofs.Sizes.{length-owner_end_threads, length-owner_end_mutexes}
+use Rattle.ptk_words_locks.proofs.Ends.{locks_owner_end, owns_none, end_same}
 use Rattle.ptk_words_well.proofs.Whole.{lined_of, waiting_of, locks_of, well_scheduled, well_locks, used_others}
 use Rattle.ptk_words_well.proofs.Exclusion.{awaits_other, ended_owns, exclusion_unowning}
 use Rattle.ptk_words_well.proofs.Threads.{used_changed_at}
@@ -62,11 +63,8 @@ well_gone : (limits : Limits) (u : ℕ) (running : Option ℕ) (s : Part) → wa
 well_gone limits u running s free single out stops lined none well =
     let after : List (Option Thread) = pool_set s.threads u None in
     let same : AreSameWaits s.threads after = record { wait = freed_same wait_of u s.threads (sym free); joiner = freed_same joiner_of u s.threads (sym single) } in
-    (
-        lined_others u s.threads after s.line running (freed_others u s.threads) out stops lined,
-        waiting_same s.threads after s.console.waiters same (freed_ended u s.threads well.ended_wait) (waiting_of limits s well),
-        exclusion_freed u s.threads s.mutexes free none well.exclusion
-    )
+    let waiting : AreWaiting after s.console.waiters = waiting_same s.threads after s.console.waiters same (freed_ended u s.threads well.ended_wait) (waiting_of limits s well) in
+    (lined_others u s.threads after s.line running (freed_others u s.threads) out stops lined, waiting, exclusion_freed u s.threads s.mutexes free none well.exclusion)
 
 used_freed : (n u : ℕ) (threads : List (Option Thread)) → ((t : ℕ) → used_of (pool_get threads t) < n) → (t : ℕ) → used_of (pool_get (pool_set threads u None) t) < n
 used_freed n u threads each = used_others n u threads (pool_set threads u None) (freed_others u threads) (rw (free_own u threads) (each 0)) each

@@ -26,7 +26,9 @@ use Rattle.ptk_words_model.specs.MutexCalls.{kind_of, protocol_of, is_robust_typ
 use Rattle.ptk_words_well.specs.Well.{IsWell}
 use Rattle.ptk_words_locks.proofs.Pools.{length-pool_set, length-changed}
 use Rattle.ptk_words_locks.proofs.Whole.{AreLocks}
-use Rattle.ptk_words_locks.proofs.Moves.{running_after, locks_lock_move, locks_trylock_move, locks_unlock, locks_consistent, locks_init, locks_destroy, length-unlock_threads, length-unlock_mutexes}
+use Rattle.ptk_words_locks.proofs.Sizes.{length-move_threads, length-move_mutexes, length-unlock_threads, length-unlock_mutexes}
+use Rattle.ptk_words_locks.proofs.Moves.{running_after, locks_lock_move, locks_trylock_move, locks_consistent, locks_init, locks_destroy}
+use Rattle.ptk_words_locks.proofs.Unlocks.{locks_unlock}
 use Rattle.ptk_words_well.proofs.Whole.{locks_of, well_locks}
 use Rattle.ptk_words_well.proofs.Effects.{length-with_bytes}
 use Rattle.ptk_words_well.proofs.Parts.{well_memory}
@@ -58,7 +60,7 @@ pub well_new_mutex : (limits : Limits) (m : ℕ) (kind : MutexKind) (protocol : 
 well_new_mutex limits m kind protocol is_robust s free well =
     let found : IsFree s.mutexes m = least_free_is s.mutexes m free in
     well_with limits (λ locks. record locks { mutexes = pool_set locks.mutexes m (Some (new_mutex kind protocol is_robust)) }) s refl (length-pool_set s.mutexes m (Some (new_mutex kind protocol is_robust)))
-    (locks_init limits.interval m kind protocol is_robust s.running s.console.waiters s.locks found.free (locks_of limits s well)) well
+    (locks_init limits.interval m s.running s.console.waiters kind protocol is_robust s.locks found.free (locks_of limits s well)) well
 
 -- the number of a mutex that is not locked gets free
 pub well_no_mutex : (limits : Limits) (m : ℕ) (s : Part) → is_locked (mutex_at s.locks m) ≡ false → IsWell limits s → IsWell limits (with_pool_mutex m None s)
@@ -66,11 +68,11 @@ well_no_mutex limits m s free well =
     well_with limits (λ locks. record locks { mutexes = pool_set locks.mutexes m None }) s refl (length-pool_set s.mutexes m None)
     (locks_destroy limits.interval m s.running s.console.waiters s.locks free (locks_of limits s well)) well
 
--- an owner unlocks the mutex
-pub well_unlock : (limits : Limits) (t m : ℕ) (s : Part) → owns t (mutex_at s.locks m) ≡ true → IsWell limits s → IsWell limits (with_locks (after_unlock m) s)
-well_unlock limits t m s own well =
+-- the mutex is unlocked
+pub well_unlock : (limits : Limits) (m : ℕ) (s : Part) → IsWell limits s → IsWell limits (with_locks (after_unlock m) s)
+well_unlock limits m s well =
     well_with limits (after_unlock m) s (length-unlock_threads m s.locks) (length-unlock_mutexes m s.locks)
-    (locks_unlock limits.interval t m s.running s.console.waiters s.locks own (locks_of limits s well)) well
+    (locks_unlock limits.interval m s.running s.console.waiters s.locks (locks_of limits s well)) well
 
 -- what the mutex guards is sound again
 pub well_consistent : (limits : Limits) (m : ℕ) (s : Part) → IsWell limits s → IsWell limits (with_locks (with_soundness Consistent m) s)
@@ -114,22 +116,26 @@ well_named i s next runs well each = well_unless i.limits EFAULT (is_pointer s i
 
 -- ---- a move on a mutex
 
--- the caller goes on with the mutex or without it, and this in a0
-well_moved : (limits : Limits) (f : Locks → Locks) (word : ℕ) (i : Invocation) (s : Part) → s.running ≡ Some i.caller → length (f s.locks).threads ≡ length s.threads → length (f s.locks).mutexes ≡ length s.mutexes
-    → AreLocks limits.interval (Some i.caller) s.console.waiters (f s.locks) → IsWell limits s → IsWell limits (told (Some word) i (with_locks f s)).part
-well_moved limits f word i s runs threads mutexes are well =
+-- a move that does not wait, and this in a0
+moved : (limits : Limits) (move : LockMove) (m word : ℕ) (i : Invocation) (s : Part) → s.running ≡ Some i.caller → AreLocks limits.interval (Some i.caller) s.console.waiters (after_move move i.caller m (MutexWait m None) s.locks)
+    → IsWell limits s → IsWell limits (told (Some word) i (with_locks (after_move move i.caller m (MutexWait m None)) s)).part
+moved limits move m word i s runs are well =
+    let f : Locks → Locks = after_move move i.caller m (MutexWait m None) in
     let running : Option ℕ → Type 0 = λ (running : Option ℕ). AreLocks limits.interval running s.console.waiters (f s.locks) in
+    let threads : length (f s.locks).threads ≡ length s.threads = length-move_threads move i.caller m (MutexWait m None) s.locks in
+    let mutexes : length (f s.locks).mutexes ≡ length s.mutexes = length-move_mutexes move i.caller m (MutexWait m None) s.locks in
     well_replied limits i.caller (word ∷ []) (with_locks f s) (well_with limits f s threads mutexes (subst running (sym runs) are) well)
 
--- where the move leaves threads and mutexes whole, a call that makes it does so too
+-- where the move leaves threads, line and mutexes whole, a call that makes it leaves the state so
 move_at : (move : LockMove) (m : ℕ) (i : Invocation) (s : Part) → s.running ≡ Some i.caller
     → AreLocks i.limits.interval (running_after move i.caller) s.console.waiters (after_move move i.caller m (MutexWait m None) s.locks) → IsWell i.limits s → IsWell i.limits (make_move move m None i s).part
-move_at Takes m i s runs are well = well_moved i.limits (after_move Takes i.caller m (MutexWait m None)) 0 i s runs refl (length-changed m _ s.mutexes) are well
-move_at Recovers m i s runs are well = well_moved i.limits (after_move Recovers i.caller m (MutexWait m None)) (errno_number EOWNERDEAD) i s runs refl (length-changed m _ s.mutexes) are well
-move_at Counts m i s runs are well = well_moved i.limits (after_move Counts i.caller m (MutexWait m None)) 0 i s runs refl (length-changed m _ s.mutexes) are well
+move_at Takes m i s runs are well = moved i.limits Takes m 0 i s runs are well
+move_at Recovers m i s runs are well = moved i.limits Recovers m (errno_number EOWNERDEAD) i s runs are well
+move_at Counts m i s runs are well = moved i.limits Counts m 0 i s runs are well
 move_at Waits m i s runs are well =
-    well_locks i.limits s (after_move Waits i.caller m (MutexWait m None) s.locks) None (length-changed i.caller _ s.threads) (length-changed m _ s.mutexes) are (λ e. refl) well
-move_at (Refuses e) m i s runs are well = well_moved i.limits (λ locks. locks) (errno_number e) i s runs refl refl are well
+    well_locks i.limits s (after_move Waits i.caller m (MutexWait m None) s.locks) None
+    (length-move_threads Waits i.caller m (MutexWait m None) s.locks) (length-move_mutexes Waits i.caller m (MutexWait m None) s.locks) are (λ e. refl) well
+move_at (Refuses e) m i s runs are well = moved i.limits (Refuses e) m (errno_number e) i s runs are well
 
 -- the threads, line and mutexes where the caller runs
 caller_locks : (i : Invocation) (s : Part) → s.running ≡ Some i.caller → IsWell i.limits s → AreLocks i.limits.interval (Some i.caller) s.console.waiters s.locks
@@ -173,7 +179,7 @@ pub well_mutex_unlock : Keeps mutex_unlock
 well_mutex_unlock i s runs well =
     well_named i s _ runs well
     (λ m u runs within well. well_unless i.limits EPERM (owns i.caller (mutex_at u.locks m)) _ i u well
-    (λ own. well_success i.limits [] i (with_locks (after_unlock m) u) (well_unlock i.limits i.caller m u own well)))
+    (λ own. well_success i.limits [] i (with_locks (after_unlock m) u) (well_unlock i.limits m u well)))
 
 pub well_mutex_consistent : Keeps mutex_consistent
 well_mutex_consistent i s runs well =
