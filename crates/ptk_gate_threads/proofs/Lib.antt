@@ -1,3 +1,4 @@
+pub mod Chosen
 pub mod Decoding
 pub mod Owners
 pub mod Leaving
