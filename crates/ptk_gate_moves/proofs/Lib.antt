@@ -1,5 +1,4 @@
 pub mod Registers
 pub mod Creations
-pub mod Priorities
 pub mod Ready
 pub mod Locked

@@ -57,6 +57,13 @@ impl Pools {
         &self.threads
     }
 
+    /// The mutexes of all partitions.
+    pub fn mutexes(&self) -> &Mutexes
+        ensures { result.now ≡ self.now.mutexes }
+    {
+        &self.mutexes
+    }
+
     /// The memory of all partitions.
     pub fn regions(&self) -> &Regions
         ensures { result.now ≡ self.now.memory }

@@ -7,7 +7,7 @@
 //! One function writes a mutex (`change`), and after every change the partition's priorities are all computed again.
 //! Dear to prove are that the stored priorities choose the heir (`proofs/Locked`) and the calls of many moves
 //! (`proofs/Steps`). Below stand `ptk_mutex_slots`, with one place and one partition's priorities, `ptk_threads` and
-//! `ptk_ready`; nothing above uses it yet.
+//! `ptk_ready`; above, `ptk_gate_pools` joins it to the slot table and the line.
 #![tactic(auto)]
 
 mod ends;
