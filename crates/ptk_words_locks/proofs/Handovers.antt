@@ -84,7 +84,7 @@ locks_free interval m running waiters locks none are =
 -- ---- a waiter that leaves
 
 -- what a waiter's leaving changes of the threads
-pub handed_await : (t : ℕ) (move : LockMove) (threads : List (Option Thread)) → IsAwaitChange t threads (pool_changed t (handed move) threads)
+handed_await : (t : ℕ) (move : LockMove) (threads : List (Option Thread)) → IsAwaitChange t threads (pool_changed t (handed move) threads)
 handed_await t move threads = record {
   awaits = λ u ne. ap awaited (changed_other t u (handed move) threads ne);
   alive = changed_same is_alive t (handed move) threads (handed_alive move (pool_get threads t));
@@ -101,7 +101,7 @@ ended_handed t m move threads waits ended u e =
     ap wait_of (changed_other t u (handed move) threads ne) ∙ ended u dead
 
 -- the threads' waits, one waiter woken
-pub waiting_handed : (t m : ℕ) (move : LockMove) (threads : List (Option Thread)) (waiters : List ℕ) → awaited (pool_get threads t) ≡ Some m → AreWaiting threads waiters → AreWaiting (pool_changed t (handed move) threads) waiters
+waiting_handed : (t m : ℕ) (move : LockMove) (threads : List (Option Thread)) (waiters : List ℕ) → awaited (pool_get threads t) ≡ Some m → AreWaiting threads waiters → AreWaiting (pool_changed t (handed move) threads) waiters
 waiting_handed t m move threads waiters waits are =
     let after : List (Option Thread) = pool_changed t (handed move) threads in
     let change : IsWaitChange t threads after = record {
@@ -112,7 +112,7 @@ waiting_handed t m move threads waiters waits are =
     waiting_unlisted t threads after waiters change (unlisted_mutex m (wait_of (pool_get threads t)) (awaits_wait m (pool_get threads t) waits) (are.untimed t)) (rw (handed_idle t move threads) unlisted_none) are
 
 -- the line, one waiter woken to its tail
-pub lined_handed : (t m : ℕ) (move : LockMove) (threads : List (Option Thread)) (line : List ℕ) (running : Option ℕ) → is_alive (pool_get threads t) ≡ true → awaited (pool_get threads t) ≡ Some m → AreLined threads line running → AreLined (pool_changed t (handed move) threads) (line ++ t ∷ []) running
+lined_handed : (t m : ℕ) (move : LockMove) (threads : List (Option Thread)) (line : List ℕ) (running : Option ℕ) → is_alive (pool_get threads t) ≡ true → awaited (pool_get threads t) ≡ Some m → AreLined threads line running → AreLined (pool_changed t (handed move) threads) (line ++ t ∷ []) running
 lined_handed t m move threads line running alive waits lined =
     let after : List (Option Thread) = pool_changed t (handed move) threads in
     let idle : is_ready (pool_get threads t) ≡ false = awaits_not_ready m (pool_get threads t) waits in

@@ -1,7 +1,6 @@
 -- The threads of the line and the running one are ready, and none stands in two places.
 use Rattle.std.proofs.Common.{◌≡◌, ℕ, true, false, not, List, [], ◌∷◌, ◌++◌, refl, sym, ◌∙◌, ap, inl, inr}
-use Rattle.std.specs.Prelude.{◌≢◌, Option, Some, None, nat_eq, is_none}
-use Rattle.std.specs.List.{IsDistinct}
+use Rattle.std.specs.Prelude.{◌≢◌, Option, Some, None, is_none}
 use Rattle.std.proofs.lemmas.Bool.{false≢true, false_from_ne_true, and_parts}
 use Rattle.ptk_words.specs.Pools.{pool_get, without, is_in}
 use Rattle.ptk_words.specs.declared.threads.Thread.{Thread}
@@ -9,14 +8,8 @@ use Rattle.ptk_words_model.specs.Mutex.{wait_of}
 use Rattle.ptk_words_model.specs.Unwinding.{is_alive}
 use Rattle.ptk_words.specs.Threads.{is_ended}
 use Rattle.ptk_words_locks.specs.Locks.{is_ready}
+pub use Rattle.ptk_words_locks.specs.Locks.{AreLined}
 use Rattle.ptk_words_locks.proofs.Lines.{in_head, in_push, out_head, out_push, without_own, in_without, distinct_head, distinct_push, distinct_without}
-
--- the threads of the line and the running one are ready, and stand in one place (XSH 2.8.4)
-pub record AreLined (threads : List (Option Thread)) (line : List ℕ) (running : Option ℕ) : Type 0 where
-  pub line_ready : (t : ℕ) → is_in t line ≡ true → is_ready (pool_get threads t) ≡ true
-  pub line_distinct : IsDistinct nat_eq line
-  pub running_ready : (t : ℕ) → running ≡ Some t → is_ready (pool_get threads t) ≡ true
-  pub running_out : (t : ℕ) → running ≡ Some t → is_in t line ≡ false
 
 -- all numbers but one have the same thread as before (own)
 abbrev pub AreOthers : ℕ → List (Option Thread) → List (Option Thread) → Type 0

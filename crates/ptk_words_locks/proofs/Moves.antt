@@ -23,6 +23,7 @@ use Rattle.ptk_words_model.specs.MutexCalls.{is_locked}
 use Rattle.ptk_words_model.specs.Mutex.{mutex_at, with_soundness, new_mutex, wait_of, waiters_of, count_of, is_free, is_above_ceiling, OwnerMoves, own_lock_move, own_trylock_move, free_move, owner_move, lock_move, trylock_move, after_wait, after_count, after_move}
 use Rattle.ptk_words_model.specs.Unwinding.{is_alive}
 use Rattle.ptk_words_locks.specs.Locks.{is_ready, joiner_of}
+pub use Rattle.ptk_words_locks.specs.LockLaws.{running_after}
 use Rattle.ptk_words_locks.proofs.Pools.{each_changed, changed_own, changed_other}
 use Rattle.ptk_words_locks.proofs.Lined.{AreLined, ready_waits, ready_alive, lined_stopped, lined_others}
 use Rattle.ptk_words_locks.proofs.Waiting.{AreWaiting, IsWaitChange, unlisted_none, unlisted_mutex, waiting_unlisted}
@@ -163,14 +164,6 @@ may_trylock locks t (Some x) =
     (may_free x.soundness (Some x)) (λ locked. may_trylock_own x.kind x) (λ locked. tt))
 
 -- ---- a lock and a trylock
-
--- who runs after the running thread's move: none where it waits (pthread_mutex_lock)
-abbrev pub running_after : LockMove → ℕ → Option ℕ
-running_after Takes t = Some t
-running_after Recovers t = Some t
-running_after Counts t = Some t
-running_after Waits t = None
-running_after (Refuses e) t = Some t
 
 locks_move : (interval : ℕ) (move : LockMove) (t m : ℕ) (waiters : List ℕ) (locks : Locks) → MayMake move (mutex_at locks m) → AreLocks interval (Some t) waiters locks
     → AreLocks interval (running_after move t) waiters (after_move move t m (MutexWait m None) locks)

@@ -1,7 +1,6 @@
 -- The waits of the threads agree with the console's waiters and with the joiners.
-use Rattle.std.proofs.Common.{◌≡◌, ℕ, true, false, List, [], ◌∷◌, ◌++◌, refl, sym, ◌∙◌, ap, inl, inr}
-use Rattle.std.specs.Prelude.{◌≢◌, Option, Some, None, nat_eq}
-use Rattle.std.specs.List.{IsDistinct}
+use Rattle.std.proofs.Common.{◌≡◌, ℕ, false, List, [], ◌∷◌, ◌++◌, refl, sym, ◌∙◌, ap, inl, inr}
+use Rattle.std.specs.Prelude.{◌≢◌, Option, Some, None}
 use Rattle.std.proofs.lemmas.Bool.{cases_eq, false_from_ne_true}
 use Rattle.ptk_words.specs.Pools.{pool_get, without, is_in}
 use Rattle.ptk_words.specs.declared.threads.Thread.{Thread}
@@ -12,17 +11,8 @@ use Rattle.ptk_words_model.specs.Mutex.{wait_of}
 use Rattle.ptk_words_model.specs.Withdrawal.{deadline_of_wait}
 use Rattle.ptk_words_model.specs.Unwinding.{is_alive}
 use Rattle.ptk_words_locks.specs.Locks.{joiner_of}
+pub use Rattle.ptk_words_locks.specs.Locks.{AreWaiting}
 use Rattle.ptk_words_locks.proofs.Lines.{in_push, own_push, still_push, without_other, in_without, distinct_push, distinct_without}
-
--- the console's waiters wait for input, a thread's joiner waits for its end, and each such wait is listed so; an ended thread waits for nothing, and no wait has a deadline (pthread_join, pthread_exit)
-pub record AreWaiting (threads : List (Option Thread)) (waiters : List ℕ) : Type 0 where
-  pub waiters_wait : (t : ℕ) → is_in t waiters ≡ true → wait_of (pool_get threads t) ≡ Some InputWait
-  pub waiters_distinct : IsDistinct nat_eq waiters
-  pub waits_listed : (t : ℕ) → wait_of (pool_get threads t) ≡ Some InputWait → is_in t waiters ≡ true
-  pub joiners_wait : (t u : ℕ) → joiner_of (pool_get threads u) ≡ Some t → wait_of (pool_get threads t) ≡ Some (JoinWait u)
-  pub joins_listed : (t u : ℕ) → wait_of (pool_get threads t) ≡ Some (JoinWait u) → joiner_of (pool_get threads u) ≡ Some t
-  pub ended_wait : (t : ℕ) → is_alive (pool_get threads t) ≡ false → wait_of (pool_get threads t) ≡ None
-  pub untimed : (t : ℕ) → deadline_of_wait (wait_of (pool_get threads t)) ≡ None
 
 -- ---- no wait begins or ends
 

@@ -3,20 +3,14 @@ use Rattle.std.specs.Prelude.{ℕ, ◌<◌, List, Option, option_map}
 use Rattle.ptk_words_model.specs.State.{Mutex, Locks}
 use Rattle.ptk_words_model.specs.Priority.{thread_at}
 use Rattle.ptk_words_model.specs.Mutex.{mutex_at, with_mutex}
-use Rattle.ptk_words_locks.specs.Locks.{used_of, AreMutexes}
+use Rattle.ptk_words_locks.specs.Locks.{used_of}
+pub use Rattle.ptk_words_locks.specs.Locks.{AreLocks}
 use Rattle.ptk_words_locks.proofs.Pools.{each_changed}
 use Rattle.ptk_words_locks.proofs.Lined.{AreLined}
 use Rattle.ptk_words_locks.proofs.Waiting.{AreWaiting}
 use Rattle.ptk_words_locks.proofs.Exclusion.{IsExclusive, IsServed, exclusive_at, mutexes_from, exclusion_changed}
 
--- the threads, the line and the mutexes are whole, with this running thread and these waiters for input, and no thread has used its interval
-pub record AreLocks (interval : ℕ) (running : Option ℕ) (waiters : List ℕ) (locks : Locks) : Type 0 where
-  pub lined : AreLined locks.threads locks.line running
-  pub waiting : AreWaiting locks.threads waiters
-  pub exclusion : AreMutexes locks.threads locks.mutexes
-  pub used : (t : ℕ) → used_of (thread_at locks t) < interval
-
--- the same, but that a free mutex may have waiters (own)
+-- threads, line and mutexes are whole, but that a free mutex may have waiters (own)
 pub record AreQueued (interval : ℕ) (running : Option ℕ) (waiters : List ℕ) (locks : Locks) : Type 0 where
   pub lined : AreLined locks.threads locks.line running
   pub waiting : AreWaiting locks.threads waiters

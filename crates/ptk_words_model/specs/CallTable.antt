@@ -6,8 +6,9 @@ use Rattle.ptk_words_model.specs.Calls.{no_call}
 use Rattle.ptk_words_model.specs.Steps.{Row}
 use Rattle.ptk_words_model.specs.ConsoleCalls.{exit_call, console_put, console_get}
 use Rattle.ptk_words_model.specs.ThreadCalls.{create, pthread_exit, join, detach, self, yield, setschedparam, getschedparam, setschedprio}
+use Rattle.ptk_words_model.specs.MutexCalls.{mutex_init, mutex_destroy, mutex_lock, mutex_trylock, mutex_unlock, mutex_consistent}
 
--- what a call comes to; clocks, mutexes, condition variables, cancellation and keys name their definitions when code carries them, and answer ENOSYS until then (own)
+-- what a call comes to; clocks, the timed lock, condition variables, cancellation and keys name their definitions when code carries them, and answer ENOSYS until then (own)
 abbrev pub answer_of : Call → Row
 answer_of call.Exit = exit_call
 answer_of call.ConsolePut = console_put
@@ -23,13 +24,13 @@ answer_of call.SchedYield = yield
 answer_of call.PthreadSetschedparam = setschedparam
 answer_of call.PthreadGetschedparam = getschedparam
 answer_of call.PthreadSetschedprio = setschedprio
-answer_of call.MutexInit = no_call
-answer_of call.MutexDestroy = no_call
-answer_of call.MutexLock = no_call
-answer_of call.MutexTrylock = no_call
+answer_of call.MutexInit = mutex_init
+answer_of call.MutexDestroy = mutex_destroy
+answer_of call.MutexLock = mutex_lock
+answer_of call.MutexTrylock = mutex_trylock
 answer_of call.MutexTimedlock = no_call
-answer_of call.MutexUnlock = no_call
-answer_of call.MutexConsistent = no_call
+answer_of call.MutexUnlock = mutex_unlock
+answer_of call.MutexConsistent = mutex_consistent
 answer_of call.CondInit = no_call
 answer_of call.CondDestroy = no_call
 answer_of call.CondWait = no_call

@@ -30,6 +30,7 @@ use Rattle.ptk_words.specs.Calls.{call_of}
 use Rattle.ptk_words_locks.specs.Locks.{joiner_of}
 use Rattle.ptk_words_well.specs.Well.{IsWell}
 use Rattle.ptk_words_locks.proofs.Lined.{ready_alive}
+use Rattle.ptk_words_well.proofs.MutexCalls.{well_mutex_init, well_mutex_destroy, well_mutex_lock, well_mutex_trylock, well_mutex_unlock, well_mutex_consistent}
 use Rattle.ptk_words_well.proofs.Steps.{well_refusal, well_success, either_well, well_unless, well_given, well_valid, well_using, well_cancellation_answer, Keeps, well_no_call}
 use Rattle.ptk_words_well.proofs.Threads.{well_policy, well_priority, well_detached}
 use Rattle.ptk_words_well.proofs.Parts.{well_output, well_taken, well_halt}
@@ -180,13 +181,13 @@ well_answer call.SchedYield = well_yield
 well_answer call.PthreadSetschedparam = well_setschedparam
 well_answer call.PthreadGetschedparam = well_getschedparam
 well_answer call.PthreadSetschedprio = well_setschedprio
-well_answer call.MutexInit = well_no_call
-well_answer call.MutexDestroy = well_no_call
-well_answer call.MutexLock = well_no_call
-well_answer call.MutexTrylock = well_no_call
+well_answer call.MutexInit = well_mutex_init
+well_answer call.MutexDestroy = well_mutex_destroy
+well_answer call.MutexLock = well_mutex_lock
+well_answer call.MutexTrylock = well_mutex_trylock
 well_answer call.MutexTimedlock = well_no_call
-well_answer call.MutexUnlock = well_no_call
-well_answer call.MutexConsistent = well_no_call
+well_answer call.MutexUnlock = well_mutex_unlock
+well_answer call.MutexConsistent = well_mutex_consistent
 well_answer call.CondInit = well_no_call
 well_answer call.CondDestroy = well_no_call
 well_answer call.CondWait = well_no_call
