@@ -1,6 +1,6 @@
 -- The consoles of all partitions, and what one call does to one of them.
-use Rattle.std.specs.Prelude.{◌≡◌, ℕ, ◌<◌, ◌≤◌, List, [], length, take, drop, map, slice_get, slice_index_or, slice_set, Option, Some, None, option_map, if◌then◌else◌, nat_eq, false}
-use Rattle.std.specs.List.{All, IsDistinct, list_any}
+use Rattle.std.specs.Prelude.{◌≡◌, ℕ, List, [], length, take, drop, map, slice_get, slice_index_or, slice_set, Option, Some, None, option_map, if◌then◌else◌, false}
+use Rattle.ptk_words.specs.Pools.{is_in}
 use Rattle.ptk_words.specs.declared.sections.Arrival.{Arrival}
 use Rattle.ptk_words.specs.declared.sections.Limits.{Limits}
 use Rattle.ptk_words_model.specs.State.{Console}
@@ -66,7 +66,7 @@ after_put limit byte console = if is_full limit console then console else with_o
 
 -- the thread does not wait
 abbrev pub IsNotWaiting : ℕ → Console → Type 0
-IsNotWaiting t console = list_any (nat_eq t) console.waiters ≡ false
+IsNotWaiting t console = is_in t console.waiters ≡ false
 
 -- ---- what the crate keeps of one partition
 
@@ -78,9 +78,3 @@ pub record LimitedConsole : Type 0 where
 -- the consoles and the numbers of all partitions
 abbrev pub table_of : List LimitedConsole → ConsoleTable
 table_of consoles = record { consoles = map (λ c. c.console) consoles; limits = map (λ c. c.limits) consoles }
-
--- the numbers of threads, no two equal
-pub record AreWaiters (waiters : List ℕ) : Type 0 where
-  pub distinct : IsDistinct nat_eq waiters
-  pub positive : All (λ t. 0 < t) waiters
-  pub in_range : All (λ t. t ≤ 32) waiters

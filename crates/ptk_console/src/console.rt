@@ -1,12 +1,12 @@
 //! The console of one partition.
 
-ghost use Rattle.std.specs.Prelude.{◌≡◌, ◌<◌, ◌+◌, ◌^◌, not, length, is_some, vec_capacity, IfOk};
-ghost use Rattle.ptk_words.specs.Pools.{without};
+ghost use Rattle.std.specs.Prelude.{◌≡◌, ◌<◌, ◌+◌, ◌^◌, not, length, is_some, IfOk};
 ghost use Rattle.ptk_words_model.specs.Console.{is_full, with_input, with_waiter, without_waiter};
 ghost use Rattle.ptk_console.specs.ConsoleTable.{IsNotWaiting, after_next, after_put, first_byte, fresh_console, next_byte, without_first, without_next};
 
 use circular_buffer::HeapCircularBuffer;
-use ptk_words::{Arrival, Limits, THREAD_LIMIT, ThreadNo, Tick};
+use ptk_ready::Queue;
+use ptk_words::{Arrival, Limits, ThreadNo, Tick};
 use std::alloc::{AllocError, Global};
 use std::marker::Model;
 
@@ -19,18 +19,18 @@ pub struct PartitionConsole {
     ring: HeapCircularBuffer<u8>,
     dropped: u64,
     output: Vec<u8>,
-    waiters: Vec<ThreadNo>,
+    waiters: Queue,
 }
 
 impl Model for PartitionConsole {
     ghost use Rattle.std.specs.Prelude.{◌≡◌, ◌≤◌, ◌<◌, ◌+◌, ◌^◌, length, drop, vec_capacity};
-    ghost use Rattle.ptk_console.specs.ConsoleTable.{AreWaiters, LimitedConsole};
+    ghost use Rattle.ptk_console.specs.ConsoleTable.{LimitedConsole};
 
     ghost Value = { LimitedConsole };
 
-    ghost view = { λ a. record { console = record { coming = drop a.arrived a.input.items; ring = a.ring.items; dropped = a.dropped; output = a.output.items; waiters = a.waiters.items }; limits = a.limits } };
+    ghost view = { λ a. record { console = record { coming = drop a.arrived a.input.items; ring = a.ring.items; dropped = a.dropped; output = a.output.items; waiters = a.waiters }; limits = a.limits } };
 
-    ghost invariant = { λ a. (a.arrived ≤ length a.input.items) × (a.ring.capacity ≡ a.limits.ring) × (length a.output.items ≤ a.limits.output) × (a.limits.output ≤ vec_capacity a.output) × AreWaiters a.waiters.items × (32 ≤ vec_capacity a.waiters) × (a.dropped + length a.input.items < 2 ^ 64 + a.arrived) };
+    ghost invariant = { λ a. (a.arrived ≤ length a.input.items) × (a.ring.capacity ≡ a.limits.ring) × (length a.output.items ≤ a.limits.output) × (a.limits.output ≤ vec_capacity a.output) × (a.dropped + length a.input.items < 2 ^ 64 + a.arrived) };
 }
 
 impl PartitionConsole {
@@ -45,7 +45,7 @@ impl PartitionConsole {
         let input = Vec::from_slice(alloc, input)?;
         let ring = HeapCircularBuffer::with_capacity(alloc, limits.ring as usize)?;
         let output = Vec::with_capacity(alloc, limits.output as usize)?;
-        let waiters = Vec::with_capacity(alloc, THREAD_LIMIT as usize)?;
+        let waiters = Queue::new(alloc)?;
         Ok(PartitionConsole {
             limits,
             input,
@@ -148,7 +148,7 @@ impl PartitionConsole {
     pub fn waiters(&self) -> &[ThreadNo]
         ensures { result.now ≡ self.now.console.waiters }
     {
-        self.waiters.as_slice()
+        self.waiters.threads()
     }
 
     /// Makes a thread that does not wait the last waiter.
@@ -156,22 +156,13 @@ impl PartitionConsole {
         requires { IsNotWaiting thread self.old.console }
         ensures { self.new ≡ record self.old { console = with_waiter thread self.old.console } }
     {
-        let _number = thread.number();
-        self.waiters.push_reserved(thread);
+        self.waiters.push_tail(thread);
     }
 
     /// Takes a thread out of the waiters. One that does not wait changes nothing.
     pub fn remove_waiter(&mut self, thread: ThreadNo)
         ensures { self.new ≡ record self.old { console = without_waiter thread self.old.console } }
     {
-        take_out(&mut self.waiters, thread);
+        self.waiters.remove(thread);
     }
-}
-
-// The threads but one, in their order.
-fn take_out(threads: &mut Vec<ThreadNo>, thread: ThreadNo)
-    ensures items { threads.new.items ≡ without thread threads.old.items }
-    ensures capacity { vec_capacity threads.new ≡ vec_capacity threads.old }
-{
-    threads.retain(|other| other.number() != thread.number());
 }

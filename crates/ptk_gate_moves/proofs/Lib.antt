@@ -1,4 +1,3 @@
 pub mod Registers
 pub mod Creations
-pub mod Priorities
 pub mod Ready

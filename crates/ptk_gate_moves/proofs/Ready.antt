@@ -9,9 +9,7 @@ use Rattle.std.proofs.lemmas.Bool.{eqb-true}
 use Rattle.ptk_words.specs.Pools.{without, is_in}
 use Rattle.ptk_words_model.specs.declared.Runner.{Runner}
 use Rattle.ptk_words_model.specs.Schedule.{is_running}
-use Rattle.ptk_words_model.specs.Mutex.{owns_raising}
 use Rattle.ptk_words_model.specs.Decision.{runner_at}
-use Rattle.ptk_gate_moves.proofs.Priorities
 use Rattle.ptk_words_locks.specs.Locks.{is_ready}
 use Rattle.ptk_words_well.specs.Well.{IsWell}
 use Rattle.ptk_words_locks.proofs.Lines.{without_own}
@@ -41,7 +39,4 @@ pub target_in_use : (word : ℕ) (o : Option Thread) (r : Runner) → runner_at 
 target_in_use word None r e = absurd (cc e)
 target_in_use word (Some thread) r e = refl
 
-pub raising_none : (limits : Limits) (s : Part) (t : ℕ) → IsWell limits s → owns_raising s.locks t ≡ false
-raising_none limits s t well = Rattle.ptk_gate_moves.proofs.Priorities.raising_none limits s t well
-
-pub ruleset ready = (running_in_use, running_fresh, lined_in_use, running_is, out_again, any_is_in, target_in_use, raising_none)
+pub ruleset ready = (running_in_use, running_fresh, lined_in_use, running_is, out_again, any_is_in, target_in_use)

@@ -1,34 +1,27 @@
 -- Lists made for each section.
-use Rattle.std.proofs.Common.{◌≡◌, ℕ, ◌≤◌, zero, suc, List, length, [], ◌∷◌, map, refl, sym, ◌∙◌, ap}
-use Rattle.std.specs.Prelude.{None, replicate, slice_index_or}
+use Rattle.std.proofs.Common.{◌≡◌, ℕ, ◌≤◌, zero, suc, List, length, [], ◌∷◌, map, refl, sym, ap}
+use Rattle.std.specs.Prelude.{None, replicate}
 use Rattle.std.proofs.lemmas.List.{length-map, length-replicate}
 use Rattle.ptk_words.specs.declared.sections.Limits.{Limits}
 use Rattle.ptk_words_parted.specs.Parts.{part_of, filled}
-use Rattle.ptk_console.specs.ConsoleTable.{no_limits}
 use Rattle.ptk_words_model.specs.State.{Console}
+use Rattle.ptk_words_model.specs.Priority.{effective_priorities}
+use Rattle.ptk_mutex.proofs.Ready.{effective_blank}
 use Rattle.ptk_gate_pools.specs.Blank.{blank}
 use Rattle.ptk_gate_pools.specs.Kept.{AreParts, AreStored, per_section}
-use Rattle.ptk_gate_pools.proofs.Stored.{level, priorities_levels}
 
 pub filled_per : {A : Type 0} (count : Limits → ℕ) (a : A) (limits : List Limits) → map (filled a) (map count limits) ≡ per_section count a limits
 filled_per count a [] = refl
 filled_per count a (l ∷ ls) = ap (λ rows. replicate (count l) a ∷ rows) (filled_per count a ls)
 
-level_replicate : (n : ℕ) → map level (replicate n None) ≡ replicate n 0
-level_replicate zero = refl
-level_replicate (suc n) = ap (λ xs. 0 ∷ xs) (level_replicate n)
-
-blank_row : (limits : List Limits) (p : ℕ) → part_of (per_section (λ l. l.threads) 0 limits) p ≡ map level (part_of (per_section (λ l. l.threads) None limits) p)
+blank_row : (limits : List Limits) (p : ℕ) → part_of (per_section (λ l. l.threads) 0 limits) p ≡ effective_priorities (part_of (per_section (λ l. l.threads) None limits) p) (part_of (per_section (λ l. l.mutexes) None limits) p)
 blank_row [] p = refl
-blank_row (l ∷ ls) zero = sym (level_replicate l.threads)
+blank_row (l ∷ ls) zero = sym (effective_blank l.threads l.mutexes)
 blank_row (l ∷ ls) (suc p) = blank_row ls p
 
 -- free numbers have priority 0
-pub stored_blank : (limits : List Limits) → AreStored (per_section (λ l. l.threads) 0 limits) (per_section (λ l. l.threads) None limits) limits
-stored_blank limits =
-    record {
-      each = λ p. blank_row limits p ∙ sym (priorities_levels (part_of (per_section (λ l. l.threads) None limits) p) (slice_index_or limits p no_limits).mutexes);
-    }
+pub stored_blank : (limits : List Limits) → AreStored (per_section (λ l. l.threads) 0 limits) (per_section (λ l. l.threads) None limits) (per_section (λ l. l.mutexes) None limits)
+stored_blank limits = record { each = λ p. blank_row limits p }
 
 -- every component of the pools before any image has an entry for each section
 pub parts_blank : (limits : List Limits) (consoles : List Console) → length limits ≤ 8 → length consoles ≡ length limits → AreParts (length limits) (blank limits consoles)

@@ -1,6 +1,8 @@
 pub mod Parted
 pub mod Numbers
 pub mod Stored
+pub mod Vacant
+pub mod Locking
 pub mod Built
 pub mod Ranks
 pub mod Opened

@@ -4,9 +4,6 @@ use Rattle.std.specs.Prelude.{Option, Some, is_some, nat_lt, find, fold, max, �
 use Rattle.std.proofs.lemmas.Bool.{false≢true, eq-eqb, lt-ltb}
 use Rattle.std.proofs.lemmas.Bool.Decides.{leb_tells}
 use Rattle.ptk_words.specs.Pools.{first_of_greatest}
-use Rattle.ptk_words_model.specs.State.{Locks}
-use Rattle.ptk_words_model.specs.Priority.{effective_priority}
-use Rattle.ptk_words_model.specs.Schedule.{first_ready}
 
 found_first : (t : ℕ) (o : Option ℕ) (b : Bool) → b ≡ true → is_some (cond b (Some t) o) ≡ true
 found_first t o true e = refl
@@ -48,5 +45,5 @@ first_some : (rank : ℕ → ℕ) (ts : List ℕ) → is_some (first_of_greatest
 first_some rank [] = refl
 first_some rank (t ∷ ts) = chosen rank t ts ∙ sym (lt-ltb 0 (length (t ∷ ts)) (omega arith))
 
-pub ready_seen : (o : Option ℕ) (b : Bool) (locks : Locks) → o ≡ first_ready locks → b ≡ is_some o → b ≡ nat_lt 0 (length locks.line)
-ready_seen o b locks e seen = seen ∙ ap is_some e ∙ first_some (effective_priority locks) locks.line
+pub ready_seen : (o : Option ℕ) (b : Bool) (rank : ℕ → ℕ) (ts : List ℕ) → o ≡ first_of_greatest rank ts → b ≡ is_some o → b ≡ nat_lt 0 (length ts)
+ready_seen o b rank ts e seen = seen ∙ ap is_some e ∙ first_some rank ts

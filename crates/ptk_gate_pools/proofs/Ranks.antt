@@ -1,58 +1,57 @@
 -- The stored priorities choose as the effective ones do, and what the line's choice is.
-use Rattle.std.proofs.Common.{◌≡◌, ℕ, zero, suc, List, [], ◌∷◌, map, replicate, refl, sym, ◌∙◌, ap}
-use Rattle.std.specs.Prelude.{Option, Some, None, slice_index_or}
-use Rattle.ptk_words.specs.Pools.{first_of_greatest}
-use Rattle.ptk_words.specs.declared.sections.Limits.{Limits}
+use Rattle.std.proofs.Common.{arith, ◌≡◌, ℕ, ◌<◌, ◌≤◌, zero, suc, List, [], ◌∷◌, length, refl, sym, ◌∙◌, ap, subst}
+use Rattle.std.specs.Prelude.{Option, Some, None, IsSome, slice_get}
+use Rattle.std.specs.Option.{option_flatten}
+use Rattle.std.proofs.lemmas.List.{set-get_or}
+use Rattle.ptk_words.specs.Pools.{pool_get, first_of_greatest}
 use Rattle.ptk_words.specs.declared.threads.Thread.{Thread}
 use Rattle.ptk_words_parted.specs.Parts.{part_of}
 use Rattle.ptk_words_model.specs.State.{Mutex, Part}
 use Rattle.ptk_words_model.specs.Decision.{first_waiter}
 use Rattle.ptk_words_model.specs.Schedule.{first_ready, after_choice_between}
 use Rattle.ptk_words_model.specs.Priority.{effective_of}
-use Rattle.ptk_words_well.proofs.Priorities.{effective_free}
-use Rattle.ptk_words_well.proofs.Stored.{priority_in, effective_list, listed_priority}
 use Rattle.ptk_threads.specs.Table.{stored_of}
-use Rattle.ptk_console.specs.ConsoleTable.{no_limits}
-use Rattle.std.proofs.lemmas.List.{set-get_or}
-use Rattle.ptk_gate_pools.specs.Kept.{Kept, AreStored, per_section, part_at, put_part}
+use Rattle.ptk_mutex.proofs.Locked.{stored_at, first_same, ranks_same}
+use Rattle.ptk_gate_pools.specs.Kept.{Kept, AreStored, AreInUse, part_at, put_part}
 
--- a section's mutexes, all free
-free_mutexes : (limits : List Limits) (p : ℕ) → part_of (per_section {A = Option Mutex} (λ l. l.mutexes) None limits) p ≡ replicate (slice_index_or limits p no_limits).mutexes None
-free_mutexes [] p = refl
-free_mutexes (l ∷ limits) zero = refl
-free_mutexes (l ∷ limits) (suc p) = free_mutexes limits p
+used_at : (i : ℕ) (threads : List (Option Thread)) → IsSome (option_flatten (slice_get threads i)) → i < length threads
+used_at i [] used = absurd (cc used)
+used_at zero (x ∷ threads) used = omega arith
+used_at (suc i) (x ∷ threads) used = let rest : i < length threads = used_at i threads used in omega (arith, rest)
 
-rank_at : (threads : List (Option Thread)) (n t : ℕ) → stored_of (map priority_in threads) t ≡ effective_of threads (replicate n None) t
-rank_at threads n zero = sym (effective_free threads n zero)
-rank_at threads n (suc i) = listed_priority threads i ∙ sym (effective_free threads n (suc i))
+-- a thread in use has a number of the pool
+used_number : (t : ℕ) (threads : List (Option Thread)) → IsSome (pool_get threads t) → (0 < t) × (t ≤ length threads)
+used_number zero threads used = absurd (cc used)
+used_number (suc i) threads used = let rest : i < length threads = used_at i threads used in (omega arith, omega (arith, rest))
 
--- the stored priority of a number is its effective one
-pub stored_rank : (p t : ℕ) (stored : List (List ℕ)) (threads : List (List (Option Thread))) (limits : List Limits) → AreStored stored threads limits
-    → stored_of (part_of stored p) t ≡ effective_of (part_of threads p) (part_of (per_section {A = Option Mutex} (λ l. l.mutexes) None limits) p) t
-stored_rank p t stored threads limits are =
-    ap (λ row. stored_of row t) (are.each p ∙ effective_list (part_of threads p) (slice_index_or limits p no_limits).mutexes)
-    ∙ rank_at (part_of threads p) (slice_index_or limits p no_limits).mutexes t
-    ∙ ap (λ mutexes. effective_of (part_of threads p) mutexes t) (sym (free_mutexes limits p))
+-- the stored priority of a thread in use is its effective one
+pub stored_rank : (p t : ℕ) (stored : List (List ℕ)) (threads : List (List (Option Thread))) (mutexes : List (List (Option Mutex))) → AreStored stored threads mutexes → IsSome (pool_get (part_of threads p) t)
+    → stored_of (part_of stored p) t ≡ effective_of (part_of threads p) (part_of mutexes p) t
+stored_rank p t stored threads mutexes are used =
+    let number = used_number t (part_of threads p) used in
+    stored_at (part_of threads p) (part_of mutexes p) (part_of stored p) t (are.each p) number.0 number.1
 
 -- so the first of the greatest is the same
-pub stored_choice : (p : ℕ) (ts : List ℕ) (stored : List (List ℕ)) (threads : List (List (Option Thread))) (limits : List Limits) → AreStored stored threads limits
-    → first_of_greatest (stored_of (part_of stored p)) ts ≡ first_of_greatest (effective_of (part_of threads p) (part_of (per_section {A = Option Mutex} (λ l. l.mutexes) None limits) p)) ts
-stored_choice p ts stored threads limits are = ap (λ (rank : ℕ → ℕ). first_of_greatest rank ts) (λ i t. stored_rank p t stored threads limits are i)
+stored_choice : (p : ℕ) (ts : List ℕ) (stored : List (List ℕ)) (threads : List (List (Option Thread))) (mutexes : List (List (Option Mutex))) → AreStored stored threads mutexes → AreInUse (part_of threads p) ts
+    → first_of_greatest (stored_of (part_of stored p)) ts ≡ first_of_greatest (effective_of (part_of threads p) (part_of mutexes p)) ts
+stored_choice p ts stored threads mutexes are used =
+    first_same (stored_of (part_of stored p)) (effective_of (part_of threads p) (part_of mutexes p)) ts
+    (ranks_same (stored_of (part_of stored p)) (effective_of (part_of threads p) (part_of mutexes p)) ts (λ t i. stored_rank p t stored threads mutexes are (used t i)))
 
-pub stored_first : (p : ℕ) (o : Option ℕ) (ts : List ℕ) (stored : List (List ℕ)) (threads : List (List (Option Thread))) (limits : List Limits) → o ≡ first_of_greatest (stored_of (part_of stored p)) ts → AreStored stored threads limits
-    → o ≡ first_ready (record { threads = part_of threads p; line = ts; mutexes = part_of (per_section {A = Option Mutex} (λ l. l.mutexes) None limits) p })
-stored_first p o ts stored threads limits e are = e ∙ stored_choice p ts stored threads limits are
+pub stored_first : (p : ℕ) (o : Option ℕ) (ts : List ℕ) (stored : List (List ℕ)) (threads : List (List (Option Thread))) (mutexes : List (List (Option Mutex))) → o ≡ first_of_greatest (stored_of (part_of stored p)) ts → AreStored stored threads mutexes
+    → AreInUse (part_of threads p) ts → o ≡ first_ready (record { threads = part_of threads p; line = ts; mutexes = part_of mutexes p })
+stored_first p o ts stored threads mutexes e are used = e ∙ stored_choice p ts stored threads mutexes are used
 
 -- the first waiter by the stored priorities
-pub stored_waiter : (p : ℕ) (o : Option ℕ) (s : Part) (ws : List ℕ) (stored : List (List ℕ)) (threads : List (List (Option Thread))) (limits : List Limits) → o ≡ first_of_greatest (stored_of (part_of stored p)) ws → ws ≡ s.console.waiters → AreStored stored threads limits
-    → s.threads ≡ part_of threads p → s.mutexes ≡ part_of (per_section {A = Option Mutex} (λ l. l.mutexes) None limits) p → o ≡ first_waiter s
-stored_waiter p o s ws stored threads limits e ws_is are same free =
+pub stored_waiter : (p : ℕ) (o : Option ℕ) (s : Part) (ws : List ℕ) (stored : List (List ℕ)) (threads : List (List (Option Thread))) (mutexes : List (List (Option Mutex))) → o ≡ first_of_greatest (stored_of (part_of stored p)) ws → ws ≡ s.console.waiters → AreStored stored threads mutexes
+    → s.threads ≡ part_of threads p → s.mutexes ≡ part_of mutexes p → AreInUse s.threads s.console.waiters → o ≡ first_waiter s
+stored_waiter p o s ws stored threads mutexes e ws_is are same pool used =
     e ∙ ap (first_of_greatest (stored_of (part_of stored p))) ws_is
-    ∙ stored_choice p s.console.waiters stored threads limits are
-    ∙ ap (λ (ts : List (Option Thread)). first_of_greatest (effective_of ts (part_of (per_section {A = Option Mutex} (λ l. l.mutexes) None limits) p)) s.console.waiters) (sym same)
-    ∙ ap (λ (ms : List (Option Mutex)). first_of_greatest (effective_of s.threads ms) s.console.waiters) (sym free)
+    ∙ stored_choice p s.console.waiters stored threads mutexes are (subst (λ (ts : List (Option Thread)). AreInUse ts s.console.waiters) same used)
+    ∙ ap (λ (ts : List (Option Thread)). first_of_greatest (effective_of ts (part_of mutexes p)) s.console.waiters) (sym same)
+    ∙ ap (λ (ms : List (Option Mutex)). first_of_greatest (effective_of s.threads ms) s.console.waiters) (sym pool)
 
-pub ruleset ranks = (stored_rank, stored_choice, stored_first)
+pub ruleset ranks = (stored_rank, stored_first)
 
 -- a part put back as it was
 pub put_same : (p : ℕ) (kept : Kept) → kept ≡ put_part p (part_at p kept) kept

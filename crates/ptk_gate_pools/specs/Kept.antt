@@ -1,5 +1,6 @@
 -- The tables of all partitions, by component, and of them one partition's part.
-use Rattle.std.specs.Prelude.{◌≡◌, ℕ, ◌<◌, ◌≤◌, List, [], length, map, replicate, slice_index_or, slice_set, Option, None}
+use Rattle.std.specs.Prelude.{◌≡◌, ℕ, ◌<◌, ◌≤◌, true, List, [], length, map, replicate, slice_index_or, slice_set, Option, None, IsSome}
+use Rattle.ptk_words.specs.Pools.{pool_get, is_in}
 use Rattle.ptk_words.specs.declared.faults.Status.{Status}
 use Rattle.ptk_words.specs.declared.faults.Status.TheVariants.{Active}
 use Rattle.ptk_words.specs.declared.sections.Entry.{Entry}
@@ -106,6 +107,10 @@ pub record AreWell (kept : Kept) : Type 0 where
   pub parts : AreParts (length kept.limits) kept
   pub wells : (p : ℕ) → p < length kept.limits → IsWell (limits_at p kept) (part_at p kept)
 
--- each stored priority is the effective one, for every partition; no mutex is in use (pthread_mutexattr_getprotocol)
-pub record AreStored (stored : List (List ℕ)) (threads : List (List (Option Thread))) (limits : List Limits) : Type 0 where
-  pub each : (p : ℕ) → part_of stored p ≡ effective_priorities (part_of threads p) (replicate (slice_index_or limits p no_limits).mutexes None)
+-- these numbers are of threads in use
+abbrev pub AreInUse : List (Option Thread) → List ℕ → Type 0
+AreInUse threads ts = (t : ℕ) → is_in t ts ≡ true → IsSome (pool_get threads t)
+
+-- each stored priority is the effective one, for every partition (pthread_mutexattr_getprotocol)
+pub record AreStored (stored : List (List ℕ)) (threads : List (List (Option Thread))) (mutexes : List (List (Option Mutex))) : Type 0 where
+  pub each : (p : ℕ) → part_of stored p ≡ effective_priorities (part_of threads p) (part_of mutexes p)

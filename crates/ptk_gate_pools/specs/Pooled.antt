@@ -4,14 +4,14 @@ use Rattle.ptk_words_model.specs.Keys.{no_values}
 use Rattle.ptk_gate_pools.specs.declared.pools.Pools.TheInside.{Inside}
 use Rattle.ptk_gate_pools.specs.Kept.{Kept, AreStored, per_section}
 
--- the tables: mutexes, condition variables, keys and cleanup handlers are not in use
+-- the tables: condition variables, keys and cleanup handlers are not in use
 abbrev pub kept_of : Inside → Kept
 kept_of a =
     record {
       memory = a.regions;
       threads = a.threads.threads;
       lines = a.line;
-      mutexes = per_section (λ l. l.mutexes) None a.limits.items;
+      mutexes = a.mutexes;
       conditions = per_section (λ l. l.conditions) None a.limits.items;
       running = a.running.items;
       cancellations = a.cancellations;
@@ -30,7 +30,9 @@ pub record ArePooled (a : Inside) : Type 0 where
   pub few : length a.limits.items ≤ 8
   pub memory : length a.regions ≡ length a.limits.items
   pub threads : length a.threads.threads ≡ length a.limits.items
+  pub priorities : length a.threads.stored ≡ length a.limits.items
   pub lines : length a.line ≡ length a.limits.items
+  pub mutexes : length a.mutexes ≡ length a.limits.items
   pub running : length a.running.items ≡ length a.limits.items
   pub cancellations : length a.cancellations ≡ length a.limits.items
   pub rounds : length a.rounds ≡ length a.limits.items
@@ -38,4 +40,4 @@ pub record ArePooled (a : Inside) : Type 0 where
   pub sections : a.consoles.limits ≡ a.limits.items
   pub statuses : length a.statuses.items ≡ length a.limits.items
   pub lasts : length a.lasts.items ≡ length a.limits.items
-  pub stored : AreStored a.threads.stored a.threads.threads a.limits.items
+  pub stored : AreStored a.threads.stored a.threads.threads a.mutexes

@@ -6,7 +6,7 @@ ghost use Rattle.ptk_words_model.specs.Console.{without_waiter};
 ghost use Rattle.ptk_words_model.specs.Decision.{first_waiter};
 ghost use Rattle.ptk_console.specs.ConsoleTable.{next_byte};
 ghost use Rattle.ptk_console.specs.ConsoleTable as console;
-ghost use Rattle.ptk_gate_pools.specs.Kept.{part_at, put_part, limits_at};
+ghost use Rattle.ptk_gate_pools.specs.Kept.{part_at, put_part, limits_at, AreInUse};
 ghost use Rattle.ptk_gate_pools.specs.Moves.{with_next_taken};
 
 use crate::pools::Pools;
@@ -14,10 +14,12 @@ use ptk_ready::first_of_greatest;
 use ptk_words::{PartId, ThreadNo, Tick};
 
 impl Pools {
-    /// The waiter for input of greatest effective priority, the earliest among equals; None where no thread waits.
+    /// The waiter for input of greatest effective priority, the earliest among equals, where all of them are in use; None
+    /// where no thread waits.
     #[tactic(auto, using(crate::proofs::Ranks::stored_waiter))]
     pub fn first_waiter(&self, p: PartId) -> Option<ThreadNo>
         requires partition { p < length self.now.limits }
+        requires in_use { AreInUse (part_at p self.now).threads (part_at p self.now).console.waiters }
         ensures { result ≡ first_waiter (part_at p self.now) }
     {
         first_of_greatest(&self.threads, p, self.consoles.waiters(p))

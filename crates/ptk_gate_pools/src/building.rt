@@ -10,6 +10,7 @@ ghost use Rattle.ptk_gate_pools.specs.Kept.{per_section};
 
 use crate::pools::Pools;
 use ptk_console::Consoles;
+use ptk_mutex::Mutexes;
 use ptk_ready::VecLine;
 use ptk_regions::Regions;
 use ptk_threads::Threads;
@@ -30,11 +31,13 @@ impl Pools {
         requires sections { length limits.now ≤ 8 }
         requires inputs { length inputs.now ≡ length limits.now }
         requires threads { All (λ count. count ≤ 32) (map (λ l. l.threads) limits.now) }
+        requires mutexes { All (λ count. count ≤ 64) (map (λ l. l.mutexes) limits.now) }
         ensures { IfOk result (λ pools. pools ≡ blank limits.now (map (λ input. fresh_console input.now) inputs.now)) }
     {
         let regions = regions_of(alloc, limits)?;
         let threads = threads_of(alloc, limits)?;
         let line = VecLine::build(alloc, limits.len())?;
+        let mutexes = mutexes_of(alloc, limits)?;
         let running = none_running(alloc, limits.len())?;
         let cancellations = cancellations_of(alloc, limits)?;
         let rounds = rounds_of(alloc, limits)?;
@@ -46,6 +49,7 @@ impl Pools {
             regions,
             threads,
             line,
+            mutexes,
             running,
             cancellations,
             rounds,
@@ -111,6 +115,16 @@ fn threads_of(alloc: Global, limits: &[Limits]) -> Result<Threads, AllocError>
     Ok(Threads::build(alloc, &counts)?)
 }
 
+/// Every number of a mutex is free.
+#[tactic(auto, using(crate::proofs::Built::built))]
+fn mutexes_of(alloc: Global, limits: &[Limits]) -> Result<Mutexes, AllocError>
+    requires { All (λ count. count ≤ 64) (map (λ l. l.mutexes) limits.now) }
+    ensures { IfOk result (λ mutexes. mutexes ≡ per_section (λ l. l.mutexes) None limits.now) }
+{
+    let counts = mutex_counts_of(alloc, limits)?;
+    Ok(Mutexes::build(alloc, &counts)?)
+}
+
 /// Each thread's cancellation is enabled and deferred.
 #[tactic(auto, using(crate::proofs::Built::built))]
 fn cancellations_of(alloc: Global, limits: &[Limits]) -> Result<Parted<Cancellation>, AllocError>
@@ -153,4 +167,11 @@ fn counts_of(alloc: Global, limits: &[Limits]) -> Result<Vec<u32>, AllocError>
     ensures { IfOk result (λ counts. counts.items ≡ map (λ l. l.threads) limits.now) }
 {
     limits.iter().map(|l| l.threads).collect(alloc)
+}
+
+/// The greatest number of mutexes of each section.
+fn mutex_counts_of(alloc: Global, limits: &[Limits]) -> Result<Vec<u32>, AllocError>
+    ensures { IfOk result (λ counts. counts.items ≡ map (λ l. l.mutexes) limits.now) }
+{
+    limits.iter().map(|l| l.mutexes).collect(alloc)
 }

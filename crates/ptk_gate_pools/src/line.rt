@@ -5,7 +5,7 @@ ghost use Rattle.ptk_words_model.specs.State.{with_locks};
 ghost use Rattle.ptk_words_model.specs.Priority.{thread_at, effective_priority};
 ghost use Rattle.ptk_words_model.specs.Schedule.{at_head, first_ready};
 ghost use Rattle.ptk_words.specs.Pools.{is_in};
-ghost use Rattle.ptk_gate_pools.specs.Kept.{part_at, put_part};
+ghost use Rattle.ptk_gate_pools.specs.Kept.{part_at, put_part, AreInUse};
 ghost use Rattle.ptk_gate_pools.specs.Moves.{with_last, out_of_line};
 
 use crate::pools::Pools;
@@ -53,10 +53,12 @@ impl Pools {
         self.line.remove(&mut self.threads, p, t);
     }
 
-    /// The first thread of the line's greatest effective priority; None of an empty line. Nothing changes.
+    /// The first thread of the line's greatest effective priority, where all of them are in use; None of an empty
+    /// line. Nothing changes.
     #[tactic(auto, using(crate::proofs::Ranks::stored_first))]
     pub fn first_ready(&self, p: PartId) -> Option<ThreadNo>
         requires partition { p < length self.now.limits }
+        requires in_use { AreInUse (part_at p self.now).threads (part_at p self.now).line }
         ensures { result ≡ first_ready (part_at p self.now).locks }
     {
         self.line.first_of_greatest(&self.threads, p)
@@ -67,13 +69,15 @@ impl Pools {
         requires { p < length self.now.limits }
         ensures { result ≡ nat_lt 0 (length (part_at p self.now).line) }
     {
-        self.first_ready(p).is_some()
+        let threads = &self.threads;
+        self.line.first_of_greatest(threads, p).is_some()
     }
 
-    /// The thread's effective priority, 0 of a free number.
+    /// The effective priority of a thread that is in use.
     #[tactic(auto, using(crate::proofs::Ranks::ranks))]
     pub fn effective_priority(&self, p: PartId, t: ThreadNo) -> u8
         requires partition { p < length self.now.limits }
+        requires in_use { IsSome (thread_at (part_at p self.now).locks t) }
         ensures { result ≡ effective_priority (part_at p self.now).locks t }
     {
         self.threads.stored_priority(p, t)

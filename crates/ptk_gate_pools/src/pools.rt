@@ -4,6 +4,7 @@ ghost use Rattle.std.specs.Prelude.{◌≡◌, length};
 ghost use Rattle.ptk_gate_pools.specs.Kept.{AreParts};
 
 use ptk_console::Consoles;
+use ptk_mutex::Mutexes;
 use ptk_ready::VecLine;
 use ptk_regions::Regions;
 use ptk_threads::Threads;
@@ -18,6 +19,7 @@ pub struct Pools {
     pub(crate) regions: Regions,
     pub(crate) threads: Threads,
     pub(crate) line: VecLine,
+    pub(crate) mutexes: Mutexes,
     pub(crate) running: Vec<Option<ThreadNo>>,
     pub(crate) cancellations: Parted<Cancellation>,
     pub(crate) rounds: Parted<Rounds>,
@@ -53,6 +55,13 @@ impl Pools {
         ensures { result.now.threads ≡ self.now.threads }
     {
         &self.threads
+    }
+
+    /// The mutexes of all partitions.
+    pub fn mutexes(&self) -> &Mutexes
+        ensures { result.now ≡ self.now.mutexes }
+    {
+        &self.mutexes
     }
 
     /// The memory of all partitions.

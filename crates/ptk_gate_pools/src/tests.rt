@@ -8,7 +8,8 @@ use std::test::Fail;
 
 /// The numbers of a section with so many threads.
 fn limits_of(threads: u32) -> Limits
-    ensures { result.threads ≡ threads }
+    ensures threads { result.threads ≡ threads }
+    ensures mutexes { result.mutexes ≡ 4 }
 {
     Limits {
         memory: 4096,
@@ -35,6 +36,7 @@ fn builds_for_two_sections(rt: HostRuntime) -> Result<(), Fail> {
     let pools = Pools::build(rt.alloc(), &limits, &inputs)?;
     assert_eq!(rt; pools.parts(), 2);
     assert_eq!(rt; pools.threads().slots().len(), 6);
+    assert_eq!(rt; pools.mutexes().parts(), 2);
     assert_eq!(rt; pools.regions().whole().len(), 8192);
     let second = PartId::new(1);
     assert!(rt; pools.parts() == 2);

@@ -1,38 +1,42 @@
-//! A thread's number, and the fields of its entry. A move of a field leaves a free number free.
+//! A thread's number, and the fields of its entry. A move of a field leaves a free number free. Where a move may change
+//! who raises whom, the partition's stored priorities are computed again.
 
-ghost use Rattle.std.specs.Prelude.{◌≡◌, ◌<◌, length, Some};
+ghost use Rattle.std.specs.Prelude.{◌≡◌, ◌<◌, length, Some, is_some};
 ghost use Rattle.ptk_words.specs.Pools.{least_free};
 ghost use Rattle.ptk_words.specs.Threads.{left_at_end, left_at_detach};
 ghost use Rattle.ptk_words_model.specs.State.{with_locks};
+ghost use Rattle.ptk_words_model.specs.Priority.{mutex_of_wait};
 ghost use Rattle.ptk_words_model.specs.Schedule.{with_thread, with_used};
 ghost use Rattle.ptk_words_model.specs.Unwinding.{without_thread};
 ghost use Rattle.ptk_words_model.specs.Decision.{with_cpu};
 ghost use Rattle.ptk_threads.specs.Table.{with_policy, with_priority, with_joiner, with_result, with_phase, with_wait};
 ghost use Rattle.ptk_gate_pools.specs.Kept.{part_at, put_part};
+ghost use Rattle.ptk_mutex.specs.Tables.{AreLocked};
 ghost use Rattle.ptk_gate_pools.specs.Moves.{with_number, with_left};
 
 use crate::pools::Pools;
-use ptk_ready::Line;
 use ptk_words::{Cpu, PartId, Phase, Policy, Priority, Thread, ThreadNo, Wait};
 
 impl Pools {
     /// The least free number is the thread's.
-    #[tactic(auto, using(crate::proofs::Parted::parted, crate::proofs::Stored::stored, crate::proofs::Numbers::taken))]
+    #[tactic(auto, using(crate::proofs::Parted::parted, crate::proofs::Stored::refreshed, crate::proofs::Numbers::taken))]
     pub fn take_number(&mut self, p: PartId, t: ThreadNo, thread: Thread)
         requires partition { p < length self.old.limits }
         requires free { least_free (part_at p self.old).threads ≡ Some t }
         ensures { self.new ≡ put_part p (with_locks (with_number t thread) (part_at p self.old)) self.old }
     {
         self.threads.create(p, thread);
+        self.mutexes.refresh(&mut self.threads, p);
     }
 
     /// The number becomes free; a free number stays free.
-    #[tactic(auto, using(crate::proofs::Parted::parted, crate::proofs::Stored::stored))]
+    #[tactic(auto, using(crate::proofs::Parted::parted, crate::proofs::Stored::refreshed))]
     pub fn free(&mut self, p: PartId, t: ThreadNo)
         requires partition { p < length self.old.limits }
         ensures { self.new ≡ put_part p (with_locks (without_thread t) (part_at p self.old)) self.old }
     {
         self.threads.free(p, t);
+        self.mutexes.refresh(&mut self.threads, p);
     }
 
     /// The thread has these registers.
@@ -53,16 +57,15 @@ impl Pools {
         self.threads.set_policy(p, t, policy);
     }
 
-    /// The thread has this assigned priority, which with no mutex in use is the effective one (XSH 2.8.4).
-    #[tactic(auto, using(crate::proofs::Parted::parted, crate::proofs::Numbers::changed_none, crate::proofs::Stored::raised))]
+    /// The thread has this assigned priority (XSH 2.8.4).
+    #[tactic(auto, using(crate::proofs::Parted::parted, crate::proofs::Locking::moved))]
     pub fn give_priority(&mut self, p: PartId, t: ThreadNo, priority: Priority)
         requires partition { p < length self.old.limits }
+        requires locked { AreLocked (part_at p self.old).locks }
         ensures { self.new ≡ put_part p (with_locks (with_thread t (with_priority priority)) (part_at p self.old)) self.old }
     {
-        if let Some(_thread) = self.threads.thread(p, t) {
-            self.threads.set_assigned_priority(p, t, priority);
-            self.line.set_priority(&mut self.threads, p, t, priority);
-        }
+        self.mutexes
+            .assign(&self.line, &mut self.threads, p, t, priority);
     }
 
     /// The thread has used so many ticks of its interval (XSH 2.8.4, SCHED_RR).
@@ -75,12 +78,18 @@ impl Pools {
     }
 
     /// The thread waits for this, or for nothing (XSH 2.8.4).
-    #[tactic(auto, using(crate::proofs::Parted::parted, crate::proofs::Stored::stored))]
+    #[tactic(auto, using(crate::proofs::Parted::parted, crate::proofs::Stored::refreshed))]
     pub fn give_wait(&mut self, p: PartId, t: ThreadNo, wait: Option<Wait>)
         requires partition { p < length self.old.limits }
         ensures { self.new ≡ put_part p (with_locks (with_thread t (with_wait wait)) (part_at p self.old)) self.old }
     {
+        let had_mutex = is_for_mutex(&self.threads.wait(p, t));
+        let has_mutex = is_for_mutex(&wait);
         self.threads.set_wait(p, t, wait);
+        if !had_mutex && !has_mutex {
+            return;
+        }
+        self.mutexes.refresh(&mut self.threads, p);
     }
 
     /// The thread is this far (pthread_exit).
@@ -111,20 +120,36 @@ impl Pools {
     }
 
     /// The thread is detached: its number is free where it has ended (pthread_detach).
-    #[tactic(auto, using(crate::proofs::Parted::parted, crate::proofs::Stored::left))]
+    #[tactic(auto, using(crate::proofs::Parted::parted, crate::proofs::Stored::refreshed))]
     pub fn detach(&mut self, p: PartId, t: ThreadNo)
         requires partition { p < length self.old.limits }
         ensures { self.new ≡ put_part p (with_locks (with_left t left_at_detach) (part_at p self.old)) self.old }
     {
         self.threads.detach(p, t);
+        self.mutexes.refresh(&mut self.threads, p);
     }
 
     /// The thread has ended: its number stays with the result until a join or a detachment, or is free (pthread_exit).
-    #[tactic(auto, using(crate::proofs::Parted::parted, crate::proofs::Stored::left))]
+    #[tactic(auto, using(crate::proofs::Parted::parted, crate::proofs::Stored::refreshed))]
     pub fn end(&mut self, p: PartId, t: ThreadNo)
         requires partition { p < length self.old.limits }
         ensures { self.new ≡ put_part p (with_locks (with_left t left_at_end) (part_at p self.old)) self.old }
     {
         self.threads.end(p, t);
+        self.mutexes.refresh(&mut self.threads, p);
+    }
+}
+
+/// Whether the wait is for a mutex.
+fn is_for_mutex(wait: &Option<Wait>) -> bool
+    ensures { result ≡ is_some (mutex_of_wait wait.now) }
+{
+    match wait {
+        Some(Wait::MutexWait(_, _)) | Some(Wait::RelockWait(_, _)) => true,
+        Some(Wait::InputWait)
+        | Some(Wait::SleepWait(_))
+        | Some(Wait::JoinWait(_))
+        | Some(Wait::ConditionWait(_, _, _))
+        | None => false,
     }
 }

@@ -1,5 +1,5 @@
-pub mod Slots
-pub mod Levels
+pub mod Pool
 pub mod Moved
 pub mod Locked
 pub mod Steps
+pub mod Ready

@@ -19,7 +19,7 @@ use Rattle.ptk_words_locks.proofs.Lines.{in_push, in_without, out_push, own_head
 use Rattle.ptk_threads.specs.Table.{stored_of}
 use Rattle.ptk_threads.proofs.Pools.{pool_get-changed, pool_get-changed_other}
 use Rattle.ptk_mutex.specs.Tables.{IsWaiter, AreLocked, MayGet}
-use Rattle.ptk_mutex.proofs.Levels.{length-numbers_to, get_or-numbers_to}
+use Rattle.ptk_mutex_slots.proofs.Levels.{length-numbers_to, get_or-numbers_to}
 
 -- ---- one that waits
 
@@ -43,7 +43,7 @@ waiter_used m k locks waiter = some_of m (pool_get locks.threads k) waiter.waits
 
 -- ---- the choice
 
-stored_at : (threads : List (Option Thread)) (mutexes : List (Option Mutex)) (stored : List ℕ) (k : ℕ) → stored ≡ effective_priorities threads mutexes → 0 < k → k ≤ length threads → stored_of stored k ≡ effective_of threads mutexes k
+pub stored_at : (threads : List (Option Thread)) (mutexes : List (Option Mutex)) (stored : List ℕ) (k : ℕ) → stored ≡ effective_priorities threads mutexes → 0 < k → k ≤ length threads → stored_of stored k ≡ effective_of threads mutexes k
 stored_at threads mutexes stored zero e h le = absurd (omega (arith, h))
 stored_at threads mutexes stored (suc i) e h le =
     let below : i < length threads = omega (arith, le) in
@@ -64,14 +64,14 @@ find_same : (f g : ℕ → ℕ) (most : ℕ) (ks : List ℕ) → map f ks ≡ ma
 find_same f g most [] e = refl
 find_same f g most (k ∷ ks) e = rw (head_same f g k ks e, find_same f g most ks (tail_same f g k ks e)) refl
 
-first_same : (f g : ℕ → ℕ) (ks : List ℕ) → map f ks ≡ map g ks → first_of_greatest f ks ≡ first_of_greatest g ks
+pub first_same : (f g : ℕ → ℕ) (ks : List ℕ) → map f ks ≡ map g ks → first_of_greatest f ks ≡ first_of_greatest g ks
 first_same f g ks same =
     ap (λ most. find (λ k. f k == most) ks) (greatest_same f g 0 ks same) ∙ find_same f g (greatest g ks) ks same
 
 in_tail : (k j : ℕ) (ks : List ℕ) → is_in j ks ≡ true → is_in j (k ∷ ks) ≡ true
 in_tail k j ks e = or_right (j == k) (is_in j ks) e
 
-ranks_same : (f g : ℕ → ℕ) (ks : List ℕ) → ((k : ℕ) → is_in k ks ≡ true → f k ≡ g k) → map f ks ≡ map g ks
+pub ranks_same : (f g : ℕ → ℕ) (ks : List ℕ) → ((k : ℕ) → is_in k ks ≡ true → f k ≡ g k) → map f ks ≡ map g ks
 ranks_same f g [] h = refl
 ranks_same f g (k ∷ ks) h =
     let here : f k ≡ g k = h k (own_head k ks) in
@@ -219,6 +219,19 @@ locked_wait t m wait locks names awake used out locked = record {
         })
       ];
   counts = λ n. let same = count_kept m n (λ (mutex : Mutex). record mutex { waiters = mutex.waiters ++ t ∷ [] }) locks.mutexes (more_count t) (cases_eq n m) in rw same (locked.counts n);
+}
+
+-- a thread that waits for no mutex is woken
+pub locked_wake : (t : ℕ) (f : Thread → Thread) (locks : Locks) → awaited (thread_at locks t) ≡ None → AreLocked locks → AreLocked (at_tail_with f t locks)
+locked_wake t f locks awake locked = record {
+  waiters = λ n k h.
+      let was = locked.waiters n k h in
+      let other : k ≢ t = other_than n t k locks awake was in
+      record {
+        waits = ap awaited (pool_get-changed_other t k f locks.threads other) ∙ was.waits;
+        out = out_push t k locks.line other was.out;
+      };
+  counts = λ n. locked.counts n;
 }
 
 -- ---- a count more

@@ -31,12 +31,16 @@ use Rattle.std.proofs.lemmas.Bool.{ltb-true}
 use Rattle.ptk_words_model.specs.Priority.{assigned_priority, mutex_of_wait}
 use Rattle.ptk_words_model.specs.Mutex.{count_of, own_lock_move, own_trylock_move, owner_move, is_above_ceiling, lock_move, trylock_move, after_move}
 use Rattle.ptk_mutex.specs.Tables.{MayWait}
-use Rattle.ptk_mutex.proofs.Locked.{locked_wait, locked_count}
+use Rattle.ptk_mutex.proofs.Locked.{locked_wait, locked_count, locked_wake}
+use Rattle.std.specs.Prelude.{option_to_list}
+use Rattle.ptk_words.specs.declared.threads.Wait.TheVariants.{RelockWait}
+use Rattle.ptk_words_model.specs.Schedule.{woken_with}
+use Rattle.ptk_words_model.specs.Mutex.{move_reply, after_count, after_relock_move}
 use Rattle.ptk_threads.specs.Table.{ThreadTable}
 use Rattle.ptk_threads.proofs.Pools.{part_of-set}
-use Rattle.ptk_mutex.specs.declared.slot.Change.{Change}
-use Rattle.ptk_mutex.specs.declared.slot.Change.TheVariants.{Take, CountUp, CountDown, Release, Abandon, Mark, Enqueue, Dequeue}
-use Rattle.ptk_mutex.specs.Changes.{mutex_changed, IsQuiet}
+use Rattle.ptk_mutex_slots.specs.declared.slot.Change.{Change}
+use Rattle.ptk_mutex_slots.specs.declared.slot.Change.TheVariants.{Take, CountUp, CountDown, Release, Abandon, Mark, Enqueue, Dequeue}
+use Rattle.ptk_mutex_slots.specs.Changes.{mutex_changed, IsQuiet}
 use Rattle.ptk_mutex.specs.Tables.{locks_at, with_threads, HasPart, AreLocked, AreReady, MayGet}
 use Rattle.ptk_mutex.specs.Moves.{after_change}
 use Rattle.ptk_mutex.proofs.Locked.{IsMild, locked_mild, locked_left, heir_may_get}
@@ -252,3 +256,11 @@ line_after_move Recovers t m wait locks = refl
 line_after_move Counts t m wait locks = refl
 line_after_move Waits t m wait locks = refl
 line_after_move (Refuses e) t m wait locks = refl
+
+-- a re-lock of one that may wait
+pub locked_relock : (made : LockMove) (t m : ℕ) (reply : Option ℕ) (locks : Locks) → (made ≡ Counts → count_of (mutex_at locks m) < COUNT_LIMIT) → MayWait locks t → AreLocked locks → AreLocked (after_relock_move made t m reply locks)
+locked_relock Takes t m reply locks room may locked = locked_wake t (woken_with (option_to_list (move_reply Takes reply))) (after_take t m locks) may.awake (locked_change (Take t) m locks tt locked)
+locked_relock Recovers t m reply locks room may locked = locked_wake t (woken_with (option_to_list (move_reply Recovers reply))) (after_take t m locks) may.awake (locked_change (Take t) m locks tt locked)
+locked_relock Counts t m reply locks room may locked = locked_wake t (woken_with (option_to_list (move_reply Counts reply))) (after_count m locks) may.awake (locked_count m locks (room refl) locked)
+locked_relock Waits t m reply locks room may locked = locked_wait t m (RelockWait m reply) locks refl may.awake may.used may.out locked
+locked_relock (Refuses e) t m reply locks room may locked = locked_wake t (woken_with (option_to_list (move_reply (Refuses e) reply))) locks may.awake locked

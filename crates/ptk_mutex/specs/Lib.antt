@@ -1,5 +1,3 @@
-pub mod Slots
-pub mod Changes
-pub mod Raised
+pub mod Pool
 pub mod Tables
 pub mod Moves

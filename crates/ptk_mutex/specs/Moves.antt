@@ -5,8 +5,8 @@ use Rattle.ptk_words.specs.declared.threads.Wait.TheVariants.{MutexWait}
 use Rattle.ptk_words_model.specs.State.{Locks}
 use Rattle.ptk_words_model.specs.Schedule.{with_thread, after_wake}
 use Rattle.ptk_words_model.specs.Mutex.{mutex_at, with_mutex, lock_move, trylock_move, after_move, without_mutex_waiter}
-use Rattle.ptk_mutex.specs.declared.slot.Change.{Change}
-use Rattle.ptk_mutex.specs.Changes.{mutex_changed}
+use Rattle.ptk_mutex_slots.specs.declared.slot.Change.{Change}
+use Rattle.ptk_mutex_slots.specs.Changes.{mutex_changed}
 
 -- the thread makes its move of lock; where it waits, it has no deadline (pthread_mutex_lock)
 abbrev pub after_lock : ThreadNumber → MutexNumber → Locks → Locks

@@ -1,9 +1,7 @@
 -- The tables of all partitions, and of them one partition's threads, line and mutexes.
-use Rattle.std.specs.Prelude.{IsSome, ◌≡◌, ℕ, ◌<◌, ◌≤◌, true, false, List, [], length, Option, Some, None, slice_set, if◌then◌else◌}
+use Rattle.std.specs.Prelude.{IsSome, ◌≡◌, ℕ, ◌<◌, ◌≤◌, true, false, List, length, Option, Some, None, slice_set}
 use Rattle.ptk_words.specs.Pools.{is_in}
-use Rattle.ptk_words.specs.Threads.{is_ended}
 use Rattle.ptk_words.specs.declared.TheConstants.{COUNT_LIMIT}
-use Rattle.ptk_words.specs.declared.threads.Thread.{Thread}
 use Rattle.ptk_words_parted.specs.Parts.{part_of}
 use Rattle.ptk_words_model.specs.State.{Mutex, Locks}
 use Rattle.ptk_words_model.specs.Priority.{thread_at, awaited, effective_priorities}
@@ -13,10 +11,6 @@ use Rattle.ptk_threads.specs.Table.{ThreadTable}
 -- what the mutex calls read and change of a partition (own)
 abbrev pub locks_at : ℕ → ThreadTable → List (List ℕ) → List (List (Option Mutex)) → Locks
 locks_at p table lines mutexes = record { threads = part_of table.threads p; line = part_of lines p; mutexes = part_of mutexes p }
-
--- threads and mutexes without a line, on which no priority and no move of a lock depends (own)
-abbrev pub locks_of : List (Option Thread) → List (Option Mutex) → Locks
-locks_of threads mutexes = record { threads = threads; line = []; mutexes = mutexes }
 
 -- the threads of a partition, with the effective priorities that they then have as the stored ones (pthread_mutexattr_getprotocol)
 abbrev pub with_threads : ℕ → Locks → ThreadTable → ThreadTable
@@ -29,11 +23,6 @@ with_threads p locks table =
 -- the threads of a partition; the stored priorities stay (own)
 abbrev pub with_threads_alone : ℕ → Locks → ThreadTable → ThreadTable
 with_threads_alone p locks table = record table { threads = slice_set table.threads p locks.threads }
-
--- the stored effective priority of a number, None where it names no thread or an ended one (pthread_mutexattr_getprotocol; own)
-abbrev pub effective_at : ℕ → Option Thread → Option ℕ
-effective_at priority None = None
-effective_at priority (Some thread) = if is_ended thread.phase then None else Some priority
 
 -- every table has the partition (own)
 pub record HasPart (p : ℕ) (table : ThreadTable) (lines : List (List ℕ)) (mutexes : List (List (Option Mutex))) : Type 0 where

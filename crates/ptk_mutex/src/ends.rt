@@ -4,11 +4,11 @@ ghost use Rattle.std.specs.Prelude.{◌≡◌, ◌<◌, length, slice_set};
 ghost use Rattle.ptk_words.specs.Pools.{pool_get};
 ghost use Rattle.ptk_words_parted.specs.Parts.{part_of};
 ghost use Rattle.ptk_words_model.specs.Mutex.{after_bequest, after_mutex_end, after_owner_end};
-ghost use Rattle.ptk_mutex.specs.Slots.{is_robust_at};
+ghost use Rattle.ptk_mutex_slots.specs.Slots.{is_robust_at};
 ghost use Rattle.ptk_mutex.specs.Tables.{locks_at, with_threads, AreReady};
 
-use crate::mutexes::{Mutexes, slot_in};
-use crate::slot::Change;
+use crate::mutexes::Mutexes;
+use ptk_mutex_slots::{Change, slot_in};
 use ptk_ready::VecLine;
 use ptk_threads::Threads;
 use ptk_words::{MutexNo, PartId, Soundness, ThreadNo};

@@ -4,24 +4,19 @@
 //! partition p, with every other partition as it was; and the threads' equation has the effective priorities that they
 //! then have as the stored ones. What a call needs of the tables, and leaves of them, is `AreReady` of `specs/Tables`.
 //! A refused lock changes nothing; who is woken goes to the tail of the line. No call but the constructor takes memory.
-//! One function writes a mutex (`change`), and after every change the partition's priorities are all computed again:
-//! each thread raises its chain (`proofs/Levels`). Dear to prove are that the stored priorities choose the heir
-//! (`proofs/Locked`) and the calls of many moves (`proofs/Steps`). Below stand `ptk_threads` and `ptk_ready`; nothing
-//! above uses it yet.
+//! One function writes a mutex (`change`), and after every change the partition's priorities are all computed again.
+//! Dear to prove are that the stored priorities choose the heir (`proofs/Locked`) and the calls of many moves
+//! (`proofs/Steps`). Below stand `ptk_mutex_slots`, with one place and one partition's priorities, `ptk_threads` and
+//! `ptk_ready`; above, `ptk_gate_pools` joins it to the slot table and the line.
 #![tactic(auto)]
 
 mod ends;
 mod locking;
-mod moves;
 mod mutexes;
-mod priorities;
-mod slot;
 #[cfg(test)]
 mod tests;
 mod unlocking;
 mod waking;
 
-pub use moves::reply_of;
 pub use mutexes::Mutexes;
-pub use priorities::effective;
-pub use slot::{MutexSlot, MutexState};
+pub use ptk_mutex_slots::{MutexSlot, MutexState, effective, reply_of};

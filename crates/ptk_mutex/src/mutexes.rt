@@ -1,16 +1,15 @@
 //! The pool: the life of numbers, and the one function that writes a mutex.
 
 ghost use Rattle.std.specs.Prelude.{◌≡◌, ◌<◌, ◌≤◌, [], Some, None, length, map, All, IfOk, option_map, slice_set, position, is_none};
-ghost use Rattle.std.specs.Option.{option_flatten};
 ghost use Rattle.ptk_words.specs.Pools.{least_free, pool_get, pool_set, pool_changed};
 ghost use Rattle.ptk_words_model.specs.Mutex.{new_mutex, waiters_of};
 ghost use Rattle.ptk_words_model.specs.Priority.{effective_priorities};
 ghost use Rattle.ptk_words_parted.specs.Parts.{part_of, filled};
-ghost use Rattle.ptk_mutex.specs.Slots.{state_of, with_new_mutex};
-ghost use Rattle.ptk_mutex.specs.Changes.{mutex_changed, SlotMayChange};
+ghost use Rattle.ptk_mutex_slots.specs.Slots.{state_of};
+ghost use Rattle.ptk_mutex_slots.specs.Changes.{mutex_changed, SlotMayChange};
+ghost use Rattle.ptk_mutex.specs.Pool.{with_new_mutex};
 
-use crate::priorities::recompute;
-use crate::slot::{Change, MutexSlot, MutexState};
+use ptk_mutex_slots::{Change, MutexSlot, MutexState, recompute, slot_in};
 use ptk_threads::Threads;
 use ptk_words::{MutexKind, MutexNo, PartId, Protocol, THREAD_LIMIT, ThreadNo};
 use ptk_words_parted::Parted;
@@ -26,7 +25,7 @@ pub struct Mutexes {
 impl Model for Mutexes {
     ghost use Rattle.std.specs.Prelude.{List, Option};
     ghost use Rattle.ptk_words_model.specs.State.{Mutex};
-    ghost use Rattle.ptk_mutex.specs.Slots.{IsPool};
+    ghost use Rattle.ptk_mutex.specs.Pool.{IsPool};
 
     ghost Value = { List (List (Option Mutex)) };
 
@@ -38,7 +37,7 @@ impl Model for Mutexes {
 impl Mutexes {
     /// As many free numbers for each partition as its count, at most 64, with room for all waiters. An error where
     /// memory ran out.
-    #[tactic(auto, using(crate::proofs::Slots::pools))]
+    #[tactic(auto, using(crate::proofs::Pool::pools))]
     pub fn build(alloc: Global, counts: &[u32]) -> Result<Mutexes, AllocError>
         requires { All (λ count. count ≤ 64) counts.now }
         ensures { IfOk result (λ mutexes. mutexes ≡ map (filled None) counts.now) }
@@ -67,7 +66,7 @@ impl Mutexes {
     }
 
     /// What the mutex of a number is, but for its waiters; None of a free number.
-    #[tactic(auto, using(crate::proofs::Slots::numbers))]
+    #[tactic(auto, using(ptk_mutex_slots::proofs::Slots::numbers))]
     pub fn state(&self, p: PartId, m: MutexNo) -> Option<MutexState>
         requires { p < length self.now }
         ensures { result ≡ option_map state_of (pool_get (part_of self.now p) m) }
@@ -79,7 +78,7 @@ impl Mutexes {
     }
 
     /// The waiters of a mutex, in order of arrival; none of a free number (pthread_mutex_lock).
-    #[tactic(auto, using(crate::proofs::Slots::numbers))]
+    #[tactic(auto, using(ptk_mutex_slots::proofs::Slots::numbers))]
     pub fn waiters(&self, p: PartId, m: MutexNo) -> &[ThreadNo]
         requires { p < length self.now }
         ensures { result.now ≡ waiters_of (pool_get (part_of self.now p) m) }
@@ -88,7 +87,7 @@ impl Mutexes {
     }
 
     /// The least free number of a partition; None where no number is free.
-    #[tactic(auto, using(crate::proofs::Slots::numbers))]
+    #[tactic(auto, using(ptk_mutex_slots::proofs::Slots::numbers))]
     pub fn first_free(&self, p: PartId) -> Option<MutexNo>
         requires { p < length self.now }
         ensures { result ≡ least_free (part_of self.now p) }
@@ -101,7 +100,7 @@ impl Mutexes {
 
     /// A new mutex, free and consistent, at the least free number; None, and nothing changes, where no number is free
     /// (pthread_mutex_init).
-    #[tactic(auto, using(crate::proofs::Slots::pools))]
+    #[tactic(auto, using(crate::proofs::Pool::pools))]
     pub fn init(
         &mut self,
         p: PartId,
@@ -121,7 +120,7 @@ impl Mutexes {
     }
 
     /// The number is free (pthread_mutex_destroy).
-    #[tactic(auto, using(crate::proofs::Slots::pools))]
+    #[tactic(auto, using(crate::proofs::Pool::pools))]
     pub fn destroy(&mut self, p: PartId, m: MutexNo)
         requires partition { p < length self.old }
         requires unused { waiters_of (pool_get (part_of self.old p) m) ≡ [] }
@@ -131,7 +130,7 @@ impl Mutexes {
     }
 
     /// Changes the mutex of a number, if there is one.
-    #[tactic(auto, using(crate::proofs::Slots::pools))]
+    #[tactic(auto, using(crate::proofs::Pool::pools))]
     pub(crate) fn change(&mut self, p: PartId, m: MutexNo, change: Change)
         requires partition { p < length self.old }
         requires possible { SlotMayChange change (pool_get (part_of self.old p) m) }
@@ -140,9 +139,10 @@ impl Mutexes {
         change_in(self.slots.lend(p), m, change);
     }
 
-    /// Computes the stored priorities of a partition again (pthread_mutexattr_getprotocol).
-    #[tactic(auto, using(crate::proofs::Slots::pools))]
-    pub(crate) fn refresh(&self, threads: &mut Threads, p: PartId)
+    /// Computes the stored priorities of a partition again, as after a change of its threads that no call here made;
+    /// every other partition's stay (pthread_mutexattr_getprotocol).
+    #[tactic(auto, using(crate::proofs::Pool::pools))]
+    pub fn refresh(&self, threads: &mut Threads, p: PartId)
         requires partition { (p < length self.now) × (p < length threads.old.threads) }
         ensures { threads.new ≡ record threads.old { stored = slice_set threads.old.stored p (effective_priorities (part_of threads.old.threads p) (part_of self.now p)) } }
     {
@@ -166,16 +166,8 @@ fn free_slots(alloc: Global, count: u32) -> Result<Vec<MutexSlot>, AllocError>
     Ok(slots)
 }
 
-/// The place of a number, None past the partition's.
-#[tactic(auto, using(crate::proofs::Slots::numbers))]
-pub(crate) fn slot_in(slots: &[MutexSlot], m: MutexNo) -> Option<&MutexSlot>
-    ensures { option_flatten (option_map (λ r. r.now) result) ≡ pool_get slots.now m }
-{
-    slots.get((m.number() - 1) as usize)
-}
-
 /// The waiters of the mutex of a number.
-#[tactic(auto, using(crate::proofs::Slots::numbers))]
+#[tactic(auto, using(ptk_mutex_slots::proofs::Slots::numbers))]
 fn waiters_in(slots: &[MutexSlot], m: MutexNo) -> &[ThreadNo]
     ensures { result.now ≡ waiters_of (pool_get slots.now m) }
 {
@@ -193,7 +185,7 @@ fn first_free_place(slots: &[MutexSlot]) -> Option<usize>
 }
 
 /// A new mutex at a free number.
-#[tactic(auto, using(crate::proofs::Slots::numbers))]
+#[tactic(auto, using(ptk_mutex_slots::proofs::Slots::numbers))]
 fn open_in(
     slots: &mut [MutexSlot],
     m: MutexNo,
@@ -212,7 +204,7 @@ fn open_in(
 }
 
 /// The number is free.
-#[tactic(auto, using(crate::proofs::Slots::numbers))]
+#[tactic(auto, using(ptk_mutex_slots::proofs::Slots::numbers))]
 fn close_in(slots: &mut [MutexSlot], m: MutexNo)
     requires { waiters_of (pool_get slots.old m) ≡ [] }
     ensures { slots.new ≡ pool_set slots.old m None }
@@ -225,7 +217,7 @@ fn close_in(slots: &mut [MutexSlot], m: MutexNo)
 }
 
 /// Changes the mutex of a number, if there is one.
-#[tactic(auto, using(crate::proofs::Slots::changes))]
+#[tactic(auto, using(crate::proofs::Pool::changes))]
 fn change_in(slots: &mut [MutexSlot], m: MutexNo, change: Change)
     requires { SlotMayChange change (pool_get slots.old m) }
     ensures { slots.new ≡ pool_changed m (mutex_changed change) slots.old }

@@ -5,7 +5,7 @@ use ptk_words::{MutexKind, MutexNo, PartId, Protocol};
 use std::test::Fail;
 
 #[test]
-#[tactic(auto, using(crate::proofs::Slots::pools))]
+#[tactic(auto, using(crate::proofs::Pool::pools))]
 fn the_least_number_is_used_again(rt: HostRuntime) -> Result<(), Fail> {
     let first = PartId::new(0);
     let second = PartId::new(1);

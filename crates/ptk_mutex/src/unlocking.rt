@@ -4,13 +4,12 @@ ghost use Rattle.std.specs.Prelude.{◌≡◌, ◌<◌, length, slice_set};
 ghost use Rattle.ptk_words.specs.Pools.{pool_get};
 ghost use Rattle.ptk_words_parted.specs.Parts.{part_of};
 ghost use Rattle.ptk_words_model.specs.Mutex.{heir, soundness_of, count_of, after_hand_over, after_hand_over_to, after_refusal, after_refusal_to, after_refusals, after_loss, after_last_unlock, after_unlock};
-ghost use Rattle.ptk_mutex.specs.Changes.{SlotMayChange, IsQuiet};
+ghost use Rattle.ptk_mutex_slots.specs.Changes.{SlotMayChange, IsQuiet};
 ghost use Rattle.ptk_mutex.specs.Tables.{locks_at, with_threads, with_threads_alone, HasPart, MayGet, AreReady};
 ghost use Rattle.ptk_mutex.specs.Moves.{after_change};
 
-use crate::moves::free_move;
-use crate::mutexes::{Mutexes, slot_in};
-use crate::slot::Change;
+use crate::mutexes::Mutexes;
+use ptk_mutex_slots::{Change, free_move, slot_in};
 use ptk_ready::{VecLine, first_of_greatest};
 use ptk_threads::Threads;
 use ptk_words::{Errno, MutexNo, PartId, Soundness, ThreadNo};

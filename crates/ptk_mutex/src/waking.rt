@@ -3,19 +3,19 @@
 
 ghost use Rattle.std.specs.Prelude.{◌≡◌, ◌<◌, false, None, [], ◌∷◌, ◌++◌, length, IsSome, slice_set, option_to_list};
 ghost use Rattle.ptk_words.specs.Pools.{pool_get, is_in};
+ghost use Rattle.ptk_words.specs.declared.TheConstants.{COUNT_LIMIT};
 ghost use Rattle.ptk_words_parted.specs.Parts.{part_of};
-ghost use Rattle.ptk_words_model.specs.Priority.{awaited};
 ghost use Rattle.ptk_words_model.specs.Schedule.{woken_with};
-ghost use Rattle.ptk_words_model.specs.Mutex.{relock_move, after_relock, after_relock_move, after_leave};
+ghost use Rattle.ptk_words_model.specs.declared.LockMove.TheVariants.{Counts};
+ghost use Rattle.ptk_words_model.specs.Mutex.{count_of, relock_move, after_relock, after_relock_move, after_leave};
 ghost use Rattle.ptk_threads.specs.Table.{thread_in, with_changed};
-ghost use Rattle.ptk_mutex.specs.declared.slot.Change.TheVariants.{CountUp, Enqueue};
-ghost use Rattle.ptk_mutex.specs.Changes.{SlotMayChange};
+ghost use Rattle.ptk_mutex_slots.specs.declared.slot.Change.TheVariants.{CountUp, Enqueue};
+ghost use Rattle.ptk_mutex_slots.specs.Changes.{SlotMayChange};
 ghost use Rattle.ptk_mutex.specs.Tables.{locks_at, with_threads, with_threads_alone, HasPart, IsWaiter, MayWait, AreReady};
 ghost use Rattle.ptk_mutex.specs.Moves.{after_withdrawal};
 
-use crate::moves::{kept_reply, reply_of};
-use crate::mutexes::{Mutexes, slot_in};
-use crate::slot::{Change, MutexSlot};
+use crate::mutexes::Mutexes;
+use ptk_mutex_slots::{Change, MutexSlot, kept_reply, reply_of, slot_in};
 use ptk_ready::{Line, VecLine};
 use ptk_threads::Threads;
 use ptk_words::{A0, MutexNo, PartId, Thread, ThreadNo, Wait};
@@ -24,7 +24,8 @@ use ptk_words_model::LockMove;
 impl Mutexes {
     /// A blocked thread that waits for no mutex and is not in the line has this one again, or waits for it, or goes on
     /// without it where it can't be locked any more; unless it waits it is woken, with this reply if it is told any
-    /// (pthread_cond_wait; own choice).
+    /// (pthread_cond_wait; own choice). Where it still owns the mutex, the count is below the limit, since its wait
+    /// unlocked it once.
     #[tactic(auto, using(crate::proofs::Moved::moves))]
     pub fn relock(
         &mut self,
@@ -37,10 +38,12 @@ impl Mutexes {
     ) -> LockMove
         requires ready { AreReady p threads.old line.old self.old }
         requires caller { MayWait (locks_at p threads.old line.old self.old) t }
+        requires countable { relock_move t (pool_get (part_of self.old p) m) ≡ Counts → count_of (pool_get (part_of self.old p) m) < COUNT_LIMIT }
         ensures told { result ≡ relock_move t (pool_get (part_of self.old p) m) }
         ensures threads { threads.new ≡ with_threads p (after_relock t m reply (locks_at p threads.old line.old self.old)) threads.old }
         ensures line { line.new ≡ slice_set line.old p (after_relock t m reply (locks_at p threads.old line.old self.old)).line }
         ensures mutexes { self.new ≡ slice_set self.old p (after_relock t m reply (locks_at p threads.old line.old self.old)).mutexes }
+        ensures ready { AreReady p threads.new line.new self.new }
     {
         let made = relock_move(self.part(p), t, m);
         self.make_relock(line, threads, p, t, m, reply, made);

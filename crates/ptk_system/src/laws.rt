@@ -20,9 +20,8 @@ pub fn two_worlds(a: &System, b: &System, p: PartId, q: PartId)
     ensures states { state_of a.now p ≡ state_of b.now q }
     ensures reports { (section_at a.now.config p).name ≡ (section_at b.now.config q).name → part_report a.now p ≡ part_report b.now q }
 {
-    // their invariants: the windows of both are tables
-    let _ = &a.machine;
-    let _ = &b.machine;
+    let _parts_of_a = a.parts();
+    let _parts_of_b = b.parts();
 }
 
 /// Two systems that reached the same tick, and a partition of each as in `two_worlds`, where the second system's other

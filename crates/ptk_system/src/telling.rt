@@ -3,6 +3,7 @@
 ghost use Rattle.std.specs.Prelude.{◌≡◌, ◌<◌, ◌≤◌, ℕ, length, slice_get};
 ghost use Rattle.ptk_words_model.specs.Priority.{thread_at};
 ghost use Rattle.ptk_gate_pools.specs.Kept.{AreParts, limits_at, part_at};
+ghost use Rattle.ptk_config.specs.Configuration.{IsConfiguration};
 ghost use Rattle.ptk_system.specs.Told.{live_cpu, pc_in, register_in, status_in};
 ghost use Rattle.ptk_system.specs.World.{section_at, state_of};
 
@@ -13,8 +14,9 @@ use ptk_trace::Trace;
 use ptk_words::{Cpu, PartId, Phase, ThreadNo};
 
 impl<'a> System<'a> {
-    /// How many partitions there are, 1 to 8.
+    /// How many partitions there are, 1 to 8. It opens the invariant: the configuration is one without a fault.
     pub fn parts(&self) -> usize
+        ensures configured { IsConfiguration self.now.config }
         ensures count { result ≡ length self.now.config.sections }
         ensures some { 1 ≤ result }
         ensures few { result ≤ 8 }

@@ -6,7 +6,7 @@ ghost use Rattle.ptk_words_windows.specs.Windows.{own_ticks};
 ghost use Rattle.ptk_words_model.specs.Run.{after_tick, after_tick_until, decided, is_active, is_at, next_from};
 ghost use Rattle.ptk_gate_pools.specs.Kept.{AreParts, limits_at, part_at};
 ghost use Rattle.ptk_system_machine.specs.Accounts.{IsCounted};
-ghost use Rattle.ptk_system_machine.specs.Whole.{AreWindowsOf, IsDue, account_at, first_account_of, no_account, put_state, state_at};
+ghost use Rattle.ptk_system_machine.specs.Whole.{AreWindowsOf, IsDue, IsWhole, account_at, first_account_of, no_account, put_state, state_at};
 
 use crate::account::{Account, duration};
 use ptk_gate::Tables;
@@ -54,9 +54,11 @@ impl Machine {
         Ok(Machine { tables, accounts })
     }
 
-    /// How many partitions there are.
+    /// How many partitions there are. It opens the invariant: each partition has an entry in the tables and an account,
+    /// whose trace keeps what its section says.
     pub fn parts(&self) -> usize
-        ensures { result ≡ length self.now.accounts }
+        ensures count { result ≡ length self.now.accounts }
+        ensures whole { IsWhole self.now.kept self.now.accounts }
     {
         self.accounts.len()
     }
@@ -66,7 +68,7 @@ impl Machine {
         ensures value { result.now ≡ self.now.kept }
         ensures parts { AreParts (length self.now.accounts) self.now.kept }
     {
-        let _ = &self.accounts;
+        let _parts = self.parts();
         &self.tables
     }
 
@@ -92,7 +94,7 @@ impl Machine {
         ensures each { (q : ℕ) → q < length self.old.accounts →
             state_at q self.new ≡ after_tick (own_ticks windows.now q) (limits_at q self.old.kept) tick (state_at q self.old) }
     {
-        let _ = &self.tables;
+        let _parts = self.parts();
         if let Some((p, end)) = windows.at(tick) {
             self.turn(windows, p, tick, end);
         }

@@ -1,5 +1,4 @@
 use Rattle.std.proofs.Common.{rules, arith}
-use Rattle.ptk_console.proofs.Waiting.{none_waiting}
 use Rattle.ptk_console.proofs.console.PartitionConsole.new.Goals as goal
 
 pub invariant_of-result : goal.invariant_of-result
@@ -8,7 +7,5 @@ invariant_of-result c = (
   search rules,
   rw c.in_ok-output.ensures.items (omega arith),
   omega (arith, c.in_ok-output.ensures.capacity),
-  rw c.in_ok-waiters.ensures.items none_waiting,
-  omega (arith, c.in_ok-waiters.ensures.capacity),
   omega arith,
 )

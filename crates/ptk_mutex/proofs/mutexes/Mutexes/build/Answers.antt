@@ -2,7 +2,7 @@ use Rattle.std.proofs.Common.{◌≡◌, map, arith}
 use Rattle.std.specs.Prelude.{None}
 use Rattle.std.proofs.lemmas.Grind.{common_steps}
 use Rattle.ptk_words_parted.specs.Parts.{filled}
-use Rattle.ptk_mutex.proofs.Slots.{pool_filled}
+use Rattle.ptk_mutex.proofs.Pool.{pool_filled}
 use Rattle.ptk_mutex.proofs.mutexes.Mutexes.build.Goals as goal
 
 pub invariant_of-result : goal.invariant_of-result

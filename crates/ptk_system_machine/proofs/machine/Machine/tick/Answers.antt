@@ -1,11 +1,9 @@
-use Rattle.std.proofs.Common.{subst}
-use Rattle.ptk_system_machine.specs.Whole.{Whole, IsWhole}
 use Rattle.ptk_system_machine.proofs.Ticks.{tick_each, known_part}
 use Rattle.ptk_system_machine.proofs.machine.Machine.tick.Goals as goal
 
 pub returns-in-Some-clause-each : goal.returns-in-Some-clause-each
 returns-in-Some-clause-each c = λ q lt.
     tick_each c.args.windows.now c.args.tick _ _ c.args.self.now c.turn.new.self
-    (subst (λ (w : Whole). IsWhole w.kept w.accounts) c.self.view_is c.self.invariant)
+    c.parts-parts.ensures.whole
     (known_part c.args.windows.now _ _ c.args.tick _ c.requires.windows.known c.in-Some.ensures.own)
     c.in-Some.ensures.ends c.turn.ensures q

@@ -1,0 +1,180 @@
+//! Mutexes: their numbers, what is told of them, and the moves of lock, unlock and an owner's end. After each move the
+//! partition's stored priorities are the effective ones (pthread_mutex_lock, pthread_mutexattr_getprotocol).
+
+ghost use Rattle.std.specs.Prelude.{◌≡◌, ◌<◌, false, None, Some, [], length, option_map};
+ghost use Rattle.std.specs.List.{list_any};
+ghost use Rattle.ptk_words.specs.Pools.{least_free};
+ghost use Rattle.ptk_words.specs.declared.mutexes.Soundness.TheVariants.{Consistent};
+ghost use Rattle.ptk_words.specs.declared.threads.Wait.TheVariants.{MutexWait};
+ghost use Rattle.ptk_words_model.specs.State.{with_locks};
+ghost use Rattle.ptk_words_model.specs.Mutex.{mutex_at, new_mutex, waiters_of, wait_of, owns, owns_raising, lock_move, trylock_move, after_move, after_unlock, after_owner_end, with_soundness};
+ghost use Rattle.ptk_words_model.specs.MutexCalls.{is_locked};
+ghost use Rattle.ptk_words_model.specs.Condition.{is_named, mutex_named, names_mutex};
+ghost use Rattle.ptk_words_model.specs.Calls.{with_pool_mutex};
+ghost use Rattle.ptk_mutex_slots.specs.Slots.{state_of};
+ghost use Rattle.ptk_mutex.specs.Tables.{AreLocked, MayWait};
+ghost use Rattle.ptk_gate_pools.specs.Kept.{part_at, put_part};
+
+use crate::pools::Pools;
+use ptk_mutex::MutexState;
+use ptk_threads::Slot;
+use ptk_words::{MutexKind, MutexNo, PartId, Protocol, ThreadNo, Wait};
+use ptk_words_model::LockMove;
+
+impl Pools {
+    /// The least free number of a mutex; None where no number is free.
+    pub fn first_free_mutex(&self, p: PartId) -> Option<MutexNo>
+        requires partition { p < length self.now.limits }
+        ensures { result ≡ least_free (part_at p self.now).mutexes }
+    {
+        self.mutexes.first_free(p)
+    }
+
+    /// A new mutex, free and consistent, at the least free number (pthread_mutex_init).
+    #[tactic(auto, using(crate::proofs::Parted::parted, crate::proofs::Vacant::vacant))]
+    pub fn init_mutex(
+        &mut self,
+        p: PartId,
+        m: MutexNo,
+        kind: MutexKind,
+        protocol: Protocol,
+        is_robust: bool,
+    )
+        requires partition { p < length self.old.limits }
+        requires free { least_free (part_at p self.old).mutexes ≡ Some m }
+        ensures { self.new ≡ put_part p (with_pool_mutex m (Some (new_mutex kind protocol is_robust)) (part_at p self.old)) self.old }
+    {
+        self.mutexes.init(p, kind, protocol, is_robust);
+    }
+
+    /// The number of a mutex that is not locked and has no waiters is free (pthread_mutex_destroy).
+    #[tactic(auto, using(crate::proofs::Parted::parted, crate::proofs::Vacant::vacant))]
+    pub fn destroy_mutex(&mut self, p: PartId, m: MutexNo)
+        requires partition { p < length self.old.limits }
+        requires unlocked { is_locked (mutex_at (part_at p self.old).locks m) ≡ false }
+        requires unwaited { waiters_of (mutex_at (part_at p self.old).locks m) ≡ [] }
+        ensures { self.new ≡ put_part p (with_pool_mutex m None (part_at p self.old)) self.old }
+    {
+        self.mutexes.destroy(p, m);
+    }
+
+    /// What the mutex is, but for its waiters; None of a free number.
+    pub fn mutex(&self, p: PartId, m: MutexNo) -> Option<MutexState>
+        requires partition { p < length self.now.limits }
+        ensures { result ≡ option_map state_of (mutex_at (part_at p self.now).locks m) }
+    {
+        self.mutexes.state(p, m)
+    }
+
+    /// Whether the thread owns the mutex (pthread_mutex_unlock).
+    pub fn owns(&self, p: PartId, t: ThreadNo, m: MutexNo) -> bool
+        requires partition { p < length self.now.limits }
+        ensures { result ≡ owns t (mutex_at (part_at p self.now).locks m) }
+    {
+        self.mutexes.owns(p, t, m)
+    }
+
+    /// Whether the thread owns an INHERIT or PROTECT mutex (pthread_mutexattr_getprotocol).
+    pub fn owns_raising(&self, p: PartId, t: ThreadNo) -> bool
+        requires partition { p < length self.now.limits }
+        ensures { result ≡ owns_raising (part_at p self.now).locks t }
+    {
+        self.mutexes.owns_raising(p, t)
+    }
+
+    /// Whether a thread waits on a condition variable and is to have the mutex again (pthread_mutex_destroy).
+    pub fn names_mutex(&self, p: PartId, m: MutexNo) -> bool
+        requires partition { p < length self.now.limits }
+        ensures { result ≡ names_mutex (part_at p self.now).locks m }
+    {
+        is_any_naming(self.threads.part(p), m)
+    }
+
+    /// A thread that waits for no mutex locks this one, or waits for it without a deadline, or is refused
+    /// (pthread_mutex_lock).
+    #[tactic(auto, using(crate::proofs::Parted::parted, crate::proofs::Locking::moved))]
+    pub fn lock(&mut self, p: PartId, t: ThreadNo, m: MutexNo) -> LockMove
+        requires partition { p < length self.old.limits }
+        requires locked { AreLocked (part_at p self.old).locks }
+        requires caller { MayWait (part_at p self.old).locks t }
+        ensures told { result ≡ lock_move (part_at p self.old).locks t (mutex_at (part_at p self.old).locks m) }
+        ensures moved { self.new ≡ put_part p (with_locks (after_move (lock_move (part_at p self.old).locks t (mutex_at (part_at p self.old).locks m)) t m (MutexWait m None)) (part_at p self.old)) self.old }
+    {
+        self.mutexes.lock(&self.line, &mut self.threads, p, t, m)
+    }
+
+    /// A thread that waits for no mutex locks this one, or is refused (pthread_mutex_trylock).
+    #[tactic(auto, using(crate::proofs::Parted::parted, crate::proofs::Locking::moved))]
+    pub fn trylock(&mut self, p: PartId, t: ThreadNo, m: MutexNo) -> LockMove
+        requires partition { p < length self.old.limits }
+        requires locked { AreLocked (part_at p self.old).locks }
+        requires caller { MayWait (part_at p self.old).locks t }
+        ensures told { result ≡ trylock_move (part_at p self.old).locks t (mutex_at (part_at p self.old).locks m) }
+        ensures moved { self.new ≡ put_part p (with_locks (after_move (trylock_move (part_at p self.old).locks t (mutex_at (part_at p self.old).locks m)) t m (MutexWait m None)) (part_at p self.old)) self.old }
+    {
+        self.mutexes.trylock(&self.line, &mut self.threads, p, t, m)
+    }
+
+    /// An owner unlocks its mutex once (pthread_mutex_unlock).
+    #[tactic(auto, using(crate::proofs::Parted::parted, crate::proofs::Locking::moved))]
+    pub fn unlock(&mut self, p: PartId, m: MutexNo)
+        requires partition { p < length self.old.limits }
+        requires locked { AreLocked (part_at p self.old).locks }
+        ensures { self.new ≡ put_part p (with_locks (after_unlock m) (part_at p self.old)) self.old }
+    {
+        self.mutexes.unlock(&mut self.line, &mut self.threads, p, m);
+    }
+
+    /// What the mutex guards is sound again (pthread_mutex_consistent).
+    #[tactic(auto, using(crate::proofs::Parted::parted, crate::proofs::Locking::moved))]
+    pub fn make_consistent(&mut self, p: PartId, m: MutexNo)
+        requires partition { p < length self.old.limits }
+        requires locked { AreLocked (part_at p self.old).locks }
+        ensures { self.new ≡ put_part p (with_locks (with_soundness Consistent m) (part_at p self.old)) self.old }
+    {
+        self.mutexes.consistent(&self.line, &mut self.threads, p, m);
+    }
+
+    /// What the end of the thread makes of the mutexes that it owns (pthread_mutexattr_setrobust; own choice).
+    #[tactic(auto, using(crate::proofs::Parted::parted, crate::proofs::Locking::moved))]
+    pub fn abandon(&mut self, p: PartId, t: ThreadNo)
+        requires partition { p < length self.old.limits }
+        requires locked { AreLocked (part_at p self.old).locks }
+        ensures { self.new ≡ put_part p (with_locks (after_owner_end t) (part_at p self.old)) self.old }
+    {
+        self.mutexes
+            .abandon(&mut self.line, &mut self.threads, p, t);
+    }
+}
+
+/// Whether one of these threads waits on a condition variable and is to have the mutex again.
+fn is_any_naming(slots: &[Slot], m: MutexNo) -> bool
+    ensures { result ≡ list_any (λ thread. is_named m (mutex_named (wait_of thread))) slots.now }
+{
+    slots.iter().any(|slot| is_naming(slot, m))
+}
+
+/// Whether the thread waits on a condition variable and is to have the mutex again.
+#[tactic(auto, using(crate::proofs::Vacant::waits))]
+fn is_naming(slot: &Slot, m: MutexNo) -> bool
+    ensures { result ≡ is_named m (mutex_named (wait_of slot.now)) }
+{
+    match mutex_named(slot.wait()) {
+        Some(n) => n.number() == m.number(),
+        None => false,
+    }
+}
+
+/// The mutex that a condition wait names.
+fn mutex_named(wait: Option<Wait>) -> Option<MutexNo>
+    ensures { result ≡ mutex_named wait }
+{
+    match wait? {
+        Wait::ConditionWait(_, m, _) => Some(m),
+        Wait::InputWait
+        | Wait::SleepWait(_)
+        | Wait::JoinWait(_)
+        | Wait::MutexWait(_, _)
+        | Wait::RelockWait(_, _) => None,
+    }
+}

@@ -1,0 +1,686 @@
+//! The worked rows: whole runs with their reports and traces. What is wanted was worked out by hand.
+//! Memory is ample here, so an answer that it is wanting fails too. A helper that promises nothing stands between each row
+//! and the calls that it tests, and answers whether the row holds: so the check neither computes the rows' runs nor
+//! follows an early return at each row.
+
+ghost use Rattle.std.specs.Prelude.{◌<◌, length};
+
+mod ends;
+mod greatest;
+
+use crate::rows;
+use ptk_config::{Config, read_config};
+use ptk_main_runs::{RunFault, run_with, trace_with};
+use ptk_system::{Files, System};
+use ptk_words::{PartId, ThreadNo, Tick};
+use std::alloc::{AllocError, Global};
+use std::io::Write;
+use std::process::Abort;
+
+const FRAME_20: &str = "frame = 20\n";
+
+const FRAME_40: &str = "frame = 40\n";
+
+const FRAME_100: &str = "frame = 100\n";
+
+const P: &str = "[[partition]]\nname = \"p\"\nimage = \"p.img\"\n";
+
+const Q: &str = "[[partition]]\nname = \"q\"\nimage = \"q.img\"\n";
+
+const BARE_Q: &str = "[[partition]]\nname = \"q\"\n";
+
+const NUMBERS: &str =
+    "memory = 4096\nthreads = 4\nstack = 256\nmutexes = 4\nconds = 4\nkeys = 4\ninterval = 100\nring = 16\noutput = 64\ntrace = 16\n";
+
+const INTERVAL_5: &str =
+    "memory = 4096\nthreads = 4\nstack = 256\nmutexes = 4\nconds = 4\nkeys = 4\ninterval = 5\nring = 16\noutput = 64\ntrace = 16\n";
+
+const RING_2: &str =
+    "memory = 4096\nthreads = 4\nstack = 256\nmutexes = 4\nconds = 4\nkeys = 4\ninterval = 100\nring = 2\noutput = 64\ntrace = 16\n";
+
+const TRACE_2: &str =
+    "memory = 4096\nthreads = 4\nstack = 256\nmutexes = 4\nconds = 4\nkeys = 4\ninterval = 100\nring = 16\noutput = 64\ntrace = 2\n";
+
+const ONE_THREAD: &str =
+    "memory = 4096\nthreads = 1\nstack = 256\nmutexes = 4\nconds = 4\nkeys = 4\ninterval = 100\nring = 16\noutput = 64\ntrace = 16\n";
+
+const MANY_THREADS: &str =
+    "memory = 16384\nthreads = 32\nstack = 256\nmutexes = 4\nconds = 4\nkeys = 4\ninterval = 100\nring = 16\noutput = 4\ntrace = 16\n";
+
+const BYTES_AT_30: &str = "input = [{ at = 30, bytes = [97, 98, 99] }]\n";
+
+const BYTE_AT_19: &str = "input = [{ at = 19, bytes = [97] }]\n";
+
+const FIRST_16: &str = "[[window]]\nstart = 0\nlength = 16\npartition = \"p\"\n";
+
+const FIRST_20: &str = "[[window]]\nstart = 0\nlength = 20\npartition = \"p\"\n";
+
+const FIRST_100: &str = "[[window]]\nstart = 0\nlength = 100\npartition = \"p\"\n";
+
+const SECOND_20: &str = "[[window]]\nstart = 20\nlength = 20\npartition = \"q\"\n";
+
+const ALONE: [&str; 4] = [FRAME_20, P, NUMBERS, FIRST_20];
+
+const LATE: [&str; 4] = [FRAME_40, P, NUMBERS, FIRST_16];
+
+const WIDE: [&str; 4] = [FRAME_100, P, NUMBERS, FIRST_100];
+
+const TWO: [&str; 7] = [FRAME_40, P, NUMBERS, Q, NUMBERS, FIRST_20, SECOND_20];
+
+const SHORT: [&str; 4] = [FRAME_20, P, TRACE_2, FIRST_20];
+
+const SLOW: [&str; 7] = [
+    FRAME_40, P, INTERVAL_5, BARE_Q, NUMBERS, FIRST_20, SECOND_20,
+];
+
+const BARE: [&str; 7] = [FRAME_40, P, NUMBERS, BARE_Q, NUMBERS, FIRST_20, SECOND_20];
+
+const ONE_BYTE: [&str; 8] = [
+    FRAME_40, P, NUMBERS, BYTE_AT_19, BARE_Q, NUMBERS, FIRST_20, SECOND_20,
+];
+
+const FULL_RING: [&str; 8] = [
+    FRAME_40,
+    P,
+    RING_2,
+    BYTES_AT_30,
+    BARE_Q,
+    NUMBERS,
+    FIRST_20,
+    SECOND_20,
+];
+
+const BESIDE_QUIET: [&str; 7] = [FRAME_40, Q, ONE_THREAD, P, NUMBERS, FIRST_20, SECOND_20];
+
+const BESIDE_STORM: [&str; 7] = [FRAME_40, Q, MANY_THREADS, P, NUMBERS, FIRST_20, SECOND_20];
+
+const HELLO_REPORT: &str = "partition p exit 0 steps 9 lost 0\noutput 2\nhi\n";
+
+// The configuration whose text these parts make, None where there is none.
+fn config_of(alloc: Global, parts: &[&str]) -> Option<Config> {
+    match parts.concat(alloc) {
+        Ok(text) => config_in(alloc, text.as_str()),
+        Err(_) => None,
+    }
+}
+
+// The configuration of a text, or None.
+fn config_in(alloc: Global, text: &str) -> Option<Config> {
+    read_config(alloc, text).ok()
+}
+
+// The bytes of an image, from its words.
+fn bytes_of(alloc: Global, words: &[u32]) -> Result<Vec<u8>, AllocError> {
+    let mut bytes = Vec::new(alloc);
+    for word in words {
+        bytes.extend_from_slice(&word.to_le_bytes())?;
+    }
+    Ok(bytes)
+}
+
+// The same without the last byte.
+fn bytes_cut_short(alloc: Global, words: &[u32]) -> Result<Vec<u8>, AllocError> {
+    let mut bytes = bytes_of(alloc, words)?;
+    let _last = bytes.pop();
+    Ok(bytes)
+}
+
+// Whether the file was added.
+fn is_added(files: &mut Files, name: &str, bytes: &[u8]) -> bool {
+    files.add(name, bytes).is_ok()
+}
+
+// The images of p and q.
+fn images_of(alloc: Global, p: &[u32], q: &[u32]) -> Result<Files, AllocError> {
+    let mut files = Files::new(alloc);
+    let bytes = bytes_of(alloc, p)?;
+    files.add("p.img", &bytes)?;
+    let bytes = bytes_of(alloc, q)?;
+    files.add("q.img", &bytes)?;
+    Ok(files)
+}
+
+// The same, None where memory ran out.
+fn files_of(alloc: Global, p: &[u32], q: &[u32]) -> Option<Files> {
+    images_of(alloc, p, q).ok()
+}
+
+// What `run_with` answers for so many ticks.
+fn run_on<W: Write>(
+    alloc: Global,
+    config: &Config,
+    files: &Files,
+    ticks: u32,
+    out: &mut W,
+) -> Result<(), RunFault> {
+    run_with(alloc, config, files, Tick::new(u64::from(ticks)), out)
+}
+
+// What `trace_with` answers for so many ticks.
+fn trace_on<W: Write>(
+    alloc: Global,
+    config: &Config,
+    files: &Files,
+    ticks: u32,
+    name: &str,
+    out: &mut W,
+) -> Result<(), RunFault> {
+    trace_with(alloc, config, files, Tick::new(u64::from(ticks)), name, out)
+}
+
+// The report after so many ticks.
+fn report_on(alloc: Global, config: &Config, files: &Files, ticks: u32) -> Option<Vec<u8>> {
+    let mut out = Vec::new(alloc);
+    match run_on(alloc, config, files, ticks, &mut out) {
+        Ok(()) => Some(out),
+        Err(_) => None,
+    }
+}
+
+// The trace of p after so many ticks.
+fn trace_of(alloc: Global, config: &Config, files: &Files, ticks: u32) -> Option<Vec<u8>> {
+    let mut out = Vec::new(alloc);
+    match trace_on(alloc, config, files, ticks, "p", &mut out) {
+        Ok(()) => Some(out),
+        Err(_) => None,
+    }
+}
+
+// The report after so many ticks, with these images of p and q.
+fn report(alloc: Global, parts: &[&str], p: &[u32], q: &[u32], ticks: u32) -> Option<Vec<u8>> {
+    match (config_of(alloc, parts), files_of(alloc, p, q)) {
+        (Some(config), Some(files)) => report_on(alloc, &config, &files, ticks),
+        _ => None,
+    }
+}
+
+// The trace of p after so many ticks, with these images of p and q.
+fn trace(alloc: Global, parts: &[&str], p: &[u32], q: &[u32], ticks: u32) -> Option<Vec<u8>> {
+    match (config_of(alloc, parts), files_of(alloc, p, q)) {
+        (Some(config), Some(files)) => trace_of(alloc, &config, &files, ticks),
+        _ => None,
+    }
+}
+
+// Whether the bytes are those that are wanted.
+fn is_text(got: &[u8], want: &[u8]) -> bool {
+    got == want
+}
+
+// Whether there are bytes, and they are those of the text that is wanted.
+fn is_some_text(got: Option<Vec<u8>>, want: &str) -> bool {
+    match got {
+        Some(got) => is_text(&got, want.as_bytes()),
+        None => false,
+    }
+}
+
+// Whether this is the report after so many ticks, with these images of p and q.
+fn is_report(alloc: Global, parts: &[&str], p: &[u32], q: &[u32], ticks: u32, want: &str) -> bool {
+    is_some_text(report(alloc, parts, p, q, ticks), want)
+}
+
+// Whether this is the trace of p after so many ticks, with these images of p and q.
+fn is_trace(alloc: Global, parts: &[&str], p: &[u32], q: &[u32], ticks: u32, want: &str) -> bool {
+    is_some_text(trace(alloc, parts, p, q, ticks), want)
+}
+
+// The system of a configuration at tick 0, None where it does not boot.
+fn booted<'a>(alloc: Global, config: &'a Config, files: &'a Files) -> Option<System<'a>> {
+    match System::boot(alloc, config, files) {
+        Ok(system) => Some(system),
+        Err(_) => None,
+    }
+}
+
+// Runs on to a tick.
+fn run_on_to(system: &mut System<'_>, ticks: u32) {
+    system.run_to(Tick::new(u64::from(ticks)));
+}
+
+// The first partition.
+fn first(system: &System<'_>) -> PartId
+    ensures { result < length system.now.config.sections }
+{
+    let _parts = system.parts();
+    PartId::new(0)
+}
+
+// How many partitions there are.
+fn parts_of(system: &System<'_>) -> usize {
+    system.parts()
+}
+
+// The steps of the first partition.
+fn first_steps(system: &System<'_>) -> u64 {
+    system.steps(first(system))
+}
+
+// The input bytes that the first partition lost.
+fn first_dropped(system: &System<'_>) -> u64 {
+    system.dropped(first(system))
+}
+
+// A register of the first partition's main.
+fn first_register(system: &System<'_>, i: u32) -> Option<u32> {
+    system.register(first(system), ThreadNo::new(1), i)
+}
+
+// The pc of the first partition's main.
+fn first_pc(system: &System<'_>) -> Option<u32> {
+    system.pc(first(system), ThreadNo::new(1))
+}
+
+// The byte at an address of the first partition.
+fn first_byte(system: &System<'_>, address: u32) -> Option<u8> {
+    system.byte(first(system), address)
+}
+
+// Whether this is the output of the first partition.
+fn is_first_output(system: &System<'_>, want: &str) -> bool {
+    is_text(system.output(first(system)), want.as_bytes())
+}
+
+// Whether the writer took the report.
+fn writes_report<W: Write>(system: &System<'_>, out: &mut W) -> bool {
+    system.report(out).is_ok()
+}
+
+// Whether the writer took the trace of the first partition.
+fn writes_trace<W: Write>(system: &System<'_>, out: &mut W) -> bool {
+    system.trace(first(system)).lines(out).is_ok()
+}
+
+// Whether this is the system's report.
+fn is_told(alloc: Global, system: &System<'_>, want: &str) -> bool {
+    let mut out = Vec::new(alloc);
+    writes_report(system, &mut out) && is_text(&out, want.as_bytes())
+}
+
+// Whether this is the trace of the system's first partition.
+fn is_traced(alloc: Global, system: &System<'_>, want: &str) -> bool {
+    let mut out = Vec::new(alloc);
+    writes_trace(system, &mut out) && is_text(&out, want.as_bytes())
+}
+
+#[test]
+fn an_image_is_its_words(rt: HostRuntime) {
+    let want =
+        b"PTKI\x01\0\0\0\0\0\0\0\x24\0\0\0\0\0\0\0\0\0\0\0\x93\x08\x10\x00\x13\x05\x80\x06\x73\0\0\0\x93\x08\x10\x00\x13\x05\x90\x06\x73\0\0\0\x93\x08\0\0\x13\x05\0\0\x73\0\0\0";
+    // Row hello.
+    match bytes_of(rt.alloc(), &rows::HELLO) {
+        Ok(bytes) => assert!(rt; is_text(&bytes, want.as_slice())),
+        Err(_) => assert!(rt; false, "no memory"),
+    }
+}
+
+#[test]
+fn one_partition_reports(rt: HostRuntime) {
+    let alloc = rt.alloc();
+    // Row hello.
+    assert_eq!(rt; HELLO_REPORT.len(), 46);
+    assert!(rt; is_report(alloc, &ALONE, &rows::HELLO, &[], 20, HELLO_REPORT));
+    // Row empty-image.
+    assert!(rt;
+        is_report(
+            alloc,
+            &ALONE,
+            &rows::EMPTY,
+            &[],
+            20,
+            "partition p fault illegal pc 0x00000000 steps 1 lost 0\noutput 0\n\n"
+        )
+    );
+    // Row load-at-memory-end.
+    assert!(rt;
+        is_report(
+            alloc,
+            &ALONE,
+            &rows::LOAD_AT_END,
+            &[],
+            20,
+            "partition p fault misaligned pc 0x0000000c steps 4 lost 0\noutput 0\n\n"
+        )
+    );
+    assert!(rt;
+        is_report(
+            alloc,
+            &ALONE,
+            &rows::LOAD_PAST_END,
+            &[],
+            20,
+            "partition p fault load pc 0x0000000c steps 4 lost 0\noutput 0\n\n"
+        )
+    );
+    // Row late-put.
+    assert!(rt;
+        is_report(
+            alloc,
+            &LATE,
+            &rows::LATE_PUT,
+            &[],
+            40,
+            "partition p running steps 13 lost 3\noutput 0\n\n"
+        )
+    );
+    assert!(rt;
+        is_report(
+            alloc,
+            &LATE,
+            &rows::LATE_PUT,
+            &[],
+            41,
+            "partition p running steps 14 lost 3\noutput 1\nh\n"
+        )
+    );
+}
+
+#[test]
+fn threads_report(rt: HostRuntime) {
+    let alloc = rt.alloc();
+    // Row create-join.
+    assert!(rt;
+        is_report(
+            alloc,
+            &WIDE,
+            &rows::CREATE_JOIN,
+            &[],
+            40,
+            "partition p exit 7 steps 16 lost 0\noutput 0\n\n"
+        )
+    );
+    // Row number-one-reused.
+    assert!(rt;
+        is_report(
+            alloc,
+            &WIDE,
+            &rows::NUMBER_ONE_REUSED,
+            &[],
+            100,
+            "partition p exit 5 steps 32 lost 0\noutput 1\n1\n"
+        )
+    );
+    // Row own-priority-falls.
+    assert!(rt;
+        is_report(
+            alloc,
+            &WIDE,
+            &rows::FALLS_BY_PRIO,
+            &[],
+            100,
+            "partition p exit 0 steps 27 lost 0\noutput 2\nxy\n"
+        )
+    );
+    assert!(rt;
+        is_report(
+            alloc,
+            &WIDE,
+            &rows::FALLS_BY_PARAM,
+            &[],
+            100,
+            "partition p exit 0 steps 28 lost 0\noutput 2\nyx\n"
+        )
+    );
+}
+
+#[test]
+fn two_partitions_report(rt: HostRuntime) {
+    let alloc = rt.alloc();
+    // Row two-hellos.
+    assert!(rt;
+        is_report(
+            alloc,
+            &TWO,
+            &rows::HELLO,
+            &rows::HELLO,
+            40,
+            "partition p exit 0 steps 9 lost 0\noutput 2\nhi\npartition q exit 0 steps 9 lost 0\noutput 2\nhi\n"
+        )
+    );
+    // Row load-at-memory-end.
+    assert!(rt;
+        is_report(
+            alloc,
+            &TWO,
+            &rows::LOAD_AT_END,
+            &rows::HELLO,
+            40,
+            "partition p fault misaligned pc 0x0000000c steps 4 lost 0\noutput 0\n\npartition q exit 0 steps 9 lost 0\noutput 2\nhi\n"
+        )
+    );
+    assert!(rt;
+        is_report(
+            alloc,
+            &TWO,
+            &rows::LOAD_PAST_END,
+            &rows::HELLO,
+            40,
+            "partition p fault load pc 0x0000000c steps 4 lost 0\noutput 0\n\npartition q exit 0 steps 9 lost 0\noutput 2\nhi\n"
+        )
+    );
+    // Row round-robin-windows.
+    assert!(rt;
+        is_report(
+            alloc,
+            &SLOW,
+            &rows::ROUND_ROBIN,
+            &[],
+            87,
+            "partition p running steps 19 lost 3\noutput 0\n\npartition q idle steps 0 lost 0\noutput 0\n\n"
+        )
+    );
+}
+
+#[test]
+fn input_arrives(rt: HostRuntime) {
+    let alloc = rt.alloc();
+    // Row input-ring.
+    assert!(rt;
+        is_report(
+            alloc,
+            &ONE_BYTE,
+            &rows::GET_ONE,
+            &[],
+            41,
+            "partition p exit 0 steps 4 lost 0\noutput 0\n\npartition q idle steps 0 lost 0\noutput 0\n\n"
+        )
+    );
+    assert!(rt;
+        is_trace(
+            alloc,
+            &ONE_BYTE,
+            &rows::GET_ONE,
+            &[],
+            41,
+            "0 1 0x00000000 0x00200893 0x00000000\n1 1 0x00000004 0x00000073 0x00000000\n19 1 0x00000008 0x00000893 0x00000000\n40 1 0x0000000c 0x00000073 0x00000000\n"
+        )
+    );
+    assert!(rt;
+        is_report(
+            alloc,
+            &FULL_RING,
+            &rows::GET_TWO,
+            &[],
+            100,
+            "partition p exit 0 steps 33 lost 2\noutput 2\nab\npartition q idle steps 0 lost 0\noutput 0\n\n"
+        )
+    );
+}
+
+// Asserts what main's a1 is before and after the byte comes at tick 19, where main stands then, and bytes of its memory.
+fn check_byte_at_19(rt: &impl Abort, system: &mut System<'_>) {
+    run_on_to(system, 19);
+    assert_eq!(rt; first_register(system, 11), Some(0));
+    run_on_to(system, 20);
+    // Row input-ring.
+    assert_eq!(rt; first_register(system, 11), Some(97));
+    assert_eq!(rt; first_pc(system), Some(12));
+    assert_eq!(rt; first_byte(system, 0), Some(0x93));
+    assert_eq!(rt; first_byte(system, 4096), None);
+}
+
+#[test]
+fn a_byte_comes_into_a1(rt: HostRuntime) {
+    let alloc = rt.alloc();
+    match (
+        config_of(alloc, &ONE_BYTE),
+        files_of(alloc, &rows::GET_ONE, &[]),
+    ) {
+        (Some(config), Some(files)) => match booted(alloc, &config, &files) {
+            Some(mut system) => check_byte_at_19(&rt, &mut system),
+            None => assert!(rt; false, "no boot"),
+        },
+        _ => assert!(rt; false, "no memory"),
+    }
+}
+
+// The partitions of the system, and of the first the input bytes that were lost and the steps.
+fn counts_at(
+    alloc: Global,
+    config: &Config,
+    files: &Files,
+    ticks: u32,
+) -> Option<(usize, u64, u64)> {
+    match booted(alloc, config, files) {
+        Some(mut system) => {
+            run_on_to(&mut system, ticks);
+            Some((
+                parts_of(&system),
+                first_dropped(&system),
+                first_steps(&system),
+            ))
+        }
+        None => None,
+    }
+}
+
+#[test]
+fn input_is_lost_where_the_ring_is_full(rt: HostRuntime) {
+    let alloc = rt.alloc();
+    match (
+        config_of(alloc, &FULL_RING),
+        files_of(alloc, &rows::SPIN, &[]),
+    ) {
+        (Some(config), Some(files)) => {
+            // Row input-ring.
+            assert_eq!(rt; counts_at(alloc, &config, &files, 41), Some((2, 1, 21)));
+        }
+        _ => assert!(rt; false, "no memory"),
+    }
+}
+
+#[test]
+fn a_neighbour_that_exhausts_changes_nothing(rt: HostRuntime) {
+    let alloc = rt.alloc();
+    // Row neighbour-exhausts.
+    assert!(rt;
+        is_report(
+            alloc,
+            &BESIDE_QUIET,
+            &rows::PUTS_THE_NUMBER,
+            &rows::QUIET,
+            1400,
+            "partition q exit 0 steps 3 lost 0\noutput 0\n\npartition p exit 7 steps 20 lost 0\noutput 1\n2\n"
+        )
+    );
+    assert!(rt;
+        is_report(
+            alloc,
+            &BESIDE_STORM,
+            &rows::PUTS_THE_NUMBER,
+            &rows::STORM,
+            1400,
+            "partition q fault break pc 0x00000024 steps 181 lost 121\noutput 4\n!!!!\npartition p exit 7 steps 20 lost 0\noutput 1\n2\n"
+        )
+    );
+    let beside_quiet = trace(
+        alloc,
+        &BESIDE_QUIET,
+        &rows::PUTS_THE_NUMBER,
+        &rows::QUIET,
+        1400,
+    );
+    let beside_storm = trace(
+        alloc,
+        &BESIDE_STORM,
+        &rows::PUTS_THE_NUMBER,
+        &rows::STORM,
+        1400,
+    );
+    assert!(rt; are_alike(beside_quiet, beside_storm));
+}
+
+// Whether both have bytes, some, and the same.
+fn are_alike(a: Option<Vec<u8>>, b: Option<Vec<u8>>) -> bool {
+    match (a, b) {
+        (Some(a), Some(b)) => !a.is_empty() && is_text(&a, &b),
+        _ => false,
+    }
+}
+
+// The report after so many ticks, where the image of q lacks its last byte.
+fn report_cut_short(
+    alloc: Global,
+    config: &Config,
+    mut files: Files,
+    q: &[u32],
+    ticks: u32,
+) -> Option<Vec<u8>> {
+    match bytes_cut_short(alloc, q) {
+        Ok(bytes) if bytes.len() == 59 && is_added(&mut files, "q.img", &bytes) => {
+            report_on(alloc, config, &files, ticks)
+        }
+        _ => None,
+    }
+}
+
+#[test]
+fn a_refused_image_halts_its_partition_alone(rt: HostRuntime) {
+    let alloc = rt.alloc();
+    match (config_of(alloc, &TWO), files_of(alloc, &rows::HELLO, &[])) {
+        // Row refused-neighbour-image.
+        (Some(config), Some(files)) => assert!(rt;
+            is_some_text(
+                report_cut_short(alloc, &config, files, &rows::HELLO, 40),
+                "partition p exit 0 steps 9 lost 0\noutput 2\nhi\npartition q refused image 4 steps 0 lost 0\noutput 0\n\n"
+            )
+        ),
+        _ => assert!(rt; false, "no memory"),
+    }
+    // Row refused-neighbour-image.
+    assert!(rt;
+        is_report(
+            alloc,
+            &BARE,
+            &rows::HELLO,
+            &[],
+            40,
+            "partition p exit 0 steps 9 lost 0\noutput 2\nhi\npartition q idle steps 0 lost 0\noutput 0\n\n"
+        )
+    );
+}
+
+#[test]
+fn traces_are_the_last_steps(rt: HostRuntime) {
+    let alloc = rt.alloc();
+    // Row short-trace.
+    assert!(rt; is_trace(alloc, &SHORT, &rows::HELLO, &[], 20, SHORT_TRACE));
+    // Row full-trace.
+    assert!(rt; is_trace(alloc, &ALONE, &rows::HELLO, &[], 20, FULL_TRACE));
+    // Row create-join.
+    assert!(rt; is_trace(alloc, &WIDE, &rows::CREATE_JOIN, &[], 40, CREATE_JOIN_TRACE));
+    // Row round-robin-windows.
+    assert!(rt; is_trace(alloc, &SLOW, &rows::ROUND_ROBIN, &[], 87, ROUND_ROBIN_TRACE));
+}
+
+const SHORT_TRACE: &str =
+    "13 1 0x0000001c 0x00000513 0x00000000\n14 1 0x00000020 0x00000073 0x00000000\n";
+
+const FULL_TRACE: &str =
+    "0 1 0x00000000 0x00100893 0x00000000\n1 1 0x00000004 0x06800513 0x00000068\n2 1 0x00000008 0x00000073 0x00000000\n6 1 0x0000000c 0x00100893 0x00000000\n7 1 0x00000010 0x06900513 0x00000069\n8 1 0x00000014 0x00000073 0x00000000\n12 1 0x00000018 0x00000893 0x00000000\n13 1 0x0000001c 0x00000513 0x00000000\n14 1 0x00000020 0x00000073 0x00000000\n";
+
+const CREATE_JOIN_TRACE: &str =
+    "0 1 0x00000000 0x000005b7 0x00000000\n1 1 0x00000004 0x03058593 0x00000000\n2 1 0x00000008 0x00000513 0x00000000\n3 1 0x0000000c 0x00500613 0x00000000\n4 1 0x00000010 0x00a00893 0x00000000\n5 1 0x00000014 0x00000073 0x00000000\n17 1 0x00000018 0x00058513 0x00000002\n18 1 0x0000001c 0x00c00893 0x00000002\n19 1 0x00000020 0x00000073 0x00000002\n27 2 0x00000030 0x00250513 0x00000007\n28 2 0x00000034 0x00008067 0x00000007\n29 2 0xfffffff0 0x00000000 0x00000007\n33 2 0xfffffff0 0x00000000 0x00000007\n37 1 0x00000024 0x00058513 0x00000007\n38 1 0x00000028 0x00000893 0x00000007\n39 1 0x0000002c 0x00000073 0x00000007\n";
+
+const ROUND_ROBIN_TRACE: &str =
+    "3 1 0x0000000c 0x00000073 0x00000000\n15 1 0x00000010 0x02c00513 0x0000002c\n16 1 0x00000014 0x02800593 0x0000002c\n40 1 0x00000018 0x00000073 0x00000000\n52 1 0x0000001c 0x00f00893 0x00000000\n53 1 0x00000020 0x00000073 0x00000000\n57 2 0x00000028 0x0000006f 0x00000000\n58 2 0x00000028 0x0000006f 0x00000000\n59 2 0x00000028 0x0000006f 0x00000000\n80 2 0x00000028 0x0000006f 0x00000000\n81 2 0x00000028 0x0000006f 0x00000000\n82 3 0x00000028 0x0000006f 0x00000000\n83 3 0x00000028 0x0000006f 0x00000000\n84 3 0x00000028 0x0000006f 0x00000000\n85 3 0x00000028 0x0000006f 0x00000000\n86 3 0x00000028 0x0000006f 0x00000000\n";

@@ -1,0 +1,7 @@
+use Rattle.std.proofs.Common.{◌≡◌, take}
+use Rattle.std.specs.Prelude.{fold, max}
+use Rattle.ptk_words_model.specs.Priority.{assigned_of, ceiling_for}
+use Rattle.ptk_mutex_slots.proofs.priorities.held_of.Given as goal
+
+abbrev pub invariant-loop-slot : goal.invariant-loop-slot
+invariant-loop-slot l = l.most ≡ fold (λ most m. max most (ceiling_for l.t m)) (assigned_of l.threads l.t) (take l.slot-index l.mutexes)

@@ -1,0 +1,7 @@
+use Rattle.std.proofs.Common.{length}
+use Rattle.ptk_words_model.specs.Priority.{next_of, held_of}
+use Rattle.ptk_mutex_slots.proofs.Levels.{IsSwept}
+use Rattle.ptk_mutex_slots.proofs.priorities.recompute.Given as goal
+
+abbrev pub invariant-loop-k : goal.invariant-loop-k
+invariant-loop-k l = IsSwept (length l.threads) (next_of l.threads l.mutexes) (held_of l.threads l.mutexes) l.k l.stored

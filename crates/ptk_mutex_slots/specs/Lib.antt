@@ -1,0 +1,4 @@
+pub mod Slots
+pub mod Changes
+pub mod Raised
+pub mod Tables

@@ -1,0 +1,123 @@
+//! What a lock comes to, by what the mutex is, and what it tells.
+
+ghost use Rattle.std.specs.Prelude.{◌≡◌, option_map};
+ghost use Rattle.ptk_words.specs.Faults.{errno_number};
+ghost use Rattle.ptk_words_model.specs.Mutex.{is_above_ceiling, free_move, own_lock_move, own_trylock_move, count_move, owner_move, move_reply, kept_reply};
+
+use ptk_words::{COUNT_LIMIT, Errno, MutexKind, Owner, Protocol, Soundness, ThreadNo, Wait};
+use ptk_words_model::LockMove;
+
+/// The moves of a lock by the owner: of a free mutex, of one's own, of another's or nobody's.
+#[derive(Clone, Copy)]
+pub(crate) struct OwnerMoves {
+    pub of_free: LockMove,
+    pub of_own: LockMove,
+    pub of_another: LockMove,
+}
+
+/// The move by the owner.
+pub(crate) fn owner_move(owner: Owner, t: ThreadNo, moves: OwnerMoves) -> LockMove
+    ensures { result ≡ owner_move owner t (record { of_free = moves.of_free; of_own = moves.of_own; of_another = moves.of_another }) }
+{
+    match owner {
+        Owner::Free => moves.of_free,
+        Owner::Abandoned => moves.of_another,
+        Owner::OwnedBy(u) => {
+            if u.number() == t.number() {
+                moves.of_own
+            } else {
+                moves.of_another
+            }
+        }
+    }
+}
+
+/// Whether the mutex is PROTECT, with a ceiling below the priority, 0 of no thread.
+pub(crate) fn is_above_ceiling(priority: u8, protocol: Protocol) -> bool
+    ensures { result ≡ is_above_ceiling priority protocol }
+{
+    match protocol {
+        Protocol::Protect(ceiling) => ceiling.level() < priority,
+        Protocol::NoProtocol | Protocol::Inherit => false,
+    }
+}
+
+/// A lock of a free mutex, by what it guards.
+pub fn free_move(soundness: Soundness) -> LockMove
+    ensures { result ≡ free_move soundness }
+{
+    match soundness {
+        Soundness::Consistent => LockMove::Takes,
+        Soundness::Inconsistent => LockMove::Recovers,
+        Soundness::Unrecoverable => LockMove::Refuses(Errno::ENOTRECOVERABLE),
+    }
+}
+
+/// A lock of one's own mutex, by its type.
+pub(crate) fn own_lock_move(kind: MutexKind, count: u32) -> LockMove
+    ensures { result ≡ own_lock_move kind count }
+{
+    match kind {
+        MutexKind::Normal => LockMove::Waits,
+        MutexKind::ErrorCheck => LockMove::Refuses(Errno::EDEADLK),
+        MutexKind::Recursive => count_move(count),
+    }
+}
+
+/// A trylock of one's own mutex, by its type.
+pub(crate) fn own_trylock_move(kind: MutexKind, count: u32) -> LockMove
+    ensures { result ≡ own_trylock_move kind count }
+{
+    match kind {
+        MutexKind::Normal | MutexKind::ErrorCheck => LockMove::Refuses(Errno::EBUSY),
+        MutexKind::Recursive => count_move(count),
+    }
+}
+
+/// One's own recursive mutex counts up to the limit.
+fn count_move(count: u32) -> LockMove
+    ensures { result ≡ count_move count }
+{
+    if count < COUNT_LIMIT {
+        LockMove::Counts
+    } else {
+        LockMove::Refuses(Errno::EAGAIN)
+    }
+}
+
+/// What the move tells one that is to be told this (pthread_mutex_lock, EOWNERDEAD, ENOTRECOVERABLE).
+pub fn reply_of(made: LockMove, reply: Option<u32>) -> Option<u32>
+    ensures { result ≡ move_reply made reply }
+{
+    match made {
+        LockMove::Takes | LockMove::Counts => reply,
+        LockMove::Recovers => in_place_of(reply, Errno::EOWNERDEAD),
+        LockMove::Waits => None,
+        LockMove::Refuses(e) => in_place_of(reply, e),
+    }
+}
+
+/// The error number in place of the reply, if there is one.
+fn in_place_of(reply: Option<u32>, e: Errno) -> Option<u32>
+    ensures { result ≡ option_map (λ _. errno_number e) reply }
+{
+    match reply {
+        Some(_) => Some(e.number()),
+        None => None,
+    }
+}
+
+/// What a mutex's waiter is to be told once it has the mutex: of a lock 0, of a re-lock what its wait keeps.
+pub fn kept_reply(wait: Option<Wait>) -> Option<u32>
+    ensures { result ≡ kept_reply wait }
+{
+    match wait {
+        Some(Wait::MutexWait(_, _)) => Some(0),
+        Some(Wait::RelockWait(_, reply)) => reply,
+        Some(Wait::InputWait)
+        | Some(Wait::SleepWait(_))
+        | Some(Wait::JoinWait(_))
+        | Some(Wait::ConditionWait(_, _, _))
+        | None => None,
+    }
+}
