@@ -69,12 +69,19 @@ whole_blank input_of limits inputs some few same ranges =
       ranges = ranges;
     }
 
+-- a number of each section within its range
+counts_few : (count : Limits → ℕ) (most : ℕ) (limits : List Limits) → ((l : Limits) → IsWithinLimits l → count l ≤ most) → All IsWithinLimits limits → All (λ n. n ≤ most) (map count limits)
+counts_few count most limits few ranges k d lt =
+    let within : k < length limits = omega (arith, lt, length-map limits count) in
+    let held : count (slice_index_or limits k no_limits) ≤ most = few (slice_index_or limits k no_limits) (ranges k no_limits within) in
+    rw (get_or-map count limits k no_limits d within) held
+
 -- each section has at most 32 threads
 pub threads_few : (limits : List Limits) → All IsWithinLimits limits → All (λ count. count ≤ 32) (map (λ l. l.threads) limits)
-threads_few limits ranges k d lt =
-    let within : k < length limits = omega (arith, lt, length-map limits (λ (l : Limits). l.threads)) in
-    let at : IsWithinLimits (slice_index_or limits k no_limits) = ranges k no_limits within in
-    let most : (slice_index_or limits k no_limits).threads ≤ 32 = at.threads_to in
-    rw (get_or-map (λ (l : Limits). l.threads) limits k no_limits d within) most
+threads_few limits ranges = counts_few (λ l. l.threads) 32 limits (λ l at. at.threads_to) ranges
 
-pub ruleset blanks = (whole_blank, threads_few)
+-- and at most 64 mutexes
+pub mutexes_few : (limits : List Limits) → All IsWithinLimits limits → All (λ count. count ≤ 64) (map (λ l. l.mutexes) limits)
+mutexes_few limits ranges = counts_few (λ l. l.mutexes) 64 limits (λ l at. at.mutexes_to) ranges
+
+pub ruleset blanks = (whole_blank, threads_few, mutexes_few)

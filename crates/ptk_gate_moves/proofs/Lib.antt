@@ -1,3 +1,4 @@
 pub mod Registers
 pub mod Creations
 pub mod Ready
+pub mod Locked

@@ -1,3 +1,5 @@
+pub mod Chosen
 pub mod Decoding
-pub mod Endings
+pub mod Owners
 pub mod Leaving
+pub mod Endings

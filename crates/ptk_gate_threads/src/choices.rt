@@ -41,6 +41,7 @@ fn preempt(pools: &mut Pools, p: PartId, running: ThreadNo, t: ThreadNo)
 fn choose_over(pools: &mut Pools, p: PartId, running: ThreadNo, t: ThreadNo)
     requires partition { p < length pools.old.limits }
     requires in_use { IsSome (thread_at (part_at p pools.old).locks running) }
+    requires next_in_use { IsSome (thread_at (part_at p pools.old).locks t) }
     requires fresh { is_in running (part_at p pools.old).line ≡ false }
     ensures { pools.new ≡ put_part p (after_choice_between (Some running) (Some t) (part_at p pools.old)) pools.old }
 {
@@ -51,7 +52,7 @@ fn choose_over(pools: &mut Pools, p: PartId, running: ThreadNo, t: ThreadNo)
 
 /// The running thread is chosen: the first of the line's greatest effective priority, unless one runs whose
 /// effective priority is as great.
-#[tactic(auto, using(ptk_gate_pools::proofs::Parted::parted, ptk_gate_moves::proofs::Ready::ready, ptk_gate_pools::proofs::Ranks::same))]
+#[tactic(auto, using(ptk_gate_pools::proofs::Parted::parted, ptk_gate_moves::proofs::Ready::ready, ptk_gate_pools::proofs::Ranks::same, crate::proofs::Chosen::chosen_in_use))]
 pub fn choose(pools: &mut Pools, p: PartId)
     requires partition { p < length pools.old.limits }
     requires well { IsWell (limits_at p pools.old) (part_at p pools.old) }

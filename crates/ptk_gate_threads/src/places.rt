@@ -4,10 +4,10 @@ ghost use Rattle.std.specs.Prelude.{◌≡◌, ◌<◌, false, length, Some, IsS
 ghost use Rattle.ptk_words_model.specs.State.{with_locks};
 ghost use Rattle.ptk_words_model.specs.Schedule.{at_tail, at_head, with_thread};
 ghost use Rattle.ptk_words_model.specs.Priority.{thread_at};
-ghost use Rattle.ptk_words_model.specs.Mutex.{owns_raising};
 ghost use Rattle.ptk_words_model.specs.ThreadCalls.{after_placing, after_placing_at_tail, yield};
 ghost use Rattle.ptk_words_well.specs.Well.{IsWell};
 ghost use Rattle.ptk_words.specs.Pools.{is_in};
+ghost use Rattle.ptk_mutex.specs.Tables.{AreLocked};
 ghost use Rattle.ptk_gate_pools.specs.Kept.{part_at, put_part, limits_at};
 ghost use Rattle.ptk_gate_moves.specs.Moves.{with_scheduling};
 
@@ -64,8 +64,22 @@ pub fn yield_turn(pools: &mut Pools, p: PartId, i: Invocation) -> Reply
     succeed(pools, p, i)
 }
 
-/// The thread, which owns no INHERIT or PROTECT mutex, has this policy and priority, and goes to the tail if it runs or
-/// is ready (pthread_setschedparam).
+/// A running or ready thread goes to the tail, and a running one no longer runs; an owner of an INHERIT or PROTECT mutex
+/// keeps its place (pthread_mutexattr_getprotocol).
+#[tactic(auto, using(ptk_gate_pools::proofs::Ranks::put_same))]
+pub(crate) fn place_last(pools: &mut Pools, p: PartId, t: ThreadNo)
+    requires partition { p < length pools.old.limits }
+    requires in_use { IsSome (thread_at (part_at p pools.old).locks t) }
+    requires fresh { (part_at p pools.old).running ≡ Some t → is_in t (part_at p pools.old).line ≡ false }
+    ensures { pools.new ≡ put_part p (after_placing_at_tail t (part_at p pools.old)) pools.old }
+{
+    if !pools.owns_raising(p, t) {
+        place_at_tail(pools, p, t);
+    }
+}
+
+/// The thread has this policy and priority. If it runs or is ready, it goes to the tail, but an owner of an INHERIT or
+/// PROTECT mutex keeps its place (pthread_setschedparam).
 #[tactic(auto, using(ptk_gate_pools::proofs::Parted::parted, ptk_words_locks::proofs::Pools::changed_own))]
 pub(crate) fn reschedule(
     pools: &mut Pools,
@@ -77,22 +91,23 @@ pub(crate) fn reschedule(
     requires partition { p < length pools.old.limits }
     requires in_use { IsSome (thread_at (part_at p pools.old).locks t) }
     requires fresh { (part_at p pools.old).running ≡ Some t → is_in t (part_at p pools.old).line ≡ false }
-    requires raising { owns_raising (part_at p pools.old).locks t ≡ false }
+    requires locked { AreLocked (part_at p pools.old).locks }
     ensures { pools.new ≡ put_part p (after_placing_at_tail t (with_locks (with_thread t (with_scheduling policy priority)) (part_at p pools.old))) pools.old }
 {
     let _parts = pools.parts();
     give_scheduling(pools, p, t, policy, priority);
-    place_at_tail(pools, p, t);
+    place_last(pools, p, t);
 }
 
 /// The thread has this policy and assigned priority, and has used no tick.
 #[tactic(auto, using(ptk_gate_pools::proofs::Parted::parted, ptk_words_locks::proofs::Pools::changed_twice))]
 fn give_scheduling(pools: &mut Pools, p: PartId, t: ThreadNo, policy: Policy, priority: Priority)
     requires partition { p < length pools.old.limits }
+    requires locked { AreLocked (part_at p pools.old).locks }
     ensures { pools.new ≡ put_part p (with_locks (with_thread t (with_scheduling policy priority)) (part_at p pools.old)) pools.old }
 {
     let _parts = pools.parts();
+    pools.give_priority(p, t, priority);
     pools.give_policy(p, t, policy);
     pools.give_used(p, t, 0);
-    pools.give_priority(p, t, priority);
 }

@@ -4,17 +4,17 @@ ghost use Rattle.std.specs.Prelude.{◌≡◌, ◌<◌, false, length, Some, IsS
 ghost use Rattle.ptk_words_model.specs.State.{with_locks};
 ghost use Rattle.ptk_words_model.specs.Schedule.{with_thread};
 ghost use Rattle.ptk_words_model.specs.Priority.{thread_at};
-ghost use Rattle.ptk_words_model.specs.Mutex.{owns_raising};
 ghost use Rattle.ptk_words_model.specs.Steps.{valid, change, change_thread, succeed};
 ghost use Rattle.ptk_words_model.specs.ThreadCalls.{after_placing_at_tail, setschedparam, after_priority_change, setschedprio};
 ghost use Rattle.ptk_threads.specs.Table.{with_priority};
 ghost use Rattle.ptk_words_well.specs.Well.{IsWell};
 ghost use Rattle.ptk_words.specs.Pools.{is_in};
+ghost use Rattle.ptk_mutex.specs.Tables.{AreLocked};
 ghost use Rattle.ptk_gate_pools.specs.Kept.{part_at, put_part, limits_at};
 ghost use Rattle.ptk_gate_moves.specs.Moves.{with_scheduling};
 
 use crate::attributes::named_policy;
-use crate::places::{place_at_head, place_at_tail, reschedule};
+use crate::places::{place_at_head, place_last, reschedule};
 use ptk_gate_moves::{named_priority, refuse, succeed, target};
 use ptk_gate_pools::Pools;
 use ptk_words::{Errno, PartId, Policy, Priority, ThreadNo};
@@ -36,9 +36,10 @@ struct NewPriority {
     new: Priority,
 }
 
-/// pthread_setschedparam: the thread of a0 has the policy of a1 and the priority of a2, and goes to the tail if it runs
-/// or is ready. ESRCH, ENOTSUP, EINVAL; a refusal changes nothing but a0.
-#[tactic(auto, using(ptk_gate_pools::proofs::Parted::parted, ptk_gate_moves::proofs::Ready::ready))]
+/// pthread_setschedparam: the thread of a0 has the policy of a1 and the priority of a2. If it runs or is ready, it goes to
+/// the tail, but an owner of an INHERIT or PROTECT mutex keeps its place. ESRCH, ENOTSUP, EINVAL; a refusal changes
+/// nothing but a0.
+#[tactic(auto, using(ptk_gate_pools::proofs::Parted::parted, ptk_gate_moves::proofs::Ready::ready, ptk_gate_moves::proofs::Locked::locked))]
 pub fn setschedparam(pools: &mut Pools, p: PartId, i: Invocation) -> Reply
     requires partition { p < length pools.old.limits }
     requires well { IsWell (limits_at p pools.old) (part_at p pools.old) }
@@ -78,8 +79,9 @@ fn asked_scheduling(pools: &Pools, p: PartId, i: &Invocation) -> Result<NewSched
 }
 
 /// pthread_setschedprio: the thread of a0 has the priority of a1. If it runs or is ready, it goes to the tail where its
-/// priority rose, to the head where it fell. ESRCH, EINVAL; a refusal changes nothing but a0.
-#[tactic(auto, using(ptk_gate_pools::proofs::Parted::parted, ptk_gate_moves::proofs::Ready::ready))]
+/// priority rose, to the head where it fell, but an owner of an INHERIT or PROTECT mutex never to the tail. ESRCH, EINVAL;
+/// a refusal changes nothing but a0.
+#[tactic(auto, using(ptk_gate_pools::proofs::Parted::parted, ptk_gate_moves::proofs::Ready::ready, ptk_gate_moves::proofs::Locked::locked))]
 pub fn setschedprio(pools: &mut Pools, p: PartId, i: Invocation) -> Reply
     requires partition { p < length pools.old.limits }
     requires well { IsWell (limits_at p pools.old) (part_at p pools.old) }
@@ -121,7 +123,7 @@ fn change_priority(pools: &mut Pools, p: PartId, t: ThreadNo, old: Priority, new
     requires partition { p < length pools.old.limits }
     requires in_use { IsSome (thread_at (part_at p pools.old).locks t) }
     requires fresh { (part_at p pools.old).running ≡ Some t → is_in t (part_at p pools.old).line ≡ false }
-    requires raising { owns_raising (part_at p pools.old).locks t ≡ false }
+    requires locked { AreLocked (part_at p pools.old).locks }
     ensures { pools.new ≡ put_part p (after_priority_change old new t (with_locks (with_thread t (with_priority new)) (part_at p pools.old))) pools.old }
 {
     let _parts = pools.parts();
@@ -129,18 +131,17 @@ fn change_priority(pools: &mut Pools, p: PartId, t: ThreadNo, old: Priority, new
     place_anew(pools, p, t, old, new);
 }
 
-/// The place of a thread whose priority was the old one and is the new one: the tail where it rose, the head where it
-/// fell, if it runs or is ready (pthread_setschedprio).
+/// The place of a thread whose priority was the old one and is the new one, if it runs or is ready: the tail where it
+/// rose, unless it owns an INHERIT or PROTECT mutex, the head where it fell (pthread_setschedprio).
 #[tactic(auto, using(ptk_gate_pools::proofs::Parted::parted))]
 fn place_anew(pools: &mut Pools, p: PartId, t: ThreadNo, old: Priority, new: Priority)
     requires partition { p < length pools.old.limits }
     requires in_use { IsSome (thread_at (part_at p pools.old).locks t) }
     requires fresh { (part_at p pools.old).running ≡ Some t → is_in t (part_at p pools.old).line ≡ false }
-    requires raising { owns_raising (part_at p pools.old).locks t ≡ false }
     ensures { pools.new ≡ put_part p (after_priority_change old new t (part_at p pools.old)) pools.old }
 {
     if old.level() < new.level() {
-        place_at_tail(pools, p, t);
+        place_last(pools, p, t);
     } else if new.level() < old.level() {
         place_at_head(pools, p, t);
     }
