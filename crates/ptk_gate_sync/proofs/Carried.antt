@@ -10,10 +10,6 @@ use Rattle.ptk_gate_pools.proofs.Parted.{part_at-put, put_part-put}
 pub part_moved : (n p : ℕ) (u : Part) (kept new : Kept) → AreParts n kept → p < n → new ≡ put_part p u kept → part_at p new ≡ u
 part_moved n p u kept new parts lt e = ap (part_at p) e ∙ part_at-put n p u kept parts lt
 
--- the move, by the part that it leaves
-pub moved_to : (n p : ℕ) (u : Part) (kept new : Kept) → AreParts n kept → p < n → new ≡ put_part p u kept → new ≡ put_part p (part_at p new) kept
-moved_to n p u kept new parts lt e = e ∙ ap (λ (s : Part). put_part p s kept) (sym (part_moved n p u kept new parts lt e))
-
 -- an answer that the rest of a row gives in the state to which the steps before it came is the row's
 pub told_on : (row rest : Answer) (reply : Reply) → row ≡ rest → reply ≡ rest.reply → reply ≡ row.reply
 told_on row rest reply e told = told ∙ ap (λ (a : Answer). a.reply) (sym e)

@@ -1,27 +1,25 @@
 //! Call 21: a mutex destroyed.
 
-ghost use Rattle.std.specs.Prelude.{◌≡◌, ◌<◌, ◌≤◌, ◌+◌, ◌||◌, [], None, length, option_map};
-ghost use Rattle.ptk_words.specs.declared.TheConstants.{DESTROYED};
-ghost use Rattle.ptk_words.specs.declared.faults.Errno.TheVariants.{EBUSY};
+ghost use Rattle.std.specs.Prelude.{◌≡◌, ◌<◌, ◌≤◌, ◌+◌, ◌||◌, [], length, option_map};
 ghost use Rattle.ptk_words_model.specs.Mutex.{mutex_at};
 ghost use Rattle.ptk_words_model.specs.Condition.{names_mutex};
-ghost use Rattle.ptk_words_model.specs.Calls.{with_stored, with_pool_mutex};
-ghost use Rattle.ptk_words_model.specs.Steps.{refuse◌when◌, change, succeed};
 ghost use Rattle.ptk_words_model.specs.MutexCalls.{is_locked, mutex_destroy};
 ghost use Rattle.ptk_words_well.specs.Well.{IsWell};
-ghost use Rattle.ptk_mutex.specs.Slots.{mutex_with};
+ghost use Rattle.ptk_mutex_slots.specs.Slots.{mutex_with};
 ghost use Rattle.ptk_gate_pools.specs.Kept.{part_at, put_part, limits_at};
+ghost use Rattle.ptk_gate_sync.specs.Rests.{destroy_rest};
 
 use crate::naming::named_mutex;
 use ptk_gate_moves::{refuse, succeed};
 use ptk_gate_pools::Pools;
-use ptk_mutex::MutexState;
+use ptk_mutex_slots::MutexState;
 use ptk_words::{DESTROYED, Errno, MutexNo, Owner, PartId};
 use ptk_words_model::{Invocation, Reply};
 
 /// pthread_mutex_destroy: the number of the mutex that the word at the pointer of a0 names is free, and the word is
-/// DESTROYED, which names none. The errors of `named_mutex`, then EBUSY of a mutex that is locked, or that a thread which
-/// waits on a condition variable is to have again; a refusal changes nothing but a0 and what naming the mutex set up.
+/// DESTROYED, which names none. EFAULT, EINVAL or ENOMEM of the word, then EBUSY of a mutex that is locked, or that a
+/// thread which waits on a condition variable is to have again; a refusal changes nothing but a0 and what a static
+/// initialiser set up.
 pub fn mutex_destroy(pools: &mut Pools, p: PartId, i: Invocation) -> Reply
     requires partition { p < length pools.old.limits }
     requires well { IsWell (limits_at p pools.old) (part_at p pools.old) }
@@ -40,8 +38,8 @@ fn destroy_named(pools: &mut Pools, p: PartId, i: Invocation, m: MutexNo) -> Rep
     requires partition { p < length pools.old.limits }
     requires well { IsWell (limits_at p pools.old) (part_at p pools.old) }
     requires word { i.a0 + 4 ≤ length (part_at p pools.old).memory }
-    ensures told { result ≡ ((refuse EBUSY when (is_locked (mutex_at (part_at p pools.old).locks m) || names_mutex (part_at p pools.old).locks m)) (change (with_pool_mutex m None) (change (with_stored i.a0 DESTROYED) succeed)) i (part_at p pools.old)).reply }
-    ensures moved { pools.new ≡ put_part p ((refuse EBUSY when (is_locked (mutex_at (part_at p pools.old).locks m) || names_mutex (part_at p pools.old).locks m)) (change (with_pool_mutex m None) (change (with_stored i.a0 DESTROYED) succeed)) i (part_at p pools.old)).part pools.old }
+    ensures told { result ≡ (destroy_rest m i (part_at p pools.old)).reply }
+    ensures moved { pools.new ≡ put_part p (destroy_rest m i (part_at p pools.old)).part pools.old }
 {
     let _parts = pools.parts();
     if is_in_use(pools, p, m) {
@@ -53,7 +51,6 @@ fn destroy_named(pools: &mut Pools, p: PartId, i: Invocation, m: MutexNo) -> Rep
 }
 
 /// Whether the mutex is locked, or a thread that waits on a condition variable is to have it again.
-#[tactic(auto, using(crate::proofs::States::states))]
 fn is_in_use(pools: &Pools, p: PartId, m: MutexNo) -> bool
     requires partition { p < length pools.now.limits }
     ensures { result ≡ (is_locked (mutex_at (part_at p pools.now).locks m) || names_mutex (part_at p pools.now).locks m) }

@@ -1,24 +1,24 @@
 //! Calls 22 and 23: lock and trylock.
 
-ghost use Rattle.std.specs.Prelude.{◌≡◌, ◌<◌, length, Some, None};
-ghost use Rattle.ptk_words_model.specs.Mutex.{mutex_at, lock_move, trylock_move};
+ghost use Rattle.std.specs.Prelude.{◌≡◌, ◌<◌, length, Some};
 ghost use Rattle.ptk_words_model.specs.Calls.{told};
-ghost use Rattle.ptk_words_model.specs.MutexCalls.{make_move, mutex_lock, mutex_trylock};
+ghost use Rattle.ptk_words_model.specs.MutexCalls.{mutex_lock, mutex_trylock};
 ghost use Rattle.ptk_words_well.specs.Well.{IsWell};
 ghost use Rattle.ptk_gate_pools.specs.Kept.{part_at, put_part, limits_at};
+ghost use Rattle.ptk_gate_sync.specs.Rests.{lock_rest, trylock_rest};
 
 use crate::naming::named_mutex;
 use ptk_gate_moves::{refuse, reply};
 use ptk_gate_pools::Pools;
-use ptk_mutex::reply_of;
+use ptk_mutex_slots::reply_of;
 use ptk_words::{MutexNo, PartId};
 use ptk_words_model::{Invocation, Reply};
 
 /// pthread_mutex_lock: the caller owns the mutex that the word at the pointer of a0 names, or counts up its own recursive
-/// one, or blocks as the last waiter. EOWNERDEAD where the caller now owns a robust mutex whose owner ended. The errors
-/// of `named_mutex`, then EINVAL of a PROTECT mutex whose ceiling is below the caller's assigned priority,
-/// ENOTRECOVERABLE, EDEADLK of one's own mutex that checks errors, EAGAIN of a recursive one at its limit; a refusal
-/// changes nothing but a0 and what naming the mutex set up.
+/// one, or blocks as the last waiter. EOWNERDEAD where the caller now owns a robust mutex whose owner ended. EFAULT,
+/// EINVAL or ENOMEM of the word, then EINVAL of a PROTECT mutex whose ceiling is below the caller's assigned priority,
+/// ENOTRECOVERABLE of a mutex that was lost, EDEADLK of one's own that checks errors, EAGAIN of a recursive one at its
+/// limit; a refusal changes nothing but a0 and what a static initialiser set up.
 pub fn mutex_lock(pools: &mut Pools, p: PartId, i: Invocation) -> Reply
     requires partition { p < length pools.old.limits }
     requires well { IsWell (limits_at p pools.old) (part_at p pools.old) }
@@ -33,13 +33,13 @@ pub fn mutex_lock(pools: &mut Pools, p: PartId, i: Invocation) -> Reply
 }
 
 /// The caller's lock of the mutex named.
-#[tactic(auto, using(ptk_gate_pools::proofs::Parted::parted))]
+#[tactic(auto, using(ptk_gate_pools::proofs::Parted::parted, ptk_gate_moves::proofs::Locked::locked))]
 fn lock_named(pools: &mut Pools, p: PartId, i: Invocation, m: MutexNo) -> Reply
     requires partition { p < length pools.old.limits }
     requires well { IsWell (limits_at p pools.old) (part_at p pools.old) }
     requires running { (part_at p pools.old).running ≡ Some i.caller }
-    ensures told { result ≡ (make_move (lock_move (part_at p pools.old).locks i.caller (mutex_at (part_at p pools.old).locks m)) m None i (part_at p pools.old)).reply }
-    ensures moved { pools.new ≡ put_part p (make_move (lock_move (part_at p pools.old).locks i.caller (mutex_at (part_at p pools.old).locks m)) m None i (part_at p pools.old)).part pools.old }
+    ensures told { result ≡ (lock_rest m i (part_at p pools.old)).reply }
+    ensures moved { pools.new ≡ put_part p (lock_rest m i (part_at p pools.old)).part pools.old }
 {
     let _parts = pools.parts();
     let made = pools.lock(p, i.caller, m);
@@ -61,13 +61,13 @@ pub fn mutex_trylock(pools: &mut Pools, p: PartId, i: Invocation) -> Reply
 }
 
 /// The caller's trylock of the mutex named.
-#[tactic(auto, using(ptk_gate_pools::proofs::Parted::parted))]
+#[tactic(auto, using(ptk_gate_pools::proofs::Parted::parted, ptk_gate_moves::proofs::Locked::locked))]
 fn trylock_named(pools: &mut Pools, p: PartId, i: Invocation, m: MutexNo) -> Reply
     requires partition { p < length pools.old.limits }
     requires well { IsWell (limits_at p pools.old) (part_at p pools.old) }
     requires running { (part_at p pools.old).running ≡ Some i.caller }
-    ensures told { result ≡ (make_move (trylock_move (part_at p pools.old).locks i.caller (mutex_at (part_at p pools.old).locks m)) m None i (part_at p pools.old)).reply }
-    ensures moved { pools.new ≡ put_part p (make_move (trylock_move (part_at p pools.old).locks i.caller (mutex_at (part_at p pools.old).locks m)) m None i (part_at p pools.old)).part pools.old }
+    ensures told { result ≡ (trylock_rest m i (part_at p pools.old)).reply }
+    ensures moved { pools.new ≡ put_part p (trylock_rest m i (part_at p pools.old)).part pools.old }
 {
     let _parts = pools.parts();
     let made = pools.trylock(p, i.caller, m);

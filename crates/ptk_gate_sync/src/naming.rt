@@ -10,7 +10,7 @@ ghost use Rattle.ptk_gate_sync.specs.Named.{IsNamed};
 use crate::creation::{NewMutex, make};
 use ptk_gate_moves::is_pointer;
 use ptk_gate_pools::Pools;
-use ptk_mutex::MutexSlot;
+use ptk_mutex_slots::MutexSlot;
 use ptk_words::{Errno, MutexKind, MutexNo, PartId, Protocol, read_word};
 use ptk_words_model::Invocation;
 

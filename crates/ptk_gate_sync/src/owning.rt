@@ -1,26 +1,24 @@
 //! Calls 25 and 26: what the owner of a mutex does with it.
 
 ghost use Rattle.std.specs.Prelude.{◌≡◌, ◌<◌, [], length, option_map};
-ghost use Rattle.ptk_words.specs.declared.faults.Errno.TheVariants.{EPERM, EINVAL};
-ghost use Rattle.ptk_words.specs.declared.mutexes.Soundness.TheVariants.{Consistent};
-ghost use Rattle.ptk_words_model.specs.Mutex.{mutex_at, owns, after_unlock, with_soundness};
-ghost use Rattle.ptk_words_model.specs.Steps.{refuse◌unless◌, change_locks, succeed};
+ghost use Rattle.ptk_words_model.specs.Mutex.{mutex_at};
 ghost use Rattle.ptk_words_model.specs.MutexCalls.{mutex_unlock, is_inconsistent, is_repairable, mutex_consistent};
 ghost use Rattle.ptk_words_well.specs.Well.{IsWell};
-ghost use Rattle.ptk_mutex.specs.Slots.{mutex_with};
+ghost use Rattle.ptk_mutex_slots.specs.Slots.{mutex_with};
 ghost use Rattle.ptk_gate_pools.specs.Kept.{part_at, put_part, limits_at};
+ghost use Rattle.ptk_gate_sync.specs.Rests.{unlock_rest, consistent_rest};
 
 use crate::naming::named_mutex;
 use ptk_gate_moves::{refuse, succeed};
 use ptk_gate_pools::Pools;
-use ptk_mutex::MutexState;
+use ptk_mutex_slots::MutexState;
 use ptk_words::{Errno, MutexNo, PartId, Soundness};
 use ptk_words_model::{Invocation, Reply};
 
 /// pthread_mutex_unlock: the caller's mutex that the word at the pointer of a0 names counts down, or goes to the waiter
-/// of greatest effective priority, or is free; an inconsistent one is lost, and its waiters are refused. The errors of
-/// `named_mutex`, then EPERM of a mutex that the caller does not own (own choice for NORMAL); a refusal changes nothing
-/// but a0 and what naming the mutex set up.
+/// of greatest effective priority, or is free; an inconsistent one is lost, and its waiters are refused. EFAULT, EINVAL or
+/// ENOMEM of the word, then EPERM of a mutex that the caller does not own (own choice for NORMAL); a refusal changes
+/// nothing but a0 and what a static initialiser set up.
 pub fn mutex_unlock(pools: &mut Pools, p: PartId, i: Invocation) -> Reply
     requires partition { p < length pools.old.limits }
     requires well { IsWell (limits_at p pools.old) (part_at p pools.old) }
@@ -34,12 +32,12 @@ pub fn mutex_unlock(pools: &mut Pools, p: PartId, i: Invocation) -> Reply
 }
 
 /// The caller's unlock of the mutex named, or EPERM.
-#[tactic(auto, using(ptk_gate_pools::proofs::Parted::parted))]
+#[tactic(auto, using(ptk_gate_pools::proofs::Parted::parted, ptk_gate_moves::proofs::Locked::locked))]
 fn unlock_named(pools: &mut Pools, p: PartId, i: Invocation, m: MutexNo) -> Reply
     requires partition { p < length pools.old.limits }
     requires well { IsWell (limits_at p pools.old) (part_at p pools.old) }
-    ensures told { result ≡ ((refuse EPERM unless owns i.caller (mutex_at (part_at p pools.old).locks m)) (change_locks (after_unlock m) succeed) i (part_at p pools.old)).reply }
-    ensures moved { pools.new ≡ put_part p ((refuse EPERM unless owns i.caller (mutex_at (part_at p pools.old).locks m)) (change_locks (after_unlock m) succeed) i (part_at p pools.old)).part pools.old }
+    ensures told { result ≡ (unlock_rest m i (part_at p pools.old)).reply }
+    ensures moved { pools.new ≡ put_part p (unlock_rest m i (part_at p pools.old)).part pools.old }
 {
     let _parts = pools.parts();
     if pools.owns(p, i.caller, m) {
@@ -51,9 +49,9 @@ fn unlock_named(pools: &mut Pools, p: PartId, i: Invocation, m: MutexNo) -> Repl
 }
 
 /// pthread_mutex_consistent: what the caller's robust mutex guards, which the word at the pointer of a0 names, is sound
-/// again after an owner's end. The errors of `named_mutex`, then EINVAL of a mutex that is not robust and inconsistent,
-/// EPERM of one that the caller does not own (own choice); a refusal changes nothing but a0 and what naming the mutex
-/// set up.
+/// again after an owner's end. EFAULT, EINVAL or ENOMEM of the word, then EINVAL of a mutex that is not robust and
+/// inconsistent, EPERM of one that the caller does not own (own choice); a refusal changes nothing but a0 and what a
+/// static initialiser set up.
 pub fn mutex_consistent(pools: &mut Pools, p: PartId, i: Invocation) -> Reply
     requires partition { p < length pools.old.limits }
     requires well { IsWell (limits_at p pools.old) (part_at p pools.old) }
@@ -67,12 +65,12 @@ pub fn mutex_consistent(pools: &mut Pools, p: PartId, i: Invocation) -> Reply
 }
 
 /// The mutex named is made consistent, or EINVAL, or EPERM.
-#[tactic(auto, using(ptk_gate_pools::proofs::Parted::parted))]
+#[tactic(auto, using(ptk_gate_pools::proofs::Parted::parted, ptk_gate_moves::proofs::Locked::locked))]
 fn repair_named(pools: &mut Pools, p: PartId, i: Invocation, m: MutexNo) -> Reply
     requires partition { p < length pools.old.limits }
     requires well { IsWell (limits_at p pools.old) (part_at p pools.old) }
-    ensures told { result ≡ ((refuse EINVAL unless is_repairable (mutex_at (part_at p pools.old).locks m)) ((refuse EPERM unless owns i.caller (mutex_at (part_at p pools.old).locks m)) (change_locks (with_soundness Consistent m) succeed)) i (part_at p pools.old)).reply }
-    ensures moved { pools.new ≡ put_part p ((refuse EINVAL unless is_repairable (mutex_at (part_at p pools.old).locks m)) ((refuse EPERM unless owns i.caller (mutex_at (part_at p pools.old).locks m)) (change_locks (with_soundness Consistent m) succeed)) i (part_at p pools.old)).part pools.old }
+    ensures told { result ≡ (consistent_rest m i (part_at p pools.old)).reply }
+    ensures moved { pools.new ≡ put_part p (consistent_rest m i (part_at p pools.old)).part pools.old }
 {
     let _parts = pools.parts();
     if !is_repairable(pools, p, m) {
@@ -86,7 +84,6 @@ fn repair_named(pools: &mut Pools, p: PartId, i: Invocation, m: MutexNo) -> Repl
 }
 
 /// Whether the mutex is robust and inconsistent.
-#[tactic(auto, using(crate::proofs::States::states))]
 fn is_repairable(pools: &Pools, p: PartId, m: MutexNo) -> bool
     requires partition { p < length pools.now.limits }
     ensures { result ≡ is_repairable (mutex_at (part_at p pools.now).locks m) }
