@@ -11,7 +11,7 @@ use Rattle.ptk_asm_model.specs.declared.place.Span.{Span}
 use Rattle.ptk_asm_model.specs.declared.place.Place.{Place}
 use Rattle.ptk_asm_model.specs.declared.place.Lengths.{Lengths}
 use Rattle.ptk_asm_model.specs.Lines.{raw_lines, without_ending, code_of}
-use Rattle.ptk_asm_model.specs.Tokens.{Token, Name, Number, Mark, tokens_of}
+use Rattle.ptk_asm_model.specs.Tokens.{Token, Name, Mark, tokens_of}
 use Rattle.ptk_asm_model.specs.Statements.{Value, Nothing, Given, Labelled, Operands, named, form_named, stands_in, slots_of, operands_of, bytes_of, size_of, distances, is_within, is_even}
 
 -- the numbers of the kinds of faults (own)

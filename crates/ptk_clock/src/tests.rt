@@ -2,7 +2,7 @@
 
 ghost use Rattle.std.specs.Prelude.{◌≡◌, ◌<◌, false, []};
 ghost use Rattle.ptk_words.specs.Pools.{is_in};
-ghost use Rattle.ptk_clock.specs.Pairs.{slots_of, with_pair, without_slot, without_taken};
+ghost use Rattle.ptk_clock.specs.Pairs.{slots_of, with_pair};
 
 use crate::deadlines::Deadlines;
 use crate::plain::PlainDeadlines;

@@ -35,10 +35,6 @@ pub ruleset called = (running_not_waiting)
 
 -- ---- calls
 
--- the call of the running thread is that of its registers
-pub call_is : (limits : Limits) (tick : ℕ) (r : Runner) (s : Part) → runner_of s ≡ Some r → registers_answer limits tick r.number r.thread.cpu s ≡ call_answer limits tick s
-call_is limits tick r s e = rw e refl
-
 pub whole_called : (p tick : ℕ) (r : Runner) (kept new : Kept) → runner_of (part_at p kept) ≡ Some r → new ≡ put_part p (registers_answer (limits_at p kept) tick r.number r.thread.cpu (part_at p kept)).part kept → AreWhole kept → p < length kept.limits → AreWhole new
 whole_called p tick r kept new runs e are lt =
     are_whole_put p (registers_answer (limits_at p kept) tick r.number r.thread.cpu (part_at p kept)).part kept new e are lt

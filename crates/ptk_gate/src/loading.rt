@@ -1,10 +1,8 @@
 //! Images into memory, before the first decision.
 
-ghost use Rattle.std.specs.Prelude.{◌≡◌, ℕ, ◌^◌, ◌<◌, ◌≤◌, ◌+◌, [], length, Ok, Err};
+ghost use Rattle.std.specs.Prelude.{◌≡◌, ℕ, ◌^◌, ◌<◌, ◌+◌, length, Ok, Err};
 ghost use Rattle.ptk_words.specs.Image.{ImageParts};
-ghost use Rattle.ptk_words.specs.Ranges.{IsWithinLimits};
 ghost use Rattle.ptk_words_model.specs.Run.{empty_part, fits, main_thread, with_image};
-ghost use Rattle.ptk_words_model.specs.ThreadCreation.{with_new_thread};
 ghost use Rattle.ptk_gate_pools.specs.Kept.{part_at, put_part, limits_at};
 
 use crate::tables::Tables;

@@ -3,11 +3,10 @@
 ghost use Rattle.std.specs.Prelude.{◌≡◌, ◌<◌, ◌≤◌, ◌+◌, ◌||◌, [], length, option_map};
 ghost use Rattle.ptk_words_model.specs.Mutex.{mutex_at};
 ghost use Rattle.ptk_words_model.specs.Condition.{names_mutex};
-ghost use Rattle.ptk_words_model.specs.MutexCalls.{is_locked, mutex_destroy};
+ghost use Rattle.ptk_words_model.specs.MutexCalls.{is_locked, mutex_destroy, destroy_named};
 ghost use Rattle.ptk_words_well.specs.Well.{IsWell};
 ghost use Rattle.ptk_mutex_slots.specs.Slots.{mutex_with};
 ghost use Rattle.ptk_gate_pools.specs.Kept.{part_at, put_part, limits_at};
-ghost use Rattle.ptk_gate_sync.specs.Rests.{destroy_rest};
 
 use crate::naming::named_mutex;
 use ptk_gate_moves::{refuse, succeed};
@@ -38,8 +37,8 @@ fn destroy_named(pools: &mut Pools, p: PartId, i: Invocation, m: MutexNo) -> Rep
     requires partition { p < length pools.old.limits }
     requires well { IsWell (limits_at p pools.old) (part_at p pools.old) }
     requires word { i.a0 + 4 ≤ length (part_at p pools.old).memory }
-    ensures told { result ≡ (destroy_rest m i (part_at p pools.old)).reply }
-    ensures moved { pools.new ≡ put_part p (destroy_rest m i (part_at p pools.old)).part pools.old }
+    ensures told { result ≡ (destroy_named m i (part_at p pools.old)).reply }
+    ensures moved { pools.new ≡ put_part p (destroy_named m i (part_at p pools.old)).part pools.old }
 {
     let _parts = pools.parts();
     if is_in_use(pools, p, m) {

@@ -2,10 +2,9 @@
 
 ghost use Rattle.std.specs.Prelude.{◌≡◌, ◌<◌, length, Some};
 ghost use Rattle.ptk_words_model.specs.Calls.{told};
-ghost use Rattle.ptk_words_model.specs.MutexCalls.{mutex_lock, mutex_trylock};
+ghost use Rattle.ptk_words_model.specs.MutexCalls.{mutex_lock, mutex_trylock, lock_named, trylock_named};
 ghost use Rattle.ptk_words_well.specs.Well.{IsWell};
 ghost use Rattle.ptk_gate_pools.specs.Kept.{part_at, put_part, limits_at};
-ghost use Rattle.ptk_gate_sync.specs.Rests.{lock_rest, trylock_rest};
 
 use crate::naming::named_mutex;
 use ptk_gate_moves::{refuse, reply};
@@ -38,15 +37,19 @@ fn lock_named(pools: &mut Pools, p: PartId, i: Invocation, m: MutexNo) -> Reply
     requires partition { p < length pools.old.limits }
     requires well { IsWell (limits_at p pools.old) (part_at p pools.old) }
     requires running { (part_at p pools.old).running ≡ Some i.caller }
-    ensures told { result ≡ (lock_rest m i (part_at p pools.old)).reply }
-    ensures moved { pools.new ≡ put_part p (lock_rest m i (part_at p pools.old)).part pools.old }
+    ensures told { result ≡ (lock_named m i (part_at p pools.old)).reply }
+    ensures moved { pools.new ≡ put_part p (lock_named m i (part_at p pools.old)).part pools.old }
 {
     let _parts = pools.parts();
     let made = pools.lock(p, i.caller, m);
     tell(pools, p, i, reply_of(made, Some(0)))
 }
 
-/// pthread_mutex_trylock: as `mutex_lock`, but EBUSY of a mutex that is locked, save one's own recursive one.
+/// pthread_mutex_trylock: the caller owns the mutex that the word at the pointer of a0 names, if it is free, or counts up
+/// its own recursive one. EOWNERDEAD where the caller now owns a robust mutex whose owner ended. The errors of
+/// `named_mutex`, then EINVAL of a PROTECT mutex whose ceiling is below the caller's assigned priority, ENOTRECOVERABLE,
+/// EAGAIN of one's own recursive mutex at its limit, EBUSY of any other that is locked; a refusal changes nothing but a0
+/// and what naming the mutex set up.
 pub fn mutex_trylock(pools: &mut Pools, p: PartId, i: Invocation) -> Reply
     requires partition { p < length pools.old.limits }
     requires well { IsWell (limits_at p pools.old) (part_at p pools.old) }
@@ -66,8 +69,8 @@ fn trylock_named(pools: &mut Pools, p: PartId, i: Invocation, m: MutexNo) -> Rep
     requires partition { p < length pools.old.limits }
     requires well { IsWell (limits_at p pools.old) (part_at p pools.old) }
     requires running { (part_at p pools.old).running ≡ Some i.caller }
-    ensures told { result ≡ (trylock_rest m i (part_at p pools.old)).reply }
-    ensures moved { pools.new ≡ put_part p (trylock_rest m i (part_at p pools.old)).part pools.old }
+    ensures told { result ≡ (trylock_named m i (part_at p pools.old)).reply }
+    ensures moved { pools.new ≡ put_part p (trylock_named m i (part_at p pools.old)).part pools.old }
 {
     let _parts = pools.parts();
     let made = pools.trylock(p, i.caller, m);

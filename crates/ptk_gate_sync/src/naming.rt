@@ -1,6 +1,6 @@
 //! The mutex of the word that a call points to.
 
-ghost use Rattle.std.specs.Prelude.{◌≡◌, ◌<◌, ◌≤◌, length, is_some, Ok, Err, if◌then◌else◌};
+ghost use Rattle.std.specs.Prelude.{◌≡◌, ◌<◌, ◌≤◌, length, is_some, Ok, Err, if◌then◌else◌, IfErr};
 ghost use Rattle.ptk_words.specs.Pools.{pool_get};
 ghost use Rattle.ptk_words.specs.declared.faults.Errno.TheVariants.{EINVAL};
 ghost use Rattle.ptk_words_well.specs.Well.{IsWell};
@@ -24,6 +24,7 @@ pub(crate) fn named_mutex(pools: &mut Pools, p: PartId, i: &Invocation) -> Resul
     requires well { IsWell (limits_at p pools.old) (part_at p pools.old) }
     ensures named { IsNamed (limits_at p pools.old) i.now (part_at p pools.old) result (part_at p pools.new) }
     ensures moved { pools.new ≡ put_part p (part_at p pools.new) pools.old }
+    ensures refused { IfErr result (λ _. pools.new ≡ pools.old) }
 {
     let _parts = pools.parts();
     if !is_pointer(pools, p, i.a0, 4) {

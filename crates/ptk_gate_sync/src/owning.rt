@@ -2,11 +2,10 @@
 
 ghost use Rattle.std.specs.Prelude.{◌≡◌, ◌<◌, [], length, option_map};
 ghost use Rattle.ptk_words_model.specs.Mutex.{mutex_at};
-ghost use Rattle.ptk_words_model.specs.MutexCalls.{mutex_unlock, is_inconsistent, is_repairable, mutex_consistent};
+ghost use Rattle.ptk_words_model.specs.MutexCalls.{mutex_unlock, is_inconsistent, is_repairable, mutex_consistent, unlock_named, consistent_named};
 ghost use Rattle.ptk_words_well.specs.Well.{IsWell};
 ghost use Rattle.ptk_mutex_slots.specs.Slots.{mutex_with};
 ghost use Rattle.ptk_gate_pools.specs.Kept.{part_at, put_part, limits_at};
-ghost use Rattle.ptk_gate_sync.specs.Rests.{unlock_rest, consistent_rest};
 
 use crate::naming::named_mutex;
 use ptk_gate_moves::{refuse, succeed};
@@ -36,8 +35,8 @@ pub fn mutex_unlock(pools: &mut Pools, p: PartId, i: Invocation) -> Reply
 fn unlock_named(pools: &mut Pools, p: PartId, i: Invocation, m: MutexNo) -> Reply
     requires partition { p < length pools.old.limits }
     requires well { IsWell (limits_at p pools.old) (part_at p pools.old) }
-    ensures told { result ≡ (unlock_rest m i (part_at p pools.old)).reply }
-    ensures moved { pools.new ≡ put_part p (unlock_rest m i (part_at p pools.old)).part pools.old }
+    ensures told { result ≡ (unlock_named m i (part_at p pools.old)).reply }
+    ensures moved { pools.new ≡ put_part p (unlock_named m i (part_at p pools.old)).part pools.old }
 {
     let _parts = pools.parts();
     if pools.owns(p, i.caller, m) {
@@ -69,8 +68,8 @@ pub fn mutex_consistent(pools: &mut Pools, p: PartId, i: Invocation) -> Reply
 fn repair_named(pools: &mut Pools, p: PartId, i: Invocation, m: MutexNo) -> Reply
     requires partition { p < length pools.old.limits }
     requires well { IsWell (limits_at p pools.old) (part_at p pools.old) }
-    ensures told { result ≡ (consistent_rest m i (part_at p pools.old)).reply }
-    ensures moved { pools.new ≡ put_part p (consistent_rest m i (part_at p pools.old)).part pools.old }
+    ensures told { result ≡ (consistent_named m i (part_at p pools.old)).reply }
+    ensures moved { pools.new ≡ put_part p (consistent_named m i (part_at p pools.old)).part pools.old }
 {
     let _parts = pools.parts();
     if !is_repairable(pools, p, m) {

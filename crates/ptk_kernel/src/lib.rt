@@ -3,8 +3,9 @@
 //! with its entry in the trace and its ticks in the round-robin interval. `decide` promises that the tables are the old
 //! ones with the partition's part after the model's decision, so that every other partition's part stays, and what the
 //! decision spent; `last_step` tells the entry. Below stand the gate's tables, which carry out each part of a decision,
-//! and the gate's `call`, through which every ECALL goes; above, the system. Dear to prove is that two moves one after another are the model's one: `tables.parts()` is read
-//! first there, for its clause that every component of the tables has an entry for each partition.
+//! and the gate's `call`, through which every ECALL goes; above, the system. Dear to prove is that two moves one after
+//! another are the model's one: `tables.parts()` is read first there, for its clause that every component of the tables
+//! has an entry for each partition.
 #![tactic(auto)]
 
 mod decisions;

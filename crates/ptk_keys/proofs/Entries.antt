@@ -1,7 +1,7 @@
 -- Entries by number, read and written at an index.
 use Rattle.std.proofs.Common.{arith, ◌≡◌, ℕ, ◌+◌, ◌-◌, ◌<◌, ◌≤◌, zero, suc, List, [], ◌∷◌, ◌++◌, length, get_or, map, take, drop, refl, sym, ◌∙◌, ap, add-one}
 use Rattle.std.specs.Prelude.{Some, None, option_map, unwrap_or, slice_get, slice_set}
-use Rattle.std.proofs.lemmas.List.{set_past, length-set, set-get_or}
+use Rattle.std.proofs.lemmas.List.{set_past}
 use Rattle.ptk_words.specs.Pools.{numbered, pool_set, pool_update}
 
 entry_at : {A : Type 0} (xs : List A) (i : ℕ) (x : A) → i < length xs → x ≡ get_or xs i x → slice_get xs i ≡ Some x

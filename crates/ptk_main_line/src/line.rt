@@ -1,5 +1,5 @@
 //! The words of a command line and the request in them.
-ghost use Rattle.std.specs.Prelude.{◌≡◌, [], codes, map, IfErr, IfOk, MatchOption, OnOk};
+ghost use Rattle.std.specs.Prelude.{◌≡◌, [], codes, map, IfErr, IfOk, OnOk};
 ghost use Rattle.clap.specs.Values.{kind_of};
 ghost use Rattle.clap.specs.Words.{fault_of, found_of, rows_of, subcommand_rows_of};
 ghost use Rattle.clap.specs.declared.error.kind.ErrorKind.TheVariants.{MissingSubcommand, ValueValidation};

@@ -149,7 +149,7 @@ pub const FALLS_BY_PRIO: [u32; 35] = [
     0x00000000, 0x00000001, 0x00000001, 0x00000008, 0x00000000,
 ];
 
-/// The same, but main falls by call 16.
+/// Main at priority 10 creates a thread of 8, falls to 8 by call 16 and puts `x`; the other puts `y`.
 pub const FALLS_BY_PARAM: [u32; 36] = [
     0x494b5450, 0x00000001, 0x00000000, 0x00000064, 0x00000014, 0x00000000, 0x00100513, // li a0, 1
     0x00a00593, // li a1, 10

@@ -5,10 +5,10 @@ ghost use Rattle.std.specs.List.{list_any};
 ghost use Rattle.ptk_words.specs.Pools.{pool_get};
 ghost use Rattle.ptk_words.specs.declared.mutexes.Soundness.TheVariants.{Consistent};
 ghost use Rattle.ptk_words_parted.specs.Parts.{part_of};
+ghost use Rattle.ptk_words_model.specs.State.{locks_of};
 ghost use Rattle.ptk_words_model.specs.Mutex.{lock_move, trylock_move, owns, owns_raising, is_raising_for, after_move, with_soundness};
 ghost use Rattle.ptk_mutex_slots.specs.declared.slot.Change.TheVariants.{CountUp, Enqueue};
 ghost use Rattle.ptk_mutex_slots.specs.Changes.{SlotMayChange};
-ghost use Rattle.ptk_mutex_slots.specs.Tables.{locks_of};
 ghost use Rattle.ptk_mutex.specs.Tables.{locks_at, with_threads, with_threads_alone, HasPart, MayWait, AreReady};
 ghost use Rattle.ptk_mutex.specs.Moves.{after_lock, after_trylock, after_assignment};
 
@@ -20,8 +20,10 @@ use ptk_words::{Errno, MutexNo, PartId, Priority, Soundness, ThreadNo, Wait};
 use ptk_words_model::LockMove;
 
 impl Mutexes {
-    /// A thread that waits for no mutex locks this one, or waits for it without a deadline, or is refused
-    /// (pthread_mutex_lock). The line stays.
+    /// A thread that waits for no mutex locks this one, or waits for it without a deadline, or is refused; which of
+    /// these is told (pthread_mutex_lock). Refused, nothing changes: EINVAL of a free number and of a PROTECT mutex
+    /// whose ceiling is below the thread's assigned priority, ENOTRECOVERABLE of a lost mutex, EDEADLK of one's own that
+    /// checks errors, EAGAIN of a recursive one at its limit. The line stays.
     #[tactic(auto, using(crate::proofs::Moved::moves))]
     pub fn lock(
         &mut self,
@@ -44,7 +46,10 @@ impl Mutexes {
         made
     }
 
-    /// A thread that waits for no mutex locks this one, or is refused (pthread_mutex_trylock). The line stays.
+    /// A thread that waits for no mutex locks this one, or is refused; which of these is told (pthread_mutex_trylock).
+    /// Refused, nothing changes: EINVAL of a free number and of a PROTECT mutex whose ceiling is below the thread's
+    /// assigned priority, ENOTRECOVERABLE of a lost mutex, EBUSY of a locked one, EAGAIN of one's own recursive one at
+    /// its limit. The line stays.
     #[tactic(auto, using(crate::proofs::Moved::moves))]
     pub fn trylock(
         &mut self,

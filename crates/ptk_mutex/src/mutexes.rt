@@ -196,7 +196,7 @@ fn open_in(
     requires { pool_get slots.old m ≡ None }
     ensures { slots.new ≡ pool_set slots.old m (Some (new_mutex kind protocol is_robust)) }
 {
-    let i = (m.number() - 1) as usize;
+    let i = m.place();
     if i < slots.len() {
         let slot = &mut slots[i];
         slot.open(kind, protocol, is_robust);
@@ -209,7 +209,7 @@ fn close_in(slots: &mut [MutexSlot], m: MutexNo)
     requires { waiters_of (pool_get slots.old m) ≡ [] }
     ensures { slots.new ≡ pool_set slots.old m None }
 {
-    let i = (m.number() - 1) as usize;
+    let i = m.place();
     if i < slots.len() {
         let slot = &mut slots[i];
         slot.close();
@@ -222,7 +222,7 @@ fn change_in(slots: &mut [MutexSlot], m: MutexNo, change: Change)
     requires { SlotMayChange change (pool_get slots.old m) }
     ensures { slots.new ≡ pool_changed m (mutex_changed change) slots.old }
 {
-    let i = (m.number() - 1) as usize;
+    let i = m.place();
     if i < slots.len() {
         let slot = &mut slots[i];
         slot.change(change);

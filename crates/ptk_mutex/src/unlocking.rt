@@ -16,9 +16,10 @@ use ptk_words::{Errno, MutexNo, PartId, Soundness, ThreadNo};
 use ptk_words_model::LockMove;
 
 impl Mutexes {
-    /// An owner unlocks its mutex once. The last unlock hands it over to the waiter of greatest effective priority, the
-    /// earliest among equals, who is woken; but a mutex that was not made consistent is lost, and every waiter is woken
-    /// without it (pthread_mutex_unlock, pthread_mutex_consistent).
+    /// An owner unlocks its mutex once; who owns it is the caller's to test (`owns`). The last unlock hands it over to
+    /// the waiter of greatest effective priority, the earliest among equals, who is woken; but a mutex that was not made
+    /// consistent is lost, and every waiter is woken and told ENOTRECOVERABLE (pthread_mutex_unlock,
+    /// pthread_mutex_consistent).
     #[tactic(auto, using(crate::proofs::Moved::moves))]
     pub fn unlock(&mut self, line: &mut VecLine, threads: &mut Threads, p: PartId, m: MutexNo)
         requires ready { AreReady p threads.old line.old self.old }
@@ -97,7 +98,8 @@ impl Mutexes {
         self.refresh(threads, p);
     }
 
-    /// The mutex goes to a waiter, who is told of a dead owner, or to nobody; the stored priorities stay.
+    /// The mutex goes to a waiter, who is told so (EOWNERDEAD after a dead owner), or to nobody; the stored priorities
+    /// stay.
     #[tactic(auto, using(crate::proofs::Moved::moves))]
     fn hand_to(
         &mut self,

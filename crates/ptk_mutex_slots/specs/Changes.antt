@@ -34,7 +34,7 @@ abbrev pub SlotMayChange : Change → Option Mutex → Type 0
 SlotMayChange change None = Unit {0}
 SlotMayChange change (Some m) = MayChange change m
 
--- the change leaves the waiters, and no greater count but 1 (own)
+-- the change leaves the waiters as they are, and the count no greater than it was, or 1 (own)
 abbrev pub IsQuiet : Change → Type 0
 IsQuiet (Take t) = Unit {0}
 IsQuiet CountUp = ⊥

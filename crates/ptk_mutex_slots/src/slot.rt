@@ -4,12 +4,12 @@ ghost use Rattle.std.specs.Prelude.{◌≡◌, [], Some, None, IfOk, is_none, op
 ghost use Rattle.std.specs.Option.{option_flatten};
 ghost use Rattle.ptk_words.specs.Pools.{pool_get};
 ghost use Rattle.ptk_words.specs.declared.faults.Errno.TheVariants.{EINVAL};
+ghost use Rattle.ptk_words_model.specs.State.{locks_of};
 ghost use Rattle.ptk_words_model.specs.declared.LockMove.TheVariants.{Refuses};
 ghost use Rattle.ptk_words_model.specs.Mutex.{new_mutex, waiters_of, lock_move, trylock_move, relock_move, owns, is_raising_for, is_raising, soundness_of, count_of, is_above_ceiling, owner_move, free_move};
 ghost use Rattle.ptk_words_model.specs.Priority.{inheritor, inheritor_of, ceiling_for, ceiling_of, is_owner};
 ghost use Rattle.ptk_mutex_slots.specs.Slots.{mutex_with, state_of, is_robust_at};
 ghost use Rattle.ptk_mutex_slots.specs.Changes.{mutex_changed, SlotMayChange};
-ghost use Rattle.ptk_mutex_slots.specs.Tables.{locks_of};
 
 use crate::moves::{
     OwnerMoves, free_move, is_above_ceiling, own_lock_move, own_trylock_move, owner_move,
@@ -367,5 +367,5 @@ fn is_raising(protocol: Protocol) -> bool
 pub fn slot_in(slots: &[MutexSlot], m: MutexNo) -> Option<&MutexSlot>
     ensures { option_flatten (option_map (λ r. r.now) result) ≡ pool_get slots.now m }
 {
-    slots.get((m.number() - 1) as usize)
+    slots.get(m.place())
 }

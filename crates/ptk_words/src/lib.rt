@@ -71,8 +71,5 @@ pub const DESTRUCTOR_ROUNDS: u32 = 4;
 /// The last tick of any run, 2^40 (own choice).
 pub const LAST_TICK: u64 = 1_099_511_627_776;
 
-/// The greatest number of partitions (own choice).
-pub const PARTITION_LIMIT: usize = 8;
-
 /// The greatest number of threads of a partition (own choice).
 pub const THREAD_LIMIT: u32 = 32;

@@ -151,6 +151,15 @@ impl MutexNo {
     {
         self.number
     }
+
+    /// Its place in a list of the partition's mutexes by number, from 0.
+    pub fn place(self) -> usize
+        ensures value { result ≡ self - 1 }
+        ensures positive { 0 < self }
+        ensures in_range { self ≤ 64 }
+    {
+        (self.number - 1) as usize
+    }
 }
 
 /// A condition variable of a partition's pool, from 1 to 32.

@@ -122,14 +122,7 @@ pub changed_twice : {A : Type 0} (k : ℕ) (f g : A → A) (pool : List (Option 
 changed_twice zero f g pool = refl
 changed_twice (suc i) f g pool = changed_twice_at i f g pool
 
--- a free number stays free
-pub changed_free : {A : Type 0} (k : ℕ) (f : A → A) (pool : List (Option A)) → pool_get pool k ≡ None → pool_get (pool_changed k f pool) k ≡ None
-changed_free k f pool e = changed_own k f pool ∙ ap (option_map f) e
-
 -- ---- one entry of a list updated
-
-update_at : {A : Type 0} (xs : List A) (k : ℕ) (f : A → A) (o : Option A) → numbered xs k ≡ o → pool_update xs k f ≡ unwrap_or (option_map (λ a. pool_set xs k (f a)) o) xs
-update_at xs k f o e = ap (λ p. unwrap_or (option_map (λ a. pool_set xs k (f a)) p) xs) e
 
 numbered_within : {A : Type 0} (xs : List A) (k : ℕ) (a : A) → numbered xs k ≡ Some a → (0 < k) × (k ≤ length xs)
 numbered_within xs zero a e = absurd (let no : ⊥ = cc in no)

@@ -59,17 +59,23 @@ abbrev pub is_locked : Option Mutex → Bool
 is_locked None = false
 is_locked (Some m) = not (is_free m.owner)
 
--- the number of a mutex that is neither locked nor named by a waiter is free (pthread_mutex_destroy, EBUSY)
-abbrev pub mutex_destroy : Row
-mutex_destroy = do
+-- the number of a mutex that is neither locked nor named by a waiter is free, and the word names none (pthread_mutex_destroy, EBUSY)
+abbrev pub destroy_named : MutexNumber → Row
+destroy_named m = do
   i ← registers
-  readable i.a0 4
-  m ← mutex_named i.a0
   s ← state
   refuse EBUSY when is_locked (mutex_at s.locks m) || names_mutex s.locks m
   change (with_pool_mutex m None)
   change (with_stored i.a0 DESTROYED)
   succeed
+
+-- the mutex of a word is destroyed (pthread_mutex_destroy)
+abbrev pub mutex_destroy : Row
+mutex_destroy = do
+  i ← registers
+  readable i.a0 4
+  m ← mutex_named i.a0
+  destroy_named m
 
 -- the caller makes its move on the mutex; where it waits, until the deadline if there is one (pthread_mutex_lock, pthread_mutex_timedlock)
 abbrev pub make_move : LockMove → MutexNumber → Option Tick → Row
@@ -78,23 +84,35 @@ make_move move m deadline = do
   change_locks (after_move move i.caller m (MutexWait m deadline))
   reply_if_any (move_reply move (Some 0))
 
--- the move of lock (pthread_mutex_lock)
+-- the caller's move of lock on the mutex (pthread_mutex_lock)
+abbrev pub lock_named : MutexNumber → Row
+lock_named m = do
+  i ← registers
+  s ← state
+  make_move (lock_move s.locks i.caller (mutex_at s.locks m)) m None
+
+-- the mutex of a word is locked (pthread_mutex_lock)
 abbrev pub mutex_lock : Row
 mutex_lock = do
   i ← registers
   readable i.a0 4
   m ← mutex_named i.a0
-  s ← state
-  make_move (lock_move s.locks i.caller (mutex_at s.locks m)) m None
+  lock_named m
 
--- the move of trylock (pthread_mutex_trylock)
+-- the caller's move of trylock on the mutex (pthread_mutex_trylock)
+abbrev pub trylock_named : MutexNumber → Row
+trylock_named m = do
+  i ← registers
+  s ← state
+  make_move (trylock_move s.locks i.caller (mutex_at s.locks m)) m None
+
+-- the mutex of a word is locked without waiting (pthread_mutex_trylock)
 abbrev pub mutex_trylock : Row
 mutex_trylock = do
   i ← registers
   readable i.a0 4
   m ← mutex_named i.a0
-  s ← state
-  make_move (trylock_move s.locks i.caller (mutex_at s.locks m)) m None
+  trylock_named m
 
 -- a wait until this time, begun at the tick: refused for a bad time or a deadline already reached (pthread_mutex_timedlock, EINVAL, ETIMEDOUT)
 abbrev pub timed_wait_move : Timespec → Tick → LockMove
@@ -122,16 +140,22 @@ mutex_timedlock = do
   let time = timespec_at s.memory i.a1
   make_move (timed_move (lock_move s.locks i.caller (mutex_at s.locks m)) time i.tick) m (Some (deadline_of time))
 
--- an owner's unlock (pthread_mutex_unlock, EPERM; own for NORMAL)
+-- an owner's unlock of the mutex (pthread_mutex_unlock, EPERM; own for NORMAL)
+abbrev pub unlock_named : MutexNumber → Row
+unlock_named m = do
+  i ← registers
+  s ← state
+  refuse EPERM unless owns i.caller (mutex_at s.locks m)
+  change_locks (after_unlock m)
+  succeed
+
+-- the mutex of a word is unlocked (pthread_mutex_unlock)
 abbrev pub mutex_unlock : Row
 mutex_unlock = do
   i ← registers
   readable i.a0 4
   m ← mutex_named i.a0
-  s ← state
-  refuse EPERM unless owns i.caller (mutex_at s.locks m)
-  change_locks (after_unlock m)
-  succeed
+  unlock_named m
 
 -- an owner ended, and the mutex was not made consistent since (pthread_mutex_consistent)
 abbrev pub is_inconsistent : Soundness → Bool
@@ -145,13 +169,19 @@ is_repairable None = false
 is_repairable (Some m) = m.is_robust && is_inconsistent m.soundness
 
 -- the owner has made sound again what the mutex guards (pthread_mutex_consistent, EINVAL; own, EPERM)
-abbrev pub mutex_consistent : Row
-mutex_consistent = do
+abbrev pub consistent_named : MutexNumber → Row
+consistent_named m = do
   i ← registers
-  readable i.a0 4
-  m ← mutex_named i.a0
   s ← state
   refuse EINVAL unless is_repairable (mutex_at s.locks m)
   refuse EPERM unless owns i.caller (mutex_at s.locks m)
   change_locks (with_soundness Consistent m)
   succeed
+
+-- the mutex of a word is made consistent (pthread_mutex_consistent)
+abbrev pub mutex_consistent : Row
+mutex_consistent = do
+  i ← registers
+  readable i.a0 4
+  m ← mutex_named i.a0
+  consistent_named m

@@ -1,5 +1,5 @@
 -- The state of one partition, by its parts. Threads, mutexes, condition variables and keys are entries of pools, numbered from 1.
-use Rattle.std.specs.Prelude.{ℕ, Bool, List, Option, None}
+use Rattle.std.specs.Prelude.{ℕ, Bool, List, [], Option, None}
 use Rattle.ptk_words.specs.Names.{Byte, Pointer, ThreadNumber, Tick, Ticks, Word}
 use Rattle.ptk_words.specs.Pools.{pool_update}
 use Rattle.ptk_words.specs.declared.threads.Thread.{Thread}
@@ -35,6 +35,10 @@ pub record Locks : Type 0 where
   pub threads : List (Option Thread)
   pub line : List ThreadNumber
   pub mutexes : List (Option Mutex)
+
+-- threads and mutexes with nobody in the line, on which no priority and no move of a lock depends (own)
+abbrev pub locks_of : List (Option Thread) → List (Option Mutex) → Locks
+locks_of threads mutexes = record { threads = threads; line = []; mutexes = mutexes }
 
 -- threads, line, mutexes and condition variables: what the condition calls read and change (pthread_cond_wait)
 pub record Syncs : Type 0 where

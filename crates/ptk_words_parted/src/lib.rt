@@ -3,9 +3,8 @@
 //! consoles are vectors with an entry for each partition. A contract sees a `Parted` as a list of lists: `get`, `part`
 //! and `whole` read it, `set` changes one item of one list, and `lend` lends one list for writing and leaves every
 //! other as it was. Beside the calls stand lemmas for the crates above: the ruleset `loans` of `proofs/Cuts` (a loan
-//! that keeps its length is a `slice_set`), and `proofs/Rows` (a view by `tabulate` after a change of one partition).
-//! The clause that is dear to prove is `writes_back` of `lend`. Below stands `ptk_words`; above, the crates that keep
-//! such lists.
+//! that keeps its length is a `slice_set`). The clause that is dear to prove is `writes_back` of `lend`. Below stands
+//! `ptk_words`; above, the crates that keep such lists.
 #![tactic(auto)]
 
 ghost use Rattle.std.specs.Prelude.{◌≡◌, ℕ, ◌<◌, ◌≤◌, List, [], ◌∷◌, ◌++◌, length, slice_get, slice_set, IfOk, OnOk, OnErr, slice_index, slice_range, map};

@@ -1,7 +1,6 @@
 pub mod Whole
 pub mod Exclusion
 pub mod Threads
-pub mod Priorities
 pub mod Parts
 pub mod Turns
 pub mod Waits
@@ -15,6 +14,3 @@ pub mod MutexCalls
 pub mod Calls
 pub mod Decisions
 pub mod Runs
-pub mod Rooms
-pub mod Stored
-pub mod Wells

@@ -8,7 +8,7 @@ use Rattle.ptk_words.specs.declared.mutexes.Protocol.TheVariants.{NoProtocol, In
 use Rattle.ptk_words.specs.declared.threads.Wait.TheVariants.{MutexWait}
 use Rattle.ptk_words_model.specs.declared.LockMove.TheVariants.{Takes, Counts, Refuses}
 use Rattle.ptk_words_model.specs.declared.Reply.TheVariants.{Done, Blocked}
-use Rattle.ptk_words_model.specs.State.{Locks, Part}
+use Rattle.ptk_words_model.specs.State.{Locks, Part, locks_of}
 use Rattle.ptk_words_model.specs.Priority.{thread_at, effective_priority}
 use Rattle.ptk_words_model.specs.Schedule.{after_choice}
 use Rattle.ptk_words_model.specs.Mutex.{mutex_at, wait_of, lock_move, after_unlock, waiters_of}
@@ -16,24 +16,20 @@ use Rattle.ptk_words_model.specs.Withdrawal.{deadlines_of, after_expiries}
 use Rattle.ptk_words_model.specs.Calls.{Answer}
 use Rattle.ptk_words_model.specs.MutexCalls.{mutex_lock, mutex_trylock, mutex_timedlock, mutex_unlock}
 use Rattle.ptk_words_laws.specs.Guests.{register_of}
-use Rattle.ptk_words_laws.specs.Rows.States.{thread, waiting, owned, free, counted, locks_of, part_with, placed, call_by, call_with}
+use Rattle.ptk_words_laws.specs.Rows.States.{thread, waiting, owned, free, counted, part_with, placed, call_by, call_with, after_lock_by}
 
 -- effective priorities of the numbers 1 to 3
 abbrev pub priorities : Locks → List Priority
 priorities locks = map (effective_priority locks) (1 ∷ 2 ∷ 3 ∷ [])
-
--- the state after a thread's lock of the mutex whose word stands at the pointer
-abbrev pub locked : ThreadNumber → Pointer → Part → Part
-locked t pointer s = (mutex_lock (call_by t pointer 0 0) s).part
 
 -- ---- chains
 
 -- 1 (at 2) and 2 (at 3) lock INHERIT mutexes 1 and 2, then each the other's
 abbrev pub crossed : Part
 crossed =
-    locked 2 0
-    (locked 1 4
-    (locked 2 4 (locked 1 0 (part_with (1 ∷ 2 ∷ 0 ∷ 0 ∷ 50000 ∷ []) (thread 2 ∷ thread 3 ∷ thread 10 ∷ []) (free Inherit ∷ free Inherit ∷ [])))))
+    after_lock_by 2 0
+    (after_lock_by 1 4
+    (after_lock_by 2 4 (after_lock_by 1 0 (part_with (1 ∷ 2 ∷ 0 ∷ 0 ∷ 50000 ∷ []) (thread 2 ∷ thread 3 ∷ thread 10 ∷ []) (free Inherit ∷ free Inherit ∷ [])))))
 
 -- 1 and 2 wait for each other, and 3 (at 10) for mutex 1 until tick 50
 abbrev pub cycle : Part
@@ -87,7 +83,7 @@ pub record RecursiveLimit : Type 0 where
 
 -- 1 has locked the NORMAL mutex whose word stands at 0
 abbrev pub own_mutex : Part
-own_mutex = locked 1 0 (part_with (1 ∷ []) (thread 5 ∷ []) (free NoProtocol ∷ []))
+own_mutex = after_lock_by 1 0 (part_with (1 ∷ []) (thread 5 ∷ []) (free NoProtocol ∷ []))
 
 -- its second lock of that mutex
 abbrev pub locked_again : Answer
@@ -102,7 +98,7 @@ pub record SelfDeadlock : Type 0 where
 
 -- 1 (at 5) has locked the INHERIT mutex whose word stands at 0, and 2 (at 10) and 3 (at this priority) are there
 abbrev pub low_owns : Priority → Part
-low_owns priority = locked 1 0 (part_with (1 ∷ []) (thread 5 ∷ thread 10 ∷ thread priority ∷ []) (free Inherit ∷ []))
+low_owns priority = after_lock_by 1 0 (part_with (1 ∷ []) (thread 5 ∷ thread 10 ∷ thread priority ∷ []) (free Inherit ∷ []))
 
 -- 3 (at 20) runs, 2 and then 1 are in the line; 3 locks the mutex of 1
 abbrev pub high_waits : Answer

@@ -21,7 +21,7 @@ use Rattle.ptk_words_model.specs.ConditionCalls.{cond_wait, cond_timedwait, cond
 use Rattle.ptk_words_model.specs.CancellationCalls.{cancel}
 use Rattle.ptk_words_model.specs.Decision.{step_kind, after_decision}
 use Rattle.ptk_words_laws.specs.Guests.{small, register_of}
-use Rattle.ptk_words_laws.specs.Rows.States.{thread, part_with, placed, call_by, call_with}
+use Rattle.ptk_words_laws.specs.Rows.States.{thread, part_with, placed, call_by, call_with, after_lock_by}
 
 -- ---- built states
 
@@ -37,10 +37,6 @@ robust_free soundness = Some (record (new_mutex Normal NoProtocol true) { soundn
 -- 1 makes a mutex of this type, whose word stands at the pointer
 abbrev pub after_init : Word → Pointer → Part → Part
 after_init type pointer s = (mutex_init (call_with pointer type 0) s).part
-
--- the thread locks the mutex whose word stands at the pointer
-abbrev pub after_lock_by : ThreadNumber → Pointer → Part → Part
-after_lock_by t pointer s = (mutex_lock (call_by t pointer 0 0) s).part
 
 -- four threads at 5, room for two mutexes, and these words in memory
 abbrev pub four_threads : List Word → Part

@@ -1,6 +1,6 @@
 -- Built states: threads, mutexes, a partition that has them, and calls that threads make in it.
 use Rattle.std.specs.Prelude.{ℕ, false, List, [], ◌++◌, replicate, Option, Some}
-use Rattle.ptk_words.specs.Names.{ThreadNumber, Priority, Word}
+use Rattle.ptk_words.specs.Names.{ThreadNumber, Priority, Pointer, Word}
 use Rattle.ptk_words.specs.declared.mutexes.MutexKind.TheVariants.{Normal, Recursive}
 use Rattle.ptk_words.specs.declared.mutexes.Protocol.{Protocol}
 use Rattle.ptk_words.specs.declared.mutexes.Protocol.TheVariants.{NoProtocol}
@@ -8,11 +8,12 @@ use Rattle.ptk_words.specs.declared.mutexes.Owner.TheVariants.{OwnedBy}
 use Rattle.ptk_words.specs.declared.threads.Policy.TheVariants.{Fifo}
 use Rattle.ptk_words.specs.declared.threads.Thread.{Thread}
 use Rattle.ptk_words.specs.declared.threads.Wait.{Wait}
-use Rattle.ptk_words_model.specs.State.{Mutex, Locks, Part, with_locks}
+use Rattle.ptk_words_model.specs.State.{Mutex, Part, locks_of, with_locks}
 use Rattle.ptk_words_model.specs.Mutex.{new_mutex}
 use Rattle.ptk_words_model.specs.ThreadCreation.{start_cpu, new_thread}
 use Rattle.ptk_words_model.specs.declared.Invocation.{Invocation}
 use Rattle.ptk_words_model.specs.Run.{empty_part}
+use Rattle.ptk_words_model.specs.MutexCalls.{mutex_lock}
 use Rattle.ptk_words_laws.specs.Guests.{bytes_of_words, small}
 
 -- ---- threads
@@ -41,10 +42,6 @@ counted count = Some (record (new_mutex Recursive NoProtocol false) { owner = Ow
 
 -- ---- partitions
 
--- these threads and mutexes, and nobody in the line
-abbrev pub locks_of : List (Option Thread) → List (Option Mutex) → Locks
-locks_of threads mutexes = record { threads = threads; line = []; mutexes = mutexes }
-
 -- memory that begins with these words
 abbrev pub memory_with : List Word → List ℕ
 memory_with words = bytes_of_words words ++ replicate 64 0
@@ -70,3 +67,7 @@ call_by t a0 a1 a2 = record { limits = small; tick = 10; caller = t; a0 = a0; a1
 -- a call of thread 1
 abbrev pub call_with : Word → Word → Word → Invocation
 call_with a0 a1 a2 = call_by 1 a0 a1 a2
+
+-- the thread locks the mutex whose word stands at the pointer
+abbrev pub after_lock_by : ThreadNumber → Pointer → Part → Part
+after_lock_by t pointer s = (mutex_lock (call_by t pointer 0 0) s).part

@@ -6,7 +6,7 @@ use Rattle.ptk_words.specs.declared.TheConstants.{A0}
 use Rattle.ptk_words.specs.declared.mutexes.Protocol.TheVariants.{NoProtocol}
 use Rattle.ptk_words.specs.declared.threads.Wait.TheVariants.{MutexWait, RelockWait}
 use Rattle.ptk_words_model.specs.declared.Reply.TheVariants.{Done, Blocked}
-use Rattle.ptk_words_model.specs.State.{Mutex, Part, with_locks}
+use Rattle.ptk_words_model.specs.State.{Mutex, Part, with_locks, locks_of}
 use Rattle.ptk_words_model.specs.Priority.{thread_at}
 use Rattle.ptk_words_model.specs.Mutex.{mutex_at, waiters_of, wait_of, after_unlock}
 use Rattle.ptk_words_model.specs.Withdrawal.{deadlines_of, after_expiries}
@@ -16,7 +16,7 @@ use Rattle.ptk_words_model.specs.TimeCalls.{clock_gettime, clock_nanosleep}
 use Rattle.ptk_words_model.specs.ConditionCalls.{cond_wait, cond_timedwait, cond_signal}
 use Rattle.ptk_words_model.specs.Run.{empty_part}
 use Rattle.ptk_words_laws.specs.Guests.{small, register_of}
-use Rattle.ptk_words_laws.specs.Rows.States.{thread, waiting, owned, free, counted, locks_of, part_with, call_by, call_with}
+use Rattle.ptk_words_laws.specs.Rows.States.{thread, waiting, owned, free, counted, part_with, call_by, call_with}
 
 -- ---- locks
 
