@@ -47,7 +47,7 @@ joiner_fresh limits t s well = joiner_fresh_at limits t s (joiner_of (thread_at 
 -- ---- the end
 
 -- the end of a thread that has given up its mutexes
-pub end_is : (t : ℕ) (s : Part) → after_last_end (stopped (with_locks (after_release t (thread_at (after_owner_end t s.locks) t)) (with_locks (after_owner_end t) s))) ≡ after_end t s
+end_is : (t : ℕ) (s : Part) → after_last_end (stopped (with_locks (after_release t (thread_at (after_owner_end t s.locks) t)) (with_locks (after_owner_end t) s))) ≡ after_end t s
 end_is t s = ap (λ (locks : Locks). after_last_end (stopped (with_locks (λ _. locks) s))) (release_same t s.locks)
 
 -- what a thread leaves that gives up its mutexes is whole
@@ -71,8 +71,6 @@ pub ended : (n p t : ℕ) (kept mid new : Kept) → AreParts n kept → p < n �
 ended n p t kept mid new parts lt first second =
     moved_twice n p (with_locks (after_owner_end t) (part_at p kept)) (after_end t (part_at p kept)) (λ (s : Part). after_last_end (stopped (with_locks (after_release t (thread_at s.locks t)) s)))
     kept mid new parts lt first second (end_is t (part_at p kept))
-
-pub ruleset ends = (left_in_use, left_fresh, ended)
 
 -- ---- the move of an unwinding thread
 

@@ -54,10 +54,10 @@ fn unwind_further(pools: &mut Pools, p: PartId, t: ThreadNo)
     end(pools, p, t);
 }
 
-/// The thread has ended: its robust mutexes go to their heirs and its others are nobody's, then its joiner is woken, its
-/// number free or kept, and the last thread's end exits the partition with 0 (pthread_exit,
+/// The thread has ended: its robust mutexes go to their heirs and its others are nobody's, then its joiner is woken,
+/// its number free or kept, and the last thread's end exits the partition with 0 (pthread_exit,
 /// pthread_mutexattr_setrobust).
-#[tactic(auto, using(ptk_gate_pools::proofs::Parted::parted, ptk_gate_moves::proofs::Locked::locked, crate::proofs::Endings::ends))]
+#[tactic(auto, using(ptk_gate_moves::proofs::Locked::locked))]
 fn end(pools: &mut Pools, p: PartId, t: ThreadNo)
     requires partition { p < length pools.old.limits }
     requires well { IsWell (limits_at p pools.old) (part_at p pools.old) }
@@ -68,8 +68,8 @@ fn end(pools: &mut Pools, p: PartId, t: ThreadNo)
     end_without_mutexes(pools, p, t);
 }
 
-/// The end of a thread that has no mutex any more: its joiner is woken, its number free or kept, no thread runs, and the
-/// last thread's end exits the partition with 0 (pthread_exit).
+/// The end of a thread that has no mutex any more: its joiner is woken, its number free or kept, no thread runs, and
+/// the last thread's end exits the partition with 0 (pthread_exit).
 #[tactic(auto, using(ptk_gate_pools::proofs::Parted::parted))]
 fn end_without_mutexes(pools: &mut Pools, p: PartId, t: ThreadNo)
     requires partition { p < length pools.old.limits }

@@ -64,8 +64,8 @@ pub fn yield_turn(pools: &mut Pools, p: PartId, i: Invocation) -> Reply
     succeed(pools, p, i)
 }
 
-/// A running or ready thread goes to the tail, and a running one no longer runs; an owner of an INHERIT or PROTECT mutex
-/// keeps its place (pthread_mutexattr_getprotocol).
+/// A running or ready thread goes to the tail, and a running one no longer runs; an owner of an INHERIT or PROTECT
+/// mutex keeps its place (pthread_mutexattr_getprotocol).
 #[tactic(auto, using(ptk_gate_pools::proofs::Ranks::put_same))]
 pub(crate) fn place_last(pools: &mut Pools, p: PartId, t: ThreadNo)
     requires partition { p < length pools.old.limits }

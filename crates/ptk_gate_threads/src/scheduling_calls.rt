@@ -36,9 +36,9 @@ struct NewPriority {
     new: Priority,
 }
 
-/// pthread_setschedparam: the thread of a0 has the policy of a1 and the priority of a2. If it runs or is ready, it goes to
-/// the tail, but an owner of an INHERIT or PROTECT mutex keeps its place. ESRCH, ENOTSUP, EINVAL; a refusal changes
-/// nothing but a0.
+/// pthread_setschedparam: the thread of a0 has the policy of a1 and the priority of a2. If it runs or is ready, it
+/// goes to the tail, but an owner of an INHERIT or PROTECT mutex keeps its place. ESRCH, ENOTSUP, EINVAL; a refusal
+/// changes nothing but a0.
 #[tactic(auto, using(ptk_gate_pools::proofs::Parted::parted, ptk_gate_moves::proofs::Ready::ready, ptk_gate_moves::proofs::Locked::locked))]
 pub fn setschedparam(pools: &mut Pools, p: PartId, i: Invocation) -> Reply
     requires partition { p < length pools.old.limits }
@@ -78,9 +78,9 @@ fn asked_scheduling(pools: &Pools, p: PartId, i: &Invocation) -> Result<NewSched
     })
 }
 
-/// pthread_setschedprio: the thread of a0 has the priority of a1. If it runs or is ready, it goes to the tail where its
-/// priority rose, to the head where it fell, but an owner of an INHERIT or PROTECT mutex never to the tail. ESRCH, EINVAL;
-/// a refusal changes nothing but a0.
+/// pthread_setschedprio: the thread of a0 has the priority of a1. If it runs or is ready, it goes to the tail where
+/// its priority rose, to the head where it fell, but an owner of an INHERIT or PROTECT mutex never to the tail. ESRCH,
+/// EINVAL; a refusal changes nothing but a0.
 #[tactic(auto, using(ptk_gate_pools::proofs::Parted::parted, ptk_gate_moves::proofs::Ready::ready, ptk_gate_moves::proofs::Locked::locked))]
 pub fn setschedprio(pools: &mut Pools, p: PartId, i: Invocation) -> Reply
     requires partition { p < length pools.old.limits }
