@@ -46,10 +46,10 @@ fn lock_named(pools: &mut Pools, p: PartId, i: Invocation, m: MutexNo) -> Reply
 }
 
 /// pthread_mutex_trylock: the caller owns the mutex that the word at the pointer of a0 names, if it is free, or counts up
-/// its own recursive one. EOWNERDEAD where the caller now owns a robust mutex whose owner ended. The errors of
-/// `named_mutex`, then EINVAL of a PROTECT mutex whose ceiling is below the caller's assigned priority, ENOTRECOVERABLE,
+/// its own recursive one. EOWNERDEAD where the caller now owns a robust mutex whose owner ended. EFAULT, EINVAL or ENOMEM
+/// of the word, then EINVAL of a PROTECT mutex whose ceiling is below the caller's assigned priority, ENOTRECOVERABLE,
 /// EAGAIN of one's own recursive mutex at its limit, EBUSY of any other that is locked; a refusal changes nothing but a0
-/// and what naming the mutex set up.
+/// and what a static initialiser set up.
 pub fn mutex_trylock(pools: &mut Pools, p: PartId, i: Invocation) -> Reply
     requires partition { p < length pools.old.limits }
     requires well { IsWell (limits_at p pools.old) (part_at p pools.old) }

@@ -15,9 +15,9 @@ use ptk_words::{Errno, MutexNo, PartId, Soundness};
 use ptk_words_model::{Invocation, Reply};
 
 /// pthread_mutex_unlock: the caller's mutex that the word at the pointer of a0 names counts down, or goes to the waiter
-/// of greatest effective priority, or is free; an inconsistent one is lost, and its waiters are refused. EFAULT, EINVAL or
-/// ENOMEM of the word, then EPERM of a mutex that the caller does not own (own choice for NORMAL); a refusal changes
-/// nothing but a0 and what a static initialiser set up.
+/// of greatest effective priority, the earliest among equals, or is free; an inconsistent one is lost, and its waiters
+/// are refused with ENOTRECOVERABLE. EFAULT, EINVAL or ENOMEM of the word, then EPERM of a mutex that the caller does not
+/// own (own choice for NORMAL); a refusal changes nothing but a0 and what a static initialiser set up.
 pub fn mutex_unlock(pools: &mut Pools, p: PartId, i: Invocation) -> Reply
     requires partition { p < length pools.old.limits }
     requires well { IsWell (limits_at p pools.old) (part_at p pools.old) }
