@@ -13,6 +13,9 @@ use ptk_gate_console::{get, put};
 use ptk_gate_moves::{exit, leave, own_number, refuse};
 use ptk_gate_pools::Pools;
 use ptk_gate_steps::runner;
+use ptk_gate_sync::{
+    mutex_consistent, mutex_destroy, mutex_init, mutex_lock, mutex_trylock, mutex_unlock,
+};
 use ptk_gate_threads::{
     create, detach, getschedparam, join, setschedparam, setschedprio, yield_turn,
 };
@@ -21,8 +24,8 @@ use ptk_words_model::{Invocation, Reply, Runner};
 
 /// Carries out the call that the running thread's registers state: the number in a7, the arguments in a0 to a4, at the
 /// tick at which the step begins. The reply is what the call came to; ENOSYS of a number that is not in use. The pc is
-/// already past the ECALL and stays, save that an unwinding puts the return gate there. A refusal changes a0 alone; no
-/// other partition changes.
+/// already past the ECALL and stays, save that an unwinding puts the return gate there. A refusal changes a0 alone, and
+/// leaves the mutex that a static initialiser set up; no other partition changes.
 pub fn call(tables: &mut Tables, p: PartId, tick: Tick) -> Reply
     requires partition { p < length tables.old.limits }
     requires active { is_active (part_at p tables.old).status ≡ true }
@@ -94,15 +97,15 @@ fn carry_out(pools: &mut Pools, call: Call, p: PartId, i: Invocation) -> Reply
         Call::PthreadSetschedparam => setschedparam(pools, p, i),
         Call::PthreadGetschedparam => getschedparam(pools, p, i),
         Call::PthreadSetschedprio => setschedprio(pools, p, i),
+        Call::MutexInit => mutex_init(pools, p, i),
+        Call::MutexDestroy => mutex_destroy(pools, p, i),
+        Call::MutexLock => mutex_lock(pools, p, i),
+        Call::MutexTrylock => mutex_trylock(pools, p, i),
+        Call::MutexUnlock => mutex_unlock(pools, p, i),
+        Call::MutexConsistent => mutex_consistent(pools, p, i),
         Call::ClockGettime
         | Call::ClockNanosleep
-        | Call::MutexInit
-        | Call::MutexDestroy
-        | Call::MutexLock
-        | Call::MutexTrylock
         | Call::MutexTimedlock
-        | Call::MutexUnlock
-        | Call::MutexConsistent
         | Call::CondInit
         | Call::CondDestroy
         | Call::CondWait
