@@ -3,8 +3,9 @@
 //! round-robin interval, the beginning of a thread and of an unwinding, cancellation points, and the calls that are no
 //! more than one of these. Each is one equation: the pools are the old ones with partition p's part replaced by the
 //! model's move, so that every other partition's part stays. A function of several moves begins with `parts`, which
-//! opens the invariant of the pools. Below stands `ptk_gate_pools`; above, `ptk_gate_console`, `ptk_gate_threads` and
-//! the gate's tables, which make calls and decisions of these moves. Dear to prove is `begin`.
+//! opens the invariant of the pools. Besides it is told what a word of a guest stands for: a thread, a priority, a place
+//! in memory. Below stands `ptk_gate_pools`; above, `ptk_gate_console`, `ptk_gate_threads`, `ptk_gate_sync` and the
+//! gate's tables, which make calls and decisions of these moves. Dear to prove is `begin`.
 #![tactic(auto)]
 
 mod blocking;
