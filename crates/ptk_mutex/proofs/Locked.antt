@@ -43,7 +43,7 @@ waiter_used m k locks waiter = some_of m (pool_get locks.threads k) waiter.waits
 
 -- ---- the choice
 
-stored_at : (threads : List (Option Thread)) (mutexes : List (Option Mutex)) (stored : List ℕ) (k : ℕ) → stored ≡ effective_priorities threads mutexes → 0 < k → k ≤ length threads → stored_of stored k ≡ effective_of threads mutexes k
+pub stored_at : (threads : List (Option Thread)) (mutexes : List (Option Mutex)) (stored : List ℕ) (k : ℕ) → stored ≡ effective_priorities threads mutexes → 0 < k → k ≤ length threads → stored_of stored k ≡ effective_of threads mutexes k
 stored_at threads mutexes stored zero e h le = absurd (omega (arith, h))
 stored_at threads mutexes stored (suc i) e h le =
     let below : i < length threads = omega (arith, le) in
@@ -64,14 +64,14 @@ find_same : (f g : ℕ → ℕ) (most : ℕ) (ks : List ℕ) → map f ks ≡ ma
 find_same f g most [] e = refl
 find_same f g most (k ∷ ks) e = rw (head_same f g k ks e, find_same f g most ks (tail_same f g k ks e)) refl
 
-first_same : (f g : ℕ → ℕ) (ks : List ℕ) → map f ks ≡ map g ks → first_of_greatest f ks ≡ first_of_greatest g ks
+pub first_same : (f g : ℕ → ℕ) (ks : List ℕ) → map f ks ≡ map g ks → first_of_greatest f ks ≡ first_of_greatest g ks
 first_same f g ks same =
     ap (λ most. find (λ k. f k == most) ks) (greatest_same f g 0 ks same) ∙ find_same f g (greatest g ks) ks same
 
 in_tail : (k j : ℕ) (ks : List ℕ) → is_in j ks ≡ true → is_in j (k ∷ ks) ≡ true
 in_tail k j ks e = or_right (j == k) (is_in j ks) e
 
-ranks_same : (f g : ℕ → ℕ) (ks : List ℕ) → ((k : ℕ) → is_in k ks ≡ true → f k ≡ g k) → map f ks ≡ map g ks
+pub ranks_same : (f g : ℕ → ℕ) (ks : List ℕ) → ((k : ℕ) → is_in k ks ≡ true → f k ≡ g k) → map f ks ≡ map g ks
 ranks_same f g [] h = refl
 ranks_same f g (k ∷ ks) h =
     let here : f k ≡ g k = h k (own_head k ks) in
@@ -194,12 +194,12 @@ more_count : (t : ℕ) (x : Option Mutex) → count_of (option_map (λ (mutex : 
 more_count t None = refl
 more_count t (Some x) = refl
 
-count_kept : (m n : ℕ) (f : Mutex → Mutex) (mutexes : List (Option Mutex)) → ((x : Option Mutex) → count_of (option_map f x) ≡ count_of x) → (n ≡ m) ⊎ (n ≢ m) → count_of (pool_get (pool_changed m f mutexes) n) ≡ count_of (pool_get mutexes n)
+pub count_kept : (m n : ℕ) (f : Mutex → Mutex) (mutexes : List (Option Mutex)) → ((x : Option Mutex) → count_of (option_map f x) ≡ count_of x) → (n ≡ m) ⊎ (n ≢ m) → count_of (pool_get (pool_changed m f mutexes) n) ≡ count_of (pool_get mutexes n)
 count_kept m n f mutexes keeps (inl e) =
     subst (λ (j : ℕ). count_of (pool_get (pool_changed m f mutexes) j) ≡ count_of (pool_get mutexes j)) (sym e) (ap count_of (pool_get-changed m f mutexes) ∙ keeps (pool_get mutexes m))
 count_kept m n f mutexes keeps (inr ne) = ap count_of (pool_get-changed_other m n f mutexes ne)
 
-other_than : (n t k : ℕ) (locks : Locks) → awaited (thread_at locks t) ≡ None → IsWaiter locks n k → k ≢ t
+pub other_than : (n t k : ℕ) (locks : Locks) → awaited (thread_at locks t) ≡ None → IsWaiter locks n k → k ≢ t
 other_than n t k locks awake was = λ same.
     let named : awaited (thread_at locks t) ≡ Some n = subst (λ (j : ℕ). awaited (thread_at locks j) ≡ Some n) same was.waits in
     cc

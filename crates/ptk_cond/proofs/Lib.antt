@@ -1,0 +1,5 @@
+pub mod Slots
+pub mod Pool
+pub mod Apart
+pub mod Waiters
+pub mod Steps
