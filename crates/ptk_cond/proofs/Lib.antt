@@ -3,3 +3,4 @@ pub mod Pool
 pub mod Apart
 pub mod Waiters
 pub mod Steps
+pub mod Fresh

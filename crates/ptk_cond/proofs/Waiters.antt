@@ -1,5 +1,5 @@
 -- That waiters still wait after a wait and after one was unblocked, and whom a signal chooses.
-use Rattle.std.proofs.Common.{◌≡◌, ◌≢◌, ℕ, zero, suc, ◌<◌, ◌≤◌, Bool, List, [], ◌∷◌, ◌++◌, length, refl, sym, ◌∙◌, ap, subst, arith, true, false, ◌⊎◌, inl, inr}
+use Rattle.std.proofs.Common.{◌≡◌, ◌≢◌, ℕ, zero, suc, Bool, List, [], ◌∷◌, ◌++◌, refl, sym, ◌∙◌, ap, subst, true, false, ◌⊎◌, inl, inr}
 use Rattle.std.specs.Prelude.{Option, Some, None, IsSome, option_map, slice_get}
 use Rattle.std.specs.Option.{option_flatten}
 use Rattle.std.proofs.Math.ListN.{set}
@@ -17,7 +17,7 @@ use Rattle.ptk_words_well.proofs.Lines.{in_push, in_without, first_in}
 use Rattle.ptk_threads.specs.Table.{stored_of}
 use Rattle.ptk_threads.proofs.Pools.{pool_get-changed, pool_get-changed_other, pool_get-set_other}
 use Rattle.ptk_mutex.specs.Tables.{AreLocked, MayWait}
-use Rattle.ptk_mutex.proofs.Locked.{stored_at, first_same, ranks_same, other_than}
+use Rattle.ptk_mutex.proofs.Locked.{stored_first, some_same, other_than}
 use Rattle.ptk_cond.specs.Slots.{condition_of, waiters_at}
 use Rattle.ptk_cond.specs.Tables.{condition_of_wait, HasRoom, IsOnCondition, AreWaiting, IsAwake, MayLeave, next_waiter}
 use Rattle.ptk_cond.proofs.Apart.{IsApart, calm_unlock, below_unlock, apart_more, apart_thread, apart_unlock, apart_relock}
@@ -62,9 +62,6 @@ kept_waiter c k before after apart waiter = record {
   out = apart.out waiter.out;
   room = λ m named. apart.room m (waiter.room m (sym (ap (λ (x : Option Thread). mutex_named (wait_of x)) apart.thread) ∙ named));
 }
-
-some_same : (n m : ℕ) → Some n ≡ Some m → n ≡ m
-some_same n m e = cc
 
 -- who waits on different condition variables are different
 other_waiter : (c d t k : ℕ) (locks : Locks) → IsOnCondition locks c t → IsOnCondition locks d k → d ≢ c → k ≢ t
@@ -183,22 +180,9 @@ awake_out t c syncs may waiting = out_by t c syncs may waiting (is_in t (conditi
 
 -- ---- the choice
 
-used_at : (i : ℕ) (threads : List (Option Thread)) → IsSome (option_flatten (slice_get threads i)) → i < length threads
-used_at i [] used = let no : ⊥ = cc in absurd no
-used_at zero (x ∷ threads) used = omega arith
-used_at (suc i) (x ∷ threads) used = let rest : i < length threads = used_at i threads used in omega (arith, rest)
-
--- a thread has a number of the pool
-used_number : (k : ℕ) (threads : List (Option Thread)) → IsSome (pool_get threads k) → (0 < k) × (k ≤ length threads)
-used_number zero threads used = let no : ⊥ = cc in absurd no
-used_number (suc i) threads used = let rest : i < length threads = used_at i threads used in (omega arith, omega (arith, rest))
-
 -- the stored priorities choose the next waiter
 pub stored_next : (c : ℕ) (syncs : Syncs) (stored : List ℕ) → AreWaiting syncs → stored ≡ effective_priorities syncs.threads syncs.mutexes → first_of_greatest (stored_of stored) (condition_waiters syncs c) ≡ next_waiter c syncs
-stored_next c syncs stored waiting e =
-    first_same (stored_of stored) (effective_priority syncs.locks) (condition_waiters syncs c)
-    (ranks_same (stored_of stored) (effective_priority syncs.locks) (condition_waiters syncs c)
-    (λ k i. let number = used_number k syncs.threads (may_relock c k syncs.locks (waiting.waiters c k i)).used in stored_at syncs.threads syncs.mutexes stored k e number.0 number.1))
+stored_next c syncs stored waiting e = stored_first syncs.threads syncs.mutexes stored (condition_waiters syncs c) e (λ k i. (may_relock c k syncs.locks (waiting.waiters c k i)).used)
 
 may_leave : (c : ℕ) (syncs : Syncs) (o : Option ℕ) → next_waiter c syncs ≡ o → MayLeave o syncs c
 may_leave c syncs None e = tt

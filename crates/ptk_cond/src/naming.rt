@@ -1,8 +1,7 @@
 //! Which mutexes condition waits name.
 
-ghost use Rattle.std.specs.Prelude.{◌≡◌, ◌<◌, [], length, not, option_map};
+ghost use Rattle.std.specs.Prelude.{◌≡◌, ◌<◌, [], length, not};
 ghost use Rattle.std.specs.List.{list_any};
-ghost use Rattle.std.specs.Option.{option_flatten};
 ghost use Rattle.ptk_words.specs.Pools.{pool_get};
 ghost use Rattle.ptk_words_parted.specs.Parts.{part_of};
 ghost use Rattle.ptk_words_model.specs.Mutex.{wait_of};
@@ -11,6 +10,7 @@ ghost use Rattle.ptk_mutex_slots.specs.Tables.{locks_of};
 ghost use Rattle.ptk_cond.specs.Tables.{syncs_of};
 
 use crate::conditions::Conditions;
+use ptk_mutex_slots::thread_slot;
 use ptk_threads::{Slot, Threads};
 use ptk_words::{ConditionNo, MutexNo, PartId, ThreadNo, Wait};
 
@@ -54,14 +54,6 @@ fn is_naming_at(threads: &[Slot], t: ThreadNo, m: MutexNo) -> bool
         Some(slot) => is_naming(slot, m),
         None => false,
     }
-}
-
-/// The slot of a number, None past the partition's.
-#[tactic(auto, using(ptk_mutex_slots::proofs::Slots::numbers))]
-fn thread_slot(threads: &[Slot], t: ThreadNo) -> Option<&Slot>
-    ensures { option_flatten (option_map (λ r. r.now) result) ≡ pool_get threads.now t }
-{
-    threads.get(t.place())
 }
 
 /// Whether the thread of a slot names the mutex.
