@@ -4,3 +4,4 @@ pub mod Apart
 pub mod Waiters
 pub mod Steps
 pub mod Fresh
+pub mod Asleep

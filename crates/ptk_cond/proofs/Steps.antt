@@ -9,18 +9,19 @@ use Rattle.ptk_words_parted.specs.Parts.{part_of}
 use Rattle.ptk_words_parted.proofs.Cuts.{set_part-same}
 use Rattle.ptk_words_model.specs.State.{Condition, Locks, Mutex, Syncs}
 use Rattle.ptk_words.specs.declared.threads.Wait.{Wait}
-use Rattle.ptk_words_model.specs.Priority.{awaited, thread_at}
+use Rattle.ptk_words_model.specs.Priority.{awaited, mutex_of_wait, thread_at}
 use Rattle.ptk_words_model.specs.Schedule.{with_thread}
 use Rattle.ptk_words_model.specs.Mutex.{wait_of, after_unlock}
 use Rattle.ptk_words_model.specs.Condition.{condition_waiters, mutex_named, after_signal}
-use Rattle.ptk_threads.specs.Table.{ThreadTable, stored_of}
+use Rattle.ptk_threads.specs.Table.{ThreadTable, stored_of, with_changed, with_wait}
 use Rattle.ptk_threads.proofs.Pools.{pool_get-changed, pool_changed-changed, part_of-set}
-use Rattle.ptk_mutex.specs.Tables.{locks_at, HasPart, MayWait, AreLocked, AreReady}
+use Rattle.ptk_mutex.specs.Tables.{locks_at, with_threads, HasPart, MayWait, AreLocked, AreReady}
 use Rattle.ptk_mutex.proofs.Moved.{stays}
 use Rattle.ptk_mutex.proofs.Steps.{AreMoved, moved_none, moved_locks, moved_more}
 use Rattle.ptk_cond.specs.Slots.{waiters_at}
 use Rattle.ptk_cond.specs.Tables.{syncs_at, AreWaiting, AreSynced, HasRoom, IsAwake, MayLeave, next_waiter}
 use Rattle.ptk_cond.proofs.Apart.{calm_unlock}
+use Rattle.ptk_cond.proofs.Asleep.{asleep-is}
 use Rattle.ptk_cond.proofs.Waiters.{may_relock, awake_none, awake_out, locked_sleep, stored_next, next_may_leave}
 
 -- ---- what the calls need
@@ -127,6 +128,15 @@ locked_wait p t m wait table table' lines lines' mutexes mutexes' ready may move
     let still : awaited (thread_at (after_unlock m locks) t) ≡ None = ap awaited ((calm_unlock m locks ready.locked).threads t none) ∙ none in
     let locked : AreLocked (after_unlock m locks) = subst (λ (l : Locks). AreLocked l) (moved_locks p table table' lines lines' mutexes mutexes' (after_unlock m locks) ready.part moved) after.locked in
     locked_sleep t wait (after_unlock m locks) still locked
+
+-- and no stored priority changes then
+pub sleep-is : (p t m : ℕ) (wait : Option Wait) (table table' new : ThreadTable) (lines : List (List ℕ)) (mutexes : List (List (Option Mutex))) → AreReady p table lines mutexes → IsAwake (locks_at p table lines mutexes) t → mutex_of_wait wait ≡ None
+    → table' ≡ with_threads p (after_unlock m (locks_at p table lines mutexes)) table → new ≡ with_changed p t (with_wait wait) table' → new ≡ with_threads p (with_thread t (λ thread. record thread { wait = wait }) (after_unlock m (locks_at p table lines mutexes))) table
+sleep-is p t m wait table table' new lines mutexes ready may unawaited e changed =
+    let locks : Locks = locks_at p table lines mutexes in
+    let none : awaited (thread_at locks t) ≡ None = awake_none t locks may in
+    let still : awaited (thread_at (after_unlock m locks) t) ≡ None = ap awaited ((calm_unlock m locks ready.locked).threads t none) ∙ none in
+    changed ∙ ap (with_changed p t (with_wait wait)) e ∙ asleep-is p t wait (after_unlock m locks) table ready.part.of_threads unawaited still
 
 -- ---- all waiters unblocked, one after the other
 

@@ -17,8 +17,8 @@ use ptk_threads::Threads;
 use ptk_words::{ConditionNo, MutexNo, PartId, ThreadNo};
 
 impl Conditions {
-    /// The waiter of greatest effective priority, the earliest among equals, is unblocked: it re-locks the mutex that it
-    /// named, with reply 0 (pthread_cond_signal). Nothing changes without waiters.
+    /// The waiter of greatest effective priority, the earliest among equals, is unblocked: it re-locks the mutex that
+    /// it named, with reply 0 (pthread_cond_signal). Nothing changes without waiters.
     #[tactic(auto, using(crate::proofs::Steps::steps))]
     pub fn signal(
         &mut self,
@@ -62,8 +62,8 @@ impl Conditions {
         }
     }
 
-    /// A waiter leaves the condition variable and re-locks the mutex that it named, with this reply if it is told any, as
-    /// at its deadline or at a cancellation (pthread_cond_timedwait; XSH 2.9.5).
+    /// A waiter leaves the condition variable and re-locks the mutex that it named, with this reply if it is told any,
+    /// as at its deadline or at a cancellation (pthread_cond_timedwait; XSH 2.9.5).
     #[tactic(auto, using(crate::proofs::Slots::waits))]
     pub fn withdraw(
         &mut self,

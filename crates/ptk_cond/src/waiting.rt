@@ -41,6 +41,5 @@ impl Conditions {
         self.change(p, c, Change::Enqueue(t));
         mutexes.unlock(line, threads, p, m);
         threads.set_wait(p, t, Some(Wait::ConditionWait(c, m, deadline)));
-        mutexes.refresh(threads, p);
     }
 }
