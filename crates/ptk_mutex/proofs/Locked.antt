@@ -23,15 +23,15 @@ use Rattle.ptk_mutex_slots.proofs.Levels.{length-numbers_to, get_or-numbers_to}
 
 -- ---- one that waits
 
-waiter_at : (m i : ℕ) (threads : List (Option Thread)) → awaited (option_flatten (slice_get threads i)) ≡ Some m → i < length threads
-waiter_at m i [] e = let no : ⊥ = cc in absurd no
-waiter_at m zero (x ∷ threads) e = omega arith
-waiter_at m (suc i) (x ∷ threads) e = let rest : i < length threads = waiter_at m i threads e in omega (arith, rest)
+used_at : (i : ℕ) (threads : List (Option Thread)) → IsSome (option_flatten (slice_get threads i)) → i < length threads
+used_at i [] used = let no : ⊥ = cc in absurd no
+used_at zero (x ∷ threads) used = omega arith
+used_at (suc i) (x ∷ threads) used = let rest : i < length threads = used_at i threads used in omega (arith, rest)
 
--- it has a number of the pool
-waiter_number : (m k : ℕ) (threads : List (Option Thread)) → awaited (pool_get threads k) ≡ Some m → (0 < k) × (k ≤ length threads)
-waiter_number m zero threads e = let no : ⊥ = cc in absurd no
-waiter_number m (suc i) threads e = let rest : i < length threads = waiter_at m i threads e in (omega arith, omega (arith, rest))
+-- a thread has a number of the pool
+used_number : (k : ℕ) (threads : List (Option Thread)) → IsSome (pool_get threads k) → (0 < k) × (k ≤ length threads)
+used_number zero threads used = let no : ⊥ = cc in absurd no
+used_number (suc i) threads used = let rest : i < length threads = used_at i threads used in (omega arith, omega (arith, rest))
 
 some_of : (m : ℕ) (x : Option Thread) → awaited x ≡ Some m → IsSome x
 some_of m None e = let no : ⊥ = cc in absurd no
@@ -78,12 +78,16 @@ ranks_same f g (k ∷ ks) h =
     let rest : map f ks ≡ map g ks = ranks_same f g ks (λ j e. h j (in_tail k j ks e)) in
     ap (λ x. x ∷ map f ks) here ∙ ap (λ xs. g k ∷ xs) rest
 
--- the stored priorities choose the heir
+-- the stored priorities choose among threads as the effective ones do
+pub stored_first : (threads : List (Option Thread)) (mutexes : List (Option Mutex)) (stored ks : List ℕ) → stored ≡ effective_priorities threads mutexes → ((k : ℕ) → is_in k ks ≡ true → IsSome (pool_get threads k)) → first_of_greatest (stored_of stored) ks ≡ first_of_greatest (effective_of threads mutexes) ks
+stored_first threads mutexes stored ks e used =
+    first_same (stored_of stored) (effective_of threads mutexes) ks
+    (ranks_same (stored_of stored) (effective_of threads mutexes) ks
+    (λ k i. let number = used_number k threads (used k i) in stored_at threads mutexes stored k e number.0 number.1))
+
+-- so the stored priorities choose the heir
 pub stored_heir : (m : ℕ) (locks : Locks) (stored : List ℕ) → AreLocked locks → stored ≡ effective_priorities locks.threads locks.mutexes → first_of_greatest (stored_of stored) (waiters_of (mutex_at locks m)) ≡ heir m locks
-stored_heir m locks stored locked e =
-    first_same (stored_of stored) (effective_priority locks) (waiters_of (mutex_at locks m))
-    (ranks_same (stored_of stored) (effective_priority locks) (waiters_of (mutex_at locks m))
-    (λ k i. let number = waiter_number m k locks.threads (locked.waiters m k i).waits in stored_at locks.threads locks.mutexes stored k e number.0 number.1))
+stored_heir m locks stored locked e = stored_first locks.threads locks.mutexes stored (waiters_of (mutex_at locks m)) e (λ k i. waiter_used m k locks (locked.waiters m k i))
 
 may_get : (m : ℕ) (locks : Locks) (o : Option ℕ) → AreLocked locks → heir m locks ≡ o → MayGet o locks m
 may_get m locks None locked e = tt
@@ -132,7 +136,7 @@ locked_mild m f locks mild locked = record {
 
 -- ---- a waiter gone
 
-some_same : (n m : ℕ) → Some n ≡ Some m → n ≡ m
+pub some_same : (n m : ℕ) → Some n ≡ Some m → n ≡ m
 some_same n m e = cc
 
 left_entry : (t k : ℕ) (x : Option Mutex) → is_in k (waiters_of (option_map (λ (mutex : Mutex). record mutex { waiters = without t mutex.waiters }) x)) ≡ true → k ≢ t
@@ -194,12 +198,12 @@ more_count : (t : ℕ) (x : Option Mutex) → count_of (option_map (λ (mutex : 
 more_count t None = refl
 more_count t (Some x) = refl
 
-count_kept : (m n : ℕ) (f : Mutex → Mutex) (mutexes : List (Option Mutex)) → ((x : Option Mutex) → count_of (option_map f x) ≡ count_of x) → (n ≡ m) ⊎ (n ≢ m) → count_of (pool_get (pool_changed m f mutexes) n) ≡ count_of (pool_get mutexes n)
+pub count_kept : (m n : ℕ) (f : Mutex → Mutex) (mutexes : List (Option Mutex)) → ((x : Option Mutex) → count_of (option_map f x) ≡ count_of x) → (n ≡ m) ⊎ (n ≢ m) → count_of (pool_get (pool_changed m f mutexes) n) ≡ count_of (pool_get mutexes n)
 count_kept m n f mutexes keeps (inl e) =
     subst (λ (j : ℕ). count_of (pool_get (pool_changed m f mutexes) j) ≡ count_of (pool_get mutexes j)) (sym e) (ap count_of (pool_get-changed m f mutexes) ∙ keeps (pool_get mutexes m))
 count_kept m n f mutexes keeps (inr ne) = ap count_of (pool_get-changed_other m n f mutexes ne)
 
-other_than : (n t k : ℕ) (locks : Locks) → awaited (thread_at locks t) ≡ None → IsWaiter locks n k → k ≢ t
+pub other_than : (n t k : ℕ) (locks : Locks) → awaited (thread_at locks t) ≡ None → IsWaiter locks n k → k ≢ t
 other_than n t k locks awake was = λ same.
     let named : awaited (thread_at locks t) ≡ Some n = subst (λ (j : ℕ). awaited (thread_at locks j) ≡ Some n) same was.waits in
     cc

@@ -14,7 +14,7 @@ use Rattle.ptk_words_parted.proofs.Cuts.{lent-same}
 use Rattle.ptk_threads.proofs.Slots.{length-pool_set, length-pool_changed, changed_at, changed_past}
 use Rattle.ptk_mutex.specs.Pool.{IsPool}
 
-length_part-set : {X : Type 0} (rows : List (List X)) (p q : ℕ) (row : List X) → length row ≡ length (part_of rows p) → length (part_of (set rows p row) q) ≡ length (part_of rows q)
+pub length_part-set : {X : Type 0} (rows : List (List X)) (p q : ℕ) (row : List X) → length row ≡ length (part_of rows p) → length (part_of (set rows p row) q) ≡ length (part_of rows q)
 length_part-set [] p q row e = refl
 length_part-set (x ∷ rows) zero zero row e = e
 length_part-set (x ∷ rows) zero (suc q) row e = refl
@@ -25,17 +25,17 @@ length_part-set (x ∷ rows) (suc p) (suc q) row e = length_part-set rows p q ro
 pub pool_lent : (mutexes : List (List (Option Mutex))) (p : ℕ) (row : List (Option Mutex)) → IsPool mutexes → p < length mutexes → length row ≡ length (part_of mutexes p) → IsPool (lent mutexes p row)
 pool_lent mutexes p row few lt e q = rw (lent-same mutexes p row lt e, length_part-set mutexes p q row e) (few q)
 
-few_filled : {X : Type 0} (x : X) (counts : List ℕ) → All (λ count. count ≤ 64) counts → (p : ℕ) → length (part_of (map (filled x) counts) p) ≤ 64
-few_filled x [] small p = omega arith
-few_filled x (n ∷ ns) small zero = rw (length-replicate n x) (All-head (λ count. count ≤ 64) n ns small)
-few_filled x (n ∷ ns) small (suc p) = few_filled x ns (All-tail (λ count. count ≤ 64) n ns small) p
+pub few_filled : {X : Type 0} (x : X) (limit : ℕ) (counts : List ℕ) → All (λ count. count ≤ limit) counts → (p : ℕ) → length (part_of (map (filled x) counts) p) ≤ limit
+few_filled x limit [] small p = omega arith
+few_filled x limit (n ∷ ns) small zero = rw (length-replicate n x) (All-head (λ count. count ≤ limit) n ns small)
+few_filled x limit (n ∷ ns) small (suc p) = few_filled x limit ns (All-tail (λ count. count ≤ limit) n ns small) p
 
 -- a pool of free numbers
 pub pool_filled : (mutexes : List (List (Option Mutex))) (counts : List ℕ) → All (λ count. count ≤ 64) counts → mutexes ≡ map (filled None) counts → IsPool mutexes
-pool_filled mutexes counts small e p = rw e (few_filled None counts small p)
+pool_filled mutexes counts small e p = rw e (few_filled None 64 counts small p)
 
 -- the least free number is free
-free_place : (pool : List (Option Mutex)) (i : ℕ) → is_none (get_or pool i None) ≡ true → option_flatten (slice_get pool i) ≡ None
+free_place : {A : Type 0} (pool : List (Option A)) (i : ℕ) → is_none (get_or pool i None) ≡ true → option_flatten (slice_get pool i) ≡ None
 free_place [] i e = refl
 free_place (None ∷ pool) zero e = refl
 free_place (Some m ∷ pool) zero e = cc
@@ -45,7 +45,7 @@ place_of : (o : Option ℕ) (i : ℕ) → option_map suc o ≡ Some (suc i) → 
 place_of None i e = cc
 place_of (Some j) i e = cc
 
-pub least_free_is : (pool : List (Option Mutex)) (m : ℕ) → least_free pool ≡ Some m → pool_get pool m ≡ None
+pub least_free_is : {A : Type 0} (pool : List (Option A)) (m : ℕ) → least_free pool ≡ Some m → pool_get pool m ≡ None
 least_free_is pool zero e = refl
 least_free_is pool (suc i) e = free_place pool i (position-Some is_none pool i None (place_of (position is_none pool) i e)).1
 

@@ -82,7 +82,7 @@ set_same f (y ∷ pool) zero (suc j) x e = refl
 set_same f (y ∷ pool) (suc i) zero x e = refl
 set_same f (y ∷ pool) (suc i) (suc j) x e = set_same f pool i j x e
 
-pool_set_same : {A B : Type 0} (f : Option A → B) (pool : List (Option A)) (m n : ℕ) (x : Option A) → f x ≡ f (pool_get pool m) → f (pool_get (pool_set pool m x) n) ≡ f (pool_get pool n)
+pub pool_set_same : {A B : Type 0} (f : Option A → B) (pool : List (Option A)) (m n : ℕ) (x : Option A) → f x ≡ f (pool_get pool m) → f (pool_get (pool_set pool m x) n) ≡ f (pool_get pool n)
 pool_set_same f pool zero n x e = refl
 pool_set_same f pool (suc i) zero x e = refl
 pool_set_same f pool (suc i) (suc j) x e = set_same f pool i j x e
@@ -167,7 +167,7 @@ entry_blank zero i = refl
 entry_blank (suc n) zero = refl
 entry_blank (suc n) (suc i) = entry_blank n i
 
-pool_blank : {A : Type 0} (n k : ℕ) → pool_get (replicate {A = Option A} n None) k ≡ None
+pub pool_blank : {A : Type 0} (n k : ℕ) → pool_get (replicate {A = Option A} n None) k ≡ None
 pool_blank n zero = refl
 pool_blank n (suc i) = entry_blank n i
 
@@ -196,7 +196,7 @@ effective_blank n k =
     map_zero (effective_of (replicate n None) (replicate k None)) (numbers_of (replicate {A = Option Thread} n None)) (λ t. leading_zero (length (replicate {A = Option Thread} n None)) (next_of (replicate n None) (replicate k None)) (held_of (replicate n None) (replicate k None)) t (held_blank n k))
     ∙ ap (λ (j : ℕ). replicate j 0) (length-numbers_to (length (replicate {A = Option Thread} n None)) ∙ length-replicate n None)
 
-row_blank : {A : Type 0} (x : A) (counts : List ℕ) (p : ℕ) → p < length counts → part_of (map (filled x) counts) p ≡ replicate (get_or counts p 0) x
+pub row_blank : {A : Type 0} (x : A) (counts : List ℕ) (p : ℕ) → p < length counts → part_of (map (filled x) counts) p ≡ replicate (get_or counts p 0) x
 row_blank x counts p lt = get_or-map (filled x) counts p 0 [] lt
 
 locked_blank : (locks : Locks) → ((m : ℕ) → mutex_at locks m ≡ None) → AreLocked locks

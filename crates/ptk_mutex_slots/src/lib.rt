@@ -12,5 +12,5 @@ mod priorities;
 mod slot;
 
 pub use moves::{free_move, kept_reply, reply_of};
-pub use priorities::{effective, recompute};
+pub use priorities::{effective, recompute, thread_slot};
 pub use slot::{Change, MutexSlot, MutexState, slot_in};

@@ -149,7 +149,7 @@ pub(crate) fn assigned(threads: &[Slot], t: ThreadNo) -> u8
 
 /// The slot of a number, None past the partition's.
 #[tactic(auto, using(crate::proofs::Slots::numbers))]
-fn thread_slot(threads: &[Slot], t: ThreadNo) -> Option<&Slot>
+pub fn thread_slot(threads: &[Slot], t: ThreadNo) -> Option<&Slot>
     ensures { option_flatten (option_map (λ r. r.now) result) ≡ pool_get threads.now t }
 {
     threads.get(t.place())

@@ -1,0 +1,169 @@
+-- What the calls need of the tables, what the tables are after a move of one partition, and several moves one after the other.
+use Rattle.std.specs.Fn.{iterate}
+use Rattle.std.proofs.Common.{◌≡◌, ℕ, suc, ◌<◌, List, [], length, refl, sym, ◌∙◌, ap, subst, arith, true, false}
+use Rattle.std.specs.Prelude.{Option, Some, None, IsSome}
+use Rattle.std.proofs.Math.ListN.{set}
+use Rattle.std.proofs.lemmas.List.{length-set, set-set, set-get_or}
+use Rattle.ptk_words.specs.Pools.{pool_get, is_in, first_of_greatest}
+use Rattle.ptk_words_parted.specs.Parts.{part_of}
+use Rattle.ptk_words_parted.proofs.Cuts.{set_part-same}
+use Rattle.ptk_words_model.specs.State.{Condition, Locks, Mutex, Syncs}
+use Rattle.ptk_words.specs.declared.threads.Wait.{Wait}
+use Rattle.ptk_words_model.specs.Priority.{awaited, mutex_of_wait, thread_at}
+use Rattle.ptk_words_model.specs.Schedule.{with_thread}
+use Rattle.ptk_words_model.specs.Mutex.{wait_of, after_unlock}
+use Rattle.ptk_words_model.specs.Condition.{condition_waiters, mutex_named, after_signal}
+use Rattle.ptk_threads.specs.Table.{ThreadTable, stored_of, with_changed, with_wait}
+use Rattle.ptk_threads.proofs.Pools.{pool_get-changed, pool_changed-changed, part_of-set}
+use Rattle.ptk_mutex.specs.Tables.{locks_at, with_threads, HasPart, MayWait, AreLocked, AreReady}
+use Rattle.ptk_mutex.proofs.Moved.{stays}
+use Rattle.ptk_mutex.proofs.Steps.{AreMoved, moved_none, moved_locks, moved_more}
+use Rattle.ptk_cond.specs.Slots.{waiters_at}
+use Rattle.ptk_cond.specs.Tables.{syncs_at, AreWaiting, AreSynced, HasRoom, IsAwake, MayLeave, next_waiter}
+use Rattle.ptk_cond.proofs.Apart.{calm_unlock}
+use Rattle.ptk_cond.proofs.Asleep.{asleep-is}
+use Rattle.ptk_cond.proofs.Waiters.{may_relock, awake_none, awake_out, locked_sleep, stored_next, next_may_leave}
+
+-- ---- what the calls need
+
+pub has_part : (p : ℕ) (table : ThreadTable) (lines : List (List ℕ)) (mutexes : List (List (Option Mutex))) (conditions : List (List (Option Condition))) → AreSynced p table lines mutexes conditions → HasPart p table lines mutexes
+has_part p table lines mutexes conditions synced = synced.ready.part
+
+pub has_conditions : (p : ℕ) (table : ThreadTable) (lines : List (List ℕ)) (mutexes : List (List (Option Mutex))) (conditions : List (List (Option Condition))) → AreSynced p table lines mutexes conditions → p < length conditions
+has_conditions p table lines mutexes conditions synced = synced.of_conditions
+
+pub has_ready : (p : ℕ) (table : ThreadTable) (lines : List (List ℕ)) (mutexes : List (List (Option Mutex))) (conditions : List (List (Option Condition))) → AreSynced p table lines mutexes conditions → AreReady p table lines mutexes
+has_ready p table lines mutexes conditions synced = synced.ready
+
+used_entry : (t : ℕ) (x : Option Condition) → is_in t (waiters_at x) ≡ true → IsSome x
+used_entry t None h = let no : ⊥ = cc in absurd no
+used_entry t (Some condition) h = refl
+
+-- where somebody waits a condition variable is
+pub waited_used : (p t c : ℕ) (table : ThreadTable) (lines : List (List ℕ)) (mutexes : List (List (Option Mutex))) (conditions : List (List (Option Condition))) → is_in t (condition_waiters (syncs_at p table lines mutexes conditions) c) ≡ true → IsSome (pool_get (part_of conditions p) c)
+waited_used p t c table lines mutexes conditions there = used_entry t (pool_get (part_of conditions p) c) there
+
+-- a waiter may re-lock a mutex
+pub waiter_may : (p t c : ℕ) (table : ThreadTable) (lines : List (List ℕ)) (mutexes : List (List (Option Mutex))) (conditions : List (List (Option Condition))) → AreSynced p table lines mutexes conditions → is_in t (condition_waiters (syncs_at p table lines mutexes conditions) c) ≡ true → MayWait (locks_at p table lines mutexes) t
+waiter_may p t c table lines mutexes conditions synced there = may_relock c t (locks_at p table lines mutexes) (synced.waiting.waiters c t there)
+
+-- and has room at the one that it named
+pub waiter_room : (p t c m : ℕ) (table : ThreadTable) (lines : List (List ℕ)) (mutexes : List (List (Option Mutex))) (conditions : List (List (Option Condition))) → AreSynced p table lines mutexes conditions → is_in t (condition_waiters (syncs_at p table lines mutexes conditions) c) ≡ true
+    → Some m ≡ mutex_named (wait_of (thread_at (locks_at p table lines mutexes) t)) → HasRoom t (pool_get (part_of mutexes p) m)
+waiter_room p t c m table lines mutexes conditions synced there named = (synced.waiting.waiters c t there).room m (sym named)
+
+-- who waits for nothing is among no waiters
+pub sleeper_fresh : (p t c : ℕ) (table : ThreadTable) (lines : List (List ℕ)) (mutexes : List (List (Option Mutex))) (conditions : List (List (Option Condition))) → AreSynced p table lines mutexes conditions → IsAwake (locks_at p table lines mutexes) t → is_in t (waiters_at (pool_get (part_of conditions p) c)) ≡ false
+sleeper_fresh p t c table lines mutexes conditions synced may = awake_out t c (syncs_at p table lines mutexes conditions) may synced.waiting
+
+-- ---- the choice
+
+-- the first waiter of the greatest stored priority is the next one
+pub next-is : (p c : ℕ) (o : Option ℕ) (table : ThreadTable) (lines : List (List ℕ)) (mutexes : List (List (Option Mutex))) (conditions : List (List (Option Condition))) → AreSynced p table lines mutexes conditions → o ≡ first_of_greatest (stored_of (part_of table.stored p)) (waiters_at (pool_get (part_of conditions p) c)) → o ≡ next_waiter c (syncs_at p table lines mutexes conditions)
+next-is p c o table lines mutexes conditions synced e = e ∙ stored_next c (syncs_at p table lines mutexes conditions) (part_of table.stored p) synced.waiting synced.ready.stored
+
+-- and waits
+pub next_may : (p c : ℕ) (o : Option ℕ) (table : ThreadTable) (lines : List (List ℕ)) (mutexes : List (List (Option Mutex))) (conditions : List (List (Option Condition))) → AreSynced p table lines mutexes conditions → o ≡ first_of_greatest (stored_of (part_of table.stored p)) (waiters_at (pool_get (part_of conditions p) c)) → MayLeave o (syncs_at p table lines mutexes conditions) c
+next_may p c o table lines mutexes conditions synced e = next_may_leave c (syncs_at p table lines mutexes conditions) o (next-is p c o table lines mutexes conditions synced e)
+
+pub ruleset choices = (next-is, next_may, has_part, has_conditions)
+
+-- ---- the tables after a move
+
+-- the tables of all partitions
+pub record Tables : Type 0 where
+  pub threads : ThreadTable
+  pub lines : List (List ℕ)
+  pub mutexes : List (List (Option Mutex))
+  pub conditions : List (List (Option Condition))
+
+-- what a partition has there
+abbrev pub of_part : ℕ → Tables → Syncs
+of_part p a = syncs_at p a.threads a.lines a.mutexes a.conditions
+
+-- they are as the condition calls need them at a partition
+abbrev pub AreSyncedAt : ℕ → Tables → Type 0
+AreSyncedAt p a = AreSynced p a.threads a.lines a.mutexes a.conditions
+
+-- the tables b are the tables a with these syncs at p
+pub record AreSyncsMoved (p : ℕ) (a b : Tables) (syncs : Syncs) : Type 0 where
+  pub of_locks : AreMoved p a.threads a.lines a.mutexes b.threads b.lines b.mutexes syncs.locks
+  pub of_conditions : b.conditions ≡ set a.conditions p syncs.conditions
+
+-- nothing moved yet
+syncs_none : (p : ℕ) (a : Tables) → AreSyncedAt p a → AreSyncsMoved p a a (of_part p a)
+syncs_none p a synced = record {
+  of_locks = moved_none p a.threads a.lines a.mutexes synced.ready;
+  of_conditions = sym (set_part-same a.conditions p);
+}
+
+-- what p then has
+syncs_moved : (p : ℕ) (a b : Tables) (syncs : Syncs) → AreSyncedAt p a → AreSyncsMoved p a b syncs → of_part p b ≡ syncs
+syncs_moved p a b syncs synced moved =
+    rw (moved_locks p a.threads b.threads a.lines b.lines a.mutexes b.mutexes syncs.locks synced.ready.part moved.of_locks, moved.of_conditions, part_of-set a.conditions p syncs.conditions synced.of_conditions) refl
+
+-- moved tables are as the calls need them, where the mutex calls find them so and waiters wait
+pub moved_synced : (p : ℕ) (a b : Tables) (syncs : Syncs) → AreSyncedAt p a → AreSyncsMoved p a b syncs → AreReady p b.threads b.lines b.mutexes → AreWaiting syncs → AreSyncedAt p b
+moved_synced p a b syncs synced moved ready waiting = record {
+  ready = ready;
+  of_conditions = rw (moved.of_conditions, length-set) synced.of_conditions;
+  waiting = subst (λ (s : Syncs). AreWaiting s) (sym (syncs_moved p a b syncs synced moved)) waiting;
+}
+
+-- one more move
+syncs_more : (p : ℕ) (f : Syncs → Syncs) (a b after : Tables) (syncs : Syncs) → AreSyncedAt p a → AreSyncsMoved p a b syncs → AreSyncsMoved p b after (f (of_part p b)) → AreSyncsMoved p a after (f syncs)
+syncs_more p f a b after syncs synced moved more =
+    let now : AreSyncsMoved p b after (f syncs) = subst (λ (s : Syncs). AreSyncsMoved p b after (f s)) (syncs_moved p a b syncs synced moved) more in
+    record {
+      of_locks = moved_more p (λ (l : Locks). (f syncs).locks) a.threads b.threads after.threads a.lines b.lines after.lines a.mutexes b.mutexes after.mutexes syncs.locks synced.ready.part moved.of_locks now.of_locks;
+      of_conditions = now.of_conditions ∙ rw (moved.of_conditions, set-set) refl;
+    }
+
+-- after an unlock a thread that is awake begins to wait, and mutexes' waiters still wait
+pub locked_wait : (p t m : ℕ) (wait : Option Wait) (table table' : ThreadTable) (lines lines' : List (List ℕ)) (mutexes mutexes' : List (List (Option Mutex))) → AreReady p table lines mutexes → IsAwake (locks_at p table lines mutexes) t
+    → AreMoved p table lines mutexes table' lines' mutexes' (after_unlock m (locks_at p table lines mutexes)) → AreReady p table' lines' mutexes' → AreLocked (with_thread t (λ thread. record thread { wait = wait }) (after_unlock m (locks_at p table lines mutexes)))
+locked_wait p t m wait table table' lines lines' mutexes mutexes' ready may moved after =
+    let locks : Locks = locks_at p table lines mutexes in
+    let none : awaited (thread_at locks t) ≡ None = awake_none t locks may in
+    let still : awaited (thread_at (after_unlock m locks) t) ≡ None = ap awaited ((calm_unlock m locks ready.locked).threads t none) ∙ none in
+    let locked : AreLocked (after_unlock m locks) = subst (λ (l : Locks). AreLocked l) (moved_locks p table table' lines lines' mutexes mutexes' (after_unlock m locks) ready.part moved) after.locked in
+    locked_sleep t wait (after_unlock m locks) still locked
+
+-- and no stored priority changes then
+pub sleep-is : (p t m : ℕ) (wait : Option Wait) (table table' new : ThreadTable) (lines : List (List ℕ)) (mutexes : List (List (Option Mutex))) → AreReady p table lines mutexes → IsAwake (locks_at p table lines mutexes) t → mutex_of_wait wait ≡ None
+    → table' ≡ with_threads p (after_unlock m (locks_at p table lines mutexes)) table → new ≡ with_changed p t (with_wait wait) table' → new ≡ with_threads p (with_thread t (λ thread. record thread { wait = wait }) (after_unlock m (locks_at p table lines mutexes))) table
+sleep-is p t m wait table table' new lines mutexes ready may unawaited e changed =
+    let locks : Locks = locks_at p table lines mutexes in
+    let none : awaited (thread_at locks t) ≡ None = awake_none t locks may in
+    let still : awaited (thread_at (after_unlock m locks) t) ≡ None = ap awaited ((calm_unlock m locks ready.locked).threads t none) ∙ none in
+    changed ∙ ap (with_changed p t (with_wait wait)) e ∙ asleep-is p t wait (after_unlock m locks) table ready.part.of_threads unawaited still
+
+-- ---- all waiters unblocked, one after the other
+
+-- so many signals are left of all
+pub record AreSignalled (p c left total : ℕ) (a b : Tables) : Type 0 where
+  pub synced : AreSyncedAt p b
+  pub moved : AreSyncsMoved p a b (of_part p b)
+  pub same : iterate (after_signal c) left (of_part p b) ≡ iterate (after_signal c) total (of_part p a)
+
+pub signalled_none : (p c total : ℕ) (a : Tables) → AreSyncedAt p a → AreSignalled p c total total a a
+signalled_none p c total a synced = record { synced = synced; moved = syncs_none p a synced; same = refl }
+
+pub signalled_more : (p c left rest total : ℕ) (a b after : Tables) → AreSyncedAt p a → rest ≡ suc left → AreSignalled p c rest total a b → AreSyncsMoved p b after (after_signal c (of_part p b)) → AreSyncedAt p after → AreSignalled p c left total a after
+signalled_more p c left rest total a b after start e signalled more synced =
+    let at : of_part p after ≡ after_signal c (of_part p b) = syncs_moved p b after (after_signal c (of_part p b)) signalled.synced more in
+    let moved : AreSyncsMoved p a after (after_signal c (of_part p b)) = syncs_more p (after_signal c) a b after (of_part p b) start signalled.moved more in
+    record {
+      synced = synced;
+      moved = subst (λ (s : Syncs). AreSyncsMoved p a after s) (sym at) moved;
+      same = ap (iterate (after_signal c) left) at ∙ ap (λ (n : ℕ). iterate (after_signal c) n (of_part p b)) (sym e) ∙ signalled.same;
+    }
+
+pub signalled_all : (p c left total : ℕ) (a b : Tables) → left ≡ 0 → AreSignalled p c left total a b → AreSyncsMoved p a b (iterate (after_signal c) total (of_part p a))
+signalled_all p c left total a b e signalled =
+    let done : of_part p b ≡ iterate (after_signal c) total (of_part p a) = ap (λ (n : ℕ). iterate (after_signal c) n (of_part p b)) (sym e) ∙ signalled.same in
+    subst (λ (s : Syncs). AreSyncsMoved p a b s) done signalled.moved
+
+pub ruleset waits = (has_part, has_conditions, has_ready, sleeper_fresh, pool_get-changed, pool_changed-changed, part_of-set, set-set, set-get_or, length-set)
+
+pub ruleset steps = (has_part, has_conditions, has_ready, waited_used, waiter_may, waiter_room, stays, set_part-same)

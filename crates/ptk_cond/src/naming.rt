@@ -1,0 +1,89 @@
+//! Which mutexes condition waits name.
+
+ghost use Rattle.std.specs.Prelude.{◌≡◌, ◌<◌, [], length, not};
+ghost use Rattle.std.specs.List.{list_any};
+ghost use Rattle.ptk_words.specs.Pools.{pool_get};
+ghost use Rattle.ptk_words_parted.specs.Parts.{part_of};
+ghost use Rattle.ptk_words_model.specs.Mutex.{wait_of};
+ghost use Rattle.ptk_words_model.specs.Condition.{mutex_named, is_named, names_mutex, names_another};
+ghost use Rattle.ptk_mutex_slots.specs.Tables.{locks_of};
+ghost use Rattle.ptk_cond.specs.Tables.{syncs_of};
+
+use crate::conditions::Conditions;
+use ptk_mutex_slots::thread_slot;
+use ptk_threads::{Slot, Threads};
+use ptk_words::{ConditionNo, MutexNo, PartId, ThreadNo, Wait};
+
+/// Whether a thread waits on a condition variable and is to have this mutex again (pthread_mutex_destroy, EBUSY).
+pub fn names(threads: &Threads, p: PartId, m: MutexNo) -> bool
+    requires { p < length threads.now.threads }
+    ensures { result ≡ names_mutex (locks_of (part_of threads.now.threads p) []) m }
+{
+    is_any_naming(threads.part(p), m)
+}
+
+impl Conditions {
+    /// Whether a waiter of a condition variable is to have another mutex again (pthread_cond_wait, EINVAL).
+    pub fn names_another(&self, threads: &Threads, p: PartId, c: ConditionNo, m: MutexNo) -> bool
+        requires { (p < length self.now) × (p < length threads.now.threads) }
+        ensures { result ≡ names_another (syncs_of (part_of threads.now.threads p) (part_of self.now p)) c m }
+    {
+        is_any_naming_another(threads.part(p), self.waiters(p, c), m)
+    }
+}
+
+/// Whether one of these threads names the mutex.
+fn is_any_naming(threads: &[Slot], m: MutexNo) -> bool
+    ensures { result ≡ list_any (λ thread. is_named m (mutex_named (wait_of thread))) threads.now }
+{
+    threads.iter().any(|slot| is_naming(slot, m))
+}
+
+/// Whether one of these waiters names another mutex.
+fn is_any_naming_another(threads: &[Slot], waiters: &[ThreadNo], m: MutexNo) -> bool
+    ensures { result ≡ list_any (λ t. not (is_named m (mutex_named (wait_of (pool_get threads.now t))))) waiters.now }
+{
+    waiters.iter().any(|t| !is_naming_at(threads, *t, m))
+}
+
+/// Whether the thread of a number names the mutex.
+fn is_naming_at(threads: &[Slot], t: ThreadNo, m: MutexNo) -> bool
+    ensures { result ≡ is_named m (mutex_named (wait_of (pool_get threads.now t))) }
+{
+    match thread_slot(threads, t) {
+        Some(slot) => is_naming(slot, m),
+        None => false,
+    }
+}
+
+/// Whether the thread of a slot names the mutex.
+#[tactic(auto, using(crate::proofs::Slots::waits))]
+fn is_naming(slot: &Slot, m: MutexNo) -> bool
+    ensures { result ≡ is_named m (mutex_named (wait_of slot.now)) }
+{
+    is_named(m, mutex_named(slot.wait()))
+}
+
+/// Whether the mutex named is this one.
+fn is_named(m: MutexNo, named: Option<MutexNo>) -> bool
+    ensures { result ≡ is_named m named }
+{
+    match named {
+        Some(n) => n.number() == m.number(),
+        None => false,
+    }
+}
+
+/// The mutex that a condition wait names; None of any other wait.
+pub(crate) fn mutex_named(wait: Option<Wait>) -> Option<MutexNo>
+    ensures { result ≡ mutex_named wait }
+{
+    match wait? {
+        Wait::ConditionWait(_, m, _) => Some(m),
+        Wait::InputWait
+        | Wait::SleepWait(_)
+        | Wait::JoinWait(_)
+        | Wait::MutexWait(_, _)
+        | Wait::RelockWait(_, _) => None,
+    }
+}
