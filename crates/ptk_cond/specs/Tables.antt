@@ -7,13 +7,12 @@ use Rattle.ptk_words.specs.declared.threads.Thread.{Thread}
 use Rattle.ptk_words.specs.declared.threads.Wait.{Wait}
 use Rattle.ptk_words.specs.declared.threads.Wait.TheVariants.{InputWait, SleepWait, JoinWait, MutexWait, ConditionWait, RelockWait}
 use Rattle.ptk_words_parted.specs.Parts.{part_of}
-use Rattle.ptk_words_model.specs.State.{Condition, Locks, Mutex, Syncs}
+use Rattle.ptk_words_model.specs.State.{Condition, Locks, Mutex, Syncs, locks_of}
 use Rattle.ptk_words_model.specs.Priority.{thread_at, effective_priority}
 use Rattle.ptk_words_model.specs.Mutex.{mutex_at, count_of, relock_move, wait_of}
 use Rattle.ptk_words_model.specs.Condition.{condition_waiters, mutex_named}
 use Rattle.ptk_words_model.specs.declared.LockMove.TheVariants.{Counts}
 use Rattle.ptk_threads.specs.Table.{ThreadTable}
-use Rattle.ptk_mutex_slots.specs.Tables.{locks_of}
 use Rattle.ptk_mutex.specs.Tables.{locks_at, AreReady}
 
 -- what the condition calls read and change of a partition (own)

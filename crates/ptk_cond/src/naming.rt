@@ -4,9 +4,9 @@ ghost use Rattle.std.specs.Prelude.{◌≡◌, ◌<◌, [], length, not};
 ghost use Rattle.std.specs.List.{list_any};
 ghost use Rattle.ptk_words.specs.Pools.{pool_get};
 ghost use Rattle.ptk_words_parted.specs.Parts.{part_of};
+ghost use Rattle.ptk_words_model.specs.State.{locks_of};
 ghost use Rattle.ptk_words_model.specs.Mutex.{wait_of};
 ghost use Rattle.ptk_words_model.specs.Condition.{mutex_named, is_named, names_mutex, names_another};
-ghost use Rattle.ptk_mutex_slots.specs.Tables.{locks_of};
 ghost use Rattle.ptk_cond.specs.Tables.{syncs_of};
 
 use crate::conditions::Conditions;
