@@ -185,7 +185,11 @@ fn run_on_to(system: &mut System<'_>, ticks: u32) {
 fn check_sights(rt: &impl Abort, system: &mut System<'_>, sights: &[(u32, Sight, u32)]) {
     for (i, (ticks, sight, want)) in sights.iter().enumerate() {
         run_on_to(system, *ticks);
-        assert_eq!(rt; seen(system, *sight), Some(*want), "entry {i}, after {ticks} ticks");
+        assert_eq!(rt;
+            seen(system, *sight),
+            Some(*want),
+            "entry {i}, after {ticks} ticks"
+        );
     }
 }
 
