@@ -37,10 +37,11 @@ condition_of_wait (Some (RelockWait m reply)) = None
 abbrev pub HasRoom : ThreadNumber → Option Mutex → Type 0
 HasRoom t x = relock_move t x ≡ Counts → count_of x < COUNT_LIMIT
 
--- who waits on condition variable c: a thread whose wait is on it, which is not in the line, and which can have the mutex again that it named (pthread_cond_wait)
+-- who waits on condition variable c: a thread whose wait is on it, which is not in the line, and whose re-lock has room (pthread_cond_wait)
 pub record IsOnCondition (locks : Locks) (c k : ℕ) : Type 0 where
   pub waits : condition_of_wait (wait_of (thread_at locks k)) ≡ Some c
   pub out : is_in k locks.line ≡ false
+  -- since its wait unlocked the mutex once
   pub room : (m : ℕ) → mutex_named (wait_of (thread_at locks k)) ≡ Some m → HasRoom k (mutex_at locks m)
 
 -- every waiter waits on its condition variable (own)

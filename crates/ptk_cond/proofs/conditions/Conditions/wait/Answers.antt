@@ -20,8 +20,7 @@ returns-clause-ready c =
     let after : Tables = record { threads = c.set_wait.new.self; lines = c.unlock.new.line; mutexes = c.unlock.new.self; conditions = c.change.new.self } in
     let syncs : Syncs = syncs_at c.args.p c.args.threads.now c.args.line.now c.args.mutexes.now c.args.self.now in
     let then : Syncs = after_condition_wait c.args.t c.args.c c.args.m c.args.deadline syncs in
-    let threads : c.set_wait.new.self ≡ with_threads c.args.p then.locks c.args.threads.now =
-    sleep-is c.args.p c.args.t c.args.m (Some (ConditionWait c.args.c c.args.m c.args.deadline)) c.args.threads.now c.unlock.new.threads c.set_wait.new.self c.args.line.now c.args.mutexes.now c.requires.ready.ready c.requires.caller refl c.unlock.ensures.threads c.set_wait.ensures in
+    let threads : c.set_wait.new.self ≡ with_threads c.args.p then.locks c.args.threads.now = returns-clause-threads c in
     let moved : AreMoved c.args.p c.args.threads.now c.args.line.now c.args.mutexes.now c.set_wait.new.self c.unlock.new.line c.unlock.new.self then.locks =
     record { of_threads = threads; of_lines = c.unlock.ensures.line; of_mutexes = c.unlock.ensures.mutexes } in
     let ready : AreReady c.args.p c.set_wait.new.self c.unlock.new.line c.unlock.new.self =
