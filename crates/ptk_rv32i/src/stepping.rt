@@ -4,7 +4,7 @@ ghost use Rattle.std.specs.Prelude.{◌≡◌, ◌+◌, ◌*◌, ◌%◌, ◌-�
 ghost use Rattle.ptk_words.specs.Words.{word_of, sign_extension};
 ghost use Rattle.ptk_words.specs.Processor.{register, with_register as after_write};
 ghost use Rattle.ptk_words_instructions.specs.Instructions.{with_next_pc, link_effect};
-ghost use Rattle.ptk_rv32i.specs.Effects.{operands, seen, after, effect_of_instr};
+ghost use Rattle.ptk_rv32i.specs.Effects.{at_pc, operands, seen, after, effect_of_instr};
 
 use crate::memory::{load, store};
 use crate::outcome::Outcome;
@@ -25,37 +25,35 @@ fn address(cpu: &Cpu, rs1: Register, offset: Immediate) -> u32
 
 /// Goes on at the next word.
 #[inline(always)]
-fn advance(cpu: &mut Cpu) -> Outcome
-    ensures cpu { cpu.new ≡ with_next_pc cpu.old }
+fn advance(pc: &mut u32) -> Outcome
+    ensures pc { pc.new ≡ word_of (pc.old + 4) }
     ensures outcome { result ≡ Outcome.Done }
 {
-    cpu.set_pc(cpu.pc().wrapping_add(4));
+    *pc = pc.wrapping_add(4);
     Outcome::Done
 }
 
 /// Writes a register, and goes on at the next word.
 #[inline(always)]
-fn write(cpu: &mut Cpu, rd: Register, value: u32) -> Outcome
-    ensures cpu { cpu.new ≡ after_write (with_next_pc cpu.old) rd value }
+fn write(cpu: &mut Cpu, pc: &mut u32, rd: Register, value: u32) -> Outcome
+    ensures cpu { at_pc pc.new cpu.new ≡ after_write (with_next_pc (at_pc pc.old cpu.old)) rd value }
     ensures outcome { result ≡ Outcome.Done }
 {
-    let next = cpu.pc().wrapping_add(4);
     cpu.set_register(rd.number(), value);
-    cpu.set_pc(next);
+    *pc = pc.wrapping_add(4);
     Outcome::Done
 }
 
 /// Goes on at the target, with the address of the next word in a register.
 #[inline(always)]
-fn link(cpu: &mut Cpu, rd: Register, target: u32) -> Outcome
-    ensures { (memory : List ℕ) → seen cpu.new memory result ≡ after cpu.old memory (link_effect (operands cpu.old memory 0 0 rd 0) target) }
+fn link(cpu: &mut Cpu, pc: &mut u32, rd: Register, target: u32) -> Outcome
+    ensures { (memory : List ℕ) → seen (at_pc pc.new cpu.new) memory result ≡ after (at_pc pc.old cpu.old) memory (link_effect (operands (at_pc pc.old cpu.old) memory 0 0 rd 0) target) }
 {
     if target & 3 != 0 {
         return Outcome::Fault(FaultKind::Misaligned);
     }
-    let next = cpu.pc().wrapping_add(4);
-    cpu.set_register(rd.number(), next);
-    cpu.set_pc(target);
+    cpu.set_register(rd.number(), pc.wrapping_add(4));
+    *pc = target;
     Outcome::Done
 }
 
@@ -70,58 +68,60 @@ fn register_target(sum: u32) -> u32
 /// A branch.
 #[inline(always)]
 fn branch(
-    cpu: &mut Cpu,
+    cpu: &Cpu,
+    pc: &mut u32,
     test: BranchTest,
     rs1: Register,
     rs2: Register,
     offset: BranchOffset,
 ) -> Outcome
-    ensures { (memory : List ℕ) → seen cpu.new memory result ≡ after cpu.old memory (effect_of_instr cpu.old memory (Instr.Branch test rs1 rs2 offset)) }
+    ensures { (memory : List ℕ) → seen (at_pc pc.new cpu.now) memory result ≡ after (at_pc pc.old cpu.now) memory (effect_of_instr (at_pc pc.old cpu.now) memory (Instr.Branch test rs1 rs2 offset)) }
 {
     if passes(test, cpu.register(rs1.number()), cpu.register(rs2.number())) {
-        let target = cpu.pc().wrapping_add(extend_13(offset.number()));
+        let target = pc.wrapping_add(extend_13(offset.number()));
         if target & 3 != 0 {
             return Outcome::Fault(FaultKind::Misaligned);
         }
-        cpu.set_pc(target);
+        *pc = target;
     } else {
-        cpu.set_pc(cpu.pc().wrapping_add(4));
+        *pc = pc.wrapping_add(4);
     }
     Outcome::Done
 }
 
-/// Carries out an instruction.
+/// Carries out an instruction at this pc, which then is the next one's; the pc of the registers themselves is neither
+/// read nor told of. A fault or a break leaves all three as they were, and a call the registers and the memory.
 #[inline(always)]
-pub fn execute(cpu: &mut Cpu, memory: &mut [u8], instr: Instr) -> Outcome
-    ensures { seen cpu.new memory.new result ≡ after cpu.old memory.old (effect_of_instr cpu.old memory.old instr) }
+pub fn carry_out(cpu: &mut Cpu, memory: &mut [u8], pc: &mut u32, instr: Instr) -> Outcome
+    ensures { seen (at_pc pc.new cpu.new) memory.new result ≡ after (at_pc pc.old cpu.old) memory.old (effect_of_instr (at_pc pc.old cpu.old) memory.old instr) }
 {
     match instr {
-        Instr::Lui { rd, upper } => write(cpu, rd, upper.number() << 12),
+        Instr::Lui { rd, upper } => write(cpu, pc, rd, upper.number() << 12),
         Instr::Auipc { rd, upper } => {
-            let value = cpu.pc().wrapping_add(upper.number() << 12);
-            write(cpu, rd, value)
+            let value = pc.wrapping_add(upper.number() << 12);
+            write(cpu, pc, rd, value)
         }
         Instr::Jal { rd, offset } => {
-            let target = cpu.pc().wrapping_add(extend_21(offset.number()));
-            link(cpu, rd, target)
+            let target = pc.wrapping_add(extend_21(offset.number()));
+            link(cpu, pc, rd, target)
         }
         Instr::Jalr { rd, rs1, offset } => {
             let target = register_target(address(cpu, rs1, offset));
-            link(cpu, rd, target)
+            link(cpu, pc, rd, target)
         }
         Instr::Branch {
             test,
             rs1,
             rs2,
             offset,
-        } => branch(cpu, test, rs1, rs2, offset),
+        } => branch(cpu, pc, test, rs1, rs2, offset),
         Instr::Load {
             kind,
             rd,
             rs1,
             offset,
         } => match load(memory, kind, address(cpu, rs1, offset)) {
-            Ok(value) => write(cpu, rd, value),
+            Ok(value) => write(cpu, pc, rd, value),
             Err(fault) => Outcome::Fault(fault),
         },
         Instr::Store {
@@ -132,7 +132,7 @@ pub fn execute(cpu: &mut Cpu, memory: &mut [u8], instr: Instr) -> Outcome
         } => {
             let value = cpu.register(rs2.number());
             match store(memory, kind, address(cpu, rs1, offset), value) {
-                Ok(()) => advance(cpu),
+                Ok(()) => advance(pc),
                 Err(fault) => Outcome::Fault(fault),
             }
         }
@@ -147,7 +147,7 @@ pub fn execute(cpu: &mut Cpu, memory: &mut [u8], instr: Instr) -> Outcome
                 cpu.register(rs1.number()),
                 extend_12(immediate.number()),
             );
-            write(cpu, rd, value)
+            write(cpu, pc, rd, value)
         }
         Instr::Shift {
             op,
@@ -156,17 +156,28 @@ pub fn execute(cpu: &mut Cpu, memory: &mut [u8], instr: Instr) -> Outcome
             amount,
         } => {
             let value = shifted(op, cpu.register(rs1.number()), amount.number());
-            write(cpu, rd, value)
+            write(cpu, pc, rd, value)
         }
         Instr::WithRegister { op, rd, rs1, rs2 } => {
             let value = with_register(op, cpu.register(rs1.number()), cpu.register(rs2.number()));
-            write(cpu, rd, value)
+            write(cpu, pc, rd, value)
         }
-        Instr::Fence { .. } => advance(cpu),
+        Instr::Fence { .. } => advance(pc),
         Instr::Ecall => {
-            cpu.set_pc(cpu.pc().wrapping_add(4));
+            *pc = pc.wrapping_add(4);
             Outcome::Call
         }
         Instr::Ebreak => Outcome::Break,
     }
+}
+
+/// Carries out an instruction at the pc of the registers.
+#[inline(always)]
+pub fn execute(cpu: &mut Cpu, memory: &mut [u8], instr: Instr) -> Outcome
+    ensures { seen cpu.new memory.new result ≡ after cpu.old memory.old (effect_of_instr cpu.old memory.old instr) }
+{
+    let mut pc = cpu.pc();
+    let outcome = carry_out(cpu, memory, &mut pc, instr);
+    cpu.set_pc(pc);
+    outcome
 }

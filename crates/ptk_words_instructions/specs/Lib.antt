@@ -1,3 +1,4 @@
 pub mod Instructions
 pub mod Fields
 pub mod RowLaws
+pub mod Rows

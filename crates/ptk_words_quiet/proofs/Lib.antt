@@ -1,0 +1,5 @@
+pub mod PlainSteps
+pub mod PlainRows
+pub mod PlainDecisions
+pub mod QuietRows
+pub mod TicksInARow
