@@ -4,6 +4,7 @@ ghost use Rattle.std.specs.Prelude.{◌≡◌, ◌+◌, ◌*◌, ◌%◌, ◌-�
 ghost use Rattle.ptk_words.specs.Words.{word_of, sign_extension};
 ghost use Rattle.ptk_words.specs.Processor.{register, with_register as after_write};
 ghost use Rattle.ptk_words_instructions.specs.Instructions.{with_next_pc, link_effect};
+ghost use Rattle.ptk_rv32i.specs.Values.{immediate_value, shift_value, register_value};
 ghost use Rattle.ptk_rv32i.specs.Effects.{at_pc, operands, seen, after, effect_of_instr};
 
 use crate::memory::{load, store};
@@ -11,7 +12,10 @@ use crate::outcome::Outcome;
 use crate::values::{
     extend_12, extend_13, extend_21, passes, shifted, with_immediate, with_register,
 };
-use ptk_rv32i_code::{BranchOffset, BranchTest, Immediate, Instr, Register};
+use ptk_rv32i_code::{
+    BranchOffset, BranchTest, Immediate, ImmediateOp, Instr, JumpOffset, LoadKind, Register,
+    RegisterOp, ShiftAmount, ShiftOp, StoreKind, UpperImmediate,
+};
 use ptk_words::{Cpu, FaultKind};
 
 /// The sum of a register and an offset: the address of a load or store.
@@ -23,9 +27,9 @@ fn address(cpu: &Cpu, rs1: Register, offset: Immediate) -> u32
         .wrapping_add(extend_12(offset.number()))
 }
 
-/// Goes on at the next word.
+/// Goes on at the next word, as FENCE does.
 #[inline(always)]
-fn advance(pc: &mut u32) -> Outcome
+pub fn advance(pc: &mut u32) -> Outcome
     ensures pc { pc.new ≡ word_of (pc.old + 4) }
     ensures outcome { result ≡ Outcome.Done }
 {
@@ -65,9 +69,9 @@ fn register_target(sum: u32) -> u32
     sum - (sum & 1)
 }
 
-/// A branch.
+/// BEQ, BNE, BLT, BGE, BLTU, BGEU.
 #[inline(always)]
-fn branch(
+pub fn branch(
     cpu: &Cpu,
     pc: &mut u32,
     test: BranchTest,
@@ -89,6 +93,143 @@ fn branch(
     Outcome::Done
 }
 
+/// LUI.
+#[inline(always)]
+pub fn load_upper(cpu: &mut Cpu, pc: &mut u32, rd: Register, upper: UpperImmediate) -> Outcome
+    ensures cpu { at_pc pc.new cpu.new ≡ after_write (with_next_pc (at_pc pc.old cpu.old)) rd (upper * 2 ^ 12) }
+    ensures outcome { result ≡ Outcome.Done }
+{
+    write(cpu, pc, rd, upper.number() << 12)
+}
+
+/// AUIPC.
+#[inline(always)]
+pub fn add_upper(cpu: &mut Cpu, pc: &mut u32, rd: Register, upper: UpperImmediate) -> Outcome
+    ensures cpu { at_pc pc.new cpu.new ≡ after_write (with_next_pc (at_pc pc.old cpu.old)) rd (word_of (pc.old + upper * 2 ^ 12)) }
+    ensures outcome { result ≡ Outcome.Done }
+{
+    let value = pc.wrapping_add(upper.number() << 12);
+    write(cpu, pc, rd, value)
+}
+
+/// JAL.
+#[inline(always)]
+pub fn jump(cpu: &mut Cpu, pc: &mut u32, rd: Register, offset: JumpOffset) -> Outcome
+    ensures { (memory : List ℕ) → seen (at_pc pc.new cpu.new) memory result ≡ after (at_pc pc.old cpu.old) memory (effect_of_instr (at_pc pc.old cpu.old) memory (Instr.Jal rd offset)) }
+{
+    let target = pc.wrapping_add(extend_21(offset.number()));
+    link(cpu, pc, rd, target)
+}
+
+/// JALR.
+#[inline(always)]
+pub fn jump_register(
+    cpu: &mut Cpu,
+    pc: &mut u32,
+    rd: Register,
+    rs1: Register,
+    offset: Immediate,
+) -> Outcome
+    ensures { (memory : List ℕ) → seen (at_pc pc.new cpu.new) memory result ≡ after (at_pc pc.old cpu.old) memory (effect_of_instr (at_pc pc.old cpu.old) memory (Instr.Jalr rd rs1 offset)) }
+{
+    let target = register_target(address(cpu, rs1, offset));
+    link(cpu, pc, rd, target)
+}
+
+/// LB, LH, LW, LBU, LHU.
+#[inline(always)]
+pub fn load_register(
+    cpu: &mut Cpu,
+    memory: &[u8],
+    pc: &mut u32,
+    kind: LoadKind,
+    rd: Register,
+    rs1: Register,
+    offset: Immediate,
+) -> Outcome
+    ensures { seen (at_pc pc.new cpu.new) memory.now result ≡ after (at_pc pc.old cpu.old) memory.now (effect_of_instr (at_pc pc.old cpu.old) memory.now (Instr.Load kind rd rs1 offset)) }
+{
+    match load(memory, kind, address(cpu, rs1, offset)) {
+        Ok(value) => write(cpu, pc, rd, value),
+        Err(fault) => Outcome::Fault(fault),
+    }
+}
+
+/// SB, SH, SW.
+#[inline(always)]
+pub fn store_register(
+    cpu: &Cpu,
+    memory: &mut [u8],
+    pc: &mut u32,
+    kind: StoreKind,
+    rs1: Register,
+    rs2: Register,
+    offset: Immediate,
+) -> Outcome
+    ensures { seen (at_pc pc.new cpu.now) memory.new result ≡ after (at_pc pc.old cpu.now) memory.old (effect_of_instr (at_pc pc.old cpu.now) memory.old (Instr.Store kind rs1 rs2 offset)) }
+{
+    let value = cpu.register(rs2.number());
+    match store(memory, kind, address(cpu, rs1, offset), value) {
+        Ok(()) => advance(pc),
+        Err(fault) => Outcome::Fault(fault),
+    }
+}
+
+/// ADDI, SLTI, SLTIU, XORI, ORI, ANDI.
+#[inline(always)]
+pub fn compute_immediate(
+    cpu: &mut Cpu,
+    pc: &mut u32,
+    op: ImmediateOp,
+    rd: Register,
+    rs1: Register,
+    immediate: Immediate,
+) -> Outcome
+    ensures cpu { at_pc pc.new cpu.new ≡ after_write (with_next_pc (at_pc pc.old cpu.old)) rd (immediate_value op (register cpu.old rs1) (sign_extension 12 immediate)) }
+    ensures outcome { result ≡ Outcome.Done }
+{
+    let value = with_immediate(
+        op,
+        cpu.register(rs1.number()),
+        extend_12(immediate.number()),
+    );
+    write(cpu, pc, rd, value)
+}
+
+/// SLLI, SRLI, SRAI.
+#[inline(always)]
+pub fn shift(
+    cpu: &mut Cpu,
+    pc: &mut u32,
+    op: ShiftOp,
+    rd: Register,
+    rs1: Register,
+    amount: ShiftAmount,
+) -> Outcome
+    ensures cpu { at_pc pc.new cpu.new ≡ after_write (with_next_pc (at_pc pc.old cpu.old)) rd (shift_value op (register cpu.old rs1) amount) }
+    ensures outcome { result ≡ Outcome.Done }
+{
+    let value = shifted(op, cpu.register(rs1.number()), amount.number());
+    write(cpu, pc, rd, value)
+}
+
+/// ADD, SUB, SLL, SLT, SLTU, XOR, SRL, SRA, OR, AND.
+#[inline(always)]
+pub fn compute(
+    cpu: &mut Cpu,
+    pc: &mut u32,
+    op: RegisterOp,
+    rd: Register,
+    rs1: Register,
+    rs2: Register,
+) -> Outcome
+    ensures cpu { at_pc pc.new cpu.new ≡ after_write (with_next_pc (at_pc pc.old cpu.old)) rd (register_value op (register cpu.old rs1) (register cpu.old rs2)) }
+    ensures outcome { result ≡ Outcome.Done }
+{
+    let value = with_register(op, cpu.register(rs1.number()), cpu.register(rs2.number()));
+    write(cpu, pc, rd, value)
+}
+
 /// Carries out an instruction at this pc, which then is the next one's; the pc of the registers themselves is neither
 /// read nor told of. A fault or a break leaves all three as they were, and a call the registers and the memory.
 #[inline(always)]
@@ -96,19 +237,10 @@ pub fn carry_out(cpu: &mut Cpu, memory: &mut [u8], pc: &mut u32, instr: Instr) -
     ensures { seen (at_pc pc.new cpu.new) memory.new result ≡ after (at_pc pc.old cpu.old) memory.old (effect_of_instr (at_pc pc.old cpu.old) memory.old instr) }
 {
     match instr {
-        Instr::Lui { rd, upper } => write(cpu, pc, rd, upper.number() << 12),
-        Instr::Auipc { rd, upper } => {
-            let value = pc.wrapping_add(upper.number() << 12);
-            write(cpu, pc, rd, value)
-        }
-        Instr::Jal { rd, offset } => {
-            let target = pc.wrapping_add(extend_21(offset.number()));
-            link(cpu, pc, rd, target)
-        }
-        Instr::Jalr { rd, rs1, offset } => {
-            let target = register_target(address(cpu, rs1, offset));
-            link(cpu, pc, rd, target)
-        }
+        Instr::Lui { rd, upper } => load_upper(cpu, pc, rd, upper),
+        Instr::Auipc { rd, upper } => add_upper(cpu, pc, rd, upper),
+        Instr::Jal { rd, offset } => jump(cpu, pc, rd, offset),
+        Instr::Jalr { rd, rs1, offset } => jump_register(cpu, pc, rd, rs1, offset),
         Instr::Branch {
             test,
             rs1,
@@ -120,48 +252,26 @@ pub fn carry_out(cpu: &mut Cpu, memory: &mut [u8], pc: &mut u32, instr: Instr) -
             rd,
             rs1,
             offset,
-        } => match load(memory, kind, address(cpu, rs1, offset)) {
-            Ok(value) => write(cpu, pc, rd, value),
-            Err(fault) => Outcome::Fault(fault),
-        },
+        } => load_register(cpu, memory, pc, kind, rd, rs1, offset),
         Instr::Store {
             kind,
             rs1,
             rs2,
             offset,
-        } => {
-            let value = cpu.register(rs2.number());
-            match store(memory, kind, address(cpu, rs1, offset), value) {
-                Ok(()) => advance(pc),
-                Err(fault) => Outcome::Fault(fault),
-            }
-        }
+        } => store_register(cpu, memory, pc, kind, rs1, rs2, offset),
         Instr::WithImmediate {
             op,
             rd,
             rs1,
             immediate,
-        } => {
-            let value = with_immediate(
-                op,
-                cpu.register(rs1.number()),
-                extend_12(immediate.number()),
-            );
-            write(cpu, pc, rd, value)
-        }
+        } => compute_immediate(cpu, pc, op, rd, rs1, immediate),
         Instr::Shift {
             op,
             rd,
             rs1,
             amount,
-        } => {
-            let value = shifted(op, cpu.register(rs1.number()), amount.number());
-            write(cpu, pc, rd, value)
-        }
-        Instr::WithRegister { op, rd, rs1, rs2 } => {
-            let value = with_register(op, cpu.register(rs1.number()), cpu.register(rs2.number()));
-            write(cpu, pc, rd, value)
-        }
+        } => shift(cpu, pc, op, rd, rs1, amount),
+        Instr::WithRegister { op, rd, rs1, rs2 } => compute(cpu, pc, op, rd, rs1, rs2),
         Instr::Fence { .. } => advance(pc),
         Instr::Ecall => {
             *pc = pc.wrapping_add(4);
