@@ -1,6 +1,6 @@
 -- The decision of a quiet state.
-use Rattle.std.proofs.Common.{◌≡◌, ℕ, ◌+◌, ◌≤◌, ◌<◌, ◌==◌, eq-eqb, Bool, true, false, not, ◌&&◌, List, [], refl, sym, ap, ◌∙◌, arith}
-use Rattle.std.specs.Prelude.{Option, Some, None, option_map, option_to_list, fold, nat_lt, nat_le, if◌then◌else◌}
+use Rattle.std.proofs.Common.{◌≡◌, ℕ, ◌+◌, ◌≤◌, ◌<◌, eq-eqb, Bool, true, false, not, ◌&&◌, List, [], refl, sym, ap, ◌∙◌, arith}
+use Rattle.std.specs.Prelude.{Option, Some, None, option_map, fold, nat_lt, nat_le, if◌then◌else◌}
 use Rattle.std.proofs.lemmas.Bool.{le-ltb, lt-leb, false≢true}
 use Rattle.std.proofs.Math.Bool.{and-false}
 use Rattle.ptk_words.specs.Pools.{pool_get, pool_set, pool_changed}
@@ -17,7 +17,6 @@ use Rattle.ptk_words_windows.specs.Windows.{OwnTicks}
 use Rattle.ptk_words_model.specs.declared.Runner.{Runner}
 use Rattle.ptk_words_model.specs.declared.Spent.{Spent}
 use Rattle.ptk_words_model.specs.declared.Spent.TheVariants.{Step}
-use Rattle.ptk_words_model.specs.declared.StepKind.{StepKind}
 use Rattle.ptk_words_model.specs.declared.StepKind.TheVariants.{InstructionStep}
 use Rattle.ptk_words_model.specs.State.{Part, State, with_locks}
 use Rattle.ptk_words_model.specs.Priority.{thread_at, effective_priority}
@@ -26,9 +25,9 @@ use Rattle.ptk_words_model.specs.Withdrawal.{due, Expiry, in_order, after_timeou
 use Rattle.ptk_words_model.specs.Console.{arriving}
 use Rattle.ptk_words_model.specs.Mutex.{wait_of}
 use Rattle.ptk_words_model.specs.Decision.{with_cpu, a0_after, entry_of, after_effect, after_arrivals, runner_of, step_kind, after_whole_step, after_turn, spent_in_turn, ready_at, after_decision, spent_by_decision}
-use Rattle.ptk_words_model.specs.Run.{decided, accounted}
+use Rattle.ptk_words_model.specs.Run.{accounted}
 use Rattle.ptk_words_well.proofs.Pools.{changed_own, changed_twice}
-use Rattle.ptk_words_quiet.specs.Quiet.{stays_before, IsQuiet, core_of, used_after, computed, with_row, after_row}
+use Rattle.ptk_words_quiet.specs.Quiet.{stays_before, IsQuiet, core_of, computed, with_row, after_row}
 use Rattle.ptk_words_quiet.specs.QuietLaws.{PlainIsDecided}
 use Rattle.ptk_words_quiet.proofs.PlainSteps.{plain_done, plain_word, plain_no_call, plain_no_gate}
 use Rattle.ptk_words_quiet.proofs.PlainRows.{used_fifo, used_robin, row_one}
