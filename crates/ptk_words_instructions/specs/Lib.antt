@@ -1,4 +1,5 @@
 pub mod Instructions
 pub mod Fields
 pub mod RowLaws
-pub mod Rows
+pub mod PlainSteps
+pub mod PlainLaws

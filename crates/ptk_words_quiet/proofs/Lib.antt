@@ -3,3 +3,4 @@ pub mod PlainRows
 pub mod PlainDecisions
 pub mod QuietRows
 pub mod TicksInARow
+pub mod Arrivals

@@ -12,7 +12,7 @@ use Rattle.ptk_words.specs.declared.sections.Entry.{Entry}
 use Rattle.ptk_words.specs.declared.sections.Limits.{Limits}
 use Rattle.ptk_words.specs.declared.threads.Thread.{Thread}
 use Rattle.ptk_words_instructions.specs.Instructions.{Effect}
-use Rattle.ptk_words_instructions.specs.Rows.{Core, core, is_plain, plain_step, plain_entry, plain_entries}
+use Rattle.ptk_words_instructions.specs.PlainSteps.{Core, core, is_plain, plain_step, plain_entry, plain_entries}
 use Rattle.ptk_words_windows.specs.Windows.{OwnTicks}
 use Rattle.ptk_words_model.specs.declared.Runner.{Runner}
 use Rattle.ptk_words_model.specs.declared.Spent.{Spent}

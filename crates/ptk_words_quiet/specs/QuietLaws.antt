@@ -1,11 +1,12 @@
 -- What is true of a partition that only computes.
-use Rattle.std.specs.Prelude.{◌≡◌, ℕ, ◌+◌, ◌≤◌, ◌<◌, List, true, Option, Some, None}
+use Rattle.std.specs.Prelude.{◌≡◌, ℕ, ◌+◌, ◌≤◌, ◌<◌, List, [], true, Option, Some, None, IfSome, slice_get}
 use Rattle.ptk_words.specs.declared.sections.Arrival.{Arrival}
 use Rattle.ptk_words.specs.declared.sections.Limits.{Limits}
 use Rattle.ptk_words.specs.declared.threads.Thread.{Thread}
-use Rattle.ptk_words_instructions.specs.Rows.{is_plain}
+use Rattle.ptk_words_instructions.specs.PlainSteps.{is_plain}
 use Rattle.ptk_words_windows.specs.Windows.{OwnTicks, WindowTable, own_ticks, IsTable}
-use Rattle.ptk_words_model.specs.State.{Part, State}
+use Rattle.ptk_words_model.specs.State.{Console, Part, State}
+use Rattle.ptk_words_model.specs.Console.{arriving}
 use Rattle.ptk_words_model.specs.Run.{decided, alone}
 use Rattle.ptk_words_quiet.specs.Quiet.{IsQuiet, ArePlain, AreOwn, core_of, after_row, thread_after, row_state, after_ticks}
 
@@ -26,6 +27,10 @@ abbrev pub RowIsTicks : OwnTicks → Limits → ℕ → ℕ → ℕ → ℕ → 
 RowIsTicks ticks limits tick stop t n thread s =
     IsQuiet limits tick stop t thread s.part → s.account.next ≡ Some tick → AreOwn ticks tick stop → 1 ≤ n → tick + n ≤ stop → ArePlain n (core_of thread s.part)
     → after_ticks ticks limits tick n s ≡ row_state ticks limits tick t n thread s
+
+-- where the first input still to come has the tick stop or a later one, none comes before (own)
+abbrev pub NoneComesBefore : ℕ → Console → Type 0
+NoneComesBefore stop console = IfSome (slice_get console.coming 0) (λ a. stop ≤ a.tick) → (k : ℕ) → k < stop → arriving k console ≡ []
 
 -- so many ticks and then so many more (own)
 abbrev pub RowsJoin : OwnTicks → Limits → ℕ → ℕ → ℕ → State → Type 0

@@ -11,8 +11,8 @@ ghost use Rattle.ptk_words.specs.declared.sections.Arrival.{Arrival};
 ghost use Rattle.ptk_words.specs.declared.sections.Limits.{Limits};
 ghost use Rattle.ptk_words.specs.declared.threads.Thread.{Thread};
 ghost use Rattle.ptk_words_windows.specs.Windows.{OwnTicks, WindowTable};
-ghost use Rattle.ptk_words_model.specs.State.{Part, State};
-ghost use Rattle.ptk_words_quiet.specs.QuietLaws.{PlainIsDecided, RowStaysQuiet, RowIsTicks, RowsJoin, OthersStay, AloneGoesOn, WindowIsOwn};
+ghost use Rattle.ptk_words_model.specs.State.{Console, Part, State};
+ghost use Rattle.ptk_words_quiet.specs.QuietLaws.{PlainIsDecided, RowStaysQuiet, RowIsTicks, NoneComesBefore, RowsJoin, OthersStay, AloneGoesOn, WindowIsOwn};
 
 /// A plain step is the decision of a quiet state.
 pub fn plain_is_decided()
@@ -27,6 +27,11 @@ pub fn row_stays_quiet()
 /// Plain steps in a row are as many ticks.
 pub fn row_is_ticks()
     ensures { (ticks : OwnTicks) → (limits : Limits) → (tick stop t n : ℕ) → (thread : Thread) → (s : State) → RowIsTicks ticks limits tick stop t n thread s }
+{}
+
+/// Where the first input still to come has a tick or a later one, none comes before.
+pub fn none_comes_before()
+    ensures { (stop : ℕ) → (console : Console) → NoneComesBefore stop console }
 {}
 
 /// Ticks in a row are those of a first part, and then the rest.
