@@ -4,3 +4,4 @@ pub mod PlainDecisions
 pub mod QuietRows
 pub mod TicksInARow
 pub mod Arrivals
+pub mod RowsKept

@@ -153,7 +153,7 @@ plain_spent : (limits : Limits) (tick stop room t : ℕ) (thread : Thread) (s : 
     → spent_in_turn room (Some (runner t thread)) s ≡ Step 1
 plain_spent limits tick stop room t thread s quiet le plain = rw (plain_kind limits tick stop t thread s quiet plain, has_room room le) refl
 
-quiet_decision : (limits : Limits) (tick stop room t : ℕ) (thread : Thread) (s : Part) → IsQuiet limits tick stop t thread s → tick < stop → 1 ≤ room → is_plain (core_of thread s) ≡ true
+pub quiet_decision : (limits : Limits) (tick stop room t : ℕ) (thread : Thread) (s : Part) → IsQuiet limits tick stop t thread s → tick < stop → 1 ≤ room → is_plain (core_of thread s) ≡ true
     → after_decision limits tick room s ≡ after_row tick t 1 thread s
 quiet_decision limits tick stop room t thread s quiet lt le plain =
     ap (λ (u : Part). after_turn limits tick room (runner_of u) u) (quiet_ready limits tick stop t thread s quiet lt)

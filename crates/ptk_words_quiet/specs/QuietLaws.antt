@@ -8,6 +8,8 @@ use Rattle.ptk_words_windows.specs.Windows.{OwnTicks, WindowTable, own_ticks, Is
 use Rattle.ptk_words_model.specs.State.{Console, Part, State}
 use Rattle.ptk_words_model.specs.Console.{arriving}
 use Rattle.ptk_words_model.specs.Run.{decided, alone}
+use Rattle.ptk_words_model.specs.Priority.{effective_priorities}
+use Rattle.ptk_words_well.specs.Well.{IsWell}
 use Rattle.ptk_words_quiet.specs.Quiet.{IsQuiet, ArePlain, AreOwn, core_of, after_row, thread_after, row_state, after_ticks}
 
 -- of a quiet state with a plain step next the decision is that step, whatever the room (own)
@@ -21,6 +23,17 @@ abbrev pub RowStaysQuiet : Limits → ℕ → ℕ → ℕ → ℕ → Thread →
 RowStaysQuiet limits tick stop t n thread s =
     IsQuiet limits tick stop t thread s → 1 ≤ n → tick + n ≤ stop → ArePlain n (core_of thread s)
     → IsQuiet limits (tick + n) stop t (thread_after n thread s) (after_row tick t n thread s)
+
+-- plain steps change no effective priority, whatever mutexes are held (XSH 2.8.4; pthread_mutexattr_getprotocol)
+abbrev pub RowKeepsPriorities : ℕ → ℕ → ℕ → Thread → Part → Type 0
+RowKeepsPriorities tick t n thread s =
+    let after : Part = after_row tick t n thread s in
+    effective_priorities after.threads after.mutexes ≡ effective_priorities s.threads s.mutexes
+
+-- plain steps leave a whole state whole (own)
+abbrev pub RowKeepsWell : Limits → ℕ → ℕ → ℕ → ℕ → Thread → Part → Type 0
+RowKeepsWell limits tick stop t n thread s =
+    IsQuiet limits tick stop t thread s → 1 ≤ n → tick + n ≤ stop → ArePlain n (core_of thread s) → IsWell limits s → IsWell limits (after_row tick t n thread s)
 
 -- plain steps in a row are as many ticks, where the first one is the next decision's and each is the partition's own (own)
 abbrev pub RowIsTicks : OwnTicks → Limits → ℕ → ℕ → ℕ → ℕ → Thread → State → Type 0

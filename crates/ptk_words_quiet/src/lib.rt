@@ -12,7 +12,7 @@ ghost use Rattle.ptk_words.specs.declared.sections.Limits.{Limits};
 ghost use Rattle.ptk_words.specs.declared.threads.Thread.{Thread};
 ghost use Rattle.ptk_words_windows.specs.Windows.{OwnTicks, WindowTable};
 ghost use Rattle.ptk_words_model.specs.State.{Console, Part, State};
-ghost use Rattle.ptk_words_quiet.specs.QuietLaws.{PlainIsDecided, RowStaysQuiet, RowIsTicks, NoneComesBefore, RowsJoin, OthersStay, AloneGoesOn, WindowIsOwn};
+ghost use Rattle.ptk_words_quiet.specs.QuietLaws.{PlainIsDecided, RowStaysQuiet, RowKeepsPriorities, RowKeepsWell, RowIsTicks, NoneComesBefore, RowsJoin, OthersStay, AloneGoesOn, WindowIsOwn};
 
 /// A plain step is the decision of a quiet state.
 pub fn plain_is_decided()
@@ -22,6 +22,16 @@ pub fn plain_is_decided()
 /// Plain steps leave a quiet state quiet.
 pub fn row_stays_quiet()
     ensures { (limits : Limits) → (tick stop t n : ℕ) → (thread : Thread) → (s : Part) → RowStaysQuiet limits tick stop t n thread s }
+{}
+
+/// Plain steps change no effective priority.
+pub fn row_keeps_priorities()
+    ensures { (tick t n : ℕ) → (thread : Thread) → (s : Part) → RowKeepsPriorities tick t n thread s }
+{}
+
+/// Plain steps leave a whole state whole.
+pub fn row_keeps_well()
+    ensures { (limits : Limits) → (tick stop t n : ℕ) → (thread : Thread) → (s : Part) → RowKeepsWell limits tick stop t n thread s }
 {}
 
 /// Plain steps in a row are as many ticks.
