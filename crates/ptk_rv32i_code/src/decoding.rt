@@ -10,7 +10,7 @@ use crate::instr::{BranchTest, ImmediateOp, Instr, LoadKind, RegisterOp, ShiftOp
 
 /// The destination register of a word.
 #[inline(always)]
-fn rd(word: u32) -> Register
+pub fn rd(word: u32) -> Register
     ensures { result ≡ rd_of word }
 {
     Register::new(word >> 7 & 0x1f)
@@ -18,7 +18,7 @@ fn rd(word: u32) -> Register
 
 /// The first source register.
 #[inline(always)]
-fn rs1(word: u32) -> Register
+pub fn rs1(word: u32) -> Register
     ensures { result ≡ rs1_of word }
 {
     Register::new(word >> 15 & 0x1f)
@@ -26,7 +26,7 @@ fn rs1(word: u32) -> Register
 
 /// The second source register.
 #[inline(always)]
-fn rs2(word: u32) -> Register
+pub fn rs2(word: u32) -> Register
     ensures { result ≡ rs2_of word }
 {
     Register::new(word >> 20 & 0x1f)
@@ -34,7 +34,7 @@ fn rs2(word: u32) -> Register
 
 /// The amount of a shift by a constant.
 #[inline(always)]
-fn amount(word: u32) -> ShiftAmount
+pub fn amount(word: u32) -> ShiftAmount
     ensures { result ≡ rs2_of word }
 {
     ShiftAmount::new(word >> 20 & 0x1f)
@@ -42,7 +42,7 @@ fn amount(word: u32) -> ShiftAmount
 
 /// The immediate of an I-type word.
 #[inline(always)]
-fn immediate(word: u32) -> Immediate
+pub fn immediate(word: u32) -> Immediate
     ensures { result ≡ i_bits word }
 {
     Immediate::new(word >> 20)
@@ -50,7 +50,7 @@ fn immediate(word: u32) -> Immediate
 
 /// The immediate of an S-type word.
 #[inline(always)]
-fn store_offset(word: u32) -> Immediate
+pub fn store_offset(word: u32) -> Immediate
     ensures { result ≡ s_bits word }
 {
     Immediate::new(word >> 25 << 5 | word >> 7 & 0x1f)
@@ -58,7 +58,7 @@ fn store_offset(word: u32) -> Immediate
 
 /// The immediate of a B-type word.
 #[inline(always)]
-fn branch_offset(word: u32) -> BranchOffset
+pub fn branch_offset(word: u32) -> BranchOffset
     ensures { result ≡ b_bits word }
 {
     BranchOffset::new(
@@ -71,7 +71,7 @@ fn branch_offset(word: u32) -> BranchOffset
 
 /// The immediate of a U-type word.
 #[inline(always)]
-fn upper(word: u32) -> UpperImmediate
+pub fn upper(word: u32) -> UpperImmediate
     ensures { result ≡ u_bits word }
 {
     UpperImmediate::new(word >> 12)
@@ -79,7 +79,7 @@ fn upper(word: u32) -> UpperImmediate
 
 /// The immediate of a J-type word.
 #[inline(always)]
-fn jump_offset(word: u32) -> JumpOffset
+pub fn jump_offset(word: u32) -> JumpOffset
     ensures { result ≡ j_bits word }
 {
     JumpOffset::new(

@@ -1,11 +1,13 @@
 //! A measure of the processor's speed: a mixed loop of seventeen instructions, stepped so often as the argument says.
 //! It prints the steps that were carried out, a0 and the pc, and with a second word `time` the nanoseconds that they
-//! took. Without an argument it takes 20,000 steps. Below stand `ptk_words` and `ptk_rv32i`.
+//! took; with a third word `rows` it takes them in rows. Without an argument it takes 20,000 steps. Below stand
+//! `ptk_words`, `ptk_rv32i` and `ptk_rv32i_rows`.
 #![tactic(auto)]
 
 ghost use Rattle.std.specs.Prelude.{◌≤◌};
 
 use ptk_rv32i::{Outcome, step};
+use ptk_rv32i_rows::run_plain;
 use ptk_words::Cpu;
 use std::time::Instant;
 use std::{env, io};
@@ -44,6 +46,22 @@ fn run(cpu: &mut Cpu, memory: &mut [u8], count: u64) -> u64
     count
 }
 
+/// The same in rows of at most 100,000 steps.
+fn run_rows(cpu: &mut Cpu, memory: &mut [u8], count: u64) -> u64
+    ensures { result ≤ count }
+{
+    let mut done = 0;
+    while done < count {
+        let most = (count - done).min(100_000) as u32;
+        let steps = run_plain(cpu, memory, most).steps;
+        done += u64::from(steps);
+        if steps < most {
+            return done;
+        }
+    }
+    done
+}
+
 /// A memory of 4,096 bytes that begins with the program.
 fn loaded() -> [u8; 4096] {
     let mut memory = [0; 4096];
@@ -60,14 +78,19 @@ fn main(rt: HostRuntime) -> io::Result<()> {
         None => Ok(20_000),
     };
     let Ok(count) = count else {
-        println!(rt; "usage: ptk_spin [STEPS [time]]")?;
+        println!(rt; "usage: ptk_spin [STEPS [time [rows]]]")?;
         return Ok(());
     };
     let timed = words.next().is_some();
+    let in_rows = words.next().is_some();
     let mut memory = loaded();
     let mut cpu = Cpu::at(0);
     let start = Instant::now(&rt)?;
-    let steps = run(&mut cpu, &mut memory, count);
+    let steps = if in_rows {
+        run_rows(&mut cpu, &mut memory, count)
+    } else {
+        run(&mut cpu, &mut memory, count)
+    };
     let spent = start.elapsed(&rt)?;
     println!(rt; "{steps} {} {}", cpu.register(10), cpu.pc())?;
     if timed {

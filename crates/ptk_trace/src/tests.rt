@@ -75,6 +75,21 @@ fn the_last_two_of_three_are_written(rt: HostRuntime) -> Result<(), Fail> {
 }
 
 #[test]
+fn steps_put_in_together_are_those_one_by_one(rt: HostRuntime) -> Result<(), Fail> {
+    let mut trace = Trace::new(rt.alloc(), 2)?;
+    trace.push(step(8, 0x18, 0x0000_0073, 0));
+    trace.extend(&[
+        step(13, 0x1c, 0x0000_0513, 0),
+        step(14, 0x20, 0x0000_0073, 0),
+    ]);
+    let mut out = Broken::new(128);
+    assert!(rt; trace.lines(&mut out).is_ok());
+    assert_eq!(rt; out.len, 76);
+    assert_eq!(rt; &out.bytes[..76], KEPT.as_bytes());
+    Ok(())
+}
+
+#[test]
 fn room_for_none_keeps_none(rt: HostRuntime) -> Result<(), Fail> {
     let trace = three_steps(rt.alloc(), 0)?;
     let mut out = Broken::new(128);

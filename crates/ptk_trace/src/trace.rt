@@ -1,6 +1,6 @@
 //! The ring of the last steps, and the lines that tell them.
 
-ghost use Rattle.std.specs.Prelude.{◌≡◌, ◌++◌, ◌∷◌, [], IfOk, OnOk};
+ghost use Rattle.std.specs.Prelude.{◌≡◌, ◌≤◌, ◌++◌, ◌∷◌, [], length, IfOk, OnOk};
 ghost use Rattle.std.specs.Io.KnownBytes.{Appends};
 ghost use Rattle.ptk_words_model.specs.Run.{last_of};
 ghost use Rattle.ptk_words_model.specs.Text.{trace_line, trace_text};
@@ -37,11 +37,26 @@ impl Trace {
         Ok(Trace { ring })
     }
 
+    /// How many steps it keeps at most.
+    pub fn kept(&self) -> usize
+        ensures value { result ≡ self.now.kept }
+        ensures within { length self.now.entries ≤ result }
+    {
+        self.ring.capacity()
+    }
+
     /// Puts a step in as the newest. Where the room is full the oldest goes.
     pub fn push(&mut self, entry: Entry)
         ensures { self.new ≡ record self.old { entries = last_of self.old.kept (self.old.entries ++ entry ∷ []) } }
     {
         self.ring.push_back(entry);
+    }
+
+    /// Puts steps in as the newest, the last one as the newest of all. Where the room is full the oldest go.
+    pub fn extend(&mut self, entries: &[Entry])
+        ensures { self.new ≡ record self.old { entries = last_of self.old.kept (self.old.entries ++ entries.now) } }
+    {
+        self.ring.extend_from_slice(entries);
     }
 
     /// Writes the lines of the steps that are kept, oldest first, a newline after each, and takes no memory. An error

@@ -1,3 +1,4 @@
 pub mod Masks
 pub mod FieldRows
 pub mod RowLaws
+pub mod PlainJoins

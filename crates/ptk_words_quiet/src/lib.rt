@@ -1,0 +1,65 @@
+//! Rows of plain steps: what happens to a partition while its running thread only computes. `specs/Quiet` says when a
+//! partition is quiet, so that nothing but plain steps can come before a given tick, and what so many plain steps
+//! leave. The functions without code are laws: a plain step of a quiet state is its whole decision and leaves it quiet,
+//! under SCHED_RR too, and plain steps in a row are as many ticks, with steps, used ticks, the last step and the trace
+//! counted as by so many decisions. Below stand the definitions and the laws of pools; above, the crates that carry out
+//! such rows. Dear to prove: that registers and used ticks change no effective priority and no deadline.
+#![tactic(auto)]
+
+ghost use Rattle.std.specs.Prelude.{ℕ, List, Option};
+ghost use Rattle.ptk_words.specs.declared.sections.Arrival.{Arrival};
+ghost use Rattle.ptk_words.specs.declared.sections.Limits.{Limits};
+ghost use Rattle.ptk_words.specs.declared.threads.Thread.{Thread};
+ghost use Rattle.ptk_words_windows.specs.Windows.{OwnTicks, WindowTable};
+ghost use Rattle.ptk_words_model.specs.State.{Console, Part, State};
+ghost use Rattle.ptk_words_quiet.specs.QuietLaws.{PlainIsDecided, RowStaysQuiet, RowKeepsPriorities, RowKeepsWell, RowIsTicks, NoneComesBefore, RowsJoin, OthersStay, AloneGoesOn, WindowIsOwn};
+
+/// A plain step is the decision of a quiet state.
+pub fn plain_is_decided()
+    ensures { (ticks : OwnTicks) → (limits : Limits) → (tick stop room t : ℕ) → (thread : Thread) → (s : State) → PlainIsDecided ticks limits tick stop room t thread s }
+{}
+
+/// Plain steps leave a quiet state quiet.
+pub fn row_stays_quiet()
+    ensures { (limits : Limits) → (tick stop t n : ℕ) → (thread : Thread) → (s : Part) → RowStaysQuiet limits tick stop t n thread s }
+{}
+
+/// Plain steps change no effective priority.
+pub fn row_keeps_priorities()
+    ensures { (tick t n : ℕ) → (thread : Thread) → (s : Part) → RowKeepsPriorities tick t n thread s }
+{}
+
+/// Plain steps leave a whole state whole.
+pub fn row_keeps_well()
+    ensures { (limits : Limits) → (tick stop t n : ℕ) → (thread : Thread) → (s : Part) → RowKeepsWell limits tick stop t n thread s }
+{}
+
+/// Plain steps in a row are as many ticks.
+pub fn row_is_ticks()
+    ensures { (ticks : OwnTicks) → (limits : Limits) → (tick stop t n : ℕ) → (thread : Thread) → (s : State) → RowIsTicks ticks limits tick stop t n thread s }
+{}
+
+/// Where the first input still to come has a tick or a later one, none comes before.
+pub fn none_comes_before()
+    ensures { (stop : ℕ) → (console : Console) → NoneComesBefore stop console }
+{}
+
+/// Ticks in a row are those of a first part, and then the rest.
+pub fn rows_join()
+    ensures { (ticks : OwnTicks) → (limits : Limits) → (tick n m : ℕ) → (s : State) → RowsJoin ticks limits tick n m s }
+{}
+
+/// Ticks that are not a partition's own leave its state.
+pub fn others_stay()
+    ensures { (ticks : OwnTicks) → (limits : Limits) → (tick n : ℕ) → (s : State) → OthersStay ticks limits tick n s }
+{}
+
+/// A partition alone goes on by ticks in a row.
+pub fn alone_goes_on()
+    ensures { (ticks : OwnTicks) → (limits : Limits) → (image : Option (List ℕ)) → (input : List Arrival) → (m n : ℕ) → AloneGoesOn ticks limits image input m n }
+{}
+
+/// In a window of a partition each tick up to its end is the partition's own.
+pub fn window_is_own()
+    ensures { (table : WindowTable) → (p tick end : ℕ) → WindowIsOwn table p tick end }
+{}
