@@ -1,6 +1,6 @@
 //! What each instruction does.
 
-ghost use Rattle.std.specs.Prelude.{◌≡◌, ◌+◌, ◌*◌, ◌%◌, ◌-◌, ℕ, List};
+ghost use Rattle.std.specs.Prelude.{◌^◌, ◌≡◌, ◌+◌, ◌*◌, ◌%◌, ◌-◌, ℕ, List};
 ghost use Rattle.ptk_words.specs.Words.{word_of, sign_extension};
 ghost use Rattle.ptk_words.specs.Processor.{register, with_register as after_write};
 ghost use Rattle.ptk_words_instructions.specs.Instructions.{with_next_pc, link_effect};

@@ -26,7 +26,7 @@ use Rattle.ptk_words_model.specs.Console.{arriving}
 use Rattle.ptk_words_model.specs.Mutex.{wait_of}
 use Rattle.ptk_words_model.specs.Decision.{with_cpu, a0_after, entry_of, after_effect, after_arrivals, runner_of, step_kind, after_whole_step, after_turn, spent_in_turn, ready_at, after_decision, spent_by_decision}
 use Rattle.ptk_words_model.specs.Run.{accounted}
-use Rattle.ptk_words_well.proofs.Pools.{changed_own, changed_twice}
+use Rattle.ptk_words_locks.proofs.Pools.{changed_own, changed_twice}
 use Rattle.ptk_words_quiet.specs.Quiet.{stays_before, IsQuiet, core_of, computed, with_row, after_row}
 use Rattle.ptk_words_quiet.specs.QuietLaws.{PlainIsDecided}
 use Rattle.ptk_words_quiet.proofs.PlainSteps.{plain_done, plain_word, plain_no_call, plain_no_gate}

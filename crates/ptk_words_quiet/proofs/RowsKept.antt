@@ -7,7 +7,7 @@ use Rattle.ptk_words.specs.declared.threads.Thread.{Thread}
 use Rattle.ptk_words_instructions.specs.PlainSteps.{Core, plain_steps}
 use Rattle.ptk_words_model.specs.State.{Part}
 use Rattle.ptk_words_well.specs.Well.{IsWell}
-use Rattle.ptk_words_well.proofs.Pools.{length-changed}
+use Rattle.ptk_words_locks.proofs.Pools.{length-changed}
 use Rattle.ptk_words_well.proofs.Decisions.{well_decision}
 use Rattle.ptk_words_quiet.specs.Quiet.{IsQuiet, ArePlain, core_of, computed, after_row, thread_after}
 use Rattle.ptk_words_quiet.specs.QuietLaws.{RowKeepsPriorities, RowKeepsWell}
