@@ -44,7 +44,8 @@ impl Pools {
         requires free { least_free (part_at p self.old).mutexes ≡ Some m }
         ensures { self.new ≡ put_part p (with_pool_mutex m (Some (new_mutex kind protocol is_robust)) (part_at p self.old)) self.old }
     {
-        self.mutexes.init(&self.threads, p, kind, protocol, is_robust);
+        self.mutexes
+            .init(&self.threads, p, kind, protocol, is_robust);
     }
 
     /// The number of a mutex that is not locked and has no waiters is free (pthread_mutex_destroy).
