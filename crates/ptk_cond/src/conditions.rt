@@ -6,8 +6,10 @@ ghost use Rattle.ptk_words.specs.Pools.{least_free, pool_get, pool_set};
 ghost use Rattle.ptk_words_parted.specs.Parts.{part_of, filled};
 ghost use Rattle.ptk_cond.specs.Slots.{condition_of, waiters_at, MayChange};
 ghost use Rattle.ptk_cond.specs.Pool.{with_new_condition, with_change};
+ghost use Rattle.ptk_cond.specs.Tables.{conditions_of};
 
 use crate::slot::{Change, ConditionSlot, slot_in};
+use ptk_threads::Threads;
 use ptk_words::{ConditionNo, PartId, ThreadNo};
 use ptk_words_parted::Parted;
 use std::alloc::{AllocError, Global};
@@ -65,9 +67,9 @@ impl Conditions {
     }
 
     /// The waiters of a condition variable, in order of arrival; none of a free number (pthread_cond_wait).
-    pub fn waiters(&self, p: PartId, c: ConditionNo) -> &[ThreadNo]
+    pub fn waiters(&self, threads: &Threads, p: PartId, c: ConditionNo) -> &[ThreadNo]
         requires { p < length self.now }
-        ensures { result.now ≡ waiters_at (pool_get (part_of self.now p) c) }
+        ensures { result.now ≡ waiters_at (pool_get (part_of (conditions_of self.now threads.now) p) c) }
     {
         waiters_in(self.slots.part(p), c)
     }
@@ -86,10 +88,10 @@ impl Conditions {
     /// A new condition variable, without waiters, at the least free number; None, and nothing changes, where no number
     /// is free (pthread_cond_init).
     #[tactic(auto, using(crate::proofs::Pool::pools))]
-    pub fn init(&mut self, p: PartId) -> Option<ConditionNo>
+    pub fn init(&mut self, threads: &Threads, p: PartId) -> Option<ConditionNo>
         requires { p < length self.old }
-        ensures told { result ≡ least_free (part_of self.old p) }
-        ensures conditions { self.new ≡ slice_set self.old p (with_new_condition (part_of self.old p)) }
+        ensures told { result ≡ least_free (part_of (conditions_of self.old threads.now) p) }
+        ensures conditions { conditions_of self.new threads.now ≡ slice_set (conditions_of self.old threads.now) p (with_new_condition (part_of (conditions_of self.old threads.now) p)) }
     {
         let free = self.first_free(p);
         if let Some(c) = free {
@@ -100,10 +102,10 @@ impl Conditions {
 
     /// The number is free (pthread_cond_destroy).
     #[tactic(auto, using(crate::proofs::Pool::pools))]
-    pub fn destroy(&mut self, p: PartId, c: ConditionNo)
+    pub fn destroy(&mut self, threads: &Threads, p: PartId, c: ConditionNo)
         requires partition { p < length self.old }
-        requires unused { waiters_at (pool_get (part_of self.old p) c) ≡ [] }
-        ensures { self.new ≡ slice_set self.old p (pool_set (part_of self.old p) c None) }
+        requires unused { waiters_at (pool_get (part_of (conditions_of self.old threads.now) p) c) ≡ [] }
+        ensures { conditions_of self.new threads.now ≡ slice_set (conditions_of self.old threads.now) p (pool_set (part_of (conditions_of self.old threads.now) p) c None) }
     {
         close_in(self.slots.lend(p), c);
     }

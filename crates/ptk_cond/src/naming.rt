@@ -7,7 +7,7 @@ ghost use Rattle.ptk_words_parted.specs.Parts.{part_of};
 ghost use Rattle.ptk_words_model.specs.State.{locks_of};
 ghost use Rattle.ptk_words_model.specs.Mutex.{wait_of};
 ghost use Rattle.ptk_words_model.specs.Condition.{mutex_named, is_named, names_mutex, names_another};
-ghost use Rattle.ptk_cond.specs.Tables.{syncs_of};
+ghost use Rattle.ptk_cond.specs.Tables.{conditions_of, syncs_of};
 
 use crate::conditions::Conditions;
 use ptk_mutex_slots::thread_slot;
@@ -26,9 +26,9 @@ impl Conditions {
     /// Whether a waiter of a condition variable is to have another mutex again (pthread_cond_wait, EINVAL).
     pub fn names_another(&self, threads: &Threads, p: PartId, c: ConditionNo, m: MutexNo) -> bool
         requires { (p < length self.now) × (p < length threads.now.threads) }
-        ensures { result ≡ names_another (syncs_of (part_of threads.now.threads p) (part_of self.now p)) c m }
+        ensures { result ≡ names_another (syncs_of (part_of threads.now.threads p) (part_of (conditions_of self.now threads.now) p)) c m }
     {
-        is_any_naming_another(threads.part(p), self.waiters(p, c), m)
+        is_any_naming_another(threads.part(p), self.waiters(threads, p, c), m)
     }
 }
 

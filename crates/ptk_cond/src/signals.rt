@@ -5,8 +5,8 @@ ghost use Rattle.ptk_words.specs.Pools.{is_in};
 ghost use Rattle.ptk_words_model.specs.Mutex.{wait_of};
 ghost use Rattle.ptk_words_model.specs.Priority.{thread_at};
 ghost use Rattle.ptk_words_model.specs.Condition.{condition_waiters, mutex_named, after_unblock, after_unblock_for, after_signal, after_signal_to, after_broadcast};
-ghost use Rattle.ptk_mutex.specs.Tables.{with_threads};
-ghost use Rattle.ptk_cond.specs.Tables.{syncs_at, AreSynced, MayLeave, next_waiter};
+ghost use Rattle.ptk_mutex.specs.Tables.{mutexes_of, with_threads};
+ghost use Rattle.ptk_cond.specs.Tables.{conditions_of, syncs_at, AreSynced, MayLeave, next_waiter};
 
 use crate::conditions::Conditions;
 use crate::naming::mutex_named;
@@ -31,8 +31,8 @@ impl Conditions {
         requires ready { AreSynced p threads.old line.old mutexes.old self.old }
         ensures threads { threads.new ≡ with_threads p (after_signal c (syncs_at p threads.old line.old mutexes.old self.old)).locks threads.old }
         ensures line { line.new ≡ slice_set line.old p (after_signal c (syncs_at p threads.old line.old mutexes.old self.old)).line }
-        ensures mutexes { mutexes.new ≡ slice_set mutexes.old p (after_signal c (syncs_at p threads.old line.old mutexes.old self.old)).mutexes }
-        ensures conditions { self.new ≡ slice_set self.old p (after_signal c (syncs_at p threads.old line.old mutexes.old self.old)).conditions }
+        ensures mutexes { mutexes_of mutexes.new threads.new ≡ slice_set (mutexes_of mutexes.old threads.old) p (after_signal c (syncs_at p threads.old line.old mutexes.old self.old)).mutexes }
+        ensures conditions { conditions_of self.new threads.new ≡ slice_set (conditions_of self.old threads.old) p (after_signal c (syncs_at p threads.old line.old mutexes.old self.old)).conditions }
         ensures ready { AreSynced p threads.new line.new mutexes.new self.new }
     {
         let next = self.choose(line, threads, mutexes, p, c);
@@ -52,11 +52,11 @@ impl Conditions {
         requires ready { AreSynced p threads.old line.old mutexes.old self.old }
         ensures threads { threads.new ≡ with_threads p (after_broadcast c (syncs_at p threads.old line.old mutexes.old self.old)).locks threads.old }
         ensures line { line.new ≡ slice_set line.old p (after_broadcast c (syncs_at p threads.old line.old mutexes.old self.old)).line }
-        ensures mutexes { mutexes.new ≡ slice_set mutexes.old p (after_broadcast c (syncs_at p threads.old line.old mutexes.old self.old)).mutexes }
-        ensures conditions { self.new ≡ slice_set self.old p (after_broadcast c (syncs_at p threads.old line.old mutexes.old self.old)).conditions }
+        ensures mutexes { mutexes_of mutexes.new threads.new ≡ slice_set (mutexes_of mutexes.old threads.old) p (after_broadcast c (syncs_at p threads.old line.old mutexes.old self.old)).mutexes }
+        ensures conditions { conditions_of self.new threads.new ≡ slice_set (conditions_of self.old threads.old) p (after_broadcast c (syncs_at p threads.old line.old mutexes.old self.old)).conditions }
         ensures ready { AreSynced p threads.new line.new mutexes.new self.new }
     {
-        let count = self.waiters(p, c).len();
+        let count = self.waiters(threads, p, c).len();
         for i in 0..count {
             self.signal(line, threads, mutexes, p, c);
         }
@@ -79,8 +79,8 @@ impl Conditions {
         requires waiter { is_in t (condition_waiters (syncs_at p threads.old line.old mutexes.old self.old) c) ≡ true }
         ensures threads { threads.new ≡ with_threads p (after_unblock t c reply (syncs_at p threads.old line.old mutexes.old self.old)).locks threads.old }
         ensures line { line.new ≡ slice_set line.old p (after_unblock t c reply (syncs_at p threads.old line.old mutexes.old self.old)).line }
-        ensures mutexes { mutexes.new ≡ slice_set mutexes.old p (after_unblock t c reply (syncs_at p threads.old line.old mutexes.old self.old)).mutexes }
-        ensures conditions { self.new ≡ slice_set self.old p (after_unblock t c reply (syncs_at p threads.old line.old mutexes.old self.old)).conditions }
+        ensures mutexes { mutexes_of mutexes.new threads.new ≡ slice_set (mutexes_of mutexes.old threads.old) p (after_unblock t c reply (syncs_at p threads.old line.old mutexes.old self.old)).mutexes }
+        ensures conditions { conditions_of self.new threads.new ≡ slice_set (conditions_of self.old threads.old) p (after_unblock t c reply (syncs_at p threads.old line.old mutexes.old self.old)).conditions }
         ensures ready { AreSynced p threads.new line.new mutexes.new self.new }
     {
         let named = mutex_named(threads.wait(p, t));
@@ -154,6 +154,6 @@ impl Conditions {
         ensures told { result ≡ next_waiter c (syncs_at p threads.now line.now mutexes.now self.now) }
         ensures may { MayLeave result (syncs_at p threads.now line.now mutexes.now self.now) c }
     {
-        first_of_greatest(threads, p, self.waiters(p, c))
+        first_of_greatest(threads, p, self.waiters(threads, p, c))
     }
 }

@@ -13,18 +13,19 @@ fn the_least_number_is_used_again(rt: HostRuntime) -> Result<(), Fail> {
     let second = PartId::new(1);
     let one = ConditionNo::new(1);
     let two = ConditionNo::new(2);
+    let threads = Threads::build(rt.alloc(), &[1, 1])?;
     let mut conditions = Conditions::build(rt.alloc(), &[2, 1])?;
     assert_eq!(rt; conditions.parts(), 2);
     assert_eq!(rt; conditions.first_free(first), Some(one));
-    assert_eq!(rt; conditions.init(first), Some(one));
-    assert_eq!(rt; conditions.init(first), Some(two));
-    assert_eq!(rt; conditions.init(first), None);
-    assert_eq!(rt; conditions.init(second), Some(one));
-    assert!(rt; conditions.waiters(first, one).is_empty());
-    conditions.destroy(first, one);
+    assert_eq!(rt; conditions.init(&threads, first), Some(one));
+    assert_eq!(rt; conditions.init(&threads, first), Some(two));
+    assert_eq!(rt; conditions.init(&threads, first), None);
+    assert_eq!(rt; conditions.init(&threads, second), Some(one));
+    assert!(rt; conditions.waiters(&threads, first, one).is_empty());
+    conditions.destroy(&threads, first, one);
     assert!(rt; !conditions.is_there(first, one));
     assert!(rt; conditions.is_there(first, two));
-    assert_eq!(rt; conditions.init(first), Some(one));
+    assert_eq!(rt; conditions.init(&threads, first), Some(one));
     Ok(())
 }
 

@@ -4,8 +4,8 @@ ghost use Rattle.std.specs.Prelude.{◌≡◌, IsSome, slice_set};
 ghost use Rattle.ptk_words.specs.Pools.{pool_get};
 ghost use Rattle.ptk_words_parted.specs.Parts.{part_of};
 ghost use Rattle.ptk_words_model.specs.Condition.{after_condition_wait};
-ghost use Rattle.ptk_mutex.specs.Tables.{locks_at, with_threads};
-ghost use Rattle.ptk_cond.specs.Tables.{syncs_at, AreSynced, IsAwake};
+ghost use Rattle.ptk_mutex.specs.Tables.{mutexes_of, locks_at, with_threads};
+ghost use Rattle.ptk_cond.specs.Tables.{conditions_of, syncs_at, AreSynced, IsAwake};
 
 use crate::conditions::Conditions;
 use crate::slot::Change;
@@ -34,8 +34,8 @@ impl Conditions {
         requires used { IsSome (pool_get (part_of self.old p) c) }
         ensures threads { threads.new ≡ with_threads p (after_condition_wait t c m deadline (syncs_at p threads.old line.old mutexes.old self.old)).locks threads.old }
         ensures line { line.new ≡ slice_set line.old p (after_condition_wait t c m deadline (syncs_at p threads.old line.old mutexes.old self.old)).line }
-        ensures mutexes { mutexes.new ≡ slice_set mutexes.old p (after_condition_wait t c m deadline (syncs_at p threads.old line.old mutexes.old self.old)).mutexes }
-        ensures conditions { self.new ≡ slice_set self.old p (after_condition_wait t c m deadline (syncs_at p threads.old line.old mutexes.old self.old)).conditions }
+        ensures mutexes { mutexes_of mutexes.new threads.new ≡ slice_set (mutexes_of mutexes.old threads.old) p (after_condition_wait t c m deadline (syncs_at p threads.old line.old mutexes.old self.old)).mutexes }
+        ensures conditions { conditions_of self.new threads.new ≡ slice_set (conditions_of self.old threads.old) p (after_condition_wait t c m deadline (syncs_at p threads.old line.old mutexes.old self.old)).conditions }
         ensures ready { AreSynced p threads.new line.new mutexes.new self.new }
     {
         self.change(p, c, Change::Enqueue(t));

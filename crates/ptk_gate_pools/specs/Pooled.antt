@@ -1,6 +1,7 @@
 -- What the pools have inside, as the tables of all partitions, and what holds of it.
 use Rattle.std.specs.Prelude.{◌≡◌, ◌≤◌, [], length, map, replicate, None}
 use Rattle.ptk_words_model.specs.Keys.{no_values}
+use Rattle.ptk_mutex.specs.Tables.{mutexes_of}
 use Rattle.ptk_gate_pools.specs.declared.pools.Pools.TheInside.{Inside}
 use Rattle.ptk_gate_pools.specs.Kept.{Kept, AreStored, per_section}
 
@@ -11,7 +12,7 @@ kept_of a =
       memory = a.regions;
       threads = a.threads.threads;
       lines = a.line;
-      mutexes = a.mutexes;
+      mutexes = mutexes_of a.mutexes a.threads;
       conditions = per_section (λ l. l.conditions) None a.limits.items;
       running = a.running.items;
       cancellations = a.cancellations;
@@ -40,4 +41,4 @@ pub record ArePooled (a : Inside) : Type 0 where
   pub sections : a.consoles.limits ≡ a.limits.items
   pub statuses : length a.statuses.items ≡ length a.limits.items
   pub lasts : length a.lasts.items ≡ length a.limits.items
-  pub stored : AreStored a.threads.stored a.threads.threads a.mutexes
+  pub stored : AreStored a.threads.stored a.threads.threads (mutexes_of a.mutexes a.threads)

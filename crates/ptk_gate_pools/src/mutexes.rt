@@ -44,7 +44,8 @@ impl Pools {
         requires free { least_free (part_at p self.old).mutexes ≡ Some m }
         ensures { self.new ≡ put_part p (with_pool_mutex m (Some (new_mutex kind protocol is_robust)) (part_at p self.old)) self.old }
     {
-        self.mutexes.init(p, kind, protocol, is_robust);
+        self.mutexes
+            .init(&self.threads, p, kind, protocol, is_robust);
     }
 
     /// The number of a mutex that is not locked and has no waiters is free (pthread_mutex_destroy).
@@ -55,7 +56,7 @@ impl Pools {
         requires unwaited { waiters_of (mutex_at (part_at p self.old).locks m) ≡ [] }
         ensures { self.new ≡ put_part p (with_pool_mutex m None (part_at p self.old)) self.old }
     {
-        self.mutexes.destroy(p, m);
+        self.mutexes.destroy(&self.threads, p, m);
     }
 
     /// What the mutex is, but for its waiters; None of a free number.

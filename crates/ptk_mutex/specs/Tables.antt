@@ -8,9 +8,13 @@ use Rattle.ptk_words_model.specs.Priority.{thread_at, awaited, effective_priorit
 use Rattle.ptk_words_model.specs.Mutex.{mutex_at, waiters_of, count_of}
 use Rattle.ptk_threads.specs.Table.{ThreadTable}
 
+-- the mutexes of all partitions with their waiters, as the pool and the slot table keep them; the pool keeps both today (own)
+abbrev pub mutexes_of : List (List (Option Mutex)) → ThreadTable → List (List (Option Mutex))
+mutexes_of pool table = pool
+
 -- what the mutex calls read and change of a partition (own)
 abbrev pub locks_at : ℕ → ThreadTable → List (List ℕ) → List (List (Option Mutex)) → Locks
-locks_at p table lines mutexes = record { threads = part_of table.threads p; line = part_of lines p; mutexes = part_of mutexes p }
+locks_at p table lines pool = record { threads = part_of table.threads p; line = part_of lines p; mutexes = part_of (mutexes_of pool table) p }
 
 -- the threads of a partition, with the effective priorities that they then have as the stored ones (pthread_mutexattr_getprotocol)
 abbrev pub with_threads : ℕ → Locks → ThreadTable → ThreadTable
@@ -25,11 +29,11 @@ abbrev pub with_threads_alone : ℕ → Locks → ThreadTable → ThreadTable
 with_threads_alone p locks table = record table { threads = slice_set table.threads p locks.threads }
 
 -- every table has the partition (own)
-pub record HasPart (p : ℕ) (table : ThreadTable) (lines : List (List ℕ)) (mutexes : List (List (Option Mutex))) : Type 0 where
+pub record HasPart (p : ℕ) (table : ThreadTable) (lines : List (List ℕ)) (pool : List (List (Option Mutex))) : Type 0 where
   pub of_threads : p < length table.threads
   pub of_stored : p < length table.stored
   pub of_lines : p < length lines
-  pub of_mutexes : p < length mutexes
+  pub of_mutexes : p < length (mutexes_of pool table)
 
 -- who waits for mutex m: a thread whose wait names it, and which is not in the line (pthread_mutex_lock)
 pub record IsWaiter (locks : Locks) (m k : ℕ) : Type 0 where
@@ -44,10 +48,10 @@ pub record AreLocked (locks : Locks) : Type 0 where
   pub counts : (m : ℕ) → count_of (mutex_at locks m) ≤ COUNT_LIMIT
 
 -- what the mutex calls need of the tables at a partition, and what they leave: its part is there and used as it should be, and its stored priorities are the effective ones (own)
-pub record AreReady (p : ℕ) (table : ThreadTable) (lines : List (List ℕ)) (mutexes : List (List (Option Mutex))) : Type 0 where
-  pub part : HasPart p table lines mutexes
-  pub locked : AreLocked (locks_at p table lines mutexes)
-  pub stored : part_of table.stored p ≡ effective_priorities (part_of table.threads p) (part_of mutexes p)
+pub record AreReady (p : ℕ) (table : ThreadTable) (lines : List (List ℕ)) (pool : List (List (Option Mutex))) : Type 0 where
+  pub part : HasPart p table lines pool
+  pub locked : AreLocked (locks_at p table lines pool)
+  pub stored : part_of table.stored p ≡ effective_priorities (part_of table.threads p) (part_of (mutexes_of pool table) p)
 
 -- nobody, or one that waits for the mutex (pthread_mutex_unlock)
 abbrev pub MayGet : Option ℕ → Locks → ℕ → Type 0

@@ -5,7 +5,7 @@ ghost use Rattle.ptk_words.specs.Pools.{pool_get};
 ghost use Rattle.ptk_words_parted.specs.Parts.{part_of};
 ghost use Rattle.ptk_words_model.specs.Mutex.{after_bequest, after_mutex_end, after_owner_end};
 ghost use Rattle.ptk_mutex_slots.specs.Slots.{is_robust_at};
-ghost use Rattle.ptk_mutex.specs.Tables.{locks_at, with_threads, AreReady};
+ghost use Rattle.ptk_mutex.specs.Tables.{mutexes_of, locks_at, with_threads, AreReady};
 
 use crate::mutexes::Mutexes;
 use ptk_mutex_slots::{Change, slot_in};
@@ -21,7 +21,7 @@ impl Mutexes {
         requires ready { AreReady p threads.old line.old self.old }
         ensures threads { threads.new ≡ with_threads p (after_owner_end t (locks_at p threads.old line.old self.old)) threads.old }
         ensures line { line.new ≡ slice_set line.old p (after_owner_end t (locks_at p threads.old line.old self.old)).line }
-        ensures mutexes { self.new ≡ slice_set self.old p (after_owner_end t (locks_at p threads.old line.old self.old)).mutexes }
+        ensures mutexes { mutexes_of self.new threads.new ≡ slice_set (mutexes_of self.old threads.old) p (after_owner_end t (locks_at p threads.old line.old self.old)).mutexes }
         ensures ready { AreReady p threads.new line.new self.new }
     {
         let count = self.part(p).len();

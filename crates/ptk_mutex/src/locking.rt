@@ -6,10 +6,10 @@ ghost use Rattle.ptk_words.specs.Pools.{pool_get};
 ghost use Rattle.ptk_words.specs.declared.mutexes.Soundness.TheVariants.{Consistent};
 ghost use Rattle.ptk_words_parted.specs.Parts.{part_of};
 ghost use Rattle.ptk_words_model.specs.State.{locks_of};
-ghost use Rattle.ptk_words_model.specs.Mutex.{lock_move, trylock_move, owns, owns_raising, is_raising_for, after_move, with_soundness};
+ghost use Rattle.ptk_words_model.specs.Mutex.{mutex_at, lock_move, trylock_move, owns, owns_raising, is_raising_for, after_move, with_soundness};
 ghost use Rattle.ptk_mutex_slots.specs.declared.slot.Change.TheVariants.{CountUp, Enqueue};
 ghost use Rattle.ptk_mutex_slots.specs.Changes.{SlotMayChange};
-ghost use Rattle.ptk_mutex.specs.Tables.{locks_at, with_threads, with_threads_alone, HasPart, MayWait, AreReady};
+ghost use Rattle.ptk_mutex.specs.Tables.{mutexes_of, locks_at, with_threads, with_threads_alone, HasPart, MayWait, AreReady};
 ghost use Rattle.ptk_mutex.specs.Moves.{after_lock, after_trylock, after_assignment};
 
 use crate::mutexes::Mutexes;
@@ -35,9 +35,9 @@ impl Mutexes {
     ) -> LockMove
         requires ready { AreReady p threads.old line.now self.old }
         requires caller { MayWait (locks_at p threads.old line.now self.old) t }
-        ensures told { result ≡ lock_move (locks_at p threads.old line.now self.old) t (pool_get (part_of self.old p) m) }
+        ensures told { result ≡ lock_move (locks_at p threads.old line.now self.old) t (mutex_at (locks_at p threads.old line.now self.old) m) }
         ensures threads { threads.new ≡ with_threads p (after_lock t m (locks_at p threads.old line.now self.old)) threads.old }
-        ensures mutexes { self.new ≡ slice_set self.old p (after_lock t m (locks_at p threads.old line.now self.old)).mutexes }
+        ensures mutexes { mutexes_of self.new threads.new ≡ slice_set (mutexes_of self.old threads.old) p (after_lock t m (locks_at p threads.old line.now self.old)).mutexes }
         ensures ready { AreReady p threads.new line.now self.new }
     {
         let made = lock_move(threads.part(p), self.part(p), t, m);
@@ -61,9 +61,9 @@ impl Mutexes {
     ) -> LockMove
         requires ready { AreReady p threads.old line.now self.old }
         requires caller { MayWait (locks_at p threads.old line.now self.old) t }
-        ensures told { result ≡ trylock_move (locks_at p threads.old line.now self.old) t (pool_get (part_of self.old p) m) }
+        ensures told { result ≡ trylock_move (locks_at p threads.old line.now self.old) t (mutex_at (locks_at p threads.old line.now self.old) m) }
         ensures threads { threads.new ≡ with_threads p (after_trylock t m (locks_at p threads.old line.now self.old)) threads.old }
-        ensures mutexes { self.new ≡ slice_set self.old p (after_trylock t m (locks_at p threads.old line.now self.old)).mutexes }
+        ensures mutexes { mutexes_of self.new threads.new ≡ slice_set (mutexes_of self.old threads.old) p (after_trylock t m (locks_at p threads.old line.now self.old)).mutexes }
         ensures ready { AreReady p threads.new line.now self.new }
     {
         let made = trylock_move(threads.part(p), self.part(p), t, m);
@@ -96,7 +96,7 @@ impl Mutexes {
     pub fn consistent(&mut self, line: &VecLine, threads: &mut Threads, p: PartId, m: MutexNo)
         requires ready { AreReady p threads.old line.now self.old }
         ensures threads { threads.new ≡ with_threads p (with_soundness Consistent m (locks_at p threads.old line.now self.old)) threads.old }
-        ensures mutexes { self.new ≡ slice_set self.old p (with_soundness Consistent m (locks_at p threads.old line.now self.old)).mutexes }
+        ensures mutexes { mutexes_of self.new threads.new ≡ slice_set (mutexes_of self.old threads.old) p (with_soundness Consistent m (locks_at p threads.old line.now self.old)).mutexes }
         ensures ready { AreReady p threads.new line.now self.new }
     {
         let marked = Change::Mark(Soundness::Consistent);
@@ -115,6 +115,7 @@ impl Mutexes {
     )
         requires ready { AreReady p threads.old line.now self.now }
         ensures threads { threads.new ≡ with_threads p (after_assignment t priority (locks_at p threads.old line.now self.now)) threads.old }
+        ensures mutexes { mutexes_of self.now threads.new ≡ mutexes_of self.now threads.old }
         ensures ready { AreReady p threads.new line.now self.now }
     {
         threads.set_assigned_priority(p, t, priority);

@@ -8,6 +8,7 @@ ghost use Rattle.ptk_words_parted.specs.Parts.{part_of, filled};
 ghost use Rattle.ptk_mutex_slots.specs.Slots.{state_of};
 ghost use Rattle.ptk_mutex_slots.specs.Changes.{mutex_changed, SlotMayChange};
 ghost use Rattle.ptk_mutex.specs.Pool.{with_new_mutex};
+ghost use Rattle.ptk_mutex.specs.Tables.{mutexes_of};
 
 use ptk_mutex_slots::{Change, MutexSlot, MutexState, recompute, slot_in};
 use ptk_threads::Threads;
@@ -79,9 +80,9 @@ impl Mutexes {
 
     /// The waiters of a mutex, in order of arrival; none of a free number (pthread_mutex_lock).
     #[tactic(auto, using(ptk_mutex_slots::proofs::Slots::numbers))]
-    pub fn waiters(&self, p: PartId, m: MutexNo) -> &[ThreadNo]
+    pub fn waiters(&self, threads: &Threads, p: PartId, m: MutexNo) -> &[ThreadNo]
         requires { p < length self.now }
-        ensures { result.now ≡ waiters_of (pool_get (part_of self.now p) m) }
+        ensures { result.now ≡ waiters_of (pool_get (part_of (mutexes_of self.now threads.now) p) m) }
     {
         waiters_in(self.part(p), m)
     }
@@ -103,14 +104,15 @@ impl Mutexes {
     #[tactic(auto, using(crate::proofs::Pool::pools))]
     pub fn init(
         &mut self,
+        threads: &Threads,
         p: PartId,
         kind: MutexKind,
         protocol: Protocol,
         is_robust: bool,
     ) -> Option<MutexNo>
         requires { p < length self.old }
-        ensures told { result ≡ least_free (part_of self.old p) }
-        ensures mutexes { self.new ≡ slice_set self.old p (with_new_mutex (new_mutex kind protocol is_robust) (part_of self.old p)) }
+        ensures told { result ≡ least_free (part_of (mutexes_of self.old threads.now) p) }
+        ensures mutexes { mutexes_of self.new threads.now ≡ slice_set (mutexes_of self.old threads.now) p (with_new_mutex (new_mutex kind protocol is_robust) (part_of (mutexes_of self.old threads.now) p)) }
     {
         let free = self.first_free(p);
         if let Some(m) = free {
@@ -121,10 +123,10 @@ impl Mutexes {
 
     /// The number is free (pthread_mutex_destroy).
     #[tactic(auto, using(crate::proofs::Pool::pools))]
-    pub fn destroy(&mut self, p: PartId, m: MutexNo)
+    pub fn destroy(&mut self, threads: &Threads, p: PartId, m: MutexNo)
         requires partition { p < length self.old }
-        requires unused { waiters_of (pool_get (part_of self.old p) m) ≡ [] }
-        ensures { self.new ≡ slice_set self.old p (pool_set (part_of self.old p) m None) }
+        requires unused { waiters_of (pool_get (part_of (mutexes_of self.old threads.now) p) m) ≡ [] }
+        ensures { mutexes_of self.new threads.now ≡ slice_set (mutexes_of self.old threads.now) p (pool_set (part_of (mutexes_of self.old threads.now) p) m None) }
     {
         close_in(self.slots.lend(p), m);
     }
@@ -144,7 +146,8 @@ impl Mutexes {
     #[tactic(auto, using(crate::proofs::Pool::pools))]
     pub fn refresh(&self, threads: &mut Threads, p: PartId)
         requires partition { (p < length self.now) × (p < length threads.old.threads) }
-        ensures { threads.new ≡ record threads.old { stored = slice_set threads.old.stored p (effective_priorities (part_of threads.old.threads p) (part_of self.now p)) } }
+        ensures threads { threads.new ≡ record threads.old { stored = slice_set threads.old.stored p (effective_priorities (part_of threads.old.threads p) (part_of (mutexes_of self.now threads.old) p)) } }
+        ensures mutexes { mutexes_of self.now threads.new ≡ mutexes_of self.now threads.old }
     {
         let mut room = [0; THREAD_LIMIT as usize];
         let slots = threads.part(p);

@@ -5,7 +5,7 @@ ghost use Rattle.ptk_words.specs.Pools.{pool_get};
 ghost use Rattle.ptk_words_parted.specs.Parts.{part_of};
 ghost use Rattle.ptk_words_model.specs.Mutex.{heir, soundness_of, count_of, after_hand_over, after_hand_over_to, after_refusal, after_refusal_to, after_refusals, after_loss, after_last_unlock, after_unlock};
 ghost use Rattle.ptk_mutex_slots.specs.Changes.{SlotMayChange, IsQuiet};
-ghost use Rattle.ptk_mutex.specs.Tables.{locks_at, with_threads, with_threads_alone, HasPart, MayGet, AreReady};
+ghost use Rattle.ptk_mutex.specs.Tables.{mutexes_of, locks_at, with_threads, with_threads_alone, HasPart, MayGet, AreReady};
 ghost use Rattle.ptk_mutex.specs.Moves.{after_change};
 
 use crate::mutexes::Mutexes;
@@ -25,7 +25,7 @@ impl Mutexes {
         requires ready { AreReady p threads.old line.old self.old }
         ensures threads { threads.new ≡ with_threads p (after_unlock m (locks_at p threads.old line.old self.old)) threads.old }
         ensures line { line.new ≡ slice_set line.old p (after_unlock m (locks_at p threads.old line.old self.old)).line }
-        ensures mutexes { self.new ≡ slice_set self.old p (after_unlock m (locks_at p threads.old line.old self.old)).mutexes }
+        ensures mutexes { mutexes_of self.new threads.new ≡ slice_set (mutexes_of self.old threads.old) p (after_unlock m (locks_at p threads.old line.old self.old)).mutexes }
         ensures ready { AreReady p threads.new line.new self.new }
     {
         if self.count(p, m) > 1 {
@@ -72,7 +72,7 @@ impl Mutexes {
         ensures mutexes { self.new ≡ slice_set self.old p (after_refusals m (locks_at p threads.old line.old self.old)).mutexes }
         ensures ready { AreReady p threads.new line.new self.new }
     {
-        let count = self.waiters(p, m).len();
+        let count = self.waiters(threads, p, m).len();
         for i in 0..count {
             self.refuse_next(line, threads, p, m);
         }
@@ -171,7 +171,7 @@ impl Mutexes {
         ensures told { result ≡ heir m (locks_at p threads.now line.now self.now) }
         ensures may { MayGet result (locks_at p threads.now line.now self.now) m }
     {
-        first_of_greatest(threads, p, self.waiters(p, m))
+        first_of_greatest(threads, p, self.waiters(threads, p, m))
     }
 
     /// A quiet change of a mutex.

@@ -7,11 +7,11 @@ ghost use Rattle.ptk_words.specs.declared.TheConstants.{COUNT_LIMIT};
 ghost use Rattle.ptk_words_parted.specs.Parts.{part_of};
 ghost use Rattle.ptk_words_model.specs.Schedule.{woken_with};
 ghost use Rattle.ptk_words_model.specs.declared.LockMove.TheVariants.{Counts};
-ghost use Rattle.ptk_words_model.specs.Mutex.{count_of, relock_move, after_relock, after_relock_move, after_leave};
+ghost use Rattle.ptk_words_model.specs.Mutex.{mutex_at, count_of, relock_move, after_relock, after_relock_move, after_leave};
 ghost use Rattle.ptk_threads.specs.Table.{thread_in, with_changed};
 ghost use Rattle.ptk_mutex_slots.specs.declared.slot.Change.TheVariants.{CountUp, Enqueue};
 ghost use Rattle.ptk_mutex_slots.specs.Changes.{SlotMayChange};
-ghost use Rattle.ptk_mutex.specs.Tables.{locks_at, with_threads, with_threads_alone, HasPart, IsWaiter, MayWait, AreReady};
+ghost use Rattle.ptk_mutex.specs.Tables.{mutexes_of, locks_at, with_threads, with_threads_alone, HasPart, IsWaiter, MayWait, AreReady};
 ghost use Rattle.ptk_mutex.specs.Moves.{after_withdrawal};
 
 use crate::mutexes::Mutexes;
@@ -38,11 +38,11 @@ impl Mutexes {
     ) -> LockMove
         requires ready { AreReady p threads.old line.old self.old }
         requires caller { MayWait (locks_at p threads.old line.old self.old) t }
-        requires countable { relock_move t (pool_get (part_of self.old p) m) ≡ Counts → count_of (pool_get (part_of self.old p) m) < COUNT_LIMIT }
-        ensures told { result ≡ relock_move t (pool_get (part_of self.old p) m) }
+        requires countable { relock_move t (mutex_at (locks_at p threads.old line.old self.old) m) ≡ Counts → count_of (mutex_at (locks_at p threads.old line.old self.old) m) < COUNT_LIMIT }
+        ensures told { result ≡ relock_move t (mutex_at (locks_at p threads.old line.old self.old) m) }
         ensures threads { threads.new ≡ with_threads p (after_relock t m reply (locks_at p threads.old line.old self.old)) threads.old }
         ensures line { line.new ≡ slice_set line.old p (after_relock t m reply (locks_at p threads.old line.old self.old)).line }
-        ensures mutexes { self.new ≡ slice_set self.old p (after_relock t m reply (locks_at p threads.old line.old self.old)).mutexes }
+        ensures mutexes { mutexes_of self.new threads.new ≡ slice_set (mutexes_of self.old threads.old) p (after_relock t m reply (locks_at p threads.old line.old self.old)).mutexes }
         ensures ready { AreReady p threads.new line.new self.new }
     {
         let made = relock_move(self.part(p), t, m);
@@ -66,7 +66,7 @@ impl Mutexes {
         requires waiter { IsWaiter (locks_at p threads.old line.old self.old) m t }
         ensures threads { threads.new ≡ with_threads p (after_withdrawal t m reply (locks_at p threads.old line.old self.old)) threads.old }
         ensures line { line.new ≡ slice_set line.old p (after_withdrawal t m reply (locks_at p threads.old line.old self.old)).line }
-        ensures mutexes { self.new ≡ slice_set self.old p (after_withdrawal t m reply (locks_at p threads.old line.old self.old)).mutexes }
+        ensures mutexes { mutexes_of self.new threads.new ≡ slice_set (mutexes_of self.old threads.old) p (after_withdrawal t m reply (locks_at p threads.old line.old self.old)).mutexes }
         ensures ready { AreReady p threads.new line.new self.new }
     {
         self.take_out(line, threads, p, t, m, reply);
