@@ -7,9 +7,11 @@
 
 mod faults;
 mod lookup;
+mod near;
 mod table;
 #[cfg(test)]
 mod tests;
 
+pub use near::{Near, Turn};
 pub use ptk_words_windows::{Window, WindowFault};
 pub use table::WindowTable;

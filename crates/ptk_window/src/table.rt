@@ -2,6 +2,7 @@
 
 use crate::faults::window_fault;
 use crate::lookup::{by_partition, by_start, first_after, holder};
+use crate::near::{Near, Turn};
 use ptk_words::{PartId, Tick};
 use ptk_words_windows::{Window, WindowFault};
 use std::alloc::Global;
@@ -119,5 +120,26 @@ impl WindowTable {
         let window = first_after(&self.by_partition, partition, 0)?;
         let next_frame = frame_start + u64::from(self.frame);
         Some(Tick::new(next_frame + u64::from(window.start)))
+    }
+    /// The partition's first own tick that is not before the tick, which is at most 2^41, and the end of the window
+    /// that holds it; they come as for `next_of` and `at`. None where the partition has no window.
+    ///
+    /// Without a search or a division where the answer lies in the window where the partition was last or in its next
+    /// one, of which `near` goes on.
+    pub fn turn_from(&self, partition: PartId, tick: Tick, near: &mut Near) -> Option<Turn>
+        requires { tick ≤ 2 ^ 41 }
+        ensures turn { MatchOption result
+            ((own_ticks self.now partition).next_of tick ≡ None)
+            (λ turn. ((own_ticks self.now partition).next_of tick ≡ Some turn.start)
+            × ((own_ticks self.now partition).end_at turn.start ≡ Some turn.end)) }
+        ensures near { IfSome result (λ turn. (tick ≤ turn.start) × (turn.start < tick + self.now.frame)
+            × (turn.start < turn.end) × (turn.end ≤ turn.start + self.now.frame)) }
+    {
+        let windows = self.by_partition.as_slice();
+        if near.goes_to(windows, self.frame, partition, tick) {
+            Some(near.turn(windows, tick))
+        } else {
+            None
+        }
     }
 }
