@@ -1,5 +1,5 @@
 -- A partition's next window, and the turn that it gives.
-use Rattle.std.proofs.Common.{◌≡◌, ◌≢◌, ℕ, ◌+◌, ◌-◌, ◌%◌, ◌<◌, ◌≤◌, max, List, length, get_or, Some, None, All, AllPairs, Contains, refl, sym, ap, subst, ◌∙◌, inl, inr, arith}
+use Rattle.std.proofs.Common.{◌≡◌, ◌≢◌, ℕ, ◌+◌, ◌-◌, ◌%◌, ◌<◌, ◌≤◌, max, List, length, get_or, None, All, Contains, sym, ap, subst, ◌∙◌, inl, inr, arith}
 use Rattle.std.proofs.lemmas.Bool.{cases_order, cases_lt}
 use Rattle.std.proofs.lemmas.Nat.{mod_below}
 use Rattle.std.proofs.lemmas.List.{get_or_default}
@@ -7,13 +7,14 @@ use Rattle.std.proofs.lemmas.List.Sorted.{All-permutation, Contains-permutation,
 use Rattle.ptk_words_windows.specs.declared.window.Window.{Window}
 use Rattle.ptk_words_windows.specs.Windows.{WindowTable, Holds, frame_start, end_from, IsFirstOwn, IsOwnUntil, own_ticks}
 use Rattle.ptk_words_windows.proofs.Remainders.{mod_here, mod_next}
-use Rattle.ptk_words_windows.proofs.Places.{Fits}
 use Rattle.ptk_words_windows.proofs.OwnLaws.{next_one, next_none, next_near, end_one, until_near}
 use Rattle.ptk_window.specs.declared.near.Near.{Near}
+use Rattle.ptk_window.specs.declared.near.Turn.{Turn}
 use Rattle.ptk_window.specs.Order.{AreGrouped, LieIn, IsKept}
-use Rattle.ptk_window.specs.Near.{IsNextFrom}
+use Rattle.ptk_window.specs.Near.{IsNextFrom, IsTurnAt}
+use Rattle.ptk_window.specs.Turn.{IsTurn, IsSoon}
 use Rattle.ptk_window.proofs.Searches.{starts_order}
-use Rattle.ptk_window.proofs.Found.{here, next, never}
+use Rattle.ptk_window.proofs.Found.{here, next, never, kept_of}
 
 -- ---- frames begin at multiples
 pub frame_start_aligned : (frame tick : ℕ) → 0 < frame → (tick - tick % frame) % frame ≡ 0
@@ -152,27 +153,33 @@ module _ (table : WindowTable) (starts groups : List Window) (is : IsKept table.
       let end : near.frame_start + (w.start + w.length) ≡ end_from table.frame start w = omega (arith, place) in
       (given.0, w, given.1, given.2, (next_is.own, holds, end))
 
-  -- for the start and the end as the code has them
-  turn_is : (p tick : ℕ) (near : Near) (start end : ℕ) → IsNextFrom table.frame groups p tick near → ((d : Window) → start ≡ max tick (near.frame_start + (get_or groups near.place d).start)) → ((d : Window) → end ≡ near.frame_start + ((get_or groups near.place d).start + (get_or groups near.place d).length)) → IsFirstOwn table p tick start × IsOwnUntil table p start end
-  turn_is p tick near start end next_is starts_at ends_at =
+  -- for the start and the end as the code has them, and the frame
+  turn_is : (frame p tick : ℕ) (near : Near) (turn : Turn) → frame ≡ table.frame → IsNextFrom frame groups p tick near → IsTurnAt groups tick near turn → IsFirstOwn table p tick turn.start × IsOwnUntil table p turn.start turn.end
+  turn_is frame p tick near turn frame_is next_from at =
+      let next_is = subst (λ (n : ℕ). IsNextFrom n groups p tick near) frame_is next_from in
       let w = next_is.window in
       let aligned : near.frame_start % table.frame ≡ 0 = subst (λ (n : ℕ). near.frame_start % n ≡ 0) next_is.of_frame near.aligned in
-      let start_is : start ≡ max tick (near.frame_start + w.start) = subst (λ (v : Window). start ≡ max tick (near.frame_start + v.start)) next_is.is (starts_at w) in
-      let end_is : end ≡ near.frame_start + (w.start + w.length) = subst (λ (v : Window). end ≡ near.frame_start + (v.start + v.length)) next_is.is (ends_at w) in (
+      let start_is : turn.start ≡ max tick (near.frame_start + w.start) = subst (λ (v : Window). turn.start ≡ max tick (near.frame_start + v.start)) next_is.is (at.start w) in
+      let end_is : turn.end ≡ near.frame_start + (w.start + w.length) = subst (λ (v : Window). turn.end ≡ near.frame_start + (v.start + v.length)) next_is.is (at.end w) in (
         subst (IsFirstOwn table p tick) (sym start_is) (turn_first p tick near next_is aligned),
-        subst (λ (s : ℕ). IsOwnUntil table p s end) (sym start_is) (subst (IsOwnUntil table p (max tick (near.frame_start + w.start))) (sym end_is) (turn_until p tick near next_is aligned)),
+        subst (λ (s : ℕ). IsOwnUntil table p s turn.end) (sym start_is) (subst (IsOwnUntil table p (max tick (near.frame_start + w.start))) (sym end_is) (turn_until p tick near next_is aligned)),
       )
 
-  pub turn : (p tick : ℕ) (near : Near) (start end : ℕ) → IsNextFrom table.frame groups p tick near → ((d : Window) → start ≡ max tick (near.frame_start + (get_or groups near.place d).start)) → ((d : Window) → end ≡ near.frame_start + ((get_or groups near.place d).start + (get_or groups near.place d).length)) → ((own_ticks table p).next_of tick ≡ Some start) × ((own_ticks table p).end_at start ≡ Some end)
-  turn p tick near start end next_is starts_at ends_at =
-      let both = turn_is p tick near start end next_is starts_at ends_at in
-      (next_one table p tick start is.table both.0, end_one table p start end is.table both.1)
+  pub IsTurn-at : (frame p tick : ℕ) (near : Near) (turn : Turn) → frame ≡ table.frame → IsNextFrom frame groups p tick near → IsTurnAt groups tick near turn → IsTurn table p tick turn
+  IsTurn-at frame p tick near turn frame_is next_is at =
+      let both = turn_is frame p tick near turn frame_is next_is at in
+      (next_one table p tick turn.start is.table both.0, end_one table p turn.start turn.end is.table both.1)
 
-  pub turn_near : (p tick : ℕ) (near : Near) (start end : ℕ) → IsNextFrom table.frame groups p tick near → ((d : Window) → start ≡ max tick (near.frame_start + (get_or groups near.place d).start)) → ((d : Window) → end ≡ near.frame_start + ((get_or groups near.place d).start + (get_or groups near.place d).length)) → (tick ≤ start) × (start < tick + table.frame) × (start < end) × (end ≤ start + table.frame)
-  turn_near p tick near start end next_is starts_at ends_at =
-      let both = turn_is p tick near start end next_is starts_at ends_at in
-      let order = until_near table p start end is.table both.1 in
-      (both.0.not_before, next_near table p tick start is.table (next_one table p tick start is.table both.0), order.0, order.1)
+  pub IsSoon-at : (frame p tick : ℕ) (near : Near) (turn : Turn) → frame ≡ table.frame → IsNextFrom frame groups p tick near → IsTurnAt groups tick near turn → IsSoon table tick turn
+  IsSoon-at frame p tick near turn frame_is next_is at =
+      let both = turn_is frame p tick near turn frame_is next_is at in
+      let order = until_near table p turn.start turn.end is.table both.1 in
+      (both.0.not_before, next_near table p tick turn.start is.table (next_one table p tick turn.start is.table both.0), order.0, order.1)
 
   pub no_turn : (p tick : ℕ) → All (λ w. w.partition ≢ p) groups → (own_ticks table p).next_of tick ≡ None
   no_turn p tick none = next_none table p tick is.table (never table starts groups is p (λ k d below of_p. absurd (none k d below of_p)))
+
+-- of the table that a struct is seen as, with its windows by partition as a slice
+pub kept_in : (frame : ℕ) (given starts groups ws : List Window) (table : WindowTable) → record { frame = frame; windows = given } ≡ table → IsKept frame given starts groups → ws ≡ groups → IsKept table.frame table.windows starts ws
+kept_in frame given starts groups ws table seen is same =
+    subst (λ (l : List Window). IsKept table.frame table.windows starts l) (sym same) (kept_of frame given starts groups table seen is)

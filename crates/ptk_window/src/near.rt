@@ -1,6 +1,6 @@
 //! Where a partition was last found among its windows, and how it goes on from there.
 
-ghost use Rattle.std.specs.Prelude.{◌≡◌, ◌≢◌, ℕ, ◌+◌, ◌%◌, ◌^◌, ◌<◌, ◌≤◌, max, length, slice_index_or, IsTrue, All, MatchBool, MatchOption};
+ghost use Rattle.std.specs.Prelude.{◌≡◌, ◌≢◌, ℕ, ◌+◌, ◌%◌, ◌^◌, ◌<◌, ◌≤◌, length, slice_index_or, IsTrue, All, MatchBool};
 ghost use Rattle.ptk_window.specs.Order.{AreGrouped, LieIn};
 
 use crate::lookup::place_after;
@@ -34,7 +34,7 @@ pub struct Near {
 }
 
 impl Near {
-    ghost use Rattle.ptk_window.specs.Near.{IsNextFrom};
+    ghost use Rattle.ptk_window.specs.Near.{IsNextFrom, IsTurnAt};
 
     /// A place that helps no look-up: the next one searches.
     pub fn new() -> Near {
@@ -46,68 +46,16 @@ impl Near {
         }
     }
 
-    /// The place of the partition's next window from the tick on, found by halves. None where it has no window.
-    fn search(windows: &[Window], frame: u32, partition: PartId, tick: Tick) -> Option<Near>
-        requires grouped { AreGrouped windows.now }
-        requires within { LieIn frame windows.now }
-        requires frame { 0 < frame }
-        requires time { tick ≤ 2 ^ 41 }
-        ensures { MatchOption result
-            (All (λ w. w.partition ≢ partition) windows.now)
-            (IsNextFrom frame windows.now partition tick) }
-    {
-        let first = place_after(windows, partition, 0)?;
-        let offset = tick.ticks() % u64::from(frame);
-        let frame_start = tick.ticks() - offset;
-        if let Some(place) = place_after(windows, partition, offset) {
-            return Some(Near {
-                frame,
-                frame_start,
-                place,
-                first,
-            });
-        }
-        Some(Near {
-            frame,
-            frame_start: frame_start + u64::from(frame),
-            place: first,
-            first,
-        })
-    }
-
-    /// Goes to the partition's next window from the tick on. False where it has no window.
-    #[inline]
-    pub(crate) fn goes_to(
+    /// Goes to the partition's next window from the tick on, where that is the window here, which holds the tick, or
+    /// the partition's next one. False where it is neither.
+    #[inline(always)]
+    pub(crate) fn goes_on(
         &mut self,
         windows: &[Window],
         frame: u32,
         partition: PartId,
         tick: Tick,
     ) -> bool
-        requires grouped { AreGrouped windows.now }
-        requires within { LieIn frame windows.now }
-        requires frame { 0 < frame }
-        requires time { tick ≤ 2 ^ 41 }
-        ensures { MatchBool result
-            (IsNextFrom frame windows.now partition tick self.new)
-            (All (λ w. w.partition ≢ partition) windows.now) }
-    {
-        if self.goes_on(windows, frame, partition, tick) {
-            return true;
-        }
-        match Near::search(windows, frame, partition, tick) {
-            Some(found) => {
-                *self = found;
-                true
-            }
-            None => false,
-        }
-    }
-
-    /// Goes to the partition's next window from the tick on, where that is the window here, which holds the tick, or
-    /// the partition's next one. False where it is neither.
-    #[inline]
-    fn goes_on(&mut self, windows: &[Window], frame: u32, partition: PartId, tick: Tick) -> bool
         requires grouped { AreGrouped windows.now }
         requires within { LieIn frame windows.now }
         requires time { tick ≤ 2 ^ 41 }
@@ -164,15 +112,54 @@ impl Near {
         tick.ticks() < self.frame_start + windows[self.place].end()
     }
 
+    /// Goes to the partition's next window from the tick on, which it finds by halves. False where it has no window.
+    #[cold]
+    #[inline(never)]
+    pub(crate) fn search(
+        &mut self,
+        windows: &[Window],
+        frame: u32,
+        partition: PartId,
+        tick: Tick,
+    ) -> bool
+        requires grouped { AreGrouped windows.now }
+        requires within { LieIn frame windows.now }
+        requires frame { 0 < frame }
+        requires time { tick ≤ 2 ^ 41 }
+        ensures { MatchBool result
+            (IsNextFrom frame windows.now partition tick self.new)
+            (All (λ w. w.partition ≢ partition) windows.now) }
+    {
+        let Some(first) = place_after(windows, partition, 0) else {
+            return false;
+        };
+        let offset = tick.ticks() % u64::from(frame);
+        let frame_start = tick.ticks() - offset;
+        if let Some(place) = place_after(windows, partition, offset) {
+            *self = Near {
+                frame,
+                frame_start,
+                place,
+                first,
+            };
+            return true;
+        }
+        *self = Near {
+            frame,
+            frame_start: frame_start + u64::from(frame),
+            place: first,
+            first,
+        };
+        true
+    }
+
     /// From the tick on, the ticks of the window here.
-    #[inline]
+    #[inline(always)]
     pub(crate) fn turn(&self, windows: &[Window], tick: Tick) -> Turn
         requires place { self.now.place < length windows.now }
         requires room { (d : Window) → self.now.frame_start
             + ((slice_index_or windows.now self.now.place d).start + (slice_index_or windows.now self.now.place d).length) < 2 ^ 64 }
-        ensures start { (d : Window) → result.start ≡ max tick (self.now.frame_start + (slice_index_or windows.now self.now.place d).start) }
-        ensures end { (d : Window) → result.end ≡ self.now.frame_start
-            + ((slice_index_or windows.now self.now.place d).start + (slice_index_or windows.now self.now.place d).length) }
+        ensures { IsTurnAt windows.now tick self.now result }
     {
         let window = windows[self.place];
         let start = self.frame_start + u64::from(window.start);

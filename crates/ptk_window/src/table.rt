@@ -33,6 +33,7 @@ ghost use Rattle.std.specs.Prelude.{◌≡◌, ◌≢◌, ℕ, ◌+◌, ◌^◌,
 ghost use Rattle.ptk_words_windows.specs.WindowFaults.{window_fault};
 ghost use Rattle.ptk_words_windows.specs.Windows.{IsOwn, IsFirstOwn, IsOwnUntil, IsTable, own_ticks};
 ghost use Rattle.ptk_window.specs.Order.{end_of};
+ghost use Rattle.ptk_window.specs.Turn.{IsTurn, IsSoon};
 
 impl WindowTable {
     /// The table of these windows, for so many partitions.
@@ -122,24 +123,25 @@ impl WindowTable {
         Some(Tick::new(next_frame + u64::from(window.start)))
     }
     /// The partition's first own tick that is not before the tick, which is at most 2^41, and the end of the window
-    /// that holds it; they come as for `next_of` and `at`. None where the partition has no window.
+    /// that holds it. None where the partition has no window.
     ///
-    /// Without a search or a division where the answer lies in the window where the partition was last or in its next
-    /// one, of which `near` goes on.
+    /// Whatever `near` is, the answer is the same. Where the window that it was left at holds the tick, or the
+    /// partition's next one comes next, there is no search and no division.
+    #[inline(always)]
     pub fn turn_from(&self, partition: PartId, tick: Tick, near: &mut Near) -> Option<Turn>
         requires { tick ≤ 2 ^ 41 }
         ensures turn { MatchOption result
             ((own_ticks self.now partition).next_of tick ≡ None)
-            (λ turn. ((own_ticks self.now partition).next_of tick ≡ Some turn.start)
-            × ((own_ticks self.now partition).end_at turn.start ≡ Some turn.end)) }
-        ensures near { IfSome result (λ turn. (tick ≤ turn.start) × (turn.start < tick + self.now.frame)
-            × (turn.start < turn.end) × (turn.end ≤ turn.start + self.now.frame)) }
+            (IsTurn self.now partition tick) }
+        ensures near { IfSome result (IsSoon self.now tick) }
     {
         let windows = self.by_partition.as_slice();
-        if near.goes_to(windows, self.frame, partition, tick) {
-            Some(near.turn(windows, tick))
-        } else {
-            None
+        if near.goes_on(windows, self.frame, partition, tick) {
+            return Some(near.turn(windows, tick));
         }
+        if near.search(windows, self.frame, partition, tick) {
+            return Some(near.turn(windows, tick));
+        }
+        None
     }
 }

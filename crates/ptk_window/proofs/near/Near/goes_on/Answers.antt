@@ -1,4 +1,4 @@
-use Rattle.std.proofs.Common.{◌≡◌, ◌+◌, ◌<◌, ◌≤◌, leb-true, eqb-true, arith, sym, ◌∙◌}
+use Rattle.std.proofs.Common.{◌≡◌, leb-true, eqb-true, arith, sym, ◌∙◌}
 use Rattle.std.proofs.lemmas.Bool.{not-false}
 use Rattle.ptk_window.proofs.Nexts.{inside}
 use Rattle.ptk_window.proofs.near.Near.goes_on.Goals as goal
