@@ -122,6 +122,7 @@ impl WindowTable {
         let next_frame = frame_start + u64::from(self.frame);
         Some(Tick::new(next_frame + u64::from(window.start)))
     }
+
     /// The partition's first own tick that is not before the tick, which is at most 2^41, and the end of the window
     /// that holds it. None where the partition has no window.
     ///
