@@ -8,6 +8,7 @@
 #![tactic(auto)]
 
 mod references;
+mod writing;
 mod slot;
 mod threads;
 
