@@ -13,6 +13,9 @@ pub fn first_of_greatest(threads: &Threads, p: PartId, numbers: &[ThreadNo]) -> 
     requires { p < length threads.now.threads }
     ensures { result ≡ first_of_greatest (stored_of (part_of threads.now.stored p)) numbers.now }
 {
+    if numbers.is_empty() {
+        return None;
+    }
     let stored = threads.stored(p);
     let most = greatest_of(numbers, stored);
     numbers

@@ -8,6 +8,8 @@
 //! a table, with as many stored priorities as slots (`proofs/Slots`).
 #![tactic(auto)]
 
+mod references;
+mod writing;
 mod slot;
 mod threads;
 

@@ -1,11 +1,14 @@
 //! A slot of the table.
 
-ghost use Rattle.std.specs.Prelude.{◌≡◌, is_none, option_map, option_and_then};
+ghost use Rattle.std.specs.Prelude.{◌≡◌, ◌<◌, length, is_none, option_map, option_and_then};
+ghost use Rattle.std.specs.Option.{option_copied};
 ghost use Rattle.ptk_words.specs.declared.threads.Thread.{Thread};
 ghost use Rattle.ptk_threads.specs.Table.{with_cpu, replaced_by};
 ghost use Rattle.ptk_threads.specs.Changes.{thread_changed};
+ghost use Rattle.ptk_threads.specs.Registers.{with_pc};
+ghost use Rattle.ptk_words_model.specs.Schedule.{with_registers, with_reply};
 
-use ptk_words::{Cpu, Phase, Policy, Priority, Thread, ThreadNo, Wait};
+use ptk_words::{A0, Cpu, Phase, Policy, Priority, Thread, ThreadNo, Wait};
 use std::marker::Model;
 
 /// A place for a thread in the table that all partitions share.
@@ -39,6 +42,17 @@ impl Slot {
         ensures { result ≡ self.now }
     {
         self.thread
+    }
+
+    /// The thread where it lies, None in a free slot.
+    #[inline]
+    pub fn thread_ref(&self) -> Option<&Thread>
+        ensures { option_copied result ≡ self.now }
+    {
+        match &self.thread {
+            Some(thread) => Some(thread),
+            None => None,
+        }
     }
 
     /// Whether no thread has it.
@@ -166,6 +180,27 @@ impl Slot {
         }
     }
 
+    /// Its thread, if it has one, goes on at this address.
+    pub(crate) fn set_pc(&mut self, pc: u32)
+        ensures { self.new ≡ option_map (with_pc pc) self.old }
+    {
+        if let Some(thread) = &mut self.thread {
+            let cpu = &mut thread.cpu;
+            cpu.set_pc(pc);
+        }
+    }
+
+    /// Puts the values into a0, a1 and so on of its thread, if it has one.
+    pub(crate) fn set_values(&mut self, values: &[u32])
+        requires { length values.now < 4 }
+        ensures { self.new ≡ option_map (with_reply values.now) self.old }
+    {
+        if let Some(thread) = &mut self.thread {
+            let cpu = &mut thread.cpu;
+            write_values(cpu, values);
+        }
+    }
+
     /// Gives its thread, if it has one, these registers.
     pub(crate) fn set_cpu(&mut self, cpu: Cpu)
         ensures { self.new ≡ option_map (with_cpu cpu) self.old }
@@ -173,6 +208,17 @@ impl Slot {
         if let Some(thread) = &mut self.thread {
             thread.cpu = cpu;
         }
+    }
+}
+
+/// Puts the values into the registers from a0 on.
+#[tactic(auto, using(crate::proofs::Registers::registers))]
+fn write_values(cpu: &mut Cpu, values: &[u32])
+    requires { length values.now < 4 }
+    ensures { cpu.new ≡ with_registers cpu.old A0 values.now }
+{
+    for (i, value) in values.iter().enumerate() {
+        cpu.set_register(A0 + i as u32, *value);
     }
 }
 

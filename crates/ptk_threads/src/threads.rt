@@ -19,7 +19,7 @@ use std::marker::Model;
 /// The threads of each partition by number from 1, and their stored effective priorities.
 #[derive(Drop)]
 pub struct Threads {
-    slots: Parted<Slot>,
+    pub(crate) slots: Parted<Slot>,
     stored: Parted<u8>,
 }
 
