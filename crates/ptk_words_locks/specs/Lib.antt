@@ -1,2 +1,3 @@
 pub mod Locks
+pub mod Conditions
 pub mod LockLaws
