@@ -16,3 +16,5 @@ pub mod Unlocks
 pub mod Blocks
 pub mod LockMoves
 pub mod Moves
+pub mod Conditions
+pub mod Gathered
