@@ -18,3 +18,4 @@ pub mod LockMoves
 pub mod Moves
 pub mod Conditions
 pub mod Gathered
+pub mod Timed
