@@ -138,11 +138,11 @@ conditions_off t before after mutexes conditions others was now are = conditions
 
 -- ---- one mutex changed
 
-some_map : {A : Type 0} (f : A → A) (o : Option A) → IsSome o → IsSome (option_map f o)
+pub some_map : {A : Type 0} (f : A → A) (o : Option A) → IsSome o → IsSome (option_map f o)
 some_map f None e = e
 some_map f (Some a) e = refl
 
-room_map : (k : ℕ) (f : Mutex → Mutex) (o : Option Mutex) → IsRoomy f → HasRoom k o → HasRoom k (option_map f o)
+pub room_map : (k : ℕ) (f : Mutex → Mutex) (o : Option Mutex) → IsRoomy f → HasRoom k o → HasRoom k (option_map f o)
 room_map k f None roomy room = room
 room_map k f (Some x) roomy room = roomy x k room
 

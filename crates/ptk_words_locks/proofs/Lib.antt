@@ -19,3 +19,4 @@ pub mod Moves
 pub mod Conditions
 pub mod Gathered
 pub mod Timed
+pub mod ConditionWaits

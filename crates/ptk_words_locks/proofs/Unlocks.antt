@@ -89,7 +89,7 @@ held_loss interval m running rest locks are =
 mild_down : (mutex : Option Mutex) → count_of mutex ≤ COUNT_LIMIT → (x : Mutex) → mutex ≡ Some x → IsMild x (record x { count = x.count - 1 })
 mild_down mutex le x e = record { owner = refl; waiters = refl; count = (let within : x.count ≤ COUNT_LIMIT = rw e at le in omega (arith, within)) }
 
-last_unlock : (interval m : ℕ) (running : Option ℕ) (rest : Rest) (soundness : Soundness) (locks : Locks) → AreHeld interval running rest locks → AreHeld interval running rest (after_last_unlock soundness m locks)
+pub last_unlock : (interval m : ℕ) (running : Option ℕ) (rest : Rest) (soundness : Soundness) (locks : Locks) → AreHeld interval running rest locks → AreHeld interval running rest (after_last_unlock soundness m locks)
 last_unlock interval m running rest Consistent locks are = held_hand_over interval m running rest locks are
 last_unlock interval m running rest Inconsistent locks are = held_loss interval m running rest locks are
 last_unlock interval m running rest Unrecoverable locks are = held_loss interval m running rest locks are
