@@ -106,7 +106,7 @@ syncs_blocked interval t wait waiters conditions syncs for_none other kept are =
       used = used_blocked interval t wait syncs.threads are.used;
     }
 
-elsewhere_sleep : (deadline : ℕ) → IsElsewhere (Some (SleepWait deadline))
+pub elsewhere_sleep : (deadline : ℕ) → IsElsewhere (Some (SleepWait deadline))
 elsewhere_sleep deadline = record { no_input = λ e. let no : ⊥ = cc in no; no_join = λ u e. let no : ⊥ = cc in no }
 
 pub elsewhere_condition : (c m : ℕ) (deadline : Option ℕ) → IsElsewhere (Some (ConditionWait c m deadline))

@@ -20,3 +20,5 @@ pub mod Conditions
 pub mod Gathered
 pub mod Timed
 pub mod ConditionWaits
+pub mod Relocks
+pub mod Timeouts
