@@ -22,3 +22,5 @@ pub mod Timed
 pub mod ConditionWaits
 pub mod Relocks
 pub mod Timeouts
+pub mod DeadlineLists
+pub mod Deadlines

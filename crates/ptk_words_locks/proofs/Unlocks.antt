@@ -41,7 +41,7 @@ served_all interval m running rest locks refused =
       | inr ne ↦ refused.others k ne
     ])
 
-left_waiters : (t : ℕ) (mutex : Option Mutex) → waiters_of (option_map (left_by t) mutex) ≡ without t (waiters_of mutex)
+pub left_waiters : (t : ℕ) (mutex : Option Mutex) → waiters_of (option_map (left_by t) mutex) ≡ without t (waiters_of mutex)
 left_waiters t None = refl
 left_waiters t (Some x) = refl
 
