@@ -11,7 +11,7 @@ use Rattle.ptk_words_model.specs.State.{Mutex, Condition}
 use Rattle.ptk_words_model.specs.Mutex.{wait_of}
 use Rattle.ptk_words_model.specs.Condition.{mutex_named}
 use Rattle.ptk_words_locks.specs.Conditions.{condition_of_wait, HasRoom, waiters_on, AreConditions}
-use Rattle.ptk_words_locks.proofs.Pools.{each_set, each_changed}
+use Rattle.ptk_words_locks.proofs.Pools.{each_set, each_changed, changed_own}
 use Rattle.ptk_words_locks.proofs.Lines.{in_push, own_push, still_push, without_other, in_without, distinct_push, distinct_without}
 use Rattle.ptk_words_locks.proofs.Conditions.{waits_on, names, off_names, IsGathered, AreReturnable, gathered_at, returnable_of, conditions_from, AreOtherWaits}
 
@@ -28,6 +28,15 @@ gathering_some g (Some x) e = refl
 -- the waiters of a condition variable in use replaced, as a change of it
 set_gathering : (g : List ℕ → List ℕ) (c : ℕ) (conditions : List (Option Condition)) → IsSome (pool_get conditions c) → pool_changed c (gathering g) conditions ≡ pool_set conditions c (Some (record { waiters = g (waiters_on (pool_get conditions c)) }))
 set_gathering g c conditions used = ap (λ (o : Option Condition). pool_set conditions c o) (sym (gathering_some g (pool_get conditions c) used))
+
+gathering_waiters : (g : List ℕ → List ℕ) (o : Option Condition) → IsSome o → waiters_on (option_map (gathering g) o) ≡ g (waiters_on o)
+gathering_waiters g None e = absurd (false≢true e)
+gathering_waiters g (Some x) e = refl
+
+-- it then has them
+pub gathered_own : (g : List ℕ → List ℕ) (c : ℕ) (conditions : List (Option Condition)) → IsSome (pool_get conditions c) → waiters_on (pool_get (pool_set conditions c (Some (record { waiters = g (waiters_on (pool_get conditions c)) }))) c) ≡ g (waiters_on (pool_get conditions c))
+gathered_own g c conditions used =
+    ap (λ (pool : List (Option Condition)). waiters_on (pool_get pool c)) (sym (set_gathering g c conditions used)) ∙ ap waiters_on (changed_own c (gathering g) conditions) ∙ gathering_waiters g (pool_get conditions c) used
 
 gathered_map : (g : List ℕ → List ℕ) (threads : List (Option Thread)) (c : ℕ) (o : Option Condition) → IsSome o → IsGathered threads c (Some (record { waiters = g (waiters_on o) })) → IsGathered threads c (option_map (gathering g) o)
 gathered_map g threads c None used own = absurd (false≢true used)
@@ -54,7 +63,7 @@ gathered_beside t d before after x others was now is = record {
   waiters_distinct = is.waiters_distinct;
 }
 
-waiter_used : (t : ℕ) (o : Option Condition) → is_in t (waiters_on o) ≡ true → IsSome o
+pub waiter_used : (t : ℕ) (o : Option Condition) → is_in t (waiters_on o) ≡ true → IsSome o
 waiter_used t None e = absurd (false≢true e)
 waiter_used t (Some x) e = refl
 

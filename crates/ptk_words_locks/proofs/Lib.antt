@@ -24,3 +24,4 @@ pub mod Relocks
 pub mod Timeouts
 pub mod DeadlineLists
 pub mod Deadlines
+pub mod DeadlineMoves

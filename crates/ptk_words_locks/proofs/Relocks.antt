@@ -158,7 +158,7 @@ syncs_unblock interval t c reply running waiters syncs on are =
     subst (λ (o : Option ℕ). AreSyncs interval running waiters (after_unblock_for t c reply o syncs)) (sym (ap mutex_named is.waits))
     (syncs_relock interval t c is.mutex is.deadline reply running waiters syncs is.waits are)
 
-syncs_signal_to : (interval c : ℕ) (next : Option ℕ) (running : Option ℕ) (waiters : List ℕ) (syncs : Syncs) → first_of_greatest (effective_priority syncs.locks) (condition_waiters syncs c) ≡ next → AreSyncs interval running waiters syncs
+pub syncs_signal_to : (interval c : ℕ) (next : Option ℕ) (running : Option ℕ) (waiters : List ℕ) (syncs : Syncs) → first_of_greatest (effective_priority syncs.locks) (condition_waiters syncs c) ≡ next → AreSyncs interval running waiters syncs
     → AreSyncs interval running waiters (after_signal_to next c syncs)
 syncs_signal_to interval c None running waiters syncs e are = are
 syncs_signal_to interval c (Some t) running waiters syncs e are =

@@ -1,12 +1,16 @@
--- Whose deadlines a move ends: those of the threads that it wakes.
+-- Whose deadlines a move begins and ends: those of a thread that begins a wait, and of the threads that it wakes.
 use Rattle.std.specs.Prelude.{List, [], ◌∷◌, ◌++◌, fold, nat_lt, nat_le, if◌then◌else◌, Option, Some, None, option_to_list}
 use Rattle.ptk_words.specs.Names.{MutexNumber, ThreadNumber, Tick}
 use Rattle.ptk_words.specs.Pools.{pool_set, numbers_of}
+use Rattle.ptk_words.specs.declared.threads.Wait.{Wait}
 use Rattle.ptk_words.specs.declared.mutexes.Soundness.{Soundness}
 use Rattle.ptk_words.specs.declared.mutexes.Soundness.TheVariants.{Consistent, Inconsistent, Unrecoverable}
+use Rattle.ptk_words_model.specs.declared.LockMove.{LockMove}
+use Rattle.ptk_words_model.specs.declared.LockMove.TheVariants.{Takes, Recovers, Counts, Waits, Refuses}
 use Rattle.ptk_words_model.specs.State.{Mutex, Locks}
 use Rattle.ptk_words_model.specs.Priority.{is_owner}
 use Rattle.ptk_words_model.specs.Mutex.{mutex_at, waiters_of, count_of, soundness_of, with_soundness, heir, after_mutex_end}
+use Rattle.ptk_words_model.specs.Withdrawal.{deadline_of_wait}
 
 -- the deadlines by thread number, without those of these threads
 abbrev pub without_deadlines : List ThreadNumber → List (Option Tick) → List (Option Tick)
@@ -16,6 +20,14 @@ without_deadlines ts deadlines = fold (λ left t. pool_set left t None) deadline
 abbrev pub deadline_after : Tick → Option Tick → Option Tick
 deadline_after tick None = None
 deadline_after tick (Some deadline) = if nat_le deadline tick then None else Some deadline
+
+-- the deadlines after the thread's move on a mutex: where it waits, it has the deadline of its wait (pthread_mutex_timedlock)
+abbrev pub deadlines_after_move : LockMove → ThreadNumber → Wait → List (Option Tick) → List (Option Tick)
+deadlines_after_move Takes t wait deadlines = deadlines
+deadlines_after_move Recovers t wait deadlines = deadlines
+deadlines_after_move Counts t wait deadlines = deadlines
+deadlines_after_move Waits t wait deadlines = pool_set deadlines t (deadline_of_wait (Some wait))
+deadlines_after_move (Refuses e) t wait deadlines = deadlines
 
 -- whom the last unlock wakes: the mutex's heir, if there is one, but of a mutex that is lost every waiter (pthread_mutex_unlock; pthread_mutex_lock, ENOTRECOVERABLE)
 abbrev pub woken_by_last_unlock : Soundness → MutexNumber → Locks → List ThreadNumber
