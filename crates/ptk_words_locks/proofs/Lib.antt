@@ -25,3 +25,5 @@ pub mod Timeouts
 pub mod DeadlineLists
 pub mod Deadlines
 pub mod DeadlineMoves
+pub mod Raising
+pub mod ConditionsKept
