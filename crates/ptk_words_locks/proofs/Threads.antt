@@ -1,12 +1,14 @@
 -- One thread changed: what stays, what a thread is that waits for a mutex, and what it is once woken.
-use Rattle.std.proofs.Common.{◌≡◌, ℕ, ◌<◌, true, false, List, refl, sym, ◌∙◌, ap, inl, inr}
-use Rattle.std.specs.Prelude.{◌≢◌, Option, Some, None, option_map}
+use Rattle.std.proofs.Common.{◌≡◌, ℕ, ◌<◌, true, false, not, ◌&&◌, List, refl, sym, ◌∙◌, ap, inl, inr}
+use Rattle.std.specs.Prelude.{◌≢◌, Option, Some, None, option_map, is_none}
 use Rattle.std.proofs.lemmas.Bool.{cases_eq, false≢true, false_from_ne_true, true_from_ne_false}
 use Rattle.ptk_words.specs.Pools.{pool_get, pool_changed}
+use Rattle.ptk_words.specs.Threads.{is_ended}
 use Rattle.ptk_words.specs.declared.threads.Thread.{Thread}
 use Rattle.ptk_words.specs.declared.threads.Wait.{Wait}
 use Rattle.ptk_words_model.specs.declared.LockMove.{LockMove}
 use Rattle.ptk_words_model.specs.Priority.{mutex_of_wait, awaited}
+use Rattle.ptk_words_model.specs.Schedule.{woken_with}
 use Rattle.ptk_words_model.specs.Mutex.{wait_of, handed}
 use Rattle.ptk_words_model.specs.Unwinding.{is_alive}
 use Rattle.ptk_words_locks.specs.Locks.{is_ready, joiner_of, used_of}
@@ -74,24 +76,38 @@ pub in_wait_used : (wait : Wait) (o : Option Thread) → used_of (option_map (in
 in_wait_used wait None = refl
 in_wait_used wait (Some thread) = refl
 
--- ---- a waiter that is woken
+-- ---- a thread that is woken
 
-pub handed_ready : (move : LockMove) (o : Option Thread) → is_alive o ≡ true → is_ready (option_map (handed move) o) ≡ true
-handed_ready move None e = absurd (false≢true e)
-handed_ready move (Some thread) e = e
+-- f wakes a thread: it waits for nothing and has used no tick, and its joiner and its phase stay (own)
+pub record IsWaking (f : Thread → Thread) : Type 0 where
+  pub wait : (thread : Thread) → (f thread).wait ≡ None
+  pub joiner : (thread : Thread) → (f thread).joiner ≡ thread.joiner
+  pub phase : (thread : Thread) → (f thread).phase ≡ thread.phase
+  pub used : (thread : Thread) → (f thread).used ≡ 0
 
-pub handed_waits : (move : LockMove) (o : Option Thread) → wait_of (option_map (handed move) o) ≡ None
-handed_waits move None = refl
-handed_waits move (Some thread) = refl
+pub waking_handed : (move : LockMove) → IsWaking (handed move)
+waking_handed move = record { wait = λ thread. refl; joiner = λ thread. refl; phase = λ thread. refl; used = λ thread. refl }
 
-pub handed_joiner : (move : LockMove) (o : Option Thread) → joiner_of (option_map (handed move) o) ≡ joiner_of o
-handed_joiner move None = refl
-handed_joiner move (Some thread) = refl
+pub waking_woken : (values : List ℕ) → IsWaking (woken_with values)
+waking_woken values = record { wait = λ thread. refl; joiner = λ thread. refl; phase = λ thread. refl; used = λ thread. refl }
 
-pub handed_alive : (move : LockMove) (o : Option Thread) → is_alive (option_map (handed move) o) ≡ is_alive o
-handed_alive move None = refl
-handed_alive move (Some thread) = refl
+pub waking_waits : (f : Thread → Thread) (o : Option Thread) → IsWaking f → wait_of (option_map f o) ≡ None
+waking_waits f None waking = refl
+waking_waits f (Some thread) waking = waking.wait thread
 
-pub handed_used : (move : LockMove) (o : Option Thread) → used_of (option_map (handed move) o) ≡ 0
-handed_used move None = refl
-handed_used move (Some thread) = refl
+pub waking_joiner : (f : Thread → Thread) (o : Option Thread) → IsWaking f → joiner_of (option_map f o) ≡ joiner_of o
+waking_joiner f None waking = refl
+waking_joiner f (Some thread) waking = waking.joiner thread
+
+pub waking_alive : (f : Thread → Thread) (o : Option Thread) → IsWaking f → is_alive (option_map f o) ≡ is_alive o
+waking_alive f None waking = refl
+waking_alive f (Some thread) waking = ap (λ phase. not (is_ended phase)) (waking.phase thread)
+
+pub waking_used : (f : Thread → Thread) (o : Option Thread) → IsWaking f → used_of (option_map f o) ≡ 0
+waking_used f None waking = refl
+waking_used f (Some thread) waking = waking.used thread
+
+pub waking_ready : (f : Thread → Thread) (o : Option Thread) → IsWaking f → is_alive o ≡ true → is_ready (option_map f o) ≡ true
+waking_ready f None waking e = absurd (false≢true e)
+waking_ready f (Some thread) waking e =
+    ap (λ wait. is_none wait && not (is_ended (f thread).phase)) (waking.wait thread) ∙ ap (λ phase. not (is_ended phase)) (waking.phase thread) ∙ e

@@ -1,2 +1,4 @@
 pub mod Locks
+pub mod Conditions
+pub mod Deadlines
 pub mod LockLaws
