@@ -8,3 +8,4 @@ pub mod Ranks
 pub mod Opened
 pub mod Filled
 pub mod LineLaws
+pub mod RowStub

@@ -19,6 +19,7 @@ mod mutexes;
 mod partitions;
 mod pools;
 mod rounds;
+mod rows;
 mod running;
 #[cfg(test)]
 mod tests;
