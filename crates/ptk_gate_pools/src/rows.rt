@@ -27,7 +27,7 @@ impl Pools {
         requires partition { p < length self.old.limits }
         requires time { tick < 2 ^ 63 }
         requires in_use { IsSome (thread_at (part_at p self.old).locks t) }
-        requires ticks { (thread : Thread) → thread_at (part_at p self.old).locks t ≡ Some thread → thread.used + most < 2 ^ 32 }
+        requires room { (thread : Thread) → thread_at (part_at p self.old).locks t ≡ Some thread → thread.used + most < 2 ^ 32 }
         ensures few { result ≤ most }
         ensures plain { (thread : Thread) → thread_at (part_at p self.old).locks t ≡ Some thread → ArePlain result (core_of thread (part_at p self.old)) }
         ensures moved { (thread : Thread) → thread_at (part_at p self.old).locks t ≡ Some thread → self.new ≡ put_part p (after_row tick t result thread (part_at p self.old)) self.old }
