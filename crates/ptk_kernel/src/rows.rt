@@ -31,5 +31,9 @@ pub fn compute(
     ensures none { result ≡ 0 → (tables.new ≡ tables.old) × (trace.new ≡ trace.old) }
     ensures row { 0 < result → (t : ℕ) × (thread : Thread) × IsRow p tick result t thread tables.old tables.new trace.old trace.new }
 {
-    0
+    let _kept = trace.kept();
+    match tables.quiet_until(p, tick, stop) {
+        Some(quiet) => tables.run_row(p, quiet, tick, trace, batch),
+        None => 0,
+    }
 }
