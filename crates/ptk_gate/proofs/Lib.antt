@@ -3,3 +3,4 @@ pub mod Blanks
 pub mod Loads
 pub mod Called
 pub mod Passing
+pub mod RowsWhole

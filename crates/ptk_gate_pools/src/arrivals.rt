@@ -1,6 +1,6 @@
 //! Input that arrives: the next byte, and the waiter that it goes to (own choice).
 
-ghost use Rattle.std.specs.Prelude.{◌≡◌, ◌<◌, length, is_some};
+ghost use Rattle.std.specs.Prelude.{◌≡◌, ◌<◌, length, is_some, option_map, slice_get};
 ghost use Rattle.ptk_words_model.specs.State.{with_console};
 ghost use Rattle.ptk_words_model.specs.Console.{without_waiter};
 ghost use Rattle.ptk_words_model.specs.Decision.{first_waiter};
@@ -33,6 +33,14 @@ impl Pools {
         ensures moved { self.new ≡ put_part p (with_next_taken tick (part_at p self.old)) self.old }
     {
         self.consoles.next_arrival(p, tick)
+    }
+
+    /// The tick of the first input still to come, None where none is.
+    pub fn next_arrival_tick(&self, p: PartId) -> Option<Tick>
+        requires { p < length self.now.limits }
+        ensures { result ≡ option_map (λ a. a.tick) (slice_get (part_at p self.now).console.coming 0) }
+    {
+        self.consoles.next_arrival_tick(p)
     }
 
     /// The thread no longer waits for input; one that does not wait changes nothing.

@@ -16,6 +16,14 @@ impl Pools {
         self.limits[p.index()]
     }
 
+    /// The ticks of a round-robin interval of the partition.
+    pub fn interval(&self, p: PartId) -> u32
+        requires { p < length self.now.limits }
+        ensures { result ≡ (limits_at p self.now).interval }
+    {
+        self.limits[p.index()].interval
+    }
+
     /// Whether the partition goes on, or why it is halted.
     #[tactic(auto, using(crate::proofs::Parted::parted))]
     pub fn status(&self, p: PartId) -> Status

@@ -1,1 +1,2 @@
 pub mod StepEffects
+pub mod QuietStops

@@ -1,0 +1,66 @@
+//! Rows of plain steps.
+
+ghost use Rattle.std.specs.Prelude.{◌≡◌, ℕ, ◌+◌, ◌-◌, ◌^◌, ◌<◌, ◌≤◌, true, length, min, Some, IfSome};
+ghost use Rattle.std.specs.Option.{IsSomeAnd};
+ghost use Rattle.ptk_words.specs.declared.threads.Thread.{Thread};
+ghost use Rattle.ptk_words_model.specs.Priority.{thread_at};
+ghost use Rattle.ptk_words_model.specs.Run.{is_active};
+ghost use Rattle.ptk_words_quiet.specs.Quiet.{IsQuiet, ArePlain, core_of, after_row};
+ghost use Rattle.ptk_trace_rows.specs.TracedRows.{traced};
+ghost use Rattle.ptk_gate_pools.specs.Kept.{part_at, put_part, limits_at};
+
+use crate::tables::Tables;
+use ptk_gate_steps::{Quiet, quiet_until};
+use ptk_trace::Trace;
+use ptk_trace_rows::BATCH;
+use ptk_words::{Entry, PartId, Tick};
+
+impl Tables {
+    /// Whether the partition only computes from the tick on, and up to which tick, at most `stop`: no input comes before
+    /// it, no deadline is due, no round-robin interval ends, and the running thread stays and begins no unwinding. None
+    /// where no tick after the first one is such.
+    #[tactic(auto, using(crate::proofs::Wholes::moves, crate::proofs::RowsWhole::gate_far))]
+    pub fn quiet_until(&self, p: PartId, tick: Tick, stop: Tick) -> Option<Quiet>
+        requires partition { p < length self.now.limits }
+        requires active { is_active (part_at p self.now).status ≡ true }
+        requires order { tick < stop }
+        requires time { stop ≤ 2 ^ 41 }
+        ensures quiet { IfSome result (λ q. (tick < q.stop) × (q.stop ≤ stop) × ((thread : Thread) × (thread_at (part_at p self.now).locks q.thread ≡ Some thread) × IsQuiet (limits_at p self.now) tick q.stop q.thread thread (part_at p self.now))) }
+        ensures full { (t k : ℕ) → (thread : Thread) → tick < k → k ≤ stop → IsQuiet (limits_at p self.now) tick k t thread (part_at p self.now) → IsSomeAnd result (λ q. k ≤ q.stop) }
+    {
+        quiet_until(&self.pools, p, tick, stop)
+    }
+
+    /// Plain steps of the running thread of a quiet partition in a row, the first of them at the tick, as many as come
+    /// before the partition's stop, at most 2^31, and before a step that is not plain; how many. They are its next steps,
+    /// and the trace has them as the newest; `batch` is room for entries on their way there, of which nothing is told.
+    pub fn run_row(
+        &mut self,
+        p: PartId,
+        quiet: Quiet,
+        tick: Tick,
+        trace: &mut Trace,
+        batch: &mut [Entry; BATCH],
+    ) -> u32
+        requires partition { p < length self.old.limits }
+        requires order { tick < quiet.stop }
+        requires time { quiet.stop ≤ 2 ^ 41 }
+        requires quiet { (thread : Thread) × IsQuiet (limits_at p self.old) tick quiet.stop quiet.thread thread (part_at p self.old) }
+        ensures few { tick + result ≤ quiet.stop }
+        ensures plain { (thread : Thread) → thread_at (part_at p self.old).locks quiet.thread ≡ Some thread → ArePlain result (core_of thread (part_at p self.old)) }
+        ensures moved { (thread : Thread) → thread_at (part_at p self.old).locks quiet.thread ≡ Some thread → self.new ≡ put_part p (after_row tick quiet.thread result thread (part_at p self.old)) self.old }
+        ensures traced { (thread : Thread) → thread_at (part_at p self.old).locks quiet.thread ≡ Some thread → trace.new ≡ traced tick quiet.thread result (core_of thread (part_at p self.old)) trace.old }
+    {
+        let most = ticks_between(tick, quiet.stop);
+        self.pools
+            .run_row(p, quiet.thread, tick, most, trace, batch)
+    }
+}
+
+/// The ticks from one to a later one, at most 2^31.
+fn ticks_between(tick: Tick, stop: Tick) -> u32
+    requires { tick < stop }
+    ensures { result ≡ min (stop - tick) (2 ^ 31) }
+{
+    (stop.ticks() - tick.ticks()).min(0x8000_0000) as u32
+}

@@ -1,0 +1,115 @@
+-- Up to its stop a partition is quiet, and up to no later tick.
+use Rattle.std.proofs.Common.{◌≡◌, ℕ, ◌+◌, ◌-◌, ◌≤◌, ◌<◌, Bool, true, false, not, List, [], ◌∷◌, length, cond, refl, sym, ◌∙◌, ap, subst, arith, inl, inr}
+use Rattle.std.specs.Prelude.{Option, Some, None, IfSome, IsSome, option_map, unwrap_or, min, slice_get, take_while, nat_le, if◌then◌else◌}
+use Rattle.std.proofs.lemmas.Bool.{le-leb, false≢true}
+use Rattle.std.proofs.lemmas.Bool.Decides.{leb_tells}
+use Rattle.std.proofs.lemmas.List.Sums.{take_while-cons}
+use Rattle.ptk_words.specs.Threads.{is_ended}
+use Rattle.ptk_words.specs.declared.TheConstants.{RETURN_GATE}
+use Rattle.ptk_words.specs.declared.sections.Arrival.{Arrival}
+use Rattle.ptk_words.specs.declared.sections.Limits.{Limits}
+use Rattle.ptk_words.specs.declared.threads.Policy.{Policy}
+use Rattle.ptk_words.specs.declared.threads.Policy.TheVariants.{Fifo, RoundRobin}
+use Rattle.ptk_words.specs.declared.threads.Thread.{Thread}
+use Rattle.ptk_words_model.specs.State.{Console, Part}
+use Rattle.ptk_words_model.specs.Console.{is_due_at, arriving}
+use Rattle.ptk_words_model.specs.Priority.{thread_at, effective_priority}
+use Rattle.ptk_words_model.specs.Schedule.{first_ready, is_round_robin}
+use Rattle.ptk_words_model.specs.Decision.{is_to_unwind}
+use Rattle.ptk_words_model.specs.Unwinding.{is_alive}
+use Rattle.ptk_words_model.specs.Run.{is_active}
+use Rattle.ptk_words_locks.specs.Locks.{used_of}
+use Rattle.ptk_words_locks.proofs.Lined.{ready_alive}
+use Rattle.ptk_words_locks.proofs.Lines.{first_in}
+use Rattle.ptk_words_well.specs.Well.{IsWell}
+use Rattle.ptk_words_well.proofs.Expiries.{due_none}
+use Rattle.ptk_words_quiet.specs.Quiet.{stays_before, IsQuiet}
+use Rattle.ptk_words_quiet.proofs.Arrivals.{none_before}
+use Rattle.ptk_gate_moves.proofs.Ready.{lined_in_use}
+use Rattle.ptk_gate_steps.specs.QuietStops.{before_input, before_interval_end, quiet_stop}
+
+-- ---- the thread that is next in the line
+
+-- the first thread of the line is in use
+pub first_in_use : (limits : Limits) (s : Part) (o : Option ℕ) (t : ℕ) → IsWell limits s → o ≡ first_ready s.locks → o ≡ Some t → IsSome (thread_at s.locks t)
+first_in_use limits s o t well chosen e = lined_in_use limits s t well (first_in (effective_priority s.locks) t s.line (sym chosen ∙ e))
+
+-- ---- input
+
+input_at_stop : (coming : List Arrival) (stop n : ℕ) → n ≤ unwrap_or (option_map (λ (a : Arrival). min a.tick stop) (slice_get coming 0)) stop → IfSome (slice_get coming 0) (λ (a : Arrival). n ≤ a.tick)
+input_at_stop [] stop n le = tt
+input_at_stop (a ∷ coming) stop n le = omega (arith, le)
+
+input_le : (coming : List Arrival) (stop : ℕ) → unwrap_or (option_map (λ (a : Arrival). min a.tick stop) (slice_get coming 0)) stop ≤ stop
+input_le [] stop = omega arith
+input_le (a ∷ coming) stop = omega arith
+
+first_not_due : (a : Arrival) (coming : List Arrival) → take_while (is_due_at a.tick) (a ∷ coming) ≡ [] → ⊥
+first_not_due a coming e =
+    let due : nat_le a.tick a.tick ≡ true = le-leb a.tick a.tick (omega arith) in
+    let some : a ∷ take_while (is_due_at a.tick) coming ≡ [] = subst (λ (b : Bool). cond b (a ∷ take_while (is_due_at a.tick) coming) [] ≡ []) due (sym (take_while-cons (is_due_at a.tick) a coming) ∙ e) in
+    let no : ⊥ = cc in
+    no
+
+none_until : (coming : List Arrival) (stop k : ℕ) → k ≤ stop → ((j : ℕ) → j < k → take_while (is_due_at j) coming ≡ []) → k ≤ unwrap_or (option_map (λ (a : Arrival). min a.tick stop) (slice_get coming 0)) stop
+none_until [] stop k le none = le
+none_until (a ∷ coming) stop k le none = elim (leb_tells k a.tick) [
+  | inl up ↦ (let first : k ≤ a.tick = up.1 in omega (arith, first, le))
+  | inr down ↦ absurd (first_not_due a coming (none a.tick down.1))
+]
+
+-- ---- the round-robin interval
+
+interval_le : (robin : Bool) (at stop : ℕ) → (if robin then min at stop else stop) ≤ stop
+interval_le true at stop = omega arith
+interval_le false at stop = omega arith
+
+interval_within : (robin : Bool) (interval tick used stop n : ℕ) → used < interval → n ≤ (if robin then min (tick + (interval - used - 1)) stop else stop) → robin ≡ true → used + n < interval + tick
+interval_within true interval tick used stop n room le e = omega (arith, room, le)
+interval_within false interval tick used stop n room le e = absurd (false≢true e)
+
+interval_until : (robin : Bool) (interval tick used stop k : ℕ) → k ≤ stop → (robin ≡ true → used + k < interval + tick) → k ≤ (if robin then min (tick + (interval - used - 1)) stop else stop)
+interval_until true interval tick used stop k le within = let lt : used + k < interval + tick = within refl in omega (arith, lt, le)
+interval_until false interval tick used stop k le within = le
+
+-- ---- the stop
+
+pub stop_le : (limits : Limits) (tick stop : ℕ) (thread : Thread) (console : Console) → quiet_stop limits tick thread console stop ≤ stop
+stop_le limits tick stop thread console =
+    let inner : quiet_stop limits tick thread console stop ≤ before_input console stop = interval_le (is_round_robin thread.policy) (tick + (limits.interval - thread.used - 1)) (before_input console stop) in
+    let outer : before_input console stop ≤ stop = input_le console.coming stop in
+    omega (arith, inner, outer)
+
+not_ended : (ended : Bool) → not ended ≡ true → ended ≡ false
+not_ended true e = absurd (false≢true e)
+not_ended false e = refl
+
+-- a whole partition is quiet up to its stop
+pub quiet_up : (limits : Limits) (tick stop n t : ℕ) (thread : Thread) (s : Part) → is_active s.status ≡ true → IsWell limits s → length s.memory ≤ RETURN_GATE
+    → s.running ≡ Some t → thread_at s.locks t ≡ Some thread → is_to_unwind s t thread ≡ false → stays_before (effective_priority s.locks) t (first_ready s.locks) ≡ true
+    → n ≡ quiet_stop limits tick thread s.console stop → IsQuiet limits tick n t thread s
+quiet_up limits tick stop n t thread s active well gate runs in_use goes stays e =
+    let alive : is_alive (Some thread) ≡ true = subst (λ (o : Option Thread). is_alive o ≡ true) in_use (ready_alive (thread_at s.locks t) (well.running_ready t runs)) in
+    let room : thread.used < limits.interval = subst (λ (o : Option Thread). used_of o < limits.interval) in_use (well.used t) in
+    let inner : n ≤ before_input s.console stop =
+    subst (λ (m : ℕ). m ≤ before_input s.console stop) (sym e) (interval_le (is_round_robin thread.policy) (tick + (limits.interval - thread.used - 1)) (before_input s.console stop))
+    in
+    let same : n ≤ n = omega arith in
+    let up : n ≤ quiet_stop limits tick thread s.console stop = subst (λ (m : ℕ). n ≤ m) e same in
+    record {
+      active = active;
+      none_comes = none_before n s.console (input_at_stop s.console.coming stop n inner);
+      none_expires = λ k lt. due_none k s well.unused.untimed;
+      chosen = stays;
+      running = runs;
+      in_use = in_use;
+      lives = not_ended (is_ended thread.phase) alive;
+      goes_on = goes;
+      within = interval_within (is_round_robin thread.policy) limits.interval tick thread.used (before_input s.console stop) n room up;
+      gate = gate;
+    }
+
+-- and up to no later tick
+pub quiet_no_later : (limits : Limits) (tick stop k t : ℕ) (thread : Thread) (s : Part) → IsQuiet limits tick k t thread s → k ≤ stop → k ≤ quiet_stop limits tick thread s.console stop
+quiet_no_later limits tick stop k t thread s quiet le =
+    interval_until (is_round_robin thread.policy) limits.interval tick thread.used (before_input s.console stop) k (none_until s.console.coming stop k le quiet.none_comes) quiet.within
