@@ -1,6 +1,6 @@
 //! The console of one partition.
 
-ghost use Rattle.std.specs.Prelude.{◌≡◌, ◌<◌, ◌+◌, ◌^◌, not, length, is_some, IfOk};
+ghost use Rattle.std.specs.Prelude.{◌≡◌, ◌<◌, ◌+◌, ◌^◌, not, length, is_some, option_map, slice_get, IfOk};
 ghost use Rattle.ptk_words_model.specs.Console.{is_full, with_input, with_waiter, without_waiter};
 ghost use Rattle.ptk_console.specs.ConsoleTable.{IsNotWaiting, after_next, after_put, first_byte, fresh_console, next_byte, without_first, without_next};
 
@@ -75,6 +75,16 @@ impl PartitionConsole {
         ensures { result.now ≡ self.now.console.coming }
     {
         &self.input[self.arrived..]
+    }
+
+    /// The tick of the first input still to come, None where none is.
+    pub fn next_arrival_tick(&self) -> Option<Tick>
+        ensures { result ≡ option_map (λ a. a.tick) (slice_get self.now.console.coming 0) }
+    {
+        match self.coming().first() {
+            Some(arrival) => Some(arrival.tick),
+            None => None,
+        }
     }
 
     /// Puts the next input byte into the ring, or loses and counts it, if it comes at the tick or before.

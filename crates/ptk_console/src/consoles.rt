@@ -1,6 +1,6 @@
 //! The consoles of all partitions.
 
-ghost use Rattle.std.specs.Prelude.{◌≡◌, ◌<◌, not, length, map, is_some, IfOk};
+ghost use Rattle.std.specs.Prelude.{◌≡◌, ◌<◌, not, length, map, is_some, option_map, slice_get, IfOk};
 ghost use Rattle.ptk_words_model.specs.Console.{is_full, with_waiter, without_waiter};
 ghost use Rattle.ptk_console.specs.ConsoleTable.{IsNotWaiting, after_next, after_put, console_at, first_byte, fresh_console, limits_at, next_byte, put_console, without_first, without_next};
 
@@ -64,6 +64,14 @@ impl Consoles {
         ensures { result.now ≡ (console_at self.now p).coming }
     {
         self.items[p.index()].coming()
+    }
+
+    /// The tick of the partition's first input still to come, None where none is.
+    pub fn next_arrival_tick(&self, p: PartId) -> Option<Tick>
+        requires { p < length self.now.consoles }
+        ensures { result ≡ option_map (λ a. a.tick) (slice_get (console_at self.now p).coming 0) }
+    {
+        self.items[p.index()].next_arrival_tick()
     }
 
     /// Puts the partition's next input byte into its ring, or loses and counts it where the ring is full, if it comes at

@@ -9,8 +9,10 @@
 #![tactic(auto)]
 
 mod decisions;
+mod rows;
 mod steps;
 #[cfg(test)]
 mod tests;
 
 pub use decisions::{decide, last_step};
+pub use rows::compute;

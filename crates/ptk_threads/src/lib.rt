@@ -7,6 +7,7 @@
 //! list leaves a table, with as many stored priorities as slots (`proofs/Slots`).
 #![tactic(auto)]
 
+mod references;
 mod slot;
 mod threads;
 

@@ -1,6 +1,7 @@
 //! A slot of the table.
 
 ghost use Rattle.std.specs.Prelude.{◌≡◌, is_none, option_map, option_and_then};
+ghost use Rattle.std.specs.Option.{option_copied};
 ghost use Rattle.ptk_words.specs.declared.threads.Thread.{Thread};
 ghost use Rattle.ptk_threads.specs.Table.{with_cpu, replaced_by};
 ghost use Rattle.ptk_threads.specs.Changes.{thread_changed};
@@ -38,6 +39,17 @@ impl Slot {
         ensures { result ≡ self.now }
     {
         self.thread
+    }
+
+    /// The thread where it lies, None in a free slot.
+    #[inline]
+    pub fn thread_ref(&self) -> Option<&Thread>
+        ensures { option_copied result ≡ self.now }
+    {
+        match &self.thread {
+            Some(thread) => Some(thread),
+            None => None,
+        }
     }
 
     /// Whether no thread has it.

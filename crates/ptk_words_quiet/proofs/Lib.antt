@@ -5,3 +5,4 @@ pub mod QuietRows
 pub mod TicksInARow
 pub mod Arrivals
 pub mod RowsKept
+pub mod Sooner

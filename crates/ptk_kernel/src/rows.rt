@@ -1,0 +1,35 @@
+//! Plain steps in a row.
+
+ghost use Rattle.std.specs.Prelude.{◌≡◌, ℕ, ◌+◌, ◌^◌, ◌<◌, ◌≤◌, true, length};
+ghost use Rattle.ptk_words.specs.declared.threads.Thread.{Thread};
+ghost use Rattle.ptk_words_model.specs.Run.{is_active};
+ghost use Rattle.ptk_gate_pools.specs.Kept.{part_at};
+ghost use Rattle.ptk_kernel.specs.Rows.{IsRow};
+
+use ptk_gate::Tables;
+use ptk_trace::Trace;
+use ptk_trace_rows::BATCH;
+use ptk_words::{Entry, PartId, Tick};
+
+/// Plain steps of the partition in a row, the first of them at the tick, each in place of a decision: as many as come
+/// before anything else can, before the tick `stop` and before a step that is not plain. How many ticks they took, one
+/// each; 0, and nothing changes, where the partition isn't quiet or its next step isn't plain. The trace has the steps as
+/// the newest; `batch` is room for entries on their way there, of which nothing is told. No other partition changes.
+pub fn compute(
+    tables: &mut Tables,
+    p: PartId,
+    tick: Tick,
+    stop: Tick,
+    trace: &mut Trace,
+    batch: &mut [Entry; BATCH],
+) -> u32
+    requires partition { p < length tables.old.limits }
+    requires active { is_active (part_at p tables.old).status ≡ true }
+    requires order { tick < stop }
+    requires time { stop ≤ 2 ^ 41 }
+    ensures within { tick + result ≤ stop }
+    ensures none { result ≡ 0 → (tables.new ≡ tables.old) × (trace.new ≡ trace.old) }
+    ensures row { 0 < result → (t : ℕ) × (thread : Thread) × IsRow p tick result t thread tables.old tables.new trace.old trace.new }
+{
+    0
+}

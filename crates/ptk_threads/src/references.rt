@@ -1,0 +1,35 @@
+//! A thread where it lies in the table, for readers of few of its fields.
+
+ghost use Rattle.std.specs.Prelude.{◌≡◌, ◌<◌, length};
+ghost use Rattle.std.specs.Option.{option_copied};
+ghost use Rattle.ptk_words.specs.Pools.{pool_get};
+ghost use Rattle.ptk_threads.specs.Table.{thread_in};
+
+use crate::slot::Slot;
+use crate::threads::Threads;
+use ptk_words::{PartId, Thread, ThreadNo};
+
+impl Threads {
+    /// The thread of a number where it lies, None of a free one. Nothing of it is copied.
+    #[inline]
+    pub fn thread_ref(&self, p: PartId, k: ThreadNo) -> Option<&Thread>
+        requires { p < length self.now.threads }
+        ensures { option_copied result ≡ thread_in self.now p k }
+    {
+        thread_among(self.part(p), k)
+    }
+}
+
+/// The thread of a number among a partition's slots, None of a free one.
+#[inline]
+#[tactic(auto, using(crate::proofs::Slots::numbers))]
+fn thread_among(slots: &[Slot], k: ThreadNo) -> Option<&Thread>
+    ensures { option_copied result ≡ pool_get slots.now k }
+{
+    let i = k.place();
+    if i < slots.len() {
+        slots[i].thread_ref()
+    } else {
+        None
+    }
+}
