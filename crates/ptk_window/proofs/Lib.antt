@@ -3,3 +3,4 @@ pub mod Permuted
 pub mod Orders
 pub mod Searches
 pub mod Found
+pub mod Nexts

@@ -5,7 +5,7 @@ use Rattle.std.proofs.lemmas.Bool.{cases_order, cases_lt, or_cases, or_parts, an
 use Rattle.std.proofs.lemmas.List.{get_or_default}
 use Rattle.ptk_words_windows.specs.declared.window.Window.{Window}
 use Rattle.ptk_words_windows.specs.Windows.{Holds}
-use Rattle.ptk_window.specs.Order.{AreInOrder, AreGrouped, is_past}
+use Rattle.ptk_window.specs.Order.{AreInOrder, AreGrouped, IsFirstAfter, is_past}
 
 -- ---- the window that holds a place
 pub starts_rise : (ws : List Window) → AreInOrder ws → IsNonDecreasingBy (λ (w : Window). w.start) ws
@@ -112,22 +112,40 @@ none_after p place ws i grouped within past other k d below same =
 pub found_ends : (p place : ℕ) (ws : List Window) (i : ℕ) (d : Window) → i < length ws → Past p place ws i → (get_or ws i d).partition ≡ p → place < (get_or ws i d).start + (get_or ws i d).length
 found_ends p place ws i d below past same = (not_past p place (get_or ws i d) (past.1 i d (omega arith) below)).1 same
 
-pub found_least : (p place : ℕ) (ws : List Window) (i : ℕ) (w : Window) → AreGrouped ws → i < length ws → Past p place ws i → get_or ws i w ≡ w → w.partition ≡ p → All (λ v. v.partition ≡ p → place < v.start + v.length → w.start ≤ v.start) ws
-found_least p place ws i w grouped below past is same k d k_below of_p after =
-    let is_d : get_or ws i d ≡ w = get_or_default ws i d w below ∙ is in
-    elim (cases_lt k i) [
-      | inl before ↦
-          elim (past_cases p place (get_or ws k d) (past.0 k d (omega arith) before)) [
+-- where the first that is not past is the partition's, it is its first that ends after the place
+pub found_first : (p place : ℕ) (ws : List Window) (i : ℕ) (w : Window) → i < length ws → Past p place ws i → get_or ws i w ≡ w → w.partition ≡ p → IsFirstAfter ws p place i
+found_first p place ws i w below past is same =
+    let same_at : (get_or ws i w).partition ≡ p = subst (λ (v : Window). v.partition ≡ p) (sym is) same in
+    record {
+      window = w;
+      within = below;
+      is = is;
+      own = same;
+      after = subst (λ (v : Window). place < v.start + v.length) is (found_ends p place ws i w below past same_at);
+      before = λ k d under of_p.
+          elim (past_cases p place (get_or ws k d) (past.0 k d (omega arith) under)) [
             | inl lower ↦ absurd (omega (arith, lower, of_p))
-            | inr both ↦ absurd (omega (arith, both.1, after))
-          ]
-      | inr later ↦
-          elim (cases_order i k) [
-            | inl same_place ↦ subst (λ (n : ℕ). w.start ≤ (get_or ws n d).start) same_place (subst (λ (v : Window). w.start ≤ v.start) (sym is_d) (omega arith))
-            | inr (inl before) ↦
-                let ends = (grouped i k d before k_below).1 (ap (λ (v : Window). v.partition) is_d ∙ (same ∙ sym of_p)) in
-                let low : w.start + w.length ≤ (get_or ws k d).start = subst (λ (v : Window). v.start + v.length ≤ (get_or ws k d).start) is_d ends in
-                omega (arith, low)
-            | inr (inr after_it) ↦ absurd (omega arith)
-          ]
+            | inr both ↦ both.1
+          ];
+    }
+
+-- of a partition's windows those that stand later begin later
+pub starts_order : (ws : List Window) (i k : ℕ) (w d : Window) → AreGrouped ws → i ≤ k → k < length ws → get_or ws i w ≡ w → (get_or ws k d).partition ≡ w.partition → w.start ≤ (get_or ws k d).start
+starts_order ws i k w d grouped low below is same =
+    let is_d : get_or ws i d ≡ w = get_or_default ws i d w (omega arith) ∙ is in
+    elim (cases_order i k) [
+      | inl same_place ↦ subst (λ (n : ℕ). w.start ≤ (get_or ws n d).start) same_place (subst (λ (v : Window). w.start ≤ v.start) (sym is_d) (omega arith))
+      | inr (inl before) ↦
+          let ends = (grouped i k d before below).1 (ap (λ (v : Window). v.partition) is_d ∙ sym same) in
+          let past : w.start + w.length ≤ (get_or ws k d).start = subst (λ (v : Window). v.start + v.length ≤ (get_or ws k d).start) is_d ends in
+          omega (arith, past)
+      | inr (inr after) ↦ absurd (omega arith)
+    ]
+
+-- it begins first of those that end after the place
+pub first_least : (p place : ℕ) (ws : List Window) (i : ℕ) → AreGrouped ws → (first : IsFirstAfter ws p place i) → All (λ v. v.partition ≡ p → place < v.start + v.length → first.window.start ≤ v.start) ws
+first_least p place ws i grouped first k d below of_p after =
+    elim (cases_lt k i) [
+      | inl before ↦ absurd (omega (arith, first.before k d before of_p))
+      | inr later ↦ starts_order ws i k first.window d grouped later below first.is (of_p ∙ sym first.own)
     ]

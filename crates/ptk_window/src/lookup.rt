@@ -4,7 +4,7 @@ ghost use Rattle.std.specs.Prelude.{◌≡◌, ℕ, ◌+◌, ◌<◌, ◌≤◌,
 ghost use Rattle.std.specs.Ordering.{nat_cmp};
 ghost use Rattle.std.specs.List.Sorted.{IsNonDecreasingBy};
 ghost use Rattle.ptk_words_windows.specs.Windows.{Holds};
-ghost use Rattle.ptk_window.specs.Order.{AreInOrder, AreGrouped, is_past};
+ghost use Rattle.ptk_window.specs.Order.{AreInOrder, AreGrouped, IsFirstAfter, is_past};
 
 use ptk_words::PartId;
 use ptk_words_windows::Window;
@@ -62,13 +62,20 @@ pub(crate) fn first_after(by_partition: &[Window], partition: PartId, place: u64
         (λ w. Contains by_partition.now w × (w.partition ≡ partition) × (place < w.start + w.length)
         × All (λ v. v.partition ≡ partition → place < v.start + v.length → w.start ≤ v.start) by_partition.now) }
 {
+    let found = place_after(by_partition, partition, place)?;
+    Some(by_partition[found])
+}
+
+/// Where the partition's first window stands that ends after the place in the frame.
+pub(crate) fn place_after(by_partition: &[Window], partition: PartId, place: u64) -> Option<usize>
+    requires { AreGrouped by_partition.now }
+    ensures { MatchOption result
+        (All (λ w. w.partition ≡ partition → w.start + w.length ≤ place) by_partition.now)
+        (IsFirstAfter by_partition.now partition place) }
+{
     let past = by_partition.partition_point(|window| is_past(window, partition, place));
-    if past == by_partition.len() {
-        return None;
-    }
-    let window = by_partition[past];
-    if window.partition == partition {
-        Some(window)
+    if past < by_partition.len() && by_partition[past].partition == partition {
+        Some(past)
     } else {
         None
     }

@@ -2,6 +2,7 @@
 
 use crate::faults::window_fault;
 use crate::lookup::{by_partition, by_start, first_after, holder};
+use crate::near::{Near, Turn};
 use ptk_words::{PartId, Tick};
 use ptk_words_windows::{Window, WindowFault};
 use std::alloc::Global;
@@ -32,6 +33,7 @@ ghost use Rattle.std.specs.Prelude.{◌≡◌, ◌≢◌, ℕ, ◌+◌, ◌^◌,
 ghost use Rattle.ptk_words_windows.specs.WindowFaults.{window_fault};
 ghost use Rattle.ptk_words_windows.specs.Windows.{IsOwn, IsFirstOwn, IsOwnUntil, IsTable, own_ticks};
 ghost use Rattle.ptk_window.specs.Order.{end_of};
+ghost use Rattle.ptk_window.specs.Turn.{IsTurn, IsSoon};
 
 impl WindowTable {
     /// The table of these windows, for so many partitions.
@@ -119,5 +121,28 @@ impl WindowTable {
         let window = first_after(&self.by_partition, partition, 0)?;
         let next_frame = frame_start + u64::from(self.frame);
         Some(Tick::new(next_frame + u64::from(window.start)))
+    }
+
+    /// The partition's first own tick that is not before the tick, which is at most 2^41, and the end of the window
+    /// that holds it. None where the partition has no window.
+    ///
+    /// Whatever `near` is, the answer is the same. Where the window that it was left at holds the tick, or the
+    /// partition's next one comes next, there is no search and no division.
+    #[inline(always)]
+    pub fn turn_from(&self, partition: PartId, tick: Tick, near: &mut Near) -> Option<Turn>
+        requires { tick ≤ 2 ^ 41 }
+        ensures turn { MatchOption result
+            ((own_ticks self.now partition).next_of tick ≡ None)
+            (IsTurn self.now partition tick) }
+        ensures near { IfSome result (IsSoon self.now tick) }
+    {
+        let windows = self.by_partition.as_slice();
+        if near.goes_on(windows, self.frame, partition, tick) {
+            return Some(near.turn(windows, tick));
+        }
+        if near.search(windows, self.frame, partition, tick) {
+            return Some(near.turn(windows, tick));
+        }
+        None
     }
 }

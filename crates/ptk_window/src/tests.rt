@@ -1,4 +1,6 @@
-use crate::{Window, WindowFault, WindowTable};
+ghost use Rattle.std.specs.Prelude.{◌≤◌, ◌^◌};
+
+use crate::{Near, Window, WindowFault, WindowTable};
 use ptk_words::{PartId, Tick};
 use std::alloc::{AllocError, Global};
 use std::test::Fail;
@@ -121,4 +123,31 @@ fn among_64_windows(rt: HostRuntime) -> Result<(), Fail> {
 #[test]
 fn refused_memory_is_a_fault_of_its_own(rt: HostRuntime) {
     assert_eq!(rt; WindowFault::from(AllocError).number(), 6);
+}
+
+/// The turn of the partition from this tick, as the numbers of its start and its end.
+fn turn(table: &WindowTable, part: PartId, tick: u64, near: &mut Near) -> Option<(u64, u64)>
+    requires { tick ≤ 2 ^ 41 }
+{
+    let turn = table.turn_from(part, Tick::new(tick), near)?;
+    Some((turn.start.ticks(), turn.end.ticks()))
+}
+
+#[test]
+fn turns_of_three_frames(rt: HostRuntime) -> Result<(), Fail> {
+    let p = PartId::new(0);
+    let windows = [window(10, 20, 0), window(30, 20, 1), window(60, 30, 0)];
+    let table = WindowTable::new(rt.alloc(), 100, 3, &windows)?;
+    let mut near = Near::new();
+    assert_eq!(rt; turn(&table, p, 0, &mut near), Some((10, 30)));
+    assert_eq!(rt; turn(&table, p, 10, &mut near), Some((10, 30)));
+    assert_eq!(rt; turn(&table, p, 29, &mut near), Some((29, 30)));
+    assert_eq!(rt; turn(&table, p, 30, &mut near), Some((60, 90)));
+    assert_eq!(rt; turn(&table, p, 75, &mut near), Some((75, 90)));
+    assert_eq!(rt; turn(&table, p, 90, &mut near), Some((110, 130)));
+    assert_eq!(rt; turn(&table, p, 111, &mut near), Some((111, 130)));
+    assert_eq!(rt; turn(&table, p, 170, &mut near), Some((170, 190)));
+    assert_eq!(rt; turn(&table, p, 200, &mut near), Some((210, 230)));
+    assert_eq!(rt; turn(&table, p, 290, &mut near), Some((310, 330)));
+    Ok(())
 }
