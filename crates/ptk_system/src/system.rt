@@ -1,6 +1,6 @@
 //! The system and its runs.
 
-ghost use Rattle.std.specs.Prelude.{◌≡◌, ◌+◌, ◌<◌, ◌≤◌, None, IfOk, MatchResult, max};
+ghost use Rattle.std.specs.Prelude.{◌≡◌, ◌<◌, ◌≤◌, None, IfOk, MatchResult, max};
 ghost use Rattle.ptk_words.specs.declared.TheConstants.{LAST_TICK};
 ghost use Rattle.ptk_system.specs.Missing.{first_missing, missing_in};
 ghost use Rattle.ptk_system.specs.World.{at_tick};
@@ -10,7 +10,8 @@ use crate::fault::BootFault;
 use ptk_config::Config;
 use ptk_system_files::Files;
 use ptk_system_machine::Machine;
-use ptk_words::Tick;
+use ptk_trace_rows::BATCH;
+use ptk_words::{Entry, ThreadNo, Tick};
 use std::alloc::Global;
 use std::marker::Model;
 
@@ -66,13 +67,22 @@ impl<'a> System<'a> {
         requires { n ≤ LAST_TICK }
         ensures { self.new ≡ at_tick (max self.old.tick n) self.old }
     {
+        let unset = Entry {
+            tick: n,
+            thread: ThreadNo::new(1),
+            pc: 0,
+            word: 0,
+            a0: 0,
+        };
+        let mut batch = [unset; BATCH];
         while self.tick.ticks() < n.ticks() {
-            self.advance(n);
+            self.advance(n, &mut batch);
         }
     }
 
-    /// Goes on to the tick after the next decision of any partition, or to `n` where none comes before it.
-    fn advance(&mut self, n: Tick)
+    /// Goes on to the end of the window in which any partition decides next, or to `n` where that comes first. `batch` is
+    /// room for entries on their way into a trace.
+    fn advance(&mut self, n: Tick, batch: &mut [Entry; BATCH])
         requires later { self.old.tick < n }
         requires small { n ≤ LAST_TICK }
         ensures same { self.new ≡ at_tick self.new.tick self.old }
@@ -81,7 +91,7 @@ impl<'a> System<'a> {
     {
         self.jump(n);
         if self.tick.ticks() < n.ticks() {
-            self.decide();
+            self.turn(n, batch);
         }
     }
 
@@ -97,14 +107,18 @@ impl<'a> System<'a> {
         self.tick = due;
     }
 
-    /// One tick.
-    fn decide(&mut self)
-        requires { self.old.tick < LAST_TICK }
-        ensures { self.new ≡ at_tick (self.old.tick + 1) self.old }
+    /// Goes on within the window that holds the tick, to its end or to `n`, whichever comes first.
+    fn turn(&mut self, n: Tick, batch: &mut [Entry; BATCH])
+        requires later { self.old.tick < n }
+        requires small { n ≤ LAST_TICK }
+        ensures same { self.new ≡ at_tick self.new.tick self.old }
+        ensures on { self.old.tick < self.new.tick }
+        ensures to { self.new.tick ≤ n }
     {
         let config = self.config;
-        self.machine.tick(config.windows(), self.tick);
-        self.tick = Tick::new(self.tick.ticks() + 1);
+        let windows = config.windows();
+        let reached = self.machine.turn(windows, self.tick, n, batch);
+        self.tick = reached;
     }
 
     /// The tick that was reached.

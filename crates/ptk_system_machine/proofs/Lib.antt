@@ -1,3 +1,5 @@
+pub mod Behind
+pub mod CountedRows
 pub mod Due
 pub mod Entries
 pub mod States

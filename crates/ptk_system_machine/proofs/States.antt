@@ -108,3 +108,5 @@ still_whole p s kept new accounts account is moved same =
     })
 
 pub ruleset same_part = (put_part-same)
+
+pub ruleset states = (state_at-put, put_state-same, decision_entry, still_whole)

@@ -1,6 +1,5 @@
 -- What the system keeps of a partition beside its part of the tables.
-use Rattle.std.specs.Prelude.{◌≡◌, ◌≤◌, ◌^◌, ℕ, ◌+◌, [], ◌++◌, true, Option, IsSome, option_to_list}
-use Rattle.ptk_words.specs.declared.TheConstants.{LAST_TICK}
+use Rattle.std.specs.Prelude.{◌≡◌, ◌≤◌, ℕ, ◌+◌, ◌*◌, [], ◌++◌, true, Option, IsSome, option_to_list}
 use Rattle.ptk_words.specs.declared.sections.Entry.{Entry}
 use Rattle.ptk_words_model.specs.declared.Spent.{Spent}
 use Rattle.ptk_words_model.specs.declared.Spent.TheVariants.{Step, Idle, Lost}
@@ -44,8 +43,8 @@ HasEntry Idle last = Unit {0}
 HasEntry Lost last = Unit {0}
 HasEntry (Step cost) last = IsSome last
 
--- the counts leave room for one more decision, and a partition that has one to come is not halted
-pub record IsCounted (state : State) : Type 0 where
-  pub steps : state.account.steps ≤ LAST_TICK
-  pub lost : state.account.lost ≤ 2 ^ 60
+-- so many ticks are behind the state: at most as many steps, for each tick at most a frame's lost ones, and a partition that has a decision to come is not halted (own)
+pub record IsBehind (n : ℕ) (state : State) : Type 0 where
+  pub steps : state.account.steps ≤ n
+  pub lost : state.account.lost ≤ 1000000 * n
   pub active : IsSome state.account.next → is_active state.part.status ≡ true

@@ -1,8 +1,9 @@
 -- The states of all partitions at once.
-use Rattle.std.specs.Prelude.{◌≡◌, ℕ, ◌<◌, ◌≤◌, List, None, Some, All, Any, length, slice_index_or, slice_set}
-use Rattle.ptk_words_windows.specs.Windows.{WindowTable, own_ticks}
+use Rattle.std.specs.Prelude.{◌≡◌, ℕ, ◌+◌, ◌<◌, ◌≤◌, List, None, Some, All, Any, length, slice_index_or, slice_set}
+use Rattle.ptk_words_windows.specs.Windows.{WindowTable, OwnTicks, own_ticks}
 use Rattle.ptk_words_model.specs.State.{State}
 use Rattle.ptk_words_model.specs.Run.{next_from}
+use Rattle.ptk_words_quiet.specs.Quiet.{AreOwn, after_ticks}
 use Rattle.ptk_gate_pools.specs.Kept.{Kept, AreParts, limits_at, part_at, put_part}
 use Rattle.ptk_system_machine.specs.Accounts.{KeptAccount, first_account}
 
@@ -34,6 +35,16 @@ put_state p state whole =
       kept = put_part p state.part whole.kept;
       accounts = slice_set whole.accounts p (record (account_at p whole) { account = state.account });
     }
+
+-- the states after n ticks of one partition, from this one on; every other partition's stays
+abbrev pub gone_on : OwnTicks → ℕ → ℕ → ℕ → Whole → Whole
+gone_on ticks p tick n whole = put_state p (after_ticks ticks (limits_at p whole.kept) tick n (state_at p whole)) whole
+
+-- from the tick on each tick is a partition's own, in one window that ends there, at most a frame later
+pub record IsInWindow (ticks : OwnTicks) (tick end : ℕ) : Type 0 where
+  pub own : AreOwn ticks tick end
+  pub ends : (k : ℕ) → tick ≤ k → k < end → ticks.end_at k ≡ Some end
+  pub near : end ≤ tick + 1000000
 
 -- every partition has an entry in each list, and its trace keeps what its section says
 pub record IsWhole (kept : Kept) (accounts : List KeptAccount) : Type 0 where

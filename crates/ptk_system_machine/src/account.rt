@@ -1,6 +1,6 @@
 //! What is counted of one partition.
 
-ghost use Rattle.std.specs.Prelude.{◌≡◌, ◌≤◌, ◌^◌, IfOk};
+ghost use Rattle.std.specs.Prelude.{◌≡◌, ◌≤◌, ◌^◌, ◌+◌, IfOk};
 ghost use Rattle.ptk_words.specs.declared.TheConstants.{LAST_TICK};
 ghost use Rattle.ptk_kernel.specs.Spending.{cost_in};
 ghost use Rattle.ptk_system_machine.specs.Accounts.{HasEntry, first_account, spent_account, duration_of};
@@ -17,7 +17,7 @@ pub struct Account {
     next: Option<Tick>,
     steps: u64,
     lost: u64,
-    trace: Trace,
+    pub(crate) trace: Trace,
 }
 
 impl Model for Account {
@@ -89,6 +89,16 @@ impl Account {
                 }
             }
         }
+    }
+
+    /// Counts so many steps of a row, whose entries are in the trace, each as a decision: the tick of the next one, and
+    /// the steps.
+    pub(crate) fn count_row(&mut self, next: Option<Tick>, steps: u32)
+        requires { self.old.account.steps ≤ LAST_TICK }
+        ensures { self.new ≡ record self.old { account = record self.old.account { next = next; steps = self.old.account.steps + steps } } }
+    {
+        self.next = next;
+        self.steps += u64::from(steps);
     }
 }
 

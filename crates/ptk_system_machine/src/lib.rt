@@ -7,6 +7,7 @@
 
 mod account;
 mod machine;
+mod turns;
 
 pub use account::Account;
 pub use machine::Machine;

@@ -1,16 +1,13 @@
 //! All partitions.
 
-ghost use Rattle.std.specs.Prelude.{◌≡◌, ◌<◌, ◌≤◌, ◌^◌, ◌+◌, ℕ, true, Some, IfOk, length, slice_index_or};
-ghost use Rattle.ptk_words.specs.declared.TheConstants.{LAST_TICK};
+ghost use Rattle.std.specs.Prelude.{◌≡◌, ◌<◌, ◌≤◌, ◌^◌, ℕ, Some, IfOk, length, slice_index_or};
 ghost use Rattle.ptk_words_windows.specs.Windows.{own_ticks};
-ghost use Rattle.ptk_words_model.specs.Run.{after_tick, after_tick_until, decided, is_active, is_at, next_from};
-ghost use Rattle.ptk_gate_pools.specs.Kept.{AreParts, limits_at, part_at};
-ghost use Rattle.ptk_system_machine.specs.Accounts.{IsCounted};
-ghost use Rattle.ptk_system_machine.specs.Whole.{AreWindowsOf, IsDue, IsWhole, account_at, first_account_of, no_account, put_state, state_at};
+ghost use Rattle.ptk_words_model.specs.Run.{is_active, next_from};
+ghost use Rattle.ptk_gate_pools.specs.Kept.{AreParts, limits_at};
+ghost use Rattle.ptk_system_machine.specs.Whole.{IsDue, IsWhole, account_at, first_account_of, no_account};
 
-use crate::account::{Account, duration};
+use crate::account::Account;
 use ptk_gate::Tables;
-use ptk_kernel::{decide, last_step};
 use ptk_window::WindowTable;
 use ptk_words::{Limits, PartId, Status, Tick};
 use std::alloc::{AllocError, Global};
@@ -19,8 +16,8 @@ use std::marker::Model;
 /// All partitions' states: the tables, and each partition's account.
 #[derive(Drop)]
 pub struct Machine {
-    tables: Tables,
-    accounts: Vec<Account>,
+    pub(crate) tables: Tables,
+    pub(crate) accounts: Vec<Account>,
 }
 
 impl Model for Machine {
@@ -83,56 +80,17 @@ impl Machine {
 }
 
 impl Machine {
-    /// A tick, below 2^40. To each partition it does what it would do to that partition alone.
-    #[tactic(auto, using(crate::proofs::Ticks::ticks))]
-    pub fn tick(&mut self, windows: &WindowTable, tick: Tick)
-        requires windows { AreWindowsOf (length self.old.accounts) windows.now }
-        requires time { tick < LAST_TICK }
-        requires counted { (p : ℕ) → p < length self.old.accounts → IsCounted (state_at p self.old) }
-        ensures parts { length self.new.accounts ≡ length self.old.accounts }
-        ensures limits { self.new.kept.limits ≡ self.old.kept.limits }
-        ensures each { (q : ℕ) → q < length self.old.accounts →
-            state_at q self.new ≡ after_tick (own_ticks windows.now q) (limits_at q self.old.kept) tick (state_at q self.old) }
+    /// The tick of the partition's next decision, where that is from `from` on and before `to`, else `to`.
+    pub(crate) fn due_of(&self, p: PartId, from: Tick, to: Tick) -> Tick
+        requires partition { p < length self.now.accounts }
+        requires order { from ≤ to }
+        ensures not_before { from ≤ result }
+        ensures not_after { result ≤ to }
+        ensures none_between { (k : ℕ) → (account_at p self.now).account.next ≡ Some k → from ≤ k → result ≤ k }
+        ensures due { result < to → (account_at p self.now).account.next ≡ Some result }
     {
-        let _parts = self.parts();
-        if let Some((p, end)) = windows.at(tick) {
-            self.turn(windows, p, tick, end);
-        }
-    }
-
-    /// A tick in a window of this partition, which ends then.
-    #[tactic(auto, using(crate::proofs::Ticks::states))]
-    fn turn(&mut self, windows: &WindowTable, p: PartId, tick: Tick, end: Tick)
-        requires partition { p < length self.old.accounts }
-        requires time { tick < LAST_TICK }
-        requires end { tick < end }
-        requires near { end ≤ tick + 1000000 }
-        requires counted { IsCounted (state_at p self.old) }
-        ensures { self.new ≡ put_state p (after_tick_until (Some end) (own_ticks windows.now p) (limits_at p self.old.kept) tick (state_at p self.old)) self.old }
-    {
-        if is_at(tick, self.account(p).next()) {
-            let room = (end.ticks() - tick.ticks()) as u32;
-            self.decide(windows, p, tick, room);
-        }
-    }
-
-    /// The decision of a partition at a tick of its own with this room.
-    #[tactic(auto, using(crate::proofs::Ticks::states))]
-    fn decide(&mut self, windows: &WindowTable, p: PartId, tick: Tick, room: u32)
-        requires partition { p < length self.old.accounts }
-        requires time { tick < LAST_TICK }
-        requires room { 1 ≤ room }
-        requires near { room ≤ 1000000 }
-        requires due { is_at tick (account_at p self.old).account.next ≡ true }
-        requires counted { IsCounted (state_at p self.old) }
-        ensures { self.new ≡ put_state p (decided (own_ticks windows.now p) (limits_at p self.old.kept) tick room (state_at p self.old)) self.old }
-    {
-        let spent = decide(&mut self.tables, p, tick, room);
-        let end = tick.ticks() + u64::from(duration(room, spent));
-        let next = next_from(windows, p, self.tables.status(p), Tick::new(end));
-        let last = last_step(&self.tables, p);
-        let account = &mut self.accounts[p.index()];
-        account.count(next, room, spent, last);
+        let next = self.account(p).next();
+        Tick::new(earlier_due(next, from.ticks(), to.ticks()))
     }
 
     /// The first tick from `from` on that is below `to` and at which a partition decides next, or `to` where there is
@@ -190,7 +148,12 @@ fn first_accounts(
 }
 
 /// The partition's first own tick from this one on, none where it is halted.
-fn next_from(windows: &WindowTable, p: PartId, status: Status, tick: Tick) -> Option<Tick>
+pub(crate) fn next_from(
+    windows: &WindowTable,
+    p: PartId,
+    status: Status,
+    tick: Tick,
+) -> Option<Tick>
     requires { tick ≤ 2 ^ 41 }
     ensures { result ≡ next_from (own_ticks windows.now p) status tick }
 {
@@ -202,18 +165,8 @@ fn next_from(windows: &WindowTable, p: PartId, status: Status, tick: Tick) -> Op
 }
 
 /// Whether the partition is not halted.
-fn is_active(status: Status) -> bool
+pub(crate) fn is_active(status: Status) -> bool
     ensures { result ≡ is_active status }
 {
     matches!(status, Status::Active)
-}
-
-/// Whether the next decision is at the tick.
-fn is_at(tick: Tick, next: Option<Tick>) -> bool
-    ensures { result ≡ is_at tick next }
-{
-    match next {
-        Some(next) => next.ticks() == tick.ticks(),
-        None => false,
-    }
 }

@@ -25,8 +25,8 @@ returns c =
     ≡ put_state c.args.p (decided (own_ticks c.args.windows.now c.args.p) (limits_at c.args.p w.kept) c.args.tick c.args.room (state_at c.args.p w)) w) c.self.view_is
     (ap (λ (i : ℕ). record { kept = c.decide-spent.new.tables; accounts = set c.self.inside.accounts.items i c.count.new.self }) c.index.ensures
     ∙ decided_whole (own_ticks c.args.windows.now c.args.p) c.args.tick c.args.room c.args.p c.self.inside.tables c.decide-spent.new.tables c.self.inside.accounts.items c.count.new.self
-    c.decide-spent.result c.next_from-next.result c.last_step-last.result c.self.invariant lt c.decide-spent.ensures.told c.decide-spent.ensures.moved
-    (c.next_from-next.ensures ∙ (ap (λ (s : Status). next_from (own_ticks c.args.windows.now c.args.p) s c.new.result) c.status.ensures
+    c.decide-spent.result c.next_within-next.result c.last_step-last.result c.self.invariant lt c.decide-spent.ensures.told c.decide-spent.ensures.moved
+    (c.next_within-next.ensures ∙ (ap (λ (s : Status). next_from (own_ticks c.args.windows.now c.args.p) s c.new.result) c.status.ensures
     ∙ ap (λ (t : ℕ). next_from (own_ticks c.args.windows.now c.args.p) (part_at c.args.p c.decide-spent.new.tables).status t) end))
     c.last_step-last.ensures
-    (c.count.ensures ∙ ap (λ (a : KeptAccount). record a { account = spent_account c.next_from-next.result a.kept c.args.room c.decide-spent.result c.last_step-last.result a.account }) account))
+    (c.count.ensures ∙ ap (λ (a : KeptAccount). record a { account = spent_account c.next_within-next.result a.kept c.args.room c.decide-spent.result c.last_step-last.result a.account }) account))
