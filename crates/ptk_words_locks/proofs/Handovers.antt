@@ -1,6 +1,6 @@
 -- A mutex taken, marked, abandoned, left by a waiter, and handed over.
-use Rattle.std.proofs.Common.{◌≡◌, ℕ, true, false, List, [], ◌∷◌, ◌++◌, refl, sym, ◌∙◌, ap, arith}
-use Rattle.std.specs.Prelude.{◌≢◌, Option, Some, None, option_map}
+use Rattle.std.proofs.Common.{◌≡◌, ℕ, true, List, [], refl, sym, ◌∙◌, ap, arith}
+use Rattle.std.specs.Prelude.{Option, Some, None, option_map}
 use Rattle.std.proofs.lemmas.Bool.{eqb-true, false≢true, true≢false}
 use Rattle.ptk_words.specs.Pools.{pool_get, pool_changed, is_in}
 use Rattle.ptk_words.specs.declared.threads.Thread.{Thread}

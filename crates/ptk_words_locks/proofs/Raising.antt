@@ -1,7 +1,6 @@
 -- Who raises whom: a thread that sleeps or waits on a condition variable raises nobody, and such a wait changes no priority.
 use Rattle.std.proofs.Common.{◌≡◌, ℕ, zero, suc, Bool, true, false, ◌||◌, List, fold, max, refl, sym, ◌∙◌, ap}
 use Rattle.std.specs.Prelude.{Option, Some, None, option_map, option_and_then, unwrap_or, ◌==◌}
-use Rattle.std.proofs.lemmas.Bool.{or_right, or_from}
 use Rattle.ptk_words.specs.Pools.{pool_get, pool_changed}
 use Rattle.ptk_words.specs.declared.threads.Thread.{Thread}
 use Rattle.ptk_words.specs.declared.threads.Wait.{Wait}

@@ -1,15 +1,15 @@
 -- A waiter leaves its condition variable and re-locks the mutex that it named: signal, broadcast, and what a deadline or a cancellation does.
-use Rattle.std.proofs.Common.{◌≡◌, ℕ, zero, suc, ◌<◌, true, false, List, [], ◌∷◌, ◌++◌, length, refl, sym, ◌∙◌, ap, subst, inl, inr}
-use Rattle.std.specs.Prelude.{◌≢◌, IsSome, Option, Some, None, option_to_list}
+use Rattle.std.proofs.Common.{◌≡◌, ℕ, zero, suc, true, false, List, length, refl, sym, ◌∙◌, ap, subst, inl, inr}
+use Rattle.std.specs.Prelude.{◌≢◌, Option, Some, None, option_to_list}
 use Rattle.std.specs.Fn.{iterate}
 use Rattle.std.proofs.lemmas.Bool.{cases_eq}
-use Rattle.ptk_words.specs.Pools.{pool_get, pool_set, pool_changed, without, first_of_greatest, is_in}
+use Rattle.ptk_words.specs.Pools.{pool_get, pool_set, pool_changed, without, first_of_greatest}
 use Rattle.ptk_words.specs.declared.threads.Thread.{Thread}
 use Rattle.ptk_words.specs.declared.threads.Wait.{Wait}
 use Rattle.ptk_words.specs.declared.threads.Wait.TheVariants.{InputWait, SleepWait, JoinWait, MutexWait, ConditionWait, RelockWait}
 use Rattle.ptk_words_model.specs.declared.LockMove.{LockMove}
 use Rattle.ptk_words_model.specs.declared.LockMove.TheVariants.{Takes, Recovers, Counts, Waits, Refuses}
-use Rattle.ptk_words_model.specs.State.{Mutex, Condition, Locks, Syncs}
+use Rattle.ptk_words_model.specs.State.{Condition, Locks, Syncs}
 use Rattle.ptk_words_model.specs.Priority.{mutex_of_wait, awaited, thread_at, effective_priority}
 use Rattle.ptk_words_model.specs.Schedule.{at_tail_with, woken_with}
 use Rattle.ptk_words_model.specs.Mutex.{mutex_at, wait_of, move_reply, relock_move, after_wait, after_take, after_count, after_relock_move, after_relock}
@@ -24,7 +24,6 @@ use Rattle.ptk_words_locks.proofs.Listed.{IsElsewhere, elsewhere_mutex, listed_e
 use Rattle.ptk_words_locks.proofs.Threads.{IsWaking, waking_woken, waking_alive, waking_used, changed_same, used_changed, awaits_by, idle_awaits, in_wait}
 use Rattle.ptk_words_locks.proofs.Exclusion.{exclusion_same, joined_by}
 use Rattle.ptk_words_locks.proofs.Wakings.{waits_not_ready, waits_alive, waking_idle, lined_woken}
-use Rattle.ptk_words_locks.proofs.Whole.{AreHeld}
 use Rattle.ptk_words_locks.proofs.Rooms.{roomy_joined}
 use Rattle.ptk_words_locks.proofs.Handovers.{held_take}
 use Rattle.ptk_words_locks.proofs.Blocks.{blocks_waits, wait_change, used_blocked, exclusion_joined}
