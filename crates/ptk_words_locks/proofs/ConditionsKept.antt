@@ -19,9 +19,8 @@ use Rattle.ptk_words_locks.proofs.Lined.{AreLined, ready_waits, not_ready_out}
 use Rattle.ptk_words_locks.proofs.Waiting.{AreUntimed, listed_from, waiting_from}
 use Rattle.ptk_words_locks.proofs.Threads.{IsWaking, waking_woken, changed_same, idle_awaits, in_wait}
 use Rattle.ptk_words_locks.proofs.Wakings.{waking_idle, waits_not_ready}
-use Rattle.ptk_words_locks.proofs.Conditions.{waits_on, names, off_names, AreSameOn, conditions_same, same_on_waits, same_on_off}
+use Rattle.ptk_words_locks.proofs.Conditions.{waits_on, names, off_names, AreSameOn, conditions_same, same_on_waits, same_on_off, IsConditionWait, condition_wait}
 use Rattle.ptk_words_locks.proofs.Timed.{conditions_woken, conditions_blocked, syncs_owner_end, syncs_end_same}
-use Rattle.ptk_words_locks.proofs.Relocks.{IsConditionWait, condition_wait}
 
 -- ---- changes of a thread
 

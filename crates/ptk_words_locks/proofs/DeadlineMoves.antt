@@ -25,10 +25,10 @@ use Rattle.ptk_words_locks.specs.Deadlines.{without_deadlines, deadline_after, d
 use Rattle.ptk_words_locks.proofs.Lines.{first_in, first_none, without_shorter}
 use Rattle.ptk_words_locks.proofs.Lined.{ready_alive}
 use Rattle.ptk_words_locks.proofs.Threads.{IsWaking, waking_woken, in_wait}
-use Rattle.ptk_words_locks.proofs.Conditions.{waits_on}
+use Rattle.ptk_words_locks.proofs.Conditions.{waits_on, IsConditionWait, condition_wait}
 use Rattle.ptk_words_locks.proofs.Gathered.{gathered_own, waiter_used}
 use Rattle.ptk_words_locks.proofs.Timed.{syncs_unlock}
-use Rattle.ptk_words_locks.proofs.Relocks.{IsConditionWait, condition_wait, syncs_signal_to}
+use Rattle.ptk_words_locks.proofs.Relocks.{syncs_signal_to}
 use Rattle.ptk_words_locks.proofs.DeadlineLists.{free_again, without_first, threads_of, without_due}
 use Rattle.ptk_words_locks.proofs.Deadlines.{deadlines-get, deadlines-pool_set, deadlines-kept, deadlines-wait, deadlines-woken, changed_deadline, deadlines-unlock}
 
@@ -73,6 +73,15 @@ deadlines-condition_wait interval t c m deadline waiters syncs are =
     let locks : Locks = after_unlock m syncs.locks in
     let alive : is_alive (thread_at locks t) ≡ true = ready_alive (thread_at locks t) ((syncs_unlock interval m (Some t) waiters syncs are).lined.running_ready t refl) in
     deadlines-wait t (ConditionWait c m deadline) locks alive ∙ ap (λ deadlines. pool_set deadlines t deadline) (deadlines-unlock m syncs.locks)
+
+-- a deadline already reached: the mutex is released and locked again, or waited for with no deadline
+pub deadlines-late_wait : (interval t m : ℕ) (reply : Option ℕ) (waiters : List ℕ) (syncs : Syncs) → AreSyncs interval (Some t) waiters syncs
+    → deadlines_of (after_move (relock_move t (mutex_at (after_unlock m syncs.locks) m)) t m (RelockWait m reply) (after_unlock m syncs.locks))
+    ≡ deadlines_after_move (relock_move t (mutex_at (after_unlock m syncs.locks) m)) t (RelockWait m reply) (without_deadlines (woken_by_unlock m syncs.locks) (deadlines_of syncs.locks))
+deadlines-late_wait interval t m reply waiters syncs are =
+    let locks : Locks = after_unlock m syncs.locks in
+    let alive : is_alive (thread_at locks t) ≡ true = ready_alive (thread_at locks t) ((syncs_unlock interval m (Some t) waiters syncs are).lined.running_ready t refl) in
+    deadlines-move (relock_move t (mutex_at locks m)) t m (RelockWait m reply) locks alive ∙ ap (deadlines_after_move (relock_move t (mutex_at locks m)) t (RelockWait m reply)) (deadlines-unlock m syncs.locks)
 
 -- ---- a re-lock
 

@@ -12,7 +12,7 @@ use Rattle.ptk_words_model.specs.declared.LockMove.{LockMove}
 use Rattle.ptk_words_model.specs.State.{Mutex, Condition, Locks, Syncs}
 use Rattle.ptk_words_model.specs.Priority.{mutex_of_wait, awaited, thread_at}
 use Rattle.ptk_words_model.specs.Time.{Timespec}
-use Rattle.ptk_words_model.specs.Mutex.{mutex_at, wait_of, owns, new_mutex, with_soundness, lock_move, trylock_move, after_move, after_unlock, after_owner_end}
+use Rattle.ptk_words_model.specs.Mutex.{mutex_at, wait_of, owns, new_mutex, with_soundness, lock_move, trylock_move, after_move, after_unlock, after_hand_over, after_abandonment, after_owner_end}
 use Rattle.ptk_words_model.specs.MutexCalls.{is_locked, timed_move}
 use Rattle.ptk_words_model.specs.Condition.{names_mutex}
 use Rattle.ptk_words_model.specs.Unwinding.{is_alive}
@@ -26,7 +26,7 @@ use Rattle.ptk_words_locks.proofs.Listed.{IsElsewhere, elsewhere_none, elsewhere
 use Rattle.ptk_words_locks.proofs.Threads.{IsWaking, awaits_wait, in_wait}
 use Rattle.ptk_words_locks.proofs.Wakings.{waking_idle, waking_change}
 use Rattle.ptk_words_locks.proofs.Whole.{Rest, AreHeld}
-use Rattle.ptk_words_locks.proofs.Handovers.{held_soundness}
+use Rattle.ptk_words_locks.proofs.Handovers.{held_soundness, held_abandonment, held_hand_over}
 use Rattle.ptk_words_locks.proofs.Unlocks.{held_unlock}
 use Rattle.ptk_words_locks.proofs.Ends.{held_owner_end, held_end_same, held_owns_none}
 use Rattle.ptk_words_locks.proofs.Blocks.{blocks_waits, wait_change}
@@ -92,6 +92,16 @@ syncs_held interval running waiters locks conditions are = record { lined = are.
 pub syncs_unlock : (interval m : ℕ) (running : Option ℕ) (waiters : List ℕ) (syncs : Syncs) → AreSyncs interval running waiters syncs → AreSyncs interval running waiters (record syncs { locks = after_unlock m syncs.locks })
 syncs_unlock interval m running waiters syncs are =
     syncs_held interval running waiters (after_unlock m syncs.locks) syncs.conditions (held_unlock interval m running (timed_rest waiters syncs.conditions) syncs.locks (held_syncs interval running waiters syncs are))
+
+-- the mutex goes to its heir, or is free
+pub syncs_hand_over : (interval m : ℕ) (running : Option ℕ) (waiters : List ℕ) (syncs : Syncs) → AreSyncs interval running waiters syncs → AreSyncs interval running waiters (record syncs { locks = after_hand_over m syncs.locks })
+syncs_hand_over interval m running waiters syncs are =
+    syncs_held interval running waiters (after_hand_over m syncs.locks) syncs.conditions (held_hand_over interval m running (timed_rest waiters syncs.conditions) syncs.locks (held_syncs interval running waiters syncs are))
+
+-- nobody owns the mutex, and it stays locked
+pub syncs_abandonment : (interval m : ℕ) (running : Option ℕ) (waiters : List ℕ) (syncs : Syncs) → AreSyncs interval running waiters syncs → AreSyncs interval running waiters (record syncs { locks = after_abandonment m syncs.locks })
+syncs_abandonment interval m running waiters syncs are =
+    syncs_held interval running waiters (after_abandonment m syncs.locks) syncs.conditions (held_abandonment interval m running (timed_rest waiters syncs.conditions) syncs.locks (held_syncs interval running waiters syncs are))
 
 -- the thread waits for no mutex
 pub syncs_owner_end : (interval t : ℕ) (running : Option ℕ) (waiters : List ℕ) (syncs : Syncs) → awaited (thread_at syncs.locks t) ≡ None → AreSyncs interval running waiters syncs
