@@ -17,7 +17,7 @@ use Rattle.ptk_words_model.specs.Condition.{mutex_named, is_named, names_mutex}
 use Rattle.ptk_words_locks.specs.Conditions.{condition_of_wait, HasRoom, waiters_on}
 pub use Rattle.ptk_words_locks.specs.Conditions.{AreConditions}
 use Rattle.ptk_words_locks.proofs.Pools.{each_changed, get-set_other}
-use Rattle.ptk_words_locks.proofs.Whole.{IsRoomy}
+use Rattle.ptk_words_locks.proofs.Held.{IsRoomy}
 use Rattle.ptk_words_locks.proofs.Rooms.{counts_owner}
 use Rattle.ptk_words_locks.proofs.Moves.{counted_up}
 

@@ -13,7 +13,7 @@ use Rattle.ptk_words_model.specs.Priority.{is_owner}
 use Rattle.ptk_words_model.specs.Mutex.{free_move, OwnerMoves, owner_move, relock_move}
 use Rattle.ptk_words_locks.specs.Conditions.{HasRoom}
 use Rattle.ptk_words_locks.proofs.Exclusion.{joined_by, left_by}
-use Rattle.ptk_words_locks.proofs.Whole.{IsRoomy}
+use Rattle.ptk_words_locks.proofs.Held.{IsRoomy}
 
 -- ---- who counts up
 

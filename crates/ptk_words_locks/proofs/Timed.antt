@@ -25,7 +25,7 @@ use Rattle.ptk_words_locks.proofs.Lined.{ready_waits, ready_alive}
 use Rattle.ptk_words_locks.proofs.Listed.{IsElsewhere, elsewhere_none, elsewhere_mutex, listed_elsewhere}
 use Rattle.ptk_words_locks.proofs.Threads.{IsWaking, awaits_wait, in_wait}
 use Rattle.ptk_words_locks.proofs.Wakings.{waking_idle, waking_change}
-use Rattle.ptk_words_locks.proofs.Whole.{Rest, AreHeld}
+use Rattle.ptk_words_locks.proofs.Held.{Rest, AreHeld}
 use Rattle.ptk_words_locks.proofs.Handovers.{held_soundness, held_abandonment, held_hand_over}
 use Rattle.ptk_words_locks.proofs.Unlocks.{held_unlock}
 use Rattle.ptk_words_locks.proofs.Ends.{held_owner_end, held_end_same, held_owns_none}

@@ -4,7 +4,7 @@
 //! in use keep it; `specs/Conditions` says it with deadlines and condition variables, and `specs/Deadlines` whose
 //! deadlines a move ends. The functions promise that locks, waits, wakings, the end of an owner and the expiries of a
 //! tick keep it; `proofs/` has the same for each move of the mutexes and of the condition variables, each proved once
-//! for both (`Rest` in `proofs/Whole`). Below stands `ptk_words_model`; above, `ptk_words_well` composes them to what
+//! for both (`Rest` in `proofs/Held`). Below stands `ptk_words_model`; above, `ptk_words_well` composes them to what
 //! holds of a whole partition.
 #![tactic(auto)]
 
