@@ -10,11 +10,11 @@ use Rattle.ptk_words_model.specs.Priority.{mutex_of_wait, awaited}
 use Rattle.ptk_words_model.specs.Mutex.{wait_of}
 use Rattle.ptk_words_model.specs.MutexCalls.{is_locked}
 use Rattle.ptk_words_model.specs.Unwinding.{is_alive}
-use Rattle.ptk_words_locks.specs.Locks.{is_ready, joiner_of, used_of, AreMutexes}
+use Rattle.ptk_words_locks.specs.Locks.{joiner_of, used_of, AreMutexes}
 use Rattle.ptk_words_locks.proofs.Pools.{each_changed, changed_own, changed_other}
 use Rattle.ptk_words_locks.proofs.Lined.{AreLined, lined_stopped, lined_others}
 use Rattle.ptk_words_locks.proofs.Listed.{IsWaitChange}
-use Rattle.ptk_words_locks.proofs.Threads.{changed_same, used_changed, none_awaits, in_wait, in_wait_waits, in_wait_joiner, in_wait_alive, in_wait_used}
+use Rattle.ptk_words_locks.proofs.Threads.{changed_same, used_changed, none_awaits, in_wait, in_wait_joiner, in_wait_alive, in_wait_used}
 use Rattle.ptk_words_locks.proofs.Exclusion.{IsExclusive, IsServed, IsAwaitChange, exclusive_at, exclusive_beside, exclusive_joined, mutexes_from, joined_by}
 use Rattle.ptk_words_locks.proofs.Handovers.{one_mutex}
 

@@ -22,7 +22,7 @@ use Rattle.ptk_words_locks.proofs.Listed.{IsElsewhere}
 use Rattle.ptk_words_locks.proofs.Threads.{IsWaking, changed_same, idle_awaits, in_wait, in_wait_alive}
 use Rattle.ptk_words_locks.proofs.Wakings.{waking_change}
 use Rattle.ptk_words_locks.proofs.Exclusion.{exclusion_same}
-use Rattle.ptk_words_locks.proofs.Whole.{IsRoomy, Rest, AreHeld}
+use Rattle.ptk_words_locks.proofs.Held.{IsRoomy, Rest, AreHeld}
 use Rattle.ptk_words_locks.proofs.Unlocks.{last_unlock}
 use Rattle.ptk_words_locks.proofs.Blocks.{blocks_waits, blocks_awaits, used_blocked, lined_blocked}
 use Rattle.ptk_words_locks.proofs.LockMoves.{may_relock}

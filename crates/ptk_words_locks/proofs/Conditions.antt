@@ -17,7 +17,7 @@ use Rattle.ptk_words_model.specs.Condition.{mutex_named, is_named, names_mutex}
 use Rattle.ptk_words_locks.specs.Conditions.{condition_of_wait, HasRoom, waiters_on}
 pub use Rattle.ptk_words_locks.specs.Conditions.{AreConditions}
 use Rattle.ptk_words_locks.proofs.Pools.{each_changed, get-set_other}
-use Rattle.ptk_words_locks.proofs.Whole.{IsRoomy}
+use Rattle.ptk_words_locks.proofs.Held.{IsRoomy}
 use Rattle.ptk_words_locks.proofs.Rooms.{counts_owner}
 use Rattle.ptk_words_locks.proofs.Moves.{counted_up}
 
@@ -41,24 +41,20 @@ off_names (Some (MutexWait m deadline)) e = refl
 off_names (Some (ConditionWait c m deadline)) e = absurd (let no : ⊥ = cc in no)
 off_names (Some (RelockWait m reply)) e = refl
 
--- who waits on one names a mutex, and waits for none
-pub on_names : (c : ℕ) (wait : Option Wait) → condition_of_wait wait ≡ Some c → (m : ℕ) × (mutex_named wait ≡ Some m)
-on_names c None e = absurd (let no : ⊥ = cc in no)
-on_names c (Some InputWait) e = absurd (let no : ⊥ = cc in no)
-on_names c (Some (SleepWait deadline)) e = absurd (let no : ⊥ = cc in no)
-on_names c (Some (JoinWait u)) e = absurd (let no : ⊥ = cc in no)
-on_names c (Some (MutexWait m deadline)) e = absurd (let no : ⊥ = cc in no)
-on_names c (Some (ConditionWait d m deadline)) e = (m, refl)
-on_names c (Some (RelockWait m reply)) e = absurd (let no : ⊥ = cc in no)
+-- the wait on a condition variable names a mutex and may have a deadline (own)
+pub record IsConditionWait (c : ℕ) (wait : Option Wait) : Type 0 where
+  pub mutex : ℕ
+  pub deadline : Option ℕ
+  pub waits : wait ≡ Some (ConditionWait c mutex deadline)
 
-pub named_awaits : (m : ℕ) (wait : Option Wait) → mutex_named wait ≡ Some m → mutex_of_wait wait ≡ None
-named_awaits m None e = refl
-named_awaits m (Some InputWait) e = refl
-named_awaits m (Some (SleepWait deadline)) e = refl
-named_awaits m (Some (JoinWait u)) e = refl
-named_awaits m (Some (MutexWait n deadline)) e = absurd (let no : ⊥ = cc in no)
-named_awaits m (Some (ConditionWait c n deadline)) e = refl
-named_awaits m (Some (RelockWait n reply)) e = absurd (let no : ⊥ = cc in no)
+pub condition_wait : (c : ℕ) (wait : Option Wait) → condition_of_wait wait ≡ Some c → IsConditionWait c wait
+condition_wait c None e = absurd (let no : ⊥ = cc in no)
+condition_wait c (Some InputWait) e = absurd (let no : ⊥ = cc in no)
+condition_wait c (Some (SleepWait deadline)) e = absurd (let no : ⊥ = cc in no)
+condition_wait c (Some (JoinWait u)) e = absurd (let no : ⊥ = cc in no)
+condition_wait c (Some (MutexWait m deadline)) e = absurd (let no : ⊥ = cc in no)
+condition_wait c (Some (ConditionWait d m deadline)) e = let same : d ≡ c = cc in record { mutex = m; deadline = deadline; waits = ap (λ n. Some (ConditionWait n m deadline)) same }
+condition_wait c (Some (RelockWait m reply)) e = absurd (let no : ⊥ = cc in no)
 
 -- who waits for a mutex waits on none
 pub awaits_off : (m : ℕ) (wait : Option Wait) → mutex_of_wait wait ≡ Some m → condition_of_wait wait ≡ None

@@ -6,24 +6,21 @@ use Rattle.ptk_words.specs.Pools.{pool_get, pool_set, pool_changed, is_in}
 use Rattle.ptk_words.specs.Threads.{is_taken}
 use Rattle.ptk_words.specs.declared.threads.Phase.TheVariants.{Ended}
 use Rattle.ptk_words.specs.declared.threads.Thread.{Thread}
-use Rattle.ptk_words.specs.declared.threads.Wait.{Wait}
 use Rattle.ptk_words.specs.declared.threads.Wait.TheVariants.{InputWait, JoinWait, ConditionWait}
 use Rattle.ptk_words_model.specs.State.{Mutex, Condition, Locks, Syncs}
 use Rattle.ptk_words_model.specs.Priority.{awaited, thread_at}
 use Rattle.ptk_words_model.specs.Schedule.{with_thread, woken_with, after_wake}
 use Rattle.ptk_words_model.specs.Mutex.{wait_of, after_owner_end}
 use Rattle.ptk_words_model.specs.Unwinding.{after_join_by, without_thread, after_release}
-use Rattle.ptk_words_model.specs.Withdrawal.{deadline_of_wait}
 use Rattle.ptk_words_locks.specs.Locks.{is_ready, joiner_of, AreLocks}
 use Rattle.ptk_words_locks.specs.Conditions.{condition_of_wait, waiters_on, AreListed, AreConditions, AreSyncs}
 use Rattle.ptk_words_locks.proofs.Pools.{each_set, changed_other}
-use Rattle.ptk_words_locks.proofs.Lined.{AreLined, ready_waits, not_ready_out, not_ready_stopped}
+use Rattle.ptk_words_locks.proofs.Lined.{AreLined, ready_waits, not_ready_out}
 use Rattle.ptk_words_locks.proofs.Waiting.{AreUntimed, listed_from, waiting_from}
 use Rattle.ptk_words_locks.proofs.Threads.{IsWaking, waking_woken, changed_same, idle_awaits, in_wait}
 use Rattle.ptk_words_locks.proofs.Wakings.{waking_idle, waits_not_ready}
-use Rattle.ptk_words_locks.proofs.Conditions.{waits_on, names, off_names, AreSameOn, conditions_same, same_on_waits, same_on_off}
+use Rattle.ptk_words_locks.proofs.Conditions.{waits_on, names, off_names, AreSameOn, conditions_same, same_on_waits, same_on_off, IsConditionWait, condition_wait}
 use Rattle.ptk_words_locks.proofs.Timed.{conditions_woken, conditions_blocked, syncs_owner_end, syncs_end_same}
-use Rattle.ptk_words_locks.proofs.Relocks.{IsConditionWait, condition_wait}
 
 -- ---- changes of a thread
 

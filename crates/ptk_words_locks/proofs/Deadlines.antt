@@ -1,23 +1,21 @@
 -- Which threads' deadlines a move begins and ends.
-use Rattle.std.proofs.Common.{◌≡◌, ℕ, zero, suc, ◌<◌, ◌≤◌, Bool, true, false, List, [], ◌∷◌, ◌++◌, length, fold, refl, sym, ◌∙◌, ap, subst, arith}
-use Rattle.std.specs.Prelude.{◌-◌, IsSome, Option, Some, None, option_map, option_to_list, map, nat_lt, slice_get, slice_set, if◌then◌else◌}
+use Rattle.std.proofs.Common.{◌≡◌, ℕ, zero, suc, ◌<◌, ◌≤◌, Bool, true, false, List, [], ◌∷◌, length, fold, refl, sym, ◌∙◌, ap, arith}
+use Rattle.std.specs.Prelude.{◌-◌, Option, Some, None, option_map, option_to_list, map, nat_lt, slice_get, slice_set, if◌then◌else◌}
 use Rattle.std.specs.Fn.{iterate}
 use Rattle.std.specs.Option.{option_flatten}
 use Rattle.std.proofs.lemmas.Bool.{false≢true}
-use Rattle.ptk_words.specs.Pools.{pool_get, pool_set, pool_changed, numbers_of, without, first_of_greatest, is_in}
+use Rattle.ptk_words.specs.Pools.{pool_get, pool_set, pool_changed, numbers_of, without, is_in}
 use Rattle.ptk_words.specs.declared.faults.Errno.TheVariants.{ENOTRECOVERABLE}
 use Rattle.ptk_words.specs.declared.threads.Thread.{Thread}
 use Rattle.ptk_words.specs.declared.threads.Wait.{Wait}
-use Rattle.ptk_words.specs.declared.threads.Wait.TheVariants.{InputWait, SleepWait, JoinWait, MutexWait, ConditionWait, RelockWait}
 use Rattle.ptk_words.specs.declared.mutexes.Soundness.{Soundness}
 use Rattle.ptk_words.specs.declared.mutexes.Soundness.TheVariants.{Consistent, Inconsistent, Unrecoverable}
 use Rattle.ptk_words.specs.declared.mutexes.Owner.TheVariants.{Free}
-use Rattle.ptk_words_model.specs.declared.LockMove.{LockMove}
-use Rattle.ptk_words_model.specs.declared.LockMove.TheVariants.{Takes, Recovers, Counts, Waits, Refuses}
-use Rattle.ptk_words_model.specs.State.{Mutex, Condition, Locks, Syncs, Part}
+use Rattle.ptk_words_model.specs.declared.LockMove.TheVariants.{Refuses}
+use Rattle.ptk_words_model.specs.State.{Mutex, Locks}
 use Rattle.ptk_words_model.specs.Priority.{thread_at, effective_priority, is_owner}
-use Rattle.ptk_words_model.specs.Schedule.{with_thread, at_tail_with, woken_with, after_wake}
-use Rattle.ptk_words_model.specs.Mutex.{mutex_at, with_mutex, wait_of, waiters_of, count_of, soundness_of, with_soundness, handed, heir, free_move, move_reply, relock_move, after_move, after_wait, after_free, after_hand_over_to, after_refusal_to, after_refusal, after_loss, after_last_unlock, after_unlock, after_relock_move, after_relock, after_bequest, after_abandonment, after_mutex_end, after_owner_end}
+use Rattle.ptk_words_model.specs.Schedule.{with_thread, at_tail_with}
+use Rattle.ptk_words_model.specs.Mutex.{mutex_at, with_mutex, wait_of, waiters_of, count_of, soundness_of, with_soundness, handed, heir, free_move, after_free, after_hand_over_to, after_refusal_to, after_refusal, after_loss, after_last_unlock, after_unlock, after_bequest, after_abandonment, after_mutex_end, after_owner_end}
 use Rattle.ptk_words_model.specs.Unwinding.{is_alive}
 use Rattle.ptk_words_model.specs.Withdrawal.{deadline_of_wait, deadlines_of}
 use Rattle.ptk_words_locks.specs.Deadlines.{without_deadlines, woken_by_last_unlock, woken_by_unlock, woken_by_mutex_end, woken_by_ends, woken_by_owner_end}
@@ -27,7 +25,7 @@ use Rattle.ptk_words_locks.proofs.Threads.{IsWaking, waking_handed, waking_waits
 use Rattle.ptk_words_locks.proofs.Exclusion.{left_by}
 use Rattle.ptk_words_locks.proofs.Handovers.{no_heir}
 use Rattle.ptk_words_locks.proofs.Unlocks.{left_waiters}
-use Rattle.ptk_words_locks.proofs.DeadlineLists.{map-pool_set, get-map, free_again, without_deadlines-append, without_first}
+use Rattle.ptk_words_locks.proofs.DeadlineLists.{map-pool_set, get-map, without_deadlines-append, without_first}
 
 -- ---- one thread
 

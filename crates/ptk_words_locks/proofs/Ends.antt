@@ -12,7 +12,8 @@ use Rattle.ptk_words_model.specs.Mutex.{mutex_at, owns, with_soundness, soundnes
 use Rattle.ptk_words_locks.proofs.Pools.{get_beyond, changed_own, changed_other}
 use Rattle.ptk_words_locks.proofs.Exclusion.{left_by}
 use Rattle.ptk_words_locks.proofs.Sizes.{length-owner_end_mutexes}
-use Rattle.ptk_words_locks.proofs.Whole.{AreLocks, Rest, AreHeld}
+use Rattle.ptk_words_locks.proofs.Whole.{AreLocks}
+use Rattle.ptk_words_locks.proofs.Held.{Rest, AreHeld}
 use Rattle.ptk_words_locks.proofs.Untimed.{untimed_rest, held_locks, locks_held}
 use Rattle.ptk_words_locks.proofs.Handovers.{held_soundness, held_abandonment, held_hand_over_to, heir_waits}
 

@@ -1,24 +1,26 @@
 -- A mutex taken, marked, abandoned, left by a waiter, and handed over.
-use Rattle.std.proofs.Common.{◌≡◌, ℕ, true, false, List, [], ◌∷◌, ◌++◌, refl, sym, ◌∙◌, ap, arith}
-use Rattle.std.specs.Prelude.{◌≢◌, Option, Some, None, option_map}
+use Rattle.std.proofs.Common.{◌≡◌, ℕ, true, List, [], refl, sym, ◌∙◌, ap, arith}
+use Rattle.std.specs.Prelude.{Option, Some, None, option_map}
 use Rattle.std.proofs.lemmas.Bool.{eqb-true, false≢true, true≢false}
 use Rattle.ptk_words.specs.Pools.{pool_get, pool_changed, is_in}
 use Rattle.ptk_words.specs.declared.threads.Thread.{Thread}
 use Rattle.ptk_words.specs.declared.mutexes.Soundness.{Soundness}
 use Rattle.ptk_words.specs.declared.mutexes.Owner.TheVariants.{Free, Abandoned, OwnedBy}
+use Rattle.ptk_words_model.specs.declared.LockMove.{LockMove}
 use Rattle.ptk_words_model.specs.State.{Mutex, Locks}
 use Rattle.ptk_words_model.specs.Priority.{awaited, thread_at, effective_priority}
 use Rattle.ptk_words_model.specs.Schedule.{at_tail_with}
-use Rattle.ptk_words_model.specs.Mutex.{mutex_at, with_mutex, waiters_of, soundness_of, with_soundness, handed, heir, free_move, without_mutex_waiter, after_take, after_free, after_hand_over_to, after_hand_over, after_abandonment}
+use Rattle.ptk_words_model.specs.Mutex.{mutex_at, with_mutex, waiters_of, soundness_of, with_soundness, handed, heir, free_move, without_mutex_waiter, after_take, after_leave, after_free, after_hand_over_to, after_hand_over, after_abandonment}
 use Rattle.ptk_words_model.specs.Unwinding.{is_alive}
 use Rattle.ptk_words_locks.proofs.Pools.{each_changed}
 use Rattle.ptk_words_locks.proofs.Lines.{first_in, first_none}
 use Rattle.ptk_words_locks.proofs.Threads.{IsWaking, waking_handed, waking_used, used_changed, idle_awaits, none_awaits, awaits_not_ready, awaits_alive}
 use Rattle.ptk_words_locks.proofs.Exclusion.{IsExclusive, IsServed, IsAwaitChange, IsMild, exclusive_beside, exclusive_left, exclusive_owned, exclusive_mild, left_by, served_left, served_mild}
 use Rattle.ptk_words_locks.proofs.Wakings.{waking_idle, waking_await, lined_woken}
-use Rattle.ptk_words_locks.proofs.Whole.{AreLocks, Rest, AreHeld, AreQueued, queued_from, held_from, held_mutex}
+use Rattle.ptk_words_locks.proofs.Whole.{AreLocks, AreQueued}
+use Rattle.ptk_words_locks.proofs.Held.{Rest, AreHeld, AreHeldQueued, held_queued_from, held_from, held_mutex}
 use Rattle.ptk_words_locks.proofs.Rooms.{roomy_take, roomy_soundness, roomy_abandoned, roomy_free, roomy_left}
-use Rattle.ptk_words_locks.proofs.Untimed.{untimed_rest, held_locks, locks_held}
+use Rattle.ptk_words_locks.proofs.Untimed.{untimed_rest, held_locks, locks_held, held_queued, queued_held}
 
 -- ---- one mutex taken, changed, abandoned, freed
 
@@ -35,13 +37,13 @@ served_take t (Some x) = λ e. absurd (true≢false e)
 pub held_take : (interval t m : ℕ) (running : Option ℕ) (rest : Rest) (locks : Locks) → is_alive (thread_at locks t) ≡ true → AreHeld interval running rest locks → AreHeld interval running rest (after_take t m locks)
 held_take interval t m running rest locks alive are =
     held_mutex interval m running rest (λ (x : Mutex). record x { owner = OwnedBy t; count = 1 }) locks (rest.mutex m _ locks.threads locks.mutexes (roomy_take t) are.holds)
-    (exclusive_take locks.threads t m (mutex_at locks m) alive ((queued_from interval running rest locks are).queues m)) (served_take t (mutex_at locks m)) are
+    (exclusive_take locks.threads t m (mutex_at locks m) alive ((held_queued_from interval running rest locks are).queues m)) (served_take t (mutex_at locks m)) are
 
 -- f leaves the owner and the waiters, and a count within the limit
 pub held_mild : (interval m : ℕ) (running : Option ℕ) (rest : Rest) (f : Mutex → Mutex) (locks : Locks) → rest.Holds locks.threads (pool_changed m f locks.mutexes) → ((x : Mutex) → mutex_at locks m ≡ Some x → IsMild x (f x))
     → AreHeld interval running rest locks → AreHeld interval running rest (with_mutex m f locks)
 held_mild interval m running rest f locks kept mild are =
-    held_mutex interval m running rest f locks kept (exclusive_mild locks.threads m f (mutex_at locks m) mild ((queued_from interval running rest locks are).queues m))
+    held_mutex interval m running rest f locks kept (exclusive_mild locks.threads m f (mutex_at locks m) mild ((held_queued_from interval running rest locks are).queues m))
     (served_mild f (mutex_at locks m) mild (are.exclusion.free_unwaited m)) are
 
 pub mild_soundness : (soundness : Soundness) (mutex : Option Mutex) (threads : List (Option Thread)) (m : ℕ) → IsExclusive threads m mutex → (x : Mutex) → mutex ≡ Some x → IsMild x (record x { soundness = soundness })
@@ -51,7 +53,7 @@ mild_soundness soundness mutex threads m was x e = record { owner = refl; waiter
 pub held_soundness : (interval m : ℕ) (running : Option ℕ) (rest : Rest) (soundness : Soundness) (locks : Locks) → AreHeld interval running rest locks → AreHeld interval running rest (with_soundness soundness m locks)
 held_soundness interval m running rest soundness locks are =
     held_mild interval m running rest (λ (x : Mutex). record x { soundness = soundness }) locks (rest.mutex m _ locks.threads locks.mutexes (roomy_soundness soundness) are.holds)
-    (mild_soundness soundness (mutex_at locks m) locks.threads m ((queued_from interval running rest locks are).queues m)) are
+    (mild_soundness soundness (mutex_at locks m) locks.threads m ((held_queued_from interval running rest locks are).queues m)) are
 
 exclusive_abandoned : (threads : List (Option Thread)) (m : ℕ) (mutex : Option Mutex) → IsExclusive threads m mutex → IsExclusive threads m (option_map (λ (x : Mutex). record x { owner = Abandoned }) mutex)
 exclusive_abandoned threads m None was = was
@@ -65,7 +67,7 @@ served_abandoned (Some x) = λ e. absurd (true≢false e)
 pub held_abandonment : (interval m : ℕ) (running : Option ℕ) (rest : Rest) (locks : Locks) → AreHeld interval running rest locks → AreHeld interval running rest (after_abandonment m locks)
 held_abandonment interval m running rest locks are =
     held_mutex interval m running rest (λ (x : Mutex). record x { owner = Abandoned }) locks (rest.mutex m _ locks.threads locks.mutexes roomy_abandoned are.holds)
-    (exclusive_abandoned locks.threads m (mutex_at locks m) ((queued_from interval running rest locks are).queues m)) (served_abandoned (mutex_at locks m)) are
+    (exclusive_abandoned locks.threads m (mutex_at locks m) ((held_queued_from interval running rest locks are).queues m)) (served_abandoned (mutex_at locks m)) are
 
 pub exclusive_free : (threads : List (Option Thread)) (m : ℕ) (mutex : Option Mutex) → IsExclusive threads m mutex → IsExclusive threads m (option_map (λ (x : Mutex). record x { owner = Free; count = 0 }) mutex)
 exclusive_free threads m None was = was
@@ -79,7 +81,7 @@ served_free (Some x) none = λ e. none
 pub held_free : (interval m : ℕ) (running : Option ℕ) (rest : Rest) (locks : Locks) → waiters_of (mutex_at locks m) ≡ [] → AreHeld interval running rest locks → AreHeld interval running rest (after_free m locks)
 held_free interval m running rest locks none are =
     held_mutex interval m running rest (λ (x : Mutex). record x { owner = Free; count = 0 }) locks (rest.mutex m _ locks.threads locks.mutexes roomy_free are.holds)
-    (exclusive_free locks.threads m (mutex_at locks m) ((queued_from interval running rest locks are).queues m)) (served_free (mutex_at locks m) none) are
+    (exclusive_free locks.threads m (mutex_at locks m) ((held_queued_from interval running rest locks are).queues m)) (served_free (mutex_at locks m) none) are
 
 -- ---- a waiter that leaves
 
@@ -90,8 +92,8 @@ one_mutex n m o e f = cc
 abbrev pub woken_out : (Thread → Thread) → ℕ → ℕ → Locks → Locks
 woken_out f t m locks = at_tail_with f t (without_mutex_waiter t m locks)
 
-pub queued_leave : (interval t m : ℕ) (f : Thread → Thread) (running : Option ℕ) (rest : Rest) (locks : Locks) → IsWaking f → awaited (thread_at locks t) ≡ Some m → AreQueued interval running rest locks → AreQueued interval running rest (woken_out f t m locks)
-queued_leave interval t m f running rest locks waking waits queued =
+pub held_queued_leave : (interval t m : ℕ) (f : Thread → Thread) (running : Option ℕ) (rest : Rest) (locks : Locks) → IsWaking f → awaited (thread_at locks t) ≡ Some m → AreHeldQueued interval running rest locks → AreHeldQueued interval running rest (woken_out f t m locks)
+held_queued_leave interval t m f running rest locks waking waits queued =
     let after : List (Option Thread) = pool_changed t f locks.threads in
     let change : IsAwaitChange t locks.threads after = waking_await t f locks.threads waking in
     let free : awaited (pool_get after t) ≡ None = idle_awaits (pool_get after t) (waking_idle t f locks.threads waking) in
@@ -107,7 +109,7 @@ queued_leave interval t m f running rest locks waking waits queued =
 
 pub held_leave : (interval t m : ℕ) (f : Thread → Thread) (running : Option ℕ) (rest : Rest) (locks : Locks) → IsWaking f → awaited (thread_at locks t) ≡ Some m → AreHeld interval running rest locks → AreHeld interval running rest (woken_out f t m locks)
 held_leave interval t m f running rest locks waking waits are =
-    held_from interval running rest (woken_out f t m locks) (queued_leave interval t m f running rest locks waking waits (queued_from interval running rest locks are))
+    held_from interval running rest (woken_out f t m locks) (held_queued_leave interval t m f running rest locks waking waits (held_queued_from interval running rest locks are))
     (each_changed (λ (n : ℕ) (mutex : Option Mutex). IsServed mutex) m (left_by t) locks.mutexes (served_left t (mutex_at locks m) (are.exclusion.free_unwaited m)) (λ n ne. are.exclusion.free_unwaited n))
 
 -- ---- a hand over
@@ -133,6 +135,15 @@ held_hand_over interval m running rest locks are = held_hand_over_to interval m 
 
 -- ---- where no wait has a deadline
 
+pub locks_take : (interval t m : ℕ) (running : Option ℕ) (waiters : List ℕ) (locks : Locks) → is_alive (thread_at locks t) ≡ true → AreLocks interval running waiters locks → AreLocks interval running waiters (after_take t m locks)
+locks_take interval t m running waiters locks alive are =
+    locks_held interval running waiters (after_take t m locks) (held_take interval t m running (untimed_rest waiters) locks alive (held_locks interval running waiters locks are))
+
+pub locks_mild : (interval m : ℕ) (running : Option ℕ) (waiters : List ℕ) (f : Mutex → Mutex) (locks : Locks) → ((x : Mutex) → mutex_at locks m ≡ Some x → IsMild x (f x))
+    → AreLocks interval running waiters locks → AreLocks interval running waiters (with_mutex m f locks)
+locks_mild interval m running waiters f locks mild are =
+    locks_held interval running waiters (with_mutex m f locks) (held_mild interval m running (untimed_rest waiters) f locks are.waiting mild (held_locks interval running waiters locks are))
+
 pub locks_soundness : (interval m : ℕ) (running : Option ℕ) (waiters : List ℕ) (soundness : Soundness) (locks : Locks) → AreLocks interval running waiters locks → AreLocks interval running waiters (with_soundness soundness m locks)
 locks_soundness interval m running waiters soundness locks are =
     locks_held interval running waiters (with_soundness soundness m locks) (held_soundness interval m running (untimed_rest waiters) soundness locks (held_locks interval running waiters locks are))
@@ -144,3 +155,19 @@ locks_abandonment interval m running waiters locks are =
 pub locks_hand_over : (interval m : ℕ) (running : Option ℕ) (waiters : List ℕ) (locks : Locks) → AreLocks interval running waiters locks → AreLocks interval running waiters (after_hand_over m locks)
 locks_hand_over interval m running waiters locks are =
     locks_held interval running waiters (after_hand_over m locks) (held_hand_over interval m running (untimed_rest waiters) locks (held_locks interval running waiters locks are))
+
+pub locks_free : (interval m : ℕ) (running : Option ℕ) (waiters : List ℕ) (locks : Locks) → waiters_of (mutex_at locks m) ≡ [] → AreLocks interval running waiters locks → AreLocks interval running waiters (after_free m locks)
+locks_free interval m running waiters locks none are =
+    locks_held interval running waiters (after_free m locks) (held_free interval m running (untimed_rest waiters) locks none (held_locks interval running waiters locks are))
+
+pub queued_leave : (interval t m : ℕ) (move : LockMove) (running : Option ℕ) (waiters : List ℕ) (locks : Locks) → awaited (thread_at locks t) ≡ Some m → AreQueued interval running waiters locks → AreQueued interval running waiters (after_leave move t m locks)
+queued_leave interval t m move running waiters locks waits queued =
+    queued_held interval running waiters (after_leave move t m locks) (held_queued_leave interval t m (handed move) running (untimed_rest waiters) locks (waking_handed move) waits (held_queued interval running waiters locks queued))
+
+pub locks_leave : (interval t m : ℕ) (move : LockMove) (running : Option ℕ) (waiters : List ℕ) (locks : Locks) → awaited (thread_at locks t) ≡ Some m → AreLocks interval running waiters locks → AreLocks interval running waiters (after_leave move t m locks)
+locks_leave interval t m move running waiters locks waits are =
+    locks_held interval running waiters (after_leave move t m locks) (held_leave interval t m (handed move) running (untimed_rest waiters) locks (waking_handed move) waits (held_locks interval running waiters locks are))
+
+pub hand_over_to : (interval m : ℕ) (running : Option ℕ) (waiters : List ℕ) (next : Option ℕ) (locks : Locks) → heir m locks ≡ next → AreLocks interval running waiters locks → AreLocks interval running waiters (after_hand_over_to next m locks)
+hand_over_to interval m running waiters next locks e are =
+    locks_held interval running waiters (after_hand_over_to next m locks) (held_hand_over_to interval m running (untimed_rest waiters) next locks e (held_locks interval running waiters locks are))

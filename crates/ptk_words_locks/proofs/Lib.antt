@@ -7,6 +7,7 @@ pub mod Threads
 pub mod Exclusion
 pub mod Wakings
 pub mod Whole
+pub mod Held
 pub mod Rooms
 pub mod Untimed
 pub mod Handovers

@@ -1,6 +1,6 @@
 -- A lock and a trylock of the running thread, and a mutex set up, repaired and destroyed.
 use Rattle.std.proofs.Common.{◌≡◌, ℕ, ◌+◌, ◌<◌, Bool, true, false, List, refl, sym, ap, arith}
-use Rattle.std.specs.Prelude.{Option, Some, None, option_map}
+use Rattle.std.specs.Prelude.{Option, Some, None}
 use Rattle.std.proofs.lemmas.Bool.{false≢true}
 use Rattle.ptk_words.specs.Pools.{pool_get, pool_set, pool_changed}
 use Rattle.ptk_words.specs.declared.TheConstants.{COUNT_LIMIT}
@@ -22,7 +22,8 @@ use Rattle.ptk_words_locks.proofs.Lined.{ready_waits, ready_alive}
 use Rattle.ptk_words_locks.proofs.Waiting.{AreWaiting, unlisted_none, unlisted_mutex, waiting_unlisted}
 use Rattle.ptk_words_locks.proofs.Threads.{idle_awaits, in_wait}
 use Rattle.ptk_words_locks.proofs.Exclusion.{IsExclusive, IsMild, exclusive_at, exclusive_owned, exclusion_set, joined_by}
-use Rattle.ptk_words_locks.proofs.Whole.{AreLocks, Rest, AreHeld}
+use Rattle.ptk_words_locks.proofs.Whole.{AreLocks}
+use Rattle.ptk_words_locks.proofs.Held.{Rest, AreHeld}
 use Rattle.ptk_words_locks.proofs.Rooms.{roomy_joined}
 use Rattle.ptk_words_locks.proofs.Untimed.{untimed_rest, held_locks, locks_held}
 use Rattle.ptk_words_locks.proofs.Handovers.{held_take, held_mild, locks_soundness}

@@ -1,7 +1,6 @@
 -- Who raises whom: a thread that sleeps or waits on a condition variable raises nobody, and such a wait changes no priority.
 use Rattle.std.proofs.Common.{◌≡◌, ℕ, zero, suc, Bool, true, false, ◌||◌, List, fold, max, refl, sym, ◌∙◌, ap}
 use Rattle.std.specs.Prelude.{Option, Some, None, option_map, option_and_then, unwrap_or, ◌==◌}
-use Rattle.std.proofs.lemmas.Bool.{or_right, or_from}
 use Rattle.ptk_words.specs.Pools.{pool_get, pool_changed}
 use Rattle.ptk_words.specs.declared.threads.Thread.{Thread}
 use Rattle.ptk_words.specs.declared.threads.Wait.{Wait}
@@ -13,7 +12,7 @@ use Rattle.ptk_words_model.specs.Schedule.{with_thread, after_wake, woken_with}
 use Rattle.ptk_words_model.specs.Mutex.{wait_of}
 use Rattle.ptk_words_locks.proofs.Pools.{length-changed}
 use Rattle.ptk_words_locks.proofs.Threads.{changed_same, awaits_by, in_wait}
-use Rattle.ptk_words_locks.proofs.Conditions.{waits_on, named_awaits, on_names}
+use Rattle.ptk_words_locks.proofs.Conditions.{waits_on, condition_wait}
 
 -- ---- who raises nobody
 
@@ -23,7 +22,7 @@ asleep_awaits deadline o e = awaits_by o ∙ ap mutex_of_wait e
 
 -- nor does a waiter on a condition variable
 pub on_awaits : (c : ℕ) (o : Option Thread) → waits_on o ≡ Some c → awaited o ≡ None
-on_awaits c o e = let named = on_names c (wait_of o) e in awaits_by o ∙ named_awaits named.0 (wait_of o) named.1
+on_awaits c o e = awaits_by o ∙ ap mutex_of_wait (condition_wait c (wait_of o) e).waits
 
 -- a thread that waits for no mutex leads to none (pthread_mutexattr_getprotocol)
 pub next-none : (t : ℕ) (threads : List (Option Thread)) (mutexes : List (Option Mutex)) → awaited (pool_get threads t) ≡ None → next_of threads mutexes t ≡ None

@@ -1,15 +1,15 @@
 -- A waiter leaves its condition variable and re-locks the mutex that it named: signal, broadcast, and what a deadline or a cancellation does.
-use Rattle.std.proofs.Common.{◌≡◌, ℕ, zero, suc, ◌<◌, true, false, List, [], ◌∷◌, ◌++◌, length, refl, sym, ◌∙◌, ap, subst, inl, inr}
-use Rattle.std.specs.Prelude.{◌≢◌, IsSome, Option, Some, None, option_to_list}
+use Rattle.std.proofs.Common.{◌≡◌, ℕ, zero, suc, true, false, List, length, refl, sym, ◌∙◌, ap, subst, inl, inr}
+use Rattle.std.specs.Prelude.{◌≢◌, Option, Some, None, option_to_list}
 use Rattle.std.specs.Fn.{iterate}
 use Rattle.std.proofs.lemmas.Bool.{cases_eq}
-use Rattle.ptk_words.specs.Pools.{pool_get, pool_set, pool_changed, without, first_of_greatest, is_in}
+use Rattle.ptk_words.specs.Pools.{pool_get, pool_set, pool_changed, without, first_of_greatest}
 use Rattle.ptk_words.specs.declared.threads.Thread.{Thread}
 use Rattle.ptk_words.specs.declared.threads.Wait.{Wait}
-use Rattle.ptk_words.specs.declared.threads.Wait.TheVariants.{InputWait, SleepWait, JoinWait, MutexWait, ConditionWait, RelockWait}
+use Rattle.ptk_words.specs.declared.threads.Wait.TheVariants.{ConditionWait, RelockWait}
 use Rattle.ptk_words_model.specs.declared.LockMove.{LockMove}
 use Rattle.ptk_words_model.specs.declared.LockMove.TheVariants.{Takes, Recovers, Counts, Waits, Refuses}
-use Rattle.ptk_words_model.specs.State.{Mutex, Condition, Locks, Syncs}
+use Rattle.ptk_words_model.specs.State.{Condition, Locks, Syncs}
 use Rattle.ptk_words_model.specs.Priority.{mutex_of_wait, awaited, thread_at, effective_priority}
 use Rattle.ptk_words_model.specs.Schedule.{at_tail_with, woken_with}
 use Rattle.ptk_words_model.specs.Mutex.{mutex_at, wait_of, move_reply, relock_move, after_wait, after_take, after_count, after_relock_move, after_relock}
@@ -24,13 +24,12 @@ use Rattle.ptk_words_locks.proofs.Listed.{IsElsewhere, elsewhere_mutex, listed_e
 use Rattle.ptk_words_locks.proofs.Threads.{IsWaking, waking_woken, waking_alive, waking_used, changed_same, used_changed, awaits_by, idle_awaits, in_wait}
 use Rattle.ptk_words_locks.proofs.Exclusion.{exclusion_same, joined_by}
 use Rattle.ptk_words_locks.proofs.Wakings.{waits_not_ready, waits_alive, waking_idle, lined_woken}
-use Rattle.ptk_words_locks.proofs.Whole.{AreHeld}
 use Rattle.ptk_words_locks.proofs.Rooms.{roomy_joined}
 use Rattle.ptk_words_locks.proofs.Handovers.{held_take}
 use Rattle.ptk_words_locks.proofs.Blocks.{blocks_waits, wait_change, used_blocked, exclusion_joined}
 use Rattle.ptk_words_locks.proofs.LockMoves.{MayMake, may_relock}
 use Rattle.ptk_words_locks.proofs.Moves.{held_count}
-use Rattle.ptk_words_locks.proofs.Conditions.{waits_on, conditions_mutex, conditions_counted}
+use Rattle.ptk_words_locks.proofs.Conditions.{waits_on, IsConditionWait, condition_wait, conditions_mutex, conditions_counted}
 use Rattle.ptk_words_locks.proofs.Gathered.{conditions_left}
 use Rattle.ptk_words_locks.proofs.Timed.{listed_woken, timed_rest, syncs_with, held_syncs, syncs_held}
 use Rattle.ptk_words_locks.proofs.ConditionWaits.{elsewhere_condition}
@@ -135,26 +134,11 @@ syncs_relock interval t c m deadline reply running waiters syncs waits are =
 
 -- ---- unblock, signal and broadcast
 
--- the wait on a condition variable names a mutex and may have a deadline (own)
-pub record IsConditionWait (c : ℕ) (wait : Option Wait) : Type 0 where
-  pub mutex : ℕ
-  pub deadline : Option ℕ
-  pub waits : wait ≡ Some (ConditionWait c mutex deadline)
-
-pub condition_wait : (c : ℕ) (wait : Option Wait) → condition_of_wait wait ≡ Some c → IsConditionWait c wait
-condition_wait c None e = absurd (let no : ⊥ = cc in no)
-condition_wait c (Some InputWait) e = absurd (let no : ⊥ = cc in no)
-condition_wait c (Some (SleepWait deadline)) e = absurd (let no : ⊥ = cc in no)
-condition_wait c (Some (JoinWait u)) e = absurd (let no : ⊥ = cc in no)
-condition_wait c (Some (MutexWait m deadline)) e = absurd (let no : ⊥ = cc in no)
-condition_wait c (Some (ConditionWait d m deadline)) e = let same : d ≡ c = cc in record { mutex = m; deadline = deadline; waits = ap (λ n. Some (ConditionWait n m deadline)) same }
-condition_wait c (Some (RelockWait m reply)) e = absurd (let no : ⊥ = cc in no)
-
 -- a waiter of the condition variable is unblocked
 pub syncs_unblock : (interval t c : ℕ) (reply : Option ℕ) (running : Option ℕ) (waiters : List ℕ) (syncs : Syncs) → waits_on (thread_at syncs.locks t) ≡ Some c → AreSyncs interval running waiters syncs
     → AreSyncs interval running waiters (after_unblock t c reply syncs)
 syncs_unblock interval t c reply running waiters syncs on are =
-    let is = condition_wait c (wait_of (thread_at syncs.locks t)) on in
+    let is : IsConditionWait c (wait_of (thread_at syncs.locks t)) = condition_wait c (wait_of (thread_at syncs.locks t)) on in
     subst (λ (o : Option ℕ). AreSyncs interval running waiters (after_unblock_for t c reply o syncs)) (sym (ap mutex_named is.waits))
     (syncs_relock interval t c is.mutex is.deadline reply running waiters syncs is.waits are)
 

@@ -1,20 +1,19 @@
 -- The room of a re-lock: an owner's count is below the limit, and which changes of a mutex leave it so.
 use Rattle.std.proofs.Common.{◌≡◌, ℕ, ◌<◌, ◌≤◌, Bool, true, false, refl, sym, ◌∙◌, ap, arith}
-use Rattle.std.specs.Prelude.{◌-◌, Option, Some, None, option_map, ◌==◌, if◌then◌else◌}
+use Rattle.std.specs.Prelude.{◌-◌, Some, ◌==◌, if◌then◌else◌}
 use Rattle.std.proofs.lemmas.Bool.{false≢true}
 use Rattle.ptk_words.specs.declared.TheConstants.{COUNT_LIMIT}
 use Rattle.ptk_words.specs.declared.mutexes.Soundness.{Soundness}
 use Rattle.ptk_words.specs.declared.mutexes.Soundness.TheVariants.{Consistent, Inconsistent, Unrecoverable}
 use Rattle.ptk_words.specs.declared.mutexes.Owner.{Owner}
 use Rattle.ptk_words.specs.declared.mutexes.Owner.TheVariants.{Free, Abandoned, OwnedBy}
-use Rattle.ptk_words_model.specs.declared.LockMove.{LockMove}
-use Rattle.ptk_words_model.specs.declared.LockMove.TheVariants.{Takes, Recovers, Counts, Waits, Refuses}
+use Rattle.ptk_words_model.specs.declared.LockMove.TheVariants.{Counts, Waits}
 use Rattle.ptk_words_model.specs.State.{Mutex}
 use Rattle.ptk_words_model.specs.Priority.{is_owner}
 use Rattle.ptk_words_model.specs.Mutex.{free_move, OwnerMoves, owner_move, relock_move}
 use Rattle.ptk_words_locks.specs.Conditions.{HasRoom}
 use Rattle.ptk_words_locks.proofs.Exclusion.{joined_by, left_by}
-use Rattle.ptk_words_locks.proofs.Whole.{IsRoomy}
+use Rattle.ptk_words_locks.proofs.Held.{IsRoomy}
 
 -- ---- who counts up
 

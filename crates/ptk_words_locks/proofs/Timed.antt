@@ -12,7 +12,7 @@ use Rattle.ptk_words_model.specs.declared.LockMove.{LockMove}
 use Rattle.ptk_words_model.specs.State.{Mutex, Condition, Locks, Syncs}
 use Rattle.ptk_words_model.specs.Priority.{mutex_of_wait, awaited, thread_at}
 use Rattle.ptk_words_model.specs.Time.{Timespec}
-use Rattle.ptk_words_model.specs.Mutex.{mutex_at, wait_of, owns, new_mutex, with_soundness, lock_move, trylock_move, after_move, after_unlock, after_owner_end}
+use Rattle.ptk_words_model.specs.Mutex.{mutex_at, wait_of, owns, new_mutex, with_soundness, lock_move, trylock_move, after_move, after_unlock, after_hand_over, after_abandonment, after_owner_end}
 use Rattle.ptk_words_model.specs.MutexCalls.{is_locked, timed_move}
 use Rattle.ptk_words_model.specs.Condition.{names_mutex}
 use Rattle.ptk_words_model.specs.Unwinding.{is_alive}
@@ -20,13 +20,13 @@ use Rattle.ptk_words_locks.specs.Locks.{is_ready}
 use Rattle.ptk_words_locks.specs.LockLaws.{running_after}
 use Rattle.ptk_words_locks.specs.Conditions.{condition_of_wait}
 pub use Rattle.ptk_words_locks.specs.Conditions.{AreListed, AreConditions, AreSyncs}
-use Rattle.ptk_words_locks.proofs.Pools.{changed_own, changed_other}
+use Rattle.ptk_words_locks.proofs.Pools.{changed_other}
 use Rattle.ptk_words_locks.proofs.Lined.{ready_waits, ready_alive}
 use Rattle.ptk_words_locks.proofs.Listed.{IsElsewhere, elsewhere_none, elsewhere_mutex, listed_elsewhere}
 use Rattle.ptk_words_locks.proofs.Threads.{IsWaking, awaits_wait, in_wait}
 use Rattle.ptk_words_locks.proofs.Wakings.{waking_idle, waking_change}
-use Rattle.ptk_words_locks.proofs.Whole.{Rest, AreHeld}
-use Rattle.ptk_words_locks.proofs.Handovers.{held_soundness}
+use Rattle.ptk_words_locks.proofs.Held.{Rest, AreHeld}
+use Rattle.ptk_words_locks.proofs.Handovers.{held_soundness, held_abandonment, held_hand_over}
 use Rattle.ptk_words_locks.proofs.Unlocks.{held_unlock}
 use Rattle.ptk_words_locks.proofs.Ends.{held_owner_end, held_end_same, held_owns_none}
 use Rattle.ptk_words_locks.proofs.Blocks.{blocks_waits, wait_change}
@@ -63,9 +63,10 @@ conditions_blocked t wait threads mutexes conditions ready off are =
 pub rest_woken : (t m : ℕ) (f : Thread → Thread) (threads : List (Option Thread)) (mutexes : List (Option Mutex)) (waiters : List ℕ) (conditions : List (Option Condition)) → IsWaking f → awaited (pool_get threads t) ≡ Some m
     → AreListed threads waiters × AreConditions threads mutexes conditions → AreListed (pool_changed t f threads) waiters × AreConditions (pool_changed t f threads) mutexes conditions
 rest_woken t m f threads mutexes waiters conditions waking waits are =
-    let wait : mutex_of_wait (wait_of (pool_get threads t)) ≡ Some m = awaits_wait m (pool_get threads t) waits in
-    (listed_woken t f threads waiters waking (elsewhere_mutex m (wait_of (pool_get threads t)) wait) are.0,
-    conditions_woken t f threads mutexes conditions waking (awaits_off m (wait_of (pool_get threads t)) wait) are.1)
+    let wait : mutex_of_wait (wait_of (pool_get threads t)) ≡ Some m = awaits_wait m (pool_get threads t) waits in (
+      listed_woken t f threads waiters waking (elsewhere_mutex m (wait_of (pool_get threads t)) wait) are.0,
+      conditions_woken t f threads mutexes conditions waking (awaits_off m (wait_of (pool_get threads t)) wait) are.1,
+    )
 
 -- these wait for input, and these condition variables agree with the threads and the mutexes (own)
 abbrev pub timed_rest : List ℕ → List (Option Condition) → Rest
@@ -92,6 +93,16 @@ pub syncs_unlock : (interval m : ℕ) (running : Option ℕ) (waiters : List ℕ
 syncs_unlock interval m running waiters syncs are =
     syncs_held interval running waiters (after_unlock m syncs.locks) syncs.conditions (held_unlock interval m running (timed_rest waiters syncs.conditions) syncs.locks (held_syncs interval running waiters syncs are))
 
+-- the mutex goes to its heir, or is free
+pub syncs_hand_over : (interval m : ℕ) (running : Option ℕ) (waiters : List ℕ) (syncs : Syncs) → AreSyncs interval running waiters syncs → AreSyncs interval running waiters (record syncs { locks = after_hand_over m syncs.locks })
+syncs_hand_over interval m running waiters syncs are =
+    syncs_held interval running waiters (after_hand_over m syncs.locks) syncs.conditions (held_hand_over interval m running (timed_rest waiters syncs.conditions) syncs.locks (held_syncs interval running waiters syncs are))
+
+-- nobody owns the mutex, and it stays locked
+pub syncs_abandonment : (interval m : ℕ) (running : Option ℕ) (waiters : List ℕ) (syncs : Syncs) → AreSyncs interval running waiters syncs → AreSyncs interval running waiters (record syncs { locks = after_abandonment m syncs.locks })
+syncs_abandonment interval m running waiters syncs are =
+    syncs_held interval running waiters (after_abandonment m syncs.locks) syncs.conditions (held_abandonment interval m running (timed_rest waiters syncs.conditions) syncs.locks (held_syncs interval running waiters syncs are))
+
 -- the thread waits for no mutex
 pub syncs_owner_end : (interval t : ℕ) (running : Option ℕ) (waiters : List ℕ) (syncs : Syncs) → awaited (thread_at syncs.locks t) ≡ None → AreSyncs interval running waiters syncs
     → AreSyncs interval running waiters (record syncs { locks = after_owner_end t syncs.locks })
@@ -116,8 +127,10 @@ syncs_move interval move t m wait waiters syncs may for_mutex are =
     let off : waits_on (thread_at syncs.locks t) ≡ None = ap condition_of_wait (ready_waits (thread_at syncs.locks t) ready) in
     let kept : MayRest (timed_rest waiters syncs.conditions) t m wait syncs.locks = record {
       counts = λ lt own. (are.waiting, conditions_counted t m syncs.threads syncs.mutexes syncs.conditions own off are.conditions);
-      waits = (listed_blocked t wait syncs.threads waiters ready (elsewhere_mutex m (Some wait) for_mutex) are.waiting,
-          conditions_blocked t wait syncs.threads syncs.mutexes syncs.conditions ready (awaits_off m (Some wait) for_mutex) are.conditions);
+      waits = (
+        listed_blocked t wait syncs.threads waiters ready (elsewhere_mutex m (Some wait) for_mutex) are.waiting,
+        conditions_blocked t wait syncs.threads syncs.mutexes syncs.conditions ready (awaits_off m (Some wait) for_mutex) are.conditions,
+      );
     } in
     syncs_held interval (running_after move t) waiters (after_move move t m wait syncs.locks) syncs.conditions
     (held_move interval move t m wait (timed_rest waiters syncs.conditions) syncs.locks may for_mutex kept (held_syncs interval (Some t) waiters syncs are))

@@ -1,13 +1,13 @@
 -- The expiries of a tick, and a condition variable set up and destroyed.
 use Rattle.std.proofs.Common.{◌≡◌, ℕ, ◌≤◌, List, [], ◌∷◌, length, fold, refl, ◌∙◌, ap, arith}
-use Rattle.std.specs.Prelude.{◌<◌, false, nat_lt, Option, Some, None}
+use Rattle.std.specs.Prelude.{false, nat_lt, Option, Some, None}
 use Rattle.std.proofs.lemmas.Bool.{ltb-false}
-use Rattle.ptk_words.specs.Pools.{pool_get, pool_set, pool_changed}
+use Rattle.ptk_words.specs.Pools.{pool_get, pool_set}
 use Rattle.ptk_words.specs.Faults.{errno_number}
 use Rattle.ptk_words.specs.declared.faults.Errno.TheVariants.{ETIMEDOUT}
 use Rattle.ptk_words.specs.declared.threads.Wait.{Wait}
 use Rattle.ptk_words.specs.declared.threads.Wait.TheVariants.{InputWait, SleepWait, JoinWait, MutexWait, ConditionWait, RelockWait}
-use Rattle.ptk_words_model.specs.State.{Condition, Syncs, Part}
+use Rattle.ptk_words_model.specs.State.{Syncs, Part}
 use Rattle.ptk_words_model.specs.Priority.{mutex_of_wait, thread_at}
 use Rattle.ptk_words_model.specs.Schedule.{woken_with, after_wake}
 use Rattle.ptk_words_model.specs.Mutex.{wait_of, without_mutex_waiter}

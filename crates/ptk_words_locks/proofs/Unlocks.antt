@@ -17,16 +17,17 @@ use Rattle.ptk_words_locks.proofs.Pools.{changed_own, changed_other}
 use Rattle.ptk_words_locks.proofs.Lines.{first_in, without_shorter}
 use Rattle.ptk_words_locks.proofs.Exclusion.{IsServed, IsMild, exclusive_mild, left_by}
 use Rattle.ptk_words_locks.proofs.Threads.{waking_handed}
-use Rattle.ptk_words_locks.proofs.Whole.{AreLocks, Rest, AreHeld, AreQueued, queued_from, held_from, queued_mutex}
+use Rattle.ptk_words_locks.proofs.Whole.{AreLocks}
+use Rattle.ptk_words_locks.proofs.Held.{Rest, AreHeld, AreHeldQueued, held_queued_from, held_from, held_queued_mutex}
 use Rattle.ptk_words_locks.proofs.Rooms.{roomy_free, roomy_soundness, roomy_down}
 use Rattle.ptk_words_locks.proofs.Untimed.{untimed_rest, held_locks, locks_held}
-use Rattle.ptk_words_locks.proofs.Handovers.{held_mild, mild_soundness, exclusive_free, queued_leave, heir_waits, no_heir, held_hand_over}
+use Rattle.ptk_words_locks.proofs.Handovers.{held_mild, mild_soundness, exclusive_free, held_queued_leave, heir_waits, no_heir, held_hand_over}
 
 -- ---- refusals
 
 -- all is whole but that m, free, has waiters, n at most (own)
 record AreRefused (interval m n : ℕ) (running : Option ℕ) (rest : Rest) (locks : Locks) : Type 0 where
-  pub queued : AreQueued interval running rest locks
+  pub queued : AreHeldQueued interval running rest locks
   pub others : (k : ℕ) → k ≢ m → IsServed (mutex_at locks k)
   pub few : length (waiters_of (mutex_at locks m)) ≤ n
 
@@ -56,7 +57,7 @@ refused_more interval m n running rest (Some t) locks e refused =
     let shorter : length (without t (waiters_of (mutex_at locks m))) < length (waiters_of (mutex_at locks m)) = without_shorter t (waiters_of (mutex_at locks m)) here in
     let few : length (waiters_of (mutex_at locks m)) ≤ suc n = refused.few in
     record {
-      queued = queued_leave interval t m (handed (Refuses ENOTRECOVERABLE)) running rest locks (waking_handed (Refuses ENOTRECOVERABLE)) (heir_waits m t locks (refused.queued.queues m).waiters_wait e) refused.queued;
+      queued = held_queued_leave interval t m (handed (Refuses ENOTRECOVERABLE)) running rest locks (waking_handed (Refuses ENOTRECOVERABLE)) (heir_waits m t locks (refused.queued.queues m).waiters_wait e) refused.queued;
       others = λ k ne. subst IsServed (sym (changed_other m k (left_by t) locks.mutexes ne)) (refused.others k ne);
       few = rw left (omega (arith, shorter, few));
     }
@@ -74,9 +75,9 @@ held_loss : (interval m : ℕ) (running : Option ℕ) (rest : Rest) (locks : Loc
 held_loss interval m running rest locks are =
     let free : Locks = after_free m locks in
     let lost : Locks = with_soundness Unrecoverable m free in
-    let whole : AreQueued interval running rest locks = queued_from interval running rest locks are in
-    let freed : AreQueued interval running rest free = queued_mutex interval m running rest (λ (x : Mutex). record x { owner = Free; count = 0 }) locks roomy_free (exclusive_free locks.threads m (mutex_at locks m) (whole.queues m)) whole in
-    let marked : AreQueued interval running rest lost = queued_mutex interval m running rest (λ (x : Mutex). record x { soundness = Unrecoverable }) free (roomy_soundness Unrecoverable)
+    let whole : AreHeldQueued interval running rest locks = held_queued_from interval running rest locks are in
+    let freed : AreHeldQueued interval running rest free = held_queued_mutex interval m running rest (λ (x : Mutex). record x { owner = Free; count = 0 }) locks roomy_free (exclusive_free locks.threads m (mutex_at locks m) (whole.queues m)) whole in
+    let marked : AreHeldQueued interval running rest lost = held_queued_mutex interval m running rest (λ (x : Mutex). record x { soundness = Unrecoverable }) free (roomy_soundness Unrecoverable)
     (exclusive_mild locks.threads m (λ (x : Mutex). record x { soundness = Unrecoverable }) (mutex_at free m) (mild_soundness Unrecoverable (mutex_at free m) locks.threads m (freed.queues m)) (freed.queues m)) freed in
     refused_all interval m (length (waiters_of (mutex_at lost m))) running rest lost (record {
       queued = marked;

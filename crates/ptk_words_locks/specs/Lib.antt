@@ -2,3 +2,4 @@ pub mod Locks
 pub mod Conditions
 pub mod Deadlines
 pub mod LockLaws
+pub mod SyncLaws

@@ -1,13 +1,17 @@
-//! What holds of a partition's threads, line, waits and mutexes between moves (`specs/Locks`), as laws over plain
-//! lists: of pools and of lines, of the threads in the line, of those that wait, and of the mutexes with their waiters
-//! and owners. The functions promise that lock, trylock, unlock and the end of an owner keep it; `proofs/` has the same
-//! for each move of the mutexes. Below stands `ptk_words_model`; above, `ptk_words_well` composes them to what holds of
-//! a whole partition.
+//! What holds of a partition's threads, line, waits, mutexes and condition variables between moves, as laws over plain
+//! lists: of pools and of lines, of the threads in the line, of those that wait, of the mutexes with their waiters and
+//! owners, and of the condition variables with theirs. `specs/Locks` says it where no wait has a deadline, as the calls
+//! in use keep it; `specs/Conditions` says it with deadlines and condition variables, and `specs/Deadlines` whose
+//! deadlines a move ends. The functions promise that locks, waits, wakings, the end of an owner and the expiries of a
+//! tick keep it; `proofs/` has the same for each move of the mutexes and of the condition variables, each proved once
+//! for both (`Rest` in `proofs/Held`). Below stands `ptk_words_model`; above, `ptk_words_well` composes them to what
+//! holds of a whole partition.
 #![tactic(auto)]
 
-ghost use Rattle.std.specs.Prelude.{ℕ, List};
-ghost use Rattle.ptk_words_model.specs.State.{Locks};
+ghost use Rattle.std.specs.Prelude.{ℕ, List, Option};
+ghost use Rattle.ptk_words_model.specs.State.{Locks, Syncs, Part};
 ghost use Rattle.ptk_words_locks.specs.LockLaws.{MutexMovesKeepLocks, OwnerEndKeepsLocks};
+ghost use Rattle.ptk_words_locks.specs.SyncLaws.{WaitsKeepSyncs, WakingsKeepSyncs, ExpiriesKeepSyncs};
 
 /// A lock, a trylock and an unlock of the running thread keep threads, line and mutexes whole; where it waits, no
 /// thread runs.
@@ -19,4 +23,22 @@ pub fn mutex_moves_keep_locks()
 /// one goes to its heir, any other is nobody's.
 pub fn owner_end_keeps_locks()
     ensures { (interval : ℕ) → (waiters : List ℕ) → (locks : Locks) → OwnerEndKeepsLocks interval waiters locks }
+{}
+
+/// A sleep, a timed lock and a condition wait of the running thread keep threads, line, mutexes and condition variables
+/// whole, and of the deadlines change the thread's own, and those of threads that the wait wakes.
+pub fn waits_keep_syncs()
+    ensures { (interval : ℕ) → (waiters : List ℕ) → (syncs : Syncs) → WaitsKeepSyncs interval waiters syncs }
+{}
+
+/// An unlock, a signal, a broadcast and the end of a thread that waits for no mutex keep threads, line, mutexes and
+/// condition variables whole, and end the deadlines of those whom they wake or unblock, and no others.
+pub fn wakings_keep_syncs()
+    ensures { (interval : ℕ) → (running : Option ℕ) → (waiters : List ℕ) → (syncs : Syncs) → WakingsKeepSyncs interval running waiters syncs }
+{}
+
+/// The expiries of a tick keep threads, line, mutexes and condition variables whole, and end the deadlines up to the
+/// tick, and no others.
+pub fn expiries_keep_syncs()
+    ensures { (interval : ℕ) → (s : Part) → ExpiriesKeepSyncs interval s }
 {}
