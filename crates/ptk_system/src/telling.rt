@@ -62,7 +62,7 @@ impl<'a> System<'a> {
         requires { p < length self.now.config.sections }
         ensures { result ≡ live_cpu (thread_at (state_of self.now p).part.locks thread) }
     {
-        match self.machine.tables().thread(p, thread) {
+        match self.machine.tables().threads().thread(p, thread) {
             Some(thread) => match thread.phase {
                 Phase::Ended => None,
                 Phase::Normal | Phase::Unwinding => Some(thread.cpu),
