@@ -8,4 +8,4 @@ pub mod Ranks
 pub mod Opened
 pub mod Filled
 pub mod LineLaws
-pub mod RowStub
+pub mod PlainRows

@@ -1,20 +1,26 @@
-//! Rows of plain steps.
+//! Plain steps of a thread in a row, on its registers where they lie in the slot table.
 
-ghost use Rattle.std.specs.Prelude.{◌≡◌, ◌+◌, ◌^◌, ◌<◌, ◌≤◌, length, Some, IsSome};
+ghost use Rattle.std.specs.Prelude.{◌≡◌, ℕ, true, false, ◌+◌, ◌^◌, ◌<◌, ◌≤◌, length, Option, Some, IsSome};
+ghost use Rattle.std.specs.Option.{option_or};
+ghost use Rattle.ptk_words.specs.Pools.{pool_get, pool_changed};
 ghost use Rattle.ptk_words.specs.declared.threads.Thread.{Thread};
+ghost use Rattle.ptk_words_instructions.specs.PlainSteps.{Core, core, is_plain, plain_steps};
 ghost use Rattle.ptk_words_model.specs.Priority.{thread_at};
-ghost use Rattle.ptk_words_quiet.specs.Quiet.{ArePlain, core_of, after_row};
-ghost use Rattle.ptk_trace_rows.specs.TracedRows.{traced};
+ghost use Rattle.ptk_words_quiet.specs.Quiet.{ArePlain, core_of, computed, after_row};
+ghost use Rattle.ptk_trace_rows.specs.TracedRows.{last_entry, traced};
 ghost use Rattle.ptk_gate_pools.specs.Kept.{part_at, put_part};
 
 use crate::pools::Pools;
+use ptk_threads::Slot;
 use ptk_trace::Trace;
-use ptk_trace_rows::BATCH;
-use ptk_words::{Entry, PartId, ThreadNo, Tick};
+use ptk_trace_rows::{BATCH, Row, run_row};
+use ptk_words::{Entry, PartId, Policy, Thread, ThreadNo, Tick};
 
 impl Pools {
     /// Plain steps of a thread in use in a row, the first of them at the tick, at most so many, until the next word is no
-    /// plain step; how many. A stub: none.
+    /// plain step; how many. Each is counted as if it had been a decision: the registers, the memory, the used ticks of
+    /// SCHED_RR, the last step, and the trace, which has them as the newest. Nothing else changes. `batch` is room for
+    /// entries on their way into the trace, of which nothing is told.
     pub fn run_row(
         &mut self,
         p: PartId,
@@ -32,8 +38,111 @@ impl Pools {
         ensures plain { (thread : Thread) → thread_at (part_at p self.old).locks t ≡ Some thread → ArePlain result (core_of thread (part_at p self.old)) }
         ensures moved { (thread : Thread) → thread_at (part_at p self.old).locks t ≡ Some thread → self.new ≡ put_part p (after_row tick t result thread (part_at p self.old)) self.old }
         ensures traced { (thread : Thread) → thread_at (part_at p self.old).locks t ≡ Some thread → trace.new ≡ traced tick t result (core_of thread (part_at p self.old)) trace.old }
+        ensures ended { (thread : Thread) → thread_at (part_at p self.old).locks t ≡ Some thread → result < most → is_plain (plain_steps result (core_of thread (part_at p self.old))) ≡ false }
     {
-        trace.extend(&[]);
-        0
+        let row = run_at(
+            self.threads.lend(p),
+            self.regions.lend(p),
+            t,
+            tick,
+            most,
+            trace,
+            batch,
+        );
+        note_newest(&mut self.lasts[p.index()], row.last);
+        row.steps
+    }
+}
+
+/// A row of the thread of a number on its registers and this memory.
+#[inline(always)]
+fn run_at(
+    slots: &mut [Slot],
+    memory: &mut [u8],
+    t: ThreadNo,
+    tick: Tick,
+    most: u32,
+    trace: &mut Trace,
+    batch: &mut [Entry; BATCH],
+) -> Row
+    requires time { tick < 2 ^ 63 }
+    requires in_use { IsSome (pool_get slots.old t) }
+    requires room { (thread : Thread) → pool_get slots.old t ≡ Some thread → thread.used + most < 2 ^ 32 }
+    ensures few { result.steps ≤ most }
+    ensures plain { (thread : Thread) → pool_get slots.old t ≡ Some thread → ArePlain result.steps (core thread.cpu memory.old) }
+    ensures slots { (thread : Thread) → pool_get slots.old t ≡ Some thread → slots.new ≡ pool_changed t (computed result.steps (plain_steps result.steps (core thread.cpu memory.old)).cpu) slots.old }
+    ensures memory { (thread : Thread) → pool_get slots.old t ≡ Some thread → memory.new ≡ (plain_steps result.steps (core thread.cpu memory.old)).memory }
+    ensures traced { (thread : Thread) → pool_get slots.old t ≡ Some thread → trace.new ≡ traced tick t result.steps (core thread.cpu memory.old) trace.old }
+    ensures last { (thread : Thread) → pool_get slots.old t ≡ Some thread → result.last ≡ last_entry tick t result.steps (core thread.cpu memory.old) }
+    ensures ended { (thread : Thread) → pool_get slots.old t ≡ Some thread → result.steps < most → is_plain (plain_steps result.steps (core thread.cpu memory.old)) ≡ false }
+{
+    let slot = &mut slots[t.place()];
+    run_slot(slot, memory, t, tick, most, trace, batch)
+}
+
+/// A row of a slot's thread on its registers and this memory.
+#[inline(always)]
+fn run_slot(
+    slot: &mut Slot,
+    memory: &mut [u8],
+    t: ThreadNo,
+    tick: Tick,
+    most: u32,
+    trace: &mut Trace,
+    batch: &mut [Entry; BATCH],
+) -> Row
+    requires time { tick < 2 ^ 63 }
+    requires in_use { IsSome slot.old }
+    requires room { (thread : Thread) → slot.old ≡ Some thread → thread.used + most < 2 ^ 32 }
+    ensures few { result.steps ≤ most }
+    ensures plain { (thread : Thread) → slot.old ≡ Some thread → ArePlain result.steps (core thread.cpu memory.old) }
+    ensures slot { (thread : Thread) → slot.old ≡ Some thread → slot.new ≡ Some (computed result.steps (plain_steps result.steps (core thread.cpu memory.old)).cpu thread) }
+    ensures memory { (thread : Thread) → slot.old ≡ Some thread → memory.new ≡ (plain_steps result.steps (core thread.cpu memory.old)).memory }
+    ensures traced { (thread : Thread) → slot.old ≡ Some thread → trace.new ≡ traced tick t result.steps (core thread.cpu memory.old) trace.old }
+    ensures last { (thread : Thread) → slot.old ≡ Some thread → result.last ≡ last_entry tick t result.steps (core thread.cpu memory.old) }
+    ensures ended { (thread : Thread) → slot.old ≡ Some thread → result.steps < most → is_plain (plain_steps result.steps (core thread.cpu memory.old)) ≡ false }
+{
+    match &mut slot.thread {
+        Some(thread) => run_thread(thread, memory, t, tick, most, trace, batch),
+        None => unreachable!(),
+    }
+}
+
+/// A row of a thread on its registers and this memory, with the ticks of its interval counted.
+#[inline(always)]
+fn run_thread(
+    thread: &mut Thread,
+    memory: &mut [u8],
+    t: ThreadNo,
+    tick: Tick,
+    most: u32,
+    trace: &mut Trace,
+    batch: &mut [Entry; BATCH],
+) -> Row
+    requires time { tick < 2 ^ 63 }
+    requires room { thread.old.used + most < 2 ^ 32 }
+    ensures few { result.steps ≤ most }
+    ensures plain { ArePlain result.steps (core thread.old.cpu memory.old) }
+    ensures thread { thread.new ≡ computed result.steps (plain_steps result.steps (core thread.old.cpu memory.old)).cpu thread.old }
+    ensures memory { memory.new ≡ (plain_steps result.steps (core thread.old.cpu memory.old)).memory }
+    ensures traced { trace.new ≡ traced tick t result.steps (core thread.old.cpu memory.old) trace.old }
+    ensures last { result.last ≡ last_entry tick t result.steps (core thread.old.cpu memory.old) }
+    ensures ended { result.steps < most → is_plain (plain_steps result.steps (core thread.old.cpu memory.old)) ≡ false }
+{
+    let row = run_row(&mut thread.cpu, memory, tick, t, most, trace, batch);
+    match thread.policy {
+        Policy::Fifo => {}
+        Policy::RoundRobin => thread.used += row.steps,
+    }
+    row
+}
+
+/// The last step is the newest one, if there is one; else it stays.
+#[inline(always)]
+fn note_newest(last: &mut Option<Entry>, newest: Option<Entry>)
+    ensures { last.new ≡ option_or newest last.old }
+{
+    if newest.is_some() {
+        *last = newest;
     }
 }

@@ -1,5 +1,5 @@
 -- Pools, whose numbers count from 1, read and written at a number, and the table after a change of one partition.
-use Rattle.std.proofs.Common.{◌≡◌, ℕ, zero, suc, ◌+◌, ◌-◌, ◌<◌, ◌≤◌, List, [], ◌∷◌, length, map, refl, sym, ◌∙◌, ap, arith, All, get_or, add-one}
+use Rattle.std.proofs.Common.{◌≡◌, ℕ, zero, suc, ◌+◌, ◌-◌, ◌<◌, ◌≤◌, List, [], ◌∷◌, ◌++◌, length, map, take, drop, refl, sym, ◌∙◌, ap, arith, All, get_or, add-one, length-append, length-drop, length-take}
 use Rattle.std.specs.Prelude.{Option, option_map, slice_get, slice_set, slice_index}
 use Rattle.std.specs.Option.{option_flatten}
 use Rattle.std.proofs.Math.ListN.{set}
@@ -7,8 +7,8 @@ use Rattle.std.proofs.lemmas.List.{length-replicate, length-set, set_past, set-g
 use Rattle.std.proofs.lemmas.List.Elements.{All-head, All-tail}
 use Rattle.ptk_words.specs.Pools.{pool_get, pool_set, pool_changed}
 use Rattle.ptk_words.specs.declared.threads.Thread.{Thread}
-use Rattle.ptk_words_parted.specs.Parts.{part_of, filled}
-use Rattle.ptk_words_parted.specs.Cuts.{lent}
+use Rattle.ptk_words_parted.specs.Parts.{part_of, joined, filled}
+use Rattle.ptk_words_parted.specs.Cuts.{cut, start_at, ends_of, over, refilled, lent}
 use Rattle.ptk_words_parted.proofs.Cuts.{lent-same, set_part-same}
 use Rattle.ptk_threads.specs.Table.{IsTable, stored_of}
 
@@ -87,6 +87,35 @@ pub table_both : (threads : List (List (Option Thread))) (stored : List (List �
 table_both threads stored p row priorities table lt e f =
     let lt' : p < length (lent threads p row) = rw (length-lent threads p row lt e) lt in
     table_stored (lent threads p row) stored p priorities (table_threads threads stored p row table lt e) lt' f
+
+-- ---- a loan, whatever it leaves
+
+length-refilled : {X : Type 0} (xs ws : List X) → length (refilled xs ws) ≡ length xs
+length-refilled xs ws = omega (arith, length-take (length xs) (ws ++ drop (length ws) xs), length-append ws (drop (length ws) xs), length-drop (length ws) xs)
+
+length-cut_again : {X : Type 0} (a : ℕ) (parts : List (List X)) (items : List X) → length (cut a (ends_of a parts) items) ≡ length parts
+length-cut_again a [] items = refl
+length-cut_again a (part ∷ parts) items = ap suc (length-cut_again (a + length part) parts items)
+
+-- lists are cut again at their own lengths, whatever items there are
+length_part-cut : {X : Type 0} (a : ℕ) (parts : List (List X)) (items : List X) (q : ℕ) → a + length (joined parts) ≤ length items → length (part_of (cut a (ends_of a parts) items) q) ≡ length (part_of parts q)
+length_part-cut a [] items q le = refl
+length_part-cut a (part ∷ parts) items zero le =
+    let room : a + length part ≤ length items = omega (arith, le, length-append part (joined parts)) in
+    omega (arith, room, length-take (a + length part - a) (drop a items), length-drop a items)
+length_part-cut a (part ∷ parts) items (suc q) le = length_part-cut (a + length part) parts items q (omega (arith, le, length-append part (joined parts)))
+
+-- a loan leaves a table, even if it left a list of another length
+pub table_lent : (threads : List (List (Option Thread))) (stored : List (List ℕ)) (p : ℕ) (row : List (Option Thread)) → IsTable threads stored → IsTable (lent threads p row) stored
+unfolding lent
+table_lent threads stored p row table =
+    let items : List (Option Thread) = refilled (joined threads) (over (start_at 0 (ends_of 0 threads) p) row (joined threads)) in
+    let room : 0 + length (joined threads) ≤ length items = omega (arith, length-refilled (joined threads) (over (start_at 0 (ends_of 0 threads) p) row (joined threads))) in
+    record {
+      parts = table.parts ∙ sym (length-cut_again 0 threads items);
+      same = λ q. table.same q ∙ sym (length_part-cut 0 threads items q room);
+      few = λ q. rw (length_part-cut 0 threads items q room) (table.few q);
+    }
 
 -- a list for each count is as long as the count
 few_filled : {X : Type 0} (x : X) (counts : List ℕ) → All (λ count. count ≤ 32) counts → (p : ℕ) → length (part_of (map (filled x) counts) p) ≤ 32

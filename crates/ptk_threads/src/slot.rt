@@ -12,7 +12,8 @@ use std::marker::Model;
 /// A place for a thread in the table that all partitions share.
 #[derive(Clone, Copy)]
 pub struct Slot {
-    thread: Option<Thread>,
+    /// The thread, None in a free slot.
+    pub thread: Option<Thread>,
 }
 
 impl Model for Slot {

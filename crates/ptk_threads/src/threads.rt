@@ -1,12 +1,14 @@
 //! The table: the life of numbers, and the fields of a thread.
 
 ghost use Rattle.std.specs.Prelude.{◌≡◌, ◌<◌, ◌≤◌, length, slice_set, position, is_none, IfOk, All, option_map, option_and_then};
+ghost use Rattle.std.specs.Borrow.{sem};
 ghost use Rattle.ptk_words.specs.Pools.{least_free, pool_get, pool_set, pool_changed};
 ghost use Rattle.ptk_words.specs.Threads.{left_at_end, left_at_detach};
 ghost use Rattle.ptk_words.specs.declared.threads.Thread.{Thread};
 ghost use Rattle.ptk_words_parted.specs.Parts.{part_of, joined};
 ghost use Rattle.ptk_threads.specs.Table.{free_table, thread_in, stored_of, with_slot, with_changed, with_stored, with_free, with_new, with_rest, with_left, with_cpu, with_policy, with_priority, with_used, with_phase, with_main, with_joiner, with_result, with_wait, with_detached_mark, replaced_by};
 ghost use Rattle.ptk_threads.specs.Changes.{thread_changed};
+ghost use Rattle.ptk_threads.specs.Lending.{LendsSlots};
 
 use crate::slot::{Change, Slot};
 use ptk_words::{Cpu, PartId, Phase, Policy, Priority, Thread, ThreadNo, Wait};
@@ -64,6 +66,16 @@ impl Threads {
         ensures few { length result.now ≤ 32 }
     {
         self.slots.part(p)
+    }
+
+    /// Lends the slots of a partition for writing, by number from 1; every other partition's slots and all stored
+    /// priorities stay.
+    pub fn lend(&mut self, p: PartId) -> &mut [Slot]
+        requires { p < length self.old.threads }
+        ensures* writes_back { sem 𝓛 (LendsSlots self.entry p result) }
+        ensures value { result.now ≡ part_of self.old.threads p }
+    {
+        self.slots.lend(p)
     }
 
     /// The thread of a number, None of a free one.
