@@ -15,8 +15,9 @@ use ptk_words::{Entry, PartId, Tick};
 
 /// Plain steps of the partition in a row, the first of them at the tick, each in place of a decision: as many as come
 /// before anything else can, before the tick `stop` and before a step that is not plain, and no fewer up to 2^31. How
-/// many ticks they took, one each; 0, and nothing changes, where the partition isn't quiet or its next step isn't plain. The trace has the steps as
-/// the newest; `batch` is room for entries on their way there, of which nothing is told. No other partition changes.
+/// many ticks they took, one each; 0, and nothing changes, where the partition isn't quiet or its next step isn't plain.
+/// The trace has the steps as the newest; `batch` is room for entries on their way there, of which nothing is told. No
+/// other partition changes.
 pub fn compute(
     tables: &mut Tables,
     p: PartId,
