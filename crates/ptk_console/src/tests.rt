@@ -48,6 +48,8 @@ fn a_full_ring_loses_what_comes(rt: HostRuntime) -> Result<(), Fail> {
     let (p, q) = (PartId::new(0), PartId::new(1));
     let mut consoles = two(rt.alloc())?;
     assert_eq!(rt; consoles.parts(), 2);
+    assert_eq!(rt; consoles.next_arrival_tick(p), Some(Tick::new(30)));
+    assert_eq!(rt; consoles.next_arrival_tick(q), None);
     let (early, due) = (Tick::new(29), Tick::new(40));
     assert!(rt; !consoles.arrive(p, early), "nothing comes before its tick");
     assert_eq!(rt; consoles.next_arrival(p, due), Some(96));

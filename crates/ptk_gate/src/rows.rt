@@ -1,8 +1,9 @@
 //! Rows of plain steps.
 
-ghost use Rattle.std.specs.Prelude.{◌≡◌, ℕ, ◌+◌, ◌-◌, ◌^◌, ◌<◌, ◌≤◌, true, length, min, Some, IfSome};
+ghost use Rattle.std.specs.Prelude.{◌≡◌, ℕ, ◌+◌, ◌-◌, ◌^◌, ◌<◌, ◌≤◌, true, false, length, min, Some, IfSome};
 ghost use Rattle.std.specs.Option.{IsSomeAnd};
 ghost use Rattle.ptk_words.specs.declared.threads.Thread.{Thread};
+ghost use Rattle.ptk_words_instructions.specs.PlainSteps.{is_plain, plain_steps};
 ghost use Rattle.ptk_words_model.specs.Priority.{thread_at};
 ghost use Rattle.ptk_words_model.specs.Run.{is_active};
 ghost use Rattle.ptk_words_quiet.specs.Quiet.{IsQuiet, ArePlain, core_of, after_row};
@@ -50,6 +51,7 @@ impl Tables {
         ensures plain { (thread : Thread) → thread_at (part_at p self.old).locks quiet.thread ≡ Some thread → ArePlain result (core_of thread (part_at p self.old)) }
         ensures moved { (thread : Thread) → thread_at (part_at p self.old).locks quiet.thread ≡ Some thread → self.new ≡ put_part p (after_row tick quiet.thread result thread (part_at p self.old)) self.old }
         ensures traced { (thread : Thread) → thread_at (part_at p self.old).locks quiet.thread ≡ Some thread → trace.new ≡ traced tick quiet.thread result (core_of thread (part_at p self.old)) trace.old }
+        ensures ended { (thread : Thread) → thread_at (part_at p self.old).locks quiet.thread ≡ Some thread → tick + result < quiet.stop → result < 2 ^ 31 → is_plain (plain_steps result (core_of thread (part_at p self.old))) ≡ false }
     {
         let most = ticks_between(tick, quiet.stop);
         self.pools

@@ -1,9 +1,9 @@
--- A row of no step changes nothing.
-use Rattle.std.proofs.Common.{◌≡◌, ◌∙◌, ℕ, ◌-◌, ◌≤◌, ◌<◌, List, [], ◌++◌, length, drop, append-nil, sym, ap, arith}
-use Rattle.std.specs.Prelude.{Some}
+-- A row of no step changes nothing, and how a row ends.
+use Rattle.std.proofs.Common.{◌≡◌, ◌∙◌, ℕ, ◌+◌, ◌-◌, ◌^◌, ◌≤◌, ◌<◌, false, List, [], ◌++◌, length, drop, append-nil, sym, ap, subst, arith}
+use Rattle.std.specs.Prelude.{Option, Some}
 use Rattle.ptk_words.specs.declared.sections.Entry.{Entry}
 use Rattle.ptk_words.specs.declared.threads.Thread.{Thread}
-use Rattle.ptk_words_instructions.specs.PlainSteps.{Core, plain_entries}
+use Rattle.ptk_words_instructions.specs.PlainSteps.{Core, is_plain, plain_steps, plain_entries}
 use Rattle.ptk_words_model.specs.State.{Part}
 use Rattle.ptk_words_model.specs.Priority.{thread_at}
 use Rattle.ptk_words_model.specs.Run.{last_of}
@@ -43,3 +43,16 @@ row_empty p tick stop n q old new before after told within e moved traced =
       traced thread in_use ∙ ap (λ (k : ℕ). rows.traced tick q.thread k (core_of thread (part_at p old)) before) e
           ∙ traced_none tick q.thread (core_of thread (part_at p old)) before within,
     )
+
+-- ---- progress
+
+same_number : (o : Option ℕ) (t u : ℕ) → o ≡ Some t → o ≡ Some u → t ≡ u
+same_number o t u e f = let both : Some t ≡ Some u = sym e ∙ f in cc
+
+-- the row of a quiet partition ends at its stop, at 2^31 steps or before a step that is not plain
+pub row_ended : (p tick stop n t k : ℕ) (thread : Thread) (q : Quiet) (old : Kept) → IsTold p tick stop old q → k ≤ q.stop
+    → ((thread : Thread) → thread_at (part_at p old).locks q.thread ≡ Some thread → tick + n < q.stop → n < 2 ^ 31 → is_plain (plain_steps n (core_of thread (part_at p old))) ≡ false)
+    → IsQuiet (limits_at p old) tick k t thread (part_at p old) → tick + n < k → n < 2 ^ 31 → is_plain (plain_steps n (core_of thread (part_at p old))) ≡ false
+row_ended p tick stop n t k thread q old told far ended quiet left few =
+    let same : t ≡ q.thread = same_number (part_at p old).running t q.thread quiet.running told.2.2.running in
+    ended thread (subst (λ (u : ℕ). thread_at (part_at p old).locks u ≡ Some thread) same quiet.in_use) (omega (arith, left, far)) few

@@ -1,9 +1,11 @@
 //! Plain steps in a row.
 
-ghost use Rattle.std.specs.Prelude.{◌≡◌, ℕ, ◌+◌, ◌^◌, ◌<◌, ◌≤◌, true, length};
+ghost use Rattle.std.specs.Prelude.{◌≡◌, ℕ, ◌+◌, ◌^◌, ◌<◌, ◌≤◌, true, false, length};
 ghost use Rattle.ptk_words.specs.declared.threads.Thread.{Thread};
+ghost use Rattle.ptk_words_instructions.specs.PlainSteps.{is_plain, plain_steps};
 ghost use Rattle.ptk_words_model.specs.Run.{is_active};
-ghost use Rattle.ptk_gate_pools.specs.Kept.{part_at};
+ghost use Rattle.ptk_words_quiet.specs.Quiet.{IsQuiet, core_of};
+ghost use Rattle.ptk_gate_pools.specs.Kept.{part_at, limits_at};
 ghost use Rattle.ptk_kernel.specs.Rows.{IsRow};
 
 use ptk_gate::Tables;
@@ -12,9 +14,10 @@ use ptk_trace_rows::BATCH;
 use ptk_words::{Entry, PartId, Tick};
 
 /// Plain steps of the partition in a row, the first of them at the tick, each in place of a decision: as many as come
-/// before anything else can, before the tick `stop` and before a step that is not plain. How many ticks they took, one
-/// each; 0, and nothing changes, where the partition isn't quiet or its next step isn't plain. The trace has the steps as
-/// the newest; `batch` is room for entries on their way there, of which nothing is told. No other partition changes.
+/// before anything else can, before the tick `stop` and before a step that is not plain, and no fewer up to 2^31. How
+/// many ticks they took, one each; 0, and nothing changes, where the partition isn't quiet or its next step isn't plain.
+/// The trace has the steps as the newest; `batch` is room for entries on their way there, of which nothing is told. No
+/// other partition changes.
 pub fn compute(
     tables: &mut Tables,
     p: PartId,
@@ -29,6 +32,7 @@ pub fn compute(
     requires time { stop ≤ 2 ^ 41 }
     ensures within { tick + result ≤ stop }
     ensures none { result ≡ 0 → (tables.new ≡ tables.old) × (trace.new ≡ trace.old) }
+    ensures ended { (t k : ℕ) → (thread : Thread) → k ≤ stop → IsQuiet (limits_at p tables.old) tick k t thread (part_at p tables.old) → tick + result < k → result < 2 ^ 31 → is_plain (plain_steps result (core_of thread (part_at p tables.old))) ≡ false }
     ensures row { 0 < result → (t : ℕ) × (thread : Thread) × IsRow p tick result t thread tables.old tables.new trace.old trace.new }
 {
     let _kept = trace.kept();

@@ -537,6 +537,7 @@ mod tests {
         assert_eq!(rt; threads.create(second, new_thread(8)), Some(two));
         assert_eq!(rt; threads.create(second, new_thread(12)), None);
         assert_eq!(rt; threads.create(first, new_thread(16)), Some(one));
+        assert!(rt; threads.thread_ref(second, two).is_some());
         threads.end(second, one);
         assert_eq!(rt; threads.phase(second, one), Some(Phase::Ended));
         threads.detach(second, one);
