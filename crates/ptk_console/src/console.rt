@@ -87,6 +87,16 @@ impl PartitionConsole {
         }
     }
 
+    /// Whether the next input byte comes at the tick or before.
+    pub fn is_due(&self, tick: Tick) -> bool
+        ensures { result ≡ is_some (next_byte tick self.now.console) }
+    {
+        match self.coming().first() {
+            Some(arrival) => arrival.tick.ticks() <= tick.ticks(),
+            None => false,
+        }
+    }
+
     /// Puts the next input byte into the ring, or loses and counts it, if it comes at the tick or before.
     pub fn arrive(&mut self, tick: Tick) -> bool
         ensures told { result ≡ is_some (next_byte tick self.old.console) }

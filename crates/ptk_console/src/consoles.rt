@@ -74,6 +74,14 @@ impl Consoles {
         self.items[p.index()].next_arrival_tick()
     }
 
+    /// Whether the partition's next input byte comes at the tick or before.
+    pub fn is_due(&self, p: PartId, tick: Tick) -> bool
+        requires { p < length self.now.consoles }
+        ensures { result ≡ is_some (next_byte tick (console_at self.now p)) }
+    {
+        self.items[p.index()].is_due(tick)
+    }
+
     /// Puts the partition's next input byte into its ring, or loses and counts it where the ring is full, if it comes at
     /// the tick or before; false where none does.
     pub fn arrive(&mut self, p: PartId, tick: Tick) -> bool

@@ -11,6 +11,7 @@
 
 mod arrivals;
 mod building;
+mod callers;
 mod cancellations;
 mod consoles;
 mod line;
