@@ -81,6 +81,12 @@ arriving_more tick p initial now new a parts within due e =
 none_next : (o : Option ℕ) (limit tick : ℕ) (s : Part) → o ≡ None → after_next_of o limit tick s ≡ s
 none_next o limit tick s e = rw e refl
 
+-- where none is due, nothing changes
+pub undue_moved : (limit tick p : ℕ) (kept : Kept) → is_some (next_byte tick (part_at p kept).console) ≡ false → kept ≡ put_part p (after_next limit tick (part_at p kept)) kept
+undue_moved limit tick p kept none =
+    let is : next_byte tick (part_at p kept).console ≡ None = none_of (next_byte tick (part_at p kept).console) none in
+    put_same p kept ∙ ap (λ (q : Part). put_part p q kept) (sym (none_next (next_byte tick (part_at p kept).console) limit tick (part_at p kept) is))
+
 -- and at last all
 pub arriving_end : (tick p : ℕ) (initial now new : Kept) → AreArriving tick p initial now → is_some (next_byte tick (part_at p now).console) ≡ false
     → new ≡ put_part p (after_next (limits_at p now).ring tick (part_at p now)) now → new ≡ put_part p (after_arrivals (limits_at p initial) tick (part_at p initial)) initial

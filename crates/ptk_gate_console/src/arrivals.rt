@@ -60,6 +60,10 @@ fn arrive_next(pools: &mut Pools, p: PartId, tick: Tick) -> bool
     ensures parts { AreParts (length pools.old.limits) pools.old }
 {
     let _parts = pools.parts();
+    let is_due = pools.is_input_due(p, tick);
+    if !is_due {
+        return false;
+    }
     let waiter = pools.first_waiter(p);
     match waiter {
         Some(t) => hand_next(pools, p, t, tick),

@@ -1,4 +1,3 @@
-pub mod Registers
 pub mod Creations
 pub mod Ready
 pub mod Locked

@@ -19,9 +19,9 @@ pub fn count_interval(pools: &mut Pools, p: PartId, interval: u32, cost: u32, t:
     ensures { pools.new ≡ put_part p (after_interval interval cost t (thread_at (part_at p pools.old).locks t) (part_at p pools.old)) pools.old }
 {
     let _parts = pools.parts();
-    let found = pools.threads().thread(p, t);
+    let found = pools.threads().thread_ref(p, t);
     if let Some(thread) = found {
-        if pools.is_running(p, t) && is_round_robin(thread.policy) {
+        if is_round_robin(thread.policy) && pools.is_running(p, t) {
             let used = thread.used as u64 + cost as u64;
             if interval as u64 <= used {
                 end_turn(pools, p, t);

@@ -26,6 +26,6 @@ pub use creation::begin;
 pub use intervals::count_interval;
 pub use places::{end_turn, push_tail, step_back};
 pub use replies::{refuse, reply, succeed, succeed_with, succeed_with_two};
-pub use targets::{is_ended, is_taken, target};
+pub use targets::{is_ended, is_taken, named_thread, target};
 pub use unwinding::start_unwinding;
 pub use words::{is_pointer, named_priority};

@@ -1,38 +1,20 @@
 //! Replies in the caller's registers.
 
 ghost use Rattle.std.specs.Prelude.{◌≡◌, ◌<◌, [], ◌∷◌, length};
-ghost use Rattle.ptk_words_model.specs.Schedule.{with_registers};
 ghost use Rattle.ptk_words_model.specs.Calls.{replied, refusal, success};
 ghost use Rattle.ptk_gate_pools.specs.Kept.{part_at, put_part};
 
 use ptk_gate_pools::Pools;
-use ptk_words::{A0, Cpu, Errno, PartId, ThreadNo};
+use ptk_words::{Errno, PartId, ThreadNo};
 use ptk_words_model::{Invocation, Reply};
 
 /// Puts the values into the thread's a0, a1 and so on; a free number stays free.
-#[tactic(auto, using(ptk_gate_pools::proofs::Parted::parted, ptk_gate_pools::proofs::Numbers::changed_none, ptk_gate_pools::proofs::Ranks::put_same))]
 pub fn reply(pools: &mut Pools, p: PartId, t: ThreadNo, values: &[u32])
     requires partition { p < length pools.old.limits }
     requires few { length values.now < 4 }
     ensures { pools.new ≡ put_part p (replied t values.now (part_at p pools.old)) pools.old }
 {
-    let _parts = pools.parts();
-    if let Some(cpu) = pools.threads().cpu(p, t) {
-        pools.give_cpu(p, t, with_values(cpu, values));
-    }
-}
-
-/// The registers with the values from a0 on.
-#[tactic(auto, using(crate::proofs::Registers::registers))]
-pub(crate) fn with_values(cpu: Cpu, values: &[u32]) -> Cpu
-    requires { length values.now < 4 }
-    ensures { result ≡ with_registers cpu A0 values.now }
-{
-    let mut cpu = cpu;
-    for (i, value) in values.iter().enumerate() {
-        cpu.set_register(A0 + i as u32, *value);
-    }
-    cpu
+    pools.give_values(p, t, values);
 }
 
 /// Refuses the call: the error number in a0, and nothing else changes.

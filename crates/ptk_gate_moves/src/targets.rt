@@ -1,6 +1,7 @@
 //! The thread that a guest names, and what is told of it.
 
-ghost use Rattle.std.specs.Prelude.{◌≡◌, ◌<◌, ◌≤◌, length};
+ghost use Rattle.std.specs.Prelude.{◌≡◌, ◌<◌, ◌≤◌, length, IfSome};
+ghost use Rattle.std.specs.Option.{option_copied};
 ghost use Rattle.ptk_words.specs.Pools.{pool_get};
 ghost use Rattle.ptk_words_model.specs.Decision.{runner_at};
 ghost use Rattle.ptk_words.specs.Threads.{is_ended, is_taken};
@@ -41,6 +42,33 @@ fn named(slots: &[Slot], word: u32) -> Option<Runner>
         }),
         None => None,
     }
+}
+
+/// The thread that a guest names by a word, where it lies, if that is the number of one in use. Nothing of it is copied.
+pub fn named_thread(pools: &Pools, p: PartId, word: u32) -> Option<&Thread>
+    requires partition { p < length pools.now.limits }
+    ensures thread { option_copied result ≡ thread_at (part_at p pools.now).locks word }
+    ensures number { IfSome result (λ _. (0 < word) × (word ≤ 32)) }
+{
+    let _parts = pools.parts();
+    thread_named(pools.threads().part(p), word)
+}
+
+/// The thread of a word among the slots, which are at most 32, where it lies.
+#[tactic(auto, using(ptk_threads::proofs::Slots::numbers))]
+fn thread_named(slots: &[Slot], word: u32) -> Option<&Thread>
+    requires few { length slots.now ≤ 32 }
+    ensures thread { option_copied result ≡ pool_get slots.now word }
+    ensures number { IfSome result (λ _. (0 < word) × (word ≤ 32)) }
+{
+    if word == 0 {
+        return None;
+    }
+    let index = word as usize - 1;
+    if index >= slots.len() {
+        return None;
+    }
+    slots[index].thread_ref()
 }
 
 /// A thread that can be neither joined nor detached any more.

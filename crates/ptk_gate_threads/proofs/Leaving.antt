@@ -75,6 +75,6 @@ detached_at (Some thread) i s target e named taken =
     (if_over (is_ended thread.phase) None (Some (record thread { is_detached = true })) (λ (o : Option Thread). success [] i (with_locks (λ locks. record locks { threads = pool_set locks.threads i.a0 o }) s)))
 
 -- the detachment of a thread in use that is neither detached nor being joined
-pub detached_is : (i : Invocation) (s : Part) (target : Runner) → runner_at i.a0 (thread_at s.locks i.a0) ≡ Some target → is_taken target.thread ≡ false
-    → success [] i (with_locks (with_left target.number left_at_detach) s) ≡ detach i s
-detached_is i s target named taken = detached_at (thread_at s.locks i.a0) i s target refl named taken
+pub detached_is : (i : Invocation) (s : Part) (thread : Thread) → thread_at s.locks i.a0 ≡ Some thread → is_taken thread ≡ false
+    → success [] i (with_locks (with_left i.a0 left_at_detach) s) ≡ detach i s
+detached_is i s thread e free = detached_at (Some thread) i s (record { number = i.a0; thread = thread }) e refl free

@@ -6,9 +6,9 @@ ghost use Rattle.ptk_words_model.specs.ThreadCreation.{policy_number};
 ghost use Rattle.ptk_words_model.specs.ThreadCalls as calls;
 ghost use Rattle.ptk_gate_pools.specs.Kept.{part_at, put_part};
 
-use ptk_gate_moves::{is_taken, refuse, succeed, succeed_with_two, target};
+use ptk_gate_moves::{is_taken, named_thread, refuse, succeed, succeed_with_two};
 use ptk_gate_pools::Pools;
-use ptk_words::{Errno, PartId, Policy};
+use ptk_words::{Errno, PartId, Policy, ThreadNo};
 use ptk_words_model::{Invocation, Reply};
 
 /// The number that a guest reads for a policy (own choice).
@@ -28,10 +28,10 @@ pub fn getschedparam(pools: &mut Pools, p: PartId, i: Invocation) -> Reply
     ensures told { result ≡ (getschedparam i (part_at p pools.old)).reply }
     ensures moved { pools.new ≡ put_part p (getschedparam i (part_at p pools.old)).part pools.old }
 {
-    match target(pools, p, i.a0) {
+    match named_thread(pools, p, i.a0) {
         Some(target) => {
-            let priority = target.thread.priority;
-            let policy = policy_number(target.thread.policy);
+            let priority = target.priority;
+            let policy = policy_number(target.policy);
             succeed_with_two(pools, p, i, policy, priority.level() as u32)
         }
         None => refuse(pools, p, i, Errno::ESRCH),
@@ -47,12 +47,12 @@ pub fn detach(pools: &mut Pools, p: PartId, i: Invocation) -> Reply
     ensures moved { pools.new ≡ put_part p (calls.detach i (part_at p pools.old)).part pools.old }
 {
     let _parts = pools.parts();
-    let Some(target) = target(pools, p, i.a0) else {
+    let Some(target) = named_thread(pools, p, i.a0) else {
         return refuse(pools, p, i, Errno::ESRCH);
     };
-    if is_taken(&target.thread) {
+    if is_taken(target) {
         return refuse(pools, p, i, Errno::EINVAL);
     }
-    pools.detach(p, target.number);
+    pools.detach(p, ThreadNo::new(i.a0 as u8));
     succeed(pools, p, i)
 }

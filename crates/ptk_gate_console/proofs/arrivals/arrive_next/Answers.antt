@@ -1,7 +1,7 @@
 use Rattle.std.proofs.Common.{◌∙◌, sym}
 use Rattle.ptk_gate_pools.specs.Kept.{part_at, limits_at}
 use Rattle.ptk_gate_console.proofs.ArrivalSteps.{waiter_in_use, waiter_fresh}
-use Rattle.ptk_gate_console.proofs.ArrivalLoop.{kept_moved}
+use Rattle.ptk_gate_console.proofs.ArrivalLoop.{kept_moved, undue_moved}
 use Rattle.ptk_gate_console.proofs.arrivals.arrive_next.Goals as goal
 
 pub hand_next-requires-clause-in_use : goal.hand_next-requires-clause-in_use
@@ -13,3 +13,7 @@ hand_next-requires-clause-fresh c = waiter_fresh (limits_at c.args.p c.args.pool
 pub returns-in-None-clause-moved : goal.returns-in-None-clause-moved
 returns-in-None-clause-moved c =
     kept_moved (limits_at c.args.p c.args.pools.now).ring c.args.tick c.args.p c.args.pools.now c.keep_next.new.self (sym c.first_waiter-waiter.ensures ∙ c.in-None.is) c.keep_next.ensures.moved
+
+pub returns-then-not-is_due-clause-moved : goal.returns-then-not-is_due-clause-moved
+returns-then-not-is_due-clause-moved c =
+    undue_moved (limits_at c.args.p c.args.pools.now).ring c.args.tick c.args.p c.args.pools.now (sym c.is_input_due-is_due.ensures ∙ c.if-not-is_due.true)
