@@ -1,6 +1,6 @@
 -- A call leaves the tables whole.
 use Rattle.std.proofs.Common.{◌≡◌, ℕ, ◌<◌, Bool, true, false, length, refl, sym, ◌∙◌}
-use Rattle.std.specs.Prelude.{Option, Some, nat_eq}
+use Rattle.std.specs.Prelude.{Option, Some, None, nat_eq}
 use Rattle.std.specs.List.{list_any}
 use Rattle.std.proofs.lemmas.Bool.{false≢true}
 use Rattle.ptk_words.specs.Pools.{is_in}
@@ -18,7 +18,7 @@ use Rattle.ptk_words_well.proofs.Waits.{waits_not_ready}
 use Rattle.ptk_words_well.proofs.Decisions.{runner_runs, well_after_call}
 use Rattle.ptk_gate_pools.specs.Kept.{Kept, part_at, put_part, limits_at}
 use Rattle.ptk_gate.specs.Whole.{AreWhole}
-use Rattle.ptk_gate.specs.Answers.{registers_answer, call_answer}
+use Rattle.ptk_gate.specs.Answers.{registers_answer, runner_answer, call_answer}
 use Rattle.ptk_gate.proofs.Wholes.{are_whole_put, well_at}
 
 -- ---- the running thread
@@ -35,7 +35,15 @@ pub ruleset called = (running_not_waiting)
 
 -- ---- calls
 
-pub whole_called : (p tick : ℕ) (r : Runner) (kept new : Kept) → runner_of (part_at p kept) ≡ Some r → new ≡ put_part p (registers_answer (limits_at p kept) tick r.number r.thread.cpu (part_at p kept)).part kept → AreWhole kept → p < length kept.limits → AreWhole new
+whole_called : (p tick : ℕ) (r : Runner) (kept new : Kept) → runner_of (part_at p kept) ≡ Some r → new ≡ put_part p (registers_answer (limits_at p kept) tick r.number r.thread.cpu (part_at p kept)).part kept → AreWhole kept → p < length kept.limits → AreWhole new
 whole_called p tick r kept new runs e are lt =
     are_whole_put p (registers_answer (limits_at p kept) tick r.number r.thread.cpu (part_at p kept)).part kept new e are lt
     (well_after_call (limits_at p kept) tick r.number r.thread.cpu (part_at p kept) (runner_runs (part_at p kept) r runs) (well_at p kept are lt))
+
+whole_by : (p tick : ℕ) (o : Option Runner) (kept new : Kept) → runner_of (part_at p kept) ≡ o → new ≡ put_part p (runner_answer o (limits_at p kept) tick (part_at p kept)).part kept → AreWhole kept → p < length kept.limits → AreWhole new
+whole_by p tick None kept new runs e are lt = are_whole_put p (part_at p kept) kept new e are lt (well_at p kept are lt)
+whole_by p tick (Some r) kept new runs e are lt = whole_called p tick r kept new runs e are lt
+
+-- what the call of the running thread leaves is whole
+pub whole_call : (p tick : ℕ) (kept new : Kept) → new ≡ put_part p (call_answer (limits_at p kept) tick (part_at p kept)).part kept → AreWhole kept → p < length kept.limits → AreWhole new
+whole_call p tick kept new e are lt = whole_by p tick (runner_of (part_at p kept)) kept new refl e are lt

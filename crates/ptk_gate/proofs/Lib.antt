@@ -2,3 +2,4 @@ pub mod Wholes
 pub mod Blanks
 pub mod Loads
 pub mod Called
+pub mod Passing

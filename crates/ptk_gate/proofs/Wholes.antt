@@ -103,7 +103,7 @@ whole_instruction p t cpu kept new e are lt =
     (well_instruction (limits_at p kept) t cpu.pc (effect_at cpu s.memory) s (effect_length (length s.memory) cpu s.memory refl) (well_at p kept are lt))
 
 -- a partition in which a thread runs is not halted
-active_at : (limits : Limits) (s : Part) (b : Bool) → IsWell limits s → IsSome s.running → is_active s.status ≡ b → b ≡ true
+pub active_at : (limits : Limits) (s : Part) (b : Bool) → IsWell limits s → IsSome s.running → is_active s.status ≡ b → b ≡ true
 active_at limits s true well runs e = refl
 active_at limits s false well runs e = absurd (false≢true (subst IsSome (well.halted e) runs))
 

@@ -6,13 +6,12 @@ ghost use Rattle.ptk_words_model.specs.Decision.{invocation};
 ghost use Rattle.ptk_words_model.specs.Run.{is_active};
 ghost use Rattle.ptk_words_well.specs.Well.{IsWell};
 ghost use Rattle.ptk_gate_pools.specs.Kept.{part_at, put_part, limits_at};
-ghost use Rattle.ptk_gate.specs.Answers.{call_answer, registers_answer};
+ghost use Rattle.ptk_gate.specs.Answers.{call_answer};
 
 use crate::tables::Tables;
 use ptk_gate_console::{get, put};
 use ptk_gate_moves::{exit, leave, own_number, refuse};
 use ptk_gate_pools::Pools;
-use ptk_gate_steps::runner;
 use ptk_gate_sync::{
     mutex_consistent, mutex_destroy, mutex_init, mutex_lock, mutex_trylock, mutex_unlock,
 };
@@ -20,7 +19,7 @@ use ptk_gate_threads::{
     create, detach, getschedparam, join, setschedparam, setschedprio, yield_turn,
 };
 use ptk_words::{A0, A1, A2, A3, A4, A7, Call, Cpu, Errno, Limits, PartId, ThreadNo, Tick};
-use ptk_words_model::{Invocation, Reply, Runner};
+use ptk_words_model::{Invocation, Reply};
 
 /// Carries out the call that the running thread's registers state: the number in a7, the arguments in a0 to a4, at the
 /// tick at which the step begins. The reply is what the call came to; ENOSYS of a number that is not in use. The pc is
@@ -33,24 +32,28 @@ pub fn call(tables: &mut Tables, p: PartId, tick: Tick) -> Reply
     ensures told { result ≡ (call_answer (limits_at p tables.old) tick (part_at p tables.old)).reply }
     ensures moved { tables.new ≡ put_part p (call_answer (limits_at p tables.old) tick (part_at p tables.old)).part tables.old }
 {
-    let runner = runner(&tables.pools, p);
-    match runner {
-        Some(runner) => answer(&mut tables.pools, p, tick, &runner),
-        // never met: a thread runs, and a thread that runs is in use
+    match tables.pools.running(p) {
+        Some(caller) => answer(&mut tables.pools, p, tick, caller),
+        // never met: a thread runs
         None => Reply::Blocked,
     }
 }
 
 /// Carries out the call that the running thread's registers state; ENOSYS of a number that is no call.
-fn answer(pools: &mut Pools, p: PartId, tick: Tick, runner: &Runner) -> Reply
+fn answer(pools: &mut Pools, p: PartId, tick: Tick, caller: ThreadNo) -> Reply
     requires partition { p < length pools.old.limits }
     requires well { IsWell (limits_at p pools.old) (part_at p pools.old) }
-    requires running { (part_at p pools.old).running ≡ Some runner.now.number }
-    ensures told { result ≡ (registers_answer (limits_at p pools.old) tick runner.now.number runner.now.thread.cpu (part_at p pools.old)).reply }
-    ensures moved { pools.new ≡ put_part p (registers_answer (limits_at p pools.old) tick runner.now.number runner.now.thread.cpu (part_at p pools.old)).part pools.old }
+    requires running { (part_at p pools.old).running ≡ Some caller }
+    ensures told { result ≡ (call_answer (limits_at p pools.old) tick (part_at p pools.old)).reply }
+    ensures moved { pools.new ≡ put_part p (call_answer (limits_at p pools.old) tick (part_at p pools.old)).part pools.old }
 {
-    let cpu = runner.thread.cpu;
-    let i = invocation(pools.limits(p), tick, runner.number, &cpu);
+    let _parts = pools.parts();
+    let Some(thread) = pools.threads().thread_ref(p, caller) else {
+        // never met: a thread that runs is in use
+        return Reply::Blocked;
+    };
+    let cpu = &thread.cpu;
+    let i = invocation(pools.limits(p), tick, caller, cpu);
     let known = Call::of_number(cpu.register(A7));
     match known {
         Some(call) => carry_out(pools, call, p, i),

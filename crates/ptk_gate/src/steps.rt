@@ -1,24 +1,28 @@
 //! What a decision of a partition is made of.
 
-ghost use Rattle.std.specs.Prelude.{◌≡◌, ◌<◌, true, length, Some, IsSome, IsTrue};
+ghost use Rattle.std.specs.Prelude.{◌≡◌, ◌<◌, ◌+◌, true, length, Some, IsSome, IsTrue};
 ghost use Rattle.ptk_words.specs.declared.TheConstants.{CANCELED};
 ghost use Rattle.ptk_words_instructions.specs.Instructions.{effect_at};
 ghost use Rattle.ptk_words_model.specs.Priority.{thread_at};
-ghost use Rattle.ptk_words_model.specs.Schedule.{after_choice, after_interval};
+ghost use Rattle.ptk_words_model.specs.Schedule.{after_choice, after_interval, with_thread};
 ghost use Rattle.ptk_words_model.specs.Unwinding.{after_unwinding_start, after_gate_step};
 ghost use Rattle.ptk_words_model.specs.Withdrawal.{after_expiries};
-ghost use Rattle.ptk_words_model.specs.Decision.{after_arrivals, runner_of, step_kind, traced_word};
+ghost use Rattle.ptk_words_model.specs.Decision.{after_arrivals, runner_of};
 ghost use Rattle.ptk_words_model.specs.Run.{is_active};
 ghost use Rattle.ptk_gate_pools.specs.Kept.{part_at, put_part, limits_at};
 ghost use Rattle.ptk_gate_steps.specs.Instructions.{after_instruction, is_call};
+ghost use Rattle.ptk_gate_steps.specs.NextSteps.{a0_kept, next_step_in};
+ghost use Rattle.ptk_threads.specs.Registers.{with_pc};
+ghost use Rattle.ptk_words.specs.Words.{word_of};
+ghost use Rattle.ptk_words_model.specs.State.{with_locks};
 
 use crate::tables::Tables;
 use ptk_gate_console::arrive_due;
 use ptk_gate_moves::{count_interval, start_unwinding};
-use ptk_gate_steps::{instruct, runner, step_kind, traced_word};
+use ptk_gate_steps::{NextStep, a0_after, instruct, next_step, runner};
 use ptk_gate_threads::{choose, step_at_gate};
 use ptk_words::{CANCELED, Cpu, Entry, PartId, Thread, ThreadNo, Tick};
-use ptk_words_model::{Runner, StepKind};
+use ptk_words_model::Runner;
 
 impl Tables {
     /// All input that comes at the tick or before arrives, in its order. No deadline is due then.
@@ -50,20 +54,21 @@ impl Tables {
         runner(&self.pools, p)
     }
 
-    /// What the thread's next step is, by its pc and the word there.
-    pub fn step_kind(&self, p: PartId, t: ThreadNo, thread: &Thread) -> StepKind
+    /// The next step of the running thread: by its pc and the word there, and what the trace keeps of it. None where
+    /// no thread runs.
+    pub fn next_step(&self, p: PartId) -> Option<NextStep>
         requires partition { p < length self.now.limits }
-        ensures { result ≡ step_kind (part_at p self.now) t thread.now }
+        ensures { result ≡ next_step_in (part_at p self.now) }
     {
-        step_kind(&self.pools, p, t, thread)
+        next_step(&self.pools, p)
     }
 
-    /// The word that the trace keeps of a step at this pc, before it; 0 of a step that fetches none.
-    pub fn traced_word(&self, p: PartId, kind: StepKind, pc: u32) -> u32
+    /// The thread's a0 now, after a step; what it was before where the thread ended.
+    pub fn a0_after(&self, p: PartId, t: ThreadNo, before: u32) -> u32
         requires partition { p < length self.now.limits }
-        ensures { result ≡ traced_word kind (part_at p self.now).memory pc }
+        ensures { result ≡ a0_kept before (thread_at (part_at p self.now).locks t) }
     {
-        traced_word(&self.pools, p, kind, pc)
+        a0_after(&self.pools, p, t, before)
     }
 
     /// The thread of a number, None of a free one.
@@ -93,6 +98,18 @@ impl Tables {
         ensures { self.new ≡ put_part p (after_gate_step thread.phase t thread (part_at p self.old)) self.old }
     {
         step_at_gate(&mut self.pools, p, t, thread);
+    }
+
+    /// The running thread goes on past the ECALL at this pc, whose call is still to be carried out.
+    #[tactic(auto, using(crate::proofs::Passing::passing))]
+    pub fn pass_ecall(&mut self, p: PartId, t: ThreadNo, pc: u32)
+        requires partition { p < length self.old.limits }
+        requires running { (part_at p self.old).running ≡ Some t }
+        ensures moved { self.new ≡ put_part p (with_locks (with_thread t (with_pc (word_of (pc + 4)))) (part_at p self.old)) self.old }
+        ensures active { is_active (part_at p self.new).status ≡ true }
+        ensures still_running { IsSome (part_at p self.new).running }
+    {
+        self.pools.give_pc(p, t, pc.wrapping_add(4));
     }
 
     /// A step of the running thread from these registers: the instruction's effect on the registers and the memory, or

@@ -6,10 +6,10 @@
 //! together.
 #![tactic(auto)]
 
-mod entries;
 mod instructions;
 mod kinds;
+mod turns;
 
-pub use entries::entry_of;
 pub use instructions::instruct;
-pub use kinds::{runner, step_cost, step_kind, traced_word};
+pub use kinds::step_cost;
+pub use turns::{NextStep, a0_after, next_step, runner};

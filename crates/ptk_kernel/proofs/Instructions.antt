@@ -24,7 +24,7 @@ runner_thread t (Some thread) r e =
     let same : record { number = t; thread = thread } ≡ r = cc in
     ap (λ (x : Runner). Some x.thread) same
 
-runner_found : (running : Option ℕ) (s : Part) (r : Runner) → running ≡ Some r.number → runner_in running s ≡ Some r → thread_at s.locks r.number ≡ Some r.thread
+pub runner_found : (running : Option ℕ) (s : Part) (r : Runner) → running ≡ Some r.number → runner_in running s ≡ Some r → thread_at s.locks r.number ≡ Some r.thread
 runner_found running s r runs e = runner_thread r.number (thread_at s.locks r.number) r (sym (ap (λ (o : Option ℕ). runner_in o s) runs) ∙ e)
 
 -- the runner has the registers that are put
@@ -39,11 +39,11 @@ runner_of-with_cpu cpu r s e =
 -- ---- an instruction and its call
 
 -- the state once the call, if one is still to be carried out, is carried out too
-abbrev after_calling : Bool → Limits → ℕ → Part → Part
+abbrev pub after_calling : Bool → Limits → ℕ → Part → Part
 after_calling true limits tick s = (call_answer limits tick s).part
 after_calling false limits tick s = s
 
-effect_parts : (limits : Limits) (tick pc : ℕ) (r : Runner) (e : Effect) (s : Part) → runner_of s ≡ Some r
+pub effect_parts : (limits : Limits) (tick pc : ℕ) (r : Runner) (e : Effect) (s : Part) → runner_of s ≡ Some r
     → after_calling (is_call e) limits tick (after_instruction r.number pc e s) ≡ after_effect limits tick r.number pc e s
 effect_parts limits tick pc r (Done cpu memory) s runs = refl
 effect_parts limits tick pc r (Call cpu) s runs = ap (λ (o : Option Runner). (runner_answer o limits tick (with_cpu r.number cpu s)).part) (runner_of-with_cpu cpu r s runs)

@@ -1,17 +1,16 @@
 -- One move of a partition after another, and what a move leaves for the next.
 use Rattle.std.proofs.Common.{◌≡◌, ℕ, ◌<◌, true, sym, ◌∙◌, ap}
 use Rattle.ptk_words.specs.declared.sections.Limits.{Limits}
-use Rattle.ptk_words_model.specs.declared.Runner.{Runner}
-use Rattle.ptk_words_model.specs.declared.StepKind.{StepKind}
 use Rattle.ptk_words_model.specs.State.{Part}
-use Rattle.ptk_words_model.specs.Priority.{thread_at}
-use Rattle.ptk_words_model.specs.Decision.{after_arrivals, ready_at, runner_of, step_cost, traced_word, after_step, after_whole_step, after_turn, after_decision}
-use Rattle.ptk_words_model.specs.Schedule.{after_choice, after_interval}
+use Rattle.ptk_words_model.specs.Decision.{after_arrivals, ready_at, runner_of, after_turn, after_decision}
+use Rattle.ptk_words_model.specs.Schedule.{after_choice}
 use Rattle.ptk_words_model.specs.Withdrawal.{after_expiries}
 use Rattle.ptk_words_model.specs.Run.{is_active}
 use Rattle.ptk_words_well.proofs.Decisions.{arrivals_status}
 use Rattle.ptk_gate_pools.specs.Kept.{Kept, AreParts, part_at, put_part, limits_at}
-use Rattle.ptk_kernel.specs.StepParts.{noted, counted, stepped}
+use Rattle.ptk_gate_steps.specs.declared.turns.NextStep.{NextStep}
+use Rattle.ptk_gate.specs.Answers.{call_answer}
+use Rattle.ptk_kernel.specs.StepParts.{passed}
 use Rattle.ptk_gate_pools.proofs.Parted.{part_at-put, put_part-put}
 
 -- what was put is the partition's part
@@ -52,22 +51,9 @@ pub decision_made : (n p tick room : ℕ) (old mid new : Kept) → AreParts n ol
 decision_made n p tick room old mid new parts lt first second =
     moved_then n p (ready_at (limits_at p old) tick (part_at p old)) (λ limits s. after_turn limits tick room (runner_of s) s) old mid new parts lt first second
 
--- the step and then its entry, with the word that was there before it
-pub step_made : (n p tick pc word : ℕ) (r : Runner) (kind : StepKind) (old mid new : Kept) → AreParts n old → p < n
-    → pc ≡ r.thread.cpu.pc → word ≡ traced_word kind (part_at p old).memory pc
-    → mid ≡ put_part p (after_step (limits_at p old) tick r kind (part_at p old)) old → new ≡ put_part p (noted tick r word (part_at p mid)) mid
-    → new ≡ put_part p (stepped (limits_at p old) tick r kind (part_at p old)) old
-step_made n p tick pc word r kind old mid new parts lt at read first second =
-    let moved : Part = after_step (limits_at p old) tick r kind (part_at p old) in
-    moved_then n p moved (λ limits s. noted tick r word s) old mid new parts lt first second
-    ∙ ap (λ (word : ℕ). put_part p (noted tick r word moved) old) (read ∙ ap (λ (pc : ℕ). traced_word kind (part_at p old).memory pc) at)
-
--- the step with its entry and then its ticks in the interval
-pub whole_made : (n p tick cost : ℕ) (r : Runner) (kind : StepKind) (old mid new : Kept) → AreParts n old → p < n → cost ≡ step_cost kind
-    → mid ≡ put_part p (stepped (limits_at p old) tick r kind (part_at p old)) old
-    → new ≡ put_part p (after_interval (limits_at p mid).interval cost r.number (thread_at (part_at p mid).locks r.number) (part_at p mid)) mid
-    → new ≡ put_part p (after_whole_step (limits_at p old) tick r kind (part_at p old)) old
-whole_made n p tick cost r kind old mid new parts lt ticks first second =
-    let moved : Part = stepped (limits_at p old) tick r kind (part_at p old) in
-    moved_then n p moved (λ limits s. counted limits cost r.number s) old mid new parts lt first second
-    ∙ ap (λ (cost : ℕ). put_part p (counted (limits_at p old) cost r.number moved) old) ticks
+-- the pc passed, and then the call
+pub call_passed : (n p tick : ℕ) (next : NextStep) (old mid new : Kept) → AreParts n old → p < n
+    → mid ≡ put_part p (passed next (part_at p old)) old → new ≡ put_part p (call_answer (limits_at p mid) tick (part_at p mid)).part mid
+    → new ≡ put_part p (call_answer (limits_at p old) tick (passed next (part_at p old))).part old
+call_passed n p tick next old mid new parts lt first second =
+    moved_then n p (passed next (part_at p old)) (λ limits s. (call_answer limits tick s).part) old mid new parts lt first second

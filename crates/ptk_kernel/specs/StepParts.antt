@@ -1,25 +1,33 @@
 -- The parts of a whole step, by name.
-use Rattle.std.specs.Prelude.{ℕ, Some}
+use Rattle.std.specs.Prelude.{ℕ, ◌+◌, Some}
+use Rattle.ptk_words.specs.Words.{word_of}
 use Rattle.ptk_words.specs.declared.sections.Limits.{Limits}
+use Rattle.ptk_threads.specs.Registers.{with_pc}
 use Rattle.ptk_words_model.specs.declared.Runner.{Runner}
 use Rattle.ptk_words_model.specs.declared.StepKind.{StepKind}
-use Rattle.ptk_words_model.specs.State.{Part}
+use Rattle.ptk_words_model.specs.State.{Part, with_locks}
 use Rattle.ptk_words_model.specs.Priority.{thread_at}
-use Rattle.ptk_words_model.specs.Schedule.{after_interval}
-use Rattle.ptk_words_model.specs.Decision.{after_step, traced_word, a0_after}
+use Rattle.ptk_words_model.specs.Schedule.{after_interval, with_thread}
+use Rattle.ptk_words_model.specs.Decision.{after_step}
+use Rattle.ptk_gate_steps.specs.declared.turns.NextStep.{NextStep}
+use Rattle.ptk_gate_steps.specs.NextSteps.{a0_kept, next_step_of}
 
--- the last step is this one, which fetched the word and left the thread as it is now
-abbrev pub noted : ℕ → Runner → ℕ → Part → Part
-noted tick r word s =
+-- the last step is this one, and the thread is as it is now
+abbrev pub noted : ℕ → NextStep → Part → Part
+noted tick next s =
     record s {
       last = Some (record {
         tick = tick;
-        thread = r.number;
-        pc = r.thread.cpu.pc;
-        word = word;
-        a0 = a0_after r.thread (thread_at s.locks r.number);
+        thread = next.thread;
+        pc = next.pc;
+        word = next.word;
+        a0 = a0_kept next.a0 (thread_at s.locks next.thread);
       });
     }
+
+-- the thread has gone on past the ECALL of its step (RISC-V 2.8)
+abbrev pub passed : NextStep → Part → Part
+passed next s = with_locks (with_thread next.thread (with_pc (word_of (next.pc + 4)))) s
 
 -- the thread's step of so many ticks counts in its round-robin interval (XSH 2.8.4, SCHED_RR)
 abbrev pub counted : Limits → ℕ → ℕ → Part → Part
@@ -27,4 +35,4 @@ counted limits cost t s = after_interval limits.interval cost t (thread_at s.loc
 
 -- the step with its place in the trace
 abbrev pub stepped : Limits → ℕ → Runner → StepKind → Part → Part
-stepped limits tick r kind s = noted tick r (traced_word kind s.memory r.thread.cpu.pc) (after_step limits tick r kind s)
+stepped limits tick r kind s = noted tick (next_step_of s r) (after_step limits tick r kind s)

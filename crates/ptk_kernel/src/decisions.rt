@@ -4,13 +4,14 @@ ghost use Rattle.std.specs.Prelude.{◌≡◌, ◌<◌, ◌≤◌, true, length,
 ghost use Rattle.ptk_words_model.specs.Decision.{runner_of, ready_at, after_turn, spent_in_turn, after_decision, spent_by_decision};
 ghost use Rattle.ptk_words_model.specs.Run.{is_active};
 ghost use Rattle.ptk_gate_pools.specs.Kept.{part_at, put_part, limits_at};
+ghost use Rattle.ptk_gate_steps.specs.NextSteps.{next_step_in};
 ghost use Rattle.ptk_kernel.specs.Spending.{cost_in};
 
 use crate::steps::whole_step;
 use ptk_gate::Tables;
-use ptk_gate_steps::step_cost;
+use ptk_gate_steps::{NextStep, step_cost};
 use ptk_words::{Entry, PartId, Tick};
-use ptk_words_model::{Runner, Spent};
+use ptk_words_model::Spent;
 
 /// A decision of the partition, which has not halted, at a tick of its own with so many ticks to its window's end: what
 /// has come by that tick arrives, the running thread is chosen, and it makes a step if the whole cost fits. What it
@@ -49,32 +50,33 @@ fn make_ready(tables: &mut Tables, p: PartId, tick: Tick)
 }
 
 /// The next step of the thread that runs; Idle where none does, and nothing changes.
+#[tactic(auto, using(crate::proofs::Turns::turns))]
 fn take_turn(tables: &mut Tables, p: PartId, tick: Tick, room: u32) -> Spent
     requires partition { p < length tables.old.limits }
     ensures told { result ≡ spent_in_turn room (runner_of (part_at p tables.old)) (part_at p tables.old) }
     ensures moved { tables.new ≡ put_part p (after_turn (limits_at p tables.old) tick room (runner_of (part_at p tables.old)) (part_at p tables.old)) tables.old }
     ensures short { cost_in result ≤ 16 }
 {
-    let runner = tables.runner(p);
-    match runner {
-        Some(runner) => begin_step(tables, p, tick, room, &runner),
+    let next = tables.next_step(p);
+    match next {
+        Some(next) => begin_step(tables, p, tick, room, &next),
         None => Spent::Idle,
     }
 }
 
 /// The step of the running thread, if its whole cost fits; Lost where it does not, and nothing changes.
-fn begin_step(tables: &mut Tables, p: PartId, tick: Tick, room: u32, runner: &Runner) -> Spent
+#[tactic(auto, using(crate::proofs::Turns::turns))]
+fn begin_step(tables: &mut Tables, p: PartId, tick: Tick, room: u32, next: &NextStep) -> Spent
     requires partition { p < length tables.old.limits }
-    requires runs { runner_of (part_at p tables.old) ≡ Some runner.now }
-    ensures told { result ≡ spent_in_turn room (Some runner.now) (part_at p tables.old) }
-    ensures moved { tables.new ≡ put_part p (after_turn (limits_at p tables.old) tick room (Some runner.now) (part_at p tables.old)) tables.old }
+    requires next { next_step_in (part_at p tables.old) ≡ Some next.now }
+    ensures told { result ≡ spent_in_turn room (runner_of (part_at p tables.old)) (part_at p tables.old) }
+    ensures moved { tables.new ≡ put_part p (after_turn (limits_at p tables.old) tick room (runner_of (part_at p tables.old)) (part_at p tables.old)) tables.old }
     ensures short { cost_in result ≤ 16 }
 {
-    let kind = tables.step_kind(p, runner.number, &runner.thread);
-    let cost = step_cost(kind);
+    let cost = step_cost(next.kind);
     if room < cost {
         return Spent::Lost;
     }
-    whole_step(tables, p, tick, runner, kind);
+    whole_step(tables, p, tick, next, cost);
     Spent::Step(cost)
 }

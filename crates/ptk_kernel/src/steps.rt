@@ -2,47 +2,75 @@
 
 ghost use Rattle.std.specs.Prelude.{◌≡◌, ◌<◌, length, Some};
 ghost use Rattle.ptk_words_instructions.specs.Instructions.{effect_at};
-ghost use Rattle.ptk_words_model.specs.Decision.{after_effect, after_step, after_whole_step, runner_of};
+ghost use Rattle.ptk_words_model.specs.declared.Runner.{Runner};
+ghost use Rattle.ptk_words_model.specs.Decision.{after_effect, after_step, after_whole_step, runner_of, step_cost};
 ghost use Rattle.ptk_gate_pools.specs.Kept.{part_at, put_part, limits_at};
-ghost use Rattle.ptk_kernel.specs.StepParts.{noted, stepped};
+ghost use Rattle.ptk_gate_steps.specs.NextSteps.{next_step_in};
+ghost use Rattle.ptk_gate.specs.Answers.{call_answer};
+ghost use Rattle.ptk_kernel.specs.StepParts.{noted, passed, stepped};
 
 use ptk_gate::{Tables, call};
-use ptk_gate_steps::{entry_of, step_cost};
-use ptk_words::{PartId, Tick};
+use ptk_gate_steps::NextStep;
+use ptk_words::{Entry, PartId, Tick};
 use ptk_words_model::{Runner, StepKind};
 
 /// The step with its entry in the trace and its ticks in the round-robin interval.
-pub(crate) fn whole_step(
-    tables: &mut Tables,
-    p: PartId,
-    tick: Tick,
-    runner: &Runner,
-    kind: StepKind,
-)
+pub(crate) fn whole_step(tables: &mut Tables, p: PartId, tick: Tick, next: &NextStep, cost: u32)
     requires partition { p < length tables.old.limits }
-    requires runs { runner_of (part_at p tables.old) ≡ Some runner.now }
-    ensures { tables.new ≡ put_part p (after_whole_step (limits_at p tables.old) tick runner.now kind (part_at p tables.old)) tables.old }
+    requires next { next_step_in (part_at p tables.old) ≡ Some next.now }
+    requires cost { cost ≡ step_cost next.now.kind }
+    ensures { (r : Runner) → runner_of (part_at p tables.old) ≡ Some r →
+        tables.new ≡ put_part p (after_whole_step (limits_at p tables.old) tick r next.now.kind (part_at p tables.old)) tables.old }
 {
     let _parts = tables.parts();
-    make_step(tables, p, tick, runner, kind);
-    tables.count_interval(p, step_cost(kind), runner.number);
+    make_step(tables, p, tick, next);
+    tables.count_interval(p, cost, next.thread);
 }
 
 /// The step with its entry in the trace: the word before it, and the thread after it.
-fn make_step(tables: &mut Tables, p: PartId, tick: Tick, runner: &Runner, kind: StepKind)
+fn make_step(tables: &mut Tables, p: PartId, tick: Tick, next: &NextStep)
     requires partition { p < length tables.old.limits }
-    requires runs { runner_of (part_at p tables.old) ≡ Some runner.now }
-    ensures { tables.new ≡ put_part p (stepped (limits_at p tables.old) tick runner.now kind (part_at p tables.old)) tables.old }
+    requires next { next_step_in (part_at p tables.old) ≡ Some next.now }
+    ensures { (r : Runner) → runner_of (part_at p tables.old) ≡ Some r →
+        tables.new ≡ put_part p (stepped (limits_at p tables.old) tick r next.now.kind (part_at p tables.old)) tables.old }
 {
     let _parts = tables.parts();
-    let word = tables.traced_word(p, kind, runner.thread.cpu.pc());
-    carry_out(tables, p, tick, runner, kind);
-    note(tables, p, tick, runner, word);
+    carry_out(tables, p, tick, next);
+    note(tables, p, tick, next);
 }
 
-/// The step's effect on the partition.
+/// The step's effect on the partition. A call goes by the registers where they lie.
+fn carry_out(tables: &mut Tables, p: PartId, tick: Tick, next: &NextStep)
+    requires partition { p < length tables.old.limits }
+    requires next { next_step_in (part_at p tables.old) ≡ Some next.now }
+    ensures { (r : Runner) → runner_of (part_at p tables.old) ≡ Some r →
+        tables.new ≡ put_part p (after_step (limits_at p tables.old) tick r next.now.kind (part_at p tables.old)) tables.old }
+{
+    match next.kind {
+        StepKind::CallStep(_) => make_call(tables, p, tick, next),
+        StepKind::UnwindingStart | StepKind::GateStep | StepKind::InstructionStep => {
+            let runner = tables.runner(p);
+            if let Some(runner) = runner {
+                carry_out_other(tables, p, tick, &runner, next.kind);
+            }
+        }
+    }
+}
+
+/// The step of an ECALL: the pc goes past it, and then the call that the registers state.
+fn make_call(tables: &mut Tables, p: PartId, tick: Tick, next: &NextStep)
+    requires partition { p < length tables.old.limits }
+    requires running { (part_at p tables.old).running ≡ Some next.now.thread }
+    ensures { tables.new ≡ put_part p (call_answer (limits_at p tables.old) tick (passed next.now (part_at p tables.old))).part tables.old }
+{
+    let _parts = tables.parts();
+    tables.pass_ecall(p, next.thread, next.pc);
+    let _told = call(tables, p, tick);
+}
+
+/// The effect of a step that is no call.
 #[tactic(auto, using(ptk_words_well::proofs::Decisions::runner_runs))]
-fn carry_out(tables: &mut Tables, p: PartId, tick: Tick, runner: &Runner, kind: StepKind)
+fn carry_out_other(tables: &mut Tables, p: PartId, tick: Tick, runner: &Runner, kind: StepKind)
     requires partition { p < length tables.old.limits }
     requires runs { runner_of (part_at p tables.old) ≡ Some runner.now }
     ensures { tables.new ≡ put_part p (after_step (limits_at p tables.old) tick runner.now kind (part_at p tables.old)) tables.old }
@@ -69,11 +97,20 @@ fn instruct(tables: &mut Tables, p: PartId, tick: Tick, runner: &Runner)
     }
 }
 
-/// The step is the last one, with this word and what the thread is after it.
-fn note(tables: &mut Tables, p: PartId, tick: Tick, runner: &Runner, word: u32)
+/// The step is the last one, with what the thread is after it.
+fn note(tables: &mut Tables, p: PartId, tick: Tick, next: &NextStep)
     requires partition { p < length tables.old.limits }
-    ensures { tables.new ≡ put_part p (noted tick runner.now word (part_at p tables.old)) tables.old }
+    ensures { tables.new ≡ put_part p (noted tick next.now (part_at p tables.old)) tables.old }
 {
-    let thread = tables.thread(p, runner.number);
-    tables.note_last(p, entry_of(tick, runner, word, thread));
+    let a0 = tables.a0_after(p, next.thread, next.a0);
+    tables.note_last(
+        p,
+        Entry {
+            tick,
+            thread: next.thread,
+            pc: next.pc,
+            word: next.word,
+            a0,
+        },
+    );
 }

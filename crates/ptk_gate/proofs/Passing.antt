@@ -1,0 +1,56 @@
+-- A thread that goes on past its ECALL leaves the tables whole, and still runs.
+use Rattle.std.proofs.Common.{◌≡◌, ℕ, ◌<◌, true, length, refl, sym, ◌∙◌, ap, subst}
+use Rattle.std.specs.Prelude.{Option, Some, None, IsSome, option_map}
+use Rattle.ptk_words.specs.Pools.{pool_set}
+use Rattle.ptk_words.specs.declared.sections.Limits.{Limits}
+use Rattle.ptk_words.specs.declared.threads.Thread.{Thread}
+use Rattle.ptk_words_model.specs.State.{Part, with_locks}
+use Rattle.ptk_words_model.specs.Priority.{thread_at}
+use Rattle.ptk_words_model.specs.Schedule.{with_thread}
+use Rattle.ptk_words_model.specs.Decision.{with_cpu}
+use Rattle.ptk_words_model.specs.Run.{is_active}
+use Rattle.ptk_threads.specs.Registers.{with_pc}
+use Rattle.ptk_words_well.specs.Well.{IsWell}
+use Rattle.ptk_words_well.proofs.Threads.{well_cpu}
+use Rattle.ptk_gate_pools.specs.Kept.{Kept, part_at, put_part, limits_at}
+use Rattle.ptk_gate_pools.proofs.Parted.{part_at-put}
+use Rattle.ptk_gate.specs.Whole.{AreWhole}
+use Rattle.ptk_gate.proofs.Wholes.{active_at, are_whole_put, well_at}
+
+-- the entry of the number is this
+abbrev with_entry : ℕ → Option Thread → Part → Part
+with_entry t o s = with_locks (λ locks. record locks { threads = pool_set locks.threads t o }) s
+
+-- the thread goes on at the address with its own registers
+pub passed_as : (t pc : ℕ) (thread : Thread) (s : Part) → thread_at s.locks t ≡ Some thread
+    → with_locks (with_thread t (with_pc pc)) s ≡ with_cpu t (record thread.cpu { pc = pc }) s
+passed_as t pc thread s e =
+    let g : Thread → Thread = λ (own : Thread). record own { cpu = record thread.cpu { pc = pc } } in
+    ap (λ (o : Option Thread). with_entry t (option_map (with_pc pc) o) s) e ∙ sym (ap (λ (o : Option Thread). with_entry t (option_map g o) s) e)
+
+well_passed_by : (limits : Limits) (t pc : ℕ) (s : Part) (o : Option Thread) → thread_at s.locks t ≡ o → s.running ≡ Some t → IsWell limits s → IsWell limits (with_locks (with_thread t (with_pc pc)) s)
+well_passed_by limits t pc s None e runs well = absurd (let no : ⊥ = cc (well.running_ready t runs) in no)
+well_passed_by limits t pc s (Some thread) e runs well =
+    subst (λ (after : Part). IsWell limits after) (sym (passed_as t pc thread s e)) (well_cpu limits t (record thread.cpu { pc = pc }) s well)
+
+pub whole_passed : (p t pc : ℕ) (kept new : Kept) → new ≡ put_part p (with_locks (with_thread t (with_pc pc)) (part_at p kept)) kept → AreWhole kept → p < length kept.limits → (part_at p kept).running ≡ Some t → AreWhole new
+whole_passed p t pc kept new e are lt runs =
+    let s : Part = part_at p kept in
+    are_whole_put p (with_locks (with_thread t (with_pc pc)) s) kept new e are lt (well_passed_by (limits_at p kept) t pc s (thread_at s.locks t) refl runs (well_at p kept are lt))
+
+pub passed_running : (p t pc : ℕ) (kept new : Kept) → new ≡ put_part p (with_locks (with_thread t (with_pc pc)) (part_at p kept)) kept → AreWhole kept → p < length kept.limits → (part_at p kept).running ≡ Some t
+    → IsSome (part_at p new).running
+passed_running p t pc kept new e are lt runs =
+    let s : Part = with_locks (with_thread t (with_pc pc)) (part_at p kept) in
+    let at : part_at p new ≡ s = ap (part_at p) e ∙ part_at-put (length kept.limits) p s kept are.wells.parts lt in
+    subst (λ (part : Part). IsSome part.running) (sym at) (subst IsSome (sym runs) refl)
+
+pub passed_active : (p t pc : ℕ) (kept new : Kept) → new ≡ put_part p (with_locks (with_thread t (with_pc pc)) (part_at p kept)) kept → AreWhole kept → p < length kept.limits → (part_at p kept).running ≡ Some t
+    → is_active (part_at p new).status ≡ true
+passed_active p t pc kept new e are lt runs =
+    let s : Part = with_locks (with_thread t (with_pc pc)) (part_at p kept) in
+    let at : part_at p new ≡ s = ap (part_at p) e ∙ part_at-put (length kept.limits) p s kept are.wells.parts lt in
+    ap (λ (part : Part). is_active part.status) at
+    ∙ active_at (limits_at p kept) (part_at p kept) (is_active (part_at p kept).status) (well_at p kept are lt) (subst IsSome (sym runs) refl) refl
+
+pub ruleset passing = (whole_passed, passed_running, passed_active)

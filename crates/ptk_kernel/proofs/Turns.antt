@@ -1,0 +1,207 @@
+-- The running thread's next step, read where the thread lies, is the step that the model makes.
+use Rattle.std.proofs.Common.{arith, length, ◌≡◌, ℕ, ◌+◌, ◌%◌, ◌<◌, ◌≤◌, Bool, true, false, List, refl, sym, ◌∙◌, ap, subst, rules}
+use Rattle.std.specs.Prelude.{Option, Some, None, not, ◌&&◌, ◌==◌, option_map, unwrap_or, nat_lt, if◌then◌else◌}
+use Rattle.std.proofs.lemmas.Bool.{eqb-true}
+use Rattle.ptk_words.specs.Processor.{Processor, register}
+use Rattle.ptk_words.specs.Words.{word_of, word_at}
+use Rattle.ptk_words.specs.declared.TheConstants.{A0, A7, ECALL, RETURN_GATE}
+use Rattle.ptk_words.specs.declared.faults.FaultKind.TheVariants.{Fetch, Misaligned}
+use Rattle.ptk_words.specs.declared.sections.Limits.{Limits}
+use Rattle.ptk_words.specs.declared.threads.Thread.{Thread}
+use Rattle.ptk_words_instructions.specs.Instructions.{Effect, Call, Fault, can_fetch, decode_of, effect_at, effect_of_word, with_next_pc}
+use Rattle.ptk_words_model.specs.declared.Runner.{Runner}
+use Rattle.ptk_words_model.specs.declared.Spent.{Spent}
+use Rattle.ptk_words_model.specs.declared.Spent.TheVariants.{Step, Idle, Lost}
+use Rattle.ptk_words_model.specs.declared.StepKind.{StepKind}
+use Rattle.ptk_words_model.specs.declared.StepKind.TheVariants.{UnwindingStart, GateStep, CallStep, InstructionStep}
+use Rattle.ptk_words_model.specs.State.{Part}
+use Rattle.ptk_words_model.specs.Priority.{thread_at}
+use Rattle.ptk_words_model.specs.Decision.{a0_after, after_effect, after_step, after_turn, after_whole_step, is_to_unwind, runner_of, spent_in_turn, step_cost, step_kind, traced_word, with_cpu, word_fetched}
+use Rattle.ptk_words_well.proofs.Decisions.{runner_runs}
+use Rattle.ptk_gate_pools.specs.Kept.{Kept, part_at, put_part, limits_at}
+use Rattle.ptk_gate_pools.proofs.Ranks.{put_same}
+use Rattle.ptk_gate_steps.specs.declared.turns.NextStep.{NextStep}
+use Rattle.ptk_gate_steps.specs.NextSteps.{a0_kept, next_step_in, next_step_of}
+use Rattle.ptk_gate.specs.Answers.{call_answer}
+use Rattle.ptk_gate.proofs.Passing.{passed_as}
+use Rattle.ptk_kernel.specs.StepParts.{counted, passed, stepped}
+use Rattle.ptk_kernel.proofs.Instructions.{effect_parts, runner_found}
+
+-- ---- the thread whose step it is
+
+no_runner : (s : Part) (o : Option Runner) → option_map (next_step_of s) o ≡ None → o ≡ None
+no_runner s None e = refl
+no_runner s (Some r) e = absurd (let no : ⊥ = cc in no)
+
+step_is : (s : Part) (next : NextStep) (o : Option Runner) (r : Runner) → option_map (next_step_of s) o ≡ Some next → o ≡ Some r → next ≡ next_step_of s r
+step_is s next o r e runs = ap (λ (x : Option NextStep). unwrap_or x next) (sym e ∙ ap (option_map (next_step_of s)) runs)
+
+-- the step that was read is that of the thread that runs
+pub next_is : (s : Part) (next : NextStep) (r : Runner) → next_step_in s ≡ Some next → runner_of s ≡ Some r → next ≡ next_step_of s r
+next_is s next r e runs = step_is s next (runner_of s) r e runs
+
+running_by : (s : Part) (next : NextStep) (o : Option Runner) → runner_of s ≡ o → option_map (next_step_of s) o ≡ Some next → s.running ≡ Some next.thread
+running_by s next None runs e = absurd (let no : ⊥ = cc in no)
+running_by s next (Some r) runs e =
+    runner_runs s r runs ∙ sym (ap (λ (n : NextStep). Some n.thread) (step_is s next (Some r) r e refl))
+
+-- a thread runs, whose step was read
+pub next_runs : (s : Part) (next : NextStep) → next_step_in s ≡ Some next → s.running ≡ Some next.thread
+next_runs s next e = running_by s next (runner_of s) refl e
+
+runner_by : (s : Part) (next : NextStep) (o : Option Runner) → option_map (next_step_of s) o ≡ Some next → (r : Runner) × (o ≡ Some r)
+runner_by s next None e = absurd (let no : ⊥ = cc in no)
+runner_by s next (Some r) e = (r, refl)
+
+-- the partition is still one of as many
+pub within_after : (p : ℕ) (next : NextStep) (old new : Kept) (after : Runner → Part) → next_step_in (part_at p old) ≡ Some next → p < length old.limits
+    → ((r : Runner) → runner_of (part_at p old) ≡ Some r → new ≡ put_part p (after r) old) → p < length new.limits
+within_after p next old new after e lt moved =
+    let found = runner_by (part_at p old) next (runner_of (part_at p old)) e in
+    let same : length new.limits ≡ length old.limits = ap (λ (kept : Kept). length kept.limits) (moved found.0 found.1) in
+    rw same lt
+
+-- ---- a turn
+
+idle_by : (limits : Limits) (tick room : ℕ) (s : Part) (o : Option Runner) → o ≡ None → after_turn limits tick room o s ≡ s
+idle_by limits tick room s o e = rw e refl
+
+-- no thread runs, and nothing changes
+pub idle_moved : (p tick room : ℕ) (kept : Kept) (o : Option NextStep) → o ≡ next_step_in (part_at p kept) → o ≡ None
+    → kept ≡ put_part p (after_turn (limits_at p kept) tick room (runner_of (part_at p kept)) (part_at p kept)) kept
+idle_moved p tick room kept o told e =
+    let s : Part = part_at p kept in
+    put_same p kept ∙ ap (λ (q : Part). put_part p q kept) (sym (idle_by (limits_at p kept) tick room s (runner_of s) (no_runner s (runner_of s) (sym told ∙ e))))
+
+pub idle_told : (room : ℕ) (s : Part) (o : Option NextStep) → o ≡ next_step_in s → o ≡ None → Idle ≡ spent_in_turn room (runner_of s) s
+idle_told room s o told e = sym (ap (λ (r : Option Runner). spent_in_turn room r s) (no_runner s (runner_of s) (sym told ∙ e)))
+
+below : (a b : ℕ) → a < b → nat_lt a b ≡ true
+below a b h = search rules
+
+not_below : (a b : ℕ) → b ≤ a → nat_lt a b ≡ false
+not_below a b h = search rules
+
+-- whether the cost of the step fits is tested on what was read
+tested : (room cost : ℕ) (b : Bool) (s : Part) (next : NextStep) (r : Runner) → next ≡ next_step_of s r → cost ≡ step_cost next.kind → nat_lt room cost ≡ b → nat_lt room (step_cost (step_kind s r.number r.thread)) ≡ b
+tested room cost b s next r is paid e = ap (λ (n : NextStep). nat_lt room (step_cost n.kind)) (sym is) ∙ ap (nat_lt room) (sym paid) ∙ e
+
+lost_by : (limits : Limits) (tick room cost : ℕ) (s : Part) (next : NextStep) (o : Option Runner) → option_map (next_step_of s) o ≡ Some next → cost ≡ step_cost next.kind → room < cost
+    → (after_turn limits tick room o s ≡ s) × (spent_in_turn room o s ≡ Lost)
+lost_by limits tick room cost s next None e paid lt = absurd (let no : ⊥ = cc in no)
+lost_by limits tick room cost s next (Some r) e paid lt =
+    let over = tested room cost true s next r (step_is s next (Some r) r e refl) paid (below room cost lt) in
+    (rw over refl, rw over refl)
+
+-- the cost does not fit, and nothing changes
+pub lost_moved : (p tick room cost : ℕ) (kept : Kept) (next : NextStep) → next_step_in (part_at p kept) ≡ Some next → cost ≡ step_cost next.kind → room < cost
+    → kept ≡ put_part p (after_turn (limits_at p kept) tick room (runner_of (part_at p kept)) (part_at p kept)) kept
+lost_moved p tick room cost kept next e paid lt =
+    let s : Part = part_at p kept in
+    let lost = lost_by (limits_at p kept) tick room cost s next (runner_of s) e paid lt in
+    put_same p kept ∙ ap (λ (q : Part). put_part p q kept) (sym lost.0)
+
+pub lost_told : (room cost : ℕ) (s : Part) (next : NextStep) → next_step_in s ≡ Some next → cost ≡ step_cost next.kind → room < cost → Lost ≡ spent_in_turn room (runner_of s) s
+lost_told room cost s next e paid lt =
+    let limits : Limits = record { memory = 0; threads = 0; stack = 0; mutexes = 0; conditions = 0; keys = 0; interval = 0; ring = 0; output = 0; trace = 0 } in
+    sym (lost_by limits 0 room cost s next (runner_of s) e paid lt).1
+
+made_by : (p tick room cost : ℕ) (old new : Kept) (next : NextStep) (o : Option Runner) → option_map (next_step_of (part_at p old)) o ≡ Some next → cost ≡ step_cost next.kind → cost ≤ room
+    → ((r : Runner) → o ≡ Some r → new ≡ put_part p (after_whole_step (limits_at p old) tick r next.kind (part_at p old)) old)
+    → (new ≡ put_part p (after_turn (limits_at p old) tick room o (part_at p old)) old) × (Step cost ≡ spent_in_turn room o (part_at p old))
+made_by p tick room cost old new next None e paid le moved = absurd (let no : ⊥ = cc in no)
+made_by p tick room cost old new next (Some r) e paid le moved =
+    let s : Part = part_at p old in
+    let is : next ≡ next_step_of s r = step_is s next (Some r) r e refl in
+    let fits = tested room cost false s next r is paid (not_below room cost le) in (
+      moved r refl ∙ ap (λ (n : NextStep). put_part p (after_whole_step (limits_at p old) tick r n.kind s) old) is ∙ rw fits refl,
+      ap Step (paid ∙ ap (λ (n : NextStep). step_cost n.kind) is) ∙ rw fits refl,
+    )
+
+-- the cost fits, and the step is made
+pub step_moved : (p tick room cost : ℕ) (old new : Kept) (next : NextStep) → next_step_in (part_at p old) ≡ Some next → cost ≡ step_cost next.kind → cost ≤ room
+    → ((r : Runner) → runner_of (part_at p old) ≡ Some r → new ≡ put_part p (after_whole_step (limits_at p old) tick r next.kind (part_at p old)) old)
+    → new ≡ put_part p (after_turn (limits_at p old) tick room (runner_of (part_at p old)) (part_at p old)) old
+step_moved p tick room cost old new next e paid le moved = (made_by p tick room cost old new next (runner_of (part_at p old)) e paid le moved).0
+
+pub step_told : (p tick room cost : ℕ) (old new : Kept) (next : NextStep) → next_step_in (part_at p old) ≡ Some next → cost ≡ step_cost next.kind → cost ≤ room
+    → ((r : Runner) → runner_of (part_at p old) ≡ Some r → new ≡ put_part p (after_whole_step (limits_at p old) tick r next.kind (part_at p old)) old)
+    → Step cost ≡ spent_in_turn room (runner_of (part_at p old)) (part_at p old)
+step_told p tick room cost old new next e paid le moved = (made_by p tick room cost old new next (runner_of (part_at p old)) e paid le moved).1
+
+-- ---- the entry
+
+-- a0 as it is kept is the model's
+pub a0_is : (before : Thread) (after : Option Thread) → a0_kept (register before.cpu A0) after ≡ a0_after before after
+a0_is before None = refl
+a0_is before (Some thread) = refl
+
+-- ---- an ECALL
+
+ecall_effect : (cpu : Processor) (memory : List ℕ) (word : ℕ) → word ≡ ECALL → effect_of_word cpu memory word (decode_of word) ≡ Call (with_next_pc cpu)
+ecall_effect cpu memory word e = rw e refl
+
+fetched_call : (cpu : Processor) (memory : List ℕ) (aligned inside : Bool) → (if aligned && inside then word_at memory cpu.pc else 0) ≡ ECALL
+    → (if not aligned then Fault Misaligned else (if inside then effect_of_word cpu memory (word_at memory cpu.pc) (decode_of (word_at memory cpu.pc)) else Fault Fetch)) ≡ Call (with_next_pc cpu)
+fetched_call cpu memory true true e = ecall_effect cpu memory (word_at memory cpu.pc) e
+fetched_call cpu memory true false e = absurd (omega (arith, e))
+fetched_call cpu memory false inside e = absurd (omega (arith, e))
+
+-- the word of an ECALL makes a call
+ecall_calls : (cpu : Processor) (memory : List ℕ) → word_fetched memory cpu.pc ≡ ECALL → effect_at cpu memory ≡ Call (with_next_pc cpu)
+ecall_calls cpu memory e = fetched_call cpu memory (cpu.pc % 4 == 0) (can_fetch memory cpu.pc) e
+
+kind_calls : (unwinds gate : Bool) (word a7 number : ℕ) (calls : Bool) → (word == ECALL) ≡ calls
+    → (if unwinds then UnwindingStart else if gate then GateStep else if calls then CallStep a7 else InstructionStep) ≡ CallStep number → word ≡ ECALL
+kind_calls true gate word a7 number calls is e = absurd (let no : ⊥ = cc in no)
+kind_calls false true word a7 number calls is e = absurd (let no : ⊥ = cc in no)
+kind_calls false false word a7 number true is e = eqb-true word ECALL is
+kind_calls false false word a7 number false is e = absurd (let no : ⊥ = cc in no)
+
+-- the pc passed, and then the call, are the step of an ECALL
+pub call_stepped : (limits : Limits) (tick number : ℕ) (next : NextStep) (r : Runner) (s : Part) → next_step_in s ≡ Some next → runner_of s ≡ Some r → next.kind ≡ CallStep number
+    → (call_answer limits tick (passed next s)).part ≡ after_step limits tick r next.kind s
+call_stepped limits tick number next r s e runs kind =
+    let cpu : Processor = r.thread.cpu in
+    let after : Processor = with_next_pc cpu in
+    let is : next ≡ next_step_of s r = next_is s next r e runs in
+    let word : word_fetched s.memory cpu.pc ≡ ECALL =
+    kind_calls (is_to_unwind s r.number r.thread) (cpu.pc == RETURN_GATE) (word_fetched s.memory cpu.pc) (register cpu A7) number (word_fetched s.memory cpu.pc == ECALL) refl
+    (sym (ap (λ (n : NextStep). n.kind) is) ∙ kind) in
+    let found : thread_at s.locks r.number ≡ Some r.thread = runner_found s.running s r (runner_runs s r runs) runs in
+    let gone : passed next s ≡ with_cpu r.number after s = ap (λ (n : NextStep). passed n s) is ∙ passed_as r.number (word_of (cpu.pc + 4)) r.thread s found in
+    ap (λ (q : Part). (call_answer limits tick q).part) gone
+    ∙ effect_parts limits tick cpu.pc r (Call after) s runs
+    ∙ ap (λ (effect : Effect). after_effect limits tick r.number cpu.pc effect s) (sym (ecall_calls cpu s.memory word))
+    ∙ ap (λ (k : StepKind). after_step limits tick r k s) (sym kind)
+
+-- the runner that was copied is the one that runs
+pub other_stepped : (p tick : ℕ) (kind : StepKind) (x r : Runner) (old new : Kept) → runner_of (part_at p old) ≡ Some x → runner_of (part_at p old) ≡ Some r
+    → new ≡ put_part p (after_step (limits_at p old) tick x kind (part_at p old)) old → new ≡ put_part p (after_step (limits_at p old) tick r kind (part_at p old)) old
+other_stepped p tick kind x r old new found runs moved =
+    let same : x ≡ r = ap (λ (o : Option Runner). unwrap_or o x) (sym found ∙ runs) in
+    moved ∙ ap (λ (y : Runner). put_part p (after_step (limits_at p old) tick y kind (part_at p old)) old) same
+
+-- ---- the whole step
+
+whole_as : (limits : Limits) (tick : ℕ) (kind : StepKind) (r : Runner) (s : Part) → kind ≡ step_kind s r.number r.thread
+    → counted limits (step_cost kind) r.number (stepped limits tick r kind s) ≡ after_whole_step limits tick r kind s
+whole_as limits tick kind r s e =
+    let after : Part = after_step limits tick r kind s in
+    let thread : Option Thread = thread_at after.locks r.number in
+    let entry : StepKind → ℕ → Part = λ (k : StepKind). λ (a0 : ℕ).
+    record after { last = Some (record { tick = tick; thread = r.number; pc = r.thread.cpu.pc; word = traced_word k s.memory r.thread.cpu.pc; a0 = a0 }) } in
+    ap (λ (k : StepKind). counted limits (step_cost kind) r.number (entry k (a0_kept (register r.thread.cpu A0) thread))) (sym e)
+    ∙ ap (λ (a0 : ℕ). counted limits (step_cost kind) r.number (entry kind a0)) (a0_is r.thread thread)
+
+-- the step, its entry and its ticks in the interval are the whole step
+pub whole_is : (limits : Limits) (tick cost : ℕ) (next : NextStep) (r : Runner) (s : Part) → next_step_in s ≡ Some next → runner_of s ≡ Some r → cost ≡ step_cost next.kind
+    → counted limits cost next.thread (stepped limits tick r next.kind s) ≡ after_whole_step limits tick r next.kind s
+whole_is limits tick cost next r s e runs paid =
+    let is : next ≡ next_step_of s r = next_is s next r e runs in
+    ap (λ (c : ℕ). counted limits c next.thread (stepped limits tick r next.kind s)) paid
+    ∙ ap (λ (n : NextStep). counted limits (step_cost n.kind) n.thread (stepped limits tick r n.kind s)) is
+    ∙ whole_as limits tick (step_kind s r.number r.thread) r s refl
+    ∙ sym (ap (λ (n : NextStep). after_whole_step limits tick r n.kind s) is)
+
+pub ruleset turns = (idle_moved, idle_told, lost_moved, lost_told, step_moved, step_told)
