@@ -21,8 +21,8 @@ use ptk_gate_console::arrive_due;
 use ptk_gate_moves::{count_interval, start_unwinding};
 use ptk_gate_steps::{NextStep, a0_after, instruct, next_step, runner};
 use ptk_gate_threads::{choose, step_at_gate};
-use ptk_words_model::Runner;
 use ptk_words::{CANCELED, Cpu, Entry, PartId, Thread, ThreadNo, Tick};
+use ptk_words_model::Runner;
 
 impl Tables {
     /// All input that comes at the tick or before arrives, in its order. No deadline is due then.
@@ -69,6 +69,14 @@ impl Tables {
         ensures { result ≡ a0_kept before (thread_at (part_at p self.now).locks t) }
     {
         a0_after(&self.pools, p, t, before)
+    }
+
+    /// The thread of a number, None of a free one.
+    pub fn thread(&self, p: PartId, t: ThreadNo) -> Option<Thread>
+        requires partition { p < length self.now.limits }
+        ensures { result ≡ thread_at (part_at p self.now).locks t }
+    {
+        self.pools.threads().thread(p, t)
     }
 
     /// The running thread, which is cancelled, begins its unwinding (XSH 2.9.5.2).

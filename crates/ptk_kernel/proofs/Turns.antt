@@ -1,5 +1,5 @@
 -- The running thread's next step, read where the thread lies, is the step that the model makes.
-use Rattle.std.proofs.Common.{◌≡◌, ℕ, ◌+◌, ◌%◌, ◌<◌, ◌≤◌, Bool, true, false, List, refl, sym, ◌∙◌, ap, subst, rules}
+use Rattle.std.proofs.Common.{arith, length, ◌≡◌, ℕ, ◌+◌, ◌%◌, ◌<◌, ◌≤◌, Bool, true, false, List, refl, sym, ◌∙◌, ap, subst, rules}
 use Rattle.std.specs.Prelude.{Option, Some, None, not, ◌&&◌, ◌==◌, option_map, unwrap_or, nat_lt, if◌then◌else◌}
 use Rattle.std.proofs.lemmas.Bool.{eqb-true}
 use Rattle.ptk_words.specs.Processor.{Processor, register}
@@ -48,6 +48,18 @@ running_by s next (Some r) runs e =
 -- a thread runs, whose step was read
 pub next_runs : (s : Part) (next : NextStep) → next_step_in s ≡ Some next → s.running ≡ Some next.thread
 next_runs s next e = running_by s next (runner_of s) refl e
+
+runner_by : (s : Part) (next : NextStep) (o : Option Runner) → option_map (next_step_of s) o ≡ Some next → (r : Runner) × (o ≡ Some r)
+runner_by s next None e = absurd (let no : ⊥ = cc in no)
+runner_by s next (Some r) e = (r, refl)
+
+-- the partition is still one of as many
+pub within_after : (p : ℕ) (next : NextStep) (old new : Kept) (after : Runner → Part) → next_step_in (part_at p old) ≡ Some next → p < length old.limits
+    → ((r : Runner) → runner_of (part_at p old) ≡ Some r → new ≡ put_part p (after r) old) → p < length new.limits
+within_after p next old new after e lt moved =
+    let found = runner_by (part_at p old) next (runner_of (part_at p old)) e in
+    let same : length new.limits ≡ length old.limits = ap (λ (kept : Kept). length kept.limits) (moved found.0 found.1) in
+    rw same lt
 
 -- ---- a turn
 
@@ -132,8 +144,8 @@ ecall_effect cpu memory word e = rw e refl
 fetched_call : (cpu : Processor) (memory : List ℕ) (aligned inside : Bool) → (if aligned && inside then word_at memory cpu.pc else 0) ≡ ECALL
     → (if not aligned then Fault Misaligned else (if inside then effect_of_word cpu memory (word_at memory cpu.pc) (decode_of (word_at memory cpu.pc)) else Fault Fetch)) ≡ Call (with_next_pc cpu)
 fetched_call cpu memory true true e = ecall_effect cpu memory (word_at memory cpu.pc) e
-fetched_call cpu memory true false e = absurd (omega e)
-fetched_call cpu memory false inside e = absurd (omega e)
+fetched_call cpu memory true false e = absurd (omega (arith, e))
+fetched_call cpu memory false inside e = absurd (omega (arith, e))
 
 -- the word of an ECALL makes a call
 ecall_calls : (cpu : Processor) (memory : List ℕ) → word_fetched memory cpu.pc ≡ ECALL → effect_at cpu memory ≡ Call (with_next_pc cpu)
@@ -178,7 +190,7 @@ whole_as limits tick kind r s e =
     let after : Part = after_step limits tick r kind s in
     let thread : Option Thread = thread_at after.locks r.number in
     let entry : StepKind → ℕ → Part = λ (k : StepKind). λ (a0 : ℕ).
-      record after { last = Some (record { tick = tick; thread = r.number; pc = r.thread.cpu.pc; word = traced_word k s.memory r.thread.cpu.pc; a0 = a0 }) } in
+    record after { last = Some (record { tick = tick; thread = r.number; pc = r.thread.cpu.pc; word = traced_word k s.memory r.thread.cpu.pc; a0 = a0 }) } in
     ap (λ (k : StepKind). counted limits (step_cost kind) r.number (entry k (a0_kept (register r.thread.cpu A0) thread))) (sym e)
     ∙ ap (λ (a0 : ℕ). counted limits (step_cost kind) r.number (entry kind a0)) (a0_is r.thread thread)
 

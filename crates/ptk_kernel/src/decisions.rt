@@ -50,6 +50,7 @@ fn make_ready(tables: &mut Tables, p: PartId, tick: Tick)
 }
 
 /// The next step of the thread that runs; Idle where none does, and nothing changes.
+#[tactic(auto, using(crate::proofs::Turns::turns))]
 fn take_turn(tables: &mut Tables, p: PartId, tick: Tick, room: u32) -> Spent
     requires partition { p < length tables.old.limits }
     ensures told { result ≡ spent_in_turn room (runner_of (part_at p tables.old)) (part_at p tables.old) }
@@ -64,6 +65,7 @@ fn take_turn(tables: &mut Tables, p: PartId, tick: Tick, room: u32) -> Spent
 }
 
 /// The step of the running thread, if its whole cost fits; Lost where it does not, and nothing changes.
+#[tactic(auto, using(crate::proofs::Turns::turns))]
 fn begin_step(tables: &mut Tables, p: PartId, tick: Tick, room: u32, next: &NextStep) -> Spent
     requires partition { p < length tables.old.limits }
     requires next { next_step_in (part_at p tables.old) ≡ Some next.now }

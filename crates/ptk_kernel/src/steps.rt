@@ -65,7 +65,7 @@ fn make_call(tables: &mut Tables, p: PartId, tick: Tick, next: &NextStep)
 {
     let _parts = tables.parts();
     tables.pass_ecall(p, next.thread, next.pc);
-    let _reply = call(tables, p, tick);
+    let _told = call(tables, p, tick);
 }
 
 /// The effect of a step that is no call.

@@ -9,9 +9,9 @@
 #![tactic(auto)]
 
 mod references;
-mod writing;
 mod slot;
 mod threads;
+mod writing;
 
 pub use slot::Slot;
 pub use threads::{Threads, stored_in};
