@@ -7,7 +7,6 @@ use Rattle.ptk_words.specs.declared.sections.Limits.{Limits}
 use Rattle.ptk_words_windows.specs.declared.window.Window.{Window}
 use Rattle.ptk_words_windows.specs.Windows.{WindowTable, OwnTicks, IsOwn, IsOwnUntil, IsTable, own_ticks}
 use Rattle.ptk_words_windows.proofs.OwnLaws.{end_of_window, end_none, own_apart, own_from, window_whole}
-use Rattle.ptk_window.specs.Order.{end_of}
 use Rattle.ptk_words_model.specs.State.{State}
 use Rattle.ptk_words_model.specs.Run.{after_tick, after_tick_until, decided, is_at}
 use Rattle.ptk_words_quiet.specs.Quiet.{AreOwn, after_ticks}
@@ -183,27 +182,31 @@ own_at table p tick end e = own_from table p tick end (rw e at (end_of_window ta
 not_others : (table : WindowTable) (p q tick end : ℕ) → IsTable table → q ≢ p → (own_ticks table p).end_at tick ≡ Some end → (k : ℕ) → tick ≤ k → k < end → (own_ticks table q).end_at k ≡ None
 not_others table p q tick end is differ ends k le lt =
     let whole = window_whole table p tick end is ends in
-    end_none table q k (own_apart table p q k is (λ same. differ (sym same)) (own_at table p k end (whole.2 k le lt)))
+    end_none table q k (own_apart table p q k is (λ one. differ (sym one)) (own_at table p k end (whole.2 k le lt)))
 
 -- what is done to the partition of a window is so many ticks of each
-pub gone_each : (table : WindowTable) (p tick n end : ℕ) (whole new : Whole) → IsTable table → IsWhole whole.kept whole.accounts → p < length whole.accounts → (own_ticks table p).end_at tick ≡ Some end → tick + n ≤ end
-    → new ≡ gone_on (own_ticks table p) p tick n whole
+pub gone_each : (table : WindowTable) (p tick n end : ℕ) (whole found new : Whole) → IsTable table → IsWhole whole.kept whole.accounts → p < length whole.accounts → (own_ticks table p).end_at tick ≡ Some end → tick + n ≤ end
+    → found ≡ whole → new ≡ gone_on (own_ticks table p) p tick n found
     → (q : ℕ) → state_at q new ≡ after_ticks (own_ticks table q) (limits_at q whole.kept) tick n (state_at q whole)
-gone_each table p tick n end whole new table_is is lt ends within gone q = by (q == p) refl
+gone_each table p tick n end whole found new table_is is lt ends within same moved q = by (q == p) refl
   where
+    gone : new ≡ gone_on (own_ticks table p) p tick n whole
+    gone = moved ∙ ap (gone_on (own_ticks table p) p tick n) same
+
     by : (b : Bool) → (q == p) ≡ b → state_at q new ≡ after_ticks (own_ticks table q) (limits_at q whole.kept) tick n (state_at q whole)
     by true e =
         let P : ℕ → Type 0 = λ r. state_at r new ≡ after_ticks (own_ticks table r) (limits_at r whole.kept) tick n (state_at r whole) in
         subst P (sym (eqb-true q p e)) (ap (state_at p) gone ∙ state_at-put p _ whole is lt)
     by false e =
-        let differ : q ≢ p = λ same. false≢true (sym e ∙ eq-eqb q p same) in
+        let differ : q ≢ p = λ one. false≢true (sym e ∙ eq-eqb q p one) in
         ap (state_at q) gone
         ∙ (state_at-other p q _ whole differ
         ∙ sym (others (own_ticks table q) (limits_at q whole.kept) tick n (state_at q whole) (λ k le below. not_others table p q tick end table_is differ ends k le (omega (arith, below, within)))))
 
 -- a tick in no window is a tick of each
-pub idle_each : (table : WindowTable) (tick : ℕ) (whole : Whole) → ((q : ℕ) → (own_ticks table q).end_at tick ≡ end_of q None) → (q : ℕ) → state_at q whole ≡ after_ticks (own_ticks table q) (limits_at q whole.kept) tick 1 (state_at q whole)
-idle_each table tick whole ends q =
-    sym (others (own_ticks table q) (limits_at q whole.kept) tick 1 (state_at q whole) (λ k le below.
+pub idle_each : (table : WindowTable) (tick n : ℕ) (whole found : Whole) → ((q : ℕ) → (own_ticks table q).end_at tick ≡ None) → n ≡ tick + 1 → found ≡ whole
+    → (q : ℕ) → state_at q found ≡ after_ticks (own_ticks table q) (limits_at q whole.kept) tick (n - tick) (state_at q whole)
+idle_each table tick n whole found ends after same q =
+    ap (state_at q) same ∙ sym (others (own_ticks table q) (limits_at q whole.kept) tick (n - tick) (state_at q whole) (λ k le below.
     let at : tick ≡ k = omega (arith, le, below) in
     subst (λ (j : ℕ). (own_ticks table q).end_at j ≡ None) at (ends q)))

@@ -2,22 +2,26 @@
 
 ghost use Rattle.std.specs.Prelude.{◌≡◌, ◌≤◌, ◌^◌, ◌+◌, IfOk};
 ghost use Rattle.ptk_words.specs.declared.TheConstants.{LAST_TICK};
+ghost use Rattle.ptk_words_model.specs.Run.{is_at};
 ghost use Rattle.ptk_kernel.specs.Spending.{cost_in};
 ghost use Rattle.ptk_system_machine.specs.Accounts.{HasEntry, first_account, spent_account, duration_of};
 
 use ptk_trace::Trace;
+use ptk_window::Near;
 use ptk_words::{Entry, Tick};
 use ptk_words_model::Spent;
 use std::alloc::{AllocError, Global};
 use std::marker::Model;
 
-/// The tick of a partition's next decision, if there is one, its steps, its lost ticks and its last steps.
+/// The tick of a partition's next decision, if there is one, its steps, its lost ticks and its last steps. Beside them
+/// stands where it was last found among its windows, of which nothing is told.
 #[derive(Drop)]
 pub struct Account {
     next: Option<Tick>,
     steps: u64,
     lost: u64,
     pub(crate) trace: Trace,
+    pub(crate) near: Near,
 }
 
 impl Model for Account {
@@ -39,6 +43,7 @@ impl Account {
             steps: 0,
             lost: 0,
             trace: Trace::new(alloc, kept)?,
+            near: Near::new(),
         })
     }
 
@@ -47,6 +52,16 @@ impl Account {
         ensures { result ≡ self.now.account.next }
     {
         self.next
+    }
+
+    /// Whether the next decision is at the tick.
+    pub(crate) fn is_due(&self, tick: Tick) -> bool
+        ensures { result ≡ is_at tick self.now.account.next }
+    {
+        match self.next {
+            Some(next) => next.ticks() == tick.ticks(),
+            None => false,
+        }
     }
 
     /// How many steps there were.

@@ -8,7 +8,7 @@ ghost use Rattle.ptk_system_machine.specs.Whole.{IsDue, IsWhole, account_at, fir
 
 use crate::account::Account;
 use ptk_gate::Tables;
-use ptk_window::WindowTable;
+use ptk_window::{Near, WindowTable};
 use ptk_words::{Limits, PartId, Status, Tick};
 use std::alloc::{AllocError, Global};
 use std::marker::Model;
@@ -141,24 +141,31 @@ fn first_accounts(
     let mut accounts = Vec::new(alloc);
     for i in 0..limits.len() {
         let p = PartId::new(i as u8);
-        let next = next_from(windows, p, tables.status(p), Tick::new(0));
+        let mut near = Near::new();
+        let next = next_from(windows, p, tables.status(p), Tick::new(0), &mut near);
         accounts.push(Account::new(alloc, next, limits[i].trace)?)?;
     }
     Ok(accounts)
 }
 
-/// The partition's first own tick from this one on, none where it is halted.
+/// The partition's first own tick from this one on, none where it is halted. `near` is where the partition was last found
+/// among its windows.
+#[inline]
 pub(crate) fn next_from(
     windows: &WindowTable,
     p: PartId,
     status: Status,
     tick: Tick,
+    near: &mut Near,
 ) -> Option<Tick>
     requires { tick ≤ 2 ^ 41 }
     ensures { result ≡ next_from (own_ticks windows.now p) status tick }
 {
     if is_active(status) {
-        windows.next_of(p, tick)
+        match windows.turn_from(p, tick, near) {
+            Some(turn) => Some(turn.start),
+            None => None,
+        }
     } else {
         None
     }

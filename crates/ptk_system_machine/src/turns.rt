@@ -1,6 +1,6 @@
 //! How all partitions go on: each in its windows, by rows of plain steps and by single decisions.
 
-ghost use Rattle.std.specs.Prelude.{◌≡◌, ◌<◌, ◌≤◌, ◌^◌, ◌+◌, ◌-◌, ℕ, true, Some, length};
+ghost use Rattle.std.specs.Prelude.{◌≡◌, ◌<◌, ◌≤◌, ◌^◌, ◌+◌, ◌-◌, ℕ, true, None, Some, IfSome, MatchOption, length};
 ghost use Rattle.ptk_words.specs.declared.TheConstants.{LAST_TICK};
 ghost use Rattle.ptk_words_windows.specs.Windows.{own_ticks};
 ghost use Rattle.ptk_words_model.specs.Run.{decided, is_active, is_at, next_from};
@@ -13,7 +13,7 @@ use crate::account::duration;
 use crate::machine::{Machine, is_active, next_from};
 use ptk_kernel::{compute, decide, last_step};
 use ptk_trace_rows::BATCH;
-use ptk_window::WindowTable;
+use ptk_window::{Near, WindowTable};
 use ptk_words::{Entry, PartId, Status, Tick};
 
 /// A window in which a partition is, as far as it now goes on in it: the first tick after the window, and the tick to
@@ -50,13 +50,64 @@ impl Machine {
     {
         let _parts = self.parts();
         windows.is_table();
-        match windows.at(tick) {
+        match self.window_at(windows, tick) {
             Some((partition, end)) => {
                 let to = Tick::new(end.ticks().min(to.ticks()));
                 self.stay(windows, tick, &Stay { partition, end, to }, batch);
                 to
             }
             None => Tick::new(tick.ticks() + 1),
+        }
+    }
+
+    /// The partition in whose window the tick lies, and the first tick after that window.
+    fn window_at(&mut self, windows: &WindowTable, tick: Tick) -> Option<(PartId, Tick)>
+        requires windows { AreWindowsOf (length self.old.accounts) windows.now }
+        requires time { tick ≤ LAST_TICK }
+        ensures same { self.new ≡ self.old }
+        ensures found { MatchOption result
+            ((q : ℕ) → (own_ticks windows.now q).end_at tick ≡ None)
+            (λ found. (found.0 < length self.old.accounts) × (tick < found.1)
+            × ((own_ticks windows.now found.0).end_at tick ≡ Some found.1)) }
+    {
+        if let Some(found) = self.due_window_at(windows, tick) {
+            return Some(found);
+        }
+        let _parts = self.parts();
+        windows.is_table();
+        windows.at(tick)
+    }
+
+    /// As `window_at`, where a partition decides at the tick: near the window where that partition was last.
+    fn due_window_at(&mut self, windows: &WindowTable, tick: Tick) -> Option<(PartId, Tick)>
+        requires time { tick ≤ LAST_TICK }
+        ensures same { self.new ≡ self.old }
+        ensures found { IfSome result
+            (λ found. (found.0 < length self.old.accounts) × (tick < found.1)
+            × ((own_ticks windows.now found.0).end_at tick ≡ Some found.1)) }
+    {
+        let p = self.due_at(tick)?;
+        let account = &mut self.accounts[p.index()];
+        let turn = windows.turn_from(p, tick, &mut account.near)?;
+        if turn.start == tick {
+            Some((p, turn.end))
+        } else {
+            None
+        }
+    }
+
+    /// The first partition that decides next at the tick.
+    fn due_at(&self, tick: Tick) -> Option<PartId>
+        ensures { IfSome result (λ p. p < length self.now.accounts) }
+    {
+        let _parts = self.parts();
+        match self
+            .accounts
+            .iter()
+            .position(|account| account.is_due(tick))
+        {
+            Some(place) => Some(PartId::new(place as u8)),
+            None => None,
         }
     }
 
@@ -135,10 +186,8 @@ impl Machine {
         let account = &mut self.accounts[p.index()];
         let steps = compute(&mut self.tables, p, tick, stop, &mut account.trace, batch);
         let reached = Tick::new(tick.ticks() + u64::from(steps));
-        account.count_row(
-            next_within(windows, p, Status::Active, reached, stop),
-            steps,
-        );
+        let next = next_within(windows, p, Status::Active, reached, stop, &mut account.near);
+        account.count_row(next, steps);
         steps
     }
 
@@ -157,27 +206,29 @@ impl Machine {
         let spent = decide(&mut self.tables, p, tick, room);
         let end = tick.ticks() + u64::from(duration(room, spent));
         let window_end = Tick::new(tick.ticks() + u64::from(room));
+        let (status, last) = (self.tables.status(p), last_step(&self.tables, p));
+        let account = &mut self.accounts[p.index()];
         let next = next_within(
             windows,
             p,
-            self.tables.status(p),
+            status,
             Tick::new(end),
             window_end,
+            &mut account.near,
         );
-        let last = last_step(&self.tables, p);
-        let account = &mut self.accounts[p.index()];
         account.count(next, room, spent, last);
     }
 }
 
 /// The partition's first own tick from this one on, none where it is halted. Where the tick lies before `end`, it is the
-/// partition's own.
+/// partition's own. `near` is where the partition was last found among its windows.
 fn next_within(
     windows: &WindowTable,
     p: PartId,
     status: Status,
     tick: Tick,
     end: Tick,
+    near: &mut Near,
 ) -> Option<Tick>
     requires time { tick ≤ 2 ^ 41 }
     requires own { tick < end → (own_ticks windows.now p).next_of tick ≡ Some tick }
@@ -186,6 +237,6 @@ fn next_within(
     if tick.ticks() < end.ticks() && is_active(status) {
         Some(tick)
     } else {
-        next_from(windows, p, status, tick)
+        next_from(windows, p, status, tick, near)
     }
 }

@@ -16,7 +16,7 @@ returns-clause-gone c =
     c.account.view_is ∙ account_read c.args.p c.index.result c.self.inside.accounts.items c.index_mut-account.result.now c.index_mut-account.ensures.value c.index.ensures lt in
     subst (λ (w : Whole). record { kept = c.compute-steps.new.tables; accounts = set c.self.inside.accounts.items c.index.result c.count_row.new.self }
     ≡ gone_on (own_ticks c.args.windows.now c.args.p) c.args.p c.args.tick c.compute-steps.result w) c.self.view_is
-    (row_counted (own_ticks c.args.windows.now c.args.p) c.args.p c.index.result c.args.tick c.args.stop c.compute-steps.result c.next_within.result c.self.inside.tables c.compute-steps.new.tables c.self.inside.accounts.items c.compute-steps.new.trace
+    (row_counted (own_ticks c.args.windows.now c.args.p) c.args.p c.index.result c.args.tick c.args.stop c.compute-steps.result c.next_within-next.result c.self.inside.tables c.compute-steps.new.tables c.self.inside.accounts.items c.compute-steps.new.trace
     (kept_account_of c.account.inside) c.count_row.new.self c.self.invariant lt due c.requires.own c.requires.order c.compute-steps.ensures.within
-    (c.next_within.ensures ∙ ap (own_ticks c.args.windows.now c.args.p).next_of reached) c.index.ensures read
+    (c.next_within-next.ensures ∙ ap (own_ticks c.args.windows.now c.args.p).next_of reached) c.index.ensures read
     c.compute-steps.ensures.none c.compute-steps.ensures.row c.count_row.ensures)
