@@ -2,9 +2,10 @@
 //! k − 1. A contract sees, by partition and then by number, the threads and their stored effective priorities; each
 //! call changes one partition's entries alone, says so in one equation on that record, and is total in all but the
 //! partition: a number that is free answers None, and setting something of it changes nothing. `create` gives the least
-//! free number. No call but the constructor takes memory. Below stand `ptk_words` and `ptk_words_parted`, which keeps
-//! the lists; above, `ptk_ready` and every crate that acts on threads. Dear to prove is that a loan of one partition's
-//! list leaves a table, with as many stored priorities as slots (`proofs/Slots`).
+//! free number. No call but the constructor takes memory. Below stand `ptk_words`, `ptk_words_parted`, which keeps the
+//! lists, and `ptk_words_model`, whose word a reply is; above, `ptk_ready` and every crate that acts on threads. Dear to
+//! prove is that a loan of one partition's list leaves a table, with as many stored priorities as slots
+//! (`proofs/Slots`).
 #![tactic(auto)]
 
 mod references;
