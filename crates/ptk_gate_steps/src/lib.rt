@@ -1,5 +1,5 @@
 //! What a step of the running thread is made of, over the moves of `ptk_gate_pools`: the thread that runs, what its next
-//! step is and costs, an instruction's effect on the registers and the memory, the step as the trace keeps it, and up to
+//! step is and costs, what the trace keeps of it, an instruction's effect on the registers and the memory, and up to
 //! which tick nothing but the thread's steps can come (`quiet_until`, which misses no partition that only computes). Each
 //! function that changes the pools is one equation: they are the old ones with partition p's part replaced by what the
 //! model makes of it, so that every other partition's part stays. Below stand the pools and the instructions; above, the

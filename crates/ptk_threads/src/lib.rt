@@ -3,9 +3,9 @@
 //! call changes one partition's entries alone, says so in one equation on that record, and is total in all but the
 //! partition: a number that is free answers None, and setting something of it changes nothing. `create` gives the least
 //! free number. `lend` lends one partition's slots, with their threads to be written in place; the stored priorities stay.
-//! No call but the constructor takes memory. Below stand `ptk_words` and `ptk_words_parted`, which keeps the lists;
-//! above, `ptk_ready` and every crate that acts on threads. Dear to prove is that a loan of one partition's list leaves
-//! a table, with as many stored priorities as slots (`proofs/Slots`).
+//! No call but the constructor takes memory. Below stand `ptk_words`, `ptk_words_parted`, which keeps the lists, and
+//! `ptk_words_model`, whose word a reply is; above, `ptk_ready` and every crate that acts on threads. Dear to prove is
+//! that a loan of one partition's list leaves a table, with as many stored priorities as slots (`proofs/Slots`).
 #![tactic(auto)]
 
 mod references;
