@@ -19,7 +19,7 @@ mod tests;
 mod ticks;
 
 pub use deadlines::Deadlines;
-pub use laws::{added_by_slot, removed_by_slot, words_are_signed};
+pub use laws::{added_by_slot, removed_by_slot, taken_by_slot, words_are_signed};
 pub use plain::PlainDeadlines;
 pub use shared::SharedDeadlines;
 pub use ticks::{from_tick, to_tick};
