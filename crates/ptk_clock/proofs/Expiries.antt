@@ -1,17 +1,17 @@
 -- The least due pair of a partition's slots is its next expiry by thread number.
-use Rattle.std.proofs.Common.{◌≡◌, ℕ, zero, suc, ◌+◌, ◌-◌, ◌<◌, ◌≤◌, List, [], ◌∷◌, Bool, true, false, cond, refl, sym, ◌∙◌, ap, subst, arith, Option, Some, None, ◌⊎◌, inl, inr}
-use Rattle.std.specs.Prelude.{◌==◌, find, option_map, slice_get, IfSome}
+use Rattle.std.proofs.Common.{◌≡◌, ℕ, zero, suc, ◌+◌, ◌-◌, ◌<◌, ◌≤◌, List, [], ◌∷◌, length, replicate, Bool, true, false, cond, refl, sym, ◌∙◌, ap, subst, arith, Option, Some, None, ◌⊎◌, inl, inr}
+use Rattle.std.specs.Prelude.{nat_eq, ◌==◌, find, option_map, slice_get, IfSome}
 use Rattle.std.specs.Option.{option_flatten}
-use Rattle.std.proofs.lemmas.Bool.{cases_lt, eqb-true, false≢true}
+use Rattle.std.proofs.lemmas.Bool.{cases_lt, eqb-true, or_from}
 use Rattle.std.proofs.lemmas.Bool.Decides.{nat_tests}
 use Rattle.std.proofs.lemmas.Option.{none-some, same_Some}
 use Rattle.ptk_words.specs.Names.{Tick}
-use Rattle.ptk_words.specs.Pools.{pool_get}
+use Rattle.ptk_words.specs.Pools.{pool_get, is_in}
 use Rattle.ptk_words_model.specs.Withdrawal as withdrawal
 use Rattle.ptk_words_model.specs.Withdrawal.{Expiry}
 use Rattle.ptk_words_locks.specs.Expiries.{next_expiry, without_expiry, IsLeastDue, IsNoneDue, IsNextExpiry}
 use Rattle.ptk_words_locks.proofs.Expiries.{next_only}
-use Rattle.ptk_clock.specs.Pairs.{Pair, is_before, IsBeforeAll, AreInOrder, IsLeast, is_due, least_due, without_taken}
+use Rattle.ptk_clock.specs.Pairs.{Pair, slots_of, is_before, IsBeforeAll, AreInOrder, IsLeast, is_due, least_due, without_taken}
 use Rattle.ptk_clock.specs.BySlot.{deadline_at, deadlines_from, expiry_from}
 use Rattle.ptk_clock.proofs.BySlot.{deadline_at-cons, own_slot, deadlines_from-without, deadlines_from-without_other}
 use Rattle.ptk_clock.proofs.Leasts.{least-due}
@@ -71,9 +71,9 @@ due_own first last now (x ∷ xs) a order found =
     found_at (deadline_at (x ∷ xs) a.1 ≡ Some a.0) (is_due first last now) x xs a (is_due first last now x) refl found
     (λ same passes. ap (deadline_at (x ∷ xs)) (ap (λ (pair : Pair). pair.1) (sym same)) ∙ deadline_at-cons x xs x.1 ∙ own_slot x.1 (Some x.0) (deadline_at xs x.1) ∙ ap (λ (pair : Pair). Some pair.0) same)
     (λ later not. (
-      let apart : (x.1 == a.1) ≡ false = another_slot first last now x a (before_found (is_due first last now) x xs a order.0 later) not (found_passes (is_due first last now) xs a later) in
-      deadline_at-cons x xs a.1 ∙ ap (λ b. cond b (Some x.0) (deadline_at xs a.1)) apart ∙ due_own first last now xs a order.1 later
-      ))
+    let apart : (x.1 == a.1) ≡ false = another_slot first last now x a (before_found (is_due first last now) x xs a order.0 later) not (found_passes (is_due first last now) xs a later) in
+    deadline_at-cons x xs a.1 ∙ ap (λ b. cond b (Some x.0) (deadline_at xs a.1)) apart ∙ due_own first last now xs a order.1 later
+    ))
 
 -- ---- slots by thread number
 
@@ -86,6 +86,32 @@ past_from : (first n i : ℕ) (xs : List Pair) → n ≤ i → option_flatten (s
 past_from first zero i xs le = refl
 past_from first (suc n) zero xs le = absurd (omega (arith, le))
 past_from first (suc n) (suc i) xs le = past_from (suc first) n i xs (omega (arith, le))
+
+pub length-deadlines_from : (first n : ℕ) (xs : List Pair) → length (deadlines_from first n xs) ≡ n
+length-deadlines_from first zero xs = refl
+length-deadlines_from first (suc n) xs = let rest : length (deadlines_from (suc first) n xs) ≡ n = length-deadlines_from (suc first) n xs in omega (arith, rest)
+
+pub deadlines_from_none : (first n : ℕ) → deadlines_from first n [] ≡ replicate n None
+deadlines_from_none first zero = refl
+deadlines_from_none first (suc n) = ap (λ (deadlines : List (Option Tick)). None ∷ deadlines) (deadlines_from_none (suc first) n)
+
+apart_turned : (q r : ℕ) → (r == q) ≡ false → nat_eq q r ≡ false
+apart_turned q r apart = grind (arith, nat_tests)
+
+first_free : (q : ℕ) (x : Pair) (xs : List Pair) (b : Bool) → (x.1 == q) ≡ b → cond b (Some x.0) (deadline_at xs q) ≡ None → (deadline_at xs q ≡ None → is_in q (slots_of xs) ≡ false) → is_in q (slots_of (x ∷ xs)) ≡ false
+first_free q x xs true same none more = absurd (none-some x.0 (sym none))
+first_free q x xs false apart none more = or_from (nat_eq q x.1) (is_in q (slots_of xs)) (apart_turned q x.1 apart) (more none)
+
+without_pair : (q : ℕ) (xs : List Pair) → deadline_at xs q ≡ None → is_in q (slots_of xs) ≡ false
+without_pair q [] none = refl
+without_pair q (x ∷ xs) none = first_free q x xs (x.1 == q) refl (sym (deadline_at-cons x xs q) ∙ none) (without_pair q xs)
+
+-- a slot whose entry has no deadline has no pair
+pub slot_free : (first n slot : ℕ) (xs : List Pair) → first ≤ slot → slot < first + n → pool_get (deadlines_from first n xs) (slot - first + 1) ≡ None → is_in slot (slots_of xs) ≡ false
+slot_free first n slot xs low high none =
+    let number : slot - first + 1 ≡ suc (slot - first) = omega arith in
+    let back : first + (slot - first) ≡ slot = omega (arith, low) in
+    without_pair slot xs (ap (deadline_at xs) (sym back) ∙ sym (at_from first n (slot - first) xs (omega (arith, low, high))) ∙ ap (pool_get (deadlines_from first n xs)) (sym number) ∙ none)
 
 -- thread t has the slot, with its deadline
 record IsSlotOf (first n t deadline : ℕ) (xs : List Pair) : Type 0 where
@@ -143,10 +169,10 @@ taken_next first last n now xs a order end found =
       own = at_from first n (a.1 - first) xs (omega (arith, low, high, end)) ∙ ap (deadline_at xs) back ∙ due_own first last now xs a order found;
       due = is.due;
       least = λ b e le. (
-        let of : IsSlotOf first n b.thread b.deadline xs = slot_of first n b.thread b.deadline xs e in
-        number_not_before first of.slot a b of.number of.low low
-        (not_before_least (is_due first last now) xs a of.slot b.deadline least of.at (due_when first last n of.slot b.deadline now end of.low of.high le))
-        );
+          let of : IsSlotOf first n b.thread b.deadline xs = slot_of first n b.thread b.deadline xs e in
+          number_not_before first of.slot a b of.number of.low low
+          (not_before_least (is_due first last now) xs a of.slot b.deadline least of.at (due_when first last n of.slot b.deadline now end of.low of.high le))
+          );
     }
 
 is_next : (first last n : ℕ) (now : Tick) (xs : List Pair) (o : Option Pair) → AreInOrder xs → last + 1 ≡ first + n → least_due first last now xs ≡ o → IsNextExpiry now (deadlines_from first n xs) (option_map (expiry_from first) o)
@@ -157,6 +183,11 @@ is_next first last n now xs (Some a) order end e = taken_next first last n now x
 pub next-due : (first last n : ℕ) (now : Tick) (xs : List Pair) → AreInOrder xs → last + 1 ≡ first + n → option_map (expiry_from first) (least_due first last now xs) ≡ next_expiry now (deadlines_from first n xs)
 next-due first last n now xs order end =
     next_only now (deadlines_from first n xs) (option_map (expiry_from first) (least_due first last now xs)) (is_next first last n now xs (least_due first last now xs) order end refl)
+
+-- what was found, among the same pairs
+pub next_found : (first last : ℕ) (now : Tick) (xs ys : List Pair) (o : Option Pair) → AreInOrder xs → xs ≡ ys → least_due first last now xs ≡ o
+    → (n : ℕ) → last + 1 ≡ first + n → option_map (expiry_from first) o ≡ next_expiry now (deadlines_from first n ys)
+next_found first last now xs ys o order e found n end = ap (option_map (expiry_from first)) (sym found) ∙ next-due first last n now xs order end ∙ ap (λ pairs. next_expiry now (deadlines_from first n pairs)) e
 
 -- ---- the pair is taken out
 

@@ -1,11 +1,20 @@
 //! Deadlines by slot, and times as a guest's words.
 
-ghost use Rattle.std.specs.Prelude.{◌≡◌, ℕ, ◌+◌, ◌-◌, ◌<◌, ◌≤◌, ◌^◌, ◌⊎◌, false, List, Some, None, option_map, slice_set};
-ghost use Rattle.ptk_words.specs.Pools.{is_in};
+ghost use Rattle.std.specs.Prelude.{◌≡◌, ℕ, ◌+◌, ◌-◌, ◌<◌, ◌≤◌, ◌^◌, ◌⊎◌, false, List, [], length, replicate, Some, None, option_map, slice_set};
+ghost use Rattle.ptk_words.specs.Pools.{pool_get, is_in};
 ghost use Rattle.ptk_words_locks.specs.Expiries.{next_expiry, without_expiry};
 ghost use Rattle.ptk_clock.specs.Pairs.{Pair, slots_of, AreInOrder, with_pair, without_slot, without_taken, least_due};
 ghost use Rattle.ptk_clock.specs.BySlot.{deadlines_from, expiry_from};
 ghost use Rattle.ptk_clock.specs.Ticks.{tick_of, seconds_of_words, tick_of_words};
+
+/// A partition sees an entry for each of its slots: none has a deadline where there is no pair, and a slot whose entry
+/// has none has no pair.
+pub fn listed_by_slot()
+    ensures count { (first n : ℕ) (pairs : List Pair) → length (deadlines_from first n pairs) ≡ n }
+    ensures empty { (first n : ℕ) → deadlines_from first n [] ≡ replicate n None }
+    ensures free { (first n slot : ℕ) (pairs : List Pair) → first ≤ slot → slot < first + n
+        → pool_get (deadlines_from first n pairs) (slot - first + 1) ≡ None → is_in slot (slots_of pairs) ≡ false }
+{}
 
 /// One more pair sets its slot's deadline among those of its partition's slots, and changes no other partition's.
 pub fn added_by_slot()

@@ -7,12 +7,13 @@ use Rattle.ptk_words_model.specs.State.{Part}
 use Rattle.ptk_words_model.specs.Priority.{thread_at}
 use Rattle.ptk_words_model.specs.Mutex.{wait_of}
 use Rattle.ptk_words_model.specs.Withdrawal.{Expiry, expiry_of, is_before, in_order, due, deadlines_of, after_timeout, after_expiries}
+use Rattle.ptk_words_locks.specs.Conditions.{AreSyncs}
 
 -- the threads whose deadline is at most the tick, of deadlines by thread number
 abbrev pub due_among : Tick → List (Option Tick) → List Expiry
 due_among tick deadlines = filter (λ a. nat_le a.deadline tick) (filter_map expiry_of (enumerate_from 1 deadlines))
 
--- the first of them by (deadline, number), None where none is due
+-- the first of them by (deadline, number), None where none is due (own)
 abbrev pub next_expiry : Tick → List (Option Tick) → Option Expiry
 next_expiry tick deadlines = slice_get (in_order (due_among tick deadlines)) 0
 
@@ -43,7 +44,7 @@ IsNextExpiry tick deadlines next = MatchOption next (IsNoneDue tick deadlines) (
 abbrev pub after_expiry : Expiry → Part → Part
 after_expiry a s = after_timeout a.thread (wait_of (thread_at s.locks a.thread)) s
 
--- the state after the next expiry's timeout and the expiries that are due then
+-- the state after the next expiry's timeout and the expiries that are due then; where none is next, as it is (own)
 abbrev pub after_next : Tick → Option Expiry → Part → Part
 after_next tick None s = s
 after_next tick (Some a) s = after_expiries tick (after_expiry a s)
@@ -53,3 +54,8 @@ pub record AreExpiriesInTurn (tick : Tick) (a : Expiry) (s : Part) : Type 0 wher
   pub deadlines : deadlines_of (after_expiry a s).locks ≡ pool_set (deadlines_of s.locks) a.thread None
   pub rest : in_order (due tick s) ≡ a ∷ in_order (due_among tick (pool_set (deadlines_of s.locks) a.thread None))
   pub later : in_order (due tick s) ≡ a ∷ in_order (due tick (after_expiry a s))
+
+-- one timeout keeps all whole
+abbrev pub IsExpiryWhole : ℕ → Expiry → Part → Type 0
+IsExpiryWhole interval a s =
+    AreSyncs interval s.running s.console.waiters s.syncs → AreSyncs interval (after_expiry a s).running (after_expiry a s).console.waiters (after_expiry a s).syncs
