@@ -13,7 +13,7 @@ at_first : (b : Bool) (x : Pair) (o : Option Pair) → option_map (λ (pair : Pa
 at_first true x o = refl
 at_first false x o = refl
 
-deadline_at-cons : (x : Pair) (xs : List Pair) (q : ℕ) → deadline_at (x ∷ xs) q ≡ cond (x.1 == q) (Some x.0) (deadline_at xs q)
+pub deadline_at-cons : (x : Pair) (xs : List Pair) (q : ℕ) → deadline_at (x ∷ xs) q ≡ cond (x.1 == q) (Some x.0) (deadline_at xs q)
 deadline_at-cons x xs q = at_first (x.1 == q) x (find (λ pair. pair.1 == q) xs)
 
 both_false : (a b : Bool) → (a || b) ≡ false → (a ≡ false) × (b ≡ false)
@@ -102,7 +102,7 @@ set_from first (suc n) s xs ys v le lt at others =
 other_slot : (s q : ℕ) (v w : Option Tick) → q ≢ s → cond (s == q) v w ≡ w
 other_slot s q v w ne = grind (arith, nat_tests)
 
-own_slot : (s : ℕ) (v w : Option Tick) → cond (s == s) v w ≡ v
+pub own_slot : (s : ℕ) (v w : Option Tick) → cond (s == s) v w ≡ v
 own_slot s v w = grind (arith, nat_tests)
 
 pub deadlines_from-with : (first n deadline slot : ℕ) (xs : List Pair) → is_in slot (slots_of xs) ≡ false → first ≤ slot → slot < first + n

@@ -3,3 +3,4 @@ pub mod Places
 pub mod Leasts
 pub mod BySlot
 pub mod Signs
+pub mod Expiries

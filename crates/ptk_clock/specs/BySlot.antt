@@ -1,6 +1,7 @@
 -- Deadlines by slot: what is seen of a queue of all partitions where only some slots are looked at.
-use Rattle.std.specs.Prelude.{ℕ, zero, suc, ◌==◌, List, [], ◌∷◌, find, Option, option_map}
+use Rattle.std.specs.Prelude.{ℕ, zero, suc, ◌-◌, ◌==◌, List, [], ◌∷◌, find, Option, option_map}
 use Rattle.ptk_words.specs.Names.{Tick}
+use Rattle.ptk_words_model.specs.Withdrawal.{Expiry}
 use Rattle.ptk_clock.specs.Pairs.{Pair}
 
 -- the deadline of a slot, None where it has none
@@ -11,3 +12,7 @@ deadline_at pairs slot = option_map (λ pair. pair.0) (find (λ pair. pair.1 == 
 abbrev pub deadlines_from : ℕ → ℕ → List Pair → List (Option Tick)
 deadlines_from first zero pairs = []
 deadlines_from first (suc n) pairs = deadline_at pairs first ∷ deadlines_from (suc first) n pairs
+
+-- the thread of a pair of a partition whose first slot this is, with its deadline
+abbrev pub expiry_from : ℕ → Pair → Expiry
+expiry_from first pair = record { thread = suc (pair.1 - first); deadline = pair.0 }

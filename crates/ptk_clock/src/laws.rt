@@ -1,10 +1,20 @@
 //! Deadlines by slot, and times as a guest's words.
 
-ghost use Rattle.std.specs.Prelude.{◌≡◌, ℕ, ◌+◌, ◌-◌, ◌<◌, ◌≤◌, ◌^◌, ◌⊎◌, false, List, Some, None, slice_set};
-ghost use Rattle.ptk_words.specs.Pools.{is_in};
-ghost use Rattle.ptk_clock.specs.Pairs.{Pair, slots_of, with_pair, without_slot};
-ghost use Rattle.ptk_clock.specs.BySlot.{deadlines_from};
+ghost use Rattle.std.specs.Prelude.{◌≡◌, ℕ, ◌+◌, ◌-◌, ◌<◌, ◌≤◌, ◌^◌, ◌⊎◌, false, List, [], length, replicate, Some, None, option_map, slice_set};
+ghost use Rattle.ptk_words.specs.Pools.{pool_get, is_in};
+ghost use Rattle.ptk_words_locks.specs.Expiries.{next_expiry, without_expiry};
+ghost use Rattle.ptk_clock.specs.Pairs.{Pair, slots_of, AreInOrder, with_pair, without_slot, without_taken, least_due};
+ghost use Rattle.ptk_clock.specs.BySlot.{deadlines_from, expiry_from};
 ghost use Rattle.ptk_clock.specs.Ticks.{tick_of, seconds_of_words, tick_of_words};
+
+/// A partition sees an entry for each of its slots: none has a deadline where there is no pair, and a slot whose entry
+/// has none has no pair.
+pub fn listed_by_slot()
+    ensures count { (first n : ℕ) (pairs : List Pair) → length (deadlines_from first n pairs) ≡ n }
+    ensures empty { (first n : ℕ) → deadlines_from first n [] ≡ replicate n None }
+    ensures free { (first n slot : ℕ) (pairs : List Pair) → first ≤ slot → slot < first + n
+        → pool_get (deadlines_from first n pairs) (slot - first + 1) ≡ None → is_in slot (slots_of pairs) ≡ false }
+{}
 
 /// One more pair sets its slot's deadline among those of its partition's slots, and changes no other partition's.
 pub fn added_by_slot()
@@ -21,6 +31,17 @@ pub fn removed_by_slot()
         → deadlines_from first n (without_slot slot pairs) ≡ slice_set (deadlines_from first n pairs) (slot - first) None }
     ensures others { (first n slot : ℕ) (pairs : List Pair) → (slot < first) ⊎ (first + n ≤ slot)
         → deadlines_from first n (without_slot slot pairs) ≡ deadlines_from first n pairs }
+{}
+
+/// Of pairs in order, the least due one of a partition's slots is the partition's next expiry by thread number. Taken
+/// out, it takes that thread's deadline away, and changes no other partition's.
+pub fn taken_by_slot()
+    ensures next { (first last n now : ℕ) (pairs : List Pair) → AreInOrder pairs → last + 1 ≡ first + n
+        → option_map (expiry_from first) (least_due first last now pairs) ≡ next_expiry now (deadlines_from first n pairs) }
+    ensures own { (first last n now : ℕ) (pairs : List Pair) → last + 1 ≡ first + n
+        → deadlines_from first n (without_taken (least_due first last now pairs) pairs) ≡ without_expiry (option_map (expiry_from first) (least_due first last now pairs)) (deadlines_from first n pairs) }
+    ensures others { (first last start n now : ℕ) (pairs : List Pair) → (last < start) ⊎ (start + n ≤ first)
+        → deadlines_from start n (without_taken (least_due first last now pairs) pairs) ≡ deadlines_from start n pairs }
 {}
 
 /// The tick of a time whose seconds are two words, low and high, one signed number.

@@ -1,11 +1,13 @@
 //! Times and deadlines. `to_tick` gives the least tick of 1,000 ns that is not before a time, `from_tick` the time of a
 //! tick. `Deadlines` is a list of pairs of deadline and slot in order, by deadline and then slot; each call tells the whole
 //! list that it leaves in one equation. `PlainDeadlines` looks its pairs through; `SharedDeadlines` is one vector for all
-//! partitions, in which places are found by binary search, and a removal goes through it once. `added_by_slot` and
-//! `removed_by_slot` say what a partition sees of that vector: its own slots' deadlines, which no other partition's pair
-//! changes. Both forms have room for all slots from the start, so that no call but a constructor takes memory. That room,
-//! and that a place found is the pair's place in the order, are dear to prove (`proofs/Rooms`, `proofs/Places`). Below
-//! stands `ptk_words`; above, the gate's tables.
+//! partitions, in which places are found by binary search, and a removal goes through it once. `listed_by_slot`,
+//! `added_by_slot`, `removed_by_slot` and `taken_by_slot` say what a partition sees of that vector: its own slots'
+//! deadlines by thread number, which no other partition's pair changes, and that the least due pair of its slots is its
+//! next expiry, as the model orders them. Both forms have room for all slots from the start, so that no call but a
+//! constructor takes memory. That room, and that a place found is the pair's place in the order, are dear to prove
+//! (`proofs/Rooms`, `proofs/Places`). Below stand `ptk_words`, and the order of expiries of `ptk_words_model` and
+//! `ptk_words_locks`; above, the gate's tables.
 #![tactic(auto)]
 
 mod deadlines;
@@ -19,7 +21,7 @@ mod tests;
 mod ticks;
 
 pub use deadlines::Deadlines;
-pub use laws::{added_by_slot, removed_by_slot, words_are_signed};
+pub use laws::{added_by_slot, listed_by_slot, removed_by_slot, taken_by_slot, words_are_signed};
 pub use plain::PlainDeadlines;
 pub use shared::SharedDeadlines;
 pub use ticks::{from_tick, to_tick};

@@ -28,3 +28,4 @@ pub mod Deadlines
 pub mod DeadlineMoves
 pub mod Raising
 pub mod ConditionsKept
+pub mod Expiries

@@ -3,3 +3,4 @@ pub mod Conditions
 pub mod Deadlines
 pub mod LockLaws
 pub mod SyncLaws
+pub mod Expiries

@@ -1,17 +1,19 @@
 //! What holds of a partition's threads, line, waits, mutexes and condition variables between moves, as laws over plain
 //! lists: of pools and of lines, of the threads in the line, of those that wait, of the mutexes with their waiters and
 //! owners, and of the condition variables with theirs. `specs/Locks` says it where no wait has a deadline, as the calls
-//! in use keep it; `specs/Conditions` says it with deadlines and condition variables, and `specs/Deadlines` whose
-//! deadlines a move ends. The functions promise that locks, waits, wakings, the end of an owner and the expiries of a
-//! tick keep it; `proofs/` has the same for each move of the mutexes and of the condition variables, each proved once
-//! for both (`Rest` in `proofs/Held`). Below stands `ptk_words_model`; above, `ptk_words_well` composes them to what
-//! holds of a whole partition.
+//! in use keep it; `specs/Conditions` says it with deadlines and condition variables, `specs/Deadlines` whose deadlines
+//! a move ends, and `specs/Expiries` which deadline is next. The functions promise that locks, waits, wakings, the end
+//! of an owner and the expiries of a tick keep it, and that those expiries come one at a time; `proofs/` has the same
+//! for each move of the mutexes and of the condition variables, each proved once for both (`Rest` in `proofs/Held`).
+//! Below stands `ptk_words_model`; above, `ptk_words_well` composes them to what holds of a whole partition.
 #![tactic(auto)]
 
-ghost use Rattle.std.specs.Prelude.{ℕ, List, Option};
+ghost use Rattle.std.specs.Prelude.{◌≡◌, ℕ, List, Option, Some};
 ghost use Rattle.ptk_words_model.specs.State.{Locks, Syncs, Part};
+ghost use Rattle.ptk_words_model.specs.Withdrawal.{Expiry, deadlines_of, after_expiries};
 ghost use Rattle.ptk_words_locks.specs.LockLaws.{MutexMovesKeepLocks, OwnerEndKeepsLocks};
 ghost use Rattle.ptk_words_locks.specs.SyncLaws.{WaitsKeepSyncs, WakingsKeepSyncs, ExpiriesKeepSyncs};
+ghost use Rattle.ptk_words_locks.specs.Expiries.{next_expiry, IsNextExpiry, AreExpiriesInTurn, IsExpiryWhole, after_next};
 
 /// A lock, a trylock and an unlock of the running thread keep threads, line and mutexes whole; where it waits, no
 /// thread runs.
@@ -41,4 +43,15 @@ pub fn wakings_keep_syncs()
 /// tick, and no others.
 pub fn expiries_keep_syncs()
     ensures { (interval : ℕ) → (s : Part) → ExpiriesKeepSyncs interval s }
+{}
+
+/// The expiries of a tick, one at a time: the next one is the least due by (deadline, number), and after its thread's
+/// timeout the others are due in the same order; so all expiries are this one's timeout and then the expiries that are
+/// due, and nothing where none is due. Each timeout keeps threads, line, mutexes and condition variables whole.
+pub fn expiries_one_at_a_time()
+    ensures next { (tick : ℕ) → (deadlines : List (Option ℕ)) → IsNextExpiry tick deadlines (next_expiry tick deadlines) }
+    ensures only { (tick : ℕ) → (deadlines : List (Option ℕ)) → (next : Option Expiry) → IsNextExpiry tick deadlines next → next ≡ next_expiry tick deadlines }
+    ensures in_turn { (tick : ℕ) → (a : Expiry) → (s : Part) → next_expiry tick (deadlines_of s.locks) ≡ Some a → AreExpiriesInTurn tick a s }
+    ensures whole { (interval : ℕ) → (a : Expiry) → (s : Part) → IsExpiryWhole interval a s }
+    ensures step { (tick : ℕ) → (s : Part) → after_expiries tick s ≡ after_next tick (next_expiry tick (deadlines_of s.locks)) s }
 {}
