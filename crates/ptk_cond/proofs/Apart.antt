@@ -1,7 +1,7 @@
 -- What an unlock and a re-lock leave alone: threads that wait for no mutex, their absence from the line, and the room of their counts.
 use Rattle.std.specs.Fn.{iterate}
 use Rattle.std.proofs.Common.{◌≡◌, ◌≢◌, ℕ, zero, suc, ◌+◌, ◌-◌, ◌<◌, ◌≤◌, Bool, true, false, List, [], ◌∷◌, ◌++◌, length, refl, sym, ◌∙◌, ap, subst, arith, ◌⊎◌, inl, inr}
-use Rattle.std.specs.Prelude.{Option, Some, None, option_map, option_to_list, nat_lt, ◌==◌, if◌then◌else◌}
+use Rattle.std.specs.Prelude.{Option, Some, None, option_map, option_to_list, nat_lt, if◌then◌else◌}
 use Rattle.std.proofs.lemmas.Bool.{cases_eq, eqb-true}
 use Rattle.ptk_words.specs.Pools.{is_in, without}
 use Rattle.ptk_words.specs.declared.TheConstants.{COUNT_LIMIT}
@@ -15,16 +15,18 @@ use Rattle.ptk_words.specs.declared.mutexes.Soundness.TheVariants.{Consistent, I
 use Rattle.ptk_words_model.specs.State.{Mutex, Locks}
 use Rattle.ptk_words_model.specs.declared.LockMove.{LockMove}
 use Rattle.ptk_words_model.specs.declared.LockMove.TheVariants.{Takes, Recovers, Counts, Waits, Refuses}
-use Rattle.ptk_words_model.specs.Priority.{awaited, thread_at}
+use Rattle.ptk_words_model.specs.Priority.{awaited, is_owner, thread_at}
 use Rattle.ptk_words_model.specs.Schedule.{with_thread, at_tail_with, woken_with}
-use Rattle.ptk_words_model.specs.Mutex.{mutex_at, with_mutex, waiters_of, count_of, soundness_of, with_soundness, free_move, owner_move, handed, heir, move_reply, relock_move, without_mutex_waiter, after_take, after_count, after_free, after_hand_over_to, after_hand_over, after_refusal_to, after_refusal, after_loss, after_last_unlock, after_unlock, after_relock, after_relock_move}
+use Rattle.ptk_words_model.specs.Mutex.{mutex_at, with_mutex, waiters_of, count_of, soundness_of, with_soundness, free_move, handed, heir, move_reply, relock_move, without_mutex_waiter, after_take, after_count, after_free, after_hand_over_to, after_hand_over, after_refusal_to, after_refusal, after_loss, after_last_unlock, after_unlock, after_relock, after_relock_move}
+use Rattle.ptk_words_locks.specs.Conditions.{HasRoom}
 use Rattle.ptk_words_locks.proofs.Lines.{out_push}
+use Rattle.ptk_words_locks.proofs.Conditions.{room_map}
+use Rattle.ptk_words_locks.proofs.Rooms.{counts_owner, roomy_joined}
 use Rattle.ptk_threads.proofs.Pools.{pool_get-changed, pool_get-changed_other}
 use Rattle.ptk_mutex_slots.specs.declared.slot.Change.TheVariants.{Release, Mark}
 use Rattle.ptk_mutex.specs.Tables.{IsWaiter, AreLocked, MayGet}
 use Rattle.ptk_mutex.proofs.Locked.{heir_may_get}
 use Rattle.ptk_mutex.proofs.Steps.{locked_change, locked_refusal}
-use Rattle.ptk_cond.specs.Tables.{HasRoom}
 
 -- ---- the moves of one mutex
 
@@ -232,31 +234,15 @@ apart_mutex m k f locks own = record {
   room = λ n room. room_at m n k locks (with_mutex m f locks) (calm_mutex m f locks) (cases_eq n m) (λ had. subst (λ (x : Option Mutex). HasRoom k x) (sym (pool_get-changed m f locks.mutexes)) (own had)) room;
 }
 
-free_counts_not : (soundness : Soundness) → free_move soundness ≡ Counts → ⊥
-free_counts_not Consistent e = cc
-free_counts_not Inconsistent e = cc
-free_counts_not Unrecoverable e = cc
-
-counts_by : (b : Bool) → (if b then Counts else Waits) ≡ Counts → b ≡ true
-counts_by true e = refl
-counts_by false e = let no : ⊥ = cc in absurd no
-
 -- only the owner counts up
-counts_owner : (owner : Owner) (soundness : Soundness) (t : ℕ) → owner_move owner t (record { of_free = free_move soundness; of_own = Counts; of_another = Waits }) ≡ Counts → owner ≡ OwnedBy t
-counts_owner Free soundness t e = absurd (free_counts_not soundness e)
-counts_owner Abandoned soundness t e = let no : ⊥ = cc in absurd no
-counts_owner (OwnedBy u) soundness t e = ap OwnedBy (eqb-true u t (counts_by (u == t) e))
-
-owner_same : (t k : ℕ) → OwnedBy t ≡ OwnedBy k → k ≡ t
-owner_same t k e = cc
+owner_same : (owner : Owner) (t k : ℕ) → is_owner t owner ≡ true → is_owner k owner ≡ true → k ≡ t
+owner_same Free t k own other = let no : ⊥ = cc in absurd no
+owner_same Abandoned t k own other = let no : ⊥ = cc in absurd no
+owner_same (OwnedBy u) t k own other = sym (eqb-true u k other) ∙ eqb-true u t own
 
 counts_same : (t k : ℕ) (x : Option Mutex) → relock_move t x ≡ Counts → relock_move k (option_map (λ (mutex : Mutex). record mutex { count = mutex.count + 1 }) x) ≡ Counts → k ≡ t
 counts_same t k None e f = let no : ⊥ = cc in absurd no
-counts_same t k (Some x) e f = owner_same t k (sym (counts_owner x.owner x.soundness t e) ∙ counts_owner x.owner x.soundness k f)
-
-room_queued : (t k : ℕ) (x : Option Mutex) → HasRoom k x → HasRoom k (option_map (λ (mutex : Mutex). record mutex { waiters = mutex.waiters ++ t ∷ [] }) x)
-room_queued t k None room = room
-room_queued t k (Some x) room = room
+counts_same t k (Some x) e f = owner_same x.owner t k (counts_owner t x e) (counts_owner k (record x { count = x.count + 1 }) f)
 
 apart_taken : (t m k : ℕ) (values : List ℕ) (locks : Locks) → k ≢ t → IsApart locks (at_tail_with (woken_with values) t (after_take t m locks)) k
 apart_taken t m k values locks ne =
@@ -274,7 +260,7 @@ apart_move Counts t m k reply locks ne e =
 apart_move Waits t m k reply locks ne e =
     let queued : Locks = with_mutex m (λ (mutex : Mutex). record mutex { waiters = mutex.waiters ++ t ∷ [] }) locks in
     apart_more locks queued (after_relock_move Waits t m reply locks) k
-    (apart_mutex m k (λ (mutex : Mutex). record mutex { waiters = mutex.waiters ++ t ∷ [] }) locks (room_queued t k (mutex_at locks m)))
+    (apart_mutex m k (λ (mutex : Mutex). record mutex { waiters = mutex.waiters ++ t ∷ [] }) locks (room_map k (λ (mutex : Mutex). record mutex { waiters = mutex.waiters ++ t ∷ [] }) (mutex_at locks m) (roomy_joined t)))
     (apart_thread t k (λ (thread : Thread). record thread { wait = Some (RelockWait m reply) }) queued ne)
 apart_move (Refuses e) t m k reply locks ne f = apart_woken t k (woken_with (option_to_list (move_reply (Refuses e) reply))) locks ne
 

@@ -8,17 +8,18 @@ use Rattle.ptk_words.specs.Pools.{pool_get, pool_set, is_in, least_free}
 use Rattle.ptk_words_parted.specs.Parts.{part_of, filled}
 use Rattle.ptk_words_parted.proofs.Cuts.{set_part-same}
 use Rattle.ptk_words_model.specs.State.{Condition, Mutex}
+use Rattle.ptk_words_locks.specs.Conditions.{waiters_on}
 use Rattle.ptk_threads.specs.Table.{ThreadTable, free_table}
 use Rattle.ptk_threads.proofs.Pools.{part_of-set}
 use Rattle.ptk_mutex.proofs.Pool.{least_free_is}
 use Rattle.ptk_mutex.proofs.Ready.{pool_set_same, row_blank, pool_blank, ready_blank}
-use Rattle.ptk_cond.specs.Slots.{condition_of, waiters_at}
+use Rattle.ptk_cond.specs.Slots.{condition_of}
 use Rattle.ptk_cond.specs.Pool.{with_new_condition}
 use Rattle.ptk_cond.specs.Tables.{AreSynced}
 
 -- ---- one entry without waiters in another's place
 
-synced_set : (p c : ℕ) (x : Option Condition) (table : ThreadTable) (lines : List (List ℕ)) (mutexes : List (List (Option Mutex))) (conditions : List (List (Option Condition))) → waiters_at (pool_get (part_of conditions p) c) ≡ [] → waiters_at x ≡ [] → AreSynced p table lines mutexes conditions
+synced_set : (p c : ℕ) (x : Option Condition) (table : ThreadTable) (lines : List (List ℕ)) (mutexes : List (List (Option Mutex))) (conditions : List (List (Option Condition))) → waiters_on (pool_get (part_of conditions p) c) ≡ [] → waiters_on x ≡ [] → AreSynced p table lines mutexes conditions
     → AreSynced p table lines mutexes (set conditions p (pool_set (part_of conditions p) c x))
 synced_set p c x table lines mutexes conditions was idle synced =
     let row : List (Option Condition) = pool_set (part_of conditions p) c x in
@@ -27,8 +28,8 @@ synced_set p c x table lines mutexes conditions was idle synced =
       of_conditions = rw length-set synced.of_conditions;
       waiting = record {
         waiters = λ d k h.
-            let here : is_in k (waiters_at (pool_get row d)) ≡ true = subst (λ (l : List (Option Condition)). is_in k (waiters_at (pool_get l d)) ≡ true) (part_of-set conditions p row synced.of_conditions) h in
-            let old : is_in k (waiters_at (pool_get (part_of conditions p) d)) ≡ true = subst (λ (ks : List ℕ). is_in k ks ≡ true) (pool_set_same waiters_at (part_of conditions p) c d x (idle ∙ sym was)) here in
+            let here : is_in k (waiters_on (pool_get row d)) ≡ true = subst (λ (l : List (Option Condition)). is_in k (waiters_on (pool_get l d)) ≡ true) (part_of-set conditions p row synced.of_conditions) h in
+            let old : is_in k (waiters_on (pool_get (part_of conditions p) d)) ≡ true = subst (λ (ks : List ℕ). is_in k ks ≡ true) (pool_set_same waiters_on (part_of conditions p) c d x (idle ∙ sym was)) here in
             synced.waiting.waiters d k old;
       };
     }
@@ -37,7 +38,7 @@ synced_new : (p : ℕ) (o : Option ℕ) (table : ThreadTable) (lines : List (Lis
     → AreSynced p table lines mutexes (set conditions p (unwrap_or (option_map (λ c. pool_set (part_of conditions p) c (Some (condition_of []))) o) (part_of conditions p)))
 synced_new p None table lines mutexes conditions e synced = rw (set_part-same conditions p) synced
 synced_new p (Some c) table lines mutexes conditions e synced =
-    synced_set p c (Some (condition_of [])) table lines mutexes conditions (ap waiters_at (least_free_is (part_of conditions p) c e)) refl synced
+    synced_set p c (Some (condition_of [])) table lines mutexes conditions (ap waiters_on (least_free_is (part_of conditions p) c e)) refl synced
 
 -- init leaves the tables so
 pub synced_init : (p : ℕ) (table : ThreadTable) (lines : List (List ℕ)) (mutexes : List (List (Option Mutex))) (conditions : List (List (Option Condition))) → AreSynced p table lines mutexes conditions
@@ -45,7 +46,7 @@ pub synced_init : (p : ℕ) (table : ThreadTable) (lines : List (List ℕ)) (mut
 synced_init p table lines mutexes conditions synced = synced_new p (least_free (part_of conditions p)) table lines mutexes conditions refl synced
 
 -- destroy of a condition variable without waiters leaves the tables so
-pub synced_destroy : (p c : ℕ) (table : ThreadTable) (lines : List (List ℕ)) (mutexes : List (List (Option Mutex))) (conditions : List (List (Option Condition))) → waiters_at (pool_get (part_of conditions p) c) ≡ [] → AreSynced p table lines mutexes conditions
+pub synced_destroy : (p c : ℕ) (table : ThreadTable) (lines : List (List ℕ)) (mutexes : List (List (Option Mutex))) (conditions : List (List (Option Condition))) → waiters_on (pool_get (part_of conditions p) c) ≡ [] → AreSynced p table lines mutexes conditions
     → AreSynced p table lines mutexes (set conditions p (pool_set (part_of conditions p) c None))
 synced_destroy p c table lines mutexes conditions unused synced = synced_set p c None table lines mutexes conditions unused refl synced
 
@@ -59,7 +60,7 @@ synced_blank p counts limits others lines of_threads of_mutexes of_conditions of
   waiting = record {
     waiters = λ c k h.
         let blank : pool_get (part_of (map (filled None) others) p) c ≡ None = ap (λ (row : List (Option Condition)). pool_get row c) (row_blank None others p of_conditions) ∙ pool_blank (slice_index others p) c in
-        let no : is_in k (waiters_at None) ≡ true = subst (λ (x : Option Condition). is_in k (waiters_at x) ≡ true) blank h in
+        let no : is_in k (waiters_on None) ≡ true = subst (λ (x : Option Condition). is_in k (waiters_on x) ≡ true) blank h in
         absurd cc;
   };
 }

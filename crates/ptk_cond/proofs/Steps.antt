@@ -13,13 +13,14 @@ use Rattle.ptk_words_model.specs.Priority.{awaited, mutex_of_wait, thread_at}
 use Rattle.ptk_words_model.specs.Schedule.{with_thread}
 use Rattle.ptk_words_model.specs.Mutex.{wait_of, after_unlock}
 use Rattle.ptk_words_model.specs.Condition.{condition_waiters, mutex_named, after_signal}
+use Rattle.ptk_words_locks.specs.Conditions.{waiters_on, HasRoom}
+use Rattle.ptk_words_locks.proofs.Gathered.{waiter_used}
 use Rattle.ptk_threads.specs.Table.{ThreadTable, stored_of, with_changed, with_wait}
 use Rattle.ptk_threads.proofs.Pools.{pool_get-changed, pool_changed-changed, part_of-set}
 use Rattle.ptk_mutex.specs.Tables.{locks_at, with_threads, HasPart, MayWait, AreLocked, AreReady}
 use Rattle.ptk_mutex.proofs.Moved.{stays}
 use Rattle.ptk_mutex.proofs.Steps.{AreMoved, moved_none, moved_locks, moved_more}
-use Rattle.ptk_cond.specs.Slots.{waiters_at}
-use Rattle.ptk_cond.specs.Tables.{syncs_at, AreWaiting, AreSynced, HasRoom, IsAwake, MayLeave, next_waiter}
+use Rattle.ptk_cond.specs.Tables.{syncs_at, AreWaiting, AreSynced, IsAwake, MayLeave, next_waiter}
 use Rattle.ptk_cond.proofs.Apart.{calm_unlock}
 use Rattle.ptk_cond.proofs.Asleep.{asleep-is}
 use Rattle.ptk_cond.proofs.Waiters.{may_relock, awake_none, awake_out, locked_sleep, stored_next, next_may_leave}
@@ -35,13 +36,9 @@ has_conditions p table lines mutexes conditions synced = synced.of_conditions
 pub has_ready : (p : ℕ) (table : ThreadTable) (lines : List (List ℕ)) (mutexes : List (List (Option Mutex))) (conditions : List (List (Option Condition))) → AreSynced p table lines mutexes conditions → AreReady p table lines mutexes
 has_ready p table lines mutexes conditions synced = synced.ready
 
-used_entry : (t : ℕ) (x : Option Condition) → is_in t (waiters_at x) ≡ true → IsSome x
-used_entry t None h = let no : ⊥ = cc in absurd no
-used_entry t (Some condition) h = refl
-
 -- where somebody waits a condition variable is
 pub waited_used : (p t c : ℕ) (table : ThreadTable) (lines : List (List ℕ)) (mutexes : List (List (Option Mutex))) (conditions : List (List (Option Condition))) → is_in t (condition_waiters (syncs_at p table lines mutexes conditions) c) ≡ true → IsSome (pool_get (part_of conditions p) c)
-waited_used p t c table lines mutexes conditions there = used_entry t (pool_get (part_of conditions p) c) there
+waited_used p t c table lines mutexes conditions there = waiter_used t (pool_get (part_of conditions p) c) there
 
 -- a waiter may re-lock a mutex
 pub waiter_may : (p t c : ℕ) (table : ThreadTable) (lines : List (List ℕ)) (mutexes : List (List (Option Mutex))) (conditions : List (List (Option Condition))) → AreSynced p table lines mutexes conditions → is_in t (condition_waiters (syncs_at p table lines mutexes conditions) c) ≡ true → MayWait (locks_at p table lines mutexes) t
@@ -53,17 +50,17 @@ pub waiter_room : (p t c m : ℕ) (table : ThreadTable) (lines : List (List ℕ)
 waiter_room p t c m table lines mutexes conditions synced there named = (synced.waiting.waiters c t there).room m (sym named)
 
 -- who waits for nothing is among no waiters
-pub sleeper_fresh : (p t c : ℕ) (table : ThreadTable) (lines : List (List ℕ)) (mutexes : List (List (Option Mutex))) (conditions : List (List (Option Condition))) → AreSynced p table lines mutexes conditions → IsAwake (locks_at p table lines mutexes) t → is_in t (waiters_at (pool_get (part_of conditions p) c)) ≡ false
+pub sleeper_fresh : (p t c : ℕ) (table : ThreadTable) (lines : List (List ℕ)) (mutexes : List (List (Option Mutex))) (conditions : List (List (Option Condition))) → AreSynced p table lines mutexes conditions → IsAwake (locks_at p table lines mutexes) t → is_in t (waiters_on (pool_get (part_of conditions p) c)) ≡ false
 sleeper_fresh p t c table lines mutexes conditions synced may = awake_out t c (syncs_at p table lines mutexes conditions) may synced.waiting
 
 -- ---- the choice
 
 -- the first waiter of the greatest stored priority is the next one
-pub next-is : (p c : ℕ) (o : Option ℕ) (table : ThreadTable) (lines : List (List ℕ)) (mutexes : List (List (Option Mutex))) (conditions : List (List (Option Condition))) → AreSynced p table lines mutexes conditions → o ≡ first_of_greatest (stored_of (part_of table.stored p)) (waiters_at (pool_get (part_of conditions p) c)) → o ≡ next_waiter c (syncs_at p table lines mutexes conditions)
+pub next-is : (p c : ℕ) (o : Option ℕ) (table : ThreadTable) (lines : List (List ℕ)) (mutexes : List (List (Option Mutex))) (conditions : List (List (Option Condition))) → AreSynced p table lines mutexes conditions → o ≡ first_of_greatest (stored_of (part_of table.stored p)) (waiters_on (pool_get (part_of conditions p) c)) → o ≡ next_waiter c (syncs_at p table lines mutexes conditions)
 next-is p c o table lines mutexes conditions synced e = e ∙ stored_next c (syncs_at p table lines mutexes conditions) (part_of table.stored p) synced.waiting synced.ready.stored
 
 -- and waits
-pub next_may : (p c : ℕ) (o : Option ℕ) (table : ThreadTable) (lines : List (List ℕ)) (mutexes : List (List (Option Mutex))) (conditions : List (List (Option Condition))) → AreSynced p table lines mutexes conditions → o ≡ first_of_greatest (stored_of (part_of table.stored p)) (waiters_at (pool_get (part_of conditions p) c)) → MayLeave o (syncs_at p table lines mutexes conditions) c
+pub next_may : (p c : ℕ) (o : Option ℕ) (table : ThreadTable) (lines : List (List ℕ)) (mutexes : List (List (Option Mutex))) (conditions : List (List (Option Condition))) → AreSynced p table lines mutexes conditions → o ≡ first_of_greatest (stored_of (part_of table.stored p)) (waiters_on (pool_get (part_of conditions p) c)) → MayLeave o (syncs_at p table lines mutexes conditions) c
 next_may p c o table lines mutexes conditions synced e = next_may_leave c (syncs_at p table lines mutexes conditions) o (next-is p c o table lines mutexes conditions synced e)
 
 pub ruleset choices = (next-is, next_may, has_part, has_conditions)

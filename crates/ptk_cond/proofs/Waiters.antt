@@ -7,32 +7,29 @@ use Rattle.std.proofs.lemmas.Bool.{cases_eq}
 use Rattle.ptk_words.specs.Pools.{pool_get, pool_set, is_in, without, first_of_greatest}
 use Rattle.ptk_words.specs.declared.threads.Thread.{Thread}
 use Rattle.ptk_words.specs.declared.threads.Wait.{Wait}
-use Rattle.ptk_words.specs.declared.threads.Wait.TheVariants.{InputWait, SleepWait, JoinWait, MutexWait, ConditionWait, RelockWait}
+use Rattle.ptk_words.specs.declared.threads.Wait.TheVariants.{ConditionWait}
 use Rattle.ptk_words_model.specs.State.{Condition, Locks, Syncs}
 use Rattle.ptk_words_model.specs.Priority.{awaited, mutex_of_wait, thread_at, effective_priority, effective_priorities}
 use Rattle.ptk_words_model.specs.Schedule.{with_thread}
 use Rattle.ptk_words_model.specs.Mutex.{mutex_at, wait_of, after_unlock, after_relock}
 use Rattle.ptk_words_model.specs.Condition.{condition_waiters, mutex_named, after_condition_wait, after_unblock_for}
+use Rattle.ptk_words_locks.specs.Conditions.{condition_of_wait, HasRoom, waiters_on}
 use Rattle.ptk_words_locks.proofs.Lines.{in_push, in_without, first_in}
+use Rattle.ptk_words_locks.proofs.Threads.{idle_awaits}
+use Rattle.ptk_words_locks.proofs.Conditions.{condition_wait}
 use Rattle.ptk_threads.specs.Table.{stored_of}
 use Rattle.ptk_threads.proofs.Pools.{pool_get-changed, pool_get-changed_other, pool_get-set_other}
 use Rattle.ptk_mutex.specs.Tables.{AreLocked, MayWait}
 use Rattle.ptk_mutex.proofs.Locked.{stored_first, some_same, other_than}
-use Rattle.ptk_cond.specs.Slots.{condition_of, waiters_at}
-use Rattle.ptk_cond.specs.Tables.{condition_of_wait, HasRoom, IsOnCondition, AreWaiting, IsAwake, MayLeave, next_waiter}
+use Rattle.ptk_cond.specs.Slots.{condition_of}
+use Rattle.ptk_cond.specs.Tables.{IsOnCondition, AreWaiting, IsAwake, MayLeave, next_waiter}
 use Rattle.ptk_cond.proofs.Apart.{IsApart, calm_unlock, below_unlock, apart_more, apart_thread, apart_unlock, apart_relock}
 
 -- ---- a wait on a condition variable
 
 -- it is for no mutex
 unawaited : (c : ℕ) (wait : Option Wait) → condition_of_wait wait ≡ Some c → mutex_of_wait wait ≡ None
-unawaited c None e = refl
-unawaited c (Some InputWait) e = refl
-unawaited c (Some (SleepWait deadline)) e = refl
-unawaited c (Some (JoinWait u)) e = refl
-unawaited c (Some (MutexWait m deadline)) e = let no : ⊥ = cc in absurd no
-unawaited c (Some (ConditionWait d m deadline)) e = refl
-unawaited c (Some (RelockWait m reply)) e = let no : ⊥ = cc in absurd no
+unawaited c wait e = ap mutex_of_wait (condition_wait c wait e).waits
 
 none_awaited : (c : ℕ) (x : Option Thread) → condition_of_wait (wait_of x) ≡ Some c → awaited x ≡ None
 none_awaited c None e = refl
@@ -46,13 +43,9 @@ used_by c (Some thread) e = refl
 pub may_relock : (c k : ℕ) (locks : Locks) → IsOnCondition locks c k → MayWait locks k
 may_relock c k locks waiter = record { used = used_by c (thread_at locks k) waiter.waits; out = waiter.out; awake = none_awaited c (thread_at locks k) waiter.waits }
 
-asleep_not : (x : Option Thread) → wait_of x ≡ None → awaited x ≡ None
-asleep_not None e = refl
-asleep_not (Some thread) e = ap mutex_of_wait e
-
 -- who is awake waits for no mutex
 pub awake_none : (t : ℕ) (locks : Locks) → IsAwake locks t → awaited (thread_at locks t) ≡ None
-awake_none t locks may = asleep_not (thread_at locks t) may.awake
+awake_none t locks may = idle_awaits (thread_at locks t) may.awake
 
 -- ---- a waiter that others' moves leave alone
 
@@ -71,25 +64,25 @@ other_waiter c d t k locks first second ne = λ same.
 
 -- ---- the waiters of one condition variable replaced
 
-own_entry : (k i : ℕ) (ks : List ℕ) (pool : List (Option Condition)) → is_in k (waiters_at (option_flatten (slice_get (set pool i (Some (condition_of ks))) i))) ≡ true → is_in k ks ≡ true
+own_entry : (k i : ℕ) (ks : List ℕ) (pool : List (Option Condition)) → is_in k (waiters_on (option_flatten (slice_get (set pool i (Some (condition_of ks))) i))) ≡ true → is_in k ks ≡ true
 own_entry k i ks [] h = let no : ⊥ = cc in absurd no
 own_entry k zero ks (x ∷ pool) h = h
 own_entry k (suc i) ks (x ∷ pool) h = own_entry k i ks pool h
 
 -- who then waits there is one of these
-own_waiters : (k c : ℕ) (ks : List ℕ) (pool : List (Option Condition)) → is_in k (waiters_at (pool_get (pool_set pool c (Some (condition_of ks))) c)) ≡ true → is_in k ks ≡ true
+own_waiters : (k c : ℕ) (ks : List ℕ) (pool : List (Option Condition)) → is_in k (waiters_on (pool_get (pool_set pool c (Some (condition_of ks))) c)) ≡ true → is_in k ks ≡ true
 own_waiters k zero ks pool h = let no : ⊥ = cc in absurd no
 own_waiters k (suc i) ks pool h = own_entry k i ks pool h
 
-other_waiters : (k c d : ℕ) (x : Option Condition) (pool : List (Option Condition)) → d ≢ c → is_in k (waiters_at (pool_get (pool_set pool c x) d)) ≡ true → is_in k (waiters_at (pool_get pool d)) ≡ true
-other_waiters k c d x pool ne h = subst (λ (y : Option Condition). is_in k (waiters_at y) ≡ true) (pool_get-set_other pool c d x ne) h
+other_waiters : (k c d : ℕ) (x : Option Condition) (pool : List (Option Condition)) → d ≢ c → is_in k (waiters_on (pool_get (pool_set pool c x) d)) ≡ true → is_in k (waiters_on (pool_get pool d)) ≡ true
+other_waiters k c d x pool ne h = subst (λ (y : Option Condition). is_in k (waiters_on y) ≡ true) (pool_get-set_other pool c d x ne) h
 
 -- ---- one unblocked
 
 unblocked_at : (t c d m k : ℕ) (reply : Option ℕ) (syncs : Syncs) → is_in t (condition_waiters syncs c) ≡ true → AreWaiting syncs → (d ≡ c) ⊎ (d ≢ c)
     → is_in k (condition_waiters (after_unblock_for t c reply (Some m) syncs) d) ≡ true → IsOnCondition (after_relock t m reply syncs.locks) d k
 unblocked_at t c d m k reply syncs there waiting (inl e) h =
-    let own : is_in k (waiters_at (pool_get (pool_set syncs.conditions c (Some (condition_of (without t (condition_waiters syncs c))))) c)) ≡ true =
+    let own : is_in k (waiters_on (pool_get (pool_set syncs.conditions c (Some (condition_of (without t (condition_waiters syncs c))))) c)) ≡ true =
     subst (λ (j : ℕ). is_in k (condition_waiters (after_unblock_for t c reply (Some m) syncs) j) ≡ true) e h in
     let left = in_without t k (condition_waiters syncs c) (own_waiters k c (without t (condition_waiters syncs c)) syncs.conditions own) in
     subst (λ (j : ℕ). IsOnCondition (after_relock t m reply syncs.locks) j k) (sym e)
@@ -145,7 +138,7 @@ sleeper_kept t c d m k deadline locks may locked was =
 sleeping_at : (t c d m k : ℕ) (deadline : Option ℕ) (syncs : Syncs) → IsAwake syncs.locks t → AreLocked syncs.locks → AreWaiting syncs → (d ≡ c) ⊎ (d ≢ c)
     → is_in k (condition_waiters (after_condition_wait t c m deadline syncs) d) ≡ true → IsOnCondition (after_condition_wait t c m deadline syncs).locks d k
 sleeping_at t c d m k deadline syncs may locked waiting (inl e) h =
-    let own : is_in k (waiters_at (pool_get (pool_set syncs.conditions c (Some (condition_of (condition_waiters syncs c ++ t ∷ [])))) c)) ≡ true =
+    let own : is_in k (waiters_on (pool_get (pool_set syncs.conditions c (Some (condition_of (condition_waiters syncs c ++ t ∷ [])))) c)) ≡ true =
     subst (λ (j : ℕ). is_in k (condition_waiters (after_condition_wait t c m deadline syncs) j) ≡ true) e h in
     subst (λ (j : ℕ). IsOnCondition (after_condition_wait t c m deadline syncs).locks j k) (sym e)
     (elim (in_push t k (condition_waiters syncs c) (own_waiters k c (condition_waiters syncs c ++ t ∷ []) syncs.conditions own)) as (λ _. IsOnCondition (after_condition_wait t c m deadline syncs).locks c k) [

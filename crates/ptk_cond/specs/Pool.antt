@@ -3,8 +3,9 @@ use Rattle.std.specs.Prelude.{ℕ, ◌≤◌, List, [], length, Option, Some, op
 use Rattle.ptk_words.specs.Pools.{pool_get, pool_set, least_free}
 use Rattle.ptk_words_parted.specs.Parts.{part_of}
 use Rattle.ptk_words_model.specs.State.{Condition}
+use Rattle.ptk_words_locks.specs.Conditions.{waiters_on}
 use Rattle.ptk_cond.specs.declared.slot.Change.{Change}
-use Rattle.ptk_cond.specs.Slots.{condition_of, waiters_at, queue_changed}
+use Rattle.ptk_cond.specs.Slots.{condition_of, queue_changed}
 
 -- every partition has at most 32 condition variables (own)
 abbrev pub IsPool : List (List (Option Condition)) → Type 0
@@ -16,4 +17,4 @@ with_new_condition conditions = unwrap_or (option_map (λ c. pool_set conditions
 
 -- the waiters of a condition variable changed so (own)
 abbrev pub with_change : Change → ℕ → List (Option Condition) → List (Option Condition)
-with_change change c conditions = pool_set conditions c (Some (condition_of (queue_changed change (waiters_at (pool_get conditions c)))))
+with_change change c conditions = pool_set conditions c (Some (condition_of (queue_changed change (waiters_on (pool_get conditions c)))))

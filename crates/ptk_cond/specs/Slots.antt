@@ -1,5 +1,5 @@
 -- A condition variable as its place keeps it, and what becomes of its waiters.
-use Rattle.std.specs.Prelude.{◌≡◌, ℕ, Bool, true, false, List, [], ◌∷◌, ◌++◌, Option, Some, None, option_map, unwrap_or}
+use Rattle.std.specs.Prelude.{◌≡◌, ℕ, Bool, true, false, List, [], ◌∷◌, ◌++◌, Option, Some, None}
 use Rattle.ptk_words.specs.Pools.{is_in, without}
 use Rattle.ptk_words_model.specs.State.{Condition}
 use Rattle.ptk_cond.specs.declared.slot.Change.{Change}
@@ -18,10 +18,6 @@ condition_if true waiters = Some (condition_of waiters)
 abbrev pub IsVacant : Bool → List ℕ → Type 0
 IsVacant false waiters = waiters ≡ []
 IsVacant true waiters = Unit {0}
-
--- the waiters of a condition variable, none of a free number (pthread_cond_wait)
-abbrev pub waiters_at : Option Condition → List ℕ
-waiters_at x = unwrap_or (option_map (λ condition. condition.waiters) x) []
 
 -- the waiters after the change (own)
 abbrev pub queue_changed : Change → List ℕ → List ℕ

@@ -2,16 +2,13 @@
 use Rattle.std.specs.Prelude.{IsSome, ◌≡◌, ℕ, ◌<◌, true, false, List, [], length, Option, Some, None}
 use Rattle.ptk_words.specs.Names.{ConditionNumber, ThreadNumber}
 use Rattle.ptk_words.specs.Pools.{is_in, first_of_greatest}
-use Rattle.ptk_words.specs.declared.TheConstants.{COUNT_LIMIT}
 use Rattle.ptk_words.specs.declared.threads.Thread.{Thread}
-use Rattle.ptk_words.specs.declared.threads.Wait.{Wait}
-use Rattle.ptk_words.specs.declared.threads.Wait.TheVariants.{InputWait, SleepWait, JoinWait, MutexWait, ConditionWait, RelockWait}
 use Rattle.ptk_words_parted.specs.Parts.{part_of}
 use Rattle.ptk_words_model.specs.State.{Condition, Locks, Mutex, Syncs, locks_of}
 use Rattle.ptk_words_model.specs.Priority.{thread_at, effective_priority}
-use Rattle.ptk_words_model.specs.Mutex.{mutex_at, count_of, relock_move, wait_of}
+use Rattle.ptk_words_model.specs.Mutex.{mutex_at, wait_of}
 use Rattle.ptk_words_model.specs.Condition.{condition_waiters, mutex_named}
-use Rattle.ptk_words_model.specs.declared.LockMove.TheVariants.{Counts}
+use Rattle.ptk_words_locks.specs.Conditions.{condition_of_wait, HasRoom}
 use Rattle.ptk_threads.specs.Table.{ThreadTable}
 use Rattle.ptk_mutex.specs.Tables.{locks_at, AreReady}
 
@@ -26,20 +23,6 @@ syncs_at p table lines mutexes pool = record { locks = locks_at p table lines mu
 -- threads and condition variables without a line or mutexes, on which no mutex that is named depends (own)
 abbrev pub syncs_of : List (Option Thread) → List (Option Condition) → Syncs
 syncs_of threads conditions = record { locks = locks_of threads []; conditions = conditions }
-
--- the condition variable that a wait is on (pthread_cond_wait)
-abbrev pub condition_of_wait : Option Wait → Option ConditionNumber
-condition_of_wait None = None
-condition_of_wait (Some InputWait) = None
-condition_of_wait (Some (SleepWait deadline)) = None
-condition_of_wait (Some (JoinWait u)) = None
-condition_of_wait (Some (MutexWait m deadline)) = None
-condition_of_wait (Some (ConditionWait c m deadline)) = Some c
-condition_of_wait (Some (RelockWait m reply)) = None
-
--- where a re-lock of the thread counts up, the count is below the limit (pthread_cond_wait, PTHREAD_MUTEX_RECURSIVE)
-abbrev pub HasRoom : ThreadNumber → Option Mutex → Type 0
-HasRoom t x = relock_move t x ≡ Counts → count_of x < COUNT_LIMIT
 
 -- who waits on condition variable c: a thread whose wait is on it, which is not in the line, and whose re-lock has room (pthread_cond_wait)
 pub record IsOnCondition (locks : Locks) (c k : ℕ) : Type 0 where

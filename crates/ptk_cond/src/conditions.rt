@@ -4,7 +4,8 @@ ghost use Rattle.std.specs.Prelude.{◌≡◌, ◌<◌, ◌≤◌, [], Some, Non
 ghost use Rattle.std.specs.Option.{is_some};
 ghost use Rattle.ptk_words.specs.Pools.{least_free, pool_get, pool_set};
 ghost use Rattle.ptk_words_parted.specs.Parts.{part_of, filled};
-ghost use Rattle.ptk_cond.specs.Slots.{condition_of, waiters_at, MayChange};
+ghost use Rattle.ptk_words_locks.specs.Conditions.{waiters_on};
+ghost use Rattle.ptk_cond.specs.Slots.{condition_of, MayChange};
 ghost use Rattle.ptk_cond.specs.Pool.{with_new_condition, with_change};
 ghost use Rattle.ptk_cond.specs.Tables.{conditions_of};
 
@@ -69,7 +70,7 @@ impl Conditions {
     /// The waiters of a condition variable, in order of arrival; none of a free number (pthread_cond_wait).
     pub fn waiters(&self, threads: &Threads, p: PartId, c: ConditionNo) -> &[ThreadNo]
         requires { p < length self.now }
-        ensures { result.now ≡ waiters_at (pool_get (part_of (conditions_of self.now threads.now) p) c) }
+        ensures { result.now ≡ waiters_on (pool_get (part_of (conditions_of self.now threads.now) p) c) }
     {
         waiters_in(self.slots.part(p), c)
     }
@@ -104,7 +105,7 @@ impl Conditions {
     #[tactic(auto, using(crate::proofs::Pool::pools))]
     pub fn destroy(&mut self, threads: &Threads, p: PartId, c: ConditionNo)
         requires partition { p < length self.old }
-        requires unused { waiters_at (pool_get (part_of (conditions_of self.old threads.now) p) c) ≡ [] }
+        requires unused { waiters_on (pool_get (part_of (conditions_of self.old threads.now) p) c) ≡ [] }
         ensures { conditions_of self.new threads.now ≡ slice_set (conditions_of self.old threads.now) p (pool_set (part_of (conditions_of self.old threads.now) p) c None) }
     {
         close_in(self.slots.lend(p), c);
@@ -115,7 +116,7 @@ impl Conditions {
     pub(crate) fn change(&mut self, p: PartId, c: ConditionNo, change: Change)
         requires partition { p < length self.old }
         requires used { IsSome (pool_get (part_of self.old p) c) }
-        requires possible { MayChange change (waiters_at (pool_get (part_of self.old p) c)) }
+        requires possible { MayChange change (waiters_on (pool_get (part_of self.old p) c)) }
         ensures { self.new ≡ slice_set self.old p (with_change change c (part_of self.old p)) }
     {
         change_in(self.slots.lend(p), c, change);
@@ -135,7 +136,7 @@ fn free_slots(alloc: Global, count: u32) -> Result<Vec<ConditionSlot>, AllocErro
 
 /// The waiters of the condition variable of a number.
 fn waiters_in(slots: &[ConditionSlot], c: ConditionNo) -> &[ThreadNo]
-    ensures { result.now ≡ waiters_at (pool_get slots.now c) }
+    ensures { result.now ≡ waiters_on (pool_get slots.now c) }
 {
     match slot_in(slots, c) {
         Some(slot) => slot.waiters(),
@@ -166,7 +167,7 @@ fn open_in(slots: &mut [ConditionSlot], c: ConditionNo)
 /// The number is free.
 #[tactic(auto, using(ptk_mutex_slots::proofs::Slots::numbers))]
 fn close_in(slots: &mut [ConditionSlot], c: ConditionNo)
-    requires { waiters_at (pool_get slots.old c) ≡ [] }
+    requires { waiters_on (pool_get slots.old c) ≡ [] }
     ensures { slots.new ≡ pool_set slots.old c None }
 {
     let i = (c.number() - 1) as usize;
@@ -180,7 +181,7 @@ fn close_in(slots: &mut [ConditionSlot], c: ConditionNo)
 #[tactic(auto, using(ptk_mutex_slots::proofs::Slots::numbers))]
 fn change_in(slots: &mut [ConditionSlot], c: ConditionNo, change: Change)
     requires used { IsSome (pool_get slots.old c) }
-    requires possible { MayChange change (waiters_at (pool_get slots.old c)) }
+    requires possible { MayChange change (waiters_on (pool_get slots.old c)) }
     ensures { slots.new ≡ with_change change c slots.old }
 {
     let i = (c.number() - 1) as usize;

@@ -7,7 +7,8 @@
 //! need, and waiters that wait; `proofs/Fresh` has it of fresh tables, and where a number is taken or freed. No call but
 //! the constructor takes memory. One function writes a condition variable (`change`). Dear to prove is that waiters
 //! still wait after a mutex was unlocked or locked again (`proofs/Apart`, `proofs/Waiters`). Below stand `ptk_mutex`,
-//! `ptk_threads` and `ptk_ready`, whose queue holds the waiters; nothing above uses it yet.
+//! `ptk_threads`, `ptk_ready`, whose queue holds the waiters, and `ptk_words_locks`, which says what a wait on a
+//! condition variable is; nothing above uses it yet.
 #![tactic(auto)]
 
 mod conditions;

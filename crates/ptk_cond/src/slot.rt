@@ -3,7 +3,8 @@
 ghost use Rattle.std.specs.Prelude.{◌≡◌, [], Some, None, IfOk, IsSome, is_none, option_map};
 ghost use Rattle.std.specs.Option.{option_flatten};
 ghost use Rattle.ptk_words.specs.Pools.{pool_get};
-ghost use Rattle.ptk_cond.specs.Slots.{condition_of, waiters_at, queue_changed, MayChange};
+ghost use Rattle.ptk_words_locks.specs.Conditions.{waiters_on};
+ghost use Rattle.ptk_cond.specs.Slots.{condition_of, queue_changed, MayChange};
 
 use ptk_ready::Queue;
 use ptk_words::{ConditionNo, ThreadNo};
@@ -61,7 +62,7 @@ impl ConditionSlot {
     /// Its waiters, in order of arrival; none at a free place.
     #[tactic(auto, using(crate::proofs::Slots::slots))]
     pub(crate) fn waiters(&self) -> &[ThreadNo]
-        ensures { result.now ≡ waiters_at self.now }
+        ensures { result.now ≡ waiters_on self.now }
     {
         self.waiters.threads()
     }
@@ -78,7 +79,7 @@ impl ConditionSlot {
     /// The place is free (pthread_cond_destroy).
     #[tactic(auto, using(crate::proofs::Slots::slots))]
     pub(crate) fn close(&mut self)
-        requires { waiters_at self.old ≡ [] }
+        requires { waiters_on self.old ≡ [] }
         ensures { self.new ≡ None }
     {
         self.is_used = false;
@@ -88,8 +89,8 @@ impl ConditionSlot {
     #[tactic(auto, using(crate::proofs::Slots::slots))]
     pub(crate) fn change(&mut self, change: Change)
         requires used { IsSome self.old }
-        requires possible { MayChange change (waiters_at self.old) }
-        ensures { self.new ≡ Some (condition_of (queue_changed change (waiters_at self.old))) }
+        requires possible { MayChange change (waiters_on self.old) }
+        ensures { self.new ≡ Some (condition_of (queue_changed change (waiters_on self.old))) }
     {
         match change {
             Change::Enqueue(t) => self.waiters.push_tail(t),

@@ -18,7 +18,7 @@ ghost use Rattle.ptk_gate_pools.specs.Kept.{part_at, put_part};
 use crate::pools::Pools;
 use ptk_mutex::MutexState;
 use ptk_threads::Slot;
-use ptk_words::{MutexKind, MutexNo, PartId, Protocol, ThreadNo, Wait};
+use ptk_words::{MutexKind, MutexNo, PartId, Protocol, ThreadNo, Tick, Wait};
 use ptk_words_model::LockMove;
 
 impl Pools {
@@ -91,17 +91,19 @@ impl Pools {
         is_any_naming(self.threads.part(p), m)
     }
 
-    /// A thread that waits for no mutex locks this one, or waits for it without a deadline, or is refused
-    /// (pthread_mutex_lock).
+    /// A thread that waits for no mutex locks this one, or waits for it, until the deadline (a tick) if there is one, or
+    /// is refused (pthread_mutex_lock, pthread_mutex_timedlock). A deadline already reached is the caller's to refuse
+    /// before.
     #[tactic(auto, using(crate::proofs::Parted::parted, crate::proofs::Locking::moved))]
-    pub fn lock(&mut self, p: PartId, t: ThreadNo, m: MutexNo) -> LockMove
+    pub fn lock(&mut self, p: PartId, t: ThreadNo, m: MutexNo, deadline: Option<Tick>) -> LockMove
         requires partition { p < length self.old.limits }
         requires locked { AreLocked (part_at p self.old).locks }
         requires caller { MayWait (part_at p self.old).locks t }
         ensures told { result ≡ lock_move (part_at p self.old).locks t (mutex_at (part_at p self.old).locks m) }
-        ensures moved { self.new ≡ put_part p (with_locks (after_move (lock_move (part_at p self.old).locks t (mutex_at (part_at p self.old).locks m)) t m (MutexWait m None)) (part_at p self.old)) self.old }
+        ensures moved { self.new ≡ put_part p (with_locks (after_move (lock_move (part_at p self.old).locks t (mutex_at (part_at p self.old).locks m)) t m (MutexWait m deadline)) (part_at p self.old)) self.old }
     {
-        self.mutexes.lock(&self.line, &mut self.threads, p, t, m)
+        self.mutexes
+            .lock(&self.line, &mut self.threads, p, t, m, deadline)
     }
 
     /// A thread that waits for no mutex locks this one, or is refused (pthread_mutex_trylock).

@@ -41,7 +41,7 @@ fn lock_named(pools: &mut Pools, p: PartId, i: Invocation, m: MutexNo) -> Reply
     ensures moved { pools.new ≡ put_part p (lock_named m i (part_at p pools.old)).part pools.old }
 {
     let _parts = pools.parts();
-    let made = pools.lock(p, i.caller, m);
+    let made = pools.lock(p, i.caller, m, None);
     tell(pools, p, i, reply_of(made, Some(0)))
 }
 

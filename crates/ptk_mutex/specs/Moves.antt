@@ -1,6 +1,6 @@
 -- The moves of the mutex calls, each on one partition's locks.
 use Rattle.std.specs.Prelude.{Option, None, option_to_list}
-use Rattle.ptk_words.specs.Names.{MutexNumber, Priority, ThreadNumber, Word}
+use Rattle.ptk_words.specs.Names.{MutexNumber, Priority, ThreadNumber, Tick, Word}
 use Rattle.ptk_words.specs.declared.threads.Wait.TheVariants.{MutexWait}
 use Rattle.ptk_words_model.specs.State.{Locks}
 use Rattle.ptk_words_model.specs.Schedule.{with_thread, after_wake}
@@ -8,9 +8,9 @@ use Rattle.ptk_words_model.specs.Mutex.{mutex_at, with_mutex, lock_move, trylock
 use Rattle.ptk_mutex_slots.specs.declared.slot.Change.{Change}
 use Rattle.ptk_mutex_slots.specs.Changes.{mutex_changed}
 
--- the thread makes its move of lock; where it waits, it has no deadline (pthread_mutex_lock)
-abbrev pub after_lock : ThreadNumber → MutexNumber → Locks → Locks
-after_lock t m locks = after_move (lock_move locks t (mutex_at locks m)) t m (MutexWait m None) locks
+-- the thread makes its move of lock; where it waits, it waits until the deadline, if there is one (pthread_mutex_lock, pthread_mutex_timedlock)
+abbrev pub after_lock : ThreadNumber → MutexNumber → Option Tick → Locks → Locks
+after_lock t m deadline locks = after_move (lock_move locks t (mutex_at locks m)) t m (MutexWait m deadline) locks
 
 -- the thread makes its move of trylock (pthread_mutex_trylock)
 abbrev pub after_trylock : ThreadNumber → MutexNumber → Locks → Locks

@@ -16,14 +16,15 @@ use crate::mutexes::Mutexes;
 use ptk_mutex_slots::{Change, MutexSlot, slot_in};
 use ptk_ready::VecLine;
 use ptk_threads::{Slot, Threads};
-use ptk_words::{Errno, MutexNo, PartId, Priority, Soundness, ThreadNo, Wait};
+use ptk_words::{Errno, MutexNo, PartId, Priority, Soundness, ThreadNo, Tick, Wait};
 use ptk_words_model::LockMove;
 
 impl Mutexes {
-    /// A thread that waits for no mutex locks this one, or waits for it without a deadline, or is refused; which of
-    /// these is told (pthread_mutex_lock). Refused, nothing changes: EINVAL of a free number and of a PROTECT mutex
-    /// whose ceiling is below the thread's assigned priority, ENOTRECOVERABLE of a lost mutex, EDEADLK of one's own that
-    /// checks errors, EAGAIN of a recursive one at its limit. The line stays.
+    /// A thread that waits for no mutex locks this one, or waits for it, until the deadline (a tick) if there is one, or
+    /// is refused; which of these is told (pthread_mutex_lock, pthread_mutex_timedlock). Refused, nothing changes:
+    /// EINVAL of a free number and of a PROTECT mutex whose ceiling is below the thread's assigned priority,
+    /// ENOTRECOVERABLE of a lost mutex, EDEADLK of one's own that checks errors, EAGAIN of a recursive one at its limit.
+    /// A deadline already reached is the caller's to refuse before. The line stays.
     #[tactic(auto, using(crate::proofs::Moved::moves))]
     pub fn lock(
         &mut self,
@@ -32,16 +33,17 @@ impl Mutexes {
         p: PartId,
         t: ThreadNo,
         m: MutexNo,
+        deadline: Option<Tick>,
     ) -> LockMove
         requires ready { AreReady p threads.old line.now self.old }
         requires caller { MayWait (locks_at p threads.old line.now self.old) t }
         ensures told { result ≡ lock_move (locks_at p threads.old line.now self.old) t (mutex_at (locks_at p threads.old line.now self.old) m) }
-        ensures threads { threads.new ≡ with_threads p (after_lock t m (locks_at p threads.old line.now self.old)) threads.old }
-        ensures mutexes { mutexes_of self.new threads.new ≡ slice_set (mutexes_of self.old threads.old) p (after_lock t m (locks_at p threads.old line.now self.old)).mutexes }
+        ensures threads { threads.new ≡ with_threads p (after_lock t m deadline (locks_at p threads.old line.now self.old)) threads.old }
+        ensures mutexes { mutexes_of self.new threads.new ≡ slice_set (mutexes_of self.old threads.old) p (after_lock t m deadline (locks_at p threads.old line.now self.old)).mutexes }
         ensures ready { AreReady p threads.new line.now self.new }
     {
         let made = lock_move(threads.part(p), self.part(p), t, m);
-        self.make(line, threads, p, t, m, Wait::MutexWait(m, None), made);
+        self.make(line, threads, p, t, m, Wait::MutexWait(m, deadline), made);
         self.refresh(threads, p);
         made
     }

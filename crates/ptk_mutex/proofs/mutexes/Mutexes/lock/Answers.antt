@@ -1,5 +1,5 @@
 use Rattle.std.proofs.Common.{◌≡◌, ◌∙◌, sym, ap, refl, arith}
-use Rattle.std.specs.Prelude.{None, slice_set}
+use Rattle.std.specs.Prelude.{slice_set}
 use Rattle.ptk_words.specs.declared.threads.Wait.TheVariants.{MutexWait}
 use Rattle.ptk_words_parted.proofs.Cuts.{set_part-same}
 use Rattle.ptk_words_model.specs.declared.LockMove.{LockMove}
@@ -15,12 +15,12 @@ pub returns-clause-ready : goal.returns-clause-ready
 returns-clause-ready c =
     let locks : Locks = locks_at c.args.p c.args.threads.now c.args.line.now c.args.self.now in
     let made : LockMove = lock_move locks c.args.t (mutex_at locks c.args.m) in
-    let after : Locks = after_lock c.args.t c.args.m locks in
+    let after : Locks = after_lock c.args.t c.args.m c.args.deadline locks in
     let threads : c.refresh.new.threads ≡ with_threads c.args.p after c.args.threads.now = grind (arith, moves) in
     let mutexes : c.make.new.self ≡ slice_set c.args.self.now c.args.p after.mutexes = grind (arith, moves) in
-    let line : after.line ≡ locks.line = line_after_move made c.args.t c.args.m (MutexWait c.args.m None) locks in
+    let line : after.line ≡ locks.line = line_after_move made c.args.t c.args.m (MutexWait c.args.m c.args.deadline) locks in
     moved_ready c.args.p c.args.threads.now c.refresh.new.threads c.args.line.now c.args.line.now c.args.self.now c.make.new.self after c.requires.ready.part
-    (locked_move made c.args.t c.args.m (MutexWait c.args.m None) locks (lock_counts locks c.args.t (mutex_at locks c.args.m)) refl c.requires.caller c.requires.ready.locked)
+    (locked_move made c.args.t c.args.m (MutexWait c.args.m c.args.deadline) locks (lock_counts locks c.args.t (mutex_at locks c.args.m)) refl c.requires.caller c.requires.ready.locked)
     (record {
       of_threads = threads;
       of_lines = sym (set_part-same c.args.line.now c.args.p) ∙ ap (slice_set c.args.line.now c.args.p) (sym line);
