@@ -1,8 +1,10 @@
-//! All partitions over the ticks: the gate's tables, and beside them for each partition what the system counts. A tick
-//! promises that it does to each partition what the definition does to that partition alone (`Machine::tick`), and
-//! `Machine::next_due` that its answer is the first tick of a range at which a partition decides next, so that a run may
-//! jump to it. Below stand the kernel and the window table; the system stands above. Dear to prove: that one partition's
-//! decision is the tick of every partition (`proofs/Ticks`).
+//! All partitions over the ticks: the gate's tables, and beside them for each partition what the system counts. A turn
+//! goes on in one window, by rows of plain steps and by single decisions, and promises that it does to each partition
+//! what as many ticks of the definition do to that partition alone (`Machine::turn`); `Machine::next_due` promises that
+//! its answer is the first tick of a range at which a partition decides next, so that a run may jump to it. Below stand
+//! the kernel and the window table; the system stands above. Dear to prove: that what is done in one partition's window
+//! is so many ticks of every partition (`proofs/Ticks`), and that a row is counted as so many decisions
+//! (`proofs/CountedRows`).
 #![tactic(auto)]
 
 mod account;
