@@ -57,7 +57,7 @@ none_twice : (b : Bool) → (let none : Option Tick = None in none) ≡ cond b N
 none_twice true = refl
 none_twice false = refl
 
-deadline_at-without : (s : ℕ) (xs : List Pair) (q : ℕ) → deadline_at (without_slot s xs) q ≡ cond (s == q) None (deadline_at xs q)
+pub deadline_at-without : (s : ℕ) (xs : List Pair) (q : ℕ) → deadline_at (without_slot s xs) q ≡ cond (s == q) None (deadline_at xs q)
 deadline_at-without s [] q = none_twice (s == q)
 deadline_at-without s (x ∷ xs) q = left s x xs q (x.1 == s) refl (deadline_at-without s xs q)
 
@@ -67,7 +67,7 @@ by_equality : (i j : ℕ) (b : Bool) → nat_eq i j ≡ b → (i ≡ j) ⊎ (i �
 by_equality i j true e = inl (grind (arith, nat_tests))
 by_equality i j false e = inr (λ same. (let no : nat_eq i j ≡ true = grind (arith, nat_tests) in let never : true ≡ false = sym no ∙ e in absurd (cc)))
 
-decided : (i j : ℕ) → (i ≡ j) ⊎ (i ≢ j)
+pub decided : (i j : ℕ) → (i ≡ j) ⊎ (i ≢ j)
 decided i j = by_equality i j (nat_eq i j) refl
 
 away_from : (first n s q : ℕ) → (s < first) ⊎ (first + n ≤ s) → first ≤ q → q < first + n → q ≢ s

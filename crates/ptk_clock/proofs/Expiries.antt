@@ -31,14 +31,14 @@ not_found test x xs true e none = absurd (none-some x (sym none))
 not_found test x xs false e none = (e, none)
 
 -- where no pair passes the test, that of a slot does not
-none_passes : (test : Pair → Bool) (xs : List Pair) (q d : ℕ) → find test xs ≡ None → deadline_at xs q ≡ Some d → test (d, q) ≡ false
+pub none_passes : (test : Pair → Bool) (xs : List Pair) (q d : ℕ) → find test xs ≡ None → deadline_at xs q ≡ Some d → test (d, q) ≡ false
 none_passes test [] q d none at = absurd (none-some d at)
 none_passes test (x ∷ xs) q d none at =
     let not = not_found test x xs (test x) refl none in
     by_slot (test (d, q) ≡ false) x xs q d at (λ same. ap test (sym same) ∙ not.0) (λ later. none_passes test xs q d not.1 later)
 
 -- where one is the least that passes, that of a slot is not before it
-not_before_least : (test : Pair → Bool) (xs : List Pair) (least : Pair) (q d : ℕ) → IsLeast test xs least → deadline_at xs q ≡ Some d → test (d, q) ≡ true → is_before (d, q) least ≡ false
+pub not_before_least : (test : Pair → Bool) (xs : List Pair) (least : Pair) (q d : ℕ) → IsLeast test xs least → deadline_at xs q ≡ Some d → test (d, q) ≡ true → is_before (d, q) least ≡ false
 not_before_least test [] least q d is at passes = absurd (none-some d at)
 not_before_least test (x ∷ xs) least q d is at passes =
     by_slot (is_before (d, q) least ≡ false) x xs q d at
@@ -47,11 +47,11 @@ not_before_least test (x ∷ xs) least q d is at passes =
 
 -- ---- the pair that is found
 
-found_at : (P : Type 0) (test : Pair → Bool) (x : Pair) (xs : List Pair) (a : Pair) (b : Bool) → test x ≡ b → cond b (Some x) (find test xs) ≡ Some a → (x ≡ a → test x ≡ true → P) → (find test xs ≡ Some a → test x ≡ false → P) → P
+pub found_at : (P : Type 0) (test : Pair → Bool) (x : Pair) (xs : List Pair) (a : Pair) (b : Bool) → test x ≡ b → cond b (Some x) (find test xs) ≡ Some a → (x ≡ a → test x ≡ true → P) → (find test xs ≡ Some a → test x ≡ false → P) → P
 found_at P test x xs a true e found first later = first (same_Some x a found) e
 found_at P test x xs a false e found first later = later found e
 
-found_passes : (test : Pair → Bool) (xs : List Pair) (a : Pair) → find test xs ≡ Some a → test a ≡ true
+pub found_passes : (test : Pair → Bool) (xs : List Pair) (a : Pair) → find test xs ≡ Some a → test a ≡ true
 found_passes test [] a found = absurd (none-some a found)
 found_passes test (x ∷ xs) a found = found_at (test a ≡ true) test x xs a (test x) refl found (λ same passes. ap test (sym same) ∙ passes) (λ later not. found_passes test xs a later)
 
@@ -102,7 +102,7 @@ first_free : (q : ℕ) (x : Pair) (xs : List Pair) (b : Bool) → (x.1 == q) ≡
 first_free q x xs true same none more = absurd (none-some x.0 (sym none))
 first_free q x xs false apart none more = or_from (nat_eq q x.1) (is_in q (slots_of xs)) (apart_turned q x.1 apart) (more none)
 
-without_pair : (q : ℕ) (xs : List Pair) → deadline_at xs q ≡ None → is_in q (slots_of xs) ≡ false
+pub without_pair : (q : ℕ) (xs : List Pair) → deadline_at xs q ≡ None → is_in q (slots_of xs) ≡ false
 without_pair q [] none = refl
 without_pair q (x ∷ xs) none = first_free q x xs (x.1 == q) refl (sym (deadline_at-cons x xs q) ∙ none) (without_pair q xs)
 
@@ -137,12 +137,12 @@ late_when : (first last n q d : ℕ) (now : Tick) → last + 1 ≡ first + n →
 late_when first last n q d now end low high not_due = grind (arith, nat_tests)
 
 -- a due pair is of these slots
-record IsDue (first last : ℕ) (now : Tick) (a : Pair) : Type 0 where
-  low : first ≤ a.1
-  high : a.1 ≤ last
-  due : a.0 ≤ now
+pub record IsDue (first last : ℕ) (now : Tick) (a : Pair) : Type 0 where
+  pub low : first ≤ a.1
+  pub high : a.1 ≤ last
+  pub due : a.0 ≤ now
 
-due_parts : (first last : ℕ) (now : Tick) (a : Pair) → is_due first last now a ≡ true → IsDue first last now a
+pub due_parts : (first last : ℕ) (now : Tick) (a : Pair) → is_due first last now a ≡ true → IsDue first last now a
 due_parts first last now a due = record { low = grind (arith, nat_tests); high = grind (arith, nat_tests); due = grind (arith, nat_tests) }
 
 -- by thread number as by slot

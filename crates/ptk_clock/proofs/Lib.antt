@@ -4,3 +4,6 @@ pub mod Leasts
 pub mod BySlot
 pub mod Signs
 pub mod Expiries
+pub mod SlotMoves
+pub mod LeastDeadlines
+pub mod ByThread

@@ -4,10 +4,12 @@
 //! partitions, in which places are found by binary search, and a removal goes through it once. `listed_by_slot`,
 //! `added_by_slot`, `removed_by_slot` and `taken_by_slot` say what a partition sees of that vector: its own slots'
 //! deadlines by thread number, which no other partition's pair changes, and that the least due pair of its slots is its
-//! next expiry, as the model orders them. Both forms have room for all slots from the start, so that no call but a
-//! constructor takes memory. That room, and that a place found is the pair's place in the order, are dear to prove
-//! (`proofs/Rooms`, `proofs/Places`). Below stand `ptk_words`, and the order of expiries of `ptk_words_model` and
-//! `ptk_words_locks`; above, the gate's tables.
+//! next expiry, as the model orders them. `ThreadDeadlines` stands on that vector: the deadlines of all partitions'
+//! threads by partition and thread number, and each partition's least one kept beside. All have room for all slots from
+//! the start, so that no call but a constructor takes memory. That room, that a place found is the pair's place in the
+//! order, and that one partition's change leaves the others' deadlines, are dear to prove (`proofs/Rooms`,
+//! `proofs/Places`, `proofs/ByThread`). Below stand `ptk_words`, `ptk_words_parted`, the order of expiries of
+//! `ptk_words_model` and `ptk_words_locks`, and `ThreadSet` of `ptk_mutex_slots`; above, the gate's tables.
 #![tactic(auto)]
 
 mod deadlines;
@@ -18,10 +20,12 @@ mod queue;
 mod shared;
 #[cfg(test)]
 mod tests;
+mod threads;
 mod ticks;
 
 pub use deadlines::Deadlines;
 pub use laws::{added_by_slot, listed_by_slot, removed_by_slot, taken_by_slot, words_are_signed};
 pub use plain::PlainDeadlines;
 pub use shared::SharedDeadlines;
+pub use threads::ThreadDeadlines;
 pub use ticks::{from_tick, to_tick};

@@ -1,4 +1,4 @@
-//! Times and their ticks, and every call of both forms through the bound.
+//! Times and their ticks, every call of both forms through the bound, and the deadlines of two partitions' threads.
 
 ghost use Rattle.std.specs.Prelude.{◌≡◌, ◌<◌, false, []};
 ghost use Rattle.ptk_words.specs.Pools.{is_in};
@@ -7,8 +7,10 @@ ghost use Rattle.ptk_clock.specs.Pairs.{slots_of, with_pair};
 use crate::deadlines::Deadlines;
 use crate::plain::PlainDeadlines;
 use crate::shared::SharedDeadlines;
+use crate::threads::ThreadDeadlines;
 use crate::ticks::{from_tick, to_tick};
-use ptk_words::{LAST_TICK, SlotNo, Tick};
+use ptk_mutex_slots::ThreadSet;
+use ptk_words::{LAST_TICK, PartId, SlotNo, ThreadNo, Tick};
 use std::test::Fail;
 
 /// The tick of a time whose nanoseconds are below a second.
@@ -109,5 +111,31 @@ fn plain_deadlines_are_taken_in_order(rt: HostRuntime) -> Result<(), Fail> {
     assert_eq!(rt; taken(&mut deadlines, 0, 3, 50), None);
     deadlines.remove(SlotNo::new(0));
     assert_eq!(rt; least(&deadlines, 0, 3), None);
+    Ok(())
+}
+
+#[test]
+#[tactic(auto, using(crate::proofs::ByThread::counts))]
+fn each_partition_has_its_own_deadlines(rt: HostRuntime) -> Result<(), Fail> {
+    let first = PartId::new(0);
+    let second = PartId::new(1);
+    let mut deadlines = ThreadDeadlines::build(rt.alloc(), &[2, 3])?;
+    deadlines.set(first, ThreadNo::new(2), Some(Tick::new(40)));
+    deadlines.set(second, ThreadNo::new(3), Some(Tick::new(50)));
+    deadlines.set(second, ThreadNo::new(1), Some(Tick::new(50)));
+    deadlines.set(second, ThreadNo::new(4), Some(Tick::new(10)));
+    assert_eq!(rt; deadlines.parts(), 2);
+    assert_eq!(rt; deadlines.next(second), Some(Tick::new(50)));
+    assert_eq!(rt; deadlines.take_due(second, Tick::new(49)), None);
+    assert_eq!(rt;
+        deadlines.take_due(second, Tick::new(50)),
+        Some(ThreadNo::new(1))
+    );
+    deadlines.end_all(second, ThreadSet::of(ThreadNo::new(3)));
+    assert_eq!(rt; deadlines.next(second), None);
+    assert_eq!(rt;
+        deadlines.shared().pairs(),
+        [(Tick::new(40), SlotNo::new(1))].as_slice()
+    );
     Ok(())
 }

@@ -1,6 +1,6 @@
 //! The pool: the life of numbers, and the one function that writes a condition variable.
 
-ghost use Rattle.std.specs.Prelude.{◌≡◌, ◌<◌, ◌≤◌, [], Some, None, length, map, All, IfOk, IsSome, slice_set, position, is_none};
+ghost use Rattle.std.specs.Prelude.{◌≡◌, ◌<◌, ◌≤◌, [], Some, None, length, map, All, IfOk, IsSome, slice_set, position, is_none, if◌then◌else◌};
 ghost use Rattle.std.specs.Option.{is_some};
 ghost use Rattle.ptk_words.specs.Pools.{least_free, pool_get, pool_set};
 ghost use Rattle.ptk_words_parted.specs.Parts.{part_of, filled};
@@ -65,6 +65,15 @@ impl Conditions {
             Some(slot) => !slot.is_free(),
             None => false,
         }
+    }
+
+    /// The condition variable in use whose number the word is; None of another word (own choice).
+    #[tactic(auto, using(crate::proofs::Pool::pools))]
+    pub fn numbered(&self, p: PartId, word: u32) -> Option<ConditionNo>
+        requires { p < length self.now }
+        ensures { result ≡ (if is_some (pool_get (part_of self.now p) word) then Some word else None) }
+    {
+        numbered_in(self.slots.part(p), word)
     }
 
     /// The waiters of a condition variable, in order of arrival; none of a free number (pthread_cond_wait).
@@ -132,6 +141,24 @@ fn free_slots(alloc: Global, count: u32) -> Result<Vec<ConditionSlot>, AllocErro
         slots.push(ConditionSlot::new(alloc)?)?;
     }
     Ok(slots)
+}
+
+/// The condition variable in use whose number the word is.
+fn numbered_in(slots: &[ConditionSlot], word: u32) -> Option<ConditionNo>
+    requires few { length slots.now ≤ 32 }
+    ensures { result ≡ (if is_some (pool_get slots.now word) then Some word else None) }
+{
+    if word == 0 {
+        return None;
+    }
+    let index = word as usize - 1;
+    if index >= slots.len() {
+        return None;
+    }
+    if slots[index].is_free() {
+        return None;
+    }
+    Some(ConditionNo::new(word as u8))
 }
 
 /// The waiters of the condition variable of a number.

@@ -8,7 +8,7 @@
 //! the constructor takes memory. One function writes a condition variable (`change`). Dear to prove is that waiters
 //! still wait after a mutex was unlocked or locked again (`proofs/Apart`, `proofs/Waiters`). Below stand `ptk_mutex`,
 //! `ptk_threads`, `ptk_ready`, whose queue holds the waiters, and `ptk_words_locks`, which says what a wait on a
-//! condition variable is; nothing above uses it yet.
+//! condition variable is; above, the pools of `ptk_gate_pools`.
 #![tactic(auto)]
 
 mod conditions;

@@ -5,6 +5,7 @@ ghost use Rattle.ptk_words.specs.Pools.{is_in};
 ghost use Rattle.ptk_words_model.specs.Mutex.{wait_of};
 ghost use Rattle.ptk_words_model.specs.Priority.{thread_at};
 ghost use Rattle.ptk_words_model.specs.Condition.{condition_waiters, mutex_named, after_unblock, after_unblock_for, after_signal, after_signal_to, after_broadcast};
+ghost use Rattle.ptk_mutex_slots.specs.Sets.{IsSetOf};
 ghost use Rattle.ptk_mutex.specs.Tables.{mutexes_of, with_threads};
 ghost use Rattle.ptk_cond.specs.Tables.{conditions_of, syncs_at, AreSynced, MayLeave, next_waiter};
 
@@ -12,13 +13,15 @@ use crate::conditions::Conditions;
 use crate::naming::mutex_named;
 use crate::slot::Change;
 use ptk_mutex::Mutexes;
+use ptk_mutex_slots::ThreadSet;
 use ptk_ready::{VecLine, first_of_greatest};
 use ptk_threads::Threads;
 use ptk_words::{ConditionNo, MutexNo, PartId, ThreadNo};
 
 impl Conditions {
     /// The waiter of greatest effective priority, the earliest among equals, is unblocked: it re-locks the mutex that
-    /// it named, with reply 0 (pthread_cond_signal). Nothing changes without waiters.
+    /// it named, with reply 0 (pthread_cond_signal). Nothing changes without waiters. Told is whose condition wait this
+    /// ended.
     #[tactic(auto, using(crate::proofs::Steps::steps))]
     pub fn signal(
         &mut self,
@@ -27,8 +30,9 @@ impl Conditions {
         mutexes: &mut Mutexes,
         p: PartId,
         c: ConditionNo,
-    )
+    ) -> Option<ThreadNo>
         requires ready { AreSynced p threads.old line.old mutexes.old self.old }
+        ensures told { result ≡ next_waiter c (syncs_at p threads.old line.old mutexes.old self.old) }
         ensures threads { threads.new ≡ with_threads p (after_signal c (syncs_at p threads.old line.old mutexes.old self.old)).locks threads.old }
         ensures line { line.new ≡ slice_set line.old p (after_signal c (syncs_at p threads.old line.old mutexes.old self.old)).line }
         ensures mutexes { mutexes_of mutexes.new threads.new ≡ slice_set (mutexes_of mutexes.old threads.old) p (after_signal c (syncs_at p threads.old line.old mutexes.old self.old)).mutexes }
@@ -36,11 +40,11 @@ impl Conditions {
         ensures ready { AreSynced p threads.new line.new mutexes.new self.new }
     {
         let next = self.choose(line, threads, mutexes, p, c);
-        self.signal_to(line, threads, mutexes, p, c, next);
+        self.signal_to(line, threads, mutexes, p, c, next)
     }
 
     /// Every waiter is unblocked, one after the other, each choice in the state that the one before left
-    /// (pthread_cond_broadcast).
+    /// (pthread_cond_broadcast). Told is whose condition waits this ended.
     pub fn broadcast(
         &mut self,
         line: &mut VecLine,
@@ -48,18 +52,21 @@ impl Conditions {
         mutexes: &mut Mutexes,
         p: PartId,
         c: ConditionNo,
-    )
+    ) -> ThreadSet
         requires ready { AreSynced p threads.old line.old mutexes.old self.old }
+        ensures woken { IsSetOf result (condition_waiters (syncs_at p threads.old line.old mutexes.old self.old) c) }
         ensures threads { threads.new ≡ with_threads p (after_broadcast c (syncs_at p threads.old line.old mutexes.old self.old)).locks threads.old }
         ensures line { line.new ≡ slice_set line.old p (after_broadcast c (syncs_at p threads.old line.old mutexes.old self.old)).line }
         ensures mutexes { mutexes_of mutexes.new threads.new ≡ slice_set (mutexes_of mutexes.old threads.old) p (after_broadcast c (syncs_at p threads.old line.old mutexes.old self.old)).mutexes }
         ensures conditions { conditions_of self.new threads.new ≡ slice_set (conditions_of self.old threads.old) p (after_broadcast c (syncs_at p threads.old line.old mutexes.old self.old)).conditions }
         ensures ready { AreSynced p threads.new line.new mutexes.new self.new }
     {
+        let woken = ThreadSet::of_all(self.waiters(threads, p, c));
         let count = self.waiters(threads, p, c).len();
         for i in 0..count {
             self.signal(line, threads, mutexes, p, c);
         }
+        woken
     }
 
     /// A waiter leaves the condition variable and re-locks the mutex that it named, with this reply if it is told any,
@@ -115,7 +122,7 @@ impl Conditions {
         }
     }
 
-    /// A waiter, if there is one, is unblocked with reply 0.
+    /// A waiter, if there is one, is unblocked with reply 0; told is that waiter.
     #[tactic(auto, using(crate::proofs::Steps::steps))]
     fn signal_to(
         &mut self,
@@ -125,9 +132,10 @@ impl Conditions {
         p: PartId,
         c: ConditionNo,
         next: Option<ThreadNo>,
-    )
+    ) -> Option<ThreadNo>
         requires ready { AreSynced p threads.old line.old mutexes.old self.old }
         requires may { MayLeave next (syncs_at p threads.old line.old mutexes.old self.old) c }
+        ensures told { result ≡ next }
         ensures threads { threads.new ≡ with_threads p (after_signal_to next c (syncs_at p threads.old line.old mutexes.old self.old)).locks threads.old }
         ensures line { line.new ≡ slice_set line.old p (after_signal_to next c (syncs_at p threads.old line.old mutexes.old self.old)).line }
         ensures mutexes { mutexes.new ≡ slice_set mutexes.old p (after_signal_to next c (syncs_at p threads.old line.old mutexes.old self.old)).mutexes }
@@ -135,8 +143,11 @@ impl Conditions {
         ensures ready { AreSynced p threads.new line.new mutexes.new self.new }
     {
         match next {
-            Some(t) => self.withdraw(line, threads, mutexes, p, t, c, Some(0)),
-            None => {}
+            Some(t) => {
+                self.withdraw(line, threads, mutexes, p, t, c, Some(0));
+                Some(t)
+            }
+            None => None,
         }
     }
 

@@ -84,4 +84,8 @@ threads_few limits ranges = counts_few (λ l. l.threads) 32 limits (λ l at. at.
 pub mutexes_few : (limits : List Limits) → All IsWithinLimits limits → All (λ count. count ≤ 64) (map (λ l. l.mutexes) limits)
 mutexes_few limits ranges = counts_few (λ l. l.mutexes) 64 limits (λ l at. at.mutexes_to) ranges
 
-pub ruleset blanks = (whole_blank, threads_few, mutexes_few)
+-- and at most 32 condition variables
+pub conditions_few : (limits : List Limits) → All IsWithinLimits limits → All (λ count. count ≤ 32) (map (λ l. l.conditions) limits)
+conditions_few limits ranges = counts_few (λ l. l.conditions) 32 limits (λ l at. at.conditions_to) ranges
+
+pub ruleset blanks = (whole_blank, threads_few, mutexes_few, conditions_few)

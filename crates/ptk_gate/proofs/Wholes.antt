@@ -1,5 +1,5 @@
 -- The tables stay whole when one partition's part is replaced by a whole one.
-use Rattle.std.proofs.Common.{◌≡◌, ◌≢◌, ℕ, ◌<◌, Bool, length, refl, sym, ◌∙◌, ap, subst, ◌⊎◌, inl, inr, true, false}
+use Rattle.std.proofs.Common.{◌≡◌, ◌≢◌, ℕ, ◌<◌, Bool, length, refl, sym, subst, ◌⊎◌, inl, inr, true, false}
 use Rattle.std.specs.Prelude.{Some, IsSome}
 use Rattle.std.proofs.lemmas.Bool.{cases_eq, false≢true}
 use Rattle.ptk_words.specs.Processor.{Processor}
@@ -24,11 +24,11 @@ use Rattle.ptk_words_well.proofs.Threads.{well_cpu}
 use Rattle.ptk_words_well.proofs.Turns.{well_choice}
 use Rattle.ptk_words_well.proofs.Waits.{well_arrivals}
 use Rattle.ptk_words_well.proofs.Unwindings.{well_unwinding_start}
-use Rattle.ptk_words_well.proofs.Expiries.{expiries_none}
+use Rattle.ptk_words_well.proofs.Timeouts.{well_expiries}
 use Rattle.ptk_gate_pools.specs.Moves.{with_last_step}
 use Rattle.ptk_gate_pools.specs.Kept.{Kept, AreWell, part_at, put_part, limits_at}
 use Rattle.ptk_gate_pools.proofs.Parted.{part_at-put, part_at-other, parts_put}
-use Rattle.ptk_gate_steps.specs.Instructions.{after_instruction, is_call}
+use Rattle.ptk_gate_steps.specs.Instructions.{after_instruction}
 use Rattle.ptk_gate.specs.Whole.{AreWhole}
 
 well_put : (p q : ℕ) (s : Part) (kept : Kept) → AreWell kept → p < length kept.limits → q < length kept.limits → IsWell (limits_at p kept) s → (q ≡ p) ⊎ (q ≢ p)
@@ -67,12 +67,9 @@ pub whole_arrivals : (p tick : ℕ) (kept new : Kept) → new ≡ put_part p (af
 whole_arrivals p tick kept new e are lt =
     are_whole_put p (after_arrivals (limits_at p kept) tick (part_at p kept)) kept new e are lt (well_arrivals (limits_at p kept) tick (part_at p kept) (well_at p kept are lt))
 
--- no thread waits with a deadline, so none is due
-pub none_expires : (p tick : ℕ) (kept : Kept) → AreWhole kept → p < length kept.limits → after_expiries tick (after_arrivals (limits_at p kept) tick (part_at p kept)) ≡ after_arrivals (limits_at p kept) tick (part_at p kept)
-none_expires p tick kept are lt =
-    let arrived : Part = after_arrivals (limits_at p kept) tick (part_at p kept) in
-    let well : IsWell (limits_at p kept) arrived = well_arrivals (limits_at p kept) tick (part_at p kept) (well_at p kept are lt) in
-    expiries_none tick arrived well.unused.untimed
+pub whole_expiries : (p tick : ℕ) (kept new : Kept) → new ≡ put_part p (after_expiries tick (part_at p kept)) kept → AreWhole kept → p < length kept.limits → AreWhole new
+whole_expiries p tick kept new e are lt =
+    are_whole_put p (after_expiries tick (part_at p kept)) kept new e are lt (well_expiries (limits_at p kept) tick (part_at p kept) (well_at p kept are lt))
 
 pub whole_choice : (p : ℕ) (kept new : Kept) → new ≡ put_part p (after_choice (part_at p kept)) kept → AreWhole kept → p < length kept.limits → is_active (part_at p kept).status ≡ true → AreWhole new
 whole_choice p kept new e are lt active =
@@ -107,30 +104,8 @@ pub active_at : (limits : Limits) (s : Part) (b : Bool) → IsWell limits s → 
 active_at limits s true well runs e = refl
 active_at limits s false well runs e = absurd (false≢true (subst IsSome (well.halted e) runs))
 
--- the thread of an ECALL still runs
-calling_running : (t pc : ℕ) (e : Effect) (s : Part) → is_call e ≡ true → s.running ≡ Some t → IsSome (after_instruction t pc e s).running
-calling_running t pc (Done cpu memory) s calls runs = absurd (false≢true calls)
-calling_running t pc (Call cpu) s calls runs = subst IsSome (sym runs) refl
-calling_running t pc Break s calls runs = absurd (false≢true calls)
-calling_running t pc (Fault kind) s calls runs = absurd (false≢true calls)
-
-pub call_running : (p t : ℕ) (cpu : Processor) (calls : Bool) (kept new : Kept) → new ≡ put_part p (after_instruction t cpu.pc (effect_at cpu (part_at p kept).memory) (part_at p kept)) kept → AreWhole kept → p < length kept.limits
-    → (part_at p kept).running ≡ Some t → calls ≡ is_call (effect_at cpu (part_at p kept).memory) → calls ≡ true → IsSome (part_at p new).running
-call_running p t cpu calls kept new e are lt runs told called =
-    let s : Part = part_at p kept in
-    let after : Part = after_instruction t cpu.pc (effect_at cpu s.memory) s in
-    let at : part_at p new ≡ after = ap (part_at p) e ∙ part_at-put (length kept.limits) p after kept are.wells.parts lt in
-    subst (λ (part : Part). IsSome part.running) (sym at) (calling_running t cpu.pc (effect_at cpu s.memory) s (sym told ∙ called) runs)
-
-pub call_active : (p t : ℕ) (cpu : Processor) (calls : Bool) (kept new : Kept) → new ≡ put_part p (after_instruction t cpu.pc (effect_at cpu (part_at p kept).memory) (part_at p kept)) kept → AreWhole kept → p < length kept.limits
-    → (part_at p kept).running ≡ Some t → calls ≡ is_call (effect_at cpu (part_at p kept).memory) → calls ≡ true → is_active (part_at p new).status ≡ true
-call_active p t cpu calls kept new e are lt runs told called =
-    let within : p < length new.limits = subst (λ (n : ℕ). p < n) (sym (ap (λ (k : Kept). length k.limits) e)) lt in
-    active_at (limits_at p new) (part_at p new) (is_active (part_at p new).status) (well_at p new (whole_instruction p t cpu kept new e are lt) within)
-    (call_running p t cpu calls kept new e are lt runs told called) refl
-
 pub ruleset wholes = (are_whole_put, well_at)
 
-pub ruleset moves = (well_at, whole_instruction, whole_arrivals, none_expires, whole_choice, whole_unwinding, whole_last)
+pub ruleset moves = (well_at, whole_instruction, whole_arrivals, whole_expiries, whole_choice, whole_unwinding, whole_last)
 
 pub ruleset placed = (running_out_at)

@@ -13,11 +13,14 @@ use ptk_gate_console::{get, put};
 use ptk_gate_moves::{exit, leave, own_number, refuse};
 use ptk_gate_pools::Pools;
 use ptk_gate_sync::{
-    mutex_consistent, mutex_destroy, mutex_init, mutex_lock, mutex_trylock, mutex_unlock,
+    cond_broadcast, cond_destroy, cond_init, cond_signal, cond_timedwait, cond_wait,
+    mutex_consistent, mutex_destroy, mutex_init, mutex_lock, mutex_timedlock, mutex_trylock,
+    mutex_unlock,
 };
 use ptk_gate_threads::{
     create, detach, getschedparam, join, setschedparam, setschedprio, yield_turn,
 };
+use ptk_gate_time::{clock_gettime, clock_nanosleep};
 use ptk_words::{A0, A1, A2, A3, A4, A7, Call, Cpu, Errno, Limits, PartId, ThreadNo, Tick};
 use ptk_words_model::{Invocation, Reply};
 
@@ -91,6 +94,8 @@ fn carry_out(pools: &mut Pools, call: Call, p: PartId, i: Invocation) -> Reply
         Call::Exit => exit(pools, p, i),
         Call::ConsolePut => put(pools, p, i),
         Call::ConsoleGet => get(pools, p, i),
+        Call::ClockGettime => clock_gettime(pools, p, i),
+        Call::ClockNanosleep => clock_nanosleep(pools, p, i),
         Call::PthreadCreate => create(pools, p, i),
         Call::PthreadExit => leave(pools, p, i),
         Call::PthreadJoin => join(pools, p, i),
@@ -104,18 +109,16 @@ fn carry_out(pools: &mut Pools, call: Call, p: PartId, i: Invocation) -> Reply
         Call::MutexDestroy => mutex_destroy(pools, p, i),
         Call::MutexLock => mutex_lock(pools, p, i),
         Call::MutexTrylock => mutex_trylock(pools, p, i),
+        Call::MutexTimedlock => mutex_timedlock(pools, p, i),
         Call::MutexUnlock => mutex_unlock(pools, p, i),
         Call::MutexConsistent => mutex_consistent(pools, p, i),
-        Call::ClockGettime
-        | Call::ClockNanosleep
-        | Call::MutexTimedlock
-        | Call::CondInit
-        | Call::CondDestroy
-        | Call::CondWait
-        | Call::CondTimedwait
-        | Call::CondSignal
-        | Call::CondBroadcast
-        | Call::PthreadCancel
+        Call::CondInit => cond_init(pools, p, i),
+        Call::CondDestroy => cond_destroy(pools, p, i),
+        Call::CondWait => cond_wait(pools, p, i),
+        Call::CondTimedwait => cond_timedwait(pools, p, i),
+        Call::CondSignal => cond_signal(pools, p, i),
+        Call::CondBroadcast => cond_broadcast(pools, p, i),
+        Call::PthreadCancel
         | Call::PthreadSetcancelstate
         | Call::PthreadSetcanceltype
         | Call::PthreadTestcancel

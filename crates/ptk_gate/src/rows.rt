@@ -1,4 +1,4 @@
-//! Rows of plain steps.
+//! Rows of plain steps, and ticks at which nothing happens.
 
 ghost use Rattle.std.specs.Prelude.{◌≡◌, ℕ, ◌+◌, ◌-◌, ◌^◌, ◌<◌, ◌≤◌, true, false, length, min, Some, IfSome};
 ghost use Rattle.std.specs.Option.{IsSomeAnd};
@@ -7,11 +7,12 @@ ghost use Rattle.ptk_words_instructions.specs.PlainSteps.{is_plain, plain_steps}
 ghost use Rattle.ptk_words_model.specs.Priority.{thread_at};
 ghost use Rattle.ptk_words_model.specs.Run.{is_active};
 ghost use Rattle.ptk_words_quiet.specs.Quiet.{IsQuiet, ArePlain, core_of, after_row};
+ghost use Rattle.ptk_words_quiet.specs.Idle.{IsIdle};
 ghost use Rattle.ptk_trace_rows.specs.TracedRows.{traced};
 ghost use Rattle.ptk_gate_pools.specs.Kept.{part_at, put_part, limits_at};
 
 use crate::tables::Tables;
-use ptk_gate_steps::{Quiet, quiet_until};
+use ptk_gate_steps::{Quiet, idle_until, quiet_until};
 use ptk_trace::Trace;
 use ptk_trace_rows::BATCH;
 use ptk_words::{Entry, PartId, Tick};
@@ -56,6 +57,17 @@ impl Tables {
         let most = ticks_between(tick, quiet.stop);
         self.pools
             .run_row(p, quiet.thread, tick, most, trace, batch)
+    }
+
+    /// The tick up to which the partition has nothing to do, at most `stop`: no thread runs or is ready, and no input
+    /// comes and no deadline is due before it. None where the partition is halted, or a thread runs or is ready.
+    #[tactic(auto, using(crate::proofs::Wholes::moves))]
+    pub fn idle_until(&self, p: PartId, stop: Tick) -> Option<Tick>
+        requires partition { p < length self.now.limits }
+        ensures idle { IfSome result (λ u. (u ≤ stop) × IsIdle (limits_at p self.now) u (part_at p self.now)) }
+        ensures full { (k : ℕ) → k ≤ stop → IsIdle (limits_at p self.now) k (part_at p self.now) → IsSomeAnd result (λ u. k ≤ u) }
+    {
+        idle_until(&self.pools, p, stop)
     }
 }
 

@@ -1,6 +1,6 @@
 //! What a decision of a partition is made of.
 
-ghost use Rattle.std.specs.Prelude.{◌≡◌, ◌<◌, ◌+◌, true, length, Some, IsSome, IsTrue};
+ghost use Rattle.std.specs.Prelude.{◌≡◌, ◌<◌, ◌+◌, true, length, Some, IsSome};
 ghost use Rattle.ptk_words.specs.declared.TheConstants.{CANCELED};
 ghost use Rattle.ptk_words_instructions.specs.Instructions.{effect_at};
 ghost use Rattle.ptk_words_model.specs.Priority.{thread_at};
@@ -10,7 +10,7 @@ ghost use Rattle.ptk_words_model.specs.Withdrawal.{after_expiries};
 ghost use Rattle.ptk_words_model.specs.Decision.{after_arrivals, runner_of};
 ghost use Rattle.ptk_words_model.specs.Run.{is_active};
 ghost use Rattle.ptk_gate_pools.specs.Kept.{part_at, put_part, limits_at};
-ghost use Rattle.ptk_gate_steps.specs.Instructions.{after_instruction, is_call};
+ghost use Rattle.ptk_gate_steps.specs.Instructions.{after_instruction};
 ghost use Rattle.ptk_gate_steps.specs.NextSteps.{a0_kept, next_step_in};
 ghost use Rattle.ptk_threads.specs.Registers.{with_pc};
 ghost use Rattle.ptk_words.specs.Words.{word_of};
@@ -21,18 +21,28 @@ use ptk_gate_console::arrive_due;
 use ptk_gate_moves::{count_interval, start_unwinding};
 use ptk_gate_steps::{NextStep, a0_after, instruct, next_step, runner};
 use ptk_gate_threads::{choose, step_at_gate};
+use ptk_gate_time::expire_due;
 use ptk_words::{CANCELED, Cpu, Entry, PartId, Thread, ThreadNo, Tick};
 use ptk_words_model::Runner;
 
 impl Tables {
-    /// All input that comes at the tick or before arrives, in its order. No deadline is due then.
+    /// All input that comes at the tick or before arrives, in its order.
     #[tactic(auto, using(crate::proofs::Wholes::moves))]
     pub fn arrive_due(&mut self, p: PartId, tick: Tick)
         requires partition { p < length self.old.limits }
-        ensures moved { self.new ≡ put_part p (after_arrivals (limits_at p self.old) tick (part_at p self.old)) self.old }
-        ensures none_due { after_expiries tick (after_arrivals (limits_at p self.old) tick (part_at p self.old)) ≡ after_arrivals (limits_at p self.old) tick (part_at p self.old) }
+        ensures { self.new ≡ put_part p (after_arrivals (limits_at p self.old) tick (part_at p self.old)) self.old }
     {
         arrive_due(&mut self.pools, p, tick);
+    }
+
+    /// All deadlines of the partition at the tick or before expire, in the order of deadline and thread number, each in
+    /// the state that the one before left (clock_nanosleep, pthread_mutex_timedlock, pthread_cond_timedwait; own choice).
+    #[tactic(auto, using(crate::proofs::Wholes::moves))]
+    pub fn expire_due(&mut self, p: PartId, tick: Tick)
+        requires partition { p < length self.old.limits }
+        ensures { self.new ≡ put_part p (after_expiries tick (part_at p self.old)) self.old }
+    {
+        expire_due(&mut self.pools, p, tick);
     }
 
     /// The running thread is chosen: the first of the line's greatest effective priority, unless one runs whose
@@ -71,14 +81,6 @@ impl Tables {
         a0_after(&self.pools, p, t, before)
     }
 
-    /// The thread of a number, None of a free one.
-    pub fn thread(&self, p: PartId, t: ThreadNo) -> Option<Thread>
-        requires partition { p < length self.now.limits }
-        ensures { result ≡ thread_at (part_at p self.now).locks t }
-    {
-        self.pools.threads().thread(p, t)
-    }
-
     /// The running thread, which is cancelled, begins its unwinding (XSH 2.9.5.2).
     #[tactic(auto, using(crate::proofs::Wholes::moves))]
     pub fn begin_unwinding(&mut self, p: PartId, t: ThreadNo)
@@ -112,19 +114,14 @@ impl Tables {
         self.pools.give_pc(p, t, pc.wrapping_add(4));
     }
 
-    /// A step of the running thread from these registers: the instruction's effect on the registers and the memory, or
-    /// the partition stops at a break or a fault. Whether it is an ECALL, whose call is still to be carried out: the
-    /// thread still runs then, and its registers state the call, with the pc past the ECALL.
+    /// A step of the thread from these registers: the instruction's effect on the registers and the memory, or the
+    /// partition stops at a break or a fault. The call of an ECALL is left to be carried out.
     #[tactic(auto, using(crate::proofs::Wholes::moves))]
-    pub fn instruct(&mut self, p: PartId, t: ThreadNo, cpu: Cpu) -> bool
+    pub fn instruct(&mut self, p: PartId, t: ThreadNo, cpu: Cpu)
         requires partition { p < length self.old.limits }
-        requires running { (part_at p self.old).running ≡ Some t }
-        ensures told { result ≡ is_call (effect_at cpu (part_at p self.old).memory) }
-        ensures moved { self.new ≡ put_part p (after_instruction t cpu.pc (effect_at cpu (part_at p self.old).memory) (part_at p self.old)) self.old }
-        ensures active { IsTrue result → is_active (part_at p self.new).status ≡ true }
-        ensures still_running { IsTrue result → IsSome (part_at p self.new).running }
+        ensures { self.new ≡ put_part p (after_instruction t cpu.pc (effect_at cpu (part_at p self.old).memory) (part_at p self.old)) self.old }
     {
-        instruct(&mut self.pools, p, t, cpu)
+        instruct(&mut self.pools, p, t, cpu);
     }
 
     /// A thread of SCHED_RR that still runs after a step of so many ticks has used them; at the interval it goes to the

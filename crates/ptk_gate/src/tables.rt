@@ -6,6 +6,7 @@ ghost use Rattle.ptk_console.specs.ConsoleTable.{fresh_console};
 ghost use Rattle.ptk_gate_pools.specs.Blank.{blank};
 ghost use Rattle.ptk_gate_pools.specs.Kept.{AreParts, part_at};
 
+use ptk_clock::SharedDeadlines;
 use ptk_gate_pools::Pools;
 use ptk_regions::Regions;
 use ptk_threads::Threads;
@@ -71,6 +72,11 @@ impl Tables {
         ensures { result.now ≡ self.now.memory }
     {
         self.pools.regions()
+    }
+
+    /// The deadlines of all partitions' threads: one queue, of which each partition's are read by its slots.
+    pub fn deadlines(&self) -> &SharedDeadlines {
+        self.pools.deadlines()
     }
 
     /// Whether the partition goes on, or why it is halted.

@@ -1,12 +1,13 @@
 -- Moves composed of several, by name.
-use Rattle.std.specs.Prelude.{Bool, false, ◌&&◌, ◌||◌, Option, option_map, unwrap_or}
-use Rattle.ptk_words.specs.Names.{ThreadNumber, Priority, Word}
+use Rattle.std.specs.Prelude.{Bool, false, ◌&&◌, ◌||◌, if◌then◌else◌, Option, Some, None, option_map, unwrap_or}
+use Rattle.ptk_words.specs.Names.{ThreadNumber, Priority, Tick, Word}
 use Rattle.ptk_words.specs.declared.TheConstants.{RETURN_GATE}
 use Rattle.ptk_words.specs.declared.threads.Thread.{Thread}
 use Rattle.ptk_words.specs.declared.threads.Phase.TheVariants.{Unwinding}
 use Rattle.ptk_words.specs.declared.threads.Policy.{Policy}
 use Rattle.ptk_words_model.specs.declared.Cancellation.{Cancellation}
 use Rattle.ptk_words_model.specs.State.{Part, with_locks, with_cancellation, with_keys}
+use Rattle.ptk_words_model.specs.Time.{Timespec, is_timespec, deadline_of}
 use Rattle.ptk_words_model.specs.Keys.{no_rounds, with_rounds}
 use Rattle.ptk_words_model.specs.ThreadCreation.{new_cancellation}
 use Rattle.ptk_gate_pools.specs.Moves.{with_number, with_last}
@@ -32,3 +33,7 @@ begun t thread s =
 -- a policy and a priority, with no ticks used (pthread_setschedparam)
 abbrev pub with_scheduling : Policy → Priority → Thread → Thread
 with_scheduling policy priority thread = record thread { policy = policy; priority = priority; used = 0 }
+
+-- the deadline of a timespec, None where its nanoseconds are none (clock_nanosleep, EINVAL)
+abbrev pub deadline_asked : Timespec → Option Tick
+deadline_asked time = if is_timespec time then Some (deadline_of time) else None

@@ -3,9 +3,10 @@
 //! round-robin interval, the beginning of a thread and of an unwinding, cancellation points, and the calls that are no
 //! more than one of these. Each is one equation: the pools are the old ones with partition p's part replaced by the
 //! model's move, so that every other partition's part stays. A function of several moves begins with `parts`, which
-//! opens the invariant of the pools. Besides it is told what a word of a guest stands for: a thread, a priority, a place
-//! in memory. Below stands `ptk_gate_pools`; above, `ptk_gate_console`, `ptk_gate_threads`, `ptk_gate_sync` and the
-//! gate's tables, which make calls and decisions of these moves. Dear to prove is `begin`.
+//! opens the invariant of the pools. Besides it is told what a word of a guest stands for: a thread, a priority, a
+//! deadline, a place in memory. Below stands `ptk_gate_pools`; above, `ptk_gate_console`, `ptk_gate_threads`,
+//! `ptk_gate_sync`, `ptk_gate_time` and the gate's tables, which make calls and decisions of these moves. Dear to prove
+//! is `begin`.
 #![tactic(auto)]
 
 mod blocking;
@@ -16,6 +17,7 @@ mod intervals;
 mod places;
 mod replies;
 mod targets;
+mod times;
 mod unwinding;
 mod words;
 
@@ -27,5 +29,6 @@ pub use intervals::count_interval;
 pub use places::{end_turn, push_tail, step_back};
 pub use replies::{refuse, reply, succeed, succeed_with, succeed_with_two};
 pub use targets::{is_ended, is_taken, named_thread, target};
+pub use times::asked_deadline;
 pub use unwinding::start_unwinding;
 pub use words::{is_pointer, named_priority};

@@ -1,8 +1,14 @@
 pub mod Parted
 pub mod Numbers
 pub mod Stored
+pub mod Timed
 pub mod Vacant
 pub mod Locking
+pub mod TimedMoves
+pub mod Changed
+pub mod Synced
+pub mod Conditional
+pub mod Expired
 pub mod Built
 pub mod Ranks
 pub mod Opened

@@ -20,6 +20,7 @@ use Rattle.ptk_gate_pools.specs.Kept.{Kept, part_at, put_part}
 use Rattle.ptk_gate_pools.specs.Pooled.{kept_of, ArePooled}
 use Rattle.ptk_gate_pools.specs.declared.pools.Pools.TheInside.{Inside}
 use Rattle.ptk_gate_pools.proofs.Stored.{stored_changed}
+use Rattle.ptk_gate_pools.proofs.Timed.{timed_changed}
 
 -- ---- a number in use
 
@@ -124,6 +125,8 @@ row_pooled p i t tick n thread a memory slots last row =
       priorities = old.priorities;
       lines = old.lines;
       mutexes = old.mutexes;
+      conditions = old.conditions;
+      deadlines = old.deadlines;
       running = old.running;
       cancellations = old.cancellations;
       rounds = old.rounds;
@@ -132,6 +135,7 @@ row_pooled p i t tick n thread a memory slots last row =
       statuses = old.statuses;
       lasts = length-set a.lasts.items i last ∙ old.lasts;
       stored = stored_changed p t (computed n cpu) a.threads (record (a.threads) { threads = lent a.threads.threads p slots }) a.mutexes (table_put p t tick n thread a memory slots last row) (λ thread. refl) (λ thread. refl) old.stored;
+      timed = timed_changed p t (computed n cpu) a.threads (record (a.threads) { threads = lent a.threads.threads p slots }) a.deadlines (table_put p t tick n thread a memory slots last row) (λ thread. refl) old.timed;
     }
 
 -- a row is the model's

@@ -11,6 +11,7 @@ use Rattle.ptk_words_parted.specs.Parts.{part_of}
 use Rattle.ptk_words_model.specs.State.{Mutex}
 use Rattle.ptk_words_model.specs.Chain.{greatest_leading}
 use Rattle.ptk_words_model.specs.Priority.{ceiling_for, held_of, mutex_of_wait, awaited, inheritor_of, next_of, effective_priorities}
+use Rattle.ptk_words_model.specs.Schedule.{woken_with}
 use Rattle.ptk_threads.specs.Table.{ThreadTable, thread_in, stored_left, with_changed, with_slot, with_left, with_wait}
 use Rattle.ptk_threads.proofs.Slots.{length-pool_changed}
 use Rattle.ptk_threads.proofs.Pools.{pool_get-changed, pool_get-changed_other, part_of-set}
@@ -89,6 +90,16 @@ pub stored_changed : (p k : ℕ) (f : Thread → Thread) (table new : ThreadTabl
 stored_changed p k f table new mutexes e priority wait are =
     stored_same p k f table new mutexes e (level_kept f (thread_in table p k) priority) (awaited_kept f (thread_in table p k) wait) are
 
+woken_awaits : (values : List ℕ) (x : Option Thread) → awaited (option_map (woken_with values) x) ≡ None
+woken_awaits values None = refl
+woken_awaits values (Some thread) = refl
+
+-- a thread that waits for no mutex is woken
+pub priorities_woken : (k : ℕ) (values : List ℕ) (threads : List (Option Thread)) (mutexes : List (Option Mutex)) → awaited (pool_get threads k) ≡ None
+    → effective_priorities (pool_changed k (woken_with values) threads) mutexes ≡ effective_priorities threads mutexes
+priorities_woken k values threads mutexes free =
+    priorities_changed k (woken_with values) threads mutexes (level_kept (woken_with values) (pool_get threads k) (λ thread. refl)) (woken_awaits values (pool_get threads k) ∙ sym free)
+
 not_some : (o : Option ℕ) → is_some o ≡ false → o ≡ None
 not_some None e = refl
 not_some (Some m) e = absurd (cc e)
@@ -155,7 +166,7 @@ refreshed_changed p k f table mid new mutexes e again lt are =
       threads = λ q ne. get_or-set_other table.threads p q (pool_changed k f (part_of table.threads p)) [] ne;
     })) again are
 
-left_long : (p k : ℕ) (rest : Option Thread) (stored : List (List ℕ)) → length (stored_left p k rest stored) ≡ length stored
+pub left_long : (p k : ℕ) (rest : Option Thread) (stored : List (List ℕ)) → length (stored_left p k rest stored) ≡ length stored
 left_long p k None stored = length-set stored p (pool_set (part_of stored p) k 0)
 left_long p k (Some thread) stored = refl
 

@@ -2,10 +2,11 @@
 use Rattle.std.specs.Prelude.{◌≡◌, ◌≤◌, [], length, map, replicate, None}
 use Rattle.ptk_words_model.specs.Keys.{no_values}
 use Rattle.ptk_mutex.specs.Tables.{mutexes_of}
+use Rattle.ptk_cond.specs.Tables.{conditions_of}
 use Rattle.ptk_gate_pools.specs.declared.pools.Pools.TheInside.{Inside}
-use Rattle.ptk_gate_pools.specs.Kept.{Kept, AreStored, per_section}
+use Rattle.ptk_gate_pools.specs.Kept.{Kept, AreStored, AreTimed, per_section}
 
--- the tables: condition variables, keys and cleanup handlers are not in use
+-- the tables: keys and cleanup handlers are not in use
 abbrev pub kept_of : Inside → Kept
 kept_of a =
     record {
@@ -13,7 +14,7 @@ kept_of a =
       threads = a.threads.threads;
       lines = a.line;
       mutexes = mutexes_of a.mutexes a.threads;
-      conditions = per_section (λ l. l.conditions) None a.limits.items;
+      conditions = conditions_of a.conditions a.threads;
       running = a.running.items;
       cancellations = a.cancellations;
       cleanups = per_section (λ l. l.threads) [] a.limits.items;
@@ -26,7 +27,7 @@ kept_of a =
       limits = a.limits.items;
     }
 
--- every pool has an entry for each of at most 8 partitions, the consoles have the sections' numbers, and the stored priorities are the effective ones
+-- every pool has an entry for each of at most 8 partitions, the consoles have the sections' numbers, the stored priorities are the effective ones, and the kept deadlines are those of the threads' waits
 pub record ArePooled (a : Inside) : Type 0 where
   pub few : length a.limits.items ≤ 8
   pub memory : length a.regions ≡ length a.limits.items
@@ -34,6 +35,8 @@ pub record ArePooled (a : Inside) : Type 0 where
   pub priorities : length a.threads.stored ≡ length a.limits.items
   pub lines : length a.line ≡ length a.limits.items
   pub mutexes : length a.mutexes ≡ length a.limits.items
+  pub conditions : length a.conditions ≡ length a.limits.items
+  pub deadlines : length a.deadlines ≡ length a.limits.items
   pub running : length a.running.items ≡ length a.limits.items
   pub cancellations : length a.cancellations ≡ length a.limits.items
   pub rounds : length a.rounds ≡ length a.limits.items
@@ -42,3 +45,4 @@ pub record ArePooled (a : Inside) : Type 0 where
   pub statuses : length a.statuses.items ≡ length a.limits.items
   pub lasts : length a.lasts.items ≡ length a.limits.items
   pub stored : AreStored a.threads.stored a.threads.threads (mutexes_of a.mutexes a.threads)
+  pub timed : AreTimed a.deadlines a.threads.threads

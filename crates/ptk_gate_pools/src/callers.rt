@@ -13,7 +13,7 @@ use ptk_words::{PartId, ThreadNo, Tick};
 
 impl Pools {
     /// The thread goes on at this address; a free number stays free.
-    #[tactic(auto, using(crate::proofs::Parted::parted, crate::proofs::Stored::stored))]
+    #[tactic(auto, using(crate::proofs::Parted::parted, crate::proofs::Stored::stored, crate::proofs::Timed::kept))]
     pub fn give_pc(&mut self, p: PartId, t: ThreadNo, pc: u32)
         requires partition { p < length self.old.limits }
         ensures { self.new ≡ put_part p (with_locks (with_thread t (with_pc pc)) (part_at p self.old)) self.old }
@@ -22,7 +22,7 @@ impl Pools {
     }
 
     /// Puts the values into the thread's a0, a1 and so on; a free number stays free.
-    #[tactic(auto, using(crate::proofs::Parted::parted, crate::proofs::Stored::stored))]
+    #[tactic(auto, using(crate::proofs::Parted::parted, crate::proofs::Stored::stored, crate::proofs::Timed::kept))]
     pub fn give_values(&mut self, p: PartId, t: ThreadNo, values: &[u32])
         requires partition { p < length self.old.limits }
         requires few { length values.now < 4 }

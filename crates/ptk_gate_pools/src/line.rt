@@ -23,7 +23,7 @@ impl Pools {
     }
 
     /// Puts a thread that is in use and not in the line last.
-    #[tactic(auto, using(crate::proofs::Parted::parted, crate::proofs::Stored::stored))]
+    #[tactic(auto, using(crate::proofs::Parted::parted, crate::proofs::Stored::stored, crate::proofs::Timed::kept))]
     pub fn append(&mut self, p: PartId, t: ThreadNo)
         requires partition { p < length self.old.limits }
         requires in_use { IsSome (thread_at (part_at p self.old).locks t) }
@@ -34,7 +34,7 @@ impl Pools {
     }
 
     /// Puts a thread that is in use and not in the line first.
-    #[tactic(auto, using(crate::proofs::Parted::parted, crate::proofs::Stored::stored))]
+    #[tactic(auto, using(crate::proofs::Parted::parted, crate::proofs::Stored::stored, crate::proofs::Timed::kept))]
     pub fn push_head(&mut self, p: PartId, t: ThreadNo)
         requires partition { p < length self.old.limits }
         requires in_use { IsSome (thread_at (part_at p self.old).locks t) }
@@ -45,7 +45,7 @@ impl Pools {
     }
 
     /// Takes a thread out of the line; nothing changes where it is not in it.
-    #[tactic(auto, using(crate::proofs::Parted::parted, crate::proofs::Stored::stored))]
+    #[tactic(auto, using(crate::proofs::Parted::parted, crate::proofs::Stored::stored, crate::proofs::Timed::kept))]
     pub fn take_from_line(&mut self, p: PartId, t: ThreadNo)
         requires partition { p < length self.old.limits }
         ensures { self.new ≡ put_part p (with_locks (out_of_line t) (part_at p self.old)) self.old }

@@ -5,9 +5,11 @@ ghost use Rattle.std.specs.Prelude.{◌≡◌, ◌<◌, false, None, Some, [], l
 ghost use Rattle.std.specs.List.{list_any};
 ghost use Rattle.ptk_words.specs.Pools.{least_free};
 ghost use Rattle.ptk_words.specs.declared.mutexes.Soundness.TheVariants.{Consistent};
-ghost use Rattle.ptk_words.specs.declared.threads.Wait.TheVariants.{MutexWait};
+ghost use Rattle.ptk_words.specs.declared.TheConstants.{COUNT_LIMIT};
+ghost use Rattle.ptk_words.specs.declared.threads.Wait.TheVariants.{MutexWait, RelockWait};
+ghost use Rattle.ptk_words_model.specs.declared.LockMove.TheVariants.{Counts};
 ghost use Rattle.ptk_words_model.specs.State.{with_locks};
-ghost use Rattle.ptk_words_model.specs.Mutex.{mutex_at, new_mutex, waiters_of, wait_of, owns, owns_raising, lock_move, trylock_move, after_move, after_unlock, after_owner_end, with_soundness};
+ghost use Rattle.ptk_words_model.specs.Mutex.{mutex_at, new_mutex, waiters_of, wait_of, owns, owns_raising, count_of, lock_move, trylock_move, relock_move, after_move, after_unlock, after_owner_end, with_soundness};
 ghost use Rattle.ptk_words_model.specs.MutexCalls.{is_locked};
 ghost use Rattle.ptk_words_model.specs.Condition.{is_named, mutex_named, names_mutex};
 ghost use Rattle.ptk_words_model.specs.Calls.{with_pool_mutex};
@@ -15,6 +17,7 @@ ghost use Rattle.ptk_mutex_slots.specs.Slots.{state_of};
 ghost use Rattle.ptk_mutex.specs.Tables.{AreLocked, MayWait};
 ghost use Rattle.ptk_gate_pools.specs.Kept.{part_at, put_part};
 
+use crate::deadlines::follow_move;
 use crate::pools::Pools;
 use ptk_mutex::MutexState;
 use ptk_threads::Slot;
@@ -91,10 +94,18 @@ impl Pools {
         is_any_naming(self.threads.part(p), m)
     }
 
+    /// What lock would do now; nothing changes (pthread_mutex_lock, pthread_mutex_timedlock).
+    pub fn lock_move(&self, p: PartId, t: ThreadNo, m: MutexNo) -> LockMove
+        requires partition { p < length self.now.limits }
+        ensures { result ≡ lock_move (part_at p self.now).locks t (mutex_at (part_at p self.now).locks m) }
+    {
+        self.mutexes.lock_move(&self.threads, p, t, m)
+    }
+
     /// A thread that waits for no mutex locks this one, or waits for it, until the deadline (a tick) if there is one, or
     /// is refused (pthread_mutex_lock, pthread_mutex_timedlock). A deadline already reached is the caller's to refuse
     /// before.
-    #[tactic(auto, using(crate::proofs::Parted::parted, crate::proofs::Locking::moved))]
+    #[tactic(auto, using(crate::proofs::Parted::parted, crate::proofs::Locking::moved, crate::proofs::TimedMoves::moved))]
     pub fn lock(&mut self, p: PartId, t: ThreadNo, m: MutexNo, deadline: Option<Tick>) -> LockMove
         requires partition { p < length self.old.limits }
         requires locked { AreLocked (part_at p self.old).locks }
@@ -102,12 +113,37 @@ impl Pools {
         ensures told { result ≡ lock_move (part_at p self.old).locks t (mutex_at (part_at p self.old).locks m) }
         ensures moved { self.new ≡ put_part p (with_locks (after_move (lock_move (part_at p self.old).locks t (mutex_at (part_at p self.old).locks m)) t m (MutexWait m deadline)) (part_at p self.old)) self.old }
     {
-        self.mutexes
-            .lock(&self.line, &mut self.threads, p, t, m, deadline)
+        let until = deadline;
+        let wait = Wait::MutexWait(m, until);
+        let made = self
+            .mutexes
+            .lock(&self.line, &mut self.threads, p, t, m, deadline);
+        follow_move(&mut self.deadlines, p, t, made, wait);
+        made
+    }
+
+    /// A thread that waits for no mutex re-locks this one, or waits for it with this reply if it is told any, or goes on
+    /// without it where it can't be locked any more (pthread_cond_timedwait whose deadline was already reached). Where it
+    /// still owns the mutex, the count is below the limit.
+    #[tactic(auto, using(crate::proofs::Parted::parted, crate::proofs::Locking::moved, crate::proofs::TimedMoves::moved))]
+    pub fn lock_again(&mut self, p: PartId, t: ThreadNo, m: MutexNo, reply: Option<u32>) -> LockMove
+        requires partition { p < length self.old.limits }
+        requires locked { AreLocked (part_at p self.old).locks }
+        requires caller { MayWait (part_at p self.old).locks t }
+        requires countable { relock_move t (mutex_at (part_at p self.old).locks m) ≡ Counts → count_of (mutex_at (part_at p self.old).locks m) < COUNT_LIMIT }
+        ensures told { result ≡ relock_move t (mutex_at (part_at p self.old).locks m) }
+        ensures moved { self.new ≡ put_part p (with_locks (after_move (relock_move t (mutex_at (part_at p self.old).locks m)) t m (RelockWait m reply)) (part_at p self.old)) self.old }
+    {
+        let wait = Wait::RelockWait(m, reply);
+        let made = self
+            .mutexes
+            .lock_again(&self.line, &mut self.threads, p, t, m, reply);
+        follow_move(&mut self.deadlines, p, t, made, wait);
+        made
     }
 
     /// A thread that waits for no mutex locks this one, or is refused (pthread_mutex_trylock).
-    #[tactic(auto, using(crate::proofs::Parted::parted, crate::proofs::Locking::moved))]
+    #[tactic(auto, using(crate::proofs::Parted::parted, crate::proofs::Locking::moved, crate::proofs::TimedMoves::moved))]
     pub fn trylock(&mut self, p: PartId, t: ThreadNo, m: MutexNo) -> LockMove
         requires partition { p < length self.old.limits }
         requires locked { AreLocked (part_at p self.old).locks }
@@ -115,21 +151,24 @@ impl Pools {
         ensures told { result ≡ trylock_move (part_at p self.old).locks t (mutex_at (part_at p self.old).locks m) }
         ensures moved { self.new ≡ put_part p (with_locks (after_move (trylock_move (part_at p self.old).locks t (mutex_at (part_at p self.old).locks m)) t m (MutexWait m None)) (part_at p self.old)) self.old }
     {
-        self.mutexes.trylock(&self.line, &mut self.threads, p, t, m)
+        let made = self.mutexes.trylock(&self.line, &mut self.threads, p, t, m);
+        follow_move(&mut self.deadlines, p, t, made, Wait::MutexWait(m, None));
+        made
     }
 
     /// An owner unlocks its mutex once (pthread_mutex_unlock).
-    #[tactic(auto, using(crate::proofs::Parted::parted, crate::proofs::Locking::moved))]
+    #[tactic(auto, using(crate::proofs::Parted::parted, crate::proofs::Locking::moved, crate::proofs::TimedMoves::moved))]
     pub fn unlock(&mut self, p: PartId, m: MutexNo)
         requires partition { p < length self.old.limits }
         requires locked { AreLocked (part_at p self.old).locks }
         ensures { self.new ≡ put_part p (with_locks (after_unlock m) (part_at p self.old)) self.old }
     {
-        self.mutexes.unlock(&mut self.line, &mut self.threads, p, m);
+        let woken = self.mutexes.unlock(&mut self.line, &mut self.threads, p, m);
+        self.deadlines.end_all(p, woken);
     }
 
     /// What the mutex guards is sound again (pthread_mutex_consistent).
-    #[tactic(auto, using(crate::proofs::Parted::parted, crate::proofs::Locking::moved))]
+    #[tactic(auto, using(crate::proofs::Parted::parted, crate::proofs::Locking::moved, crate::proofs::TimedMoves::moved))]
     pub fn make_consistent(&mut self, p: PartId, m: MutexNo)
         requires partition { p < length self.old.limits }
         requires locked { AreLocked (part_at p self.old).locks }
@@ -139,14 +178,16 @@ impl Pools {
     }
 
     /// What the end of the thread makes of the mutexes that it owns (pthread_mutexattr_setrobust; own choice).
-    #[tactic(auto, using(crate::proofs::Parted::parted, crate::proofs::Locking::moved))]
+    #[tactic(auto, using(crate::proofs::Parted::parted, crate::proofs::Locking::moved, crate::proofs::TimedMoves::moved))]
     pub fn abandon(&mut self, p: PartId, t: ThreadNo)
         requires partition { p < length self.old.limits }
         requires locked { AreLocked (part_at p self.old).locks }
         ensures { self.new ≡ put_part p (with_locks (after_owner_end t) (part_at p self.old)) self.old }
     {
-        self.mutexes
+        let heirs = self
+            .mutexes
             .abandon(&mut self.line, &mut self.threads, p, t);
+        self.deadlines.end_all(p, heirs);
     }
 }
 

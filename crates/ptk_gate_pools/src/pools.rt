@@ -3,6 +3,8 @@
 ghost use Rattle.std.specs.Prelude.{◌≡◌, length};
 ghost use Rattle.ptk_gate_pools.specs.Kept.{AreParts};
 
+use ptk_clock::ThreadDeadlines;
+use ptk_cond::Conditions;
 use ptk_console::Consoles;
 use ptk_mutex::Mutexes;
 use ptk_ready::VecLine;
@@ -20,6 +22,8 @@ pub struct Pools {
     pub(crate) threads: Threads,
     pub(crate) line: VecLine,
     pub(crate) mutexes: Mutexes,
+    pub(crate) conditions: Conditions,
+    pub(crate) deadlines: ThreadDeadlines,
     pub(crate) running: Vec<Option<ThreadNo>>,
     pub(crate) cancellations: Parted<Cancellation>,
     pub(crate) rounds: Parted<Rounds>,

@@ -10,6 +10,7 @@ use std::test::Fail;
 fn limits_of(threads: u32) -> Limits
     ensures threads { result.threads ≡ threads }
     ensures mutexes { result.mutexes ≡ 4 }
+    ensures conditions { result.conditions ≡ 4 }
 {
     Limits {
         memory: 4096,

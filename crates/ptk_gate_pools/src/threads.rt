@@ -14,33 +14,36 @@ ghost use Rattle.ptk_gate_pools.specs.Kept.{part_at, put_part};
 ghost use Rattle.ptk_mutex.specs.Tables.{AreLocked};
 ghost use Rattle.ptk_gate_pools.specs.Moves.{with_number, with_left};
 
+use crate::deadlines::follow_wait;
 use crate::pools::Pools;
 use ptk_words::{Cpu, PartId, Phase, Policy, Priority, Thread, ThreadNo, Wait};
 
 impl Pools {
     /// The least free number is the thread's.
-    #[tactic(auto, using(crate::proofs::Parted::parted, crate::proofs::Stored::refreshed, crate::proofs::Numbers::taken))]
+    #[tactic(auto, using(crate::proofs::Parted::parted, crate::proofs::Stored::refreshed, crate::proofs::Timed::followed, crate::proofs::Numbers::taken))]
     pub fn take_number(&mut self, p: PartId, t: ThreadNo, thread: Thread)
         requires partition { p < length self.old.limits }
         requires free { least_free (part_at p self.old).threads ≡ Some t }
         ensures { self.new ≡ put_part p (with_locks (with_number t thread) (part_at p self.old)) self.old }
     {
         self.threads.create(p, thread);
+        follow_wait(&mut self.deadlines, &self.threads, p, t);
         self.mutexes.refresh(&mut self.threads, p);
     }
 
     /// The number becomes free; a free number stays free.
-    #[tactic(auto, using(crate::proofs::Parted::parted, crate::proofs::Stored::refreshed))]
+    #[tactic(auto, using(crate::proofs::Parted::parted, crate::proofs::Stored::refreshed, crate::proofs::Timed::followed))]
     pub fn free(&mut self, p: PartId, t: ThreadNo)
         requires partition { p < length self.old.limits }
         ensures { self.new ≡ put_part p (with_locks (without_thread t) (part_at p self.old)) self.old }
     {
         self.threads.free(p, t);
+        follow_wait(&mut self.deadlines, &self.threads, p, t);
         self.mutexes.refresh(&mut self.threads, p);
     }
 
     /// The thread has these registers.
-    #[tactic(auto, using(crate::proofs::Parted::parted, crate::proofs::Stored::stored))]
+    #[tactic(auto, using(crate::proofs::Parted::parted, crate::proofs::Stored::stored, crate::proofs::Timed::kept))]
     pub fn give_cpu(&mut self, p: PartId, t: ThreadNo, cpu: Cpu)
         requires partition { p < length self.old.limits }
         ensures { self.new ≡ put_part p (with_cpu t cpu (part_at p self.old)) self.old }
@@ -49,7 +52,7 @@ impl Pools {
     }
 
     /// The thread has this policy (XSH 2.8.4).
-    #[tactic(auto, using(crate::proofs::Parted::parted, crate::proofs::Stored::stored))]
+    #[tactic(auto, using(crate::proofs::Parted::parted, crate::proofs::Stored::stored, crate::proofs::Timed::kept))]
     pub fn give_policy(&mut self, p: PartId, t: ThreadNo, policy: Policy)
         requires partition { p < length self.old.limits }
         ensures { self.new ≡ put_part p (with_locks (with_thread t (with_policy policy)) (part_at p self.old)) self.old }
@@ -58,7 +61,7 @@ impl Pools {
     }
 
     /// The thread has this assigned priority (XSH 2.8.4).
-    #[tactic(auto, using(crate::proofs::Parted::parted, crate::proofs::Locking::moved))]
+    #[tactic(auto, using(crate::proofs::Parted::parted, crate::proofs::Locking::moved, crate::proofs::TimedMoves::moved))]
     pub fn give_priority(&mut self, p: PartId, t: ThreadNo, priority: Priority)
         requires partition { p < length self.old.limits }
         requires locked { AreLocked (part_at p self.old).locks }
@@ -69,7 +72,7 @@ impl Pools {
     }
 
     /// The thread has used so many ticks of its interval (XSH 2.8.4, SCHED_RR).
-    #[tactic(auto, using(crate::proofs::Parted::parted, crate::proofs::Stored::stored))]
+    #[tactic(auto, using(crate::proofs::Parted::parted, crate::proofs::Stored::stored, crate::proofs::Timed::kept))]
     pub fn give_used(&mut self, p: PartId, t: ThreadNo, used: u32)
         requires partition { p < length self.old.limits }
         ensures { self.new ≡ put_part p (with_used t used (part_at p self.old)) self.old }
@@ -78,7 +81,7 @@ impl Pools {
     }
 
     /// The thread waits for this, or for nothing (XSH 2.8.4).
-    #[tactic(auto, using(crate::proofs::Parted::parted, crate::proofs::Stored::refreshed))]
+    #[tactic(auto, using(crate::proofs::Parted::parted, crate::proofs::Stored::refreshed, crate::proofs::Timed::followed))]
     pub fn give_wait(&mut self, p: PartId, t: ThreadNo, wait: Option<Wait>)
         requires partition { p < length self.old.limits }
         ensures { self.new ≡ put_part p (with_locks (with_thread t (with_wait wait)) (part_at p self.old)) self.old }
@@ -86,6 +89,7 @@ impl Pools {
         let had_mutex = is_for_mutex(&self.threads.wait(p, t));
         let has_mutex = is_for_mutex(&wait);
         self.threads.set_wait(p, t, wait);
+        follow_wait(&mut self.deadlines, &self.threads, p, t);
         if !had_mutex && !has_mutex {
             return;
         }
@@ -93,7 +97,7 @@ impl Pools {
     }
 
     /// The thread is this far (pthread_exit).
-    #[tactic(auto, using(crate::proofs::Parted::parted, crate::proofs::Stored::stored))]
+    #[tactic(auto, using(crate::proofs::Parted::parted, crate::proofs::Stored::stored, crate::proofs::Timed::kept))]
     pub fn give_phase(&mut self, p: PartId, t: ThreadNo, phase: Phase)
         requires partition { p < length self.old.limits }
         ensures { self.new ≡ put_part p (with_locks (with_thread t (with_phase phase)) (part_at p self.old)) self.old }
@@ -102,7 +106,7 @@ impl Pools {
     }
 
     /// The thread has this result (pthread_exit).
-    #[tactic(auto, using(crate::proofs::Parted::parted, crate::proofs::Stored::stored))]
+    #[tactic(auto, using(crate::proofs::Parted::parted, crate::proofs::Stored::stored, crate::proofs::Timed::kept))]
     pub fn give_result(&mut self, p: PartId, t: ThreadNo, value: u32)
         requires partition { p < length self.old.limits }
         ensures { self.new ≡ put_part p (with_locks (with_thread t (with_result value)) (part_at p self.old)) self.old }
@@ -111,7 +115,7 @@ impl Pools {
     }
 
     /// The thread's end is waited for by this one (pthread_join).
-    #[tactic(auto, using(crate::proofs::Parted::parted, crate::proofs::Stored::stored))]
+    #[tactic(auto, using(crate::proofs::Parted::parted, crate::proofs::Stored::stored, crate::proofs::Timed::kept))]
     pub fn give_joiner(&mut self, p: PartId, t: ThreadNo, joiner: ThreadNo)
         requires partition { p < length self.old.limits }
         ensures { self.new ≡ put_part p (with_locks (with_thread t (with_joiner (Some joiner))) (part_at p self.old)) self.old }
@@ -120,22 +124,24 @@ impl Pools {
     }
 
     /// The thread is detached: its number is free where it has ended (pthread_detach).
-    #[tactic(auto, using(crate::proofs::Parted::parted, crate::proofs::Stored::refreshed))]
+    #[tactic(auto, using(crate::proofs::Parted::parted, crate::proofs::Stored::refreshed, crate::proofs::Timed::followed))]
     pub fn detach(&mut self, p: PartId, t: ThreadNo)
         requires partition { p < length self.old.limits }
         ensures { self.new ≡ put_part p (with_locks (with_left t left_at_detach) (part_at p self.old)) self.old }
     {
         self.threads.detach(p, t);
+        follow_wait(&mut self.deadlines, &self.threads, p, t);
         self.mutexes.refresh(&mut self.threads, p);
     }
 
     /// The thread has ended: its number stays with the result until a join or a detachment, or is free (pthread_exit).
-    #[tactic(auto, using(crate::proofs::Parted::parted, crate::proofs::Stored::refreshed))]
+    #[tactic(auto, using(crate::proofs::Parted::parted, crate::proofs::Stored::refreshed, crate::proofs::Timed::followed))]
     pub fn end(&mut self, p: PartId, t: ThreadNo)
         requires partition { p < length self.old.limits }
         ensures { self.new ≡ put_part p (with_locks (with_left t left_at_end) (part_at p self.old)) self.old }
     {
         self.threads.end(p, t);
+        follow_wait(&mut self.deadlines, &self.threads, p, t);
         self.mutexes.refresh(&mut self.threads, p);
     }
 }

@@ -1,2 +1,4 @@
 pub mod StepEffects
+pub mod DeadlineStops
 pub mod QuietStops
+pub mod IdleStops

@@ -3,7 +3,7 @@
 ghost use Rattle.std.specs.Prelude.{◌≡◌, ◌<◌, length};
 ghost use Rattle.ptk_words_instructions.specs.Instructions.{effect_at};
 ghost use Rattle.ptk_gate_pools.specs.Kept.{part_at, put_part};
-ghost use Rattle.ptk_gate_steps.specs.Instructions.{after_instruction, is_call, settled, is_called};
+ghost use Rattle.ptk_gate_steps.specs.Instructions.{after_instruction, settled};
 
 use ptk_gate_moves::halt;
 use ptk_gate_pools::Pools;
@@ -11,44 +11,28 @@ use ptk_rv32i::Outcome;
 use ptk_words::{Cause, Cpu, PartId, Status, ThreadNo};
 
 /// A step of the thread, which has these registers: the instruction's effect on the registers and the memory, or the
-/// partition stops at a break or a fault, which leaves both. Whether it is an ECALL, whose call is still to be carried
-/// out on the state that this leaves.
-pub fn instruct(pools: &mut Pools, p: PartId, t: ThreadNo, cpu: Cpu) -> bool
+/// partition stops at a break or a fault, which leaves both. The call of an ECALL is left to be carried out on the state
+/// after it.
+pub fn instruct(pools: &mut Pools, p: PartId, t: ThreadNo, cpu: Cpu)
     requires partition { p < length pools.old.limits }
-    ensures told { result ≡ is_call (effect_at cpu (part_at p pools.old).memory) }
-    ensures moved { pools.new ≡ put_part p (after_instruction t cpu.pc (effect_at cpu (part_at p pools.old).memory) (part_at p pools.old)) pools.old }
+    ensures { pools.new ≡ put_part p (after_instruction t cpu.pc (effect_at cpu (part_at p pools.old).memory) (part_at p pools.old)) pools.old }
 {
     let _parts = pools.parts();
     let pc = cpu.pc();
     let mut after = cpu;
     let outcome = pools.step_memory(p, &mut after);
-    settle(pools, p, t, pc, outcome, after)
+    settle(pools, p, t, pc, outcome, after);
 }
 
-/// After a step that came to this: the thread has the registers, or the partition has stopped at the pc. Whether it
-/// is an ECALL, whose call is still to be carried out.
+/// After a step that came to this: the thread has the registers, or the partition has stopped at the pc.
 #[tactic(auto, using(ptk_gate_pools::proofs::Parted::parted))]
-fn settle(pools: &mut Pools, p: PartId, t: ThreadNo, pc: u32, outcome: Outcome, cpu: Cpu) -> bool
+fn settle(pools: &mut Pools, p: PartId, t: ThreadNo, pc: u32, outcome: Outcome, cpu: Cpu)
     requires partition { p < length pools.old.limits }
-    ensures told { result ≡ is_called outcome }
-    ensures moved { pools.new ≡ put_part p (settled t pc outcome cpu (part_at p pools.old)) pools.old }
+    ensures { pools.new ≡ put_part p (settled t pc outcome cpu (part_at p pools.old)) pools.old }
 {
     match outcome {
-        Outcome::Done => {
-            pools.give_cpu(p, t, cpu);
-            false
-        }
-        Outcome::Call => {
-            pools.give_cpu(p, t, cpu);
-            true
-        }
-        Outcome::Break => {
-            halt(pools, p, Status::Stopped(Cause::Break, pc));
-            false
-        }
-        Outcome::Fault(kind) => {
-            halt(pools, p, Status::Stopped(Cause::Fault(kind), pc));
-            false
-        }
+        Outcome::Done | Outcome::Call => pools.give_cpu(p, t, cpu),
+        Outcome::Break => halt(pools, p, Status::Stopped(Cause::Break, pc)),
+        Outcome::Fault(kind) => halt(pools, p, Status::Stopped(Cause::Fault(kind), pc)),
     }
 }

@@ -1,6 +1,6 @@
 //! Whether a partition only computes, and up to which tick.
 
-ghost use Rattle.std.specs.Prelude.{◌≡◌, ℕ, ◌^◌, ◌<◌, ◌≤◌, true, length, min, Some, IfSome, IsSome};
+ghost use Rattle.std.specs.Prelude.{◌≡◌, ℕ, ◌^◌, ◌<◌, ◌≤◌, true, length, min, Some, IfSome, IsSome, option_map, unwrap_or};
 ghost use Rattle.std.specs.Option.{IsSomeAnd};
 ghost use Rattle.ptk_words.specs.declared.TheConstants.{RETURN_GATE};
 ghost use Rattle.ptk_words.specs.declared.threads.Thread.{Thread};
@@ -10,7 +10,7 @@ ghost use Rattle.ptk_words_model.specs.Run.{is_active};
 ghost use Rattle.ptk_words_well.specs.Well.{IsWell};
 ghost use Rattle.ptk_words_quiet.specs.Quiet.{stays_before, IsQuiet};
 ghost use Rattle.ptk_gate_pools.specs.Kept.{part_at, limits_at};
-ghost use Rattle.ptk_gate_steps.specs.QuietStops.{quiet_stop};
+ghost use Rattle.ptk_gate_steps.specs.QuietStops.{before_event, quiet_stop};
 
 use ptk_gate_moves::is_to_unwind;
 use ptk_gate_pools::Pools;
@@ -96,23 +96,39 @@ fn stays(pools: &Pools, p: PartId, t: ThreadNo) -> bool
     }
 }
 
-/// The tick before which no input comes and the thread's interval does not end.
+/// The tick before which no input comes, no deadline is due and the thread's interval does not end.
 fn stop_of(pools: &Pools, p: PartId, thread: &Thread, tick: Tick, stop: Tick) -> Tick
     requires partition { p < length pools.now.limits }
     requires room { thread.now.used < (limits_at p pools.now).interval }
     requires time { tick ≤ 2 ^ 41 }
-    ensures { result ≡ quiet_stop (limits_at p pools.now) tick thread.now (part_at p pools.now).console stop }
+    ensures { result ≡ quiet_stop (limits_at p pools.now) tick thread.now (part_at p pools.now) stop }
 {
-    let stop = match pools.next_arrival_tick(p) {
-        Some(first) => earlier(first, stop),
-        None => stop,
-    };
+    let stop = before_events(pools, p, stop);
     match thread.policy {
         Policy::Fifo => stop,
         Policy::RoundRobin => {
             let left = pools.interval(p) - thread.used - 1;
             earlier(Tick::new(tick.ticks() + u64::from(left)), stop)
         }
+    }
+}
+
+/// The tick before which no input comes and no deadline is due, at most `stop`.
+pub(crate) fn before_events(pools: &Pools, p: PartId, stop: Tick) -> Tick
+    requires { p < length pools.now.limits }
+    ensures { result ≡ before_event (part_at p pools.now) stop }
+{
+    let stop = before(pools.next_arrival_tick(p), stop);
+    before(pools.next_deadline(p), stop)
+}
+
+/// The earlier of a tick, if there is one, and another.
+fn before(first: Option<Tick>, stop: Tick) -> Tick
+    ensures { result ≡ unwrap_or (option_map (λ tick. min tick stop) first) stop }
+{
+    match first {
+        Some(first) => earlier(first, stop),
+        None => stop,
     }
 }
 

@@ -17,3 +17,11 @@ told_on row rest reply e told = told ∙ ap (λ (a : Answer). a.reply) (sym e)
 pub moved_on : (p : ℕ) (u : Part) (row rest : Answer) (kept mid new : Kept) → row ≡ rest → mid ≡ put_part p u kept → new ≡ put_part p rest.part mid → new ≡ put_part p row.part kept
 moved_on p u row rest kept mid new e first second =
     second ∙ ap (put_part p rest.part) first ∙ put_part-put p rest.part u kept ∙ ap (λ (a : Answer). put_part p a.part kept) (sym e)
+
+-- the state that the rest of a row leaves is the row's
+pub moved_as : (p : ℕ) (row rest : Answer) (kept new : Kept) → row ≡ rest → new ≡ put_part p rest.part kept → new ≡ put_part p row.part kept
+moved_as p row rest kept new e moved = moved ∙ ap (λ (a : Answer). put_part p a.part kept) (sym e)
+
+-- what two moves in a row leave is the second one's part put
+pub moved_twice : (p : ℕ) (u v : Part) (kept mid new : Kept) → mid ≡ put_part p u kept → new ≡ put_part p v mid → new ≡ put_part p v kept
+moved_twice p u v kept mid new first second = second ∙ ap (put_part p v) first ∙ put_part-put p v u kept

@@ -1,11 +1,12 @@
 //! The mutex of the word that a call points to.
 
-ghost use Rattle.std.specs.Prelude.{◌≡◌, ◌<◌, ◌≤◌, length, is_some, Ok, Err, if◌then◌else◌, IfErr};
+ghost use Rattle.std.specs.Prelude.{◌≡◌, ◌<◌, ◌≤◌, true, length, is_some, Ok, Err, if◌then◌else◌};
 ghost use Rattle.ptk_words.specs.Pools.{pool_get};
 ghost use Rattle.ptk_words.specs.declared.faults.Errno.TheVariants.{EINVAL};
+ghost use Rattle.ptk_words_model.specs.Calls.{is_pointer};
 ghost use Rattle.ptk_words_well.specs.Well.{IsWell};
 ghost use Rattle.ptk_gate_pools.specs.Kept.{part_at, put_part, limits_at};
-ghost use Rattle.ptk_gate_sync.specs.Named.{IsNamed};
+ghost use Rattle.ptk_gate_sync.specs.Named.{IsNamed, IsMutexOfWord};
 
 use crate::creation::{NewMutex, make};
 use ptk_gate_moves::is_pointer;
@@ -14,23 +15,38 @@ use ptk_mutex_slots::MutexSlot;
 use ptk_words::{Errno, MutexKind, MutexNo, PartId, Protocol, read_word};
 use ptk_words_model::Invocation;
 
-/// The mutex that the word at the pointer of a0 names. A word of 0 (PTHREAD_MUTEX_INITIALIZER) sets up a mutex of default
-/// attributes at the least free number, which the word then holds; it stays also where the call is then refused.
-/// EFAULT where the pointer is no multiple of 4 or the word lies outside memory, ENOMEM where a mutex is to be set up
-/// and no number is free, EINVAL of a word that is neither 0 nor the number of a mutex in use (own choice): nothing
-/// changes then.
+/// The mutex that the word at the pointer of a0 names. A word of 0 (PTHREAD_MUTEX_INITIALIZER) sets up a mutex of
+/// default attributes at the least free number, which the word then holds; it stays also where the call is then
+/// refused. EFAULT where the pointer is no multiple of 4 or the word lies outside memory, ENOMEM where a mutex is to be
+/// set up and no number is free, EINVAL of a word that is neither 0 nor the number of a mutex in use (own choice):
+/// nothing changes then.
+#[tactic(auto, using(crate::proofs::Namings::naming))]
 pub(crate) fn named_mutex(pools: &mut Pools, p: PartId, i: &Invocation) -> Result<MutexNo, Errno>
     requires partition { p < length pools.old.limits }
     requires well { IsWell (limits_at p pools.old) (part_at p pools.old) }
     ensures named { IsNamed (limits_at p pools.old) i.now (part_at p pools.old) result (part_at p pools.new) }
     ensures moved { pools.new ≡ put_part p (part_at p pools.new) pools.old }
-    ensures refused { IfErr result (λ _. pools.new ≡ pools.old) }
 {
     let _parts = pools.parts();
-    if !is_pointer(pools, p, i.a0, 4) {
-        return Err(Errno::EFAULT);
+    if is_pointer(pools, p, i.a0, 4) {
+        mutex_of_word(pools, p, i.a0)
+    } else {
+        Err(Errno::EFAULT)
     }
-    let word = read_word(pools.regions().part(p), i.a0 as usize);
+}
+
+/// The mutex that the word at a pointer names; a word of 0 sets it up, as for `named_mutex`. ENOMEM and EINVAL as
+/// there.
+#[tactic(auto, using(crate::proofs::Namings::naming))]
+pub(crate) fn mutex_of_word(pools: &mut Pools, p: PartId, pointer: u32) -> Result<MutexNo, Errno>
+    requires partition { p < length pools.old.limits }
+    requires well { IsWell (limits_at p pools.old) (part_at p pools.old) }
+    requires word { is_pointer (part_at p pools.old) pointer 4 ≡ true }
+    ensures named { IsMutexOfWord (limits_at p pools.old) pointer (part_at p pools.old) result (part_at p pools.new) }
+    ensures moved { pools.new ≡ put_part p (part_at p pools.new) pools.old }
+{
+    let _parts = pools.parts();
+    let word = read_word(pools.regions().part(p), pointer as usize);
     if word != 0 {
         return known_mutex(pools.mutexes().part(p), word);
     }
@@ -43,7 +59,7 @@ pub(crate) fn named_mutex(pools: &mut Pools, p: PartId, i: &Invocation) -> Resul
         protocol: Protocol::NoProtocol,
         is_robust: false,
     };
-    make(pools, p, i.a0, new);
+    make(pools, p, pointer, new);
     Ok(number)
 }
 

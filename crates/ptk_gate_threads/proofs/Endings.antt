@@ -13,7 +13,7 @@ use Rattle.ptk_words_model.specs.Unwinding.{after_release, after_last_end, after
 use Rattle.ptk_words_locks.specs.Locks.{joiner_of}
 use Rattle.ptk_words_well.specs.Well.{IsWell}
 use Rattle.ptk_words.specs.Pools.{is_in}
-use Rattle.ptk_words_well.proofs.Expiries.{cleanups_none, next_destructor_none}
+use Rattle.ptk_words_well.proofs.Destructors.{cleanups_none, next_destructor_none}
 use Rattle.ptk_words_locks.proofs.Lined.{not_ready_out}
 use Rattle.ptk_words_well.proofs.Whole.{lined_of}
 use Rattle.ptk_words_well.proofs.Waits.{waits_not_ready}

@@ -1,4 +1,4 @@
--- A thread gives up its mutexes: threads, line and mutexes stay whole, and what its end reads of it stays, also where it does not run.
+-- A thread gives up its mutexes: threads, line, mutexes and condition variables stay whole, and what its end reads of it stays, also where it does not run.
 use Rattle.std.proofs.Common.{◌≡◌, ℕ, Bool, true, false, List, [], ◌∷◌, fold, refl, ◌∙◌}
 use Rattle.std.specs.Prelude.{Option, Some, None, option_map, if◌then◌else◌}
 use Rattle.ptk_words.specs.Pools.{numbers_of}
@@ -6,41 +6,45 @@ use Rattle.ptk_words.specs.declared.sections.Limits.{Limits}
 use Rattle.ptk_words.specs.declared.threads.Thread.{Thread}
 use Rattle.ptk_words.specs.declared.mutexes.Soundness.TheVariants.{Inconsistent}
 use Rattle.ptk_words_model.specs.declared.LockMove.{LockMove}
-use Rattle.ptk_words_model.specs.State.{Mutex, Locks, Part, with_locks}
+use Rattle.ptk_words_model.specs.State.{Mutex, Locks, Syncs, Part, with_locks}
 use Rattle.ptk_words_model.specs.Priority.{thread_at, is_owner}
 use Rattle.ptk_words_model.specs.Mutex.{mutex_at, soundness_of, with_soundness, handed, heir, free_move, after_hand_over_to, after_bequest, after_abandonment, after_mutex_end, after_owner_end}
 use Rattle.ptk_words_model.specs.Unwinding.{after_release}
 use Rattle.ptk_words_locks.proofs.Threads.{changed_same}
-use Rattle.ptk_words_locks.proofs.Whole.{AreLocks}
-use Rattle.ptk_words_locks.proofs.Sizes.{length-owner_end_threads, length-owner_end_mutexes}
-use Rattle.ptk_words_locks.proofs.Handovers.{locks_soundness, locks_abandonment, locks_hand_over}
+use Rattle.ptk_words_locks.proofs.Timed.{AreSyncs, syncs_soundness, syncs_abandonment, syncs_hand_over}
 use Rattle.ptk_words_well.specs.Well.{IsWell}
-use Rattle.ptk_words_well.proofs.Whole.{locks_of, well_locks}
+use Rattle.ptk_words_well.proofs.Synced.{syncs_of_well, well_syncs_by}
+use Rattle.ptk_words_well.proofs.SyncSizes.{sized_owner_end}
 
--- ---- threads, line and mutexes stay whole
+-- ---- threads, line, mutexes and condition variables stay whole
 
-locks_either : (interval m : ℕ) (running : Option ℕ) (waiters : List ℕ) (owned robust : Bool) (locks : Locks) → AreLocks interval running waiters locks
-    → AreLocks interval running waiters (if owned then (if robust then after_bequest m locks else after_abandonment m locks) else locks)
-locks_either interval m running waiters false robust locks are = are
-locks_either interval m running waiters true true locks are =
-    locks_hand_over interval m running waiters (with_soundness Inconsistent m locks) (locks_soundness interval m running waiters Inconsistent locks are)
-locks_either interval m running waiters true false locks are = locks_abandonment interval m running waiters locks are
+-- these threads, line and mutexes, with the same condition variables (own)
+abbrev locked : Locks → Syncs → Syncs
+locked locks syncs = record syncs { locks = locks }
 
-locks_mutex_end : (interval t m : ℕ) (running : Option ℕ) (waiters : List ℕ) (mutex : Option Mutex) (locks : Locks) → AreLocks interval running waiters locks → AreLocks interval running waiters (after_mutex_end t mutex m locks)
-locks_mutex_end interval t m running waiters None locks are = are
-locks_mutex_end interval t m running waiters (Some x) locks are = locks_either interval m running waiters (is_owner t x.owner) x.is_robust locks are
+syncs_either : (interval m : ℕ) (running : Option ℕ) (waiters : List ℕ) (owned robust : Bool) (syncs : Syncs) → AreSyncs interval running waiters syncs
+    → AreSyncs interval running waiters (locked (if owned then (if robust then after_bequest m syncs.locks else after_abandonment m syncs.locks) else syncs.locks) syncs)
+syncs_either interval m running waiters false robust syncs are = are
+syncs_either interval m running waiters true true syncs are =
+    syncs_hand_over interval m running waiters (locked (with_soundness Inconsistent m syncs.locks) syncs) (syncs_soundness interval m running waiters Inconsistent syncs are)
+syncs_either interval m running waiters true false syncs are = syncs_abandonment interval m running waiters syncs are
 
-locks_ends : (interval t : ℕ) (running : Option ℕ) (waiters : List ℕ) (ms : List ℕ) (locks : Locks) → AreLocks interval running waiters locks
-    → AreLocks interval running waiters (fold (λ out m. after_mutex_end t (mutex_at out m) m out) locks ms)
-locks_ends interval t running waiters [] locks are = are
-locks_ends interval t running waiters (m ∷ ms) locks are =
-    locks_ends interval t running waiters ms (after_mutex_end t (mutex_at locks m) m locks) (locks_mutex_end interval t m running waiters (mutex_at locks m) locks are)
+syncs_mutex_end : (interval t m : ℕ) (running : Option ℕ) (waiters : List ℕ) (mutex : Option Mutex) (syncs : Syncs) → AreSyncs interval running waiters syncs
+    → AreSyncs interval running waiters (locked (after_mutex_end t mutex m syncs.locks) syncs)
+syncs_mutex_end interval t m running waiters None syncs are = are
+syncs_mutex_end interval t m running waiters (Some x) syncs are = syncs_either interval m running waiters (is_owner t x.owner) x.is_robust syncs are
+
+syncs_ends : (interval t : ℕ) (running : Option ℕ) (waiters : List ℕ) (ms : List ℕ) (syncs : Syncs) → AreSyncs interval running waiters syncs
+    → AreSyncs interval running waiters (locked (fold (λ out m. after_mutex_end t (mutex_at out m) m out) syncs.locks ms) syncs)
+syncs_ends interval t running waiters [] syncs are = are
+syncs_ends interval t running waiters (m ∷ ms) syncs are =
+    syncs_ends interval t running waiters ms (locked (after_mutex_end t (mutex_at syncs.locks m) m syncs.locks) syncs) (syncs_mutex_end interval t m running waiters (mutex_at syncs.locks m) syncs are)
 
 -- so the state stays whole, whether the thread runs or not
 pub well_abandonment : (limits : Limits) (t : ℕ) (s : Part) → IsWell limits s → IsWell limits (with_locks (after_owner_end t) s)
 well_abandonment limits t s well =
-    well_locks limits s (after_owner_end t s.locks) s.running (length-owner_end_threads t s.locks) (length-owner_end_mutexes t s.locks)
-    (locks_ends limits.interval t s.running s.console.waiters (numbers_of s.mutexes) s.locks (locks_of limits s well)) well.halted well
+    well_syncs_by limits (λ syncs. locked (after_owner_end t syncs.locks) syncs) s (sized_owner_end t s.syncs)
+    (syncs_ends limits.interval t s.running s.console.waiters (numbers_of s.mutexes) s.syncs (syncs_of_well limits s well)) well
 
 -- ---- what a waiter that is woken keeps
 

@@ -7,6 +7,7 @@ use Rattle.ptk_words_model.specs.Schedule.{after_choice}
 use Rattle.ptk_words_model.specs.Withdrawal.{after_expiries}
 use Rattle.ptk_words_model.specs.Run.{is_active}
 use Rattle.ptk_words_well.proofs.Decisions.{arrivals_status}
+use Rattle.ptk_words_well.proofs.Timeouts.{expiries_status}
 use Rattle.ptk_gate_pools.specs.Kept.{Kept, AreParts, part_at, put_part, limits_at}
 use Rattle.ptk_gate_steps.specs.declared.turns.NextStep.{NextStep}
 use Rattle.ptk_gate.specs.Answers.{call_answer}
@@ -26,22 +27,29 @@ moved_then n p s g old mid new parts lt first second =
     ∙ ap (λ (q : Part). put_part p (g (limits_at p old) q) (put_part p s old)) (part_at-put n p s old parts lt)
     ∙ put_part-put p (g (limits_at p old) s) s old
 
--- what has arrived leaves the partition going
-pub still_active : (n p tick : ℕ) (old new : Kept) → AreParts n old → p < n → is_active (part_at p old).status ≡ true
-    → new ≡ put_part p (after_arrivals (limits_at p old) tick (part_at p old)) old → is_active (part_at p new).status ≡ true
-still_active n p tick old new parts lt active e =
-    ap (λ (s : Part). is_active s.status) (part_after n p (after_arrivals (limits_at p old) tick (part_at p old)) old new parts lt e)
+-- what has arrived, and then the expiries
+events_come : (n p tick : ℕ) (old arrived new : Kept) → AreParts n old → p < n → arrived ≡ put_part p (after_arrivals (limits_at p old) tick (part_at p old)) old
+    → new ≡ put_part p (after_expiries tick (part_at p arrived)) arrived → new ≡ put_part p (after_expiries tick (after_arrivals (limits_at p old) tick (part_at p old))) old
+events_come n p tick old arrived new parts lt first second =
+    moved_then n p (after_arrivals (limits_at p old) tick (part_at p old)) (λ limits s. after_expiries tick s) old arrived new parts lt first second
+
+-- they leave the partition going
+pub still_active : (n p tick : ℕ) (old arrived new : Kept) → AreParts n old → p < n → is_active (part_at p old).status ≡ true
+    → arrived ≡ put_part p (after_arrivals (limits_at p old) tick (part_at p old)) old → new ≡ put_part p (after_expiries tick (part_at p arrived)) arrived → is_active (part_at p new).status ≡ true
+still_active n p tick old arrived new parts lt active first second =
+    let come : Part = after_arrivals (limits_at p old) tick (part_at p old) in
+    ap (λ (s : Part). is_active s.status) (part_after n p (after_expiries tick come) old new parts lt (events_come n p tick old arrived new parts lt first second))
+    ∙ ap is_active (expiries_status tick come)
     ∙ ap is_active (arrivals_status (limits_at p old) tick (part_at p old))
     ∙ active
 
--- the arrivals and then the choice: no deadline is due in between
-pub made_ready : (n p tick : ℕ) (old mid new : Kept) → AreParts n old → p < n
-    → after_expiries tick (after_arrivals (limits_at p old) tick (part_at p old)) ≡ after_arrivals (limits_at p old) tick (part_at p old)
-    → mid ≡ put_part p (after_arrivals (limits_at p old) tick (part_at p old)) old → new ≡ put_part p (after_choice (part_at p mid)) mid
-    → new ≡ put_part p (ready_at (limits_at p old) tick (part_at p old)) old
-made_ready n p tick old mid new parts lt none first second =
-    moved_then n p (after_arrivals (limits_at p old) tick (part_at p old)) (λ limits s. after_choice s) old mid new parts lt first second
-    ∙ ap (λ (s : Part). put_part p (after_choice s) old) (sym none)
+-- the arrivals, the expiries, and then the choice
+pub made_ready : (n p tick : ℕ) (old arrived expired new : Kept) → AreParts n old → p < n
+    → arrived ≡ put_part p (after_arrivals (limits_at p old) tick (part_at p old)) old → expired ≡ put_part p (after_expiries tick (part_at p arrived)) arrived
+    → new ≡ put_part p (after_choice (part_at p expired)) expired → new ≡ put_part p (ready_at (limits_at p old) tick (part_at p old)) old
+made_ready n p tick old arrived expired new parts lt first second third =
+    moved_then n p (after_expiries tick (after_arrivals (limits_at p old) tick (part_at p old))) (λ limits s. after_choice s) old expired new parts lt
+    (events_come n p tick old arrived expired parts lt first second) third
 
 -- the readying and then the turn
 pub decision_made : (n p tick room : ℕ) (old mid new : Kept) → AreParts n old → p < n

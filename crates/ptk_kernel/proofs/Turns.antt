@@ -1,31 +1,33 @@
 -- The running thread's next step, read where the thread lies, is the step that the model makes.
-use Rattle.std.proofs.Common.{arith, length, ◌≡◌, ℕ, ◌+◌, ◌%◌, ◌<◌, ◌≤◌, Bool, true, false, List, refl, sym, ◌∙◌, ap, subst, rules}
+use Rattle.std.proofs.Common.{arith, length, ◌≡◌, ℕ, ◌+◌, ◌%◌, ◌^◌, ◌<◌, ◌≤◌, Bool, true, false, List, refl, sym, ◌∙◌, ap, subst, rules}
 use Rattle.std.specs.Prelude.{Option, Some, None, not, ◌&&◌, ◌==◌, option_map, unwrap_or, nat_lt, if◌then◌else◌}
 use Rattle.std.proofs.lemmas.Bool.{eqb-true}
 use Rattle.ptk_words.specs.Processor.{Processor, register}
 use Rattle.ptk_words.specs.Words.{word_of, word_at}
-use Rattle.ptk_words.specs.declared.TheConstants.{A0, A7, ECALL, RETURN_GATE}
+use Rattle.ptk_words.specs.declared.TheConstants.{A0, A7, CANCELED, ECALL, RETURN_GATE}
 use Rattle.ptk_words.specs.declared.faults.FaultKind.TheVariants.{Fetch, Misaligned}
 use Rattle.ptk_words.specs.declared.sections.Limits.{Limits}
 use Rattle.ptk_words.specs.declared.threads.Thread.{Thread}
 use Rattle.ptk_words_instructions.specs.Instructions.{Effect, Call, Fault, can_fetch, decode_of, effect_at, effect_of_word, with_next_pc}
 use Rattle.ptk_words_model.specs.declared.Runner.{Runner}
-use Rattle.ptk_words_model.specs.declared.Spent.{Spent}
 use Rattle.ptk_words_model.specs.declared.Spent.TheVariants.{Step, Idle, Lost}
 use Rattle.ptk_words_model.specs.declared.StepKind.{StepKind}
 use Rattle.ptk_words_model.specs.declared.StepKind.TheVariants.{UnwindingStart, GateStep, CallStep, InstructionStep}
 use Rattle.ptk_words_model.specs.State.{Part}
 use Rattle.ptk_words_model.specs.Priority.{thread_at}
 use Rattle.ptk_words_model.specs.Decision.{a0_after, after_effect, after_step, after_turn, after_whole_step, is_to_unwind, runner_of, spent_in_turn, step_cost, step_kind, traced_word, with_cpu, word_fetched}
+use Rattle.ptk_words_model.specs.Unwinding.{after_unwinding_start, after_gate_step}
 use Rattle.ptk_words_well.proofs.Decisions.{runner_runs}
 use Rattle.ptk_gate_pools.specs.Kept.{Kept, part_at, put_part, limits_at}
 use Rattle.ptk_gate_pools.proofs.Ranks.{put_same}
 use Rattle.ptk_gate_steps.specs.declared.turns.NextStep.{NextStep}
+use Rattle.ptk_gate_steps.specs.Instructions.{after_instruction}
 use Rattle.ptk_gate_steps.specs.NextSteps.{a0_kept, next_step_in, next_step_of}
 use Rattle.ptk_gate.specs.Answers.{call_answer}
 use Rattle.ptk_gate.proofs.Passing.{passed_as}
 use Rattle.ptk_kernel.specs.StepParts.{counted, passed, stepped}
-use Rattle.ptk_kernel.proofs.Instructions.{effect_parts, runner_found}
+use Rattle.ptk_kernel.proofs.Instructions.{call_parts, effect_alone, runner_found}
+use Rattle.ptk_kernel.proofs.NoCalls.{no_call_at}
 
 -- ---- the thread whose step it is
 
@@ -171,16 +173,52 @@ call_stepped limits tick number next r s e runs kind =
     let found : thread_at s.locks r.number ≡ Some r.thread = runner_found s.running s r (runner_runs s r runs) runs in
     let gone : passed next s ≡ with_cpu r.number after s = ap (λ (n : NextStep). passed n s) is ∙ passed_as r.number (word_of (cpu.pc + 4)) r.thread s found in
     ap (λ (q : Part). (call_answer limits tick q).part) gone
-    ∙ effect_parts limits tick cpu.pc r (Call after) s runs
+    ∙ call_parts limits tick cpu.pc after r s runs
     ∙ ap (λ (effect : Effect). after_effect limits tick r.number cpu.pc effect s) (sym (ecall_calls cpu s.memory word))
     ∙ ap (λ (k : StepKind). after_step limits tick r k s) (sym kind)
 
--- the runner that was copied is the one that runs
-pub other_stepped : (p tick : ℕ) (kind : StepKind) (x r : Runner) (old new : Kept) → runner_of (part_at p old) ≡ Some x → runner_of (part_at p old) ≡ Some r
-    → new ≡ put_part p (after_step (limits_at p old) tick x kind (part_at p old)) old → new ≡ put_part p (after_step (limits_at p old) tick r kind (part_at p old)) old
-other_stepped p tick kind x r old new found runs moved =
+kind_instructs : (unwinds gate calls : Bool) (a7 : ℕ) → (if unwinds then UnwindingStart else if gate then GateStep else if calls then CallStep a7 else InstructionStep) ≡ InstructionStep → calls ≡ false
+kind_instructs true gate calls a7 e = absurd (let no : ⊥ = cc in no)
+kind_instructs false true calls a7 e = absurd (let no : ⊥ = cc in no)
+kind_instructs false false true a7 e = absurd (let no : ⊥ = cc in no)
+kind_instructs false false false a7 e = refl
+
+-- what an instruction leaves that is no ECALL is its step
+pub instruction_stepped : (limits : Limits) (tick : ℕ) (next : NextStep) (r : Runner) (s : Part) → next_step_in s ≡ Some next → runner_of s ≡ Some r → next.kind ≡ InstructionStep → next.word < 2 ^ 32
+    → after_instruction r.number r.thread.cpu.pc (effect_at r.thread.cpu s.memory) s ≡ after_step limits tick r next.kind s
+instruction_stepped limits tick next r s e runs kind word =
+    let cpu : Processor = r.thread.cpu in
+    let is : next ≡ next_step_of s r = next_is s next r e runs in
+    let same : step_kind s r.number r.thread ≡ InstructionStep = sym (ap (λ (n : NextStep). n.kind) is) ∙ kind in
+    let fetched : next.word ≡ word_fetched s.memory cpu.pc = ap (λ (n : NextStep). n.word) is ∙ ap (λ (k : StepKind). traced_word k s.memory cpu.pc) same in
+    let other : (word_fetched s.memory cpu.pc == ECALL) ≡ false =
+    kind_instructs (is_to_unwind s r.number r.thread) (cpu.pc == RETURN_GATE) (word_fetched s.memory cpu.pc == ECALL) (register cpu A7) same
+    in
+    effect_alone limits tick r.number cpu.pc (effect_at cpu s.memory) s (no_call_at cpu s.memory (subst (λ (n : ℕ). n < 2 ^ 32) fetched word) other)
+    ∙ ap (λ (k : StepKind). after_step limits tick r k s) (sym kind)
+
+-- the thread's number and registers are the runner's, and what its instruction leaves that is no ECALL is its step
+pub instruction_made : (p tick : ℕ) (next : NextStep) (x r : Runner) (old new : Kept) → next_step_in (part_at p old) ≡ Some next → next.kind ≡ InstructionStep → next.word < 2 ^ 32
+    → runner_of (part_at p old) ≡ Some x → runner_of (part_at p old) ≡ Some r
+    → new ≡ put_part p (after_instruction x.number x.thread.cpu.pc (effect_at x.thread.cpu (part_at p old).memory) (part_at p old)) old
+    → new ≡ put_part p (after_step (limits_at p old) tick r next.kind (part_at p old)) old
+instruction_made p tick next x r old new e kind word found runs moved =
+    let s : Part = part_at p old in
     let same : x ≡ r = ap (λ (o : Option Runner). unwrap_or o x) (sym found ∙ runs) in
-    moved ∙ ap (λ (y : Runner). put_part p (after_step (limits_at p old) tick y kind (part_at p old)) old) same
+    moved
+    ∙ ap (λ (y : Runner). put_part p (after_instruction y.number y.thread.cpu.pc (effect_at y.thread.cpu s.memory) s) old) same
+    ∙ ap (λ (q : Part). put_part p q old) (instruction_stepped (limits_at p old) tick next r s e runs kind word)
+
+-- the unwinding that begins is the step of its kind
+pub unwinding_stepped : (limits : Limits) (tick : ℕ) (next : NextStep) (r : Runner) (s : Part) → next_step_in s ≡ Some next → runner_of s ≡ Some r → next.kind ≡ UnwindingStart
+    → after_unwinding_start next.thread CANCELED s ≡ after_step limits tick r next.kind s
+unwinding_stepped limits tick next r s e runs kind =
+    ap (λ (n : NextStep). after_unwinding_start n.thread CANCELED s) (next_is s next r e runs)
+    ∙ ap (λ (k : StepKind). after_step limits tick r k s) (sym kind)
+
+-- the step at the return gate is the step of its kind
+pub gate_stepped : (limits : Limits) (tick : ℕ) (kind : StepKind) (r : Runner) (s : Part) → kind ≡ GateStep → after_gate_step r.thread.phase r.number r.thread s ≡ after_step limits tick r kind s
+gate_stepped limits tick kind r s e = ap (λ (k : StepKind). after_step limits tick r k s) (sym e)
 
 -- ---- the whole step
 

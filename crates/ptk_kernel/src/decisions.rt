@@ -38,7 +38,7 @@ pub fn last_step(tables: &Tables, p: PartId) -> Option<Entry>
     tables.last_step(p)
 }
 
-/// The arrivals of the tick, and the choice of the running thread; no deadline is ever due.
+/// The arrivals of the tick, its expiries, and the choice of the running thread.
 fn make_ready(tables: &mut Tables, p: PartId, tick: Tick)
     requires partition { p < length tables.old.limits }
     requires active { is_active (part_at p tables.old).status ≡ true }
@@ -46,6 +46,7 @@ fn make_ready(tables: &mut Tables, p: PartId, tick: Tick)
 {
     let _parts = tables.parts();
     tables.arrive_due(p, tick);
+    tables.expire_due(p, tick);
     tables.choose(p);
 }
 

@@ -2,12 +2,13 @@
 //! then nothing where no thread runs, a lost rest of the window where the next step's cost does not fit, or that step
 //! with its entry in the trace and its ticks in the round-robin interval. `decide` promises that the tables are the old
 //! ones with the partition's part after the model's decision, so that every other partition's part stays, and what the
-//! decision spent; `last_step` tells the entry. `compute` carries out plain steps of a quiet partition in a row, each in
-//! place of a decision: it tests once that nothing else can come, and its clause (`specs/Rows`) is in the words of
-//! `ptk_words_quiet`, whose laws make ticks of it. Below stand the gate's tables, which carry out each part of a decision,
-//! and the gate's `call`, through which every ECALL goes; above, the system. Dear to prove is that two moves one after
-//! another are the model's one: `tables.parts()` is read first there, for its clause that every component of the tables
-//! has an entry for each partition.
+//! decision spent; `last_step` tells the entry. `compute` carries out plain steps of a quiet partition in a row, each
+//! in place of a decision: it tests once that nothing else can come, and its clause (`specs/Rows`) is in the words of
+//! `ptk_words_quiet`, whose laws make ticks of it. `idle_until` tells up to which tick a partition has nothing to do.
+//! Below stand the gate's tables, which carry out each part of a decision, and the gate's `call`, through which every
+//! ECALL goes; above, the system. Dear to prove is that two moves one after another are the model's one:
+//! `tables.parts()` is read first there, for its clause that every component of the tables has an entry for each
+//! partition.
 #![tactic(auto)]
 
 mod decisions;
@@ -17,4 +18,4 @@ mod steps;
 mod tests;
 
 pub use decisions::{decide, last_step};
-pub use rows::compute;
+pub use rows::{compute, idle_until};

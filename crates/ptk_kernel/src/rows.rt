@@ -1,10 +1,12 @@
-//! Plain steps in a row.
+//! Plain steps in a row, and ticks at which nothing happens.
 
-ghost use Rattle.std.specs.Prelude.{◌≡◌, ℕ, ◌+◌, ◌^◌, ◌<◌, ◌≤◌, true, false, length};
+ghost use Rattle.std.specs.Prelude.{◌≡◌, ℕ, ◌+◌, ◌^◌, ◌<◌, ◌≤◌, true, false, length, IfSome};
+ghost use Rattle.std.specs.Option.{IsSomeAnd};
 ghost use Rattle.ptk_words.specs.declared.threads.Thread.{Thread};
 ghost use Rattle.ptk_words_instructions.specs.PlainSteps.{is_plain, plain_steps};
 ghost use Rattle.ptk_words_model.specs.Run.{is_active};
 ghost use Rattle.ptk_words_quiet.specs.Quiet.{IsQuiet, core_of};
+ghost use Rattle.ptk_words_quiet.specs.Idle.{IsIdle};
 ghost use Rattle.ptk_gate_pools.specs.Kept.{part_at, limits_at};
 ghost use Rattle.ptk_kernel.specs.Rows.{IsRow};
 
@@ -40,4 +42,15 @@ pub fn compute(
         Some(quiet) => tables.run_row(p, quiet, tick, trace, batch),
         None => 0,
     }
+}
+
+/// The tick up to which the partition has nothing to do, at most `stop`: no thread runs or is ready, and no input comes
+/// and no deadline is due before it, so that each decision at a tick of its own before it is Idle and changes nothing.
+/// None where the partition is halted, or a thread runs or is ready. No tick at which it has nothing to do is missed.
+pub fn idle_until(tables: &Tables, p: PartId, stop: Tick) -> Option<Tick>
+    requires partition { p < length tables.now.limits }
+    ensures idle { IfSome result (λ u. (u ≤ stop) × IsIdle (limits_at p tables.now) u (part_at p tables.now)) }
+    ensures full { (k : ℕ) → k ≤ stop → IsIdle (limits_at p tables.now) k (part_at p tables.now) → IsSomeAnd result (λ u. k ≤ u) }
+{
+    tables.idle_until(p, stop)
 }

@@ -1,9 +1,10 @@
 //! One step of the running thread.
 
-ghost use Rattle.std.specs.Prelude.{◌≡◌, ◌<◌, length, Some};
-ghost use Rattle.ptk_words_instructions.specs.Instructions.{effect_at};
+ghost use Rattle.std.specs.Prelude.{◌≡◌, ℕ, ◌<◌, length, Some};
 ghost use Rattle.ptk_words_model.specs.declared.Runner.{Runner};
-ghost use Rattle.ptk_words_model.specs.Decision.{after_effect, after_step, after_whole_step, runner_of, step_cost};
+ghost use Rattle.ptk_words_model.specs.Decision.{after_step, after_whole_step, runner_of, step_cost};
+ghost use Rattle.ptk_words_model.specs.declared.StepKind.TheVariants.{InstructionStep};
+ghost use Rattle.ptk_words_model.specs.Unwinding.{after_gate_step};
 ghost use Rattle.ptk_gate_pools.specs.Kept.{part_at, put_part, limits_at};
 ghost use Rattle.ptk_gate_steps.specs.NextSteps.{next_step_in};
 ghost use Rattle.ptk_gate.specs.Answers.{call_answer};
@@ -12,7 +13,7 @@ ghost use Rattle.ptk_kernel.specs.StepParts.{noted, passed, stepped};
 use ptk_gate::{Tables, call};
 use ptk_gate_steps::NextStep;
 use ptk_words::{Entry, PartId, Tick};
-use ptk_words_model::{Runner, StepKind};
+use ptk_words_model::StepKind;
 
 /// The step with its entry in the trace and its ticks in the round-robin interval.
 pub(crate) fn whole_step(tables: &mut Tables, p: PartId, tick: Tick, next: &NextStep, cost: u32)
@@ -47,13 +48,10 @@ fn carry_out(tables: &mut Tables, p: PartId, tick: Tick, next: &NextStep)
         tables.new ≡ put_part p (after_step (limits_at p tables.old) tick r next.now.kind (part_at p tables.old)) tables.old }
 {
     match next.kind {
+        StepKind::UnwindingStart => tables.begin_unwinding(p, next.thread),
+        StepKind::GateStep => step_at_gate(tables, p),
         StepKind::CallStep(_) => make_call(tables, p, tick, next),
-        StepKind::UnwindingStart | StepKind::GateStep | StepKind::InstructionStep => {
-            let runner = tables.runner(p);
-            if let Some(runner) = runner {
-                carry_out_other(tables, p, tick, &runner, next.kind);
-            }
-        }
+        StepKind::InstructionStep => instruct(tables, p, *next),
     }
 }
 
@@ -68,32 +66,30 @@ fn make_call(tables: &mut Tables, p: PartId, tick: Tick, next: &NextStep)
     let _told = call(tables, p, tick);
 }
 
-/// The effect of a step that is no call.
+/// The step of the running thread at the return gate.
 #[tactic(auto, using(ptk_words_well::proofs::Decisions::runner_runs))]
-fn carry_out_other(tables: &mut Tables, p: PartId, tick: Tick, runner: &Runner, kind: StepKind)
+fn step_at_gate(tables: &mut Tables, p: PartId)
     requires partition { p < length tables.old.limits }
-    requires runs { runner_of (part_at p tables.old) ≡ Some runner.now }
-    ensures { tables.new ≡ put_part p (after_step (limits_at p tables.old) tick runner.now kind (part_at p tables.old)) tables.old }
+    ensures { (r : Runner) → runner_of (part_at p tables.old) ≡ Some r →
+        tables.new ≡ put_part p (after_gate_step r.thread.phase r.number r.thread (part_at p tables.old)) tables.old }
 {
-    match kind {
-        StepKind::UnwindingStart => tables.begin_unwinding(p, runner.number),
-        StepKind::GateStep => tables.step_at_gate(p, runner.number, runner.thread),
-        StepKind::CallStep(_) | StepKind::InstructionStep => instruct(tables, p, tick, runner),
+    let runner = tables.runner(p);
+    if let Some(runner) = runner {
+        tables.step_at_gate(p, runner.number, runner.thread);
     }
 }
 
-/// The step of an instruction: its effect on the registers and the memory, and then, of an ECALL, the call that the
-/// registers state.
-#[tactic(auto, using(ptk_words_well::proofs::Decisions::runner_runs))]
-fn instruct(tables: &mut Tables, p: PartId, tick: Tick, runner: &Runner)
+/// The step of an instruction that is no ECALL.
+fn instruct(tables: &mut Tables, p: PartId, next: NextStep)
     requires partition { p < length tables.old.limits }
-    requires runs { runner_of (part_at p tables.old) ≡ Some runner.now }
-    ensures { tables.new ≡ put_part p (after_effect (limits_at p tables.old) tick runner.now.number runner.now.thread.cpu.pc (effect_at runner.now.thread.cpu (part_at p tables.old).memory) (part_at p tables.old)) tables.old }
+    requires next { next_step_in (part_at p tables.old) ≡ Some next }
+    requires instruction { next.kind ≡ InstructionStep }
+    ensures { (r : Runner) → (tick : ℕ) → runner_of (part_at p tables.old) ≡ Some r →
+        tables.new ≡ put_part p (after_step (limits_at p tables.old) tick r next.kind (part_at p tables.old)) tables.old }
 {
-    let _parts = tables.parts();
-    let is_call = tables.instruct(p, runner.number, runner.thread.cpu);
-    if is_call {
-        let _reply = call(tables, p, tick);
+    let runner = tables.runner(p);
+    if let Some(runner) = runner {
+        tables.instruct(p, runner.number, runner.thread.cpu);
     }
 }
 

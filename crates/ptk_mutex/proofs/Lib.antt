@@ -2,4 +2,5 @@ pub mod Pool
 pub mod Moved
 pub mod Locked
 pub mod Steps
+pub mod Woken
 pub mod Ready

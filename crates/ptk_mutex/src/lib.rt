@@ -3,11 +3,12 @@
 //! threads or the line says in one equation for each of these structures what it leaves: the model's move for
 //! partition p, with every other partition as it was; and the threads' equation has the effective priorities that they
 //! then have as the stored ones. What a call needs of the tables, and leaves of them, is `AreReady` of `specs/Tables`.
-//! A refused lock changes nothing; who is woken goes to the tail of the line. No call but the constructor takes memory.
-//! One function writes a mutex (`change`), and after every change the partition's priorities are all computed again.
-//! Dear to prove are that the stored priorities choose the heir (`proofs/Locked`) and the calls of many moves
-//! (`proofs/Steps`). Below stand `ptk_mutex_slots`, with one place and one partition's priorities, `ptk_threads` and
-//! `ptk_ready`; above, `ptk_gate_pools` joins it to the slot table and the line.
+//! A refused lock changes nothing; who is woken goes to the tail of the line, and an unlock or an owner's end tells who
+//! (`proofs/Woken`). No call but the constructor takes memory. One function writes a mutex (`change`), and after every
+//! change the partition's priorities are all computed again. Dear to prove are that the stored priorities choose the
+//! heir (`proofs/Locked`) and the calls of many moves (`proofs/Steps`). Below stand `ptk_mutex_slots`, with one place
+//! and one partition's priorities, `ptk_threads` and `ptk_ready`; above, `ptk_gate_pools` joins it to the slot table
+//! and the line.
 #![tactic(auto)]
 
 mod ends;
@@ -19,4 +20,4 @@ mod unlocking;
 mod waking;
 
 pub use mutexes::Mutexes;
-pub use ptk_mutex_slots::{MutexSlot, MutexState, effective, reply_of};
+pub use ptk_mutex_slots::{MutexSlot, MutexState, ThreadSet, effective, reply_of};

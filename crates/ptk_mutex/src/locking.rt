@@ -1,18 +1,23 @@
-//! The calls after which nobody is woken: lock, trylock, a change of a mutex, and a changed assigned priority.
+//! The calls after which nobody is woken: lock, trylock, a running thread's re-lock, a change of a mutex, and a changed
+//! assigned priority.
 
 ghost use Rattle.std.specs.Prelude.{◌≡◌, ◌<◌, [], Some, None, length, slice_set};
 ghost use Rattle.std.specs.List.{list_any};
 ghost use Rattle.ptk_words.specs.Pools.{pool_get};
+ghost use Rattle.ptk_words.specs.declared.TheConstants.{COUNT_LIMIT};
+ghost use Rattle.ptk_words.specs.declared.threads.Wait.TheVariants.{RelockWait};
+ghost use Rattle.ptk_words_model.specs.declared.LockMove.TheVariants.{Counts};
 ghost use Rattle.ptk_words.specs.declared.mutexes.Soundness.TheVariants.{Consistent};
 ghost use Rattle.ptk_words_parted.specs.Parts.{part_of};
 ghost use Rattle.ptk_words_model.specs.State.{locks_of};
-ghost use Rattle.ptk_words_model.specs.Mutex.{mutex_at, lock_move, trylock_move, owns, owns_raising, is_raising_for, after_move, with_soundness};
+ghost use Rattle.ptk_words_model.specs.Mutex.{mutex_at, lock_move, trylock_move, relock_move, count_of, owns, owns_raising, is_raising_for, after_move, with_soundness};
 ghost use Rattle.ptk_mutex_slots.specs.declared.slot.Change.TheVariants.{CountUp, Enqueue};
 ghost use Rattle.ptk_mutex_slots.specs.Changes.{SlotMayChange};
 ghost use Rattle.ptk_mutex.specs.Tables.{mutexes_of, locks_at, with_threads, with_threads_alone, HasPart, MayWait, AreReady};
 ghost use Rattle.ptk_mutex.specs.Moves.{after_lock, after_trylock, after_assignment};
 
 use crate::mutexes::Mutexes;
+use crate::waking::relock_move;
 use ptk_mutex_slots::{Change, MutexSlot, slot_in};
 use ptk_ready::VecLine;
 use ptk_threads::{Slot, Threads};
@@ -70,6 +75,42 @@ impl Mutexes {
     {
         let made = trylock_move(threads.part(p), self.part(p), t, m);
         self.make(line, threads, p, t, m, Wait::MutexWait(m, None), made);
+        self.refresh(threads, p);
+        made
+    }
+
+    /// What a lock by the thread would come to now; nothing changes (pthread_mutex_timedlock).
+    pub fn lock_move(&self, threads: &Threads, p: PartId, t: ThreadNo, m: MutexNo) -> LockMove
+        requires { (p < length self.now) × (p < length threads.now.threads) }
+        ensures { result ≡ lock_move (locks_of (part_of threads.now.threads p) (part_of (mutexes_of self.now threads.now) p)) t (pool_get (part_of (mutexes_of self.now threads.now) p) m) }
+    {
+        lock_move(threads.part(p), self.part(p), t, m)
+    }
+
+    /// A running thread that waits for no mutex locks this one again, as after a condition wait whose deadline was
+    /// already reached: it has the mutex, or waits for it with this reply kept, or is refused; which of these is told
+    /// (pthread_cond_timedwait; own choice). Where it owns the mutex, the count is below the limit. Refused
+    /// (ENOTRECOVERABLE of a lost mutex), nothing changes. The line stays.
+    #[tactic(auto, using(crate::proofs::Moved::moves))]
+    pub fn lock_again(
+        &mut self,
+        line: &VecLine,
+        threads: &mut Threads,
+        p: PartId,
+        t: ThreadNo,
+        m: MutexNo,
+        reply: Option<u32>,
+    ) -> LockMove
+        requires ready { AreReady p threads.old line.now self.old }
+        requires caller { MayWait (locks_at p threads.old line.now self.old) t }
+        requires countable { relock_move t (mutex_at (locks_at p threads.old line.now self.old) m) ≡ Counts → count_of (mutex_at (locks_at p threads.old line.now self.old) m) < COUNT_LIMIT }
+        ensures told { result ≡ relock_move t (mutex_at (locks_at p threads.old line.now self.old) m) }
+        ensures threads { threads.new ≡ with_threads p (after_move (relock_move t (mutex_at (locks_at p threads.old line.now self.old) m)) t m (RelockWait m reply) (locks_at p threads.old line.now self.old)) threads.old }
+        ensures mutexes { mutexes_of self.new threads.new ≡ slice_set (mutexes_of self.old threads.old) p (after_move (relock_move t (mutex_at (locks_at p threads.old line.now self.old) m)) t m (RelockWait m reply) (locks_at p threads.old line.now self.old)).mutexes }
+        ensures ready { AreReady p threads.new line.now self.new }
+    {
+        let made = relock_move(self.part(p), t, m);
+        self.make(line, threads, p, t, m, Wait::RelockWait(m, reply), made);
         self.refresh(threads, p);
         made
     }

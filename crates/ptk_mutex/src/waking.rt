@@ -151,7 +151,7 @@ impl Mutexes {
 }
 
 /// The move of a re-lock.
-fn relock_move(mutexes: &[MutexSlot], t: ThreadNo, m: MutexNo) -> LockMove
+pub(crate) fn relock_move(mutexes: &[MutexSlot], t: ThreadNo, m: MutexNo) -> LockMove
     ensures { result ≡ relock_move t (pool_get mutexes.now m) }
 {
     match slot_in(mutexes, m) {

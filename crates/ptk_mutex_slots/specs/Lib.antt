@@ -1,4 +1,5 @@
 pub mod Slots
+pub mod Sets
 pub mod Changes
 pub mod Raised
 pub mod Tables

@@ -1,21 +1,19 @@
 -- A run goes on: over ticks at which nothing is due, and by ticks of each partition's own.
-use Rattle.std.proofs.Common.{◌≡◌, ℕ, ◌+◌, ◌-◌, ◌<◌, ◌≤◌, All, List, Some, length, sym, ap, subst, ◌∙◌, arith, get_or}
+use Rattle.std.proofs.Common.{◌≡◌, ℕ, ◌+◌, ◌-◌, ◌<◌, ◌≤◌, All, List, length, sym, ap, subst, ◌∙◌, arith, get_or}
 use Rattle.ptk_words.specs.declared.TheConstants.{LAST_TICK}
 use Rattle.ptk_console.specs.ConsoleTable.{no_limits}
 use Rattle.ptk_words.specs.declared.sections.Limits.{Limits}
 use Rattle.ptk_words_windows.specs.Windows.{WindowTable, IsTable, own_ticks}
 use Rattle.ptk_words_windows.proofs.FaultLaws.{accepted}
-use Rattle.ptk_words_model.specs.State.{State}
 use Rattle.ptk_words_quiet.specs.Quiet.{after_ticks}
 use Rattle.ptk_words_quiet.proofs.TicksInARow.{alone_on}
 use Rattle.ptk_gate_pools.specs.Kept.{limits_at}
 use Rattle.ptk_config.specs.Configuration.{Configuration, IsConfiguration}
 use Rattle.ptk_system_files.specs.NamedFiles.{NamedFile}
 use Rattle.ptk_system_machine.specs.Accounts.{IsBehind}
-use Rattle.ptk_system_machine.specs.Whole.{Whole, AreWindowsOf, account_at, state_at}
+use Rattle.ptk_system_machine.specs.Whole.{Whole, AreWindowsOf, state_at}
 use Rattle.ptk_system.specs.Missing.{image_in}
 use Rattle.ptk_system.specs.World.{IsRun, alone_in, section_at}
-use Rattle.ptk_system_machine.proofs.Ticks.{not_due, still_on}
 use Rattle.ptk_system.proofs.Bounds.{alone_behind}
 
 -- the windows of a configuration are a table
@@ -63,25 +61,6 @@ run_on config files whole new tick t windows run le early same count limits each
       ∙ (ap (λ (l : Limits). after_ticks (own_ticks config.windows p) l tick (t - tick) (state_at p whole)) (run.limits p lt)
       ∙ (ap (after_ticks (own_ticks config.windows p) (section_at config p).limits tick (t - tick)) (run.each p lt)
       ∙ sym (alone_to config files p tick t le)))));
-}
-
--- nothing is due before a tick
-pub run_still : (config : Configuration) (files : List NamedFile) (whole : Whole) (from to : ℕ) → IsRun config files whole from → from ≤ to → to ≤ LAST_TICK
-    → ((p k : ℕ) → p < length whole.accounts → (account_at p whole).account.next ≡ Some k → from ≤ k → to ≤ k)
-    → IsRun config files whole to
-run_still config files whole from to run le early later = record {
-  configured = run.configured;
-  parts = run.parts;
-  sections = run.sections;
-  early = early;
-  limits = run.limits;
-  each = λ p lt. (
-      let within : p < length whole.accounts = subst (λ (n : ℕ). p < n) (sym run.parts) lt in
-      let next : (account_at p whole).account.next ≡ (alone_in config files p from).account.next = ap (λ (s : State). s.account.next) (run.each p lt) in
-      run.each p lt
-      ∙ (sym (still_on (own_ticks config.windows p) (section_at config p).limits from (to - from) (alone_in config files p from)
-      (λ k a b. not_due (alone_in config files p from).account.next from to k (λ j e f. later p j within (next ∙ e) f) a (omega (arith, b, le))))
-      ∙ sym (alone_to config files p from to le)));
 }
 
 -- the trace keeps what the section says

@@ -3,8 +3,8 @@
 //! the one that the definition gives it alone, of its own ticks, its section, its image and its input; so every getter and
 //! the report answer functions of that. `two_worlds`, `idle_world` and `one_processor` are its laws. Below stand all
 //! partitions over the ticks (`ptk_system_machine`), the files (`ptk_system_files`), the kernel, images, the
-//! configuration, windows and traces; the program stands above. Dear to prove: that a run may jump over ticks at which
-//! nothing is due (`proofs/Runs`), and that loading one image leaves every other partition (`proofs/Loading`).
+//! configuration, windows and traces; the program stands above. Dear to prove: that loading one image leaves every other
+//! partition (`proofs/Loading`).
 #![tactic(auto)]
 
 mod booting;

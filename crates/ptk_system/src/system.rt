@@ -62,7 +62,8 @@ impl<'a> System<'a> {
         })
     }
 
-    /// Goes on to a tick of at most 2^40, and does nothing where it was already reached.
+    /// Goes on to a tick of at most 2^40, and does nothing where it was already reached. Over ticks at which a partition
+    /// has nothing to do it costs nothing, however many they are.
     pub fn run_to(&mut self, n: Tick)
         requires { n ≤ LAST_TICK }
         ensures { self.new ≡ at_tick (max self.old.tick n) self.old }
@@ -75,50 +76,21 @@ impl<'a> System<'a> {
             a0: 0,
         };
         let mut batch = [unset; BATCH];
-        while self.tick.ticks() < n.ticks() {
-            self.advance(n, &mut batch);
-        }
-    }
-
-    /// Goes on to the end of the window in which any partition decides next, or to `n` where that comes first. `batch` is
-    /// room for entries on their way into a trace.
-    fn advance(&mut self, n: Tick, batch: &mut [Entry; BATCH])
-        requires later { self.old.tick < n }
-        requires small { n ≤ LAST_TICK }
-        ensures same { self.new ≡ at_tick self.new.tick self.old }
-        ensures on { self.old.tick < self.new.tick }
-        ensures to { self.new.tick ≤ n }
-    {
-        self.jump(n);
         if self.tick.ticks() < n.ticks() {
-            self.turn(n, batch);
+            self.go_on(n, &mut batch);
         }
     }
 
-    /// Goes on to the next tick up to `n` at which a decision is due, or to `n`.
-    fn jump(&mut self, n: Tick)
-        requires later { self.old.tick ≤ n }
-        requires small { n ≤ LAST_TICK }
-        ensures same { self.new ≡ at_tick self.new.tick self.old }
-        ensures on { self.old.tick ≤ self.new.tick }
-        ensures to { self.new.tick ≤ n }
-    {
-        let due = self.machine.next_due(self.tick, n);
-        self.tick = due;
-    }
-
-    /// Goes on within the window that holds the tick, to its end or to `n`, whichever comes first.
-    fn turn(&mut self, n: Tick, batch: &mut [Entry; BATCH])
+    /// Goes on to a later tick. `batch` is room for entries on their way into a trace.
+    fn go_on(&mut self, n: Tick, batch: &mut [Entry; BATCH])
         requires later { self.old.tick < n }
         requires small { n ≤ LAST_TICK }
-        ensures same { self.new ≡ at_tick self.new.tick self.old }
-        ensures on { self.old.tick < self.new.tick }
-        ensures to { self.new.tick ≤ n }
+        ensures { self.new ≡ at_tick n self.old }
     {
         let config = self.config;
         let windows = config.windows();
-        let reached = self.machine.turn(windows, self.tick, n, batch);
-        self.tick = reached;
+        self.machine.run(windows, self.tick, n, batch);
+        self.tick = n;
     }
 
     /// The tick that was reached.

@@ -1,14 +1,14 @@
 -- A row of plain steps is counted as so many ticks.
 use Rattle.std.proofs.Common.{◌≡◌, ℕ, zero, suc, ◌+◌, ◌<◌, ◌≤◌, true, List, ◌++◌, Option, Some, length, get_or, refl, sym, ap, subst, ◌∙◌, arith}
 use Rattle.std.proofs.Math.ListN.{set}
-use Rattle.std.proofs.lemmas.List.{set-get_or, get_or-set_same}
+use Rattle.std.proofs.lemmas.List.{set-get_or}
 use Rattle.ptk_words.specs.declared.faults.Status.{Status}
 use Rattle.ptk_words.specs.declared.sections.Entry.{Entry}
 use Rattle.ptk_words.specs.declared.sections.Limits.{Limits}
 use Rattle.ptk_words.specs.declared.threads.Thread.{Thread}
 use Rattle.ptk_words_windows.specs.Windows.{OwnTicks}
 use Rattle.ptk_words_instructions.specs.PlainSteps.{plain_entries}
-use Rattle.ptk_words_model.specs.State.{Account, State}
+use Rattle.ptk_words_model.specs.State.{State}
 use Rattle.ptk_words_model.specs.Run.{is_active, last_of, next_from}
 use Rattle.ptk_words_quiet.specs.Quiet.{AreOwn, core_of, counted_row, row_state, after_ticks}
 use Rattle.ptk_words_quiet.proofs.TicksInARow.{row_ticks}
@@ -16,8 +16,7 @@ use Rattle.ptk_trace.specs.KeptSteps.{KeptSteps}
 use Rattle.ptk_kernel.specs.Rows.{IsRow}
 use Rattle.ptk_gate_pools.specs.Kept.{Kept, limits_at, part_at, put_part}
 use Rattle.ptk_system_machine.specs.Accounts.{KeptAccount}
-use Rattle.ptk_system_machine.specs.Whole.{Whole, IsWhole, no_account, account_at, state_at, put_state, gone_on}
-use Rattle.ptk_system_machine.proofs.States.{still_whole}
+use Rattle.ptk_system_machine.specs.Whole.{Whole, IsWhole, no_account, state_at, put_state, gone_on}
 use Rattle.ptk_system_machine.proofs.Ticks.{gone_none, own_within}
 
 -- the trace of an account
@@ -105,14 +104,3 @@ row_counted ticks p i tick stop n next old new accounts trace seen account is lt
     ∙ (ap (λ (a : KeptAccount). record { kept = new; accounts = set accounts p a }) same
     ∙ row_gone ticks p tick stop n next old new accounts trace is lt due own before within later no some))
     none row e
-
--- the partition's next decision after a row that ended before the last tick
-pub row_next : (ticks : OwnTicks) (p tick stop n : ℕ) (next : Option ℕ) (accounts : List KeptAccount) (trace : KeptSteps) → p < length accounts → AreOwn ticks tick stop → next ≡ ticks.next_of (tick + n) → tick + n < stop
-    → (get_or (set accounts p (with_row_of next n trace (get_or accounts p no_account))) p no_account).account.next ≡ Some (tick + n)
-row_next ticks p tick stop n next accounts trace lt own later before =
-    ap (λ (a : KeptAccount). a.account.next) (get_or-set_same accounts p (with_row_of next n trace (get_or accounts p no_account)) no_account lt)
-    ∙ (later ∙ own.next (tick + n) (omega arith) before)
-
--- what one partition's state is replaced in stays whole
-pub put_whole : (p : ℕ) (s : State) (whole : Whole) → IsWhole whole.kept whole.accounts → IsWhole (put_state p s whole).kept (put_state p s whole).accounts
-put_whole p s whole is = still_whole p s.part whole.kept (put_part p s.part whole.kept) whole.accounts (record (account_at p whole) { account = s.account }) is refl refl

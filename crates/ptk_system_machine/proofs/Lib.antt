@@ -1,6 +1,7 @@
 pub mod Behind
 pub mod CountedRows
-pub mod Due
 pub mod Entries
 pub mod States
 pub mod Ticks
+pub mod Coming
+pub mod Costs

@@ -11,9 +11,11 @@ use Rattle.ptk_words_model.specs.declared.Spent.TheVariants.{Step, Idle, Lost}
 use Rattle.ptk_words_model.specs.State.{Part, Account, State}
 use Rattle.ptk_words_model.specs.Run.{accounted, decided, next_from}
 use Rattle.ptk_words_model.specs.Decision.{after_decision, spent_by_decision}
+use Rattle.ptk_words_quiet.specs.Idle.{waiting_from}
 use Rattle.ptk_gate_pools.specs.Kept.{Kept, AreParts, limits_at, part_at, put_part}
 use Rattle.ptk_gate_pools.proofs.Parted.{part_at-put, part_at-other, parts_put}
 use Rattle.ptk_system_machine.specs.Accounts.{HasEntry, KeptAccount, duration_of, spent_account}
+use Rattle.ptk_system_machine.specs.Turns.{IsFreeFrom}
 use Rattle.ptk_system_machine.specs.Whole.{Whole, IsWhole, no_account, account_at, state_at, put_state}
 use Rattle.ptk_system_machine.proofs.Entries.{decision_entry}
 
@@ -31,19 +33,33 @@ put_part-same p kept = simp set-get_or
 pub put_state-same : (p : ℕ) (whole : Whole) → put_state p (state_at p whole) whole ≡ whole
 put_state-same p whole = rw (put_part-same p whole.kept, set-get_or whole.accounts p no_account) refl
 
--- the account after a decision, by what it came to
-pub accounted_is : (ticks : OwnTicks) (limits : Limits) (tick room : ℕ) (part : Part) (spent : Spent) (account : Account)
-    → accounted ticks limits tick room part spent account ≡ spent_account (next_from ticks part.status (tick + duration_of room spent)) limits.trace room spent part.last account
-accounted_is ticks limits tick room part Idle account = refl
-accounted_is ticks limits tick room part Lost account = refl
-accounted_is ticks limits tick room part (Step cost) account = refl
+-- the next decision of the account after a decision
+pub spent_next : (next : Option ℕ) (kept room : ℕ) (spent : Spent) (last : Option Entry) (account : Account) → (spent_account next kept room spent last account).next ≡ next
+spent_next next kept room Idle last account = refl
+spent_next next kept room Lost last account = refl
+spent_next next kept room (Step cost) last account = refl
 
-spent_is : (ticks : OwnTicks) (limits : Limits) (tick room : ℕ) (part after : Part) (spent came : Spent) (kept : ℕ) (account : Account) → part ≡ after → spent ≡ came → kept ≡ limits.trace
-    → spent_account (next_from ticks part.status (tick + duration_of room spent)) kept room spent part.last account ≡ accounted ticks limits tick room after came account
-spent_is ticks limits tick room part after spent came kept account e told trace =
-    ap (λ (k : ℕ). spent_account (next_from ticks part.status (tick + duration_of room spent)) k room spent part.last account) trace
-    ∙ (sym (accounted_is ticks limits tick room part spent account)
-    ∙ (ap (λ (s : Part). accounted ticks limits tick room s spent account) e ∙ ap (λ (s : Spent). accounted ticks limits tick room after s account) told))
+-- the account after a decision that came to this, with the next decision from a tick on
+spent_with : (ticks : OwnTicks) (limits : Limits) (tick room from : ℕ) (part : Part) (spent : Spent) (account : Account)
+    → spent_account (next_from ticks part.status from) limits.trace room spent part.last account ≡ record (accounted ticks limits tick room part spent account) { next = next_from ticks part.status from }
+spent_with ticks limits tick room from part Idle account = refl
+spent_with ticks limits tick room from part Lost account = refl
+spent_with ticks limits tick room from part (Step cost) account = refl
+
+-- the next decision comes behind the ticks that a decision takes up
+pub accounted_next : (ticks : OwnTicks) (limits : Limits) (tick room : ℕ) (part : Part) (spent : Spent) (account : Account)
+    → (accounted ticks limits tick room part spent account).next ≡ next_from ticks part.status (tick + duration_of room spent)
+accounted_next ticks limits tick room part Idle account = refl
+accounted_next ticks limits tick room part Lost account = refl
+accounted_next ticks limits tick room part (Step cost) account = refl
+
+spent_is : (ticks : OwnTicks) (limits : Limits) (tick room from : ℕ) (part after : Part) (spent came : Spent) (kept : ℕ) (account : Account) → part ≡ after → spent ≡ came → kept ≡ limits.trace
+    → spent_account (next_from ticks part.status from) kept room spent part.last account ≡ record (accounted ticks limits tick room after came account) { next = next_from ticks after.status from }
+spent_is ticks limits tick room from part after spent came kept account e told trace =
+    ap (λ (k : ℕ). spent_account (next_from ticks part.status from) k room spent part.last account) trace
+    ∙ (spent_with ticks limits tick room from part spent account
+    ∙ (ap (λ (s : Part). record (accounted ticks limits tick room s spent account) { next = next_from ticks s.status from }) e
+    ∙ ap (λ (s : Spent). record (accounted ticks limits tick room after s account) { next = next_from ticks after.status from }) told))
 
 -- what was told of a decision has an entry
 pub entry_told : (n p tick room : ℕ) (limits : Limits) (kept new : Kept) (spent : Spent) (last : Option Entry) → AreParts n kept → p < n
@@ -55,32 +71,45 @@ entry_told n p tick room limits kept new spent last parts lt told moved at =
     subst (λ (s : Spent). HasEntry s last) (sym told)
     (subst (λ (l : Option Entry). HasEntry (spent_by_decision limits tick room (part_at p kept)) l) (sym is) (decision_entry limits tick room (part_at p kept)))
 
--- the tables and the account after a decision are the state after it
-pub decided_whole : (ticks : OwnTicks) (tick room p : ℕ) (kept new : Kept) (accounts : List KeptAccount) (account : KeptAccount) (spent : Spent) (next : Option ℕ) (last : Option Entry)
+-- from when on a partition goes on, by what was told of its decision
+pub free_told : (n p tick room to from : ℕ) (kept new : Kept) (spent : Spent) → AreParts n kept → p < n → spent ≡ spent_by_decision (limits_at p kept) tick room (part_at p kept)
+    → new ≡ put_part p (after_decision (limits_at p kept) tick room (part_at p kept)) kept → IsFreeFrom (limits_at p new) tick room spent to (part_at p new) from
+    → IsFreeFrom (limits_at p kept) tick room (spent_by_decision (limits_at p kept) tick room (part_at p kept)) to (after_decision (limits_at p kept) tick room (part_at p kept)) from
+free_told n p tick room to from kept new spent parts lt told moved free =
+    let now : part_at p new ≡ after_decision (limits_at p kept) tick room (part_at p kept) = ap (part_at p) moved ∙ part_at-put n p _ kept parts lt in
+    subst (λ (s : Spent). IsFreeFrom (limits_at p kept) tick room s to (after_decision (limits_at p kept) tick room (part_at p kept)) from) told
+    (subst (λ (s : Part). IsFreeFrom (limits_at p kept) tick room spent to s from) now
+    (subst (λ (l : Limits). IsFreeFrom l tick room spent to (part_at p new) from) (ap (limits_at p) moved) free))
+
+-- the tables and the account after a decision are the state after it, with the next decision from a tick on
+pub decided_whole : (ticks : OwnTicks) (tick room from p : ℕ) (kept new : Kept) (accounts : List KeptAccount) (account : KeptAccount) (spent : Spent) (next : Option ℕ) (last : Option Entry)
     → IsWhole kept accounts → p < length accounts
     → spent ≡ spent_by_decision (limits_at p kept) tick room (part_at p kept)
     → new ≡ put_part p (after_decision (limits_at p kept) tick room (part_at p kept)) kept
-    → next ≡ next_from ticks (part_at p new).status (tick + duration_of room spent)
+    → next ≡ next_from ticks (part_at p new).status from
     → last ≡ (part_at p new).last
     → account ≡ record (get_or accounts p no_account) { account = spent_account next (get_or accounts p no_account).kept room spent last (get_or accounts p no_account).account }
-    → record { kept = new; accounts = set accounts p account } ≡ put_state p (decided ticks (limits_at p kept) tick room (state_at p (record { kept = kept; accounts = accounts }))) (record { kept = kept; accounts = accounts })
-decided_whole ticks tick room p kept new accounts account spent next last is lt told moved next_is last_is counted =
-    let old : KeptAccount = get_or accounts p no_account in
-    let limits : Limits = limits_at p kept in
+    → record { kept = new; accounts = set accounts p account }
+    ≡ put_state p (waiting_from ticks from (decided ticks (limits_at p kept) tick room (state_at p (record { kept = kept; accounts = accounts })))) (record { kept = kept; accounts = accounts })
+decided_whole ticks tick room from p kept new accounts account spent next last is lt told moved next_is last_is counted =
     let now : part_at p new ≡ after_decision (limits_at p kept) tick room (part_at p kept) = ap (part_at p) moved ∙ part_at-put (length accounts) p _ kept is.parts lt in
-    let by_law : spent_account (next_from ticks (part_at p new).status (tick + duration_of room spent)) (get_or accounts p no_account).kept room spent (part_at p new).last (get_or accounts p no_account).account
-    ≡ accounted ticks (limits_at p kept) tick room (after_decision (limits_at p kept) tick room (part_at p kept)) (spent_by_decision (limits_at p kept) tick room (part_at p kept)) (get_or accounts p no_account).account
-    = spent_is ticks (limits_at p kept) tick room (part_at p new) (after_decision (limits_at p kept) tick room (part_at p kept)) spent (spent_by_decision (limits_at p kept) tick room (part_at p kept)) (get_or accounts p no_account).kept (get_or accounts p no_account).account now told (is.traces p lt) in
-    let same : account ≡ record (get_or accounts p no_account) { account = accounted ticks (limits_at p kept) tick room (after_decision (limits_at p kept) tick room (part_at p kept)) (spent_by_decision (limits_at p kept) tick room (part_at p kept)) (get_or accounts p no_account).account }
+    let by_law : spent_account (next_from ticks (part_at p new).status from) (get_or accounts p no_account).kept room spent (part_at p new).last (get_or accounts p no_account).account
+    ≡ (waiting_from ticks from (decided ticks (limits_at p kept) tick room (state_at p (record { kept = kept; accounts = accounts })))).account
+    = spent_is ticks (limits_at p kept) tick room from (part_at p new) (after_decision (limits_at p kept) tick room (part_at p kept)) spent (spent_by_decision (limits_at p kept) tick room (part_at p kept)) (get_or accounts p no_account).kept (get_or accounts p no_account).account now told (is.traces p lt) in
+    let same : account ≡ record (get_or accounts p no_account) { account = (waiting_from ticks from (decided ticks (limits_at p kept) tick room (state_at p (record { kept = kept; accounts = accounts })))).account }
     = counted ∙ ap (λ (a : Account). record (get_or accounts p no_account) { account = a })
     (ap (λ (n : Option ℕ). spent_account n (get_or accounts p no_account).kept room spent last (get_or accounts p no_account).account) next_is
-    ∙ (ap (λ (l : Option Entry). spent_account (next_from ticks (part_at p new).status (tick + duration_of room spent)) (get_or accounts p no_account).kept room spent l (get_or accounts p no_account).account) last_is ∙ by_law)) in
+    ∙ (ap (λ (l : Option Entry). spent_account (next_from ticks (part_at p new).status from) (get_or accounts p no_account).kept room spent l (get_or accounts p no_account).account) last_is ∙ by_law)) in
     ap (λ (k : Kept). record { kept = k; accounts = set accounts p account }) moved
     ∙ ap (λ (a : KeptAccount). record { kept = put_part p (after_decision (limits_at p kept) tick room (part_at p kept)) kept; accounts = set accounts p a }) same
 
 -- the account that was written is the partition's
 pub account_read : (p i : ℕ) (accounts : List KeptAccount) (x : KeptAccount) → x ≡ get_or accounts i x → i ≡ p → p < length accounts → x ≡ get_or accounts p no_account
 account_read p i accounts x read same lt = get_or_read accounts p x lt (subst (λ (j : ℕ). x ≡ get_or accounts j x) same read) no_account
+
+-- the account that was written, read back
+pub account_put : (p i : ℕ) (accounts : List KeptAccount) (x : KeptAccount) → i ≡ p → p < length accounts → get_or (set accounts i x) p no_account ≡ x
+account_put p i accounts x same lt = ap (λ (j : ℕ). get_or (set accounts j x) p no_account) same ∙ get_or-set_same accounts p x no_account lt
 
 trace_still : (p q : ℕ) (accounts : List KeptAccount) (account : KeptAccount) (traces : ℕ) → account.kept ≡ (get_or accounts p no_account).kept → (get_or accounts q no_account).kept ≡ traces → q < length accounts
     → (get_or (set accounts p account) q no_account).kept ≡ traces

@@ -1,21 +1,26 @@
 -- What ticks of one partition are to it and to each.
-use Rattle.std.proofs.Common.{◌≡◌, ◌≢◌, ℕ, zero, suc, ◌+◌, ◌-◌, ◌<◌, ◌≤◌, Bool, true, false, ◌==◌, length, get_or, Option, Some, None, refl, sym, ap, subst, ◌∙◌, All, eqb-true, eq-eqb, arith}
-use Rattle.std.proofs.lemmas.Bool.{false≢true}
+use Rattle.std.proofs.Common.{◌≡◌, ℕ, zero, suc, ◌+◌, ◌-◌, ◌<◌, ◌≤◌, Bool, true, false, ◌==◌, length, get_or, Option, Some, None, ◌⊎◌, inl, inr, refl, sym, ap, subst, ◌∙◌, eqb-true, eq-eqb, arith}
 use Rattle.std.proofs.Math.ListN.{set}
 use Rattle.std.proofs.lemmas.List.{set-set, get_or-set_same, length-set}
 use Rattle.ptk_words.specs.declared.sections.Limits.{Limits}
-use Rattle.ptk_words_windows.specs.declared.window.Window.{Window}
-use Rattle.ptk_words_windows.specs.Windows.{WindowTable, OwnTicks, IsOwn, IsOwnUntil, IsTable, own_ticks}
-use Rattle.ptk_words_windows.proofs.OwnLaws.{end_of_window, end_none, own_apart, own_from, window_whole}
+use Rattle.ptk_words_windows.specs.Windows.{WindowTable, OwnTicks, IsTable, own_ticks}
+use Rattle.ptk_words_windows.proofs.OwnLaws.{window_whole}
+use Rattle.std.proofs.lemmas.Bool.{cases_lt}
+use Rattle.ptk_words_model.specs.declared.Spent.{Spent}
+use Rattle.ptk_words_model.specs.declared.Spent.TheVariants.{Idle}
 use Rattle.ptk_words_model.specs.State.{State}
-use Rattle.ptk_words_model.specs.Run.{after_tick, after_tick_until, decided, is_at}
+use Rattle.ptk_words_model.specs.Decision.{after_decision, spent_by_decision}
+use Rattle.ptk_words_model.specs.Run.{after_tick, after_tick_until, decided, is_at, next_from}
 use Rattle.ptk_words_quiet.specs.Quiet.{AreOwn, after_ticks}
-use Rattle.ptk_words_quiet.proofs.TicksInARow.{join, others, window_own}
-use Rattle.ptk_gate_pools.specs.Kept.{Kept, limits_at, put_part}
+use Rattle.ptk_words_quiet.specs.Idle.{IsIdle, waiting_from}
+use Rattle.ptk_words_quiet.proofs.IdleTicks.{idle_ticks}
+use Rattle.ptk_words_quiet.proofs.TicksInARow.{join, window_own}
+use Rattle.ptk_gate_pools.specs.Kept.{Kept, limits_at, part_at, put_part}
 use Rattle.ptk_gate_pools.proofs.Parted.{put_part-put}
-use Rattle.ptk_system_machine.specs.Accounts.{KeptAccount, IsBehind}
-use Rattle.ptk_system_machine.specs.Whole.{Whole, IsWhole, IsInWindow, AreWindowsOf, no_account, account_at, state_at, put_state, gone_on}
-use Rattle.ptk_system_machine.proofs.States.{state_at-put, state_at-other, put_state-same}
+use Rattle.ptk_system_machine.specs.Accounts.{KeptAccount, IsBehind, duration_of}
+use Rattle.ptk_system_machine.specs.Turns.{IsFreeFrom, IsInWindow}
+use Rattle.ptk_system_machine.specs.Whole.{Whole, IsWhole, no_account, account_at, state_at, put_state, gone_on}
+use Rattle.ptk_system_machine.proofs.States.{accounted_next, state_at-put, put_state-same}
 use Rattle.ptk_system_machine.proofs.Behind.{behind_on}
 
 -- ---- ticks at which nothing is due
@@ -31,6 +36,25 @@ still_on ticks limits tick zero s none = refl
 still_on ticks limits tick (suc n) s none =
     ap (after_tick ticks limits (tick + n)) (still_on ticks limits tick n s (λ k le lt. none k le (omega (arith, lt))))
     ∙ idle_tick ticks limits (tick + n) (ticks.end_at (tick + n)) s (none (tick + n) (omega arith) (omega arith))
+
+never_tick : (ticks : OwnTicks) (limits : Limits) (tick : ℕ) (s : State) → (s.account.next ≡ Some tick → ticks.end_at tick ≡ None) → after_tick ticks limits tick s ≡ s
+never_tick ticks limits tick s other = by s.account.next refl
+  where
+    by : (o : Option ℕ) → s.account.next ≡ o → after_tick ticks limits tick s ≡ s
+    by None e = idle_tick ticks limits tick (ticks.end_at tick) s (ap (is_at tick) e)
+    by (Some n) e = at (n == tick) refl
+      where
+        at : (b : Bool) → (n == tick) ≡ b → after_tick ticks limits tick s ≡ s
+        at false not = idle_tick ticks limits tick (ticks.end_at tick) s (ap (is_at tick) e ∙ not)
+        at true is = ap (λ (end : Option ℕ). after_tick_until end ticks limits tick s) (other (e ∙ ap Some (eqb-true n tick is)))
+
+-- over ticks at none of which a decision takes place the state stays
+pub still_never : (ticks : OwnTicks) (limits : Limits) (tick n : ℕ) (s : State) → ((k : ℕ) → tick ≤ k → k < tick + n → s.account.next ≡ Some k → ticks.end_at k ≡ None) → after_ticks ticks limits tick n s ≡ s
+unfolding after_ticks
+still_never ticks limits tick zero s none = refl
+still_never ticks limits tick (suc n) s none =
+    ap (after_tick ticks limits (tick + n)) (still_never ticks limits tick n s (λ k le lt. none k le (omega (arith, lt))))
+    ∙ never_tick ticks limits (tick + n) s (none (tick + n) (omega arith) (omega arith))
 
 -- no decision is due before the next one
 pub not_due : (o : Option ℕ) (from to k : ℕ) → ((j : ℕ) → o ≡ Some j → from ≤ j → to ≤ j) → from ≤ k → k < to → is_at k o ≡ false
@@ -77,80 +101,50 @@ gone_further ticks p tick a b old mid new is lt le later first then =
     ∙ (gone_join ticks p tick (a - tick) (b - a) old is lt
     ∙ ap (λ (k : ℕ). gone_on ticks p tick k old) all)))
 
+-- no ticks
+pub gone_start : (ticks : OwnTicks) (p tick n : ℕ) (whole : Whole) → n ≡ 0 → whole ≡ gone_on ticks p tick n whole
+gone_start ticks p tick n whole none = sym (ap (λ (k : ℕ). gone_on ticks p tick k whole) none ∙ gone_none ticks p tick whole)
+
 -- over ticks at which it decides nothing, all stays
 pub gone_still : (ticks : OwnTicks) (p from to : ℕ) (whole : Whole) → ((j : ℕ) → (account_at p whole).account.next ≡ Some j → from ≤ j → to ≤ j) → from ≤ to → whole ≡ gone_on ticks p from (to - from) whole
 gone_still ticks p from to whole later le =
     sym (ap (λ (s : State). put_state p s whole)
     (still_on ticks (limits_at p whole.kept) from (to - from) (state_at p whole) (λ k a b. not_due (account_at p whole).account.next from to k later a (omega (arith, b, le)))) ∙ put_state-same p whole)
 
--- ticks up to one, then up to a later one, and then over ticks at which it decides nothing
-pub gone_more : (ticks : OwnTicks) (p tick now reached next : ℕ) (old mid new : Whole) → IsWhole old.kept old.accounts → p < length old.accounts → tick ≤ now → now ≤ reached → reached ≤ next
-    → mid ≡ gone_on ticks p tick (now - tick) old → new ≡ gone_on ticks p now (reached - now) mid → ((j : ℕ) → (account_at p new).account.next ≡ Some j → reached ≤ j → next ≤ j)
-    → new ≡ gone_on ticks p tick (next - tick) old
-gone_more ticks p tick now reached next old mid new is lt le on later gone then none =
-    gone_further ticks p tick reached next old new new is lt (omega arith) later (gone_further ticks p tick now reached old mid new is lt le on gone then) (gone_still ticks p reached next new none later)
+-- so many ticks, and then over ticks at which it decides nothing
+pub gone_up : (ticks : OwnTicks) (p tick n to : ℕ) (old new : Whole) → IsWhole old.kept old.accounts → p < length old.accounts → tick + n ≤ to → ((k : ℕ) → (account_at p new).account.next ≡ Some k → to ≤ k)
+    → new ≡ gone_on ticks p tick n old → new ≡ gone_on ticks p tick (to - tick) old
+gone_up ticks p tick n to old new is lt le before gone =
+    let same : n ≡ tick + n - tick = omega arith in
+    gone_further ticks p tick (tick + n) to old new new is lt (omega arith) le
+    (gone ∙ ap (λ (k : ℕ). gone_on ticks p tick k old) same)
+    (gone_still ticks p (tick + n) to new (λ k at from. before k at) le)
 
 -- no account comes or goes
 pub gone_parts : (ticks : OwnTicks) (p tick n : ℕ) (old new : Whole) → new ≡ gone_on ticks p tick n old → length new.accounts ≡ length old.accounts
 gone_parts ticks p tick n old new gone = ap (λ (w : Whole). length w.accounts) gone ∙ length-set old.accounts p (record (account_at p old) { account = (after_ticks ticks (limits_at p old.kept) tick n (state_at p old)).account })
 
 -- a decision is one tick
-pub gone_decided : (ticks : OwnTicks) (p tick end : ℕ) (whole : Whole) → ticks.end_at tick ≡ Some end → is_at tick (account_at p whole).account.next ≡ true
-    → put_state p (decided ticks (limits_at p whole.kept) tick (end - tick) (state_at p whole)) whole ≡ gone_on ticks p tick 1 whole
+decided_tick : (ticks : OwnTicks) (limits : Limits) (tick end : ℕ) (s : State) → ticks.end_at tick ≡ Some end → is_at tick s.account.next ≡ true → after_ticks ticks limits tick 1 s ≡ decided ticks limits tick (end - tick) s
 unfolding after_ticks
-gone_decided ticks p tick end whole ends due =
-    let at : tick ≡ tick + 0 = omega arith in
-    ap (λ (s : State). put_state p s whole)
-    (sym (decided_by tick ends due) ∙ ap (λ (k : ℕ). after_tick ticks (limits_at p whole.kept) k (state_at p whole)) at)
+decided_tick ticks limits tick end s ends due =
+    let at : tick + 0 ≡ tick = omega arith in
+    ap (λ (k : ℕ). after_tick ticks limits k s) at ∙ by tick ends due
   where
-    decided_by : (k : ℕ) → ticks.end_at k ≡ Some end → is_at k (account_at p whole).account.next ≡ true
-        → after_tick ticks (limits_at p whole.kept) k (state_at p whole) ≡ decided ticks (limits_at p whole.kept) k (end - k) (state_at p whole)
-    decided_by k e d = rw (e, d) refl
+    by : (k : ℕ) → ticks.end_at k ≡ Some end → is_at k s.account.next ≡ true → after_tick ticks limits k s ≡ decided ticks limits k (end - k) s
+    by k e d = rw (e, d) refl
 
 is_due : (tick : ℕ) (o : Option ℕ) → o ≡ Some tick → is_at tick o ≡ true
 is_due tick o e = rw e (eq-eqb tick tick refl)
 
--- so many ticks and the decision after them
-pub then_decided : (ticks : OwnTicks) (p tick n reached end room result : ℕ) (old mid new : Whole) → IsWhole old.kept old.accounts → p < length old.accounts → IsInWindow ticks tick end
-    → reached ≡ tick + n → reached < end → room ≡ end - reached → result ≡ reached + 1 → (account_at p mid).account.next ≡ Some reached
-    → mid ≡ gone_on ticks p tick n old → new ≡ put_state p (decided ticks (limits_at p mid.kept) reached room (state_at p mid)) mid → new ≡ gone_on ticks p tick (result - tick) old
-then_decided ticks p tick n reached end room result old mid new is lt window at before room_is result_is due gone decision =
-    let ends : ticks.end_at reached ≡ Some end = window.ends reached (omega arith) before in
-    let first : n ≡ reached - tick = omega arith in
-    let one : 1 ≡ result - reached = omega arith in
-    gone_further ticks p tick reached result old mid new is lt (omega arith) (omega arith)
-    (gone ∙ ap (λ (k : ℕ). gone_on ticks p tick k old) first)
-    (decision
-    ∙ (ap (λ (k : ℕ). put_state p (decided ticks (limits_at p mid.kept) reached k (state_at p mid)) mid) room_is
-    ∙ (gone_decided ticks p reached end mid ends (is_due reached (account_at p mid).account.next due)
-    ∙ ap (λ (k : ℕ). gone_on ticks p reached k mid) one)))
-
--- so many ticks more are behind the state
-pub gone_behind : (ticks : OwnTicks) (p tick n end : ℕ) (old new : Whole) → IsWhole old.kept old.accounts → p < length old.accounts → IsInWindow ticks tick end → tick + n ≤ end
-    → new ≡ gone_on ticks p tick n old → IsBehind tick (state_at p old) → IsBehind (tick + n) (state_at p new)
-gone_behind ticks p tick n end old new is lt window within gone behind =
-    subst (IsBehind (tick + n)) (sym (ap (state_at p) gone ∙ state_at-put p _ old is lt))
-    (behind_on ticks (limits_at p old.kept) tick n (state_at p old)
-    (λ k last le below ends.
-    let one : ticks.end_at k ≡ Some end = window.ends k le (omega (arith, below, within)) in
-    let same : last ≡ end = cc in
-    omega (arith, window.near, le, same)) behind)
-
--- so many ticks up to this one are behind the state
-pub behind_at : (ticks : OwnTicks) (p tick now end : ℕ) (old new : Whole) → IsWhole old.kept old.accounts → p < length old.accounts → IsInWindow ticks tick end → tick ≤ now → now ≤ end
-    → new ≡ gone_on ticks p tick (now - tick) old → IsBehind tick (state_at p old) → IsBehind now (state_at p new)
-behind_at ticks p tick now end old new is lt window le within gone behind =
-    let at : tick + (now - tick) ≡ now = omega arith in
-    subst (λ (k : ℕ). IsBehind k (state_at p new)) at (gone_behind ticks p tick (now - tick) end old new is lt window (omega arith) gone behind)
-
 -- ---- windows
 
-pub in_window : (table : WindowTable) (parts p tick end : ℕ) → IsTable table → AreWindowsOf parts table → (own_ticks table p).end_at tick ≡ Some end → IsInWindow (own_ticks table p) tick end
-in_window table parts p tick end is of ends =
+pub in_window : (table : WindowTable) (p tick end : ℕ) → IsTable table → table.frame ≤ 1000000 → (own_ticks table p).end_at tick ≡ Some end → IsInWindow (own_ticks table p) tick end
+in_window table p tick end is frame ends =
     let whole = window_whole table p tick end is ends in
-    let frame : table.frame ≤ 1000000 = of.frame in
     let near : end ≤ tick + table.frame = whole.1 in
     record {
+      before = whole.0;
       own = window_own table p tick end is ends;
       ends = whole.2;
       near = omega arith;
@@ -162,51 +156,79 @@ own_within ticks from to a b own le within = record {
   next = λ k h lt. own.next k (omega (arith, h, le)) (omega (arith, lt, within));
 }
 
-pub window_later : (ticks : OwnTicks) (tick end now : ℕ) → IsInWindow ticks tick end → tick ≤ now → IsInWindow ticks now end
-window_later ticks tick end now window le = record {
-  own = own_within ticks tick end now end window.own le (omega arith);
-  ends = λ k h lt. window.ends k (omega (arith, h, le)) lt;
-  near = omega (arith, window.near, le);
-}
+-- ---- a decision
 
--- the partition of a window is known
-pub known_part : (table : WindowTable) (parts p tick end : ℕ) → All (λ w. w.partition < parts) table.windows → IsOwnUntil table p tick end → p < parts
-known_part table parts p tick end known own = subst (λ (r : ℕ). r < parts) own.4.0 (subst (λ (w : Window). w.partition < parts) own.3 (known own.0 own.1 own.2))
+-- where a decision's next one comes behind the ticks that it takes up, that one is its own
+waiting_decided : (ticks : OwnTicks) (limits : Limits) (tick room from : ℕ) (s : State) → from ≡ tick + duration_of room (spent_by_decision limits tick room s.part)
+    → waiting_from ticks from (decided ticks limits tick room s) ≡ decided ticks limits tick room s
+waiting_decided ticks limits tick room from s at =
+    let next : next_from ticks (after_decision limits tick room s.part).status from ≡ (decided ticks limits tick room s).account.next
+    = ap (next_from ticks (after_decision limits tick room s.part).status) at
+    ∙ sym (accounted_next ticks limits tick room (after_decision limits tick room s.part) (spent_by_decision limits tick room s.part) s.account) in
+    ap (λ (o : Option ℕ). record (decided ticks limits tick room s) { account = record (decided ticks limits tick room s).account { next = o } }) next
 
--- ---- ticks of each
+-- an idle decision, and then ticks up to which the partition has nothing to do
+idle_on : (table : WindowTable) (p : ℕ) (limits : Limits) (tick end from : ℕ) (s : State) → IsTable table → (own_ticks table p).end_at tick ≡ Some end → s.account.next ≡ Some tick → tick + 1 ≤ from
+    → spent_by_decision limits tick (end - tick) s.part ≡ Idle → IsIdle limits from (after_decision limits tick (end - tick) s.part)
+    → after_ticks (own_ticks table p) limits tick (from - tick) s ≡ waiting_from (own_ticks table p) from (decided (own_ticks table p) limits tick (end - tick) s)
+idle_on table p limits tick end from s is ends due le spent idle =
+    let all : from - tick ≡ 1 + (from - (tick + 1)) = omega arith in
+    let last : tick + 1 + (from - (tick + 1)) ≡ from = omega arith in
+    let next : (decided (own_ticks table p) limits tick (end - tick) s).account.next ≡ next_from (own_ticks table p) (after_decision limits tick (end - tick) s.part).status (tick + 1)
+    = accounted_next (own_ticks table p) limits tick (end - tick) (after_decision limits tick (end - tick) s.part) (spent_by_decision limits tick (end - tick) s.part) s.account
+    ∙ ap (λ (spent : Spent). next_from (own_ticks table p) (after_decision limits tick (end - tick) s.part).status (tick + duration_of (end - tick) spent)) spent in
+    ap (λ (n : ℕ). after_ticks (own_ticks table p) limits tick n s) all
+    ∙ (join (own_ticks table p) limits tick 1 (from - (tick + 1)) s
+    ∙ (ap (after_ticks (own_ticks table p) limits (tick + 1) (from - (tick + 1))) (decided_tick (own_ticks table p) limits tick end s ends (is_due tick s.account.next due))
+    ∙ (idle_ticks table p limits (tick + 1) from (from - (tick + 1)) (decided (own_ticks table p) limits tick (end - tick) s) is idle next (omega arith)
+    ∙ ap (λ (k : ℕ). waiting_from (own_ticks table p) k (decided (own_ticks table p) limits tick (end - tick) s)) last)))
 
-own_at : (table : WindowTable) (p tick end : ℕ) → (own_ticks table p).end_at tick ≡ Some end → IsOwn table p tick
-own_at table p tick end e = own_from table p tick end (rw e at (end_of_window table p tick))
-
--- in a window of one partition no tick is another's
-not_others : (table : WindowTable) (p q tick end : ℕ) → IsTable table → q ≢ p → (own_ticks table p).end_at tick ≡ Some end → (k : ℕ) → tick ≤ k → k < end → (own_ticks table q).end_at k ≡ None
-not_others table p q tick end is differ ends k le lt =
-    let whole = window_whole table p tick end is ends in
-    end_none table q k (own_apart table p q k is (λ one. differ (sym one)) (own_at table p k end (whole.2 k le lt)))
-
--- what is done to the partition of a window is so many ticks of each
-pub gone_each : (table : WindowTable) (p tick n end : ℕ) (whole found new : Whole) → IsTable table → IsWhole whole.kept whole.accounts → p < length whole.accounts → (own_ticks table p).end_at tick ≡ Some end → tick + n ≤ end
-    → found ≡ whole → new ≡ gone_on (own_ticks table p) p tick n found
-    → (q : ℕ) → state_at q new ≡ after_ticks (own_ticks table q) (limits_at q whole.kept) tick n (state_at q whole)
-gone_each table p tick n end whole found new table_is is lt ends within same moved q = by (q == p) refl
+-- a decision, and then ticks up to the next one
+pub decided_on : (table : WindowTable) (p tick end room from to last : ℕ) (old new : Whole) → IsTable table → IsWhole old.kept old.accounts → p < length old.accounts → (own_ticks table p).end_at tick ≡ Some end → room ≡ end - tick
+    → 1 ≤ duration_of room (spent_by_decision (limits_at p old.kept) tick room (part_at p old.kept))
+    → (account_at p old).account.next ≡ Some tick → tick < to → (from ≤ last → from ≤ to) → ((k : ℕ) → (account_at p new).account.next ≡ Some k → to ≤ k)
+    → IsFreeFrom (limits_at p old.kept) tick room (spent_by_decision (limits_at p old.kept) tick room (part_at p old.kept)) last (after_decision (limits_at p old.kept) tick room (part_at p old.kept)) from
+    → new ≡ put_state p (waiting_from (own_ticks table p) from (decided (own_ticks table p) (limits_at p old.kept) tick room (state_at p old))) old → new ≡ gone_on (own_ticks table p) p tick (to - tick) old
+decided_on table p tick end room from to last old new is whole lt ends room_is some due later far before free decision = by (cases_lt (tick + duration_of room (spent_by_decision (limits_at p old.kept) tick room (part_at p old.kept))) from)
   where
-    gone : new ≡ gone_on (own_ticks table p) p tick n whole
-    gone = moved ∙ ap (gone_on (own_ticks table p) p tick n) same
+    behind : tick + duration_of room (spent_by_decision (limits_at p old.kept) tick room (part_at p old.kept)) ≤ from
+    behind = free.behind
 
-    by : (b : Bool) → (q == p) ≡ b → state_at q new ≡ after_ticks (own_ticks table q) (limits_at q whole.kept) tick n (state_at q whole)
-    by true e =
-        let P : ℕ → Type 0 = λ r. state_at r new ≡ after_ticks (own_ticks table r) (limits_at r whole.kept) tick n (state_at r whole) in
-        subst P (sym (eqb-true q p e)) (ap (state_at p) gone ∙ state_at-put p _ whole is lt)
-    by false e =
-        let differ : q ≢ p = λ one. false≢true (sym e ∙ eq-eqb q p one) in
-        ap (state_at q) gone
-        ∙ (state_at-other p q _ whole differ
-        ∙ sym (others (own_ticks table q) (limits_at q whole.kept) tick n (state_at q whole) (λ k le below. not_others table p q tick end table_is differ ends k le (omega (arith, below, within)))))
+    by : (tick + duration_of room (spent_by_decision (limits_at p old.kept) tick room (part_at p old.kept)) < from) ⊎ (from ≤ tick + duration_of room (spent_by_decision (limits_at p old.kept) tick room (part_at p old.kept)))
+        → new ≡ gone_on (own_ticks table p) p tick (to - tick) old
+    by (inl less) =
+        let idle = free.idle less in
+        let way : after_ticks (own_ticks table p) (limits_at p old.kept) tick (from - tick) (state_at p old) ≡ waiting_from (own_ticks table p) from (decided (own_ticks table p) (limits_at p old.kept) tick room (state_at p old))
+        = subst (λ (k : ℕ). spent_by_decision (limits_at p old.kept) tick k (part_at p old.kept) ≡ Idle → IsIdle (limits_at p old.kept) from (after_decision (limits_at p old.kept) tick k (part_at p old.kept))
+        → after_ticks (own_ticks table p) (limits_at p old.kept) tick (from - tick) (state_at p old) ≡ waiting_from (own_ticks table p) from (decided (own_ticks table p) (limits_at p old.kept) tick k (state_at p old))) (sym room_is)
+        (idle_on table p (limits_at p old.kept) tick end from (state_at p old) is ends due (omega (arith, less, some))) idle.0 idle.2 in
+        gone_further (own_ticks table p) p tick from to old new new whole lt (omega (arith, less, some)) (far idle.1)
+        (decision ∙ ap (λ (u : State). put_state p u old) (sym way))
+        (gone_still (own_ticks table p) p from to new (λ k at le. before k at) (far idle.1))
+    by (inr past) =
+        let at : from ≡ tick + duration_of room (spent_by_decision (limits_at p old.kept) tick room (part_at p old.kept)) = omega (arith, behind, past) in
+        let one : 1 ≡ tick + 1 - tick = omega arith in
+        let way : after_ticks (own_ticks table p) (limits_at p old.kept) tick 1 (state_at p old) ≡ decided (own_ticks table p) (limits_at p old.kept) tick room (state_at p old)
+        = decided_tick (own_ticks table p) (limits_at p old.kept) tick end (state_at p old) ends (is_due tick (account_at p old).account.next due)
+        ∙ ap (λ (k : ℕ). decided (own_ticks table p) (limits_at p old.kept) tick k (state_at p old)) (sym room_is) in
+        gone_further (own_ticks table p) p tick (tick + 1) to old new new whole lt (omega arith) (omega arith)
+        (decision
+        ∙ (ap (λ (u : State). put_state p u old) (waiting_decided (own_ticks table p) (limits_at p old.kept) tick room from (state_at p old) at ∙ sym way)
+        ∙ ap (λ (k : ℕ). gone_on (own_ticks table p) p tick k old) one))
+        (gone_still (own_ticks table p) p (tick + 1) to new (λ k at le. before k at) (omega arith))
 
--- a tick in no window is a tick of each
-pub idle_each : (table : WindowTable) (tick n : ℕ) (whole found : Whole) → ((q : ℕ) → (own_ticks table q).end_at tick ≡ None) → n ≡ tick + 1 → found ≡ whole
-    → (q : ℕ) → state_at q found ≡ after_ticks (own_ticks table q) (limits_at q whole.kept) tick (n - tick) (state_at q whole)
-idle_each table tick n whole found ends after same q =
-    ap (state_at q) same ∙ sym (others (own_ticks table q) (limits_at q whole.kept) tick (n - tick) (state_at q whole) (λ k le below.
-    let at : tick ≡ k = omega (arith, le, below) in
-    subst (λ (j : ℕ). (own_ticks table q).end_at j ≡ None) at (ends q)))
+-- so many ticks more are behind a partition
+pub behind_to : (table : WindowTable) (p : ℕ) (limits : Limits) (tick to : ℕ) (s new : State) → IsTable table → table.frame ≤ 1000000 → tick ≤ to → new ≡ after_ticks (own_ticks table p) limits tick (to - tick) s
+    → IsBehind tick s → IsBehind to new
+behind_to table p limits tick to s new is frame le gone behind =
+    let at : tick + (to - tick) ≡ to = omega arith in
+    subst (IsBehind to) (sym gone)
+    (subst (λ (k : ℕ). IsBehind k (after_ticks (own_ticks table p) limits tick (to - tick) s)) at
+    (behind_on (own_ticks table p) limits tick (to - tick) s
+    (λ k end from below ends. let near : end ≤ k + table.frame = (window_whole table p k end is ends).1 in omega arith) behind))
+
+-- so many ticks of it are behind the partition
+pub gone_behind : (table : WindowTable) (p tick to : ℕ) (old new : Whole) → IsTable table → table.frame ≤ 1000000 → IsWhole old.kept old.accounts → p < length old.accounts → tick ≤ to
+    → new ≡ gone_on (own_ticks table p) p tick (to - tick) old → IsBehind tick (state_at p old) → IsBehind to (state_at p new)
+gone_behind table p tick to old new is frame whole lt le gone behind =
+    behind_to table p (limits_at p old.kept) tick to (state_at p old) (state_at p new) is frame le (ap (state_at p) gone ∙ state_at-put p _ old whole lt) behind

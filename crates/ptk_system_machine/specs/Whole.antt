@@ -1,9 +1,9 @@
 -- The states of all partitions at once.
-use Rattle.std.specs.Prelude.{◌≡◌, ℕ, ◌+◌, ◌<◌, ◌≤◌, List, None, Some, All, Any, length, slice_index_or, slice_set}
+use Rattle.std.specs.Prelude.{◌≡◌, ℕ, ◌<◌, ◌≤◌, List, None, All, length, slice_index_or, slice_set}
 use Rattle.ptk_words_windows.specs.Windows.{WindowTable, OwnTicks, own_ticks}
 use Rattle.ptk_words_model.specs.State.{State}
 use Rattle.ptk_words_model.specs.Run.{next_from}
-use Rattle.ptk_words_quiet.specs.Quiet.{AreOwn, after_ticks}
+use Rattle.ptk_words_quiet.specs.Quiet.{after_ticks}
 use Rattle.ptk_gate_pools.specs.Kept.{Kept, AreParts, limits_at, part_at, put_part}
 use Rattle.ptk_system_machine.specs.Accounts.{KeptAccount, first_account}
 
@@ -24,10 +24,6 @@ account_at p whole = slice_index_or whole.accounts p no_account
 abbrev pub state_at : ℕ → Whole → State
 state_at p whole = record { part = part_at p whole.kept; account = (account_at p whole).account }
 
--- the tick is the next decision of a partition
-abbrev pub IsDue : ℕ → Whole → Type 0
-IsDue tick whole = Any (λ account. account.account.next ≡ Some tick) whole.accounts
-
 -- the states with this as the partition's; every other partition's stays
 abbrev pub put_state : ℕ → State → Whole → Whole
 put_state p state whole =
@@ -39,12 +35,6 @@ put_state p state whole =
 -- the states after n ticks of one partition, from this one on; every other partition's stays
 abbrev pub gone_on : OwnTicks → ℕ → ℕ → ℕ → Whole → Whole
 gone_on ticks p tick n whole = put_state p (after_ticks ticks (limits_at p whole.kept) tick n (state_at p whole)) whole
-
--- from the tick on each tick is a partition's own, in one window that ends there, at most a frame later
-pub record IsInWindow (ticks : OwnTicks) (tick end : ℕ) : Type 0 where
-  pub own : AreOwn ticks tick end
-  pub ends : (k : ℕ) → tick ≤ k → k < end → ticks.end_at k ≡ Some end
-  pub near : end ≤ tick + 1000000
 
 -- every partition has an entry in each list, and its trace keeps what its section says
 pub record IsWhole (kept : Kept) (accounts : List KeptAccount) : Type 0 where

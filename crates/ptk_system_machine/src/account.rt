@@ -2,7 +2,6 @@
 
 ghost use Rattle.std.specs.Prelude.{◌≡◌, ◌≤◌, ◌^◌, ◌+◌, IfOk};
 ghost use Rattle.ptk_words.specs.declared.TheConstants.{LAST_TICK};
-ghost use Rattle.ptk_words_model.specs.Run.{is_at};
 ghost use Rattle.ptk_kernel.specs.Spending.{cost_in};
 ghost use Rattle.ptk_system_machine.specs.Accounts.{HasEntry, first_account, spent_account, duration_of};
 
@@ -52,16 +51,6 @@ impl Account {
         ensures { result ≡ self.now.account.next }
     {
         self.next
-    }
-
-    /// Whether the next decision is at the tick.
-    pub(crate) fn is_due(&self, tick: Tick) -> bool
-        ensures { result ≡ is_at tick self.now.account.next }
-    {
-        match self.next {
-            Some(next) => next.ticks() == tick.ticks(),
-            None => false,
-        }
     }
 
     /// How many steps there were.

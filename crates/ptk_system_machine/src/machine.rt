@@ -1,10 +1,10 @@
 //! All partitions.
 
-ghost use Rattle.std.specs.Prelude.{◌≡◌, ◌<◌, ◌≤◌, ◌^◌, ℕ, Some, IfOk, length, slice_index_or};
+ghost use Rattle.std.specs.Prelude.{◌≡◌, ◌<◌, ◌≤◌, ◌^◌, ℕ, IfOk, length, slice_index_or};
 ghost use Rattle.ptk_words_windows.specs.Windows.{own_ticks};
 ghost use Rattle.ptk_words_model.specs.Run.{is_active, next_from};
 ghost use Rattle.ptk_gate_pools.specs.Kept.{AreParts, limits_at};
-ghost use Rattle.ptk_system_machine.specs.Whole.{IsDue, IsWhole, account_at, first_account_of, no_account};
+ghost use Rattle.ptk_system_machine.specs.Whole.{IsWhole, account_at, first_account_of, no_account};
 
 use crate::account::Account;
 use ptk_gate::Tables;
@@ -76,52 +76,6 @@ impl Machine {
         ensures kept { result.now.kept ≡ (limits_at p self.now.kept).trace }
     {
         &self.accounts[p.index()]
-    }
-}
-
-impl Machine {
-    /// The tick of the partition's next decision, where that is from `from` on and before `to`, else `to`.
-    pub(crate) fn due_of(&self, p: PartId, from: Tick, to: Tick) -> Tick
-        requires partition { p < length self.now.accounts }
-        requires order { from ≤ to }
-        ensures not_before { from ≤ result }
-        ensures not_after { result ≤ to }
-        ensures none_between { (k : ℕ) → (account_at p self.now).account.next ≡ Some k → from ≤ k → result ≤ k }
-        ensures due { result < to → (account_at p self.now).account.next ≡ Some result }
-    {
-        let next = self.account(p).next();
-        Tick::new(earlier_due(next, from.ticks(), to.ticks()))
-    }
-
-    /// The first tick from `from` on that is below `to` and at which a partition decides next, or `to` where there is
-    /// none.
-    pub fn next_due(&self, from: Tick, to: Tick) -> Tick
-        requires { from ≤ to }
-        ensures not_before { from ≤ result }
-        ensures not_after { result ≤ to }
-        ensures none_between { (p k : ℕ) → p < length self.now.accounts →
-            (account_at p self.now).account.next ≡ Some k → from ≤ k → result ≤ k }
-        ensures due { result < to → IsDue result self.now }
-    {
-        let mut due = to.ticks();
-        for account in &self.accounts {
-            due = earlier_due(account.next(), from.ticks(), due);
-        }
-        Tick::new(due)
-    }
-}
-
-/// The earlier of a due tick and the next decision's, if that is not before `from`.
-fn earlier_due(next: Option<Tick>, from: u64, due: u64) -> u64
-    requires { from ≤ due }
-    ensures not_before { from ≤ result }
-    ensures not_after { result ≤ due }
-    ensures none_between { (k : ℕ) → next ≡ Some k → from ≤ k → result ≤ k }
-    ensures earlier { result < due → next ≡ Some result }
-{
-    match next {
-        Some(next) if from <= next.ticks() && next.ticks() < due => next.ticks(),
-        _ => due,
     }
 }
 

@@ -1,242 +1,325 @@
-//! How all partitions go on: each in its windows, by rows of plain steps and by single decisions.
+//! How all partitions go on: turn after turn, each within one window, by rows of plain steps and by single decisions.
 
-ghost use Rattle.std.specs.Prelude.{◌≡◌, ◌<◌, ◌≤◌, ◌^◌, ◌+◌, ◌-◌, ℕ, true, None, Some, IfSome, MatchOption, length};
+ghost use Rattle.std.specs.Prelude.{◌≡◌, ◌<◌, ◌≤◌, ◌^◌, ◌+◌, ◌-◌, ℕ, All, None, Some, IfSome, MatchOption, length, min};
 ghost use Rattle.ptk_words.specs.declared.TheConstants.{LAST_TICK};
 ghost use Rattle.ptk_words_windows.specs.Windows.{own_ticks};
-ghost use Rattle.ptk_words_model.specs.Run.{decided, is_active, is_at, next_from};
-ghost use Rattle.ptk_words_quiet.specs.Quiet.{AreOwn, after_ticks};
-ghost use Rattle.ptk_gate_pools.specs.Kept.{limits_at};
+ghost use Rattle.ptk_words_model.specs.Run.{next_from};
+ghost use Rattle.ptk_words_quiet.specs.Quiet.{after_ticks};
+ghost use Rattle.ptk_words_quiet.specs.Idle.{IsIdle};
+ghost use Rattle.ptk_gate_pools.specs.Kept.{limits_at, part_at};
+ghost use Rattle.ptk_kernel.specs.Spending.{cost_in};
 ghost use Rattle.ptk_system_machine.specs.Accounts.{IsBehind};
-ghost use Rattle.ptk_system_machine.specs.Whole.{AreWindowsOf, IsInWindow, account_at, gone_on, put_state, state_at};
+ghost use Rattle.ptk_system_machine.specs.Turns.{IsComing, IsFreeFrom, IsInWindow, IsUpTo, turn_at};
+ghost use Rattle.ptk_system_machine.specs.Whole.{AreWindowsOf, account_at, gone_on, state_at};
 
 use crate::account::duration;
-use crate::machine::{Machine, is_active, next_from};
-use ptk_kernel::{compute, decide, last_step};
+use crate::machine::{Machine, is_active};
+use ptk_gate::Tables;
+use ptk_kernel::{compute, decide, idle_until, last_step};
 use ptk_trace_rows::BATCH;
-use ptk_window::{Near, WindowTable};
+use ptk_window::{Near, Turn, WindowTable};
 use ptk_words::{Entry, PartId, Status, Tick};
+use ptk_words_model::Spent;
 
-/// A window in which a partition is, as far as it now goes on in it: the first tick after the window, and the tick to
-/// reach.
-#[derive(Clone, Copy)]
-struct Stay {
-    partition: PartId,
-    end: Tick,
-    to: Tick,
-}
+/// How many partitions there are at most.
+const PARTS: usize = 8;
 
 impl Machine {
-    /// Goes on from a tick, up to `to`: within the window that holds the tick, to the window's end or to `to`, whichever
-    /// comes first; in no window by that tick alone. To each partition it does what so many ticks would do to that
-    /// partition alone. Answers the tick reached. `batch` is room for entries on their way into a trace, of which nothing
-    /// is told.
-    pub fn turn(
-        &mut self,
-        windows: &WindowTable,
-        tick: Tick,
-        to: Tick,
-        batch: &mut [Entry; BATCH],
-    ) -> Tick
+    /// Goes on from a tick to `to`: turn after turn, always the partition's that decides next. To each partition it does
+    /// what so many ticks would do to that partition alone. `batch` is room for entries on their way into a trace, of
+    /// which nothing is told.
+    pub fn run(&mut self, windows: &WindowTable, tick: Tick, to: Tick, batch: &mut [Entry; BATCH])
         requires windows { AreWindowsOf (length self.old.accounts) windows.now }
-        requires order { tick < to }
+        requires order { tick ≤ to }
         requires time { to ≤ LAST_TICK }
         requires behind { (p : ℕ) → p < length self.old.accounts → IsBehind tick (state_at p self.old) }
-        ensures on { tick < result }
-        ensures to { result ≤ to }
         ensures parts { length self.new.accounts ≡ length self.old.accounts }
         ensures limits { self.new.kept.limits ≡ self.old.kept.limits }
         ensures each { (q : ℕ) → q < length self.old.accounts →
-            state_at q self.new ≡ after_ticks (own_ticks windows.now q) (limits_at q self.old.kept) tick (result - tick) (state_at q self.old) }
+            state_at q self.new ≡ after_ticks (own_ticks windows.now q) (limits_at q self.old.kept) tick (to - tick) (state_at q self.old) }
     {
-        let _parts = self.parts();
         windows.is_table();
-        match self.window_at(windows, tick) {
-            Some((partition, end)) => {
-                let to = Tick::new(end.ticks().min(to.ticks()));
-                self.stay(windows, tick, &Stay { partition, end, to }, batch);
-                to
-            }
-            None => Tick::new(tick.ticks() + 1),
+        let mut turns = self.first_turns(windows, tick, to);
+        while let Some(p) = next_due(&turns[..self.parts()], to) {
+            turns[p.index()] = self.turn(windows, p, turns[p.index()], to, batch);
         }
     }
 
-    /// The partition in whose window the tick lies, and the first tick after that window.
-    fn window_at(&mut self, windows: &WindowTable, tick: Tick) -> Option<(PartId, Tick)>
+    /// Each partition's first turn in a run, which goes on from a tick to `to`.
+    fn first_turns(&mut self, windows: &WindowTable, tick: Tick, to: Tick) -> [Turn; PARTS]
+        requires order { tick ≤ to }
+        requires time { to ≤ LAST_TICK }
         requires windows { AreWindowsOf (length self.old.accounts) windows.now }
-        requires time { tick ≤ LAST_TICK }
         ensures same { self.new ≡ self.old }
-        ensures found { MatchOption result
-            ((q : ℕ) → (own_ticks windows.now q).end_at tick ≡ None)
-            (λ found. (found.0 < length self.old.accounts) × (tick < found.1)
-            × ((own_ticks windows.now found.0).end_at tick ≡ Some found.1)) }
+        ensures each { (q : ℕ) → q < length self.old.accounts →
+            IsUpTo (own_ticks windows.now q) (limits_at q self.old.kept) tick to (turn_at q result) (state_at q self.old) (state_at q self.old) }
     {
-        if let Some(found) = self.due_window_at(windows, tick) {
-            return Some(found);
+        let mut turns = [Turn { start: to, end: to }; PARTS];
+        let parts = self.parts();
+        for i in 0..parts {
+            turns[i] = self.first_turn(windows, PartId::new(i as u8), tick, to);
         }
+        turns
+    }
+
+    /// The partition's first turn in a run, which goes on from a tick to `to`.
+    fn first_turn(&mut self, windows: &WindowTable, p: PartId, tick: Tick, to: Tick) -> Turn
+        requires partition { p < length self.old.accounts }
+        requires order { tick ≤ to }
+        requires time { to ≤ LAST_TICK }
+        requires windows { AreWindowsOf (length self.old.accounts) windows.now }
+        ensures same { self.new ≡ self.old }
+        ensures first { IsUpTo (own_ticks windows.now p) (limits_at p self.old.kept) tick to result (state_at p self.old) (state_at p self.old) }
+    {
+        match self.due_turn(windows, p, tick, to) {
+            Some(turn) => turn,
+            None => Turn { start: to, end: to },
+        }
+    }
+
+    /// The turn that begins with the partition's next decision, where that is from the tick on and before `to`. None where
+    /// it is not, or is at a tick that is not the partition's own, at which it never takes place.
+    fn due_turn(&mut self, windows: &WindowTable, p: PartId, tick: Tick, to: Tick) -> Option<Turn>
+        requires partition { p < length self.old.accounts }
+        requires time { to ≤ LAST_TICK }
+        requires frame { windows.now.frame ≤ 1000000 }
+        ensures same { self.new ≡ self.old }
+        ensures turn { MatchOption result
+            ((k : ℕ) → tick ≤ k → k < to → (account_at p self.old).account.next ≡ Some k → (own_ticks windows.now p).end_at k ≡ None)
+            (λ turn. (tick ≤ turn.start) × (turn.start < to)
+            × ((account_at p self.old).account.next ≡ Some turn.start)
+            × IsInWindow (own_ticks windows.now p) turn.start turn.end) }
+    {
+        windows.is_table();
+        let Some(next) = self.account(p).next() else {
+            return None;
+        };
+        if next.ticks() < tick.ticks() || to.ticks() <= next.ticks() {
+            return None;
+        }
+        let near = &mut self.accounts[p.index()].near;
+        let Some(turn) = windows.turn_from(p, next, near) else {
+            return None;
+        };
+        if turn.start.ticks() != next.ticks() {
+            return None;
+        }
+        Some(turn)
+    }
+
+    /// Goes on with the partition in its turn, up to the turn's end or to `to`, whichever comes first. Answers its next
+    /// turn.
+    fn turn(
+        &mut self,
+        windows: &WindowTable,
+        p: PartId,
+        turn: Turn,
+        to: Tick,
+        batch: &mut [Entry; BATCH],
+    ) -> Turn
+        requires partition { p < length self.old.accounts }
+        requires windows { AreWindowsOf (length self.old.accounts) windows.now }
+        requires time { to ≤ LAST_TICK }
+        requires due { turn.start < to }
+        requires coming { IsComing (own_ticks windows.now p) to (account_at p self.old).account.next turn }
+        requires behind { IsBehind turn.start (state_at p self.old) }
+        ensures on { turn.start < result.start }
+        ensures reached { min turn.end to ≤ result.start }
+        ensures coming { IsComing (own_ticks windows.now p) to (account_at p self.new).account.next result }
+        ensures gone { self.new ≡ gone_on (own_ticks windows.now p) p turn.start (result.start - turn.start) self.old }
+    {
         let _parts = self.parts();
         windows.is_table();
-        windows.at(tick)
-    }
-
-    /// As `window_at`, where a partition decides at the tick: near the window where that partition was last.
-    fn due_window_at(&mut self, windows: &WindowTable, tick: Tick) -> Option<(PartId, Tick)>
-        requires time { tick ≤ LAST_TICK }
-        ensures same { self.new ≡ self.old }
-        ensures found { IfSome result
-            (λ found. (found.0 < length self.old.accounts) × (tick < found.1)
-            × ((own_ticks windows.now found.0).end_at tick ≡ Some found.1)) }
-    {
-        let p = self.due_at(tick)?;
-        let account = &mut self.accounts[p.index()];
-        let turn = windows.turn_from(p, tick, &mut account.near)?;
-        if turn.start == tick {
-            Some((p, turn.end))
-        } else {
-            None
+        let stop = turn.end.ticks().min(to.ticks());
+        let mut now = turn;
+        while now.start.ticks() < stop {
+            now = self.go_on(windows, p, now, to, batch);
         }
+        now
     }
 
-    /// The first partition that decides next at the tick.
-    fn due_at(&self, tick: Tick) -> Option<PartId>
-        ensures { IfSome result (λ p. p < length self.now.accounts) }
-    {
-        let _parts = self.parts();
-        match self
-            .accounts
-            .iter()
-            .position(|account| account.is_due(tick))
-        {
-            Some(place) => Some(PartId::new(place as u8)),
-            None => None,
-        }
-    }
-
-    /// Goes on with the partition in its window, which holds the tick, up to the tick to reach.
-    fn stay(&mut self, windows: &WindowTable, tick: Tick, stay: &Stay, batch: &mut [Entry; BATCH])
-        requires partition { stay.now.partition < length self.old.accounts }
-        requires order { tick < stay.now.to }
-        requires within { stay.now.to ≤ stay.now.end }
-        requires time { stay.now.to ≤ LAST_TICK }
-        requires window { IsInWindow (own_ticks windows.now stay.now.partition) tick stay.now.end }
-        requires behind { IsBehind tick (state_at stay.now.partition self.old) }
-        ensures { self.new ≡ gone_on (own_ticks windows.now stay.now.partition) stay.now.partition tick (stay.now.to - tick) self.old }
-    {
-        let _parts = self.parts();
-        let mut now = self.due_of(stay.partition, tick, stay.to);
-        while now.ticks() < stay.to.ticks() {
-            let reached = self.go_on(windows, now, stay, batch);
-            now = self.due_of(stay.partition, reached, stay.to);
-        }
-    }
-
-    /// Goes on from the partition's next decision, which is at the tick: by plain steps in a row, and by the decision
-    /// after them where the tick to reach still lies ahead. Answers the tick reached.
+    /// Goes on from the partition's next decision, with which the turn begins: by plain steps in a row, and by the decision
+    /// after them where the turn's end and `to` still lie ahead. Answers its next turn.
     fn go_on(
         &mut self,
         windows: &WindowTable,
-        tick: Tick,
-        stay: &Stay,
+        p: PartId,
+        turn: Turn,
+        to: Tick,
         batch: &mut [Entry; BATCH],
-    ) -> Tick
-        requires partition { stay.now.partition < length self.old.accounts }
-        requires order { tick < stay.now.to }
-        requires within { stay.now.to ≤ stay.now.end }
-        requires time { stay.now.to ≤ LAST_TICK }
-        requires window { IsInWindow (own_ticks windows.now stay.now.partition) tick stay.now.end }
-        requires due { (account_at stay.now.partition self.old).account.next ≡ Some tick }
-        requires behind { IsBehind tick (state_at stay.now.partition self.old) }
-        ensures on { tick < result }
-        ensures to { result ≤ stay.now.to }
-        ensures gone { self.new ≡ gone_on (own_ticks windows.now stay.now.partition) stay.now.partition tick (result - tick) self.old }
+    ) -> Turn
+        requires partition { p < length self.old.accounts }
+        requires windows { AreWindowsOf (length self.old.accounts) windows.now }
+        requires time { to ≤ LAST_TICK }
+        requires due { turn.start < to }
+        requires coming { IsComing (own_ticks windows.now p) to (account_at p self.old).account.next turn }
+        requires behind { IsBehind turn.start (state_at p self.old) }
+        ensures on { turn.start < result.start }
+        ensures coming { IsComing (own_ticks windows.now p) to (account_at p self.new).account.next result }
+        ensures gone { self.new ≡ gone_on (own_ticks windows.now p) p turn.start (result.start - turn.start) self.old }
     {
         let _parts = self.parts();
-        let steps = self.row(windows, stay.partition, tick, stay.to, batch);
-        let reached = tick.ticks() + u64::from(steps);
-        if reached < stay.to.ticks() {
-            let room = (stay.end.ticks() - reached) as u32;
-            self.decide(windows, stay.partition, Tick::new(reached), room);
-            Tick::new(reached + 1)
+        windows.is_table();
+        let stop = Tick::new(turn.end.ticks().min(to.ticks()));
+        let next = self.row(windows, p, turn, stop, to, batch);
+        if next.start.ticks() < stop.ticks() {
+            self.decide(windows, p, next, to)
         } else {
-            Tick::new(reached)
+            next
         }
     }
 
-    /// Plain steps of the partition in a row, the first at its next decision, which is at the tick, each in place of a
-    /// decision and counted as one: as many as come before `stop`, up to which each tick is its own. How many there were;
-    /// 0, and nothing changes, where the next decision is not a plain step of a quiet partition.
+    /// Plain steps of the partition in a row, the first at its next decision, with which the turn begins, each in place
+    /// of a decision and counted as one: as many as come before `stop`, which is not after the turn's end. Answers the next turn, which is the same,
+    /// and nothing changes, where the next decision is not a plain step of a quiet partition.
     #[tactic(auto, using(crate::proofs::States::states))]
     fn row(
         &mut self,
         windows: &WindowTable,
         p: PartId,
-        tick: Tick,
+        turn: Turn,
         stop: Tick,
+        to: Tick,
         batch: &mut [Entry; BATCH],
-    ) -> u32
+    ) -> Turn
         requires partition { p < length self.old.accounts }
-        requires order { tick < stop }
-        requires time { stop ≤ LAST_TICK }
-        requires own { AreOwn (own_ticks windows.now p) tick stop }
-        requires due { (account_at p self.old).account.next ≡ Some tick }
-        requires behind { IsBehind tick (state_at p self.old) }
-        ensures within { tick + result ≤ stop }
-        ensures next { tick + result < stop → (account_at p self.new).account.next ≡ Some (tick + result) }
-        ensures gone { self.new ≡ gone_on (own_ticks windows.now p) p tick result self.old }
+        requires frame { windows.now.frame ≤ 1000000 }
+        requires time { to ≤ LAST_TICK }
+        requires order { turn.start < stop }
+        requires end { stop ≤ turn.end }
+        requires within { stop ≤ to }
+        requires coming { IsComing (own_ticks windows.now p) to (account_at p self.old).account.next turn }
+        requires behind { IsBehind turn.start (state_at p self.old) }
+        ensures from { turn.start ≤ result.start }
+        ensures coming { IsComing (own_ticks windows.now p) to (account_at p self.new).account.next result }
+        ensures gone { self.new ≡ gone_on (own_ticks windows.now p) p turn.start (result.start - turn.start) self.old }
     {
+        let Turn { start, end } = turn;
         let account = &mut self.accounts[p.index()];
-        let steps = compute(&mut self.tables, p, tick, stop, &mut account.trace, batch);
-        let reached = Tick::new(tick.ticks() + u64::from(steps));
-        let next = next_within(windows, p, Status::Active, reached, stop, &mut account.near);
+        let steps = compute(&mut self.tables, p, start, stop, &mut account.trace, batch);
+        let reached = Tick::new(start.ticks() + u64::from(steps));
+        let (next, end) = next_turn(windows, p, Status::Active, reached, end, &mut account.near);
         account.count_row(next, steps);
-        steps
+        coming(account.next(), end, to)
     }
 
-    /// The decision of a partition at a tick of its own with this room.
+    /// The decision of a partition with which its turn begins. Answers its next turn.
     #[tactic(auto, using(crate::proofs::States::states))]
-    fn decide(&mut self, windows: &WindowTable, p: PartId, tick: Tick, room: u32)
+    fn decide(&mut self, windows: &WindowTable, p: PartId, turn: Turn, to: Tick) -> Turn
         requires partition { p < length self.old.accounts }
-        requires time { tick < LAST_TICK }
-        requires room { 1 ≤ room }
-        requires near { room ≤ 1000000 }
-        requires own { AreOwn (own_ticks windows.now p) tick (tick + room) }
-        requires due { is_at tick (account_at p self.old).account.next ≡ true }
-        requires behind { IsBehind tick (state_at p self.old) }
-        ensures { self.new ≡ put_state p (decided (own_ticks windows.now p) (limits_at p self.old.kept) tick room (state_at p self.old)) self.old }
+        requires frame { windows.now.frame ≤ 1000000 }
+        requires time { to ≤ LAST_TICK }
+        requires due { turn.start < to }
+        requires coming { IsComing (own_ticks windows.now p) to (account_at p self.old).account.next turn }
+        requires behind { IsBehind turn.start (state_at p self.old) }
+        ensures on { turn.start < result.start }
+        ensures coming { IsComing (own_ticks windows.now p) to (account_at p self.new).account.next result }
+        ensures gone { self.new ≡ gone_on (own_ticks windows.now p) p turn.start (result.start - turn.start) self.old }
     {
-        let spent = decide(&mut self.tables, p, tick, room);
-        let end = tick.ticks() + u64::from(duration(room, spent));
-        let window_end = Tick::new(tick.ticks() + u64::from(room));
+        windows.is_table();
+        let Turn { start, end } = turn;
+        let room = (end.ticks() - start.ticks()) as u32;
+        let spent = decide(&mut self.tables, p, start, room);
+        let from = free_from(&self.tables, p, start, room, spent, to);
         let (status, last) = (self.tables.status(p), last_step(&self.tables, p));
         let account = &mut self.accounts[p.index()];
-        let next = next_within(
-            windows,
-            p,
-            status,
-            Tick::new(end),
-            window_end,
-            &mut account.near,
-        );
+        let (next, end) = next_turn(windows, p, status, from, end, &mut account.near);
         account.count(next, room, spent, last);
+        coming(account.next(), end, to)
     }
 }
 
-/// The partition's first own tick from this one on, none where it is halted. Where the tick lies before `end`, it is the
-/// partition's own. `near` is where the partition was last found among its windows.
-fn next_within(
+/// From which tick the partition's next decision is looked for, after one at the tick with this room that came to
+/// `spent`: behind the ticks that the decision takes up. After an idle one it may have nothing to do up to a later tick,
+/// at most `to`; then from that one. No tick at which it has nothing to do is missed.
+fn free_from(tables: &Tables, p: PartId, tick: Tick, room: u32, spent: Spent, to: Tick) -> Tick
+    requires partition { p < length tables.now.limits }
+    requires time { tick ≤ LAST_TICK }
+    requires near { room ≤ 1000000 }
+    requires short { cost_in spent ≤ 16 }
+    ensures free { IsFreeFrom (limits_at p tables.now) tick room spent to (part_at p tables.now) result }
+    ensures full { (k : ℕ) → spent ≡ Spent.Idle → k ≤ to → IsIdle (limits_at p tables.now) k (part_at p tables.now) → k ≤ result }
+{
+    let after = tick.ticks() + u64::from(duration(room, spent));
+    match spent {
+        Spent::Idle => idle_from(tables, p, Tick::new(after), to),
+        Spent::Lost | Spent::Step(_) => Tick::new(after),
+    }
+}
+
+/// Up to which tick the partition has nothing to do, at most `to`, where that is after the tick, else the tick.
+fn idle_from(tables: &Tables, p: PartId, tick: Tick, to: Tick) -> Tick
+    requires partition { p < length tables.now.limits }
+    ensures from { tick ≤ result }
+    ensures idle { tick < result → (result ≤ to) × IsIdle (limits_at p tables.now) result (part_at p tables.now) }
+    ensures full { (k : ℕ) → k ≤ to → IsIdle (limits_at p tables.now) k (part_at p tables.now) → k ≤ result }
+{
+    match idle_until(tables, p, to) {
+        Some(until) if tick.ticks() < until.ticks() => until,
+        _ => tick,
+    }
+}
+
+/// The partition whose turn begins first, where that is before `to`.
+fn next_due(turns: &[Turn], to: Tick) -> Option<PartId>
+    requires { length turns.now ≤ 8 }
+    ensures { MatchOption result
+        (All (λ turn. to ≤ turn.start) turns.now)
+        (λ p. (p < length turns.now) × ((turn_at p turns.now).start < to)
+        × All (λ turn. (turn_at p turns.now).start ≤ turn.start) turns.now) }
+{
+    let mut due = to.ticks();
+    let mut first = None;
+    for (place, turn) in turns.iter().enumerate() {
+        if turn.start.ticks() < due {
+            due = turn.start.ticks();
+            first = Some(PartId::new(place as u8));
+        }
+    }
+    first
+}
+
+/// The turn that begins with this next decision, in a window with this end, where that is before `to`.
+fn coming(next: Option<Tick>, end: Tick, to: Tick) -> Turn
+    ensures within { result.start ≤ to }
+    ensures due { result.start < to → next ≡ Some result.start }
+    ensures end { result.start < to → result.end ≡ end }
+    ensures before { (k : ℕ) → next ≡ Some k → result.start ≤ k }
+{
+    match next {
+        Some(start) if start.ticks() < to.ticks() => Turn { start, end },
+        _ => Turn { start: to, end: to },
+    }
+}
+
+/// The partition's first own tick from this one on, none where it is halted, and the end of the window that holds it.
+/// Where the tick lies before `end`, it is in the partition's window with that end. `near` is where the partition was last
+/// found among its windows.
+#[inline(always)]
+fn next_turn(
     windows: &WindowTable,
     p: PartId,
     status: Status,
     tick: Tick,
     end: Tick,
     near: &mut Near,
-) -> Option<Tick>
+) -> (Option<Tick>, Tick)
+    requires frame { windows.now.frame ≤ 1000000 }
     requires time { tick ≤ 2 ^ 41 }
-    requires own { tick < end → (own_ticks windows.now p).next_of tick ≡ Some tick }
-    ensures { result ≡ next_from (own_ticks windows.now p) status tick }
+    requires window { tick < end → IsInWindow (own_ticks windows.now p) tick end }
+    ensures next { result.0 ≡ next_from (own_ticks windows.now p) status tick }
+    ensures from { IfSome result.0 (λ next. tick ≤ next) }
+    ensures window { IfSome result.0 (λ next. IsInWindow (own_ticks windows.now p) next result.1) }
 {
-    if tick.ticks() < end.ticks() && is_active(status) {
-        Some(tick)
-    } else {
-        next_from(windows, p, status, tick, near)
+    windows.is_table();
+    if !is_active(status) {
+        return (None, end);
+    }
+    if tick.ticks() < end.ticks() {
+        return (Some(tick), end);
+    }
+    match windows.turn_from(p, tick, near) {
+        Some(turn) => (Some(turn.start), turn.end),
+        None => (None, end),
     }
 }

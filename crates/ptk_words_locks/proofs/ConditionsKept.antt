@@ -12,11 +12,10 @@ use Rattle.ptk_words_model.specs.Priority.{awaited, thread_at}
 use Rattle.ptk_words_model.specs.Schedule.{with_thread, woken_with, after_wake}
 use Rattle.ptk_words_model.specs.Mutex.{wait_of, after_owner_end}
 use Rattle.ptk_words_model.specs.Unwinding.{after_join_by, without_thread, after_release}
-use Rattle.ptk_words_locks.specs.Locks.{is_ready, joiner_of, AreLocks}
+use Rattle.ptk_words_locks.specs.Locks.{is_ready, joiner_of}
 use Rattle.ptk_words_locks.specs.Conditions.{condition_of_wait, waiters_on, AreListed, AreConditions, AreSyncs}
 use Rattle.ptk_words_locks.proofs.Pools.{each_set, changed_other}
 use Rattle.ptk_words_locks.proofs.Lined.{AreLined, ready_waits, not_ready_out}
-use Rattle.ptk_words_locks.proofs.Waiting.{AreUntimed, listed_from, waiting_from}
 use Rattle.ptk_words_locks.proofs.Threads.{IsWaking, waking_woken, changed_same, idle_awaits, in_wait}
 use Rattle.ptk_words_locks.proofs.Wakings.{waking_idle, waits_not_ready}
 use Rattle.ptk_words_locks.proofs.Conditions.{waits_on, names, off_names, AreSameOn, conditions_same, same_on_waits, same_on_off, IsConditionWait, condition_wait}
@@ -145,20 +144,6 @@ conditions_none threads mutexes conditions off empty = record {
   named_used = λ t m e. absurd (let none : names (pool_get threads t) ≡ None = off_names (wait_of (pool_get threads t)) (off t) in let no : ⊥ = cc in no);
   room = λ t m e. absurd (let none : names (pool_get threads t) ≡ None = off_names (wait_of (pool_get threads t)) (off t) in let no : ⊥ = cc in no);
 }
-
--- ---- with deadlines and without
-
-pub syncs_from : (interval : ℕ) (running : Option ℕ) (waiters : List ℕ) (syncs : Syncs) → AreLocks interval running waiters syncs.locks → AreConditions syncs.threads syncs.mutexes syncs.conditions → AreSyncs interval running waiters syncs
-syncs_from interval running waiters syncs are conditions = record {
-  lined = are.lined;
-  waiting = listed_from syncs.threads waiters are.waiting;
-  exclusion = are.exclusion;
-  conditions = conditions;
-  used = are.used;
-}
-
-pub locks_from_syncs : (interval : ℕ) (running : Option ℕ) (waiters : List ℕ) (syncs : Syncs) → AreSyncs interval running waiters syncs → AreUntimed syncs.threads → AreLocks interval running waiters syncs.locks
-locks_from_syncs interval running waiters syncs are untimed = record { lined = are.lined; waiting = waiting_from syncs.threads waiters are.waiting untimed; exclusion = are.exclusion; used = are.used }
 
 -- ---- a waiter of a condition variable
 

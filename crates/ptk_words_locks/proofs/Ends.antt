@@ -1,5 +1,5 @@
 -- The end of an owner: its robust mutexes go to their heirs, the others are nobody's, and it owns none (pthread_mutexattr_setrobust; pthread_mutex_lock, EOWNERDEAD).
-use Rattle.std.proofs.Common.{◌≡◌, ℕ, zero, suc, ◌≤◌, Bool, true, false, List, [], ◌∷◌, length, fold, refl, sym, ◌∙◌, ap, subst, arith, inl, inr}
+use Rattle.std.proofs.Common.{◌≡◌, ℕ, zero, suc, ◌≤◌, Bool, true, false, [], ◌∷◌, length, fold, refl, sym, ◌∙◌, ap, subst, arith, inl, inr}
 use Rattle.std.specs.Prelude.{◌≢◌, Option, Some, None, option_map, if◌then◌else◌}
 use Rattle.std.proofs.lemmas.Bool.{cases_eq, cases_lt, ne_eqb}
 use Rattle.std.proofs.lemmas.List.Sums.{fold-append}
@@ -12,9 +12,7 @@ use Rattle.ptk_words_model.specs.Mutex.{mutex_at, owns, with_soundness, soundnes
 use Rattle.ptk_words_locks.proofs.Pools.{get_beyond, changed_own, changed_other}
 use Rattle.ptk_words_locks.proofs.Exclusion.{left_by}
 use Rattle.ptk_words_locks.proofs.Sizes.{length-owner_end_mutexes}
-use Rattle.ptk_words_locks.proofs.Whole.{AreLocks}
 use Rattle.ptk_words_locks.proofs.Held.{Rest, AreHeld}
-use Rattle.ptk_words_locks.proofs.Untimed.{untimed_rest, held_locks, locks_held}
 use Rattle.ptk_words_locks.proofs.Handovers.{held_soundness, held_abandonment, held_hand_over_to, heir_waits}
 
 -- ---- what the end of t makes of mutex m
@@ -148,15 +146,3 @@ held_owns_none interval t running rest locks idle are m = elim (cases_lt (length
   | inl beyond ↦ ap (owns t) (get_beyond m (after_owner_end t locks).mutexes (rw (length-owner_end_mutexes t locks) beyond))
   | inr within ↦ (disowned_all interval t running rest locks idle are).owned m within
 ]
-
--- ---- where no wait has a deadline
-
-pub locks_owner_end : (interval t : ℕ) (running : Option ℕ) (waiters : List ℕ) (locks : Locks) → awaited (thread_at locks t) ≡ None → AreLocks interval running waiters locks → AreLocks interval running waiters (after_owner_end t locks)
-locks_owner_end interval t running waiters locks idle are =
-    locks_held interval running waiters (after_owner_end t locks) (held_owner_end interval t running (untimed_rest waiters) locks idle (held_locks interval running waiters locks are))
-
-pub end_same : (interval t : ℕ) (running : Option ℕ) (waiters : List ℕ) (locks : Locks) → awaited (thread_at locks t) ≡ None → AreLocks interval running waiters locks → thread_at (after_owner_end t locks) t ≡ thread_at locks t
-end_same interval t running waiters locks idle are = held_end_same interval t running (untimed_rest waiters) locks idle (held_locks interval running waiters locks are)
-
-pub owns_none : (interval t : ℕ) (running : Option ℕ) (waiters : List ℕ) (locks : Locks) → awaited (thread_at locks t) ≡ None → AreLocks interval running waiters locks → (m : ℕ) → owns t (mutex_at (after_owner_end t locks) m) ≡ false
-owns_none interval t running waiters locks idle are m = held_owns_none interval t running (untimed_rest waiters) locks idle (held_locks interval running waiters locks are) m

@@ -6,21 +6,18 @@ use Rattle.ptk_words.specs.Pools.{pool_get, pool_changed, is_in}
 use Rattle.ptk_words.specs.declared.threads.Thread.{Thread}
 use Rattle.ptk_words.specs.declared.mutexes.Soundness.{Soundness}
 use Rattle.ptk_words.specs.declared.mutexes.Owner.TheVariants.{Free, Abandoned, OwnedBy}
-use Rattle.ptk_words_model.specs.declared.LockMove.{LockMove}
 use Rattle.ptk_words_model.specs.State.{Mutex, Locks}
 use Rattle.ptk_words_model.specs.Priority.{awaited, thread_at, effective_priority}
 use Rattle.ptk_words_model.specs.Schedule.{at_tail_with}
-use Rattle.ptk_words_model.specs.Mutex.{mutex_at, with_mutex, waiters_of, soundness_of, with_soundness, handed, heir, free_move, without_mutex_waiter, after_take, after_leave, after_free, after_hand_over_to, after_hand_over, after_abandonment}
+use Rattle.ptk_words_model.specs.Mutex.{mutex_at, with_mutex, waiters_of, soundness_of, with_soundness, handed, heir, free_move, without_mutex_waiter, after_take, after_free, after_hand_over_to, after_hand_over, after_abandonment}
 use Rattle.ptk_words_model.specs.Unwinding.{is_alive}
 use Rattle.ptk_words_locks.proofs.Pools.{each_changed}
 use Rattle.ptk_words_locks.proofs.Lines.{first_in, first_none}
 use Rattle.ptk_words_locks.proofs.Threads.{IsWaking, waking_handed, waking_used, used_changed, idle_awaits, none_awaits, awaits_not_ready, awaits_alive}
 use Rattle.ptk_words_locks.proofs.Exclusion.{IsExclusive, IsServed, IsAwaitChange, IsMild, exclusive_beside, exclusive_left, exclusive_owned, exclusive_mild, left_by, served_left, served_mild}
 use Rattle.ptk_words_locks.proofs.Wakings.{waking_idle, waking_await, lined_woken}
-use Rattle.ptk_words_locks.proofs.Whole.{AreLocks, AreQueued}
 use Rattle.ptk_words_locks.proofs.Held.{Rest, AreHeld, AreHeldQueued, held_queued_from, held_from, held_mutex}
 use Rattle.ptk_words_locks.proofs.Rooms.{roomy_take, roomy_soundness, roomy_abandoned, roomy_free, roomy_left}
-use Rattle.ptk_words_locks.proofs.Untimed.{untimed_rest, held_locks, locks_held, held_queued, queued_held}
 
 -- ---- one mutex taken, changed, abandoned, freed
 
@@ -132,42 +129,3 @@ held_hand_over_to interval m running rest (Some t) locks e are =
 -- the mutex goes to its heir, or is free
 pub held_hand_over : (interval m : ℕ) (running : Option ℕ) (rest : Rest) (locks : Locks) → AreHeld interval running rest locks → AreHeld interval running rest (after_hand_over m locks)
 held_hand_over interval m running rest locks are = held_hand_over_to interval m running rest (heir m locks) locks refl are
-
--- ---- where no wait has a deadline
-
-pub locks_take : (interval t m : ℕ) (running : Option ℕ) (waiters : List ℕ) (locks : Locks) → is_alive (thread_at locks t) ≡ true → AreLocks interval running waiters locks → AreLocks interval running waiters (after_take t m locks)
-locks_take interval t m running waiters locks alive are =
-    locks_held interval running waiters (after_take t m locks) (held_take interval t m running (untimed_rest waiters) locks alive (held_locks interval running waiters locks are))
-
-pub locks_mild : (interval m : ℕ) (running : Option ℕ) (waiters : List ℕ) (f : Mutex → Mutex) (locks : Locks) → ((x : Mutex) → mutex_at locks m ≡ Some x → IsMild x (f x))
-    → AreLocks interval running waiters locks → AreLocks interval running waiters (with_mutex m f locks)
-locks_mild interval m running waiters f locks mild are =
-    locks_held interval running waiters (with_mutex m f locks) (held_mild interval m running (untimed_rest waiters) f locks are.waiting mild (held_locks interval running waiters locks are))
-
-pub locks_soundness : (interval m : ℕ) (running : Option ℕ) (waiters : List ℕ) (soundness : Soundness) (locks : Locks) → AreLocks interval running waiters locks → AreLocks interval running waiters (with_soundness soundness m locks)
-locks_soundness interval m running waiters soundness locks are =
-    locks_held interval running waiters (with_soundness soundness m locks) (held_soundness interval m running (untimed_rest waiters) soundness locks (held_locks interval running waiters locks are))
-
-pub locks_abandonment : (interval m : ℕ) (running : Option ℕ) (waiters : List ℕ) (locks : Locks) → AreLocks interval running waiters locks → AreLocks interval running waiters (after_abandonment m locks)
-locks_abandonment interval m running waiters locks are =
-    locks_held interval running waiters (after_abandonment m locks) (held_abandonment interval m running (untimed_rest waiters) locks (held_locks interval running waiters locks are))
-
-pub locks_hand_over : (interval m : ℕ) (running : Option ℕ) (waiters : List ℕ) (locks : Locks) → AreLocks interval running waiters locks → AreLocks interval running waiters (after_hand_over m locks)
-locks_hand_over interval m running waiters locks are =
-    locks_held interval running waiters (after_hand_over m locks) (held_hand_over interval m running (untimed_rest waiters) locks (held_locks interval running waiters locks are))
-
-pub locks_free : (interval m : ℕ) (running : Option ℕ) (waiters : List ℕ) (locks : Locks) → waiters_of (mutex_at locks m) ≡ [] → AreLocks interval running waiters locks → AreLocks interval running waiters (after_free m locks)
-locks_free interval m running waiters locks none are =
-    locks_held interval running waiters (after_free m locks) (held_free interval m running (untimed_rest waiters) locks none (held_locks interval running waiters locks are))
-
-pub queued_leave : (interval t m : ℕ) (move : LockMove) (running : Option ℕ) (waiters : List ℕ) (locks : Locks) → awaited (thread_at locks t) ≡ Some m → AreQueued interval running waiters locks → AreQueued interval running waiters (after_leave move t m locks)
-queued_leave interval t m move running waiters locks waits queued =
-    queued_held interval running waiters (after_leave move t m locks) (held_queued_leave interval t m (handed move) running (untimed_rest waiters) locks (waking_handed move) waits (held_queued interval running waiters locks queued))
-
-pub locks_leave : (interval t m : ℕ) (move : LockMove) (running : Option ℕ) (waiters : List ℕ) (locks : Locks) → awaited (thread_at locks t) ≡ Some m → AreLocks interval running waiters locks → AreLocks interval running waiters (after_leave move t m locks)
-locks_leave interval t m move running waiters locks waits are =
-    locks_held interval running waiters (after_leave move t m locks) (held_leave interval t m (handed move) running (untimed_rest waiters) locks (waking_handed move) waits (held_locks interval running waiters locks are))
-
-pub hand_over_to : (interval m : ℕ) (running : Option ℕ) (waiters : List ℕ) (next : Option ℕ) (locks : Locks) → heir m locks ≡ next → AreLocks interval running waiters locks → AreLocks interval running waiters (after_hand_over_to next m locks)
-hand_over_to interval m running waiters next locks e are =
-    locks_held interval running waiters (after_hand_over_to next m locks) (held_hand_over_to interval m running (untimed_rest waiters) next locks e (held_locks interval running waiters locks are))

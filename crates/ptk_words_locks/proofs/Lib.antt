@@ -2,14 +2,11 @@ pub mod Pools
 pub mod Lines
 pub mod Lined
 pub mod Listed
-pub mod Waiting
 pub mod Threads
 pub mod Exclusion
 pub mod Wakings
-pub mod Whole
 pub mod Held
 pub mod Rooms
-pub mod Untimed
 pub mod Handovers
 pub mod Sizes
 pub mod Ends

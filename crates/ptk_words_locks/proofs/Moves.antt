@@ -6,29 +6,24 @@ use Rattle.ptk_words.specs.Pools.{pool_get, pool_set, pool_changed}
 use Rattle.ptk_words.specs.declared.TheConstants.{COUNT_LIMIT}
 use Rattle.ptk_words.specs.declared.threads.Thread.{Thread}
 use Rattle.ptk_words.specs.declared.threads.Wait.{Wait}
-use Rattle.ptk_words.specs.declared.threads.Wait.TheVariants.{MutexWait}
 use Rattle.ptk_words.specs.declared.mutexes.MutexKind.{MutexKind}
 use Rattle.ptk_words.specs.declared.mutexes.Protocol.{Protocol}
-use Rattle.ptk_words.specs.declared.mutexes.Soundness.TheVariants.{Consistent}
 use Rattle.ptk_words_model.specs.declared.LockMove.{LockMove}
 use Rattle.ptk_words_model.specs.declared.LockMove.TheVariants.{Takes, Recovers, Counts, Waits, Refuses}
 use Rattle.ptk_words_model.specs.State.{Mutex, Locks}
 use Rattle.ptk_words_model.specs.Priority.{mutex_of_wait, thread_at}
 use Rattle.ptk_words_model.specs.MutexCalls.{is_locked}
-use Rattle.ptk_words_model.specs.Mutex.{mutex_at, with_soundness, new_mutex, wait_of, waiters_of, count_of, owns, lock_move, trylock_move, after_wait, after_count, after_move}
+use Rattle.ptk_words_model.specs.Mutex.{mutex_at, new_mutex, waiters_of, count_of, owns, after_wait, after_count, after_move}
 use Rattle.ptk_words_locks.specs.Locks.{is_ready, AreMutexes}
 pub use Rattle.ptk_words_locks.specs.LockLaws.{running_after}
 use Rattle.ptk_words_locks.proofs.Lined.{ready_waits, ready_alive}
-use Rattle.ptk_words_locks.proofs.Waiting.{AreWaiting, unlisted_none, unlisted_mutex, waiting_unlisted}
 use Rattle.ptk_words_locks.proofs.Threads.{idle_awaits, in_wait}
 use Rattle.ptk_words_locks.proofs.Exclusion.{IsExclusive, IsMild, exclusive_at, exclusive_owned, exclusion_set, joined_by}
-use Rattle.ptk_words_locks.proofs.Whole.{AreLocks}
 use Rattle.ptk_words_locks.proofs.Held.{Rest, AreHeld}
 use Rattle.ptk_words_locks.proofs.Rooms.{roomy_joined}
-use Rattle.ptk_words_locks.proofs.Untimed.{untimed_rest, held_locks, locks_held}
-use Rattle.ptk_words_locks.proofs.Handovers.{held_take, held_mild, locks_soundness}
-use Rattle.ptk_words_locks.proofs.Blocks.{blocks_waits, wait_change, used_blocked, lined_blocked, exclusion_joined}
-use Rattle.ptk_words_locks.proofs.LockMoves.{MayMake, may_lock, may_trylock}
+use Rattle.ptk_words_locks.proofs.Handovers.{held_take, held_mild}
+use Rattle.ptk_words_locks.proofs.Blocks.{used_blocked, lined_blocked, exclusion_joined}
+use Rattle.ptk_words_locks.proofs.LockMoves.{MayMake}
 
 -- ---- a count more
 
@@ -44,10 +39,6 @@ pub held_count : (interval m : ℕ) (running : Option ℕ) (rest : Rest) (locks 
     → AreHeld interval running rest locks → AreHeld interval running rest (after_count m locks)
 held_count interval m running rest locks lt kept are = held_mild interval m running rest counted_up locks kept (mild_up (mutex_at locks m) lt) are
 
-pub locks_count : (interval m : ℕ) (running : Option ℕ) (waiters : List ℕ) (locks : Locks) → count_of (mutex_at locks m) < COUNT_LIMIT → AreLocks interval running waiters locks → AreLocks interval running waiters (after_count m locks)
-locks_count interval m running waiters locks lt are =
-    locks_held interval running waiters (after_count m locks) (held_count interval m running (untimed_rest waiters) locks lt are.waiting (held_locks interval running waiters locks are))
-
 -- ---- a wait
 
 -- the running thread blocks as the last waiter of a mutex that is locked
@@ -61,19 +52,6 @@ held_wait interval t m wait rest locks names locked kept are =
       exclusion = exclusion_joined t m wait locks.threads locks.mutexes (ready_alive (thread_at locks t) ready) (idle_awaits (thread_at locks t) (ready_waits (thread_at locks t) ready)) names locked are.exclusion;
       used = used_blocked interval t wait locks.threads are.used;
     }
-
-waiting_begun : (t m : ℕ) (threads : List (Option Thread)) (waiters : List ℕ) → is_ready (pool_get threads t) ≡ true → AreWaiting threads waiters → AreWaiting (pool_changed t (in_wait (MutexWait m None)) threads) waiters
-waiting_begun t m threads waiters ready are =
-    let after : List (Option Thread) = pool_changed t (in_wait (MutexWait m None)) threads in
-    let idle : wait_of (pool_get threads t) ≡ None = ready_waits (pool_get threads t) ready in
-    let waits : wait_of (pool_get after t) ≡ Some (MutexWait m None) = blocks_waits t (MutexWait m None) threads (ready_alive (pool_get threads t) ready) in
-    waiting_unlisted t threads after waiters (wait_change t (MutexWait m None) threads (ready_alive (pool_get threads t) ready) are.ended_wait)
-    (rw idle unlisted_none) (rw waits (unlisted_mutex m (Some (MutexWait m None)) refl refl)) are
-
-pub locks_wait : (interval t m : ℕ) (waiters : List ℕ) (locks : Locks) → is_locked (mutex_at locks m) ≡ true → AreLocks interval (Some t) waiters locks → AreLocks interval None waiters (after_wait t m (MutexWait m None) locks)
-locks_wait interval t m waiters locks locked are =
-    locks_held interval None waiters (after_wait t m (MutexWait m None) locks)
-    (held_wait interval t m (MutexWait m None) (untimed_rest waiters) locks refl locked (waiting_begun t m locks.threads waiters (are.lined.running_ready t refl) are.waiting) (held_locks interval (Some t) waiters locks are))
 
 -- ---- a lock and a trylock
 
@@ -90,27 +68,7 @@ held_move interval Counts t m wait rest locks may names kept are = held_count in
 held_move interval Waits t m wait rest locks may names kept are = held_wait interval t m wait rest locks names may kept.waits are
 held_move interval (Refuses e) t m wait rest locks may names kept are = are
 
-locks_move : (interval : ℕ) (move : LockMove) (t m : ℕ) (waiters : List ℕ) (locks : Locks) → MayMake move t (mutex_at locks m) → AreLocks interval (Some t) waiters locks
-    → AreLocks interval (running_after move t) waiters (after_move move t m (MutexWait m None) locks)
-locks_move interval move t m waiters locks may are =
-    let kept : MayRest (untimed_rest waiters) t m (MutexWait m None) locks = record { counts = λ lt own. are.waiting; waits = waiting_begun t m locks.threads waiters (are.lined.running_ready t refl) are.waiting } in
-    locks_held interval (running_after move t) waiters (after_move move t m (MutexWait m None) locks) (held_move interval move t m (MutexWait m None) (untimed_rest waiters) locks may refl kept (held_locks interval (Some t) waiters locks are))
-
--- the running thread locks the mutex, or waits for it
-pub locks_lock_move : (interval t m : ℕ) (waiters : List ℕ) (locks : Locks) → AreLocks interval (Some t) waiters locks
-    → AreLocks interval (running_after (lock_move locks t (mutex_at locks m)) t) waiters (after_move (lock_move locks t (mutex_at locks m)) t m (MutexWait m None) locks)
-locks_lock_move interval t m waiters locks are = locks_move interval (lock_move locks t (mutex_at locks m)) t m waiters locks (may_lock locks t (mutex_at locks m)) are
-
--- the running thread locks the mutex, or not
-pub locks_trylock_move : (interval t m : ℕ) (waiters : List ℕ) (locks : Locks) → AreLocks interval (Some t) waiters locks
-    → AreLocks interval (running_after (trylock_move locks t (mutex_at locks m)) t) waiters (after_move (trylock_move locks t (mutex_at locks m)) t m (MutexWait m None) locks)
-locks_trylock_move interval t m waiters locks are = locks_move interval (trylock_move locks t (mutex_at locks m)) t m waiters locks (may_trylock locks t (mutex_at locks m)) are
-
 -- ---- a mutex repaired, set up and destroyed
-
--- what the mutex guards is sound again
-pub locks_consistent : (interval m : ℕ) (running : Option ℕ) (waiters : List ℕ) (locks : Locks) → AreLocks interval running waiters locks → AreLocks interval running waiters (with_soundness Consistent m locks)
-locks_consistent interval m running waiters locks are = locks_soundness interval m running waiters Consistent locks are
 
 exclusive_new : (threads : List (Option Thread)) (m : ℕ) (kind : MutexKind) (protocol : Protocol) (is_robust : Bool) (mutex : Option Mutex) → mutex ≡ None → IsExclusive threads m mutex → IsExclusive threads m (Some (new_mutex kind protocol is_robust))
 exclusive_new threads m kind protocol is_robust mutex free was =
@@ -126,23 +84,3 @@ pub exclusion_gone : (threads : List (Option Thread)) (mutexes : List (Option Mu
 exclusion_gone threads mutexes m free are =
     exclusion_set threads mutexes m None
     (exclusive_owned threads m (pool_get mutexes m) None (sym (are.free_unwaited m free)) (λ t e. absurd (false≢true e)) (omega arith) (exclusive_at threads mutexes are m)) (λ e. refl) are
-
--- a new mutex at a free number
-pub locks_init : (interval m : ℕ) (running : Option ℕ) (waiters : List ℕ) (kind : MutexKind) (protocol : Protocol) (is_robust : Bool) (locks : Locks) → mutex_at locks m ≡ None → AreLocks interval running waiters locks
-    → AreLocks interval running waiters (record locks { mutexes = pool_set locks.mutexes m (Some (new_mutex kind protocol is_robust)) })
-locks_init interval m running waiters kind protocol is_robust locks free are = record {
-  lined = are.lined;
-  waiting = are.waiting;
-  exclusion = exclusion_new locks.threads locks.mutexes m kind protocol is_robust free are.exclusion;
-  used = are.used;
-}
-
--- the number of a mutex that is not locked gets free
-pub locks_destroy : (interval m : ℕ) (running : Option ℕ) (waiters : List ℕ) (locks : Locks) → is_locked (mutex_at locks m) ≡ false → AreLocks interval running waiters locks
-    → AreLocks interval running waiters (record locks { mutexes = pool_set locks.mutexes m None })
-locks_destroy interval m running waiters locks free are = record {
-  lined = are.lined;
-  waiting = are.waiting;
-  exclusion = exclusion_gone locks.threads locks.mutexes m free are.exclusion;
-  used = are.used;
-}

@@ -17,10 +17,8 @@ use Rattle.ptk_words_locks.proofs.Pools.{changed_own, changed_other}
 use Rattle.ptk_words_locks.proofs.Lines.{first_in, without_shorter}
 use Rattle.ptk_words_locks.proofs.Exclusion.{IsServed, IsMild, exclusive_mild, left_by}
 use Rattle.ptk_words_locks.proofs.Threads.{waking_handed}
-use Rattle.ptk_words_locks.proofs.Whole.{AreLocks}
 use Rattle.ptk_words_locks.proofs.Held.{Rest, AreHeld, AreHeldQueued, held_queued_from, held_from, held_queued_mutex}
 use Rattle.ptk_words_locks.proofs.Rooms.{roomy_free, roomy_soundness, roomy_down}
-use Rattle.ptk_words_locks.proofs.Untimed.{untimed_rest, held_locks, locks_held}
 use Rattle.ptk_words_locks.proofs.Handovers.{held_mild, mild_soundness, exclusive_free, held_queued_leave, heir_waits, no_heir, held_hand_over}
 
 -- ---- refusals
@@ -104,7 +102,3 @@ unlock_by interval m running rest false locks are = last_unlock interval m runni
 -- a mutex is unlocked once
 pub held_unlock : (interval m : ℕ) (running : Option ℕ) (rest : Rest) (locks : Locks) → AreHeld interval running rest locks → AreHeld interval running rest (after_unlock m locks)
 held_unlock interval m running rest locks are = unlock_by interval m running rest (nat_lt 1 (count_of (mutex_at locks m))) locks are
-
--- where no wait has a deadline
-pub locks_unlock : (interval m : ℕ) (running : Option ℕ) (waiters : List ℕ) (locks : Locks) → AreLocks interval running waiters locks → AreLocks interval running waiters (after_unlock m locks)
-locks_unlock interval m running waiters locks are = locks_held interval running waiters (after_unlock m locks) (held_unlock interval m running (untimed_rest waiters) locks (held_locks interval running waiters locks are))

@@ -1,30 +1,31 @@
 //! What holds of a partition's threads, line, waits, mutexes and condition variables between moves, as laws over plain
 //! lists: of pools and of lines, of the threads in the line, of those that wait, of the mutexes with their waiters and
-//! owners, and of the condition variables with theirs. `specs/Locks` says it where no wait has a deadline, as the calls
-//! in use keep it; `specs/Conditions` says it with deadlines and condition variables, `specs/Deadlines` whose deadlines
-//! a move ends, and `specs/Expiries` which deadline is next. The functions promise that locks, waits, wakings, the end
-//! of an owner and the expiries of a tick keep it, and that those expiries come one at a time; `proofs/` has the same
-//! for each move of the mutexes and of the condition variables, each proved once for both (`Rest` in `proofs/Held`).
-//! Below stands `ptk_words_model`; above, `ptk_words_well` composes them to what holds of a whole partition.
+//! owners, and of the condition variables with theirs. `specs/Locks` says it of the line and the mutexes,
+//! `specs/Conditions` of the other waits and of the condition variables, and of all together (`AreSyncs`);
+//! `specs/Deadlines` says whose deadlines a move ends, and `specs/Expiries` which deadline is next. The functions
+//! promise that locks, waits, wakings, the end of an owner and the expiries of a tick keep it, and that those expiries
+//! come one at a time; `proofs/` has the same for each move of the mutexes and of the condition variables, those of the
+//! mutexes with whatever else holds of threads and mutexes (`Rest` in `proofs/Held`). Below stands `ptk_words_model`;
+//! above, `ptk_words_well` composes them to what holds of a whole partition.
 #![tactic(auto)]
 
 ghost use Rattle.std.specs.Prelude.{◌≡◌, ℕ, List, Option, Some};
-ghost use Rattle.ptk_words_model.specs.State.{Locks, Syncs, Part};
+ghost use Rattle.ptk_words_model.specs.State.{Syncs, Part};
 ghost use Rattle.ptk_words_model.specs.Withdrawal.{Expiry, deadlines_of, after_expiries};
-ghost use Rattle.ptk_words_locks.specs.LockLaws.{MutexMovesKeepLocks, OwnerEndKeepsLocks};
+ghost use Rattle.ptk_words_locks.specs.LockLaws.{MutexMovesKeepSyncs, OwnerEndKeepsSyncs};
 ghost use Rattle.ptk_words_locks.specs.SyncLaws.{WaitsKeepSyncs, WakingsKeepSyncs, ExpiriesKeepSyncs};
 ghost use Rattle.ptk_words_locks.specs.Expiries.{next_expiry, IsNextExpiry, AreExpiriesInTurn, IsExpiryWhole, after_next};
 
-/// A lock, a trylock and an unlock of the running thread keep threads, line and mutexes whole; where it waits, no
-/// thread runs.
-pub fn mutex_moves_keep_locks()
-    ensures { (interval : ℕ) → (waiters : List ℕ) → (locks : Locks) → MutexMovesKeepLocks interval waiters locks }
+/// A lock, a trylock and an unlock of the running thread keep threads, line, mutexes and condition variables whole;
+/// where it waits, no thread runs.
+pub fn mutex_moves_keep_syncs()
+    ensures { (interval : ℕ) → (waiters : List ℕ) → (syncs : Syncs) → MutexMovesKeepSyncs interval waiters syncs }
 {}
 
-/// The end of a thread that waits for no mutex keeps threads, line and mutexes whole, and leaves it no mutex: a robust
-/// one goes to its heir, any other is nobody's.
-pub fn owner_end_keeps_locks()
-    ensures { (interval : ℕ) → (waiters : List ℕ) → (locks : Locks) → OwnerEndKeepsLocks interval waiters locks }
+/// The end of a thread that waits for no mutex keeps threads, line, mutexes and condition variables whole, and leaves
+/// it no mutex: a robust one goes to its heir, any other is nobody's.
+pub fn owner_end_keeps_syncs()
+    ensures { (interval : ℕ) → (waiters : List ℕ) → (syncs : Syncs) → OwnerEndKeepsSyncs interval waiters syncs }
 {}
 
 /// A sleep, a timed lock and a condition wait of the running thread keep threads, line, mutexes and condition variables

@@ -6,15 +6,17 @@ use Rattle.ptk_words_model.specs.Calls.{no_call}
 use Rattle.ptk_words_model.specs.Steps.{Row}
 use Rattle.ptk_words_model.specs.ConsoleCalls.{exit_call, console_put, console_get}
 use Rattle.ptk_words_model.specs.ThreadCalls.{create, pthread_exit, join, detach, self, yield, setschedparam, getschedparam, setschedprio}
-use Rattle.ptk_words_model.specs.MutexCalls.{mutex_init, mutex_destroy, mutex_lock, mutex_trylock, mutex_unlock, mutex_consistent}
+use Rattle.ptk_words_model.specs.TimeCalls.{clock_gettime, clock_nanosleep}
+use Rattle.ptk_words_model.specs.MutexCalls.{mutex_init, mutex_destroy, mutex_lock, mutex_trylock, mutex_timedlock, mutex_unlock, mutex_consistent}
+use Rattle.ptk_words_model.specs.ConditionCalls.{cond_init, cond_destroy, cond_wait, cond_timedwait, cond_signal, cond_broadcast}
 
--- what a call comes to; clocks, the timed lock, condition variables, cancellation and keys name their definitions when code carries them, and answer ENOSYS until then (own)
+-- what a call comes to; cancellation and keys name their definitions when code carries them, and answer ENOSYS until then (own)
 abbrev pub answer_of : Call → Row
 answer_of call.Exit = exit_call
 answer_of call.ConsolePut = console_put
 answer_of call.ConsoleGet = console_get
-answer_of call.ClockGettime = no_call
-answer_of call.ClockNanosleep = no_call
+answer_of call.ClockGettime = clock_gettime
+answer_of call.ClockNanosleep = clock_nanosleep
 answer_of call.PthreadCreate = create
 answer_of call.PthreadExit = pthread_exit
 answer_of call.PthreadJoin = join
@@ -28,15 +30,15 @@ answer_of call.MutexInit = mutex_init
 answer_of call.MutexDestroy = mutex_destroy
 answer_of call.MutexLock = mutex_lock
 answer_of call.MutexTrylock = mutex_trylock
-answer_of call.MutexTimedlock = no_call
+answer_of call.MutexTimedlock = mutex_timedlock
 answer_of call.MutexUnlock = mutex_unlock
 answer_of call.MutexConsistent = mutex_consistent
-answer_of call.CondInit = no_call
-answer_of call.CondDestroy = no_call
-answer_of call.CondWait = no_call
-answer_of call.CondTimedwait = no_call
-answer_of call.CondSignal = no_call
-answer_of call.CondBroadcast = no_call
+answer_of call.CondInit = cond_init
+answer_of call.CondDestroy = cond_destroy
+answer_of call.CondWait = cond_wait
+answer_of call.CondTimedwait = cond_timedwait
+answer_of call.CondSignal = cond_signal
+answer_of call.CondBroadcast = cond_broadcast
 answer_of call.PthreadCancel = no_call
 answer_of call.PthreadSetcancelstate = no_call
 answer_of call.PthreadSetcanceltype = no_call

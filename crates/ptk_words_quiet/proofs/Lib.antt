@@ -6,3 +6,4 @@ pub mod TicksInARow
 pub mod Arrivals
 pub mod RowsKept
 pub mod Sooner
+pub mod IdleTicks

@@ -38,10 +38,10 @@ runner t thread = record { number = t; thread = thread }
 
 -- ---- before the step
 
-no_arrivals : (limits : Limits) (tick : ℕ) (s : Part) → arriving tick s.console ≡ [] → after_arrivals limits tick s ≡ s
+pub no_arrivals : (limits : Limits) (tick : ℕ) (s : Part) → arriving tick s.console ≡ [] → after_arrivals limits tick s ≡ s
 no_arrivals limits tick s e = rw e refl
 
-no_expiries : (tick : ℕ) (s : Part) → due tick s ≡ [] → after_expiries tick s ≡ s
+pub no_expiries : (tick : ℕ) (s : Part) → due tick s ≡ [] → after_expiries tick s ≡ s
 no_expiries tick s e = ap (λ (expiries : List Expiry). fold (λ u a. after_timeout a.thread (wait_of (thread_at u.locks a.thread)) u) s (in_order expiries)) e
 
 chosen_by : (t : ℕ) (o : Option ℕ) (s : Part) → stays_before (effective_priority s.locks) t o ≡ true → after_choice_between (Some t) o s ≡ s

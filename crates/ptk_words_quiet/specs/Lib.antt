@@ -1,2 +1,4 @@
 pub mod Quiet
 pub mod QuietLaws
+pub mod Idle
+pub mod IdleLaws

@@ -1,9 +1,11 @@
-//! Rows of plain steps: what happens to a partition while its running thread only computes. `specs/Quiet` says when a
-//! partition is quiet, so that nothing but plain steps can come before a given tick, and what so many plain steps
-//! leave. The functions without code are laws: a plain step of a quiet state is its whole decision and leaves it quiet,
-//! under SCHED_RR too, and plain steps in a row are as many ticks, with steps, used ticks, the last step and the trace
-//! counted as by so many decisions. Below stand the definitions and the laws of pools; above, the crates that carry out
-//! such rows. Dear to prove: that registers and used ticks change no effective priority and no deadline.
+//! Rows of plain steps and idle ticks: what happens to a partition while its running thread only computes, or while it
+//! has nothing to do. `specs/Quiet` says when a partition is quiet, so that nothing but plain steps can come before a
+//! given tick, and what so many plain steps leave; `specs/Idle` says when it is idle up to a tick. The functions without
+//! code are laws: a plain step of a quiet state is its whole decision and leaves it quiet, under SCHED_RR too; plain
+//! steps in a row are as many ticks, with steps, used ticks, the last step and the trace counted as by so many decisions;
+//! and ticks in a row change nothing of an idle partition but the tick of its next decision. Below stand the definitions
+//! and the laws of pools; above, the crates that carry out such rows and pass over such ticks. Dear to prove: that
+//! registers and used ticks change no effective priority and no deadline.
 #![tactic(auto)]
 
 ghost use Rattle.std.specs.Prelude.{ℕ, List, Option};
@@ -12,6 +14,7 @@ ghost use Rattle.ptk_words.specs.declared.sections.Limits.{Limits};
 ghost use Rattle.ptk_words.specs.declared.threads.Thread.{Thread};
 ghost use Rattle.ptk_words_windows.specs.Windows.{OwnTicks, WindowTable};
 ghost use Rattle.ptk_words_model.specs.State.{Console, Part, State};
+ghost use Rattle.ptk_words_quiet.specs.IdleLaws.{IdleIsDecided, IdleIsTicks};
 ghost use Rattle.ptk_words_quiet.specs.QuietLaws.{PlainIsDecided, RowStaysQuiet, RowKeepsPriorities, RowKeepsWell, RowIsTicks, NoneComesBefore, RowsJoin, OthersStay, AloneGoesOn, WindowIsOwn};
 
 /// A plain step is the decision of a quiet state.
@@ -62,4 +65,14 @@ pub fn alone_goes_on()
 /// In a window of a partition each tick up to its end is the partition's own.
 pub fn window_is_own()
     ensures { (table : WindowTable) → (p tick end : ℕ) → WindowIsOwn table p tick end }
+{}
+
+/// The decision of an idle partition changes nothing.
+pub fn idle_is_decided()
+    ensures { (limits : Limits) → (tick stop room : ℕ) → (s : Part) → IdleIsDecided limits tick stop room s }
+{}
+
+/// Ticks in a row change nothing of an idle partition but the tick of its next decision.
+pub fn idle_is_ticks()
+    ensures { (table : WindowTable) → (p : ℕ) → (limits : Limits) → (tick stop n : ℕ) → (s : State) → IdleIsTicks table p limits tick stop n s }
 {}

@@ -31,6 +31,8 @@ use Rattle.ptk_words_locks.specs.Locks.{joiner_of}
 use Rattle.ptk_words_well.specs.Well.{IsWell}
 use Rattle.ptk_words_locks.proofs.Lined.{ready_alive}
 use Rattle.ptk_words_well.proofs.MutexCalls.{well_mutex_init, well_mutex_destroy, well_mutex_lock, well_mutex_trylock, well_mutex_unlock, well_mutex_consistent}
+use Rattle.ptk_words_well.proofs.TimeRows.{well_clock_gettime, well_clock_nanosleep, well_mutex_timedlock}
+use Rattle.ptk_words_well.proofs.ConditionRows.{well_cond_init, well_cond_destroy, well_cond_wait, well_cond_timedwait, well_cond_signal, well_cond_broadcast}
 use Rattle.ptk_words_well.proofs.Steps.{well_refusal, well_success, either_well, well_unless, well_given, well_valid, well_using, well_cancellation_answer, Keeps, well_no_call}
 use Rattle.ptk_words_well.proofs.Threads.{well_policy, well_priority, well_detached}
 use Rattle.ptk_words_well.proofs.Parts.{well_output, well_taken, well_halt}
@@ -170,8 +172,8 @@ pub well_answer : (known : Call) → Keeps (answer_of known)
 well_answer call.Exit = well_exit_call
 well_answer call.ConsolePut = well_console_put
 well_answer call.ConsoleGet = well_console_get
-well_answer call.ClockGettime = well_no_call
-well_answer call.ClockNanosleep = well_no_call
+well_answer call.ClockGettime = well_clock_gettime
+well_answer call.ClockNanosleep = well_clock_nanosleep
 well_answer call.PthreadCreate = well_create
 well_answer call.PthreadExit = well_pthread_exit
 well_answer call.PthreadJoin = well_join
@@ -185,15 +187,15 @@ well_answer call.MutexInit = well_mutex_init
 well_answer call.MutexDestroy = well_mutex_destroy
 well_answer call.MutexLock = well_mutex_lock
 well_answer call.MutexTrylock = well_mutex_trylock
-well_answer call.MutexTimedlock = well_no_call
+well_answer call.MutexTimedlock = well_mutex_timedlock
 well_answer call.MutexUnlock = well_mutex_unlock
 well_answer call.MutexConsistent = well_mutex_consistent
-well_answer call.CondInit = well_no_call
-well_answer call.CondDestroy = well_no_call
-well_answer call.CondWait = well_no_call
-well_answer call.CondTimedwait = well_no_call
-well_answer call.CondSignal = well_no_call
-well_answer call.CondBroadcast = well_no_call
+well_answer call.CondInit = well_cond_init
+well_answer call.CondDestroy = well_cond_destroy
+well_answer call.CondWait = well_cond_wait
+well_answer call.CondTimedwait = well_cond_timedwait
+well_answer call.CondSignal = well_cond_signal
+well_answer call.CondBroadcast = well_cond_broadcast
 well_answer call.PthreadCancel = well_no_call
 well_answer call.PthreadSetcancelstate = well_no_call
 well_answer call.PthreadSetcanceltype = well_no_call

@@ -17,7 +17,6 @@ use Rattle.ptk_words_model.specs.declared.StepKind.{StepKind}
 use Rattle.ptk_words_model.specs.declared.StepKind.TheVariants.{UnwindingStart, GateStep, CallStep, InstructionStep}
 use Rattle.ptk_words_model.specs.State.{Part, with_console, with_halt}
 use Rattle.ptk_words_model.specs.Priority.{thread_at}
-use Rattle.ptk_words_model.specs.Schedule.{after_choice}
 use Rattle.ptk_words_model.specs.Keys.{DestructorCall, next_destructor}
 use Rattle.ptk_words_model.specs.Unwinding.{after_unwinding_start, after_destructor_or_end, after_unwinding_move, cleanups_of, after_return, after_gate_step}
 use Rattle.ptk_words_model.specs.Withdrawal.{after_expiries}
@@ -33,7 +32,8 @@ use Rattle.ptk_words_well.proofs.Waits.{well_arrivals}
 use Rattle.ptk_words_well.proofs.Unwindings.{well_unwinding_start}
 use Rattle.ptk_words_well.proofs.Ends.{well_end}
 use Rattle.ptk_words_well.proofs.Effects.{HasLength, effect_length}
-use Rattle.ptk_words_well.proofs.Expiries.{expiries_none, next_destructor_none, cleanups_none}
+use Rattle.ptk_words_well.proofs.Destructors.{next_destructor_none, cleanups_none}
+use Rattle.ptk_words_well.proofs.Timeouts.{well_expiries, expiries_status}
 use Rattle.ptk_words_well.proofs.Calls.{well_call}
 
 -- ---- the return gate
@@ -124,11 +124,9 @@ arrivals_status limits tick s = status_arrivals limits.ring (arriving tick s.con
 pub well_ready : (limits : Limits) (tick : ℕ) (s : Part) → is_active s.status ≡ true → IsWell limits s → IsWell limits (ready_at limits tick s)
 well_ready limits tick s active well =
     let arrived : Part = after_arrivals limits tick s in
-    let whole : IsWell limits arrived = well_arrivals limits tick s well in
-    let still : is_active arrived.status ≡ true = ap is_active (arrivals_status limits tick s) ∙ active in
-    let none : after_expiries tick arrived ≡ arrived = expiries_none tick arrived whole.unused.untimed in
-    let chosen : Part → Type 0 = λ (part : Part). IsWell limits (after_choice part) in
-    subst chosen (sym none) (well_choice limits arrived still whole)
+    let expired : Part = after_expiries tick arrived in
+    let still : is_active expired.status ≡ true = ap is_active (expiries_status tick arrived ∙ arrivals_status limits tick s) ∙ active in
+    well_choice limits expired still (well_expiries limits tick arrived (well_arrivals limits tick s well))
 
 -- a decision of an active partition
 pub well_decision : (limits : Limits) (tick room : ℕ) (s : Part) → is_active s.status ≡ true → IsWell limits s → IsWell limits (after_decision limits tick room s)

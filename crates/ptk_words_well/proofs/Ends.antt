@@ -15,17 +15,19 @@ use Rattle.ptk_words_model.specs.Mutex.{mutex_at, wait_of, owns, after_owner_end
 use Rattle.ptk_words_model.specs.Schedule.{with_thread, woken_with, after_wake}
 use Rattle.ptk_words_model.specs.Unwinding.{is_alive, after_join_by, without_thread, after_release, after_last_end, after_end}
 use Rattle.ptk_words_locks.specs.Locks.{is_ready, joiner_of, used_of, AreMutexes}
+use Rattle.ptk_words_locks.specs.Conditions.{condition_of_wait, AreListed, AreConditions, AreSyncs}
 use Rattle.ptk_words_well.specs.Well.{IsWell}
 use Rattle.ptk_words_locks.proofs.Pools.{get-set_other, free_own, length-pool_set, changed_own, changed_other, length-changed}
 use Rattle.ptk_words_locks.proofs.Lines.{out_push}
 use Rattle.ptk_words_locks.proofs.Lined.{AreLined, AreOthers, ready_waits, ready_alive, not_ready_out, not_ready_stopped, lined_stopped, lined_others, lined_push}
-use Rattle.ptk_words_locks.proofs.Threads.{changed_same, idle_awaits}
-use Rattle.ptk_words_locks.proofs.Waiting.{AreWaiting, AreSameWaits, IsJoinChange, waiting_same, waiting_joined}
-use Rattle.ptk_words_locks.proofs.Whole.{AreLocks}
-use Rattle.ptk_words_locks.proofs.Sizes.{length-owner_end_threads, length-owner_end_mutexes}
-use Rattle.ptk_words_locks.proofs.Ends.{locks_owner_end, owns_none, end_same}
-use Rattle.ptk_words_well.proofs.Whole.{lined_of, waiting_of, locks_of, well_scheduled, well_locks, used_others}
-use Rattle.ptk_words_well.proofs.Exclusion.{awaits_other, ended_owns, exclusion_unowning}
+use Rattle.ptk_words_locks.proofs.Threads.{changed_same, idle_awaits, waking_woken}
+use Rattle.ptk_words_locks.proofs.Listed.{AreSameWaits, IsJoinChange, listed_same, listed_joined}
+use Rattle.ptk_words_locks.proofs.Timed.{conditions_woken, syncs_owner_end, syncs_end_same, syncs_owns_none}
+use Rattle.ptk_words_locks.proofs.ConditionsKept.{conditions_placed}
+use Rattle.ptk_words_well.proofs.Synced.{syncs_of_well, well_syncs_by}
+use Rattle.ptk_words_well.proofs.SyncSizes.{sized_owner_end}
+use Rattle.ptk_words_well.proofs.Whole.{lined_of, waiting_of, well_scheduled, used_others}
+use Rattle.ptk_words_well.proofs.Exclusion.{awaits_other, ended_owns, exclusion_unowning, conditions_waits}
 use Rattle.ptk_words_well.proofs.Threads.{used_changed_at}
 use Rattle.ptk_words_well.proofs.Parts.{well_halt}
 use Rattle.ptk_words_well.proofs.Waits.{waits_not_ready, waits_alive, woken_ready, woken_waits, joiner_woken, exclusion_woken}
@@ -59,12 +61,12 @@ exclusion_freed u threads mutexes free none are =
 -- a thread that neither waits nor is waited for, and owns no mutex, is gone; no thread runs, or another one
 well_gone : (limits : Limits) (u : ℕ) (running : Option ℕ) (s : Part) → wait_of (thread_at s.locks u) ≡ None → joiner_of (thread_at s.locks u) ≡ None → is_in u s.line ≡ false → running ≢ Some u → AreLined s.threads s.line running
     → ((m : ℕ) → owns u (mutex_at s.locks m) ≡ false) → IsWell limits s
-    → AreLined (pool_set s.threads u None) s.line running × AreWaiting (pool_set s.threads u None) s.console.waiters × AreMutexes (pool_set s.threads u None) s.mutexes
+    → AreLined (pool_set s.threads u None) s.line running × AreListed (pool_set s.threads u None) s.console.waiters × AreMutexes (pool_set s.threads u None) s.mutexes × AreConditions (pool_set s.threads u None) s.mutexes s.conditions
 well_gone limits u running s free single out stops lined none well =
     let after : List (Option Thread) = pool_set s.threads u None in
     let same : AreSameWaits s.threads after = record { wait = freed_same wait_of u s.threads (sym free); joiner = freed_same joiner_of u s.threads (sym single) } in
-    let waiting : AreWaiting after s.console.waiters = waiting_same s.threads after s.console.waiters same (freed_ended u s.threads well.ended_wait) (waiting_of limits s well) in
-    (lined_others u s.threads after s.line running (freed_others u s.threads) out stops lined, waiting, exclusion_freed u s.threads s.mutexes free none well.exclusion)
+    let waiting : AreListed after s.console.waiters = listed_same s.threads after s.console.waiters same (freed_ended u s.threads well.ended_wait) (waiting_of limits s well) in
+    (lined_others u s.threads after s.line running (freed_others u s.threads) out stops lined, waiting, exclusion_freed u s.threads s.mutexes free none well.exclusion, conditions_placed u None s.threads s.mutexes s.conditions free refl well.conditional)
 
 used_freed : (n u : ℕ) (threads : List (Option Thread)) → ((t : ℕ) → used_of (pool_get threads t) < n) → (t : ℕ) → used_of (pool_get (pool_set threads u None) t) < n
 used_freed n u threads each = used_others n u threads (pool_set threads u None) (freed_others u threads) (rw (free_own u threads) (each 0)) each
@@ -77,10 +79,10 @@ pub well_freed : (limits : Limits) (u : ℕ) (s : Part) → is_alive (thread_at 
 well_freed limits u s dead single well =
     let idle : is_ready (pool_get s.threads u) ≡ false = ended_not_ready (pool_get s.threads u) dead in
     let used : (t : ℕ) → used_of (pool_get (pool_set s.threads u None) t) < limits.interval = used_freed limits.interval u s.threads well.used in
-    let parts : AreLined (pool_set s.threads u None) s.line s.running × AreWaiting (pool_set s.threads u None) s.console.waiters × AreMutexes (pool_set s.threads u None) s.mutexes =
+    let parts : AreLined (pool_set s.threads u None) s.line s.running × AreListed (pool_set s.threads u None) s.console.waiters × AreMutexes (pool_set s.threads u None) s.mutexes × AreConditions (pool_set s.threads u None) s.mutexes s.conditions =
     well_gone limits u s.running s (well.ended_wait u dead) single (not_ready_out s.threads s.line s.running u (lined_of limits s well) idle) (not_ready_stopped s.threads s.line s.running u (lined_of limits s well) idle) (lined_of limits s well)
     (ended_owns u s.threads s.mutexes dead well.exclusion) well in
-    well_scheduled limits s (pool_set s.threads u None) s.line s.mutexes s.running s.console.waiters (length-pool_set s.threads u None) refl parts.0 parts.1 parts.2 used well.halted well
+    well_scheduled limits s (pool_set s.threads u None) s.line s.mutexes s.running s.console.waiters (length-pool_set s.threads u None) refl parts.0 parts.1 parts.2 parts.3 used well.halted well
 
 -- ---- the end of the running thread, where it owns no mutex
 
@@ -93,9 +95,9 @@ well_end_detached : (limits : Limits) (t : ℕ) (s : Part) → s.running ≡ Som
 well_end_detached limits t s runs single none well =
     let ready : is_ready (pool_get s.threads t) ≡ true = well.running_ready t runs in
     let used : (v : ℕ) → used_of (pool_get (pool_set s.threads t None) v) < limits.interval = used_freed limits.interval t s.threads well.used in
-    let parts : AreLined (pool_set s.threads t None) s.line None × AreWaiting (pool_set s.threads t None) s.console.waiters × AreMutexes (pool_set s.threads t None) s.mutexes =
+    let parts : AreLined (pool_set s.threads t None) s.line None × AreListed (pool_set s.threads t None) s.console.waiters × AreMutexes (pool_set s.threads t None) s.mutexes × AreConditions (pool_set s.threads t None) s.mutexes s.conditions =
     well_gone limits t None s (ready_waits (pool_get s.threads t) ready) single (well.running_out t runs) (stopped t) (lined_stopped s.threads s.line s.running (lined_of limits s well)) none well in
-    well_scheduled limits s (pool_set s.threads t None) s.line s.mutexes None s.console.waiters (length-pool_set s.threads t None) refl parts.0 parts.1 parts.2 used (λ e. refl) well
+    well_scheduled limits s (pool_set s.threads t None) s.line s.mutexes None s.console.waiters (length-pool_set s.threads t None) refl parts.0 parts.1 parts.2 parts.3 used (λ e. refl) well
 
 -- the thread has ended (own)
 abbrev as_ended : Thread → Thread
@@ -126,8 +128,9 @@ well_end_kept limits t s runs none well =
     ] in
     well_scheduled limits s after s.line s.mutexes None s.console.waiters (length-changed t as_ended s.threads) refl
     (lined_others t s.threads after s.line None (λ v ne. changed_other t v as_ended s.threads ne) (well.running_out t runs) (stopped t) (lined_stopped s.threads s.line s.running (lined_of limits s well)))
-    (waiting_same s.threads after s.console.waiters same ended (waiting_of limits s well))
+    (listed_same s.threads after s.console.waiters same ended (waiting_of limits s well))
     (exclusion_unowning t s.threads after s.mutexes (λ v ne. changed_other t v as_ended s.threads ne) (ap awaited (changed_own t as_ended s.threads) ∙ awaited_as_ended (pool_get s.threads t)) none well.exclusion)
+    (conditions_waits s.threads after s.mutexes s.conditions waits well.conditional)
     (used_changed_at limits.interval t as_ended s.threads well.used (λ thread e. let lt : used_of (pool_get s.threads t) < limits.interval = well.used t in rw e at lt))
     (λ e. refl) well
 
@@ -151,6 +154,7 @@ well_end_joined limits t u values s runs joined none well =
     ] in
     let middle_free : wait_of (pool_get middle t) ≡ None = ap wait_of (changed_other u t (woken_with values) s.threads (λ e. ne (sym e))) ∙ free in
     let middle_exclusion : AreMutexes middle s.mutexes = exclusion_woken u values s.threads s.mutexes (awaits_other (JoinWait t) (pool_get s.threads u) refl waited) well.exclusion in
+    let middle_conditions : AreConditions middle s.mutexes s.conditions = conditions_woken u (woken_with values) s.threads s.mutexes s.conditions (waking_woken values) (ap condition_of_wait waited) well.conditional in
     let change : IsJoinChange u t s.threads after = record {
       wait = λ v other. freed_same wait_of t middle (sym middle_free) v ∙ ap wait_of (changed_other u v (woken_with values) s.threads other);
       joiner = λ v other. ap joiner_of (get-set_other t v None middle other) ∙ changed_same joiner_of u (woken_with values) s.threads (joiner_woken values (pool_get s.threads u)) v;
@@ -161,8 +165,9 @@ well_end_joined limits t u values s runs joined none well =
     (lined_others u s.threads middle s.line None (λ v other. changed_other u v (woken_with values) s.threads other) out (stopped u) (lined_stopped s.threads s.line s.running (lined_of limits s well))) in
     well_scheduled limits s after (s.line ++ u ∷ []) s.mutexes None s.console.waiters (length-pool_set middle t None ∙ length-changed u (woken_with values) s.threads) refl
     (lined_others t middle after (s.line ++ u ∷ []) None (freed_others t middle) (out_push u t s.line (λ e. ne (sym e)) (well.running_out t runs)) (stopped t) lined)
-    (waiting_joined u t s.threads after s.console.waiters change joined (ap wait_of (get-set_other t u None middle ne) ∙ woken) (ap joiner_of (free_own t middle)) (waiting_of limits s well))
+    (listed_joined u t s.threads after s.console.waiters change joined (ap wait_of (get-set_other t u None middle ne) ∙ woken) (ap joiner_of (free_own t middle)) (waiting_of limits s well))
     (exclusion_freed t middle s.mutexes middle_free none middle_exclusion)
+    (conditions_placed t None middle s.mutexes s.conditions middle_free refl middle_conditions)
     (used_freed limits.interval t middle (used_changed_at limits.interval u (woken_with values) s.threads well.used (λ thread e. well.used 0)))
     (λ e. refl) well
 
@@ -197,15 +202,15 @@ running_awaits limits t s runs well = idle_awaits (thread_at s.locks t) (ready_w
 -- the running thread has given up its mutexes
 pub well_owner_end : (limits : Limits) (t : ℕ) (s : Part) → s.running ≡ Some t → IsWell limits s → IsWell limits (with_locks (after_owner_end t) s)
 well_owner_end limits t s runs well =
-    well_locks limits s (after_owner_end t s.locks) s.running (length-owner_end_threads t s.locks) (length-owner_end_mutexes t s.locks)
-    (locks_owner_end limits.interval t s.running s.console.waiters s.locks (running_awaits limits t s runs well) (locks_of limits s well)) well.halted well
+    well_syncs_by limits (λ syncs. record syncs { locks = after_owner_end t syncs.locks }) s (sized_owner_end t s.syncs)
+    (syncs_owner_end limits.interval t s.running s.console.waiters s.syncs (running_awaits limits t s runs well) (syncs_of_well limits s well)) well
 
 pub well_end : (limits : Limits) (t : ℕ) (s : Part) → s.running ≡ Some t → IsWell limits s → IsWell limits (after_end t s)
 well_end limits t s runs well =
     let after : Part = with_locks (after_owner_end t) s in
     let free : awaited (thread_at s.locks t) ≡ None = running_awaits limits t s runs well in
-    let are : AreLocks limits.interval s.running s.console.waiters s.locks = locks_of limits s well in
-    let same : thread_at after.locks t ≡ thread_at s.locks t = end_same limits.interval t s.running s.console.waiters s.locks free are in
-    let none : (m : ℕ) → owns t (mutex_at after.locks m) ≡ false = owns_none limits.interval t s.running s.console.waiters s.locks free are in
+    let are : AreSyncs limits.interval s.running s.console.waiters s.syncs = syncs_of_well limits s well in
+    let same : thread_at after.locks t ≡ thread_at s.locks t = syncs_end_same limits.interval t s.running s.console.waiters s.syncs free are in
+    let none : (m : ℕ) → owns t (mutex_at after.locks m) ≡ false = syncs_owns_none limits.interval t s.running s.console.waiters s.syncs free are in
     let family : Option Thread → Type 0 = λ (o : Option Thread). IsWell limits (after_last_end (halting (with_locks (after_release t o) after))) in
     subst family same (well_last_end limits (halting (with_locks (after_release t (thread_at after.locks t)) after)) (well_release limits t after runs none (well_owner_end limits t s runs well)))

@@ -1,18 +1,20 @@
--- The mutexes agree with the threads still, where one thread changed that awaits the mutex that it did.
+-- The mutexes and the condition variables agree with the threads still, where one thread changed that awaits what it did.
 use Rattle.std.proofs.Common.{◌≡◌, ℕ, true, false, List, sym, ◌∙◌, ap, inl, inr}
 use Rattle.std.specs.Prelude.{Option, Some, None}
 use Rattle.std.proofs.lemmas.Bool.{cases_eq, false≢true, false_from_ne_true}
 use Rattle.ptk_words.specs.Pools.{pool_get}
 use Rattle.ptk_words.specs.declared.threads.Thread.{Thread}
 use Rattle.ptk_words.specs.declared.threads.Wait.{Wait}
-use Rattle.ptk_words_model.specs.State.{Mutex}
+use Rattle.ptk_words_model.specs.State.{Mutex, Condition}
 use Rattle.ptk_words_model.specs.Priority.{mutex_of_wait, awaited}
 use Rattle.ptk_words_model.specs.Mutex.{wait_of, owns}
 use Rattle.ptk_words_model.specs.Unwinding.{is_alive}
 use Rattle.ptk_words_locks.specs.Locks.{AreMutexes}
+use Rattle.ptk_words_locks.specs.Conditions.{AreConditions}
 use Rattle.ptk_words_locks.proofs.Lined.{AreOthers}
 use Rattle.ptk_words_locks.proofs.Threads.{awaits_by}
 use Rattle.ptk_words_locks.proofs.Exclusion.{exclusion_kept, exclusion_same}
+use Rattle.ptk_words_locks.proofs.Conditions.{conditions_same, same_on_waits}
 
 -- ---- what a thread awaits
 
@@ -31,6 +33,11 @@ pub exclusion_waits : (threads after : List (Option Thread)) (mutexes : List (Op
     → ((u : ℕ) → is_alive (pool_get after u) ≡ is_alive (pool_get threads u)) → AreMutexes threads mutexes → AreMutexes after mutexes
 exclusion_waits threads after mutexes waits alive are =
     exclusion_same threads after mutexes (λ u. awaited_alike (pool_get threads u) (pool_get after u) (waits u)) alive are
+
+-- so the condition variables agree with them still
+pub conditions_waits : (threads after : List (Option Thread)) (mutexes : List (Option Mutex)) (conditions : List (Option Condition)) → ((u : ℕ) → wait_of (pool_get after u) ≡ wait_of (pool_get threads u))
+    → AreConditions threads mutexes conditions → AreConditions after mutexes conditions
+conditions_waits threads after mutexes conditions waits are = conditions_same threads after mutexes conditions (same_on_waits threads after waits) are
 
 -- one thread is another, which awaits what that did, and which has ended only if it owns no mutex
 pub exclusion_one : (t : ℕ) (threads after : List (Option Thread)) (mutexes : List (Option Mutex)) → AreOthers t threads after → awaited (pool_get after t) ≡ awaited (pool_get threads t)

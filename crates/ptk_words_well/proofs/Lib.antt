@@ -1,3 +1,5 @@
+pub mod Synced
+pub mod SyncSizes
 pub mod Whole
 pub mod Exclusion
 pub mod Threads
@@ -8,9 +10,13 @@ pub mod Unwindings
 pub mod Effects
 pub mod Ends
 pub mod Starts
-pub mod Expiries
+pub mod Destructors
+pub mod Timeouts
 pub mod Steps
 pub mod MutexCalls
+pub mod NamedRows
+pub mod TimeRows
+pub mod ConditionRows
 pub mod Calls
 pub mod Decisions
 pub mod Runs

@@ -18,18 +18,17 @@ use Rattle.ptk_words.specs.declared.threads.Wait.TheVariants.{MutexWait}
 use Rattle.ptk_words_model.specs.declared.Invocation.{Invocation}
 use Rattle.ptk_words_model.specs.declared.LockMove.{LockMove}
 use Rattle.ptk_words_model.specs.declared.LockMove.TheVariants.{Takes, Recovers, Counts, Waits, Refuses}
-use Rattle.ptk_words_model.specs.State.{Locks, Part, with_locks}
+use Rattle.ptk_words_model.specs.State.{Locks, Syncs, Part, with_locks}
 use Rattle.ptk_words_model.specs.Mutex.{mutex_at, new_mutex, owns, with_soundness, lock_move, trylock_move, after_move, after_unlock}
 use Rattle.ptk_words_model.specs.Condition.{names_mutex}
 use Rattle.ptk_words_model.specs.Calls.{Answer, refusal, told, is_pointer, with_pool_mutex, with_stored, set_up_mutex, using_mutex}
 use Rattle.ptk_words_model.specs.MutexCalls.{kind_of, protocol_of, is_robust_type, is_locked, is_repairable, make_move, mutex_init, mutex_destroy, mutex_lock, mutex_trylock, mutex_unlock, mutex_consistent}
 use Rattle.ptk_words_well.specs.Well.{IsWell}
 use Rattle.ptk_words_locks.proofs.Pools.{length-pool_set, length-changed}
-use Rattle.ptk_words_locks.proofs.Whole.{AreLocks}
-use Rattle.ptk_words_locks.proofs.Sizes.{length-move_threads, length-move_mutexes, length-unlock_threads, length-unlock_mutexes}
-use Rattle.ptk_words_locks.proofs.Moves.{running_after, locks_lock_move, locks_trylock_move, locks_consistent, locks_init, locks_destroy}
-use Rattle.ptk_words_locks.proofs.Unlocks.{locks_unlock}
-use Rattle.ptk_words_well.proofs.Whole.{locks_of, well_locks}
+use Rattle.ptk_words_locks.specs.LockLaws.{running_after}
+use Rattle.ptk_words_locks.proofs.Timed.{AreSyncs, syncs_unlock, syncs_lock_move, syncs_trylock_move, syncs_soundness, syncs_mutex_init, syncs_mutex_destroy}
+use Rattle.ptk_words_well.proofs.Synced.{syncs_of_well, running_syncs, well_with_syncs, well_syncs_by}
+use Rattle.ptk_words_well.proofs.SyncSizes.{sized_move, sized_unlock}
 use Rattle.ptk_words_well.proofs.Effects.{length-with_bytes}
 use Rattle.ptk_words_well.proofs.Parts.{well_memory}
 use Rattle.ptk_words_well.proofs.Threads.{well_replied}
@@ -38,7 +37,7 @@ use Rattle.ptk_words_well.proofs.Steps.{well_refusal, well_success, either_well,
 
 -- ---- a word stored
 
-length-stored : (s : Part) (pointer word : ℕ) → is_pointer s pointer 4 ≡ true → length (with_word s.memory pointer word) ≡ length s.memory
+pub length-stored : (s : Part) (pointer word : ℕ) → is_pointer s pointer 4 ≡ true → length (with_word s.memory pointer word) ≡ length s.memory
 length-stored s pointer word within =
     let both : (pointer % 4 == 0 ≡ true) × (nat_le (pointer + 4) (length s.memory) ≡ true) = and_parts (pointer % 4 == 0) (nat_le (pointer + 4) (length s.memory)) within in
     length-with_bytes s.memory (to_le_bytes w32 word) pointer (leb-true (pointer + 4) (length s.memory) both.1)
@@ -49,36 +48,35 @@ well_stored limits pointer word s within well = well_memory limits (with_word s.
 
 -- ---- mutexes alone changed
 
--- other threads, line and mutexes, while the same thread runs
-well_with : (limits : Limits) (f : Locks → Locks) (s : Part) → length (f s.locks).threads ≡ length s.threads → length (f s.locks).mutexes ≡ length s.mutexes
-    → AreLocks limits.interval s.running s.console.waiters (f s.locks) → IsWell limits s → IsWell limits (with_locks f s)
-well_with limits f s threads mutexes are well = well_locks limits s (f s.locks) s.running threads mutexes are well.halted well
+-- these threads, line and mutexes, with the same condition variables (own)
+abbrev locked_by : (Locks → Locks) → Syncs → Syncs
+locked_by f syncs = record syncs { locks = f syncs.locks }
 
 -- a new mutex at the least free number
 pub well_new_mutex : (limits : Limits) (m : ℕ) (kind : MutexKind) (protocol : Protocol) (is_robust : Bool) (s : Part) → least_free s.mutexes ≡ Some m → IsWell limits s
     → IsWell limits (with_pool_mutex m (Some (new_mutex kind protocol is_robust)) s)
 well_new_mutex limits m kind protocol is_robust s free well =
     let found : IsFree s.mutexes m = least_free_is s.mutexes m free in
-    well_with limits (λ locks. record locks { mutexes = pool_set locks.mutexes m (Some (new_mutex kind protocol is_robust)) }) s refl (length-pool_set s.mutexes m (Some (new_mutex kind protocol is_robust)))
-    (locks_init limits.interval m s.running s.console.waiters kind protocol is_robust s.locks found.free (locks_of limits s well)) well
+    well_syncs_by limits (locked_by (λ locks. record locks { mutexes = pool_set locks.mutexes m (Some (new_mutex kind protocol is_robust)) })) s
+    (record { threads = refl; mutexes = length-pool_set s.mutexes m (Some (new_mutex kind protocol is_robust)); conditions = refl })
+    (syncs_mutex_init limits.interval m s.running s.console.waiters kind protocol is_robust s.syncs found.free (syncs_of_well limits s well)) well
 
--- the number of a mutex that is not locked gets free
-pub well_no_mutex : (limits : Limits) (m : ℕ) (s : Part) → is_locked (mutex_at s.locks m) ≡ false → IsWell limits s → IsWell limits (with_pool_mutex m None s)
-well_no_mutex limits m s free well =
-    well_with limits (λ locks. record locks { mutexes = pool_set locks.mutexes m None }) s refl (length-pool_set s.mutexes m None)
-    (locks_destroy limits.interval m s.running s.console.waiters s.locks free (locks_of limits s well)) well
+-- the number of a mutex that is neither locked nor named by a waiter gets free
+pub well_no_mutex : (limits : Limits) (m : ℕ) (s : Part) → is_locked (mutex_at s.locks m) ≡ false → names_mutex s.locks m ≡ false → IsWell limits s → IsWell limits (with_pool_mutex m None s)
+well_no_mutex limits m s free unnamed well =
+    well_syncs_by limits (locked_by (λ locks. record locks { mutexes = pool_set locks.mutexes m None })) s (record { threads = refl; mutexes = length-pool_set s.mutexes m None; conditions = refl })
+    (syncs_mutex_destroy limits.interval m s.running s.console.waiters s.syncs free unnamed (syncs_of_well limits s well)) well
 
 -- the mutex is unlocked
 pub well_unlock : (limits : Limits) (m : ℕ) (s : Part) → IsWell limits s → IsWell limits (with_locks (after_unlock m) s)
 well_unlock limits m s well =
-    well_with limits (after_unlock m) s (length-unlock_threads m s.locks) (length-unlock_mutexes m s.locks)
-    (locks_unlock limits.interval m s.running s.console.waiters s.locks (locks_of limits s well)) well
+    well_syncs_by limits (locked_by (after_unlock m)) s (sized_unlock m s.syncs) (syncs_unlock limits.interval m s.running s.console.waiters s.syncs (syncs_of_well limits s well)) well
 
 -- what the mutex guards is sound again
 pub well_consistent : (limits : Limits) (m : ℕ) (s : Part) → IsWell limits s → IsWell limits (with_locks (with_soundness Consistent m) s)
 well_consistent limits m s well =
-    well_with limits (with_soundness Consistent m) s refl (length-changed m (λ mutex. record mutex { soundness = Consistent }) s.mutexes)
-    (locks_consistent limits.interval m s.running s.console.waiters s.locks (locks_of limits s well)) well
+    well_syncs_by limits (locked_by (with_soundness Consistent m)) s (record { threads = refl; mutexes = length-changed m (λ mutex. record mutex { soundness = Consistent }) s.mutexes; conditions = refl })
+    (syncs_soundness limits.interval m s.running s.console.waiters Consistent s.syncs (syncs_of_well limits s well)) well
 
 -- ---- the word of a mutex
 
@@ -117,39 +115,30 @@ well_named i s next runs well each = well_unless i.limits EFAULT (is_pointer s i
 -- ---- a move on a mutex
 
 -- a move that does not wait, and this in a0
-moved : (limits : Limits) (move : LockMove) (m word : ℕ) (i : Invocation) (s : Part) → s.running ≡ Some i.caller → AreLocks limits.interval (Some i.caller) s.console.waiters (after_move move i.caller m (MutexWait m None) s.locks)
+moved : (limits : Limits) (move : LockMove) (m word : ℕ) (i : Invocation) (s : Part) → s.running ≡ Some i.caller → AreSyncs limits.interval (Some i.caller) s.console.waiters (locked_by (after_move move i.caller m (MutexWait m None)) s.syncs)
     → IsWell limits s → IsWell limits (told (Some word) i (with_locks (after_move move i.caller m (MutexWait m None)) s)).part
 moved limits move m word i s runs are well =
     let f : Locks → Locks = after_move move i.caller m (MutexWait m None) in
-    let running : Option ℕ → Type 0 = λ (running : Option ℕ). AreLocks limits.interval running s.console.waiters (f s.locks) in
-    let threads : length (f s.locks).threads ≡ length s.threads = length-move_threads move i.caller m (MutexWait m None) s.locks in
-    let mutexes : length (f s.locks).mutexes ≡ length s.mutexes = length-move_mutexes move i.caller m (MutexWait m None) s.locks in
-    well_replied limits i.caller (word ∷ []) (with_locks f s) (well_with limits f s threads mutexes (subst running (sym runs) are) well)
+    let running : Option ℕ → Type 0 = λ (running : Option ℕ). AreSyncs limits.interval running s.console.waiters (locked_by f s.syncs) in
+    well_replied limits i.caller (word ∷ []) (with_locks f s) (well_syncs_by limits (locked_by f) s (sized_move move i.caller m (MutexWait m None) s.syncs) (subst running (sym runs) are) well)
 
 -- where the move leaves threads, line and mutexes whole, a call that makes it leaves the state so
 move_at : (move : LockMove) (m : ℕ) (i : Invocation) (s : Part) → s.running ≡ Some i.caller
-    → AreLocks i.limits.interval (running_after move i.caller) s.console.waiters (after_move move i.caller m (MutexWait m None) s.locks) → IsWell i.limits s → IsWell i.limits (make_move move m None i s).part
+    → AreSyncs i.limits.interval (running_after move i.caller) s.console.waiters (locked_by (after_move move i.caller m (MutexWait m None)) s.syncs) → IsWell i.limits s → IsWell i.limits (make_move move m None i s).part
 move_at Takes m i s runs are well = moved i.limits Takes m 0 i s runs are well
 move_at Recovers m i s runs are well = moved i.limits Recovers m (errno_number EOWNERDEAD) i s runs are well
 move_at Counts m i s runs are well = moved i.limits Counts m 0 i s runs are well
 move_at Waits m i s runs are well =
-    well_locks i.limits s (after_move Waits i.caller m (MutexWait m None) s.locks) None
-    (length-move_threads Waits i.caller m (MutexWait m None) s.locks) (length-move_mutexes Waits i.caller m (MutexWait m None) s.locks) are (λ e. refl) well
+    well_with_syncs i.limits s (locked_by (after_move Waits i.caller m (MutexWait m None)) s.syncs) None (sized_move Waits i.caller m (MutexWait m None) s.syncs) are (λ e. refl) well
 move_at (Refuses e) m i s runs are well = moved i.limits (Refuses e) m (errno_number e) i s runs are well
-
--- the threads, line and mutexes where the caller runs
-caller_locks : (i : Invocation) (s : Part) → s.running ≡ Some i.caller → IsWell i.limits s → AreLocks i.limits.interval (Some i.caller) s.console.waiters s.locks
-caller_locks i s runs well =
-    let running : Option ℕ → Type 0 = λ (running : Option ℕ). AreLocks i.limits.interval running s.console.waiters s.locks in
-    subst running runs (locks_of i.limits s well)
 
 pub well_lock_move : (m : ℕ) (i : Invocation) (s : Part) → s.running ≡ Some i.caller → IsWell i.limits s → IsWell i.limits (make_move (lock_move s.locks i.caller (mutex_at s.locks m)) m None i s).part
 well_lock_move m i s runs well =
-    move_at (lock_move s.locks i.caller (mutex_at s.locks m)) m i s runs (locks_lock_move i.limits.interval i.caller m s.console.waiters s.locks (caller_locks i s runs well)) well
+    move_at (lock_move s.locks i.caller (mutex_at s.locks m)) m i s runs (syncs_lock_move i.limits.interval i.caller m s.console.waiters s.syncs (running_syncs i.limits i.caller s runs well)) well
 
 pub well_trylock_move : (m : ℕ) (i : Invocation) (s : Part) → s.running ≡ Some i.caller → IsWell i.limits s → IsWell i.limits (make_move (trylock_move s.locks i.caller (mutex_at s.locks m)) m None i s).part
 well_trylock_move m i s runs well =
-    move_at (trylock_move s.locks i.caller (mutex_at s.locks m)) m i s runs (locks_trylock_move i.limits.interval i.caller m s.console.waiters s.locks (caller_locks i s runs well)) well
+    move_at (trylock_move s.locks i.caller (mutex_at s.locks m)) m i s runs (syncs_trylock_move i.limits.interval i.caller m s.console.waiters s.syncs (running_syncs i.limits i.caller s runs well)) well
 
 -- ---- calls 20 to 26
 
@@ -166,8 +155,8 @@ pub well_mutex_destroy : Keeps mutex_destroy
 well_mutex_destroy i s runs well =
     well_named i s _ runs well
     (λ m u runs within well. well_when i.limits EBUSY (is_locked (mutex_at u.locks m) || names_mutex u.locks m) _ i u well
-    (λ idle. let free : is_locked (mutex_at u.locks m) ≡ false = (or_parts (is_locked (mutex_at u.locks m)) (names_mutex u.locks m) idle).0 in
-    well_success i.limits [] i (with_stored i.a0 DESTROYED (with_pool_mutex m None u)) (well_stored i.limits i.a0 DESTROYED (with_pool_mutex m None u) within (well_no_mutex i.limits m u free well))))
+    (λ idle. let free : (is_locked (mutex_at u.locks m) ≡ false) × (names_mutex u.locks m ≡ false) = or_parts (is_locked (mutex_at u.locks m)) (names_mutex u.locks m) idle in
+    well_success i.limits [] i (with_stored i.a0 DESTROYED (with_pool_mutex m None u)) (well_stored i.limits i.a0 DESTROYED (with_pool_mutex m None u) within (well_no_mutex i.limits m u free.0 free.1 well))))
 
 pub well_mutex_lock : Keeps mutex_lock
 well_mutex_lock i s runs well = well_named i s _ runs well (λ m u runs within well. well_lock_move m i u runs well)

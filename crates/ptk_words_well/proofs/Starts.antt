@@ -17,17 +17,18 @@ use Rattle.ptk_words_model.specs.declared.Cancellation.{Cancellation}
 use Rattle.ptk_words_model.specs.State.{Mutex, Part, with_locks, with_cancellation, with_cleanups, with_keys}
 use Rattle.ptk_words_model.specs.Priority.{thread_at, mutex_of_wait, awaited}
 use Rattle.ptk_words_model.specs.Mutex.{wait_of, waiters_of, count_of, owns}
-use Rattle.ptk_words_model.specs.Withdrawal.{deadline_of_wait}
 use Rattle.ptk_words_model.specs.Keys.{no_values, no_rounds, with_rounds, with_values}
 use Rattle.ptk_words_model.specs.Unwinding.{is_alive}
 use Rattle.ptk_words.specs.Threads.{is_ended}
 use Rattle.ptk_words_model.specs.ThreadCreation.{new_cancellation, with_new_thread}
 use Rattle.ptk_words_model.specs.Run.{empty_part, main_thread, fits, memory_of, with_image, start_part}
 use Rattle.ptk_words_locks.specs.Locks.{is_ready, joiner_of, used_of, AreMutexes}
+use Rattle.ptk_words_locks.specs.Conditions.{condition_of_wait, waiters_on, AreConditions}
 use Rattle.ptk_words_well.specs.Well.{IsWell, IsCalm}
 use Rattle.ptk_words_locks.proofs.Pools.{get-set_own, get-set_other, length-pool_set, get-replicate, numbered-replicate}
 use Rattle.ptk_words_locks.proofs.Lined.{AreOthers, not_ready_out, not_ready_stopped, lined_others, lined_push}
-use Rattle.ptk_words_locks.proofs.Waiting.{AreSameWaits, waiting_same}
+use Rattle.ptk_words_locks.proofs.Listed.{AreSameWaits, listed_same}
+use Rattle.ptk_words_locks.proofs.ConditionsKept.{conditions_created, conditions_none}
 use Rattle.ptk_words_well.proofs.Whole.{lined_of, waiting_of, well_scheduled, used_others}
 use Rattle.ptk_words_well.proofs.Exclusion.{ended_owns, exclusion_unowning}
 use Rattle.ptk_words_well.proofs.Parts.{well_memory, well_halt}
@@ -70,8 +71,9 @@ well_added limits t thread s h le free new well =
     let below : used_of (pool_get after t) < limits.interval = rw (own, new.used) (well.used 0) in
     well_scheduled limits s after (s.line ++ t ∷ []) s.mutexes s.running s.console.waiters (length-pool_set s.threads t (Some thread)) refl
     (lined_push t after s.line s.running (ap is_ready own ∙ new_ready thread new) out stops (lined_others t s.threads after s.line s.running others out stops (lined_of limits s well)))
-    (waiting_same s.threads after s.console.waiters same ended (waiting_of limits s well))
+    (listed_same s.threads after s.console.waiters same ended (waiting_of limits s well))
     (exclusion_unowning t s.threads after s.mutexes others (ap awaited own ∙ ap mutex_of_wait new.wait ∙ sym (ap awaited free)) (ended_owns t s.threads s.mutexes (ap is_alive free) well.exclusion) well.exclusion)
+    (conditions_created t thread s.threads s.mutexes s.conditions free new.wait well.conditional)
     (used_others limits.interval t s.threads after others below well.used)
     well.halted well
 
@@ -143,11 +145,14 @@ no_mutexes n k = record {
   counts = λ m. rw (ap count_of (get-replicate {A = Mutex} k m)) (omega arith);
 }
 
+-- the condition variables of which each number is free
+no_conditions : (n k j : ℕ) → AreConditions (replicate n None) (replicate k None) (replicate j None)
+no_conditions n k j =
+    conditions_none (replicate n None) (replicate k None) (replicate j None) (λ t. ap (λ (o : Option Thread). condition_of_wait (wait_of o)) (get-replicate n t)) (λ c. ap waiters_on (get-replicate j c))
+
 pub well_empty : (limits : Limits) (input : List Arrival) → 0 < limits.interval → IsWell limits (empty_part limits input)
 well_empty limits input interval = record {
   unused = record {
-    conditions = refl;
-    untimed = λ t. ap (λ o. deadline_of_wait (wait_of o)) (get-replicate limits.threads t);
     cleanups = refl;
     destructors = refl;
     values = refl;
@@ -156,6 +161,7 @@ well_empty limits input interval = record {
   memory = length-replicate limits.memory 0;
   threads = length-replicate limits.threads None;
   mutexes = length-replicate limits.mutexes None;
+  conditions = length-replicate limits.conditions None;
   cancellations = length-replicate limits.threads new_cancellation;
   rounds = length-replicate limits.threads no_rounds;
   line_ready = λ t e. absurd (false≢true e);
@@ -169,6 +175,7 @@ well_empty limits input interval = record {
   joins_listed = λ t u e. absurd (no_wait limits.threads t _ wait_of refl e);
   ended_wait = λ t e. ap wait_of (get-replicate limits.threads t);
   exclusion = no_mutexes limits.threads limits.mutexes;
+  conditional = no_conditions limits.threads limits.mutexes limits.conditions;
   used = λ t. rw (unused_of limits.threads t) interval;
   halted = λ e. refl;
   ring = omega arith;

@@ -19,9 +19,9 @@ use Rattle.ptk_words_well.specs.Well.{IsWell}
 use Rattle.ptk_words_locks.proofs.Pools.{length-changed}
 use Rattle.ptk_words_locks.proofs.Lined.{lined_alike}
 use Rattle.ptk_words_locks.proofs.Threads.{changed_same, used_changed}
-use Rattle.ptk_words_locks.proofs.Waiting.{AreSameWaits, waiting_same}
+use Rattle.ptk_words_locks.proofs.Listed.{AreSameWaits, listed_same}
 use Rattle.ptk_words_well.proofs.Whole.{lined_of, waiting_of, well_scheduled}
-use Rattle.ptk_words_well.proofs.Exclusion.{exclusion_waits}
+use Rattle.ptk_words_well.proofs.Exclusion.{exclusion_waits, conditions_waits}
 
 -- the thread has the wait and the joiner that it had, and has ended only if it had (own)
 pub record IsKept (before after : Thread) : Type 0 where
@@ -83,8 +83,9 @@ well_changed limits t f s kept below well =
     let same : AreSameWaits s.threads after = record { wait = alike.wait; joiner = alike.joiner } in
     well_scheduled limits s after s.line s.mutexes s.running s.console.waiters (length-changed t f s.threads) refl
     (lined_alike s.threads after s.line s.running alike.ready (lined_of limits s well))
-    (waiting_same s.threads after s.console.waiters same (λ u e. alike.wait u ∙ well.ended_wait u (sym (alike.alive u) ∙ e)) (waiting_of limits s well))
+    (listed_same s.threads after s.console.waiters same (λ u e. alike.wait u ∙ well.ended_wait u (sym (alike.alive u) ∙ e)) (waiting_of limits s well))
     (exclusion_waits s.threads after s.mutexes alike.wait alike.alive well.exclusion)
+    (conditions_waits s.threads after s.mutexes s.conditions alike.wait well.conditional)
     (used_changed_at limits.interval t f s.threads well.used below)
     well.halted well
 

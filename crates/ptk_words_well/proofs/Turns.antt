@@ -17,9 +17,9 @@ use Rattle.ptk_words_well.specs.Well.{IsWell}
 use Rattle.ptk_words_locks.proofs.Pools.{length-changed}
 use Rattle.ptk_words_locks.proofs.Lines.{without_own, first_in}
 use Rattle.ptk_words_locks.proofs.Lined.{AreLined, lined_stopped, lined_alike, lined_push, lined_head, lined_without, lined_dispatch}
-use Rattle.ptk_words_locks.proofs.Waiting.{AreSameWaits, waiting_same}
+use Rattle.ptk_words_locks.proofs.Listed.{AreSameWaits, listed_same}
 use Rattle.ptk_words_well.proofs.Whole.{lined_of, waiting_of, well_scheduled}
-use Rattle.ptk_words_well.proofs.Exclusion.{exclusion_waits}
+use Rattle.ptk_words_well.proofs.Exclusion.{exclusion_waits, conditions_waits}
 use Rattle.ptk_words_well.proofs.Threads.{AreAlike, alike_changed, used_changed_at, well_used}
 
 stopped : (t : ℕ) → None ≢ Some t
@@ -31,7 +31,7 @@ stopped t e = let no : ⊥ = cc in no
 pub well_lined : (limits : Limits) (line : List ℕ) (running : Option ℕ) (s : Part) → AreLined s.threads line running → (is_active s.status ≡ false → running ≡ None) → IsWell limits s
     → IsWell limits (record s { syncs = record (s.syncs) { locks = record (s.locks) { line = line } }; running = running })
 well_lined limits line running s lined halted well =
-    well_scheduled limits s s.threads line s.mutexes running s.console.waiters refl refl lined (waiting_of limits s well) well.exclusion well.used halted well
+    well_scheduled limits s s.threads line s.mutexes running s.console.waiters refl refl lined (waiting_of limits s well) well.exclusion well.conditional well.used halted well
 
 -- no thread runs
 pub well_stopped : (limits : Limits) (s : Part) → IsWell limits s → IsWell limits (record s { running = None })
@@ -52,8 +52,9 @@ well_tail limits t line running s lined ready out stops halted well =
     let same : AreSameWaits s.threads after = record { wait = alike.wait; joiner = alike.joiner } in
     well_scheduled limits s after (line ++ t ∷ []) s.mutexes running s.console.waiters (length-changed t unused s.threads) refl
     (lined_push t after line running (alike.ready t ∙ ready) out stops (lined_alike s.threads after line running alike.ready lined))
-    (waiting_same s.threads after s.console.waiters same (λ u e. alike.wait u ∙ well.ended_wait u (sym (alike.alive u) ∙ e)) (waiting_of limits s well))
+    (listed_same s.threads after s.console.waiters same (λ u e. alike.wait u ∙ well.ended_wait u (sym (alike.alive u) ∙ e)) (waiting_of limits s well))
     (exclusion_waits s.threads after s.mutexes alike.wait alike.alive well.exclusion)
+    (conditions_waits s.threads after s.mutexes s.conditions alike.wait well.conditional)
     (used_changed_at limits.interval t unused s.threads well.used (λ thread e. well.used 0))
     halted well
 

@@ -26,8 +26,6 @@ pub well_kept_aside : (limits : Limits) (cancellations : List Cancellation) (cle
     → IsWell limits s → IsWell limits (record s { cancellations = cancellations; cleanups = cleanups; keys = keys })
 well_kept_aside limits cancellations cleanups keys s size calm none destructors values rounds well = record {
   unused = record {
-    conditions = well.unused.conditions;
-    untimed = well.unused.untimed;
     cleanups = none;
     destructors = destructors;
     values = values;
@@ -36,6 +34,7 @@ well_kept_aside limits cancellations cleanups keys s size calm none destructors 
   memory = well.memory;
   threads = well.threads;
   mutexes = well.mutexes;
+  conditions = well.conditions;
   cancellations = size;
   rounds = rounds;
   line_ready = well.line_ready;
@@ -49,6 +48,7 @@ well_kept_aside limits cancellations cleanups keys s size calm none destructors 
   joins_listed = well.joins_listed;
   ended_wait = well.ended_wait;
   exclusion = well.exclusion;
+  conditional = well.conditional;
   used = well.used;
   halted = well.halted;
   ring = well.ring;

@@ -18,12 +18,15 @@ use Rattle.ptk_words_model.specs.Unwinding.{is_alive}
 use Rattle.ptk_words_model.specs.declared.Invocation.{Invocation}
 use Rattle.ptk_words_model.specs.Calls.{blocked_in}
 use Rattle.ptk_words_locks.specs.Locks.{is_ready, joiner_of, used_of, AreMutexes}
+use Rattle.ptk_words_locks.specs.Conditions.{condition_of_wait}
 use Rattle.ptk_words_well.specs.Well.{IsWell}
 use Rattle.ptk_words_locks.proofs.Pools.{changed_own, changed_other, length-changed}
 use Rattle.ptk_words_locks.proofs.Lines.{first_in}
 use Rattle.ptk_words_locks.proofs.Lined.{ready_waits, ready_alive, not_ready_out, not_ready_stopped, lined_stopped, lined_alike, lined_others, lined_push}
-use Rattle.ptk_words_locks.proofs.Threads.{changed_same, idle_awaits, in_wait, in_wait_waits, in_wait_joiner, in_wait_alive}
-use Rattle.ptk_words_locks.proofs.Waiting.{IsWaitChange, IsJoinChange, waiting_input, waiting_answered, waiting_join}
+use Rattle.ptk_words_locks.proofs.Threads.{changed_same, idle_awaits, in_wait, in_wait_waits, in_wait_joiner, in_wait_alive, waking_woken}
+use Rattle.ptk_words_locks.proofs.Listed.{IsWaitChange, IsJoinChange, listed_input, listed_answered, listed_join}
+use Rattle.ptk_words_locks.proofs.Timed.{conditions_woken}
+use Rattle.ptk_words_locks.proofs.ConditionsKept.{conditions_input, conditions_join}
 use Rattle.ptk_words_well.proofs.Whole.{lined_of, waiting_of, well_scheduled}
 use Rattle.ptk_words_well.proofs.Exclusion.{awaits_other, exclusion_waits, exclusion_one}
 use Rattle.ptk_words_well.proofs.Threads.{used_changed_at}
@@ -111,8 +114,9 @@ well_input_wait limits i s runs well =
     } in
     well_scheduled limits s after s.line s.mutexes None (s.console.waiters ++ t ∷ []) (length-changed t (in_wait InputWait) s.threads) refl
     (lined_others t s.threads after s.line None (λ u ne. changed_other t u (in_wait InputWait) s.threads ne) (well.running_out t runs) (stopped t) (lined_stopped s.threads s.line s.running (lined_of limits s well)))
-    (waiting_input t s.threads after s.console.waiters change (ready_waits (pool_get s.threads t) ready) (ap wait_of (changed_own t (in_wait InputWait) s.threads) ∙ in_wait_waits InputWait (pool_get s.threads t) ready) (waiting_of limits s well))
+    (listed_input t s.threads after s.console.waiters change (ready_waits (pool_get s.threads t) ready) (ap wait_of (changed_own t (in_wait InputWait) s.threads) ∙ in_wait_waits InputWait (pool_get s.threads t) ready) (waiting_of limits s well))
     (exclusion_in_wait t InputWait s.threads s.mutexes refl (ready_waits (pool_get s.threads t) ready) well.exclusion)
+    (conditions_input t s.threads s.mutexes s.conditions ready well.conditional)
     (used_in_wait limits t InputWait s.threads well.used)
     (λ e. refl) well
 
@@ -142,8 +146,9 @@ well_answered limits t values s here well =
     well_scheduled limits s after (s.line ++ t ∷ []) s.mutexes s.running (without t s.console.waiters) (length-changed t (woken_with values) s.threads) refl
     (lined_push t after s.line s.running (ap is_ready (changed_own t (woken_with values) s.threads) ∙ woken_ready values (pool_get s.threads t) alive) out stops
     (lined_others t s.threads after s.line s.running (λ u ne. changed_other t u (woken_with values) s.threads ne) out stops (lined_of limits s well)))
-    (waiting_answered t s.threads after s.console.waiters change was (ap wait_of (changed_own t (woken_with values) s.threads) ∙ woken_waits values (pool_get s.threads t)) (waiting_of limits s well))
+    (listed_answered t s.threads after s.console.waiters change was (ap wait_of (changed_own t (woken_with values) s.threads) ∙ woken_waits values (pool_get s.threads t)) (waiting_of limits s well))
     (exclusion_woken t values s.threads s.mutexes (awaits_other InputWait (pool_get s.threads t) refl was) well.exclusion)
+    (conditions_woken t (woken_with values) s.threads s.mutexes s.conditions (waking_woken values) (ap condition_of_wait was) well.conditional)
     (used_changed_at limits.interval t (woken_with values) s.threads well.used (λ thread e. well.used 0))
     well.halted well
 
@@ -202,8 +207,9 @@ well_join_wait limits i u target s runs there free well =
     well_scheduled limits s after s.line s.mutexes None s.console.waiters (length-changed t (in_wait (JoinWait u)) middle ∙ length-changed u (joined_by t) s.threads) refl
     (lined_others t middle after s.line None (λ v ne. changed_other t v (in_wait (JoinWait u)) middle ne) (well.running_out t runs) (stopped t)
     (lined_alike s.threads middle s.line None middle_ready (lined_stopped s.threads s.line s.running (lined_of limits s well))))
-    (waiting_join t u s.threads after s.console.waiters change (ready_waits (pool_get s.threads t) ready) single
+    (listed_join t u s.threads after s.console.waiters change (ready_waits (pool_get s.threads t) ready) single
     (ap wait_of (changed_own t (in_wait (JoinWait u)) middle) ∙ in_wait_waits (JoinWait u) (pool_get middle t) (middle_ready t ∙ ready)) (after_joiner u ∙ joined) (waiting_of limits s well))
     (exclusion_in_wait t (JoinWait u) middle s.mutexes refl (middle_waits t ∙ ready_waits (pool_get s.threads t) ready) (exclusion_waits s.threads middle s.mutexes middle_waits middle_alive well.exclusion))
+    (conditions_join t u s.threads s.mutexes s.conditions ready well.conditional)
     (used_in_wait limits t (JoinWait u) middle (used_changed_at limits.interval u (joined_by t) s.threads well.used (λ thread e. let lt : used_of (pool_get s.threads u) < limits.interval = well.used u in rw e at lt)))
     (λ e. refl) well

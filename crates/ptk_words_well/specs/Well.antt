@@ -8,10 +8,10 @@ use Rattle.ptk_words_model.specs.declared.Cancellation.{Cancellation}
 use Rattle.ptk_words_model.specs.State.{Part}
 use Rattle.ptk_words_model.specs.Priority.{thread_at}
 use Rattle.ptk_words_model.specs.Mutex.{wait_of}
-use Rattle.ptk_words_model.specs.Withdrawal.{deadline_of_wait}
 use Rattle.ptk_words_model.specs.Keys.{no_values}
 use Rattle.ptk_words_model.specs.Unwinding.{is_alive}
 use Rattle.ptk_words_model.specs.Run.{is_active}
+use Rattle.ptk_words_locks.specs.Conditions.{AreConditions}
 use Rattle.ptk_words_locks.specs.Locks.{is_ready, joiner_of, used_of, AreMutexes}
 
 -- no request is pending, and no thread is marked (XSH 2.9.5)
@@ -21,8 +21,6 @@ IsCalm (Some c) = (c.is_pending ≡ false) × (c.is_marked ≡ false)
 
 -- the parts that no call in use changes are as at the start
 pub record IsUnused (limits : Limits) (s : Part) : Type 0 where
-  pub conditions : s.conditions ≡ replicate limits.conditions None
-  pub untimed : (t : ℕ) → deadline_of_wait (wait_of (thread_at s.locks t)) ≡ None
   pub cleanups : s.cleanups ≡ replicate limits.threads []
   pub destructors : s.keys.destructors ≡ replicate limits.keys None
   pub values : s.keys.values ≡ replicate limits.threads (no_values limits.keys)
@@ -34,6 +32,7 @@ pub record IsWell (limits : Limits) (s : Part) : Type 0 where
   pub memory : length s.memory ≡ limits.memory
   pub threads : length s.threads ≡ limits.threads
   pub mutexes : length s.mutexes ≡ limits.mutexes
+  pub conditions : length s.conditions ≡ limits.conditions
   pub cancellations : length s.cancellations ≡ limits.threads
   pub rounds : length s.keys.rounds ≡ limits.threads
   pub line_ready : (t : ℕ) → is_in t s.line ≡ true → is_ready (thread_at s.locks t) ≡ true
@@ -47,6 +46,7 @@ pub record IsWell (limits : Limits) (s : Part) : Type 0 where
   pub joins_listed : (t u : ℕ) → wait_of (thread_at s.locks t) ≡ Some (JoinWait u) → joiner_of (thread_at s.locks u) ≡ Some t
   pub ended_wait : (t : ℕ) → is_alive (thread_at s.locks t) ≡ false → wait_of (thread_at s.locks t) ≡ None
   pub exclusion : AreMutexes s.threads s.mutexes
+  pub conditional : AreConditions s.threads s.mutexes s.conditions
   pub used : (t : ℕ) → used_of (thread_at s.locks t) < limits.interval
   pub halted : is_active s.status ≡ false → s.running ≡ None
   pub ring : length s.console.ring ≤ limits.ring

@@ -1,6 +1,6 @@
 //! Rows of types, words, pointers and pools, and of a lock at a window's end.
 
-use super::{ALONE, LIBRARY, NUMBERS, P, Sight, check_row, is_report, is_trace};
+use ptk_main_guests::{ALONE, LIBRARY, NUMBERS, P, Sight, check_row, is_report, is_trace};
 
 // Row lock-over-window-end: the instructions are at 0 to 17; the lock, of 8 ticks, does not fit the 2 that are left,
 // and begins at 40.
@@ -31,7 +31,10 @@ fn a_lock_waits_for_the_next_window(rt: HostRuntime) {
     ];
     let want =
         "partition p running steps 19 lost 2\noutput 0\n\npartition q idle steps 0 lost 0\noutput 0\n\n";
-    check_row(&rt, rt.alloc(), &HALVES, &source, &sights, 48, want);
+    assert_eq!(rt;
+        check_row(rt.alloc(), &HALVES, &source, &sights, 48, want),
+        None
+    );
     assert!(rt;
         is_trace(
             rt.alloc(),
@@ -82,7 +85,10 @@ fn a_recursive_mutex_counts_to_65535(rt: HostRuntime) {
         (1_703_946, Sight::Steps, 655_364),
     ];
     let want = "partition p exit 1 steps 655365 lost 1\noutput 0\n\n";
-    check_row(&rt, rt.alloc(), &ALONE, &source, &sights, 1_703_947, want);
+    assert_eq!(rt;
+        check_row(rt.alloc(), &ALONE, &source, &sights, 1_703_947, want),
+        None
+    );
 }
 
 // Row zero-pools: a lock of a word 0 and mutex_init find no number.
@@ -115,14 +121,9 @@ fn a_pool_may_be_empty(rt: HostRuntime) {
         (21, Sight::Byte(1027), 0),
     ];
     let want = "partition p exit 12 steps 9 lost 0\noutput 0\n\n";
-    check_row(
-        &rt,
-        rt.alloc(),
-        &NO_MUTEXES,
-        &[ZERO_POOLS],
-        &sights,
-        21,
-        want,
+    assert_eq!(rt;
+        check_row(rt.alloc(), &NO_MUTEXES, &[ZERO_POOLS], &sights, 21, want),
+        None
     );
 }
 
@@ -159,14 +160,9 @@ fn a_lock_of_ones_own_mutex_goes_by_its_type(rt: HostRuntime) {
         (50, Sight::Level(1), 16),
     ];
     let want = "partition p idle steps 19 lost 0\noutput 0\n\n";
-    check_row(
-        &rt,
-        rt.alloc(),
-        &ALONE,
-        &[SELF_DEADLOCK],
-        &sights,
-        100,
-        want,
+    assert_eq!(rt;
+        check_row(rt.alloc(), &ALONE, &[SELF_DEADLOCK], &sights, 100, want),
+        None
     );
 }
 
@@ -214,14 +210,9 @@ fn a_pointer_is_aligned_and_within_memory(rt: HostRuntime) {
         (202, Sight::Steps, 87),
     ];
     let want = "partition p exit 0 steps 88 lost 0\noutput 0\n\n";
-    check_row(
-        &rt,
-        rt.alloc(),
-        &ALONE,
-        &[EDGE_POINTERS],
-        &sights,
-        203,
-        want,
+    assert_eq!(rt;
+        check_row(rt.alloc(), &ALONE, &[EDGE_POINTERS], &sights, 203, want),
+        None
     );
 }
 
@@ -277,7 +268,10 @@ fn a_copied_word_names_the_same_mutex(rt: HostRuntime) {
         (94, Sight::Byte(1032), 1),
     ];
     let want = "partition p exit 0 steps 34 lost 0\noutput 0\n\n";
-    check_row(&rt, rt.alloc(), &ALONE, &[COPIED_WORD], &sights, 95, want);
+    assert_eq!(rt;
+        check_row(rt.alloc(), &ALONE, &[COPIED_WORD], &sights, 95, want),
+        None
+    );
 }
 
 // Unlock of a word 0: the caller is no owner, but the mutex is set up and stays.
@@ -293,14 +287,9 @@ const REFUSED_SET_UP: &str = "
 fn what_a_refused_call_set_up_stays(rt: HostRuntime) {
     let sights = [(2, Sight::Byte(1024), 0), (13, Sight::Byte(1024), 1)];
     let want = "partition p exit 1 steps 5 lost 0\noutput 0\n\n";
-    check_row(
-        &rt,
-        rt.alloc(),
-        &ALONE,
-        &[REFUSED_SET_UP],
-        &sights,
-        14,
-        want,
+    assert_eq!(rt;
+        check_row(rt.alloc(), &ALONE, &[REFUSED_SET_UP], &sights, 14, want),
+        None
     );
 }
 

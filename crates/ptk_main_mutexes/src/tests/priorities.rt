@@ -1,6 +1,6 @@
 //! Rows of priorities: inheritance over chains and a cycle, hand overs, and ceilings.
 
-use super::{ALONE, LIBRARY, NUMBERS, P, Sight, check_row, is_report};
+use ptk_main_guests::{ALONE, LIBRARY, NUMBERS, P, Sight, check_row, is_report};
 
 // Row inherit-basic. Low is main, 1; high, 2, makes `m`, between them, and `o`, of low's priority, before it locks.
 // Low then runs before both; after its unlock it stands first in the line, so later it runs before `o`.
@@ -67,7 +67,10 @@ fn an_owner_inherits(rt: HostRuntime) {
         (194, Sight::Steps, 77),
     ];
     let want = "partition p exit 0 steps 78 lost 0\noutput 5\nlhmLo\n";
-    check_row(&rt, rt.alloc(), &ALONE, &source, &sights, 195, want);
+    assert_eq!(rt;
+        check_row(rt.alloc(), &ALONE, &source, &sights, 195, want),
+        None
+    );
 }
 
 // Two partitions in windows of 200 ticks, both with the image of p.
@@ -169,7 +172,10 @@ fn a_cycle_is_raised_as_a_whole(rt: HostRuntime) {
         (181, Sight::Steps, 68),
     ];
     let want = "partition p exit 0 steps 69 lost 0\noutput 0\n\n";
-    check_row(&rt, rt.alloc(), &ALONE, &source, &sights, 182, want);
+    assert_eq!(rt;
+        check_row(rt.alloc(), &ALONE, &source, &sights, 182, want),
+        None
+    );
 }
 
 // Row two-step-chain. A is main, 1, at 2 and owns mutex 1; B, 2, at 3 owns mutex 2 and waits for mutex 1; C, 3, at 9
@@ -255,7 +261,10 @@ fn priority_is_inherited_over_two_steps(rt: HostRuntime) {
         (176, Sight::Steps, 71),
     ];
     let want = "partition p exit 0 steps 72 lost 0\noutput 3\nabc\n";
-    check_row(&rt, rt.alloc(), &ALONE, &source, &sights, 177, want);
+    assert_eq!(rt;
+        check_row(rt.alloc(), &ALONE, &source, &sights, 177, want),
+        None
+    );
 }
 
 #[test]
@@ -268,7 +277,10 @@ fn a_mutex_of_protocol_none_ends_a_chain(rt: HostRuntime) {
         (190, Sight::Steps, 76),
     ];
     let want = "partition p exit 0 steps 77 lost 0\noutput 4\nxabc\n";
-    check_row(&rt, rt.alloc(), &ALONE, &source, &sights, 191, want);
+    assert_eq!(rt;
+        check_row(rt.alloc(), &ALONE, &source, &sights, 191, want),
+        None
+    );
 }
 
 // Row inherit-after-handover. O is main, 1, at 2; `x`, 2, at 5, `y`, 3, at 9 and `z`, 4, wait for its mutex in this
@@ -348,7 +360,10 @@ fn priority_goes_on_with_the_mutex(rt: HostRuntime) {
         (277, Sight::Steps, 110),
     ];
     let want = "partition p exit 0 steps 111 lost 0\noutput 3\nyzx\n";
-    check_row(&rt, rt.alloc(), &ALONE, &source, &sights, 278, want);
+    assert_eq!(rt;
+        check_row(rt.alloc(), &ALONE, &source, &sights, 278, want),
+        None
+    );
 }
 
 // Row ceiling-refusal, with trylock beside lock. Replies are kept in s0 to s3, those of a success as 1000 more.
@@ -404,14 +419,9 @@ fn a_ceiling_is_tested_against_the_assigned_priority(rt: HostRuntime) {
         (90, Sight::Steps, 35),
     ];
     let want = "partition p exit 0 steps 36 lost 0\noutput 0\n\n";
-    check_row(
-        &rt,
-        rt.alloc(),
-        &ALONE,
-        &[CEILING_REFUSAL],
-        &sights,
-        91,
-        want,
+    assert_eq!(rt;
+        check_row(rt.alloc(), &ALONE, &[CEILING_REFUSAL], &sights, 91, want),
+        None
     );
 }
 
@@ -474,5 +484,8 @@ fn the_greatest_ceiling_counts(rt: HostRuntime) {
         (164, Sight::Steps, 66),
     ];
     let want = "partition p exit 0 steps 67 lost 0\noutput 5\naxbyc\n";
-    check_row(&rt, rt.alloc(), &ALONE, &source, &sights, 165, want);
+    assert_eq!(rt;
+        check_row(rt.alloc(), &ALONE, &source, &sights, 165, want),
+        None
+    );
 }

@@ -1,6 +1,6 @@
 //! Rows of robust mutexes: what becomes of them at their owners' ends. Replies are kept in s registers, 1000 more.
 
-use super::{ALONE, LIBRARY, Sight, check_row};
+use ptk_main_guests::{ALONE, LIBRARY, Sight, check_row};
 
 // Row owner-died. A is main, 1; B, 2, at 20 waits for its mutex when it ends; C, 3, at 10 locks it last.
 const OWNER_DIED: &str = "
@@ -57,7 +57,10 @@ fn a_dead_owners_mutex_goes_to_its_heir(rt: HostRuntime) {
         (127, Sight::Register(3, 8), 1000),
     ];
     let want = "partition p exit 0 steps 51 lost 0\noutput 0\n\n";
-    check_row(&rt, rt.alloc(), &ALONE, &source, &sights, 128, want);
+    assert_eq!(rt;
+        check_row(rt.alloc(), &ALONE, &source, &sights, 128, want),
+        None
+    );
 }
 
 // Row unrecoverable. A is main, 1; B, 2, at 20 and C, 3, at 18 wait for its mutex when it ends.
@@ -125,7 +128,10 @@ fn an_inconsistent_mutex_that_is_unlocked_is_lost(rt: HostRuntime) {
         (147, Sight::Byte(1024), 255),
     ];
     let want = "partition p exit 0 steps 59 lost 0\noutput 0\n\n";
-    check_row(&rt, rt.alloc(), &ALONE, &source, &sights, 148, want);
+    assert_eq!(rt;
+        check_row(rt.alloc(), &ALONE, &source, &sights, 148, want),
+        None
+    );
 }
 
 // Row consistent-refusals. Thread 2, at 20, ends as the owner of the robust RECURSIVE mutex at 1032, which is then
@@ -199,5 +205,8 @@ fn only_an_owner_makes_an_inconsistent_mutex_consistent(rt: HostRuntime) {
         (142, Sight::Byte(1036), 0),
     ];
     let want = "partition p exit 0 steps 60 lost 0\noutput 0\n\n";
-    check_row(&rt, rt.alloc(), &ALONE, &source, &sights, 143, want);
+    assert_eq!(rt;
+        check_row(rt.alloc(), &ALONE, &source, &sights, 143, want),
+        None
+    );
 }

@@ -103,4 +103,4 @@ pub record SmallCalls : Type 0 where
   pub set_policy : register_of (getschedparam (call_with 1 0 0) rescheduled).part 1 A1 ≡ Some 2
   pub set_priority : register_of (getschedparam (call_with 1 0 0) rescheduled).part 1 A2 ≡ Some 7
   pub no_call : (answer_to (call_of 99) (call_with 1 0 0) four_threads).reply ≡ Done 38
-  pub not_yet : (answer_to (call_of 24) (call_with 0 0 0) four_threads).reply ≡ Done 38
+  pub not_yet : (answer_to (call_of 40) (call_with 0 0 0) four_threads).reply ≡ Done 38

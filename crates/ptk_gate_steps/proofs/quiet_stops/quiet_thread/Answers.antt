@@ -1,4 +1,4 @@
-use Rattle.std.proofs.Common.{◌≡◌, ℕ, ◌≤◌, ◌<◌, refl, sym, ◌∙◌, subst, arith}
+use Rattle.std.proofs.Common.{ℕ, ◌≤◌, refl, sym, ◌∙◌, subst, arith}
 use Rattle.ptk_words.specs.declared.sections.Limits.{Limits}
 use Rattle.ptk_words_model.specs.State.{Part}
 use Rattle.ptk_gate_pools.specs.Kept.{part_at, limits_at}
@@ -10,7 +10,7 @@ pub returns-then-ticks-clause-quiet : goal.returns-then-ticks-clause-quiet
 returns-then-ticks-clause-quiet c =
     let limits : Limits = limits_at c.args.p c.args.pools.now in
     let s : Part = part_at c.args.p c.args.pools.now in
-    let up : quiet_stop limits c.args.tick c.args.thread.now s.console c.args.stop ≤ c.args.stop = stop_le limits c.args.tick c.args.stop c.args.thread.now s.console in (
+    let up : quiet_stop limits c.args.tick c.args.thread.now s c.args.stop ≤ c.args.stop = stop_le limits c.args.tick c.args.stop c.args.thread.now s in (
       refl,
       omega (arith, c.if-ticks.true, c.ticks.ensures, c.ticks-2.ensures),
       subst (λ (n : ℕ). n ≤ c.args.stop) (sym c.stop_of-stop.ensures) up,

@@ -1,9 +1,13 @@
-use Rattle.std.proofs.Common.{rules}
+use Rattle.std.proofs.Common.{length}
 use Rattle.ptk_kernel.proofs.Moves.{made_ready, still_active}
 use Rattle.ptk_kernel.proofs.decisions.make_ready.Goals as goal
 
 pub choose-requires-clause-active : goal.choose-requires-clause-active
-choose-requires-clause-active c = search (rules, still_active)
+choose-requires-clause-active c =
+    still_active (length c.args.tables.now.limits) c.args.p c.args.tick c.args.tables.now c.arrive_due.new.self c.expire_due.new.self
+    c.parts-parts.ensures.whole c.requires.partition c.requires.active c.arrive_due.ensures c.expire_due.ensures
 
 pub returns : goal.returns
-returns c = search (rules, made_ready)
+returns c =
+    made_ready (length c.args.tables.now.limits) c.args.p c.args.tick c.args.tables.now c.arrive_due.new.self c.expire_due.new.self c.choose.new.self
+    c.parts-parts.ensures.whole c.requires.partition c.arrive_due.ensures c.expire_due.ensures c.choose.ensures

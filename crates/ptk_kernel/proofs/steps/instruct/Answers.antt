@@ -1,9 +1,8 @@
-use Rattle.std.proofs.Common.{rules}
-use Rattle.ptk_kernel.proofs.Instructions.{call_made, no_call_made}
+use Rattle.std.proofs.Common.{rules, ◌^◌, ◌<◌, ◌∙◌, sym}
+use Rattle.ptk_kernel.proofs.Turns.{instruction_made}
 use Rattle.ptk_kernel.proofs.steps.instruct.Goals as goal
 
-pub returns-then-is_call : goal.returns-then-is_call
-returns-then-is_call c = search (rules, call_made)
-
-pub returns-else-is_call : goal.returns-else-is_call
-returns-else-is_call c = search (rules, no_call_made)
+pub returns-in-Some : goal.returns-in-Some
+returns-in-Some c = λ r tick runs.
+    let word : c.args.next.word < 2 ^ 32 = search rules in
+    instruction_made c.args.p tick c.args.next c.in-Some.runner r c.args.tables.now c.instruct.new.self c.requires.next c.requires.instruction word (sym c.runner-runner.ensures ∙ c.in-Some.is) runs c.instruct.ensures

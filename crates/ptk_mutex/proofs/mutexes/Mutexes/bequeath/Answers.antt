@@ -1,10 +1,10 @@
-use Rattle.std.proofs.Common.{sym}
+use Rattle.std.proofs.Common.{sym, ◌∙◌, ap}
 use Rattle.ptk_words.specs.declared.mutexes.Soundness.TheVariants.{Inconsistent}
 use Rattle.ptk_words_parted.proofs.Cuts.{set_part-same}
 use Rattle.ptk_words_model.specs.State.{Locks}
-use Rattle.ptk_words_model.specs.Mutex.{after_hand_over, with_soundness}
+use Rattle.ptk_words_model.specs.Mutex.{heir, after_hand_over, with_soundness}
 use Rattle.ptk_mutex.specs.Tables.{locks_at}
-use Rattle.ptk_mutex.proofs.Steps.{AreMoved, moved_more}
+use Rattle.ptk_mutex.proofs.Steps.{AreMoved, moved_locks, moved_more}
 use Rattle.ptk_mutex.proofs.mutexes.Mutexes.bequeath.Goals as goal
 
 pub returns : goal.returns
@@ -15,4 +15,10 @@ returns c =
     let all : AreMoved c.args.p c.args.threads.now c.args.line.now c.args.self.now c.hand_over.new.threads c.hand_over.new.line c.hand_over.new.self (after_hand_over c.args.m marked) =
     moved_more c.args.p (after_hand_over c.args.m) _ _ _ _ _ _ _ _ _ marked c.requires.ready.part first
     (record { of_threads = c.hand_over.ensures.threads; of_lines = c.hand_over.ensures.line; of_mutexes = c.hand_over.ensures.mutexes }) in
-    record { threads = all.of_threads; line = all.of_lines; mutexes = all.of_mutexes; ready = c.hand_over.ensures.ready }
+    record {
+      told = c.hand_over.ensures.told ∙ ap (heir c.args.m) (moved_locks c.args.p _ _ _ _ _ _ marked c.requires.ready.part first);
+      threads = all.of_threads;
+      line = all.of_lines;
+      mutexes = all.of_mutexes;
+      ready = c.hand_over.ensures.ready;
+    }

@@ -12,8 +12,8 @@ returns-clause-ready c =
     let locks : Locks = locks_at c.args.p c.args.threads.now c.args.line.now c.args.self.now in
     let after : Locks = after_hand_over c.args.m locks in
     let threads : c.refresh.new.threads ≡ with_threads c.args.p after c.args.threads.now = grind (arith, moves) in
-    let lines : c.hand_to.new.line ≡ slice_set c.args.line.now c.args.p after.line = grind (arith, moves) in
-    let mutexes : c.hand_to.new.self ≡ slice_set c.args.self.now c.args.p after.mutexes = grind (arith, moves) in
-    moved_ready c.args.p c.args.threads.now c.refresh.new.threads c.args.line.now c.hand_to.new.line c.args.self.now c.hand_to.new.self after c.requires.ready.part
+    let lines : c.hand_to-heir.new.line ≡ slice_set c.args.line.now c.args.p after.line = grind (arith, moves) in
+    let mutexes : c.hand_to-heir.new.self ≡ slice_set c.args.self.now c.args.p after.mutexes = grind (arith, moves) in
+    moved_ready c.args.p c.args.threads.now c.refresh.new.threads c.args.line.now c.hand_to-heir.new.line c.args.self.now c.hand_to-heir.new.self after c.requires.ready.part
     (locked_hand_over c.args.m locks c.requires.ready.locked)
     (record { of_threads = threads; of_lines = lines; of_mutexes = mutexes })

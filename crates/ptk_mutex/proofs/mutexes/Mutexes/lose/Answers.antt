@@ -19,4 +19,4 @@ returns c =
     let all : AreMoved c.args.p c.args.threads.now c.args.line.now c.args.self.now c.refuse_all.new.threads c.refuse_all.new.line c.refuse_all.new.self (after_refusals c.args.m lost) =
     moved_more c.args.p (after_refusals c.args.m) _ _ _ _ _ _ _ _ _ lost c.requires.ready.part second
     (record { of_threads = c.refuse_all.ensures.threads; of_lines = c.refuse_all.ensures.line; of_mutexes = c.refuse_all.ensures.mutexes }) in
-    record { threads = all.of_threads; line = all.of_lines; mutexes = all.of_mutexes; ready = c.refuse_all.ensures.ready }
+    record { woken = rw (← c.waiters.ensures) c.of_all-woken.ensures; threads = all.of_threads; line = all.of_lines; mutexes = all.of_mutexes; ready = c.refuse_all.ensures.ready }

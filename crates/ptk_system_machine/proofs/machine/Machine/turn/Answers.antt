@@ -1,16 +1,28 @@
-use Rattle.std.proofs.Common.{◌≡◌, ◌+◌, ◌≤◌, arith}
-use Rattle.ptk_system_machine.proofs.Ticks.{gone_each, idle_each, in_window}
+use Rattle.std.proofs.Common.{◌-◌, ◌<◌, ◌≤◌, arith}
+use Rattle.ptk_words_windows.specs.Windows.{own_ticks}
+use Rattle.ptk_system_machine.proofs.Ticks.{gone_behind, gone_further, gone_start}
 use Rattle.ptk_system_machine.proofs.machine.Machine.turn.Goals as goal
 
-pub stay-requires-clause-window : goal.stay-requires-clause-window
-stay-requires-clause-window c = in_window c.args.windows.now _ _ c.args.tick _ c.is_table.ensures c.requires.windows c.in-Some.ensures.found.2
+pub loop-p-init : goal.loop-p-init
+loop-p-init c = record {
+  from = omega arith;
+  coming = c.requires.coming;
+  gone = gone_start (own_ticks c.args.windows.now c.args.p) c.args.p c.args.turn.start (c.args.turn.start - c.args.turn.start) c.args.self.now (omega arith);
+}
 
-pub returns-in-Some-clause-each : goal.returns-in-Some-clause-each
-returns-in-Some-clause-each c = λ q lt.
-    gone_each c.args.windows.now _ c.args.tick _ _ c.args.self.now c.window_at.new.self c.stay.new.self c.is_table.ensures c.parts-parts.ensures.whole
-    c.in-Some.ensures.found.0 c.in-Some.ensures.found.2 (omega (arith, c.in-Some.ensures.found.1)) c.in-Some.ensures.same c.stay.ensures q
+pub go_on-now-requires-clause-behind : goal.go_on-now-requires-clause-behind
+go_on-now-requires-clause-behind c =
+    gone_behind c.args.windows.now c.args.p c.args.turn.start c.loop-p.now.start c.args.self.now c.loop-p.self c.is_table.ensures c.requires.windows.frame c.parts-parts.ensures.whole c.requires.partition
+    c.loop-p.invariant.from c.loop-p.invariant.gone c.requires.behind
 
-pub returns-in-None-clause-each : goal.returns-in-None-clause-each
-returns-in-None-clause-each c = λ q lt.
-    let after : c.new.result ≡ c.args.tick + 1 = omega arith in
-    idle_each c.args.windows.now c.args.tick c.new.result c.args.self.now c.window_at.new.self c.in-None.ensures.found after c.in-None.ensures.same q
+pub loop-p-preserved : goal.loop-p-preserved
+loop-p-preserved c =
+    let on : c.loop-p.now.start < c.go_on-now.result.start = c.go_on-now.ensures.on in
+    let from : c.args.turn.start ≤ c.loop-p.now.start = c.loop-p.invariant.from in
+    record {
+      from = omega arith;
+      coming = c.go_on-now.ensures.coming;
+      gone =
+          gone_further (own_ticks c.args.windows.now c.args.p) c.args.p c.args.turn.start c.loop-p.now.start c.go_on-now.result.start c.args.self.now c.loop-p.self c.go_on-now.new.self c.parts-parts.ensures.whole c.requires.partition
+          from (omega arith) c.loop-p.invariant.gone c.go_on-now.ensures.gone;
+    }

@@ -1,0 +1,138 @@
+-- The pools with other threads, line, mutexes, condition variables and deadlines of one partition: they are pools again, and the model's.
+use Rattle.std.proofs.Common.{arith, ◌≡◌, ℕ, ◌<◌, List, length, sym, ◌∙◌, ap, subst}
+use Rattle.std.specs.Prelude.{Option, option_and_then}
+use Rattle.std.proofs.Math.ListN.{set}
+use Rattle.std.proofs.lemmas.List.{length-set, set-get_or}
+use Rattle.ptk_words.specs.Pools.{pool_set}
+use Rattle.ptk_words.specs.declared.threads.Thread.{Thread}
+use Rattle.ptk_words_model.specs.State.{Mutex, Condition, Syncs, with_syncs}
+use Rattle.ptk_words_model.specs.Priority.{effective_priorities}
+use Rattle.ptk_words_locks.specs.Deadlines.{without_deadlines}
+use Rattle.ptk_words_locks.proofs.Deadlines.{deadline_at}
+use Rattle.ptk_words_parted.specs.Parts.{part_of}
+use Rattle.ptk_threads.specs.Table.{ThreadTable, thread_in, with_changed, with_slot, with_left}
+use Rattle.ptk_mutex_slots.specs.Sets.{IsSetOf}
+use Rattle.ptk_mutex.specs.Tables.{with_threads}
+use Rattle.ptk_gate_pools.specs.declared.pools.Pools.TheInside.{Inside}
+use Rattle.ptk_gate_pools.specs.Kept.{Kept, AreStored, AreTimed, part_at, put_part}
+use Rattle.ptk_gate_pools.specs.Pooled.{kept_of, ArePooled}
+use Rattle.ptk_gate_pools.proofs.Stored.{left_long, refreshed_slot, refreshed_changed, refreshed_left}
+use Rattle.ptk_gate_pools.proofs.Timed.{timed_slot, timed_left, timed_wait_again}
+use Rattle.ptk_gate_pools.proofs.Locking.{stored_moved}
+
+-- the partition is one of the pools'
+pub within_of : (p : ℕ) (a : Inside) (kept : Kept) → kept_of a ≡ kept → p < length kept.limits → p < length a.limits.items
+within_of p a kept view lt = subst (λ (k : Kept). p < length k.limits) (sym view) lt
+
+-- the tables of one partition's moves are those that these leave
+pub record AreSet (p : ℕ) (syncs : Syncs) (a : Inside) (table : ThreadTable) (lines : List (List ℕ)) (mutexes : List (List (Option Mutex))) (conditions : List (List (Option Condition))) : Type 0 where
+  pub of_threads : table ≡ with_threads p syncs.locks a.threads
+  pub of_lines : lines ≡ set a.line p syncs.line
+  pub of_mutexes : mutexes ≡ set a.mutexes p syncs.mutexes
+  pub of_conditions : conditions ≡ set a.conditions p syncs.conditions
+
+-- the pools with these in place of their own
+abbrev pub with_tables : Inside → ThreadTable → List (List ℕ) → List (List (Option Mutex)) → List (List (Option Condition)) → List (List (Option ℕ)) → Inside
+with_tables a table lines mutexes conditions deadlines = record a { threads = table; line = lines; mutexes = mutexes; conditions = conditions; deadlines = deadlines }
+
+-- they are pools again
+pub tables_pooled : (p : ℕ) (syncs : Syncs) (a : Inside) (table : ThreadTable) (lines : List (List ℕ)) (mutexes : List (List (Option Mutex))) (conditions : List (List (Option Condition))) (deadlines : List (List (Option ℕ)))
+    → p < length a.limits.items → AreSet p syncs a table lines mutexes conditions → length deadlines ≡ length a.deadlines → AreTimed deadlines table.threads → ArePooled a → ArePooled (with_tables a table lines mutexes conditions deadlines)
+tables_pooled p syncs a table lines mutexes conditions deadlines within set_so long timed old =
+    record {
+      few = old.few;
+      memory = old.memory;
+      threads = ap (λ (t : ThreadTable). length t.threads) set_so.of_threads ∙ length-set a.threads.threads p syncs.threads ∙ old.threads;
+      priorities = ap (λ (t : ThreadTable). length t.stored) set_so.of_threads ∙ length-set a.threads.stored p _ ∙ old.priorities;
+      lines = ap length set_so.of_lines ∙ length-set a.line p syncs.line ∙ old.lines;
+      mutexes = ap length set_so.of_mutexes ∙ length-set a.mutexes p syncs.mutexes ∙ old.mutexes;
+      conditions = ap length set_so.of_conditions ∙ length-set a.conditions p syncs.conditions ∙ old.conditions;
+      deadlines = long ∙ old.deadlines;
+      running = old.running;
+      cancellations = old.cancellations;
+      rounds = old.rounds;
+      consoles = old.consoles;
+      sections = old.sections;
+      statuses = old.statuses;
+      lasts = old.lasts;
+      stored = stored_moved p (length a.limits.items) syncs.locks a.threads table a.mutexes mutexes set_so.of_threads set_so.of_mutexes within old.threads old.priorities old.mutexes old.stored;
+      timed = timed;
+    }
+
+-- and the model's
+pub tables_put : (p : ℕ) (syncs : Syncs) (a : Inside) (table : ThreadTable) (lines : List (List ℕ)) (mutexes : List (List (Option Mutex))) (conditions : List (List (Option Condition))) (deadlines : List (List (Option ℕ)))
+    → AreSet p syncs a table lines mutexes conditions → kept_of (with_tables a table lines mutexes conditions deadlines) ≡ put_part p (with_syncs (λ _. syncs) (part_at p (kept_of a))) (kept_of a)
+tables_put p syncs a table lines mutexes conditions deadlines set_so = rw (set_so.of_threads, set_so.of_lines, set_so.of_mutexes, set_so.of_conditions) (simp set-get_or)
+
+-- what stays
+pub stay : {A : Type 0} (p : ℕ) (rows : List (List A)) → rows ≡ set rows p (part_of rows p)
+stay p rows = sym (set-get_or rows p _)
+
+-- as many deadlines, where those of some threads end
+pub ended_long : (p set_bits : ℕ) (ts : List ℕ) (deadlines after : List (List (Option ℕ))) → IsSetOf set_bits ts → ((us : List ℕ) → IsSetOf set_bits us → after ≡ set deadlines p (without_deadlines us (part_of deadlines p)))
+    → length after ≡ length deadlines
+ended_long p set_bits ts deadlines after woken f = ap length (f ts woken) ∙ length-set deadlines p _
+
+-- ---- threads and deadlines alone
+
+-- pools with other threads and deadlines are pools again
+pub threads_pooled : (a : Inside) (table : ThreadTable) (deadlines : List (List (Option ℕ))) → length table.threads ≡ length a.threads.threads → length table.stored ≡ length a.threads.stored → length deadlines ≡ length a.deadlines
+    → AreStored table.stored table.threads a.mutexes → AreTimed deadlines table.threads → ArePooled a → ArePooled (record a { threads = table; deadlines = deadlines })
+threads_pooled a table deadlines threads priorities long stored timed old = record {
+  few = old.few;
+  memory = old.memory;
+  threads = threads ∙ old.threads;
+  priorities = priorities ∙ old.priorities;
+  lines = old.lines;
+  mutexes = old.mutexes;
+  conditions = old.conditions;
+  deadlines = long ∙ old.deadlines;
+  running = old.running;
+  cancellations = old.cancellations;
+  rounds = old.rounds;
+  consoles = old.consoles;
+  sections = old.sections;
+  statuses = old.statuses;
+  lasts = old.lasts;
+  stored = stored;
+  timed = timed;
+}
+
+-- the priorities of a partition are made again (own)
+abbrev Again : ℕ → Inside → ThreadTable → ThreadTable
+Again p a mid = record mid { stored = set mid.stored p (effective_priorities (part_of mid.threads p) (part_of a.mutexes p)) }
+
+-- the deadline of a number is made that of its wait (own)
+abbrev Follows : ℕ → ℕ → Inside → ThreadTable → List (List (Option ℕ))
+Follows p k a mid = set a.deadlines p (pool_set (part_of a.deadlines p) k (deadline_at (thread_in mid p k)))
+
+-- a thread has left what f leaves
+pub left_pooled : (p k : ℕ) (f : Thread → Option Thread) (a : Inside) (mid new : ThreadTable) (after : List (List (Option ℕ))) → p < length a.limits.items → mid ≡ with_left p k f a.threads → new ≡ Again p a mid → after ≡ Follows p k a mid → ArePooled a
+    → ArePooled (record a { threads = new; deadlines = after })
+left_pooled p k f a mid new after lt e again g old =
+    let within : p < length a.threads.stored = omega (arith, lt, old.priorities) in
+    let rest : Option Thread = option_and_then f (thread_in a.threads p k) in
+    threads_pooled a new after (ap (λ (t : ThreadTable). length t.threads) again ∙ ap (λ (t : ThreadTable). length t.threads) e ∙ length-set a.threads.threads p _)
+    (ap (λ (t : ThreadTable). length t.stored) again ∙ length-set mid.stored p _ ∙ ap (λ (t : ThreadTable). length t.stored) e ∙ left_long p k rest a.threads.stored) (ap length g ∙ length-set a.deadlines p _)
+    (refreshed_left p k f a.threads mid new a.mutexes e again within old.stored)
+    (timed_left p k f a.threads mid new (set mid.stored p (effective_priorities (part_of mid.threads p) (part_of a.mutexes p))) a.deadlines after e again g old.timed) old
+
+-- an entry was written
+pub slot_pooled : (p k priority : ℕ) (slot : Option Thread) (a : Inside) (mid new : ThreadTable) (after : List (List (Option ℕ))) → p < length a.limits.items → mid ≡ with_slot p k slot priority a.threads → new ≡ Again p a mid → after ≡ Follows p k a mid → ArePooled a
+    → ArePooled (record a { threads = new; deadlines = after })
+slot_pooled p k priority slot a mid new after lt e again g old =
+    let within : p < length a.threads.stored = omega (arith, lt, old.priorities) in
+    threads_pooled a new after (ap (λ (t : ThreadTable). length t.threads) again ∙ ap (λ (t : ThreadTable). length t.threads) e ∙ length-set a.threads.threads p _)
+    (ap (λ (t : ThreadTable). length t.stored) again ∙ length-set mid.stored p _ ∙ ap (λ (t : ThreadTable). length t.stored) e ∙ length-set a.threads.stored p _) (ap length g ∙ length-set a.deadlines p _)
+    (refreshed_slot p k priority slot a.threads mid new a.mutexes e again within old.stored)
+    (timed_slot p k priority slot a.threads mid new (set mid.stored p (effective_priorities (part_of mid.threads p) (part_of a.mutexes p))) a.deadlines after e again g old.timed) old
+
+-- a thread was changed, its wait too
+pub wait_pooled : (p k : ℕ) (f : Thread → Thread) (a : Inside) (mid new : ThreadTable) (after : List (List (Option ℕ))) → p < length a.limits.items → mid ≡ with_changed p k f a.threads → new ≡ Again p a mid → after ≡ Follows p k a mid → ArePooled a
+    → ArePooled (record a { threads = new; deadlines = after })
+wait_pooled p k f a mid new after lt e again g old =
+    let within : p < length a.threads.stored = omega (arith, lt, old.priorities) in
+    threads_pooled a new after (ap (λ (t : ThreadTable). length t.threads) again ∙ ap (λ (t : ThreadTable). length t.threads) e ∙ length-set a.threads.threads p _)
+    (ap (λ (t : ThreadTable). length t.stored) again ∙ length-set mid.stored p _ ∙ ap (λ (t : ThreadTable). length t.stored) e) (ap length g ∙ length-set a.deadlines p _)
+    (refreshed_changed p k f a.threads mid new a.mutexes e again within old.stored)
+    (timed_wait_again p k f a.threads mid new (set mid.stored p (effective_priorities (part_of mid.threads p) (part_of a.mutexes p))) a.deadlines after e again g old.timed) old

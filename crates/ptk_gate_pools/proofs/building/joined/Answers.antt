@@ -1,0 +1,31 @@
+use Rattle.std.proofs.Common.{◌≡◌, ℕ, ◌≤◌, List, length, sym, ◌∙◌, ap, subst}
+use Rattle.std.proofs.lemmas.List.{length-map, length-replicate}
+use Rattle.ptk_words.specs.declared.sections.Limits.{Limits}
+use Rattle.ptk_threads.specs.Table.{ThreadTable}
+use Rattle.ptk_console.specs.ConsoleTable.{ConsoleTable}
+use Rattle.ptk_gate_pools.proofs.Built.{stored_made, timed_made}
+use Rattle.ptk_gate_pools.proofs.building.joined.Goals as goal
+
+pub invariant_of-result : goal.invariant_of-result
+invariant_of-result c =
+    let limits : List Limits = c.args.limits.now in
+    let back : length limits ≡ length c.args.records.2.items = ap length (sym c.requires.limits) in
+    record {
+      few = subst (λ (n : ℕ). n ≤ 8) back c.requires.sections;
+      memory = ap length c.requires.memory ∙ length-map limits _ ∙ back;
+      threads = ap (λ (table : ThreadTable). length table.threads) c.requires.table ∙ length-map limits _ ∙ back;
+      priorities = ap (λ (table : ThreadTable). length table.stored) c.requires.table ∙ length-map limits _ ∙ back;
+      lines = ap length c.requires.line ∙ length-replicate (length limits) _ ∙ back;
+      mutexes = ap length c.requires.mutexes ∙ length-map limits _ ∙ back;
+      conditions = ap length c.requires.conditions ∙ length-map limits _ ∙ back;
+      deadlines = ap length c.requires.deadlines ∙ length-map limits _ ∙ back;
+      running = ap length c.requires.running ∙ length-replicate (length limits) _ ∙ back;
+      cancellations = ap length c.requires.cancellations ∙ length-map limits _ ∙ back;
+      rounds = ap length c.requires.rounds ∙ length-map limits _ ∙ back;
+      consoles = ap (λ (table : ConsoleTable). length table.consoles) c.requires.consoles ∙ length-map c.args.inputs.now _ ∙ c.requires.inputs ∙ back;
+      sections = ap (λ (table : ConsoleTable). table.limits) c.requires.consoles ∙ sym c.requires.limits;
+      statuses = ap length c.requires.statuses ∙ length-replicate (length limits) _ ∙ back;
+      lasts = ap length c.requires.lasts ∙ length-replicate (length limits) _ ∙ back;
+      stored = stored_made c.args.schedules.0 c.args.waits.0 limits c.requires.mutexes c.requires.table;
+      timed = timed_made c.args.schedules.0 c.args.waits.2 limits c.requires.deadlines c.requires.table;
+    }

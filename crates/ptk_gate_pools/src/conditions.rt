@@ -1,0 +1,142 @@
+//! Condition variables: their numbers, what is told of them, and the moves of wait, signal and broadcast
+//! (pthread_cond_wait, pthread_cond_signal). Whoever is woken has no deadline any more.
+
+ghost use Rattle.std.specs.Prelude.{◌≡◌, ◌<◌, true, [], length, nat_lt, if◌then◌else◌, Some, None, IsSome, is_some, slice_set, option_to_list};
+ghost use Rattle.ptk_words.specs.Pools.{least_free, pool_get};
+ghost use Rattle.ptk_words_parted.specs.Parts.{part_of};
+ghost use Rattle.ptk_words_model.specs.State.{with_syncs};
+ghost use Rattle.ptk_words_model.specs.Mutex.{mutex_at, owns};
+ghost use Rattle.ptk_words_model.specs.Condition.{condition_waiters, names_another, after_condition_wait, after_signal, after_broadcast};
+ghost use Rattle.ptk_words_model.specs.Calls.{with_pool_condition};
+ghost use Rattle.ptk_words_locks.specs.Deadlines.{without_deadlines};
+ghost use Rattle.ptk_words_well.specs.Well.{IsWell};
+ghost use Rattle.ptk_gate_pools.specs.Kept.{part_at, put_part, limits_at};
+
+use crate::deadlines::follow_wait;
+use crate::pools::Pools;
+use ptk_clock::ThreadDeadlines;
+use ptk_words::{ConditionNo, MutexNo, PartId, ThreadNo, Tick};
+
+impl Pools {
+    /// The condition variable in use whose number the word is; None of another word (own choice).
+    pub fn condition_numbered(&self, p: PartId, word: u32) -> Option<ConditionNo>
+        requires partition { p < length self.now.limits }
+        ensures { result ≡ (if is_some (pool_get (part_at p self.now).conditions word) then Some word else None) }
+    {
+        self.conditions.numbered(p, word)
+    }
+
+    /// The least free number of a condition variable; None where no number is free.
+    pub fn first_free_condition(&self, p: PartId) -> Option<ConditionNo>
+        requires partition { p < length self.now.limits }
+        ensures { result ≡ least_free (part_at p self.now).conditions }
+    {
+        self.conditions.first_free(p)
+    }
+
+    /// Whether a thread waits on the condition variable (pthread_cond_destroy, EBUSY).
+    #[tactic(auto, using(crate::proofs::Conditional::waited))]
+    pub fn has_condition_waiters(&self, p: PartId, c: ConditionNo) -> bool
+        requires partition { p < length self.now.limits }
+        ensures { result ≡ nat_lt 0 (length (condition_waiters (part_at p self.now).syncs c)) }
+    {
+        !self.conditions.waiters(&self.threads, p, c).is_empty()
+    }
+
+    /// Whether a waiter of the condition variable is to have another mutex again (pthread_cond_wait, EINVAL).
+    pub fn names_another(&self, p: PartId, c: ConditionNo, m: MutexNo) -> bool
+        requires partition { p < length self.now.limits }
+        ensures { result ≡ names_another (part_at p self.now).syncs c m }
+    {
+        self.conditions.names_another(&self.threads, p, c, m)
+    }
+
+    /// A new condition variable, without waiters, at the least free number (pthread_cond_init).
+    #[tactic(auto, using(crate::proofs::Parted::parted, crate::proofs::Conditional::opened))]
+    pub fn init_condition(&mut self, p: PartId, c: ConditionNo)
+        requires partition { p < length self.old.limits }
+        requires free { least_free (part_at p self.old).conditions ≡ Some c }
+        ensures { self.new ≡ put_part p (with_pool_condition c (Some (record { waiters = [] })) (part_at p self.old)) self.old }
+    {
+        self.conditions.init(&self.threads, p);
+    }
+
+    /// The number of a condition variable without waiters is free (pthread_cond_destroy).
+    #[tactic(auto, using(crate::proofs::Parted::parted))]
+    pub fn destroy_condition(&mut self, p: PartId, c: ConditionNo)
+        requires partition { p < length self.old.limits }
+        requires unwaited { condition_waiters (part_at p self.old).syncs c ≡ [] }
+        ensures { self.new ≡ put_part p (with_pool_condition c None (part_at p self.old)) self.old }
+    {
+        self.conditions.destroy(&self.threads, p, c);
+    }
+
+    /// The running thread unlocks its mutex once, as unlock does, and is then the last waiter of the condition
+    /// variable, until the deadline (a tick) if there is one (pthread_cond_wait, pthread_cond_timedwait). It still runs,
+    /// and a deadline already reached is the caller's to refuse before.
+    #[tactic(auto, using(crate::proofs::Parted::parted))]
+    pub fn wait_on(
+        &mut self,
+        p: PartId,
+        t: ThreadNo,
+        c: ConditionNo,
+        m: MutexNo,
+        deadline: Option<Tick>,
+    )
+        requires partition { p < length self.old.limits }
+        requires well { IsWell (limits_at p self.old) (part_at p self.old) }
+        requires runs { (part_at p self.old).running ≡ Some t }
+        requires owned { owns t (mutex_at (part_at p self.old).locks m) ≡ true }
+        requires used { IsSome (pool_get (part_at p self.old).conditions c) }
+        ensures { self.new ≡ put_part p (with_syncs (after_condition_wait t c m deadline) (part_at p self.old)) self.old }
+    {
+        let line = &mut self.line;
+        let threads = &mut self.threads;
+        let mutexes = &mut self.mutexes;
+        let woken = self
+            .conditions
+            .wait(line, threads, mutexes, p, t, c, m, deadline);
+        self.deadlines.end_all(p, woken);
+        follow_wait(&mut self.deadlines, &self.threads, p, t);
+    }
+
+    /// The waiter of greatest effective priority, the earliest among equals, is unblocked: it re-locks the mutex that it
+    /// named, with reply 0 (pthread_cond_signal). Nothing changes without waiters.
+    #[tactic(auto, using(crate::proofs::Parted::parted))]
+    pub fn signal(&mut self, p: PartId, c: ConditionNo)
+        requires partition { p < length self.old.limits }
+        requires well { IsWell (limits_at p self.old) (part_at p self.old) }
+        ensures { self.new ≡ put_part p (with_syncs (after_signal c) (part_at p self.old)) self.old }
+    {
+        let line = &mut self.line;
+        let threads = &mut self.threads;
+        let mutexes = &mut self.mutexes;
+        let woken = self.conditions.signal(line, threads, mutexes, p, c);
+        end_one(&mut self.deadlines, p, woken);
+    }
+
+    /// Every waiter is unblocked, one after the other, each choice in the state that the one before left
+    /// (pthread_cond_broadcast).
+    #[tactic(auto, using(crate::proofs::Parted::parted))]
+    pub fn broadcast(&mut self, p: PartId, c: ConditionNo)
+        requires partition { p < length self.old.limits }
+        requires well { IsWell (limits_at p self.old) (part_at p self.old) }
+        ensures { self.new ≡ put_part p (with_syncs (after_broadcast c) (part_at p self.old)) self.old }
+    {
+        let line = &mut self.line;
+        let threads = &mut self.threads;
+        let mutexes = &mut self.mutexes;
+        let woken = self.conditions.broadcast(line, threads, mutexes, p, c);
+        self.deadlines.end_all(p, woken);
+    }
+}
+
+/// The thread, if there is one, has no deadline.
+fn end_one(deadlines: &mut ThreadDeadlines, p: PartId, woken: Option<ThreadNo>)
+    requires { p < length deadlines.old }
+    ensures { deadlines.new ≡ slice_set deadlines.old p (without_deadlines (option_to_list woken) (part_of deadlines.old p)) }
+{
+    if let Some(t) = woken {
+        deadlines.set(p, t, None);
+    }
+}

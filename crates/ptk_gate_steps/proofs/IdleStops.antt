@@ -1,0 +1,32 @@
+-- Up to its stop a partition in which no thread runs or is ready is idle, and up to no later tick.
+use Rattle.std.proofs.Common.{◌≡◌, ℕ, ◌≤◌, ◌<◌, true, false, List, [], ◌∷◌, length, refl, sym, ◌∙◌, arith}
+use Rattle.std.specs.Prelude.{None, nat_lt}
+use Rattle.std.proofs.lemmas.Bool.{lt-ltb, false≢true}
+use Rattle.ptk_words.specs.declared.sections.Limits.{Limits}
+use Rattle.ptk_words_model.specs.State.{Part}
+use Rattle.ptk_words_model.specs.Run.{is_active}
+use Rattle.ptk_words_well.specs.Well.{IsWell}
+use Rattle.ptk_words_quiet.specs.Idle.{IsIdle}
+use Rattle.ptk_gate_steps.specs.QuietStops.{before_event}
+use Rattle.ptk_gate_steps.proofs.QuietStops.{none_comes_before, none_expires_before, event_no_later}
+
+none_lined : (line : List ℕ) → nat_lt 0 (length line) ≡ false → line ≡ []
+none_lined [] e = refl
+none_lined (t ∷ line) e = let some : 0 < length (t ∷ line) = omega arith in absurd (false≢true (sym e ∙ lt-ltb 0 (length (t ∷ line)) some))
+
+-- a whole partition is idle up to its stop
+pub idle_up : (limits : Limits) (stop : ℕ) (s : Part) → is_active s.status ≡ true → IsWell limits s → s.running ≡ None → nat_lt 0 (length s.line) ≡ false → IsIdle limits (before_event s stop) s
+idle_up limits stop s active well runs ready =
+    let n : ℕ = before_event s stop in
+    let same : n ≤ n = omega arith in
+    record {
+      active = active;
+      running = runs;
+      line = none_lined s.line ready;
+      none_comes = none_comes_before stop n s same;
+      none_expires = none_expires_before stop n s same;
+    }
+
+-- and up to no later tick
+pub idle_no_later : (limits : Limits) (stop k : ℕ) (s : Part) → IsIdle limits k s → k ≤ stop → k ≤ before_event s stop
+idle_no_later limits stop k s idle le = event_no_later stop k s le idle.none_comes idle.none_expires

@@ -1,0 +1,34 @@
+use Rattle.std.proofs.Common.{◌≡◌, ◌<◌, length, sym, subst}
+use Rattle.ptk_words.specs.declared.TheConstants.{COUNT_LIMIT}
+use Rattle.ptk_words_model.specs.declared.LockMove.TheVariants.{Counts}
+use Rattle.ptk_words_model.specs.State.{Part, with_locks}
+use Rattle.ptk_words_model.specs.Mutex.{mutex_at, after_unlock, relock_move, count_of}
+use Rattle.ptk_mutex.specs.Tables.{AreLocked, MayWait}
+use Rattle.ptk_gate_pools.specs.Kept.{part_at, limits_at}
+use Rattle.ptk_gate_sync.proofs.Carried.{part_moved}
+use Rattle.ptk_gate_sync.proofs.Waits.{released_locked, released_wait, released_count}
+use Rattle.ptk_gate_sync.proofs.waiting.wait_late.Goals as goal
+
+pub lock_again-made-requires-clause-locked : goal.lock_again-made-requires-clause-locked
+lock_again-made-requires-clause-locked c =
+    let s : Part = part_at c.args.p c.args.pools.now in
+    let at : part_at c.args.p c.unlock.new.self ≡ with_locks (after_unlock c.args.m) s =
+    part_moved (length c.args.pools.now.limits) c.args.p (with_locks (after_unlock c.args.m) s) c.args.pools.now c.unlock.new.self c.parts-parts.ensures.entries c.requires.partition c.unlock.ensures in
+    let P : Part → Type 0 = λ (u : Part). AreLocked u.locks in
+    subst P (sym at) (released_locked (limits_at c.args.p c.args.pools.now) c.args.m s c.requires.well)
+
+pub lock_again-made-requires-clause-caller : goal.lock_again-made-requires-clause-caller
+lock_again-made-requires-clause-caller c =
+    let s : Part = part_at c.args.p c.args.pools.now in
+    let at : part_at c.args.p c.unlock.new.self ≡ with_locks (after_unlock c.args.m) s =
+    part_moved (length c.args.pools.now.limits) c.args.p (with_locks (after_unlock c.args.m) s) c.args.pools.now c.unlock.new.self c.parts-parts.ensures.entries c.requires.partition c.unlock.ensures in
+    let P : Part → Type 0 = λ (u : Part). MayWait u.locks c.args.i.caller in
+    subst P (sym at) (released_wait (limits_at c.args.p c.args.pools.now) c.args.m c.args.i.caller s c.requires.well c.requires.running)
+
+pub lock_again-made-requires-clause-countable : goal.lock_again-made-requires-clause-countable
+lock_again-made-requires-clause-countable c =
+    let s : Part = part_at c.args.p c.args.pools.now in
+    let at : part_at c.args.p c.unlock.new.self ≡ with_locks (after_unlock c.args.m) s =
+    part_moved (length c.args.pools.now.limits) c.args.p (with_locks (after_unlock c.args.m) s) c.args.pools.now c.unlock.new.self c.parts-parts.ensures.entries c.requires.partition c.unlock.ensures in
+    let P : Part → Type 0 = λ (u : Part). relock_move c.args.i.caller (mutex_at u.locks c.args.m) ≡ Counts → count_of (mutex_at u.locks c.args.m) < COUNT_LIMIT in
+    subst P (sym at) (released_count (limits_at c.args.p c.args.pools.now) c.args.m c.args.i.caller s c.requires.well c.requires.running c.requires.owned)

@@ -1,0 +1,126 @@
+//! Guests and their runs.
+
+ghost use Rattle.std.specs.Prelude.{◌≤◌};
+ghost use Rattle.ptk_words.specs.declared.TheConstants.{LAST_TICK};
+
+use ptk_asm::assemble;
+use ptk_config::{Config, read_config};
+use ptk_image::write_image;
+use ptk_main_runs::{run_with, trace_with};
+use ptk_system::Files;
+use ptk_words::{LAST_TICK, Tick};
+use std::alloc::{AllocError, Global};
+
+/// The first lines of the section of partition p, whose image is `p.img`.
+pub const P: &str = "[[partition]]\nname = \"p\"\nimage = \"p.img\"\n";
+
+/// The numbers of a section in the worked rows, with a trace of 3 steps.
+pub const NUMBERS: &str =
+    "memory = 4096\nthreads = 4\nstack = 256\nmutexes = 4\nconds = 4\nkeys = 4\ninterval = 100\nring = 16\noutput = 64\ntrace = 3\n";
+
+/// One partition that has the whole processor, in one window of a million ticks.
+pub const ALONE: [&str; 4] = [
+    "frame = 1000000\n",
+    P,
+    NUMBERS,
+    "[[window]]\nstart = 0\nlength = 1000000\npartition = \"p\"\n",
+];
+
+/// What guests end with. `create` makes a thread that begins at a1, with argument a2 and priority a3; its number is
+/// in a1 then. From its call on, by tick: 0 call, 1 and 2 la, 3 sw, 4 li, 5 ecall, 17 ret, 18 behind the call. The
+/// new thread is ready from 17 on. `letter` is a thread that puts its argument and ends: 0 li, 1 ecall, 5 ret, 6 and
+/// 10 the return gate, 14 ended.
+pub const LIBRARY: &str = "
+create:
+    la a0, attributes
+    sw a3, 12(a0)
+    li a7, 10           # pthread_create
+    ecall
+    ret
+letter:
+    li a7, 1            # console_put
+    ecall
+    ret
+.data
+attributes:
+    .word 0             # joinable
+    .word 1             # explicit
+    .word 1             # SCHED_FIFO
+    .word 0             # priority
+    .word 0             # default stack
+";
+
+// The configuration whose text these parts make, None where there is none.
+fn config_of(alloc: Global, parts: &[&str]) -> Option<Config> {
+    match parts.concat(alloc) {
+        Ok(text) => read_config(alloc, text.as_str()).ok(),
+        Err(_) => None,
+    }
+}
+
+// The image of the source that these parts make, None where there is none.
+fn image_of(alloc: Global, source: &[&str]) -> Option<Vec<u8>> {
+    match source.concat(alloc) {
+        Ok(text) => match assemble(alloc, text.as_str()) {
+            Ok(image) => write_image(alloc, &image).ok(),
+            Err(_) => None,
+        },
+        Err(_) => None,
+    }
+}
+
+// The files with this image.
+fn files_with(alloc: Global, image: &[u8]) -> Result<Files, AllocError> {
+    let mut files = Files::new(alloc);
+    files.add("p.img", image)?;
+    Ok(files)
+}
+
+// The files with the image of a source, None where there are none.
+fn files_of(alloc: Global, source: &[&str]) -> Option<Files> {
+    match image_of(alloc, source) {
+        Some(image) => files_with(alloc, &image).ok(),
+        None => None,
+    }
+}
+
+/// The configuration, and the files with the guest's image.
+pub(crate) fn guest_of(alloc: Global, parts: &[&str], source: &[&str]) -> Option<(Config, Files)> {
+    match (config_of(alloc, parts), files_of(alloc, source)) {
+        (Some(config), Some(files)) => Some((config, files)),
+        _ => None,
+    }
+}
+
+/// Whether this is the guest's report after so many ticks.
+pub fn is_report(alloc: Global, parts: &[&str], source: &[&str], ticks: u64, want: &str) -> bool {
+    match guest_of(alloc, parts, source) {
+        Some((config, files)) => {
+            let mut out = Vec::new(alloc);
+            let ticks = tick_of(ticks);
+            run_with(alloc, &config, &files, ticks, &mut out).is_ok()
+                && out.as_slice() == want.as_bytes()
+        }
+        None => false,
+    }
+}
+
+/// Whether this is the guest's trace after so many ticks.
+pub fn is_trace(alloc: Global, parts: &[&str], source: &[&str], ticks: u64, want: &str) -> bool {
+    match guest_of(alloc, parts, source) {
+        Some((config, files)) => {
+            let mut out = Vec::new(alloc);
+            let ticks = tick_of(ticks);
+            trace_with(alloc, &config, &files, ticks, "p", &mut out).is_ok()
+                && out.as_slice() == want.as_bytes()
+        }
+        None => false,
+    }
+}
+
+/// The tick of a number, at most the last one.
+pub(crate) fn tick_of(ticks: u64) -> Tick
+    ensures { result ≤ LAST_TICK }
+{
+    Tick::new(ticks.min(LAST_TICK))
+}

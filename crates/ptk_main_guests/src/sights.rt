@@ -1,0 +1,143 @@
+//! What is seen of a system's first partition.
+
+use crate::guests::{guest_of, is_report, tick_of};
+use ptk_config::Config;
+use ptk_mutex::effective;
+use ptk_system::{Files, System};
+use ptk_words::{MutexNo, PartId, ThreadNo, Wait};
+use std::alloc::Global;
+
+/// What is seen of the first partition.
+#[derive(Clone, Copy)]
+pub enum Sight {
+    /// A register of a thread.
+    Register(u8, u32),
+    /// The effective priority of a thread.
+    Level(u8),
+    /// The number of the mutex that a thread waits for.
+    Awaited(u8),
+    /// The byte at an address.
+    Byte(u32),
+    /// The steps so far.
+    Steps,
+}
+
+// The thread of a number, if it is one.
+fn thread_of(number: u8) -> Option<ThreadNo> {
+    if 0 < number && number <= 32 {
+        Some(ThreadNo::new(number))
+    } else {
+        None
+    }
+}
+
+// The number of the mutex that a wait is for.
+fn mutex_of(wait: Option<Wait>) -> Option<MutexNo> {
+    match wait? {
+        Wait::MutexWait(m, _) | Wait::RelockWait(m, _) => Some(m),
+        Wait::InputWait | Wait::SleepWait(_) | Wait::JoinWait(_) | Wait::ConditionWait(_, _, _) => {
+            None
+        }
+    }
+}
+
+// What is seen, None where there is no such thing.
+fn seen(system: &System<'_>, sight: Sight) -> Option<u32> {
+    let _parts = system.parts();
+    let p = PartId::new(0);
+    let threads = system.tables().threads();
+    match sight {
+        Sight::Register(t, i) => system.register(p, thread_of(t)?, i),
+        Sight::Level(t) => Some(u32::from(effective(threads, p, thread_of(t)?)?)),
+        Sight::Awaited(t) => Some(u32::from(mutex_of(threads.wait(p, thread_of(t)?))?.number())),
+        Sight::Byte(address) => Some(u32::from(system.byte(p, address)?)),
+        Sight::Steps => u32::try_from(system.steps(p)).ok(),
+    }
+}
+
+// The system of a configuration at tick 0, None where it does not boot.
+fn booted<'a>(alloc: Global, config: &'a Config, files: &'a Files) -> Option<System<'a>> {
+    System::boot(alloc, config, files).ok()
+}
+
+// Runs on to a tick.
+fn run_on_to(system: &mut System<'_>, ticks: u64) {
+    system.run_to(tick_of(ticks));
+}
+
+// The first entry that is not what is seen after its ticks.
+fn first_wrong(system: &mut System<'_>, sights: &[(u64, Sight, u32)]) -> Option<usize> {
+    for (i, (ticks, sight, want)) in sights.iter().enumerate() {
+        run_on_to(system, *ticks);
+        if seen(system, *sight) != Some(*want) {
+            return Some(i);
+        }
+    }
+    None
+}
+
+/// What of a guest's run is not as wanted: the index of the first entry that is not what is seen after its ticks; as many
+/// as there are entries where there is no such guest, or its report after so many ticks is another. None where all is.
+pub fn check_row(
+    alloc: Global,
+    parts: &[&str],
+    source: &[&str],
+    sights: &[(u64, Sight, u32)],
+    ticks: u64,
+    want: &str,
+) -> Option<usize> {
+    let Some((config, files)) = guest_of(alloc, parts, source) else {
+        return Some(sights.len());
+    };
+    let Some(mut system) = booted(alloc, &config, &files) else {
+        return Some(sights.len());
+    };
+    let wrong = first_wrong(&mut system, sights);
+    if wrong.is_some() || is_report(alloc, parts, source, ticks, want) {
+        return wrong;
+    }
+    Some(sights.len())
+}
+
+// Whether this is the system's report.
+fn is_reported(alloc: Global, system: &System<'_>, want: &str) -> bool {
+    let mut out = Vec::new(alloc);
+    system.report(&mut out).is_ok() && out.as_slice() == want.as_bytes()
+}
+
+// The first entry that is not the report of a system that goes on from entry to entry, each after so many ticks.
+fn first_other_report(
+    alloc: Global,
+    system: &mut System<'_>,
+    cuts: &[(u64, &str)],
+) -> Option<usize> {
+    for (i, (ticks, want)) in cuts.iter().enumerate() {
+        run_on_to(system, *ticks);
+        if !is_reported(alloc, system, want) {
+            return Some(i);
+        }
+    }
+    None
+}
+
+/// Which of a guest's reports is not as wanted: the first entry that is not the report after its ticks of one run, which
+/// goes on from entry to entry, or of a run of its own. As many as there are entries where there is no such guest. None
+/// where all are.
+pub fn check_cuts(
+    alloc: Global,
+    parts: &[&str],
+    source: &[&str],
+    cuts: &[(u64, &str)],
+) -> Option<usize> {
+    let Some((config, files)) = guest_of(alloc, parts, source) else {
+        return Some(cuts.len());
+    };
+    let Some(mut system) = booted(alloc, &config, &files) else {
+        return Some(cuts.len());
+    };
+    let wrong = first_other_report(alloc, &mut system, cuts);
+    if wrong.is_some() {
+        return wrong;
+    }
+    cuts.iter().position(|(ticks, want)| !is_report(alloc, parts, source, *ticks, want))
+}

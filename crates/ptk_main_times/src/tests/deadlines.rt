@@ -1,0 +1,272 @@
+//! Rows of locks and condition waits that end at a time.
+
+use super::TIMES;
+use ptk_main_guests::{ALONE, LIBRARY, Sight, check_row};
+
+// Row inherit-cycle, whole. A, 2, at 2 owns mutex 1 and waits for mutex 2; B, 3, at 3 owns mutex 2 and waits for mutex 1;
+// H, 4, at 10 waits for mutex 1 until tick 200. Main, at 1, loops meanwhile.
+const CLOSED_BEFORE: &str = "
+    li a0, 1            #   0
+    li a1, 1            #   1
+    li a7, 18           #   2  setschedprio
+    ecall               #   3
+    li a0, 1024         #  11
+    li a1, 0            #  12  NORMAL
+    li a2, 1            #  13  INHERIT
+    li a7, 20           #  14  mutex_init
+    ecall               #  15  mutex 1
+    li a0, 1028         #  21
+    ecall               #  22  mutex 2
+    la a1, first        #  28
+    li a3, 2            #  30
+    call create         #  31  its ret comes at 108
+    la a1, third        # 109
+    li a3, 10           # 111
+    call create         # 112  its ret comes at 143
+loop:
+    j loop              # 144 to 199
+first:
+    li a0, 1024         #  48
+    li a7, 22           #  49  mutex_lock
+    ecall               #  50
+    la a1, second       #  58
+    li a3, 3            #  60
+    call create         #  61  its ret comes at 97
+    li a0, 1028         #  98
+    li a7, 22           #  99  mutex_lock
+    ecall               # 100  blocks
+second:
+    li a0, 1028         #  78
+    li a7, 22           #  79  mutex_lock
+    ecall               #  80
+    li a0, 1024         #  88
+    ecall               #  89  blocks
+third:
+    li a0, 1024         # 129
+    la a1, two_hundred  # 130
+    li a7, 24           # 132  mutex_timedlock
+    ecall               # 133  blocks until 200
+    mv s0, a0           # 200
+    li a7, 0            # 201  exit
+    ecall               # 202
+";
+
+#[test]
+fn a_cycle_falls_as_its_waiter_leaves(rt: HostRuntime) {
+    let source = [CLOSED_BEFORE, LIBRARY, TIMES];
+    let sights = [
+        (133, Sight::Level(2), 3),
+        (133, Sight::Level(3), 3),
+        (134, Sight::Level(2), 10),
+        (134, Sight::Level(3), 10),
+        (134, Sight::Awaited(4), 1),
+        (200, Sight::Level(2), 10),
+        (200, Sight::Level(3), 10),
+        (201, Sight::Level(2), 3),
+        (201, Sight::Level(3), 3),
+        (201, Sight::Register(4, 10), 110),
+    ];
+    let want = "partition p exit 110 steps 116 lost 0\noutput 0\n\n";
+    assert_eq!(rt;
+        check_row(rt.alloc(), &ALONE, &source, &sights, 203, want),
+        None
+    );
+}
+
+// Row cycle-before-and-after: as above, but A makes H before it waits for mutex 2, and so closes the cycle.
+const CLOSED_AFTER: &str = "
+    li a0, 1            #   0
+    li a1, 1            #   1
+    li a7, 18           #   2  setschedprio
+    ecall               #   3
+    li a0, 1024         #  11
+    li a1, 0            #  12  NORMAL
+    li a2, 1            #  13  INHERIT
+    li a7, 20           #  14  mutex_init
+    ecall               #  15  mutex 1
+    li a0, 1028         #  21
+    ecall               #  22  mutex 2
+    la a1, first        #  28
+    li a3, 2            #  30
+    call create         #  31  its ret comes at 143
+loop:
+    j loop              # 144 to 199
+first:
+    li a0, 1024         #  48
+    li a7, 22           #  49  mutex_lock
+    ecall               #  50
+    la a1, second       #  58
+    li a3, 3            #  60
+    call create         #  61  its ret comes at 97
+    la a1, third        #  98
+    li a3, 10           # 100
+    call create         # 101  its ret comes at 132
+    li a0, 1028         # 133
+    li a7, 22           # 134  mutex_lock
+    ecall               # 135  blocks
+second:
+    li a0, 1028         #  78
+    li a7, 22           #  79  mutex_lock
+    ecall               #  80
+    li a0, 1024         #  88
+    ecall               #  89  blocks
+third:
+    li a0, 1024         # 118
+    la a1, two_hundred  # 119
+    li a7, 24           # 121  mutex_timedlock
+    ecall               # 122  blocks until 200
+    mv s0, a0           # 200
+    li a7, 0            # 201  exit
+    ecall               # 202
+";
+
+#[test]
+fn a_cycle_that_is_closed_later_falls_too(rt: HostRuntime) {
+    let source = [CLOSED_AFTER, LIBRARY, TIMES];
+    let sights = [
+        (123, Sight::Level(2), 10),
+        (123, Sight::Level(3), 3),
+        (136, Sight::Level(2), 10),
+        (136, Sight::Level(3), 10),
+        (200, Sight::Level(2), 10),
+        (200, Sight::Level(3), 10),
+        (201, Sight::Level(2), 3),
+        (201, Sight::Level(3), 3),
+        (201, Sight::Register(4, 10), 110),
+    ];
+    let want = "partition p exit 110 steps 116 lost 0\noutput 0\n\n";
+    assert_eq!(rt;
+        check_row(rt.alloc(), &ALONE, &source, &sights, 203, want),
+        None
+    );
+}
+
+// Row expired-wait-releases. The caller is main, 1; O, 2, at 20 waits for its mutex.
+const EXPIRED_WAIT: &str = "
+    li a0, 1024         #   0
+    li a7, 22           #   1  mutex_lock
+    ecall               #   2
+    la a1, other        #  10
+    li a3, 20           #  12
+    call create         #  13  its ret comes at 40
+    li a0, 1028         #  41
+    li a1, 1024         #  42
+    la a2, past         #  43
+    li a7, 33           #  45  cond_timedwait
+    ecall               #  46  blocks
+    mv s0, a0           #  84
+    li a0, 1024         #  85
+    li a7, 25           #  86  mutex_unlock
+    ecall               #  87
+    add a0, a0, s0      #  97
+    li a7, 0            #  98  exit
+    ecall               #  99
+other:
+    li a0, 1024         #  30
+    li a7, 22           #  31  mutex_lock
+    ecall               #  32  blocks
+    mv s0, a0           #  60
+    li a0, 1024         #  61
+    li a7, 25           #  62  mutex_unlock
+    ecall               #  63
+    li a7, 11           #  73  pthread_exit
+    ecall               #  74  the gate at 80
+";
+
+#[test]
+fn a_wait_that_is_over_at_once_releases_its_mutex(rt: HostRuntime) {
+    let source = [EXPIRED_WAIT, LIBRARY, TIMES];
+    let sights = [
+        (47, Sight::Register(2, 10), 0),
+        (47, Sight::Awaited(1), 1),
+        (63, Sight::Register(1, 10), 1028),
+        (64, Sight::Register(1, 10), 110),
+    ];
+    let want = "partition p exit 110 steps 36 lost 0\noutput 0\n\n";
+    assert_eq!(rt;
+        check_row(rt.alloc(), &ALONE, &source, &sights, 100, want),
+        None
+    );
+}
+
+// Row bad-nanoseconds-order. Main locks the free mutex with a bad time, then 2, at 20, main's.
+const BAD_NANOSECONDS: &str = "
+    li a0, 1024         #   0
+    la a1, bad          #   1
+    li a7, 24           #   3  mutex_timedlock
+    ecall               #   4
+    addi s0, a0, 1000   #  14
+    la a1, other        #  15
+    li a3, 20           #  17
+    call create         #  18
+other:
+    li a0, 1024         #  35
+    la a1, bad          #  36
+    li a7, 24           #  38  mutex_timedlock
+    ecall               #  39
+    li a7, 0            #  49  exit
+    ecall               #  50
+";
+
+#[test]
+fn a_free_mutex_is_locked_whatever_the_time(rt: HostRuntime) {
+    let source = [BAD_NANOSECONDS, LIBRARY, TIMES];
+    let sights = [(50, Sight::Register(1, 8), 1000)];
+    let want = "partition p exit 22 steps 22 lost 0\noutput 0\n\n";
+    assert_eq!(rt;
+        check_row(rt.alloc(), &ALONE, &source, &sights, 51, want),
+        None
+    );
+}
+
+// Row expired-timedlock. Main owns the mutex, 2, at 18, waits for it, and 3, at 20, comes too late. The mutex is then
+// 2's, and free after its unlock.
+const EXPIRED_TIMEDLOCK: &str = "
+    li a0, 1024         #   0
+    li a7, 22           #   1  mutex_lock
+    ecall               #   2
+    la a1, waiter       #  10
+    li a3, 18           #  12
+    call create         #  13  its ret comes at 40
+    la a1, late         #  41
+    li a3, 20           #  43
+    call create         #  44  its ret comes at 87
+    li a0, 1024         #  88
+    li a7, 25           #  89  mutex_unlock
+    ecall               #  90
+waiter:
+    li a0, 1024         #  30
+    li a7, 22           #  31  mutex_lock
+    ecall               #  32  blocks
+    li a0, 1024         # 100
+    li a7, 25           # 101  mutex_unlock
+    ecall               # 102
+    li a0, 1024         # 112
+    li a7, 23           # 113  mutex_trylock
+    ecall               # 114
+    li a7, 0            # 120  exit
+    ecall               # 121
+late:
+    li a0, 1024         #  61
+    la a1, past         #  62
+    li a7, 24           #  64  mutex_timedlock
+    ecall               #  65
+    mv s0, a0           #  75
+    li a7, 11           #  76  pthread_exit
+    ecall               #  77  the gate at 83
+";
+
+#[test]
+fn a_lock_whose_time_is_over_leaves_the_waiters(rt: HostRuntime) {
+    let source = [EXPIRED_TIMEDLOCK, LIBRARY, TIMES];
+    let sights = [
+        (66, Sight::Register(3, 10), 110),
+        (66, Sight::Awaited(2), 1),
+        (91, Sight::Register(2, 10), 0),
+    ];
+    let want = "partition p exit 0 steps 46 lost 0\noutput 0\n\n";
+    assert_eq!(rt;
+        check_row(rt.alloc(), &ALONE, &source, &sights, 122, want),
+        None
+    );
+}

@@ -1,0 +1,27 @@
+use Rattle.std.proofs.Common.{◌≡◌, ◌∙◌, sym, ap, refl, arith}
+use Rattle.std.specs.Prelude.{slice_set}
+use Rattle.ptk_words.specs.declared.threads.Wait.TheVariants.{RelockWait}
+use Rattle.ptk_words_parted.proofs.Cuts.{set_part-same}
+use Rattle.ptk_words_model.specs.declared.LockMove.{LockMove}
+use Rattle.ptk_words_model.specs.State.{Locks}
+use Rattle.ptk_words_model.specs.Mutex.{mutex_at, relock_move, after_move}
+use Rattle.ptk_mutex.specs.Tables.{locks_at, with_threads}
+use Rattle.ptk_mutex.proofs.Moved.{moves}
+use Rattle.ptk_mutex.proofs.Steps.{moved_ready, locked_move, line_after_move}
+use Rattle.ptk_mutex.proofs.mutexes.Mutexes.lock_again.Goals as goal
+
+pub returns-clause-ready : goal.returns-clause-ready
+returns-clause-ready c =
+    let locks : Locks = locks_at c.args.p c.args.threads.now c.args.line.now c.args.self.now in
+    let made : LockMove = relock_move c.args.t (mutex_at locks c.args.m) in
+    let after : Locks = after_move made c.args.t c.args.m (RelockWait c.args.m c.args.reply) locks in
+    let threads : c.refresh.new.threads ≡ with_threads c.args.p after c.args.threads.now = grind (arith, moves) in
+    let mutexes : c.make.new.self ≡ slice_set c.args.self.now c.args.p after.mutexes = grind (arith, moves) in
+    let line : after.line ≡ locks.line = line_after_move made c.args.t c.args.m (RelockWait c.args.m c.args.reply) locks in
+    moved_ready c.args.p c.args.threads.now c.refresh.new.threads c.args.line.now c.args.line.now c.args.self.now c.make.new.self after c.requires.ready.part
+    (locked_move made c.args.t c.args.m (RelockWait c.args.m c.args.reply) locks c.requires.countable refl c.requires.caller c.requires.ready.locked)
+    (record {
+      of_threads = threads;
+      of_lines = sym (set_part-same c.args.line.now c.args.p) ∙ ap (slice_set c.args.line.now c.args.p) (sym line);
+      of_mutexes = mutexes;
+    })

@@ -1,0 +1,155 @@
+-- The turns of a run, and how far each partition has come.
+use Rattle.std.proofs.Common.{All, ◌≡◌, ◌≢◌, ℕ, ◌+◌, ◌-◌, ◌<◌, ◌≤◌, Bool, true, false, ◌==◌, List, length, Option, Some, None, ◌⊎◌, inl, inr, refl, sym, ap, subst, ◌∙◌, eqb-true, eq-eqb, arith}
+use Rattle.std.specs.Prelude.{IfSome, MatchOption}
+use Rattle.std.proofs.lemmas.Bool.{false≢true, cases_lt}
+use Rattle.std.proofs.lemmas.List.{get_or-set_same, get_or-set_other, get_or-take, get_or_default, length-take}
+use Rattle.std.proofs.Math.ListN.{set, take}
+use Rattle.ptk_words.specs.declared.sections.Limits.{Limits}
+use Rattle.ptk_words_windows.specs.Windows.{WindowTable, OwnTicks, IsTable, own_ticks}
+use Rattle.ptk_words_model.specs.State.{State}
+use Rattle.ptk_words_quiet.specs.Quiet.{after_ticks}
+use Rattle.ptk_words_windows.proofs.OwnLaws.{window_whole}
+use Rattle.ptk_words_quiet.proofs.TicksInARow.{join, window_own}
+use Rattle.ptk_window.specs.declared.near.Turn.{Turn}
+use Rattle.ptk_window.specs.Turn.{IsTurn}
+use Rattle.ptk_gate_pools.specs.Kept.{limits_at}
+use Rattle.ptk_system_machine.specs.Accounts.{IsBehind}
+use Rattle.ptk_system_machine.specs.Turns.{IsComing, IsInWindow, IsUpTo, turn_at, no_turn}
+use Rattle.ptk_system_machine.specs.Whole.{Whole, IsWhole, account_at, state_at, gone_on}
+use Rattle.ptk_system_machine.proofs.States.{state_at-put, state_at-other}
+use Rattle.ptk_system_machine.proofs.Ticks.{behind_to, not_due, still_never, still_on}
+
+-- ---- one turn
+
+-- the turn does not begin before what was found
+pub begins_from : (low from to : ℕ) (next : Option ℕ) (turn : Turn) → low ≤ from → low ≤ to → IfSome next (λ next. from ≤ next) → (turn.start < to → next ≡ Some turn.start) → low ≤ turn.start
+begins_from low from to next turn le last later due = by (cases_lt turn.start to)
+  where
+    by : (turn.start < to) ⊎ (to ≤ turn.start) → low ≤ turn.start
+    by (inl lt) = let at : from ≤ turn.start = subst (λ (o : Option ℕ). IfSome o (λ next. from ≤ next)) (due lt) later in omega arith
+    by (inr past) = omega arith
+
+-- a tick that is not the first own one from it on is not own
+pub not_own : (table : WindowTable) (p tick : ℕ) → IsTable table → (own_ticks table p).next_of tick ≢ Some tick → (own_ticks table p).end_at tick ≡ None
+not_own table p tick is other = by ((own_ticks table p).end_at tick) refl
+  where
+    by : (o : Option ℕ) → (own_ticks table p).end_at tick ≡ o → (own_ticks table p).end_at tick ≡ None
+    by None e = e
+    by (Some end) e = absurd (other ((window_own table p tick end is e).next tick (omega arith) (window_whole table p tick end is e).0))
+
+-- ---- the turn that comes first
+
+-- after all turns were looked at: the first one, or none begins in the run
+pub due_first : (turns : List Turn) (to due place : ℕ) (first : Option ℕ) → length turns ≤ place → MatchOption first (due ≡ to) (λ p. (p < place) × ((turn_at p turns).start ≡ due) × (due < to))
+    → place ≤ length turns → ((k : ℕ) → k < place → due ≤ (turn_at k turns).start)
+    → MatchOption first (All (λ turn. to ≤ turn.start) turns) (λ p. (p < length turns) × ((turn_at p turns).start < to) × All (λ turn. (turn_at p turns).start ≤ turn.start) turns)
+due_first turns to due place None all found within least = λ k d lt.
+    let last : due ≡ to = found in
+    subst (λ (turn : Turn). to ≤ turn.start) (get_or_default turns k no_turn d lt) (omega (arith, least k (omega (arith, lt, all))))
+due_first turns to due place (Some p) all found within least =
+    let at : (turn_at p turns).start ≡ due = found.1 in (
+      omega (arith, found.0),
+      omega (arith, found.2),
+      λ k d lt.
+          subst (λ (turn : Turn). (turn_at p turns).start ≤ turn.start) (get_or_default turns k no_turn d lt) (omega (arith, at, least k (omega (arith, lt, all)))),
+    )
+
+-- a turn among the first so many
+pub among : (turns : List Turn) (n p : ℕ) → p < length (take n turns) → (p < n) × (p < length turns)
+among turns n p lt = (omega (arith, lt, length-take n turns), omega (arith, lt, length-take n turns))
+
+-- none of the first so many begins in the run
+pub none_left : (turns : List Turn) (n to q : ℕ) → All (λ turn. to ≤ turn.start) (take n turns) → q < n → q < length turns → to ≤ (turn_at q turns).start
+none_left turns n to q all lt within =
+    subst (λ (turn : Turn). to ≤ turn.start) (get_or-take n turns q no_turn lt) (all q no_turn (omega (arith, lt, within, length-take n turns)))
+
+-- ---- the first turns
+
+-- no decision takes place at a tick that is not own
+pub never_found : (table : WindowTable) (p next k : ℕ) (o : Option Turn) → IsTable table → MatchOption o ((own_ticks table p).next_of next ≡ None) (IsTurn table p next) → ((turn : Turn) → o ≡ Some turn → turn.start ≢ next) → next ≡ k
+    → (own_ticks table p).end_at k ≡ None
+never_found table p next k None is found other at =
+    let none : (own_ticks table p).next_of k ≡ None = subst (λ (n : ℕ). (own_ticks table p).next_of n ≡ None) at found in
+    not_own table p k is (λ e. cc (none, e))
+never_found table p next k (Some turn) is found other at =
+    not_own table p k is (λ e.
+    let one : Some turn.start ≡ Some k = sym found.0 ∙ (ap (own_ticks table p).next_of at ∙ e) in
+    let start : turn.start ≡ k = cc in
+    other turn refl (start ∙ sym at))
+
+-- one more partition's first turn
+pub more_first : (P : ℕ → Turn → Type 0) (turns : List Turn) (i : ℕ) (turn : Turn) → i < length turns → ((q : ℕ) → q < i → P q (turn_at q turns)) → P i turn → (q : ℕ) → q < i + 1 → P q (turn_at q (set turns i turn))
+more_first P turns i turn lt before here q below = by (q == i) refl
+  where
+    by : (b : Bool) → (q == i) ≡ b → P q (turn_at q (set turns i turn))
+    by true e =
+        let one : q ≡ i = eqb-true q i e in
+        subst (λ (r : ℕ). P r (turn_at r (set turns i turn))) (sym one) (subst (P i) (sym (get_or-set_same turns i turn no_turn lt)) here)
+    by false e =
+        let differ : q ≢ i = λ one. false≢true (sym e ∙ eq-eqb q i one) in
+        subst (P q) (sym (get_or-set_other turns i q turn no_turn differ)) (before q (omega (arith, below, differ)))
+
+-- the first turn begins with the next decision
+pub first_due : (ticks : OwnTicks) (limits : Limits) (tick to : ℕ) (turn : Turn) (s : State) → tick ≤ turn.start → turn.start < to → s.account.next ≡ Some turn.start → IsInWindow ticks turn.start turn.end → IsUpTo ticks limits tick to turn s s
+first_due ticks limits tick to turn s from before due window = record {
+  from = from;
+  coming = record { within = omega arith; due = λ lt. due; window = λ lt. window };
+  gone = sym (still_on ticks limits tick (turn.start - tick) s
+      (λ k le lt. not_due s.account.next tick turn.start k (λ j at later. let same : j ≡ turn.start = cc in omega (arith, same)) le (omega (arith, lt, from))));
+}
+
+-- no decision takes place in the run
+pub first_none : (ticks : OwnTicks) (limits : Limits) (tick to : ℕ) (turn : Turn) (s : State) → tick ≤ to → turn.start ≡ to
+    → ((k : ℕ) → tick ≤ k → k < to → s.account.next ≡ Some k → ticks.end_at k ≡ None) → IsUpTo ticks limits tick to turn s s
+first_none ticks limits tick to turn s le last never = record {
+  from = omega arith;
+  coming = record { within = omega arith; due = λ lt. absurd (omega (arith, lt, last)); window = λ lt. absurd (omega (arith, lt, last)) };
+  gone = sym (still_never ticks limits tick (turn.start - tick) s (λ k from below. never k from (omega (arith, below, last))));
+}
+
+-- ---- the run
+
+-- so many ticks are behind a partition at its next turn
+pub behind_turn : (table : WindowTable) (p : ℕ) (limits : Limits) (tick to : ℕ) (turn : Turn) (s new : State) → IsTable table → table.frame ≤ 1000000 → IsUpTo (own_ticks table p) limits tick to turn s new → IsBehind tick s → IsBehind turn.start new
+behind_turn table p limits tick to turn s new is frame up behind = behind_to table p limits tick turn.start s new is frame up.from up.gone behind
+
+-- a partition's turn takes that partition further, and no other one
+pub turned : (table : WindowTable) (p tick to : ℕ) (turns : List Turn) (turn : Turn) (old mid new : Whole) → IsWhole mid.kept mid.accounts → p < length mid.accounts → p < length turns
+    → mid.kept.limits ≡ old.kept.limits → ((q : ℕ) → q < length old.accounts → IsUpTo (own_ticks table q) (limits_at q old.kept) tick to (turn_at q turns) (state_at q old) (state_at q mid))
+    → (turn_at p turns).start < turn.start → IsComing (own_ticks table p) to (account_at p new).account.next turn
+    → new ≡ gone_on (own_ticks table p) p (turn_at p turns).start (turn.start - (turn_at p turns).start) mid
+    → (q : ℕ) → q < length old.accounts → IsUpTo (own_ticks table q) (limits_at q old.kept) tick to (turn_at q (set turns p turn)) (state_at q old) (state_at q new)
+turned table p tick to turns turn old mid new is lt within same each on coming gone q below = by (q == p) refl
+  where
+    limits : limits_at p mid.kept ≡ limits_at p old.kept
+    limits = ap (λ (ls : List Limits). limits_at p (record mid.kept { limits = ls })) same
+
+    own : IsUpTo (own_ticks table p) (limits_at p old.kept) tick to (turn_at p turns) (state_at p old) (state_at p mid) → IsUpTo (own_ticks table p) (limits_at p old.kept) tick to turn (state_at p old) (state_at p new)
+    own up =
+        let from : tick ≤ (turn_at p turns).start = up.from in
+        let at : tick + ((turn_at p turns).start - tick) ≡ (turn_at p turns).start = omega arith in
+        let all : (turn_at p turns).start - tick + (turn.start - (turn_at p turns).start) ≡ turn.start - tick = omega arith in
+        record {
+          from = omega arith;
+          coming = coming;
+          gone =
+              ap (state_at p) gone
+              ∙ (state_at-put p _ mid is lt
+              ∙ (ap (λ (l : Limits). after_ticks (own_ticks table p) l (turn_at p turns).start (turn.start - (turn_at p turns).start) (state_at p mid)) limits
+              ∙ (ap (after_ticks (own_ticks table p) (limits_at p old.kept) (turn_at p turns).start (turn.start - (turn_at p turns).start)) up.gone
+              ∙ (ap (λ (k : ℕ). after_ticks (own_ticks table p) (limits_at p old.kept) k (turn.start - (turn_at p turns).start) (after_ticks (own_ticks table p) (limits_at p old.kept) tick ((turn_at p turns).start - tick) (state_at p old))) (sym at)
+              ∙ (sym (join (own_ticks table p) (limits_at p old.kept) tick ((turn_at p turns).start - tick) (turn.start - (turn_at p turns).start) (state_at p old))
+              ∙ ap (λ (n : ℕ). after_ticks (own_ticks table p) (limits_at p old.kept) tick n (state_at p old)) all)))));
+        }
+
+    by : (b : Bool) → (q == p) ≡ b → IsUpTo (own_ticks table q) (limits_at q old.kept) tick to (turn_at q (set turns p turn)) (state_at q old) (state_at q new)
+    by true e =
+        let one : q ≡ p = eqb-true q p e in
+        let here : p < length old.accounts = subst (λ (r : ℕ). r < length old.accounts) one below in
+        subst (λ (r : ℕ). IsUpTo (own_ticks table r) (limits_at r old.kept) tick to (turn_at r (set turns p turn)) (state_at r old) (state_at r new)) (sym one)
+        (subst (λ (t : Turn). IsUpTo (own_ticks table p) (limits_at p old.kept) tick to t (state_at p old) (state_at p new)) (sym (get_or-set_same turns p turn no_turn within)) (own (each p here)))
+    by false e =
+        let differ : q ≢ p = λ one. false≢true (sym e ∙ eq-eqb q p one) in
+        let still : state_at q new ≡ state_at q mid = ap (state_at q) gone ∙ state_at-other p q _ mid differ in
+        subst (λ (t : Turn). IsUpTo (own_ticks table q) (limits_at q old.kept) tick to t (state_at q old) (state_at q new)) (sym (get_or-set_other turns p q turn no_turn differ))
+        (subst (IsUpTo (own_ticks table q) (limits_at q old.kept) tick to (turn_at q turns) (state_at q old)) (sym still) (each q below))

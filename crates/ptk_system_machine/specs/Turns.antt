@@ -1,0 +1,43 @@
+-- How a run goes on: each partition by its turns, in which it is at a tick of its own.
+use Rattle.std.specs.Prelude.{◌≡◌, ℕ, ◌+◌, ◌-◌, ◌<◌, ◌≤◌, List, Option, Some, slice_index_or}
+use Rattle.ptk_words.specs.declared.sections.Limits.{Limits}
+use Rattle.ptk_words_windows.specs.Windows.{OwnTicks}
+use Rattle.ptk_words_model.specs.declared.Spent.{Spent}
+use Rattle.ptk_words_model.specs.declared.Spent.TheVariants.{Idle}
+use Rattle.ptk_words_model.specs.State.{Part, State}
+use Rattle.ptk_words_quiet.specs.Quiet.{AreOwn, after_ticks}
+use Rattle.ptk_words_quiet.specs.Idle.{IsIdle}
+use Rattle.ptk_window.specs.declared.near.Turn.{Turn}
+use Rattle.ptk_system_machine.specs.Accounts.{duration_of}
+
+-- from the tick on each tick is a partition's own, in one window that ends there, at most a frame later
+pub record IsInWindow (ticks : OwnTicks) (tick end : ℕ) : Type 0 where
+  pub before : tick < end
+  pub own : AreOwn ticks tick end
+  pub ends : (k : ℕ) → tick ≤ k → k < end → ticks.end_at k ≡ Some end
+  pub near : end ≤ tick + 1000000
+
+-- of a partition with this next decision the next turn in a run to a tick: it begins with that decision and ends with its window; it begins at the run's last tick where no decision comes before (own)
+pub record IsComing (ticks : OwnTicks) (to : ℕ) (next : Option ℕ) (turn : Turn) : Type 0 where
+  pub within : turn.start ≤ to
+  pub due : turn.start < to → next ≡ Some turn.start
+  pub window : turn.start < to → IsInWindow ticks turn.start turn.end
+
+-- in a run to a tick the next decision comes at this one or later: behind the ticks of a decision with this room that came to this and left the partition so; after an idle one the partition may have nothing to do up to then (own)
+pub record IsFreeFrom (limits : Limits) (tick room : ℕ) (spent : Spent) (to : ℕ) (part : Part) (from : ℕ) : Type 0 where
+  pub behind : tick + duration_of room spent ≤ from
+  pub idle : tick + duration_of room spent < from → (spent ≡ Idle) × (from ≤ to) × IsIdle limits from part
+
+-- in a run from a tick to another a partition has come from the one state to the other, up to its next turn (own)
+pub record IsUpTo (ticks : OwnTicks) (limits : Limits) (tick to : ℕ) (turn : Turn) (old new : State) : Type 0 where
+  pub from : tick ≤ turn.start
+  pub coming : IsComing ticks to new.account.next turn
+  pub gone : new ≡ after_ticks ticks limits tick (turn.start - tick) old
+
+-- the turn past the last partition's
+abbrev pub no_turn : Turn
+no_turn = record { start = 0; end = 0 }
+
+-- the turn of a partition
+abbrev pub turn_at : ℕ → List Turn → Turn
+turn_at p turns = slice_index_or turns p no_turn
