@@ -4,7 +4,8 @@
 //! is made by `Cancellations::build` alone. Every call but the constructor is total in all but the partition: past the
 //! last thread number nothing is pending, there is no handler, and a change changes nothing. What else cancellation
 //! needs of a thread, its phase and its wait, stands elsewhere. Below stand `ptk_words`, `ptk_words_parted` and
-//! `ptk_words_model`, whose definitions the contracts cite; nothing above uses it yet. No clause is dear to prove.
+//! `ptk_words_model`, whose definitions the contracts cite; above, `ptk_gate_pools` has it as one of its pools. No clause
+//! is dear to prove.
 #![tactic(auto)]
 
 mod entries;

@@ -88,4 +88,8 @@ mutexes_few limits ranges = counts_few (λ l. l.mutexes) 64 limits (λ l at. at.
 pub conditions_few : (limits : List Limits) → All IsWithinLimits limits → All (λ count. count ≤ 32) (map (λ l. l.conditions) limits)
 conditions_few limits ranges = counts_few (λ l. l.conditions) 32 limits (λ l at. at.conditions_to) ranges
 
-pub ruleset blanks = (whole_blank, threads_few, mutexes_few, conditions_few)
+-- and at most 32 keys
+pub keys_few : (limits : List Limits) → All IsWithinLimits limits → All (λ count. count ≤ 32) (map (λ l. l.keys) limits)
+keys_few limits ranges = counts_few (λ l. l.keys) 32 limits (λ l at. at.keys_to) ranges
+
+pub ruleset blanks = (whole_blank, threads_few, mutexes_few, conditions_few, keys_few)

@@ -7,6 +7,7 @@ use Rattle.ptk_words.specs.declared.faults.Cause.TheVariants as cause
 use Rattle.ptk_words.specs.declared.faults.Status.TheVariants.{Stopped}
 use Rattle.ptk_words.specs.declared.sections.Limits.{Limits}
 use Rattle.ptk_words_instructions.specs.Instructions.{Effect, Done, Call, Break, Fault, effect_at}
+use Rattle.ptk_words.specs.declared.threads.Thread.{Thread}
 use Rattle.ptk_words_model.specs.State.{Part}
 use Rattle.ptk_words_model.specs.Priority.{thread_at}
 use Rattle.ptk_words_well.specs.Well.{IsWell}
@@ -14,7 +15,7 @@ use Rattle.ptk_words.specs.Pools.{is_in}
 use Rattle.ptk_words.specs.declared.sections.Entry.{Entry}
 use Rattle.ptk_words_model.specs.Decision.{after_arrivals}
 use Rattle.ptk_words_model.specs.Schedule.{after_choice}
-use Rattle.ptk_words_model.specs.Unwinding.{after_unwinding_start}
+use Rattle.ptk_words_model.specs.Unwinding.{after_unwinding_start, after_gate_step}
 use Rattle.ptk_words_model.specs.Withdrawal.{after_expiries}
 use Rattle.ptk_words_model.specs.Run.{is_active}
 use Rattle.ptk_words_locks.proofs.Lined.{ready_alive}
@@ -23,6 +24,7 @@ use Rattle.ptk_words_well.proofs.Parts.{well_last, well_memory, well_halt}
 use Rattle.ptk_words_well.proofs.Threads.{well_cpu}
 use Rattle.ptk_words_well.proofs.Turns.{well_choice}
 use Rattle.ptk_words_well.proofs.Waits.{well_arrivals}
+use Rattle.ptk_words_well.proofs.Decisions.{well_gate_step}
 use Rattle.ptk_words_well.proofs.Unwindings.{well_unwinding_start}
 use Rattle.ptk_words_well.proofs.Timeouts.{well_expiries}
 use Rattle.ptk_gate_pools.specs.Moves.{with_last_step}
@@ -82,6 +84,12 @@ whole_unwinding p t value kept new e are lt runs =
     are_whole_put p (after_unwinding_start t value s) kept new e are lt
     (well_unwinding_start (limits_at p kept) t value s (ready_alive (thread_at s.locks t) (well.running_ready t runs)) well)
 
+-- a step of the running thread at the return gate
+pub whole_gate_step : (p t : ℕ) (thread : Thread) (kept new : Kept) → new ≡ put_part p (after_gate_step thread.phase t thread (part_at p kept)) kept → AreWhole kept → p < length kept.limits → (part_at p kept).running ≡ Some t → AreWhole new
+whole_gate_step p t thread kept new e are lt runs =
+    are_whole_put p (after_gate_step thread.phase t thread (part_at p kept)) kept new e are lt
+    (well_gate_step (limits_at p kept) thread.phase t thread (part_at p kept) runs (well_at p kept are lt))
+
 pub whole_last : (p : ℕ) (entry : Entry) (kept new : Kept) → new ≡ put_part p (with_last_step entry (part_at p kept)) kept → AreWhole kept → p < length kept.limits → AreWhole new
 whole_last p entry kept new e are lt =
     are_whole_put p (with_last_step entry (part_at p kept)) kept new e are lt (well_last (limits_at p kept) (Some entry) (part_at p kept) (well_at p kept are lt))
@@ -106,6 +114,6 @@ active_at limits s false well runs e = absurd (false≢true (subst IsSome (well.
 
 pub ruleset wholes = (are_whole_put, well_at)
 
-pub ruleset moves = (well_at, whole_instruction, whole_arrivals, whole_expiries, whole_choice, whole_unwinding, whole_last)
+pub ruleset moves = (well_at, whole_instruction, whole_arrivals, whole_expiries, whole_choice, whole_unwinding, whole_gate_step, whole_last)
 
 pub ruleset placed = (running_out_at)

@@ -9,7 +9,11 @@ ghost use Rattle.ptk_gate_pools.specs.Kept.{part_at, put_part, limits_at};
 ghost use Rattle.ptk_gate.specs.Answers.{call_answer};
 
 use crate::tables::Tables;
+use ptk_gate_cancel::{
+    cancel, cleanup_pop, cleanup_push, setcancelstate, setcanceltype, testcancel,
+};
 use ptk_gate_console::{get, put};
+use ptk_gate_keys::{getspecific, key_create, key_delete, setspecific};
 use ptk_gate_moves::{exit, leave, own_number, refuse};
 use ptk_gate_pools::Pools;
 use ptk_gate_sync::{
@@ -25,7 +29,7 @@ use ptk_words::{A0, A1, A2, A3, A4, A7, Call, Cpu, Errno, Limits, PartId, Thread
 use ptk_words_model::{Invocation, Reply};
 
 /// Carries out the call that the running thread's registers state: the number in a7, the arguments in a0 to a4, at the
-/// tick at which the step begins. The reply is what the call came to; ENOSYS of a number that is not in use. The pc is
+/// tick at which the step begins. The reply is what the call came to; ENOSYS of a number that is no call. The pc is
 /// already past the ECALL and stays, save that an unwinding puts the return gate there. A refusal changes a0 alone, and
 /// leaves the mutex that a static initialiser set up; no other partition changes.
 pub fn call(tables: &mut Tables, p: PartId, tick: Tick) -> Reply
@@ -80,7 +84,7 @@ fn invocation(limits: Limits, at: Tick, t: ThreadNo, cpu: &Cpu) -> Invocation
     }
 }
 
-/// Carries out the call of the running thread; ENOSYS of one that is not in use yet.
+/// Carries out the call of the running thread.
 #[tactic(auto, using(crate::proofs::Called::called))]
 fn carry_out(pools: &mut Pools, call: Call, p: PartId, i: Invocation) -> Reply
     requires partition { p < length pools.old.limits }
@@ -118,15 +122,15 @@ fn carry_out(pools: &mut Pools, call: Call, p: PartId, i: Invocation) -> Reply
         Call::CondTimedwait => cond_timedwait(pools, p, i),
         Call::CondSignal => cond_signal(pools, p, i),
         Call::CondBroadcast => cond_broadcast(pools, p, i),
-        Call::PthreadCancel
-        | Call::PthreadSetcancelstate
-        | Call::PthreadSetcanceltype
-        | Call::PthreadTestcancel
-        | Call::CleanupPush
-        | Call::CleanupPop
-        | Call::KeyCreate
-        | Call::KeyDelete
-        | Call::PthreadSetspecific
-        | Call::PthreadGetspecific => refuse(pools, p, i, Errno::ENOSYS),
+        Call::PthreadCancel => cancel(pools, p, i),
+        Call::PthreadSetcancelstate => setcancelstate(pools, p, i),
+        Call::PthreadSetcanceltype => setcanceltype(pools, p, i),
+        Call::PthreadTestcancel => testcancel(pools, p, i),
+        Call::CleanupPush => cleanup_push(pools, p, i),
+        Call::CleanupPop => cleanup_pop(pools, p, i),
+        Call::KeyCreate => key_create(pools, p, i),
+        Call::KeyDelete => key_delete(pools, p, i),
+        Call::PthreadSetspecific => setspecific(pools, p, i),
+        Call::PthreadGetspecific => getspecific(pools, p, i),
     }
 }

@@ -91,9 +91,9 @@ impl Tables {
         start_unwinding(&mut self.pools, p, t, CANCELED);
     }
 
-    /// A step of the running thread at the return gate: a normal thread's start routine has returned, an unwinding one
-    /// ends (pthread_exit).
-    #[tactic(auto, using(crate::proofs::Wholes::wholes, ptk_words_well::proofs::Decisions::well_gate_step))]
+    /// A step of the running thread at the return gate: a normal thread's start routine has returned; an unwinding one
+    /// calls its next handler or destructor, or ends (pthread_exit, XSH 2.9.5.3).
+    #[tactic(auto, using(crate::proofs::Wholes::moves))]
     pub fn step_at_gate(&mut self, p: PartId, t: ThreadNo, thread: Thread)
         requires partition { p < length self.old.limits }
         requires running { (part_at p self.old).running ≡ Some t }

@@ -5,12 +5,11 @@ ghost use Rattle.ptk_words.specs.Threads.{is_normal};
 ghost use Rattle.ptk_words_model.specs.Calls.{is_cancelled, cancellation_answer};
 ghost use Rattle.ptk_words_model.specs.Decision.{is_to_unwind};
 ghost use Rattle.ptk_gate_pools.specs.Kept.{part_at, put_part};
-ghost use Rattle.ptk_gate_moves.specs.Moves.{is_acting, is_asked};
 
 use crate::unwinding::{phase_of, start_unwinding};
 use ptk_gate_pools::Pools;
 use ptk_words::{CANCELED, PartId, Phase, Thread, ThreadNo};
-use ptk_words_model::{Cancellation, Invocation, Reply};
+use ptk_words_model::{Invocation, Reply};
 
 /// A cancellation point at which a pending request is acted on: the call is not carried out (XSH 2.9.5.2).
 pub fn cancel(pools: &mut Pools, p: PartId, i: Invocation) -> Reply
@@ -29,7 +28,7 @@ pub fn is_cancelled(pools: &Pools, p: PartId, t: ThreadNo) -> bool
 {
     let _parts = pools.parts();
     let phase = phase_of(pools.threads().thread(p, t));
-    is_normal(phase) && is_acting(pools.cancellation(p, t))
+    is_normal(phase) && pools.cancellations().is_point_acting(p, t)
 }
 
 /// Whether the thread's next step begins its unwinding (XSH 2.9.5.2).
@@ -37,7 +36,8 @@ pub fn is_to_unwind(pools: &Pools, p: PartId, t: ThreadNo, thread: &Thread) -> b
     requires partition { p < length pools.now.limits }
     ensures { result ≡ is_to_unwind (part_at p pools.now) t thread.now }
 {
-    is_normal(thread.phase) && is_asked(pools.cancellation(p, t))
+    let _parts = pools.parts();
+    is_normal(thread.phase) && pools.cancellations().is_acting(p, t)
 }
 
 /// The thread does not unwind and has not ended.
@@ -47,25 +47,5 @@ fn is_normal(phase: Phase) -> bool
     match phase {
         Phase::Normal => true,
         Phase::Unwinding | Phase::Ended => false,
-    }
-}
-
-/// Enabled, with a pending request.
-fn is_acting(cancellation: Option<Cancellation>) -> bool
-    ensures { result ≡ is_acting cancellation }
-{
-    match cancellation {
-        Some(c) => c.is_enabled && c.is_pending,
-        None => false,
-    }
-}
-
-/// Marked, or asked to be cancelled at once.
-fn is_asked(cancellation: Option<Cancellation>) -> bool
-    ensures { result ≡ is_asked cancellation }
-{
-    match cancellation {
-        Some(c) => c.is_marked || (c.is_pending && c.is_enabled && c.is_asynchronous),
-        None => false,
     }
 }

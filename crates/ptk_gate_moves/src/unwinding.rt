@@ -1,14 +1,14 @@
-//! The start of an unwinding (pthread_exit, XSH 2.9.5.3).
+//! The start of an unwinding, and the routines that it calls (pthread_exit, XSH 2.9.5.3).
 
 ghost use Rattle.std.specs.Prelude.{◌≡◌, ◌<◌, length};
 ghost use Rattle.ptk_words_model.specs.State.{with_locks};
 ghost use Rattle.ptk_words_model.specs.Schedule.{with_thread};
-ghost use Rattle.ptk_words_model.specs.Unwinding.{after_unwinding_start, phase_of};
+ghost use Rattle.ptk_words_model.specs.Unwinding.{after_unwinding_start, after_routine_call, phase_of};
 ghost use Rattle.ptk_gate_pools.specs.Kept.{part_at, put_part};
 ghost use Rattle.ptk_gate_moves.specs.Moves.{unwinding};
 
 use ptk_gate_pools::Pools;
-use ptk_words::{PartId, Phase, RETURN_GATE, Thread, ThreadNo};
+use ptk_words::{A0, PartId, Phase, RA, RETURN_GATE, Thread, ThreadNo};
 
 /// Cancellation is disabled and deferred, the value is the result, and the next step is at the return gate
 /// (pthread_exit, XSH 2.9.5.3).
@@ -36,6 +36,22 @@ fn unwind(pools: &mut Pools, p: PartId, t: ThreadNo, value: u32)
         pools.give_cpu(p, t, cpu);
         pools.give_result(p, t, value);
         pools.give_phase(p, t, Phase::Unwinding);
+    }
+}
+
+/// The thread calls the routine: its next step is at the routine's address, with the argument in a0 and the return gate
+/// in ra (own choice). A free number stays free.
+#[tactic(auto, using(ptk_gate_pools::proofs::Parted::parted, ptk_gate_pools::proofs::Numbers::changed_none, ptk_gate_pools::proofs::Ranks::put_same))]
+pub fn call_routine(pools: &mut Pools, p: PartId, t: ThreadNo, routine: u32, argument: u32)
+    requires partition { p < length pools.old.limits }
+    ensures { pools.new ≡ put_part p (after_routine_call t routine argument (part_at p pools.old)) pools.old }
+{
+    let _parts = pools.parts();
+    if let Some(mut cpu) = pools.threads().cpu(p, t) {
+        cpu.set_register(A0, argument);
+        cpu.set_register(RA, RETURN_GATE);
+        cpu.set_pc(routine);
+        pools.give_cpu(p, t, cpu);
     }
 }
 

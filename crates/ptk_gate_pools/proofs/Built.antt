@@ -3,17 +3,13 @@ use Rattle.std.proofs.Common.{◌≡◌, ℕ, ◌≤◌, zero, suc, List, length
 use Rattle.std.specs.Prelude.{Option, None, replicate}
 use Rattle.std.proofs.lemmas.List.{length-map, length-replicate}
 use Rattle.ptk_words.specs.declared.sections.Limits.{Limits}
-use Rattle.ptk_words_parted.specs.Parts.{part_of, filled}
+use Rattle.ptk_words_parted.specs.Parts.{part_of}
 use Rattle.ptk_words_model.specs.State.{Console, Mutex}
 use Rattle.ptk_words_model.specs.Priority.{effective_priorities}
 use Rattle.ptk_threads.specs.Table.{ThreadTable}
 use Rattle.ptk_mutex.proofs.Ready.{effective_blank}
 use Rattle.ptk_gate_pools.specs.Blank.{blank}
 use Rattle.ptk_gate_pools.specs.Kept.{AreParts, AreStored, AreTimed, deadlines_in, per_section}
-
-pub filled_per : {A : Type 0} (count : Limits → ℕ) (a : A) (limits : List Limits) → map (filled a) (map count limits) ≡ per_section count a limits
-filled_per count a [] = refl
-filled_per count a (l ∷ ls) = ap (λ rows. replicate (count l) a ∷ rows) (filled_per count a ls)
 
 blank_row : (limits : List Limits) (p : ℕ) → part_of (per_section (λ l. l.threads) 0 limits) p ≡ effective_priorities (part_of (per_section (λ l. l.threads) None limits) p) (part_of (per_section (λ l. l.mutexes) None limits) p)
 blank_row [] p = refl
@@ -65,4 +61,4 @@ parts_blank limits consoles few same = record {
   lasts = length-replicate (length limits) _;
 }
 
-pub ruleset built = (filled_per, stored_made, timed_made, length-map, length-replicate)
+pub ruleset built = (stored_made, timed_made, length-map, length-replicate)

@@ -1,6 +1,6 @@
 -- Condition variables: one that is new, whether one has waiters, and that kept deadlines stay those of the threads' waits.
-use Rattle.std.proofs.Common.{arith, ◌≡◌, ℕ, ◌<◌, ◌≤◌, List, [], ◌∷◌, length, refl, sym, ◌∙◌, ap, subst}
-use Rattle.std.specs.Prelude.{Bool, true, false, not, nat_lt, ◌==◌, Option, Some, None, option_map, option_to_list, unwrap_or}
+use Rattle.std.proofs.Common.{arith, ◌≡◌, ℕ, ◌<◌, List, [], ◌∷◌, length, refl, sym, ◌∙◌, ap, subst}
+use Rattle.std.specs.Prelude.{not, nat_lt, ◌==◌, Option, Some, None, option_map, option_to_list, unwrap_or}
 use Rattle.std.proofs.Math.ListN.{set}
 use Rattle.std.proofs.lemmas.Bool.{ne_eqb, lt-ltb}
 use Rattle.std.proofs.lemmas.List.{set-set}
@@ -10,13 +10,13 @@ use Rattle.ptk_words.specs.declared.threads.Thread.{Thread}
 use Rattle.ptk_words.specs.declared.threads.Wait.TheVariants.{ConditionWait}
 use Rattle.ptk_words_parted.specs.Parts.{part_of}
 use Rattle.ptk_words_model.specs.State.{Mutex, Condition, Locks, Syncs, Part}
-use Rattle.ptk_words_model.specs.Mutex.{after_unlock}
-use Rattle.ptk_words_model.specs.Condition.{condition_waiters, after_condition_wait, after_signal, after_broadcast}
-use Rattle.ptk_words_locks.specs.Conditions.{AreSyncs}
+use Rattle.ptk_words_model.specs.Mutex.{after_unlock, wait_of}
+use Rattle.ptk_words_model.specs.Condition.{condition_waiters, after_condition_wait, after_signal, after_broadcast, after_unblock}
+use Rattle.ptk_words_locks.specs.Conditions.{AreSyncs, condition_of_wait}
 use Rattle.ptk_words_locks.specs.Deadlines.{without_deadlines, woken_by_unlock}
 use Rattle.ptk_words_locks.proofs.Threads.{in_wait}
 use Rattle.ptk_words_locks.proofs.Deadlines.{deadline_at, deadlines-unlock}
-use Rattle.ptk_words_locks.proofs.DeadlineMoves.{deadlines-signal, deadlines-broadcast}
+use Rattle.ptk_words_locks.proofs.DeadlineMoves.{deadlines-unblock, deadlines-signal, deadlines-broadcast}
 use Rattle.ptk_words_well.specs.Well.{IsWell}
 use Rattle.ptk_threads.specs.Table.{ThreadTable, thread_in}
 use Rattle.ptk_threads.proofs.Pools.{part_of-set}
@@ -79,6 +79,15 @@ timed_broadcast p c set_bits limits s table new lines mutexes conditions deadlin
     let whole : AreSyncs limits.interval s.running s.console.waiters syncs = subst (AreSyncs limits.interval s.running s.console.waiters) same (whole_of limits s well) in
     timed_locks p (after_broadcast c syncs).locks (without_deadlines (condition_waiters syncs c) (part_of deadlines p)) table new deadlines after e (f (condition_waiters syncs c) woken)
     (ap (without_deadlines (condition_waiters syncs c)) (timed_row p deadlines table.threads timed) ∙ sym (deadlines-broadcast limits.interval c s.running s.console.waiters syncs whole)) timed
+
+-- a waiter that is withdrawn has none
+pub timed_withdrawn : (p t c : ℕ) (reply : Option ℕ) (table new : ThreadTable) (lines : List (List ℕ)) (mutexes : List (List (Option Mutex))) (conditions : List (List (Option Condition))) (deadlines after : List (List (Option ℕ)))
+    → new ≡ with_threads p (after_unblock t c reply (syncs_at p table lines mutexes conditions)).locks table → after ≡ set deadlines p (pool_set (part_of deadlines p) t None)
+    → condition_of_wait (wait_of (thread_in table p t)) ≡ Some c → AreTimed deadlines table.threads → AreTimed after new.threads
+timed_withdrawn p t c reply table new lines mutexes conditions deadlines after e f on timed =
+    let syncs : Syncs = syncs_at p table lines mutexes conditions in
+    timed_locks p (after_unblock t c reply syncs).locks (pool_set (part_of deadlines p) t None) table new deadlines after e f
+    (ap (λ (ds : List (Option ℕ)). pool_set ds t None) (timed_row p deadlines table.threads timed) ∙ sym (deadlines-unblock t c reply syncs on)) timed
 
 -- ---- waiters
 

@@ -1,18 +1,16 @@
 -- A deadline that comes: what it does is the model's, and kept deadlines stay those of the threads' waits.
-use Rattle.std.proofs.Common.{◌≡◌, ℕ, List, [], ◌∷◌, refl, sym, ◌∙◌, ap, map, length}
-use Rattle.std.specs.Prelude.{true, Option, Some, None, IsSome, is_some, option_map}
+use Rattle.std.proofs.Common.{◌≡◌, ℕ, List, [], refl, sym, ◌∙◌, ap, map, length}
+use Rattle.std.specs.Prelude.{true, Option, Some, None, is_some, option_map}
 use Rattle.std.proofs.Math.ListN.{set}
-use Rattle.std.proofs.lemmas.Bool.{false≢true}
 use Rattle.std.proofs.lemmas.List.{set-get_or, length-map}
-use Rattle.ptk_words.specs.Pools.{pool_get, pool_set, pool_changed}
+use Rattle.ptk_words.specs.Pools.{pool_set}
 use Rattle.ptk_words.specs.declared.sections.Limits.{Limits}
 use Rattle.ptk_words.specs.declared.threads.Thread.{Thread}
 use Rattle.ptk_words.specs.declared.threads.Wait.{Wait}
 use Rattle.ptk_words.specs.declared.threads.Wait.TheVariants.{InputWait, SleepWait, JoinWait, MutexWait, ConditionWait, RelockWait}
 use Rattle.ptk_words_parted.specs.Parts.{part_of}
-use Rattle.ptk_words_model.specs.State.{Mutex, Condition, Syncs, Part, with_syncs}
-use Rattle.ptk_words_model.specs.Priority.{thread_at, awaited, mutex_of_wait, effective_priorities}
-use Rattle.ptk_words_model.specs.Schedule.{woken_with}
+use Rattle.ptk_words_model.specs.State.{Syncs, Part, with_syncs}
+use Rattle.ptk_words_model.specs.Priority.{thread_at}
 use Rattle.ptk_words_model.specs.Mutex.{wait_of}
 use Rattle.ptk_words_model.specs.Withdrawal.{Expiry, after_timeout, deadlines_of}
 use Rattle.ptk_words_locks.specs.Expiries.{next_expiry, without_expiry}
@@ -21,8 +19,8 @@ use Rattle.ptk_words_locks.proofs.Wakings.{waits_not_ready}
 use Rattle.ptk_words_locks.proofs.Deadlines.{deadline_at}
 use Rattle.ptk_words_locks.proofs.DeadlineMoves.{deadlines-timeout}
 use Rattle.ptk_words_well.specs.Well.{IsWell}
-use Rattle.ptk_threads.specs.Table.{ThreadTable, thread_in, with_changed}
-use Rattle.ptk_mutex.specs.Tables.{with_threads, AreReady, IsWaiter}
+use Rattle.ptk_threads.specs.Table.{ThreadTable, thread_in}
+use Rattle.ptk_mutex.specs.Tables.{with_threads}
 use Rattle.ptk_cond.specs.Tables.{syncs_at}
 use Rattle.ptk_gate_pools.specs.declared.pools.Pools.TheInside.{Inside}
 use Rattle.ptk_clock.specs.Pairs.{Pair}
@@ -30,8 +28,8 @@ use Rattle.ptk_clock.specs.BySlot.{deadlines_from}
 use Rattle.ptk_clock.specs.ByThread.{first_slot}
 use Rattle.ptk_gate_pools.specs.Kept.{AreTimed, deadlines_in, part_at}
 use Rattle.ptk_gate_pools.specs.Pooled.{kept_of}
-use Rattle.ptk_gate_pools.specs.Expired.{after_one_expiry, after_sync_timeout, IsBlocked, is_sleep}
-use Rattle.ptk_gate_pools.proofs.Stored.{priorities_woken}
+use Rattle.ptk_gate_waits.specs.Timeouts.{after_sync_timeout, IsBlocked}
+use Rattle.ptk_gate_pools.specs.Expired.{after_one_expiry}
 use Rattle.ptk_gate_pools.proofs.Timed.{timed_row}
 use Rattle.ptk_gate_pools.proofs.TimedMoves.{timed_locks}
 use Rattle.ptk_gate_pools.proofs.Synced.{lined_of}
@@ -54,48 +52,6 @@ blocked_of limits s t well = record {
   out = λ wait e. not_ready_out s.threads s.line s.running t (lined_of limits s well) (waits_not_ready wait (thread_at s.locks t) e);
   listed = λ c e. well.conditional.waits_listed c t e;
 }
-
--- ---- one thread
-
-awaits_by_wait : (o : Option Thread) → awaited o ≡ mutex_of_wait (wait_of o)
-awaits_by_wait None = refl
-awaits_by_wait (Some thread) = refl
-
--- a thread that waits is in use
-pub waits_used : (o : Option Thread) (wait : Wait) → wait_of o ≡ Some wait → IsSome o
-waits_used None wait e = absurd (cc e)
-waits_used (Some thread) wait e = refl
-
--- a thread in a wait for a mutex is a waiter of it
-pub waiter_of : (t m : ℕ) (deadline : Option ℕ) (syncs : Syncs) → IsBlocked syncs t → wait_of (thread_at syncs.locks t) ≡ Some (MutexWait m deadline) → IsWaiter syncs.locks m t
-waiter_of t m deadline syncs blocked e = record { waits = awaits_by_wait (thread_at syncs.locks t) ∙ ap mutex_of_wait e; out = blocked.out (MutexWait m deadline) e }
-
--- a sleeper is woken: the stored priorities are those that it leaves
-pub slept : (p t deadline : ℕ) (table new : ThreadTable) (lines : List (List ℕ)) (mutexes : List (List (Option Mutex))) (conditions : List (List (Option Condition))) → AreReady p table lines mutexes
-    → wait_of (thread_in table p t) ≡ Some (SleepWait deadline) → new ≡ with_changed p t (woken_with (0 ∷ [])) table
-    → new ≡ with_threads p (after_sync_timeout t (Some (SleepWait deadline)) (syncs_at p table lines mutexes conditions)).locks table
-slept p t deadline table new lines mutexes conditions ready is e =
-    let row : List (Option Thread) = part_of table.threads p in
-    let awake : awaited (pool_get row t) ≡ None = awaits_by_wait (pool_get row t) ∙ ap mutex_of_wait is in
-    let same : set table.stored p (effective_priorities (pool_changed t (woken_with (0 ∷ [])) row) (part_of mutexes p)) ≡ table.stored =
-    ap (set table.stored p) (priorities_woken t (0 ∷ []) row (part_of mutexes p) awake ∙ sym ready.stored) ∙ set-get_or table.stored p [] in
-    e ∙ ap (λ (stored : List (List ℕ)). record { threads = set table.threads p (pool_changed t (woken_with (0 ∷ [])) row); stored = stored }) (sym same)
-
-sleep_of : (wait : Option Wait) → is_sleep wait ≡ true → (deadline : ℕ) × (wait ≡ Some (SleepWait deadline))
-sleep_of None e = absurd (false≢true e)
-sleep_of (Some InputWait) e = absurd (false≢true e)
-sleep_of (Some (SleepWait deadline)) e = (deadline, refl)
-sleep_of (Some (JoinWait u)) e = absurd (false≢true e)
-sleep_of (Some (MutexWait m deadline)) e = absurd (false≢true e)
-sleep_of (Some (ConditionWait c m deadline)) e = absurd (false≢true e)
-sleep_of (Some (RelockWait m reply)) e = absurd (false≢true e)
-
-pub slept_is : (p t : ℕ) (table new : ThreadTable) (lines : List (List ℕ)) (mutexes : List (List (Option Mutex))) (conditions : List (List (Option Condition))) → AreReady p table lines mutexes
-    → is_sleep (wait_of (thread_in table p t)) ≡ true → new ≡ with_changed p t (woken_with (0 ∷ [])) table
-    → new ≡ with_threads p (after_sync_timeout t (wait_of (thread_in table p t)) (syncs_at p table lines mutexes conditions)).locks table
-slept_is p t table new lines mutexes conditions ready sleeps e =
-    let asleep = sleep_of (wait_of (thread_in table p t)) sleeps in
-    slept p t asleep.0 table new lines mutexes conditions ready asleep.1 e ∙ ap (λ (w : Option Wait). with_threads p (after_sync_timeout t w (syncs_at p table lines mutexes conditions)).locks table) (sym asleep.1)
 
 -- ---- the tables after an expiry
 

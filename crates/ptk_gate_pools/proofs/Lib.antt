@@ -8,6 +8,7 @@ pub mod TimedMoves
 pub mod Changed
 pub mod Synced
 pub mod Conditional
+pub mod Specific
 pub mod Expired
 pub mod Built
 pub mod Ranks

@@ -1,6 +1,5 @@
 -- What the invariant of the pools says of what a contract sees of them.
 use Rattle.std.proofs.Common.{◌≡◌, length, subst}
-use Rattle.std.proofs.lemmas.List.{length-map}
 use Rattle.ptk_gate_pools.specs.Kept.{Kept, AreParts}
 use Rattle.ptk_gate_pools.specs.declared.pools.Pools.TheInside.{Inside}
 use Rattle.ptk_gate_pools.specs.contracts.pools.Pools.{the_view, the_invariant}
@@ -16,9 +15,9 @@ parts_of a i = record {
   conditions = i.conditions;
   running = i.running;
   cancellations = i.cancellations;
-  cleanups = length-map a.limits.items _;
-  destructors = length-map a.limits.items _;
-  values = length-map a.limits.items _;
+  cleanups = i.cleanups;
+  destructors = i.destructors;
+  values = i.values;
   rounds = i.rounds;
   consoles = i.consoles;
   statuses = i.statuses;

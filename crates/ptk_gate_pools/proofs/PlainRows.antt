@@ -68,12 +68,12 @@ pub record IsRow (p t tick n : ℕ) (thread : Thread) (a : Inside) (memory : Lis
   pub of_last : last ≡ last_after tick t n (core thread.cpu (part_of a.regions p)) (slice_index_or a.lasts.items p None)
 
 -- what was lent, and what was told of it, make a row
-pub row_is : (p i t tick n : ℕ) (thread : Thread) (a : Inside) (kept : Kept) (lent_memory memory : List ℕ) (lent_slots slots : List (Option Thread)) (newest old last : Option Entry) → kept_of a ≡ kept → ArePooled a → p < length kept.limits
+pub row_is : (p i t tick n : ℕ) (thread : Thread) (a : Inside) (kept : Kept) (lent_memory memory : List ℕ) (lent_slots slots : List (Option Thread)) (old last : Option Entry) → kept_of a ≡ kept → ArePooled a → p < length kept.limits
     → lent_memory ≡ part_of a.regions p → length memory ≡ length lent_memory → memory ≡ (plain_steps n (core thread.cpu lent_memory)).memory
     → lent_slots ≡ part_of a.threads.threads p → slots ≡ pool_changed t (computed n (plain_steps n (core thread.cpu lent_memory)).cpu) lent_slots
-    → newest ≡ last_entry tick t n (core thread.cpu lent_memory) → i ≡ p → old ≡ get_or a.lasts.items i old → last ≡ option_or newest old
+    → last ≡ option_or (last_entry tick t n (core thread.cpu lent_memory)) old → i ≡ p → old ≡ get_or a.lasts.items i old
     → IsRow p t tick n thread a memory slots last
-row_is p i t tick n thread a kept lent_memory memory lent_slots slots newest old last view pooled lt bytes long moved threads changed told place before noted =
+row_is p i t tick n thread a kept lent_memory memory lent_slots slots old last view pooled lt bytes long moved threads changed told place before =
     let within : p < length a.limits.items = subst (λ (k : Kept). p < length k.limits) (sym view) lt in
     let in_lasts : p < length a.lasts.items = omega (arith, within, pooled.lasts) in
     let older : old ≡ slice_index_or a.lasts.items p None = before ∙ ap (λ (j : ℕ). get_or a.lasts.items j old) place ∙ get_or_default a.lasts.items p old None in_lasts in
@@ -84,7 +84,7 @@ row_is p i t tick n thread a kept lent_memory memory lent_slots slots newest old
       as_long = long ∙ ap length bytes;
       of_slots = changed ∙ ap (λ (m : List ℕ). pool_changed t (computed n (plain_steps n (core thread.cpu m)).cpu) lent_slots) bytes
           ∙ ap (pool_changed t (computed n (plain_steps n (core thread.cpu (part_of a.regions p))).cpu)) threads;
-      of_last = noted ∙ ap (λ (x : Option Entry). option_or x old) (told ∙ ap (λ (m : List ℕ). last_entry tick t n (core thread.cpu m)) bytes)
+      of_last = told ∙ ap (λ (m : List ℕ). option_or (last_entry tick t n (core thread.cpu m)) old) bytes
           ∙ last_noted tick t n (core thread.cpu (part_of a.regions p)) old ∙ ap (last_after tick t n (core thread.cpu (part_of a.regions p))) older;
     }
 
@@ -129,6 +129,9 @@ row_pooled p i t tick n thread a memory slots last row =
       deadlines = old.deadlines;
       running = old.running;
       cancellations = old.cancellations;
+      cleanups = old.cleanups;
+      destructors = old.destructors;
+      values = old.values;
       rounds = old.rounds;
       consoles = old.consoles;
       sections = old.sections;

@@ -1,61 +1,19 @@
 -- Stored priorities stay the effective ones where threads change.
-use Rattle.std.proofs.Common.{◌≡◌, ◌≢◌, ℕ, ◌<◌, zero, suc, List, [], ◌∷◌, length, map, fold, max, refl, sym, ◌∙◌, ap, ◌⊎◌, inl, inr, subst}
-use Rattle.std.specs.Prelude.{false, Option, Some, None, is_some, option_map, option_and_then, unwrap_or}
+use Rattle.std.proofs.Common.{◌≡◌, ◌≢◌, ℕ, ◌<◌, zero, suc, List, [], ◌∷◌, length, refl, sym, ◌∙◌, ap, ◌⊎◌, inl, inr, subst}
+use Rattle.std.specs.Prelude.{false, Option, Some, None, is_some, option_map, option_and_then}
 use Rattle.std.proofs.Math.ListN.{set}
 use Rattle.std.proofs.lemmas.Bool.{cases_eq}
 use Rattle.std.proofs.lemmas.List.{get_or-set_other, length-set}
-use Rattle.ptk_words.specs.Pools.{pool_get, pool_set, pool_changed, numbers_to}
+use Rattle.ptk_words.specs.Pools.{pool_get, pool_set, pool_changed}
 use Rattle.ptk_words.specs.declared.threads.Thread.{Thread}
 use Rattle.ptk_words.specs.declared.threads.Wait.{Wait}
 use Rattle.ptk_words_parted.specs.Parts.{part_of}
 use Rattle.ptk_words_model.specs.State.{Mutex}
-use Rattle.ptk_words_model.specs.Chain.{greatest_leading}
-use Rattle.ptk_words_model.specs.Priority.{ceiling_for, held_of, mutex_of_wait, awaited, inheritor_of, next_of, effective_priorities}
-use Rattle.ptk_words_model.specs.Schedule.{woken_with}
+use Rattle.ptk_words_model.specs.Priority.{mutex_of_wait, awaited, effective_priorities}
 use Rattle.ptk_threads.specs.Table.{ThreadTable, thread_in, stored_left, with_changed, with_slot, with_left, with_wait}
-use Rattle.ptk_threads.proofs.Slots.{length-pool_changed}
-use Rattle.ptk_threads.proofs.Pools.{pool_get-changed, pool_get-changed_other, part_of-set}
+use Rattle.ptk_threads.proofs.Pools.{part_of-set}
+use Rattle.ptk_gate_waits.proofs.Priorities.{level, priorities_changed, level_kept, awaited_kept}
 use Rattle.ptk_gate_pools.specs.Kept.{AreStored}
-
--- ---- what priorities read
-
--- as many threads, the same chains and the same held priorities make the same effective priorities
-pub same_priorities : (threads after : List (Option Thread)) (mutexes others : List (Option Mutex)) → length after ≡ length threads → next_of after others ≡ next_of threads mutexes → held_of after others ≡ held_of threads mutexes
-    → effective_priorities after others ≡ effective_priorities threads mutexes
-same_priorities threads after mutexes others long next held =
-    ap (λ (n : ℕ). map (greatest_leading n (next_of after others) (held_of after others)) (numbers_to n)) long
-    ∙ ap (λ (f : ℕ → Option ℕ). map (greatest_leading (length threads) f (held_of after others)) (numbers_to (length threads))) next
-    ∙ ap (λ (f : ℕ → ℕ). map (greatest_leading (length threads) (next_of threads mutexes) f) (numbers_to (length threads))) held
-
--- the assigned priority of an entry, 0 of a free number
-abbrev level : Option Thread → ℕ
-level x = unwrap_or (option_map (λ (thread : Thread). thread.priority) x) 0
-
-awaited_at : (k t : ℕ) (f : Thread → Thread) (threads : List (Option Thread)) → awaited (option_map f (pool_get threads k)) ≡ awaited (pool_get threads k) → (t ≡ k) ⊎ (t ≢ k) → awaited (pool_get (pool_changed k f threads) t) ≡ awaited (pool_get threads t)
-awaited_at k t f threads same (inl e) =
-    subst (λ (j : ℕ). awaited (pool_get (pool_changed k f threads) j) ≡ awaited (pool_get threads j)) (sym e) (ap awaited (pool_get-changed k f threads) ∙ same)
-awaited_at k t f threads same (inr ne) = ap awaited (pool_get-changed_other k t f threads ne)
-
-level_at : (k t : ℕ) (f : Thread → Thread) (threads : List (Option Thread)) → level (option_map f (pool_get threads k)) ≡ level (pool_get threads k) → (t ≡ k) ⊎ (t ≢ k) → level (pool_get (pool_changed k f threads) t) ≡ level (pool_get threads t)
-level_at k t f threads same (inl e) =
-    subst (λ (j : ℕ). level (pool_get (pool_changed k f threads) j) ≡ level (pool_get threads j)) (sym e) (ap level (pool_get-changed k f threads) ∙ same)
-level_at k t f threads same (inr ne) = ap level (pool_get-changed_other k t f threads ne)
-
--- a thread changed that keeps its assigned priority, and the mutex that it waits for
-priorities_changed : (k : ℕ) (f : Thread → Thread) (threads : List (Option Thread)) (mutexes : List (Option Mutex)) → level (option_map f (pool_get threads k)) ≡ level (pool_get threads k) → awaited (option_map f (pool_get threads k)) ≡ awaited (pool_get threads k)
-    → effective_priorities (pool_changed k f threads) mutexes ≡ effective_priorities threads mutexes
-priorities_changed k f threads mutexes levels waits =
-    same_priorities threads (pool_changed k f threads) mutexes mutexes (length-pool_changed k f threads)
-    (λ i t. option_and_then (λ m. inheritor_of (pool_get mutexes m)) (awaited_at k t f threads waits (cases_eq t k) i))
-    (λ i t. fold (λ most m. max most (ceiling_for t m)) (level_at k t f threads levels (cases_eq t k) i) mutexes)
-
-level_kept : (f : Thread → Thread) (x : Option Thread) → ((thread : Thread) → (f thread).priority ≡ thread.priority) → level (option_map f x) ≡ level x
-level_kept f None keeps = refl
-level_kept f (Some thread) keeps = keeps thread
-
-awaited_kept : (f : Thread → Thread) (x : Option Thread) → ((thread : Thread) → mutex_of_wait (f thread).wait ≡ mutex_of_wait thread.wait) → awaited (option_map f x) ≡ awaited x
-awaited_kept f None keeps = refl
-awaited_kept f (Some thread) keeps = keeps thread
 
 -- ---- a change that no priority reads
 
@@ -89,16 +47,6 @@ pub stored_changed : (p k : ℕ) (f : Thread → Thread) (table new : ThreadTabl
     → AreStored table.stored table.threads mutexes → AreStored new.stored new.threads mutexes
 stored_changed p k f table new mutexes e priority wait are =
     stored_same p k f table new mutexes e (level_kept f (thread_in table p k) priority) (awaited_kept f (thread_in table p k) wait) are
-
-woken_awaits : (values : List ℕ) (x : Option Thread) → awaited (option_map (woken_with values) x) ≡ None
-woken_awaits values None = refl
-woken_awaits values (Some thread) = refl
-
--- a thread that waits for no mutex is woken
-pub priorities_woken : (k : ℕ) (values : List ℕ) (threads : List (Option Thread)) (mutexes : List (Option Mutex)) → awaited (pool_get threads k) ≡ None
-    → effective_priorities (pool_changed k (woken_with values) threads) mutexes ≡ effective_priorities threads mutexes
-priorities_woken k values threads mutexes free =
-    priorities_changed k (woken_with values) threads mutexes (level_kept (woken_with values) (pool_get threads k) (λ thread. refl)) (woken_awaits values (pool_get threads k) ∙ sym free)
 
 not_some : (o : Option ℕ) → is_some o ≡ false → o ≡ None
 not_some None e = refl

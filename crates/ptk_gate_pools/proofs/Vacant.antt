@@ -1,6 +1,6 @@
 -- A number that a mutex takes or leaves: stored priorities stay the effective ones, since a mutex that is not locked raises nobody.
 use Rattle.std.proofs.Common.{◌≡◌, ◌≢◌, ℕ, List, [], refl, sym, ◌∙◌, ap, ◌⊎◌, inl, inr, subst}
-use Rattle.std.specs.Prelude.{Bool, false, Option, Some, None, option_map, option_and_then, unwrap_or}
+use Rattle.std.specs.Prelude.{Bool, false, Option, Some, None, option_map, unwrap_or}
 use Rattle.std.proofs.Math.ListN.{set}
 use Rattle.std.proofs.lemmas.Bool.{cases_eq}
 use Rattle.std.proofs.lemmas.List.{get_or-set_other}
@@ -11,7 +11,7 @@ use Rattle.ptk_words.specs.declared.threads.Thread.{Thread}
 use Rattle.ptk_words_parted.specs.Parts.{part_of}
 use Rattle.ptk_words_model.specs.State.{Mutex}
 use Rattle.ptk_words_model.specs.Priority.{effective_priorities}
-use Rattle.ptk_words_model.specs.Mutex.{new_mutex, waiters_of, wait_of}
+use Rattle.ptk_words_model.specs.Mutex.{new_mutex, waiters_of}
 use Rattle.ptk_words_model.specs.MutexCalls.{is_locked}
 use Rattle.ptk_mutex.specs.Pool.{with_new_mutex}
 use Rattle.ptk_mutex.proofs.Pool.{least_free_is}
@@ -52,11 +52,3 @@ stored_closed p m stored threads mutexes new unlocked unwaited e are =
     stored_set p m None stored threads mutexes new (idle_none None refl) (idle_unlocked (pool_get (part_of mutexes p) m) unwaited unlocked) e are
 
 pub ruleset vacant = (opened_at, stored_opened, stored_closed)
-
--- ---- what a thread waits for
-
-pub wait_read : (x : Option Thread) → option_and_then (λ (thread : Thread). thread.wait) x ≡ wait_of x
-wait_read None = refl
-wait_read (Some thread) = refl
-
-pub ruleset waits = (wait_read)

@@ -1,57 +1,10 @@
--- A deadline that comes: of the next expiry, and what it does to threads, line, mutexes and condition variables.
-use Rattle.std.specs.Prelude.{◌≡◌, ℕ, Bool, true, false, [], ◌∷◌, Option, Some, None}
-use Rattle.ptk_words.specs.Names.{MutexNumber, ThreadNumber}
-use Rattle.ptk_words.specs.Pools.{is_in}
-use Rattle.ptk_words.specs.Faults.{errno_number}
-use Rattle.ptk_words.specs.declared.faults.Errno.TheVariants.{ETIMEDOUT}
-use Rattle.ptk_words.specs.declared.threads.Wait.{Wait}
-use Rattle.ptk_words.specs.declared.threads.Wait.TheVariants.{InputWait, SleepWait, JoinWait, MutexWait, ConditionWait, RelockWait}
-use Rattle.ptk_words_model.specs.State.{Part, Syncs}
-use Rattle.ptk_words_model.specs.Priority.{thread_at}
-use Rattle.ptk_words_model.specs.Schedule.{after_wake}
-use Rattle.ptk_words_model.specs.Mutex.{wait_of}
-use Rattle.ptk_words_model.specs.Condition.{condition_waiters, after_unblock}
+-- The next expiry of a tick, and what it leaves of a partition.
+use Rattle.std.specs.Prelude.{Option, Some, None}
+use Rattle.ptk_words_model.specs.State.{Part}
 use Rattle.ptk_words_model.specs.Withdrawal.{Expiry}
-use Rattle.ptk_words_locks.specs.Conditions.{condition_of_wait}
 use Rattle.ptk_words_locks.specs.Expiries.{after_expiry}
-use Rattle.ptk_mutex.specs.Moves.{after_withdrawal}
 
 -- the state after the expiry, if there is one (clock_nanosleep, pthread_mutex_timedlock, pthread_cond_timedwait)
 abbrev pub after_one_expiry : Option Expiry → Part → Part
 after_one_expiry None s = s
 after_one_expiry (Some a) s = after_expiry a s
-
--- the deadline of a wait comes, as `after_timeout` has it, of what it reads and changes (clock_nanosleep, pthread_mutex_timedlock, pthread_cond_timedwait)
-abbrev pub after_sync_timeout : ThreadNumber → Option Wait → Syncs → Syncs
-after_sync_timeout t None syncs = syncs
-after_sync_timeout t (Some InputWait) syncs = syncs
-after_sync_timeout t (Some (SleepWait deadline)) syncs = record syncs { locks = after_wake t (0 ∷ []) syncs.locks }
-after_sync_timeout t (Some (JoinWait u)) syncs = syncs
-after_sync_timeout t (Some (MutexWait m deadline)) syncs = record syncs { locks = after_withdrawal t m (Some (errno_number ETIMEDOUT)) syncs.locks }
-after_sync_timeout t (Some (ConditionWait c m deadline)) syncs = after_unblock t c (Some (errno_number ETIMEDOUT)) syncs
-after_sync_timeout t (Some (RelockWait m reply)) syncs = syncs
-
--- a thread that waits is not in the line, and on a condition variable it is one of its waiters (pthread_cond_wait)
-pub record IsBlocked (syncs : Syncs) (t : ℕ) : Type 0 where
-  pub out : (wait : Wait) → wait_of (thread_at syncs.locks t) ≡ Some wait → is_in t syncs.line ≡ false
-  pub listed : (c : ℕ) → condition_of_wait (wait_of (thread_at syncs.locks t)) ≡ Some c → is_in t (condition_waiters syncs c) ≡ true
-
--- the wait is a sleep (clock_nanosleep)
-abbrev pub is_sleep : Option Wait → Bool
-is_sleep None = false
-is_sleep (Some InputWait) = false
-is_sleep (Some (SleepWait deadline)) = true
-is_sleep (Some (JoinWait u)) = false
-is_sleep (Some (MutexWait m deadline)) = false
-is_sleep (Some (ConditionWait c m deadline)) = false
-is_sleep (Some (RelockWait m reply)) = false
-
--- the mutex that a wait is to lock first (pthread_mutex_lock, pthread_mutex_timedlock)
-abbrev pub mutex_locked : Option Wait → Option MutexNumber
-mutex_locked None = None
-mutex_locked (Some InputWait) = None
-mutex_locked (Some (SleepWait deadline)) = None
-mutex_locked (Some (JoinWait u)) = None
-mutex_locked (Some (MutexWait m deadline)) = Some m
-mutex_locked (Some (ConditionWait c m deadline)) = None
-mutex_locked (Some (RelockWait m reply)) = None

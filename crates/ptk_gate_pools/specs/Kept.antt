@@ -1,5 +1,5 @@
 -- The tables of all partitions, by component, and of them one partition's part.
-use Rattle.std.specs.Prelude.{◌≡◌, ℕ, ◌<◌, ◌≤◌, true, List, [], length, map, replicate, slice_index_or, slice_set, Option, None, IsSome}
+use Rattle.std.specs.Prelude.{◌≡◌, ℕ, ◌<◌, ◌≤◌, true, List, [], length, map, slice_index_or, slice_set, Option, None, IsSome}
 use Rattle.ptk_words.specs.Names.{Tick}
 use Rattle.ptk_words.specs.Pools.{pool_get, is_in}
 use Rattle.ptk_words.specs.declared.faults.Status.{Status}
@@ -17,6 +17,7 @@ use Rattle.ptk_words_model.specs.Mutex.{wait_of}
 use Rattle.ptk_words_model.specs.Withdrawal.{deadline_of_wait}
 use Rattle.ptk_words_well.specs.Well.{IsWell}
 use Rattle.ptk_console.specs.ConsoleTable.{fresh_console, no_limits}
+pub use Rattle.ptk_gate_parts.specs.Sections.{per_section}
 
 -- each component as a list with an entry for each partition
 pub record Kept : Type 0 where
@@ -82,10 +83,6 @@ put_part p s kept =
       lasts = slice_set kept.lasts p s.last;
       limits = kept.limits;
     }
-
--- for each section a list of as many entries as its count
-abbrev pub per_section : {A : Type 0} → (Limits → ℕ) → A → List Limits → List (List A)
-per_section count a limits = map (λ l. replicate (count l) a) limits
 
 -- so many partitions have an entry in every component
 pub record AreParts (n : ℕ) (kept : Kept) : Type 0 where

@@ -1,11 +1,10 @@
 -- Changes of one component, by name.
-use Rattle.std.specs.Prelude.{false, List, [], ◌∷◌, ◌++◌, Option, Some, None}
+use Rattle.std.specs.Prelude.{List, [], ◌∷◌, ◌++◌, Option, Some, None}
 use Rattle.ptk_words.specs.Names.{ThreadNumber, Tick, Byte}
 use Rattle.ptk_words.specs.declared.faults.Status.{Status}
 use Rattle.ptk_words.specs.declared.sections.Entry.{Entry}
 use Rattle.ptk_words.specs.declared.threads.Thread.{Thread}
 use Rattle.ptk_words.specs.Pools.{pool_set, pool_left, without}
-use Rattle.ptk_words_model.specs.declared.Cancellation.{Cancellation}
 use Rattle.ptk_words_model.specs.State.{Locks, Part, with_console}
 use Rattle.ptk_console.specs.ConsoleTable.{without_next}
 
@@ -32,10 +31,6 @@ stopped s = record s { running = None }
 -- this thread runs
 abbrev pub run_by : ThreadNumber → Part → Part
 run_by t s = record s { running = Some t }
-
--- cancellation is disabled and deferred, and the mark is taken (XSH 2.9.5.3)
-abbrev pub disabled : Cancellation → Cancellation
-disabled c = record c { is_enabled = false; is_asynchronous = false; is_marked = false }
 
 -- this status
 abbrev pub with_status : Status → Part → Part

@@ -1,12 +1,11 @@
 -- What the pools have inside, as the tables of all partitions, and what holds of it.
-use Rattle.std.specs.Prelude.{◌≡◌, ◌≤◌, [], length, map, replicate, None}
-use Rattle.ptk_words_model.specs.Keys.{no_values}
+use Rattle.std.specs.Prelude.{◌≡◌, ◌≤◌, length}
 use Rattle.ptk_mutex.specs.Tables.{mutexes_of}
 use Rattle.ptk_cond.specs.Tables.{conditions_of}
 use Rattle.ptk_gate_pools.specs.declared.pools.Pools.TheInside.{Inside}
-use Rattle.ptk_gate_pools.specs.Kept.{Kept, AreStored, AreTimed, per_section}
+use Rattle.ptk_gate_pools.specs.Kept.{Kept, AreStored, AreTimed}
 
--- the tables: keys and cleanup handlers are not in use
+-- the tables
 abbrev pub kept_of : Inside → Kept
 kept_of a =
     record {
@@ -16,11 +15,11 @@ kept_of a =
       mutexes = mutexes_of a.mutexes a.threads;
       conditions = conditions_of a.conditions a.threads;
       running = a.running.items;
-      cancellations = a.cancellations;
-      cleanups = per_section (λ l. l.threads) [] a.limits.items;
-      destructors = per_section (λ l. l.keys) None a.limits.items;
-      values = map (λ l. replicate l.threads (no_values l.keys)) a.limits.items;
-      rounds = a.rounds;
+      cancellations = a.cancellations.cancellations;
+      cleanups = a.cancellations.cleanups;
+      destructors = a.keys.destructors;
+      values = a.keys.values;
+      rounds = a.keys.rounds;
       consoles = a.consoles.consoles;
       statuses = a.statuses.items;
       lasts = a.lasts.items;
@@ -38,8 +37,11 @@ pub record ArePooled (a : Inside) : Type 0 where
   pub conditions : length a.conditions ≡ length a.limits.items
   pub deadlines : length a.deadlines ≡ length a.limits.items
   pub running : length a.running.items ≡ length a.limits.items
-  pub cancellations : length a.cancellations ≡ length a.limits.items
-  pub rounds : length a.rounds ≡ length a.limits.items
+  pub cancellations : length a.cancellations.cancellations ≡ length a.limits.items
+  pub cleanups : length a.cancellations.cleanups ≡ length a.limits.items
+  pub destructors : length a.keys.destructors ≡ length a.limits.items
+  pub values : length a.keys.values ≡ length a.limits.items
+  pub rounds : length a.keys.rounds ≡ length a.limits.items
   pub consoles : length a.consoles.consoles ≡ length a.limits.items
   pub sections : a.consoles.limits ≡ a.limits.items
   pub statuses : length a.statuses.items ≡ length a.limits.items

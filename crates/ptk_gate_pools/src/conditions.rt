@@ -1,20 +1,19 @@
-//! Condition variables: their numbers, what is told of them, and the moves of wait, signal and broadcast
-//! (pthread_cond_wait, pthread_cond_signal). Whoever is woken has no deadline any more.
+//! Condition variables: their numbers, what is told of them, and the moves of wait, signal, broadcast and
+//! withdrawal (pthread_cond_wait, pthread_cond_signal). Whoever is woken has no deadline any more.
 
-ghost use Rattle.std.specs.Prelude.{◌≡◌, ◌<◌, true, [], length, nat_lt, if◌then◌else◌, Some, None, IsSome, is_some, slice_set, option_to_list};
+ghost use Rattle.std.specs.Prelude.{◌≡◌, ◌<◌, true, [], length, nat_lt, if◌then◌else◌, Some, None, IsSome, is_some};
 ghost use Rattle.ptk_words.specs.Pools.{least_free, pool_get};
-ghost use Rattle.ptk_words_parted.specs.Parts.{part_of};
 ghost use Rattle.ptk_words_model.specs.State.{with_syncs};
-ghost use Rattle.ptk_words_model.specs.Mutex.{mutex_at, owns};
-ghost use Rattle.ptk_words_model.specs.Condition.{condition_waiters, names_another, after_condition_wait, after_signal, after_broadcast};
+ghost use Rattle.ptk_words_model.specs.Priority.{thread_at};
+ghost use Rattle.ptk_words_model.specs.Mutex.{mutex_at, owns, wait_of};
+ghost use Rattle.ptk_words_model.specs.Condition.{condition_waiters, names_another, after_condition_wait, after_signal, after_broadcast, after_unblock};
 ghost use Rattle.ptk_words_model.specs.Calls.{with_pool_condition};
-ghost use Rattle.ptk_words_locks.specs.Deadlines.{without_deadlines};
+ghost use Rattle.ptk_words_locks.specs.Conditions.{condition_of_wait};
 ghost use Rattle.ptk_words_well.specs.Well.{IsWell};
 ghost use Rattle.ptk_gate_pools.specs.Kept.{part_at, put_part, limits_at};
 
-use crate::deadlines::follow_wait;
 use crate::pools::Pools;
-use ptk_clock::ThreadDeadlines;
+use ptk_gate_waits::{end_one, follow_wait};
 use ptk_words::{ConditionNo, MutexNo, PartId, ThreadNo, Tick};
 
 impl Pools {
@@ -129,14 +128,21 @@ impl Pools {
         let woken = self.conditions.broadcast(line, threads, mutexes, p, c);
         self.deadlines.end_all(p, woken);
     }
-}
 
-/// The thread, if there is one, has no deadline.
-fn end_one(deadlines: &mut ThreadDeadlines, p: PartId, woken: Option<ThreadNo>)
-    requires { p < length deadlines.old }
-    ensures { deadlines.new ≡ slice_set deadlines.old p (without_deadlines (option_to_list woken) (part_of deadlines.old p)) }
-{
-    if let Some(t) = woken {
-        deadlines.set(p, t, None);
+    /// A thread that waits on the condition variable is taken out of that wait: it re-locks the mutex that it named,
+    /// without a reply, and has no deadline (XSH 2.9.5).
+    #[tactic(auto, using(crate::proofs::Parted::parted))]
+    pub fn withdraw_from_condition(&mut self, p: PartId, t: ThreadNo, c: ConditionNo)
+        requires partition { p < length self.old.limits }
+        requires well { IsWell (limits_at p self.old) (part_at p self.old) }
+        requires waits { condition_of_wait (wait_of (thread_at (part_at p self.old).locks t)) ≡ Some c }
+        ensures { self.new ≡ put_part p (with_syncs (after_unblock t c None) (part_at p self.old)) self.old }
+    {
+        let line = &mut self.line;
+        let threads = &mut self.threads;
+        let mutexes = &mut self.mutexes;
+        self.conditions
+            .withdraw(line, threads, mutexes, p, t, c, None);
+        self.deadlines.set(p, t, None);
     }
 }

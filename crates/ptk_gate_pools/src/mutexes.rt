@@ -2,25 +2,23 @@
 //! partition's stored priorities are the effective ones (pthread_mutex_lock, pthread_mutexattr_getprotocol).
 
 ghost use Rattle.std.specs.Prelude.{◌≡◌, ◌<◌, false, None, Some, [], length, option_map};
-ghost use Rattle.std.specs.List.{list_any};
 ghost use Rattle.ptk_words.specs.Pools.{least_free};
 ghost use Rattle.ptk_words.specs.declared.mutexes.Soundness.TheVariants.{Consistent};
 ghost use Rattle.ptk_words.specs.declared.TheConstants.{COUNT_LIMIT};
 ghost use Rattle.ptk_words.specs.declared.threads.Wait.TheVariants.{MutexWait, RelockWait};
 ghost use Rattle.ptk_words_model.specs.declared.LockMove.TheVariants.{Counts};
 ghost use Rattle.ptk_words_model.specs.State.{with_locks};
-ghost use Rattle.ptk_words_model.specs.Mutex.{mutex_at, new_mutex, waiters_of, wait_of, owns, owns_raising, count_of, lock_move, trylock_move, relock_move, after_move, after_unlock, after_owner_end, with_soundness};
+ghost use Rattle.ptk_words_model.specs.Mutex.{mutex_at, new_mutex, waiters_of, owns, owns_raising, count_of, lock_move, trylock_move, relock_move, after_move, after_unlock, after_owner_end, with_soundness};
 ghost use Rattle.ptk_words_model.specs.MutexCalls.{is_locked};
-ghost use Rattle.ptk_words_model.specs.Condition.{is_named, mutex_named, names_mutex};
+ghost use Rattle.ptk_words_model.specs.Condition.{names_mutex};
 ghost use Rattle.ptk_words_model.specs.Calls.{with_pool_mutex};
 ghost use Rattle.ptk_mutex_slots.specs.Slots.{state_of};
 ghost use Rattle.ptk_mutex.specs.Tables.{AreLocked, MayWait};
 ghost use Rattle.ptk_gate_pools.specs.Kept.{part_at, put_part};
 
-use crate::deadlines::follow_move;
 use crate::pools::Pools;
+use ptk_gate_waits::{follow_move, is_any_naming};
 use ptk_mutex::MutexState;
-use ptk_threads::Slot;
 use ptk_words::{MutexKind, MutexNo, PartId, Protocol, ThreadNo, Tick, Wait};
 use ptk_words_model::LockMove;
 
@@ -188,37 +186,5 @@ impl Pools {
             .mutexes
             .abandon(&mut self.line, &mut self.threads, p, t);
         self.deadlines.end_all(p, heirs);
-    }
-}
-
-/// Whether one of these threads waits on a condition variable and is to have the mutex again.
-fn is_any_naming(slots: &[Slot], m: MutexNo) -> bool
-    ensures { result ≡ list_any (λ thread. is_named m (mutex_named (wait_of thread))) slots.now }
-{
-    slots.iter().any(|slot| is_naming(slot, m))
-}
-
-/// Whether the thread waits on a condition variable and is to have the mutex again.
-#[tactic(auto, using(crate::proofs::Vacant::waits))]
-fn is_naming(slot: &Slot, m: MutexNo) -> bool
-    ensures { result ≡ is_named m (mutex_named (wait_of slot.now)) }
-{
-    match mutex_named(slot.wait()) {
-        Some(n) => n.number() == m.number(),
-        None => false,
-    }
-}
-
-/// The mutex that a condition wait names.
-fn mutex_named(wait: Option<Wait>) -> Option<MutexNo>
-    ensures { result ≡ mutex_named wait }
-{
-    match wait? {
-        Wait::ConditionWait(_, m, _) => Some(m),
-        Wait::InputWait
-        | Wait::SleepWait(_)
-        | Wait::JoinWait(_)
-        | Wait::MutexWait(_, _)
-        | Wait::RelockWait(_, _) => None,
     }
 }

@@ -3,16 +3,16 @@
 ghost use Rattle.std.specs.Prelude.{◌≡◌, length};
 ghost use Rattle.ptk_gate_pools.specs.Kept.{AreParts};
 
+use ptk_cancel::Cancellations;
 use ptk_clock::ThreadDeadlines;
 use ptk_cond::Conditions;
 use ptk_console::Consoles;
+use ptk_keys::KeyTable;
 use ptk_mutex::Mutexes;
 use ptk_ready::VecLine;
 use ptk_regions::Regions;
 use ptk_threads::Threads;
 use ptk_words::{Entry, Limits, Status, ThreadNo};
-use ptk_words_model::{Cancellation, Rounds};
-use ptk_words_parted::Parted;
 use std::marker::Model;
 
 /// What the kernel keeps of all partitions: one slot table, one memory vector, and a pool of each other kind.
@@ -25,8 +25,8 @@ pub struct Pools {
     pub(crate) conditions: Conditions,
     pub(crate) deadlines: ThreadDeadlines,
     pub(crate) running: Vec<Option<ThreadNo>>,
-    pub(crate) cancellations: Parted<Cancellation>,
-    pub(crate) rounds: Parted<Rounds>,
+    pub(crate) cancellations: Cancellations,
+    pub(crate) keys: KeyTable,
     pub(crate) consoles: Consoles,
     pub(crate) statuses: Vec<Status>,
     pub(crate) lasts: Vec<Option<Entry>>,

@@ -13,7 +13,7 @@ ghost use Rattle.ptk_gate_pools.specs.Kept.{part_at, put_part};
 use crate::pools::Pools;
 use ptk_threads::Slot;
 use ptk_trace::Trace;
-use ptk_trace_rows::{BATCH, Row, run_row};
+use ptk_trace_rows::{BATCH, run_row};
 use ptk_words::{Entry, PartId, Policy, Thread, ThreadNo, Tick};
 
 impl Pools {
@@ -40,7 +40,7 @@ impl Pools {
         ensures traced { (thread : Thread) → thread_at (part_at p self.old).locks t ≡ Some thread → trace.new ≡ traced tick t result (core_of thread (part_at p self.old)) trace.old }
         ensures ended { (thread : Thread) → thread_at (part_at p self.old).locks t ≡ Some thread → result < most → is_plain (plain_steps result (core_of thread (part_at p self.old))) ≡ false }
     {
-        let row = run_at(
+        run_at(
             self.threads.lend(p),
             self.regions.lend(p),
             t,
@@ -48,9 +48,8 @@ impl Pools {
             most,
             trace,
             batch,
-        );
-        note_newest(&mut self.lasts[p.index()], row.last);
-        row.steps
+            &mut self.lasts[p.index()],
+        )
     }
 }
 
@@ -64,20 +63,21 @@ fn run_at(
     most: u32,
     trace: &mut Trace,
     batch: &mut [Entry; BATCH],
-) -> Row
+    last: &mut Option<Entry>,
+) -> u32
     requires time { tick < 2 ^ 63 }
     requires in_use { IsSome (pool_get slots.old t) }
     requires room { (thread : Thread) → pool_get slots.old t ≡ Some thread → thread.used + most < 2 ^ 32 }
-    ensures few { result.steps ≤ most }
-    ensures plain { (thread : Thread) → pool_get slots.old t ≡ Some thread → ArePlain result.steps (core thread.cpu memory.old) }
-    ensures slots { (thread : Thread) → pool_get slots.old t ≡ Some thread → slots.new ≡ pool_changed t (computed result.steps (plain_steps result.steps (core thread.cpu memory.old)).cpu) slots.old }
-    ensures memory { (thread : Thread) → pool_get slots.old t ≡ Some thread → memory.new ≡ (plain_steps result.steps (core thread.cpu memory.old)).memory }
-    ensures traced { (thread : Thread) → pool_get slots.old t ≡ Some thread → trace.new ≡ traced tick t result.steps (core thread.cpu memory.old) trace.old }
-    ensures last { (thread : Thread) → pool_get slots.old t ≡ Some thread → result.last ≡ last_entry tick t result.steps (core thread.cpu memory.old) }
-    ensures ended { (thread : Thread) → pool_get slots.old t ≡ Some thread → result.steps < most → is_plain (plain_steps result.steps (core thread.cpu memory.old)) ≡ false }
+    ensures few { result ≤ most }
+    ensures plain { (thread : Thread) → pool_get slots.old t ≡ Some thread → ArePlain result (core thread.cpu memory.old) }
+    ensures slots { (thread : Thread) → pool_get slots.old t ≡ Some thread → slots.new ≡ pool_changed t (computed result (plain_steps result (core thread.cpu memory.old)).cpu) slots.old }
+    ensures memory { (thread : Thread) → pool_get slots.old t ≡ Some thread → memory.new ≡ (plain_steps result (core thread.cpu memory.old)).memory }
+    ensures traced { (thread : Thread) → pool_get slots.old t ≡ Some thread → trace.new ≡ traced tick t result (core thread.cpu memory.old) trace.old }
+    ensures last { (thread : Thread) → pool_get slots.old t ≡ Some thread → last.new ≡ option_or (last_entry tick t result (core thread.cpu memory.old)) last.old }
+    ensures ended { (thread : Thread) → pool_get slots.old t ≡ Some thread → result < most → is_plain (plain_steps result (core thread.cpu memory.old)) ≡ false }
 {
     let slot = &mut slots[t.place()];
-    run_slot(slot, memory, t, tick, most, trace, batch)
+    run_slot(slot, memory, t, tick, most, trace, batch, last)
 }
 
 /// A row of a slot's thread on its registers and this memory.
@@ -90,20 +90,21 @@ fn run_slot(
     most: u32,
     trace: &mut Trace,
     batch: &mut [Entry; BATCH],
-) -> Row
+    last: &mut Option<Entry>,
+) -> u32
     requires time { tick < 2 ^ 63 }
     requires in_use { IsSome slot.old }
     requires room { (thread : Thread) → slot.old ≡ Some thread → thread.used + most < 2 ^ 32 }
-    ensures few { result.steps ≤ most }
-    ensures plain { (thread : Thread) → slot.old ≡ Some thread → ArePlain result.steps (core thread.cpu memory.old) }
-    ensures slot { (thread : Thread) → slot.old ≡ Some thread → slot.new ≡ Some (computed result.steps (plain_steps result.steps (core thread.cpu memory.old)).cpu thread) }
-    ensures memory { (thread : Thread) → slot.old ≡ Some thread → memory.new ≡ (plain_steps result.steps (core thread.cpu memory.old)).memory }
-    ensures traced { (thread : Thread) → slot.old ≡ Some thread → trace.new ≡ traced tick t result.steps (core thread.cpu memory.old) trace.old }
-    ensures last { (thread : Thread) → slot.old ≡ Some thread → result.last ≡ last_entry tick t result.steps (core thread.cpu memory.old) }
-    ensures ended { (thread : Thread) → slot.old ≡ Some thread → result.steps < most → is_plain (plain_steps result.steps (core thread.cpu memory.old)) ≡ false }
+    ensures few { result ≤ most }
+    ensures plain { (thread : Thread) → slot.old ≡ Some thread → ArePlain result (core thread.cpu memory.old) }
+    ensures slot { (thread : Thread) → slot.old ≡ Some thread → slot.new ≡ Some (computed result (plain_steps result (core thread.cpu memory.old)).cpu thread) }
+    ensures memory { (thread : Thread) → slot.old ≡ Some thread → memory.new ≡ (plain_steps result (core thread.cpu memory.old)).memory }
+    ensures traced { (thread : Thread) → slot.old ≡ Some thread → trace.new ≡ traced tick t result (core thread.cpu memory.old) trace.old }
+    ensures last { (thread : Thread) → slot.old ≡ Some thread → last.new ≡ option_or (last_entry tick t result (core thread.cpu memory.old)) last.old }
+    ensures ended { (thread : Thread) → slot.old ≡ Some thread → result < most → is_plain (plain_steps result (core thread.cpu memory.old)) ≡ false }
 {
     match &mut slot.thread {
-        Some(thread) => run_thread(thread, memory, t, tick, most, trace, batch),
+        Some(thread) => run_thread(thread, memory, t, tick, most, trace, batch, last),
         None => unreachable!(),
     }
 }
@@ -118,31 +119,22 @@ fn run_thread(
     most: u32,
     trace: &mut Trace,
     batch: &mut [Entry; BATCH],
-) -> Row
+    last: &mut Option<Entry>,
+) -> u32
     requires time { tick < 2 ^ 63 }
     requires room { thread.old.used + most < 2 ^ 32 }
-    ensures few { result.steps ≤ most }
-    ensures plain { ArePlain result.steps (core thread.old.cpu memory.old) }
-    ensures thread { thread.new ≡ computed result.steps (plain_steps result.steps (core thread.old.cpu memory.old)).cpu thread.old }
-    ensures memory { memory.new ≡ (plain_steps result.steps (core thread.old.cpu memory.old)).memory }
-    ensures traced { trace.new ≡ traced tick t result.steps (core thread.old.cpu memory.old) trace.old }
-    ensures last { result.last ≡ last_entry tick t result.steps (core thread.old.cpu memory.old) }
-    ensures ended { result.steps < most → is_plain (plain_steps result.steps (core thread.old.cpu memory.old)) ≡ false }
+    ensures few { result ≤ most }
+    ensures plain { ArePlain result (core thread.old.cpu memory.old) }
+    ensures thread { thread.new ≡ computed result (plain_steps result (core thread.old.cpu memory.old)).cpu thread.old }
+    ensures memory { memory.new ≡ (plain_steps result (core thread.old.cpu memory.old)).memory }
+    ensures traced { trace.new ≡ traced tick t result (core thread.old.cpu memory.old) trace.old }
+    ensures last { last.new ≡ option_or (last_entry tick t result (core thread.old.cpu memory.old)) last.old }
+    ensures ended { result < most → is_plain (plain_steps result (core thread.old.cpu memory.old)) ≡ false }
 {
-    let row = run_row(&mut thread.cpu, memory, tick, t, most, trace, batch);
+    let steps = run_row(&mut thread.cpu, memory, tick, t, most, trace, batch, last);
     match thread.policy {
         Policy::Fifo => {}
-        Policy::RoundRobin => thread.used += row.steps,
+        Policy::RoundRobin => thread.used += steps,
     }
-    row
-}
-
-/// The last step is the newest one, if there is one; else it stays.
-#[inline(always)]
-fn note_newest(last: &mut Option<Entry>, newest: Option<Entry>)
-    ensures { last.new ≡ option_or newest last.old }
-{
-    if newest.is_some() {
-        *last = newest;
-    }
+    steps
 }

@@ -11,6 +11,7 @@ fn limits_of(threads: u32) -> Limits
     ensures threads { result.threads ≡ threads }
     ensures mutexes { result.mutexes ≡ 4 }
     ensures conditions { result.conditions ≡ 4 }
+    ensures keys { result.keys ≡ 4 }
 {
     Limits {
         memory: 4096,

@@ -1,21 +1,21 @@
 //! A thread's number, and the fields of its entry. A move of a field leaves a free number free. Where a move may change
 //! who raises whom, the partition's stored priorities are computed again.
 
-ghost use Rattle.std.specs.Prelude.{◌≡◌, ◌<◌, length, Some, is_some};
+ghost use Rattle.std.specs.Prelude.{◌≡◌, ◌<◌, length, Some};
 ghost use Rattle.ptk_words.specs.Pools.{least_free};
 ghost use Rattle.ptk_words.specs.Threads.{left_at_end, left_at_detach};
 ghost use Rattle.ptk_words_model.specs.State.{with_locks};
-ghost use Rattle.ptk_words_model.specs.Priority.{mutex_of_wait};
 ghost use Rattle.ptk_words_model.specs.Schedule.{with_thread, with_used};
 ghost use Rattle.ptk_words_model.specs.Unwinding.{without_thread};
+ghost use Rattle.ptk_words_model.specs.Withdrawal.{without_joiner};
 ghost use Rattle.ptk_words_model.specs.Decision.{with_cpu};
 ghost use Rattle.ptk_threads.specs.Table.{with_policy, with_priority, with_joiner, with_result, with_phase, with_wait};
 ghost use Rattle.ptk_gate_pools.specs.Kept.{part_at, put_part};
 ghost use Rattle.ptk_mutex.specs.Tables.{AreLocked};
 ghost use Rattle.ptk_gate_pools.specs.Moves.{with_number, with_left};
 
-use crate::deadlines::follow_wait;
 use crate::pools::Pools;
+use ptk_gate_waits::{follow_wait, is_for_mutex};
 use ptk_words::{Cpu, PartId, Phase, Policy, Priority, Thread, ThreadNo, Wait};
 
 impl Pools {
@@ -123,6 +123,15 @@ impl Pools {
         self.threads.set_joiner(p, t, Some(joiner));
     }
 
+    /// Nobody waits for the end of the thread any more (pthread_join).
+    #[tactic(auto, using(crate::proofs::Parted::parted, crate::proofs::Stored::stored, crate::proofs::Timed::kept))]
+    pub fn drop_joiner(&mut self, p: PartId, u: ThreadNo)
+        requires partition { p < length self.old.limits }
+        ensures { self.new ≡ put_part p (with_locks (without_joiner u) (part_at p self.old)) self.old }
+    {
+        self.threads.set_joiner(p, u, None);
+    }
+
     /// The thread is detached: its number is free where it has ended (pthread_detach).
     #[tactic(auto, using(crate::proofs::Parted::parted, crate::proofs::Stored::refreshed, crate::proofs::Timed::followed))]
     pub fn detach(&mut self, p: PartId, t: ThreadNo)
@@ -143,19 +152,5 @@ impl Pools {
         self.threads.end(p, t);
         follow_wait(&mut self.deadlines, &self.threads, p, t);
         self.mutexes.refresh(&mut self.threads, p);
-    }
-}
-
-/// Whether the wait is for a mutex.
-fn is_for_mutex(wait: &Option<Wait>) -> bool
-    ensures { result ≡ is_some (mutex_of_wait wait.now) }
-{
-    match wait {
-        Some(Wait::MutexWait(_, _)) | Some(Wait::RelockWait(_, _)) => true,
-        Some(Wait::InputWait)
-        | Some(Wait::SleepWait(_))
-        | Some(Wait::JoinWait(_))
-        | Some(Wait::ConditionWait(_, _, _))
-        | None => false,
     }
 }

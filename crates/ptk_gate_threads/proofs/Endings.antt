@@ -1,19 +1,16 @@
--- The end of a thread in a whole state: its mutexes are given up first, and no handler and no destructor is due.
+-- The end of a thread in a whole state: its mutexes are given up first.
 use Rattle.std.proofs.Common.{◌≡◌, ℕ, ◌<◌, false, refl, sym, ◌∙◌, ap, subst}
-use Rattle.std.specs.Prelude.{Option, Some, None, IsSome, IfSome, List}
+use Rattle.std.specs.Prelude.{Option, Some, None, IsSome, IfSome}
 use Rattle.ptk_words.specs.declared.sections.Limits.{Limits}
 use Rattle.ptk_words.specs.declared.threads.Thread.{Thread}
-use Rattle.ptk_words.specs.declared.threads.Cleanup.{Cleanup}
 use Rattle.ptk_words.specs.declared.threads.Wait.TheVariants.{JoinWait}
 use Rattle.ptk_words_model.specs.State.{Locks, Part, with_locks}
 use Rattle.ptk_words_model.specs.Priority.{thread_at}
 use Rattle.ptk_words_model.specs.Mutex.{wait_of, after_owner_end}
-use Rattle.ptk_words_model.specs.Keys.{DestructorCall}
-use Rattle.ptk_words_model.specs.Unwinding.{after_release, after_last_end, after_end, after_unwinding_move, after_destructor_or_end, cleanups_of}
+use Rattle.ptk_words_model.specs.Unwinding.{after_release, after_last_end, after_end}
 use Rattle.ptk_words_locks.specs.Locks.{joiner_of}
 use Rattle.ptk_words_well.specs.Well.{IsWell}
 use Rattle.ptk_words.specs.Pools.{is_in}
-use Rattle.ptk_words_well.proofs.Destructors.{cleanups_none, next_destructor_none}
 use Rattle.ptk_words_locks.proofs.Lined.{not_ready_out}
 use Rattle.ptk_words_well.proofs.Whole.{lined_of}
 use Rattle.ptk_words_well.proofs.Waits.{waits_not_ready}
@@ -71,10 +68,3 @@ pub ended : (n p t : ℕ) (kept mid new : Kept) → AreParts n kept → p < n �
 ended n p t kept mid new parts lt first second =
     moved_twice n p (with_locks (after_owner_end t) (part_at p kept)) (after_end t (part_at p kept)) (λ (s : Part). after_last_end (stopped (with_locks (after_release t (thread_at s.locks t)) s)))
     kept mid new parts lt first second (end_is t (part_at p kept))
-
--- ---- the move of an unwinding thread
-
-pub unwinding_move_is : (limits : Limits) (t : ℕ) (s : Part) → IsWell limits s → after_unwinding_move t (cleanups_of s t) s ≡ after_end t s
-unwinding_move_is limits t s well =
-    ap (λ (cleanups : List Cleanup). after_unwinding_move t cleanups s) (cleanups_none limits.threads t s well.unused.cleanups)
-    ∙ ap (λ (call : Option DestructorCall). after_destructor_or_end t call s) (next_destructor_none s.keys t limits.keys well.unused.destructors)

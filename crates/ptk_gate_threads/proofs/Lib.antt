@@ -3,3 +3,4 @@ pub mod Decoding
 pub mod Owners
 pub mod Leaving
 pub mod Endings
+pub mod Handlers

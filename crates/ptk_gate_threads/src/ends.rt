@@ -1,64 +1,26 @@
-//! The end of a thread, and the steps at the return gate.
+//! The end of a thread.
 
 ghost use Rattle.std.specs.Prelude.{◌≡◌, ◌<◌, false, length, Some, IsSome, IfSome};
 ghost use Rattle.std.specs.List.{list_any};
 ghost use Rattle.ptk_words_model.specs.State.{with_locks};
 ghost use Rattle.ptk_words_model.specs.Priority.{thread_at};
-ghost use Rattle.ptk_words_model.specs.Unwinding.{is_alive, after_join_by, after_release, after_last_end, after_end, after_return, after_gate_step, after_unwinding_move, cleanups_of};
+ghost use Rattle.ptk_words_model.specs.Unwinding.{is_alive, after_join_by, after_release, after_last_end, after_end};
 ghost use Rattle.ptk_words_locks.specs.Locks.{joiner_of};
 ghost use Rattle.ptk_words_well.specs.Well.{IsWell};
 ghost use Rattle.ptk_words.specs.Pools.{is_in};
 ghost use Rattle.ptk_gate_pools.specs.Kept.{part_at, put_part, limits_at};
 ghost use Rattle.ptk_gate_pools.specs.Moves.{stopped};
 
-use ptk_gate_moves::{halt, is_ended, start_unwinding, wake};
+use ptk_gate_moves::{halt, is_ended, wake};
 use ptk_gate_pools::Pools;
 use ptk_threads::Slot;
-use ptk_words::{A0, PartId, Phase, Status, Thread, ThreadNo};
-
-/// A step at the return gate: a normal thread's start routine has returned, an unwinding one ends (pthread_exit).
-#[tactic(auto, using(ptk_gate_pools::proofs::Parted::parted))]
-pub fn step_at_gate(pools: &mut Pools, p: PartId, t: ThreadNo, thread: Thread)
-    requires partition { p < length pools.old.limits }
-    requires well { IsWell (limits_at p pools.old) (part_at p pools.old) }
-    ensures { pools.new ≡ put_part p (after_gate_step thread.phase t thread (part_at p pools.old)) pools.old }
-{
-    match thread.phase {
-        Phase::Normal => return_from(pools, p, t, thread),
-        Phase::Unwinding => unwind_further(pools, p, t),
-        Phase::Ended => {}
-    }
-}
-
-/// A return of the main thread exits the partition with a0, of any other begins its unwinding (pthread_create).
-#[tactic(auto, using(ptk_gate_pools::proofs::Parted::parted))]
-fn return_from(pools: &mut Pools, p: PartId, t: ThreadNo, thread: Thread)
-    requires partition { p < length pools.old.limits }
-    ensures { pools.new ≡ put_part p (after_return t thread (part_at p pools.old)) pools.old }
-{
-    let value = thread.cpu.register(A0);
-    if thread.is_main {
-        halt(pools, p, Status::Exited((value % 256) as u8));
-    } else {
-        start_unwinding(pools, p, t, value);
-    }
-}
-
-/// The next move of an unwinding thread, which has no handlers and no keys: its end (XSH 2.9.5.3).
-#[tactic(auto, using(ptk_gate_pools::proofs::Parted::parted))]
-fn unwind_further(pools: &mut Pools, p: PartId, t: ThreadNo)
-    requires partition { p < length pools.old.limits }
-    requires well { IsWell (limits_at p pools.old) (part_at p pools.old) }
-    ensures { pools.new ≡ put_part p (after_unwinding_move t (cleanups_of (part_at p pools.old) t) (part_at p pools.old)) pools.old }
-{
-    end(pools, p, t);
-}
+use ptk_words::{PartId, Status, Thread, ThreadNo};
 
 /// The thread has ended: its robust mutexes go to their heirs and its others are nobody's, then its joiner is woken,
 /// its number free or kept, and the last thread's end exits the partition with 0 (pthread_exit,
 /// pthread_mutexattr_setrobust).
 #[tactic(auto, using(ptk_gate_moves::proofs::Locked::locked))]
-fn end(pools: &mut Pools, p: PartId, t: ThreadNo)
+pub(crate) fn end(pools: &mut Pools, p: PartId, t: ThreadNo)
     requires partition { p < length pools.old.limits }
     requires well { IsWell (limits_at p pools.old) (part_at p pools.old) }
     ensures { pools.new ≡ put_part p (after_end t (part_at p pools.old)) pools.old }

@@ -18,4 +18,5 @@ mod steps;
 mod tests;
 
 pub use decisions::{decide, last_step};
+pub use ptk_gate::Tables;
 pub use rows::{compute, idle_until};

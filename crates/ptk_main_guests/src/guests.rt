@@ -6,8 +6,7 @@ ghost use Rattle.ptk_words.specs.declared.TheConstants.{LAST_TICK};
 use ptk_asm::assemble;
 use ptk_config::{Config, read_config};
 use ptk_image::write_image;
-use ptk_main_runs::{run_with, trace_with};
-use ptk_system::Files;
+use ptk_main_runs::{Files, run_with, trace_with};
 use ptk_words::{LAST_TICK, Tick};
 use std::alloc::{AllocError, Global};
 

@@ -1,7 +1,7 @@
 //! What the tests of whole runs share: guests from their sources, their reports and traces, and what is seen of a
 //! partition on the way. Memory is ample there, so an answer that it is wanting is one that fails. The functions promise
 //! nothing, and stand between each row and the calls that it tests, so that a check does not compute the rows' runs.
-//! Below stand the assembler (`ptk_asm`), whole runs (`ptk_main_runs`) and the system (`ptk_system`); above, the crates of
+//! Below stand the assembler (`ptk_asm`), whole runs and their system (`ptk_main_runs`); above, the crates of
 //! worked rows.
 #![tactic(auto)]
 

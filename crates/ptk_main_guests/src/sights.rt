@@ -2,8 +2,8 @@
 
 use crate::guests::{guest_of, is_report, tick_of};
 use ptk_config::Config;
+use ptk_main_runs::{Files, System};
 use ptk_mutex::effective;
-use ptk_system::{Files, System};
 use ptk_words::{MutexNo, PartId, ThreadNo, Wait};
 use std::alloc::Global;
 

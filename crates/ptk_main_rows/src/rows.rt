@@ -208,13 +208,19 @@ pub const QUIET: [u32; 9] = [
     0x00000073, // ecall
 ];
 
-/// Creates threads until it is refused, fills its output and stops at EBREAK.
-pub const STORM: [u32; 17] = [
-    0x494b5450, 0x00000001, 0x00000000, 0x0000002c, 0x00000000, 0x00000000, 0x00000513, // li a0, 0
-    0x02800593, // li a1, 40
+/// Creates threads and locks mutexes until it is refused, fills its output and stops at EBREAK.
+pub const STORM: [u32; 23] = [
+    0x494b5450, 0x00000001, 0x00000000, 0x00000044, 0x00000000, 0x00000000, 0x00000513, // li a0, 0
+    0x04000593, // li a1, 64
     0x00a00893, // li a7, 10
     0x00000073, // ecall
     0xfe0508e3, // beq a0, zero, create
+    0x40000413, // li s0, 1024
+    0x00040513, // mv a0, s0
+    0x01600893, // li a7, 22
+    0x00000073, // ecall
+    0x00440413, // addi s0, s0, 4
+    0xfe0508e3, // beq a0, zero, lock
     0x02100513, // li a0, 33
     0x00100893, // li a7, 1
     0x00000073, // ecall

@@ -10,8 +10,7 @@ mod greatest;
 
 use crate::rows;
 use ptk_config::{Config, read_config};
-use ptk_main_runs::{RunFault, run_with, trace_with};
-use ptk_system::{Files, System};
+use ptk_main_runs::{Files, RunFault, System, run_with, trace_with};
 use ptk_words::{PartId, ThreadNo, Tick};
 use std::alloc::{AllocError, Global};
 use std::io::Write;
@@ -579,7 +578,7 @@ fn a_neighbour_that_exhausts_changes_nothing(rt: HostRuntime) {
             &BESIDE_QUIET,
             &rows::PUTS_THE_NUMBER,
             &rows::QUIET,
-            1400,
+            1500,
             "partition q exit 0 steps 3 lost 0\noutput 0\n\npartition p exit 7 steps 20 lost 0\noutput 1\n2\n"
         )
     );
@@ -589,8 +588,8 @@ fn a_neighbour_that_exhausts_changes_nothing(rt: HostRuntime) {
             &BESIDE_STORM,
             &rows::PUTS_THE_NUMBER,
             &rows::STORM,
-            1400,
-            "partition q fault break pc 0x00000024 steps 181 lost 121\noutput 4\n!!!!\npartition p exit 7 steps 20 lost 0\noutput 1\n2\n"
+            1500,
+            "partition q fault break pc 0x0000003c steps 207 lost 131\noutput 4\n!!!!\npartition p exit 7 steps 20 lost 0\noutput 1\n2\n"
         )
     );
     let beside_quiet = trace(
@@ -598,14 +597,14 @@ fn a_neighbour_that_exhausts_changes_nothing(rt: HostRuntime) {
         &BESIDE_QUIET,
         &rows::PUTS_THE_NUMBER,
         &rows::QUIET,
-        1400,
+        1500,
     );
     let beside_storm = trace(
         alloc,
         &BESIDE_STORM,
         &rows::PUTS_THE_NUMBER,
         &rows::STORM,
-        1400,
+        1500,
     );
     assert!(rt; are_alike(beside_quiet, beside_storm));
 }

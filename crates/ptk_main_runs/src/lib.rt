@@ -6,4 +6,5 @@
 
 mod runs;
 
+pub use ptk_system::{BootFault, Files, System};
 pub use runs::{RunFault, run_with, trace_with};

@@ -15,7 +15,7 @@ use Rattle.ptk_console.specs.ConsoleTable.{fresh_console, no_limits}
 use Rattle.ptk_gate_pools.specs.Kept.{Kept, AreParts, limits_at, part_at, put_part}
 use Rattle.ptk_gate_pools.specs.Blank.{blank}
 use Rattle.ptk_gate_pools.proofs.Parted.{part_at-put, part_at-other, parts_put}
-use Rattle.ptk_gate.proofs.Blanks.{part_at-blank}
+use Rattle.ptk_system_machine.proofs.Blanks.{part_at-blank}
 use Rattle.ptk_config.specs.Sections.{Section}
 use Rattle.ptk_config.specs.Configuration.{Configuration, IsConfiguration}
 use Rattle.ptk_system_files.specs.NamedFiles.{NamedFile}

@@ -11,10 +11,9 @@ ghost use Rattle.ptk_system.specs.World.{IsRun};
 
 use crate::fault::BootFault;
 use ptk_config::{Config, Section};
-use ptk_gate::Tables;
 use ptk_image::read_image;
 use ptk_system_files::Files;
-use ptk_system_machine::Machine;
+use ptk_system_machine::{Machine, Tables};
 use ptk_words::{Arrival, ImageFault, Limits, PartId};
 use std::alloc::{AllocError, Global};
 

@@ -9,7 +9,7 @@ ghost use Rattle.ptk_system.specs.World.{section_at, state_of};
 
 use crate::status::PartStatus;
 use crate::system::System;
-use ptk_gate::Tables;
+use ptk_system_machine::Tables;
 use ptk_trace::Trace;
 use ptk_words::{Cpu, PartId, Phase, ThreadNo};
 

@@ -13,3 +13,4 @@ mod turns;
 
 pub use account::Account;
 pub use machine::Machine;
+pub use ptk_kernel::Tables;

@@ -7,7 +7,7 @@ ghost use Rattle.ptk_gate_pools.specs.Kept.{AreParts, limits_at};
 ghost use Rattle.ptk_system_machine.specs.Whole.{IsWhole, account_at, first_account_of, no_account};
 
 use crate::account::Account;
-use ptk_gate::Tables;
+use ptk_kernel::Tables;
 use ptk_window::{Near, WindowTable};
 use ptk_words::{Limits, PartId, Status, Tick};
 use std::alloc::{AllocError, Global};

@@ -14,8 +14,7 @@ ghost use Rattle.ptk_system_machine.specs.Whole.{AreWindowsOf, account_at, gone_
 
 use crate::account::duration;
 use crate::machine::{Machine, is_active};
-use ptk_gate::Tables;
-use ptk_kernel::{compute, decide, idle_until, last_step};
+use ptk_kernel::{Tables, compute, decide, idle_until, last_step};
 use ptk_trace_rows::BATCH;
 use ptk_window::{Near, Turn, WindowTable};
 use ptk_words::{Entry, PartId, Status, Tick};

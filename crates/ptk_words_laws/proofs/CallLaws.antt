@@ -1,5 +1,5 @@
 -- Every number costs 1 to 16 ticks, and a call is the call of its own number alone.
-use Rattle.std.proofs.Common.{◌≡◌, ℕ, ◌≤◌, Bool, true, false, List, [], ◌∷◌, ◌==◌, refl, subst, lit≤}
+use Rattle.std.proofs.Common.{◌≡◌, ℕ, ◌≤◌, Bool, true, false, List, [], ◌∷◌, ◌==◌, refl, ap, subst, lit≤}
 use Rattle.std.specs.Prelude.{find, option_map, unwrap_or, if◌then◌else◌, Option, Some, None}
 use Rattle.std.specs.List.{Contains}
 use Rattle.std.proofs.lemmas.Bool.{eqb-true}
@@ -7,6 +7,7 @@ use Rattle.std.proofs.lemmas.List.Elements.{Contains-append_left, Contains-appen
 use Rattle.ptk_words.specs.declared.calls.Call.{Call}
 use Rattle.ptk_words.specs.declared.calls.Call.TheVariants as call
 use Rattle.ptk_words.specs.Calls.{calls, number_of, ticks_of, call_of, cost_of}
+use Rattle.ptk_words_model.specs.CallTable.{answer_to}
 use Rattle.ptk_words_laws.specs.Laws.{CallsAreNumbered}
 
 -- ---- ticks
@@ -57,4 +58,5 @@ calls_numbered =
       listed = λ known. (of_number (number_of known) known (own_number known)).listed;
       of_its_number = own_number;
       of_no_other = λ number known found. eqb-true (number_of known) number (of_number number known found).passes;
+      answered = λ known. ap answer_to (own_number known);
     }

@@ -6,6 +6,7 @@ use Rattle.ptk_words.specs.Pools.{pool_get}
 use Rattle.ptk_words.specs.declared.calls.Call.{Call}
 use Rattle.ptk_words.specs.declared.threads.Thread.{Thread}
 use Rattle.ptk_words_model.specs.State.{Mutex, Console}
+use Rattle.ptk_words_model.specs.CallTable.{answer_of, answer_to}
 use Rattle.ptk_words_model.specs.Chain.{Leads, leads_to}
 use Rattle.ptk_words_model.specs.Priority.{next_of, effective_of, IsEffectivePriority}
 use Rattle.ptk_words_model.specs.Console.{is_due_at, arriving, without_arriving}
@@ -19,11 +20,12 @@ pub record CostsAreSmall : Type 0 where
   pub at_most_sixteen : (number : ℕ) → cost_of number ≤ 16
   pub greatest : (number : ℕ) × (cost_of number ≡ 16)
 
--- every call stands in the list, and is the call of its own number and of no other
+-- every call stands in the list, is the call of its own number and of no other, and is answered by its row
 pub record CallsAreNumbered : Type 0 where
   pub listed : (known : Call) → Contains calls known
   pub of_its_number : (known : Call) → call_of (number_of known) ≡ Some known
   pub of_no_other : (number : ℕ) → (known : Call) → call_of number ≡ Some known → number_of known ≡ number
+  pub answered : (known : Call) → answer_to (call_of (number_of known)) ≡ answer_of known
 
 -- ---- priorities
 

@@ -15,7 +15,7 @@ pub fn costs_are_small()
     ensures { CostsAreSmall }
 {}
 
-/// Every call stands in the list of calls, and is the call of its own number and of no other.
+/// Every call stands in the list of calls, is the call of its own number and of no other, and is answered by its row.
 pub fn calls_are_numbered()
     ensures { CallsAreNumbered }
 {}

@@ -263,7 +263,7 @@ pub fn thread_refused()
     ensures { ThreadRefused }
 {}
 
-/// What self and getschedparam tell, and numbers that are no call.
+/// What self and getschedparam tell, and what the numbers of calls and other numbers are answered.
 pub fn small_calls()
     ensures { SmallCalls }
 {}

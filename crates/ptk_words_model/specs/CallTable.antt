@@ -9,8 +9,10 @@ use Rattle.ptk_words_model.specs.ThreadCalls.{create, pthread_exit, join, detach
 use Rattle.ptk_words_model.specs.TimeCalls.{clock_gettime, clock_nanosleep}
 use Rattle.ptk_words_model.specs.MutexCalls.{mutex_init, mutex_destroy, mutex_lock, mutex_trylock, mutex_timedlock, mutex_unlock, mutex_consistent}
 use Rattle.ptk_words_model.specs.ConditionCalls.{cond_init, cond_destroy, cond_wait, cond_timedwait, cond_signal, cond_broadcast}
+use Rattle.ptk_words_model.specs.CancellationCalls.{cancel, setcancelstate, setcanceltype, testcancel, cleanup_push, cleanup_pop}
+use Rattle.ptk_words_model.specs.KeyCalls.{key_create, key_delete, setspecific, getspecific}
 
--- what a call comes to; cancellation and keys name their definitions when code carries them, and answer ENOSYS until then (own)
+-- what a call comes to: every call of the table has its row (own)
 abbrev pub answer_of : Call → Row
 answer_of call.Exit = exit_call
 answer_of call.ConsolePut = console_put
@@ -39,16 +41,16 @@ answer_of call.CondWait = cond_wait
 answer_of call.CondTimedwait = cond_timedwait
 answer_of call.CondSignal = cond_signal
 answer_of call.CondBroadcast = cond_broadcast
-answer_of call.PthreadCancel = no_call
-answer_of call.PthreadSetcancelstate = no_call
-answer_of call.PthreadSetcanceltype = no_call
-answer_of call.PthreadTestcancel = no_call
-answer_of call.CleanupPush = no_call
-answer_of call.CleanupPop = no_call
-answer_of call.KeyCreate = no_call
-answer_of call.KeyDelete = no_call
-answer_of call.PthreadSetspecific = no_call
-answer_of call.PthreadGetspecific = no_call
+answer_of call.PthreadCancel = cancel
+answer_of call.PthreadSetcancelstate = setcancelstate
+answer_of call.PthreadSetcanceltype = setcanceltype
+answer_of call.PthreadTestcancel = testcancel
+answer_of call.CleanupPush = cleanup_push
+answer_of call.CleanupPop = cleanup_pop
+answer_of call.KeyCreate = key_create
+answer_of call.KeyDelete = key_delete
+answer_of call.PthreadSetspecific = setspecific
+answer_of call.PthreadGetspecific = getspecific
 
 -- what the call of a number comes to, if it is one's (own, ENOSYS)
 abbrev pub answer_to : Option Call → Row

@@ -57,7 +57,7 @@ told (Some word) i s = answer (Done word) (replied i.caller (word ∷ []) s)
 abbrev pub blocked_in : Wait → Invocation → Part → Answer
 blocked_in wait i s = blocked (with_locks (with_thread i.caller (λ thread. record thread { wait = Some wait })) s)
 
--- a number that is no call, or a call that is not in use yet (own, ENOSYS)
+-- a number that is no call (own, ENOSYS)
 abbrev pub no_call : Invocation → Part → Answer
 no_call i s = refusal ENOSYS i s
 

@@ -1,4 +1,4 @@
--- Each call in use leaves the state whole.
+-- Each call leaves the state whole.
 use Rattle.std.proofs.Common.{◌≡◌, ℕ, ◌%◌, Bool, true, false, not, List, [], ◌∷◌, refl, sym, ◌∙◌, ap}
 use Rattle.std.specs.Prelude.{Option, Some, None, unwrap_or, is_some, nat_lt, ◌==◌, if◌then◌else◌}
 use Rattle.std.proofs.lemmas.Bool.{false≢true, or_parts}
@@ -33,6 +33,8 @@ use Rattle.ptk_words_locks.proofs.Lined.{ready_alive}
 use Rattle.ptk_words_well.proofs.MutexCalls.{well_mutex_init, well_mutex_destroy, well_mutex_lock, well_mutex_trylock, well_mutex_unlock, well_mutex_consistent}
 use Rattle.ptk_words_well.proofs.TimeRows.{well_clock_gettime, well_clock_nanosleep, well_mutex_timedlock}
 use Rattle.ptk_words_well.proofs.ConditionRows.{well_cond_init, well_cond_destroy, well_cond_wait, well_cond_timedwait, well_cond_signal, well_cond_broadcast}
+use Rattle.ptk_words_well.proofs.CancellationRows.{well_cancel, well_setcancelstate, well_setcanceltype, well_testcancel, well_cleanup_push, well_cleanup_pop}
+use Rattle.ptk_words_well.proofs.KeyRows.{well_key_create, well_key_delete, well_setspecific, well_getspecific}
 use Rattle.ptk_words_well.proofs.Steps.{well_refusal, well_success, either_well, well_unless, well_given, well_valid, well_using, well_cancellation_answer, Keeps, well_no_call}
 use Rattle.ptk_words_well.proofs.Threads.{well_policy, well_priority, well_detached}
 use Rattle.ptk_words_well.proofs.Parts.{well_output, well_taken, well_halt}
@@ -196,16 +198,16 @@ well_answer call.CondWait = well_cond_wait
 well_answer call.CondTimedwait = well_cond_timedwait
 well_answer call.CondSignal = well_cond_signal
 well_answer call.CondBroadcast = well_cond_broadcast
-well_answer call.PthreadCancel = well_no_call
-well_answer call.PthreadSetcancelstate = well_no_call
-well_answer call.PthreadSetcanceltype = well_no_call
-well_answer call.PthreadTestcancel = well_no_call
-well_answer call.CleanupPush = well_no_call
-well_answer call.CleanupPop = well_no_call
-well_answer call.KeyCreate = well_no_call
-well_answer call.KeyDelete = well_no_call
-well_answer call.PthreadSetspecific = well_no_call
-well_answer call.PthreadGetspecific = well_no_call
+well_answer call.PthreadCancel = well_cancel
+well_answer call.PthreadSetcancelstate = well_setcancelstate
+well_answer call.PthreadSetcanceltype = well_setcanceltype
+well_answer call.PthreadTestcancel = well_testcancel
+well_answer call.CleanupPush = well_cleanup_push
+well_answer call.CleanupPop = well_cleanup_pop
+well_answer call.KeyCreate = well_key_create
+well_answer call.KeyDelete = well_key_delete
+well_answer call.PthreadSetspecific = well_setspecific
+well_answer call.PthreadGetspecific = well_getspecific
 
 -- a call, or none
 pub well_answer_to : (known : Option Call) → Keeps (answer_to known)

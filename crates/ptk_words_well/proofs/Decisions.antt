@@ -1,5 +1,5 @@
 -- A step and a decision leave the state whole.
-use Rattle.std.proofs.Common.{◌≡◌, ℕ, ◌%◌, Bool, true, false, List, [], ◌∷◌, length, refl, sym, ◌∙◌, ap, subst}
+use Rattle.std.proofs.Common.{◌≡◌, ℕ, ◌%◌, Bool, true, false, List, [], ◌∷◌, length, refl, ◌∙◌, ap}
 use Rattle.std.specs.Prelude.{Option, Some, None, fold, nat_lt, if◌then◌else◌}
 use Rattle.ptk_words.specs.Processor.{Processor, register}
 use Rattle.ptk_words.specs.declared.TheConstants.{A0, A7, CANCELED}
@@ -15,9 +15,9 @@ use Rattle.ptk_words_instructions.specs.Instructions.{Effect, Done, Call, Break,
 use Rattle.ptk_words_model.specs.declared.Runner.{Runner}
 use Rattle.ptk_words_model.specs.declared.StepKind.{StepKind}
 use Rattle.ptk_words_model.specs.declared.StepKind.TheVariants.{UnwindingStart, GateStep, CallStep, InstructionStep}
-use Rattle.ptk_words_model.specs.State.{Part, with_console, with_halt}
+use Rattle.ptk_words_model.specs.State.{Part, with_cleanups, with_keys, with_console, with_halt}
 use Rattle.ptk_words_model.specs.Priority.{thread_at}
-use Rattle.ptk_words_model.specs.Keys.{DestructorCall, next_destructor}
+use Rattle.ptk_words_model.specs.Keys.{DestructorCall, destructor_of, next_destructor, after_destructor_call}
 use Rattle.ptk_words_model.specs.Unwinding.{after_unwinding_start, after_destructor_or_end, after_unwinding_move, cleanups_of, after_return, after_gate_step}
 use Rattle.ptk_words_model.specs.Withdrawal.{after_expiries}
 use Rattle.ptk_words_model.specs.Console.{arriving, without_arriving}
@@ -25,26 +25,32 @@ use Rattle.ptk_words_model.specs.Decision.{after_arrival_for, first_waiter, afte
 use Rattle.ptk_words_model.specs.Run.{is_active}
 use Rattle.ptk_words_well.specs.Well.{IsWell}
 use Rattle.ptk_words_locks.proofs.Lined.{ready_alive}
-use Rattle.ptk_words_well.proofs.Threads.{well_cpu}
+use Rattle.ptk_words_well.proofs.Threads.{well_cpu, well_routine_call}
 use Rattle.ptk_words_well.proofs.Parts.{well_memory, well_last, well_halt}
 use Rattle.ptk_words_well.proofs.Turns.{well_choice, well_interval}
 use Rattle.ptk_words_well.proofs.Waits.{well_arrivals}
-use Rattle.ptk_words_well.proofs.Unwindings.{well_unwinding_start}
+use Rattle.ptk_words_well.proofs.Unwindings.{well_cleanups, popped_within, well_destructor_call, well_unwinding_start}
 use Rattle.ptk_words_well.proofs.Ends.{well_end}
 use Rattle.ptk_words_well.proofs.Effects.{HasLength, effect_length}
-use Rattle.ptk_words_well.proofs.Destructors.{next_destructor_none, cleanups_none}
 use Rattle.ptk_words_well.proofs.Timeouts.{well_expiries, expiries_status}
 use Rattle.ptk_words_well.proofs.Calls.{well_call}
 
 -- ---- the return gate
 
+destructor_or_end_at : (limits : Limits) (t : ℕ) (o : Option DestructorCall) (s : Part) → s.running ≡ Some t → IsWell limits s → IsWell limits (after_destructor_or_end t o s)
+destructor_or_end_at limits t None s runs well = well_end limits t s runs well
+destructor_or_end_at limits t (Some call) s runs well =
+    well_routine_call limits t (destructor_of s.keys call.key) call.argument (with_keys (after_destructor_call t call) s) (well_destructor_call limits t call s well)
+
+unwinding_move_at : (limits : Limits) (t : ℕ) (cleanups : List Cleanup) (s : Part) → cleanups_of s t ≡ cleanups → s.running ≡ Some t → IsWell limits s → IsWell limits (after_unwinding_move t cleanups s)
+unwinding_move_at limits t [] s e runs well = destructor_or_end_at limits t (next_destructor s.keys t) s runs well
+unwinding_move_at limits t (cleanup ∷ cleanups) s e runs well =
+    well_routine_call limits t cleanup.routine cleanup.argument (with_cleanups t (λ _. cleanups) s)
+    (well_cleanups limits t (λ _. cleanups) s (λ _ _. popped_within limits t cleanup cleanups s e well) well)
+
+-- a handler or a destructor is called, or the thread ends
 pub well_unwinding_move : (limits : Limits) (t : ℕ) (s : Part) → s.running ≡ Some t → IsWell limits s → IsWell limits (after_unwinding_move t (cleanups_of s t) s)
-well_unwinding_move limits t s runs well =
-    let none : cleanups_of s t ≡ [] = cleanups_none limits.threads t s well.unused.cleanups in
-    let last : next_destructor s.keys t ≡ None = next_destructor_none s.keys t limits.keys well.unused.destructors in
-    let at_end : Option DestructorCall → Type 0 = λ (o : Option DestructorCall). IsWell limits (after_destructor_or_end t o s) in
-    let at_move : List Cleanup → Type 0 = λ (cleanups : List Cleanup). IsWell limits (after_unwinding_move t cleanups s) in
-    subst at_move (sym none) (subst at_end (sym last) (well_end limits t s runs well))
+well_unwinding_move limits t s runs well = unwinding_move_at limits t (cleanups_of s t) s refl runs well
 
 return_at : (limits : Limits) (t : ℕ) (thread : Thread) (s : Part) (b : Bool) → s.running ≡ Some t → IsWell limits s
     → IsWell limits (if b then with_halt (Exited (register thread.cpu A0 % 256)) s else after_unwinding_start t (register thread.cpu A0) s)

@@ -10,13 +10,15 @@ pub mod Unwindings
 pub mod Effects
 pub mod Ends
 pub mod Starts
-pub mod Destructors
 pub mod Timeouts
 pub mod Steps
 pub mod MutexCalls
 pub mod NamedRows
 pub mod TimeRows
 pub mod ConditionRows
+pub mod Withdrawals
+pub mod CancellationRows
+pub mod KeyRows
 pub mod Calls
 pub mod Decisions
 pub mod Runs

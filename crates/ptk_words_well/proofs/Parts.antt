@@ -14,18 +14,11 @@ use Rattle.ptk_words_well.specs.Well.{IsWell}
 same_places : (limits : Limits) (s : Part) (memory : List ℕ) (console : Console) (last : Option Entry) → length memory ≡ limits.memory → console.waiters ≡ s.console.waiters → length console.ring ≤ limits.ring → length console.output ≤ limits.output
     → IsWell limits s → IsWell limits (record s { memory = memory; console = console; last = last })
 same_places limits s memory console last size waiters ring output well = record {
-  unused = record {
-    cleanups = well.unused.cleanups;
-    destructors = well.unused.destructors;
-    values = well.unused.values;
-    calm = well.unused.calm;
-  };
   memory = size;
   threads = well.threads;
   mutexes = well.mutexes;
   conditions = well.conditions;
-  cancellations = well.cancellations;
-  rounds = well.rounds;
+  endings = well.endings;
   line_ready = well.line_ready;
   line_distinct = well.line_distinct;
   running_ready = well.running_ready;
@@ -78,18 +71,11 @@ well_arriving limits tick s well = well_console limits (without_arriving tick s.
 -- a partition that halts has no running thread
 pub well_halt : (limits : Limits) (status : Status) (s : Part) → IsWell limits s → IsWell limits (with_halt status s)
 well_halt limits status s well = record {
-  unused = record {
-    cleanups = well.unused.cleanups;
-    destructors = well.unused.destructors;
-    values = well.unused.values;
-    calm = well.unused.calm;
-  };
   memory = well.memory;
   threads = well.threads;
   mutexes = well.mutexes;
   conditions = well.conditions;
-  cancellations = well.cancellations;
-  rounds = well.rounds;
+  endings = well.endings;
   line_ready = well.line_ready;
   line_distinct = well.line_distinct;
   running_ready = λ t e. absurd (let no : ⊥ = cc in no);

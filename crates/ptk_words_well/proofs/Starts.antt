@@ -12,8 +12,9 @@ use Rattle.ptk_words.specs.declared.sections.Arrival.{Arrival}
 use Rattle.ptk_words.specs.declared.faults.ImageFault.{ImageFault}
 use Rattle.ptk_words.specs.declared.faults.ImageFault.TheVariants.{Unfit}
 use Rattle.ptk_words.specs.declared.faults.Status.TheVariants.{Refused}
+use Rattle.ptk_words.specs.declared.TheConstants.{CLEANUP_LIMIT}
+use Rattle.ptk_words.specs.declared.threads.Cleanup.{Cleanup}
 use Rattle.ptk_words.specs.declared.threads.Thread.{Thread}
-use Rattle.ptk_words_model.specs.declared.Cancellation.{Cancellation}
 use Rattle.ptk_words_model.specs.State.{Mutex, Part, with_locks, with_cancellation, with_cleanups, with_keys}
 use Rattle.ptk_words_model.specs.Priority.{thread_at, mutex_of_wait, awaited}
 use Rattle.ptk_words_model.specs.Mutex.{wait_of, waiters_of, count_of, owns}
@@ -24,7 +25,7 @@ use Rattle.ptk_words_model.specs.ThreadCreation.{new_cancellation, with_new_thre
 use Rattle.ptk_words_model.specs.Run.{empty_part, main_thread, fits, memory_of, with_image, start_part}
 use Rattle.ptk_words_locks.specs.Locks.{is_ready, joiner_of, used_of, AreMutexes}
 use Rattle.ptk_words_locks.specs.Conditions.{condition_of_wait, waiters_on, AreConditions}
-use Rattle.ptk_words_well.specs.Well.{IsWell, IsCalm}
+use Rattle.ptk_words_well.specs.Well.{AreHandlers, AreValues, IsWell}
 use Rattle.ptk_words_locks.proofs.Pools.{get-set_own, get-set_other, length-pool_set, get-replicate, numbered-replicate}
 use Rattle.ptk_words_locks.proofs.Lined.{AreOthers, not_ready_out, not_ready_stopped, lined_others, lined_push}
 use Rattle.ptk_words_locks.proofs.Listed.{AreSameWaits, listed_same}
@@ -32,7 +33,7 @@ use Rattle.ptk_words_locks.proofs.ConditionsKept.{conditions_created, conditions
 use Rattle.ptk_words_well.proofs.Whole.{lined_of, waiting_of, well_scheduled, used_others}
 use Rattle.ptk_words_well.proofs.Exclusion.{ended_owns, exclusion_unowning}
 use Rattle.ptk_words_well.proofs.Parts.{well_memory, well_halt}
-use Rattle.ptk_words_well.proofs.Unwindings.{well_cancellation, well_rounds, well_no_cleanups, well_no_values}
+use Rattle.ptk_words_well.proofs.Unwindings.{well_cancellation, well_cleanups, well_rounds, well_values}
 
 -- ---- a new thread
 
@@ -77,16 +78,19 @@ well_added limits t thread s h le free new well =
     (used_others limits.interval t s.threads after others below well.used)
     well.halted well
 
+none_within : 0 ≤ CLEANUP_LIMIT
+none_within = omega arith
+
 pub well_new_thread : (limits : Limits) (t : ℕ) (thread : Thread) (s : Part) → 0 < t → t ≤ length s.threads → thread_at s.locks t ≡ None → IsNew thread → IsWell limits s → IsWell limits (with_new_thread limits t thread s)
 well_new_thread limits t thread s h le free new well =
     let first : Part = with_cancellation t (λ _. new_cancellation) s in
     let second : Part = with_cleanups t (λ _. []) first in
     let third : Part = with_keys (with_rounds t (λ _. no_rounds)) second in
     let fourth : Part = with_keys (with_values t (λ _. no_values limits.keys)) third in
-    let well_first : IsWell limits first = well_cancellation limits t (λ _. new_cancellation) s (λ c calm. (refl, refl)) well in
-    let well_second : IsWell limits second = well_no_cleanups limits t first well_first in
+    let well_first : IsWell limits first = well_cancellation limits t (λ _. new_cancellation) s well in
+    let well_second : IsWell limits second = well_cleanups limits t (λ _. []) first (λ _ _. none_within) well_first in
     let well_third : IsWell limits third = well_rounds limits t (λ _. no_rounds) second well_second in
-    let well_fourth : IsWell limits fourth = well_no_values limits t third well_third in
+    let well_fourth : IsWell limits fourth = well_values limits t (λ _. no_values limits.keys) third (λ _ _. length-replicate limits.keys 0) well_third in
     well_added limits t thread fourth h le free new well_fourth
 
 -- ---- the least free number
@@ -123,9 +127,13 @@ well_least_free limits t thread s e new well = let found : IsFree s.threads t = 
 unused_of : (n t : ℕ) → used_of (pool_get {A = Thread} (replicate n None) t) ≡ 0
 unused_of n t = ap used_of (get-replicate n t)
 
-calm_at : (n t : ℕ) (o : Option Cancellation) → numbered (replicate n new_cancellation) t ≡ o → IsCalm o
-calm_at n t None e = tt
-calm_at n t (Some c) e = let same : c ≡ new_cancellation = numbered-replicate n t new_cancellation c e in rw same (refl, refl)
+handlers_at : (n t : ℕ) (o : Option (List Cleanup)) → numbered (replicate n []) t ≡ o → AreHandlers o
+handlers_at n t None e = tt
+handlers_at n t (Some cleanups) e = let same : cleanups ≡ [] = numbered-replicate n t [] cleanups e in rw same none_within
+
+values_at : (n k t : ℕ) (o : Option (List ℕ)) → numbered (replicate n (no_values k)) t ≡ o → AreValues k o
+values_at n k t None e = tt
+values_at n k t (Some values) e = let same : values ≡ no_values k = numbered-replicate n t (no_values k) values e in rw same (length-replicate k 0)
 
 no_wait : {A : Type 0} (n t : ℕ) (a : A) (word : Option Thread → Option A) → word None ≡ None → word (pool_get (replicate n None) t) ≡ Some a → ⊥
 no_wait n t a word none e = let here : word (pool_get (replicate n None) t) ≡ None = ap word (get-replicate n t) ∙ none in let no : ⊥ = cc in no
@@ -152,18 +160,19 @@ no_conditions n k j =
 
 pub well_empty : (limits : Limits) (input : List Arrival) → 0 < limits.interval → IsWell limits (empty_part limits input)
 well_empty limits input interval = record {
-  unused = record {
-    cleanups = refl;
-    destructors = refl;
-    values = refl;
-    calm = λ t. calm_at limits.threads t (numbered (replicate limits.threads new_cancellation) t) refl;
-  };
   memory = length-replicate limits.memory 0;
   threads = length-replicate limits.threads None;
   mutexes = length-replicate limits.mutexes None;
   conditions = length-replicate limits.conditions None;
-  cancellations = length-replicate limits.threads new_cancellation;
-  rounds = length-replicate limits.threads no_rounds;
+  endings = record {
+    records = length-replicate limits.threads new_cancellation;
+    stacks = length-replicate limits.threads [];
+    handlers = λ t. handlers_at limits.threads t (numbered (replicate limits.threads []) t) refl;
+    destructors = length-replicate limits.keys None;
+    rows = length-replicate limits.threads (no_values limits.keys);
+    values = λ t. values_at limits.threads limits.keys t (numbered (replicate limits.threads (no_values limits.keys)) t) refl;
+    rounds = length-replicate limits.threads no_rounds;
+  };
   line_ready = λ t e. absurd (false≢true e);
   line_distinct = none_twice;
   running_ready = λ t e. absurd (let no : ⊥ = cc in no);

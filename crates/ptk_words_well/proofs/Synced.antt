@@ -48,18 +48,11 @@ synced syncs running waiters s = record s { syncs = syncs; running = running; co
 pub well_synced : (limits : Limits) (s : Part) (syncs : Syncs) (running : Option ℕ) (waiters : List ℕ) → AreSized s.syncs syncs → AreSyncs limits.interval running waiters syncs
     → (is_active s.status ≡ false → running ≡ None) → IsWell limits s → IsWell limits (synced syncs running waiters s)
 well_synced limits s syncs running waiters sized are halted well = record {
-  unused = record {
-    cleanups = well.unused.cleanups;
-    destructors = well.unused.destructors;
-    values = well.unused.values;
-    calm = well.unused.calm;
-  };
   memory = well.memory;
   threads = sized.threads ∙ well.threads;
   mutexes = sized.mutexes ∙ well.mutexes;
   conditions = sized.conditions ∙ well.conditions;
-  cancellations = well.cancellations;
-  rounds = well.rounds;
+  endings = well.endings;
   line_ready = are.lined.line_ready;
   line_distinct = are.lined.line_distinct;
   running_ready = are.lined.running_ready;

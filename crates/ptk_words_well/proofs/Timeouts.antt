@@ -23,7 +23,7 @@ use Rattle.ptk_words_well.proofs.SyncSizes.{sized_unblock}
 -- ---- the deadline of one thread comes
 
 -- a sleeper is woken
-well_sleep_end : (limits : Limits) (t deadline : ℕ) (values : List ℕ) (s : Part) → wait_of (thread_at s.locks t) ≡ Some (SleepWait deadline) → IsWell limits s → IsWell limits (record s { syncs = record (s.syncs) { locks = after_wake t values s.locks } })
+pub well_sleep_end : (limits : Limits) (t deadline : ℕ) (values : List ℕ) (s : Part) → wait_of (thread_at s.locks t) ≡ Some (SleepWait deadline) → IsWell limits s → IsWell limits (record s { syncs = record (s.syncs) { locks = after_wake t values s.locks } })
 well_sleep_end limits t deadline values s waits well =
     well_syncs_by limits (λ syncs. record syncs { locks = after_wake t values syncs.locks }) s (record { threads = length-changed t _ s.threads; mutexes = refl; conditions = refl })
     (syncs_sleep_end limits.interval t deadline values s.running s.console.waiters s.syncs waits (syncs_of_well limits s well)) well
@@ -37,7 +37,7 @@ well_lock_end limits t m deadline values s waits well =
     (syncs_lock_end limits.interval t m deadline values s.running s.console.waiters s.syncs waits (syncs_of_well limits s well)) well
 
 -- a waiter of a condition variable is unblocked
-well_wait_end : (limits : Limits) (t c m : ℕ) (deadline reply : Option ℕ) (s : Part) → wait_of (thread_at s.locks t) ≡ Some (ConditionWait c m deadline) → IsWell limits s → IsWell limits (record s { syncs = after_unblock t c reply s.syncs })
+pub well_wait_end : (limits : Limits) (t c m : ℕ) (deadline reply : Option ℕ) (s : Part) → wait_of (thread_at s.locks t) ≡ Some (ConditionWait c m deadline) → IsWell limits s → IsWell limits (record s { syncs = after_unblock t c reply s.syncs })
 well_wait_end limits t c m deadline reply s waits well =
     well_syncs_by limits (after_unblock t c reply) s (sized_unblock t c reply s.syncs)
     (syncs_unblock limits.interval t c reply s.running s.console.waiters s.syncs (ap condition_of_wait waits) (syncs_of_well limits s well)) well

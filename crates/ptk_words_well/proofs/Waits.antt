@@ -122,7 +122,7 @@ well_input_wait limits i s runs well =
 
 -- ---- waking
 
-ended_woken : (t : ℕ) (values : List ℕ) (threads : List (Option Thread)) (u : ℕ) → (u ≡ t) ⊎ (u ≢ t) → ((u : ℕ) → is_alive (pool_get threads u) ≡ false → wait_of (pool_get threads u) ≡ None)
+pub ended_woken : (t : ℕ) (values : List ℕ) (threads : List (Option Thread)) (u : ℕ) → (u ≡ t) ⊎ (u ≢ t) → ((u : ℕ) → is_alive (pool_get threads u) ≡ false → wait_of (pool_get threads u) ≡ None)
     → is_alive (pool_get (pool_changed t (woken_with values) threads) u) ≡ false → wait_of (pool_get (pool_changed t (woken_with values) threads) u) ≡ None
 ended_woken t values threads u (inl same) ended e = rw same (ap wait_of (changed_own t (woken_with values) threads) ∙ woken_waits values (pool_get threads t))
 ended_woken t values threads u (inr ne) ended e =

@@ -10,8 +10,7 @@ use super::{
 };
 use crate::rows;
 use ptk_config::Config;
-use ptk_main_runs::RunFault;
-use ptk_system::{BootFault, Files, System};
+use ptk_main_runs::{BootFault, Files, RunFault, System};
 use ptk_words::PartId;
 use std::alloc::Global;
 use std::process::Abort;

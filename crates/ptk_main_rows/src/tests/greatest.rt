@@ -15,7 +15,7 @@
 use super::{bytes_cut_short, bytes_of, config_in, is_some_text, is_text, report_on, trace_on};
 use crate::rows;
 use ptk_config::Config;
-use ptk_system::Files;
+use ptk_main_runs::Files;
 use std::alloc::{AllocError, Global};
 
 // The numbers of a section but for its stack.

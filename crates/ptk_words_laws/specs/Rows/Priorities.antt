@@ -1,6 +1,6 @@
 -- Effective priorities in built states: chains, a cycle, ceilings and hand overs.
 use Rattle.std.specs.Prelude.{◌≡◌, List, [], ◌∷◌, map, Some, None}
-use Rattle.ptk_words.specs.Names.{ThreadNumber, Priority, Pointer}
+use Rattle.ptk_words.specs.Names.{Priority}
 use Rattle.ptk_words.specs.declared.TheConstants.{A0}
 use Rattle.ptk_words.specs.declared.faults.Errno.TheVariants.{EAGAIN, EINVAL}
 use Rattle.ptk_words.specs.declared.mutexes.Protocol.{Protocol}

@@ -95,7 +95,7 @@ pub record ThreadRefused : Type 0 where
 abbrev pub rescheduled : Part
 rescheduled = (setschedparam (call_with 1 2 7) four_threads).part
 
--- a thread's number, its policy and its assigned priority are told; a number that is no call and a call not in use yet are refused (pthread_self, pthread_getschedparam; own, ENOSYS)
+-- a thread's number, its policy and its assigned priority are told; a number that is no call is refused, and so are a request to an unknown thread, a pop of no handler and unknown keys (pthread_self, pthread_getschedparam; own, ENOSYS, ESRCH, EINVAL)
 pub record SmallCalls : Type 0 where
   pub number : map (λ t. register_of (self (call_by t 0 0 0) four_threads).part t A1) (1 ∷ 2 ∷ []) ≡ Some 1 ∷ Some 2 ∷ []
   pub policy : register_of (getschedparam (call_with 1 0 0) four_threads).part 1 A1 ≡ Some 1
@@ -103,4 +103,5 @@ pub record SmallCalls : Type 0 where
   pub set_policy : register_of (getschedparam (call_with 1 0 0) rescheduled).part 1 A1 ≡ Some 2
   pub set_priority : register_of (getschedparam (call_with 1 0 0) rescheduled).part 1 A2 ≡ Some 7
   pub no_call : (answer_to (call_of 99) (call_with 1 0 0) four_threads).reply ≡ Done 38
-  pub not_yet : (answer_to (call_of 40) (call_with 0 0 0) four_threads).reply ≡ Done 38
+  pub cancellation : map (λ number. (answer_to (call_of number) (call_with 0 0 0) four_threads).reply) (40 ∷ 41 ∷ 42 ∷ 43 ∷ 44 ∷ 45 ∷ []) ≡ Done 3 ∷ Done 0 ∷ Done 0 ∷ Done 0 ∷ Done 0 ∷ Done 22 ∷ []
+  pub keys : map (λ number. (answer_to (call_of number) (call_with 0 0 0) four_threads).reply) (50 ∷ 51 ∷ 52 ∷ 53 ∷ []) ≡ Done 0 ∷ Done 22 ∷ Done 22 ∷ Done 0 ∷ []

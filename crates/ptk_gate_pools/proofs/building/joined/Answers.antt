@@ -1,8 +1,10 @@
-use Rattle.std.proofs.Common.{◌≡◌, ℕ, ◌≤◌, List, length, sym, ◌∙◌, ap, subst}
+use Rattle.std.proofs.Common.{◌≡◌, ℕ, ◌≤◌, List, length, sym, ◌∙◌, ap, refl, subst}
 use Rattle.std.proofs.lemmas.List.{length-map, length-replicate}
 use Rattle.ptk_words.specs.declared.sections.Limits.{Limits}
 use Rattle.ptk_threads.specs.Table.{ThreadTable}
 use Rattle.ptk_console.specs.ConsoleTable.{ConsoleTable}
+use Rattle.ptk_cancel.specs.KeptCancellations.{KeptCancellations}
+use Rattle.ptk_keys.specs.KeptKeys.{KeptKeys}
 use Rattle.ptk_gate_pools.proofs.Built.{stored_made, timed_made}
 use Rattle.ptk_gate_pools.proofs.building.joined.Goals as goal
 
@@ -20,8 +22,11 @@ invariant_of-result c =
       conditions = ap length c.requires.conditions ∙ length-map limits _ ∙ back;
       deadlines = ap length c.requires.deadlines ∙ length-map limits _ ∙ back;
       running = ap length c.requires.running ∙ length-replicate (length limits) _ ∙ back;
-      cancellations = ap length c.requires.cancellations ∙ length-map limits _ ∙ back;
-      rounds = ap length c.requires.rounds ∙ length-map limits _ ∙ back;
+      cancellations = ap (λ (kept : KeptCancellations). length kept.cancellations) c.requires.cancellations ∙ length-map limits _ ∙ back;
+      cleanups = ap (λ (kept : KeptCancellations). length kept.cleanups) c.requires.cancellations ∙ length-map limits _ ∙ back;
+      destructors = ap (λ (kept : KeptKeys). length kept.destructors) c.requires.keys ∙ length-map limits _ ∙ back;
+      values = ap (λ (kept : KeptKeys). length kept.values) c.requires.keys ∙ length-map limits _ ∙ back;
+      rounds = ap (λ (kept : KeptKeys). length kept.rounds) c.requires.keys ∙ length-map limits _ ∙ back;
       consoles = ap (λ (table : ConsoleTable). length table.consoles) c.requires.consoles ∙ length-map c.args.inputs.now _ ∙ c.requires.inputs ∙ back;
       sections = ap (λ (table : ConsoleTable). table.limits) c.requires.consoles ∙ sym c.requires.limits;
       statuses = ap length c.requires.statuses ∙ length-replicate (length limits) _ ∙ back;
@@ -29,3 +34,20 @@ invariant_of-result c =
       stored = stored_made c.args.schedules.0 c.args.waits.0 limits c.requires.mutexes c.requires.table;
       timed = timed_made c.args.schedules.0 c.args.waits.2 limits c.requires.deadlines c.requires.table;
     }
+
+pub returns : goal.returns
+returns c =
+    rw (
+      c.requires.memory,
+      c.requires.consoles,
+      c.requires.table,
+      c.requires.line,
+      c.requires.running,
+      c.requires.mutexes,
+      c.requires.conditions,
+      c.requires.cancellations,
+      c.requires.keys,
+      c.requires.statuses,
+      c.requires.lasts,
+      c.requires.limits,
+    ) refl

@@ -1,0 +1,88 @@
+-- A thread's cleanup handlers, with one pushed or taken off.
+use Rattle.std.proofs.Common.{arith, ◌≡◌, ℕ, zero, suc, List, [], ◌∷◌, drop, refl, sym, ◌∙◌, ap}
+use Rattle.std.specs.Prelude.{not, nat_lt, nat_le, Option, Some, None, option_map, unwrap_or, slice_get, slice_set}
+use Rattle.std.proofs.lemmas.Bool.Decides.{nat_tests}
+use Rattle.ptk_words.specs.Pools.{numbered, pool_set}
+use Rattle.ptk_words.specs.declared.faults.Errno.TheVariants.{EINVAL}
+use Rattle.ptk_words.specs.declared.threads.Cleanup.{Cleanup}
+use Rattle.ptk_words_model.specs.declared.Invocation.{Invocation}
+use Rattle.ptk_words_model.specs.Calls.{Answer, refusal, success}
+use Rattle.ptk_words_model.specs.CancellationCalls.{cleanup_pop_answer, cleanup_pop}
+use Rattle.ptk_words_model.specs.State.{Part, with_cleanups}
+use Rattle.ptk_words_model.specs.Unwinding.{cleanups_of}
+use Rattle.ptk_gate_pools.specs.Kept.{Kept, part_at, put_part}
+use Rattle.ptk_gate_pools.proofs.Ranks.{put_same}
+
+-- ---- a handler pushed
+
+-- there is room, or the limit is reached
+pub room_or_full : (n limit : ℕ) → nat_le limit n ≡ not (nat_lt n limit)
+room_or_full n limit = grind (arith, nat_tests)
+
+pub ruleset pushed = (room_or_full)
+
+-- ---- the handler pushed last taken off
+
+-- an entry set to what it is
+set_kept : {A : Type 0} (i : ℕ) (a : A) (xs : List A) → slice_get xs i ≡ Some a → slice_set xs i a ≡ xs
+set_kept i a [] e = refl
+set_kept zero a (x ∷ xs) e = let same : x ≡ a = cc in rw same refl
+set_kept (suc i) a (x ∷ xs) e = ap (λ rest. x ∷ rest) (set_kept i a xs e)
+
+kept_at : {A : Type 0} (k : ℕ) (a : A) (xs : List A) → numbered xs k ≡ Some a → pool_set xs k a ≡ xs
+kept_at zero a xs e = refl
+kept_at (suc i) a xs e = set_kept i a xs e
+
+no_first : (handlers : List Cleanup) → slice_get handlers 0 ≡ None → handlers ≡ []
+no_first [] none = refl
+no_first (cleanup ∷ cleanups) none = absurd (let no : ⊥ = cc in no)
+
+-- of no handler none is taken off
+none_dropped_at : (t : ℕ) (o : Option (List Cleanup)) (stacks : List (List Cleanup)) → numbered stacks t ≡ o → unwrap_or o [] ≡ [] → unwrap_or (option_map (λ stack. pool_set stacks t (drop 1 stack)) o) stacks ≡ stacks
+none_dropped_at t None stacks e none = refl
+none_dropped_at t (Some []) stacks e none = kept_at t [] stacks e
+none_dropped_at t (Some (cleanup ∷ cleanups)) stacks e none = absurd (let no : ⊥ = cc in no)
+
+-- of several the others are left
+first_dropped_at : (t : ℕ) (o : Option (List Cleanup)) (stacks : List (List Cleanup)) (cleanup : Cleanup) (cleanups : List Cleanup) → unwrap_or o [] ≡ cleanup ∷ cleanups
+    → unwrap_or (option_map (λ stack. pool_set stacks t (drop 1 stack)) o) stacks ≡ unwrap_or (option_map (λ _. pool_set stacks t cleanups) o) stacks
+first_dropped_at t None stacks cleanup cleanups first = absurd (let no : ⊥ = cc in no)
+first_dropped_at t (Some stack) stacks cleanup cleanups first = rw first refl
+
+-- so nothing changes
+none_taken_off : (p t : ℕ) (kept mid : Kept) → mid ≡ put_part p (with_cleanups t (drop 1) (part_at p kept)) kept → slice_get (cleanups_of (part_at p kept) t) 0 ≡ None → mid ≡ kept
+none_taken_off p t kept mid e none =
+    let s : Part = part_at p kept in
+    e
+    ∙ ap (λ (stacks : List (List Cleanup)). put_part p (record s { cleanups = stacks }) kept) (none_dropped_at t (numbered s.cleanups t) s.cleanups refl (no_first (cleanups_of s t) none))
+    ∙ sym (put_same p kept)
+
+emptied_at : (handlers : List Cleanup) (i : Invocation) (s : Part) → slice_get handlers 0 ≡ None → cleanup_pop_answer handlers i s ≡ refusal EINVAL i s
+emptied_at [] i s none = refl
+emptied_at (cleanup ∷ cleanups) i s none = absurd (let no : ⊥ = cc in no)
+
+-- call 45 of a caller with no handler
+pub emptied_is : (i : Invocation) (s : Part) → slice_get (cleanups_of s i.caller) 0 ≡ None → cleanup_pop i s ≡ refusal EINVAL i s
+emptied_is i s none = emptied_at (cleanups_of s i.caller) i s none
+
+-- a refusal after none was taken off
+pub emptied_moved : (p : ℕ) (i : Invocation) (kept mid new : Kept) → slice_get (cleanups_of (part_at p kept) i.caller) 0 ≡ None → mid ≡ put_part p (with_cleanups i.caller (drop 1) (part_at p kept)) kept
+    → new ≡ put_part p (refusal EINVAL i (part_at p mid)).part mid → new ≡ put_part p (cleanup_pop i (part_at p kept)).part kept
+emptied_moved p i kept mid new none first second =
+    second
+    ∙ ap (λ (k : Kept). put_part p (refusal EINVAL i (part_at p k)).part k) (none_taken_off p i.caller kept mid first none)
+    ∙ ap (λ (a : Answer). put_part p a.part kept) (sym (emptied_is i (part_at p kept) none))
+
+taken_off_at : (handlers : List Cleanup) (cleanup : Cleanup) (i : Invocation) (s : Part) → cleanups_of s i.caller ≡ handlers → slice_get handlers 0 ≡ Some cleanup
+    → cleanup_pop_answer handlers i s ≡ success (cleanup.routine ∷ cleanup.argument ∷ []) i (with_cleanups i.caller (drop 1) s)
+taken_off_at [] cleanup i s e top = absurd (let no : ⊥ = cc in no)
+taken_off_at (first ∷ cleanups) cleanup i s e top =
+    let same : first ≡ cleanup = cc in
+    rw same (ap (λ (stacks : List (List Cleanup)). success (cleanup.routine ∷ cleanup.argument ∷ []) i (record s { cleanups = stacks })) (sym (first_dropped_at i.caller (numbered s.cleanups i.caller) s.cleanups first cleanups e)))
+
+-- call 45 of a caller with this handler on top
+pub taken_off_is : (i : Invocation) (s : Part) (cleanup : Cleanup) → slice_get (cleanups_of s i.caller) 0 ≡ Some cleanup
+    → cleanup_pop i s ≡ success (cleanup.routine ∷ cleanup.argument ∷ []) i (with_cleanups i.caller (drop 1) s)
+taken_off_is i s cleanup top = taken_off_at (cleanups_of s i.caller) cleanup i s refl top
+
+pub ruleset popped = (emptied_is, taken_off_is)

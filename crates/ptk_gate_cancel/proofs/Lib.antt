@@ -1,0 +1,3 @@
+pub mod Handlers
+pub mod Withdrawals
+pub mod Requested

@@ -1,0 +1,76 @@
+//! Calls 41 to 43: the caller's cancelability state and type, and a cancellation point.
+
+ghost use Rattle.std.specs.Prelude.{◌≡◌, ◌<◌, length, if◌then◌else◌};
+ghost use Rattle.ptk_words_model.specs.CancellationCalls.{setcancelstate, setcanceltype, testcancel};
+ghost use Rattle.ptk_gate_pools.specs.Kept.{part_at, put_part};
+
+use ptk_gate_moves::{cancel, is_cancelled, refuse, succeed, succeed_with};
+use ptk_gate_pools::Pools;
+use ptk_words::{Errno, PartId};
+use ptk_words_model::{Invocation, Reply};
+
+/// The number that a guest reads for a cancelability state: PTHREAD_CANCEL_ENABLE 0, PTHREAD_CANCEL_DISABLE 1 (own
+/// choice).
+fn state_number(is_enabled: bool) -> u32
+    ensures { result ≡ (if is_enabled then 0 else 1) }
+{
+    if is_enabled { 0 } else { 1 }
+}
+
+/// The number that a guest reads for a cancelability type: PTHREAD_CANCEL_DEFERRED 0, PTHREAD_CANCEL_ASYNCHRONOUS 1
+/// (own choice).
+fn type_number(is_asynchronous: bool) -> u32
+    ensures { result ≡ (if is_asynchronous then 1 else 0) }
+{
+    if is_asynchronous { 1 } else { 0 }
+}
+
+/// pthread_setcancelstate: the caller's cancelability state is that of a0, PTHREAD_CANCEL_ENABLE, 0, or
+/// PTHREAD_CANCEL_DISABLE, 1, and the old one is told in a1. A pending request stays pending. EINVAL of another word; a
+/// refusal changes nothing but a0.
+#[tactic(auto, using(ptk_gate_pools::proofs::Parted::parted))]
+pub fn setcancelstate(pools: &mut Pools, p: PartId, i: Invocation) -> Reply
+    requires partition { p < length pools.old.limits }
+    ensures told { result ≡ (setcancelstate i (part_at p pools.old)).reply }
+    ensures moved { pools.new ≡ put_part p (setcancelstate i (part_at p pools.old)).part pools.old }
+{
+    let _parts = pools.parts();
+    if 1 < i.a0 {
+        return refuse(pools, p, i, Errno::EINVAL);
+    }
+    let was_enabled = pools.cancellations().is_enabled(p, i.caller);
+    pools.set_cancel_state(p, i.caller, i.a0 == 0);
+    succeed_with(pools, p, i, state_number(was_enabled))
+}
+
+/// pthread_setcanceltype: the caller's cancelability type is that of a0, PTHREAD_CANCEL_DEFERRED, 0, or
+/// PTHREAD_CANCEL_ASYNCHRONOUS, 1, and the old one is told in a1. EINVAL of another word; a refusal changes nothing but
+/// a0.
+#[tactic(auto, using(ptk_gate_pools::proofs::Parted::parted))]
+pub fn setcanceltype(pools: &mut Pools, p: PartId, i: Invocation) -> Reply
+    requires partition { p < length pools.old.limits }
+    ensures told { result ≡ (setcanceltype i (part_at p pools.old)).reply }
+    ensures moved { pools.new ≡ put_part p (setcanceltype i (part_at p pools.old)).part pools.old }
+{
+    let _parts = pools.parts();
+    if 1 < i.a0 {
+        return refuse(pools, p, i, Errno::EINVAL);
+    }
+    let was_asynchronous = pools.cancellations().is_asynchronous(p, i.caller);
+    pools.set_cancel_type(p, i.caller, i.a0 == 1);
+    succeed_with(pools, p, i, type_number(was_asynchronous))
+}
+
+/// pthread_testcancel: a cancellation point and nothing else. A cancelled caller begins its unwinding; any other goes
+/// on with 0. It is never refused.
+pub fn testcancel(pools: &mut Pools, p: PartId, i: Invocation) -> Reply
+    requires partition { p < length pools.old.limits }
+    ensures told { result ≡ (testcancel i (part_at p pools.old)).reply }
+    ensures moved { pools.new ≡ put_part p (testcancel i (part_at p pools.old)).part pools.old }
+{
+    if is_cancelled(pools, p, i.caller) {
+        cancel(pools, p, i)
+    } else {
+        succeed(pools, p, i)
+    }
+}

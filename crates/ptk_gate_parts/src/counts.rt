@@ -1,0 +1,13 @@
+//! How many of something each section has.
+
+ghost use Rattle.std.specs.Prelude.{◌≡◌, map, IfOk};
+
+use ptk_words::Limits;
+use std::alloc::{AllocError, Global};
+
+/// The greatest number of threads of each section.
+pub(crate) fn counts_of(alloc: Global, limits: &[Limits]) -> Result<Vec<u32>, AllocError>
+    ensures { IfOk result (λ counts. counts.items ≡ map (λ l. l.threads) limits.now) }
+{
+    limits.iter().map(|l| l.threads).collect(alloc)
+}

@@ -1,0 +1,19 @@
+//! The parts of the gate's pools as they are before any image is loaded, each made from the sections' numbers: memory
+//! and consoles, threads and their line, what they wait for, what their ends are made of, and what is kept of each
+//! partition as a whole. Each function takes all the memory that its part ever needs, and answers an error where memory
+//! ran out. Its contract is what a reader then sees of it, a list for each section (`per_section`). Below stand the
+//! pools of each kind; above, `ptk_gate_pools`, which joins the parts to one structure. No clause is dear to prove.
+#![tactic(auto)]
+
+mod counts;
+mod endings;
+mod records;
+mod schedules;
+mod stores;
+mod waits;
+
+pub use endings::{Endings, endings_of};
+pub use records::{Records, records_of};
+pub use schedules::{Schedules, schedules_of};
+pub use stores::{Stores, stores_of};
+pub use waits::{Waits, waits_of};

@@ -1,0 +1,73 @@
+-- The next move of an unwinding thread: with a handler left, and without one.
+use Rattle.std.proofs.Common.{◌≡◌, ℕ, zero, suc, List, [], ◌∷◌, refl, sym, ◌∙◌, ap, subst}
+use Rattle.std.specs.Prelude.{Option, Some, None, option_map, unwrap_or, slice_get, slice_set, drop}
+use Rattle.ptk_words.specs.Pools.{numbered, pool_set, pool_update}
+use Rattle.ptk_words.specs.declared.threads.Cleanup.{Cleanup}
+use Rattle.ptk_words_model.specs.State.{Part, with_cleanups}
+use Rattle.ptk_words_model.specs.Keys.{next_destructor}
+use Rattle.ptk_words_model.specs.Unwinding.{cleanups_of, after_routine_call, after_destructor_or_end, after_unwinding_move}
+use Rattle.ptk_words_well.specs.Well.{IsWell}
+use Rattle.ptk_gate_pools.specs.Kept.{Kept, part_at, put_part, limits_at}
+use Rattle.ptk_gate_pools.proofs.Ranks.{put_same}
+
+-- ---- with a handler left
+
+-- the handlers without the first are the others
+drop_first : (t : ℕ) (cleanups : List (List Cleanup)) (o : Option (List Cleanup)) (first : Cleanup) (others : List Cleanup) → unwrap_or o [] ≡ first ∷ others
+    → unwrap_or (option_map (λ own. pool_set cleanups t (drop 1 own)) o) cleanups ≡ unwrap_or (option_map (λ own. pool_set cleanups t others) o) cleanups
+drop_first t cleanups None first others e = refl
+drop_first t cleanups (Some own) first others e = ap (λ (own : List Cleanup). pool_set cleanups t (drop 1 own)) e
+
+called_at : (t : ℕ) (own : List Cleanup) (cleanup : Cleanup) (s : Part) → cleanups_of s t ≡ own → slice_get own 0 ≡ Some cleanup
+    → after_routine_call t cleanup.routine cleanup.argument (with_cleanups t (drop 1) s) ≡ after_unwinding_move t own s
+called_at t [] cleanup s e first = absurd (let no : ⊥ = cc in no)
+called_at t (found ∷ others) cleanup s e first =
+    let same : found ≡ cleanup = cc in
+    rw (← same) (ap (λ (cleanups : List (List Cleanup)). after_routine_call t found.routine found.argument (record s { cleanups = cleanups })) (drop_first t s.cleanups (numbered s.cleanups t) found others e))
+
+-- the handler that is taken off is called
+pub handler_called : (t : ℕ) (cleanup : Cleanup) (s : Part) → slice_get (cleanups_of s t) 0 ≡ Some cleanup
+    → after_routine_call t cleanup.routine cleanup.argument (with_cleanups t (drop 1) s) ≡ after_unwinding_move t (cleanups_of s t) s
+handler_called t cleanup s first = called_at t (cleanups_of s t) cleanup s refl first
+
+-- ---- without one
+
+no_first : {A : Type 0} (xs : List A) → slice_get xs 0 ≡ None → xs ≡ []
+no_first [] e = refl
+no_first (x ∷ xs) e = absurd (let no : ⊥ = cc in no)
+
+-- an entry set to what it is
+set_to_own : {A : Type 0} (xs : List A) (i : ℕ) (a : A) → slice_get xs i ≡ Some a → slice_set xs i a ≡ xs
+set_to_own [] i a e = refl
+set_to_own (x ∷ xs) zero a e = let same : x ≡ a = cc in ap (λ y. y ∷ xs) (sym same)
+set_to_own (x ∷ xs) (suc i) a e = ap (λ ys. x ∷ ys) (set_to_own xs i a e)
+
+pool_set_to_own : {A : Type 0} (xs : List A) (k : ℕ) (a : A) → numbered xs k ≡ Some a → pool_set xs k a ≡ xs
+pool_set_to_own xs zero a e = refl
+pool_set_to_own xs (suc i) a e = set_to_own xs i a e
+
+emptied_at : (t : ℕ) (cleanups : List (List Cleanup)) (o : Option (List Cleanup)) → numbered cleanups t ≡ o → unwrap_or o [] ≡ []
+    → unwrap_or (option_map (λ own. pool_set cleanups t (drop 1 own)) o) cleanups ≡ cleanups
+emptied_at t cleanups None e none = refl
+emptied_at t cleanups (Some own) e none =
+    ap (λ (own : List Cleanup). pool_set cleanups t (drop 1 own)) none ∙ pool_set_to_own cleanups t [] (e ∙ ap Some none)
+
+-- taking one off changes nothing
+none_taken : (p t : ℕ) (kept mid : Kept) → slice_get (cleanups_of (part_at p kept) t) 0 ≡ None → mid ≡ put_part p (with_cleanups t (drop 1) (part_at p kept)) kept → mid ≡ kept
+none_taken p t kept mid none first =
+    let s : Part = part_at p kept in
+    let same : pool_update s.cleanups t (drop 1) ≡ s.cleanups = emptied_at t s.cleanups (numbered s.cleanups t) refl (no_first (cleanups_of s t) none) in
+    first ∙ ap (λ (cleanups : List (List Cleanup)). put_part p (record s { cleanups = cleanups }) kept) same ∙ sym (put_same p kept)
+
+-- so a whole state stays whole
+pub none_well : (p t : ℕ) (kept mid : Kept) → slice_get (cleanups_of (part_at p kept) t) 0 ≡ None → mid ≡ put_part p (with_cleanups t (drop 1) (part_at p kept)) kept
+    → IsWell (limits_at p kept) (part_at p kept) → IsWell (limits_at p mid) (part_at p mid)
+none_well p t kept mid none first well = subst (λ (k : Kept). IsWell (limits_at p k) (part_at p k)) (sym (none_taken p t kept mid none first)) well
+
+-- and the next destructor is called, or the thread ends
+pub none_called : (p t : ℕ) (kept mid new : Kept) → slice_get (cleanups_of (part_at p kept) t) 0 ≡ None → mid ≡ put_part p (with_cleanups t (drop 1) (part_at p kept)) kept
+    → new ≡ put_part p (after_destructor_or_end t (next_destructor (part_at p mid).keys t) (part_at p mid)) mid → new ≡ put_part p (after_unwinding_move t (cleanups_of (part_at p kept) t) (part_at p kept)) kept
+none_called p t kept mid new none first second =
+    second
+    ∙ ap (λ (k : Kept). put_part p (after_destructor_or_end t (next_destructor (part_at p k).keys t) (part_at p k)) k) (none_taken p t kept mid none first)
+    ∙ ap (λ (cleanups : List Cleanup). put_part p (after_unwinding_move t cleanups (part_at p kept)) kept) (sym (no_first (cleanups_of (part_at p kept) t) none))

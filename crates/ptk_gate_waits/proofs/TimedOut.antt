@@ -1,0 +1,60 @@
+-- The thread whose deadline comes: a waiter of a mutex, or a sleeper, whose waking changes no effective priority.
+use Rattle.std.proofs.Common.{◌≡◌, ℕ, List, [], ◌∷◌, refl, sym, ◌∙◌, ap}
+use Rattle.std.specs.Prelude.{true, Option, Some, None, IsSome}
+use Rattle.std.proofs.Math.ListN.{set}
+use Rattle.std.proofs.lemmas.Bool.{false≢true}
+use Rattle.std.proofs.lemmas.List.{set-get_or}
+use Rattle.ptk_words.specs.Pools.{pool_get, pool_changed}
+use Rattle.ptk_words.specs.declared.threads.Thread.{Thread}
+use Rattle.ptk_words.specs.declared.threads.Wait.{Wait}
+use Rattle.ptk_words.specs.declared.threads.Wait.TheVariants.{InputWait, SleepWait, JoinWait, MutexWait, ConditionWait, RelockWait}
+use Rattle.ptk_words_parted.specs.Parts.{part_of}
+use Rattle.ptk_words_model.specs.State.{Mutex, Condition, Syncs}
+use Rattle.ptk_words_model.specs.Priority.{thread_at, awaited, mutex_of_wait, effective_priorities}
+use Rattle.ptk_words_model.specs.Schedule.{woken_with}
+use Rattle.ptk_words_model.specs.Mutex.{wait_of}
+use Rattle.ptk_threads.specs.Table.{ThreadTable, thread_in, with_changed}
+use Rattle.ptk_mutex.specs.Tables.{with_threads, AreReady, IsWaiter}
+use Rattle.ptk_cond.specs.Tables.{syncs_at}
+use Rattle.ptk_gate_waits.specs.Timeouts.{after_sync_timeout, IsBlocked, is_sleep}
+use Rattle.ptk_gate_waits.proofs.Priorities.{priorities_woken}
+
+awaits_by_wait : (o : Option Thread) → awaited o ≡ mutex_of_wait (wait_of o)
+awaits_by_wait None = refl
+awaits_by_wait (Some thread) = refl
+
+-- a thread that waits is in use
+pub waits_used : (o : Option Thread) (wait : Wait) → wait_of o ≡ Some wait → IsSome o
+waits_used None wait e = absurd (cc e)
+waits_used (Some thread) wait e = refl
+
+-- a thread in a wait for a mutex is a waiter of it
+pub waiter_of : (t m : ℕ) (deadline : Option ℕ) (syncs : Syncs) → IsBlocked syncs t → wait_of (thread_at syncs.locks t) ≡ Some (MutexWait m deadline) → IsWaiter syncs.locks m t
+waiter_of t m deadline syncs blocked e = record { waits = awaits_by_wait (thread_at syncs.locks t) ∙ ap mutex_of_wait e; out = blocked.out (MutexWait m deadline) e }
+
+-- a sleeper is woken: the stored priorities are those that it leaves
+pub slept : (p t deadline : ℕ) (table new : ThreadTable) (lines : List (List ℕ)) (mutexes : List (List (Option Mutex))) (conditions : List (List (Option Condition))) → AreReady p table lines mutexes
+    → wait_of (thread_in table p t) ≡ Some (SleepWait deadline) → new ≡ with_changed p t (woken_with (0 ∷ [])) table
+    → new ≡ with_threads p (after_sync_timeout t (Some (SleepWait deadline)) (syncs_at p table lines mutexes conditions)).locks table
+slept p t deadline table new lines mutexes conditions ready is e =
+    let row : List (Option Thread) = part_of table.threads p in
+    let awake : awaited (pool_get row t) ≡ None = awaits_by_wait (pool_get row t) ∙ ap mutex_of_wait is in
+    let same : set table.stored p (effective_priorities (pool_changed t (woken_with (0 ∷ [])) row) (part_of mutexes p)) ≡ table.stored =
+    ap (set table.stored p) (priorities_woken t (0 ∷ []) row (part_of mutexes p) awake ∙ sym ready.stored) ∙ set-get_or table.stored p [] in
+    e ∙ ap (λ (stored : List (List ℕ)). record { threads = set table.threads p (pool_changed t (woken_with (0 ∷ [])) row); stored = stored }) (sym same)
+
+sleep_of : (wait : Option Wait) → is_sleep wait ≡ true → (deadline : ℕ) × (wait ≡ Some (SleepWait deadline))
+sleep_of None e = absurd (false≢true e)
+sleep_of (Some InputWait) e = absurd (false≢true e)
+sleep_of (Some (SleepWait deadline)) e = (deadline, refl)
+sleep_of (Some (JoinWait u)) e = absurd (false≢true e)
+sleep_of (Some (MutexWait m deadline)) e = absurd (false≢true e)
+sleep_of (Some (ConditionWait c m deadline)) e = absurd (false≢true e)
+sleep_of (Some (RelockWait m reply)) e = absurd (false≢true e)
+
+pub slept_is : (p t : ℕ) (table new : ThreadTable) (lines : List (List ℕ)) (mutexes : List (List (Option Mutex))) (conditions : List (List (Option Condition))) → AreReady p table lines mutexes
+    → is_sleep (wait_of (thread_in table p t)) ≡ true → new ≡ with_changed p t (woken_with (0 ∷ [])) table
+    → new ≡ with_threads p (after_sync_timeout t (wait_of (thread_in table p t)) (syncs_at p table lines mutexes conditions)).locks table
+slept_is p t table new lines mutexes conditions ready sleeps e =
+    let asleep = sleep_of (wait_of (thread_in table p t)) sleeps in
+    slept p t asleep.0 table new lines mutexes conditions ready asleep.1 e ∙ ap (λ (w : Option Wait). with_threads p (after_sync_timeout t w (syncs_at p table lines mutexes conditions)).locks table) (sym asleep.1)
