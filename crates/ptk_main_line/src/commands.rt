@@ -4,6 +4,7 @@ ghost use Rattle.clap.specs.Words.{app_of, rule_of};
 ghost use Rattle.clap.specs.declared.builder.command.Command.TheViews.{out-Command};
 ghost use Rattle.ptk_main_line.specs.CommandLine.{asm, check, partition, ptk, required_word, run, ticks, trace};
 
+use crate::help;
 use clap::{Arg, Command, value_parser};
 use std::alloc::{AllocError, Global};
 
@@ -12,6 +13,8 @@ pub(crate) fn ptk_command<'a>(alloc: Global) -> Result<Command<'a>, AllocError>
     ensures { IfOk result (λ c. app_of c ≡ ptk) }
 {
     Command::new(alloc, "ptk")
+        .about(help::PTK)
+        .after_help(help::PTK_AFTER)
         .subcommand_required(true)
         .subcommand(run_command(alloc)?)?
         .subcommand(trace_command(alloc)?)?
@@ -24,7 +27,9 @@ fn run_command<'a>(alloc: Global) -> Result<Command<'a>, AllocError>
     ensures { IfOk result (λ c. (app_of c ≡ run) × ((out-Command c).has_globals ≡ false)) }
 {
     Command::new(alloc, "run")
-        .arg(word_argument(alloc, "FILE"))?
+        .about(help::RUN)
+        .after_help(help::RUN_AFTER)
+        .arg(word_argument(alloc, "FILE", help::CONFIGURATION))?
         .arg(ticks_argument(alloc))
 }
 
@@ -33,7 +38,9 @@ fn trace_command<'a>(alloc: Global) -> Result<Command<'a>, AllocError>
     ensures { IfOk result (λ c. (app_of c ≡ trace) × ((out-Command c).has_globals ≡ false)) }
 {
     Command::new(alloc, "trace")
-        .arg(word_argument(alloc, "FILE"))?
+        .about(help::TRACE)
+        .after_help(help::TRACE_AFTER)
+        .arg(word_argument(alloc, "FILE", help::CONFIGURATION))?
         .arg(ticks_argument(alloc))?
         .arg(partition_argument(alloc))
 }
@@ -43,23 +50,28 @@ fn asm_command<'a>(alloc: Global) -> Result<Command<'a>, AllocError>
     ensures { IfOk result (λ c. (app_of c ≡ asm) × ((out-Command c).has_globals ≡ false)) }
 {
     Command::new(alloc, "asm")
-        .arg(word_argument(alloc, "IN"))?
-        .arg(word_argument(alloc, "OUT"))
+        .about(help::ASM)
+        .after_help(help::ASM_AFTER)
+        .arg(word_argument(alloc, "IN", help::SOURCE))?
+        .arg(word_argument(alloc, "OUT", help::IMAGE))
 }
 
 /// `check FILE`.
 fn check_command<'a>(alloc: Global) -> Result<Command<'a>, AllocError>
     ensures { IfOk result (λ c. (app_of c ≡ check) × ((out-Command c).has_globals ≡ false)) }
 {
-    Command::new(alloc, "check").arg(word_argument(alloc, "FILE"))
+    Command::new(alloc, "check")
+        .about(help::CHECK)
+        .after_help(help::CHECK_AFTER)
+        .arg(word_argument(alloc, "FILE", help::CONFIGURATION))
 }
 
-/// A word that has to be there.
-fn word_argument<'a>(alloc: Global, id: &'a str) -> Arg<'a>
+/// A word that has to be there, with what help says of it.
+fn word_argument<'a>(alloc: Global, id: &'a str, help: &'a str) -> Arg<'a>
     ensures rule { rule_of result ≡ required_word id.entry.now }
     ensures own { result.global ≡ false }
 {
-    Arg::new(alloc, id).required(true)
+    Arg::new(alloc, id).help(help).required(true)
 }
 
 /// `--ticks N`.
@@ -69,6 +81,7 @@ fn ticks_argument<'a>(alloc: Global) -> Arg<'a>
 {
     Arg::new(alloc, "ticks")
         .long("ticks")
+        .help(help::TICKS)
         .required(true)
         .value_parser(value_parser!(u64).range(0..=1_099_511_627_776))
 }
@@ -80,5 +93,6 @@ fn partition_argument<'a>(alloc: Global) -> Arg<'a>
 {
     Arg::new(alloc, "partition")
         .long("partition")
+        .help(help::PARTITION)
         .required(true)
 }

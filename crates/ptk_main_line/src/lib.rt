@@ -7,6 +7,7 @@
 #![tactic(auto)]
 
 mod commands;
+mod help;
 mod line;
 #[cfg(test)]
 mod tests;

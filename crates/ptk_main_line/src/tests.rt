@@ -2,7 +2,7 @@
 
 use super::{Request, not_text, read_line};
 use clap::error::ErrorKind;
-use std::alloc::Global;
+use std::alloc::{AllocError, Global};
 
 /// The kind of the error that the words have, `None` where they are taken.
 fn refusal(alloc: Global, words: &[&str]) -> Option<ErrorKind> {
@@ -117,6 +117,40 @@ fn answers_help_as_an_error(rt: HostRuntime) {
     }
     let words = ["ptk", "run", "--help"];
     assert_eq!(rt; refusal(rt.alloc(), &words), Some(ErrorKind::DisplayHelp));
+}
+
+/// What help says for the words.
+fn help(alloc: Global, words: &[&str]) -> Result<String, AllocError> {
+    match read_line(alloc, words) {
+        Ok(_) => Ok(String::new(alloc)),
+        Err(error) => format!(in alloc; "{error}"),
+    }
+}
+
+#[test]
+fn help_says_the_statuses_and_an_example(rt: HostRuntime) -> Result<(), AllocError> {
+    let rows = [
+        ("run", "ptk run hello.toml --ticks 20"),
+        ("trace", "ptk trace hello.toml --ticks 20 --partition p"),
+        ("asm", "ptk asm hello.s hello.img"),
+        ("check", "ptk check hello.toml"),
+    ];
+    for (command, example) in rows {
+        let text = help(rt.alloc(), &["ptk", command, "--help"])?;
+        for part in [
+            example,
+            "Exit status:\n  0  ",
+            "\n  1  ",
+            "\n  2  usage\n  3  ",
+        ] {
+            assert!(rt; text.as_str().contains(part));
+        }
+    }
+    let text = help(rt.alloc(), &["ptk", "--help"])?;
+    for part in ["Exit status:", "ptk run hello.toml --ticks 20", "check  "] {
+        assert!(rt; text.as_str().contains(part));
+    }
+    Ok(())
 }
 
 #[test]

@@ -13,7 +13,8 @@ top_of a = a.top
 pub returns : goal.returns
 returns c =
     let start : app_of c.subcommand_required.result ≡ on_top wants_subcommand (new_app (codes "ptk")) =
-    ap app_of_fields c.subcommand_required.ensures ∙ ap (on_top wants_subcommand) c.new.ensures.app in
+    ap app_of_fields c.subcommand_required.ensures
+    ∙ ap (on_top wants_subcommand) (ap app_of_fields c.after_help.ensures ∙ ap app_of_fields c.about.ensures ∙ c.new.ensures.app) in
     let one = c.in_ok-subcommand.ensures.shape c.in_ok-run_command.ensures.1 ∙ ap₂ with_subcommand start (ap top_of c.in_ok-run_command.ensures.0) in
     let two = c.in_ok-subcommand-2.ensures.shape c.in_ok-trace_command.ensures.1 ∙ ap₂ with_subcommand one (ap top_of c.in_ok-trace_command.ensures.0) in
     let three = c.in_ok-subcommand-3.ensures.shape c.in_ok-asm_command.ensures.1 ∙ ap₂ with_subcommand two (ap top_of c.in_ok-asm_command.ensures.0) in

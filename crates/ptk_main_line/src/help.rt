@@ -1,0 +1,120 @@
+//! What help says of the command, of each subcommand and of each value: what it does, the value's unit and range, the
+//! exit statuses, and an example line (own choice; clap's `about`, `help` and `after_help`).
+
+/// What the program is.
+pub(crate) const PTK: &str =
+    "Runs programs of different trust on one modelled RV32I processor, each partition in \
+    windows of its own. What a partition does depends on nothing that the others do.";
+
+/// The statuses of every subcommand, and a first line to try.
+pub(crate) const PTK_AFTER: &str = "Exit status:
+  0  done, or help was asked for
+  1  what was given is refused; a line on standard error says what
+  2  the words ask for nothing that the program does
+  3  the host failed: ptk: read failed NAME, ptk: write failed, ptk: no memory
+
+Example:
+  ptk run hello.toml --ticks 20
+
+'ptk COMMAND --help' says more of a command.";
+
+/// What `run` does.
+pub(crate) const RUN: &str =
+    "Runs a system and prints the report: each partition's end, steps, lost ticks and output";
+
+/// The refusals of `run`, and an example.
+pub(crate) const RUN_AFTER: &str =
+    "Paths of images are taken from the working directory. A partition whose image is \
+    refused is reported as
+'refused image N'; the others run.
+
+Exit status:
+  0  the report is printed
+  1  ptk: config fault N (see 'ptk check --help'), ptk: missing file NAME, ptk: not text NAME
+  2  usage
+  3  ptk: read failed NAME, ptk: write failed, ptk: no memory
+
+Example:
+  ptk run hello.toml --ticks 20";
+
+/// What `trace` does.
+pub(crate) const TRACE: &str =
+    "Runs a system and prints the last steps of one partition, oldest first";
+
+/// What a line of a trace has, the refusals of `trace`, and an example.
+pub(crate) const TRACE_AFTER: &str =
+    "A line is TICK THREAD PC WORD A0: the tick at which the step began, its thread, \
+    the address and the word of
+its instruction, and a0 after it. There are at most as many lines as the section's key trace says.
+
+Exit status:
+  0  the trace is printed
+  1  ptk: config fault N (see 'ptk check --help'), ptk: no partition NAME, ptk: missing file NAME,
+     ptk: not text NAME
+  2  usage
+  3  ptk: read failed NAME, ptk: write failed, ptk: no memory
+
+Example:
+  ptk trace hello.toml --ticks 20 --partition p";
+
+/// What `asm` does.
+pub(crate) const ASM: &str = "Makes an image of a source in assembly";
+
+/// The kinds of an assembler's faults, and an example.
+pub(crate) const ASM_AFTER: &str = "Exit status:
+  0  the image is written
+  1  ptk: asm line L fault K: the source is refused at line L, counted from 1; nothing is written. ptk: missing
+     file NAME, ptk: not text NAME
+  2  usage
+  3  ptk: read failed NAME, ptk: write failed, ptk: no memory
+
+Example:
+  ptk asm hello.s hello.img";
+
+/// What `check` does.
+pub(crate) const CHECK: &str =
+    "Reads a configuration and its images, and prints ok where all of them are accepted";
+
+/// The faults of a configuration and of an image in words, and an example.
+pub(crate) const CHECK_AFTER: &str =
+    "The first fault of the configuration is told, as ptk: config fault N:
+  1  the text is no TOML document
+  2  a key is missing
+  3  a value has the wrong type
+  4  a value is out of range
+  5  a key is unknown
+  6  two sections have one name
+  7  the windows are refused, as window K: 1 there is none, 2 one has fewer than 16 ticks, 3 two have a common
+     tick, 4 one ends after the frame, 5 no section has its name
+
+Then the first fault of the images, in the order of sections, as ptk: image NAME fault N:
+  1  fewer than 24 bytes
+  2  the first four bytes are not PTKI
+  3  another version than 1
+  4  a text length that is no multiple of 4, or bytes that are not exactly text and data
+  5  an entry that is no multiple of 4 or is above the length of the text
+  7  text, data and bss are longer than the memory below all default stacks
+
+Exit status:
+  0  all is accepted
+  1  a fault as above, ptk: missing file NAME, ptk: not text NAME
+  2  usage
+  3  ptk: read failed NAME, ptk: write failed, ptk: no memory
+
+Example:
+  ptk check hello.toml";
+
+/// A configuration's file.
+pub(crate) const CONFIGURATION: &str = "The configuration, a TOML document";
+
+/// The end of a run.
+pub(crate) const TICKS: &str = "How many ticks to run: 0 to 1099511627776, of 1000 ns each";
+
+/// The partition that is traced.
+pub(crate) const PARTITION: &str = "The name of a section of the configuration";
+
+/// A source's file.
+pub(crate) const SOURCE: &str = "The source, assembly in UTF-8";
+
+/// An image's file.
+pub(crate) const IMAGE: &str = "The image, made anew or written over";
