@@ -1,0 +1,5 @@
+pub mod Slots
+pub mod Along
+pub mod Turns
+pub mod Lists
+pub mod Empty

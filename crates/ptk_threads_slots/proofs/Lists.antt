@@ -1,0 +1,134 @@
+-- The lists of the queues after each call.
+use Rattle.std.proofs.Common.{◌≡◌, ℕ, ◌<◌, ◌≤◌, List, [], ◌∷◌, ◌++◌, length, true, false, refl, sym, ◌∙◌, ap, subst, arith, inl, inr}
+use Rattle.std.specs.Prelude.{Some, None, option_map, nat_eq, ◌==◌}
+use Rattle.std.proofs.Math.ListN.{set, get_or-map}
+use Rattle.std.proofs.lemmas.Bool.{cases_eq}
+use Rattle.std.proofs.lemmas.Bool.Decides.{nat_tests}
+use Rattle.std.proofs.lemmas.List.{append-nil}
+use Rattle.ptk_words.specs.Pools.{is_in, without}
+use Rattle.ptk_words_parted.specs.Parts.{part_of}
+use Rattle.ptk_threads_slots.specs.declared.link.Link.{Link}
+use Rattle.ptk_threads_slots.specs.declared.link.Ends.{Ends}
+use Rattle.ptk_threads_slots.specs.declared.link.QueueName.{QueueName}
+use Rattle.ptk_threads_slots.specs.Links.{place_of, link_in, no_ends, ends_at, mark_of, first_or, last_or, IsAlong, IsQueue, AreQueues, queue_from, queue_at, queues}
+use Rattle.ptk_threads_slots.specs.Changes.{put_before, linked_between, end_between, unlinked, end_without}
+use Rattle.ptk_threads_slots.proofs.Along.{in_front, out_parts, along_right}
+use Rattle.ptk_threads_slots.proofs.Turns.{IsMoved, queues_moved, are_moved, between, taken, out_middle}
+
+-- the queues are these, with this list at place i
+pub record AreTurned (links new : List Link) (ends after : List Ends) (i : ℕ) (line : List ℕ) : Type 0 where
+  pub sound : AreQueues new after
+  pub lists : queues new after ≡ set (queues links ends) i line
+
+turned : (links new : List Link) (ends after : List Ends) (i : ℕ) (end : Ends) (line : List ℕ) → AreQueues links ends → IsMoved links new ends i end line → after ≡ set ends i end → AreTurned links new ends after i line
+turned links new ends after i end line are moved e =
+    record { sound = rw e (are_moved links new ends i end line are moved); lists = rw e (queues_moved links new ends i end line are moved) }
+
+pub list_at : (links : List Link) (ends : List Ends) (i : ℕ) → part_of (queues links ends) i ≡ queue_at links ends i
+list_at links ends i = get_or-map (queue_from links) ends i no_ends
+
+-- ---- lists at a member
+
+pub record Split (k : ℕ) (line : List ℕ) : Type 0 where
+  pub before : List ℕ
+  pub after : List ℕ
+  pub is : line ≡ before ++ k ∷ after
+  pub out : is_in k before ≡ false
+
+pub split : (k : ℕ) (line : List ℕ) → is_in k line ≡ true → Split k line
+split k [] h = absurd (cc)
+split k (x ∷ xs) h =
+    elim (cases_eq k x) as (λ _. Split k (x ∷ xs)) [
+      | inl e ↦ record { before = []; after = xs; is = ap (λ y. y ∷ xs) (sym e); out = refl }
+      | inr ne ↦ (let there : is_in k xs ≡ true = elim (in_front k x xs h) as (λ _. is_in k xs ≡ true) [ inl e ↦ absurd (ne e) | inr r ↦ r ] in
+          let rest = split k xs there in
+          let apart : nat_eq k x ≡ false = grind (arith, nat_tests) in
+          record { before = x ∷ rest.before; after = rest.after; is = ap (λ l. x ∷ l) rest.is; out = rw apart rest.out })
+    ]
+
+same_test : (k : ℕ) → nat_eq k k ≡ true
+same_test k = grind (arith, nat_tests)
+
+put_split : (k b : ℕ) (xs ys : List ℕ) → is_in b xs ≡ false → put_before k b (xs ++ b ∷ ys) ≡ xs ++ k ∷ b ∷ ys
+put_split k b [] ys out = rw (same_test b) refl
+put_split k b (x ∷ xs) ys out =
+    let both = out_parts b (x ∷ []) xs out in
+    let apart : nat_eq b x ≡ false = grind (arith, nat_tests, both.0) in
+    rw apart (ap (λ l. x ∷ l) (put_split k b xs ys both.1))
+
+without_none : (k : ℕ) (ys : List ℕ) → is_in k ys ≡ false → without k ys ≡ ys
+without_none k [] out = refl
+without_none k (y ∷ ys) out =
+    let both = out_parts k (y ∷ []) ys out in
+    let apart : (y == k) ≡ false = grind (arith, nat_tests, both.0) in
+    rw apart (ap (λ l. y ∷ l) (without_none k ys both.1))
+
+without_split : (k : ℕ) (xs ys : List ℕ) → is_in k (xs ++ ys) ≡ false → without k (xs ++ k ∷ ys) ≡ xs ++ ys
+without_split k [] ys out =
+    let same : (k == k) ≡ true = grind (arith, nat_tests) in
+    rw same (without_none k ys out)
+without_split k (x ∷ xs) ys out =
+    let both = out_parts k (x ∷ []) (xs ++ ys) out in
+    let apart : (x == k) ≡ false = grind (arith, nat_tests, both.0) in
+    rw apart (ap (λ l. x ∷ l) (without_split k xs ys both.1))
+
+-- ---- the calls
+
+pub appended : (links new : List Link) (ends after : List Ends) (i k : ℕ) (name : QueueName) (end : Ends) → AreQueues links ends → i < length ends → 0 < k → k ≤ length links → mark_of links k ≡ None → place_of name ≡ i → end ≡ ends_at ends i
+    → new ≡ linked_between k (record { previous = end.last; next = None; queue = Some name }) links → after ≡ set ends i (end_between end.last k None (ends_at ends i))
+    → AreTurned links new ends after i (part_of (queues links ends) i ++ k ∷ [])
+appended links new ends after i k name end are lt pos le free place is made ended =
+    let line = queue_at links ends i in
+    let link : Link = record { previous = end.last; next = None; queue = Some name } in
+    let last : end.last ≡ last_or None line = ap (λ (e : Ends). e.last) is ∙ (are.each i).last in
+    let moved : IsMoved links (linked_between k link links) ends i (end_between end.last k None (ends_at ends i)) (line ++ k ∷ []) =
+    between links ends i k link line [] are lt pos le free (sym (append-nil line)) last refl (ap Some place) in
+    rw (list_at links ends i, made) (turned links (linked_between k link links) ends after i (end_between end.last k None (ends_at ends i)) (line ++ k ∷ []) are moved ended)
+
+pub prepended : (links new : List Link) (ends after : List Ends) (i k : ℕ) (name : QueueName) (end : Ends) → AreQueues links ends → i < length ends → 0 < k → k ≤ length links → mark_of links k ≡ None → place_of name ≡ i → end ≡ ends_at ends i
+    → new ≡ linked_between k (record { previous = None; next = end.first; queue = Some name }) links → after ≡ set ends i (end_between None k end.first (ends_at ends i))
+    → AreTurned links new ends after i (k ∷ part_of (queues links ends) i)
+prepended links new ends after i k name end are lt pos le free place is made ended =
+    let line = queue_at links ends i in
+    let link : Link = record { previous = None; next = end.first; queue = Some name } in
+    let first : end.first ≡ first_or None line = ap (λ (e : Ends). e.first) is ∙ (are.each i).first in
+    let moved : IsMoved links (linked_between k link links) ends i (end_between None k end.first (ends_at ends i)) (k ∷ line) =
+    between links ends i k link [] line are lt pos le free refl refl first (ap Some place) in
+    rw (list_at links ends i, made) (turned links (linked_between k link links) ends after i (end_between None k end.first (ends_at ends i)) (k ∷ line) are moved ended)
+
+-- where a marked thread lies
+lies : (links : List Link) (ends : List Ends) (i k : ℕ) → AreQueues links ends → mark_of links k ≡ Some i → Split k (queue_at links ends i)
+lies links ends i k are mark = split k (queue_at links ends i) (are.marked k i mark)
+
+-- the mark of a link that was read
+pub mark_is : (links : List Link) (i k : ℕ) (name : QueueName) (link : Link) → place_of name ≡ i → link ≡ link_in links k → link.queue ≡ Some name → mark_of links k ≡ Some i
+mark_is links i k name link place is named = ap (λ (l : Link). option_map place_of l.queue) (sym is) ∙ ap (λ o. option_map place_of o) named ∙ ap Some place
+
+pub inserted : (links new : List Link) (ends after : List Ends) (i k before : ℕ) (name : QueueName) (link : Link) → AreQueues links ends → i < length ends → 0 < k → k ≤ length links → mark_of links k ≡ None → place_of name ≡ i
+    → link ≡ link_in links before → link.queue ≡ Some name
+    → new ≡ linked_between k (record link { next = Some before }) links → after ≡ set ends i (end_between link.previous k (Some before) (ends_at ends i))
+    → AreTurned links new ends after i (put_before k before (part_of (queues links ends) i))
+inserted links new ends after i k before name link are lt pos le free place is named made ended =
+    let mark = mark_is links i before name link place is named in
+    let at = lies links ends i before are mark in
+    let own : Link = record link { next = Some before } in
+    let along : IsAlong links i None None (at.before ++ before ∷ at.after) = subst (λ l. IsAlong links i None None l) at.is (are.each i).along in
+    let here = along_right links i None None at.before (before ∷ at.after) along in
+    let prev : link.previous ≡ last_or None at.before = ap (λ (l : Link). l.previous) is ∙ here.0.previous in
+    let moved : IsMoved links (linked_between k own links) ends i (end_between link.previous k (Some before) (ends_at ends i)) (at.before ++ k ∷ before ∷ at.after) =
+    between links ends i k own at.before (before ∷ at.after) are lt pos le free at.is prev refl (ap (λ o. option_map place_of o) named ∙ ap Some place) in
+    let done = turned links (linked_between k own links) ends after i (end_between link.previous k (Some before) (ends_at ends i)) (at.before ++ k ∷ before ∷ at.after) are moved ended in
+    rw (list_at links ends i, at.is, put_split k before at.before at.after at.out, made) done
+
+pub went : (links new : List Link) (ends after : List Ends) (i k : ℕ) (name : QueueName) (link : Link) → AreQueues links ends → i < length ends → place_of name ≡ i
+    → link ≡ link_in links k → link.queue ≡ Some name
+    → new ≡ unlinked k link links → after ≡ set ends i (end_without link.previous link.next (ends_at ends i))
+    → AreTurned links new ends after i (without k (part_of (queues links ends) i))
+went links new ends after i k name link are lt place is named made ended =
+    let mark = mark_is links i k name link place is named in
+    let at = lies links ends i k are mark in
+    let was : IsQueue links (ends_at ends i) i (at.before ++ k ∷ at.after) = subst (λ l. IsQueue links (ends_at ends i) i l) at.is (are.each i) in
+    let out : is_in k (at.before ++ at.after) ≡ false = out_middle at.before at.after k was.distinct in
+    let moved : IsMoved links (unlinked k link links) ends i (end_without link.previous link.next (ends_at ends i)) (at.before ++ at.after) = taken links ends i k link at.before at.after are lt is mark at.is in
+    let done = turned links (unlinked k link links) ends after i (end_without link.previous link.next (ends_at ends i)) (at.before ++ at.after) are moved ended in
+    rw (list_at links ends i, at.is, without_split k at.before at.after out, made) done

@@ -1,0 +1,115 @@
+-- Threads of one partition in queues that are linked through its slots.
+use Rattle.std.specs.Prelude.{◌≡◌, ℕ, zero, suc, ◌+◌, ◌-◌, true, List, [], ◌∷◌, length, map, Option, Some, None, option_map, slice_index_or, nat_eq}
+use Rattle.std.specs.List.{IsDistinct}
+use Rattle.ptk_words.specs.Pools.{pool_set, is_in}
+use Rattle.ptk_words.specs.declared.threads.Thread.{Thread}
+use Rattle.ptk_threads_slots.specs.declared.link.Link.{Link}
+use Rattle.ptk_threads_slots.specs.declared.link.Ends.{Ends}
+use Rattle.ptk_threads_slots.specs.declared.link.QueueName.{QueueName}
+use Rattle.ptk_threads_slots.specs.declared.link.QueueName.TheVariants.{Ready, MutexWaiters, ConditionWaiters}
+use Rattle.ptk_threads_slots.specs.declared.slot.Slot.{Slot}
+
+-- ---- names
+
+-- a queue's place among its partition's: 32 of ready threads, 64 of mutexes, 32 of condition variables
+abbrev pub place_of : QueueName → ℕ
+place_of (Ready priority) = priority - 1
+place_of (MutexWaiters m) = m + 31
+place_of (ConditionWaiters c) = c + 95
+
+-- ---- reading
+
+abbrev pub no_link : Link
+no_link = record { previous = None; next = None; queue = None }
+
+abbrev pub no_ends : Ends
+no_ends = record { first = None; last = None }
+
+-- the links of the slots, and their threads
+abbrev pub links_of : List Slot → List Link
+links_of slots = map (λ (slot : Slot). slot.link) slots
+
+abbrev pub threads_of : List Slot → List (Option Thread)
+threads_of slots = map (λ (slot : Slot). slot.thread) slots
+
+-- the link of a number, that of no queue past the slots
+abbrev pub link_in : List Link → ℕ → Link
+link_in links zero = no_link
+link_in links (suc i) = slice_index_or links i no_link
+
+abbrev pub ends_at : List Ends → ℕ → Ends
+ends_at ends i = slice_index_or ends i no_ends
+
+-- the place of the queue that a thread lies in
+abbrev pub mark_of : List Link → ℕ → Option ℕ
+mark_of links k = option_map place_of (link_in links k).queue
+
+-- the list that the links lead along, from a thread on, of at most so many
+abbrev pub walk : ℕ → List Link → Option ℕ → List ℕ
+walk zero links at = []
+walk (suc many) links None = []
+walk (suc many) links (Some k) = k ∷ walk many links (link_in links k).next
+
+-- a queue's list is what the links lead along from its first thread
+abbrev pub queue_from : List Link → Ends → List ℕ
+queue_from links end = walk (suc (length links)) links end.first
+
+-- the list of the queue at a place, and of all queues
+abbrev pub queue_at : List Link → List Ends → ℕ → List ℕ
+queue_at links ends i = queue_from links (ends_at ends i)
+
+abbrev pub queues : List Link → List Ends → List (List ℕ)
+queues links ends = map (queue_from links) ends
+
+-- ---- writing
+
+-- this thread, if it is one, is followed by next
+abbrev pub with_next : Option ℕ → Option ℕ → List Link → List Link
+with_next None next links = links
+with_next (Some k) next links = pool_set links k (record (link_in links k) { next = next })
+
+-- this thread, if it is one, follows previous
+abbrev pub with_previous : Option ℕ → Option ℕ → List Link → List Link
+with_previous None previous links = links
+with_previous (Some k) previous links = pool_set links k (record (link_in links k) { previous = previous })
+
+-- the first of a queue where first follows previous, or is followed by nobody's
+abbrev pub first_after : Option ℕ → Option ℕ → Option ℕ → Option ℕ
+first_after None first old = first
+first_after (Some k) first old = old
+
+abbrev pub last_before : Option ℕ → Option ℕ → Option ℕ → Option ℕ
+last_before None last old = last
+last_before (Some k) last old = old
+
+-- ---- what the links of a queue are
+
+abbrev pub first_or : Option ℕ → List ℕ → Option ℕ
+first_or a [] = a
+first_or a (x ∷ xs) = Some x
+
+abbrev pub last_or : Option ℕ → List ℕ → Option ℕ
+last_or b [] = b
+last_or b (x ∷ xs) = last_or (Some x) xs
+
+-- the thread lies in the queue at this place, between these two
+pub record IsLink (links : List Link) (i : ℕ) (before after : Option ℕ) (k : ℕ) : Type 0 where
+  pub previous : (link_in links k).previous ≡ before
+  pub next : (link_in links k).next ≡ after
+  pub queue : mark_of links k ≡ Some i
+
+-- the links lead along the list in both directions, from before to after
+abbrev pub IsAlong : List Link → ℕ → Option ℕ → Option ℕ → List ℕ → Type 0
+IsAlong links i before after [] = Unit {0}
+IsAlong links i before after (x ∷ xs) = IsLink links i before (first_or after xs) x × IsAlong links i (Some x) after xs
+
+pub record IsQueue (links : List Link) (end : Ends) (i : ℕ) (line : List ℕ) : Type 0 where
+  pub along : IsAlong links i None None line
+  pub distinct : IsDistinct nat_eq line
+  pub first : end.first ≡ first_or None line
+  pub last : end.last ≡ last_or None line
+
+-- each queue's links lead along its list, and a thread that has a queue's mark is in its list
+pub record AreQueues (links : List Link) (ends : List Ends) : Type 0 where
+  pub each : (i : ℕ) → IsQueue links (ends_at ends i) i (queue_at links ends i)
+  pub marked : (k i : ℕ) → mark_of links k ≡ Some i → is_in k (queue_at links ends i) ≡ true

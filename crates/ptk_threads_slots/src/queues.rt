@@ -1,0 +1,151 @@
+//! The queues of one partition.
+
+ghost use Rattle.std.specs.Prelude.{◌≡◌, ◌<◌, ◌≤◌, [], ◌∷◌, ◌++◌, length, Some, None, slice_set, replicate};
+ghost use Rattle.ptk_words_parted.specs.Parts.{part_of};
+ghost use Rattle.ptk_threads_slots.specs.Links.{AreQueues, queues, links_of, threads_of, link_in, mark_of, place_of, ends_at, no_link};
+ghost use Rattle.ptk_threads_slots.specs.Changes.{with_inserted, with_taken, linked_between, end_between, unlinked, end_without};
+
+use crate::link::{Ends, Link, QueueName};
+use crate::slot::{Slot, link_of, set_link, set_next, set_previous};
+use ptk_words::ThreadNo;
+
+/// The first and the last thread of a queue.
+pub fn ends_of(ends: &[Ends], name: QueueName) -> Ends
+    requires { length ends.now ≡ 128 }
+    ensures { result ≡ ends_at ends.now (place_of name) }
+{
+    let i = name.place();
+    ends[i]
+}
+
+/// A thread that lies in no queue becomes the last of one. The threads stay.
+pub fn append(slots: &mut [Slot], ends: &mut [Ends], name: QueueName, k: ThreadNo)
+    requires queues { AreQueues (links_of slots.old) ends.old }
+    requires places { length ends.old ≡ 128 }
+    requires slot { k ≤ length slots.old }
+    requires free { mark_of (links_of slots.old) k ≡ None }
+    ensures queues { AreQueues (links_of slots.new) ends.new }
+    ensures lists { queues (links_of slots.new) ends.new
+        ≡ slice_set (queues (links_of slots.old) ends.old) (place_of name)
+        (part_of (queues (links_of slots.old) ends.old) (place_of name) ++ k ∷ []) }
+    ensures threads { threads_of slots.new ≡ threads_of slots.old }
+{
+    let i = name.place();
+    let end = ends[i];
+    let link = Link {
+        previous: end.last,
+        next: None,
+        queue: Some(name),
+    };
+    link_between(slots, ends, i, k, link);
+}
+
+/// A thread that lies in no queue becomes the first of one. The threads stay.
+pub fn prepend(slots: &mut [Slot], ends: &mut [Ends], name: QueueName, k: ThreadNo)
+    requires queues { AreQueues (links_of slots.old) ends.old }
+    requires places { length ends.old ≡ 128 }
+    requires slot { k ≤ length slots.old }
+    requires free { mark_of (links_of slots.old) k ≡ None }
+    ensures queues { AreQueues (links_of slots.new) ends.new }
+    ensures lists { queues (links_of slots.new) ends.new
+        ≡ slice_set (queues (links_of slots.old) ends.old) (place_of name)
+        (k ∷ part_of (queues (links_of slots.old) ends.old) (place_of name)) }
+    ensures threads { threads_of slots.new ≡ threads_of slots.old }
+{
+    let i = name.place();
+    let end = ends[i];
+    let link = Link {
+        previous: None,
+        next: end.first,
+        queue: Some(name),
+    };
+    link_between(slots, ends, i, k, link);
+}
+
+/// A thread that lies in no queue goes before another one, into the queue in which that one lies; nothing changes where
+/// that one lies in none. The threads stay.
+pub fn insert(slots: &mut [Slot], ends: &mut [Ends], k: ThreadNo, before: ThreadNo)
+    requires queues { AreQueues (links_of slots.old) ends.old }
+    requires places { length ends.old ≡ 128 }
+    requires slot { k ≤ length slots.old }
+    requires free { mark_of (links_of slots.old) k ≡ None }
+    ensures queues { AreQueues (links_of slots.new) ends.new }
+    ensures lists { queues (links_of slots.new) ends.new
+        ≡ with_inserted (mark_of (links_of slots.old) before) k before (queues (links_of slots.old) ends.old) }
+    ensures threads { threads_of slots.new ≡ threads_of slots.old }
+{
+    let link = link_of(slots, before);
+    if let Some(name) = &link.queue {
+        let i = name.place();
+        let next = Some(before);
+        link_between(slots, ends, i, k, Link { next, ..link });
+    }
+}
+
+/// A thread leaves the queue in which it lies; nothing changes where it lies in none. The threads stay.
+pub fn take(slots: &mut [Slot], ends: &mut [Ends], k: ThreadNo)
+    requires queues { AreQueues (links_of slots.old) ends.old }
+    requires places { length ends.old ≡ 128 }
+    ensures queues { AreQueues (links_of slots.new) ends.new }
+    ensures lists { queues (links_of slots.new) ends.new
+        ≡ with_taken (mark_of (links_of slots.old) k) k (queues (links_of slots.old) ends.old) }
+    ensures threads { threads_of slots.new ≡ threads_of slots.old }
+{
+    let link = link_of(slots, k);
+    if let Some(name) = &link.queue {
+        let i = name.place();
+        unlink(slots, ends, i, k, &link);
+    }
+}
+
+/// Gives a thread a link in the queue at place i, and its neighbours theirs to it.
+fn link_between(slots: &mut [Slot], ends: &mut [Ends], i: usize, k: ThreadNo, link: Link)
+    requires { i < length ends.old }
+    ensures links { links_of slots.new ≡ linked_between k link (links_of slots.old) }
+    ensures ends { ends.new ≡ slice_set ends.old i (end_between link.previous k link.next (ends_at ends.old i)) }
+    ensures threads { threads_of slots.new ≡ threads_of slots.old }
+    ensures positive { 0 < k }
+{
+    let own = Some(k);
+    set_next(slots, &link.previous, &own);
+    set_previous(slots, &link.next, &own);
+    let end = ends[i];
+    ends[i] = end.with(k, &link);
+    set_link(slots, k, link);
+}
+
+/// Links the neighbours of a thread with this link in the queue at place i to each other.
+fn unlink(slots: &mut [Slot], ends: &mut [Ends], i: usize, k: ThreadNo, link: &Link)
+    requires { i < length ends.old }
+    ensures links { links_of slots.new ≡ unlinked k link.now (links_of slots.old) }
+    ensures ends { ends.new ≡ slice_set ends.old i (end_without link.now.previous link.now.next (ends_at ends.old i)) }
+    ensures threads { threads_of slots.new ≡ threads_of slots.old }
+{
+    set_next(slots, &link.previous, &link.next);
+    set_previous(slots, &link.next, &link.previous);
+    let end = ends[i];
+    ends[i] = end.without(link);
+    set_link(slots, k, Link::none());
+}
+
+/// No thread lies in a queue any more: every queue is empty. The threads stay.
+#[tactic(auto, using(crate::proofs::Empty::empties))]
+pub fn clear(slots: &mut [Slot], ends: &mut [Ends])
+    ensures queues { AreQueues (links_of slots.new) ends.new }
+    ensures lists { queues (links_of slots.new) ends.new ≡ replicate (length ends.old) [] }
+    ensures free { links_of slots.new ≡ replicate (length slots.old) no_link }
+    ensures threads { threads_of slots.new ≡ threads_of slots.old }
+{
+    clear_links(slots);
+    ends.fill(Ends::none());
+}
+
+/// Every slot has the link of a thread that lies in no queue.
+fn clear_links(slots: &mut [Slot])
+    ensures links { links_of slots.new ≡ replicate (length slots.old) no_link }
+    ensures threads { threads_of slots.new ≡ threads_of slots.old }
+{
+    for slot in slots.iter_mut() {
+        slot.link = Link::none();
+    }
+}
