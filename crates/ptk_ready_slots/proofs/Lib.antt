@@ -1,0 +1,9 @@
+pub mod Masks
+pub mod Orders
+pub mod Ready
+pub mod Kept
+pub mod Moves
+pub mod Filed
+pub mod Firsts
+pub mod Extremes
+pub mod Ranks

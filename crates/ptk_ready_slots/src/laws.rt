@@ -1,0 +1,18 @@
+//! What holds of marks and queues, as contracts of functions without code.
+
+ghost use Rattle.std.specs.Prelude.{◌≡◌, ◌↔◌, ℕ, ℤ, true, false, List, Some, None};
+ghost use Rattle.ptk_words.specs.Pools.{is_in};
+ghost use Rattle.ptk_threads_slots.specs.declared.link.Ends.{Ends};
+ghost use Rattle.ptk_threads_slots.specs.declared.link.Link.{Link};
+ghost use Rattle.ptk_threads_slots.specs.Links.{mark_of, queue_at, AreQueues};
+ghost use Rattle.ptk_ready_slots.specs.Entries.{entries, is_ready};
+
+/// A thread is in a queue's list exactly where its slot is marked with that queue, in none exactly where its slot has
+/// no mark, and in the line exactly where it is marked as ready.
+pub fn marks_tell_queues()
+    ensures queued { (links : List Link) (ends : List Ends) (k i : ℕ) → AreQueues links ends
+        → ((is_in k (queue_at links ends i) ≡ true) ↔ (mark_of links k ≡ Some i)) }
+    ensures free { (links : List Link) (ends : List Ends) (k : ℕ) → AreQueues links ends
+        → (((i : ℕ) → is_in k (queue_at links ends i) ≡ false) ↔ (mark_of links k ≡ None)) }
+    ensures ready { (links : List Link) (stamps : List ℤ) (k : ℕ) → is_in k (entries links stamps) ≡ is_ready links k }
+{}
