@@ -12,7 +12,8 @@ use Rattle.ptk_words_locks.specs.Conditions.{waiters_on}
 use Rattle.ptk_threads.specs.Table.{ThreadTable, free_table}
 use Rattle.ptk_threads.proofs.Pools.{part_of-set}
 use Rattle.ptk_mutex.proofs.Pool.{least_free_is}
-use Rattle.ptk_mutex.proofs.Ready.{pool_set_same, row_blank, pool_blank, ready_blank}
+use Rattle.ptk_words_locks.proofs.MutexPlaces.{pool_set_same}
+use Rattle.ptk_mutex.proofs.Ready.{row_blank, pool_blank, ready_blank}
 use Rattle.ptk_cond.specs.Slots.{condition_of}
 use Rattle.ptk_cond.specs.Pool.{with_new_condition}
 use Rattle.ptk_cond.specs.Tables.{AreSynced}

@@ -1,18 +1,21 @@
 -- The faults that a document's table can state: neither that of the text nor want of memory.
-use Rattle.std.proofs.Common.{◌≡◌, ℕ, ℤ, pos, negsuc, List, [], ◌∷◌, ◌++◌, Bool, true, false, Option, Some, None, Ok, Err, subst}
-use Rattle.std.specs.Prelude.{codes, IfErr}
+use Rattle.std.proofs.Common.{◌≡◌, ◌≢◌, ◌∙◌, refl, ℕ, ◌+◌, ℤ, pos, negsuc, List, [], ◌∷◌, ◌++◌, Bool, true, false, Option, Some, None, Ok, Err, subst}
+use Rattle.std.specs.Prelude.{codes, length, IfErr}
 use Rattle.ptk_words.specs.declared.TheConstants.{LAST_TICK}
 use Rattle.toml.specs.Data.{Data, Items, no_items, item, Members, as_integer, as_str, as_array, as_table, get_member}
 use Rattle.ptk_words_windows.specs.declared.fault.WindowFault.{WindowFault}
+use Rattle.ptk_words_windows.specs.declared.fault.WindowFault.TheVariants.{OutOfOrder}
+use Rattle.ptk_words_windows.specs.WindowFaults.{plan_fault}
 use Rattle.ptk_config.specs.declared.fault.ConfigFault.{ConfigFault}
 use Rattle.ptk_config.specs.declared.fault.ConfigFault.TheVariants.{Text, MissingKey, WrongType, OutOfRange, UnknownKey, DoubledName, Window, Memory}
-use Rattle.ptk_config.specs.Reading.{Checked, MemoryAside, ◌>>=◌, or_fault, tested, within, integer, text, items, members, required, number, array, each_after, only}
+use Rattle.ptk_config.specs.Reading.{Checked, MemoryAside, ◌>>=◌, or_fault, tested, within, integer, text, items, members, required, number, counted, array, each_after, only}
 use Rattle.ptk_config.specs.Inputs.{bytes_in, input, input_in, inputs_of, input_of}
 use Rattle.ptk_config.specs.Sections.{Section, name, image_of, sixteens, stack, limits, section, section_keys, sections_in}
-use Rattle.ptk_config.specs.Windows.{number_of, window, windows_in}
+use Rattle.ptk_config.specs.Windows.{number_of, window, windows_in, last_from, stage, stage_in, stages_of}
 use Rattle.ptk_config.specs.Configuration.{Configuration, configuration, fault_or}
+use Rattle.ptk_config.proofs.Order.{IsOfWindows, tested-ok, of_plan_fault, in_order, stages_of-later}
 
--- a fault of what a document states: neither of its text nor of the host's memory
+-- a fault of what a document states: neither of its text, nor of the host's memory, nor of its stages' numbers, which are read in order
 abbrev pub IsOfDocument : ConfigFault → Type 0
 IsOfDocument Text = ⊥
 IsOfDocument MissingKey = Unit {0}
@@ -20,7 +23,7 @@ IsOfDocument WrongType = Unit {0}
 IsOfDocument OutOfRange = Unit {0}
 IsOfDocument UnknownKey = Unit {0}
 IsOfDocument DoubledName = Unit {0}
-IsOfDocument (Window e) = Unit {0}
+IsOfDocument (Window e) = IsOfWindows (Some e)
 IsOfDocument Memory = ⊥
 
 abbrev fault_in : {A : Type 0} → Checked A → Type 0
@@ -34,6 +37,11 @@ pub record HasDocumentFault {A : Type 0} (c : Checked A) : Type 0 where
 bind : {A B : Type 0} (c : Checked A) (f : A → Checked B) → HasDocumentFault c → ((a : A) → HasDocumentFault (f a)) → HasDocumentFault (c >>= f)
 bind (Ok a) f here next = next a
 bind (Err e) f here next = record { fault = here.fault }
+
+-- the next check may rest on what the one before read
+bind_read : {A B : Type 0} (c : Checked A) (f : A → Checked B) → HasDocumentFault c → ((a : A) → c ≡ Ok a → HasDocumentFault (f a)) → HasDocumentFault (c >>= f)
+bind_read (Ok a) f here next = next a refl
+bind_read (Err e) f here next = record { fault = here.fault }
 
 of_or_fault : {A : Type 0} (o : Option A) (e : ConfigFault) → IsOfDocument e → HasDocumentFault (or_fault o e)
 of_or_fault (Some a) e is = record { fault = tt }
@@ -65,8 +73,11 @@ of_required key t = of_or_fault (get_member key t) MissingKey tt
 of_number : (key : List ℕ) (low high : ℕ) (t : Members) → HasDocumentFault (number key low high t)
 of_number key low high t = bind _ _ (of_required key t) (of_integer low high)
 
+of_counted : (low high : ℕ) (ds : Items) → HasDocumentFault (counted low high ds)
+of_counted low high ds = of_tested _ OutOfRange ds tt
+
 of_array : (key : List ℕ) (low high : ℕ) (t : Members) → HasDocumentFault (array key low high t)
-of_array key low high t = bind _ _ (bind _ _ (of_required key t) of_items) (λ ds. of_tested _ OutOfRange ds tt)
+of_array key low high t = bind _ _ (bind _ _ (of_required key t) of_items) (of_counted low high)
 
 of_each_after : {A : Type 0} (f : List A → Data → Checked A) → ((done : List A) (d : Data) → HasDocumentFault (f done d)) → (done : List A) (ds : Items) → HasDocumentFault (each_after f done ds)
 of_each_after f each done no_items = record { fault = tt }
@@ -145,9 +156,23 @@ of_windows_in : (sections : List Section) (ds : Items) → HasDocumentFault (win
 unfolding windows_in
 of_windows_in sections ds = of_each_after (λ _. window sections) (λ _ d. of_window sections d) [] ds
 
-of_fault_or : {A : Type 0} (o : Option WindowFault) (a : A) → HasDocumentFault (fault_or o a)
-of_fault_or (Some e) a = record { fault = tt }
-of_fault_or None a = record { fault = tt }
+of_stage : (sections : List Section) (low : ℕ) (d : Data) → HasDocumentFault (stage sections low d)
+of_stage sections low d =
+    bind _ _ (of_members d) (λ t.
+    bind _ _ (of_number (codes "from") low 68719476736 t) (λ from.
+    bind _ _ (of_array (codes "window") 0 64 t) (λ values.
+    bind _ _ (of_windows_in sections values) (λ windows.
+    of_only (codes "from" ∷ codes "window" ∷ []) t (record { from = from; windows = windows })))))
+
+of_stages_of : (sections : List Section) (value : Option Data) → HasDocumentFault (stages_of sections value)
+unfolding stages_of
+of_stages_of sections None = record { fault = tt }
+of_stages_of sections (Some d) =
+    bind _ _ (bind _ _ (of_items d) (of_counted 0 15)) (of_each_after (stage_in sections) (λ done d. of_stage sections (last_from done + 1) d) [])
+
+of_fault_or : {A : Type 0} (o : Option WindowFault) (a : A) → IsOfWindows o → HasDocumentFault (fault_or o a)
+of_fault_or (Some e) a is = record { fault = is }
+of_fault_or None a is = record { fault = tt }
 
 of_configuration : (t : Members) → HasDocumentFault (configuration t)
 of_configuration t =
@@ -156,10 +181,14 @@ of_configuration t =
     bind _ _ (of_sections_in values) (λ sections.
     bind _ _ (of_array (codes "window") 0 64 t) (λ values.
     bind _ _ (of_windows_in sections values) (λ windows.
-    bind _ _
-    (of_only (codes "frame" ∷ codes "partition" ∷ codes "window" ∷ []) t
-    (record { sections = sections; windows = record { frame = frame; windows = windows } })) (λ known.
-    bind _ _ (of_tested _ DoubledName known tt) (λ distinct. of_fault_or _ distinct)))))))
+    bind_read _ _ (of_stages_of sections (get_member (codes "plan") t)) (λ later read.
+    let config : Configuration = record { sections = sections; plan = record { frame = frame; stages = record { from = 0; windows = windows } ∷ later } } in
+    bind_read _ _ (of_only (codes "frame" ∷ codes "partition" ∷ codes "window" ∷ codes "plan" ∷ []) t config) (λ known is_known.
+    bind_read _ _ (of_tested _ DoubledName known tt) (λ distinct is_distinct.
+    let same : distinct ≡ config = (tested-ok _ DoubledName known distinct is_distinct).1 ∙ (tested-ok _ UnknownKey config known is_known).1 in
+    let fault : IsOfWindows (plan_fault frame (length sections) distinct.plan.stages) =
+    rw same (of_plan_fault frame (length sections) config.plan.stages (in_order windows later (stages_of-later sections (get_member (codes "plan") t) later read))) in
+    of_fault_or _ distinct fault))))))))
 
 of_fault : (t : Members) (e : ConfigFault) → configuration t ≡ Err e → IsOfDocument e
 of_fault t e is = subst (λ (c : Checked Configuration). fault_in c) is (of_configuration t).fault
@@ -171,3 +200,12 @@ never_text P t (Err e) aside =
     λ text.
     let stated : configuration t ≡ Err e = aside (λ memory. cc) in
     absurd (subst IsOfDocument text (of_fault t e stated))
+
+-- a table's result is not the fault of the stages' numbers
+pub never_order : (t : Members) (r : Checked Configuration) → MemoryAside (λ a. a) r (configuration t) → IfErr r (λ e. e ≢ Window OutOfOrder)
+never_order t (Ok config) aside = tt
+never_order t (Err e) aside =
+    λ order.
+    let stated : configuration t ≡ Err e = aside (λ memory. cc) in
+    let numbers : IsOfWindows (Some OutOfOrder) = subst IsOfDocument order (of_fault t e stated) in
+    numbers.is

@@ -1,22 +1,22 @@
 -- What a document states, or its first fault.
-use Rattle.std.specs.Prelude.{ℕ, ◌≡◌, ◌≤◌, Bool, false, List, [], ◌∷◌, codes, length, not, Option, Some, None, Ok, Err}
+use Rattle.std.specs.Prelude.{ℕ, ◌≡◌, ◌≤◌, Bool, false, List, [], ◌∷◌, codes, length, not, Option, Some, None, Ok, Err, All}
 use Rattle.std.specs.Str.{bytes_eq}
-use Rattle.toml.specs.Data.{Members}
+use Rattle.toml.specs.Data.{Members, get_member}
 use Rattle.toml.specs.Parse.{parse_document}
 use Rattle.ptk_words_windows.specs.declared.fault.WindowFault.{WindowFault}
-use Rattle.ptk_words_windows.specs.WindowFaults.{some_pair, window_fault}
-use Rattle.ptk_words_windows.specs.Windows.{WindowTable}
+use Rattle.ptk_words_windows.specs.WindowFaults.{some_pair, plan_fault}
+use Rattle.ptk_words_windows.specs.Windows.{WindowPlan}
 use Rattle.ptk_config.specs.declared.fault.ConfigFault.TheVariants as fault
 use Rattle.ptk_config.specs.Reading.{Checked, ◌>>=◌, or_fault, tested, number, array, only}
 use Rattle.ptk_config.specs.Sections.{Section, AreInRange, sections_in}
-use Rattle.ptk_config.specs.Windows.{windows_in}
+use Rattle.ptk_config.specs.Windows.{windows_in, stages_of}
 
--- the sections, by number, and the window table (own)
+-- the sections, by number, and the window plan (own)
 pub record Configuration : Type 0 where
   pub sections : List Section
-  pub windows : WindowTable
+  pub plan : WindowPlan
 
--- the value, or the window table's fault (own)
+-- the value, or the window plan's fault (own)
 abbrev pub fault_or : {A : Type 0} → Option WindowFault → A → Checked A
 fault_or (Some e) a = Err (fault.Window e)
 fault_or None a = Ok a
@@ -33,20 +33,23 @@ configuration t = do
   sections ← sections_in values
   values ← array (codes "window") 0 64 t
   windows ← windows_in sections values
-  known ← only (codes "frame" ∷ codes "partition" ∷ codes "window" ∷ []) t (record { sections = sections; windows = record { frame = frame; windows = windows } })
+  later ← stages_of sections (get_member (codes "plan") t)
+  known ← only (codes "frame" ∷ codes "partition" ∷ codes "window" ∷ codes "plan" ∷ []) t (record { sections = sections; plan = record { frame = frame; stages = record { from = 0; windows = windows } ∷ later } })
   distinct ← tested (not (any_doubled sections)) fault.DoubledName known
-  fault_or (window_fault frame (length sections) windows) distinct
+  fault_or (plan_fault frame (length sections) distinct.plan.stages) distinct
 
 -- what a text states: a text that is no TOML document is the first fault (own)
 abbrev pub configuration_in : List ℕ → Checked Configuration
 configuration_in text = or_fault (parse_document text) fault.Text >>= configuration
 
--- 1 to 8 sections within their ranges, of distinct names, and windows without a fault (own)
+-- 1 to 8 sections within their ranges, of distinct names, and a plan without a fault, of 16 stages at most (own)
 pub record IsConfiguration (config : Configuration) : Type 0 where
   pub some : 1 ≤ length config.sections
   pub few : length config.sections ≤ 8
   pub ranges : AreInRange config.sections
   pub distinct : any_doubled config.sections ≡ false
-  pub frame_from : 16 ≤ config.windows.frame
-  pub frame_to : config.windows.frame ≤ 1000000
-  pub windows : window_fault config.windows.frame (length config.sections) config.windows.windows ≡ None
+  pub frame_from : 16 ≤ config.plan.frame
+  pub frame_to : config.plan.frame ≤ 1000000
+  pub stages : length config.plan.stages ≤ 16
+  pub numbers : All (λ stage. stage.from ≤ 68719476736) config.plan.stages
+  pub plan : plan_fault config.plan.frame (length config.sections) config.plan.stages ≡ None

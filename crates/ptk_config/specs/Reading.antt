@@ -69,9 +69,13 @@ required key t = or_fault (get_member key t) MissingKey
 abbrev pub number : List ℕ → ℕ → ℕ → Members → Checked ℕ
 number key low high t = required key t >>= integer low high
 
+-- the items, if there are so many
+abbrev pub counted : ℕ → ℕ → Items → Checked Items
+counted low high ds = tested (nat_le low (count_of ds) && nat_le (count_of ds) high) OutOfRange ds
+
 -- the array at a key, of so many items
 abbrev pub array : List ℕ → ℕ → ℕ → Members → Checked Items
-array key low high t = required key t >>= items >>= (λ ds. tested (nat_le low (count_of ds) && nat_le (count_of ds) high) OutOfRange ds)
+array key low high t = required key t >>= items >>= counted low high
 
 -- each item in turn, read in view of what was read before it
 abbrev pub each_after : {A : Type 0} → (List A → Data → Checked A) → List A → Items → Checked (List A)

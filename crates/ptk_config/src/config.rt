@@ -3,18 +3,19 @@
 use crate::fault::ConfigFault;
 use crate::reading::{are_known, array, number};
 use crate::section::{Section, read_section};
+use crate::stage::{Stage, read_later_stages};
 use crate::window::read_windows;
-use ptk_window::WindowTable;
-use ptk_words_windows::WindowFault;
-use std::alloc::Global;
+use ptk_window::WindowPlan;
+use ptk_words_windows::{Window, WindowFault};
+use std::alloc::{AllocError, Global};
 use std::marker::Model;
 use toml::{Table, Value};
 
-/// The sections, by number, and their windows in a frame.
+/// The sections, by number, and the plan of their windows.
 #[derive(Debug, Drop)]
 pub struct Config {
     sections: Vec<Section>,
-    windows: WindowTable,
+    plan: WindowPlan,
 }
 
 impl Model for Config {
@@ -22,18 +23,19 @@ impl Model for Config {
 
     ghost Value = { Configuration };
 
-    ghost view = { λ a. record { sections = a.sections.items; windows = a.windows } };
+    ghost view = { λ a. record { sections = a.sections.items; plan = a.plan } };
 
-    ghost invariant = { λ a. IsConfiguration (record { sections = a.sections.items; windows = a.windows }) };
+    ghost invariant = { λ a. IsConfiguration (record { sections = a.sections.items; plan = a.plan }) };
 }
 
-ghost use Rattle.std.specs.Prelude.{◌≡◌, ◌≤◌, ◌≢◌, Ok, Err, None, IfOk, IfErr, length, vec_len};
+ghost use Rattle.std.specs.Prelude.{◌≡◌, ◌≤◌, ◌≢◌, Ok, Err, None, IfOk, IfErr, All, ◌∷◌, ◌^◌, length, map, vec_len};
 ghost use Rattle.std.specs.List.{list_any};
 ghost use Rattle.std.specs.Str.{bytes_eq};
 ghost use Rattle.toml.specs.Parse.{parse_document};
 ghost use Rattle.toml.specs.View.{table_view, items_view};
 ghost use Rattle.ptk_config.specs.Reading.{MemoryAside};
 ghost use Rattle.ptk_config.specs.Sections.{AreInRange, sections_in};
+ghost use Rattle.ptk_config.specs.Windows.{AreLater};
 ghost use Rattle.ptk_config.specs.Configuration.{IsConfiguration, any_doubled, configuration, configuration_in};
 
 impl Config {
@@ -58,25 +60,26 @@ impl Config {
 
     /// How many ticks a frame has, 16 to 1000000.
     pub fn frame(&self) -> u32
-        ensures value { result ≡ self.now.windows.frame }
+        ensures value { result ≡ self.now.plan.frame }
         ensures from { 16 ≤ result }
         ensures to { result ≤ 1000000 }
     {
-        self.windows.frame()
+        self.plan.frame()
     }
 
-    /// The windows: which section's each tick of the frame is.
-    pub fn windows(&self) -> &WindowTable
-        ensures value { result.now ≡ self.now.windows }
+    /// The plan: which section's each tick is. Its windows change at frames alone, at 15 of them at most, none of which
+    /// has a number above 2^36.
+    pub fn plan(&self) -> &WindowPlan
+        ensures value { result.now ≡ self.now.plan }
         ensures whole { IsConfiguration self.now }
     {
-        &self.windows
+        &self.plan
     }
 }
 
 /// The sections that the values state.
 #[tactic(auto, using(crate::proofs::Sections::sections), unfolding(crate::specs::Sections::sections_in))]
-fn read_sections(alloc: Global, values: &[Value]) -> Result<Vec<Section>, ConfigFault>
+pub fn read_sections(alloc: Global, values: &[Value]) -> Result<Vec<Section>, ConfigFault>
     ensures value { MemoryAside (λ v. v.items) result (sections_in (items_view values.now)) }
     ensures count { IfOk result (λ v. vec_len v ≡ length values.now) }
     ensures ranges { IfOk result (λ v. AreInRange v.items) }
@@ -89,7 +92,7 @@ fn read_sections(alloc: Global, values: &[Value]) -> Result<Vec<Section>, Config
 }
 
 /// Whether one of these has the section's name.
-fn shares_name(section: &Section, others: &[Section]) -> bool
+pub fn shares_name(section: &Section, others: &[Section]) -> bool
     ensures { result ≡ list_any (λ u. bytes_eq section.now.name u.name) others.now }
 {
     others.iter().any(|other| section.has_name(other.name()))
@@ -97,7 +100,7 @@ fn shares_name(section: &Section, others: &[Section]) -> bool
 
 /// Whether two sections have one name.
 #[tactic(auto, using(ptk_window::proofs::Pairs::pairs), unfolding(crate::specs::Configuration::any_doubled))]
-fn any_doubled(sections: &[Section]) -> bool
+pub fn any_doubled(sections: &[Section]) -> bool
     ensures { result ≡ any_doubled sections.now }
 {
     for (index, section) in sections.iter().enumerate() {
@@ -106,6 +109,26 @@ fn any_doubled(sections: &[Section]) -> bool
         }
     }
     false
+}
+
+/// The top windows from frame 0 on, and those of each later stage from its frame on.
+#[tactic(auto, using(crate::proofs::Stages::given))]
+pub fn stages_given<'a>(
+    alloc: Global,
+    windows: &'a [Window],
+    later: &'a [Stage],
+) -> Result<Vec<(u64, &'a [Window])>, AllocError>
+    requires { AreLater later.now }
+    ensures value { IfOk result
+        (λ v. map (λ stage. record { from = stage.0; windows = stage.1.now }) v.items ≡ record { from = 0; windows = windows.now } ∷ later.now) }
+    ensures numbers { IfOk result (λ v. All (λ stage. stage.0 ≤ 2 ^ 36) v.items) }
+{
+    let mut stages = Vec::new(alloc);
+    stages.push((0, windows))?;
+    for stage in later {
+        stages.push(stage.given())?;
+    }
+    Ok(stages)
 }
 
 /// What a document's table states.
@@ -117,25 +140,28 @@ fn read_table(alloc: Global, table: &Table) -> Result<Config, ConfigFault>
     let sections = read_sections(alloc, values)?;
     let values = array(table, "window", 0, 64)?;
     let windows = read_windows(alloc, values, &sections)?;
-    if !are_known(table, &["frame", "partition", "window"]) {
+    let later = read_later_stages(alloc, table, &sections)?;
+    if !are_known(table, &["frame", "partition", "window", "plan"]) {
         return Err(ConfigFault::UnknownKey);
     }
     if any_doubled(&sections) {
         return Err(ConfigFault::DoubledName);
     }
-    match WindowTable::new(alloc, frame as u32, sections.len(), &windows) {
-        Ok(windows) => Ok(Config { sections, windows }),
+    let stages = stages_given(alloc, &windows, &later)?;
+    match WindowPlan::new(alloc, frame as u32, sections.len(), &stages) {
+        Ok(plan) => Ok(Config { sections, plan }),
         Err(WindowFault::Memory) => Err(ConfigFault::Memory),
         Err(fault) => Err(ConfigFault::Window(fault)),
     }
 }
 
 /// Reads a configuration, a TOML document. The first fault in the order of the checks is answered, from a text that is
-/// no document to a fault of the window table; `ConfigFault::Memory` comes only where memory was refused.
+/// no document to a fault of the windows; `ConfigFault::Memory` comes only where memory was refused.
 pub fn read_config(alloc: Global, text: &str) -> Result<Config, ConfigFault>
     ensures values { IfOk result (λ config. configuration_in text.now ≡ Ok config) }
     ensures refused { IfErr result (λ fault. fault ≢ ConfigFault.Memory → configuration_in text.now ≡ Err fault) }
     ensures text { IfErr result (λ fault. fault ≡ ConfigFault.Text → parse_document text.now ≡ None) }
+    ensures order { IfErr result (λ fault. fault ≢ ConfigFault.Window WindowFault.OutOfOrder) }
 {
     match toml::table_from_str(alloc, text) {
         Ok(table) => read_table(alloc, &table),

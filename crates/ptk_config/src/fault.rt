@@ -23,7 +23,7 @@ pub enum ConfigFault {
     UnknownKey,
     #[error("two partitions have one name")]
     DoubledName,
-    #[error("the window table is refused: {0}")]
+    #[error("the windows are refused: {0}")]
     Window(WindowFault),
     #[error("out of memory")]
     Memory,

@@ -6,21 +6,21 @@ ghost use Rattle.std.specs.Str.{bytes_eq};
 ghost use Rattle.std.specs.BTreeMap.{keys};
 ghost use Rattle.toml.specs.Data.{get_member};
 ghost use Rattle.toml.specs.View.{view, table_view, array_view};
-ghost use Rattle.ptk_config.specs.Reading.{seen, integer, text, items, members, required, number, array, are_known};
+ghost use Rattle.ptk_config.specs.Reading.{seen, integer, text, items, members, required, number, counted, array, are_known};
 
 use crate::fault::ConfigFault;
 use toml::value::Array;
 use toml::{Table, Value};
 
 /// The value at a key.
-pub(crate) fn value_at<'a>(table: &'a Table, key: &str) -> Option<&'a Value>
+pub fn value_at<'a>(table: &'a Table, key: &str) -> Option<&'a Value>
     ensures { option_map (λ v. view v.now) result ≡ get_member key.now (table_view table.now) }
 {
     table.get(key)
 }
 
 /// The value at a key that may not be missing.
-pub(crate) fn required<'a>(table: &'a Table, key: &str) -> Result<&'a Value, ConfigFault>
+pub fn required<'a>(table: &'a Table, key: &str) -> Result<&'a Value, ConfigFault>
     ensures { seen (λ v. view v.now) result ≡ required key.now (table_view table.now) }
 {
     match value_at(table, key) {
@@ -30,7 +30,7 @@ pub(crate) fn required<'a>(table: &'a Table, key: &str) -> Result<&'a Value, Con
 }
 
 /// The number that a value states, within these bounds.
-pub(crate) fn integer(value: &Value, low: u64, high: u64) -> Result<u64, ConfigFault>
+pub fn integer(value: &Value, low: u64, high: u64) -> Result<u64, ConfigFault>
     ensures value { result ≡ integer low high (view value.now) }
     ensures range { IfOk result (λ n. (low ≤ n) × (n ≤ high)) }
 {
@@ -44,7 +44,7 @@ pub(crate) fn integer(value: &Value, low: u64, high: u64) -> Result<u64, ConfigF
 }
 
 /// The text that a value states.
-pub(crate) fn text(value: &Value) -> Result<&str, ConfigFault>
+pub fn text(value: &Value) -> Result<&str, ConfigFault>
     ensures { seen (λ s. s.now) result ≡ text (view value.now) }
 {
     match value.as_str() {
@@ -54,7 +54,7 @@ pub(crate) fn text(value: &Value) -> Result<&str, ConfigFault>
 }
 
 /// The array that a value states.
-pub(crate) fn items(value: &Value) -> Result<&Array, ConfigFault>
+pub fn items(value: &Value) -> Result<&Array, ConfigFault>
     ensures { seen (λ v. array_view v.now) result ≡ items (view value.now) }
 {
     match value.as_array() {
@@ -64,7 +64,7 @@ pub(crate) fn items(value: &Value) -> Result<&Array, ConfigFault>
 }
 
 /// The table that a value states.
-pub(crate) fn members(value: &Value) -> Result<&Table, ConfigFault>
+pub fn members(value: &Value) -> Result<&Table, ConfigFault>
     ensures { seen (λ t. table_view t.now) result ≡ members (view value.now) }
 {
     match value.as_table() {
@@ -74,7 +74,7 @@ pub(crate) fn members(value: &Value) -> Result<&Table, ConfigFault>
 }
 
 /// The number at a key, within these bounds.
-pub(crate) fn number(table: &Table, key: &str, low: u64, high: u64) -> Result<u64, ConfigFault>
+pub fn number(table: &Table, key: &str, low: u64, high: u64) -> Result<u64, ConfigFault>
     ensures value { result ≡ number key.now low high (table_view table.now) }
     ensures range { IfOk result (λ n. (low ≤ n) × (n ≤ high)) }
 {
@@ -82,9 +82,22 @@ pub(crate) fn number(table: &Table, key: &str, low: u64, high: u64) -> Result<u6
     integer(value, low, high)
 }
 
-/// The array at a key, of so many items.
+/// The values, if there are so many.
 #[tactic(auto, using(crate::proofs::Walks::counts))]
-pub(crate) fn array<'a>(
+pub fn counted(values: &Array, low: usize, high: usize) -> Result<&Array, ConfigFault>
+    ensures value { seen (λ v. array_view v.now) result ≡ counted low high (array_view values.now) }
+    ensures low { IfOk result (λ v. low ≤ vec_len v.now) }
+    ensures high { IfOk result (λ v. vec_len v.now ≤ high) }
+{
+    if low <= values.len() && values.len() <= high {
+        Ok(values)
+    } else {
+        Err(ConfigFault::OutOfRange)
+    }
+}
+
+/// The array at a key, of so many items.
+pub fn array<'a>(
     table: &'a Table,
     key: &str,
     low: usize,
@@ -96,11 +109,7 @@ pub(crate) fn array<'a>(
 {
     let value = required(table, key)?;
     let values = items(value)?;
-    if low <= values.len() && values.len() <= high {
-        Ok(values)
-    } else {
-        Err(ConfigFault::OutOfRange)
-    }
+    counted(values, low, high)
 }
 
 /// Whether the key is one of these.
@@ -119,7 +128,7 @@ fn each_among(table: &Table, among: &[&str]) -> bool
 
 /// Whether each key of the table is one of these.
 #[tactic(auto, using(crate::proofs::Walks::known))]
-pub(crate) fn are_known(table: &Table, among: &[&str]) -> bool
+pub fn are_known(table: &Table, among: &[&str]) -> bool
     ensures { result ≡ are_known (map (λ k. k.now) among.now) (table_view table.now) }
 {
     each_among(table, among)

@@ -108,7 +108,7 @@ fn is_name(text: &str) -> bool
 }
 
 /// The name of a partition.
-fn read_name(table: &Table) -> Result<&str, ConfigFault>
+pub fn read_name(table: &Table) -> Result<&str, ConfigFault>
     ensures { seen (λ s. s.now) result ≡ name (table_view table.now) }
 {
     let value = required(table, "name")?;
@@ -121,7 +121,7 @@ fn read_name(table: &Table) -> Result<&str, ConfigFault>
 }
 
 /// The name of an image, if there is one.
-fn read_image(table: &Table) -> Result<Option<&str>, ConfigFault>
+pub fn read_image(table: &Table) -> Result<Option<&str>, ConfigFault>
     ensures { seen (option_map (λ s. s.now)) result ≡ image_of (get_member (codes "image") (table_view table.now)) }
 {
     match value_at(table, "image") {
@@ -138,7 +138,7 @@ fn read_image(table: &Table) -> Result<Option<&str>, ConfigFault>
 }
 
 /// A number at a key that is a multiple of 16.
-fn sixteens(table: &Table, key: &str, low: u64, high: u64) -> Result<u64, ConfigFault>
+pub fn sixteens(table: &Table, key: &str, low: u64, high: u64) -> Result<u64, ConfigFault>
     ensures value { result ≡ sixteens key.now low high (table_view table.now) }
     ensures range { IfOk result (λ n. (low ≤ n) × (n ≤ high) × (n % 16 ≡ 0)) }
 {
@@ -151,7 +151,7 @@ fn sixteens(table: &Table, key: &str, low: u64, high: u64) -> Result<u64, Config
 }
 
 /// The stack of each of so many threads, which all lie in the memory.
-fn stack(table: &Table, memory: u64, threads: u64) -> Result<u64, ConfigFault>
+pub fn stack(table: &Table, memory: u64, threads: u64) -> Result<u64, ConfigFault>
     requires { threads ≤ 32 }
     ensures value { result ≡ stack memory threads (table_view table.now) }
     ensures range { IfOk result (λ n. (16 ≤ n) × (n ≤ 65536) × (n % 16 ≡ 0) × (threads * n ≤ memory)) }
@@ -204,7 +204,7 @@ fn copy_of(alloc: Global, text: Option<&str>) -> Result<Option<String>, ConfigFa
 }
 
 /// The keys of a partition's table.
-const KEYS: [&str; 13] = [
+pub const KEYS: [&str; 13] = [
     "name", "image", "memory", "threads", "stack", "mutexes", "conds", "keys", "interval", "ring",
     "output", "trace", "input",
 ];

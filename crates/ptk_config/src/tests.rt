@@ -1,6 +1,9 @@
 //! Worked documents and their faults, by number.
 
-use super::{ConfigFault, read_config};
+ghost use Rattle.std.specs.Prelude.{◌≤◌, ◌^◌};
+
+use super::{Config, ConfigFault, read_config};
+use ptk_words::{PartId, Tick};
 use std::alloc::{AllocError, Global};
 use std::test::Fail;
 
@@ -28,7 +31,7 @@ fn repeated(alloc: Global, part: &str, count: u32) -> Result<String, AllocError>
     Ok(text)
 }
 
-/// The number of the fault and of the window table's fault, 0 where there is none.
+/// The number of the fault and of the windows' fault, 0 where there is none.
 fn fault(alloc: Global, text: &str) -> (u8, u8) {
     match read_config(alloc, text) {
         Ok(_) => (0, 0),
@@ -67,7 +70,7 @@ fn reads_the_document(rt: HostRuntime) -> Result<(), Fail> {
     assert_eq!(rt; (limits.interval, limits.ring), (100, 16));
     assert_eq!(rt; (limits.output, limits.trace), (64, 16));
     assert!(rt; section.input().is_empty());
-    let windows = config.windows().windows();
+    let windows = config.plan().windows_at(Tick::new(0));
     assert_eq!(rt; windows.len(), 1);
     for window in windows {
         assert_eq!(rt; (window.start, window.length), (0, 20));
@@ -161,5 +164,137 @@ fn refuses_too_many(rt: HostRuntime) -> Result<(), Fail> {
     let zeros = repeated(alloc, "0,", 65_535)?;
     assert_eq!(rt; with_bytes(alloc, zeros.as_str(), "0")?, (0, 0));
     assert_eq!(rt; with_bytes(alloc, zeros.as_str(), "0,0")?, (4, 0));
+    Ok(())
+}
+
+/// A document of a frame of 40 ticks, of which p has the first half, and what else stands in it.
+fn with_plans(alloc: Global, plans: &str) -> Result<String, AllocError> {
+    joined(alloc, &["frame = 40\n", plans, SECTION, WINDOW])
+}
+
+/// A plan from this frame on in which p has the second half.
+fn plan(alloc: Global, from: &str) -> Result<String, AllocError> {
+    joined(
+        alloc,
+        &[
+            "{ from = ",
+            from,
+            ", window = [{ start = 20, length = 20, partition = \"p\" }] }, ",
+        ],
+    )
+}
+
+/// The key `plan` with plans from these frames on.
+fn plans(alloc: Global, numbers: &[&str]) -> Result<String, AllocError> {
+    let mut text = String::from_str(alloc, "plan = [")?;
+    for number in numbers {
+        text.push_str(plan(alloc, number)?.as_str())?;
+    }
+    text.push_str("]\n")?;
+    Ok(text)
+}
+
+/// The end of p's window that holds the tick, 0 where none does.
+fn end_at(config: &Config, tick: Tick) -> u64
+    requires { tick ≤ 2 ^ 41 }
+{
+    match config.plan().at(tick) {
+        Some((_, end)) => end.ticks(),
+        None => 0,
+    }
+}
+
+#[test]
+fn reads_plans(rt: HostRuntime) -> Result<(), Fail> {
+    let alloc = rt.alloc();
+    let key = plans(alloc, &["2", "68719476736"])?;
+    let text = with_plans(alloc, key.as_str())?;
+    let config = read_config(alloc, text.as_str())?;
+    assert_eq!(rt; config.frame(), 40);
+    assert_eq!(rt; end_at(&config, Tick::new(0)), 20);
+    assert_eq!(rt; end_at(&config, Tick::new(59)), 60);
+    assert_eq!(rt; end_at(&config, Tick::new(60)), 0);
+    assert_eq!(rt; end_at(&config, Tick::new(80)), 0);
+    assert_eq!(rt; end_at(&config, Tick::new(100)), 120);
+    let p = PartId::new(0);
+    assert_eq!(rt;
+        config.plan().next_of(p, Tick::new(60)),
+        Some(Tick::new(100))
+    );
+    Ok(())
+}
+
+#[test]
+fn a_document_without_plans(rt: HostRuntime) -> Result<(), Fail> {
+    let alloc = rt.alloc();
+    for key in ["", "plan = []\n"] {
+        let text = with_plans(alloc, key)?;
+        let config = read_config(alloc, text.as_str())?;
+        assert_eq!(rt; end_at(&config, Tick::new(4000)), 4020, "with {key}");
+    }
+    Ok(())
+}
+
+#[test]
+fn refuses_numbers_of_plans(rt: HostRuntime) -> Result<(), Fail> {
+    let alloc = rt.alloc();
+    for (numbers, want) in [
+        (["2", "2"], 4),
+        (["2", "1"], 4),
+        (["0", "1"], 4),
+        (["-1", "1"], 4),
+        (["1", "68719476737"], 4),
+        (["1", "68719476736"], 0),
+        (["1", "2.0"], 3),
+        (["1", "true"], 3),
+    ] {
+        let key = plans(alloc, &numbers)?;
+        let text = with_plans(alloc, key.as_str())?;
+        assert_eq!(rt; fault(alloc, text.as_str()), (want, 0), "in {text}");
+    }
+    Ok(())
+}
+
+#[test]
+fn refuses_plans(rt: HostRuntime) -> Result<(), Fail> {
+    let alloc = rt.alloc();
+    for (key, want) in [
+        ("plan = 1\n", (3, 0)),
+        ("plan = [1]\n", (3, 0)),
+        ("plan = [{ window = 1 }]\n", (2, 0)),
+        ("plan = [{ from = 1 }]\n", (2, 0)),
+        ("plan = [{ from = 1, window = 1 }]\n", (3, 0)),
+        ("plan = [{ from = 1, window = [] }]\n", (7, 1)),
+        ("plan = [{ from = 1, window = [], to = 2 }]\n", (5, 0)),
+        ("plan = [{ from = 0, window = 1, to = 2 }]\n", (4, 0)),
+        (
+            "plan = [{ from = 1, window = [{ start = 0, length = 0, partition = \"p\" }], to = 2 }]\n",
+            (4, 0),
+        ),
+        (
+            "plan = [{ from = 1, window = [{ start = 0, length = 20, partition = \"z\" }] }]\n",
+            (7, 5),
+        ),
+        ("unknown = 1\nplan = [{ from = 0 }]\n", (4, 0)),
+        ("unknown = 1\nplan = [{ from = 1, window = [] }]\n", (5, 0)),
+    ] {
+        let text = with_plans(alloc, key)?;
+        assert_eq!(rt; fault(alloc, text.as_str()), want, "in {text}");
+    }
+    Ok(())
+}
+
+#[test]
+fn refuses_too_many_plans(rt: HostRuntime) -> Result<(), Fail> {
+    let alloc = rt.alloc();
+    let fifteen = [
+        "1", "2", "3", "4", "5", "6", "7", "8", "9", "10", "11", "12", "13", "14", "15",
+    ];
+    let key = plans(alloc, &fifteen)?;
+    let text = with_plans(alloc, key.as_str())?;
+    assert_eq!(rt; fault(alloc, text.as_str()), (0, 0));
+    let sixteen = key.replace(alloc, "]\n", "{ from = true } ]\n")?;
+    let text = with_plans(alloc, sixteen.as_str())?;
+    assert_eq!(rt; fault(alloc, text.as_str()), (4, 0));
     Ok(())
 }

@@ -56,7 +56,7 @@ fn read_window(value: &Value, sections: &[Section]) -> Result<Window, ConfigFaul
 
 /// The windows that the values state.
 #[tactic(auto, using(crate::proofs::Walks::walks), unfolding(crate::specs::Windows::windows_in))]
-pub(crate) fn read_windows(
+pub fn read_windows(
     alloc: Global,
     values: &[Value],
     sections: &[Section],

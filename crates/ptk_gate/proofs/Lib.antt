@@ -4,3 +4,4 @@ pub mod Loads
 pub mod Called
 pub mod Passing
 pub mod RowsWhole
+pub mod RepliesWhole

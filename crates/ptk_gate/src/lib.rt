@@ -14,6 +14,7 @@ mod loading;
 mod rows;
 mod steps;
 mod tables;
+mod telling;
 #[cfg(test)]
 mod tests;
 

@@ -10,9 +10,10 @@ ghost use Rattle.ptk_words_quiet.specs.Quiet.{IsQuiet, ArePlain, core_of, after_
 ghost use Rattle.ptk_words_quiet.specs.Idle.{IsIdle};
 ghost use Rattle.ptk_trace_rows.specs.TracedRows.{traced};
 ghost use Rattle.ptk_gate_pools.specs.Kept.{part_at, put_part, limits_at};
+ghost use Rattle.ptk_gate_steps.specs.Replies.{IsMade};
 
 use crate::tables::Tables;
-use ptk_gate_steps::{Quiet, idle_until, quiet_until};
+use ptk_gate_steps::{Quiet, idle_until, make_reply, quiet_until};
 use ptk_trace::Trace;
 use ptk_trace_rows::BATCH;
 use ptk_words::{Entry, PartId, Tick};
@@ -57,6 +58,22 @@ impl Tables {
         let most = ticks_between(tick, quiet.stop);
         self.pools
             .run_row(p, quiet.thread, tick, most, trace, batch)
+    }
+
+    /// The next step of a quiet partition's running thread at the tick, where that is a quiet call and ends at the
+    /// partition's stop or before. How many ticks it took: it was the partition's decision, and the partition is as
+    /// quiet as it was. 0, and nothing changes, of any other step.
+    pub fn make_reply(&mut self, p: PartId, quiet: Quiet, tick: Tick) -> u32
+        requires partition { p < length self.old.limits }
+        requires order { tick < quiet.stop }
+        requires quiet { (thread : Thread) × IsQuiet (limits_at p self.old) tick quiet.stop quiet.thread thread (part_at p self.old) }
+        ensures none { result ≡ 0 → self.new ≡ self.old }
+        ensures few { tick + result ≤ quiet.stop }
+        ensures short { result ≤ 16 }
+        ensures made { (thread : Thread) → thread_at (part_at p self.old).locks quiet.thread ≡ Some thread → 0 < result → IsMade p tick quiet.thread result thread self.old self.new }
+    {
+        let room = quiet.stop.ticks() - tick.ticks();
+        make_reply(&mut self.pools, p, quiet.thread, tick, room)
     }
 
     /// The tick up to which the partition has nothing to do, at most `stop`: no thread runs or is ready, and no input

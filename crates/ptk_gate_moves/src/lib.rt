@@ -31,4 +31,4 @@ pub use replies::{refuse, reply, succeed, succeed_with, succeed_with_two};
 pub use targets::{is_ended, is_taken, named_thread, target};
 pub use times::asked_deadline;
 pub use unwinding::{call_routine, start_unwinding};
-pub use words::{is_pointer, named_priority};
+pub use words::{is_pointer, named_priority, policy_number};

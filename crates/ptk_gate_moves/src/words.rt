@@ -1,12 +1,12 @@
-//! What a word of a guest stands for: a priority, or a place in memory.
+//! What a word of a guest stands for: a priority, a policy, or a place in memory.
 
 ghost use Rattle.std.specs.Prelude.{◌≡◌, ◌<◌, length};
 ghost use Rattle.ptk_words_model.specs.Calls.{is_pointer};
-ghost use Rattle.ptk_words_model.specs.ThreadCreation.{priority_of};
+ghost use Rattle.ptk_words_model.specs.ThreadCreation.{policy_number, priority_of};
 ghost use Rattle.ptk_gate_pools.specs.Kept.{part_at};
 
 use ptk_gate_pools::Pools;
-use ptk_words::{PartId, Priority};
+use ptk_words::{PartId, Policy, Priority};
 
 /// The priority of a guest's number, 1 to 32; None of another word.
 pub fn named_priority(word: u32) -> Option<Priority>
@@ -16,6 +16,16 @@ pub fn named_priority(word: u32) -> Option<Priority>
         Some(Priority::new(word as u8))
     } else {
         None
+    }
+}
+
+/// The number that a guest reads for a policy (own choice).
+pub fn policy_number(policy: Policy) -> u32
+    ensures { result ≡ policy_number policy }
+{
+    match policy {
+        Policy::Fifo => 1,
+        Policy::RoundRobin => 2,
     }
 }
 

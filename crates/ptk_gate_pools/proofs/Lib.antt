@@ -3,6 +3,7 @@ pub mod Numbers
 pub mod Stored
 pub mod Timed
 pub mod Vacant
+pub mod PlainMutexes
 pub mod Locking
 pub mod TimedMoves
 pub mod Changed
@@ -16,3 +17,4 @@ pub mod Opened
 pub mod Filled
 pub mod LineLaws
 pub mod PlainRows
+pub mod Blanks

@@ -21,17 +21,24 @@ use Rattle.ptk_gate_pools.proofs.Stored.{own_row}
 
 -- ---- one in place of another
 
-set_row : (p q m : ℕ) (x : Option Mutex) (stored : List (List ℕ)) (threads : List (List (Option Thread))) (mutexes : List (List (Option Mutex))) → IsIdle x → IsIdle (pool_get (part_of mutexes p) m) → AreStored stored threads mutexes
+set_row : (p q m : ℕ) (x : Option Mutex) (stored : List (List ℕ)) (threads : List (List (Option Thread))) (mutexes : List (List (Option Mutex)))
+    → effective_priorities (part_of threads p) (pool_set (part_of mutexes p) m x) ≡ effective_priorities (part_of threads p) (part_of mutexes p) → AreStored stored threads mutexes
     → (q ≡ p) ⊎ (q ≢ p) → part_of stored q ≡ effective_priorities (part_of threads q) (part_of (set mutexes p (pool_set (part_of mutexes p) m x)) q)
-set_row p q m x stored threads mutexes new old are (inl e) =
+set_row p q m x stored threads mutexes same are (inl e) =
     subst (λ (i : ℕ). part_of stored i ≡ effective_priorities (part_of threads i) (part_of (set mutexes p (pool_set (part_of mutexes p) m x)) i)) (sym e)
-    (are.each p ∙ sym (effective_set (part_of threads p) (part_of mutexes p) m x old new) ∙ ap (effective_priorities (part_of threads p)) (sym (own_row mutexes p m x)))
-set_row p q m x stored threads mutexes new old are (inr ne) =
+    (are.each p ∙ sym same ∙ ap (effective_priorities (part_of threads p)) (sym (own_row mutexes p m x)))
+set_row p q m x stored threads mutexes same are (inr ne) =
     are.each q ∙ ap (effective_priorities (part_of threads q)) (sym (get_or-set_other mutexes p q (pool_set (part_of mutexes p) m x) [] ne))
+
+-- with which each effective priority is as before
+pub stored_put : (p m : ℕ) (x : Option Mutex) (stored : List (List ℕ)) (threads : List (List (Option Thread))) (mutexes new : List (List (Option Mutex)))
+    → effective_priorities (part_of threads p) (pool_set (part_of mutexes p) m x) ≡ effective_priorities (part_of threads p) (part_of mutexes p)
+    → new ≡ set mutexes p (pool_set (part_of mutexes p) m x) → AreStored stored threads mutexes → AreStored stored threads new
+stored_put p m x stored threads mutexes new same e are = rw e (record { each = λ q. set_row p q m x stored threads mutexes same are (cases_eq q p) })
 
 stored_set : (p m : ℕ) (x : Option Mutex) (stored : List (List ℕ)) (threads : List (List (Option Thread))) (mutexes new : List (List (Option Mutex))) → IsIdle x → IsIdle (pool_get (part_of mutexes p) m)
     → new ≡ set mutexes p (pool_set (part_of mutexes p) m x) → AreStored stored threads mutexes → AreStored stored threads new
-stored_set p m x stored threads mutexes new after before e are = rw e (record { each = λ q. set_row p q m x stored threads mutexes after before are (cases_eq q p) })
+stored_set p m x stored threads mutexes new after before e are = stored_put p m x stored threads mutexes new (effective_set (part_of threads p) (part_of mutexes p) m x before after) e are
 
 -- ---- a new mutex, and one that goes
 

@@ -28,6 +28,7 @@ mod line;
 mod memory;
 mod mutexes;
 mod partitions;
+mod plain_mutexes;
 mod pools;
 mod rows;
 mod running;

@@ -1,4 +1,6 @@
 pub mod StepEffects
 pub mod DeadlineStops
 pub mod QuietStops
+pub mod RepliesMade
+pub mod LocksMade
 pub mod IdleStops

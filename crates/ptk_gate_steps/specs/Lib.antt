@@ -1,3 +1,4 @@
 pub mod Instructions
 pub mod NextSteps
 pub mod QuietStops
+pub mod Replies

@@ -2,24 +2,13 @@
 
 ghost use Rattle.std.specs.Prelude.{◌≡◌, ◌<◌, length};
 ghost use Rattle.ptk_words_model.specs.ThreadCalls.{getschedparam};
-ghost use Rattle.ptk_words_model.specs.ThreadCreation.{policy_number};
 ghost use Rattle.ptk_words_model.specs.ThreadCalls as calls;
 ghost use Rattle.ptk_gate_pools.specs.Kept.{part_at, put_part};
 
-use ptk_gate_moves::{is_taken, named_thread, refuse, succeed, succeed_with_two};
+use ptk_gate_moves::{is_taken, named_thread, policy_number, refuse, succeed, succeed_with_two};
 use ptk_gate_pools::Pools;
-use ptk_words::{Errno, PartId, Policy, ThreadNo};
+use ptk_words::{Errno, PartId, ThreadNo};
 use ptk_words_model::{Invocation, Reply};
-
-/// The number that a guest reads for a policy (own choice).
-fn policy_number(policy: Policy) -> u32
-    ensures { result ≡ policy_number policy }
-{
-    match policy {
-        Policy::Fifo => 1,
-        Policy::RoundRobin => 2,
-    }
-}
 
 /// pthread_getschedparam: the policy of the thread of a0 in a1 and its assigned priority in a2. ESRCH of a number that
 /// is not in use; a refusal changes nothing but a0.

@@ -1,24 +1,27 @@
 -- A row of no step changes nothing, and how a row ends.
-use Rattle.std.proofs.Common.{◌≡◌, ◌∙◌, ℕ, ◌+◌, ◌-◌, ◌^◌, ◌≤◌, ◌<◌, false, List, [], ◌++◌, length, drop, append-nil, sym, ap, subst, arith}
+use Rattle.std.proofs.Common.{◌≡◌, ◌∙◌, ℕ, zero, suc, ◌+◌, ◌-◌, ◌≤◌, ◌<◌, List, [], ◌++◌, length, drop, append-nil, refl, sym, ap, subst, arith}
 use Rattle.std.specs.Prelude.{Option, Some}
 use Rattle.ptk_words.specs.declared.sections.Entry.{Entry}
 use Rattle.ptk_words.specs.declared.threads.Thread.{Thread}
-use Rattle.ptk_words_instructions.specs.PlainSteps.{Core, is_plain, plain_steps, plain_entries}
+use Rattle.ptk_words_instructions.specs.PlainSteps.{Core, plain_entries}
 use Rattle.ptk_words_model.specs.State.{Part}
 use Rattle.ptk_words_model.specs.Priority.{thread_at}
 use Rattle.ptk_words_model.specs.Run.{last_of}
-use Rattle.ptk_words_quiet.specs.Quiet.{IsQuiet, core_of, after_row}
-use Rattle.ptk_words_quiet.proofs.Sooner.{row_none}
+use Rattle.ptk_words_quiet.specs.Quiet.{IsQuiet, ArePlain, core_of, computed, after_row, thread_after}
+use Rattle.ptk_words_quiet.specs.Replies.{after_reply}
+use Rattle.ptk_words_quiet.proofs.QuietRows.{row_stays}
+use Rattle.ptk_words_quiet.proofs.ReplyDecisions.{reply_decided, reply_quiet}
+use Rattle.ptk_words_quiet.proofs.Sooner.{row_none, quiet_sooner}
 use Rattle.ptk_trace.specs.KeptSteps.{KeptSteps}
 use Rattle.ptk_trace_rows.specs.TracedRows as rows
-use Rattle.ptk_gate_pools.specs.Kept.{Kept, limits_at, part_at, put_part}
+use Rattle.ptk_gate_pools.specs.Kept.{Kept, AreParts, limits_at, part_at, put_part}
+use Rattle.ptk_gate_pools.proofs.Parted.{part_at-put}
+use Rattle.ptk_gate_steps.specs.Replies.{IsMade}
+use Rattle.ptk_kernel.specs.Rows.{IsRow, IsStill}
+use Rattle.ptk_words_model.specs.declared.Spent.TheVariants.{Step}
+use Rattle.ptk_words_model.specs.Decision.{after_decision, spent_by_decision}
 use Rattle.ptk_gate_pools.proofs.Ranks.{put_same}
 use Rattle.ptk_gate_steps.specs.declared.quiet_stops.Quiet.{Quiet}
-
--- what is told of a quiet partition
-abbrev pub IsTold : ℕ → ℕ → ℕ → Kept → Quiet → Type 0
-IsTold p tick stop old q =
-    (tick < q.stop) × (q.stop ≤ stop) × ((thread : Thread) × (thread_at (part_at p old).locks q.thread ≡ Some thread) × IsQuiet (limits_at p old) tick q.stop q.thread thread (part_at p old))
 
 nothing_more : (kept : ℕ) (entries : List Entry) → length entries ≤ kept → last_of kept (entries ++ []) ≡ entries
 nothing_more kept entries within =
@@ -31,28 +34,78 @@ unfolding plain_entries
 traced_none tick t c before within = ap (λ (es : List Entry). record before { entries = es }) (nothing_more before.kept before.entries within)
 
 -- the tables and the trace after no step of a quiet partition
-pub row_empty : (p tick stop n : ℕ) (q : Quiet) (old new : Kept) (before after : KeptSteps) → IsTold p tick stop old q → length before.entries ≤ before.kept → n ≡ 0
+pub row_empty : (p tick n : ℕ) (q : Quiet) (old new : Kept) (before after : KeptSteps) → IsStill p tick q old → length before.entries ≤ before.kept → n ≡ 0
     → ((thread : Thread) → thread_at (part_at p old).locks q.thread ≡ Some thread → new ≡ put_part p (after_row tick q.thread n thread (part_at p old)) old)
     → ((thread : Thread) → thread_at (part_at p old).locks q.thread ≡ Some thread → after ≡ rows.traced tick q.thread n (core_of thread (part_at p old)) before)
     → (new ≡ old) × (after ≡ before)
-row_empty p tick stop n q old new before after told within e moved traced =
-    let thread : Thread = told.2.0 in
-    let in_use : thread_at (part_at p old).locks q.thread ≡ Some thread = told.2.1 in (
+row_empty p tick n q old new before after still within e moved traced =
+    let thread : Thread = still.0 in
+    let in_use : thread_at (part_at p old).locks q.thread ≡ Some thread = still.1.in_use in (
       moved thread in_use ∙ ap (λ (k : ℕ). put_part p (after_row tick q.thread k thread (part_at p old)) old) e
           ∙ ap (λ (s : Part). put_part p s old) (row_none tick q.thread thread (part_at p old) in_use) ∙ sym (put_same p old),
       traced thread in_use ∙ ap (λ (k : ℕ). rows.traced tick q.thread k (core_of thread (part_at p old)) before) e
           ∙ traced_none tick q.thread (core_of thread (part_at p old)) before within,
     )
 
--- ---- progress
+-- the row of a quiet partition
+pub row_some : (p tick n : ℕ) (q : Quiet) (old new : Kept) (before after : KeptSteps) → IsStill p tick q old → tick + n ≤ q.stop
+    → ((thread : Thread) → thread_at (part_at p old).locks q.thread ≡ Some thread → ArePlain n (core_of thread (part_at p old)))
+    → ((thread : Thread) → thread_at (part_at p old).locks q.thread ≡ Some thread → new ≡ put_part p (after_row tick q.thread n thread (part_at p old)) old)
+    → ((thread : Thread) → thread_at (part_at p old).locks q.thread ≡ Some thread → after ≡ rows.traced tick q.thread n (core_of thread (part_at p old)) before)
+    → (t : ℕ) × (thread : Thread) × IsRow p tick n t thread old new before after
+row_some p tick n q old new before after still le plain moved traced =
+    let thread : Thread = still.0 in
+    let in_use : thread_at (part_at p old).locks q.thread ≡ Some thread = still.1.in_use in (
+      q.thread,
+      thread,
+      record { quiet = quiet_sooner (limits_at p old) tick q.stop (tick + n) q.thread thread (part_at p old) still.1 le; plain = plain thread in_use; moved = moved thread in_use; traced = traced thread in_use },
+    )
 
-same_number : (o : Option ℕ) (t u : ℕ) → o ≡ Some t → o ≡ Some u → t ≡ u
-same_number o t u e f = let both : Some t ≡ Some u = sym e ∙ f in cc
+-- ---- how quiet a partition is after its steps
 
--- the row of a quiet partition ends at its stop, at 2^31 steps or before a step that is not plain
-pub row_ended : (p tick stop n t k : ℕ) (thread : Thread) (q : Quiet) (old : Kept) → IsTold p tick stop old q → k ≤ q.stop
-    → ((thread : Thread) → thread_at (part_at p old).locks q.thread ≡ Some thread → tick + n < q.stop → n < 2 ^ 31 → is_plain (plain_steps n (core_of thread (part_at p old))) ≡ false)
-    → IsQuiet (limits_at p old) tick k t thread (part_at p old) → tick + n < k → n < 2 ^ 31 → is_plain (plain_steps n (core_of thread (part_at p old))) ≡ false
-row_ended p tick stop n t k thread q old told far ended quiet left few =
-    let same : t ≡ q.thread = same_number (part_at p old).running t q.thread quiet.running told.2.2.running in
-    ended thread (subst (λ (u : ℕ). thread_at (part_at p old).locks u ≡ Some thread) same quiet.in_use) (omega (arith, left, far)) few
+-- what was put is as quiet as it was
+put_still : (m p tick : ℕ) (q : Quiet) (thread : Thread) (s : Part) (old new : Kept) → AreParts m old → p < m → new ≡ put_part p s old → IsQuiet (limits_at p old) tick q.stop q.thread thread s → IsStill p tick q new
+put_still m p tick q thread s old new parts lt e quiet =
+    subst (IsStill p tick q) (sym e) (thread, subst (λ (u : Part). IsQuiet (limits_at p old) tick q.stop q.thread thread u) (sym (part_at-put m p s old parts lt)) quiet)
+
+-- a row leaves a partition as quiet as it was
+pub row_still : (m p tick n : ℕ) (q : Quiet) (old new : Kept) → AreParts m old → p < m → IsStill p tick q old → tick + n ≤ q.stop
+    → ((thread : Thread) → thread_at (part_at p old).locks q.thread ≡ Some thread → ArePlain n (core_of thread (part_at p old)))
+    → ((thread : Thread) → thread_at (part_at p old).locks q.thread ≡ Some thread → new ≡ put_part p (after_row tick q.thread n thread (part_at p old)) old)
+    → IsStill p (tick + n) q new
+row_still m p tick zero q old new parts lt still le plain moved =
+    let thread : Thread = still.0 in
+    let none : tick ≡ tick + 0 = omega arith in
+    let same : part_at p old ≡ after_row tick q.thread 0 thread (part_at p old) = sym (row_none tick q.thread thread (part_at p old) still.1.in_use) in
+    put_still m p (tick + 0) q thread (after_row tick q.thread 0 thread (part_at p old)) old new parts lt (moved thread still.1.in_use)
+    (subst (λ (k : ℕ). IsQuiet (limits_at p old) k q.stop q.thread thread (after_row tick q.thread 0 thread (part_at p old))) none
+    (subst (λ (u : Part). IsQuiet (limits_at p old) tick q.stop q.thread thread u) same still.1))
+row_still m p tick (suc n) q old new parts lt still le plain moved =
+    let thread : Thread = still.0 in
+    let some : 1 ≤ suc n = omega arith in
+    put_still m p (tick + suc n) q (thread_after (suc n) thread (part_at p old)) (after_row tick q.thread (suc n) thread (part_at p old)) old new parts lt (moved thread still.1.in_use)
+    (row_stays (limits_at p old) tick q.stop q.thread (suc n) thread (part_at p old) still.1 some le (plain thread still.1.in_use))
+
+-- a quiet call leaves a partition as quiet as it was
+pub reply_still : (m p tick n : ℕ) (q : Quiet) (old new : Kept) → AreParts m old → p < m → IsStill p tick q old
+    → (n ≡ 0 → new ≡ old) → ((thread : Thread) → thread_at (part_at p old).locks q.thread ≡ Some thread → 0 < n → IsMade p tick q.thread n thread old new)
+    → IsStill p (tick + n) q new
+reply_still m p tick zero q old new parts lt still none made =
+    let at : tick ≡ tick + 0 = omega arith in
+    subst (IsStill p (tick + 0) q) (sym (none refl)) (subst (λ (k : ℕ). IsStill p k q old) at still)
+reply_still m p tick (suc n) q old new parts lt still none made =
+    let thread : Thread = still.0 in
+    let is = made thread still.1.in_use (omega arith) in
+    put_still m p (tick + suc n) q (computed (suc n) is.0 thread) (after_reply tick q.thread (suc n) thread is.0 is.1 (part_at p old)) old new parts lt is.3
+    (reply_quiet (limits_at p old) tick q.stop q.thread (suc n) thread is.0 is.1 (part_at p old) still.1 is.2)
+
+-- a quiet call is the decision
+pub reply_made : (p tick n room : ℕ) (q : Quiet) (old new : Kept) → IsStill p tick q old → tick + n ≤ q.stop → n ≤ room → 0 < n
+    → ((thread : Thread) → thread_at (part_at p old).locks q.thread ≡ Some thread → 0 < n → IsMade p tick q.thread n thread old new)
+    → (new ≡ put_part p (after_decision (limits_at p old) tick room (part_at p old)) old) × (Step n ≡ spent_by_decision (limits_at p old) tick room (part_at p old))
+reply_made p tick n room q old new still le fits some made =
+    let thread : Thread = still.0 in
+    let is = made thread still.1.in_use some in
+    let one : 1 ≤ n = omega (arith, some) in
+    let law = reply_decided (limits_at p old) tick q.stop room q.thread n thread is.0 is.1 (part_at p old) still.1 is.2 one le fits in
+    (is.3 ∙ ap (λ (s : Part). put_part p s old) (sym law.0), sym law.1)

@@ -19,4 +19,5 @@ mod tests;
 
 pub use decisions::{decide, last_step};
 pub use ptk_gate::Tables;
-pub use rows::{compute, idle_until};
+pub use ptk_gate_steps::Quiet;
+pub use rows::{compute, idle_until, quiet_until, reply};

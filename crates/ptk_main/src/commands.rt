@@ -5,11 +5,11 @@ ghost use Rattle.ptk_main_answers.specs.Requests.{IsInTime, IsOfConfiguration};
 #[cfg(test)]
 mod tests;
 
-use crate::reading::{config_in, image_in, images_of};
+use crate::reading::{config_in, config_of, image_in, images_of, text_in};
 use crate::telling::{end, tell};
 use ptk_config::Config;
 use ptk_image::write_image;
-use ptk_main_answers::answer_with;
+use ptk_main_answers::{Files, answer_with, check_with, explain_with};
 use ptk_main_faults::Fault;
 use ptk_main_line::Request;
 use std::fs;
@@ -21,7 +21,15 @@ pub(crate) fn obey(rt: &HostRuntime, request: Request<'_>) -> u8
     match request {
         Request::Run { file, .. } => obey_over(rt, file, request),
         Request::Trace { file, .. } => obey_over(rt, file, request),
-        Request::Check { file } => obey_over(rt, file, request),
+        Request::Timeline { file, .. } => obey_over(rt, file, request),
+        Request::Check {
+            file,
+            explain: false,
+        } => obey_over(rt, file, request),
+        Request::Check {
+            file,
+            explain: true,
+        } => explain_over(rt, file),
         Request::Asm { source, image } => end(rt, asm(rt, source, image)),
     }
 }
@@ -42,6 +50,42 @@ fn answer<'a>(rt: &HostRuntime, config: &'a Config, request: Request<'a>) -> Res
 {
     let files = images_of(rt, config)?;
     answer_with(rt.alloc(), config, &files, request, &mut rt.stdout())
+}
+
+// `check --explain`: what the configuration in a file comes to, and then whether it is in order.
+fn explain_over(rt: &HostRuntime, file: &str) -> u8 {
+    match text_in(rt, file) {
+        Ok(text) => explain_text(rt, text.as_str()),
+        Err(fault) => tell(rt, &fault),
+    }
+}
+
+// Says what a text comes to, and then whether it and the images that it names are in order.
+fn explain_text(rt: &HostRuntime, text: &str) -> u8 {
+    match config_of(rt, text) {
+        Ok(config) => end(rt, check_explained(rt, text, &config)),
+        Err(fault) => tell(rt, &refusal_explained(rt, text, fault)),
+    }
+}
+
+// What a check answers, after what the configuration that the text states comes to with its images.
+fn check_explained<'a>(rt: &HostRuntime, text: &str, config: &'a Config) -> Result<(), Fault<'a>> {
+    let files = images_of(rt, config)?;
+    explain_with(rt.alloc(), text, &files, &mut rt.stdout())?;
+    check_with(rt.alloc(), config, &files, &mut rt.stdout())
+}
+
+// The fault of a refused text, after where and why it is refused; that of the host where the words can't be written.
+// Want of memory says nothing of the text, and comes alone.
+fn refusal_explained(rt: &HostRuntime, text: &str, fault: Fault<'static>) -> Fault<'static> {
+    if fault == Fault::NoMemory {
+        return fault;
+    }
+    let files = Files::new(rt.alloc());
+    match explain_with(rt.alloc(), text, &files, &mut rt.stdout()) {
+        Ok(_) => fault,
+        Err(failure) => failure,
+    }
 }
 
 // `asm`: the image of a source, into a file. Nothing is written where the source is refused.

@@ -1,12 +1,12 @@
 //! The program `ptk`: it reads the words of its command line, does what they ask for, and ends with the status of the
 //! outcome. Below stand the command line (`ptk_main_line`), the lines of faults (`ptk_main_faults`), the answers to
 //! requests over files already read (`ptk_main_answers`, whose `answer_with` promises what is written and which fault
-//! comes), whole runs (`ptk_main_runs`), the configuration (`ptk_config`), the system (`ptk_system`) and the assembler
-//! (`ptk_asm`); nothing stands above. Proved here is that each request goes to no tick after the last, and that an outcome
-//! has its status. What no contract can say of real files and streams is tested in `commands/tests.rt`: the status of each
-//! request and of words that are refused, the fault behind a status that several share, and the files that `asm` writes.
-//! Which stream a text goes to no test sees; the gate compares the standard output of the stored run. No clause is dear to
-//! prove.
+//! comes, and whose `explain_with` writes what a configuration comes to), the configuration (`ptk_config`) and the
+//! assembler (`ptk_asm`); nothing stands above. Proved here is that each request goes to no tick after the last, and
+//! that an outcome has its status. What no contract can say of real files and streams is tested in `commands/tests.rt`:
+//! the status of each request and of words that are refused, the fault behind a status that several share, and the
+//! files that `asm` writes. Which stream a text goes to no test sees; the gate compares the standard output of the
+//! stored run. No clause is dear to prove.
 #![tactic(auto)]
 
 mod commands;
@@ -14,10 +14,10 @@ mod reading;
 mod telling;
 
 use commands::obey;
+pub use ptk_main_answers::{RunFault, run_with, trace_with};
 pub use ptk_main_faults::{Fault, fault_line};
 use ptk_main_line::not_text;
 pub use ptk_main_line::{Request, read_line};
-pub use ptk_main_runs::{RunFault, run_with, trace_with};
 use std::alloc::AllocError;
 use std::process::ExitCode;
 use std::{env, io};

@@ -3,8 +3,8 @@
 use ptk_asm::assemble;
 use ptk_config::{Config, read_config};
 use ptk_image::Image;
+use ptk_main_answers::Files;
 use ptk_main_faults::Fault;
-use ptk_system::Files;
 use std::{fs, io};
 
 /// The bytes of a file. A fault where it is not there, can't be read, or memory ran out. A path through a file is one of a
@@ -20,10 +20,23 @@ pub(crate) fn bytes_in<'a>(rt: &HostRuntime, name: &'a str) -> Result<Vec<u8>, F
     }
 }
 
+/// The text of a file. A fault where the file can't be read, or is no text.
+pub(crate) fn text_in<'a>(rt: &HostRuntime, name: &'a str) -> Result<String, Fault<'a>> {
+    let bytes = bytes_in(rt, name)?;
+    match String::from_utf8(bytes) {
+        Ok(text) => Ok(text),
+        Err(_) => Err(Fault::NotText(name)),
+    }
+}
+
 /// The configuration in a file. A fault where the file can't be read, is no text, or states no configuration.
 pub(crate) fn config_in<'a>(rt: &HostRuntime, name: &'a str) -> Result<Config, Fault<'a>> {
-    let bytes = bytes_in(rt, name)?;
-    let text = text_in(name, &bytes)?;
+    let text = text_in(rt, name)?;
+    config_of(rt, text.as_str())
+}
+
+/// The configuration that a text states. A fault where it states none.
+pub(crate) fn config_of(rt: &HostRuntime, text: &str) -> Result<Config, Fault<'static>> {
     match read_config(rt.alloc(), text) {
         Ok(config) => Ok(config),
         Err(fault) => Err(Fault::of_config(fault)),
@@ -32,19 +45,10 @@ pub(crate) fn config_in<'a>(rt: &HostRuntime, name: &'a str) -> Result<Config, F
 
 /// The image of the source in a file. A fault where the file can't be read, is no text, or has a fault.
 pub(crate) fn image_in<'a>(rt: &HostRuntime, name: &'a str) -> Result<Image, Fault<'a>> {
-    let bytes = bytes_in(rt, name)?;
-    let text = text_in(name, &bytes)?;
-    match assemble(rt.alloc(), text) {
+    let text = text_in(rt, name)?;
+    match assemble(rt.alloc(), text.as_str()) {
         Ok(image) => Ok(image),
         Err(fault) => Err(Fault::of_asm(fault.line as u64, fault.kind.number())),
-    }
-}
-
-// The text of a file's bytes.
-fn text_in<'a, 'b>(name: &'a str, bytes: &'b [u8]) -> Result<&'b str, Fault<'a>> {
-    match str::from_utf8(bytes) {
-        Ok(text) => Ok(text),
-        Err(_) => Err(Fault::NotText(name)),
     }
 }
 

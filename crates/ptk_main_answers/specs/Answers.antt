@@ -6,7 +6,7 @@ use Rattle.ptk_system_files.specs.NamedFiles.{NamedFile}
 use Rattle.ptk_system.specs.Shown.{report_of}
 use Rattle.ptk_system.specs.World.{World, state_of}
 use Rattle.ptk_main_line.specs.declared.line.Request.{Request}
-use Rattle.ptk_main_line.specs.declared.line.Request.TheVariants.{Run, Trace, Asm, Check}
+use Rattle.ptk_main_line.specs.declared.line.Request.TheVariants.{Run, Trace, Timeline, Asm, Check}
 use Rattle.ptk_main_runs.specs.Parts.{part_named}
 
 -- the system after so many ticks (own)
@@ -22,9 +22,10 @@ trace_of (Some p) world = trace_text (state_of world p).account.trace
 abbrev pub ok_line : List ℕ
 ok_line = codes "ok" ++ newline
 
--- a run's report, the trace of the partition named, or the line of a check (own)
-abbrev pub answer_of : Configuration → List NamedFile → Request → List ℕ
-answer_of config files (Run file ticks) = report_of (world_at config files ticks)
-answer_of config files (Trace file ticks partition) = trace_of (part_named config partition.now) (world_at config files ticks)
-answer_of config files (Asm source image) = []
-answer_of config files (Check file) = ok_line
+-- what is written: a run's report, the trace of the partition named, the line of a check; None where nothing is said of it, of a picture (own)
+abbrev pub answer_of : Configuration → List NamedFile → Request → Option (List ℕ)
+answer_of config files (Run file ticks) = Some (report_of (world_at config files ticks))
+answer_of config files (Trace file ticks partition) = Some (trace_of (part_named config partition.now) (world_at config files ticks))
+answer_of config files (Timeline file ticks from) = None
+answer_of config files (Asm source image) = None
+answer_of config files (Check file explain) = Some ok_line

@@ -1,8 +1,8 @@
-//! The bytes that each request has written, for row hello with a trace of two steps, and that a check ends where its writer
-//! fails. What is wanted was worked out by hand. A helper that promises nothing stands between each row and the calls that
-//! it tests.
+//! The bytes that each request has written, for row hello with a trace of two steps, and what the configuration comes
+//! to; and that a check and the words end where their writer fails. What is wanted was worked out by hand. A helper
+//! that promises nothing stands between each row and the calls that it tests.
 
-use crate::answer_with;
+use crate::{answer_with, explain_with};
 use ptk_config::{Config, read_config};
 use ptk_main_faults::Fault;
 use ptk_main_line::Request;
@@ -23,6 +23,12 @@ const CUT_REPORT: &str = "partition p running steps 3 lost 0\noutput 1\nh\n";
 
 const SHORT_TRACE: &str =
     "13 1 0x0000001c 0x00000513 0x00000000\n14 1 0x00000020 0x00000073 0x00000000\n";
+
+const HELLO_WORDS: &str =
+    "frame 20 ticks\npartition p\n  memory 4096, threads 4, stack 256, mutexes 4, conds 4, keys 4, \
+    interval 100, ring 16, output 64, trace 2\n  \
+    image p.img: text 36, data 0, bss 0; 3036 bytes free below the stacks\n  \
+    from frame 0: 100.0 percent of the frame: 20 ticks at 0\n";
 
 // What a run to a tick answers.
 fn run<'a, W: Write>(
@@ -58,7 +64,11 @@ fn check<'a, W: Write>(
     files: &Files,
     out: &mut W,
 ) -> Result<(), Fault<'a>> {
-    answer_with(alloc, config, files, Request::Check { file: "" }, out)
+    let request = Request::Check {
+        file: "",
+        explain: false,
+    };
+    answer_with(alloc, config, files, request, out)
 }
 
 // What a check answers with a writer of so much room, of at most 3 bytes.
@@ -96,6 +106,23 @@ fn check_answers(rt: &impl Abort, alloc: Global, config: &Config, files: &Files)
     let mut out = Vec::new(alloc);
     assert_eq!(rt; check(alloc, config, files, &mut out), Ok(()));
     assert!(rt; is_text(&out, "ok\n"));
+    let request = Request::Timeline {
+        file: "",
+        ticks: 20,
+        from: 0,
+    };
+    let mut out = Vec::new(alloc);
+    assert_eq!(rt;
+        answer_with(alloc, config, files, request, &mut out),
+        Ok(())
+    );
+    assert!(rt; out.starts_with(b"<svg ") && out.ends_with(b"</svg>\n"));
+    let mut bytes = [0u8; 200];
+    let mut room = bytes.as_mut_slice();
+    assert_eq!(rt;
+        answer_with(alloc, config, files, request, &mut room),
+        Err(Fault::WriteFailed)
+    );
     for most in 0..3 {
         assert_eq!(rt;
             check_into(alloc, config, files, most),
@@ -121,5 +148,41 @@ fn each_request_has_its_answer(rt: HostRuntime) {
     match (read_config(alloc, HELLO_TEXT).ok(), hello(alloc)) {
         (Some(config), Some(files)) => check_answers(&rt, alloc, &config, &files),
         _ => assert!(rt; false, "no memory"),
+    }
+}
+
+// Asserts what is written of a text with these files, whether it is refused, and that a writer of 3 bytes fails.
+fn check_words(
+    rt: &impl Abort,
+    alloc: Global,
+    text: &str,
+    files: &Files,
+    is_refused: bool,
+    want: &str,
+) {
+    let mut out = Vec::new(alloc);
+    match explain_with(alloc, text, files, &mut out) {
+        Ok(found) => assert_eq!(rt; found.is_some(), is_refused),
+        Err(_) => assert!(rt; false, "no memory"),
+    }
+    assert!(rt; is_text(&out, want));
+    let mut bytes = [0u8; 3];
+    let mut room = bytes.as_mut_slice();
+    assert_eq!(rt;
+        explain_with(alloc, text, files, &mut room),
+        Err(Fault::WriteFailed)
+    );
+}
+
+#[test]
+fn a_text_is_explained(rt: HostRuntime) {
+    let alloc = rt.alloc();
+    match hello(alloc) {
+        Some(files) => {
+            check_words(&rt, alloc, HELLO_TEXT, &files, false, HELLO_WORDS);
+            let line = "key partition: missing\n";
+            check_words(&rt, alloc, "frame = 20\n", &files, true, line);
+        }
+        None => assert!(rt; false, "no memory"),
     }
 }

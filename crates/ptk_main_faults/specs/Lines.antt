@@ -45,7 +45,7 @@ status_of (ReadFailed name) = HostFailure
 status_of WriteFailed = HostFailure
 status_of NoMemory = HostFailure
 
--- of a window table's fault; refused memory is want of memory (own)
+-- of the windows' fault; refused memory is want of memory (own)
 abbrev pub window_table_fault : WindowFault → Fault
 window_table_fault window.Memory = NoMemory
 window_table_fault fault = ConfigWindow (window_fault_number fault)

@@ -19,7 +19,7 @@ use std::{fmt, io};
 pub enum Fault<'a> {
     /// `ptk: config fault N`: the configuration is refused, for another cause than its windows.
     Config(u8),
-    /// `ptk: config fault 7 window K`: its window table is refused.
+    /// `ptk: config fault 7 window K`: its windows are refused.
     ConfigWindow(u8),
     /// `ptk: asm line L fault K`: a source is refused at this line, counted from 1.
     Asm(u64, u8),
@@ -59,7 +59,7 @@ impl fmt::Display for Fault<'_> {
 }
 
 impl<'a> Fault<'a> {
-    /// The fault of a refused configuration: its number, for a window table with the window fault's, and want of memory
+    /// The fault of a refused configuration: its number, for the windows with the window fault's, and want of memory
     /// for refused memory.
     pub fn of_config(fault: ConfigFault) -> Fault<'a>
         ensures { result ≡ config_fault fault }

@@ -49,16 +49,16 @@ attributes:
     .word 0             # default stack
 ";
 
-// The configuration whose text these parts make, None where there is none.
-fn config_of(alloc: Global, parts: &[&str]) -> Option<Config> {
+/// The configuration whose text these parts make, None where there is none.
+pub fn config_of(alloc: Global, parts: &[&str]) -> Option<Config> {
     match parts.concat(alloc) {
         Ok(text) => read_config(alloc, text.as_str()).ok(),
         Err(_) => None,
     }
 }
 
-// The image of the source that these parts make, None where there is none.
-fn image_of(alloc: Global, source: &[&str]) -> Option<Vec<u8>> {
+/// The bytes of the image of the source that these parts make, None where there is none.
+pub fn image_of(alloc: Global, source: &[&str]) -> Option<Vec<u8>> {
     match source.concat(alloc) {
         Ok(text) => match assemble(alloc, text.as_str()) {
             Ok(image) => write_image(alloc, &image).ok(),
@@ -68,38 +68,63 @@ fn image_of(alloc: Global, source: &[&str]) -> Option<Vec<u8>> {
     }
 }
 
-// The files with this image.
-fn files_with(alloc: Global, image: &[u8]) -> Result<Files, AllocError> {
+/// The files with these bytes as the image of p, and with these as that of q where there are some. An error where
+/// memory ran out.
+pub fn files_with(alloc: Global, p: &[u8], q: &[u8]) -> Result<Files, AllocError> {
     let mut files = Files::new(alloc);
-    files.add("p.img", image)?;
+    files.add("p.img", p)?;
+    if !q.is_empty() {
+        files.add("q.img", q)?;
+    }
     Ok(files)
 }
 
 // The files with the image of a source, None where there are none.
 fn files_of(alloc: Global, source: &[&str]) -> Option<Files> {
     match image_of(alloc, source) {
-        Some(image) => files_with(alloc, &image).ok(),
+        Some(image) => files_with(alloc, &image, &[]).ok(),
         None => None,
     }
 }
 
 /// The configuration, and the files with the guest's image.
-pub(crate) fn guest_of(alloc: Global, parts: &[&str], source: &[&str]) -> Option<(Config, Files)> {
+pub fn guest_of(alloc: Global, parts: &[&str], source: &[&str]) -> Option<(Config, Files)> {
     match (config_of(alloc, parts), files_of(alloc, source)) {
         (Some(config), Some(files)) => Some((config, files)),
         _ => None,
     }
 }
 
+/// The report after so many ticks, None where there is none.
+pub fn report_of(alloc: Global, config: &Config, files: &Files, ticks: u64) -> Option<Vec<u8>> {
+    let mut out = Vec::new(alloc);
+    match run_with(alloc, config, files, tick_of(ticks), &mut out) {
+        Ok(()) => Some(out),
+        Err(_) => None,
+    }
+}
+
+// The trace of p after so many ticks, None where there is none.
+fn trace_of(alloc: Global, config: &Config, files: &Files, ticks: u64) -> Option<Vec<u8>> {
+    let mut out = Vec::new(alloc);
+    match trace_with(alloc, config, files, tick_of(ticks), "p", &mut out) {
+        Ok(()) => Some(out),
+        Err(_) => None,
+    }
+}
+
+// Whether there are bytes, and they are those of the text that is wanted.
+pub(crate) fn is_text(got: Option<Vec<u8>>, want: &str) -> bool {
+    match got {
+        Some(got) => got.as_slice() == want.as_bytes(),
+        None => false,
+    }
+}
+
 /// Whether this is the guest's report after so many ticks.
 pub fn is_report(alloc: Global, parts: &[&str], source: &[&str], ticks: u64, want: &str) -> bool {
     match guest_of(alloc, parts, source) {
-        Some((config, files)) => {
-            let mut out = Vec::new(alloc);
-            let ticks = tick_of(ticks);
-            run_with(alloc, &config, &files, ticks, &mut out).is_ok()
-                && out.as_slice() == want.as_bytes()
-        }
+        Some((config, files)) => is_text(report_of(alloc, &config, &files, ticks), want),
         None => false,
     }
 }
@@ -107,12 +132,7 @@ pub fn is_report(alloc: Global, parts: &[&str], source: &[&str], ticks: u64, wan
 /// Whether this is the guest's trace after so many ticks.
 pub fn is_trace(alloc: Global, parts: &[&str], source: &[&str], ticks: u64, want: &str) -> bool {
     match guest_of(alloc, parts, source) {
-        Some((config, files)) => {
-            let mut out = Vec::new(alloc);
-            let ticks = tick_of(ticks);
-            trace_with(alloc, &config, &files, ticks, "p", &mut out).is_ok()
-                && out.as_slice() == want.as_bytes()
-        }
+        Some((config, files)) => is_text(trace_of(alloc, &config, &files, ticks), want),
         None => false,
     }
 }

@@ -6,7 +6,16 @@
 #![tactic(auto)]
 
 mod guests;
+mod rows;
 mod sights;
 
-pub use guests::{ALONE, LIBRARY, NUMBERS, P, is_report, is_trace};
-pub use sights::{Sight, check_cuts, check_row};
+pub use guests::{
+    ALONE, LIBRARY, NUMBERS, P, config_of, files_with, guest_of, image_of, is_report, is_trace,
+    report_of,
+};
+pub use ptk_config::Config;
+pub use ptk_main_runs::{Files, System};
+pub use rows::{
+    BY_RETURN, CANCELLED_WAITER, EXPIRED_WAIT, INHERIT_BASIC, OWNER_DIED, SET_AGAIN, TIMES,
+};
+pub use sights::{Sight, booted, check_cuts, check_row, report_now, run_on_to, trace_now};

@@ -1,6 +1,6 @@
 //! What is seen of a system's first partition.
 
-use crate::guests::{guest_of, is_report, tick_of};
+use crate::guests::{guest_of, is_report, is_text, tick_of};
 use ptk_config::Config;
 use ptk_main_runs::{Files, System};
 use ptk_mutex::effective;
@@ -55,13 +55,13 @@ fn seen(system: &System<'_>, sight: Sight) -> Option<u32> {
     }
 }
 
-// The system of a configuration at tick 0, None where it does not boot.
-fn booted<'a>(alloc: Global, config: &'a Config, files: &'a Files) -> Option<System<'a>> {
+/// The system of a configuration at tick 0, None where it does not boot.
+pub fn booted<'a>(alloc: Global, config: &'a Config, files: &'a Files) -> Option<System<'a>> {
     System::boot(alloc, config, files).ok()
 }
 
-// Runs on to a tick.
-fn run_on_to(system: &mut System<'_>, ticks: u64) {
+/// Runs on to a tick.
+pub fn run_on_to(system: &mut System<'_>, ticks: u64) {
     system.run_to(tick_of(ticks));
 }
 
@@ -99,10 +99,26 @@ pub fn check_row(
     Some(sights.len())
 }
 
-// Whether this is the system's report.
-fn is_reported(alloc: Global, system: &System<'_>, want: &str) -> bool {
+/// The system's report, None where memory ran out.
+pub fn report_now(alloc: Global, system: &System<'_>) -> Option<Vec<u8>> {
     let mut out = Vec::new(alloc);
-    system.report(&mut out).is_ok() && out.as_slice() == want.as_bytes()
+    match system.report(&mut out) {
+        Ok(()) => Some(out),
+        Err(_) => None,
+    }
+}
+
+/// The trace of the partition at this place, None where there is no such partition or memory ran out.
+pub fn trace_now(alloc: Global, system: &System<'_>, place: u8) -> Option<Vec<u8>> {
+    let parts = system.parts();
+    if usize::from(place) >= parts {
+        return None;
+    }
+    let mut out = Vec::new(alloc);
+    match system.trace(PartId::new(place)).lines(&mut out) {
+        Ok(()) => Some(out),
+        Err(_) => None,
+    }
 }
 
 // The first entry that is not the report of a system that goes on from entry to entry, each after so many ticks.
@@ -113,7 +129,7 @@ fn first_other_report(
 ) -> Option<usize> {
     for (i, (ticks, want)) in cuts.iter().enumerate() {
         run_on_to(system, *ticks);
-        if !is_reported(alloc, system, want) {
+        if !is_text(report_now(alloc, system), want) {
             return Some(i);
         }
     }

@@ -2,13 +2,14 @@
 ghost use Rattle.std.specs.Prelude.{◌≡◌, false, IfOk};
 ghost use Rattle.clap.specs.Words.{app_of, rule_of};
 ghost use Rattle.clap.specs.declared.builder.command.Command.TheViews.{out-Command};
-ghost use Rattle.ptk_main_line.specs.CommandLine.{asm, check, partition, ptk, required_word, run, ticks, trace};
+ghost use Rattle.ptk_main_line.specs.CommandLine.{asm, check, ptk, run, timeline, trace};
+ghost use Rattle.ptk_main_line.specs.CommandLine.{explain, from, partition, required_word, ticks};
 
 use crate::help;
-use clap::{Arg, Command, value_parser};
+use clap::{Arg, ArgAction, Command, value_parser};
 use std::alloc::{AllocError, Global};
 
-/// The command with its four subcommands, of which one has to be there.
+/// The command with its five subcommands, of which one has to be there.
 pub(crate) fn ptk_command<'a>(alloc: Global) -> Result<Command<'a>, AllocError>
     ensures { IfOk result (λ c. app_of c ≡ ptk) }
 {
@@ -18,6 +19,7 @@ pub(crate) fn ptk_command<'a>(alloc: Global) -> Result<Command<'a>, AllocError>
         .subcommand_required(true)
         .subcommand(run_command(alloc)?)?
         .subcommand(trace_command(alloc)?)?
+        .subcommand(timeline_command(alloc)?)?
         .subcommand(asm_command(alloc)?)?
         .subcommand(check_command(alloc)?)
 }
@@ -45,6 +47,18 @@ fn trace_command<'a>(alloc: Global) -> Result<Command<'a>, AllocError>
         .arg(partition_argument(alloc))
 }
 
+/// `timeline FILE --ticks N [--from M]`.
+fn timeline_command<'a>(alloc: Global) -> Result<Command<'a>, AllocError>
+    ensures { IfOk result (λ c. (app_of c ≡ timeline) × ((out-Command c).has_globals ≡ false)) }
+{
+    Command::new(alloc, "timeline")
+        .about(help::TIMELINE)
+        .after_help(help::TIMELINE_AFTER)
+        .arg(word_argument(alloc, "FILE", help::CONFIGURATION))?
+        .arg(ticks_argument(alloc))?
+        .arg(from_argument(alloc))
+}
+
 /// `asm IN OUT`.
 fn asm_command<'a>(alloc: Global) -> Result<Command<'a>, AllocError>
     ensures { IfOk result (λ c. (app_of c ≡ asm) × ((out-Command c).has_globals ≡ false)) }
@@ -56,14 +70,15 @@ fn asm_command<'a>(alloc: Global) -> Result<Command<'a>, AllocError>
         .arg(word_argument(alloc, "OUT", help::IMAGE))
 }
 
-/// `check FILE`.
+/// `check FILE [--explain]`.
 fn check_command<'a>(alloc: Global) -> Result<Command<'a>, AllocError>
     ensures { IfOk result (λ c. (app_of c ≡ check) × ((out-Command c).has_globals ≡ false)) }
 {
     Command::new(alloc, "check")
         .about(help::CHECK)
         .after_help(help::CHECK_AFTER)
-        .arg(word_argument(alloc, "FILE", help::CONFIGURATION))
+        .arg(word_argument(alloc, "FILE", help::CONFIGURATION))?
+        .arg(explain_argument(alloc))
 }
 
 /// A word that has to be there, with what help says of it.
@@ -86,6 +101,17 @@ fn ticks_argument<'a>(alloc: Global) -> Arg<'a>
         .value_parser(value_parser!(u64).range(0..=1_099_511_627_776))
 }
 
+/// `--from M`, which may be left out.
+fn from_argument<'a>(alloc: Global) -> Arg<'a>
+    ensures rule { rule_of result ≡ from }
+    ensures own { result.global ≡ false }
+{
+    Arg::new(alloc, "from")
+        .long("from")
+        .help(help::FROM)
+        .value_parser(value_parser!(u64).range(0..=1_099_511_627_776))
+}
+
 /// `--partition NAME`.
 fn partition_argument<'a>(alloc: Global) -> Arg<'a>
     ensures rule { rule_of result ≡ partition }
@@ -95,4 +121,15 @@ fn partition_argument<'a>(alloc: Global) -> Arg<'a>
         .long("partition")
         .help(help::PARTITION)
         .required(true)
+}
+
+/// `--explain`, a flag.
+fn explain_argument<'a>(alloc: Global) -> Arg<'a>
+    ensures rule { rule_of result ≡ explain }
+    ensures own { result.global ≡ false }
+{
+    Arg::new(alloc, "explain")
+        .long("explain")
+        .help(help::EXPLAIN)
+        .action(ArgAction::SetTrue)
 }

@@ -57,6 +57,25 @@ Exit status:
 Example:
   ptk trace hello.toml --ticks 20 --partition p";
 
+/// What `timeline` does.
+pub(crate) const TIMELINE: &str =
+    "Runs a system and prints a picture of what each thread was, as SVG for any browser";
+
+/// What the picture has, the refusals of `timeline`, and an example.
+pub(crate) const TIMELINE_AFTER: &str =
+    "A lane for each partition, its windows shaded, in it a row for each thread: running, ready, \
+    blocked on what, ended. Up to
+1000 ticks a column is a tick; of more, what held longest in the column, with a mark where there was something else.
+
+Exit status:
+  0  the picture is printed
+  1  ptk: config fault N (see 'ptk check --help'), ptk: missing file NAME, ptk: not text NAME
+  2  usage
+  3  ptk: read failed NAME, ptk: write failed, ptk: no memory
+
+Example:
+  ptk timeline hello.toml --ticks 20 > hello.svg";
+
 /// What `asm` does.
 pub(crate) const ASM: &str = "Makes an image of a source in assembly";
 
@@ -102,13 +121,22 @@ Exit status:
   3  ptk: read failed NAME, ptk: write failed, ptk: no memory
 
 Example:
-  ptk check hello.toml";
+  ptk check hello.toml
+  ptk check hello.toml --explain";
 
 /// A configuration's file.
 pub(crate) const CONFIGURATION: &str = "The configuration, a TOML document";
 
 /// The end of a run.
 pub(crate) const TICKS: &str = "How many ticks to run: 0 to 1099511627776, of 1000 ns each";
+
+/// The first tick of a picture.
+pub(crate) const FROM: &str =
+    "The first tick that is shown: 0 to 1099511627776, 0 where it is left out";
+
+/// Whether a check says what the configuration comes to.
+pub(crate) const EXPLAIN: &str =
+    "Also prints what each partition has, or where and why the configuration is refused";
 
 /// The partition that is traced.
 pub(crate) const PARTITION: &str = "The name of a section of the configuration";

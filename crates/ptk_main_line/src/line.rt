@@ -3,10 +3,12 @@ ghost use Rattle.std.specs.Prelude.{◌≡◌, [], codes, map, IfErr, IfOk, OnOk
 ghost use Rattle.clap.specs.Values.{kind_of};
 ghost use Rattle.clap.specs.Words.{fault_of, found_of, rows_of, subcommand_rows_of};
 ghost use Rattle.clap.specs.declared.error.kind.ErrorKind.TheVariants.{MissingSubcommand, ValueValidation};
-ghost use Rattle.ptk_main_line.specs.CommandLine.{Asks, FindsRequest, FindsTicks, IsRefusal, MeansAny, ptk};
+ghost use Rattle.ptk_main_line.specs.CommandLine.{Asks, IsRefusal, MeansAny, ptk};
+ghost use Rattle.ptk_main_line.specs.CommandLine.{FindsFrom, FindsRequest, FindsTicks, HasFlag};
 
 use crate::commands::ptk_command;
 use clap::error::ErrorKind;
+use clap::parser::ValueSource;
 use clap::{ArgMatches, Error};
 use std::alloc::{AllocError, Global};
 
@@ -32,6 +34,15 @@ pub enum Request<'a> {
         /// The partition's name.
         partition: &'a str,
     },
+    /// `timeline FILE --ticks N [--from M]`: the picture of such a run from a tick on.
+    Timeline {
+        /// The configuration's file.
+        file: &'a str,
+        /// The number of ticks, at most `MOST_TICKS`.
+        ticks: u64,
+        /// The first tick that is shown, at most `MOST_TICKS`; 0 where it is not given.
+        from: u64,
+    },
     /// `asm IN OUT`: the image of an assembler text.
     Asm {
         /// The file of the text.
@@ -39,10 +50,12 @@ pub enum Request<'a> {
         /// The file that the image is written to.
         image: &'a str,
     },
-    /// `check FILE`: whether the configuration and the images that it names are in order.
+    /// `check FILE [--explain]`: whether the configuration and the images that it names are in order.
     Check {
         /// The configuration's file.
         file: &'a str,
+        /// Whether what it comes to, or where and why it is refused, is to be told besides.
+        explain: bool,
     },
 }
 
@@ -91,6 +104,7 @@ fn request_in<'a>(matches: &ArgMatches<'a>) -> Option<Request<'a>>
     match name {
         "run" => run_in(found),
         "trace" => trace_in(found),
+        "timeline" => timeline_in(found),
         "asm" => asm_in(found),
         "check" => check_in(found),
         _other => None,
@@ -102,7 +116,7 @@ fn run_in<'a>(found: &ArgMatches<'a>) -> Option<Request<'a>>
     ensures { FindsRequest result (codes "run") (rows_of (found_of found.now)) }
 {
     let file = found.get_str("FILE")?;
-    let ticks = ticks_in(found)?;
+    let ticks = ticks_in(found, "ticks")?;
     Some(Request::Run { file, ticks })
 }
 
@@ -111,13 +125,23 @@ fn trace_in<'a>(found: &ArgMatches<'a>) -> Option<Request<'a>>
     ensures { FindsRequest result (codes "trace") (rows_of (found_of found.now)) }
 {
     let file = found.get_str("FILE")?;
-    let ticks = ticks_in(found)?;
+    let ticks = ticks_in(found, "ticks")?;
     let partition = found.get_str("partition")?;
     Some(Request::Trace {
         file,
         ticks,
         partition,
     })
+}
+
+/// The request in the matches of `timeline`.
+fn timeline_in<'a>(found: &ArgMatches<'a>) -> Option<Request<'a>>
+    ensures { FindsRequest result (codes "timeline") (rows_of (found_of found.now)) }
+{
+    let file = found.get_str("FILE")?;
+    let ticks = ticks_in(found, "ticks")?;
+    let from = from_in(found)?;
+    Some(Request::Timeline { file, ticks, from })
 }
 
 /// The request in the matches of `asm`.
@@ -134,17 +158,39 @@ fn check_in<'a>(found: &ArgMatches<'a>) -> Option<Request<'a>>
     ensures { FindsRequest result (codes "check") (rows_of (found_of found.now)) }
 {
     let file = found.get_str("FILE")?;
-    Some(Request::Check { file })
+    let explain = explain_in(found);
+    Some(Request::Check { file, explain })
 }
 
-/// The value of `--ticks`, where it is a number of at most `MOST_TICKS`.
-fn ticks_in(found: &ArgMatches) -> Option<u64>
-    ensures { FindsTicks result (rows_of (found_of found.now)) }
+/// Whether the words have `--explain`.
+#[tactic(auto, using(crate::proofs::RowFacts::source_is))]
+fn explain_in(found: &ArgMatches) -> bool
+    ensures { HasFlag (codes "explain") result (rows_of (found_of found.now)) }
 {
-    let ticks = found.get_one::<u64>("ticks")?;
+    matches!(
+        found.value_source("explain"),
+        Some(ValueSource::CommandLine)
+    )
+}
+
+/// The value of an argument, where it is a number of at most `MOST_TICKS`.
+fn ticks_in(found: &ArgMatches, id: &str) -> Option<u64>
+    ensures { FindsTicks id.now result (rows_of (found_of found.now)) }
+{
+    let ticks = found.get_one::<u64>(id)?;
     if ticks <= MOST_TICKS {
         Some(ticks)
     } else {
         None
+    }
+}
+
+/// The value of `--from`, where it is a number of at most `MOST_TICKS`; 0 where it is not given.
+fn from_in(found: &ArgMatches) -> Option<u64>
+    ensures { FindsFrom result (rows_of (found_of found.now)) }
+{
+    match found.get_str("from") {
+        Some(_) => ticks_in(found, "from"),
+        None => Some(0),
     }
 }

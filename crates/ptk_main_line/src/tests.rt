@@ -35,6 +35,20 @@ fn reads_each_subcommand(rt: HostRuntime) {
         partition: "p",
     };
     assert_eq!(rt; read_line(rt.alloc(), &words).ok(), Some(trace));
+    let words = ["ptk", "timeline", "a.toml", "--ticks", "20"];
+    let whole = Request::Timeline {
+        file: "a.toml",
+        ticks: 20,
+        from: 0,
+    };
+    assert_eq!(rt; read_line(rt.alloc(), &words).ok(), Some(whole));
+    let words = ["ptk", "timeline", "a.toml", "--ticks", "20", "--from", "7"];
+    let later = Request::Timeline {
+        file: "a.toml",
+        ticks: 20,
+        from: 7,
+    };
+    assert_eq!(rt; read_line(rt.alloc(), &words).ok(), Some(later));
     let words = ["ptk", "asm", "a.s", "a.img"];
     let asm = Request::Asm {
         source: "a.s",
@@ -42,8 +56,49 @@ fn reads_each_subcommand(rt: HostRuntime) {
     };
     assert_eq!(rt; read_line(rt.alloc(), &words).ok(), Some(asm));
     let words = ["ptk", "check", "a.toml"];
-    let check = Request::Check { file: "a.toml" };
+    let check = Request::Check {
+        file: "a.toml",
+        explain: false,
+    };
     assert_eq!(rt; read_line(rt.alloc(), &words).ok(), Some(check));
+}
+
+#[test]
+fn reads_a_flag_before_and_after_a_file(rt: HostRuntime) {
+    let explained = Request::Check {
+        file: "a.toml",
+        explain: true,
+    };
+    for words in [
+        ["ptk", "check", "a.toml", "--explain"],
+        ["ptk", "check", "--explain", "a.toml"],
+    ] {
+        assert_eq!(rt; read_line(rt.alloc(), &words).ok(), Some(explained));
+    }
+}
+
+#[test]
+fn refuses_other_flags(rt: HostRuntime) {
+    let alloc = rt.alloc();
+    assert_eq!(rt;
+        refusal(alloc, &["ptk", "check", "a.toml", "--explain", "--explain"]),
+        Some(ErrorKind::ArgumentConflict)
+    );
+    assert_eq!(rt;
+        refusal(alloc, &["ptk", "check", "a.toml", "--explain=true"]),
+        Some(ErrorKind::TooManyValues)
+    );
+    assert_eq!(rt;
+        refusal(alloc, &["ptk", "check", "--explain"]),
+        Some(ErrorKind::MissingRequiredArgument)
+    );
+    assert_eq!(rt;
+        refusal(
+            alloc,
+            &["ptk", "run", "a.toml", "--ticks", "20", "--explain"]
+        ),
+        Some(ErrorKind::UnknownArgument)
+    );
 }
 
 #[test]
@@ -133,7 +188,10 @@ fn help_says_the_statuses_and_an_example(rt: HostRuntime) -> Result<(), AllocErr
         ("run", "ptk run hello.toml --ticks 20"),
         ("trace", "ptk trace hello.toml --ticks 20 --partition p"),
         ("asm", "ptk asm hello.s hello.img"),
-        ("check", "ptk check hello.toml"),
+        (
+            "check",
+            "ptk check hello.toml\n  ptk check hello.toml --explain",
+        ),
     ];
     for (command, example) in rows {
         let text = help(rt.alloc(), &["ptk", command, "--help"])?;

@@ -4,24 +4,3 @@
 mod conditions;
 mod deadlines;
 mod sleeps;
-
-/// Timespecs, which stand behind a guest's other data: one long past, tick 100, tick 200, and one whose nanoseconds are
-/// none.
-const TIMES: &str = "
-past:
-    .word 0
-    .word 0
-    .word 0
-hundred:
-    .word 0
-    .word 0
-    .word 100000
-two_hundred:
-    .word 0
-    .word 0
-    .word 200000
-bad:
-    .word 0
-    .word 0
-    .word 1000000000
-";

@@ -19,6 +19,7 @@ use Rattle.ptk_words_model.specs.Chain.{leads_to, greatest_leading}
 use Rattle.ptk_words_model.specs.Priority.{awaited, is_owner, ceiling_of, ceiling_for, inheritor, inheritor_of, assigned_of, held_of, next_of, effective_of, effective_priorities}
 use Rattle.ptk_words_model.specs.Mutex.{mutex_at, new_mutex, is_free, waiters_of, count_of}
 use Rattle.ptk_words_model.specs.MutexCalls.{is_locked}
+use Rattle.ptk_words_locks.proofs.MutexPlaces.{pool_set_same, effective-set}
 use Rattle.ptk_threads.specs.Table.{ThreadTable, free_table}
 use Rattle.ptk_threads.proofs.Pools.{part_of-set}
 use Rattle.ptk_mutex_slots.proofs.Levels.{length-numbers_to}
@@ -74,46 +75,13 @@ pool_set_all P pool zero n x own h = h
 pool_set_all P pool (suc i) zero x own h = h
 pool_set_all P pool (suc i) (suc j) x own h = set_all P pool i j x own h
 
--- what f reads of each entry, where it reads the same of the new one
-set_same : {A B : Type 0} (f : Option A → B) (pool : List (Option A)) (i j : ℕ) (x : Option A) → f x ≡ f (option_flatten (slice_get pool i)) → f (option_flatten (slice_get (set pool i x) j)) ≡ f (option_flatten (slice_get pool j))
-set_same f [] i j x e = refl
-set_same f (y ∷ pool) zero zero x e = e
-set_same f (y ∷ pool) zero (suc j) x e = refl
-set_same f (y ∷ pool) (suc i) zero x e = refl
-set_same f (y ∷ pool) (suc i) (suc j) x e = set_same f pool i j x e
-
-pub pool_set_same : {A B : Type 0} (f : Option A → B) (pool : List (Option A)) (m n : ℕ) (x : Option A) → f x ≡ f (pool_get pool m) → f (pool_get (pool_set pool m x) n) ≡ f (pool_get pool n)
-pool_set_same f pool zero n x e = refl
-pool_set_same f pool (suc i) zero x e = refl
-pool_set_same f pool (suc i) (suc j) x e = set_same f pool i j x e
-
 -- ---- effective priorities with one idle mutex in another's place
-
-ceilings_set : (t i most : ℕ) (mutexes : List (Option Mutex)) (x : Option Mutex) → ceiling_for t x ≡ ceiling_for t (option_flatten (slice_get mutexes i))
-    → fold (λ most m. max most (ceiling_for t m)) most (set mutexes i x) ≡ fold (λ most m. max most (ceiling_for t m)) most mutexes
-ceilings_set t i most [] x e = refl
-ceilings_set t zero most (y ∷ mutexes) x e = ap (λ (c : ℕ). fold (λ most m. max most (ceiling_for t m)) (max most c) mutexes) e
-ceilings_set t (suc i) most (y ∷ mutexes) x e = ceilings_set t i (max most (ceiling_for t y)) mutexes x e
-
-held_set : (threads : List (Option Thread)) (mutexes : List (Option Mutex)) (m t : ℕ) (x : Option Mutex) → ceiling_for t x ≡ ceiling_for t (pool_get mutexes m) → held_of threads (pool_set mutexes m x) t ≡ held_of threads mutexes t
-held_set threads mutexes zero t x e = refl
-held_set threads mutexes (suc i) t x e = ceilings_set t i (assigned_of threads t) mutexes x e
-
-next_same : (f g : ℕ → Option ℕ) (o : Option ℕ) → ((n : ℕ) → f n ≡ g n) → option_and_then f o ≡ option_and_then g o
-next_same f g None h = refl
-next_same f g (Some n) h = h n
-
-next_set : (threads : List (Option Thread)) (mutexes : List (Option Mutex)) (m t : ℕ) (x : Option Mutex) → inheritor_of x ≡ inheritor_of (pool_get mutexes m) → next_of threads (pool_set mutexes m x) t ≡ next_of threads mutexes t
-next_set threads mutexes m t x e =
-    next_same (λ n. inheritor_of (pool_get (pool_set mutexes m x) n)) (λ n. inheritor_of (pool_get mutexes n)) (awaited (pool_get threads t)) (λ n. pool_set_same inheritor_of mutexes m n x e)
 
 -- they stay
 pub effective_set : (threads : List (Option Thread)) (mutexes : List (Option Mutex)) (m : ℕ) (x : Option Mutex) → IsIdle (pool_get mutexes m) → IsIdle x → effective_priorities threads (pool_set mutexes m x) ≡ effective_priorities threads mutexes
 effective_set threads mutexes m x was idle =
-    let next : next_of threads (pool_set mutexes m x) ≡ next_of threads mutexes = λ i t. next_set threads mutexes m t x (idle.inherits ∙ sym was.inherits) i in
-    let held : held_of threads (pool_set mutexes m x) ≡ held_of threads mutexes = λ i t. held_set threads mutexes m t x (idle.ceilings t ∙ sym (was.ceilings t)) i in
-    ap (λ (f : ℕ → Option ℕ). map (greatest_leading (length threads) f (held_of threads (pool_set mutexes m x))) (numbers_of threads)) next
-    ∙ ap (λ (f : ℕ → ℕ). map (greatest_leading (length threads) (next_of threads mutexes) f) (numbers_of threads)) held
+    let same : effective_of threads (pool_set mutexes m x) ≡ effective_of threads mutexes = effective-set m x threads mutexes (idle.inherits ∙ sym was.inherits) (λ t. idle.ceilings t ∙ sym (was.ceilings t)) in
+    ap (λ (rank : ℕ → ℕ). map rank (numbers_of threads)) same
 
 -- ---- tables with one idle mutex in another's place
 

@@ -5,15 +5,16 @@
 //! then have as the stored ones. What a call needs of the tables, and leaves of them, is `AreReady` of `specs/Tables`.
 //! A refused lock changes nothing; who is woken goes to the tail of the line, and an unlock or an owner's end tells who
 //! (`proofs/Woken`). No call but the constructor takes memory. One function writes a mutex (`change`), and after every
-//! change the partition's priorities are all computed again. Dear to prove are that the stored priorities choose the
-//! heir (`proofs/Locked`) and the calls of many moves (`proofs/Steps`). Below stand `ptk_mutex_slots`, with one place
-//! and one partition's priorities, `ptk_threads` and `ptk_ready`; above, `ptk_gate_pools` joins it to the slot table
-//! and the line.
+//! change on which they may depend the partition's priorities are all computed again (`take_plain` and `release_plain` are
+//! of mutexes that raise nobody). Dear to prove are that the stored priorities choose the heir (`proofs/Locked`) and the
+//! calls of many moves (`proofs/Steps`). Below stand `ptk_mutex_slots`, with one place and one partition's priorities,
+//! `ptk_threads` and `ptk_ready`; above, `ptk_gate_pools` joins it to the slot table and the line.
 #![tactic(auto)]
 
 mod ends;
 mod locking;
 mod mutexes;
+mod plain;
 #[cfg(test)]
 mod tests;
 mod unlocking;

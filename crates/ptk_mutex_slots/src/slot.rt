@@ -1,15 +1,16 @@
 //! One place of the pool, what becomes of the mutex at it, and the place of a number.
 
-ghost use Rattle.std.specs.Prelude.{◌≡◌, [], Some, None, IfOk, is_none, option_map, if◌then◌else◌};
+ghost use Rattle.std.specs.Prelude.{◌≡◌, ◌&&◌, [], Some, None, IfOk, not, is_none, option_map, if◌then◌else◌};
 ghost use Rattle.std.specs.Option.{option_flatten};
 ghost use Rattle.ptk_words.specs.Pools.{pool_get};
 ghost use Rattle.ptk_words.specs.declared.faults.Errno.TheVariants.{EINVAL};
 ghost use Rattle.ptk_words_model.specs.State.{locks_of};
 ghost use Rattle.ptk_words_model.specs.declared.LockMove.TheVariants.{Refuses};
-ghost use Rattle.ptk_words_model.specs.Mutex.{new_mutex, waiters_of, lock_move, trylock_move, relock_move, owns, is_raising_for, is_raising, soundness_of, count_of, is_above_ceiling, owner_move, free_move};
+ghost use Rattle.ptk_words_model.specs.Mutex.{new_mutex, waiters_of, lock_move, trylock_move, relock_move, owns, is_free, is_raising_for, is_raising, soundness_of, count_of, is_above_ceiling, owner_move, free_move};
 ghost use Rattle.ptk_words_model.specs.Priority.{inheritor, inheritor_of, ceiling_for, ceiling_of, is_owner};
 ghost use Rattle.ptk_mutex_slots.specs.Slots.{mutex_with, state_of, is_robust_at};
 ghost use Rattle.ptk_mutex_slots.specs.Changes.{mutex_changed, SlotMayChange};
+ghost use Rattle.ptk_mutex_slots.specs.Plain.{is_sound, is_takeable, is_releasable};
 
 use crate::moves::{
     OwnerMoves, free_move, is_above_ceiling, own_lock_move, own_trylock_move, owner_move,
@@ -324,6 +325,67 @@ impl MutexSlot {
             Some(state) => state.count,
             None => 0,
         }
+    }
+}
+
+impl MutexSlot {
+    /// Whether a lock takes its mutex and changes no priority: it is free and sound, and neither INHERIT nor PROTECT
+    /// (pthread_mutex_lock).
+    #[inline]
+    pub fn is_takeable(&self) -> bool
+        ensures { result ≡ is_takeable self.now }
+    {
+        match &self.state {
+            Some(state) => is_plain(state) && is_free(state.owner),
+            None => false,
+        }
+    }
+
+    /// Whether an unlock by the thread frees its mutex, wakes nobody and changes no priority: the thread locked it once,
+    /// it is sound and neither INHERIT nor PROTECT, and nobody waits for it (pthread_mutex_unlock).
+    #[inline]
+    pub fn is_releasable(&self, t: ThreadNo) -> bool
+        ensures { result ≡ is_releasable t self.now }
+    {
+        match &self.state {
+            Some(state) => {
+                is_plain(state)
+                    && is_owner(t, state.owner)
+                    && state.count == 1
+                    && self.waiters.threads().len() == 0
+            }
+            None => false,
+        }
+    }
+}
+
+/// Whether the mutex is sound and neither INHERIT nor PROTECT.
+#[inline]
+fn is_plain(state: &MutexState) -> bool
+    ensures { result ≡ (not (is_raising state.now.protocol) && is_sound state.now.soundness) }
+{
+    !is_raising(state.protocol) && is_sound(state.soundness)
+}
+
+/// Not locked.
+#[inline]
+fn is_free(owner: Owner) -> bool
+    ensures { result ≡ is_free owner }
+{
+    match owner {
+        Owner::Free => true,
+        Owner::Abandoned | Owner::OwnedBy(_) => false,
+    }
+}
+
+/// No owner ended, or the mutex was made consistent since.
+#[inline]
+fn is_sound(soundness: Soundness) -> bool
+    ensures { result ≡ is_sound soundness }
+{
+    match soundness {
+        Soundness::Consistent => true,
+        Soundness::Inconsistent | Soundness::Unrecoverable => false,
     }
 }
 

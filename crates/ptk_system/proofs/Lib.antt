@@ -4,3 +4,4 @@ pub mod Loading
 pub mod Reports
 pub mod NextTicks
 pub mod Views
+pub mod Stays

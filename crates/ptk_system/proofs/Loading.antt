@@ -15,7 +15,7 @@ use Rattle.ptk_console.specs.ConsoleTable.{fresh_console, no_limits}
 use Rattle.ptk_gate_pools.specs.Kept.{Kept, AreParts, limits_at, part_at, put_part}
 use Rattle.ptk_gate_pools.specs.Blank.{blank}
 use Rattle.ptk_gate_pools.proofs.Parted.{part_at-put, part_at-other, parts_put}
-use Rattle.ptk_system_machine.proofs.Blanks.{part_at-blank}
+use Rattle.ptk_gate_pools.proofs.Blanks.{part_at-blank}
 use Rattle.ptk_config.specs.Sections.{Section}
 use Rattle.ptk_config.specs.Configuration.{Configuration, IsConfiguration}
 use Rattle.ptk_system_files.specs.NamedFiles.{NamedFile}
@@ -119,7 +119,7 @@ started e f = λ i. record { part = e i; account = f i }
 
 pub machine_starts : (config : Configuration) (files : List NamedFile) (limits : List Limits) (tables : Kept) (machine : Whole) → IsConfiguration config → limits ≡ map (λ section. section.limits) config.sections
     → AreLoaded config files (length config.sections) tables → machine.kept ≡ tables → length machine.accounts ≡ length limits
-    → ((p : ℕ) → p < length limits → account_at p machine ≡ first_account_of config.windows tables p) → IsRun config files machine 0
+    → ((p : ℕ) → p < length limits → account_at p machine ≡ first_account_of config.plan tables p) → IsRun config files machine 0
 machine_starts config files limits tables machine is same are kept count accounts =
     let sections : length limits ≡ length config.sections = ap length same ∙ length-map config.sections (λ (s : Section). s.limits) in
     record {
@@ -132,8 +132,8 @@ machine_starts config files limits tables machine is same are kept count account
           let within : p < length limits = subst (λ (n : ℕ). p < n) (sym sections) lt in
           let loaded : part_at p tables ≡ start_part (section_at config p).limits (image_in files (section_at config p).image) (section_at config p).input = are.loaded p lt lt in
           let part : part_at p machine.kept ≡ start_part (section_at config p).limits (image_in files (section_at config p).image) (section_at config p).input = ap (part_at p) kept ∙ loaded in
-          let account : (account_at p machine).account ≡ (start (own_ticks config.windows p) (section_at config p).limits (image_in files (section_at config p).image) (section_at config p).input).account =
-          ap (λ (a : KeptAccount). a.account) (accounts p within) ∙ ap (λ (s : Part). first_account (next_from (own_ticks config.windows p) s.status 0)) loaded in
+          let account : (account_at p machine).account ≡ (start (own_ticks config.plan p) (section_at config p).limits (image_in files (section_at config p).image) (section_at config p).input).account =
+          ap (λ (a : KeptAccount). a.account) (accounts p within) ∙ ap (λ (s : Part). first_account (next_from (own_ticks config.plan p) s.status 0)) loaded in
           started part account);
     }
 

@@ -3,7 +3,7 @@ use Rattle.std.proofs.Common.{◌≡◌, ℕ, ◌+◌, ◌-◌, ◌<◌, ◌≤�
 use Rattle.ptk_words.specs.declared.TheConstants.{LAST_TICK}
 use Rattle.ptk_console.specs.ConsoleTable.{no_limits}
 use Rattle.ptk_words.specs.declared.sections.Limits.{Limits}
-use Rattle.ptk_words_windows.specs.Windows.{WindowTable, IsTable, own_ticks}
+use Rattle.ptk_words_windows.specs.Windows.{WindowPlan, IsPlan, own_ticks}
 use Rattle.ptk_words_windows.proofs.FaultLaws.{accepted}
 use Rattle.ptk_words_quiet.specs.Quiet.{after_ticks}
 use Rattle.ptk_words_quiet.proofs.TicksInARow.{alone_on}
@@ -16,17 +16,18 @@ use Rattle.ptk_system.specs.Missing.{image_in}
 use Rattle.ptk_system.specs.World.{IsRun, alone_in, section_at}
 use Rattle.ptk_system.proofs.Bounds.{alone_behind}
 
--- the windows of a configuration are a table
-pub is_table : (config : Configuration) → IsConfiguration config → IsTable config.windows
-is_table config is = (accepted config.windows.frame (length config.sections) config.windows.windows is.windows).0
+-- the plan of a configuration is one
+pub is_plan : (config : Configuration) → IsConfiguration config → IsPlan config.plan
+is_plan config is = (accepted config.plan.frame (length config.sections) config.plan.stages is.plan).0
 
 -- the windows are the partitions'
-pub windows_known : (config : Configuration) (files : List NamedFile) (whole : Whole) (tick : ℕ) → IsRun config files whole tick → AreWindowsOf (length whole.accounts) config.windows
+pub windows_known : (config : Configuration) (files : List NamedFile) (whole : Whole) (tick : ℕ) → IsRun config files whole tick → AreWindowsOf (length whole.accounts) config.plan
 windows_known config files whole tick run =
-    let known : All (λ w. w.partition < length config.sections) config.windows.windows = (accepted config.windows.frame (length config.sections) config.windows.windows run.configured.windows).1 in
+    let known : All (λ stage. All (λ w. w.partition < length config.sections) stage.windows) config.plan.stages =
+    (accepted config.plan.frame (length config.sections) config.plan.stages run.configured.plan).1 in
     record {
       frame = run.configured.frame_to;
-      known = subst (λ (n : ℕ). All (λ w. w.partition < n) config.windows.windows) (sym run.parts) known;
+      known = subst (λ (n : ℕ). All (λ stage. All (λ w. w.partition < n) stage.windows) config.plan.stages) (sym run.parts) known;
     }
 
 -- so many ticks are behind every partition
@@ -34,21 +35,21 @@ pub run_behind : (config : Configuration) (files : List NamedFile) (whole : Whol
 run_behind config files whole tick run p lt =
     let within : p < length config.sections = subst (λ (n : ℕ). p < n) run.parts lt in
     subst (IsBehind tick) (sym (run.each p within))
-    (alone_behind config.windows p (section_at config p).limits (image_in files (section_at config p).image) (section_at config p).input tick (is_table config run.configured) run.configured.frame_to)
+    (alone_behind config.plan p (section_at config p).limits (image_in files (section_at config p).image) (section_at config p).input tick (is_plan config run.configured) run.configured.frame_to)
 
 -- a partition alone goes on from a tick to a later one
-alone_to : (config : Configuration) (files : List NamedFile) (p from to : ℕ) → from ≤ to
-    → alone_in config files p to ≡ after_ticks (own_ticks config.windows p) (section_at config p).limits from (to - from) (alone_in config files p from)
+pub alone_to : (config : Configuration) (files : List NamedFile) (p from to : ℕ) → from ≤ to
+    → alone_in config files p to ≡ after_ticks (own_ticks config.plan p) (section_at config p).limits from (to - from) (alone_in config files p from)
 alone_to config files p from to le =
     let at : to ≡ from + (to - from) = omega arith in
-    ap (alone_in config files p) at ∙ alone_on (own_ticks config.windows p) (section_at config p).limits (image_in files (section_at config p).image) (section_at config p).input from (to - from)
+    ap (alone_in config files p) at ∙ alone_on (own_ticks config.plan p) (section_at config p).limits (image_in files (section_at config p).image) (section_at config p).input from (to - from)
 
 -- ticks of each partition's own
-pub run_on : (config : Configuration) (files : List NamedFile) (whole new : Whole) (tick t : ℕ) (windows : WindowTable) → IsRun config files whole tick → tick ≤ t → t ≤ LAST_TICK → windows ≡ config.windows
+pub run_on : (config : Configuration) (files : List NamedFile) (whole new : Whole) (tick t : ℕ) (plan : WindowPlan) → IsRun config files whole tick → tick ≤ t → t ≤ LAST_TICK → plan ≡ config.plan
     → length new.accounts ≡ length whole.accounts → new.kept.limits ≡ whole.kept.limits
-    → ((q : ℕ) → q < length whole.accounts → state_at q new ≡ after_ticks (own_ticks windows q) (limits_at q whole.kept) tick (t - tick) (state_at q whole))
+    → ((q : ℕ) → q < length whole.accounts → state_at q new ≡ after_ticks (own_ticks plan q) (limits_at q whole.kept) tick (t - tick) (state_at q whole))
     → IsRun config files new t
-run_on config files whole new tick t windows run le early same count limits each = record {
+run_on config files whole new tick t plan run le early same count limits each = record {
   configured = run.configured;
   parts = count ∙ run.parts;
   sections = ap length limits ∙ run.sections;
@@ -57,9 +58,9 @@ run_on config files whole new tick t windows run le early same count limits each
   each = λ p lt. (
       let within : p < length whole.accounts = subst (λ (n : ℕ). p < n) (sym run.parts) lt in
       each p within
-      ∙ (ap (λ (w : WindowTable). after_ticks (own_ticks w p) (limits_at p whole.kept) tick (t - tick) (state_at p whole)) same
-      ∙ (ap (λ (l : Limits). after_ticks (own_ticks config.windows p) l tick (t - tick) (state_at p whole)) (run.limits p lt)
-      ∙ (ap (after_ticks (own_ticks config.windows p) (section_at config p).limits tick (t - tick)) (run.each p lt)
+      ∙ (ap (λ (w : WindowPlan). after_ticks (own_ticks w p) (limits_at p whole.kept) tick (t - tick) (state_at p whole)) same
+      ∙ (ap (λ (l : Limits). after_ticks (own_ticks config.plan p) l tick (t - tick) (state_at p whole)) (run.limits p lt)
+      ∙ (ap (after_ticks (own_ticks config.plan p) (section_at config p).limits tick (t - tick)) (run.each p lt)
       ∙ sym (alone_to config files p tick t le)))));
 }
 

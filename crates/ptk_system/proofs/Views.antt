@@ -18,13 +18,13 @@ use Rattle.ptk_system.specs.Missing.{image_in}
 use Rattle.ptk_system.specs.Shown.{part_report}
 use Rattle.ptk_system.specs.World.{World, section_at, state_of}
 use Rattle.ptk_system.proofs.NextTicks.{same_next}
-use Rattle.ptk_system.proofs.Runs.{is_table}
+use Rattle.ptk_system.proofs.Runs.{is_plan}
 
-same_ticks : (a b : World) (p q : ℕ) → IsConfiguration a.config → IsConfiguration b.config → SameView a p b q → own_ticks a.config.windows p ≡ own_ticks b.config.windows q
+same_ticks : (a b : World) (p q : ℕ) → IsConfiguration a.config → IsConfiguration b.config → SameView a p b q → own_ticks a.config.plan p ≡ own_ticks b.config.plan q
 same_ticks a b p q is_a is_b same =
     λ i. record {
       end_at = λ t. same.ends t i;
-      next_of = λ t. same_next a.config.windows b.config.windows p q t (is_table a.config is_a) (is_table b.config is_b) same.ends i;
+      next_of = λ t. same_next a.config.plan b.config.plan p q t (is_plan a.config is_a) (is_plan b.config is_b) same.ends i;
     }
 
 -- a partition that is told the same is in the same state
@@ -32,10 +32,10 @@ pub same_state : (a b : World) (p q : ℕ) → IsConfiguration a.config → IsCo
 same_state a b p q is_a is_b same tick =
     let limits_a : Limits = (section_at a.config p).limits in
     ap (λ (ticks : OwnTicks). alone ticks (section_at a.config p).limits (image_in a.files (section_at a.config p).image) (section_at a.config p).input a.tick) (same_ticks a b p q is_a is_b same)
-    ∙ (ap (λ (limits : Limits). alone (own_ticks b.config.windows q) limits (image_in a.files (section_at a.config p).image) (section_at a.config p).input a.tick) same.limits
-    ∙ (ap (λ (image : Option (List ℕ)). alone (own_ticks b.config.windows q) (section_at b.config q).limits image (section_at a.config p).input a.tick) same.image
-    ∙ (ap (λ (input : List Arrival). alone (own_ticks b.config.windows q) (section_at b.config q).limits (image_in b.files (section_at b.config q).image) input a.tick) same.input
-    ∙ ap (alone (own_ticks b.config.windows q) (section_at b.config q).limits (image_in b.files (section_at b.config q).image) (section_at b.config q).input) tick)))
+    ∙ (ap (λ (limits : Limits). alone (own_ticks b.config.plan q) limits (image_in a.files (section_at a.config p).image) (section_at a.config p).input a.tick) same.limits
+    ∙ (ap (λ (image : Option (List ℕ)). alone (own_ticks b.config.plan q) (section_at b.config q).limits image (section_at a.config p).input a.tick) same.image
+    ∙ (ap (λ (input : List Arrival). alone (own_ticks b.config.plan q) (section_at b.config q).limits (image_in b.files (section_at b.config q).image) input a.tick) same.input
+    ∙ ap (alone (own_ticks b.config.plan q) (section_at b.config q).limits (image_in b.files (section_at b.config q).image) (section_at b.config q).input) tick)))
 
 -- a partition that is told the same writes the same part of the report
 pub same_report : (a b : World) (p q : ℕ) → IsConfiguration a.config → IsConfiguration b.config → SameView a p b q → a.tick ≡ b.tick → (section_at a.config p).name ≡ (section_at b.config q).name → part_report a p ≡ part_report b q
@@ -55,9 +55,9 @@ turn_fits room (Some r) s cost e = by (nat_lt room (step_cost (step_kind s r.num
 
 -- the ticks of a step are in its window
 pub step_stays : StepStaysInWindow
-step_stays table p tick end cost limits s is ends spent k from below =
+step_stays plan p tick end cost limits s is ends spent k from below =
     let fits : cost ≤ end - tick = turn_fits (end - tick) (runner_of (ready_at limits tick s)) (ready_at limits tick s) cost spent in
-    let whole = window_whole table p tick end is ends in
+    let whole = window_whole plan p tick end is ends in
     let later : tick < end = whole.0 in
     let within : k < end = omega arith in
     whole.2 k from within

@@ -1,7 +1,7 @@
 -- What holds of two systems, and of one processor.
 use Rattle.std.specs.Prelude.{◌≡◌, ◌≢◌, ℕ, ◌+◌, ◌-◌, ◌<◌, ◌≤◌, Some, None, length}
 use Rattle.ptk_words.specs.declared.sections.Limits.{Limits}
-use Rattle.ptk_words_windows.specs.Windows.{WindowTable, IsTable, own_ticks}
+use Rattle.ptk_words_windows.specs.Windows.{WindowPlan, IsPlan, own_ticks}
 use Rattle.ptk_words_model.specs.declared.Spent.TheVariants.{Step}
 use Rattle.ptk_words_model.specs.State.{Part}
 use Rattle.ptk_words_model.specs.Decision.{spent_by_decision}
@@ -10,7 +10,7 @@ use Rattle.ptk_system.specs.World.{World, section_at}
 
 -- a partition of one system and one of another are told the same: own ticks and window ends, numbers, image and input
 pub record SameView (a : World) (p : ℕ) (b : World) (q : ℕ) : Type 0 where
-  pub ends : (t : ℕ) → (own_ticks a.config.windows p).end_at t ≡ (own_ticks b.config.windows q).end_at t
+  pub ends : (t : ℕ) → (own_ticks a.config.plan p).end_at t ≡ (own_ticks b.config.plan q).end_at t
   pub limits : (section_at a.config p).limits ≡ (section_at b.config q).limits
   pub image : image_in a.files (section_at a.config p).image ≡ image_in b.files (section_at b.config q).image
   pub input : (section_at a.config p).input ≡ (section_at b.config q).input
@@ -22,6 +22,6 @@ IsIdleBut q world = (r : ℕ) → r < length world.config.sections → r ≢ q �
 -- all ticks of a decision's step lie in one window of the partition
 abbrev pub StepStaysInWindow : Type 0
 StepStaysInWindow =
-    (table : WindowTable) (p tick end cost : ℕ) (limits : Limits) (s : Part) → IsTable table →
-    (own_ticks table p).end_at tick ≡ Some end → spent_by_decision limits tick (end - tick) s ≡ Step cost →
-    (k : ℕ) → tick ≤ k → k < tick + cost → (own_ticks table p).end_at k ≡ Some end
+    (plan : WindowPlan) (p tick end cost : ℕ) (limits : Limits) (s : Part) → IsPlan plan →
+    (own_ticks plan p).end_at tick ≡ Some end → spent_by_decision limits tick (end - tick) s ≡ Step cost →
+    (k : ℕ) → tick ≤ k → k < tick + cost → (own_ticks plan p).end_at k ≡ Some end

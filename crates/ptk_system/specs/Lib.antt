@@ -1,6 +1,7 @@
 pub mod Missing
 pub mod World
 pub mod Told
+pub mod Activities
 pub mod Shown
 pub mod Loaded
 pub mod Laws

@@ -29,7 +29,7 @@ section_at config p = slice_index_or config.sections p no_section
 -- what a partition is after n ticks alone: of its own ticks, its section's numbers, its image and its input
 abbrev pub alone_in : Configuration → List NamedFile → ℕ → ℕ → State
 alone_in config files p n =
-    alone (own_ticks config.windows p) (section_at config p).limits (image_in files (section_at config p).image) (section_at config p).input n
+    alone (own_ticks config.plan p) (section_at config p).limits (image_in files (section_at config p).image) (section_at config p).input n
 
 -- the state of a partition: what it is alone after the ticks that were reached
 abbrev pub state_of : World → ℕ → State

@@ -70,7 +70,7 @@ pub(crate) fn first_machine(
 {
     let limits = limits_of(alloc, config)?;
     let tables = loaded_tables(alloc, config, files, &limits)?;
-    let machine = Machine::start(alloc, tables, &limits, config.windows())?;
+    let machine = Machine::start(alloc, tables, &limits, config.plan())?;
     Ok(machine)
 }
 

@@ -7,6 +7,7 @@
 //! partition (`proofs/Loading`).
 #![tactic(auto)]
 
+mod activity;
 mod booting;
 mod fault;
 mod laws;
@@ -15,6 +16,7 @@ mod status;
 mod system;
 mod telling;
 
+pub use activity::Activity;
 pub use fault::BootFault;
 pub use laws::{idle_world, one_processor, stop_on_the_way, two_worlds};
 pub use ptk_system_files::Files;

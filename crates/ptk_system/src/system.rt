@@ -68,14 +68,7 @@ impl<'a> System<'a> {
         requires { n ≤ LAST_TICK }
         ensures { self.new ≡ at_tick (max self.old.tick n) self.old }
     {
-        let unset = Entry {
-            tick: n,
-            thread: ThreadNo::new(1),
-            pc: 0,
-            word: 0,
-            a0: 0,
-        };
-        let mut batch = [unset; BATCH];
+        let mut batch = [unset(n); BATCH];
         if self.tick.ticks() < n.ticks() {
             self.go_on(n, &mut batch);
         }
@@ -88,9 +81,26 @@ impl<'a> System<'a> {
         ensures { self.new ≡ at_tick n self.old }
     {
         let config = self.config;
-        let windows = config.windows();
-        self.machine.run(windows, self.tick, n, batch);
+        let plan = config.plan();
+        self.machine.run(plan, self.tick, n, batch);
         self.tick = n;
+    }
+
+    /// Goes on over plain steps and quiet calls of the partition that decides next, to a tick of at most 2^40
+    /// that is not after `n`, and before any other decision. Does nothing where `n` was already reached.
+    pub fn compute_to(&mut self, n: Tick)
+        requires { n ≤ LAST_TICK }
+        ensures from { self.old.tick ≤ self.new.tick }
+        ensures within { self.new.tick ≤ max self.old.tick n }
+        ensures run { self.new ≡ at_tick self.new.tick self.old }
+    {
+        let mut batch = [unset(n); BATCH];
+        if n.ticks() <= self.tick.ticks() {
+            return;
+        }
+        let config = self.config;
+        let plan = config.plan();
+        self.tick = self.machine.run_row(plan, self.tick, n, &mut batch);
     }
 
     /// The tick that was reached.
@@ -98,5 +108,16 @@ impl<'a> System<'a> {
         ensures { result ≡ self.now.tick }
     {
         self.tick
+    }
+}
+
+/// An entry that no step has made.
+fn unset(tick: Tick) -> Entry {
+    Entry {
+        tick,
+        thread: ThreadNo::new(1),
+        pc: 0,
+        word: 0,
+        a0: 0,
     }
 }

@@ -5,7 +5,7 @@ use Rattle.std.proofs.lemmas.Bool.{false≢true, cases_lt}
 use Rattle.std.proofs.lemmas.List.{get_or-set_same, get_or-set_other, get_or-take, get_or_default, length-take}
 use Rattle.std.proofs.Math.ListN.{set, take}
 use Rattle.ptk_words.specs.declared.sections.Limits.{Limits}
-use Rattle.ptk_words_windows.specs.Windows.{WindowTable, OwnTicks, IsTable, own_ticks}
+use Rattle.ptk_words_windows.specs.Windows.{WindowPlan, OwnTicks, IsPlan, own_ticks}
 use Rattle.ptk_words_model.specs.State.{State}
 use Rattle.ptk_words_quiet.specs.Quiet.{after_ticks}
 use Rattle.ptk_words_windows.proofs.OwnLaws.{window_whole}
@@ -14,7 +14,7 @@ use Rattle.ptk_window.specs.declared.near.Turn.{Turn}
 use Rattle.ptk_window.specs.Turn.{IsTurn}
 use Rattle.ptk_gate_pools.specs.Kept.{limits_at}
 use Rattle.ptk_system_machine.specs.Accounts.{IsBehind}
-use Rattle.ptk_system_machine.specs.Turns.{IsComing, IsInWindow, IsUpTo, turn_at, no_turn}
+use Rattle.ptk_system_machine.specs.Turns.{IsComing, IsInWindow, IsStillUntil, IsUpTo, turn_at, no_turn}
 use Rattle.ptk_system_machine.specs.Whole.{Whole, IsWhole, account_at, state_at, gone_on}
 use Rattle.ptk_system_machine.proofs.States.{state_at-put, state_at-other}
 use Rattle.ptk_system_machine.proofs.Ticks.{behind_to, not_due, still_never, still_on}
@@ -30,12 +30,12 @@ begins_from low from to next turn le last later due = by (cases_lt turn.start to
     by (inr past) = omega arith
 
 -- a tick that is not the first own one from it on is not own
-pub not_own : (table : WindowTable) (p tick : ℕ) → IsTable table → (own_ticks table p).next_of tick ≢ Some tick → (own_ticks table p).end_at tick ≡ None
-not_own table p tick is other = by ((own_ticks table p).end_at tick) refl
+pub not_own : (plan : WindowPlan) (p tick : ℕ) → IsPlan plan → (own_ticks plan p).next_of tick ≢ Some tick → (own_ticks plan p).end_at tick ≡ None
+not_own plan p tick is other = by ((own_ticks plan p).end_at tick) refl
   where
-    by : (o : Option ℕ) → (own_ticks table p).end_at tick ≡ o → (own_ticks table p).end_at tick ≡ None
+    by : (o : Option ℕ) → (own_ticks plan p).end_at tick ≡ o → (own_ticks plan p).end_at tick ≡ None
     by None e = e
-    by (Some end) e = absurd (other ((window_own table p tick end is e).next tick (omega arith) (window_whole table p tick end is e).0))
+    by (Some end) e = absurd (other ((window_own plan p tick end is e).next tick (omega arith) (window_whole plan p tick end is e).0))
 
 -- ---- the turn that comes first
 
@@ -63,17 +63,35 @@ pub none_left : (turns : List Turn) (n to q : ℕ) → All (λ turn. to ≤ turn
 none_left turns n to q all lt within =
     subst (λ (turn : Turn). to ≤ turn.start) (get_or-take n turns q no_turn lt) (all q no_turn (omega (arith, lt, within, length-take n turns)))
 
+-- a turn among the first so many is that of the partition
+pub turn_taken : (turns : List Turn) (n q : ℕ) → q < n → turn_at q (take n turns) ≡ turn_at q turns
+turn_taken turns n q lt = get_or-take n turns q no_turn lt
+
+-- no turn begins before the one that comes first
+pub none_before : (turns : List Turn) (n p q : ℕ) → p < n → All (λ turn. (turn_at p (take n turns)).start ≤ turn.start) (take n turns) → q < n → q < length turns → (turn_at p turns).start ≤ (turn_at q turns).start
+none_before turns n p q here all lt within =
+    subst (λ (turn : Turn). turn.start ≤ (turn_at q turns).start) (turn_taken turns n p here)
+    (subst (λ (turn : Turn). (turn_at p (take n turns)).start ≤ turn.start) (turn_taken turns n q lt) (all q no_turn (omega (arith, lt, within, length-take n turns))))
+
+-- a turn that begins in a run begins in a shorter one, or comes at its end
+pub coming_before : (ticks : OwnTicks) (to stop : ℕ) (next : Option ℕ) (turn : Turn) → stop ≤ to → turn.start ≤ stop → IsComing ticks to next turn → IsComing ticks stop next turn
+coming_before ticks to stop next turn le within coming = record {
+  within = within;
+  due = λ lt. coming.due (omega (arith, lt, le));
+  window = λ lt. coming.window (omega (arith, lt, le));
+}
+
 -- ---- the first turns
 
 -- no decision takes place at a tick that is not own
-pub never_found : (table : WindowTable) (p next k : ℕ) (o : Option Turn) → IsTable table → MatchOption o ((own_ticks table p).next_of next ≡ None) (IsTurn table p next) → ((turn : Turn) → o ≡ Some turn → turn.start ≢ next) → next ≡ k
-    → (own_ticks table p).end_at k ≡ None
-never_found table p next k None is found other at =
-    let none : (own_ticks table p).next_of k ≡ None = subst (λ (n : ℕ). (own_ticks table p).next_of n ≡ None) at found in
-    not_own table p k is (λ e. cc (none, e))
-never_found table p next k (Some turn) is found other at =
-    not_own table p k is (λ e.
-    let one : Some turn.start ≡ Some k = sym found.0 ∙ (ap (own_ticks table p).next_of at ∙ e) in
+pub never_found : (plan : WindowPlan) (p next k : ℕ) (o : Option Turn) → IsPlan plan → MatchOption o ((own_ticks plan p).next_of next ≡ None) (IsTurn plan p next) → ((turn : Turn) → o ≡ Some turn → turn.start ≢ next) → next ≡ k
+    → (own_ticks plan p).end_at k ≡ None
+never_found plan p next k None is found other at =
+    let none : (own_ticks plan p).next_of k ≡ None = subst (λ (n : ℕ). (own_ticks plan p).next_of n ≡ None) at found in
+    not_own plan p k is (λ e. cc (none, e))
+never_found plan p next k (Some turn) is found other at =
+    not_own plan p k is (λ e.
+    let one : Some turn.start ≡ Some k = sym found.0 ∙ (ap (own_ticks plan p).next_of at ∙ e) in
     let start : turn.start ≡ k = cc in
     other turn refl (start ∙ sym at))
 
@@ -107,24 +125,68 @@ first_none ticks limits tick to turn s le last never = record {
   gone = sym (still_never ticks limits tick (turn.start - tick) s (λ k from below. never k from (omega (arith, below, last))));
 }
 
+-- nothing is due before the next decision
+pub due_still : (ticks : OwnTicks) (limits : Limits) (tick until : ℕ) (s : State) → s.account.next ≡ Some until → IsStillUntil ticks limits tick until s
+due_still ticks limits tick until s due k from le =
+    still_on ticks limits tick (k - tick) s
+    (λ i after lt. not_due s.account.next tick k i (λ j at later. let same : j ≡ until = cc in omega (arith, same, le)) after (omega (arith, lt, from)))
+
+-- no decision takes place in the run
+pub never_still : (ticks : OwnTicks) (limits : Limits) (tick until : ℕ) (s : State) → ((k : ℕ) → tick ≤ k → k < until → s.account.next ≡ Some k → ticks.end_at k ≡ None) → IsStillUntil ticks limits tick until s
+never_still ticks limits tick until s never k from le = still_never ticks limits tick (k - tick) s (λ i after lt. never i after (omega (arith, lt, from, le)))
+
+-- ticks from a later one on, where nothing happened before it, are ticks from the first one on
+pub gone_late : (ticks : OwnTicks) (limits : Limits) (tick start reached : ℕ) (s : State) → tick ≤ start → start ≤ reached → IsStillUntil ticks limits tick start s
+    → after_ticks ticks limits start (reached - start) s ≡ after_ticks ticks limits tick (reached - tick) s
+gone_late ticks limits tick start reached s from on still =
+    let at : tick + (start - tick) ≡ start = omega (arith, from) in
+    let all : start - tick + (reached - start) ≡ reached - tick = omega (arith, from, on) in
+    let same : start ≤ start = omega arith in
+    ap (after_ticks ticks limits start (reached - start)) (sym (still start from same))
+    ∙ (ap (λ (k : ℕ). after_ticks ticks limits k (reached - start) (after_ticks ticks limits tick (start - tick) s)) (sym at)
+    ∙ (sym (join ticks limits tick (start - tick) (reached - start) s)
+    ∙ ap (λ (n : ℕ). after_ticks ticks limits tick n s) all))
+
+-- a row of one partition up to a tick at which none of the others' turns has begun is so many ticks of each partition
+pub row_each : (plan : WindowPlan) (p tick reached : ℕ) (turns : List Turn) (old new : Whole) → IsWhole old.kept old.accounts → p < length old.accounts
+    → ((q : ℕ) → q < length old.accounts → IsStillUntil (own_ticks plan q) (limits_at q old.kept) tick (turn_at q turns).start (state_at q old))
+    → tick ≤ (turn_at p turns).start → (turn_at p turns).start ≤ reached → ((q : ℕ) → q < length old.accounts → q ≢ p → reached ≤ (turn_at q turns).start)
+    → new ≡ gone_on (own_ticks plan p) p (turn_at p turns).start (reached - (turn_at p turns).start) old
+    → (q : ℕ) → q < length old.accounts → state_at q new ≡ after_ticks (own_ticks plan q) (limits_at q old.kept) tick (reached - tick) (state_at q old)
+row_each plan p tick reached turns old new is lt still from on others gone q below = by (q == p) refl
+  where
+    own : state_at p new ≡ after_ticks (own_ticks plan p) (limits_at p old.kept) tick (reached - tick) (state_at p old)
+    own =
+        ap (state_at p) gone
+        ∙ (state_at-put p _ old is lt ∙ gone_late (own_ticks plan p) (limits_at p old.kept) tick (turn_at p turns).start reached (state_at p old) from on (still p lt))
+
+    by : (b : Bool) → (q == p) ≡ b → state_at q new ≡ after_ticks (own_ticks plan q) (limits_at q old.kept) tick (reached - tick) (state_at q old)
+    by true e =
+        let one : q ≡ p = eqb-true q p e in
+        subst (λ (r : ℕ). state_at r new ≡ after_ticks (own_ticks plan r) (limits_at r old.kept) tick (reached - tick) (state_at r old)) (sym one) own
+    by false e =
+        let differ : q ≢ p = λ one. false≢true (sym e ∙ eq-eqb q p one) in
+        let after : tick ≤ reached = omega (arith, from, on) in
+        ap (state_at q) gone ∙ (state_at-other p q _ old differ ∙ sym (still q below reached after (others q below differ)))
+
 -- ---- the run
 
 -- so many ticks are behind a partition at its next turn
-pub behind_turn : (table : WindowTable) (p : ℕ) (limits : Limits) (tick to : ℕ) (turn : Turn) (s new : State) → IsTable table → table.frame ≤ 1000000 → IsUpTo (own_ticks table p) limits tick to turn s new → IsBehind tick s → IsBehind turn.start new
-behind_turn table p limits tick to turn s new is frame up behind = behind_to table p limits tick turn.start s new is frame up.from up.gone behind
+pub behind_turn : (plan : WindowPlan) (p : ℕ) (limits : Limits) (tick to : ℕ) (turn : Turn) (s new : State) → IsPlan plan → plan.frame ≤ 1000000 → IsUpTo (own_ticks plan p) limits tick to turn s new → IsBehind tick s → IsBehind turn.start new
+behind_turn plan p limits tick to turn s new is frame up behind = behind_to plan p limits tick turn.start s new is frame up.from up.gone behind
 
 -- a partition's turn takes that partition further, and no other one
-pub turned : (table : WindowTable) (p tick to : ℕ) (turns : List Turn) (turn : Turn) (old mid new : Whole) → IsWhole mid.kept mid.accounts → p < length mid.accounts → p < length turns
-    → mid.kept.limits ≡ old.kept.limits → ((q : ℕ) → q < length old.accounts → IsUpTo (own_ticks table q) (limits_at q old.kept) tick to (turn_at q turns) (state_at q old) (state_at q mid))
-    → (turn_at p turns).start < turn.start → IsComing (own_ticks table p) to (account_at p new).account.next turn
-    → new ≡ gone_on (own_ticks table p) p (turn_at p turns).start (turn.start - (turn_at p turns).start) mid
-    → (q : ℕ) → q < length old.accounts → IsUpTo (own_ticks table q) (limits_at q old.kept) tick to (turn_at q (set turns p turn)) (state_at q old) (state_at q new)
-turned table p tick to turns turn old mid new is lt within same each on coming gone q below = by (q == p) refl
+pub turned : (plan : WindowPlan) (p tick to : ℕ) (turns : List Turn) (turn : Turn) (old mid new : Whole) → IsWhole mid.kept mid.accounts → p < length mid.accounts → p < length turns
+    → mid.kept.limits ≡ old.kept.limits → ((q : ℕ) → q < length old.accounts → IsUpTo (own_ticks plan q) (limits_at q old.kept) tick to (turn_at q turns) (state_at q old) (state_at q mid))
+    → (turn_at p turns).start < turn.start → IsComing (own_ticks plan p) to (account_at p new).account.next turn
+    → new ≡ gone_on (own_ticks plan p) p (turn_at p turns).start (turn.start - (turn_at p turns).start) mid
+    → (q : ℕ) → q < length old.accounts → IsUpTo (own_ticks plan q) (limits_at q old.kept) tick to (turn_at q (set turns p turn)) (state_at q old) (state_at q new)
+turned plan p tick to turns turn old mid new is lt within same each on coming gone q below = by (q == p) refl
   where
     limits : limits_at p mid.kept ≡ limits_at p old.kept
     limits = ap (λ (ls : List Limits). limits_at p (record mid.kept { limits = ls })) same
 
-    own : IsUpTo (own_ticks table p) (limits_at p old.kept) tick to (turn_at p turns) (state_at p old) (state_at p mid) → IsUpTo (own_ticks table p) (limits_at p old.kept) tick to turn (state_at p old) (state_at p new)
+    own : IsUpTo (own_ticks plan p) (limits_at p old.kept) tick to (turn_at p turns) (state_at p old) (state_at p mid) → IsUpTo (own_ticks plan p) (limits_at p old.kept) tick to turn (state_at p old) (state_at p new)
     own up =
         let from : tick ≤ (turn_at p turns).start = up.from in
         let at : tick + ((turn_at p turns).start - tick) ≡ (turn_at p turns).start = omega arith in
@@ -135,21 +197,21 @@ turned table p tick to turns turn old mid new is lt within same each on coming g
           gone =
               ap (state_at p) gone
               ∙ (state_at-put p _ mid is lt
-              ∙ (ap (λ (l : Limits). after_ticks (own_ticks table p) l (turn_at p turns).start (turn.start - (turn_at p turns).start) (state_at p mid)) limits
-              ∙ (ap (after_ticks (own_ticks table p) (limits_at p old.kept) (turn_at p turns).start (turn.start - (turn_at p turns).start)) up.gone
-              ∙ (ap (λ (k : ℕ). after_ticks (own_ticks table p) (limits_at p old.kept) k (turn.start - (turn_at p turns).start) (after_ticks (own_ticks table p) (limits_at p old.kept) tick ((turn_at p turns).start - tick) (state_at p old))) (sym at)
-              ∙ (sym (join (own_ticks table p) (limits_at p old.kept) tick ((turn_at p turns).start - tick) (turn.start - (turn_at p turns).start) (state_at p old))
-              ∙ ap (λ (n : ℕ). after_ticks (own_ticks table p) (limits_at p old.kept) tick n (state_at p old)) all)))));
+              ∙ (ap (λ (l : Limits). after_ticks (own_ticks plan p) l (turn_at p turns).start (turn.start - (turn_at p turns).start) (state_at p mid)) limits
+              ∙ (ap (after_ticks (own_ticks plan p) (limits_at p old.kept) (turn_at p turns).start (turn.start - (turn_at p turns).start)) up.gone
+              ∙ (ap (λ (k : ℕ). after_ticks (own_ticks plan p) (limits_at p old.kept) k (turn.start - (turn_at p turns).start) (after_ticks (own_ticks plan p) (limits_at p old.kept) tick ((turn_at p turns).start - tick) (state_at p old))) (sym at)
+              ∙ (sym (join (own_ticks plan p) (limits_at p old.kept) tick ((turn_at p turns).start - tick) (turn.start - (turn_at p turns).start) (state_at p old))
+              ∙ ap (λ (n : ℕ). after_ticks (own_ticks plan p) (limits_at p old.kept) tick n (state_at p old)) all)))));
         }
 
-    by : (b : Bool) → (q == p) ≡ b → IsUpTo (own_ticks table q) (limits_at q old.kept) tick to (turn_at q (set turns p turn)) (state_at q old) (state_at q new)
+    by : (b : Bool) → (q == p) ≡ b → IsUpTo (own_ticks plan q) (limits_at q old.kept) tick to (turn_at q (set turns p turn)) (state_at q old) (state_at q new)
     by true e =
         let one : q ≡ p = eqb-true q p e in
         let here : p < length old.accounts = subst (λ (r : ℕ). r < length old.accounts) one below in
-        subst (λ (r : ℕ). IsUpTo (own_ticks table r) (limits_at r old.kept) tick to (turn_at r (set turns p turn)) (state_at r old) (state_at r new)) (sym one)
-        (subst (λ (t : Turn). IsUpTo (own_ticks table p) (limits_at p old.kept) tick to t (state_at p old) (state_at p new)) (sym (get_or-set_same turns p turn no_turn within)) (own (each p here)))
+        subst (λ (r : ℕ). IsUpTo (own_ticks plan r) (limits_at r old.kept) tick to (turn_at r (set turns p turn)) (state_at r old) (state_at r new)) (sym one)
+        (subst (λ (t : Turn). IsUpTo (own_ticks plan p) (limits_at p old.kept) tick to t (state_at p old) (state_at p new)) (sym (get_or-set_same turns p turn no_turn within)) (own (each p here)))
     by false e =
         let differ : q ≢ p = λ one. false≢true (sym e ∙ eq-eqb q p one) in
         let still : state_at q new ≡ state_at q mid = ap (state_at q) gone ∙ state_at-other p q _ mid differ in
-        subst (λ (t : Turn). IsUpTo (own_ticks table q) (limits_at q old.kept) tick to t (state_at q old) (state_at q new)) (sym (get_or-set_other turns p q turn no_turn differ))
-        (subst (IsUpTo (own_ticks table q) (limits_at q old.kept) tick to (turn_at q turns) (state_at q old)) (sym still) (each q below))
+        subst (λ (t : Turn). IsUpTo (own_ticks plan q) (limits_at q old.kept) tick to t (state_at q old) (state_at q new)) (sym (get_or-set_other turns p q turn no_turn differ))
+        (subst (IsUpTo (own_ticks plan q) (limits_at q old.kept) tick to (turn_at q turns) (state_at q old)) (sym still) (each q below))

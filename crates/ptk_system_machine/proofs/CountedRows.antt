@@ -10,13 +10,14 @@ use Rattle.ptk_words_windows.specs.Windows.{OwnTicks}
 use Rattle.ptk_words_instructions.specs.PlainSteps.{plain_entries}
 use Rattle.ptk_words_model.specs.State.{State}
 use Rattle.ptk_words_model.specs.Run.{is_active, last_of, next_from}
-use Rattle.ptk_words_quiet.specs.Quiet.{AreOwn, core_of, counted_row, row_state, after_ticks}
+use Rattle.ptk_words_quiet.specs.Quiet.{AreOwn, core_of, counted_row, row_state, after_row, after_ticks}
 use Rattle.ptk_words_quiet.proofs.TicksInARow.{row_ticks}
 use Rattle.ptk_trace.specs.KeptSteps.{KeptSteps}
 use Rattle.ptk_kernel.specs.Rows.{IsRow}
 use Rattle.ptk_gate_pools.specs.Kept.{Kept, limits_at, part_at, put_part}
 use Rattle.ptk_system_machine.specs.Accounts.{KeptAccount}
 use Rattle.ptk_system_machine.specs.Whole.{Whole, IsWhole, no_account, state_at, put_state, gone_on}
+use Rattle.ptk_system_machine.proofs.States.{put_part-same, still_whole}
 use Rattle.ptk_system_machine.proofs.Ticks.{gone_none, own_within}
 
 -- the trace of an account
@@ -104,3 +105,20 @@ row_counted ticks p i tick stop n next old new accounts trace seen account is lt
     ∙ (ap (λ (a : KeptAccount). record { kept = new; accounts = set accounts p a }) same
     ∙ row_gone ticks p tick stop n next old new accounts trace is lt due own before within later no some))
     none row e
+
+-- a row leaves the tables and the accounts whole
+pub row_whole : (p i tick n : ℕ) (next : Option ℕ) (old new : Kept) (accounts : List KeptAccount) (trace : KeptSteps) (seen account : KeptAccount)
+    → IsWhole old accounts → i ≡ p → seen ≡ get_or accounts p no_account
+    → (n ≡ 0 → (new ≡ old) × (trace ≡ trace_in seen))
+    → (0 < n → (t : ℕ) × (thread : Thread) × IsRow p tick n t thread old new (trace_in seen) trace)
+    → account ≡ with_row_of next n trace seen → IsWhole new (set accounts i account)
+row_whole p i tick zero next old new accounts trace seen account is place read none row e =
+    let same = none refl in
+    subst (λ (j : ℕ). IsWhole new (set accounts j account)) (sym place)
+    (still_whole p (part_at p old) old new accounts account is (same.0 ∙ sym (put_part-same p old))
+    (ap (λ (a : KeptAccount). a.kept) e ∙ (ap (λ (s : KeptSteps). s.kept) same.1 ∙ ap (λ (a : KeptAccount). a.kept) read)))
+row_whole p i tick (suc m) next old new accounts trace seen account is place read none row e =
+    let made = row (omega arith) in
+    subst (λ (j : ℕ). IsWhole new (set accounts j account)) (sym place)
+    (still_whole p (after_row tick made.0 (suc m) made.1 (part_at p old)) old new accounts account is made.2.moved
+    (ap (λ (a : KeptAccount). a.kept) e ∙ (ap (λ (s : KeptSteps). s.kept) made.2.traced ∙ ap (λ (a : KeptAccount). a.kept) read)))

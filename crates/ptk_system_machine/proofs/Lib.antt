@@ -5,4 +5,4 @@ pub mod States
 pub mod Ticks
 pub mod Coming
 pub mod Costs
-pub mod Blanks
+pub mod StillQuiet

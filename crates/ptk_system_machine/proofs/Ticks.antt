@@ -3,7 +3,7 @@ use Rattle.std.proofs.Common.{◌≡◌, ℕ, zero, suc, ◌+◌, ◌-◌, ◌<�
 use Rattle.std.proofs.Math.ListN.{set}
 use Rattle.std.proofs.lemmas.List.{set-set, get_or-set_same, length-set}
 use Rattle.ptk_words.specs.declared.sections.Limits.{Limits}
-use Rattle.ptk_words_windows.specs.Windows.{WindowTable, OwnTicks, IsTable, own_ticks}
+use Rattle.ptk_words_windows.specs.Windows.{WindowPlan, OwnTicks, IsPlan, own_ticks}
 use Rattle.ptk_words_windows.proofs.OwnLaws.{window_whole}
 use Rattle.std.proofs.lemmas.Bool.{cases_lt}
 use Rattle.ptk_words_model.specs.declared.Spent.{Spent}
@@ -139,13 +139,13 @@ is_due tick o e = rw e (eq-eqb tick tick refl)
 
 -- ---- windows
 
-pub in_window : (table : WindowTable) (p tick end : ℕ) → IsTable table → table.frame ≤ 1000000 → (own_ticks table p).end_at tick ≡ Some end → IsInWindow (own_ticks table p) tick end
-in_window table p tick end is frame ends =
-    let whole = window_whole table p tick end is ends in
-    let near : end ≤ tick + table.frame = whole.1 in
+pub in_window : (plan : WindowPlan) (p tick end : ℕ) → IsPlan plan → plan.frame ≤ 1000000 → (own_ticks plan p).end_at tick ≡ Some end → IsInWindow (own_ticks plan p) tick end
+in_window plan p tick end is frame ends =
+    let whole = window_whole plan p tick end is ends in
+    let near : end ≤ tick + plan.frame = whole.1 in
     record {
       before = whole.0;
-      own = window_own table p tick end is ends;
+      own = window_own plan p tick end is ends;
       ends = whole.2;
       near = omega arith;
     }
@@ -168,67 +168,67 @@ waiting_decided ticks limits tick room from s at =
     ap (λ (o : Option ℕ). record (decided ticks limits tick room s) { account = record (decided ticks limits tick room s).account { next = o } }) next
 
 -- an idle decision, and then ticks up to which the partition has nothing to do
-idle_on : (table : WindowTable) (p : ℕ) (limits : Limits) (tick end from : ℕ) (s : State) → IsTable table → (own_ticks table p).end_at tick ≡ Some end → s.account.next ≡ Some tick → tick + 1 ≤ from
+idle_on : (plan : WindowPlan) (p : ℕ) (limits : Limits) (tick end from : ℕ) (s : State) → IsPlan plan → (own_ticks plan p).end_at tick ≡ Some end → s.account.next ≡ Some tick → tick + 1 ≤ from
     → spent_by_decision limits tick (end - tick) s.part ≡ Idle → IsIdle limits from (after_decision limits tick (end - tick) s.part)
-    → after_ticks (own_ticks table p) limits tick (from - tick) s ≡ waiting_from (own_ticks table p) from (decided (own_ticks table p) limits tick (end - tick) s)
-idle_on table p limits tick end from s is ends due le spent idle =
+    → after_ticks (own_ticks plan p) limits tick (from - tick) s ≡ waiting_from (own_ticks plan p) from (decided (own_ticks plan p) limits tick (end - tick) s)
+idle_on plan p limits tick end from s is ends due le spent idle =
     let all : from - tick ≡ 1 + (from - (tick + 1)) = omega arith in
     let last : tick + 1 + (from - (tick + 1)) ≡ from = omega arith in
-    let next : (decided (own_ticks table p) limits tick (end - tick) s).account.next ≡ next_from (own_ticks table p) (after_decision limits tick (end - tick) s.part).status (tick + 1)
-    = accounted_next (own_ticks table p) limits tick (end - tick) (after_decision limits tick (end - tick) s.part) (spent_by_decision limits tick (end - tick) s.part) s.account
-    ∙ ap (λ (spent : Spent). next_from (own_ticks table p) (after_decision limits tick (end - tick) s.part).status (tick + duration_of (end - tick) spent)) spent in
-    ap (λ (n : ℕ). after_ticks (own_ticks table p) limits tick n s) all
-    ∙ (join (own_ticks table p) limits tick 1 (from - (tick + 1)) s
-    ∙ (ap (after_ticks (own_ticks table p) limits (tick + 1) (from - (tick + 1))) (decided_tick (own_ticks table p) limits tick end s ends (is_due tick s.account.next due))
-    ∙ (idle_ticks table p limits (tick + 1) from (from - (tick + 1)) (decided (own_ticks table p) limits tick (end - tick) s) is idle next (omega arith)
-    ∙ ap (λ (k : ℕ). waiting_from (own_ticks table p) k (decided (own_ticks table p) limits tick (end - tick) s)) last)))
+    let next : (decided (own_ticks plan p) limits tick (end - tick) s).account.next ≡ next_from (own_ticks plan p) (after_decision limits tick (end - tick) s.part).status (tick + 1)
+    = accounted_next (own_ticks plan p) limits tick (end - tick) (after_decision limits tick (end - tick) s.part) (spent_by_decision limits tick (end - tick) s.part) s.account
+    ∙ ap (λ (spent : Spent). next_from (own_ticks plan p) (after_decision limits tick (end - tick) s.part).status (tick + duration_of (end - tick) spent)) spent in
+    ap (λ (n : ℕ). after_ticks (own_ticks plan p) limits tick n s) all
+    ∙ (join (own_ticks plan p) limits tick 1 (from - (tick + 1)) s
+    ∙ (ap (after_ticks (own_ticks plan p) limits (tick + 1) (from - (tick + 1))) (decided_tick (own_ticks plan p) limits tick end s ends (is_due tick s.account.next due))
+    ∙ (idle_ticks plan p limits (tick + 1) from (from - (tick + 1)) (decided (own_ticks plan p) limits tick (end - tick) s) is idle next (omega arith)
+    ∙ ap (λ (k : ℕ). waiting_from (own_ticks plan p) k (decided (own_ticks plan p) limits tick (end - tick) s)) last)))
 
 -- a decision, and then ticks up to the next one
-pub decided_on : (table : WindowTable) (p tick end room from to last : ℕ) (old new : Whole) → IsTable table → IsWhole old.kept old.accounts → p < length old.accounts → (own_ticks table p).end_at tick ≡ Some end → room ≡ end - tick
+pub decided_on : (plan : WindowPlan) (p tick end room from to last : ℕ) (old new : Whole) → IsPlan plan → IsWhole old.kept old.accounts → p < length old.accounts → (own_ticks plan p).end_at tick ≡ Some end → room ≡ end - tick
     → 1 ≤ duration_of room (spent_by_decision (limits_at p old.kept) tick room (part_at p old.kept))
     → (account_at p old).account.next ≡ Some tick → tick < to → (from ≤ last → from ≤ to) → ((k : ℕ) → (account_at p new).account.next ≡ Some k → to ≤ k)
     → IsFreeFrom (limits_at p old.kept) tick room (spent_by_decision (limits_at p old.kept) tick room (part_at p old.kept)) last (after_decision (limits_at p old.kept) tick room (part_at p old.kept)) from
-    → new ≡ put_state p (waiting_from (own_ticks table p) from (decided (own_ticks table p) (limits_at p old.kept) tick room (state_at p old))) old → new ≡ gone_on (own_ticks table p) p tick (to - tick) old
-decided_on table p tick end room from to last old new is whole lt ends room_is some due later far before free decision = by (cases_lt (tick + duration_of room (spent_by_decision (limits_at p old.kept) tick room (part_at p old.kept))) from)
+    → new ≡ put_state p (waiting_from (own_ticks plan p) from (decided (own_ticks plan p) (limits_at p old.kept) tick room (state_at p old))) old → new ≡ gone_on (own_ticks plan p) p tick (to - tick) old
+decided_on plan p tick end room from to last old new is whole lt ends room_is some due later far before free decision = by (cases_lt (tick + duration_of room (spent_by_decision (limits_at p old.kept) tick room (part_at p old.kept))) from)
   where
     behind : tick + duration_of room (spent_by_decision (limits_at p old.kept) tick room (part_at p old.kept)) ≤ from
     behind = free.behind
 
     by : (tick + duration_of room (spent_by_decision (limits_at p old.kept) tick room (part_at p old.kept)) < from) ⊎ (from ≤ tick + duration_of room (spent_by_decision (limits_at p old.kept) tick room (part_at p old.kept)))
-        → new ≡ gone_on (own_ticks table p) p tick (to - tick) old
+        → new ≡ gone_on (own_ticks plan p) p tick (to - tick) old
     by (inl less) =
         let idle = free.idle less in
-        let way : after_ticks (own_ticks table p) (limits_at p old.kept) tick (from - tick) (state_at p old) ≡ waiting_from (own_ticks table p) from (decided (own_ticks table p) (limits_at p old.kept) tick room (state_at p old))
+        let way : after_ticks (own_ticks plan p) (limits_at p old.kept) tick (from - tick) (state_at p old) ≡ waiting_from (own_ticks plan p) from (decided (own_ticks plan p) (limits_at p old.kept) tick room (state_at p old))
         = subst (λ (k : ℕ). spent_by_decision (limits_at p old.kept) tick k (part_at p old.kept) ≡ Idle → IsIdle (limits_at p old.kept) from (after_decision (limits_at p old.kept) tick k (part_at p old.kept))
-        → after_ticks (own_ticks table p) (limits_at p old.kept) tick (from - tick) (state_at p old) ≡ waiting_from (own_ticks table p) from (decided (own_ticks table p) (limits_at p old.kept) tick k (state_at p old))) (sym room_is)
-        (idle_on table p (limits_at p old.kept) tick end from (state_at p old) is ends due (omega (arith, less, some))) idle.0 idle.2 in
-        gone_further (own_ticks table p) p tick from to old new new whole lt (omega (arith, less, some)) (far idle.1)
+        → after_ticks (own_ticks plan p) (limits_at p old.kept) tick (from - tick) (state_at p old) ≡ waiting_from (own_ticks plan p) from (decided (own_ticks plan p) (limits_at p old.kept) tick k (state_at p old))) (sym room_is)
+        (idle_on plan p (limits_at p old.kept) tick end from (state_at p old) is ends due (omega (arith, less, some))) idle.0 idle.2 in
+        gone_further (own_ticks plan p) p tick from to old new new whole lt (omega (arith, less, some)) (far idle.1)
         (decision ∙ ap (λ (u : State). put_state p u old) (sym way))
-        (gone_still (own_ticks table p) p from to new (λ k at le. before k at) (far idle.1))
+        (gone_still (own_ticks plan p) p from to new (λ k at le. before k at) (far idle.1))
     by (inr past) =
         let at : from ≡ tick + duration_of room (spent_by_decision (limits_at p old.kept) tick room (part_at p old.kept)) = omega (arith, behind, past) in
         let one : 1 ≡ tick + 1 - tick = omega arith in
-        let way : after_ticks (own_ticks table p) (limits_at p old.kept) tick 1 (state_at p old) ≡ decided (own_ticks table p) (limits_at p old.kept) tick room (state_at p old)
-        = decided_tick (own_ticks table p) (limits_at p old.kept) tick end (state_at p old) ends (is_due tick (account_at p old).account.next due)
-        ∙ ap (λ (k : ℕ). decided (own_ticks table p) (limits_at p old.kept) tick k (state_at p old)) (sym room_is) in
-        gone_further (own_ticks table p) p tick (tick + 1) to old new new whole lt (omega arith) (omega arith)
+        let way : after_ticks (own_ticks plan p) (limits_at p old.kept) tick 1 (state_at p old) ≡ decided (own_ticks plan p) (limits_at p old.kept) tick room (state_at p old)
+        = decided_tick (own_ticks plan p) (limits_at p old.kept) tick end (state_at p old) ends (is_due tick (account_at p old).account.next due)
+        ∙ ap (λ (k : ℕ). decided (own_ticks plan p) (limits_at p old.kept) tick k (state_at p old)) (sym room_is) in
+        gone_further (own_ticks plan p) p tick (tick + 1) to old new new whole lt (omega arith) (omega arith)
         (decision
-        ∙ (ap (λ (u : State). put_state p u old) (waiting_decided (own_ticks table p) (limits_at p old.kept) tick room from (state_at p old) at ∙ sym way)
-        ∙ ap (λ (k : ℕ). gone_on (own_ticks table p) p tick k old) one))
-        (gone_still (own_ticks table p) p (tick + 1) to new (λ k at le. before k at) (omega arith))
+        ∙ (ap (λ (u : State). put_state p u old) (waiting_decided (own_ticks plan p) (limits_at p old.kept) tick room from (state_at p old) at ∙ sym way)
+        ∙ ap (λ (k : ℕ). gone_on (own_ticks plan p) p tick k old) one))
+        (gone_still (own_ticks plan p) p (tick + 1) to new (λ k at le. before k at) (omega arith))
 
 -- so many ticks more are behind a partition
-pub behind_to : (table : WindowTable) (p : ℕ) (limits : Limits) (tick to : ℕ) (s new : State) → IsTable table → table.frame ≤ 1000000 → tick ≤ to → new ≡ after_ticks (own_ticks table p) limits tick (to - tick) s
+pub behind_to : (plan : WindowPlan) (p : ℕ) (limits : Limits) (tick to : ℕ) (s new : State) → IsPlan plan → plan.frame ≤ 1000000 → tick ≤ to → new ≡ after_ticks (own_ticks plan p) limits tick (to - tick) s
     → IsBehind tick s → IsBehind to new
-behind_to table p limits tick to s new is frame le gone behind =
+behind_to plan p limits tick to s new is frame le gone behind =
     let at : tick + (to - tick) ≡ to = omega arith in
     subst (IsBehind to) (sym gone)
-    (subst (λ (k : ℕ). IsBehind k (after_ticks (own_ticks table p) limits tick (to - tick) s)) at
-    (behind_on (own_ticks table p) limits tick (to - tick) s
-    (λ k end from below ends. let near : end ≤ k + table.frame = (window_whole table p k end is ends).1 in omega arith) behind))
+    (subst (λ (k : ℕ). IsBehind k (after_ticks (own_ticks plan p) limits tick (to - tick) s)) at
+    (behind_on (own_ticks plan p) limits tick (to - tick) s
+    (λ k end from below ends. let near : end ≤ k + plan.frame = (window_whole plan p k end is ends).1 in omega arith) behind))
 
 -- so many ticks of it are behind the partition
-pub gone_behind : (table : WindowTable) (p tick to : ℕ) (old new : Whole) → IsTable table → table.frame ≤ 1000000 → IsWhole old.kept old.accounts → p < length old.accounts → tick ≤ to
-    → new ≡ gone_on (own_ticks table p) p tick (to - tick) old → IsBehind tick (state_at p old) → IsBehind to (state_at p new)
-gone_behind table p tick to old new is frame whole lt le gone behind =
-    behind_to table p (limits_at p old.kept) tick to (state_at p old) (state_at p new) is frame le (ap (state_at p) gone ∙ state_at-put p _ old whole lt) behind
+pub gone_behind : (plan : WindowPlan) (p tick to : ℕ) (old new : Whole) → IsPlan plan → plan.frame ≤ 1000000 → IsWhole old.kept old.accounts → p < length old.accounts → tick ≤ to
+    → new ≡ gone_on (own_ticks plan p) p tick (to - tick) old → IsBehind tick (state_at p old) → IsBehind to (state_at p new)
+gone_behind plan p tick to old new is frame whole lt le gone behind =
+    behind_to plan p (limits_at p old.kept) tick to (state_at p old) (state_at p new) is frame le (ap (state_at p) gone ∙ state_at-put p _ old whole lt) behind

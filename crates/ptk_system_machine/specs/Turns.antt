@@ -34,6 +34,10 @@ pub record IsUpTo (ticks : OwnTicks) (limits : Limits) (tick to : ℕ) (turn : T
   pub coming : IsComing ticks to new.account.next turn
   pub gone : new ≡ after_ticks ticks limits tick (turn.start - tick) old
 
+-- in a run from a tick nothing happens to a partition in this state before another tick (own)
+abbrev pub IsStillUntil : OwnTicks → Limits → ℕ → ℕ → State → Type 0
+IsStillUntil ticks limits tick until s = (k : ℕ) → tick ≤ k → k ≤ until → after_ticks ticks limits tick (k - tick) s ≡ s
+
 -- the turn past the last partition's
 abbrev pub no_turn : Turn
 no_turn = record { start = 0; end = 0 }

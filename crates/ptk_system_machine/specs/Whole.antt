@@ -1,6 +1,6 @@
 -- The states of all partitions at once.
 use Rattle.std.specs.Prelude.{◌≡◌, ℕ, ◌<◌, ◌≤◌, List, None, All, length, slice_index_or, slice_set}
-use Rattle.ptk_words_windows.specs.Windows.{WindowTable, OwnTicks, own_ticks}
+use Rattle.ptk_words_windows.specs.Windows.{WindowPlan, OwnTicks, own_ticks}
 use Rattle.ptk_words_model.specs.State.{State}
 use Rattle.ptk_words_model.specs.Run.{next_from}
 use Rattle.ptk_words_quiet.specs.Quiet.{after_ticks}
@@ -42,15 +42,15 @@ pub record IsWhole (kept : Kept) (accounts : List KeptAccount) : Type 0 where
   pub limits : length kept.limits ≡ length accounts
   pub traces : (p : ℕ) → p < length accounts → (slice_index_or accounts p no_account).kept ≡ (limits_at p kept).trace
 
--- the windows are those of so many partitions, in a frame of a configuration's range
-pub record AreWindowsOf (parts : ℕ) (table : WindowTable) : Type 0 where
-  pub frame : table.frame ≤ 1000000
-  pub known : All (λ w. w.partition < parts) table.windows
+-- the plan's windows are those of so many partitions, in a frame of a configuration's range
+pub record AreWindowsOf (parts : ℕ) (plan : WindowPlan) : Type 0 where
+  pub frame : plan.frame ≤ 1000000
+  pub known : All (λ stage. All (λ w. w.partition < parts) stage.windows) plan.stages
 
 -- a partition's account before its first decision
-abbrev pub first_account_of : WindowTable → Kept → ℕ → KeptAccount
-first_account_of table kept p =
+abbrev pub first_account_of : WindowPlan → Kept → ℕ → KeptAccount
+first_account_of plan kept p =
     record {
-      account = first_account (next_from (own_ticks table p) (part_at p kept).status 0);
+      account = first_account (next_from (own_ticks plan p) (part_at p kept).status 0);
       kept = (limits_at p kept).trace;
     }

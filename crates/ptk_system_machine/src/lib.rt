@@ -2,7 +2,7 @@
 //! on turn after turn, each of one partition in one window, by rows of plain steps and by single decisions, and where a
 //! partition has nothing to do at once to the tick up to which that is so. It promises that it does to each partition what
 //! so many ticks of the definition do to that partition alone (`Machine::run`). Below stand the kernel and the window
-//! table; the system stands above. Dear to prove: that in a run each partition may be at a tick of its own
+//! plan; the system stands above. Dear to prove: that in a run each partition may be at a tick of its own
 //! (`proofs/Coming`), that a decision and the ticks up to the next one are so many ticks (`proofs/Ticks`), and that a row
 //! is counted as so many decisions (`proofs/CountedRows`).
 #![tactic(auto)]
@@ -13,4 +13,4 @@ mod turns;
 
 pub use account::Account;
 pub use machine::Machine;
-pub use ptk_kernel::Tables;
+pub use ptk_kernel::{Tables, idle_until};

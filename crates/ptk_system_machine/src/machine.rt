@@ -8,7 +8,7 @@ ghost use Rattle.ptk_system_machine.specs.Whole.{IsWhole, account_at, first_acco
 
 use crate::account::Account;
 use ptk_kernel::Tables;
-use ptk_window::{Near, WindowTable};
+use ptk_window::{Near, WindowPlan};
 use ptk_words::{Limits, PartId, Status, Tick};
 use std::alloc::{AllocError, Global};
 use std::marker::Model;
@@ -37,7 +37,7 @@ impl Machine {
         alloc: Global,
         tables: Tables,
         limits: &[Limits],
-        windows: &WindowTable,
+        plan: &WindowPlan,
     ) -> Result<Machine, AllocError>
         requires few { length limits.now ≤ 8 }
         requires limits { tables.limits ≡ limits.now }
@@ -45,9 +45,9 @@ impl Machine {
         ensures tables { IfOk result (λ machine. machine.kept ≡ tables) }
         ensures count { IfOk result (λ machine. length machine.accounts ≡ length limits.now) }
         ensures accounts { IfOk result (λ machine. (p : ℕ) → p < length limits.now →
-            account_at p machine ≡ first_account_of windows.now tables p) }
+            account_at p machine ≡ first_account_of plan.now tables p) }
     {
-        let accounts = first_accounts(alloc, &tables, limits, windows)?;
+        let accounts = first_accounts(alloc, &tables, limits, plan)?;
         Ok(Machine { tables, accounts })
     }
 
@@ -84,19 +84,19 @@ fn first_accounts(
     alloc: Global,
     tables: &Tables,
     limits: &[Limits],
-    windows: &WindowTable,
+    plan: &WindowPlan,
 ) -> Result<Vec<Account>, AllocError>
     requires few { length limits.now ≤ 8 }
     requires limits { tables.now.limits ≡ limits.now }
     ensures count { IfOk result (λ accounts. length accounts.items ≡ length limits.now) }
     ensures each { IfOk result (λ accounts. (p : ℕ) → p < length limits.now →
-        slice_index_or accounts.items p no_account ≡ first_account_of windows.now tables.now p) }
+        slice_index_or accounts.items p no_account ≡ first_account_of plan.now tables.now p) }
 {
     let mut accounts = Vec::new(alloc);
     for i in 0..limits.len() {
         let p = PartId::new(i as u8);
         let mut near = Near::new();
-        let next = next_from(windows, p, tables.status(p), Tick::new(0), &mut near);
+        let next = next_from(plan, p, tables.status(p), Tick::new(0), &mut near);
         accounts.push(Account::new(alloc, next, limits[i].trace)?)?;
     }
     Ok(accounts)
@@ -106,17 +106,17 @@ fn first_accounts(
 /// among its windows.
 #[inline]
 pub(crate) fn next_from(
-    windows: &WindowTable,
+    plan: &WindowPlan,
     p: PartId,
     status: Status,
     tick: Tick,
     near: &mut Near,
 ) -> Option<Tick>
     requires { tick ≤ 2 ^ 41 }
-    ensures { result ≡ next_from (own_ticks windows.now p) status tick }
+    ensures { result ≡ next_from (own_ticks plan.now p) status tick }
 {
     if is_active(status) {
-        match windows.turn_from(p, tick, near) {
+        match plan.turn_from(p, tick, near) {
             Some(turn) => Some(turn.start),
             None => None,
         }

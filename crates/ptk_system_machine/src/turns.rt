@@ -1,22 +1,23 @@
 //! How all partitions go on: turn after turn, each within one window, by rows of plain steps and by single decisions.
 
-ghost use Rattle.std.specs.Prelude.{◌≡◌, ◌<◌, ◌≤◌, ◌^◌, ◌+◌, ◌-◌, ℕ, All, None, Some, IfSome, MatchOption, length, min};
+ghost use Rattle.std.specs.Prelude.{◌≡◌, ◌<◌, ◌≤◌, ◌≢◌, ◌^◌, ◌+◌, ◌-◌, ℕ, All, None, Some, IfSome, MatchOption, length, min};
 ghost use Rattle.ptk_words.specs.declared.TheConstants.{LAST_TICK};
 ghost use Rattle.ptk_words_windows.specs.Windows.{own_ticks};
 ghost use Rattle.ptk_words_model.specs.Run.{next_from};
 ghost use Rattle.ptk_words_quiet.specs.Quiet.{after_ticks};
 ghost use Rattle.ptk_words_quiet.specs.Idle.{IsIdle};
 ghost use Rattle.ptk_gate_pools.specs.Kept.{limits_at, part_at};
+ghost use Rattle.ptk_kernel.specs.Rows.{IsStill};
 ghost use Rattle.ptk_kernel.specs.Spending.{cost_in};
 ghost use Rattle.ptk_system_machine.specs.Accounts.{IsBehind};
-ghost use Rattle.ptk_system_machine.specs.Turns.{IsComing, IsFreeFrom, IsInWindow, IsUpTo, turn_at};
+ghost use Rattle.ptk_system_machine.specs.Turns.{IsComing, IsFreeFrom, IsInWindow, IsStillUntil, IsUpTo, turn_at};
 ghost use Rattle.ptk_system_machine.specs.Whole.{AreWindowsOf, account_at, gone_on, state_at};
 
 use crate::account::duration;
 use crate::machine::{Machine, is_active};
-use ptk_kernel::{Tables, compute, decide, idle_until, last_step};
+use ptk_kernel::{Quiet, Tables, compute, decide, idle_until, last_step, quiet_until, reply};
 use ptk_trace_rows::BATCH;
-use ptk_window::{Near, Turn, WindowTable};
+use ptk_window::{Near, Turn, WindowPlan};
 use ptk_words::{Entry, PartId, Status, Tick};
 use ptk_words_model::Spent;
 
@@ -27,50 +28,91 @@ impl Machine {
     /// Goes on from a tick to `to`: turn after turn, always the partition's that decides next. To each partition it does
     /// what so many ticks would do to that partition alone. `batch` is room for entries on their way into a trace, of
     /// which nothing is told.
-    pub fn run(&mut self, windows: &WindowTable, tick: Tick, to: Tick, batch: &mut [Entry; BATCH])
-        requires windows { AreWindowsOf (length self.old.accounts) windows.now }
+    pub fn run(&mut self, plan: &WindowPlan, tick: Tick, to: Tick, batch: &mut [Entry; BATCH])
+        requires windows { AreWindowsOf (length self.old.accounts) plan.now }
         requires order { tick ≤ to }
         requires time { to ≤ LAST_TICK }
         requires behind { (p : ℕ) → p < length self.old.accounts → IsBehind tick (state_at p self.old) }
         ensures parts { length self.new.accounts ≡ length self.old.accounts }
         ensures limits { self.new.kept.limits ≡ self.old.kept.limits }
         ensures each { (q : ℕ) → q < length self.old.accounts →
-            state_at q self.new ≡ after_ticks (own_ticks windows.now q) (limits_at q self.old.kept) tick (to - tick) (state_at q self.old) }
+            state_at q self.new ≡ after_ticks (own_ticks plan.now q) (limits_at q self.old.kept) tick (to - tick) (state_at q self.old) }
     {
-        windows.is_table();
-        let mut turns = self.first_turns(windows, tick, to);
+        plan.is_plan();
+        let mut turns = self.first_turns(plan, tick, to);
         while let Some(p) = next_due(&turns[..self.parts()], to) {
-            turns[p.index()] = self.turn(windows, p, turns[p.index()], to, batch);
+            turns[p.index()] = self.turn(plan, p, turns[p.index()], to, batch);
         }
     }
 
-    /// Each partition's first turn in a run, which goes on from a tick to `to`.
-    fn first_turns(&mut self, windows: &WindowTable, tick: Tick, to: Tick) -> [Turn; PARTS]
+    /// Goes on from a tick by plain steps and quiet calls of the partition that decides next, up to `to` at most,
+    /// and before any other decision. Answers the tick that it came to. To each partition it does what so many ticks would
+    /// do to that partition alone. `batch` is room for entries on their way into a trace, of which nothing is told.
+    pub fn run_row(
+        &mut self,
+        plan: &WindowPlan,
+        tick: Tick,
+        to: Tick,
+        batch: &mut [Entry; BATCH],
+    ) -> Tick
+        requires windows { AreWindowsOf (length self.old.accounts) plan.now }
         requires order { tick ≤ to }
         requires time { to ≤ LAST_TICK }
-        requires windows { AreWindowsOf (length self.old.accounts) windows.now }
+        requires behind { (p : ℕ) → p < length self.old.accounts → IsBehind tick (state_at p self.old) }
+        ensures from { tick ≤ result }
+        ensures within { result ≤ to }
+        ensures parts { length self.new.accounts ≡ length self.old.accounts }
+        ensures limits { self.new.kept.limits ≡ self.old.kept.limits }
+        ensures each { (q : ℕ) → q < length self.old.accounts →
+            state_at q self.new ≡ after_ticks (own_ticks plan.now q) (limits_at q self.old.kept) tick (result - tick) (state_at q self.old) }
+    {
+        plan.is_plan();
+        let turns = self.first_turns(plan, tick, to);
+        let Some(p) = next_due(&turns[..self.parts()], to) else {
+            return to;
+        };
+        let first = turns[p.index()];
+        let stop = first_other(
+            &turns[..self.parts()],
+            p,
+            Tick::new(to.ticks().min(first.end.ticks())),
+        );
+        if stop.ticks() <= first.start.ticks() {
+            return first.start;
+        }
+        self.rows(plan, p, first, stop, batch).start
+    }
+
+    /// Each partition's first turn in a run, which goes on from a tick to `to`.
+    fn first_turns(&mut self, plan: &WindowPlan, tick: Tick, to: Tick) -> [Turn; PARTS]
+        requires order { tick ≤ to }
+        requires time { to ≤ LAST_TICK }
+        requires windows { AreWindowsOf (length self.old.accounts) plan.now }
         ensures same { self.new ≡ self.old }
         ensures each { (q : ℕ) → q < length self.old.accounts →
-            IsUpTo (own_ticks windows.now q) (limits_at q self.old.kept) tick to (turn_at q result) (state_at q self.old) (state_at q self.old) }
+            IsUpTo (own_ticks plan.now q) (limits_at q self.old.kept) tick to (turn_at q result) (state_at q self.old) (state_at q self.old) }
+        ensures still { (q : ℕ) → q < length self.old.accounts →
+            IsStillUntil (own_ticks plan.now q) (limits_at q self.old.kept) tick (turn_at q result).start (state_at q self.old) }
     {
         let mut turns = [Turn { start: to, end: to }; PARTS];
         let parts = self.parts();
         for i in 0..parts {
-            turns[i] = self.first_turn(windows, PartId::new(i as u8), tick, to);
+            turns[i] = self.first_turn(plan, PartId::new(i as u8), tick, to);
         }
         turns
     }
 
     /// The partition's first turn in a run, which goes on from a tick to `to`.
-    fn first_turn(&mut self, windows: &WindowTable, p: PartId, tick: Tick, to: Tick) -> Turn
+    fn first_turn(&mut self, plan: &WindowPlan, p: PartId, tick: Tick, to: Tick) -> Turn
         requires partition { p < length self.old.accounts }
         requires order { tick ≤ to }
         requires time { to ≤ LAST_TICK }
-        requires windows { AreWindowsOf (length self.old.accounts) windows.now }
+        requires windows { AreWindowsOf (length self.old.accounts) plan.now }
         ensures same { self.new ≡ self.old }
-        ensures first { IsUpTo (own_ticks windows.now p) (limits_at p self.old.kept) tick to result (state_at p self.old) (state_at p self.old) }
+        ensures first { IsUpTo (own_ticks plan.now p) (limits_at p self.old.kept) tick to result (state_at p self.old) (state_at p self.old) }
+        ensures still { IsStillUntil (own_ticks plan.now p) (limits_at p self.old.kept) tick result.start (state_at p self.old) }
     {
-        match self.due_turn(windows, p, tick, to) {
+        match self.due_turn(plan, p, tick, to) {
             Some(turn) => turn,
             None => Turn { start: to, end: to },
         }
@@ -78,18 +120,18 @@ impl Machine {
 
     /// The turn that begins with the partition's next decision, where that is from the tick on and before `to`. None where
     /// it is not, or is at a tick that is not the partition's own, at which it never takes place.
-    fn due_turn(&mut self, windows: &WindowTable, p: PartId, tick: Tick, to: Tick) -> Option<Turn>
+    fn due_turn(&mut self, plan: &WindowPlan, p: PartId, tick: Tick, to: Tick) -> Option<Turn>
         requires partition { p < length self.old.accounts }
         requires time { to ≤ LAST_TICK }
-        requires frame { windows.now.frame ≤ 1000000 }
+        requires frame { plan.now.frame ≤ 1000000 }
         ensures same { self.new ≡ self.old }
         ensures turn { MatchOption result
-            ((k : ℕ) → tick ≤ k → k < to → (account_at p self.old).account.next ≡ Some k → (own_ticks windows.now p).end_at k ≡ None)
+            ((k : ℕ) → tick ≤ k → k < to → (account_at p self.old).account.next ≡ Some k → (own_ticks plan.now p).end_at k ≡ None)
             (λ turn. (tick ≤ turn.start) × (turn.start < to)
             × ((account_at p self.old).account.next ≡ Some turn.start)
-            × IsInWindow (own_ticks windows.now p) turn.start turn.end) }
+            × IsInWindow (own_ticks plan.now p) turn.start turn.end) }
     {
-        windows.is_table();
+        plan.is_plan();
         let Some(next) = self.account(p).next() else {
             return None;
         };
@@ -97,7 +139,7 @@ impl Machine {
             return None;
         }
         let near = &mut self.accounts[p.index()].near;
-        let Some(turn) = windows.turn_from(p, next, near) else {
+        let Some(turn) = plan.turn_from(p, next, near) else {
             return None;
         };
         if turn.start.ticks() != next.ticks() {
@@ -110,29 +152,29 @@ impl Machine {
     /// turn.
     fn turn(
         &mut self,
-        windows: &WindowTable,
+        plan: &WindowPlan,
         p: PartId,
         turn: Turn,
         to: Tick,
         batch: &mut [Entry; BATCH],
     ) -> Turn
         requires partition { p < length self.old.accounts }
-        requires windows { AreWindowsOf (length self.old.accounts) windows.now }
+        requires windows { AreWindowsOf (length self.old.accounts) plan.now }
         requires time { to ≤ LAST_TICK }
         requires due { turn.start < to }
-        requires coming { IsComing (own_ticks windows.now p) to (account_at p self.old).account.next turn }
+        requires coming { IsComing (own_ticks plan.now p) to (account_at p self.old).account.next turn }
         requires behind { IsBehind turn.start (state_at p self.old) }
         ensures on { turn.start < result.start }
         ensures reached { min turn.end to ≤ result.start }
-        ensures coming { IsComing (own_ticks windows.now p) to (account_at p self.new).account.next result }
-        ensures gone { self.new ≡ gone_on (own_ticks windows.now p) p turn.start (result.start - turn.start) self.old }
+        ensures coming { IsComing (own_ticks plan.now p) to (account_at p self.new).account.next result }
+        ensures gone { self.new ≡ gone_on (own_ticks plan.now p) p turn.start (result.start - turn.start) self.old }
     {
         let _parts = self.parts();
-        windows.is_table();
+        plan.is_plan();
         let stop = turn.end.ticks().min(to.ticks());
         let mut now = turn;
         while now.start.ticks() < stop {
-            now = self.go_on(windows, p, now, to, batch);
+            now = self.go_on(plan, p, now, to, batch);
         }
         now
     }
@@ -141,88 +183,202 @@ impl Machine {
     /// after them where the turn's end and `to` still lie ahead. Answers its next turn.
     fn go_on(
         &mut self,
-        windows: &WindowTable,
+        plan: &WindowPlan,
         p: PartId,
         turn: Turn,
         to: Tick,
         batch: &mut [Entry; BATCH],
     ) -> Turn
         requires partition { p < length self.old.accounts }
-        requires windows { AreWindowsOf (length self.old.accounts) windows.now }
+        requires windows { AreWindowsOf (length self.old.accounts) plan.now }
         requires time { to ≤ LAST_TICK }
         requires due { turn.start < to }
-        requires coming { IsComing (own_ticks windows.now p) to (account_at p self.old).account.next turn }
+        requires coming { IsComing (own_ticks plan.now p) to (account_at p self.old).account.next turn }
         requires behind { IsBehind turn.start (state_at p self.old) }
         ensures on { turn.start < result.start }
-        ensures coming { IsComing (own_ticks windows.now p) to (account_at p self.new).account.next result }
-        ensures gone { self.new ≡ gone_on (own_ticks windows.now p) p turn.start (result.start - turn.start) self.old }
+        ensures coming { IsComing (own_ticks plan.now p) to (account_at p self.new).account.next result }
+        ensures gone { self.new ≡ gone_on (own_ticks plan.now p) p turn.start (result.start - turn.start) self.old }
     {
         let _parts = self.parts();
-        windows.is_table();
-        let stop = Tick::new(turn.end.ticks().min(to.ticks()));
-        let next = self.row(windows, p, turn, stop, to, batch);
-        if next.start.ticks() < stop.ticks() {
-            self.decide(windows, p, next, to)
+        plan.is_plan();
+        let end = Tick::new(turn.end.ticks().min(to.ticks()));
+        let next = self.rows(plan, p, turn, to, batch);
+        if next.start.ticks() < end.ticks() {
+            self.decide(plan, p, next, to)
         } else {
             next
         }
     }
 
-    /// Plain steps of the partition in a row, the first at its next decision, with which the turn begins, each in place
-    /// of a decision and counted as one: as many as come before `stop`, which is not after the turn's end. Answers the next turn, which is the same,
-    /// and nothing changes, where the next decision is not a plain step of a quiet partition.
-    #[tactic(auto, using(crate::proofs::States::states))]
-    fn row(
+    /// Plain steps of the partition and quiet calls, the first at its next decision, with which the turn
+    /// begins, each in place of a decision and counted as one: as many as come before the turn's end and before `to`. What
+    /// else may come is asked once, before the first. Answers the next turn, which is the same, and nothing changes, where
+    /// the next decision is no such step of a quiet partition.
+    fn rows(
         &mut self,
-        windows: &WindowTable,
+        plan: &WindowPlan,
         p: PartId,
         turn: Turn,
-        stop: Tick,
         to: Tick,
         batch: &mut [Entry; BATCH],
     ) -> Turn
         requires partition { p < length self.old.accounts }
-        requires frame { windows.now.frame ≤ 1000000 }
+        requires windows { AreWindowsOf (length self.old.accounts) plan.now }
         requires time { to ≤ LAST_TICK }
-        requires order { turn.start < stop }
-        requires end { stop ≤ turn.end }
-        requires within { stop ≤ to }
-        requires coming { IsComing (own_ticks windows.now p) to (account_at p self.old).account.next turn }
+        requires due { turn.start < to }
+        requires order { turn.start < turn.end }
+        requires coming { IsComing (own_ticks plan.now p) to (account_at p self.old).account.next turn }
         requires behind { IsBehind turn.start (state_at p self.old) }
         ensures from { turn.start ≤ result.start }
-        ensures coming { IsComing (own_ticks windows.now p) to (account_at p self.new).account.next result }
-        ensures gone { self.new ≡ gone_on (own_ticks windows.now p) p turn.start (result.start - turn.start) self.old }
+        ensures coming { IsComing (own_ticks plan.now p) to (account_at p self.new).account.next result }
+        ensures gone { self.new ≡ gone_on (own_ticks plan.now p) p turn.start (result.start - turn.start) self.old }
+    {
+        let _parts = self.parts();
+        plan.is_plan();
+        let stop = Tick::new(turn.end.ticks().min(to.ticks()));
+        match quiet_until(&self.tables, p, turn.start, stop) {
+            Some(quiet) => self.rows_on(plan, p, turn, quiet, to, batch),
+            None => turn,
+        }
+    }
+
+    /// Plain steps of a quiet partition and quiet calls, as `rows` tells of them, before its stop.
+    fn rows_on(
+        &mut self,
+        plan: &WindowPlan,
+        p: PartId,
+        turn: Turn,
+        quiet: Quiet,
+        to: Tick,
+        batch: &mut [Entry; BATCH],
+    ) -> Turn
+        requires partition { p < length self.old.accounts }
+        requires windows { AreWindowsOf (length self.old.accounts) plan.now }
+        requires time { to ≤ LAST_TICK }
+        requires order { turn.start < quiet.stop }
+        requires end { quiet.stop ≤ turn.end }
+        requires within { quiet.stop ≤ to }
+        requires quiet { IsStill p turn.start quiet self.old.kept }
+        requires coming { IsComing (own_ticks plan.now p) to (account_at p self.old).account.next turn }
+        requires behind { IsBehind turn.start (state_at p self.old) }
+        ensures from { turn.start ≤ result.start }
+        ensures coming { IsComing (own_ticks plan.now p) to (account_at p self.new).account.next result }
+        ensures gone { self.new ≡ gone_on (own_ticks plan.now p) p turn.start (result.start - turn.start) self.old }
+    {
+        let _parts = self.parts();
+        plan.is_plan();
+        let stop = quiet.stop.ticks();
+        let mut now = turn;
+        let mut is_going = true;
+        while is_going {
+            let next = self.row(plan, p, now, &quiet, to, batch);
+            let reached = next.start.ticks();
+            now = self.reply(plan, p, next, &quiet, to);
+            is_going = reached < now.start.ticks() && now.start.ticks() < stop;
+        }
+        now
+    }
+
+    /// Plain steps of a quiet partition in a row, the first at its next decision, with which the turn begins, each in
+    /// place of a decision and counted as one: as many as come before its stop. Answers the next turn, which is the same,
+    /// and nothing changes, where the next step is not plain. The partition is as quiet as it was.
+    #[tactic(auto, using(crate::proofs::States::states))]
+    fn row(
+        &mut self,
+        plan: &WindowPlan,
+        p: PartId,
+        turn: Turn,
+        quiet: &Quiet,
+        to: Tick,
+        batch: &mut [Entry; BATCH],
+    ) -> Turn
+        requires partition { p < length self.old.accounts }
+        requires frame { plan.now.frame ≤ 1000000 }
+        requires time { to ≤ LAST_TICK }
+        requires order { turn.start < quiet.now.stop }
+        requires end { quiet.now.stop ≤ turn.end }
+        requires within { quiet.now.stop ≤ to }
+        requires quiet { IsStill p turn.start quiet.now self.old.kept }
+        requires coming { IsComing (own_ticks plan.now p) to (account_at p self.old).account.next turn }
+        requires behind { IsBehind turn.start (state_at p self.old) }
+        ensures from { turn.start ≤ result.start }
+        ensures coming { IsComing (own_ticks plan.now p) to (account_at p self.new).account.next result }
+        ensures gone { self.new ≡ gone_on (own_ticks plan.now p) p turn.start (result.start - turn.start) self.old }
+        ensures still { result.start < quiet.now.stop → IsStill p result.start quiet.now self.new.kept }
     {
         let Turn { start, end } = turn;
         let account = &mut self.accounts[p.index()];
-        let steps = compute(&mut self.tables, p, start, stop, &mut account.trace, batch);
+        let steps = compute(
+            &mut self.tables,
+            p,
+            *quiet,
+            start,
+            &mut account.trace,
+            batch,
+        );
         let reached = Tick::new(start.ticks() + u64::from(steps));
-        let (next, end) = next_turn(windows, p, Status::Active, reached, end, &mut account.near);
+        let (next, end) = next_turn(plan, p, Status::Active, reached, end, &mut account.near);
         account.count_row(next, steps);
+        coming(account.next(), end, to)
+    }
+
+    /// The decision of a quiet partition with which its turn begins, where that is a quiet call and ends at
+    /// the partition's stop or before. Answers the next turn, which is the same, and nothing changes, where it is any
+    /// other or the turn begins at that stop or later. The partition is as quiet as it was.
+    #[tactic(auto, using(crate::proofs::States::states))]
+    fn reply(&mut self, plan: &WindowPlan, p: PartId, turn: Turn, quiet: &Quiet, to: Tick) -> Turn
+        requires partition { p < length self.old.accounts }
+        requires frame { plan.now.frame ≤ 1000000 }
+        requires time { to ≤ LAST_TICK }
+        requires end { turn.start < quiet.now.stop → quiet.now.stop ≤ turn.end }
+        requires within { quiet.now.stop ≤ to }
+        requires quiet { turn.start < quiet.now.stop → IsStill p turn.start quiet.now self.old.kept }
+        requires coming { IsComing (own_ticks plan.now p) to (account_at p self.old).account.next turn }
+        requires behind { IsBehind turn.start (state_at p self.old) }
+        ensures from { turn.start ≤ result.start }
+        ensures coming { IsComing (own_ticks plan.now p) to (account_at p self.new).account.next result }
+        ensures gone { self.new ≡ gone_on (own_ticks plan.now p) p turn.start (result.start - turn.start) self.old }
+        ensures still { result.start < quiet.now.stop → IsStill p result.start quiet.now self.new.kept }
+    {
+        plan.is_plan();
+        let Turn { start, end } = turn;
+        if quiet.stop.ticks() <= start.ticks() {
+            return turn;
+        }
+        let ticks = reply(&mut self.tables, p, *quiet, start);
+        if ticks == 0 {
+            return turn;
+        }
+        let last = last_step(&self.tables, p);
+        let room = (end.ticks() - start.ticks()) as u32;
+        let account = &mut self.accounts[p.index()];
+        let reached = Tick::new(start.ticks() + u64::from(ticks));
+        let (next, end) = next_turn(plan, p, Status::Active, reached, end, &mut account.near);
+        account.count(next, room, Spent::Step(ticks), last);
         coming(account.next(), end, to)
     }
 
     /// The decision of a partition with which its turn begins. Answers its next turn.
     #[tactic(auto, using(crate::proofs::States::states))]
-    fn decide(&mut self, windows: &WindowTable, p: PartId, turn: Turn, to: Tick) -> Turn
+    fn decide(&mut self, plan: &WindowPlan, p: PartId, turn: Turn, to: Tick) -> Turn
         requires partition { p < length self.old.accounts }
-        requires frame { windows.now.frame ≤ 1000000 }
+        requires frame { plan.now.frame ≤ 1000000 }
         requires time { to ≤ LAST_TICK }
         requires due { turn.start < to }
-        requires coming { IsComing (own_ticks windows.now p) to (account_at p self.old).account.next turn }
+        requires coming { IsComing (own_ticks plan.now p) to (account_at p self.old).account.next turn }
         requires behind { IsBehind turn.start (state_at p self.old) }
         ensures on { turn.start < result.start }
-        ensures coming { IsComing (own_ticks windows.now p) to (account_at p self.new).account.next result }
-        ensures gone { self.new ≡ gone_on (own_ticks windows.now p) p turn.start (result.start - turn.start) self.old }
+        ensures coming { IsComing (own_ticks plan.now p) to (account_at p self.new).account.next result }
+        ensures gone { self.new ≡ gone_on (own_ticks plan.now p) p turn.start (result.start - turn.start) self.old }
     {
-        windows.is_table();
+        plan.is_plan();
         let Turn { start, end } = turn;
         let room = (end.ticks() - start.ticks()) as u32;
         let spent = decide(&mut self.tables, p, start, room);
         let from = free_from(&self.tables, p, start, room, spent, to);
         let (status, last) = (self.tables.status(p), last_step(&self.tables, p));
         let account = &mut self.accounts[p.index()];
-        let (next, end) = next_turn(windows, p, status, from, end, &mut account.near);
+        let (next, end) = next_turn(plan, p, status, from, end, &mut account.near);
         account.count(next, room, spent, last);
         coming(account.next(), end, to)
     }
@@ -278,6 +434,20 @@ fn next_due(turns: &[Turn], to: Tick) -> Option<PartId>
     first
 }
 
+/// The tick at which the first of the other partitions' turns begins, `stop` where none begins before.
+fn first_other(turns: &[Turn], p: PartId, stop: Tick) -> Tick
+    ensures within { result ≤ stop }
+    ensures each { (q : ℕ) → q < length turns.now → q ≢ p → result ≤ (turn_at q turns.now).start }
+{
+    let mut first = stop;
+    for (place, turn) in turns.iter().enumerate() {
+        if place != p.index() && turn.start.ticks() < first.ticks() {
+            first = turn.start;
+        }
+    }
+    first
+}
+
 /// The turn that begins with this next decision, in a window with this end, where that is before `to`.
 fn coming(next: Option<Tick>, end: Tick, to: Tick) -> Turn
     ensures within { result.start ≤ to }
@@ -296,28 +466,28 @@ fn coming(next: Option<Tick>, end: Tick, to: Tick) -> Turn
 /// found among its windows.
 #[inline(always)]
 fn next_turn(
-    windows: &WindowTable,
+    plan: &WindowPlan,
     p: PartId,
     status: Status,
     tick: Tick,
     end: Tick,
     near: &mut Near,
 ) -> (Option<Tick>, Tick)
-    requires frame { windows.now.frame ≤ 1000000 }
+    requires frame { plan.now.frame ≤ 1000000 }
     requires time { tick ≤ 2 ^ 41 }
-    requires window { tick < end → IsInWindow (own_ticks windows.now p) tick end }
-    ensures next { result.0 ≡ next_from (own_ticks windows.now p) status tick }
+    requires window { tick < end → IsInWindow (own_ticks plan.now p) tick end }
+    ensures next { result.0 ≡ next_from (own_ticks plan.now p) status tick }
     ensures from { IfSome result.0 (λ next. tick ≤ next) }
-    ensures window { IfSome result.0 (λ next. IsInWindow (own_ticks windows.now p) next result.1) }
+    ensures window { IfSome result.0 (λ next. IsInWindow (own_ticks plan.now p) next result.1) }
 {
-    windows.is_table();
+    plan.is_plan();
     if !is_active(status) {
         return (None, end);
     }
     if tick.ticks() < end.ticks() {
         return (Some(tick), end);
     }
-    match windows.turn_from(p, tick, near) {
+    match plan.turn_from(p, tick, near) {
         Some(turn) => (Some(turn.start), turn.end),
         None => (None, end),
     }

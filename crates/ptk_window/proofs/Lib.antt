@@ -1,6 +1,7 @@
-pub mod Pairs
 pub mod Permuted
 pub mod Orders
 pub mod Searches
-pub mod Found
+pub mod Pairs
+pub mod StageLaws
 pub mod Nexts
+pub mod Found

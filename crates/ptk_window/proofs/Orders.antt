@@ -1,12 +1,12 @@
--- The windows of a table, sorted, stand in the orders of the look-ups.
+-- The windows of a stage, sorted, stand in the orders of the look-ups.
 use Rattle.std.proofs.Common.{◌≡◌, ℕ, zero, suc, ◌+◌, ◌-◌, ◌<◌, ◌≤◌, List, length, get_or, None, All, AllPairs, IsPermutation, IsSortedByKey, nat_cmp, sym, subst, inl, inr, arith, add-zero}
 use Rattle.std.specs.List.Sorted.{IsNonDecreasingBy}
 use Rattle.std.proofs.lemmas.Bool.{cases_lt}
 use Rattle.std.proofs.lemmas.List.Sorted.{All-permutation, IsNonDecreasingBy-from_sort, IsPermutation-trans}
 use Rattle.ptk_words_windows.specs.declared.window.Window.{Window}
 use Rattle.ptk_words_windows.specs.WindowFaults.{window_fault}
-use Rattle.ptk_words_windows.specs.Windows.{WindowTable, Holds, IsTable}
-use Rattle.ptk_words_windows.proofs.FaultLaws.{accepted}
+use Rattle.ptk_words_windows.specs.Windows.{Holds, IsTable}
+use Rattle.ptk_words_windows.proofs.FaultLaws.{accepted_table}
 use Rattle.ptk_words_windows.proofs.Places.{Fits}
 use Rattle.ptk_words_windows.proofs.OwnLaws.{all_fit}
 use Rattle.ptk_window.specs.Order.{AreInOrder, AreGrouped, IsKept}
@@ -57,10 +57,9 @@ grouped frame ws fit apart groups ties i j d before below = (
 
 pub kept : (frame parts : ℕ) (given starts groups : List Window) → window_fault frame parts given ≡ None → IsPermutation given starts → IsSortedByKey (λ (w : Window). w.start) nat_cmp starts → IsPermutation starts groups → IsNonDecreasingBy (λ (w : Window). w.partition) groups → TiesRise groups → IsKept frame given starts groups
 kept frame parts given starts groups fine by_start sorted by_partition parted ties =
-    let table : WindowTable = record { frame = frame; windows = given } in
-    let is : IsTable table = (accepted frame parts given fine).0 in
+    let is : IsTable frame given = (accepted_table frame parts given fine).0 in
     let moved = IsPermutation-trans given starts groups by_start by_partition in
-    let fit : All (Fits frame) given = all_fit table is in
+    let fit : All (Fits frame) given = all_fit frame given is in
     let turn = λ (v w : Window) (apart : Apart v w) (place : ℕ) (in_w : Holds w place) (in_v : Holds v place). apart place in_v in_w in
     record {
       table = is;

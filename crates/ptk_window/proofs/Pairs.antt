@@ -1,8 +1,8 @@
 -- A walk over a list from an index on.
-use Rattle.std.proofs.Common.{◌≡◌, ℕ, zero, suc, ◌+◌, ◌<◌, ◌≤◌, Bool, true, false, List, [], ◌∷◌, length, drop, get_or, Option, Some, None, sym, ◌∙◌, arith, add-one}
+use Rattle.std.proofs.Common.{◌≡◌, ℕ, zero, suc, ◌+◌, ◌<◌, ◌≤◌, Bool, true, false, ◌||◌, List, [], ◌∷◌, length, drop, map, get_or, Option, Some, None, refl, sym, ap, ◌∙◌, arith, add-one}
 use Rattle.std.specs.List.{list_any}
 use Rattle.std.proofs.lemmas.List.{drop_all}
-use Rattle.ptk_words_windows.specs.WindowFaults.{some_pair, first_fault}
+use Rattle.ptk_words_windows.specs.WindowFaults.{some_pair, first_fault, earlier}
 
 drop-at : {A : Type 0} (xs : List A) (i : ℕ) (x : A) → i < length xs → x ≡ get_or xs i x → drop i xs ≡ x ∷ drop (i + 1) xs
 drop-at [] i x within is = absurd (omega arith)
@@ -41,3 +41,20 @@ first_fault-end f xs i whole past so_far =
     let step : first_fault f (drop i xs) ≡ None = rw (drop_all i xs past) in sym so_far ∙ step
 
 pub ruleset pairs = (some_pair-more, some_pair-found, some_pair-end, first_fault-more, first_fault-found, first_fault-end)
+
+-- ---- over what a map gives
+list_any-map : {A B : Type 0} (test : B → Bool) (f : A → B) (xs : List A) → list_any test (map f xs) ≡ list_any (λ x. test (f x)) xs
+list_any-map test f [] = refl
+list_any-map test f (x ∷ xs) = ap (λ (b : Bool). test (f x) || b) (list_any-map test f xs)
+
+pub some_pair-map : {A B : Type 0} (r : B → B → Bool) (f : A → B) (xs : List A) → some_pair r (map f xs) ≡ some_pair (λ x y. r (f x) (f y)) xs
+some_pair-map r f [] = refl
+some_pair-map r f (x ∷ xs) =
+    ap (λ (b : Bool). b || some_pair r (map f xs)) (list_any-map (r (f x)) f xs)
+    ∙ ap (λ (b : Bool). list_any (λ y. r (f x) (f y)) xs || b) (some_pair-map r f xs)
+
+pub first_fault-map : {A B E : Type 0} (g : B → Option E) (f : A → B) (xs : List A) → first_fault g (map f xs) ≡ first_fault (λ x. g (f x)) xs
+first_fault-map g f [] = refl
+first_fault-map {E = E} g f (x ∷ xs) = ap (λ (o : Option E). earlier (g (f x)) o) (first_fault-map g f xs)
+
+pub ruleset mapped = (some_pair-map, first_fault-map)

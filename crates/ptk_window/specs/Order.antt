@@ -1,7 +1,7 @@
--- The orders in which a table's windows are looked up, and how an answer is told to each partition.
+-- The orders in which a stage's windows are looked up, and how an answer is told to each partition.
 use Rattle.std.specs.Prelude.{◌≡◌, ℕ, ◌+◌, ◌<◌, ◌≤◌, ◌==◌, ◌&&◌, ◌||◌, nat_lt, nat_le, Bool, List, length, slice_index_or, Option, Some, None, if◌then◌else◌, All, AllPairs, IsPermutation}
 use Rattle.ptk_words_windows.specs.declared.window.Window.{Window}
-use Rattle.ptk_words_windows.specs.Windows as windows
+use Rattle.ptk_words_windows.specs.Windows.{IsTable}
 
 -- each window ends before the next begins
 abbrev pub AreInOrder : List Window → Type 0
@@ -12,10 +12,6 @@ abbrev pub AreGrouped : List Window → Type 0
 AreGrouped =
     AllPairs (λ v w. (v.partition ≤ w.partition) × (v.partition ≡ w.partition → v.start + v.length ≤ w.start))
 
--- the windows have ticks and lie in the frame
-abbrev pub LieIn : ℕ → List Window → Type 0
-LieIn frame = All (λ w. (0 < w.length) × (w.start + w.length ≤ frame))
-
 -- at i stands the partition's first window that ends after the place in the frame
 pub record IsFirstAfter (windows : List Window) (p place i : ℕ) : Type 0 where
   pub window : Window
@@ -25,9 +21,15 @@ pub record IsFirstAfter (windows : List Window) (p place i : ℕ) : Type 0 where
   pub after : place < window.start + window.length
   pub before : (k : ℕ) (d : Window) → k < i → (slice_index_or windows k d).partition ≡ p → (slice_index_or windows k d).start + (slice_index_or windows k d).length ≤ place
 
+-- at i stands the partition's first window
+pub record IsFirst (windows : List Window) (p i : ℕ) : Type 0 where
+  pub within : i < length windows
+  pub own : (d : Window) → (slice_index_or windows i d).partition ≡ p
+  pub first : (k : ℕ) (d : Window) → k < i → ¬ ((slice_index_or windows k d).partition ≡ p)
+
 -- the windows are a table, and the two lists have them in their orders
 pub record IsKept (frame : ℕ) (given by_start by_partition : List Window) : Type 0 where
-  pub table : windows.IsTable (record { frame = frame; windows = given })
+  pub table : IsTable frame given
   pub starts : IsPermutation given by_start
   pub in_order : AreInOrder by_start
   pub groups : IsPermutation given by_partition

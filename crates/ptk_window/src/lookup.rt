@@ -54,18 +54,6 @@ pub(crate) fn holder(by_start: &[Window], place: u64) -> Option<Window>
     }
 }
 
-/// The partition's first window that ends after the place in the frame.
-pub(crate) fn first_after(by_partition: &[Window], partition: PartId, place: u64) -> Option<Window>
-    requires { AreGrouped by_partition.now }
-    ensures { MatchOption result
-        (All (λ w. w.partition ≡ partition → w.start + w.length ≤ place) by_partition.now)
-        (λ w. Contains by_partition.now w × (w.partition ≡ partition) × (place < w.start + w.length)
-        × All (λ v. v.partition ≡ partition → place < v.start + v.length → w.start ≤ v.start) by_partition.now) }
-{
-    let found = place_after(by_partition, partition, place)?;
-    Some(by_partition[found])
-}
-
 /// Where the partition's first window stands that ends after the place in the frame.
 pub(crate) fn place_after(by_partition: &[Window], partition: PartId, place: u64) -> Option<usize>
     requires { AreGrouped by_partition.now }

@@ -1,9 +1,12 @@
 //! Where a partition was last found among its windows, and how it goes on from there.
 
-ghost use Rattle.std.specs.Prelude.{◌≡◌, ◌≢◌, ℕ, ◌+◌, ◌%◌, ◌^◌, ◌<◌, ◌≤◌, length, slice_index_or, IsTrue, All, MatchBool};
-ghost use Rattle.ptk_window.specs.Order.{AreGrouped, LieIn};
+ghost use Rattle.std.specs.Prelude.{◌≡◌, ℕ, ◌+◌, ◌*◌, ◌%◌, ◌^◌, ◌<◌, ◌≤◌, length, slice_index_or, IsTrue, All, MatchBool};
+ghost use Rattle.ptk_words_windows.specs.Windows.{IsOwn};
+ghost use Rattle.ptk_window.specs.Stages.{ArePlanned, HasTick, from_at, groups_at, plan_of};
 
 use crate::lookup::place_after;
+use crate::stages::{end_of, stage_at};
+use crate::table::Table;
 use ptk_words::{PartId, Tick};
 use ptk_words_windows::Window;
 
@@ -19,17 +22,17 @@ pub struct Turn {
 /// Where a partition was last found among its windows: at one of them, in one of the frames that repeat.
 ///
 /// It decides how fast the next look-up is and never what it answers, so nothing is promised of its value: a look-up
-/// tests whether it fits the table and the partition.
+/// tests whether it fits the plan and the partition.
 #[derive(Clone, Copy, Debug)]
 pub struct Near {
     /// How many ticks a frame has, 0 for a place that helps no look-up.
     frame: u32,
     /// The tick at which the frame begins.
     frame_start: u64,
-    /// Where the window stands among all, by partition.
+    /// The stage whose windows the frame has.
+    stage: usize,
+    /// Where the window stands among the stage's, by partition.
     place: usize,
-    /// Where the partition's first window stands there.
-    first: usize,
     ghost aligned: { frame_start % frame ≡ 0 },
 }
 
@@ -41,8 +44,8 @@ impl Near {
         Near {
             frame: 0,
             frame_start: 0,
+            stage: 0,
             place: 0,
-            first: 0,
         }
     }
 
@@ -51,17 +54,20 @@ impl Near {
     #[inline(always)]
     pub(crate) fn goes_on(
         &mut self,
-        windows: &[Window],
+        tables: &[Table],
         frame: u32,
         partition: PartId,
         tick: Tick,
     ) -> bool
-        requires grouped { AreGrouped windows.now }
-        requires within { LieIn frame windows.now }
+        requires planned { ArePlanned frame tables.now }
         requires time { tick ≤ 2 ^ 41 }
-        ensures { IsTrue result → IsNextFrom frame windows.now partition tick self.new }
+        ensures { IsTrue result → IsNextFrom frame tables.now partition tick self.new }
     {
-        if self.frame != frame || tick.ticks() < self.frame_start || windows.len() <= self.place {
+        if self.frame != frame || tick.ticks() < self.frame_start || !self.is_in_stage(tables) {
+            return false;
+        }
+        let windows = tables[self.stage].by_partition.as_slice();
+        if windows.len() <= self.place {
             return false;
         }
         let window = windows[self.place];
@@ -71,114 +77,176 @@ impl Near {
         if tick.ticks() < self.frame_start + window.end() {
             return self.frame_start + u64::from(window.start) <= tick.ticks();
         }
-        self.moves_on(windows, partition, tick)
+        self.moves_on(tables, partition, tick)
+    }
+
+    /// Whether the stage here has the frame here.
+    #[inline(always)]
+    fn is_in_stage(&self, tables: &[Table]) -> bool
+        ensures within { IsTrue result → self.now.stage < length tables.now }
+        ensures has { IsTrue result → (frame : ℕ) → ArePlanned frame tables.now → HasTick frame tables.now self.now.stage self.now.frame_start }
+    {
+        self.stage < tables.len()
+            && tables[self.stage].begin() <= self.frame_start
+            && self.frame_start < end_of(tables, self.stage)
     }
 
     /// Goes from the partition's window here, which ended by the tick, to the next one: that after it, or the
     /// first in the next frame. False where that one ended by the tick too.
-    fn moves_on(&mut self, windows: &[Window], partition: PartId, tick: Tick) -> bool
-        requires grouped { AreGrouped windows.now }
-        requires within { LieIn self.old.frame windows.now }
+    fn moves_on(&mut self, tables: &[Table], partition: PartId, tick: Tick) -> bool
+        requires planned { ArePlanned self.old.frame tables.now }
         requires time { tick ≤ 2 ^ 41 }
         requires begun { self.old.frame_start ≤ tick }
-        requires place { self.old.place < length windows.now }
-        requires own { (d : Window) → (slice_index_or windows.now self.old.place d).partition ≡ partition }
+        requires has { HasTick self.old.frame tables.now self.old.stage self.old.frame_start }
+        requires place { self.old.place < length (groups_at tables.now self.old.stage) }
+        requires own { (d : Window) → (slice_index_or (groups_at tables.now self.old.stage) self.old.place d).partition ≡ partition }
         requires ended { (d : Window) → self.old.frame_start
-            + ((slice_index_or windows.now self.old.place d).start + (slice_index_or windows.now self.old.place d).length) ≤ tick }
-        ensures { IsTrue result → IsNextFrom self.old.frame windows.now partition tick self.new }
+            + ((slice_index_or (groups_at tables.now self.old.stage) self.old.place d).start
+            + (slice_index_or (groups_at tables.now self.old.stage) self.old.place d).length) ≤ tick }
+        ensures { IsTrue result → IsNextFrom self.old.frame tables.now partition tick self.new }
     {
+        let windows = tables[self.stage].by_partition.as_slice();
         let next = self.place + 1;
         if next < windows.len() && windows[next].partition == partition {
             self.place = next;
             return tick.ticks() < self.frame_start + windows[next].end();
         }
-        self.begins_anew(windows, partition, tick)
+        self.begins_anew(tables, partition, tick)
     }
 
     /// Goes to the partition's first window in the next frame, where all in this one ended by the tick. False where
     /// that one ended by the tick too, or no such window is known.
-    fn begins_anew(&mut self, windows: &[Window], partition: PartId, tick: Tick) -> bool
-        requires grouped { AreGrouped windows.now }
+    fn begins_anew(&mut self, tables: &[Table], partition: PartId, tick: Tick) -> bool
+        requires planned { ArePlanned self.old.frame tables.now }
         requires time { tick ≤ 2 ^ 41 }
         requires begun { self.old.frame_start ≤ tick }
-        requires ended { All (λ w. w.partition ≡ partition → self.old.frame_start + (w.start + w.length) ≤ tick) windows.now }
-        ensures { IsTrue result → IsNextFrom self.old.frame windows.now partition tick self.new }
+        requires has { HasTick self.old.frame tables.now self.old.stage self.old.frame_start }
+        requires ended { All (λ w. w.partition ≡ partition → self.old.frame_start + (w.start + w.length) ≤ tick)
+            (groups_at tables.now self.old.stage) }
+        ensures { IsTrue result → IsNextFrom self.old.frame tables.now partition tick self.new }
     {
-        if !is_first(windows, partition, self.first) {
+        let frame_start = self.frame_start + u64::from(self.frame);
+        let stage = self.next_stage(tables, frame_start);
+        let Some(place) = tables[stage].first_of(partition) else {
             return false;
-        }
-        self.place = self.first;
-        self.frame_start += u64::from(self.frame);
-        tick.ticks() < self.frame_start + windows[self.place].end()
+        };
+        let windows = tables[stage].by_partition.as_slice();
+        *self = Near {
+            frame: self.frame,
+            frame_start,
+            stage,
+            place,
+        };
+        tick.ticks() < frame_start + windows[place].end()
     }
 
-    /// Goes to the partition's next window from the tick on, which it finds by halves. False where it has no window.
+    /// The stage that has the next frame, which begins at the tick.
+    #[inline(always)]
+    fn next_stage(&self, tables: &[Table], next: u64) -> usize
+        requires planned { ArePlanned self.now.frame tables.now }
+        requires has { HasTick self.now.frame tables.now self.now.stage self.now.frame_start }
+        requires next { next ≡ self.now.frame_start + self.now.frame }
+        requires room { next < 18446744073709551615 }
+        ensures { HasTick self.now.frame tables.now result next }
+    {
+        if next < end_of(tables, self.stage) {
+            self.stage
+        } else {
+            self.stage + 1
+        }
+    }
+
+    /// Goes to the partition's next window from the tick on, which it finds by halves. False where it has none from
+    /// there on.
     #[cold]
     #[inline(never)]
     pub(crate) fn search(
         &mut self,
-        windows: &[Window],
+        tables: &[Table],
         frame: u32,
         partition: PartId,
         tick: Tick,
     ) -> bool
-        requires grouped { AreGrouped windows.now }
-        requires within { LieIn frame windows.now }
-        requires frame { 0 < frame }
+        requires planned { ArePlanned frame tables.now }
         requires time { tick ≤ 2 ^ 41 }
         ensures { MatchBool result
-            (IsNextFrom frame windows.now partition tick self.new)
-            (All (λ w. w.partition ≢ partition) windows.now) }
+            (IsNextFrom frame tables.now partition tick self.new)
+            ((k : ℕ) → tick ≤ k → ¬ IsOwn (plan_of frame tables.now) partition k) }
     {
-        let Some(first) = place_after(windows, partition, 0) else {
-            return false;
-        };
+        let stage = stage_at(tables, frame, tick);
         let offset = tick.ticks() % u64::from(frame);
         let frame_start = tick.ticks() - offset;
-        if let Some(place) = place_after(windows, partition, offset) {
+        if let Some(place) = place_after(&tables[stage].by_partition, partition, offset) {
             *self = Near {
                 frame,
                 frame_start,
+                stage,
                 place,
-                first,
             };
             return true;
         }
-        *self = Near {
+        self.search_later(
+            tables,
             frame,
-            frame_start: frame_start + u64::from(frame),
-            place: first,
-            first,
-        };
-        true
+            partition,
+            stage,
+            frame_start + u64::from(frame),
+        )
+    }
+
+    /// Goes to the partition's first window in the frames from that which begins at the tick on, in this stage or a
+    /// later one. False where it has none there.
+    fn search_later(
+        &mut self,
+        tables: &[Table],
+        frame: u32,
+        partition: PartId,
+        stage: usize,
+        from: u64,
+    ) -> bool
+        requires planned { ArePlanned frame tables.now }
+        requires time { from ≤ 2 ^ 42 }
+        requires aligned { from % frame ≡ 0 }
+        requires stage { stage < length tables.now }
+        requires begun { from_at tables.now stage * frame ≤ from }
+        ensures next { MatchBool result
+            (IsNextFrom frame tables.now partition from self.new)
+            ((k : ℕ) → from ≤ k → ¬ IsOwn (plan_of frame tables.now) partition k) }
+        ensures later { IsTrue result → from ≤ self.new.frame_start }
+    {
+        for later in stage..tables.len() {
+            let frame_start = from.max(tables[later].begin());
+            if end_of(tables, later) <= frame_start {
+                continue;
+            }
+            if let Some(place) = place_after(&tables[later].by_partition, partition, 0) {
+                *self = Near {
+                    frame,
+                    frame_start,
+                    stage: later,
+                    place,
+                };
+                return true;
+            }
+        }
+        false
     }
 
     /// From the tick on, the ticks of the window here.
     #[inline(always)]
-    pub(crate) fn turn(&self, windows: &[Window], tick: Tick) -> Turn
-        requires place { self.now.place < length windows.now }
+    pub(crate) fn turn(&self, tables: &[Table], tick: Tick) -> Turn
+        requires stage { self.now.stage < length tables.now }
+        requires place { self.now.place < length (groups_at tables.now self.now.stage) }
         requires room { (d : Window) → self.now.frame_start
-            + ((slice_index_or windows.now self.now.place d).start + (slice_index_or windows.now self.now.place d).length) < 2 ^ 64 }
-        ensures { IsTurnAt windows.now tick self.now result }
+            + ((slice_index_or (groups_at tables.now self.now.stage) self.now.place d).start
+            + (slice_index_or (groups_at tables.now self.now.stage) self.now.place d).length) < 2 ^ 64 }
+        ensures { IsTurnAt tables.now tick self.now result }
     {
-        let window = windows[self.place];
+        let window = tables[self.stage].by_partition[self.place];
         let start = self.frame_start + u64::from(window.start);
         Turn {
             start: Tick::new(tick.ticks().max(start)),
             end: Tick::new(self.frame_start + window.end()),
         }
     }
-}
-
-/// Whether the partition's first window stands there.
-fn is_first(windows: &[Window], partition: PartId, place: usize) -> bool
-    requires { AreGrouped windows.now }
-    ensures within { IsTrue result → place < length windows.now }
-    ensures own { IsTrue result → (d : Window) → (slice_index_or windows.now place d).partition ≡ partition }
-    ensures others { IsTrue result → (k : ℕ) (d : Window) → k < place → (slice_index_or windows.now k d).partition ≢ partition }
-{
-    if windows.len() <= place || windows[place].partition != partition {
-        return false;
-    }
-    place == 0 || windows[place - 1].partition != partition
 }

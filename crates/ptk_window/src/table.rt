@@ -1,148 +1,107 @@
-//! The window table.
+//! The windows of a stage, in the orders in which they are looked up.
 
-use crate::faults::window_fault;
-use crate::lookup::{by_partition, by_start, first_after, holder};
-use crate::near::{Near, Turn};
-use ptk_words::{PartId, Tick};
-use ptk_words_windows::{Window, WindowFault};
-use std::alloc::Global;
-use std::marker::Model;
-
-/// Windows that lie in a frame, which repeats, each a known partition's, no two with a common tick.
-/// Beside the windows as given it keeps them in the two orders in which its look-ups halve them.
-#[derive(Debug, Drop)]
-pub struct WindowTable {
-    frame: u32,
-    windows: Vec<Window>,
-    by_start: Vec<Window>,
-    by_partition: Vec<Window>,
-}
-
-impl Model for WindowTable {
-    ghost use Rattle.ptk_words_windows.specs.Windows as table;
-    ghost use Rattle.ptk_window.specs.Order.{IsKept};
-
-    ghost Value = { table.WindowTable };
-
-    ghost view = { λ a. record { frame = a.frame; windows = a.windows.items } };
-
-    ghost invariant = { λ a. IsKept a.frame a.windows.items a.by_start.items a.by_partition.items };
-}
-
-ghost use Rattle.std.specs.Prelude.{◌≡◌, ◌≢◌, ℕ, ◌+◌, ◌^◌, ◌<◌, ◌≤◌, None, Some, IfSome, IfOk, IfErr, MatchOption};
+ghost use Rattle.std.specs.Prelude.{◌≡◌, ℕ, ◌+◌, ◌*◌, ◌≤◌, None, IfSome, IfOk, IsTrue, length, slice_index_or};
 ghost use Rattle.ptk_words_windows.specs.WindowFaults.{window_fault};
-ghost use Rattle.ptk_words_windows.specs.Windows.{IsOwn, IsFirstOwn, IsOwnUntil, IsTable, own_ticks};
-ghost use Rattle.ptk_window.specs.Order.{end_of};
-ghost use Rattle.ptk_window.specs.Turn.{IsTurn, IsSoon};
+ghost use Rattle.ptk_window.specs.Order.{AreGrouped, IsFirst, IsKept};
 
-impl WindowTable {
-    /// The table of these windows, for so many partitions.
-    ///
-    /// Answers the first fault: no window (1); of the first faulty window a length below 16 (2), an end after the
-    /// frame (4) or a partition that is not below `parts` (5); then two windows with a common tick (3). Refused
-    /// memory is fault 6.
-    pub fn new(
+use crate::lookup::{by_partition, by_start};
+use ptk_words::PartId;
+use ptk_words_windows::Window;
+use std::alloc::{AllocError, Global};
+
+/// The windows that a frame has from some frame on. Beside the windows as given it keeps them in the two orders in
+/// which the look-ups halve them.
+#[derive(Debug, Drop)]
+pub(crate) struct Table {
+    /// How many ticks a frame has.
+    pub(crate) frame: u32,
+    /// The number of the first frame that has these windows.
+    pub(crate) from: u64,
+    /// The windows as they were given.
+    pub(crate) windows: Vec<Window>,
+    /// The windows by their starts.
+    pub(crate) by_start: Vec<Window>,
+    /// The windows by partition, each partition's by their starts.
+    pub(crate) by_partition: Vec<Window>,
+    /// By partition, where its first window stands by partition. It decides how fast a look-up is and never what it
+    /// answers, so nothing is promised of it: a look-up tests it.
+    firsts: Vec<usize>,
+    ghost short: { frame ≤ 1000000 },
+    ghost early: { from ≤ 68719476736 },
+    ghost grouped: { AreGrouped by_partition.items },
+}
+
+impl Table {
+    /// The windows of a frame from the frame of this number on. An error where memory ran out.
+    pub(crate) fn new(
         alloc: Global,
         frame: u32,
         parts: usize,
+        from: u64,
         windows: &[Window],
-    ) -> Result<WindowTable, WindowFault>
-        ensures none { IfOk result (λ _. window_fault frame parts windows.now ≡ None) }
-        ensures value { IfOk result (λ t. t ≡ record { frame = frame; windows = windows.now }) }
-        ensures fault { IfErr result (λ e. e ≢ WindowFault.Memory → window_fault frame parts windows.now ≡ Some e) }
+    ) -> Result<Table, AllocError>
+        requires frame { frame ≤ 1000000 }
+        requires from { from ≤ 68719476736 }
+        requires fine { window_fault frame parts windows.now ≡ None }
+        ensures frame { IfOk result (λ table. table.frame ≡ frame) }
+        ensures from { IfOk result (λ table. table.from ≡ from) }
+        ensures windows { IfOk result (λ table. table.windows.items ≡ windows.now) }
+        ensures kept { IfOk result (λ table. IsKept frame table.windows.items table.by_start.items table.by_partition.items) }
     {
-        if let Some(fault) = window_fault(frame, parts, windows) {
-            return Err(fault);
-        }
         let by_start = by_start(alloc, windows)?;
         let by_partition = by_partition(alloc, &by_start)?;
-        Ok(WindowTable {
+        let firsts = firsts(alloc, parts, &by_partition)?;
+        Ok(Table {
             frame,
+            from,
             windows: windows.to_vec(alloc)?,
             by_start,
             by_partition,
+            firsts,
         })
     }
 
-    /// How many ticks a frame has.
-    pub fn frame(&self) -> u32
-        ensures { result ≡ self.now.frame }
-    {
-        self.frame
-    }
-
-    /// The windows, as they were given.
-    pub fn windows(&self) -> &[Window]
-        ensures { result.now ≡ self.now.windows }
-    {
-        &self.windows
-    }
-
-    /// What every table is: its windows lie in the frame, are long enough, and no two have a common tick.
-    pub fn is_table(&self)
-        ensures { IsTable self.now }
-    {
-        // a function knows the invariant of a table of which it reads a field
-        let _ = &self.frame;
-    }
-
-    /// The partition whose window holds the tick, which is at most 2^41, and the first tick after that window,
-    /// which comes at most a frame later. None where the tick lies in no window.
-    pub fn at(&self, tick: Tick) -> Option<(PartId, Tick)>
-        requires { tick ≤ 2 ^ 41 }
-        ensures own { MatchOption result
-            ((p : ℕ) → ¬ IsOwn self.now p tick)
-            (λ found. IsOwnUntil self.now found.0 tick found.1) }
-        ensures ends { (p : ℕ) → (own_ticks self.now p).end_at tick ≡ end_of p result }
-        ensures near { IfSome result (λ found. (tick < found.1) × (found.1 ≤ tick + self.now.frame)) }
-    {
-        let place = tick.ticks() % u64::from(self.frame);
-        let window = holder(&self.by_start, place)?;
-        let end = tick.ticks() - place + window.end();
-        Some((window.partition, Tick::new(end)))
-    }
-
-    /// The partition's first own tick that is not before the tick, which is at most 2^41. It comes less than a
-    /// frame later. None where the partition has no window.
-    pub fn next_of(&self, partition: PartId, tick: Tick) -> Option<Tick>
-        requires { tick ≤ 2 ^ 41 }
-        ensures first { MatchOption result
-            ((n : ℕ) → ¬ IsOwn self.now partition n)
-            (IsFirstOwn self.now partition tick) }
-        ensures next { result ≡ (own_ticks self.now partition).next_of tick }
-        ensures near { IfSome result (λ n. (tick ≤ n) × (n < tick + self.now.frame)) }
-    {
-        let place = tick.ticks() % u64::from(self.frame);
-        let frame_start = tick.ticks() - place;
-        if let Some(window) = first_after(&self.by_partition, partition, place) {
-            let first = place.max(u64::from(window.start));
-            return Some(Tick::new(frame_start + first));
-        }
-        let window = first_after(&self.by_partition, partition, 0)?;
-        let next_frame = frame_start + u64::from(self.frame);
-        Some(Tick::new(next_frame + u64::from(window.start)))
-    }
-
-    /// The partition's first own tick that is not before the tick, which is at most 2^41, and the end of the window
-    /// that holds it. None where the partition has no window.
-    ///
-    /// Whatever `near` is, the answer is the same. Where the window that it was left at holds the tick, or the
-    /// partition's next one comes next, there is no search and no division.
+    /// The tick at which the first frame with these windows begins, below 2^56.
     #[inline(always)]
-    pub fn turn_from(&self, partition: PartId, tick: Tick, near: &mut Near) -> Option<Turn>
-        requires { tick ≤ 2 ^ 41 }
-        ensures turn { MatchOption result
-            ((own_ticks self.now partition).next_of tick ≡ None)
-            (IsTurn self.now partition tick) }
-        ensures near { IfSome result (IsSoon self.now tick) }
+    pub(crate) fn begin(&self) -> u64
+        ensures begin { result ≡ self.now.from * self.now.frame }
+        ensures room { result ≤ 68719476736000000 }
     {
-        let windows = self.by_partition.as_slice();
-        if near.goes_on(windows, self.frame, partition, tick) {
-            return Some(near.turn(windows, tick));
-        }
-        if near.search(windows, self.frame, partition, tick) {
-            return Some(near.turn(windows, tick));
-        }
-        None
+        self.from * u64::from(self.frame)
     }
+
+    /// Where the partition's first window stands by partition. None also where that is not known.
+    #[inline]
+    pub(crate) fn first_of(&self, partition: PartId) -> Option<usize>
+        ensures { IfSome result (IsFirst self.now.by_partition.items partition) }
+    {
+        let place = *self.firsts.get(partition.index())?;
+        if is_first(&self.by_partition, partition, place) {
+            Some(place)
+        } else {
+            None
+        }
+    }
+}
+
+/// Of each of so many partitions where its first window stands among these, or how many there are.
+fn firsts(alloc: Global, parts: usize, by_partition: &[Window]) -> Result<Vec<usize>, AllocError> {
+    let mut firsts = vec![in alloc; by_partition.len(); parts]?;
+    for (place, window) in by_partition.iter().enumerate() {
+        if let Some(first) = firsts.get_mut(window.partition.index()) {
+            *first = place.min(*first);
+        }
+    }
+    Ok(firsts)
+}
+
+/// Whether the partition's first window stands there.
+fn is_first(windows: &[Window], partition: PartId, place: usize) -> bool
+    requires { AreGrouped windows.now }
+    ensures { IsTrue result → IsFirst windows.now partition place }
+{
+    if windows.len() <= place || windows[place].partition != partition {
+        return false;
+    }
+    place == 0 || windows[place - 1].partition != partition
 }

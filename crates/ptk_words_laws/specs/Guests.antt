@@ -5,7 +5,7 @@ use Rattle.ptk_words.specs.Names.{ThreadNumber, Tick, Ticks, Word}
 use Rattle.ptk_words.specs.Processor.{register}
 use Rattle.ptk_words.specs.declared.sections.Limits.{Limits}
 use Rattle.ptk_words_windows.specs.declared.window.Window.{Window}
-use Rattle.ptk_words_windows.specs.Windows.{OwnTicks, own_ticks}
+use Rattle.ptk_words_windows.specs.Windows.{OwnTicks, Stage, own_ticks}
 use Rattle.ptk_words_model.specs.State.{Part, State}
 use Rattle.ptk_words_model.specs.Priority.{thread_at}
 use Rattle.ptk_words_model.specs.Text.{newline}
@@ -42,17 +42,33 @@ small =
 abbrev pub window : Tick → Ticks → ℕ → Window
 window start len partition = record { start = start; length = len; partition = partition }
 
+-- windows from the frame of this number on
+abbrev pub from_frame : ℕ → List Window → Stage
+from_frame number windows = record { from = number; windows = windows }
+
+-- the own ticks of a partition whose windows change with the frames
+abbrev pub own_by : Ticks → List Stage → ℕ → OwnTicks
+own_by frame stages p = own_ticks (record { frame = frame; stages = stages }) p
+
+-- the own ticks of a partition whose windows are the same in each frame
+abbrev pub own_in : Ticks → List Window → ℕ → OwnTicks
+own_in frame windows p = own_by frame (from_frame 0 windows ∷ []) p
+
+-- the windows of two partitions that share a frame of 40 ticks by halves
+abbrev pub halves : List Window
+halves = window 0 20 0 ∷ window 20 20 1 ∷ []
+
 -- the own ticks of a partition that has one window, which begins with the frame
 abbrev pub one_window : Ticks → Ticks → OwnTicks
-one_window frame len = own_ticks (record { frame = frame; windows = window 0 len 0 ∷ [] }) 0
+one_window frame len = own_in frame (window 0 len 0 ∷ []) 0
 
 -- the own ticks of the first of two partitions that share a frame of 40 ticks by halves
 abbrev pub first_half : OwnTicks
-first_half = own_ticks (record { frame = 40; windows = window 0 20 0 ∷ window 20 20 1 ∷ [] }) 0
+first_half = own_in 40 halves 0
 
 -- the own ticks of the second of two partitions that share a frame of 40 ticks by halves
 abbrev pub second_half : OwnTicks
-second_half = own_ticks (record { frame = 40; windows = window 0 20 0 ∷ window 20 20 1 ∷ [] }) 1
+second_half = own_in 40 halves 1
 
 -- the state after so many ticks of a guest without input
 abbrev pub run : OwnTicks → Limits → List ℕ → Ticks → State

@@ -1,6 +1,7 @@
 -- The worked rows: what the definitions say of small guests and of built states.
 pub mod Images
 pub mod Runs
+pub mod Plans
 pub mod Traces
 pub mod Threads
 pub mod Inputs

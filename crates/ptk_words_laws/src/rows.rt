@@ -1,6 +1,7 @@
 //! The worked rows: what the definitions compute of small guests and of built states.
 
 ghost use Rattle.ptk_words_laws.specs.Rows.Runs.{Hello, CutRun, LatePut, LockOverWindowEnd, BroadcastNeedsSixteen, ReturnToGate, SelfModifying, TwoHellos};
+ghost use Rattle.ptk_words_laws.specs.Rows.Plans.{SwappedPlan, MovedWindow, WindowLostAndRegained};
 ghost use Rattle.ptk_words_laws.specs.Rows.Images.{EmptyImage, LoadAtMemoryEnd, RefusedImage, CutImage};
 ghost use Rattle.ptk_words_laws.specs.Rows.Traces.{ShortTrace, FullTrace};
 ghost use Rattle.ptk_words_laws.specs.Rows.Threads.{CreateJoin, NumberOneReused, RoundRobinWindows, OwnPriorityFalls};
@@ -31,6 +32,21 @@ pub fn late_put()
 /// A lock that does not fit the rest of its window.
 pub fn lock_over_window_end()
     ensures { LockOverWindowEnd }
+{}
+
+/// Two halves of the frame that are swapped from a frame on.
+pub fn swapped_plan()
+    ensures { SwappedPlan }
+{}
+
+/// A window that is moved in the frame, and a lock that waits for it.
+pub fn moved_window()
+    ensures { MovedWindow }
+{}
+
+/// A partition without a window for two frames, and a lock that begins after them.
+pub fn window_lost_and_regained()
+    ensures { WindowLostAndRegained }
 {}
 
 /// The dearest call in the shortest window.

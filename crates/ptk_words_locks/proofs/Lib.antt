@@ -24,5 +24,6 @@ pub mod DeadlineLists
 pub mod Deadlines
 pub mod DeadlineMoves
 pub mod Raising
+pub mod MutexPlaces
 pub mod ConditionsKept
 pub mod Expiries

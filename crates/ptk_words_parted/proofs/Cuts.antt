@@ -2,10 +2,11 @@
 use Rattle.std.proofs.Common.{◌≡◌, ℕ, zero, suc, ◌+◌, ◌-◌, ◌<◌, ◌≤◌, List, [], ◌∷◌, ◌++◌, length, get_or, take, drop, refl, sym, ◌∙◌, ap, arith, length-append, length-drop, length-take, append_assoc, map, replicate}
 use Rattle.std.proofs.Math.ListN.{set}
 use Rattle.std.specs.Prelude.{slice_range}
-use Rattle.std.proofs.Math.Seq.{take-length}
+use Rattle.std.proofs.Math.Seq.{take-length, drop-cons}
 use Rattle.std.proofs.lemmas.List.{take_more, length-replicate, take-replicate, drop-replicate, set-get_or, length-set, set_past, append-nil, drop-drop, drop_at, take_at, take-take, take-append-le, drop-take, drop_all, take-append-drop, length-take-le}
 use Rattle.ptk_words_parted.specs.Parts.{part_of, filled, joined}
-use Rattle.ptk_words_parted.specs.Cuts.{cut, IsCut, start_at, ends_of, over, refilled, lent, sums_from, last_end}
+use Rattle.ptk_words_parted.specs.Cuts.{cut, IsCut, start_at, ends_in, AreInTurn, ends_of, over, refilled, lent, sums_from, last_end}
+use Rattle.ptk_words_parted.specs.declared.Extent.{Extent}
 
 pub length-cut : {X : Type 0} (a : ℕ) (ends : List ℕ) (bytes : List X) → length (cut a ends bytes) ≡ length ends
 length-cut a [] bytes = refl
@@ -149,6 +150,49 @@ lent-same parts p w lt e =
     let parts_again : cut 0 ends whole ≡ parts = cut-joined 0 parts [] refl in
     rw whole_again (cut-over 0 ends whole p w h in_ends end ∙ ap (λ ps. set ps p w) parts_again)
 
+pub last_end-push : (a : ℕ) (xs : List ℕ) (x : ℕ) → last_end a (xs ++ x ∷ []) ≡ x
+last_end-push a [] x = refl
+last_end-push a (y ∷ xs) x = last_end-push y xs x
+
+-- ---- extents
+
+pub start-in_turn : (a : ℕ) (extents : List Extent) (p : ℕ) (d : Extent) → AreInTurn a extents → p < length extents → (get_or extents p d).start ≡ start_at a (ends_in extents) p
+start-in_turn a [] p d h lt = absurd (omega arith)
+start-in_turn a (e ∷ extents) zero d h lt = h.0
+start-in_turn a (e ∷ extents) (suc p) d h lt = start-in_turn e.end extents p d h.1 (omega arith)
+
+pub end-in_turn : (extents : List Extent) (p : ℕ) (d : Extent) → p < length extents → (get_or extents p d).end ≡ get_or (ends_in extents) p 0
+end-in_turn [] p d lt = absurd (omega arith)
+end-in_turn (e ∷ extents) zero d lt = refl
+end-in_turn (e ∷ extents) (suc p) d lt = end-in_turn extents p d (omega arith)
+
+pub in_turn-push : (a : ℕ) (extents : List Extent) (e : Extent) → AreInTurn a extents → e.start ≡ last_end a (ends_in extents) → AreInTurn a (extents ++ e ∷ [])
+in_turn-push a [] e h begins = (begins, tt)
+in_turn-push a (x ∷ extents) e h begins = (h.0, in_turn-push x.end extents e h.1 begins)
+
+pub ends_in-push : (extents : List Extent) (e : Extent) → ends_in (extents ++ e ∷ []) ≡ ends_in extents ++ e.end ∷ []
+ends_in-push [] e = refl
+ends_in-push (x ∷ extents) e = ap (λ ends. x.end ∷ ends) (ends_in-push extents e)
+
+pub length-ends_in : (extents : List Extent) → length (ends_in extents) ≡ length extents
+length-ends_in [] = refl
+length-ends_in (e ∷ extents) = ap suc (length-ends_in extents)
+
+pub last_end-next : (extents : List Extent) (i : ℕ) (d : Extent) → i < length extents → last_end 0 (ends_in (take (i + 1) extents)) ≡ (get_or extents i d).end
+last_end-next extents i d lt = ap (λ (es : List Extent). last_end 0 (ends_in es)) (take_more extents i d lt)
+    ∙ ap (last_end 0) (ends_in-push (take i extents) (get_or extents i d)) ∙ last_end-push 0 (ends_in (take i extents)) (get_or extents i d).end
+
+pub told-next : (before : List Extent) (e : Extent) (ns : List ℕ) (i : ℕ) → i < length ns → e.end ≡ e.start + get_or ns i 0 → ends_in (before ++ e ∷ []) ++ sums_from e.end (drop (i + 1) ns) ≡ ends_in before ++ sums_from e.start (drop i ns)
+told-next before e ns i lt end =
+    let after : suc i ≡ i + 1 = omega arith in
+    let next : drop i ns ≡ get_or ns i 0 ∷ drop (i + 1) ns = drop-cons ns i 0 lt ∙ ap (λ (k : ℕ). get_or ns i 0 ∷ drop k ns) after in
+    rw (ends_in-push before e, append_assoc (ends_in before) (e.end ∷ []) (sums_from e.end (drop (i + 1) ns)), next, end) refl
+
+-- a cut ends with its items
+pub last_end-cut : {X : Type 0} (a : ℕ) (ends : List ℕ) (items : List X) → IsCut a ends items → last_end a ends ≡ length items
+last_end-cut a [] items h = h
+last_end-cut a (b ∷ ends) items h = last_end-cut b ends items h.1
+
 -- a partition has an end
 pub in_ends : {X : Type 0} (ends : List ℕ) (bytes : List X) (parts : List (List X)) (p : ℕ) → cut 0 ends bytes ≡ parts → p < length parts → p < length ends
 in_ends ends bytes parts p e lt = let n : length parts ≡ length ends = ap length (sym e) ∙ length-cut 0 ends bytes in rw (← n) lt
@@ -156,6 +200,15 @@ in_ends ends bytes parts p e lt = let n : length parts ≡ length ends = ap leng
 -- and its bytes lie before it
 pub part_lies : {X : Type 0} (ends : List ℕ) (bytes : List X) (parts : List (List X)) (p : ℕ) → cut 0 ends bytes ≡ parts → IsCut 0 ends bytes → p < length parts → Lies X 0 ends bytes p
 part_lies ends bytes parts p e h lt = lies 0 ends bytes p h (in_ends ends bytes parts p e lt)
+
+pub in_extents : {X : Type 0} (extents : List Extent) (bytes : List X) (parts : List (List X)) (p : ℕ) → cut 0 (ends_in extents) bytes ≡ parts → p < length parts → p < length extents
+in_extents extents bytes parts p e lt = rw (← length-ends_in extents) (in_ends (ends_in extents) bytes parts p e lt)
+
+-- the extent that is found at the place of a partition
+pub placed : (extents : List Extent) (i p : ℕ) (x : Extent) → x ≡ get_or extents i x → i ≡ p → AreInTurn 0 extents → p < length extents → (x.start ≡ start_at 0 (ends_in extents) p) × (x.end ≡ get_or (ends_in extents) p 0)
+placed extents i p x found at h lt =
+    let here : x ≡ get_or extents p x = found ∙ ap (λ (k : ℕ). get_or extents k x) at in
+    (ap (λ (e : Extent). e.start) here ∙ start-in_turn 0 extents p x h lt, ap (λ (e : Extent). e.end) here ∙ end-in_turn extents p x lt)
 
 pub part-is : {X : Type 0} (ends : List ℕ) (bytes : List X) (parts : List (List X)) (p : ℕ) → cut 0 ends bytes ≡ parts → p < length parts → slice_range bytes (start_at 0 ends p) (get_or ends p 0) ≡ part_of parts p
 part-is ends bytes parts p e lt = sym (get_or-cut 0 ends bytes p [] (in_ends ends bytes parts p e lt)) ∙ ap (λ ps. get_or ps p []) e
@@ -185,13 +238,6 @@ built x ns ends items e f =
     let m = last_end 0 (sums_from 0 ns) in
     let h : IsCut 0 (sums_from 0 ns) (filled x m) = sums_ascend 0 ns (filled x m) (length-replicate m x) in
     rw (f, e) (h, cut-filled x 0 ns m (omega arith) h)
-
-pub last_end-push : (a : ℕ) (xs : List ℕ) (x : ℕ) → last_end a (xs ++ x ∷ []) ≡ x
-last_end-push a [] x = refl
-last_end-push a (y ∷ xs) x = last_end-push y xs x
-
-pub last_end-take : (xs : List ℕ) (i : ℕ) → i < length xs → last_end 0 (take (i + 1) xs) ≡ get_or xs i 0
-last_end-take xs i lt = ap (last_end 0) (take_more xs i 0 lt) ∙ last_end-push 0 (take i xs) (get_or xs i 0)
 
 -- ---- one more list
 

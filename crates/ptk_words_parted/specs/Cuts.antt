@@ -1,6 +1,7 @@
 -- One vector cut at ends into a list for each partition.
 use Rattle.std.specs.Prelude.{◌≡◌, ℕ, ◌+◌, ◌≤◌, List, [], ◌∷◌, ◌++◌, length, take, drop, slice_range, slice_index}
 use Rattle.ptk_words_parted.specs.Parts.{joined}
+use Rattle.ptk_words_parted.specs.declared.Extent.{Extent}
 
 -- the lists that begin at a and at each end but the last
 abbrev pub cut : {X : Type 0} → ℕ → List ℕ → List X → List (List X)
@@ -11,6 +12,16 @@ cut a (b ∷ ends) items = slice_range items a b ∷ cut b ends items
 abbrev pub IsCut : {X : Type 0} → ℕ → List ℕ → List X → Type 0
 IsCut a [] items = a ≡ length items
 IsCut a (b ∷ ends) items = (a ≤ b) × IsCut b ends items
+
+-- where each extent ends
+abbrev pub ends_in : List Extent → List ℕ
+ends_in [] = []
+ends_in (e ∷ extents) = e.end ∷ ends_in extents
+
+-- the first extent begins at a, and each other where the one before it ends
+abbrev pub AreInTurn : ℕ → List Extent → Type 0
+AreInTurn a [] = Unit {0}
+AreInTurn a (e ∷ extents) = (e.start ≡ a) × AreInTurn e.end extents
 
 -- where list p begins
 abbrev pub start_at : ℕ → List ℕ → ℕ → ℕ

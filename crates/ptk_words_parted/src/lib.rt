@@ -1,4 +1,4 @@
-//! Lists by partition: one vector holds a list for each partition, cut at the lists' ends. The memory, the slot table
+//! Lists by partition: one vector holds a list for each partition, beside the lists' extents. The memory, the slot table
 //! and what is kept of each thread number stand in such vectors, so that offsets occur here alone; the line and the
 //! consoles are vectors with an entry for each partition. A contract sees a `Parted` as a list of lists: `get`, `part`
 //! and `whole` read it, `set` changes one item of one list, and `lend` lends one list for writing and leaves every
@@ -10,7 +10,7 @@
 ghost use Rattle.std.specs.Prelude.{◌≡◌, ℕ, ◌<◌, ◌≤◌, List, [], ◌∷◌, ◌++◌, length, slice_get, slice_set, IfOk, OnOk, OnErr, slice_index, slice_range, map};
 ghost use Rattle.std.specs.Borrow.{sem};
 ghost use Rattle.ptk_words_parted.specs.Parts.{part_of, joined, filled};
-ghost use Rattle.ptk_words_parted.specs.Cuts.{start_at, sums_from, last_end};
+ghost use Rattle.ptk_words_parted.specs.Cuts.{sums_from, last_end, ends_in, AreInTurn};
 ghost use Rattle.ptk_words_parted.specs.Lending.{LendsPart};
 
 use ptk_words::PartId;
@@ -21,18 +21,18 @@ use std::marker::Model;
 #[derive(Drop)]
 pub struct Parted<T> {
     items: Vec<T>,
-    ends: Vec<usize>,
+    extents: Vec<Extent>,
 }
 
 impl<T> Model for Parted<T> {
     ghost use Rattle.std.specs.Prelude.{ℕ, List};
-    ghost use Rattle.ptk_words_parted.specs.Cuts.{cut, IsCut};
+    ghost use Rattle.ptk_words_parted.specs.Cuts.{cut, IsCut, ends_in, AreInTurn};
 
     ghost Value = { List (List T) };
 
-    ghost view = { λ a. cut 0 a.ends.items a.items.items };
+    ghost view = { λ a. cut 0 (ends_in a.extents.items) a.items.items };
 
-    ghost invariant = { λ a. IsCut 0 a.ends.items a.items.items };
+    ghost invariant = { λ a. AreInTurn 0 a.extents.items × IsCut 0 (ends_in a.extents.items) a.items.items };
 }
 
 /// Where a partition's items lie.
@@ -48,9 +48,9 @@ impl<T: Copy> Parted<T> {
         requires { length lengths.now ≤ 8 }
         ensures { IfOk result (λ parted. parted ≡ map (filled item) lengths.now) }
     {
-        let ends = sums(alloc, lengths)?;
-        let items = repeated(alloc, item, last_of(&ends))?;
-        Ok(Parted { items, ends })
+        let extents = extents_of(alloc, lengths)?;
+        let items = repeated(alloc, item, last_end(&extents))?;
+        Ok(Parted { items, extents })
     }
 
     /// The item of a partition at an index from 0, None past its list.
@@ -81,7 +81,7 @@ impl<T: Drop> Parted<T> {
     {
         Parted {
             items: Vec::new(alloc),
-            ends: Vec::new(alloc),
+            extents: Vec::new(alloc),
         }
     }
 
@@ -90,9 +90,11 @@ impl<T: Drop> Parted<T> {
         ensures ok { OnOk result (self.new ≡ self.old ++ items.items ∷ []) }
         ensures err { OnErr result (self.new ≡ self.old) }
     {
-        self.ends.reserve(1)?;
+        self.extents.reserve(1)?;
+        let start = self.items.len();
         self.items.append(&mut items)?;
-        self.ends.push(self.items.len())?;
+        let end = self.items.len();
+        self.extents.push(Extent { start, end })?;
         Ok(())
     }
 }
@@ -109,7 +111,7 @@ impl<T> Parted<T> {
     pub fn parts(&self) -> usize
         ensures { result ≡ length self.now }
     {
-        self.ends.len()
+        self.extents.len()
     }
 
     /// The list of a partition.
@@ -117,7 +119,7 @@ impl<T> Parted<T> {
         requires { p < length self.now }
         ensures { result.now ≡ part_of self.now p }
     {
-        let extent = extent_of(&self.ends, p);
+        let extent = self.extents[p.index()];
         within(&self.items, extent)
     }
 
@@ -127,37 +129,25 @@ impl<T> Parted<T> {
         ensures* writes_back { sem 𝓛 (LendsPart T.row self.entry p result) }
         ensures value { result.now ≡ part_of self.old p }
     {
-        let extent = extent_of(&self.ends, p);
+        let extent = self.extents[p.index()];
         self.items.slice_mut(extent.start..extent.end)
     }
 }
 
-/// The running sums of the lengths. An error where memory ran out.
-fn sums(alloc: Global, lengths: &[u32]) -> Result<Vec<usize>, AllocError>
+/// The extents of lists of these lengths, one after another. An error where memory ran out.
+fn extents_of(alloc: Global, lengths: &[u32]) -> Result<Vec<Extent>, AllocError>
     requires { length lengths.now ≤ 8 }
-    ensures { IfOk result (λ sums. sums.items ≡ sums_from 0 lengths.now) }
+    ensures in_turn { IfOk result (λ extents. AreInTurn 0 extents.items) }
+    ensures ends { IfOk result (λ extents. ends_in extents.items ≡ sums_from 0 lengths.now) }
 {
-    let mut sums = Vec::new(alloc);
-    let mut sum = 0;
+    let mut extents = Vec::new(alloc);
+    let mut start = 0;
     for length in lengths {
-        sum += *length as usize;
-        sums.push(sum)?;
+        let end = start + *length as usize;
+        extents.push(Extent { start, end })?;
+        start = end;
     }
-    Ok(sums)
-}
-
-/// Where a partition's items lie, given the ends of all.
-fn extent_of(ends: &[usize], p: PartId) -> Extent
-    requires { p < length ends.now }
-    ensures start { result.start ≡ start_at 0 ends.now p }
-    ensures end { result.end ≡ slice_index ends.now p }
-{
-    let i = p.index();
-    let start = if i == 0 { 0 } else { ends[i - 1] };
-    Extent {
-        start,
-        end: ends[i],
-    }
+    Ok(extents)
 }
 
 /// The items of an extent.
@@ -169,15 +159,15 @@ fn within<T>(items: &[T], extent: Extent) -> &[T]
     &items[extent.start..extent.end]
 }
 
-/// The last of the ends, or 0 where there is none.
-fn last_of(ends: &[usize]) -> usize
-    ensures { result ≡ last_end 0 ends.now }
+/// Where the last extent ends, or 0 where there is none.
+fn last_end(extents: &[Extent]) -> usize
+    ensures { result ≡ last_end 0 (ends_in extents.now) }
 {
-    let mut last = 0;
-    for end in ends {
-        last = *end;
+    let mut end = 0;
+    for extent in extents {
+        end = extent.end;
     }
-    last
+    end
 }
 
 /// An item n times. An error where memory ran out.

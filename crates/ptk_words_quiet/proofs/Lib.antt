@@ -7,3 +7,4 @@ pub mod Arrivals
 pub mod RowsKept
 pub mod Sooner
 pub mod IdleTicks
+pub mod ReplyDecisions

@@ -33,7 +33,7 @@ use Rattle.ptk_words_quiet.proofs.PlainSteps.{plain_done, plain_word, plain_no_c
 use Rattle.ptk_words_quiet.proofs.PlainRows.{used_fifo, used_robin, row_one}
 
 -- the thread of this number, as a runner
-abbrev runner : ℕ → Thread → Runner
+abbrev pub runner : ℕ → Thread → Runner
 runner t thread = record { number = t; thread = thread }
 
 -- ---- before the step
@@ -55,12 +55,12 @@ chosen_by t (Some u) s e = by (nat_lt (effective_priority s.locks t) (effective_
 chosen_stays : (t : ℕ) (s : Part) → s.running ≡ Some t → stays_before (effective_priority s.locks) t (first_ready s.locks) ≡ true → after_choice s ≡ s
 chosen_stays t s runs e = ap (λ (running : Option ℕ). after_choice_between running (first_ready s.locks) s) runs ∙ chosen_by t (first_ready s.locks) s e
 
-quiet_ready : (limits : Limits) (tick stop t : ℕ) (thread : Thread) (s : Part) → IsQuiet limits tick stop t thread s → tick < stop → ready_at limits tick s ≡ s
+pub quiet_ready : (limits : Limits) (tick stop t : ℕ) (thread : Thread) (s : Part) → IsQuiet limits tick stop t thread s → tick < stop → ready_at limits tick s ≡ s
 quiet_ready limits tick stop t thread s quiet lt =
     ap (λ (u : Part). after_choice (after_expiries tick u)) (no_arrivals limits tick s (quiet.none_comes tick lt))
     ∙ (ap after_choice (no_expiries tick s (quiet.none_expires tick lt)) ∙ chosen_stays t s quiet.running quiet.chosen)
 
-quiet_runner : (limits : Limits) (tick stop t : ℕ) (thread : Thread) (s : Part) → IsQuiet limits tick stop t thread s → runner_of s ≡ Some (runner t thread)
+pub quiet_runner : (limits : Limits) (tick stop t : ℕ) (thread : Thread) (s : Part) → IsQuiet limits tick stop t thread s → runner_of s ≡ Some (runner t thread)
 quiet_runner limits tick stop t thread s quiet = rw (quiet.running, quiet.in_use) refl
 
 plain_kind : (limits : Limits) (tick stop t : ℕ) (thread : Thread) (s : Part) → IsQuiet limits tick stop t thread s → is_plain (core_of thread s) ≡ true → step_kind s t thread ≡ InstructionStep
@@ -71,15 +71,15 @@ plain_kind limits tick stop t thread s quiet plain =
 -- ---- the step
 
 -- the thread's registers alone changed
-abbrev with_registers_of : Processor → Thread → Thread
+abbrev pub with_registers_of : Processor → Thread → Thread
 with_registers_of cpu thread = record thread { cpu = cpu }
 
 -- the partition after an instruction that left these registers and this memory, with this last step
-abbrev moved : ℕ → Core → Option Entry → Part → Part
+abbrev pub moved : ℕ → Core → Option Entry → Part → Part
 moved t c last s = let after : Part = with_cpu t c.cpu (record s { memory = c.memory }) in record after { last = last }
 
 -- the partition with these threads in the place of its own
-abbrev with_threads : Core → Option Entry → Part → List (Option Thread) → Part
+abbrev pub with_threads : Core → Option Entry → Part → List (Option Thread) → Part
 with_threads c last s threads = let after : Part = with_locks (λ locks. record locks { threads = threads }) (record s { memory = c.memory }) in record after { last = last }
 
 entry_plain : (tick t : ℕ) (cpu : Processor) (thread : Thread) (s : Part) → is_ended thread.phase ≡ false → is_plain (core_of thread s) ≡ true

@@ -2,3 +2,4 @@ pub mod Quiet
 pub mod QuietLaws
 pub mod Idle
 pub mod IdleLaws
+pub mod Replies

@@ -4,7 +4,7 @@ use Rattle.ptk_words.specs.declared.sections.Arrival.{Arrival}
 use Rattle.ptk_words.specs.declared.sections.Limits.{Limits}
 use Rattle.ptk_words.specs.declared.threads.Thread.{Thread}
 use Rattle.ptk_words_instructions.specs.PlainSteps.{is_plain}
-use Rattle.ptk_words_windows.specs.Windows.{OwnTicks, WindowTable, own_ticks, IsTable}
+use Rattle.ptk_words_windows.specs.Windows.{OwnTicks, WindowPlan, own_ticks, IsPlan}
 use Rattle.ptk_words_model.specs.State.{Console, Part, State}
 use Rattle.ptk_words_model.specs.Console.{arriving}
 use Rattle.ptk_words_model.specs.Run.{decided, alone}
@@ -58,5 +58,5 @@ abbrev pub AloneGoesOn : OwnTicks → Limits → Option (List ℕ) → List Arri
 AloneGoesOn ticks limits image input m n = alone ticks limits image input (m + n) ≡ after_ticks ticks limits m n (alone ticks limits image input m)
 
 -- in a window of the partition each tick up to its end is the partition's own (own)
-abbrev pub WindowIsOwn : WindowTable → ℕ → ℕ → ℕ → Type 0
-WindowIsOwn table p tick end = IsTable table → (own_ticks table p).end_at tick ≡ Some end → AreOwn (own_ticks table p) tick end
+abbrev pub WindowIsOwn : WindowPlan → ℕ → ℕ → ℕ → Type 0
+WindowIsOwn plan p tick end = IsPlan plan → (own_ticks plan p).end_at tick ≡ Some end → AreOwn (own_ticks plan p) tick end

@@ -12,10 +12,12 @@ ghost use Rattle.std.specs.Prelude.{ℕ, List, Option};
 ghost use Rattle.ptk_words.specs.declared.sections.Arrival.{Arrival};
 ghost use Rattle.ptk_words.specs.declared.sections.Limits.{Limits};
 ghost use Rattle.ptk_words.specs.declared.threads.Thread.{Thread};
-ghost use Rattle.ptk_words_windows.specs.Windows.{OwnTicks, WindowTable};
-ghost use Rattle.ptk_words_model.specs.State.{Console, Part, State};
+ghost use Rattle.ptk_words_windows.specs.Windows.{OwnTicks, WindowPlan};
+ghost use Rattle.ptk_words_model.specs.State.{Console, Mutex, Part, State};
+ghost use Rattle.ptk_words.specs.Processor.{Processor};
 ghost use Rattle.ptk_words_quiet.specs.IdleLaws.{IdleIsDecided, IdleIsTicks};
 ghost use Rattle.ptk_words_quiet.specs.QuietLaws.{PlainIsDecided, RowStaysQuiet, RowKeepsPriorities, RowKeepsWell, RowIsTicks, NoneComesBefore, RowsJoin, OthersStay, AloneGoesOn, WindowIsOwn};
+ghost use Rattle.ptk_words_quiet.specs.Replies.{ReplyIsDecided, ReplyStaysQuiet};
 
 /// A plain step is the decision of a quiet state.
 pub fn plain_is_decided()
@@ -64,7 +66,7 @@ pub fn alone_goes_on()
 
 /// In a window of a partition each tick up to its end is the partition's own.
 pub fn window_is_own()
-    ensures { (table : WindowTable) → (p tick end : ℕ) → WindowIsOwn table p tick end }
+    ensures { (plan : WindowPlan) → (p tick end : ℕ) → WindowIsOwn plan p tick end }
 {}
 
 /// The decision of an idle partition changes nothing.
@@ -74,5 +76,15 @@ pub fn idle_is_decided()
 
 /// Ticks in a row change nothing of an idle partition but the tick of its next decision.
 pub fn idle_is_ticks()
-    ensures { (table : WindowTable) → (p : ℕ) → (limits : Limits) → (tick stop n : ℕ) → (s : State) → IdleIsTicks table p limits tick stop n s }
+    ensures { (plan : WindowPlan) → (p : ℕ) → (limits : Limits) → (tick stop n : ℕ) → (s : State) → IdleIsTicks plan p limits tick stop n s }
+{}
+
+/// A quiet call is the decision of a quiet partition.
+pub fn reply_is_decided()
+    ensures { (limits : Limits) → (tick stop room t ticks : ℕ) → (thread : Thread) → (after : Processor) → (mutexes : List (Option Mutex)) → (s : Part) → ReplyIsDecided limits tick stop room t ticks thread after mutexes s }
+{}
+
+/// A quiet call leaves a quiet partition quiet.
+pub fn reply_stays_quiet()
+    ensures { (limits : Limits) → (tick stop t ticks : ℕ) → (thread : Thread) → (after : Processor) → (mutexes : List (Option Mutex)) → (s : Part) → ReplyStaysQuiet limits tick stop t ticks thread after mutexes s }
 {}

@@ -1,13 +1,15 @@
--- Windows without a fault are a table.
-use Rattle.std.proofs.Common.{◌≡◌, ℕ, ◌+◌, ◌<◌, ◌≤◌, Bool, true, false, cond, ltb, leb, List, [], ◌∷◌, Option, Some, None, All, AllPairs, get_or, inl, inr, refl, arith}
+-- Windows without a fault are a table, and stages without one a plan.
+use Rattle.std.proofs.Common.{◌≡◌, ℕ, ◌+◌, ◌<◌, ◌≤◌, Bool, true, false, not, cond, ltb, leb, List, [], ◌∷◌, map, Option, Some, None, Any, All, AllPairs, get_or, inl, inr, refl, arith}
 use Rattle.std.specs.List.{list_any}
-use Rattle.std.proofs.lemmas.Bool.{or_parts, and_cases, ltb-false, leb-false}
-use Rattle.std.proofs.lemmas.List.Elements.{All-nil, All-cons, All-head, All-weaker}
+use Rattle.std.proofs.lemmas.Bool.{or_parts, and_parts, and_cases, ltb-false, leb-false, eqb-true, not-true}
+use Rattle.std.proofs.lemmas.List.Elements.{All-nil, All-cons, All-head, All-tail, All-weaker}
 use Rattle.std.proofs.lemmas.List.Kept.{AllPairs-cons}
-use Rattle.ptk_words_windows.specs.declared.fault.WindowFault.TheVariants.{Short, Overlap, PastFrame, UnknownPartition}
+use Rattle.ptk_words_windows.specs.declared.fault.WindowFault.{WindowFault}
+use Rattle.ptk_words_windows.specs.declared.fault.WindowFault.TheVariants.{Short, Overlap, PastFrame, UnknownPartition, OutOfOrder}
 use Rattle.ptk_words_windows.specs.declared.window.Window.{Window}
-use Rattle.ptk_words_windows.specs.Windows.{Holds, IsTable}
-use Rattle.ptk_words_windows.specs.WindowFaults.{some_pair, earlier, first_fault, fault_of, are_overlapping, window_fault}
+use Rattle.ptk_words_windows.specs.Windows.{Stage, Holds, IsTable, IsPlan}
+use Rattle.ptk_words_windows.specs.WindowFaults.{some_pair, earlier, first_fault, fault_of, are_overlapping, window_fault, begins_with_zero, is_not_later, is_ordered, plan_fault}
+use Rattle.ptk_words_windows.proofs.Lists.{Any-here}
 
 cond-none : {E : Type 0} (b : Bool) (e : E) (o : Option E) → cond b (Some e) o ≡ None → (b ≡ false) × (o ≡ None)
 cond-none true e o h = absurd cc
@@ -58,19 +60,60 @@ apart v w h place in_v in_w =
 overlap-none : (b : Bool) → cond b (Some Overlap) None ≡ None → b ≡ false
 overlap-none b h = (cond-none b Overlap None h).0
 
-pub accepted : (frame parts : ℕ) (windows : List Window) → window_fault frame parts windows ≡ None → IsTable (record { frame = frame; windows = windows }) × All (λ w. w.partition < parts) windows
+pub accepted_table : (frame parts : ℕ) (windows : List Window) → window_fault frame parts windows ≡ None → IsTable frame windows × All (λ w. w.partition < parts) windows
 unfolding window_fault
-accepted frame parts [] h = absurd cc
-accepted frame parts (w ∷ ws) h =
+accepted_table frame parts [] h = absurd cc
+accepted_table frame parts (w ∷ ws) h =
     let both = earlier-none (first_fault (fault_of frame parts) (w ∷ ws)) (cond (some_pair are_overlapping (w ∷ ws)) (Some Overlap) None) h in
     let fines = All-weaker (λ v. fault_of frame parts v ≡ None) (IsFine frame parts) (fine frame parts) (w ∷ ws) (first_fault-none (fault_of frame parts) (w ∷ ws) both.0) in
     let first = All-head (IsFine frame parts) w ws fines in
     let pairs = some_pair-none are_overlapping (w ∷ ws) (overlap-none (some_pair are_overlapping (w ∷ ws)) both.1) in (
       record {
-        frame = omega (arith, first.long, first.within);
+        positive = omega (arith, first.long, first.within);
         long = λ k d below. (fines k d below).long;
         within = λ k d below. (fines k d below).within;
         apart = λ i j d before below. apart (get_or (w ∷ ws) i d) (get_or (w ∷ ws) j d) (pairs i j d before below);
       },
       λ k d below. (fines k d below).known,
     )
+
+-- ---- a plan
+begins : (stages : List Stage) → begins_with_zero stages ≡ true → Any (λ stage. stage.from ≡ 0) stages
+begins [] h = absurd cc
+begins (stage ∷ stages) h = Any-here (λ s. s.from ≡ 0) stage stages (eqb-true stage.from 0 h)
+
+ordered_or : (b : Bool) (o : Option WindowFault) → cond b o (Some OutOfOrder) ≡ None → (b ≡ true) × (o ≡ None)
+ordered_or true o h = (refl, h)
+ordered_or false o h = absurd cc
+
+pub accepted : (frame parts : ℕ) (stages : List Stage) → plan_fault frame parts stages ≡ None
+    → IsPlan (record { frame = frame; stages = stages }) × All (λ stage. All (λ w. w.partition < parts) stage.windows) stages
+unfolding plan_fault
+accepted frame parts stages h =
+    let both = ordered_or (is_ordered stages) (first_fault (λ (stage : Stage). window_fault frame parts stage.windows) stages) h in
+    let order = and_parts (begins_with_zero stages) (not (some_pair is_not_later stages)) both.0 in
+    let tables = All-weaker (λ (stage : Stage). window_fault frame parts stage.windows ≡ None) (λ stage. IsTable frame stage.windows × All (λ w. w.partition < parts) stage.windows) (λ stage. accepted_table frame parts stage.windows) stages
+    (first_fault-none (λ (stage : Stage). window_fault frame parts stage.windows) stages both.1) in
+    let pairs = some_pair-none is_not_later stages (not-true _ order.1) in
+    let first = begins stages order.0 in (
+      record {
+        frame = (tables first.0 first.1 first.2).0.positive;
+        begins = first;
+        rising = λ i j d before below. leb-false (get_or stages j d).from (get_or stages i d).from (pairs i j d before below);
+        tables = λ k d below. (tables k d below).0;
+      },
+      λ k d below. (tables k d below).1,
+    )
+
+-- the windows of each stage of an accepted plan have no fault
+pub accepted_windows : {A : Type 0} (frame parts : ℕ) (f : A → Stage) (xs : List A) → plan_fault frame parts (map f xs) ≡ None → All (λ x. window_fault frame parts (f x).windows ≡ None) xs
+unfolding plan_fault
+accepted_windows {A} frame parts f xs h =
+    let both = ordered_or (is_ordered (map f xs)) (first_fault (λ (stage : Stage). window_fault frame parts stage.windows) (map f xs)) h in
+    go xs (first_fault-none (λ (stage : Stage). window_fault frame parts stage.windows) (map f xs) both.1)
+  where
+    go : (ys : List A) → All (λ stage. window_fault frame parts stage.windows ≡ None) (map f ys) → All (λ x. window_fault frame parts (f x).windows ≡ None) ys
+    go [] all = All-nil (λ x. window_fault frame parts (f x).windows ≡ None)
+    go (y ∷ ys) all =
+        All-cons (λ x. window_fault frame parts (f x).windows ≡ None) y ys (All-head (λ (stage : Stage). window_fault frame parts stage.windows ≡ None) (f y) (map f ys) all)
+        (go ys (All-tail (λ (stage : Stage). window_fault frame parts stage.windows ≡ None) (f y) (map f ys) all))

@@ -1,6 +1,6 @@
 -- Some element of a list, the first that passes a test, the least number.
-use Rattle.std.proofs.Common.{◌≡◌, ℕ, zero, suc, ◌<◌, ◌≤◌, Bool, true, false, List, [], ◌∷◌, length, get_or, map, filter, find, fold, min, Option, Some, None, Any, All, MatchOption, refl, sym, subst, arith, inl, inr, ◌⊎◌}
-use Rattle.std.specs.List.{reduce}
+use Rattle.std.proofs.Common.{◌≡◌, ℕ, zero, suc, ◌<◌, ◌≤◌, Bool, true, false, List, [], ◌∷◌, ◌++◌, length, get_or, map, filter, find, fold, min, Option, Some, None, Any, All, MatchOption, refl, sym, subst, arith, inl, inr, ◌⊎◌}
+use Rattle.std.specs.List.{reduce, flat_map}
 use Rattle.std.proofs.lemmas.Bool.{cases_Bool, cases_lt, cond-true, cond-false, both_ways}
 use Rattle.std.proofs.lemmas.List.Elements.{All-nil, All-cons}
 
@@ -74,31 +74,87 @@ Any-filtered {X} test P (x ∷ xs) h =
       | inr fails ↦ Any-there (λ y. (test y ≡ true) × P y) x xs (Any-filtered test P xs (subst M (cond-false (test x) (x ∷ filter test xs) (filter test xs) fails) h))
     ]
 
--- the least of the numbers of the elements
-fold-min : {X : Type 0} (f : X → ℕ) (a : ℕ) (xs : List X) → ((fold min a (map f xs) ≡ a) ⊎ Any (λ x. f x ≡ fold min a (map f xs)) xs) × (fold min a (map f xs) ≤ a) × All (λ x. fold min a (map f xs) ≤ f x) xs
-fold-min f a [] = (inl refl, omega arith, All-nil (λ x. a ≤ f x))
-fold-min f a (x ∷ xs) =
-    let n = fold min (min a (f x)) (map f xs) in
-    let r = fold-min f (min a (f x)) xs in
-    let reached : (n ≡ a) ⊎ Any (λ y. f y ≡ n) (x ∷ xs) =
+-- ---- what a map and a flat map have
+pub Any-mapped : {X Y : Type 0} (f : X → Y) (P : Y → Type 0) (xs : List X) → Any P (map f xs) → Any (λ x. P (f x)) xs
+Any-mapped f P [] h = absurd (Any-nil P h)
+Any-mapped f P (x ∷ xs) h =
+    elim (Any-cases P (f x) (map f xs) h) [
+      | inl here ↦ Any-here (λ y. P (f y)) x xs here
+      | inr later ↦ Any-there (λ y. P (f y)) x xs (Any-mapped f P xs later)
+    ]
+
+pub Any-map : {X Y : Type 0} (f : X → Y) (P : Y → Type 0) (xs : List X) → Any (λ x. P (f x)) xs → Any P (map f xs)
+Any-map f P [] h = absurd (Any-nil (λ x. P (f x)) h)
+Any-map f P (x ∷ xs) h =
+    elim (Any-cases (λ y. P (f y)) x xs h) [
+      | inl here ↦ Any-here P (f x) (map f xs) here
+      | inr later ↦ Any-there P (f x) (map f xs) (Any-map f P xs later)
+    ]
+
+pub Any-left : {X : Type 0} (P : X → Type 0) (xs ys : List X) → Any P xs → Any P (xs ++ ys)
+Any-left P [] ys h = absurd (Any-nil P h)
+Any-left P (x ∷ xs) ys h =
+    elim (Any-cases P x xs h) [
+      | inl here ↦ Any-here P x (xs ++ ys) here
+      | inr later ↦ Any-there P x (xs ++ ys) (Any-left P xs ys later)
+    ]
+
+pub Any-right : {X : Type 0} (P : X → Type 0) (xs ys : List X) → Any P ys → Any P (xs ++ ys)
+Any-right P [] ys h = h
+Any-right P (x ∷ xs) ys h = Any-there P x (xs ++ ys) (Any-right P xs ys h)
+
+pub Any-append : {X : Type 0} (P : X → Type 0) (xs ys : List X) → Any P (xs ++ ys) → Any P xs ⊎ Any P ys
+Any-append P [] ys h = inr h
+Any-append P (x ∷ xs) ys h =
+    elim (Any-cases P x (xs ++ ys) h) [
+      | inl here ↦ inl (Any-here P x xs here)
+      | inr later ↦ elim (Any-append P xs ys later) [
+        | inl first ↦ inl (Any-there P x xs first)
+        | inr second ↦ inr second
+      ]
+    ]
+
+pub Any-flat : {X Y : Type 0} (f : X → List Y) (P : Y → Type 0) (xs : List X) → Any (λ x. Any P (f x)) xs → Any P (flat_map f xs)
+Any-flat f P [] h = absurd (Any-nil (λ x. Any P (f x)) h)
+Any-flat f P (x ∷ xs) h =
+    elim (Any-cases (λ y. Any P (f y)) x xs h) [
+      | inl here ↦ Any-left P (f x) (flat_map f xs) here
+      | inr later ↦ Any-right P (f x) (flat_map f xs) (Any-flat f P xs later)
+    ]
+
+pub Any-flattened : {X Y : Type 0} (f : X → List Y) (P : Y → Type 0) (xs : List X) → Any P (flat_map f xs) → Any (λ x. Any P (f x)) xs
+Any-flattened f P [] h = absurd (Any-nil P h)
+Any-flattened f P (x ∷ xs) h =
+    elim (Any-append P (f x) (flat_map f xs) h) [
+      | inl here ↦ Any-here (λ y. Any P (f y)) x xs here
+      | inr later ↦ Any-there (λ y. Any P (f y)) x xs (Any-flattened f P xs later)
+    ]
+
+-- the least of numbers
+fold-min : (a : ℕ) (ns : List ℕ) → ((fold min a ns ≡ a) ⊎ Any (λ n. n ≡ fold min a ns) ns) × (fold min a ns ≤ a) × All (λ n. fold min a ns ≤ n) ns
+fold-min a [] = (inl refl, omega arith, All-nil (λ n. a ≤ n))
+fold-min a (x ∷ xs) =
+    let n = fold min (min a x) xs in
+    let r = fold-min (min a x) xs in
+    let reached : (n ≡ a) ⊎ Any (λ y. y ≡ n) (x ∷ xs) =
     elim r.0 [
-      | inl start ↦ elim (cases_lt (f x) a) [
-        | inl below ↦ inr (Any-here (λ y. f y ≡ n) x xs (omega arith))
+      | inl start ↦ elim (cases_lt x a) [
+        | inl below ↦ inr (Any-here (λ y. y ≡ n) x xs (omega arith))
         | inr above ↦ inl (omega arith)
       ]
-      | inr later ↦ inr (Any-there (λ y. f y ≡ n) x xs later)
+      | inr later ↦ inr (Any-there (λ y. y ≡ n) x xs later)
     ] in
-    (reached, omega (arith, r.1), All-cons (λ y. n ≤ f y) x xs (omega (arith, r.1)) r.2)
+    (reached, omega (arith, r.1), All-cons (λ y. n ≤ y) x xs (omega (arith, r.1)) r.2)
 
--- the least one is an element's and at most every other's, and there is none only where there is no element
-pub reduce-min : {X : Type 0} (f : X → ℕ) (xs : List X) → MatchOption (reduce min (map f xs)) (xs ≡ []) (λ n. Any (λ x. f x ≡ n) xs × All (λ x. n ≤ f x) xs)
-reduce-min f [] = refl
-reduce-min f (x ∷ xs) =
-    let n = fold min (f x) (map f xs) in
-    let r = fold-min f (f x) xs in
-    let reached : Any (λ y. f y ≡ n) (x ∷ xs) =
+-- the least one is among them and at most every other, and there is none only where there is no number
+pub reduce-min : (ns : List ℕ) → MatchOption (reduce min ns) (ns ≡ []) (λ n. Any (λ k. k ≡ n) ns × All (λ k. n ≤ k) ns)
+reduce-min [] = refl
+reduce-min (x ∷ xs) =
+    let n = fold min x xs in
+    let r = fold-min x xs in
+    let reached : Any (λ y. y ≡ n) (x ∷ xs) =
     elim r.0 [
-      | inl start ↦ Any-here (λ y. f y ≡ n) x xs (sym start)
-      | inr later ↦ Any-there (λ y. f y ≡ n) x xs later
+      | inl start ↦ Any-here (λ y. y ≡ n) x xs (sym start)
+      | inr later ↦ Any-there (λ y. y ≡ n) x xs later
     ] in
-    (reached, All-cons (λ y. n ≤ f y) x xs r.1 r.2)
+    (reached, All-cons (λ y. n ≤ y) x xs r.1 r.2)

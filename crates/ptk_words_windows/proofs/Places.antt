@@ -1,10 +1,10 @@
 -- One window that lies in the frame: its first tick from a tick on, and its ticks up to its end.
-use Rattle.std.proofs.Common.{◌≡◌, ℕ, ◌+◌, ◌%◌, ◌<◌, ◌≤◌, max, ltb, sym, subst, inl, inr, arith}
+use Rattle.std.proofs.Common.{◌≡◌, ℕ, ◌+◌, ◌/◌, ◌%◌, ◌<◌, ◌≤◌, max, ltb, sym, subst, inl, inr, arith}
 use Rattle.std.proofs.lemmas.Bool.{cases_lt, cond-true, cond-false, lt-ltb, le-ltb}
 use Rattle.std.proofs.lemmas.Nat.{mod_below, div-add-mod'}
 use Rattle.ptk_words_windows.specs.declared.window.Window.{Window}
 use Rattle.ptk_words_windows.specs.Windows.{Holds, frame_start, end_from, first_from}
-use Rattle.ptk_words_windows.proofs.Remainders.{mod_here, mod_next}
+use Rattle.ptk_words_windows.proofs.Remainders.{mod_here, mod_next, number_here}
 
 -- the window has ticks and lies in the frame
 pub record Fits (frame : ℕ) (w : Window) : Type 0 where
@@ -102,3 +102,8 @@ whole_end frame tick k w positive fits holds from to =
     let split = start_le frame tick in
     let place = mod_here frame tick k positive (omega arith) (omega (arith, fits.within)) in
     omega arith
+
+pub whole_number : (frame tick k : ℕ) (w : Window) → 0 < frame → Fits frame w → tick ≤ k → k < end_from frame tick w → k / frame ≡ tick / frame
+whole_number frame tick k w positive fits from to =
+    let split = start_le frame tick in
+    number_here frame tick k positive (omega arith) (omega (arith, fits.within))

@@ -1,13 +1,19 @@
 //! Laws of the own ticks, each the contract of a function without code.
 
-ghost use Rattle.ptk_words_windows.specs.OwnTicksLaws.{AcceptedIsTable, NextIsFirst, NextIsOne, EndIsOfWindow, EndIsOne, WindowIsWhole, OwnTicksAreApart};
+ghost use Rattle.ptk_words_windows.specs.OwnTicksLaws.{AcceptedIsPlan, InForceHolds, NextIsFirst, NextIsOne, NextIsNear, EndIsOfWindow, EndIsOne, WindowIsWhole, OwnTicksAreApart};
 
-/// Windows without a fault are a table, and each is a known partition's.
-pub fn accepted_is_table()
-    ensures { AcceptedIsTable }
+/// Stages without a fault are a plan, and each window is a known partition's.
+pub fn accepted_is_plan()
+    ensures { AcceptedIsPlan }
 {}
 
-/// The next own tick is the first one not before the tick. There is none only for a partition without a tick.
+/// The windows of a frame are those of the stage of the greatest number not above the frame's.
+pub fn in_force_holds()
+    ensures { InForceHolds }
+{}
+
+/// The next own tick is the first one not before the tick. There is none only for a partition that has no tick from
+/// this one on.
 pub fn next_is_first()
     ensures { NextIsFirst }
 {}
@@ -15,6 +21,11 @@ pub fn next_is_first()
 /// Only one tick is the first own one not before the tick.
 pub fn next_is_one()
     ensures { NextIsOne }
+{}
+
+/// The next own tick comes less than a frame after the tick, or after the beginning of the last stage.
+pub fn next_is_near()
+    ensures { NextIsNear }
 {}
 
 /// The end is that of the partition's window that holds the tick. There is none only for a tick not its own.

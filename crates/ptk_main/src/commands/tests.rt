@@ -3,8 +3,8 @@
 //! test that has files is a process of its own, and works in a folder of its own, which it removes. A helper that promises
 //! nothing stands between each row and the calls that it tests.
 
-use super::{answer, asm, obey};
-use crate::reading::{bytes_in, config_in};
+use super::{answer, asm, check_explained, obey, refusal_explained};
+use crate::reading::{bytes_in, config_in, text_in};
 use crate::telling::usage;
 use crate::{answer_words, unread};
 use ptk_main_faults::Fault;
@@ -83,9 +83,38 @@ fn trace_status(rt: &HostRuntime, file: &str, partition: &str) -> u8 {
     )
 }
 
+// The status of `timeline` of ticks 5 to 20.
+fn timeline_status(rt: &HostRuntime, file: &str) -> u8 {
+    obey(
+        rt,
+        Request::Timeline {
+            file,
+            ticks: 20,
+            from: 5,
+        },
+    )
+}
+
 // The status of `check`.
 fn check_status(rt: &HostRuntime, file: &str) -> u8 {
-    obey(rt, Request::Check { file })
+    obey(
+        rt,
+        Request::Check {
+            file,
+            explain: false,
+        },
+    )
+}
+
+// The status of `check --explain`.
+fn explain_status(rt: &HostRuntime, file: &str) -> u8 {
+    obey(
+        rt,
+        Request::Check {
+            file,
+            explain: true,
+        },
+    )
 }
 
 // The status of `asm`.
@@ -106,8 +135,22 @@ fn config_fault_in<'a>(rt: &HostRuntime, name: &'a str) -> Option<Fault<'a>> {
 // Whether `check` answers this for the configuration in a file.
 fn is_checked(rt: &HostRuntime, file: &str, want: Result<(), Fault<'_>>) -> bool {
     match config_in(rt, file) {
-        Ok(config) => answer(rt, &config, Request::Check { file }) == want,
+        Ok(config) => {
+            let request = Request::Check {
+                file,
+                explain: false,
+            };
+            answer(rt, &config, request) == want
+        }
         Err(_) => false,
+    }
+}
+
+// Whether `check --explain` answers this for the configuration in a file.
+fn is_explained(rt: &HostRuntime, file: &str, want: Result<(), Fault<'_>>) -> bool {
+    match (text_in(rt, file), config_in(rt, file)) {
+        (Ok(text), Ok(config)) => check_explained(rt, text.as_str(), &config) == want,
+        _ => false,
     }
 }
 
@@ -120,7 +163,9 @@ fn a_file_that_is_not_there_is_refused(rt: HostRuntime) {
     );
     assert_eq!(rt; run_status(&rt, "none.toml"), 1);
     assert_eq!(rt; trace_status(&rt, "none.toml", "p"), 1);
+    assert_eq!(rt; timeline_status(&rt, "none.toml"), 1);
     assert_eq!(rt; check_status(&rt, "none.toml"), 1);
+    assert_eq!(rt; explain_status(&rt, "none.toml"), 1);
     assert_eq!(rt; asm_status(&rt, "none.s", "none.img"), 1);
     assert!(rt; is_written(&rt, "a.toml", b""));
     assert_eq!(rt;
@@ -138,6 +183,7 @@ fn a_folder_is_a_failed_read(rt: HostRuntime) {
     assert!(rt; is_text_written(&rt, "hello.toml", &ALONE));
     assert!(rt; fs::create_dir(&rt, "p.img").is_ok());
     assert!(rt; is_checked(&rt, "hello.toml", Err(Fault::ReadFailed("p.img"))));
+    assert!(rt; is_explained(&rt, "hello.toml", Err(Fault::ReadFailed("p.img"))));
     assert_eq!(rt; run_status(&rt, "hello.toml"), 3);
     assert!(rt; has_left(&rt, "a-folder-is-a-failed-read"));
 }
@@ -155,6 +201,11 @@ fn a_configuration_is_refused_by_its_text(rt: HostRuntime) {
     assert_eq!(rt; config_fault_in(&rt, "empty.toml"), Some(Fault::Config(2)));
     assert_eq!(rt; run_status(&rt, "empty.toml"), 1);
     assert_eq!(rt; check_status(&rt, "empty.toml"), 1);
+    assert_eq!(rt; explain_status(&rt, "empty.toml"), 1);
+    assert_eq!(rt; explain_status(&rt, "bytes.toml"), 1);
+    for fault in [Fault::Config(2), Fault::NoMemory] {
+        assert_eq!(rt; refusal_explained(&rt, "", fault), fault);
+    }
     assert!(rt; has_left(&rt, "a-configuration-is-refused-by-its-text"));
 }
 
@@ -164,7 +215,9 @@ fn a_missing_image_is_refused(rt: HostRuntime) {
     assert!(rt; is_text_written(&rt, "two.toml", &TWO));
     assert_eq!(rt; run_status(&rt, "two.toml"), 1);
     assert_eq!(rt; check_status(&rt, "two.toml"), 1);
+    assert_eq!(rt; explain_status(&rt, "two.toml"), 1);
     assert!(rt; is_checked(&rt, "two.toml", Err(Fault::MissingFile("p.img"))));
+    assert!(rt; is_explained(&rt, "two.toml", Err(Fault::MissingFile("p.img"))));
     assert!(rt; is_written(&rt, "p.img", HELLO_IMAGE));
     assert!(rt; is_checked(&rt, "two.toml", Err(Fault::MissingFile("q.img"))));
     assert!(rt; has_left(&rt, "a-missing-image-is-refused"));
@@ -177,7 +230,9 @@ fn a_bad_image_is_refused_by_check(rt: HostRuntime) {
     assert!(rt; is_written(&rt, "p.img", HELLO_IMAGE));
     assert!(rt; is_written(&rt, "q.img", b"PTKI"));
     assert!(rt; is_checked(&rt, "two.toml", Err(Fault::Image("q.img", 1))));
+    assert!(rt; is_explained(&rt, "two.toml", Err(Fault::Image("q.img", 1))));
     assert_eq!(rt; check_status(&rt, "two.toml"), 1);
+    assert_eq!(rt; explain_status(&rt, "two.toml"), 1);
     assert_eq!(rt; run_status(&rt, "two.toml"), 0);
     assert!(rt; has_left(&rt, "a-bad-image-is-refused-by-check"));
 }
@@ -189,9 +244,11 @@ fn a_sound_configuration_is_done(rt: HostRuntime) {
     assert!(rt; is_written(&rt, "p.img", HELLO_IMAGE));
     assert!(rt; is_checked(&rt, "hello.toml", Ok(())));
     assert_eq!(rt; check_status(&rt, "hello.toml"), 0);
+    assert_eq!(rt; explain_status(&rt, "hello.toml"), 0);
     assert_eq!(rt; run_status(&rt, "hello.toml"), 0);
     assert_eq!(rt; trace_status(&rt, "hello.toml", "p"), 0);
     assert_eq!(rt; trace_status(&rt, "hello.toml", "z"), 1);
+    assert_eq!(rt; timeline_status(&rt, "hello.toml"), 0);
     assert!(rt; has_left(&rt, "a-sound-configuration-is-done"));
 }
 
@@ -236,6 +293,10 @@ fn words_have_their_statuses(rt: HostRuntime) {
     );
     assert_eq!(rt; answer_words(&rt, &["ptk", "--help"]), 0);
     assert_eq!(rt; answer_words(&rt, &["ptk", "check", "none.toml"]), 1);
+    assert_eq!(rt;
+        answer_words(&rt, &["ptk", "check", "none.toml", "--explain"]),
+        1
+    );
     assert_eq!(rt; unread(&rt, io::ErrorKind::InvalidData), 2);
     assert_eq!(rt; unread(&rt, io::ErrorKind::OutOfMemory), 3);
     assert_eq!(rt; usage(&rt, &clap::Error::from(AllocError)), 3);

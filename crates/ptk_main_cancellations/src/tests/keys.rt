@@ -1,44 +1,6 @@
 //! Rows of keys, their values and their destructors.
 
-use ptk_main_guests::{ALONE, LIBRARY, Sight, check_row};
-
-// Thread 2, at 20, ends with a value of a key whose destructor puts it and sets the key again, one greater. Main joins
-// 2 and exits with its result. The destructor's end stands behind.
-const SET_AGAIN: &str = "
-    la a1, target       #   0
-    li a3, 20           #   2
-    call create         #   3  its ret comes at 110, or 138
-    li a0, 2            # 111, 139
-    li a7, 12           # 112, 140  join
-    ecall               # 113, 141
-    mv a0, a1           # 121, 149
-    li a7, 0            # 122, 150  exit
-    ecall               # 123, 151
-target:
-    la a0, again        #  20
-    li a7, 50           #  22  pthread_key_create
-    ecall               #  23
-    mv a0, a1           #  27
-    li a1, 49           #  28  1
-    li a7, 52           #  29  pthread_setspecific
-    ecall               #  30
-    li a0, 33           #  32
-    ret                 #  33  the gate at 34 and 38
-again:
-    mv s0, a0           #  42, then 59,  76 and 93, or 66, 90 and 114
-    addi a1, a0, 1      #  43
-    li a0, 1            #  44
-    li a7, 52           #  45  pthread_setspecific
-    ecall               #  46
-    mv a0, s0           #  48
-    li a7, 1            #  49  console_put
-    ecall               #  50
-";
-
-// The destructor returns, the gate at 55, 72, 89 and 106.
-const BY_RETURN: &str = "
-    ret                 #  54
-";
+use ptk_main_guests::{ALONE, BY_RETURN, LIBRARY, SET_AGAIN, Sight, check_row};
 
 // The destructor exits with 7, the gate at 62, 86, 110 and 134.
 const BY_EXIT: &str = "

@@ -1,55 +1,6 @@
 //! Rows of requests to threads that wait.
 
-use ptk_main_guests::{ALONE, LIBRARY, NUMBERS, P, Sight, check_row, is_trace};
-
-// Row cancelled-waiter. X, 2, then Y, 3, both at 20, wait on the condition variable. Main, at 30, cancels X, which owns
-// the mutex again, and signals once. X's handler unlocks the mutex, which goes to Y; Y's handler unlocks it too.
-const CANCELLED_WAITER: &str = "
-    la a1, waiter       #   0
-    li a3, 20           #   2
-    call create         #   3  its ret comes at 53
-    la a1, waiter       #  54
-    li a3, 20           #  56
-    call create         #  57  its ret comes at 107
-    li a0, 1            # 108
-    li a1, 30           # 109
-    li a7, 18           # 110  setschedprio
-    ecall               # 111
-    li a0, 2            # 119
-    li a7, 40           # 120  pthread_cancel
-    ecall               # 121
-    addi s0, a0, 1000   # 131
-    li a0, 1028         # 132
-    li a7, 34           # 133  cond_signal
-    ecall               # 134
-    li a0, 3            # 146
-    li a7, 12           # 147  join
-    ecall               # 148  blocks
-    li a0, 2            # 208
-    ecall               # 209
-    addi s1, a1, 1000   # 217
-    li a7, 0            # 218  exit
-    ecall               # 219
-waiter:
-    la a0, cleanup      #  20 of X,  74 of Y
-    li a1, 1024         #  22,  76
-    li a7, 44           #  23,  77  pthread_cleanup_push
-    ecall               #  24,  78
-    li a0, 1024         #  28,  82
-    li a7, 22           #  29,  83  mutex_lock
-    ecall               #  30,  84
-    li a0, 1028         #  38,  92
-    li a1, 1024         #  39,  93
-    li a7, 32           #  40,  94  cond_wait
-    ecall               #  41,  95  blocks; X's unwinding begins at 156
-    addi s0, a0, 1000   #      181
-    ret                 #      182  the gate at 183
-cleanup:
-    li a7, 25           # 164, 191  mutex_unlock; the gate at 160 and 187
-    ecall               # 165, 192
-    addi s0, a0, 1000   # 175, 202
-    ret                 # 176, 203  the gate at 177 and 204
-";
+use ptk_main_guests::{ALONE, CANCELLED_WAITER, LIBRARY, NUMBERS, P, Sight, check_row, is_trace};
 
 #[test]
 fn a_cancelled_waiter_owns_its_mutex_and_takes_no_signal(rt: HostRuntime) {

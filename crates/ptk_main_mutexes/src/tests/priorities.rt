@@ -1,57 +1,6 @@
 //! Rows of priorities: inheritance over chains and a cycle, hand overs, and ceilings.
 
-use ptk_main_guests::{ALONE, LIBRARY, NUMBERS, P, Sight, check_row, is_report};
-
-// Row inherit-basic. Low is main, 1; high, 2, makes `m`, between them, and `o`, of low's priority, before it locks.
-// Low then runs before both; after its unlock it stands first in the line, so later it runs before `o`.
-const INHERIT_BASIC: &str = "
-    li a0, 1            #   0  low
-    li a1, 5            #   1
-    li a7, 18           #   2  setschedprio
-    ecall               #   3
-    li a0, 1024         #  11
-    li a1, 0            #  12  NORMAL
-    li a2, 1            #  13  INHERIT
-    li a7, 20           #  14  mutex_init
-    ecall               #  15
-    li a0, 1024         #  21
-    li a7, 22           #  22  mutex_lock
-    ecall               #  23
-    la a1, high         #  31
-    li a3, 20           #  33
-    call create         #  34  its ret comes at 105
-    li a0, 108          # 106  l
-    li a7, 1            # 107  console_put
-    ecall               # 108
-    li a0, 1024         # 112
-    li a7, 25           # 113  mutex_unlock
-    ecall               # 114
-    li a0, 76           # 167  L
-    li a7, 1            # 168  console_put
-    ecall               # 169
-    li a7, 11           # 173  pthread_exit
-    ecall               # 174  the gate at 180, then o from 184 to 198
-high:
-    la a1, letter       #  51
-    li a2, 109          #  53  m
-    li a3, 10           #  54
-    call create         #  55
-    la a1, letter       #  73
-    li a2, 111          #  75  o
-    li a3, 5            #  76
-    call create         #  77
-    li a0, 1024         #  95
-    li a7, 22           #  96  mutex_lock
-    ecall               #  97  blocks
-    li a0, 104          # 124  h
-    li a7, 1            # 125  console_put
-    ecall               # 126
-    li a0, 1024         # 130
-    li a7, 25           # 131  mutex_unlock
-    ecall               # 132
-    li a7, 11           # 142  pthread_exit
-    ecall               # 143  the gate at 149, then m from 153 to 167
-";
+use ptk_main_guests::{ALONE, INHERIT_BASIC, LIBRARY, NUMBERS, P, Sight, check_row, is_report};
 
 #[test]
 fn an_owner_inherits(rt: HostRuntime) {

@@ -1,48 +1,6 @@
 //! Rows of robust mutexes: what becomes of them at their owners' ends. Replies are kept in s registers, 1000 more.
 
-use ptk_main_guests::{ALONE, LIBRARY, Sight, check_row};
-
-// Row owner-died. A is main, 1; B, 2, at 20 waits for its mutex when it ends; C, 3, at 10 locks it last.
-const OWNER_DIED: &str = "
-    li a0, 1024         #   0
-    li a1, 4            #   1  robust NORMAL
-    li a7, 20           #   2  mutex_init
-    ecall               #   3
-    li a0, 1024         #   9
-    li a7, 22           #  10  mutex_lock
-    ecall               #  11
-    la a1, second       #  19
-    li a3, 20           #  21
-    call create         #  22  its ret comes at 49
-    la a1, third        #  50
-    li a3, 10           #  52
-    call create         #  53
-    li a7, 11           #  71  pthread_exit
-    ecall               #  72  the gate at 78
-second:
-    li a0, 1024         #  39
-    li a7, 22           #  40  mutex_lock
-    ecall               #  41  blocks
-    addi s0, a0, 1000   #  82
-    li a0, 1024         #  83
-    li a7, 26           #  84  mutex_consistent
-    ecall               #  85
-    addi s1, a0, 1000   #  91
-    li a0, 1024         #  92
-    li a7, 25           #  93  mutex_unlock
-    ecall               #  94
-    addi s2, a0, 1000   # 104
-    li a0, 3            # 105
-    li a7, 12           # 106  join
-    ecall               # 107  blocks
-third:
-    li a0, 1024         # 115
-    li a7, 22           # 116  mutex_lock
-    ecall               # 117
-    addi s0, a0, 1000   # 125
-    li a7, 0            # 126  exit
-    ecall               # 127
-";
+use ptk_main_guests::{ALONE, LIBRARY, OWNER_DIED, Sight, check_row};
 
 #[test]
 fn a_dead_owners_mutex_goes_to_its_heir(rt: HostRuntime) {

@@ -1,7 +1,6 @@
 //! Rows of locks and condition waits that end at a time.
 
-use super::TIMES;
-use ptk_main_guests::{ALONE, LIBRARY, Sight, check_row};
+use ptk_main_guests::{ALONE, EXPIRED_WAIT, LIBRARY, Sight, TIMES, check_row};
 
 // Row inherit-cycle, whole. A, 2, at 2 owns mutex 1 and waits for mutex 2; B, 3, at 3 owns mutex 2 and waits for mutex 1;
 // H, 4, at 10 waits for mutex 1 until tick 200. Main, at 1, loops meanwhile.
@@ -140,38 +139,6 @@ fn a_cycle_that_is_closed_later_falls_too(rt: HostRuntime) {
         None
     );
 }
-
-// Row expired-wait-releases. The caller is main, 1; O, 2, at 20 waits for its mutex.
-const EXPIRED_WAIT: &str = "
-    li a0, 1024         #   0
-    li a7, 22           #   1  mutex_lock
-    ecall               #   2
-    la a1, other        #  10
-    li a3, 20           #  12
-    call create         #  13  its ret comes at 40
-    li a0, 1028         #  41
-    li a1, 1024         #  42
-    la a2, past         #  43
-    li a7, 33           #  45  cond_timedwait
-    ecall               #  46  blocks
-    mv s0, a0           #  84
-    li a0, 1024         #  85
-    li a7, 25           #  86  mutex_unlock
-    ecall               #  87
-    add a0, a0, s0      #  97
-    li a7, 0            #  98  exit
-    ecall               #  99
-other:
-    li a0, 1024         #  30
-    li a7, 22           #  31  mutex_lock
-    ecall               #  32  blocks
-    mv s0, a0           #  60
-    li a0, 1024         #  61
-    li a7, 25           #  62  mutex_unlock
-    ecall               #  63
-    li a7, 11           #  73  pthread_exit
-    ecall               #  74  the gate at 80
-";
 
 #[test]
 fn a_wait_that_is_over_at_once_releases_its_mutex(rt: HostRuntime) {

@@ -1,7 +1,6 @@
 //! Rows of clocks and sleeps.
 
-use super::TIMES;
-use ptk_main_guests::{ALONE, LIBRARY, NUMBERS, P, Sight, check_cuts, check_row};
+use ptk_main_guests::{ALONE, LIBRARY, NUMBERS, P, Sight, TIMES, check_cuts, check_row};
 
 // Row tick-conversion: main sleeps until one second, and reads the clock a tick later.
 const CLOCK: &str = "

@@ -17,7 +17,8 @@ returns c =
     ∙ ap (on_top wants_subcommand) (ap app_of_fields c.after_help.ensures ∙ ap app_of_fields c.about.ensures ∙ c.new.ensures.app) in
     let one = c.in_ok-subcommand.ensures.shape c.in_ok-run_command.ensures.1 ∙ ap₂ with_subcommand start (ap top_of c.in_ok-run_command.ensures.0) in
     let two = c.in_ok-subcommand-2.ensures.shape c.in_ok-trace_command.ensures.1 ∙ ap₂ with_subcommand one (ap top_of c.in_ok-trace_command.ensures.0) in
-    let three = c.in_ok-subcommand-3.ensures.shape c.in_ok-asm_command.ensures.1 ∙ ap₂ with_subcommand two (ap top_of c.in_ok-asm_command.ensures.0) in
-    IfOk-weaker c.subcommand-4.result _ _
-    (λ r h. h.shape c.in_ok-check_command.ensures.1 ∙ ap₂ with_subcommand three (ap top_of c.in_ok-check_command.ensures.0))
-    c.subcommand-4.ensures
+    let three = c.in_ok-subcommand-3.ensures.shape c.in_ok-timeline_command.ensures.1 ∙ ap₂ with_subcommand two (ap top_of c.in_ok-timeline_command.ensures.0) in
+    let four = c.in_ok-subcommand-4.ensures.shape c.in_ok-asm_command.ensures.1 ∙ ap₂ with_subcommand three (ap top_of c.in_ok-asm_command.ensures.0) in
+    IfOk-weaker c.subcommand-5.result _ _
+    (λ r h. h.shape c.in_ok-check_command.ensures.1 ∙ ap₂ with_subcommand four (ap top_of c.in_ok-check_command.ensures.0))
+    c.subcommand-5.ensures

@@ -9,4 +9,6 @@ returns-in_err-file c =
     none_found _ _ (rows_of (found_of c.args.found.now)) c.from_residual.ensures (no_check (rows_of found) (λ file f. no_text found (codes "FILE") file c.in_err-file.ensures f))
 
 pub returns : goal.returns
-returns c = (refl, text_at (found_of c.args.found.now) (codes "FILE") _ c.in_ok-file.ensures)
+returns c =
+    let file = text_at (found_of c.args.found.now) (codes "FILE") _ c.in_ok-file.ensures in
+    (refl, file, c.explain_in-explain.ensures)

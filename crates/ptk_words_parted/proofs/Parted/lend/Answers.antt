@@ -1,35 +1,41 @@
 use Rattle.std.proofs.Common.{sym, ◌∙◌, ap, refl}
 use Rattle.std.specs.Vec.{with_items_from}
-use Rattle.ptk_words_parted.proofs.Cuts.{in_ends, part_lies, part-is, lent-is, is_cut-length}
-use Rattle.ptk_words_parted.specs.Cuts.{lent}
+use Rattle.ptk_words_parted.specs.Cuts.{ends_in, lent}
+use Rattle.ptk_words_parted.proofs.Cuts.{in_extents, part_lies, part-is, placed, lent-is, is_cut-length}
 use Rattle.ptk_words_parted.proofs.Parted.lend.Goals as goal
 
-pub extent_of-extent-requires : goal.extent_of-extent-requires
-extent_of-extent-requires g c = rw c.deref.ensures.value (in_ends _ _ _ _ c.self.view_is c.requires)
+pub index-extent-requires : goal.index-extent-requires
+index-extent-requires g c = rw (c.index.ensures, c.self.inside.extents.ok.0) (in_extents _ _ _ _ c.self.view_is c.requires)
 
 pub slice_mut-requires-clause-start_le_end : goal.slice_mut-requires-clause-start_le_end
 slice_mut-requires-clause-start_le_end g c =
-    let at = part_lies _ _ _ _ c.self.view_is c.self.invariant c.requires in
-    rw (c.extent_of-extent.ensures.start, c.extent_of-extent.ensures.end, c.deref.ensures.value) at.ordered
+    let at = part_lies _ _ _ _ c.self.view_is c.self.invariant.1 c.requires in
+    let place = placed _ _ c.args.p _ c.index-extent.ensures c.index.ensures c.self.invariant.0 (in_extents _ _ _ _ c.self.view_is c.requires) in
+    rw (place.0, place.1) at.ordered
 
 pub slice_mut-requires-clause-in_bounds : goal.slice_mut-requires-clause-in_bounds
 slice_mut-requires-clause-in_bounds g c =
-    let at = part_lies _ _ _ _ c.self.view_is c.self.invariant c.requires in
-    rw (c.extent_of-extent.ensures.end, c.deref.ensures.value, c.self.inside.items.ok.0) at.within
+    let at = part_lies _ _ _ _ c.self.view_is c.self.invariant.1 c.requires in
+    let place = placed _ _ c.args.p _ c.index-extent.ensures c.index.ensures c.self.invariant.0 (in_extents _ _ _ _ c.self.view_is c.requires) in
+    rw (place.1, c.self.inside.items.ok.0) at.within
 
 pub invariant_of-self-lent : goal.invariant_of-self-lent
-invariant_of-self-lent g c = λ w. is_cut-length 0 c.self.inside.ends.items c.self.inside.items.items _
-    (sym c.self.inside.items.ok.0 ∙ (with_items_from c.self.inside.items c.extent_of-extent.result.start w).ok.0) c.self.invariant
+invariant_of-self-lent g c = λ w. (
+  c.self.invariant.0,
+  is_cut-length 0 (ends_in c.self.inside.extents.items) c.self.inside.items.items _
+      (sym c.self.inside.items.ok.0 ∙ (with_items_from c.self.inside.items c.index-extent.result.now.start w).ok.0) c.self.invariant.1,
+)
 
 pub returns : goal.returns
-returns g c = (
-  (
-    refl,
-    λ w. rw (c.extent_of-extent.ensures.start, c.deref.ensures.value, c.self.inside.items.ok.0)
-        (lent-is c.self.inside.ends.items c.self.inside.items.items c.args.p w c.self.invariant ∙ ap (λ parts. lent parts c.args.p w) c.self.view_is),
-  ),
-  record {
-    writes_back = tt;
-    value = c.slice_mut.ensures.value ∙ rw (c.extent_of-extent.ensures.start, c.extent_of-extent.ensures.end, c.deref.ensures.value) (part-is _ _ _ _ c.self.view_is c.requires);
-  },
-)
+returns g c =
+    let place = placed _ _ c.args.p _ c.index-extent.ensures c.index.ensures c.self.invariant.0 (in_extents _ _ _ _ c.self.view_is c.requires) in (
+      (
+        refl,
+        λ w. rw (place.0, c.self.inside.items.ok.0)
+            (lent-is (ends_in c.self.inside.extents.items) c.self.inside.items.items c.args.p w c.self.invariant.1 ∙ ap (λ parts. lent parts c.args.p w) c.self.view_is),
+      ),
+      record {
+        writes_back = tt;
+        value = c.slice_mut.ensures.value ∙ rw (place.0, place.1) (part-is _ _ _ _ c.self.view_is c.requires);
+      },
+    )

@@ -1,4 +1,4 @@
-use Rattle.ptk_words_windows.proofs.OwnLaws.{next_first}
+use Rattle.ptk_words_windows.proofs.NextLaws.{next_first}
 use Rattle.ptk_words_windows.proofs.laws.next_is_first.Goals as goal
 
 pub returns : goal.returns

@@ -1,4 +1,4 @@
-use Rattle.ptk_words_windows.proofs.OwnLaws.{next_one}
+use Rattle.ptk_words_windows.proofs.NextLaws.{next_one}
 use Rattle.ptk_words_windows.proofs.laws.next_is_one.Goals as goal
 
 pub returns : goal.returns

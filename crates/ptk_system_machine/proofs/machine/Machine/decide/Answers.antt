@@ -30,7 +30,7 @@ invariant_of-self c =
 
 pub returns-clause-on : goal.returns-clause-on
 returns-clause-on c =
-    let window : IsInWindow (own_ticks c.args.windows.now c.args.p) c.args.turn.start c.args.turn.end = c.requires.coming.window c.requires.due in
+    let window : IsInWindow (own_ticks c.args.plan.now c.args.p) c.args.turn.start c.args.turn.end = c.requires.coming.window c.requires.due in
     let less : c.args.turn.start < c.args.turn.end = window.before in
     let some : 1 ≤ c.ticks.result - c.ticks-2.result = omega arith in
     let costs : 1 ≤ duration_of (c.ticks.result - c.ticks-2.result) c.decide-spent.result =
@@ -46,7 +46,7 @@ returns-clause-on c =
 pub returns-clause-gone : goal.returns-clause-gone
 returns-clause-gone c =
     let lt : c.args.p < length c.self.inside.accounts.items = subst (λ (w : Whole). c.args.p < length w.accounts) (sym c.self.view_is) c.requires.partition in
-    let window : IsInWindow (own_ticks c.args.windows.now c.args.p) c.args.turn.start c.args.turn.end = c.requires.coming.window c.requires.due in
+    let window : IsInWindow (own_ticks c.args.plan.now c.args.p) c.args.turn.start c.args.turn.end = c.requires.coming.window c.requires.due in
     let less : c.args.turn.start < c.args.turn.end = window.before in
     let room : c.ticks.result - c.ticks-2.result ≡ c.args.turn.end - c.args.turn.start = cc in
     let some : 1 ≤ c.ticks.result - c.ticks-2.result = omega arith in
@@ -59,10 +59,10 @@ returns-clause-gone c =
     ∙ spent_next c.next_turn-next.result.0 c.account.inside.trace.kept (c.ticks.result - c.ticks-2.result) c.decide-spent.result c.last_step-last.result (kept_account_of c.account.inside).account) in
     let le : c.free_from-from.result ≤ c.free_from-from.result = omega arith in
     subst (λ (w : Whole). record { kept = c.decide-spent.new.tables; accounts = set c.self.inside.accounts.items c.index.result c.count.new.self }
-    ≡ gone_on (own_ticks c.args.windows.now c.args.p) c.args.p c.args.turn.start (c.coming.result.start - c.args.turn.start) w) c.self.view_is
-    (decided_on c.args.windows.now c.args.p c.args.turn.start c.args.turn.end (c.ticks.result - c.ticks-2.result) c.free_from-from.result c.coming.result.start c.args.to
+    ≡ gone_on (own_ticks c.args.plan.now c.args.p) c.args.p c.args.turn.start (c.coming.result.start - c.args.turn.start) w) c.self.view_is
+    (decided_on c.args.plan.now c.args.p c.args.turn.start c.args.turn.end (c.ticks.result - c.ticks-2.result) c.free_from-from.result c.coming.result.start c.args.to
     (record { kept = c.self.inside.tables; accounts = c.self.inside.accounts.items }) (record { kept = c.decide-spent.new.tables; accounts = set c.self.inside.accounts.items c.index.result c.count.new.self })
-    c.is_table.ensures c.self.invariant lt (window.ends c.args.turn.start (omega arith) less) room
+    c.is_plan.ensures c.self.invariant lt (window.ends c.args.turn.start (omega arith) less) room
     (decision_costs (limits_at c.args.p c.self.inside.tables) c.args.turn.start (c.ticks.result - c.ticks-2.result) (part_at c.args.p c.self.inside.tables) _ some refl)
     due (returns-clause-on c)
     (λ within. begins_from c.free_from-from.result c.free_from-from.result c.args.to c.next_turn-next.result.0 c.coming.result le within c.next_turn-next.ensures.from (λ before. sym next ∙ c.coming.ensures.due before))
@@ -70,8 +70,8 @@ returns-clause-gone c =
     (free_told (length c.self.inside.accounts.items) c.args.p c.args.turn.start (c.ticks.result - c.ticks-2.result) c.args.to c.free_from-from.result c.self.inside.tables c.decide-spent.new.tables c.decide-spent.result
     c.self.invariant.parts lt c.decide-spent.ensures.told c.decide-spent.ensures.moved c.free_from-from.ensures.free)
     (ap (λ (i : ℕ). record { kept = c.decide-spent.new.tables; accounts = set c.self.inside.accounts.items i c.count.new.self }) c.index.ensures
-    ∙ decided_whole (own_ticks c.args.windows.now c.args.p) c.args.turn.start (c.ticks.result - c.ticks-2.result) c.free_from-from.result c.args.p c.self.inside.tables c.decide-spent.new.tables c.self.inside.accounts.items c.count.new.self
+    ∙ decided_whole (own_ticks c.args.plan.now c.args.p) c.args.turn.start (c.ticks.result - c.ticks-2.result) c.free_from-from.result c.args.p c.self.inside.tables c.decide-spent.new.tables c.self.inside.accounts.items c.count.new.self
     c.decide-spent.result c.next_turn-next.result.0 c.last_step-last.result c.self.invariant lt c.decide-spent.ensures.told c.decide-spent.ensures.moved
-    (c.next_turn-next.ensures.next ∙ ap (λ (s : Status). next_from (own_ticks c.args.windows.now c.args.p) s c.free_from-from.result) c.status-status.ensures)
+    (c.next_turn-next.ensures.next ∙ ap (λ (s : Status). next_from (own_ticks c.args.plan.now c.args.p) s c.free_from-from.result) c.status-status.ensures)
     c.last_step-last.ensures
     (c.count.ensures ∙ ap (λ (a : KeptAccount). record a { account = spent_account c.next_turn-next.result.0 a.kept (c.ticks.result - c.ticks-2.result) c.decide-spent.result c.last_step-last.result a.account }) account)))

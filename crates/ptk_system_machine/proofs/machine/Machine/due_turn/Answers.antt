@@ -9,13 +9,13 @@ pub returns-in_default-turn_from-clause-turn : goal.returns-in_default-turn_from
 returns-in_default-turn_from-clause-turn c = λ k from below at.
     let next : Some c.in-Some.next ≡ Some k = sym c.in-Some.is ∙ (c.next.ensures ∙ (ap (λ (a : KeptAccount). a.account.next) c.account.ensures.value ∙ at)) in
     let one : c.in-Some.next ≡ k = cc in
-    never_found c.args.windows.now c.args.p c.in-Some.next k c.turn_from.result c.is_table.ensures c.turn_from.ensures.turn (λ turn is. cc (is, c.in_default-turn_from.is)) one
+    never_found c.args.plan.now c.args.p c.in-Some.next k c.turn_from.result c.is_plan.ensures c.turn_from.ensures.turn (λ turn is. cc (is, c.in_default-turn_from.is)) one
 
 pub returns-then-ticks-3-clause-turn : goal.returns-then-ticks-3-clause-turn
 returns-then-ticks-3-clause-turn c = λ k from below at.
     let next : Some c.in-Some.next ≡ Some k = sym c.in-Some.is ∙ (c.next.ensures ∙ (ap (λ (a : KeptAccount). a.account.next) c.account.ensures.value ∙ at)) in
     let one : c.in-Some.next ≡ k = cc in
-    never_found c.args.windows.now c.args.p c.in-Some.next k c.turn_from.result c.is_table.ensures c.turn_from.ensures.turn
+    never_found c.args.plan.now c.args.p c.in-Some.next k c.turn_from.result c.is_plan.ensures c.turn_from.ensures.turn
     (λ turn is start.
     let same : Some turn ≡ Some c.in-Some-turn_from.turn = sym is ∙ c.in-Some-turn_from.is in
     let here : turn ≡ c.in-Some-turn_from.turn = cc in
@@ -28,5 +28,5 @@ returns-clause-turn c =
       omega arith,
       omega arith,
       sym (ap (λ (a : KeptAccount). a.account.next) c.account.ensures.value) ∙ (sym c.next.ensures ∙ (c.in-Some.is ∙ ap Some (sym at))),
-      in_window c.args.windows.now c.args.p c.in-Some-turn_from.turn.start c.in-Some-turn_from.turn.end c.is_table.ensures c.requires.frame c.in-Some-turn_from.ensures.turn.1,
+      in_window c.args.plan.now c.args.p c.in-Some-turn_from.turn.start c.in-Some-turn_from.turn.end c.is_plan.ensures c.requires.frame c.in-Some-turn_from.ensures.turn.1,
     )

@@ -5,10 +5,10 @@ use Rattle.ptk_system_machine.proofs.machine.Machine.go_on.Goals as goal
 
 pub decide-requires-clause-behind : goal.decide-requires-clause-behind
 decide-requires-clause-behind c =
-    gone_behind c.args.windows.now c.args.p c.args.turn.start c.row-next.result.start c.args.self.now c.row-next.new.self c.is_table.ensures c.requires.windows.frame c.parts-parts.ensures.whole c.requires.partition
-    c.row-next.ensures.from c.row-next.ensures.gone c.requires.behind
+    gone_behind c.args.plan.now c.args.p c.args.turn.start c.rows-next.result.start c.args.self.now c.rows-next.new.self c.is_plan.ensures c.requires.windows.frame c.parts-parts.ensures.whole c.requires.partition
+    c.rows-next.ensures.from c.rows-next.ensures.gone c.requires.behind
 
 pub returns-then-ticks-clause-gone : goal.returns-then-ticks-clause-gone
 returns-then-ticks-clause-gone c =
-    gone_further (own_ticks c.args.windows.now c.args.p) c.args.p c.args.turn.start c.row-next.result.start c.decide.result.start c.args.self.now c.row-next.new.self c.decide.new.self c.parts-parts.ensures.whole c.requires.partition
-    c.row-next.ensures.from (omega (arith, c.decide.ensures.on)) c.row-next.ensures.gone c.decide.ensures.gone
+    gone_further (own_ticks c.args.plan.now c.args.p) c.args.p c.args.turn.start c.rows-next.result.start c.decide.result.start c.args.self.now c.rows-next.new.self c.decide.new.self c.parts-parts.ensures.whole c.requires.partition
+    c.rows-next.ensures.from (omega (arith, c.decide.ensures.on)) c.rows-next.ensures.gone c.decide.ensures.gone

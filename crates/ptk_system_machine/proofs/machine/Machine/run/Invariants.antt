@@ -11,7 +11,7 @@ invariant-loop-p l = record {
   parts : length l.self.accounts ≡ length l.fn.self.accounts;
   count : length l.turns ≡ 8;
   limits : l.self.kept.limits ≡ l.fn.self.kept.limits;
-  each : (q : ℕ) → q < length l.fn.self.accounts → IsUpTo (own_ticks l.windows q) (limits_at q l.fn.self.kept) l.fn.tick l.to (turn_at q l.turns) (state_at q l.fn.self) (state_at q l.self);
+  each : (q : ℕ) → q < length l.fn.self.accounts → IsUpTo (own_ticks l.plan q) (limits_at q l.fn.self.kept) l.fn.tick l.to (turn_at q l.turns) (state_at q l.fn.self) (state_at q l.self);
 }
 
 abbrev pub decreases-loop-p : goal.decreases-loop-p

@@ -7,8 +7,8 @@ use Rattle.ptk_system_machine.proofs.machine.Machine.turn.Given as goal
 abbrev pub invariant-loop-p : goal.invariant-loop-p
 invariant-loop-p l = record {
   from : l.fn.turn.start ≤ l.now.start;
-  coming : IsComing (own_ticks l.windows l.p) l.to (account_at l.p l.self).account.next l.now;
-  gone : l.self ≡ gone_on (own_ticks l.windows l.p) l.p l.fn.turn.start (l.now.start - l.fn.turn.start) l.fn.self;
+  coming : IsComing (own_ticks l.plan l.p) l.to (account_at l.p l.self).account.next l.now;
+  gone : l.self ≡ gone_on (own_ticks l.plan l.p) l.p l.fn.turn.start (l.now.start - l.fn.turn.start) l.fn.self;
 }
 
 abbrev pub decreases-loop-p : goal.decreases-loop-p

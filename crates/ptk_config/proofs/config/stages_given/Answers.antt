@@ -1,0 +1,11 @@
+use Rattle.std.proofs.Common.{◌≡◌, ◌∷◌, refl, arith}
+use Rattle.std.proofs.lemmas.Grind.{common_steps}
+use Rattle.ptk_words_windows.specs.Windows.{Stage}
+use Rattle.ptk_config.proofs.Stages.{stages_of, given-numbers}
+use Rattle.ptk_config.proofs.config.stages_given.Goals as goal
+
+pub returns-clause-numbers : goal.returns-clause-numbers
+returns-clause-numbers c =
+    let top : Stage = record { from = 0; windows = c.args.windows.now } in
+    let value : stages_of c.loop-stage.stages.items ≡ top ∷ c.args.later.now = grind (arith, common_steps) in
+    given-numbers c.loop-stage.stages.items top c.args.later.now value refl c.requires

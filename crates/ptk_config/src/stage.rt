@@ -1,0 +1,111 @@
+//! A plan's table: windows that hold from a frame on.
+
+ghost use Rattle.std.specs.Prelude.{◌≡◌, ◌≤◌, [], IfOk, codes, length, vec_len};
+ghost use Rattle.toml.specs.Data.{get_member};
+ghost use Rattle.toml.specs.View.{view, table_view, items_view};
+ghost use Rattle.ptk_config.specs.Reading.{MemoryAside, each_after};
+ghost use Rattle.ptk_config.specs.Windows.{AreLater, stage, stage_in, stages_of};
+
+use crate::fault::ConfigFault;
+use crate::reading::{are_known, array, counted, items, members, number, value_at};
+use crate::section::Section;
+use crate::window::read_windows;
+use ptk_words_windows::Window;
+use std::alloc::Global;
+use std::marker::Model;
+use toml::{Table, Value};
+
+/// The number of the last frame from which a plan may hold.
+const LAST_FROM: u64 = 68_719_476_736;
+
+/// Windows that hold from the frame of this number on.
+#[derive(Debug, Drop)]
+pub struct Stage {
+    from: u64,
+    windows: Vec<Window>,
+}
+
+impl Model for Stage {
+    ghost use Rattle.ptk_words_windows.specs.Windows as tables;
+
+    ghost Value = { tables.Stage };
+
+    ghost view = { λ a. record { from = a.from; windows = a.windows.items } };
+}
+
+impl Stage {
+    /// The number of the frame, and the windows.
+    pub fn given(&self) -> (u64, &[Window])
+        ensures from { result.0 ≡ self.now.from }
+        ensures windows { result.1.now ≡ self.now.windows }
+    {
+        (self.from, &self.windows)
+    }
+}
+
+/// The windows that a value states, and the number of the frame from which they hold, which is this one or later.
+fn read_stage(
+    alloc: Global,
+    value: &Value,
+    sections: &[Section],
+    low: u64,
+) -> Result<Stage, ConfigFault>
+    requires { length sections.now ≤ 8 }
+    ensures value { MemoryAside (λ s. s) result (stage sections.now low (view value.now)) }
+    ensures from { IfOk result (λ s. low ≤ s.from) }
+    ensures to { IfOk result (λ s. s.from ≤ 68719476736) }
+{
+    let table = members(value)?;
+    let from = number(table, "from", low, LAST_FROM)?;
+    let values = array(table, "window", 0, 64)?;
+    let windows = read_windows(alloc, values, sections)?;
+    if are_known(table, &["from", "window"]) {
+        Ok(Stage { from, windows })
+    } else {
+        Err(ConfigFault::UnknownKey)
+    }
+}
+
+/// The stages that the values state, each from a later frame than the one before.
+#[tactic(auto, using(crate::proofs::Stages::stages))]
+fn read_stages(
+    alloc: Global,
+    values: &[Value],
+    sections: &[Section],
+) -> Result<Vec<Stage>, ConfigFault>
+    requires { length sections.now ≤ 8 }
+    ensures value { MemoryAside (λ v. v.items) result (each_after (stage_in sections.now) [] (items_view values.now)) }
+    ensures count { IfOk result (λ v. vec_len v ≡ length values.now) }
+    ensures order { IfOk result (λ v. AreLater v.items) }
+{
+    let mut stages = Vec::new(alloc);
+    let mut last = 0;
+    for value in values {
+        let stage = read_stage(alloc, value, sections, last + 1)?;
+        last = stage.from;
+        stages.push(stage)?;
+    }
+    Ok(stages)
+}
+
+/// The stages after the first, none where the key is missing.
+#[tactic(auto, using(crate::proofs::Stages::stages), unfolding(crate::specs::Windows::stages_of))]
+pub fn read_later_stages(
+    alloc: Global,
+    table: &Table,
+    sections: &[Section],
+) -> Result<Vec<Stage>, ConfigFault>
+    requires { length sections.now ≤ 8 }
+    ensures value { MemoryAside (λ v. v.items) result (stages_of sections.now (get_member (codes "plan") (table_view table.now))) }
+    ensures count { IfOk result (λ v. vec_len v ≤ 15) }
+    ensures order { IfOk result (λ v. AreLater v.items) }
+{
+    match value_at(table, "plan") {
+        Some(value) => {
+            let values = items(value)?;
+            let values = counted(values, 0, 15)?;
+            read_stages(alloc, values, sections)
+        }
+        None => Ok(Vec::new(alloc)),
+    }
+}

@@ -1,0 +1,4 @@
+pub mod Placed
+pub mod Walks
+pub mod Windows
+pub mod Refusals

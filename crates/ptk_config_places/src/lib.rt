@@ -1,0 +1,23 @@
+//! Where a configuration is refused: the place of its first fault. `first_refusal` promises that a place is told
+//! exactly where the text is refused, that the fault is the one that `read_config` answers, and that its place is that
+//! of `text_walk` of `specs/`: the checks in their order, each with its place. `explain_refusal` writes it in words,
+//! with a reason that is looked up in the document; that nothing is written of an accepted text is promised, the words
+//! are tested. Below stands `ptk_config`, whose definitions and functions of each check these are; above stand
+//! `ptk_config_table` and the program. Dear to prove is `walk_table`, over a whole document; the law that places leave
+//! each fault as it is stands in `proofs/Forgotten`.
+#![tactic(auto)]
+
+mod document;
+mod explain;
+mod lookup;
+mod place;
+mod reason;
+#[cfg(test)]
+mod tests;
+mod walk;
+mod windows;
+mod words;
+
+pub use document::first_refusal;
+pub use explain::{ExplainFault, explain_refusal};
+pub use place::{Key, Place, Refusal, TablePlace};

@@ -1,0 +1,120 @@
+//! What stands at a place of a document.
+
+use crate::place::{Key, Place, TablePlace};
+use toml::{Table, Value};
+
+/// The item of this number, from 1, of the array at a key.
+fn item_at<'a>(table: &'a Table, key: Key, number: usize) -> Option<&'a Value> {
+    if number == 0 {
+        return None;
+    }
+    match table.get(key.name()) {
+        Some(value) => match value.as_array() {
+            Some(items) => items.get(number - 1),
+            None => None,
+        },
+        None => None,
+    }
+}
+
+/// The table that is an item of the array at a key.
+fn table_in<'a>(table: &'a Table, key: Key, number: usize) -> Option<&'a Table> {
+    match item_at(table, key, number) {
+        Some(value) => value.as_table(),
+        None => None,
+    }
+}
+
+/// What stands where a table should, None for the document's own.
+pub(crate) fn value_of(document: &Table, place: TablePlace) -> Option<&Value> {
+    match place {
+        TablePlace::Top => None,
+        TablePlace::Section(section) => item_at(document, Key::Partition, section),
+        TablePlace::Input(section, input) => match table_in(document, Key::Partition, section) {
+            Some(table) => item_at(table, Key::Input, input),
+            None => None,
+        },
+        TablePlace::Plan(plan) => item_at(document, Key::Plan, plan),
+        TablePlace::Window(0, window) => item_at(document, Key::Window, window),
+        TablePlace::Window(plan, window) => match table_in(document, Key::Plan, plan) {
+            Some(table) => item_at(table, Key::Window, window),
+            None => None,
+        },
+    }
+}
+
+/// The table of a place.
+pub(crate) fn table_of(document: &Table, place: TablePlace) -> Option<&Table> {
+    match place {
+        TablePlace::Top => Some(document),
+        TablePlace::Section(_)
+        | TablePlace::Input(..)
+        | TablePlace::Plan(_)
+        | TablePlace::Window(..) => match value_of(document, place) {
+            Some(value) => value.as_table(),
+            None => None,
+        },
+    }
+}
+
+/// The value at a key of a table.
+pub(crate) fn value_at(document: &Table, place: TablePlace, key: Key) -> Option<&Value> {
+    match table_of(document, place) {
+        Some(table) => table.get(key.name()),
+        None => None,
+    }
+}
+
+/// The number at a key of a table that is not negative.
+pub(crate) fn number_at(document: &Table, place: TablePlace, key: Key) -> Option<u64> {
+    match value_at(document, place, key) {
+        Some(value) => match value.as_integer() {
+            Some(number) => u64::try_from(number).ok(),
+            None => None,
+        },
+        None => None,
+    }
+}
+
+/// The text at a key of a table.
+pub(crate) fn text_at(document: &Table, place: TablePlace, key: Key) -> Option<&str> {
+    match value_at(document, place, key) {
+        Some(value) => value.as_str(),
+        None => None,
+    }
+}
+
+/// How many items the array at a key of a table has.
+pub(crate) fn count_at(document: &Table, place: TablePlace, key: Key) -> Option<usize> {
+    match value_at(document, place, key) {
+        Some(value) => match value.as_array() {
+            Some(items) => Some(items.len()),
+            None => None,
+        },
+        None => None,
+    }
+}
+
+/// What stands at a place.
+pub(crate) fn value_there(document: &Table, place: Place) -> Option<&Value> {
+    match place {
+        Place::Text => None,
+        Place::Table(table) => value_of(document, table),
+        Place::Key(table, key) => value_at(document, table, key),
+        Place::Item(table, key, number) => match table_of(document, table) {
+            Some(values) => item_at(values, key, number),
+            None => None,
+        },
+    }
+}
+
+/// The section that a place is in.
+pub(crate) fn section_of(place: Place) -> Option<usize> {
+    match place {
+        Place::Text => None,
+        Place::Table(table) | Place::Key(table, _) | Place::Item(table, _, _) => match table {
+            TablePlace::Section(section) | TablePlace::Input(section, _) => Some(section),
+            TablePlace::Top | TablePlace::Plan(_) | TablePlace::Window(..) => None,
+        },
+    }
+}

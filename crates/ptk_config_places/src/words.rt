@@ -1,0 +1,145 @@
+//! A place and a reason in words.
+
+use crate::place::{Key, Place, TablePlace};
+use std::fmt;
+
+/// What the words of a place say besides it: the name of its section, where it has one.
+#[derive(Clone, Copy)]
+pub(crate) struct Located<'a> {
+    place: Place,
+    name: Option<&'a str>,
+}
+
+impl<'a> Located<'a> {
+    /// The place, in the section of this name.
+    pub(crate) fn new(place: Place, name: Option<&'a str>) -> Located<'a> {
+        Located { place, name }
+    }
+
+    // The words of a table, for a place within it with a comma behind them.
+    fn write_table<W: fmt::Write>(
+        &self,
+        f: &mut fmt::Formatter<W>,
+        table: TablePlace,
+        within: bool,
+    ) -> fmt::Result {
+        let end = if within { ", " } else { "" };
+        match table {
+            TablePlace::Top => f.write_str(if within { "" } else { "the document" }),
+            TablePlace::Section(section) => {
+                self.write_section(f, section)?;
+                f.write_str(end)
+            }
+            TablePlace::Input(section, input) => {
+                self.write_section(f, section)?;
+                write!(f, ", input {input}{end}")
+            }
+            TablePlace::Plan(plan) => write!(f, "plan {plan}{end}"),
+            TablePlace::Window(0, window) => write!(f, "window {window}{end}"),
+            TablePlace::Window(plan, window) => write!(f, "plan {plan}, window {window}{end}"),
+        }
+    }
+
+    // The number of a section and its name.
+    fn write_section<W: fmt::Write>(
+        &self,
+        f: &mut fmt::Formatter<W>,
+        section: usize,
+    ) -> fmt::Result {
+        match self.name {
+            Some(name) => write!(f, "section {section} \"{name}\""),
+            None => write!(f, "section {section}"),
+        }
+    }
+}
+
+impl fmt::Display for Located<'_> {
+    fn fmt<W: fmt::Write>(&self, f: &mut fmt::Formatter<W>) -> fmt::Result {
+        match self.place {
+            Place::Text => f.write_str("the text"),
+            Place::Table(table) => self.write_table(f, table, false),
+            Place::Key(table, key) => {
+                self.write_table(f, table, true)?;
+                let key = key.name();
+                write!(f, "key {key}")
+            }
+            Place::Item(table, key, item) => {
+                self.write_table(f, table, true)?;
+                let key = key.name();
+                write!(f, "key {key}, item {item}")
+            }
+        }
+    }
+}
+
+/// Why what stands at a place is refused.
+#[derive(Clone, Copy)]
+pub(crate) enum Reason<'a> {
+    /// The text is no document.
+    NoDocument,
+    /// The key is missing.
+    Missing,
+    /// It is of this kind and not of that one.
+    OtherKind(&'static str, &'static str),
+    /// The number is not from the second to the third.
+    Outside(i64, u64, u64),
+    /// The number is no multiple of 16.
+    NoMultiple(i64),
+    /// So many threads with stacks of so many bytes do not lie in so many bytes of memory.
+    Stacks(u64, u64, u64),
+    /// The text is no name.
+    NoName,
+    /// The text is empty.
+    NoText,
+    /// There are so many items, and not from the second number to the third.
+    Count(usize, u64, u64),
+    /// The table has this key, which it may not have; None where the key can't be shown.
+    Unknown(Option<&'a str>),
+    /// The section of this number has the same name.
+    SameName(usize),
+    /// There is no window.
+    NoWindow,
+    /// The window has so few ticks.
+    Short(u64),
+    /// The window ends at this tick, after a frame of so many.
+    PastFrame(u64, u64),
+    /// No section has the name; None where it can't be shown.
+    NoSection(Option<&'a str>),
+    /// The window of this number has a tick of it.
+    Overlap(usize),
+    /// No reason was found.
+    None,
+}
+
+impl fmt::Display for Reason<'_> {
+    fn fmt<W: fmt::Write>(&self, f: &mut fmt::Formatter<W>) -> fmt::Result {
+        match *self {
+            Reason::NoDocument => f.write_str("not a TOML document"),
+            Reason::Missing => f.write_str("missing"),
+            Reason::OtherKind(found, wanted) => write!(f, "{found}, not {wanted}"),
+            Reason::Outside(value, low, high) => write!(f, "{value} is not from {low} to {high}"),
+            Reason::NoMultiple(value) => write!(f, "{value} is not a multiple of 16"),
+            Reason::Stacks(threads, stack, memory) => {
+                write!(
+                    f,
+                    "{threads} stacks of {stack} bytes do not fit into {memory} bytes of memory"
+                )
+            }
+            Reason::NoName => f.write_str("not 1 to 16 of a to z, 0 to 9, _ and -"),
+            Reason::NoText => f.write_str("empty"),
+            Reason::Count(count, low, high) => write!(f, "{count} items, not {low} to {high}"),
+            Reason::Unknown(Some(key)) => write!(f, "key {key} is unknown"),
+            Reason::Unknown(None) => f.write_str("a key is unknown"),
+            Reason::SameName(section) => write!(f, "section {section} has the same name"),
+            Reason::NoWindow => f.write_str("no window"),
+            Reason::Short(length) => write!(f, "{length} ticks are fewer than 16"),
+            Reason::PastFrame(end, frame) => {
+                write!(f, "ends at tick {end}, after the frame of {frame} ticks")
+            }
+            Reason::NoSection(Some(name)) => write!(f, "no section has the name \"{name}\""),
+            Reason::NoSection(None) => f.write_str("no section has its name"),
+            Reason::Overlap(window) => write!(f, "has a tick in common with window {window}"),
+            Reason::None => f.write_str("refused"),
+        }
+    }
+}

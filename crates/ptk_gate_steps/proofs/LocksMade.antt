@@ -1,0 +1,177 @@
+-- What lock and unlock come to of a mutex that nobody else wants.
+use Rattle.std.proofs.Common.{◌≡◌, ℕ, ◌-◌, ◌<◌, Bool, true, false, not, ◌&&◌, List, [], ◌∷◌, length, refl, sym, ap, subst, ◌∙◌, arith}
+use Rattle.std.specs.Prelude.{◌==◌, Option, Some, None, is_some, option_map, unwrap_or, nat_lt, if◌then◌else◌}
+use Rattle.std.proofs.lemmas.Bool.{ne_eqb, eqb-true}
+use Rattle.ptk_words.specs.Calls.{call_of, ticks_of}
+use Rattle.ptk_words.specs.Pools.{least_free, first_of_greatest}
+use Rattle.ptk_words.specs.Processor.{Processor, register, with_register}
+use Rattle.ptk_words.specs.Words.{word_at}
+use Rattle.ptk_words.specs.declared.TheConstants.{A0}
+use Rattle.ptk_words.specs.declared.calls.Call.{Call}
+use Rattle.ptk_words.specs.declared.calls.Call.TheVariants.{MutexLock, MutexUnlock}
+use Rattle.ptk_words.specs.declared.faults.Errno.TheVariants.{EPERM, EFAULT, EINVAL}
+use Rattle.ptk_words.specs.declared.mutexes.Protocol.{Protocol}
+use Rattle.ptk_words.specs.declared.mutexes.Protocol.TheVariants.{NoProtocol, Inherit, Protect}
+use Rattle.ptk_words.specs.declared.mutexes.Soundness.{Soundness}
+use Rattle.ptk_words.specs.declared.mutexes.Soundness.TheVariants.{Consistent, Inconsistent, Unrecoverable}
+use Rattle.ptk_words.specs.declared.mutexes.Owner.{Owner}
+use Rattle.ptk_words.specs.declared.mutexes.Owner.TheVariants.{Free, Abandoned, OwnedBy}
+use Rattle.ptk_words_model.specs.declared.Invocation.{Invocation}
+use Rattle.ptk_words_model.specs.declared.LockMove.{LockMove}
+use Rattle.ptk_words_model.specs.declared.LockMove.TheVariants as moves
+use Rattle.ptk_words_model.specs.State.{Mutex, Locks, Part, with_locks}
+use Rattle.ptk_words_model.specs.Priority.{is_owner, assigned_priority, effective_priority}
+use Rattle.ptk_words_model.specs.Mutex.{mutex_at, with_mutex, is_free, is_raising, is_above_ceiling, owner_move, free_move, own_lock_move, lock_move, owns, waiters_of, count_of, soundness_of, after_take, after_free, after_hand_over_to, after_last_unlock, after_unlock}
+use Rattle.ptk_words_model.specs.MutexCalls.{mutex_lock, mutex_unlock, make_move, lock_named, unlock_named}
+use Rattle.ptk_words_model.specs.Calls.{Answer, replied, refusal, success, is_pointer, set_up_mutex}
+use Rattle.ptk_words_model.specs.CallTable.{answer_to}
+use Rattle.ptk_words_model.specs.Steps.{Row, readable, mutex_named}
+use Rattle.ptk_words_model.specs.Decision.{with_cpu}
+use Rattle.ptk_mutex_slots.specs.Plain.{is_sound, is_takeable, is_releasable}
+use Rattle.ptk_mutex_slots.proofs.Plain.{takeable_plain, releasable_plain}
+use Rattle.ptk_gate_steps.specs.declared.replies.MutexMove.TheVariants.{Takes, Releases}
+use Rattle.ptk_gate_steps.specs.Replies.{IsPut}
+
+-- ---- the moves
+
+-- a lock of such a mutex takes it
+takes_by : (priority t : ℕ) (own : LockMove) (protocol : Protocol) (soundness : Soundness) (owner : Owner) → (not (is_raising protocol) && is_sound soundness && is_free owner) ≡ true
+    → (if is_above_ceiling priority protocol then moves.Refuses EINVAL else owner_move owner t (record { of_free = free_move soundness; of_own = own; of_another = moves.Waits })) ≡ moves.Takes
+takes_by priority t own NoProtocol Consistent Free e = refl
+takes_by priority t own NoProtocol Consistent Abandoned e = absurd (cc e)
+takes_by priority t own NoProtocol Consistent (OwnedBy u) e = absurd (cc e)
+takes_by priority t own NoProtocol Inconsistent owner e = absurd (cc e)
+takes_by priority t own NoProtocol Unrecoverable owner e = absurd (cc e)
+takes_by priority t own Inherit soundness owner e = absurd (cc e)
+takes_by priority t own (Protect ceiling) soundness owner e = absurd (cc e)
+
+takes : (locks : Locks) (t : ℕ) (x : Option Mutex) → is_takeable x ≡ true → lock_move locks t x ≡ moves.Takes
+takes locks t None e = absurd (cc e)
+takes locks t (Some m) e = takes_by (assigned_priority locks t) t (own_lock_move m.kind m.count) m.protocol m.soundness m.owner e
+
+-- what is known of a mutex that its owner frees
+record IsLast (t : ℕ) (x : Option Mutex) : Type 0 where
+  owned : owns t x ≡ true
+  once : count_of x ≡ 1
+  sound : soundness_of x ≡ Consistent
+  alone : waiters_of x ≡ []
+
+one_by : (n : ℕ) → (n == 1) ≡ true → n ≡ 1
+one_by n e = eqb-true n 1 e
+
+nil_by : (ts : List ℕ) → (length ts == 0) ≡ true → ts ≡ []
+nil_by [] e = refl
+nil_by (t ∷ ts) e = let none : length (t ∷ ts) ≡ 0 = eqb-true (length (t ∷ ts)) 0 e in absurd (omega (arith, none))
+
+sound_by : (soundness : Soundness) → is_sound soundness ≡ true → soundness ≡ Consistent
+sound_by Consistent e = refl
+sound_by Inconsistent e = absurd (cc e)
+sound_by Unrecoverable e = absurd (cc e)
+
+last_by : (t : ℕ) (m : Mutex) (raises sound owned once alone : Bool) → (not raises && sound && owned && once && alone) ≡ true
+    → (sound ≡ true) × (owned ≡ true) × (once ≡ true) × (alone ≡ true)
+last_by t m false true true true true e = (refl, refl, refl, refl)
+last_by t m true sound owned once alone e = absurd (cc e)
+last_by t m false false owned once alone e = absurd (cc e)
+last_by t m false true false once alone e = absurd (cc e)
+last_by t m false true true false alone e = absurd (cc e)
+last_by t m false true true true false e = absurd (cc e)
+
+last : (t : ℕ) (x : Option Mutex) → is_releasable t x ≡ true → IsLast t x
+last t None e = absurd (cc e)
+last t (Some m) e =
+    let all = last_by t m (is_raising m.protocol) (is_sound m.soundness) (is_owner t m.owner) (m.count == 1) (length m.waiters == 0) e in
+    record { owned = all.1; once = one_by m.count all.2; sound = sound_by m.soundness all.0; alone = nil_by m.waiters all.3 }
+
+-- its unlock frees it, and wakes nobody
+freed : (t m : ℕ) (locks : Locks) → IsLast t (mutex_at locks m) → after_unlock m locks ≡ after_free m locks
+freed t m locks is =
+    ap (λ (n : ℕ). if nat_lt 1 n then with_mutex m (λ mutex. record mutex { count = mutex.count - 1 }) locks else after_last_unlock (soundness_of (mutex_at locks m)) m locks) is.once
+    ∙ (ap (λ (soundness : Soundness). after_last_unlock soundness m locks) is.sound
+    ∙ ap (λ (ts : List ℕ). after_hand_over_to (first_of_greatest (effective_priority locks) ts) m locks) is.alone)
+
+-- ---- the mutex of a word
+
+-- the word at the pointer is the number of a mutex in use (own)
+record IsNamed (pointer m : ℕ) (s : Part) : Type 0 where
+  pointed : is_pointer s pointer 4 ≡ true
+  word : word_at s.memory pointer ≡ m
+  some : 0 < m
+  used : is_some (mutex_at s.locks m) ≡ true
+
+named_by : (pointer : ℕ) (word m : ℕ) (made other : Answer) (rest : ℕ → Part → Answer) (s : Part) → word ≡ m → 0 < m → is_some (mutex_at s.locks m) ≡ true
+    → (if word == 0 then made else if is_some (mutex_at s.locks word) then rest word s else other) ≡ rest m s
+named_by pointer word m made other rest s e lt used =
+    ap (λ (w : ℕ). if w == 0 then made else if is_some (mutex_at s.locks w) then rest w s else other) e
+    ∙ (ap (λ (b : Bool). if b then made else if is_some (mutex_at s.locks m) then rest m s else other) (ne_eqb m 0 (λ z. absurd (omega (arith, z, lt))))
+    ∙ ap (λ (b : Bool). if b then rest m s else other) used)
+
+-- so the call goes on with that mutex
+named_row : (m : ℕ) (rest : ℕ → Row) (i : Invocation) (s : Part) → IsNamed i.a0 m s → readable i.a0 4 (mutex_named i.a0 rest) i s ≡ rest m i s
+named_row m rest i s is =
+    ap (λ (b : Bool). if not b then refusal EFAULT i s else mutex_named i.a0 rest i s) is.pointed
+    ∙ named_by i.a0 (word_at s.memory i.a0) m (set_up_mutex (least_free s.mutexes) i.a0 i s (λ k u. rest k i u)) (refusal EINVAL i s) (λ k u. rest k i u) s is.word is.some is.used
+
+-- ---- the calls
+
+used_by : (x : Option Mutex) → is_takeable x ≡ true → is_some x ≡ true
+used_by None e = absurd (cc e)
+used_by (Some m) e = refl
+
+used_last : (t : ℕ) (x : Option Mutex) → is_releasable t x ≡ true → is_some x ≡ true
+used_last t None e = absurd (cc e)
+used_last t (Some m) e = refl
+
+-- a lock
+lock_row : (m : ℕ) (i : Invocation) (s : Part) → IsNamed i.a0 m s → is_takeable (mutex_at s.locks m) ≡ true → (mutex_lock i s).part ≡ replied i.caller (0 ∷ []) (with_locks (after_take i.caller m) s)
+lock_row m i s is free =
+    ap (λ (a : Answer). a.part) (named_row m (λ k. lock_named k) i s is)
+    ∙ ap (λ (move : LockMove). (make_move move m None i s).part) (takes s.locks i.caller (mutex_at s.locks m) free)
+
+-- an unlock
+unlock_row : (m : ℕ) (i : Invocation) (s : Part) → IsNamed i.a0 m s → is_releasable i.caller (mutex_at s.locks m) ≡ true → (mutex_unlock i s).part ≡ replied i.caller (0 ∷ []) (with_locks (after_free m) s)
+unlock_row m i s is free =
+    let known : IsLast i.caller (mutex_at s.locks m) = last i.caller (mutex_at s.locks m) free in
+    ap (λ (a : Answer). a.part) (named_row m (λ k. unlock_named k) i s is)
+    ∙ (ap (λ (b : Bool). (if not b then refusal EPERM i s else success [] i (with_locks (after_unlock m) s)).part) known.owned
+    ∙ ap (λ (locks : Locks). replied i.caller (0 ∷ []) (with_locks (λ _. locks) s)) (freed i.caller m s.locks known))
+
+-- the ticks of a number by the call that it is
+abbrev cost_by : Option Call → ℕ
+cost_by o = unwrap_or (option_map ticks_of o) 2
+
+-- the state that the thread's registers are of names the same mutex
+named_with : (t m a0 : ℕ) (i : Invocation) (cpu : Processor) (s : Part) → i.a0 ≡ a0 → IsNamed a0 m s → IsNamed i.a0 m (with_cpu t cpu s)
+named_with t m a0 i cpu s e is =
+    subst (λ (a : ℕ). IsNamed a m (with_cpu t cpu s)) (sym e) (record { pointed = is.pointed; word = is.word; some = is.some; used = is.used })
+
+-- pthread_mutex_lock
+pub lock_put : (number t m : ℕ) (before after : Processor) (s : Part) → call_of number ≡ Some MutexLock → is_pointer s (register before A0) 4 ≡ true → word_at s.memory (register before A0) ≡ m → 0 < m
+    → is_takeable (mutex_at s.locks m) ≡ true → after ≡ with_register before A0 0 → IsPut 8 number t before after (Takes m) s
+lock_put number t m before after s e pointed word some free left = record {
+  cost = ap (λ (o : Option Call). cost_by o) (sym e);
+  values = 0 ∷ [];
+  replies = λ i cpu caller a0.
+      ap (λ (o : Option Call). (answer_to o i (with_cpu t cpu s)).part) e
+      ∙ (lock_row m i (with_cpu t cpu s) (named_with t m (register before A0) i cpu s a0 (record { pointed = pointed; word = word; some = some; used = used_by (mutex_at s.locks m) free })) free
+      ∙ ap (λ (c : ℕ). replied c (0 ∷ []) (with_locks (after_take c m) (with_cpu t cpu s))) caller);
+  left = left;
+  plain = takeable_plain (mutex_at s.locks m) free;
+}
+
+-- pthread_mutex_unlock
+pub unlock_put : (number t m : ℕ) (before after : Processor) (s : Part) → call_of number ≡ Some MutexUnlock → is_pointer s (register before A0) 4 ≡ true → word_at s.memory (register before A0) ≡ m → 0 < m
+    → is_releasable t (mutex_at s.locks m) ≡ true → after ≡ with_register before A0 0 → IsPut 10 number t before after (Releases m) s
+unlock_put number t m before after s e pointed word some free left = record {
+  cost = ap (λ (o : Option Call). cost_by o) (sym e);
+  values = 0 ∷ [];
+  replies = λ i cpu caller a0.
+      let free_for : is_releasable i.caller (mutex_at s.locks m) ≡ true = ap (λ (c : ℕ). is_releasable c (mutex_at s.locks m)) caller ∙ free in
+      ap (λ (o : Option Call). (answer_to o i (with_cpu t cpu s)).part) e
+      ∙ (unlock_row m i (with_cpu t cpu s) (named_with t m (register before A0) i cpu s a0 (record { pointed = pointed; word = word; some = some; used = used_last t (mutex_at s.locks m) free })) free_for
+      ∙ ap (λ (c : ℕ). replied c (0 ∷ []) (with_locks (after_free m) (with_cpu t cpu s))) caller);
+  left = left;
+  plain = releasable_plain t (mutex_at s.locks m) free;
+}
+
+pub ruleset locks = (lock_put, unlock_put)

@@ -1,0 +1,34 @@
+-- What a thread of a partition does (XSH 2.8.4).
+use Rattle.std.specs.Prelude.{ℕ, Bool, true, false, ◌==◌, Option, Some, None, if◌then◌else◌}
+use Rattle.ptk_words.specs.Threads.{is_ended}
+use Rattle.ptk_words.specs.declared.threads.Thread.{Thread}
+use Rattle.ptk_words.specs.declared.threads.Wait.{Wait}
+use Rattle.ptk_words_model.specs.State.{Part}
+use Rattle.ptk_words_model.specs.Priority.{thread_at}
+use Rattle.ptk_words_model.specs.Run.{is_active}
+use Rattle.ptk_system.specs.declared.activity.Activity.{Activity}
+use Rattle.ptk_system.specs.declared.activity.Activity.TheVariants.{Free, Running, Ready, Blocked, Ended, Halted}
+
+-- the thread is the running one
+abbrev pub is_runner : ℕ → Option ℕ → Bool
+is_runner t None = false
+is_runner t (Some u) = u == t
+
+-- of a thread that does not run and has not ended: blocked where it waits, else ready (XSH 2.8.4)
+abbrev pub activity_of_wait : Option Wait → Activity
+activity_of_wait None = Ready
+activity_of_wait (Some wait) = Blocked wait
+
+-- running where it is the running thread, else ended; of a partition that is not halted, else blocked or ready (XSH 2.8.4)
+abbrev pub activity_of_thread : Bool → Bool → Thread → Activity
+activity_of_thread is_active is_running thread =
+    if is_running then Running else (if is_ended thread.phase then Ended else (if is_active then activity_of_wait thread.wait else Halted))
+
+-- the same of a number, free where no thread has it
+abbrev pub activity_of_number : Bool → Bool → Option Thread → Activity
+activity_of_number is_active is_running None = Free
+activity_of_number is_active is_running (Some thread) = activity_of_thread is_active is_running thread
+
+-- what the thread of a number does
+abbrev pub activity_in : ℕ → Part → Activity
+activity_in t s = activity_of_number (is_active s.status) (is_runner t s.running) (thread_at s.locks t)

@@ -1,0 +1,180 @@
+//! What each thread does, its priorities, and the partition's next decision and last step: what a picture of a run is
+//! made from.
+
+ghost use Rattle.std.specs.Prelude.{◌≡◌, ◌<◌, ◌≤◌, ℕ, length, option_map};
+ghost use Rattle.ptk_words.specs.declared.threads.Thread.{Thread};
+ghost use Rattle.ptk_words_model.specs.State.{Mutex};
+ghost use Rattle.ptk_words_model.specs.Priority.{effective_priority, thread_at};
+ghost use Rattle.ptk_words_model.specs.Mutex.{mutex_at};
+ghost use Rattle.ptk_words_model.specs.Run.{is_active};
+ghost use Rattle.ptk_system.specs.Activities.{activity_in, activity_of_thread, activity_of_wait, is_runner};
+ghost use Rattle.ptk_system.specs.World.{at_tick, state_of};
+
+use crate::system::System;
+use ptk_system_machine::idle_until;
+use ptk_words::{
+    Entry, MutexNo, Owner, PartId, Phase, Priority, Status, Thread, ThreadNo, Tick, Wait,
+};
+
+/// What a thread does: it is running, ready, blocked or ended (XSH 2.8.4), its partition is halted, or its number is free.
+#[derive(Clone, Copy, Debug, PartialEq, Eq)]
+pub enum Activity {
+    /// No thread has the number.
+    Free,
+    /// It is the partition's running thread.
+    Running,
+    /// It waits in the line for its turn.
+    Ready,
+    /// It waits for this.
+    Blocked(Wait),
+    /// It has ended, and nobody has joined or detached it yet.
+    Ended,
+    /// It has not ended, and does nothing any more, since its partition is halted.
+    Halted,
+}
+
+impl<'a> System<'a> {
+    /// The partition's running thread, if one runs.
+    pub fn running(&self, p: PartId) -> Option<ThreadNo>
+        requires { p < length self.now.config.sections }
+        ensures { result ≡ (state_of self.now p).part.running }
+    {
+        self.machine.tables().running(p)
+    }
+
+    /// What a thread does.
+    pub fn activity(&self, p: PartId, t: ThreadNo) -> Activity
+        requires { p < length self.now.config.sections }
+        ensures { result ≡ activity_in t (state_of self.now p).part }
+    {
+        match self.thread(p, t) {
+            Some(thread) => {
+                activity_of(self.is_active(p), is_runner(t, self.running(p)), thread)
+            }
+            None => Activity::Free,
+        }
+    }
+
+    /// The thread of a number, None of a free one.
+    fn thread(&self, p: PartId, t: ThreadNo) -> Option<Thread>
+        requires { p < length self.now.config.sections }
+        ensures { result ≡ thread_at (state_of self.now p).part.locks t }
+    {
+        self.machine.tables().threads().thread(p, t)
+    }
+
+    /// Whether the partition is not halted.
+    fn is_active(&self, p: PartId) -> bool
+        requires { p < length self.now.config.sections }
+        ensures { result ≡ is_active (state_of self.now p).part.status }
+    {
+        is_active(self.machine.tables().status(p))
+    }
+
+    /// The assigned priority of a thread, None of a free number.
+    pub fn assigned_priority(&self, p: PartId, t: ThreadNo) -> Option<Priority>
+        requires { p < length self.now.config.sections }
+        ensures { result ≡ option_map (λ (thread : Thread). thread.priority) (thread_at (state_of self.now p).part.locks t) }
+    {
+        self.machine.tables().threads().assigned_priority(p, t)
+    }
+
+    /// The effective priority of a thread, None of a free number (pthread_mutexattr_getprotocol).
+    pub fn effective_priority(&self, p: PartId, t: ThreadNo) -> Option<u8>
+        requires { p < length self.now.config.sections }
+        ensures { result ≡ option_map (λ (thread : Thread). effective_priority (state_of self.now p).part.locks t)
+            (thread_at (state_of self.now p).part.locks t) }
+    {
+        self.tables().effective_priority(p, t)
+    }
+
+    /// Who owns a mutex, None of a free number (pthread_mutex_lock).
+    pub fn owner(&self, p: PartId, m: MutexNo) -> Option<Owner>
+        requires { p < length self.now.config.sections }
+        ensures { result ≡ option_map (λ (mutex : Mutex). mutex.owner) (mutex_at (state_of self.now p).part.locks m) }
+    {
+        self.machine.tables().owner(p, m)
+    }
+
+    /// The tick of the partition's next decision, None where there is none: it is halted, or has no window.
+    pub fn next(&self, p: PartId) -> Option<Tick>
+        requires { p < length self.now.config.sections }
+        ensures { result ≡ (state_of self.now p).account.next }
+    {
+        self.machine.account(p).next()
+    }
+
+    /// The partition's last step, None before the first: its tick, its thread, and what the trace keeps of it.
+    pub fn last_step(&self, p: PartId) -> Option<Entry>
+        requires { p < length self.now.config.sections }
+        ensures { result ≡ (state_of self.now p).part.last }
+    {
+        self.machine.tables().last_step(p)
+    }
+
+    /// The tick up to which nothing of the partition changes but the tick of its next decision, at most `stop`: that of
+    /// its next decision, of a halted one `stop`, of one that has nothing to do the next input's or deadline's, where
+    /// that is later.
+    pub fn stays_until(&self, p: PartId, stop: Tick) -> Tick
+        requires { p < length self.now.config.sections }
+        ensures within { result ≤ stop }
+        ensures stays { (k : ℕ) → self.now.tick ≤ k → k ≤ result →
+            (state_of (at_tick k self.now) p).part ≡ (state_of self.now p).part }
+    {
+        let _parts = self.parts();
+        match self.next(p) {
+            Some(next) => match idle_until(self.tables(), p, stop) {
+                Some(until) if next.ticks() < until.ticks() => until,
+                _ if next.ticks() < stop.ticks() => next,
+                _ => stop,
+            },
+            None => stop,
+        }
+    }
+}
+
+/// What a thread does, of a partition that is halted or not, that is the running one or is not.
+fn activity_of(is_active: bool, is_running: bool, thread: Thread) -> Activity
+    ensures { result ≡ activity_of_thread is_active is_running thread }
+{
+    if is_running {
+        return Activity::Running;
+    }
+    match thread.phase {
+        Phase::Ended => Activity::Ended,
+        Phase::Normal | Phase::Unwinding => {
+            if is_active {
+                activity_of_wait(thread.wait)
+            } else {
+                Activity::Halted
+            }
+        }
+    }
+}
+
+/// What a thread does that does not run and has not ended: it is blocked where it waits, else ready.
+fn activity_of_wait(wait: Option<Wait>) -> Activity
+    ensures { result ≡ activity_of_wait wait }
+{
+    match wait {
+        Some(wait) => Activity::Blocked(wait),
+        None => Activity::Ready,
+    }
+}
+
+/// Whether the thread is the running one.
+fn is_runner(t: ThreadNo, running: Option<ThreadNo>) -> bool
+    ensures { result ≡ is_runner t running }
+{
+    match running {
+        Some(u) => u.number() == t.number(),
+        None => false,
+    }
+}
+
+/// Whether a partition of this status is not halted.
+fn is_active(status: Status) -> bool
+    ensures { result ≡ is_active status }
+{
+    matches!(status, Status::Active)
+}

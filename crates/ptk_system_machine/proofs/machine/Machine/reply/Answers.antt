@@ -1,0 +1,96 @@
+use Rattle.std.proofs.Common.{◌≡◌, ℕ, ◌+◌, ◌-◌, ◌<◌, ◌≤◌, Bool, true, List, length, get_or, Option, Some, None, refl, subst, sym, ap, ◌∙◌, arith}
+use Rattle.std.specs.Prelude.{if◌then◌else◌}
+use Rattle.std.proofs.Math.ListN.{set}
+use Rattle.ptk_words_windows.specs.Windows.{own_ticks}
+use Rattle.ptk_words_model.specs.declared.Spent.TheVariants.{Step}
+use Rattle.ptk_words_model.specs.Decision.{spent_by_decision}
+use Rattle.ptk_words_model.specs.Run.{is_active}
+use Rattle.ptk_gate_pools.specs.Kept.{Kept, limits_at, part_at}
+use Rattle.ptk_system_machine.specs.Accounts.{KeptAccount, kept_account_of, duration_of, spent_account}
+use Rattle.ptk_system_machine.specs.Turns.{IsFreeFrom, IsInWindow}
+use Rattle.ptk_system_machine.specs.Whole.{Whole, IsWhole, account_at, gone_on, no_account}
+use Rattle.ptk_system_machine.proofs.States.{account_put, account_read, decided_whole, entry_told, free_told, spent_next, still_whole}
+use Rattle.ptk_system_machine.proofs.Coming.{begins_from}
+use Rattle.ptk_system_machine.proofs.Costs.{decision_costs}
+use Rattle.ptk_system_machine.proofs.Ticks.{decided_on, gone_start}
+use Rattle.ptk_system_machine.proofs.machine.Machine.reply.Goals as goal
+
+pub returns-then-ticks-clause-gone : goal.returns-then-ticks-clause-gone
+returns-then-ticks-clause-gone c = gone_start (own_ticks c.args.plan.now c.args.p) c.args.p c.args.turn.start (c.args.turn.start - c.args.turn.start) c.args.self.now (omega arith)
+
+pub returns-then-ticks-eq0-clause-gone : goal.returns-then-ticks-eq0-clause-gone
+returns-then-ticks-eq0-clause-gone c =
+    ap (λ (k : Kept). record { kept = k; accounts = c.self.inside.accounts.items }) (c.reply-ticks.ensures.none c.if-ticks-eq0.true)
+    ∙ (c.self.view_is
+    ∙ gone_start (own_ticks c.args.plan.now c.args.p) c.args.p c.args.turn.start (c.args.turn.start - c.args.turn.start) c.args.self.now (omega arith))
+
+pub count-requires-clause-entry : goal.count-requires-clause-entry
+count-requires-clause-entry c =
+    let n : ℕ = c.reply-ticks.result in
+    let some : 0 < n = omega (arith, c.if-ticks-eq0.false) in
+    let all : n ≤ n = omega arith in
+    entry_told (length c.self.inside.accounts.items) c.args.p c.args.turn.start n (limits_at c.args.p c.self.inside.tables) c.self.inside.tables c.reply-ticks.new.tables (Step n) c.last_step-last.result c.self.invariant.parts
+    (subst (λ (w : Whole). c.args.p < length w.accounts) (sym c.self.view_is) c.requires.partition)
+    (c.reply-ticks.ensures.told n some all) (c.reply-ticks.ensures.moved n some all) c.last_step-last.ensures
+
+pub invariant_of-self-2 : goal.invariant_of-self-2
+invariant_of-self-2 c =
+    let n : ℕ = c.reply-ticks.result in
+    let some : 0 < n = omega (arith, c.if-ticks-eq0.false) in
+    let all : n ≤ n = omega arith in
+    let lt : c.args.p < length c.self.inside.accounts.items = subst (λ (w : Whole). c.args.p < length w.accounts) (sym c.self.view_is) c.requires.partition in
+    let account : kept_account_of c.account.inside ≡ get_or c.self.inside.accounts.items c.args.p no_account =
+    c.account.view_is ∙ account_read c.args.p c.index.result c.self.inside.accounts.items c.index_mut-account.result.now c.index_mut-account.ensures.value c.index.ensures lt in
+    subst (λ (i : ℕ). IsWhole c.reply-ticks.new.tables (set c.self.inside.accounts.items i c.count.new.self)) (sym c.index.ensures)
+    (still_whole c.args.p _ c.self.inside.tables c.reply-ticks.new.tables c.self.inside.accounts.items c.count.new.self c.self.invariant (c.reply-ticks.ensures.moved n some all)
+    (ap (λ (a : KeptAccount). a.kept) c.count.ensures ∙ ap (λ (a : KeptAccount). a.kept) account))
+
+pub returns-clause-gone : goal.returns-clause-gone
+returns-clause-gone c =
+    let n : ℕ = c.reply-ticks.result in
+    let from : ℕ = c.new-reached.result in
+    let room : ℕ = c.ticks-3.result - c.ticks-4.result in
+    let lt : c.args.p < length c.self.inside.accounts.items = subst (λ (w : Whole). c.args.p < length w.accounts) (sym c.self.view_is) c.requires.partition in
+    let begun : c.args.turn.start < c.args.quiet.now.stop = omega (arith, c.if-ticks.false) in
+    let before : c.args.turn.start < c.args.to = omega (arith, begun, c.requires.within) in
+    let window : IsInWindow (own_ticks c.args.plan.now c.args.p) c.args.turn.start c.args.turn.end = c.requires.coming.window before in
+    let less : c.args.turn.start < c.args.turn.end = window.before in
+    let room_is : room ≡ c.args.turn.end - c.args.turn.start = cc in
+    let some : 0 < n = omega (arith, c.if-ticks-eq0.false) in
+    let one : 1 ≤ room = omega arith in
+    let stop : c.args.quiet.now.stop ≤ c.args.turn.end = c.requires.end begun in
+    let fits : n ≤ room = omega (arith, stop, c.reply-ticks.ensures.within, room_is) in
+    let told = c.reply-ticks.ensures.told room some fits in
+    let moved = c.reply-ticks.ensures.moved room some fits in
+    let reached : from ≡ c.args.turn.start + n = cc in
+    let due : (get_or c.self.inside.accounts.items c.args.p no_account).account.next ≡ Some c.args.turn.start = subst (λ (w : Whole). (account_at c.args.p w).account.next ≡ Some c.args.turn.start) (sym c.self.view_is) (c.requires.coming.due before) in
+    let account : kept_account_of c.account.inside ≡ get_or c.self.inside.accounts.items c.args.p no_account =
+    c.account.view_is ∙ account_read c.args.p c.index.result c.self.inside.accounts.items c.index_mut-account.result.now c.index_mut-account.ensures.value c.index.ensures lt in
+    let put = account_put c.args.p c.index.result c.self.inside.accounts.items c.count.new.self c.index.ensures lt in
+    let next = c.next.ensures
+    ∙ (ap (λ (a : KeptAccount). a.account.next) c.count.ensures
+    ∙ spent_next c.next_turn.result.0 c.account.inside.trace.kept room (Step n) c.last_step-last.result (kept_account_of c.account.inside).account) in
+    let active : is_active (part_at c.args.p c.reply-ticks.new.tables).status ≡ true = c.reply-ticks.ensures.still.1.active in
+    let le : from ≤ from = omega arith in
+    let later : c.args.turn.start + 1 ≤ c.coming.result.start =
+    begins_from (c.args.turn.start + 1) from c.args.to c.next_turn.result.0 c.coming.result (omega (arith, reached, some)) (omega (arith, before)) c.next_turn.ensures.from (λ it. sym next ∙ c.coming.ensures.due it) in
+    let free : IsFreeFrom (limits_at c.args.p c.reply-ticks.new.tables) c.args.turn.start room (Step n) c.args.to (part_at c.args.p c.reply-ticks.new.tables) from = record {
+      behind = omega (arith, reached);
+      idle = λ early. absurd (omega (arith, early, reached));
+    } in
+    subst (λ (w : Whole). record { kept = c.reply-ticks.new.tables; accounts = set c.self.inside.accounts.items c.index.result c.count.new.self }
+    ≡ gone_on (own_ticks c.args.plan.now c.args.p) c.args.p c.args.turn.start (c.coming.result.start - c.args.turn.start) w) c.self.view_is
+    (decided_on c.args.plan.now c.args.p c.args.turn.start c.args.turn.end room from c.coming.result.start c.args.to
+    (record { kept = c.self.inside.tables; accounts = c.self.inside.accounts.items }) (record { kept = c.reply-ticks.new.tables; accounts = set c.self.inside.accounts.items c.index.result c.count.new.self })
+    c.is_plan.ensures c.self.invariant lt (window.ends c.args.turn.start (omega arith) less) room_is
+    (decision_costs (limits_at c.args.p c.self.inside.tables) c.args.turn.start room (part_at c.args.p c.self.inside.tables) _ one refl)
+    due (omega (arith, later))
+    (λ within. begins_from from from c.args.to c.next_turn.result.0 c.coming.result le within c.next_turn.ensures.from (λ it. sym next ∙ c.coming.ensures.due it))
+    (λ k at. c.coming.ensures.before k (c.next.ensures ∙ (sym (ap (λ (a : KeptAccount). a.account.next) put) ∙ at)))
+    (free_told (length c.self.inside.accounts.items) c.args.p c.args.turn.start room c.args.to from c.self.inside.tables c.reply-ticks.new.tables (Step n) c.self.invariant.parts lt told moved free)
+    (ap (λ (i : ℕ). record { kept = c.reply-ticks.new.tables; accounts = set c.self.inside.accounts.items i c.count.new.self }) c.index.ensures
+    ∙ decided_whole (own_ticks c.args.plan.now c.args.p) c.args.turn.start room from c.args.p c.self.inside.tables c.reply-ticks.new.tables c.self.inside.accounts.items c.count.new.self
+    (Step n) c.next_turn.result.0 c.last_step-last.result c.self.invariant lt told moved
+    (c.next_turn.ensures.next ∙ ap (λ (b : Bool). if b then (own_ticks c.args.plan.now c.args.p).next_of from else None) (sym active))
+    c.last_step-last.ensures
+    (c.count.ensures ∙ ap (λ (a : KeptAccount). record a { account = spent_account c.next_turn.result.0 a.kept room (Step n) c.last_step-last.result a.account }) account)))

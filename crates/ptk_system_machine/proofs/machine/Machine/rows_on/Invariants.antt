@@ -1,0 +1,20 @@
+use Rattle.std.proofs.Common.{◌≡◌, ◌+◌, ◌-◌, ◌≤◌, ◌<◌, true}
+use Rattle.std.specs.Prelude.{ℕ, if◌then◌else◌}
+use Rattle.ptk_words_windows.specs.Windows.{own_ticks}
+use Rattle.ptk_kernel.specs.Rows.{IsStill}
+use Rattle.ptk_system_machine.specs.Turns.{IsComing}
+use Rattle.ptk_system_machine.specs.Whole.{account_at, gone_on}
+use Rattle.ptk_system_machine.proofs.machine.Machine.rows_on.Given as goal
+
+abbrev pub invariant-loop-is_going : goal.invariant-loop-is_going
+invariant-loop-is_going l = record {
+  from : l.fn.turn.start ≤ l.now.start;
+  coming : IsComing (own_ticks l.plan l.p) l.to (account_at l.p l.self).account.next l.now;
+  gone : l.self ≡ gone_on (own_ticks l.plan l.p) l.p l.fn.turn.start (l.now.start - l.fn.turn.start) l.fn.self;
+  before : l.is_going ≡ true → l.now.start < l.quiet.stop;
+  window : l.is_going ≡ true → l.quiet.stop ≤ l.now.end;
+  still : l.is_going ≡ true → IsStill l.p l.now.start l.quiet l.self.kept;
+}
+
+abbrev pub decreases-loop-is_going : goal.decreases-loop-is_going
+decreases-loop-is_going l = if l.is_going then l.quiet.stop - l.now.start + 1 else 0

@@ -1,0 +1,97 @@
+//! Where things stand in the picture, in pixels from its upper left corner.
+
+ghost use Rattle.std.specs.Prelude.{◌<◌, ◌≤◌};
+
+use ptk_timeline_segments::{Lane, Recording, Row, Scale, Shade};
+
+/// How many columns a picture has at most.
+pub const MOST_COLUMNS: u32 = 1000;
+
+/// The room for names at the left.
+pub(crate) const LEFT: u64 = 170;
+
+/// The room for the tick axis at the top.
+pub(crate) const TOP: u32 = 44;
+
+/// The height of a lane's head, in which its name and its marks stand.
+pub(crate) const HEAD: u32 = 22;
+
+/// The height of a thread's row.
+pub(crate) const ROW: u32 = 18;
+
+/// The height of what is drawn in a row.
+pub(crate) const BAR: u32 = 14;
+
+/// The room between two lanes.
+pub(crate) const GAP: u32 = 16;
+
+/// The room for the legend at the bottom.
+pub(crate) const LEGEND: u32 = 136;
+
+/// A column's width: of one tick wide enough for its steps to be told apart.
+pub(crate) fn column_width(scale: Scale) -> u64
+    ensures positive { 0 < result }
+    ensures narrow { result ≤ 24 }
+{
+    let columns = (scale.columns() as u64).max(1);
+    if scale.each() == 1 {
+        (1200 / columns).max(8).min(24)
+    } else {
+        2
+    }
+}
+
+/// The width of all columns.
+pub(crate) fn plot_width(scale: Scale) -> u64 {
+    (scale.columns() as u64).saturating_mul(column_width(scale))
+}
+
+/// The width of the picture, at least what the legend needs.
+pub(crate) fn picture_width(scale: Scale) -> u64 {
+    plot_width(scale).max(960).saturating_add(LEFT + 30)
+}
+
+/// Where a tick begins, from the left.
+pub(crate) fn place_of(scale: Scale, tick: u64) -> u64 {
+    let ticks = tick.min(scale.to()).saturating_sub(scale.from());
+    let place = ticks.saturating_mul(column_width(scale)) / scale.each();
+    place.saturating_add(LEFT)
+}
+
+/// Where a column begins, from the left.
+pub(crate) fn column_place(scale: Scale, column: usize) -> u64 {
+    let place = (column as u64).saturating_mul(column_width(scale));
+    place.saturating_add(LEFT)
+}
+
+/// Whether a row has a thread at some tick.
+pub(crate) fn is_shown(row: &Row) -> bool {
+    row.cells()
+        .iter()
+        .any(|cell| cell.is_mixed || cell.look.shade() != Shade::Free)
+}
+
+/// The height of a lane; one without threads has room for a row.
+pub(crate) fn lane_height(lane: &Lane) -> u32 {
+    let mut rows = 0u32;
+    for row in lane.rows().iter() {
+        if is_shown(row) {
+            rows = rows.saturating_add(ROW);
+        }
+    }
+    rows.max(ROW).saturating_add(HEAD + 4)
+}
+
+/// Where the last lane ends, from the top.
+pub(crate) fn lanes_end(recording: &Recording) -> u32 {
+    let mut end = TOP;
+    for lane in recording.lanes().iter() {
+        end = end.saturating_add(lane_height(lane)).saturating_add(GAP);
+    }
+    end
+}
+
+/// The height of the picture.
+pub(crate) fn picture_height(recording: &Recording) -> u32 {
+    lanes_end(recording).saturating_add(LEGEND)
+}

@@ -1,0 +1,79 @@
+//! The legend.
+
+use crate::layout::LEFT;
+use ptk_timeline_segments::Scale;
+use std::io;
+use std::io::Write;
+
+/// The shades, each with its words.
+const SHADES: [(&str, &str); 10] = [
+    ("running", "running"),
+    ("ready", "ready"),
+    ("mutex", "blocked: mutex"),
+    ("condition", "blocked: condition variable"),
+    ("relock", "blocked: mutex again after a condition wait"),
+    ("sleep", "blocked: sleep"),
+    ("join", "blocked: join"),
+    ("input", "blocked: console"),
+    ("ended", "ended, not yet joined"),
+    ("still", "not ended, in a halted partition"),
+];
+
+/// The marks, each with its words.
+const MARKS: [(&str, &str); 6] = [
+    (
+        "raised",
+        "effective priority above the assigned one (with the number, where there is room)",
+    ),
+    ("mixed", "something else too, for less long"),
+    ("window", "the partition's own window"),
+    ("arrived", "input comes"),
+    ("dropped", "input lost"),
+    (
+        "lost",
+        "ticks lost, or (a bar across the head) the partition halts: fault or exit",
+    ),
+];
+
+/// Writes the legend below `top`.
+pub(crate) fn write_legend<W: Write>(out: &mut W, scale: Scale, top: u32) -> io::Result<()> {
+    write_entries(out, &SHADES, 3, 300, top)?;
+    write_entries(out, &MARKS, 2, 540, top.saturating_add(72))?;
+    let (y, each) = (top.saturating_add(11), scale.each());
+    if each == 1 {
+        return writeln!(out, "<text x=\"8\" y=\"{y}\">a column is a tick</text>");
+    }
+    writeln!(out, "<text x=\"8\" y=\"{y}\">a column: {each} ticks</text>")
+}
+
+/// Writes entries below `top`, so many in a line, each so wide.
+fn write_entries<W: Write>(
+    out: &mut W,
+    entries: &[(&str, &str)],
+    columns: u32,
+    width: u64,
+    top: u32,
+) -> io::Result<()> {
+    let (mut left, mut x, mut y) = (columns, LEFT, top);
+    for (class, words) in entries {
+        write_entry(out, class, words, x, y)?;
+        left = left.saturating_sub(1);
+        x = x.saturating_add(width);
+        if left == 0 {
+            left = columns;
+            x = LEFT;
+            y = y.saturating_add(18);
+        }
+    }
+    Ok(())
+}
+
+/// Writes an entry.
+fn write_entry<W: Write>(out: &mut W, class: &str, words: &str, x: u64, y: u32) -> io::Result<()> {
+    writeln!(
+        out,
+        "<rect class=\"{class}\" x=\"{x}\" y=\"{y}\" width=\"24\" height=\"12\"/>"
+    )?;
+    let (x, y) = (x.saturating_add(30), y.saturating_add(10));
+    writeln!(out, "<text x=\"{x}\" y=\"{y}\">{words}</text>")
+}

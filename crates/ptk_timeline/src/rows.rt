@@ -1,0 +1,206 @@
+//! The rows of a lane's threads.
+
+use crate::layout::{BAR, LEFT, ROW, column_place, is_shown};
+use crate::names::{Words, class_of};
+use ptk_timeline_segments::{Cell, Lane, Look, Marks, Row, Scale, Shade};
+use std::io;
+use std::io::Write;
+
+/// Columns of a row that are drawn as one, from one on and before another.
+#[derive(Clone, Copy)]
+struct Stretch {
+    scale: Scale,
+    first: usize,
+    behind: usize,
+}
+
+impl Stretch {
+    /// Where it begins, from the left.
+    fn left(self) -> u64 {
+        column_place(self.scale, self.first)
+    }
+
+    /// Its width.
+    fn width(self) -> u64 {
+        column_place(self.scale, self.behind).saturating_sub(self.left())
+    }
+}
+
+/// Writes the rows of a lane, one below the other from `top` on.
+pub(crate) fn write_rows<W: Write>(
+    out: &mut W,
+    scale: Scale,
+    lane: &Lane,
+    top: u32,
+) -> io::Result<()> {
+    let mut y = top;
+    for (place, row) in lane.rows().iter().enumerate() {
+        if is_shown(row) {
+            write_row(out, scale, place + 1, row, lane.marks(), y)?;
+            y = y.saturating_add(ROW);
+        }
+    }
+    Ok(())
+}
+
+/// Writes the row of the thread of a number, with its name.
+fn write_row<W: Write>(
+    out: &mut W,
+    scale: Scale,
+    number: usize,
+    row: &Row,
+    marks: &[Marks],
+    y: u32,
+) -> io::Result<()> {
+    let (x, base) = (LEFT - 8, y.saturating_add(11));
+    writeln!(
+        out,
+        "<text x=\"{x}\" y=\"{base}\" text-anchor=\"end\">thread {number}</text>"
+    )?;
+    write_bars(out, scale, number, row.cells(), y)?;
+    write_mixed(out, scale, row.cells(), y)?;
+    write_raised(out, scale, row.cells(), y)?;
+    write_steps(out, scale, row.cells(), marks, y)
+}
+
+/// Writes a bar for each stretch of columns of one look.
+fn write_bars<W: Write>(
+    out: &mut W,
+    scale: Scale,
+    number: usize,
+    cells: &[Cell],
+    y: u32,
+) -> io::Result<()> {
+    let mut first = 0;
+    for (column, cell) in cells.iter().enumerate() {
+        let behind = column + 1;
+        if !matches!(cells.get(behind), Some(next) if next.look == cell.look) {
+            write_bar(
+                out,
+                number,
+                cell.look,
+                Stretch {
+                    scale,
+                    first,
+                    behind,
+                },
+                y,
+            )?;
+            first = behind;
+        }
+    }
+    Ok(())
+}
+
+/// Writes the bar of a stretch of a look, none where there is no thread.
+fn write_bar<W: Write>(
+    out: &mut W,
+    number: usize,
+    look: Look,
+    stretch: Stretch,
+    y: u32,
+) -> io::Result<()> {
+    if look.shade() == Shade::Free {
+        return Ok(());
+    }
+    let (x, width) = (stretch.left(), stretch.width());
+    let (class, words) = (class_of(look.shade()), Words(look));
+    let first = stretch.scale.start_of(stretch.first);
+    let behind = stretch.scale.start_of(stretch.behind);
+    writeln!(
+        out,
+        "<rect class=\"{class}\" x=\"{x}\" y=\"{y}\" width=\"{width}\" height=\"{BAR}\"><title>thread {number}: {words}, ticks {first} to {behind}</title></rect>"
+    )
+}
+
+/// Writes a line below the columns that have another shade beside the one drawn.
+fn write_mixed<W: Write>(out: &mut W, scale: Scale, cells: &[Cell], y: u32) -> io::Result<()> {
+    let mut first = 0;
+    for (column, cell) in cells.iter().enumerate() {
+        let behind = column + 1;
+        if !matches!(cells.get(behind), Some(next) if next.is_mixed == cell.is_mixed) {
+            if cell.is_mixed {
+                write_line(
+                    out,
+                    Stretch {
+                        scale,
+                        first,
+                        behind,
+                    },
+                    y,
+                )?;
+            }
+            first = behind;
+        }
+    }
+    Ok(())
+}
+
+/// Writes the line below a stretch.
+fn write_line<W: Write>(out: &mut W, stretch: Stretch, y: u32) -> io::Result<()> {
+    let (x, width, y) = (stretch.left(), stretch.width(), y.saturating_add(BAR - 3));
+    writeln!(
+        out,
+        "<rect class=\"mixed\" x=\"{x}\" y=\"{y}\" width=\"{width}\" height=\"3\"/>"
+    )
+}
+
+/// Writes a line above the columns in which the effective priority is raised.
+fn write_raised<W: Write>(out: &mut W, scale: Scale, cells: &[Cell], y: u32) -> io::Result<()> {
+    let mut first = 0;
+    for (column, cell) in cells.iter().enumerate() {
+        let behind = column + 1;
+        if !matches!(cells.get(behind), Some(next) if next.look.raised == cell.look.raised) {
+            if let Some(level) = cell.look.raised {
+                write_level(
+                    out,
+                    level,
+                    Stretch {
+                        scale,
+                        first,
+                        behind,
+                    },
+                    y,
+                )?;
+            }
+            first = behind;
+        }
+    }
+    Ok(())
+}
+
+/// Writes the line above a stretch of a raised priority, and the priority where there is room.
+fn write_level<W: Write>(out: &mut W, level: u8, stretch: Stretch, y: u32) -> io::Result<()> {
+    let (x, width) = (stretch.left(), stretch.width());
+    let (line, base) = (y.saturating_sub(2), y.saturating_add(10));
+    writeln!(
+        out,
+        "<rect class=\"raised\" x=\"{x}\" y=\"{line}\" width=\"{width}\" height=\"4\"><title>effective priority {level}</title></rect>"
+    )?;
+    if width <= 20 {
+        return Ok(());
+    }
+    let x = x.saturating_add(3);
+    writeln!(out, "<text x=\"{x}\" y=\"{base}\">{level}</text>")
+}
+
+/// Writes a line where each step of the row's thread begins, in columns of one tick each.
+fn write_steps<W: Write>(
+    out: &mut W,
+    scale: Scale,
+    cells: &[Cell],
+    marks: &[Marks],
+    y: u32,
+) -> io::Result<()> {
+    if scale.each() > 1 {
+        return Ok(());
+    }
+    out.write_all(b"<path class=\"steps\" d=\"")?;
+    for (column, (cell, marks)) in cells.iter().zip(marks.iter()).enumerate() {
+        if marks.is_stepped && cell.look.shade() == Shade::Running {
+            let x = column_place(scale, column);
+            write!(out, "M{x} {y}v{BAR}")?;
+        }
+    }
+    out.write_all(b"\"/>\n")
+}
