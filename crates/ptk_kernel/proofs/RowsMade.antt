@@ -17,7 +17,7 @@ use Rattle.ptk_trace_rows.specs.TracedRows as rows
 use Rattle.ptk_gate_pools.specs.Kept.{Kept, AreParts, limits_at, part_at, put_part}
 use Rattle.ptk_gate_pools.proofs.Parted.{part_at-put}
 use Rattle.ptk_gate_steps.specs.Replies.{IsMade}
-use Rattle.ptk_kernel.specs.Rows.{IsRow, IsStill}
+use Rattle.ptk_kernel.specs.Rows.{IsRow, IsStill, IsStillTo}
 use Rattle.ptk_words_model.specs.declared.Spent.TheVariants.{Step}
 use Rattle.ptk_words_model.specs.Decision.{after_decision, spent_by_decision}
 use Rattle.ptk_gate_pools.proofs.Ranks.{put_same}
@@ -64,40 +64,40 @@ row_some p tick n q old new before after still le plain moved traced =
 -- ---- how quiet a partition is after its steps
 
 -- what was put is as quiet as it was
-put_still : (m p tick : ℕ) (q : Quiet) (thread : Thread) (s : Part) (old new : Kept) → AreParts m old → p < m → new ≡ put_part p s old → IsQuiet (limits_at p old) tick q.stop q.thread thread s → IsStill p tick q new
-put_still m p tick q thread s old new parts lt e quiet =
-    subst (IsStill p tick q) (sym e) (thread, subst (λ (u : Part). IsQuiet (limits_at p old) tick q.stop q.thread thread u) (sym (part_at-put m p s old parts lt)) quiet)
+put_still : (m p tick stop t : ℕ) (thread : Thread) (s : Part) (old new : Kept) → AreParts m old → p < m → new ≡ put_part p s old → IsQuiet (limits_at p old) tick stop t thread s → IsStillTo p tick stop t new
+put_still m p tick stop t thread s old new parts lt e quiet =
+    subst (IsStillTo p tick stop t) (sym e) (thread, subst (λ (u : Part). IsQuiet (limits_at p old) tick stop t thread u) (sym (part_at-put m p s old parts lt)) quiet)
 
 -- a row leaves a partition as quiet as it was
-pub row_still : (m p tick n : ℕ) (q : Quiet) (old new : Kept) → AreParts m old → p < m → IsStill p tick q old → tick + n ≤ q.stop
-    → ((thread : Thread) → thread_at (part_at p old).locks q.thread ≡ Some thread → ArePlain n (core_of thread (part_at p old)))
-    → ((thread : Thread) → thread_at (part_at p old).locks q.thread ≡ Some thread → new ≡ put_part p (after_row tick q.thread n thread (part_at p old)) old)
-    → IsStill p (tick + n) q new
-row_still m p tick zero q old new parts lt still le plain moved =
+pub row_still : (m p tick n stop t : ℕ) (old new : Kept) → AreParts m old → p < m → IsStillTo p tick stop t old → tick + n ≤ stop
+    → ((thread : Thread) → thread_at (part_at p old).locks t ≡ Some thread → ArePlain n (core_of thread (part_at p old)))
+    → ((thread : Thread) → thread_at (part_at p old).locks t ≡ Some thread → new ≡ put_part p (after_row tick t n thread (part_at p old)) old)
+    → IsStillTo p (tick + n) stop t new
+row_still m p tick zero stop t old new parts lt still le plain moved =
     let thread : Thread = still.0 in
     let none : tick ≡ tick + 0 = omega arith in
-    let same : part_at p old ≡ after_row tick q.thread 0 thread (part_at p old) = sym (row_none tick q.thread thread (part_at p old) still.1.in_use) in
-    put_still m p (tick + 0) q thread (after_row tick q.thread 0 thread (part_at p old)) old new parts lt (moved thread still.1.in_use)
-    (subst (λ (k : ℕ). IsQuiet (limits_at p old) k q.stop q.thread thread (after_row tick q.thread 0 thread (part_at p old))) none
-    (subst (λ (u : Part). IsQuiet (limits_at p old) tick q.stop q.thread thread u) same still.1))
-row_still m p tick (suc n) q old new parts lt still le plain moved =
+    let same : part_at p old ≡ after_row tick t 0 thread (part_at p old) = sym (row_none tick t thread (part_at p old) still.1.in_use) in
+    put_still m p (tick + 0) stop t thread (after_row tick t 0 thread (part_at p old)) old new parts lt (moved thread still.1.in_use)
+    (subst (λ (k : ℕ). IsQuiet (limits_at p old) k stop t thread (after_row tick t 0 thread (part_at p old))) none
+    (subst (λ (u : Part). IsQuiet (limits_at p old) tick stop t thread u) same still.1))
+row_still m p tick (suc n) stop t old new parts lt still le plain moved =
     let thread : Thread = still.0 in
     let some : 1 ≤ suc n = omega arith in
-    put_still m p (tick + suc n) q (thread_after (suc n) thread (part_at p old)) (after_row tick q.thread (suc n) thread (part_at p old)) old new parts lt (moved thread still.1.in_use)
-    (row_stays (limits_at p old) tick q.stop q.thread (suc n) thread (part_at p old) still.1 some le (plain thread still.1.in_use))
+    put_still m p (tick + suc n) stop t (thread_after (suc n) thread (part_at p old)) (after_row tick t (suc n) thread (part_at p old)) old new parts lt (moved thread still.1.in_use)
+    (row_stays (limits_at p old) tick stop t (suc n) thread (part_at p old) still.1 some le (plain thread still.1.in_use))
 
 -- a quiet call leaves a partition as quiet as it was
-pub reply_still : (m p tick n : ℕ) (q : Quiet) (old new : Kept) → AreParts m old → p < m → IsStill p tick q old
-    → (n ≡ 0 → new ≡ old) → ((thread : Thread) → thread_at (part_at p old).locks q.thread ≡ Some thread → 0 < n → IsMade p tick q.thread n thread old new)
-    → IsStill p (tick + n) q new
-reply_still m p tick zero q old new parts lt still none made =
+pub reply_still : (m p tick n stop t : ℕ) (old new : Kept) → AreParts m old → p < m → IsStillTo p tick stop t old
+    → (n ≡ 0 → new ≡ old) → ((thread : Thread) → thread_at (part_at p old).locks t ≡ Some thread → 0 < n → IsMade p tick t n thread old new)
+    → IsStillTo p (tick + n) stop t new
+reply_still m p tick zero stop t old new parts lt still none made =
     let at : tick ≡ tick + 0 = omega arith in
-    subst (IsStill p (tick + 0) q) (sym (none refl)) (subst (λ (k : ℕ). IsStill p k q old) at still)
-reply_still m p tick (suc n) q old new parts lt still none made =
+    subst (IsStillTo p (tick + 0) stop t) (sym (none refl)) (subst (λ (k : ℕ). IsStillTo p k stop t old) at still)
+reply_still m p tick (suc n) stop t old new parts lt still none made =
     let thread : Thread = still.0 in
     let is = made thread still.1.in_use (omega arith) in
-    put_still m p (tick + suc n) q (computed (suc n) is.0 thread) (after_reply tick q.thread (suc n) thread is.0 is.1 (part_at p old)) old new parts lt is.3
-    (reply_quiet (limits_at p old) tick q.stop q.thread (suc n) thread is.0 is.1 (part_at p old) still.1 is.2)
+    put_still m p (tick + suc n) stop t (computed (suc n) is.0 thread) (after_reply tick t (suc n) thread is.0 is.1 (part_at p old)) old new parts lt is.3
+    (reply_quiet (limits_at p old) tick stop t (suc n) thread is.0 is.1 (part_at p old) still.1 is.2)
 
 -- a quiet call is the decision
 pub reply_made : (p tick n room : ℕ) (q : Quiet) (old new : Kept) → IsStill p tick q old → tick + n ≤ q.stop → n ≤ room → 0 < n

@@ -14,6 +14,10 @@ pub record IsRow (p tick n t : ℕ) (thread : Thread) (old new : Kept) (before a
   pub moved : new ≡ put_part p (after_row tick t n thread (part_at p old)) old
   pub traced : after ≡ rows.traced tick t n (core_of thread (part_at p old)) before
 
+-- partition p is quiet from the tick up to another, with this thread running (own)
+abbrev pub IsStillTo : ℕ → ℕ → ℕ → ℕ → Kept → Type 0
+IsStillTo p tick stop t kept = (thread : Thread) × IsQuiet (limits_at p kept) tick stop t thread (part_at p kept)
+
 -- partition p is quiet from the tick up to the stop that was told of it (own)
 abbrev pub IsStill : ℕ → ℕ → Quiet → Kept → Type 0
-IsStill p tick quiet kept = (thread : Thread) × IsQuiet (limits_at p kept) tick quiet.stop quiet.thread thread (part_at p kept)
+IsStill p tick quiet kept = IsStillTo p tick quiet.stop quiet.thread kept

@@ -11,7 +11,7 @@ ghost use Rattle.ptk_words_model.specs.Run.{is_active};
 ghost use Rattle.ptk_words_quiet.specs.Quiet.{IsQuiet, core_of};
 ghost use Rattle.ptk_words_quiet.specs.Idle.{IsIdle};
 ghost use Rattle.ptk_gate_pools.specs.Kept.{part_at, put_part, limits_at};
-ghost use Rattle.ptk_kernel.specs.Rows.{IsRow, IsStill};
+ghost use Rattle.ptk_kernel.specs.Rows.{IsRow, IsStill, IsStillTo};
 
 use ptk_gate::Tables;
 use ptk_gate_steps::Quiet;
@@ -35,9 +35,9 @@ pub fn quiet_until(tables: &Tables, p: PartId, tick: Tick, stop: Tick) -> Option
 
 /// Plain steps of a quiet partition in a row, the first of them at the tick, each in place of a decision: as many as come
 /// before the partition's stop and before a step that is not plain, and no fewer up to 2^31. How many ticks they took,
-/// one each; 0, and nothing changes, where its next step isn't plain. The partition is as quiet as it was. The trace has
-/// the steps as the newest; `batch` is room for entries on their way there, of which nothing is told. No other partition
-/// changes.
+/// one each; 0, and nothing changes, where its next step isn't plain. The partition is as quiet as it was, up to that
+/// stop or a later one. The trace has the steps as the newest; `batch` is room for entries on their way there, of which
+/// nothing is told. No other partition changes.
 pub fn compute(
     tables: &mut Tables,
     p: PartId,
@@ -54,7 +54,7 @@ pub fn compute(
     ensures none { result ≡ 0 → (tables.new ≡ tables.old) × (trace.new ≡ trace.old) }
     ensures ended { (thread : Thread) → thread_at (part_at p tables.old).locks quiet.thread ≡ Some thread → tick + result < quiet.stop → result < 2 ^ 31 → is_plain (plain_steps result (core_of thread (part_at p tables.old))) ≡ false }
     ensures row { 0 < result → (t : ℕ) × (thread : Thread) × IsRow p tick result t thread tables.old tables.new trace.old trace.new }
-    ensures still { IsStill p (tick + result) quiet tables.new }
+    ensures still { (stop : ℕ) → quiet.stop ≤ stop → IsStillTo p tick stop quiet.thread tables.old → IsStillTo p (tick + result) stop quiet.thread tables.new }
 {
     let _kept = trace.kept();
     let _parts = tables.parts();
@@ -63,7 +63,8 @@ pub fn compute(
 
 /// The decision of a quiet partition at the tick, where its next step is a quiet call, which replies at once, wakes
 /// nobody and changes no priority, and ends at the partition's stop or before. How many ticks it took; the partition is
-/// as quiet as it was. 0, and nothing changes, where the next step is any other. No other partition changes.
+/// as quiet as it was, up to that stop or a later one. 0, and nothing changes, where the next step is any other. No other
+/// partition changes.
 pub fn reply(tables: &mut Tables, p: PartId, quiet: Quiet, tick: Tick) -> u32
     requires partition { p < length tables.old.limits }
     requires order { tick < quiet.stop }
@@ -73,7 +74,7 @@ pub fn reply(tables: &mut Tables, p: PartId, quiet: Quiet, tick: Tick) -> u32
     ensures short { result ≤ 16 }
     ensures told { (room : ℕ) → 0 < result → result ≤ room → Step result ≡ spent_by_decision (limits_at p tables.old) tick room (part_at p tables.old) }
     ensures moved { (room : ℕ) → 0 < result → result ≤ room → tables.new ≡ put_part p (after_decision (limits_at p tables.old) tick room (part_at p tables.old)) tables.old }
-    ensures still { IsStill p (tick + result) quiet tables.new }
+    ensures still { (stop : ℕ) → quiet.stop ≤ stop → IsStillTo p tick stop quiet.thread tables.old → IsStillTo p (tick + result) stop quiet.thread tables.new }
 {
     let _parts = tables.parts();
     tables.make_reply(p, quiet, tick)

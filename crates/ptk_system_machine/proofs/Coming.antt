@@ -13,11 +13,10 @@ use Rattle.ptk_words_quiet.proofs.TicksInARow.{join, window_own}
 use Rattle.ptk_window.specs.declared.near.Turn.{Turn}
 use Rattle.ptk_window.specs.Turn.{IsTurn}
 use Rattle.ptk_gate_pools.specs.Kept.{limits_at}
-use Rattle.ptk_system_machine.specs.Accounts.{IsBehind}
 use Rattle.ptk_system_machine.specs.Turns.{IsComing, IsInWindow, IsStillUntil, IsUpTo, turn_at, no_turn}
-use Rattle.ptk_system_machine.specs.Whole.{Whole, IsWhole, account_at, state_at, gone_on}
+use Rattle.ptk_system_machine.specs.Whole.{Whole, IsWhole, state_at, gone_on}
 use Rattle.ptk_system_machine.proofs.States.{state_at-put, state_at-other}
-use Rattle.ptk_system_machine.proofs.Ticks.{behind_to, not_due, still_never, still_on}
+use Rattle.ptk_system_machine.proofs.Ticks.{not_due, still_never, still_on}
 
 -- ---- one turn
 
@@ -57,11 +56,6 @@ due_first turns to due place (Some p) all found within least =
 -- a turn among the first so many
 pub among : (turns : List Turn) (n p : ℕ) → p < length (take n turns) → (p < n) × (p < length turns)
 among turns n p lt = (omega (arith, lt, length-take n turns), omega (arith, lt, length-take n turns))
-
--- none of the first so many begins in the run
-pub none_left : (turns : List Turn) (n to q : ℕ) → All (λ turn. to ≤ turn.start) (take n turns) → q < n → q < length turns → to ≤ (turn_at q turns).start
-none_left turns n to q all lt within =
-    subst (λ (turn : Turn). to ≤ turn.start) (get_or-take n turns q no_turn lt) (all q no_turn (omega (arith, lt, within, length-take n turns)))
 
 -- a turn among the first so many is that of the partition
 pub turn_taken : (turns : List Turn) (n q : ℕ) → q < n → turn_at q (take n turns) ≡ turn_at q turns
@@ -171,47 +165,35 @@ row_each plan p tick reached turns old new is lt still from on others gone q bel
 
 -- ---- the run
 
--- so many ticks are behind a partition at its next turn
-pub behind_turn : (plan : WindowPlan) (p : ℕ) (limits : Limits) (tick to : ℕ) (turn : Turn) (s new : State) → IsPlan plan → plan.frame ≤ 1000000 → IsUpTo (own_ticks plan p) limits tick to turn s new → IsBehind tick s → IsBehind turn.start new
-behind_turn plan p limits tick to turn s new is frame up behind = behind_to plan p limits tick turn.start s new is frame up.from up.gone behind
-
--- a partition's turn takes that partition further, and no other one
-pub turned : (plan : WindowPlan) (p tick to : ℕ) (turns : List Turn) (turn : Turn) (old mid new : Whole) → IsWhole mid.kept mid.accounts → p < length mid.accounts → p < length turns
-    → mid.kept.limits ≡ old.kept.limits → ((q : ℕ) → q < length old.accounts → IsUpTo (own_ticks plan q) (limits_at q old.kept) tick to (turn_at q turns) (state_at q old) (state_at q mid))
-    → (turn_at p turns).start < turn.start → IsComing (own_ticks plan p) to (account_at p new).account.next turn
-    → new ≡ gone_on (own_ticks plan p) p (turn_at p turns).start (turn.start - (turn_at p turns).start) mid
-    → (q : ℕ) → q < length old.accounts → IsUpTo (own_ticks plan q) (limits_at q old.kept) tick to (turn_at q (set turns p turn)) (state_at q old) (state_at q new)
-turned plan p tick to turns turn old mid new is lt within same each on coming gone q below = by (q == p) refl
+-- one partition more has come to the end
+pub one_done : (plan : WindowPlan) (p tick n : ℕ) (old mid new : Whole) → IsWhole mid.kept mid.accounts → p < length mid.accounts → mid.kept.limits ≡ old.kept.limits
+    → ((q : ℕ) → q < p → state_at q mid ≡ after_ticks (own_ticks plan q) (limits_at q old.kept) tick n (state_at q old)) → ((q : ℕ) → p ≤ q → state_at q mid ≡ state_at q old)
+    → new ≡ gone_on (own_ticks plan p) p tick n mid
+    → (q : ℕ) → q < p + 1 → state_at q new ≡ after_ticks (own_ticks plan q) (limits_at q old.kept) tick n (state_at q old)
+one_done plan p tick n old mid new is lt same done left gone q below = by (q == p) refl
   where
     limits : limits_at p mid.kept ≡ limits_at p old.kept
     limits = ap (λ (ls : List Limits). limits_at p (record mid.kept { limits = ls })) same
 
-    own : IsUpTo (own_ticks plan p) (limits_at p old.kept) tick to (turn_at p turns) (state_at p old) (state_at p mid) → IsUpTo (own_ticks plan p) (limits_at p old.kept) tick to turn (state_at p old) (state_at p new)
-    own up =
-        let from : tick ≤ (turn_at p turns).start = up.from in
-        let at : tick + ((turn_at p turns).start - tick) ≡ (turn_at p turns).start = omega arith in
-        let all : (turn_at p turns).start - tick + (turn.start - (turn_at p turns).start) ≡ turn.start - tick = omega arith in
-        record {
-          from = omega arith;
-          coming = coming;
-          gone =
-              ap (state_at p) gone
-              ∙ (state_at-put p _ mid is lt
-              ∙ (ap (λ (l : Limits). after_ticks (own_ticks plan p) l (turn_at p turns).start (turn.start - (turn_at p turns).start) (state_at p mid)) limits
-              ∙ (ap (after_ticks (own_ticks plan p) (limits_at p old.kept) (turn_at p turns).start (turn.start - (turn_at p turns).start)) up.gone
-              ∙ (ap (λ (k : ℕ). after_ticks (own_ticks plan p) (limits_at p old.kept) k (turn.start - (turn_at p turns).start) (after_ticks (own_ticks plan p) (limits_at p old.kept) tick ((turn_at p turns).start - tick) (state_at p old))) (sym at)
-              ∙ (sym (join (own_ticks plan p) (limits_at p old.kept) tick ((turn_at p turns).start - tick) (turn.start - (turn_at p turns).start) (state_at p old))
-              ∙ ap (λ (n : ℕ). after_ticks (own_ticks plan p) (limits_at p old.kept) tick n (state_at p old)) all)))));
-        }
+    own : state_at p new ≡ after_ticks (own_ticks plan p) (limits_at p old.kept) tick n (state_at p old)
+    own =
+        let all : p ≤ p = omega arith in
+        ap (state_at p) gone
+        ∙ (state_at-put p _ mid is lt
+        ∙ (ap (λ (l : Limits). after_ticks (own_ticks plan p) l tick n (state_at p mid)) limits
+        ∙ ap (after_ticks (own_ticks plan p) (limits_at p old.kept) tick n) (left p all)))
 
-    by : (b : Bool) → (q == p) ≡ b → IsUpTo (own_ticks plan q) (limits_at q old.kept) tick to (turn_at q (set turns p turn)) (state_at q old) (state_at q new)
+    by : (b : Bool) → (q == p) ≡ b → state_at q new ≡ after_ticks (own_ticks plan q) (limits_at q old.kept) tick n (state_at q old)
     by true e =
         let one : q ≡ p = eqb-true q p e in
-        let here : p < length old.accounts = subst (λ (r : ℕ). r < length old.accounts) one below in
-        subst (λ (r : ℕ). IsUpTo (own_ticks plan r) (limits_at r old.kept) tick to (turn_at r (set turns p turn)) (state_at r old) (state_at r new)) (sym one)
-        (subst (λ (t : Turn). IsUpTo (own_ticks plan p) (limits_at p old.kept) tick to t (state_at p old) (state_at p new)) (sym (get_or-set_same turns p turn no_turn within)) (own (each p here)))
+        subst (λ (r : ℕ). state_at r new ≡ after_ticks (own_ticks plan r) (limits_at r old.kept) tick n (state_at r old)) (sym one) own
     by false e =
         let differ : q ≢ p = λ one. false≢true (sym e ∙ eq-eqb q p one) in
-        let still : state_at q new ≡ state_at q mid = ap (state_at q) gone ∙ state_at-other p q _ mid differ in
-        subst (λ (t : Turn). IsUpTo (own_ticks plan q) (limits_at q old.kept) tick to t (state_at q old) (state_at q new)) (sym (get_or-set_other turns p q turn no_turn differ))
-        (subst (IsUpTo (own_ticks plan q) (limits_at q old.kept) tick to (turn_at q turns) (state_at q old)) (sym still) (each q below))
+        ap (state_at q) gone ∙ (state_at-other p q _ mid differ ∙ done q (omega (arith, below, differ)))
+
+-- the partitions after it stay
+pub one_left : (plan : WindowPlan) (p tick n : ℕ) (old mid new : Whole) → ((q : ℕ) → p ≤ q → state_at q mid ≡ state_at q old) → new ≡ gone_on (own_ticks plan p) p tick n mid
+    → (q : ℕ) → p + 1 ≤ q → state_at q new ≡ state_at q old
+one_left plan p tick n old mid new left gone q above =
+    let differ : q ≢ p = λ one. omega (arith, above, one) in
+    ap (state_at q) gone ∙ (state_at-other p q _ mid differ ∙ left q (omega (arith, above)))

@@ -1,16 +1,41 @@
 -- How quiet a partition is at its next turn in a row.
 use Rattle.std.proofs.Common.{◌≡◌, ℕ, ◌<◌, ◌≤◌, sym, ap, subst, ◌∙◌, arith}
-use Rattle.std.specs.Prelude.{Option, Some, unwrap_or}
+use Rattle.std.specs.Prelude.{Option, unwrap_or}
 use Rattle.ptk_words_windows.specs.Windows.{OwnTicks}
+use Rattle.ptk_words_quiet.proofs.Sooner.{quiet_sooner}
+use Rattle.ptk_gate_pools.specs.Kept.{Kept, limits_at, part_at}
+use Rattle.ptk_kernel.specs.Rows.{IsStillTo}
 use Rattle.ptk_system_machine.specs.Turns.{IsInWindow}
 
--- what holds where a row ended holds at the turn that begins before the stop
-pub at_reached : (ticks : OwnTicks) (tick end stop reached start : ℕ) (P : ℕ → Type 0) → IsInWindow ticks tick end → tick ≤ reached → reached ≤ start → start < stop → stop ≤ end
-    → ticks.next_of reached ≡ Some start → P reached → P start
-at_reached ticks tick end stop reached start P window from later less within next still =
-    let own : ticks.next_of reached ≡ Some reached = window.own.next reached from (omega (arith, later, less, within)) in
-    let same : reached ≡ start = ap (λ (o : Option ℕ). unwrap_or o reached) (sym own ∙ next) in
-    subst P same still
+-- what is quiet from a tick on is so from a later one on
+pub still_later : (p tick later stop t : ℕ) (kept : Kept) → tick ≤ later → IsStillTo p tick stop t kept → IsStillTo p later stop t kept
+still_later p tick later stop t kept le still =
+    let quiet = still.1 in (
+      still.0,
+      record {
+        active = quiet.active;
+        none_comes = quiet.none_comes;
+        none_expires = quiet.none_expires;
+        chosen = quiet.chosen;
+        running = quiet.running;
+        in_use = quiet.in_use;
+        lives = quiet.lives;
+        goes_on = quiet.goes_on;
+        within = λ robin. omega (arith, le, quiet.within robin);
+        gate = quiet.gate;
+      },
+    )
+
+-- what is quiet up to a tick is so up to an earlier one
+pub still_within : (p tick stop sooner t u : ℕ) (kept : Kept) → sooner ≤ stop → u ≡ t → IsStillTo p tick stop t kept → IsStillTo p tick sooner u kept
+still_within p tick stop sooner t u kept le same still =
+    subst (λ (v : ℕ). IsStillTo p tick sooner v kept) (sym same) (still.0, quiet_sooner (limits_at p kept) tick stop sooner t still.0 (part_at p kept) still.1 le)
+
+-- what goes on as quiet as it was up to any later tick does so up to its own stop
+pub still_beyond : (p tick later stop sooner t u : ℕ) (old new : Kept) → sooner ≤ stop → u ≡ t
+    → ((k : ℕ) → sooner ≤ k → IsStillTo p tick k u old → IsStillTo p later k u new) → IsStillTo p tick stop t old → IsStillTo p later stop t new
+still_beyond p tick later stop sooner t u old new le same on still =
+    subst (λ (v : ℕ). IsStillTo p later stop v new) same (on stop le (subst (λ (v : ℕ). IsStillTo p tick stop v old) (sym same) still))
 
 -- windows of one partition that share a tick end together
 pub same_end : (ticks : OwnTicks) (a b first second : ℕ) → IsInWindow ticks a first → IsInWindow ticks b second → a ≤ b → b < first → first ≡ second

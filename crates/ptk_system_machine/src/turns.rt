@@ -1,13 +1,13 @@
-//! How all partitions go on: turn after turn, each within one window, by rows of plain steps and by single decisions.
+//! How all partitions go on: one after the other, each from turn to turn, by rows of plain steps and by single decisions.
 
-ghost use Rattle.std.specs.Prelude.{◌≡◌, ◌<◌, ◌≤◌, ◌≢◌, ◌^◌, ◌+◌, ◌-◌, ℕ, All, None, Some, IfSome, MatchOption, length, min};
+ghost use Rattle.std.specs.Prelude.{◌≡◌, ◌<◌, ◌≤◌, ◌≢◌, ◌^◌, ◌+◌, ◌-◌, ℕ, All, None, Some, IfSome, IsTrue, MatchOption, length, min};
 ghost use Rattle.ptk_words.specs.declared.TheConstants.{LAST_TICK};
 ghost use Rattle.ptk_words_windows.specs.Windows.{own_ticks};
 ghost use Rattle.ptk_words_model.specs.Run.{next_from};
 ghost use Rattle.ptk_words_quiet.specs.Quiet.{after_ticks};
 ghost use Rattle.ptk_words_quiet.specs.Idle.{IsIdle};
 ghost use Rattle.ptk_gate_pools.specs.Kept.{limits_at, part_at};
-ghost use Rattle.ptk_kernel.specs.Rows.{IsStill};
+ghost use Rattle.ptk_kernel.specs.Rows.{IsStill, IsStillTo};
 ghost use Rattle.ptk_kernel.specs.Spending.{cost_in};
 ghost use Rattle.ptk_system_machine.specs.Accounts.{IsBehind};
 ghost use Rattle.ptk_system_machine.specs.Turns.{IsComing, IsFreeFrom, IsInWindow, IsStillUntil, IsUpTo, turn_at};
@@ -25,9 +25,9 @@ use ptk_words_model::Spent;
 const PARTS: usize = 8;
 
 impl Machine {
-    /// Goes on from a tick to `to`: turn after turn, always the partition's that decides next. To each partition it does
-    /// what so many ticks would do to that partition alone. `batch` is room for entries on their way into a trace, of
-    /// which nothing is told.
+    /// Goes on from a tick to `to`: with one partition after the other, in the order of sections, since none sees how far
+    /// another has come. To each partition it does what so many ticks would do to that partition alone. `batch` is room for
+    /// entries on their way into a trace, of which nothing is told.
     pub fn run(&mut self, plan: &WindowPlan, tick: Tick, to: Tick, batch: &mut [Entry; BATCH])
         requires windows { AreWindowsOf (length self.old.accounts) plan.now }
         requires order { tick ≤ to }
@@ -38,10 +38,34 @@ impl Machine {
         ensures each { (q : ℕ) → q < length self.old.accounts →
             state_at q self.new ≡ after_ticks (own_ticks plan.now q) (limits_at q self.old.kept) tick (to - tick) (state_at q self.old) }
     {
+        let count = self.parts();
+        for i in 0..count {
+            let _parts = self.parts();
+            self.run_partition(plan, PartId::new(i as u8), tick, to, batch);
+        }
+    }
+
+    /// Goes on with one partition from a tick to `to`, turn after turn.
+    fn run_partition(
+        &mut self,
+        plan: &WindowPlan,
+        p: PartId,
+        tick: Tick,
+        to: Tick,
+        batch: &mut [Entry; BATCH],
+    )
+        requires partition { p < length self.old.accounts }
+        requires windows { AreWindowsOf (length self.old.accounts) plan.now }
+        requires order { tick ≤ to }
+        requires time { to ≤ LAST_TICK }
+        requires behind { IsBehind tick (state_at p self.old) }
+        ensures { self.new ≡ gone_on (own_ticks plan.now p) p tick (to - tick) self.old }
+    {
+        let _parts = self.parts();
         plan.is_plan();
-        let mut turns = self.first_turns(plan, tick, to);
-        while let Some(p) = next_due(&turns[..self.parts()], to) {
-            turns[p.index()] = self.turn(plan, p, turns[p.index()], to, batch);
+        let mut now = self.first_turn(plan, p, tick, to);
+        while now.start.ticks() < to.ticks() {
+            now = self.go_on(plan, p, now, to, batch);
         }
     }
 
@@ -148,39 +172,8 @@ impl Machine {
         Some(turn)
     }
 
-    /// Goes on with the partition in its turn, up to the turn's end or to `to`, whichever comes first. Answers its next
-    /// turn.
-    fn turn(
-        &mut self,
-        plan: &WindowPlan,
-        p: PartId,
-        turn: Turn,
-        to: Tick,
-        batch: &mut [Entry; BATCH],
-    ) -> Turn
-        requires partition { p < length self.old.accounts }
-        requires windows { AreWindowsOf (length self.old.accounts) plan.now }
-        requires time { to ≤ LAST_TICK }
-        requires due { turn.start < to }
-        requires coming { IsComing (own_ticks plan.now p) to (account_at p self.old).account.next turn }
-        requires behind { IsBehind turn.start (state_at p self.old) }
-        ensures on { turn.start < result.start }
-        ensures reached { min turn.end to ≤ result.start }
-        ensures coming { IsComing (own_ticks plan.now p) to (account_at p self.new).account.next result }
-        ensures gone { self.new ≡ gone_on (own_ticks plan.now p) p turn.start (result.start - turn.start) self.old }
-    {
-        let _parts = self.parts();
-        plan.is_plan();
-        let stop = turn.end.ticks().min(to.ticks());
-        let mut now = turn;
-        while now.start.ticks() < stop {
-            now = self.go_on(plan, p, now, to, batch);
-        }
-        now
-    }
-
-    /// Goes on from the partition's next decision, with which the turn begins: by plain steps in a row, and by the decision
-    /// after them where the turn's end and `to` still lie ahead. Answers its next turn.
+    /// Goes on from the partition's next decision, with which the turn begins: by plain steps in a row and quiet calls, and
+    /// by the decision after them where `to` still lies ahead. Answers its next turn.
     fn go_on(
         &mut self,
         plan: &WindowPlan,
@@ -201,9 +194,8 @@ impl Machine {
     {
         let _parts = self.parts();
         plan.is_plan();
-        let end = Tick::new(turn.end.ticks().min(to.ticks()));
         let next = self.rows(plan, p, turn, to, batch);
-        if next.start.ticks() < end.ticks() {
+        if next.start.ticks() < to.ticks() {
             self.decide(plan, p, next, to)
         } else {
             next
@@ -211,7 +203,7 @@ impl Machine {
     }
 
     /// Plain steps of the partition and quiet calls, the first at its next decision, with which the turn
-    /// begins, each in place of a decision and counted as one: as many as come before the turn's end and before `to`. What
+    /// begins, each in place of a decision and counted as one: as many as come before `to`, over any number of windows. What
     /// else may come is asked once, before the first. Answers the next turn, which is the same, and nothing changes, where
     /// the next decision is no such step of a quiet partition.
     fn rows(
@@ -226,7 +218,6 @@ impl Machine {
         requires windows { AreWindowsOf (length self.old.accounts) plan.now }
         requires time { to ≤ LAST_TICK }
         requires due { turn.start < to }
-        requires order { turn.start < turn.end }
         requires coming { IsComing (own_ticks plan.now p) to (account_at p self.old).account.next turn }
         requires behind { IsBehind turn.start (state_at p self.old) }
         ensures from { turn.start ≤ result.start }
@@ -235,8 +226,7 @@ impl Machine {
     {
         let _parts = self.parts();
         plan.is_plan();
-        let stop = Tick::new(turn.end.ticks().min(to.ticks()));
-        match quiet_until(&self.tables, p, turn.start, stop) {
+        match quiet_until(&self.tables, p, turn.start, to) {
             Some(quiet) => self.rows_on(plan, p, turn, quiet, to, batch),
             None => turn,
         }
@@ -256,7 +246,6 @@ impl Machine {
         requires windows { AreWindowsOf (length self.old.accounts) plan.now }
         requires time { to ≤ LAST_TICK }
         requires order { turn.start < quiet.stop }
-        requires end { quiet.stop ≤ turn.end }
         requires within { quiet.stop ≤ to }
         requires quiet { IsStill p turn.start quiet self.old.kept }
         requires coming { IsComing (own_ticks plan.now p) to (account_at p self.old).account.next turn }
@@ -271,17 +260,57 @@ impl Machine {
         let mut now = turn;
         let mut is_going = true;
         while is_going {
-            let next = self.row(plan, p, now, &quiet, to, batch);
-            let reached = next.start.ticks();
-            now = self.reply(plan, p, next, &quiet, to);
-            is_going = reached < now.start.ticks() && now.start.ticks() < stop;
+            let (next, goes_on) = self.row_and_reply(plan, p, now, &quiet, to, batch);
+            is_going = goes_on && next.start.ticks() < stop;
+            now = next;
         }
         now
     }
 
+    /// Plain steps of a quiet partition in a row, in the turn's window, and the quiet call behind them, where one follows
+    /// in this window. Answers the next turn, and whether the window was gone through or such a call made.
+    #[inline(always)]
+    fn row_and_reply(
+        &mut self,
+        plan: &WindowPlan,
+        p: PartId,
+        turn: Turn,
+        quiet: &Quiet,
+        to: Tick,
+        batch: &mut [Entry; BATCH],
+    ) -> (Turn, bool)
+        requires partition { p < length self.old.accounts }
+        requires windows { AreWindowsOf (length self.old.accounts) plan.now }
+        requires time { to ≤ LAST_TICK }
+        requires order { turn.start < quiet.now.stop }
+        requires within { quiet.now.stop ≤ to }
+        requires quiet { IsStill p turn.start quiet.now self.old.kept }
+        requires coming { IsComing (own_ticks plan.now p) to (account_at p self.old).account.next turn }
+        requires behind { IsBehind turn.start (state_at p self.old) }
+        ensures from { turn.start ≤ result.0.start }
+        ensures on { IsTrue result.1 → turn.start < result.0.start }
+        ensures coming { IsComing (own_ticks plan.now p) to (account_at p self.new).account.next result.0 }
+        ensures gone { self.new ≡ gone_on (own_ticks plan.now p) p turn.start (result.0.start - turn.start) self.old }
+        ensures still { IsStill p result.0.start quiet.now self.new.kept }
+    {
+        let _parts = self.parts();
+        plan.is_plan();
+        let end = turn.end.ticks();
+        let within = quiet_within(quiet, turn.end);
+        let next = self.row(plan, p, turn, &within, to, batch);
+        let reached = next.start.ticks();
+        if end <= reached {
+            return (next, true);
+        }
+        let after = self.reply(plan, p, next, &within, to);
+        let goes_on = reached < after.start.ticks();
+        (after, goes_on)
+    }
+
     /// Plain steps of a quiet partition in a row, the first at its next decision, with which the turn begins, each in
     /// place of a decision and counted as one: as many as come before its stop. Answers the next turn, which is the same,
-    /// and nothing changes, where the next step is not plain. The partition is as quiet as it was.
+    /// and nothing changes, where the next step is not plain. The partition is as quiet as it was, up to that stop or a
+    /// later one.
     #[tactic(auto, using(crate::proofs::States::states))]
     fn row(
         &mut self,
@@ -304,7 +333,7 @@ impl Machine {
         ensures from { turn.start ≤ result.start }
         ensures coming { IsComing (own_ticks plan.now p) to (account_at p self.new).account.next result }
         ensures gone { self.new ≡ gone_on (own_ticks plan.now p) p turn.start (result.start - turn.start) self.old }
-        ensures still { result.start < quiet.now.stop → IsStill p result.start quiet.now self.new.kept }
+        ensures still { (stop : ℕ) → quiet.now.stop ≤ stop → IsStillTo p turn.start stop quiet.now.thread self.old.kept → IsStillTo p result.start stop quiet.now.thread self.new.kept }
     {
         let Turn { start, end } = turn;
         let account = &mut self.accounts[p.index()];
@@ -324,7 +353,7 @@ impl Machine {
 
     /// The decision of a quiet partition with which its turn begins, where that is a quiet call and ends at
     /// the partition's stop or before. Answers the next turn, which is the same, and nothing changes, where it is any
-    /// other or the turn begins at that stop or later. The partition is as quiet as it was.
+    /// other or the turn begins at that stop or later. The partition is as quiet as it was, up to that stop or a later one.
     #[tactic(auto, using(crate::proofs::States::states))]
     fn reply(&mut self, plan: &WindowPlan, p: PartId, turn: Turn, quiet: &Quiet, to: Tick) -> Turn
         requires partition { p < length self.old.accounts }
@@ -338,7 +367,7 @@ impl Machine {
         ensures from { turn.start ≤ result.start }
         ensures coming { IsComing (own_ticks plan.now p) to (account_at p self.new).account.next result }
         ensures gone { self.new ≡ gone_on (own_ticks plan.now p) p turn.start (result.start - turn.start) self.old }
-        ensures still { result.start < quiet.now.stop → IsStill p result.start quiet.now self.new.kept }
+        ensures still { (stop : ℕ) → quiet.now.stop ≤ stop → IsStillTo p turn.start stop quiet.now.thread self.old.kept → IsStillTo p result.start stop quiet.now.thread self.new.kept }
     {
         plan.is_plan();
         let Turn { start, end } = turn;
@@ -381,6 +410,18 @@ impl Machine {
         let (next, end) = next_turn(plan, p, status, from, end, &mut account.near);
         account.count(next, room, spent, last);
         coming(account.next(), end, to)
+    }
+}
+
+/// The quiet partition up to the end of a window at most.
+#[inline(always)]
+fn quiet_within(quiet: &Quiet, end: Tick) -> Quiet
+    ensures thread { result.thread ≡ quiet.now.thread }
+    ensures stop { result.stop ≡ min quiet.now.stop end }
+{
+    Quiet {
+        thread: quiet.thread,
+        stop: Tick::new(quiet.stop.ticks().min(end.ticks())),
     }
 }
 

@@ -12,6 +12,6 @@ returns-clause-row c = λ some.
     row_some c.args.p c.args.tick c.run_row.result c.args.quiet c.args.tables.now c.run_row.new.self c.args.trace.now c.run_row.new.trace c.requires.quiet c.run_row.ensures.few c.run_row.ensures.plain c.run_row.ensures.moved c.run_row.ensures.traced
 
 pub returns-clause-still : goal.returns-clause-still
-returns-clause-still c =
-    row_still (length c.args.tables.now.limits) c.args.p c.args.tick c.run_row.result c.args.quiet c.args.tables.now c.run_row.new.self c.parts-parts.ensures.whole c.requires.partition c.requires.quiet
-    c.run_row.ensures.few c.run_row.ensures.plain c.run_row.ensures.moved
+returns-clause-still c = λ stop later still.
+    row_still (length c.args.tables.now.limits) c.args.p c.args.tick c.run_row.result stop c.args.quiet.thread c.args.tables.now c.run_row.new.self c.parts-parts.ensures.whole c.requires.partition still
+    (omega (arith, later, c.run_row.ensures.few)) c.run_row.ensures.plain c.run_row.ensures.moved

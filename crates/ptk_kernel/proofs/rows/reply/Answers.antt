@@ -11,6 +11,6 @@ returns-clause-moved c = λ room some fits.
     (reply_made c.args.p c.args.tick c.make_reply.result room c.args.quiet c.args.tables.now c.make_reply.new.self c.requires.quiet c.make_reply.ensures.few fits some c.make_reply.ensures.made).0
 
 pub returns-clause-still : goal.returns-clause-still
-returns-clause-still c =
-    reply_still (length c.args.tables.now.limits) c.args.p c.args.tick c.make_reply.result c.args.quiet c.args.tables.now c.make_reply.new.self c.parts-parts.ensures.whole c.requires.partition c.requires.quiet
+returns-clause-still c = λ stop later still.
+    reply_still (length c.args.tables.now.limits) c.args.p c.args.tick c.make_reply.result stop c.args.quiet.thread c.args.tables.now c.make_reply.new.self c.parts-parts.ensures.whole c.requires.partition still
     c.make_reply.ensures.none c.make_reply.ensures.made

@@ -1,17 +1,18 @@
-use Rattle.std.proofs.Common.{◌≡◌, ℕ, ◌+◌, ◌-◌, ◌<◌, ◌≤◌, Bool, true, List, length, get_or, Option, Some, None, refl, subst, sym, ap, ◌∙◌, arith}
+use Rattle.std.proofs.Common.{◌≡◌, ℕ, ◌+◌, ◌-◌, ◌<◌, ◌≤◌, Bool, true, length, get_or, Some, None, refl, subst, sym, ap, ◌∙◌, arith}
 use Rattle.std.specs.Prelude.{if◌then◌else◌}
 use Rattle.std.proofs.Math.ListN.{set}
 use Rattle.ptk_words_windows.specs.Windows.{own_ticks}
 use Rattle.ptk_words_model.specs.declared.Spent.TheVariants.{Step}
-use Rattle.ptk_words_model.specs.Decision.{spent_by_decision}
 use Rattle.ptk_words_model.specs.Run.{is_active}
 use Rattle.ptk_gate_pools.specs.Kept.{Kept, limits_at, part_at}
-use Rattle.ptk_system_machine.specs.Accounts.{KeptAccount, kept_account_of, duration_of, spent_account}
+use Rattle.ptk_kernel.specs.Rows.{IsStill, IsStillTo}
+use Rattle.ptk_system_machine.specs.Accounts.{KeptAccount, kept_account_of, spent_account}
 use Rattle.ptk_system_machine.specs.Turns.{IsFreeFrom, IsInWindow}
 use Rattle.ptk_system_machine.specs.Whole.{Whole, IsWhole, account_at, gone_on, no_account}
 use Rattle.ptk_system_machine.proofs.States.{account_put, account_read, decided_whole, entry_told, free_told, spent_next, still_whole}
 use Rattle.ptk_system_machine.proofs.Coming.{begins_from}
 use Rattle.ptk_system_machine.proofs.Costs.{decision_costs}
+use Rattle.ptk_system_machine.proofs.StillQuiet.{still_later}
 use Rattle.ptk_system_machine.proofs.Ticks.{decided_on, gone_start}
 use Rattle.ptk_system_machine.proofs.machine.Machine.reply.Goals as goal
 
@@ -70,7 +71,9 @@ returns-clause-gone c =
     let next = c.next.ensures
     ∙ (ap (λ (a : KeptAccount). a.account.next) c.count.ensures
     ∙ spent_next c.next_turn.result.0 c.account.inside.trace.kept room (Step n) c.last_step-last.result (kept_account_of c.account.inside).account) in
-    let active : is_active (part_at c.args.p c.reply-ticks.new.tables).status ≡ true = c.reply-ticks.ensures.still.1.active in
+    let same : c.args.quiet.now.stop ≤ c.args.quiet.now.stop = omega arith in
+    let quiet : IsStill c.args.p c.args.turn.start c.args.quiet.now c.self.inside.tables = subst (λ (w : Whole). IsStill c.args.p c.args.turn.start c.args.quiet.now w.kept) (sym c.self.view_is) (c.requires.quiet begun) in
+    let active : is_active (part_at c.args.p c.reply-ticks.new.tables).status ≡ true = (c.reply-ticks.ensures.still c.args.quiet.now.stop same quiet).1.active in
     let le : from ≤ from = omega arith in
     let later : c.args.turn.start + 1 ≤ c.coming.result.start =
     begins_from (c.args.turn.start + 1) from c.args.to c.next_turn.result.0 c.coming.result (omega (arith, reached, some)) (omega (arith, before)) c.next_turn.ensures.from (λ it. sym next ∙ c.coming.ensures.due it) in
@@ -94,3 +97,23 @@ returns-clause-gone c =
     (c.next_turn.ensures.next ∙ ap (λ (b : Bool). if b then (own_ticks c.args.plan.now c.args.p).next_of from else None) (sym active))
     c.last_step-last.ensures
     (c.count.ensures ∙ ap (λ (a : KeptAccount). record a { account = spent_account c.next_turn.result.0 a.kept room (Step n) c.last_step-last.result a.account }) account)))
+
+pub returns-clause-still : goal.returns-clause-still
+returns-clause-still c = λ stop beyond still.
+    let n : ℕ = c.reply-ticks.result in
+    let from : ℕ = c.new-reached.result in
+    let room : ℕ = c.ticks-3.result - c.ticks-4.result in
+    let reached : from ≡ c.args.turn.start + n = cc in
+    let next = c.next.ensures
+    ∙ (ap (λ (a : KeptAccount). a.account.next) c.count.ensures
+    ∙ spent_next c.next_turn.result.0 c.account.inside.trace.kept room (Step n) c.last_step-last.result (kept_account_of c.account.inside).account) in
+    let begun : c.args.turn.start < c.args.quiet.now.stop = omega (arith, c.if-ticks.false) in
+    let later : c.args.turn.start + n ≤ c.coming.result.start =
+    begins_from (c.args.turn.start + n) from c.args.to c.next_turn.result.0 c.coming.result (omega (arith, reached)) (omega (arith, c.reply-ticks.ensures.within, c.requires.within)) c.next_turn.ensures.from (λ it. sym next ∙ c.coming.ensures.due it) in
+    still_later c.args.p (c.args.turn.start + n) c.coming.result.start stop c.args.quiet.now.thread c.reply-ticks.new.tables later
+    (c.reply-ticks.ensures.still stop beyond (subst (λ (w : Whole). IsStillTo c.args.p c.args.turn.start stop c.args.quiet.now.thread w.kept) (sym c.self.view_is) still))
+
+pub returns-then-ticks-eq0-clause-still : goal.returns-then-ticks-eq0-clause-still
+returns-then-ticks-eq0-clause-still c = λ stop beyond still.
+    subst (λ (k : Kept). IsStillTo c.args.p c.args.turn.start stop c.args.quiet.now.thread k) (sym (c.reply-ticks.ensures.none c.if-ticks-eq0.true))
+    (subst (λ (w : Whole). IsStillTo c.args.p c.args.turn.start stop c.args.quiet.now.thread w.kept) (sym c.self.view_is) still)

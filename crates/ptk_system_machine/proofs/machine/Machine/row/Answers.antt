@@ -1,14 +1,14 @@
 use Rattle.std.proofs.Common.{◌≡◌, ◌+◌, ◌<◌, ◌≤◌, Some, length, get_or, subst, sym, ap, ◌∙◌, arith}
 use Rattle.std.proofs.Math.ListN.{set}
 use Rattle.ptk_words_windows.specs.Windows.{own_ticks}
-use Rattle.ptk_kernel.specs.Rows.{IsStill}
+use Rattle.ptk_kernel.specs.Rows.{IsStillTo}
 use Rattle.ptk_system_machine.specs.Accounts.{KeptAccount, kept_account_of}
 use Rattle.ptk_system_machine.specs.Turns.{IsInWindow}
 use Rattle.ptk_system_machine.specs.Whole.{Whole, IsWhole, no_account, account_at, gone_on}
 use Rattle.ptk_system_machine.proofs.States.{account_put, account_read}
 use Rattle.ptk_system_machine.proofs.Coming.{begins_from}
 use Rattle.ptk_system_machine.proofs.CountedRows.{row_counted, row_whole}
-use Rattle.ptk_system_machine.proofs.StillQuiet.{at_reached}
+use Rattle.ptk_system_machine.proofs.StillQuiet.{still_later}
 use Rattle.ptk_system_machine.proofs.Ticks.{gone_up, own_within}
 use Rattle.ptk_system_machine.proofs.machine.Machine.row.Goals as goal
 
@@ -45,14 +45,10 @@ returns-clause-gone c =
     c.compute-steps.ensures.none c.compute-steps.ensures.row c.count_row.ensures))
 
 pub returns-clause-still : goal.returns-clause-still
-returns-clause-still c = λ less.
-    let before : c.args.turn.start < c.args.to = omega arith in
-    let window : IsInWindow (own_ticks c.args.plan.now c.args.p) c.args.turn.start c.args.turn.end = c.requires.coming.window before in
+returns-clause-still c = λ stop beyond still.
     let reached : c.new-reached.result ≡ c.args.turn.start + c.compute-steps.result = cc in
     let next = c.next.ensures ∙ ap (λ (a : KeptAccount). a.account.next) c.count_row.ensures in
     let later : c.args.turn.start + c.compute-steps.result ≤ c.coming.result.start =
     begins_from (c.args.turn.start + c.compute-steps.result) c.new-reached.result c.args.to _ c.coming.result (omega arith) (omega (arith, c.compute-steps.ensures.within)) c.next_turn-next.ensures.from (λ lt. sym next ∙ c.coming.ensures.due lt) in
-    at_reached (own_ticks c.args.plan.now c.args.p) c.args.turn.start c.args.turn.end c.args.quiet.now.stop (c.args.turn.start + c.compute-steps.result) c.coming.result.start (λ k. IsStill c.args.p k c.args.quiet.now c.compute-steps.new.tables)
-    window (omega arith) later less c.requires.end
-    (ap (own_ticks c.args.plan.now c.args.p).next_of (sym reached) ∙ (sym c.next_turn-next.ensures.next ∙ (sym next ∙ c.coming.ensures.due (omega (arith, less, c.requires.within)))))
-    c.compute-steps.ensures.still
+    still_later c.args.p (c.args.turn.start + c.compute-steps.result) c.coming.result.start stop c.args.quiet.now.thread c.compute-steps.new.tables later
+    (c.compute-steps.ensures.still stop beyond (subst (λ (w : Whole). IsStillTo c.args.p c.args.turn.start stop c.args.quiet.now.thread w.kept) (sym c.self.view_is) still))

@@ -1,5 +1,5 @@
 use Rattle.std.proofs.Common.{◌≡◌, ◌+◌, ◌-◌, ◌≤◌, ◌<◌, true}
-use Rattle.std.specs.Prelude.{ℕ, if◌then◌else◌}
+use Rattle.std.specs.Prelude.{if◌then◌else◌}
 use Rattle.ptk_words_windows.specs.Windows.{own_ticks}
 use Rattle.ptk_kernel.specs.Rows.{IsStill}
 use Rattle.ptk_system_machine.specs.Turns.{IsComing}
@@ -12,7 +12,6 @@ invariant-loop-is_going l = record {
   coming : IsComing (own_ticks l.plan l.p) l.to (account_at l.p l.self).account.next l.now;
   gone : l.self ≡ gone_on (own_ticks l.plan l.p) l.p l.fn.turn.start (l.now.start - l.fn.turn.start) l.fn.self;
   before : l.is_going ≡ true → l.now.start < l.quiet.stop;
-  window : l.is_going ≡ true → l.quiet.stop ≤ l.now.end;
   still : l.is_going ≡ true → IsStill l.p l.now.start l.quiet l.self.kept;
 }
 

@@ -2,13 +2,13 @@ use Rattle.std.proofs.Common.{◌≡◌, ◌-◌, ◌≤◌}
 use Rattle.ptk_words_windows.specs.Windows.{own_ticks}
 use Rattle.ptk_system_machine.specs.Turns.{IsComing}
 use Rattle.ptk_system_machine.specs.Whole.{account_at, gone_on}
-use Rattle.ptk_system_machine.proofs.machine.Machine.turn.Given as goal
+use Rattle.ptk_system_machine.proofs.machine.Machine.run_partition.Given as goal
 
 abbrev pub invariant-loop-p : goal.invariant-loop-p
 invariant-loop-p l = record {
-  from : l.fn.turn.start ≤ l.now.start;
+  from : l.fn.tick ≤ l.now.start;
   coming : IsComing (own_ticks l.plan l.p) l.to (account_at l.p l.self).account.next l.now;
-  gone : l.self ≡ gone_on (own_ticks l.plan l.p) l.p l.fn.turn.start (l.now.start - l.fn.turn.start) l.fn.self;
+  gone : l.self ≡ gone_on (own_ticks l.plan l.p) l.p l.fn.tick (l.now.start - l.fn.tick) l.fn.self;
 }
 
 abbrev pub decreases-loop-p : goal.decreases-loop-p
