@@ -1,0 +1,67 @@
+//! The guests in C of `guest/tests`, run from their stored images, so that no compiler is needed: of each a heading with
+//! its name, and its report. `data/` has for each its configuration, `NAME.toml`, and its image, `NAME.img`; the gate
+//! compares what is printed with `stdout`, the stored reports. Nothing is promised here: that a report is the one of the
+//! booted configuration `run_with` of `ptk_main_runs` promises, which stands below with the configuration
+//! (`ptk_config`); nothing stands above.
+#![tactic(auto)]
+
+ghost use Rattle.std.specs.Prelude.{◌≤◌};
+ghost use Rattle.ptk_words.specs.declared.TheConstants.{LAST_TICK};
+
+use anyhow::{Context, Result};
+use ptk_config::read_config;
+use ptk_main_runs::{Files, run_with};
+use ptk_words::{LAST_TICK, Tick};
+use std::fs;
+
+/// The guests, by the names of their files.
+const GUESTS: [&str; 15] = [
+    "abort",
+    "arithmetic",
+    "attributes",
+    "cancellation",
+    "cleanup",
+    "clocks",
+    "conditions",
+    "console",
+    "keys",
+    "mutexes",
+    "protocols",
+    "robust",
+    "scheduling",
+    "text",
+    "threads",
+];
+
+/// Each guest ends before this tick.
+const TICKS: u64 = 1_000_000;
+
+fn main(rt: HostRuntime) -> Result<()> {
+    for name in GUESTS {
+        println!(rt; "guest {name}")?;
+        print_report(&rt, name, TICKS).context(name)?;
+    }
+    Ok(())
+}
+
+// Prints the report of a guest after so many ticks. An error where a file can't be read, the configuration is refused,
+// the system does not boot, or the output fails.
+fn print_report(rt: &HostRuntime, name: &str, ticks: u64) -> Result<()> {
+    let alloc = rt.alloc();
+    let configuration = format!(in alloc; "{name}.toml")?;
+    let text = fs::read_to_string(rt, configuration.as_str())?;
+    let config = read_config(alloc, text.as_str())?;
+    let image = format!(in alloc; "{name}.img")?;
+    let bytes = fs::read(rt, image.as_str())?;
+    let mut files = Files::new(alloc);
+    files.add(image.as_str(), bytes.as_slice())?;
+    run_with(alloc, &config, &files, tick_of(ticks), &mut rt.stdout())?;
+    Ok(())
+}
+
+// The tick of a number, at most the last one.
+fn tick_of(ticks: u64) -> Tick
+    ensures { result ≤ LAST_TICK }
+{
+    Tick::new(ticks.min(LAST_TICK))
+}
