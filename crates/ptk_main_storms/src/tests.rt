@@ -183,7 +183,9 @@ fn is_storm(world: World, storm: &Storm, beside_nobody: &[Shown], beside: &[Show
     match (beside_nobody.last(), beside.last()) {
         (Some(nobody), Some(last)) => match part_of_p(world, &nobody.report) {
             Some(part) => match part_of_q(world, &last.report, part) {
-                Some(q) => q.starts_with(storm.begins.as_bytes()),
+                Some(q) => {
+                    q.starts_with(storm.begins.as_bytes()) && q.ends_with(storm.ends.as_bytes())
+                }
                 None => false,
             },
             None => false,

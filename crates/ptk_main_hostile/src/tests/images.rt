@@ -38,12 +38,21 @@ fn first_other_cut(alloc: Global, config: &Config, image: &[u8]) -> Option<usize
     (0..image.len()).find(|left| !is_refused(alloc, config, image, *left))
 }
 
-// How the report begins where a byte of the header, or of the text, is another.
+/// The report of the whole image.
+const WHOLE: &str = "partition p exit 0 steps 9 lost 0\noutput 2\nhi\n";
+
+/// That of one whose bss does not fit.
+const TOO_LONG: &str = "partition p refused image 7 steps 0 lost 0\noutput 0\n\n";
+
+// How the report begins where a byte of the header, or of the text, is another. A bss of up to 255 bytes fits.
 fn beginning(place: usize) -> &'static str {
     match place {
         0..=3 => "partition p refused image 2 steps 0 lost 0\noutput 0\n\n",
         4..=7 => "partition p refused image 3 steps 0 lost 0\noutput 0\n\n",
+        8..=11 => "partition p refused image 5 steps 0 lost 0\noutput 0\n\n",
         12..=19 => "partition p refused image 4 steps 0 lost 0\noutput 0\n\n",
+        20 => WHOLE,
+        22 | 23 => TOO_LONG,
         _ => "partition p ",
     }
 }
@@ -83,8 +92,7 @@ fn with_full_bss(alloc: Global, image: &[u8]) -> Result<Vec<u8>, AllocError> {
 // Asserts what comes of the image cut, changed, and with the greatest bss.
 fn check_image(rt: &impl Abort, alloc: Global, config: &Config, image: &[u8]) {
     assert_eq!(rt; image.len(), 60);
-    let whole = "partition p exit 0 steps 9 lost 0\noutput 2\nhi\n";
-    assert!(rt; begins(alloc, config, image, whole));
+    assert!(rt; begins(alloc, config, image, WHOLE));
     assert_eq!(rt; first_other_cut(alloc, config, image), None);
     for place in 0..image.len() {
         assert_eq!(rt;
@@ -94,8 +102,7 @@ fn check_image(rt: &impl Abort, alloc: Global, config: &Config, image: &[u8]) {
         );
     }
     let full = with_full_bss(alloc, image).unwrap_or(Vec::new(alloc));
-    let refused = "partition p refused image 7 steps 0 lost 0\noutput 0\n\n";
-    assert!(rt; begins(alloc, config, &full, refused));
+    assert!(rt; begins(alloc, config, &full, TOO_LONG));
 }
 
 #[test]

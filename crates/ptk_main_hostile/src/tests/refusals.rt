@@ -2,7 +2,6 @@
 //! allocation refused, each in turn. Then the call tells want of memory and nothing else, leaves what it was given, and
 //! succeeds as it is asked again. The tests ask for no memory besides.
 
-use super::{FIRST_PATH, HELLO};
 use ptk_asm::assemble;
 use ptk_config::{Config, read_config};
 use ptk_image::{Image, read_image, write_image};
@@ -11,21 +10,70 @@ use ptk_words::PartId;
 use std::alloc::Global;
 use std::process::Abort;
 
-/// The image of `HELLO`.
-const IMAGE: [u8; 60] = [
+/// Two partitions with one image, input, and a plan.
+const CONFIG: &str = "frame = 40
+window = [{ start = 0, length = 20, partition = \"p\" }, { start = 20, length = 20, partition = \"q\" }]
+plan = [{ from = 2, window = [{ start = 0, length = 40, partition = \"p\" }] }]
+[[partition]]
+name = \"p\"
+image = \"p.img\"
+memory = 4096
+threads = 4
+stack = 256
+mutexes = 4
+conds = 4
+keys = 4
+interval = 100
+ring = 16
+output = 64
+trace = 16
+input = [{ at = 0, bytes = [97, 98] }, { at = 1, bytes = [99] }]
+[[partition]]
+name = \"q\"
+image = \"p.img\"
+memory = 4096
+threads = 4
+stack = 256
+mutexes = 4
+conds = 4
+keys = 4
+interval = 100
+ring = 16
+output = 64
+trace = 16
+";
+
+/// Puts `h` and `i` and exits with 0. It has each section and two labels.
+const SOURCE: &str = "_start: li a7, 1
+        li a0, 104  # h
+        ecall
+        li a7, 1
+        li a0, 105  # i
+        ecall
+        li a7, 0
+        li a0, 0
+        ecall
+.data
+place:  .word place
+.bss
+        .space 4
+";
+
+/// Its image: 24 bytes of the header, nine words, and the word at 0x24.
+const IMAGE: [u8; 64] = [
     0x50, 0x54, 0x4b, 0x49, 0x01, 0x00, 0x00, 0x00, 0x00, 0x00, 0x00, 0x00, 0x24, 0x00, 0x00, 0x00,
-    0x00, 0x00, 0x00, 0x00, 0x00, 0x00, 0x00, 0x00, 0x93, 0x08, 0x10, 0x00, 0x13, 0x05, 0x80, 0x06,
+    0x04, 0x00, 0x00, 0x00, 0x04, 0x00, 0x00, 0x00, 0x93, 0x08, 0x10, 0x00, 0x13, 0x05, 0x80, 0x06,
     0x73, 0x00, 0x00, 0x00, 0x93, 0x08, 0x10, 0x00, 0x13, 0x05, 0x90, 0x06, 0x73, 0x00, 0x00, 0x00,
-    0x93, 0x08, 0x00, 0x00, 0x13, 0x05, 0x00, 0x00, 0x73, 0x00, 0x00, 0x00,
+    0x93, 0x08, 0x00, 0x00, 0x13, 0x05, 0x00, 0x00, 0x73, 0x00, 0x00, 0x00, 0x24, 0x00, 0x00, 0x00,
 ];
 
 // The configuration.
 fn config(rt: &impl Abort, alloc: Global) -> Option<Config> {
-    match read_config(alloc, FIRST_PATH) {
+    match read_config(alloc, CONFIG) {
         Ok(config) => Some(config),
         Err(fault) => {
             assert_eq!(rt; fault.number(), 8);
-            read_config(alloc, FIRST_PATH).ok()
+            read_config(alloc, CONFIG).ok()
         }
     }
 }
@@ -72,15 +120,19 @@ fn an_image_is_refused_memory_as_it_is_written(rt: HostRuntime) {
 
 #[test]
 fn a_source_is_refused_memory(rt: HostRuntime) {
-    let image = match assemble(rt.alloc(), HELLO) {
+    let image = match assemble(rt.alloc(), SOURCE) {
         Ok(image) => Some(image),
         Err(fault) => {
             assert_eq!(rt; fault.kind.number(), 7);
-            assemble(rt.alloc(), HELLO).ok()
+            assemble(rt.alloc(), SOURCE).ok()
         }
     };
     match image {
-        Some(image) => assert_eq!(rt; image.text(), &IMAGE[24..]),
+        Some(image) => {
+            assert_eq!(rt; image.text(), &IMAGE[24..60]);
+            assert_eq!(rt; image.data(), &IMAGE[60..]);
+            assert_eq!(rt; image.bss(), 4);
+        }
         None => assert!(rt; false, "not assembled"),
     }
 }
@@ -131,17 +183,18 @@ fn a_boot_is_refused_memory(rt: HostRuntime) {
     }
 }
 
-// Asserts what is told at tick 20.
+// Asserts what is told at tick 40.
 fn check_told(rt: &impl Abort, system: &System<'_>) {
     let _parts = system.parts();
     let p = PartId::new(0);
     assert_eq!(rt; system.steps(p), 9);
     assert_eq!(rt; system.lost(p), 0);
     assert_eq!(rt; system.output(p), b"hi".as_slice());
-    let mut bytes = [0u8; 46];
+    let mut bytes = [0u8; 92];
     let mut room = bytes.as_mut_slice();
     assert!(rt; system.report(&mut room).is_ok());
-    let want = b"partition p exit 0 steps 9 lost 0\noutput 2\nhi\n";
+    let want =
+        b"partition p exit 0 steps 9 lost 0\noutput 2\nhi\npartition q exit 0 steps 9 lost 0\noutput 2\nhi\n";
     assert_eq!(rt; bytes.as_slice(), want.as_slice());
     let mut bytes = [0u8; 400];
     let mut room = bytes.as_mut_slice();
@@ -159,7 +212,7 @@ fn a_run_asks_for_no_memory(rt: HostRuntime) {
     match config(&rt, alloc) {
         Some(config) => match booted(&rt, alloc, &config, &files) {
             Some(mut system) => {
-                run_on_to(&mut system, 20);
+                run_on_to(&mut system, 40);
                 check_told(&rt, &system);
             }
             None => assert!(rt; false, "no boot"),

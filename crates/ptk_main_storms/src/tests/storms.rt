@@ -22,8 +22,11 @@ pub struct Storm {
     pub besides: Besides,
     /// How its part of the report begins at the last cut, 100 windows of 20 ticks.
     pub begins: &'static str,
+    /// How that part ends. Where steps are left open, the output tells that the storm came to its end.
+    pub ends: &'static str,
 }
 
+// The refusal, 11, is put as `;`.
 const CREATES: &str = "
 more:
     li a0, 0
@@ -31,10 +34,14 @@ more:
     li a7, 10           # pthread_create
     ecall
     beq a0, zero, more
+    addi a0, a0, 48
+    li a7, 1            # console_put
+    ecall
 rest:
     j rest
 ";
 
+// The refusals, 12, 12 and 11, are put as `<`, `<` and `;`.
 const FILLS: &str = "
     li s0, 1024
 mutexes:
@@ -43,17 +50,26 @@ mutexes:
     ecall
     addi s0, s0, 4
     beq a0, zero, mutexes
+    addi a0, a0, 48
+    li a7, 1            # console_put
+    ecall
 conditions:
     mv a0, s0
     li a7, 34           # cond_signal
     ecall
     addi s0, s0, 4
     beq a0, zero, conditions
+    addi a0, a0, 48
+    li a7, 1            # console_put
+    ecall
 keys:
     li a0, 0
     li a7, 50           # pthread_key_create
     ecall
     beq a0, zero, keys
+    addi a0, a0, 48
+    li a7, 1            # console_put
+    ecall
 rest:
     j rest
 ";
@@ -87,11 +103,16 @@ const FAULTS: &str = "
     .word 0
 ";
 
+// Puts what it gets. q has the ticks 20 to 39 and 60 to 79. For each of the first three calls the ring has a byte; the
+// fourth one waits for good.
 const READS: &str = "
 again:
-    li a7, 2            # console_get
-    ecall
-    j again
+    li a7, 2            # 20, 32, 65, 77  console_get
+    ecall               # 21, 33, 66, and 78 is too late
+    mv a0, a1           # 25, 37, 70
+    li a7, 1            # 26, 38, 71      console_put
+    ecall               # 27, 60, 72      39 is too late
+    j again             # 31, 64, 76
 ";
 
 const PUTS: &str = "
@@ -110,7 +131,7 @@ again:
     j again
 ";
 
-// Main sleeps until 45, and with 31 others until 3000: p's times.
+// Main sleeps until 45, and with 31 others until 3000: p's times. Each that goes on puts a mark and lets the next one.
 const SLEEPS: &str = "
     li a0, 0
     la a1, early
@@ -126,7 +147,12 @@ sleeper:
     la a1, late
     li a7, 4            # clock_nanosleep
     ecall
+    li a0, 33
+    li a7, 1            # console_put
+    ecall
+    li a7, 15           # yield
 rest:
+    ecall
     j rest
 ";
 
@@ -137,53 +163,62 @@ pub const STORMS: [Storm; 9] = [
         source: CREATES,
         besides: Besides::Nothing,
         begins: "partition q running steps ",
+        ends: "\noutput 1\n;\n",
     },
     Storm {
         name: "fills mutexes, condition variables and keys",
         source: FILLS,
         besides: Besides::Nothing,
         begins: "partition q running steps ",
+        ends: "\noutput 3\n<<;\n",
     },
     Storm {
         name: "two threads wait for each other's mutex",
         source: DEADLOCKS,
         besides: Besides::Nothing,
         begins: "partition q idle steps 28 lost ",
+        ends: "\noutput 0\n\n",
     },
     Storm {
         name: "a fault at the first step",
         source: FAULTS,
         besides: Besides::Nothing,
-        begins: "partition q fault illegal pc 0x00000000 steps 1 lost 0\noutput 0\n\n",
+        begins: "partition q fault illegal pc 0x00000000 steps 1 lost 0",
+        ends: "\noutput 0\n\n",
     },
     Storm {
         name: "more input than the ring takes",
         source: READS,
         besides: Besides::Input,
-        begins: "partition q idle steps ",
+        begins: "partition q idle steps 20 lost 3",
+        ends: "\noutput 3\naaa\n",
     },
     Storm {
         name: "puts into a full output",
         source: PUTS,
         besides: Besides::Nothing,
-        begins: "partition q running steps 902 lost 198\noutput 4\n!!!!\n",
+        begins: "partition q running steps 902 lost 198",
+        ends: "\noutput 4\n!!!!\n",
     },
     Storm {
         name: "broadcasts without end",
         source: BROADCASTS,
         besides: Besides::Nothing,
-        begins: "partition q running steps 302 lost 198\noutput 0\n\n",
+        begins: "partition q running steps 302 lost 198",
+        ends: "\noutput 0\n\n",
     },
     Storm {
         name: "32 sleepers until p's times",
         source: SLEEPS,
         besides: Besides::Nothing,
         begins: "partition q running steps ",
+        ends: "\noutput 4\n!!!!\n",
     },
     Storm {
         name: "a cut image",
         source: PUTS,
         besides: Besides::Cut,
-        begins: "partition q refused image 4 steps 0 lost 0\noutput 0\n\n",
+        begins: "partition q refused image 4 steps 0 lost 0",
+        ends: "\noutput 0\n\n",
     },
 ];
