@@ -1,10 +1,13 @@
 //! The tables.
 
-ghost use Rattle.std.specs.Prelude.{◌≡◌, ◌<◌, ◌≤◌, length, map, nat_lt, All, IfOk};
+ghost use Rattle.std.specs.Prelude.{◌≡◌, ℕ, ◌<◌, ◌≤◌, length, map, nat_lt, All, IfOk};
 ghost use Rattle.ptk_words.specs.Ranges.{IsWithinLimits};
 ghost use Rattle.ptk_console.specs.ConsoleTable.{fresh_console};
 ghost use Rattle.ptk_gate_pools.specs.Blank.{blank};
-ghost use Rattle.ptk_gate_pools.specs.Kept.{AreParts, part_at};
+ghost use Rattle.ptk_words_model.specs.Withdrawal.{deadlines_of};
+ghost use Rattle.ptk_clock.specs.BySlot.{deadlines_from};
+ghost use Rattle.ptk_clock.specs.ByThread.{first_slot};
+ghost use Rattle.ptk_gate_pools.specs.Kept.{AreParts, part_at, deadlines_in};
 
 use ptk_clock::SharedDeadlines;
 use ptk_gate_pools::Pools;
@@ -75,7 +78,10 @@ impl Tables {
     }
 
     /// The deadlines of all partitions' threads: one queue, of which each partition's are read by its slots.
-    pub fn deadlines(&self) -> &SharedDeadlines {
+    pub fn deadlines(&self) -> &SharedDeadlines
+        ensures { (p : ℕ) → p < length self.now.limits
+            → deadlines_of (part_at p self.now).locks ≡ deadlines_from (first_slot p (map deadlines_in self.now.threads)) (length (part_at p self.now).threads) result.now.pairs }
+    {
         self.pools.deadlines()
     }
 
