@@ -4,3 +4,4 @@ pub mod Locked
 pub mod Steps
 pub mod Woken
 pub mod Ready
+pub mod Raised

@@ -1,3 +1,4 @@
 pub mod Pool
 pub mod Tables
 pub mod Moves
+pub mod Rises

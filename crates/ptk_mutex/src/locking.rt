@@ -1,7 +1,7 @@
 //! The calls after which nobody is woken: lock, trylock, a running thread's re-lock, a change of a mutex, and a changed
 //! assigned priority.
 
-ghost use Rattle.std.specs.Prelude.{◌≡◌, ◌<◌, [], Some, None, length, slice_set};
+ghost use Rattle.std.specs.Prelude.{◌≡◌, ◌<◌, ◌≤◌, [], Some, None, length, slice_set};
 ghost use Rattle.std.specs.List.{list_any};
 ghost use Rattle.ptk_words.specs.Pools.{pool_get};
 ghost use Rattle.ptk_words.specs.declared.TheConstants.{COUNT_LIMIT};
@@ -10,6 +10,8 @@ ghost use Rattle.ptk_words_model.specs.declared.LockMove.TheVariants.{Counts};
 ghost use Rattle.ptk_words.specs.declared.mutexes.Soundness.TheVariants.{Consistent};
 ghost use Rattle.ptk_words_parted.specs.Parts.{part_of};
 ghost use Rattle.ptk_words_model.specs.State.{locks_of};
+ghost use Rattle.ptk_words_model.specs.Priority.{assigned_of};
+ghost use Rattle.ptk_mutex_rise.specs.Visits.{IsVisited};
 ghost use Rattle.ptk_words_model.specs.Mutex.{mutex_at, lock_move, trylock_move, relock_move, count_of, owns, owns_raising, is_raising_for, after_move, with_soundness};
 ghost use Rattle.ptk_mutex_slots.specs.declared.slot.Change.TheVariants.{CountUp, Enqueue};
 ghost use Rattle.ptk_mutex_slots.specs.Changes.{SlotMayChange};
@@ -18,7 +20,8 @@ ghost use Rattle.ptk_mutex.specs.Moves.{after_lock, after_trylock, after_assignm
 
 use crate::mutexes::Mutexes;
 use crate::waking::relock_move;
-use ptk_mutex_slots::{Change, MutexSlot, slot_in};
+use ptk_mutex_rise::Rise;
+use ptk_mutex_slots::{Change, MutexSlot, assigned, slot_in};
 use ptk_ready::VecLine;
 use ptk_threads::{Slot, Threads};
 use ptk_words::{Errno, MutexNo, PartId, Priority, Soundness, ThreadNo, Tick, Wait};
@@ -48,8 +51,8 @@ impl Mutexes {
         ensures ready { AreReady p threads.new line.now self.new }
     {
         let made = lock_move(threads.part(p), self.part(p), t, m);
-        self.make(line, threads, p, t, m, Wait::MutexWait(m, deadline), made);
-        self.refresh(threads, p);
+        let visited = self.make(line, threads, p, t, m, Wait::MutexWait(m, deadline), made);
+        self.tell_visited(visited);
         made
     }
 
@@ -74,8 +77,8 @@ impl Mutexes {
         ensures ready { AreReady p threads.new line.now self.new }
     {
         let made = trylock_move(threads.part(p), self.part(p), t, m);
-        self.make(line, threads, p, t, m, Wait::MutexWait(m, None), made);
-        self.refresh(threads, p);
+        let visited = self.make(line, threads, p, t, m, Wait::MutexWait(m, None), made);
+        self.tell_visited(visited);
         made
     }
 
@@ -110,8 +113,8 @@ impl Mutexes {
         ensures ready { AreReady p threads.new line.now self.new }
     {
         let made = relock_move(self.part(p), t, m);
-        self.make(line, threads, p, t, m, Wait::RelockWait(m, reply), made);
-        self.refresh(threads, p);
+        let visited = self.make(line, threads, p, t, m, Wait::RelockWait(m, reply), made);
+        self.tell_visited(visited);
         made
     }
 
@@ -161,37 +164,32 @@ impl Mutexes {
         ensures mutexes { mutexes_of self.now threads.new ≡ mutexes_of self.now threads.old }
         ensures ready { AreReady p threads.new line.now self.now }
     {
-        threads.set_assigned_priority(p, t, priority);
-        self.refresh(threads, p);
+        let visited = self.reassign(line, threads, p, t, priority);
+        self.tell_visited(visited);
     }
 
-    /// A thread makes a move; the stored priorities stay.
+    /// A thread has this assigned priority, and the stored priorities are those that it then makes. Told is how many
+    /// stored priorities the walk of a rise read; 0 after a fall.
     #[tactic(auto, using(crate::proofs::Moved::moves))]
-    pub(crate) fn make(
-        &mut self,
+    fn reassign(
+        &self,
         line: &VecLine,
         threads: &mut Threads,
         p: PartId,
         t: ThreadNo,
-        m: MutexNo,
-        wait: Wait,
-        made: LockMove,
-    )
-        requires part { HasPart p threads.old line.now self.old }
-        requires countable { SlotMayChange CountUp (pool_get (part_of self.old p) m) }
-        requires fresh { SlotMayChange (Enqueue t) (pool_get (part_of self.old p) m) }
-        ensures threads { threads.new ≡ with_threads_alone p (after_move made t m wait (locks_at p threads.old line.now self.old)) threads.old }
-        ensures mutexes { self.new ≡ slice_set self.old p (after_move made t m wait (locks_at p threads.old line.now self.old)).mutexes }
+        priority: Priority,
+    ) -> u32
+        requires ready { AreReady p threads.old line.now self.now }
+        ensures threads { threads.new ≡ with_threads p (after_assignment t priority (locks_at p threads.old line.now self.now)) threads.old }
+        ensures visited { assigned_of (part_of threads.old.threads p) t ≤ priority → IsVisited result (part_of threads.old.stored p) (part_of threads.new.stored p) }
     {
-        match made {
-            LockMove::Takes | LockMove::Recovers => self.change(p, m, Change::Take(t)),
-            LockMove::Counts => self.change(p, m, Change::CountUp),
-            LockMove::Waits => {
-                self.change(p, m, Change::Enqueue(t));
-                threads.set_wait(p, t, Some(wait));
-            }
-            LockMove::Refuses(_) => {}
+        let before = assigned(threads.part(p), t);
+        threads.set_assigned_priority(p, t, priority);
+        if priority.level() < before {
+            self.refresh(threads, p);
+            return 0;
         }
+        self.raise(threads, p, Rise::Assignment(t))
     }
 }
 

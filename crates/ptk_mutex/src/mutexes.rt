@@ -15,12 +15,14 @@ use ptk_threads::Threads;
 use ptk_words::{MutexKind, MutexNo, PartId, Protocol, THREAD_LIMIT, ThreadNo};
 use ptk_words_parted::Parted;
 use std::alloc::{AllocError, Global};
+use std::cell::Cell;
 use std::marker::Model;
 
-/// The mutexes of each partition by number from 1.
+/// The mutexes of each partition by number from 1, and how many stored priorities the walk of the last call read.
 #[derive(Drop)]
 pub struct Mutexes {
     slots: Parted<MutexSlot>,
+    visited: Cell<u32>,
 }
 
 impl Model for Mutexes {
@@ -47,7 +49,10 @@ impl Mutexes {
         for count in counts {
             slots.add_part(free_slots(alloc, *count)?)?;
         }
-        Ok(Mutexes { slots })
+        Ok(Mutexes {
+            slots,
+            visited: Cell::new(0),
+        })
     }
 
     /// How many partitions there are.
@@ -141,6 +146,16 @@ impl Mutexes {
         change_in(self.slots.lend(p), m, change);
     }
 
+    /// How many stored priorities the walk of the last call read; 0 after one that computed all again or changed none.
+    pub fn visited(&self) -> u32 {
+        self.visited.get()
+    }
+
+    /// So many stored priorities were read by the walk of this call.
+    pub(crate) fn tell_visited(&self, visited: u32) {
+        self.visited.set(visited);
+    }
+
     /// Computes the stored priorities of a partition again, as after a change of its threads that no call here made;
     /// every other partition's stay (pthread_mutexattr_getprotocol).
     #[tactic(auto, using(crate::proofs::Pool::pools))]
@@ -149,6 +164,7 @@ impl Mutexes {
         ensures threads { threads.new ≡ record threads.old { stored = slice_set threads.old.stored p (effective_priorities (part_of threads.old.threads p) (part_of (mutexes_of self.now threads.old) p)) } }
         ensures mutexes { mutexes_of self.now threads.new ≡ mutexes_of self.now threads.old }
     {
+        self.tell_visited(0);
         let mut room = [0; THREAD_LIMIT as usize];
         let slots = threads.part(p);
         let n = slots.len();

@@ -12,7 +12,9 @@ ghost use Rattle.ptk_threads.specs.Table.{thread_in, with_changed};
 ghost use Rattle.ptk_mutex_slots.specs.declared.slot.Change.TheVariants.{CountUp, Enqueue};
 ghost use Rattle.ptk_mutex_slots.specs.Changes.{SlotMayChange};
 ghost use Rattle.ptk_mutex.specs.Tables.{mutexes_of, locks_at, with_threads, with_threads_alone, HasPart, IsWaiter, MayWait, AreReady};
+ghost use Rattle.ptk_mutex_rise.specs.Visits.{IsVisited};
 ghost use Rattle.ptk_mutex.specs.Moves.{after_withdrawal};
+ghost use Rattle.ptk_mutex.specs.Rises.{MayTake, is_wait};
 
 use crate::mutexes::Mutexes;
 use ptk_mutex_slots::{Change, MutexSlot, kept_reply, reply_of, slot_in};
@@ -46,8 +48,8 @@ impl Mutexes {
         ensures ready { AreReady p threads.new line.new self.new }
     {
         let made = relock_move(self.part(p), t, m);
-        self.make_relock(line, threads, p, t, m, reply, made);
-        self.refresh(threads, p);
+        let visited = self.make_relock(line, threads, p, t, m, reply, made);
+        self.tell_visited(visited);
         made
     }
 
@@ -73,7 +75,7 @@ impl Mutexes {
         self.refresh(threads, p);
     }
 
-    /// A thread makes its move of a re-lock; the stored priorities stay.
+    /// A thread makes its move of a re-lock; the chain that it raises is stored.
     #[tactic(auto, using(crate::proofs::Moved::moves))]
     fn make_relock(
         &mut self,
@@ -84,27 +86,21 @@ impl Mutexes {
         m: MutexNo,
         reply: Option<u32>,
         made: LockMove,
-    )
-        requires part { HasPart p threads.old line.old self.old }
-        requires countable { SlotMayChange CountUp (pool_get (part_of self.old p) m) }
-        requires fresh { SlotMayChange (Enqueue t) (pool_get (part_of self.old p) m) }
-        requires in_use { IsSome (thread_in threads.old p t) }
-        requires out { is_in t (part_of line.old p) ≡ false }
-        ensures threads { threads.new ≡ with_threads_alone p (after_relock_move made t m reply (locks_at p threads.old line.old self.old)) threads.old }
+    ) -> u32
+        requires ready { AreReady p threads.old line.old self.old }
+        requires caller { MayWait (locks_at p threads.old line.old self.old) t }
+        requires free { MayTake made (pool_get (part_of self.old p) m) }
+        ensures threads { threads.new ≡ with_threads p (after_relock_move made t m reply (locks_at p threads.old line.old self.old)) threads.old }
         ensures line { line.new ≡ slice_set line.old p (after_relock_move made t m reply (locks_at p threads.old line.old self.old)).line }
         ensures mutexes { self.new ≡ slice_set self.old p (after_relock_move made t m reply (locks_at p threads.old line.old self.old)).mutexes }
+        ensures visited { IsVisited result (part_of threads.old.stored p) (part_of threads.new.stored p) }
     {
-        match made {
-            LockMove::Takes | LockMove::Recovers => self.change(p, m, Change::Take(t)),
-            LockMove::Counts => self.change(p, m, Change::CountUp),
-            LockMove::Waits => {
-                self.change(p, m, Change::Enqueue(t));
-                threads.set_wait(p, t, Some(Wait::RelockWait(m, reply)));
-                return;
-            }
-            LockMove::Refuses(_) => {}
+        let visited = self.make(line, threads, p, t, m, Wait::RelockWait(m, reply), made);
+        if is_wait(made) {
+            return visited;
         }
         wake(line, threads, p, t, reply_of(made, reply));
+        visited
     }
 
     /// A waiter leaves and is woken, told of this move what its wait kept; the stored priorities stay.
@@ -157,6 +153,16 @@ pub(crate) fn relock_move(mutexes: &[MutexSlot], t: ThreadNo, m: MutexNo) -> Loc
     match slot_in(mutexes, m) {
         Some(slot) => slot.relock_move(t),
         None => LockMove::Waits,
+    }
+}
+
+/// Whether the move begins a wait.
+fn is_wait(made: LockMove) -> bool
+    ensures { result ≡ is_wait made }
+{
+    match made {
+        LockMove::Waits => true,
+        LockMove::Takes | LockMove::Recovers | LockMove::Counts | LockMove::Refuses(_) => false,
     }
 }
 

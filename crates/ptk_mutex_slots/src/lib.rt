@@ -13,6 +13,6 @@ mod slot;
 mod thread_set;
 
 pub use moves::{free_move, kept_reply, reply_of};
-pub use priorities::{effective, recompute, thread_slot};
+pub use priorities::{assigned, awaited, effective, next_of, recompute, thread_slot};
 pub use slot::{Change, MutexSlot, MutexState, slot_in};
 pub use thread_set::ThreadSet;

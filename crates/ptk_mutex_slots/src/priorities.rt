@@ -81,7 +81,7 @@ fn raise(stored: &mut [u8], t: ThreadNo, priority: u8)
 }
 
 /// The next thread of a chain: the owner of the INHERIT mutex that the thread waits for.
-fn next_of(threads: &[Slot], mutexes: &[MutexSlot], t: ThreadNo) -> Option<ThreadNo>
+pub fn next_of(threads: &[Slot], mutexes: &[MutexSlot], t: ThreadNo) -> Option<ThreadNo>
     ensures { result ≡ next_of threads.now mutexes.now t }
 {
     match awaited(threads, t) {
@@ -92,7 +92,7 @@ fn next_of(threads: &[Slot], mutexes: &[MutexSlot], t: ThreadNo) -> Option<Threa
 
 /// The mutex that a thread waits for.
 #[tactic(auto, using(crate::proofs::Levels::readings))]
-fn awaited(threads: &[Slot], t: ThreadNo) -> Option<MutexNo>
+pub fn awaited(threads: &[Slot], t: ThreadNo) -> Option<MutexNo>
     ensures { result ≡ awaited (pool_get threads.now t) }
 {
     match thread_slot(threads, t) {
@@ -135,7 +135,7 @@ fn held_of(threads: &[Slot], mutexes: &[MutexSlot], t: ThreadNo) -> u8
 }
 
 /// The assigned priority of a thread, 0 of a free number (XSH 2.8.4).
-pub(crate) fn assigned(threads: &[Slot], t: ThreadNo) -> u8
+pub fn assigned(threads: &[Slot], t: ThreadNo) -> u8
     ensures { result ≡ assigned_of threads.now t }
 {
     match thread_slot(threads, t) {

@@ -16,10 +16,10 @@ returns-clause-ready c =
     let locks : Locks = locks_at c.args.p c.args.threads.now c.args.line.now c.args.self.now in
     let made : LockMove = trylock_move locks c.args.t (mutex_at locks c.args.m) in
     let after : Locks = after_trylock c.args.t c.args.m locks in
-    let threads : c.refresh.new.threads ≡ with_threads c.args.p after c.args.threads.now = grind (arith, moves) in
-    let mutexes : c.make.new.self ≡ slice_set c.args.self.now c.args.p after.mutexes = grind (arith, moves) in
+    let threads : c.make-visited.new.threads ≡ with_threads c.args.p after c.args.threads.now = grind (arith, moves) in
+    let mutexes : c.make-visited.new.self ≡ slice_set c.args.self.now c.args.p after.mutexes = grind (arith, moves) in
     let line : after.line ≡ locks.line = line_after_move made c.args.t c.args.m (MutexWait c.args.m None) locks in
-    moved_ready c.args.p c.args.threads.now c.refresh.new.threads c.args.line.now c.args.line.now c.args.self.now c.make.new.self after c.requires.ready.part
+    moved_ready c.args.p c.args.threads.now c.make-visited.new.threads c.args.line.now c.args.line.now c.args.self.now c.make-visited.new.self after c.requires.ready.part
     (locked_move made c.args.t c.args.m (MutexWait c.args.m None) locks (trylock_counts locks c.args.t (mutex_at locks c.args.m)) refl c.requires.caller c.requires.ready.locked)
     (record {
       of_threads = threads;

@@ -1,0 +1,256 @@
+-- What a rise needs of the tables before it, and what the moves leave that raise a thread or nobody.
+use Rattle.std.proofs.Common.{◌≡◌, ℕ, ◌<◌, ◌≤◌, List, length, refl, sym, ◌∙◌, ap, subst, arith, Bool, true, false}
+use Rattle.std.specs.Prelude.{◌==◌, nat_lt, if◌then◌else◌, Option, Some, None, IsSome, option_map, option_to_list}
+use Rattle.std.proofs.Math.ListN.{set}
+use Rattle.std.proofs.lemmas.Bool.{eq-eqb}
+use Rattle.std.proofs.lemmas.List.{set-set, length-set}
+use Rattle.ptk_words.specs.Pools.{pool_get, pool_changed}
+use Rattle.ptk_words.specs.declared.TheConstants.{COUNT_LIMIT}
+use Rattle.ptk_words.specs.declared.faults.Errno.TheVariants.{EAGAIN, EBUSY, EINVAL}
+use Rattle.ptk_words.specs.declared.threads.Thread.{Thread}
+use Rattle.ptk_words.specs.declared.threads.Wait.{Wait}
+use Rattle.ptk_words.specs.declared.threads.Wait.TheVariants.{RelockWait}
+use Rattle.ptk_words.specs.declared.mutexes.MutexKind.{MutexKind}
+use Rattle.ptk_words.specs.declared.mutexes.MutexKind.TheVariants.{Normal, ErrorCheck, Recursive}
+use Rattle.ptk_words.specs.declared.mutexes.Soundness.{Soundness}
+use Rattle.ptk_words.specs.declared.mutexes.Soundness.TheVariants.{Consistent, Inconsistent, Unrecoverable}
+use Rattle.ptk_words.specs.declared.mutexes.Owner.{Owner}
+use Rattle.ptk_words.specs.declared.mutexes.Owner.TheVariants.{Free, Abandoned, OwnedBy}
+use Rattle.ptk_words_parted.specs.Parts.{part_of}
+use Rattle.ptk_words_parted.proofs.Cuts.{set_part-same}
+use Rattle.ptk_words_model.specs.declared.LockMove.{LockMove}
+use Rattle.ptk_words_model.specs.declared.LockMove.TheVariants.{Takes, Recovers, Counts, Waits, Refuses}
+use Rattle.ptk_words_model.specs.State.{Mutex, Locks}
+use Rattle.ptk_words_model.specs.Priority.{awaited, thread_at, assigned_priority, assigned_of, inheritor, inheritor_of, ceiling_for, effective_priorities}
+use Rattle.ptk_words_model.specs.Schedule.{woken_with, at_tail_with, after_wake}
+use Rattle.ptk_words_model.specs.Mutex.{mutex_at, owns, count_move, own_lock_move, own_trylock_move, free_move, owner_move, is_above_ceiling, lock_move, trylock_move, relock_move, move_reply, after_take, after_count, after_wait, after_move, after_relock_move}
+use Rattle.ptk_words_locks.proofs.Pools.{changed_twice, changed_own}
+use Rattle.ptk_words_locks.proofs.Raising.{level_of}
+use Rattle.ptk_threads.specs.Table.{ThreadTable, thread_in, with_changed, with_wait, with_priority}
+use Rattle.ptk_threads.proofs.Pools.{part_of-set}
+use Rattle.ptk_mutex_slots.specs.declared.slot.Change.TheVariants.{Take, CountUp, Enqueue}
+use Rattle.ptk_mutex_slots.specs.Changes.{mutex_changed}
+use Rattle.ptk_mutex_rise.specs.Before.{awake, freed, IsBeforeWait, IsBeforeTake, IsBeforeAssignment}
+use Rattle.ptk_mutex_rise.specs.Visits.{IsVisited}
+use Rattle.ptk_mutex_rise.proofs.Changes.{effective_mutex, effective_thread}
+use Rattle.ptk_mutex_rise.proofs.Visits.{unvisited}
+use Rattle.ptk_mutex.specs.Tables.{locks_at, with_threads, HasPart, AreReady}
+use Rattle.ptk_mutex.specs.Rises.{IsFree, MayTake, is_wait}
+use Rattle.ptk_mutex.proofs.Moved.{stays}
+
+-- ---- a free mutex taken
+
+taken_inheritor : (t : ℕ) (x : Option Mutex) → IsFree x → inheritor_of (option_map (λ (a : Mutex). freed (mutex_changed (Take t) a)) x) ≡ inheritor_of x
+taken_inheritor t None free = absurd free
+taken_inheritor t (Some a) free = ap (inheritor a.protocol) (sym free)
+
+taken_ceiling : (t u : ℕ) (x : Option Mutex) → IsFree x → ceiling_for u (option_map (λ (a : Mutex). freed (mutex_changed (Take t) a)) x) ≡ ceiling_for u x
+taken_ceiling t u None free = absurd free
+taken_ceiling t u (Some a) free = rw free refl
+
+taken_owner : (t : ℕ) (x : Option Mutex) → IsFree x → owns t (option_map (mutex_changed (Take t)) x) ≡ true
+taken_owner t None free = absurd free
+taken_owner t (Some a) free = eq-eqb t t refl
+
+pub take_owned : (p t m : ℕ) (mutexes mutexes' : List (List (Option Mutex))) → p < length mutexes → IsFree (pool_get (part_of mutexes p) m) → mutexes' ≡ set mutexes p (pool_changed m (mutex_changed (Take t)) (part_of mutexes p))
+    → owns t (pool_get (part_of mutexes' p) m) ≡ true
+take_owned p t m mutexes mutexes' lt free e =
+    ap (λ l. owns t (pool_get (part_of l p) m)) e ∙ ap (λ row. owns t (pool_get row m)) (part_of-set mutexes p (pool_changed m (mutex_changed (Take t)) (part_of mutexes p)) lt)
+    ∙ ap (owns t) (changed_own m (mutex_changed (Take t)) (part_of mutexes p)) ∙ taken_owner t (pool_get (part_of mutexes p) m) free
+
+take_effective : (t m : ℕ) (threads : List (Option Thread)) (row : List (Option Mutex)) → IsFree (pool_get row m) → effective_priorities threads (pool_changed m freed (pool_changed m (mutex_changed (Take t)) row)) ≡ effective_priorities threads row
+take_effective t m threads row free =
+    ap (effective_priorities threads) (changed_twice m freed (mutex_changed (Take t)) row)
+    ∙ effective_mutex m (λ a. freed (mutex_changed (Take t) a)) threads row (taken_inheritor t (pool_get row m) free) (λ u. taken_ceiling t u (pool_get row m) free)
+
+-- the stored priorities are those of before the take
+pub take_before : (p t m : ℕ) (table : ThreadTable) (lines : List (List ℕ)) (mutexes mutexes' : List (List (Option Mutex))) → AreReady p table lines mutexes → IsFree (pool_get (part_of mutexes p) m)
+    → mutexes' ≡ set mutexes p (pool_changed m (mutex_changed (Take t)) (part_of mutexes p)) → IsBeforeTake m (part_of table.threads p) (part_of mutexes' p) (part_of table.stored p)
+take_before p t m table lines mutexes mutexes' ready free e =
+    let row : List (Option Mutex) = part_of mutexes p in
+    let here : part_of mutexes' p ≡ pool_changed m (mutex_changed (Take t)) row = ap (λ l. part_of l p) e ∙ part_of-set mutexes p (pool_changed m (mutex_changed (Take t)) row) ready.part.of_mutexes in
+    ready.stored ∙ sym (ap (λ l. effective_priorities (part_of table.threads p) (pool_changed m freed l)) here ∙ take_effective t m (part_of table.threads p) row free)
+
+-- ---- a count more
+
+counted_inheritor : (x : Option Mutex) → inheritor_of (option_map (mutex_changed CountUp) x) ≡ inheritor_of x
+counted_inheritor None = refl
+counted_inheritor (Some a) = refl
+
+counted_ceiling : (u : ℕ) (x : Option Mutex) → ceiling_for u (option_map (mutex_changed CountUp) x) ≡ ceiling_for u x
+counted_ceiling u None = refl
+counted_ceiling u (Some a) = refl
+
+-- it raises nobody
+pub count_stays : (p m : ℕ) (table : ThreadTable) (lines : List (List ℕ)) (mutexes : List (List (Option Mutex))) → AreReady p table lines mutexes → table ≡ with_threads p (after_count m (locks_at p table lines mutexes)) table
+count_stays p m table lines mutexes ready =
+    let same : effective_priorities (part_of table.threads p) (pool_changed m (mutex_changed CountUp) (part_of mutexes p)) ≡ part_of table.stored p =
+    effective_mutex m (mutex_changed CountUp) (part_of table.threads p) (part_of mutexes p) (counted_inheritor (pool_get (part_of mutexes p) m)) (λ u. counted_ceiling u (pool_get (part_of mutexes p) m)) ∙ sym ready.stored in
+    rw (same, set_part-same, set_part-same) refl
+
+-- ---- a thread that begins to wait
+
+joined_inheritor : (t : ℕ) (x : Option Mutex) → inheritor_of (option_map (mutex_changed (Enqueue t)) x) ≡ inheritor_of x
+joined_inheritor t None = refl
+joined_inheritor t (Some a) = refl
+
+joined_ceiling : (t u : ℕ) (x : Option Mutex) → ceiling_for u (option_map (mutex_changed (Enqueue t)) x) ≡ ceiling_for u x
+joined_ceiling t u None = refl
+joined_ceiling t u (Some a) = refl
+
+awake_level : (wait : Wait) (x : Option Thread) → level_of (option_map (λ (a : Thread). awake (with_wait (Some wait) a)) x) ≡ level_of x
+awake_level wait None = refl
+awake_level wait (Some thread) = refl
+
+awake_awaits : (wait : Wait) (x : Option Thread) → awaited x ≡ None → awaited (option_map (λ (a : Thread). awake (with_wait (Some wait) a)) x) ≡ awaited x
+awake_awaits wait None e = refl
+awake_awaits wait (Some thread) e = sym e
+
+block_effective : (t m : ℕ) (wait : Wait) (threads : List (Option Thread)) (row : List (Option Mutex)) → awaited (pool_get threads t) ≡ None
+    → effective_priorities (pool_changed t awake (pool_changed t (with_wait (Some wait)) threads)) (pool_changed m (mutex_changed (Enqueue t)) row) ≡ effective_priorities threads row
+block_effective t m wait threads row none =
+    ap (λ l. effective_priorities l (pool_changed m (mutex_changed (Enqueue t)) row)) (changed_twice t awake (with_wait (Some wait)) threads)
+    ∙ effective_thread t (λ a. awake (with_wait (Some wait) a)) threads (pool_changed m (mutex_changed (Enqueue t)) row) (awake_level wait (pool_get threads t)) (awake_awaits wait (pool_get threads t) none)
+    ∙ effective_mutex m (mutex_changed (Enqueue t)) threads row (joined_inheritor t (pool_get row m)) (λ u. joined_ceiling t u (pool_get row m))
+
+-- the stored priorities are those of before the wait
+pub block_before : (p t m : ℕ) (wait : Wait) (table table' : ThreadTable) (lines : List (List ℕ)) (mutexes mutexes' : List (List (Option Mutex))) → AreReady p table lines mutexes → awaited (thread_in table p t) ≡ None
+    → mutexes' ≡ set mutexes p (pool_changed m (mutex_changed (Enqueue t)) (part_of mutexes p)) → table' ≡ with_changed p t (with_wait (Some wait)) table → IsBeforeWait t (part_of table'.threads p) (part_of mutexes' p) (part_of table'.stored p)
+block_before p t m wait table table' lines mutexes mutexes' ready none e f =
+    let row : List (Option Mutex) = part_of mutexes p in
+    let threads : List (Option Thread) = part_of table.threads p in
+    let here : part_of mutexes' p ≡ pool_changed m (mutex_changed (Enqueue t)) row = ap (λ l. part_of l p) e ∙ part_of-set mutexes p (pool_changed m (mutex_changed (Enqueue t)) row) ready.part.of_mutexes in
+    let there : part_of table'.threads p ≡ pool_changed t (with_wait (Some wait)) threads = ap (λ (l : ThreadTable). part_of l.threads p) f ∙ part_of-set table.threads p (pool_changed t (with_wait (Some wait)) threads) ready.part.of_threads in
+    let stored : part_of table'.stored p ≡ part_of table.stored p = ap (λ (l : ThreadTable). part_of l.stored p) f in
+    stored ∙ ready.stored
+    ∙ sym (ap (λ l. effective_priorities (pool_changed t awake l) (part_of mutexes' p)) there ∙ ap (effective_priorities (pool_changed t awake (pool_changed t (with_wait (Some wait)) threads))) here
+    ∙ block_effective t m wait threads row none)
+
+-- ---- a higher assigned priority
+
+given_level : (before after : ℕ) (x : Option Thread) → before ≡ level_of x → level_of (option_map (λ (a : Thread). with_priority before (with_priority after a)) x) ≡ level_of x
+given_level before after None e = refl
+given_level before after (Some thread) e = e
+
+given_awaits : (before after : ℕ) (x : Option Thread) → awaited (option_map (λ (a : Thread). with_priority before (with_priority after a)) x) ≡ awaited x
+given_awaits before after None = refl
+given_awaits before after (Some thread) = refl
+
+given_most : (before after : ℕ) (x : Option Thread) → before ≡ level_of x → before ≤ after → before ≤ level_of (option_map (with_priority after) x)
+given_most before after None e le = omega (arith, e)
+given_most before after (Some thread) e le = le
+
+-- the stored priorities are those of before the assignment
+pub assignment_before : (p t before after : ℕ) (table table' : ThreadTable) (lines : List (List ℕ)) (mutexes : List (List (Option Mutex))) → AreReady p table lines mutexes → before ≡ assigned_of (part_of table.threads p) t → before ≤ after
+    → table' ≡ with_changed p t (with_priority after) table → IsBeforeAssignment t (part_of table'.threads p) (part_of mutexes p) (part_of table'.stored p)
+assignment_before p t before after table table' lines mutexes ready e le f =
+    let threads : List (Option Thread) = part_of table.threads p in
+    let there : part_of table'.threads p ≡ pool_changed t (with_priority after) threads = ap (λ (l : ThreadTable). part_of l.threads p) f ∙ part_of-set table.threads p (pool_changed t (with_priority after) threads) ready.part.of_threads in
+    let stored : part_of table'.stored p ≡ part_of table.stored p = ap (λ (l : ThreadTable). part_of l.stored p) f in
+    let level : assigned_of (part_of table'.threads p) t ≡ level_of (option_map (with_priority after) (pool_get threads t)) = ap (λ l. assigned_of l t) there ∙ ap level_of (changed_own t (with_priority after) threads) in
+    let most : before ≤ level_of (option_map (with_priority after) (pool_get threads t)) = given_most before after (pool_get threads t) e le in (
+      before,
+      omega (arith, level, most),
+      stored ∙ ready.stored
+          ∙ sym (ap (λ l. effective_priorities (pool_changed t (with_priority before) l) (part_of mutexes p)) there
+          ∙ ap (λ l. effective_priorities l (part_of mutexes p)) (changed_twice t (with_priority before) (with_priority after) threads)
+          ∙ effective_thread t (λ a. with_priority before (with_priority after a)) threads (part_of mutexes p) (given_level before after (pool_get threads t) e) (given_awaits before after (pool_get threads t))),
+    )
+
+-- ---- what was read
+
+-- the priorities that are stored then
+pub stored_visited : (p visited : ℕ) (priorities : List ℕ) (table table' new : ThreadTable) → p < length table.stored → table'.stored ≡ table.stored → new ≡ record table' { stored = set table'.stored p priorities }
+    → IsVisited visited (part_of table'.stored p) priorities → IsVisited visited (part_of table.stored p) (part_of new.stored p)
+stored_visited p visited priorities table table' new lt same e read =
+    let long : p < length table'.stored = rw same lt in
+    let after : part_of new.stored p ≡ priorities = ap (λ (l : ThreadTable). part_of l.stored p) e ∙ part_of-set table'.stored p priorities long in
+    subst (λ l. IsVisited visited (part_of l p) (part_of new.stored p)) same (subst (λ l. IsVisited visited (part_of table'.stored p) l) (sym after) read)
+
+-- ---- which moves take a free mutex
+
+count_takes : (b : Bool) (x : Option Mutex) → MayTake (if b then Counts else Refuses EAGAIN) x
+count_takes true x = tt
+count_takes false x = tt
+
+free_takes : (soundness : Soundness) (x : Option Mutex) → IsFree x → MayTake (free_move soundness) x
+free_takes Consistent x free = free
+free_takes Inconsistent x free = free
+free_takes Unrecoverable x free = tt
+
+own_takes : (kind : MutexKind) (n : ℕ) (x : Option Mutex) → MayTake (own_lock_move kind n) x
+own_takes Normal n x = tt
+own_takes ErrorCheck n x = tt
+own_takes Recursive n x = count_takes (nat_lt n COUNT_LIMIT) x
+
+own_trytakes : (kind : MutexKind) (n : ℕ) (x : Option Mutex) → MayTake (own_trylock_move kind n) x
+own_trytakes Normal n x = tt
+own_trytakes ErrorCheck n x = tt
+own_trytakes Recursive n x = count_takes (nat_lt n COUNT_LIMIT) x
+
+either_takes : (b : Bool) (one other : LockMove) (x : Option Mutex) → MayTake one x → MayTake other x → MayTake (if b then one else other) x
+either_takes true one other x first second = first
+either_takes false one other x first second = second
+
+owner_takes : (owner : Owner) (t : ℕ) (free own another : LockMove) (x : Option Mutex) → (owner ≡ Free → MayTake free x) → MayTake own x → MayTake another x → MayTake (owner_move owner t (record { of_free = free; of_own = own; of_another = another })) x
+owner_takes Free t free own another x first second third = first refl
+owner_takes Abandoned t free own another x first second third = third
+owner_takes (OwnedBy u) t free own another x first second third = either_takes (u == t) own another x second third
+
+pub lock_takes : (locks : Locks) (t : ℕ) (x : Option Mutex) → MayTake (lock_move locks t x) x
+lock_takes locks t None = tt
+lock_takes locks t (Some m) =
+    either_takes (is_above_ceiling (assigned_priority locks t) m.protocol) (Refuses EINVAL) _ (Some m) tt
+    (owner_takes m.owner t (free_move m.soundness) (own_lock_move m.kind m.count) Waits (Some m) (λ free. free_takes m.soundness (Some m) free) (own_takes m.kind m.count (Some m)) tt)
+
+pub trylock_takes : (locks : Locks) (t : ℕ) (x : Option Mutex) → MayTake (trylock_move locks t x) x
+trylock_takes locks t None = tt
+trylock_takes locks t (Some m) =
+    either_takes (is_above_ceiling (assigned_priority locks t) m.protocol) (Refuses EINVAL) _ (Some m) tt
+    (owner_takes m.owner t (free_move m.soundness) (own_trylock_move m.kind m.count) (Refuses EBUSY) (Some m) (λ free. free_takes m.soundness (Some m) free) (own_trytakes m.kind m.count (Some m)) tt)
+
+pub relock_takes : (t : ℕ) (x : Option Mutex) → MayTake (relock_move t x) x
+relock_takes t None = tt
+relock_takes t (Some m) = owner_takes m.owner t (free_move m.soundness) Counts Waits (Some m) (λ free. free_takes m.soundness (Some m) free) tt tt
+
+-- ---- a re-lock is the move, and then the thread is woken unless it waits
+
+pub relock_waits : (made : LockMove) (t m : ℕ) (reply : Option ℕ) (locks : Locks) → is_wait made ≡ true → after_relock_move made t m reply locks ≡ after_move made t m (RelockWait m reply) locks
+relock_waits Takes t m reply locks e = cc
+relock_waits Recovers t m reply locks e = cc
+relock_waits Counts t m reply locks e = cc
+relock_waits Waits t m reply locks e = refl
+relock_waits (Refuses error) t m reply locks e = cc
+
+pub relock_wakes : (made : LockMove) (t m : ℕ) (reply : Option ℕ) (locks : Locks) → is_wait made ≡ false → after_relock_move made t m reply locks ≡ after_wake t (option_to_list (move_reply made reply)) (after_move made t m (RelockWait m reply) locks)
+relock_wakes Takes t m reply locks e = refl
+relock_wakes Recovers t m reply locks e = refl
+relock_wakes Counts t m reply locks e = refl
+relock_wakes Waits t m reply locks e = cc
+relock_wakes (Refuses error) t m reply locks e = refl
+
+-- a move that is no wait leaves the threads
+pub move_threads : (made : LockMove) (t m : ℕ) (wait : Wait) (locks : Locks) → is_wait made ≡ false → (after_move made t m wait locks).threads ≡ locks.threads
+move_threads Takes t m wait locks e = refl
+move_threads Recovers t m wait locks e = refl
+move_threads Counts t m wait locks e = refl
+move_threads Waits t m wait locks e = cc
+move_threads (Refuses error) t m wait locks e = refl
+
+woken_level : (values : List ℕ) (x : Option Thread) → level_of (option_map (woken_with values) x) ≡ level_of x
+woken_level values None = refl
+woken_level values (Some thread) = refl
+
+woken_awaits : (values : List ℕ) (x : Option Thread) → awaited x ≡ None → awaited (option_map (woken_with values) x) ≡ awaited x
+woken_awaits values None e = refl
+woken_awaits values (Some thread) e = sym e
+
+-- a thread that waits for no mutex is woken, and no priority changes
+pub wake_stored : (p t : ℕ) (values : List ℕ) (table : ThreadTable) (locks : Locks) → p < length table.threads → awaited (thread_at locks t) ≡ None
+    → with_changed p t (woken_with values) (with_threads p locks table) ≡ with_threads p (after_wake t values locks) table
+wake_stored p t values table locks lt none =
+    let same : effective_priorities (pool_changed t (woken_with values) locks.threads) locks.mutexes ≡ effective_priorities locks.threads locks.mutexes =
+    effective_thread t (woken_with values) locks.threads locks.mutexes (woken_level values (thread_at locks t)) (woken_awaits values (thread_at locks t) none) in
+    rw (same, part_of-set table.threads p locks.threads lt, set-set) refl
+
+pub ruleset makes = (stays, unvisited, effective_mutex)

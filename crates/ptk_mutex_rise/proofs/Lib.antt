@@ -1,0 +1,9 @@
+pub mod ChainLaws
+pub mod Rises
+pub mod Joins
+pub mod Gains
+pub mod Steps
+pub mod Visits
+pub mod Changes
+pub mod Waits
+pub mod Takes

@@ -1,0 +1,6 @@
+use Rattle.std.proofs.Common.{◌≡◌}
+use Rattle.ptk_mutex_rise.proofs.Takes.{greatest_of}
+use Rattle.ptk_mutex_rise.proofs.rise.greatest_awaiting.Given as goal
+
+abbrev pub invariant-loop-k : goal.invariant-loop-k
+invariant-loop-k l = l.most ≡ greatest_of l.m l.threads l.stored l.k
