@@ -1,12 +1,13 @@
 //! The line that says where and why a text is refused.
 
-ghost use Rattle.std.specs.Prelude.{◌≡◌, IfOk, None};
+ghost use Rattle.std.specs.Prelude.{◌≡◌, ◌+◌, ◌==◌, IfOk, None, count_by};
+ghost use Rattle.toml.specs.Errors.{IsWithin};
 ghost use Rattle.ptk_config_places.specs.Refusals.{text_walk, refusal_of};
 
 use crate::document::first_refusal;
-use crate::place::{Place, Refusal};
+use crate::place::Refusal;
 use crate::reason::{name_of, reason_of};
-use crate::words::{Located, Reason};
+use crate::words::Located;
 use std::alloc::{AllocError, Global};
 use std::io;
 use std::io::Write;
@@ -34,14 +35,30 @@ impl From<io::Error> for ExplainFault {
     }
 }
 
-/// Writes the line of a refusal.
-fn put_line<W: Write>(
-    place: Located<'_>,
-    reason: Reason<'_>,
+/// The line, from 1, of the byte behind these: one more than their line feeds.
+fn line_behind(bytes: &[u8]) -> usize
+    ensures { result ≡ 1 + count_by (λ byte. byte == 10) bytes.now }
+{
+    1 + bytes.iter().filter(|byte| **byte == b'\n').count()
+}
+
+/// Writes the line of a text that is no TOML document, for this error in reading it. Want of memory says nothing of the
+/// text.
+fn put_no_document<W: Write>(
+    text: &str,
+    error: &toml::de::Error,
     out: &mut W,
-) -> Result<(), ExplainFault> {
-    writeln!(out, "{place}: {reason}")?;
-    Ok(())
+) -> Result<(), ExplainFault>
+    requires { IsWithin text.now error.now }
+{
+    match error.span() {
+        Some(span) => {
+            let line = line_behind(&text.as_bytes()[..span.start]);
+            writeln!(out, "the text, line {line}: not TOML")?;
+            Ok(())
+        }
+        None => Err(ExplainFault::Memory),
+    }
 }
 
 /// Writes the line of a refusal of this document.
@@ -51,8 +68,10 @@ fn put_refusal<W: Write>(
     out: &mut W,
 ) -> Result<(), ExplainFault> {
     let name = name_of(document, refusal.place);
+    let place = Located::new(refusal.place, name);
     let reason = reason_of(document, refusal);
-    put_line(Located::new(refusal.place, name), reason, out)
+    writeln!(out, "{place}: {reason}")?;
+    Ok(())
 }
 
 /// Writes one line that says where and why a configuration is refused, and nothing where it is accepted. Answers its
@@ -69,8 +88,7 @@ pub fn explain_refusal<W: Write>(
     if let Some(refusal) = found {
         match toml::table_from_str(alloc, text) {
             Ok(table) => put_refusal(&table, &refusal, out)?,
-            Err(error) if error.is_memory() => return Err(ExplainFault::Memory),
-            Err(_) => put_line(Located::new(Place::Text, None), Reason::NoDocument, out)?,
+            Err(error) => put_no_document(text, &error, out)?,
         }
     }
     Ok(found)

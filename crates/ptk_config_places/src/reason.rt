@@ -272,7 +272,6 @@ fn windows_reason(document: &Table, place: Place, fault: WindowFault) -> Reason<
 pub(crate) fn reason_of<'a>(document: &'a Table, refusal: &Refusal) -> Reason<'a> {
     let place = refusal.place;
     match refusal.fault {
-        ConfigFault::Text => Reason::NoDocument,
         ConfigFault::MissingKey => Reason::Missing,
         ConfigFault::WrongType => other_kind(document, place),
         ConfigFault::OutOfRange => out_of_range(document, place),
@@ -285,7 +284,7 @@ pub(crate) fn reason_of<'a>(document: &'a Table, refusal: &Refusal) -> Reason<'a
             None => Reason::None,
         },
         ConfigFault::Window(fault) => windows_reason(document, place, fault),
-        ConfigFault::Memory => Reason::None,
+        ConfigFault::Text | ConfigFault::Memory => Reason::None,
     }
 }
 

@@ -65,7 +65,7 @@ fn accepted_text_has_no_line(rt: HostRuntime) -> Result<(), Fail> {
 fn the_top(rt: HostRuntime) -> Result<(), Fail> {
     let alloc = rt.alloc();
     for (old, new, line) in [
-        ("frame = 40", "frame =", "the text: not a TOML document\n"),
+        ("frame = 40", "frame =", "the text, line 1: not TOML\n"),
         ("frame = 40\n", "", "key frame: missing\n"),
         (
             "frame = 40",
@@ -98,6 +98,30 @@ fn the_top(rt: HostRuntime) -> Result<(), Fail> {
             line.as_bytes(),
             "at {new}"
         );
+    }
+    Ok(())
+}
+
+#[test]
+fn a_text_that_is_no_document(rt: HostRuntime) -> Result<(), Fail> {
+    let alloc = rt.alloc();
+    for (text, line) in [
+        ("frame", 1),
+        ("frame = 40\nframe = 41\nx = 1\n", 2),
+        ("frame = 40\r\nframe = 41\r\n", 2),
+        ("\n# a comment\n\nframe = 40 ticks\n", 4),
+        ("frame = 9223372036854775808\n", 1),
+        ("a = 1\nframe = 9223372036854775808\n", 2),
+        ("[[partition]]\n[[partition]\nname = \"p\"\n", 2),
+        ("x = [\n1,\n2\n\n", 5),
+        ("x = [\n1,\n2\ny = 1\n", 4),
+        ("x = \"a\ny = 1\n", 1),
+        ("x = \"\"\"\na\nb\n", 4),
+        ("[a]\nx = 1\n[b]\n[a]\n", 4),
+    ] {
+        let got = written(alloc, text)?;
+        let wanted = format!(in alloc; "the text, line {line}: not TOML\n")?;
+        assert_eq!(rt; got.as_slice(), wanted.as_bytes(), "at {text}");
     }
     Ok(())
 }

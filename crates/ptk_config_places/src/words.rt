@@ -75,8 +75,6 @@ impl fmt::Display for Located<'_> {
 /// Why what stands at a place is refused.
 #[derive(Clone, Copy)]
 pub(crate) enum Reason<'a> {
-    /// The text is no document.
-    NoDocument,
     /// The key is missing.
     Missing,
     /// It is of this kind and not of that one.
@@ -114,7 +112,6 @@ pub(crate) enum Reason<'a> {
 impl fmt::Display for Reason<'_> {
     fn fmt<W: fmt::Write>(&self, f: &mut fmt::Formatter<W>) -> fmt::Result {
         match *self {
-            Reason::NoDocument => f.write_str("not a TOML document"),
             Reason::Missing => f.write_str("missing"),
             Reason::OtherKind(found, wanted) => write!(f, "{found}, not {wanted}"),
             Reason::Outside(value, low, high) => write!(f, "{value} is not from {low} to {high}"),

@@ -3,15 +3,46 @@
 ghost use Rattle.std.specs.Prelude.{◌≡◌, IfOk};
 ghost use Rattle.ptk_config_places.specs.Refusals.{text_walk, refusal_of};
 
+use crate::images::{Outcome, first_refused, outcomes_of, put_image};
 use crate::table::put_table;
-use ptk_config::read_config;
+use ptk_config::{Config, Section, read_config};
 use ptk_config_places::{ExplainFault, Refusal, explain_refusal};
 use ptk_system_files::Files;
 use std::alloc::Global;
 use std::io::Write;
+use toml::Table;
 
-/// Writes what an accepted text comes to with these files: of each partition its numbers, its image and what that
-/// leaves of the memory below the stacks, and its windows with their share of the frame, stage by stage.
+/// Writes the line of an image that is refused: which section names it, counted from 1, and why.
+fn put_refused<W: Write>(
+    number: usize,
+    section: &Section,
+    outcome: Outcome,
+    out: &mut W,
+) -> Result<(), ExplainFault> {
+    let name = section.name();
+    write!(out, "section {number} \"{name}\", ")?;
+    put_image(section, outcome, out)
+}
+
+/// Writes what a configuration comes to with these files: one line of the first image that is refused, if one is; else
+/// of each partition its numbers, its image and what that leaves of the memory below the stacks, and its windows with
+/// their share of the frame, stage by stage. The document is the one that states the configuration.
+fn explain_config<W: Write>(
+    alloc: Global,
+    config: &Config,
+    document: &Table,
+    files: &Files,
+    out: &mut W,
+) -> Result<(), ExplainFault> {
+    let sections = config.sections();
+    let outcomes = outcomes_of(alloc, sections, files)?;
+    match first_refused(&outcomes) {
+        Some(place) => put_refused(place + 1, &sections[place], outcomes[place], out),
+        None => put_table(alloc, config, document, &outcomes, out),
+    }
+}
+
+/// Writes what an accepted text comes to with these files.
 fn explain_accepted<W: Write>(
     alloc: Global,
     text: &str,
@@ -19,14 +50,15 @@ fn explain_accepted<W: Write>(
     out: &mut W,
 ) -> Result<(), ExplainFault> {
     match (read_config(alloc, text), toml::table_from_str(alloc, text)) {
-        (Ok(config), Ok(document)) => put_table(alloc, &config, &document, files, out),
+        (Ok(config), Ok(document)) => explain_config(alloc, &config, &document, files, out),
         _ => Err(ExplainFault::Memory),
     }
 }
 
-/// Writes what a text comes to: of a configuration that is refused one line that says where and why, and of one that is
-/// accepted what each partition has, with these files. Answers the first fault with its place, None where the text is
-/// accepted; the files play no part in that. An error where memory was refused or the writer fails.
+/// Writes what a text comes to with these files: of a configuration that is refused one line that says where and why;
+/// of one that is accepted one line that says which image is refused first and why, and where none is, what each
+/// partition has. Answers the first fault of the text with its place, None where the text is accepted; the files play
+/// no part in that. An error where memory was refused or the writer fails.
 pub fn explain<W: Write>(
     alloc: Global,
     text: &str,

@@ -1,10 +1,12 @@
-//! What a configuration comes to, in words: `explain` writes of an accepted text what each partition has, and of a
-//! refused one where and why it is refused; which of them, `place` promises by `text_walk` of `ptk_config_places`. The
-//! words are tested. Below stand the configuration (`ptk_config`) with the places of its faults (`ptk_config_places`),
-//! images (`ptk_image`) and the files (`ptk_system_files`); above stands the program. No clause is dear to prove.
+//! What a configuration comes to, in words: `explain` writes of a refused text where and why it is refused, of an
+//! accepted one with an image that is refused which and why, and else what each partition has; whether the text is
+//! refused and where, `place` promises by `text_walk` of `ptk_config_places`. The words are tested. Below stand the
+//! configuration (`ptk_config`) with the places of its faults (`ptk_config_places`), images (`ptk_image`) and the files
+//! (`ptk_system_files`); above stands the program. No clause is dear to prove.
 #![tactic(auto)]
 
 mod explanation;
+mod images;
 mod share;
 mod table;
 #[cfg(test)]

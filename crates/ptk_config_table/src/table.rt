@@ -1,14 +1,13 @@
 //! What each partition of an accepted configuration has.
 
-ghost use Rattle.std.specs.Prelude.{◌≤◌, length};
+ghost use Rattle.std.specs.Prelude.{◌≡◌, ◌≤◌, length};
 
+use crate::images::{Outcome, put_image};
 use crate::share::{Share, ticks_of};
 use ptk_config::parts::{Stage, array, read_later_stages, read_windows};
 use ptk_config::{Config, ConfigFault, Section};
 use ptk_config_places::ExplainFault;
-use ptk_image::{Image, read_image};
-use ptk_system_files::Files;
-use ptk_words::{ImageFault, Limits, PartId};
+use ptk_words::{Limits, PartId};
 use ptk_words_windows::Window;
 use std::alloc::Global;
 use std::io::Write;
@@ -27,56 +26,6 @@ fn put_limits<W: Write>(limits: &Limits, out: &mut W) -> Result<(), ExplainFault
         ", interval {interval}, ring {ring}, output {output}, trace {trace}"
     )?;
     Ok(())
-}
-
-/// How many bytes of memory lie below the stacks.
-fn room_below_stacks(limits: &Limits) -> u64 {
-    let stacks = u64::from(limits.threads).saturating_mul(u64::from(limits.stack));
-    u64::from(limits.memory).saturating_sub(stacks)
-}
-
-/// Writes the lengths of an image and what it leaves of so many bytes.
-fn put_lengths<W: Write>(image: &Image, room: u64, out: &mut W) -> Result<(), ExplainFault> {
-    let (text, data, bss) = (image.text().len(), image.data().len(), image.bss());
-    let filled = (text as u64)
-        .saturating_add(data as u64)
-        .saturating_add(u64::from(bss));
-    write!(out, "text {text}, data {data}, bss {bss}; ")?;
-    if filled <= room {
-        let free = room.saturating_sub(filled);
-        writeln!(out, "{free} bytes free below the stacks")?;
-    } else {
-        writeln!(
-            out,
-            "refused, {filled} bytes where {room} are below the stacks"
-        )?;
-    }
-    Ok(())
-}
-
-/// Writes what the image of this name comes to.
-fn put_image<W: Write>(
-    alloc: Global,
-    name: &str,
-    room: u64,
-    files: &Files,
-    out: &mut W,
-) -> Result<(), ExplainFault> {
-    write!(out, "  image {name}: ")?;
-    match files.get(name) {
-        Some(bytes) => match read_image(alloc, bytes) {
-            Ok(image) => put_lengths(&image, room, out),
-            Err(ImageFault::Memory) => Err(ExplainFault::Memory),
-            Err(fault) => {
-                writeln!(out, "refused, {fault}")?;
-                Ok(())
-            }
-        },
-        None => {
-            writeln!(out, "no such file")?;
-            Ok(())
-        }
-    }
 }
 
 /// Writes which of these windows are a partition's.
@@ -149,23 +98,15 @@ fn put_stages<W: Write>(
 
 /// Writes the name of a section, its numbers and its image.
 fn put_section<W: Write>(
-    alloc: Global,
     section: &Section,
-    files: &Files,
+    outcome: Outcome,
     out: &mut W,
 ) -> Result<(), ExplainFault> {
     let name = section.name();
-    let limits = section.limits();
     writeln!(out, "partition {name}")?;
-    put_limits(&limits, out)?;
-    let room = room_below_stacks(&limits);
-    match section.image() {
-        Some(image) => put_image(alloc, image, room, files, out),
-        None => {
-            writeln!(out, "  no image; {room} bytes free below the stacks")?;
-            Ok(())
-        }
-    }
+    put_limits(&section.limits(), out)?;
+    write!(out, "  ")?;
+    put_image(section, outcome, out)
 }
 
 /// Writes of each partition of a configuration its numbers, what its image comes to, and its windows, stage by stage.
@@ -174,9 +115,11 @@ pub(crate) fn put_table<W: Write>(
     alloc: Global,
     config: &Config,
     document: &Table,
-    files: &Files,
+    outcomes: &[Outcome],
     out: &mut W,
-) -> Result<(), ExplainFault> {
+) -> Result<(), ExplainFault>
+    requires { length outcomes.now ≡ length config.now.sections }
+{
     let frame = config.frame();
     let sections = config.sections();
     let stages = match stages_in(alloc, document, sections) {
@@ -185,7 +128,7 @@ pub(crate) fn put_table<W: Write>(
     };
     writeln!(out, "frame {frame} ticks")?;
     for (number, section) in sections.iter().enumerate() {
-        put_section(alloc, section, files, out)?;
+        put_section(section, outcomes[number], out)?;
         put_stages(&stages, frame, PartId::new(number as u8), out)?;
     }
     Ok(())

@@ -10,9 +10,10 @@ use ptk_system::Files;
 use std::alloc::Global;
 use std::io::Write;
 
-/// Writes what a text comes to: of a configuration that is refused one line that says where and why, and of one that is
-/// accepted what each partition has, with these files. Answers the first fault with its place, None where the text is
-/// accepted. A fault where memory was refused or the writer fails, and of no other kind.
+/// Writes what a text comes to with these files: of a configuration that is refused one line that says where and why;
+/// of one that is accepted one line that says which image is refused first and why, and where none is, what each
+/// partition has. Answers the first fault of the text with its place, None where the text is accepted. A fault where
+/// memory was refused or the writer fails, and of no other kind.
 pub fn explain_with<W: Write>(
     alloc: Global,
     text: &str,

@@ -1,6 +1,6 @@
 //! The bytes that each request has written, for row hello with a trace of two steps, and what the configuration comes
-//! to; and that a check and the words end where their writer fails. What is wanted was worked out by hand. A helper
-//! that promises nothing stands between each row and the calls that it tests.
+//! to, with its image and without; and that a check and the words end where their writer fails. What is wanted was
+//! worked out by hand. A helper that promises nothing stands between each row and the calls that it tests.
 
 use crate::{answer_with, explain_with};
 use ptk_config::{Config, read_config};
@@ -182,6 +182,11 @@ fn a_text_is_explained(rt: HostRuntime) {
             check_words(&rt, alloc, HELLO_TEXT, &files, false, HELLO_WORDS);
             let line = "key partition: missing\n";
             check_words(&rt, alloc, "frame = 20\n", &files, true, line);
+            let line = "the text, line 2: not TOML\n";
+            check_words(&rt, alloc, "frame = 20\n[partition\n", &files, true, line);
+            let none = Files::new(alloc);
+            let line = "section 1 \"p\", image p.img: no such file\n";
+            check_words(&rt, alloc, HELLO_TEXT, &none, false, line);
         }
         None => assert!(rt; false, "no memory"),
     }

@@ -136,7 +136,7 @@ pub(crate) const FROM: &str =
 
 /// Whether a check says what the configuration comes to.
 pub(crate) const EXPLAIN: &str =
-    "Also prints what each partition has, or where and why the configuration is refused";
+    "Also prints what each partition has, or where and why the configuration or an image is refused";
 
 /// The partition that is traced.
 pub(crate) const PARTITION: &str = "The name of a section of the configuration";

@@ -15,7 +15,7 @@ loop-i-preserved c =
     let written : to_z w64 (of_z w64 c.from.result) ≡ pos (rank links c.args.stamps.now own) =
     to_z-of_z w64 c.from.result fits ∙ c.from.ensures ∙ ap pos c.rank.ensures ∙ ap (λ stamp. pos (rank links c.args.stamps.now stamp)) (to_z-of_z w64 own read) in
     record {
-      long = length-set c.loop-i.new c.loop-i.i (to_z w64 (of_z w64 c.from.result)) ∙ c.loop-i.invariant.long;
+      long = length-set c.loop-i.new _ _ ∙ c.loop-i.invariant.long;
       told = one_written c.loop-i.new c.args.stamps.now (λ stamp. pos (rank links c.args.stamps.now stamp)) c.loop-i.i (to_z w64 (of_z w64 c.from.result))
           (omega (arith, c.loop-i.invariant.long, c.loop-i-test.true)) written c.loop-i.invariant.told;
     }
