@@ -8,9 +8,9 @@
 ghost use Rattle.std.specs.Prelude.{◌≤◌};
 ghost use Rattle.ptk_words.specs.declared.TheConstants.{LAST_TICK};
 
-use anyhow::{Context, Result};
+use anyhow::{Context, Error, Result};
 use ptk_config::read_config;
-use ptk_main_runs::{Files, run_with};
+use ptk_main_runs::{BootFault, Files, RunFault, run_with};
 use ptk_words::{LAST_TICK, Tick};
 use std::fs;
 
@@ -55,8 +55,20 @@ fn print_report(rt: &HostRuntime, name: &str, ticks: u64) -> Result<()> {
     let bytes = fs::read(rt, image.as_str())?;
     let mut files = Files::new(alloc);
     files.add(image.as_str(), bytes.as_slice())?;
-    run_with(alloc, &config, &files, tick_of(ticks), &mut rt.stdout())?;
-    Ok(())
+    match run_with(alloc, &config, &files, tick_of(ticks), &mut rt.stdout()) {
+        Ok(()) => Ok(()),
+        Err(fault) => Err(Error::msg(reason(fault))),
+    }
+}
+
+// Why a run gives no report, in words. With `?` in its place the checker does not find the type of a boot's fault.
+fn reason(fault: RunFault) -> &'static str {
+    match fault {
+        RunFault::Boot(BootFault::Memory) => "out of memory",
+        RunFault::Boot(BootFault::MissingFile(_)) => "an image's file is missing",
+        RunFault::NoPartition => "no partition has the name",
+        RunFault::Write => "the writer failed",
+    }
 }
 
 // The tick of a number, at most the last one.

@@ -94,8 +94,15 @@ fn sums_up(column: &Cell, cells: &[Cell]) -> bool {
 
 /// Whether a row's columns tell of those of a row of the same ticks, whose columns are a tick each.
 fn row_sums_up(wide: &Row, each: usize, narrow: &Row) -> bool {
-    let mut cells = narrow.cells().chunks(each.max(1));
-    wide.cells().iter().all(|column| matches!(cells.next(), Some(cells) if sums_up(column, cells)))
+    let cells = narrow.cells();
+    for (place, column) in wide.cells().iter().enumerate() {
+        let from = place.saturating_mul(each).min(cells.len());
+        let to = from.saturating_add(each).min(cells.len()).max(from);
+        if !sums_up(column, &cells[from..to]) {
+            return false;
+        }
+    }
+    true
 }
 
 /// Whether the rows of a recording of the first partition, in columns of many ticks, tell of those of a recording of the

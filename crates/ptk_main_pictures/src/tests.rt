@@ -116,7 +116,7 @@ fn an_owner_runs_while_a_greater_one_waits(rt: HostRuntime) {
 fn raised(recording: &Recording, thread: usize, column: usize) -> Option<u8> {
     let lane = recording.lanes().first()?;
     lane.rows()
-        .get(thread - 1)?
+        .get(thread.saturating_sub(1))?
         .cells()
         .get(column)?
         .look
@@ -265,7 +265,7 @@ fn sleeps(recording: &Recording) -> bool {
     let Some(row) = lane.rows().first() else {
         return false;
     };
-    let last = row.cells().len() - 1;
+    let last = row.cells().len().saturating_sub(1);
     for (column, cell) in row.cells().iter().enumerate() {
         let is_mixed = column == 0 || column == last;
         if cell.look.shade() != Shade::Sleep || cell.is_mixed != is_mixed {

@@ -143,17 +143,23 @@ fn add(rt: &impl Abort, files: &mut Files, name: &str, content: &[u8], before: O
         assert_eq!(rt; files.get(name), before);
         assert!(rt; files.add(name, content).is_ok());
     }
+    check_content(rt, files, name, content);
+}
+
+// Asserts that the file of a name has this content.
+fn check_content(rt: &impl Abort, files: &Files, name: &str, content: &[u8]) {
     assert_eq!(rt; files.get(name), Some(content));
 }
 
 #[test]
 fn files_are_refused_memory(rt: HostRuntime) {
+    let first: Option<&[u8]> = Some(b"first");
     let mut files = Files::new(rt.alloc());
     add(&rt, &mut files, "p.img", b"first", None);
     add(&rt, &mut files, "q.img", b"second", None);
-    assert_eq!(rt; files.get("p.img"), Some(b"first".as_slice()));
-    add(&rt, &mut files, "p.img", &IMAGE, Some(b"first"));
-    assert_eq!(rt; files.get("q.img"), Some(b"second".as_slice()));
+    check_content(&rt, &files, "p.img", b"first");
+    add(&rt, &mut files, "p.img", &IMAGE, first);
+    check_content(&rt, &files, "q.img", b"second");
 }
 
 // The system at tick 0.
