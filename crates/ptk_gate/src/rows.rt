@@ -8,15 +8,14 @@ ghost use Rattle.ptk_words_model.specs.Priority.{thread_at};
 ghost use Rattle.ptk_words_model.specs.Run.{is_active};
 ghost use Rattle.ptk_words_quiet.specs.Quiet.{IsQuiet, ArePlain, core_of, after_row};
 ghost use Rattle.ptk_words_quiet.specs.Idle.{IsIdle};
-ghost use Rattle.ptk_trace_rows.specs.TracedRows.{traced};
+ghost use Rattle.ptk_trace.specs.TracedRows.{traced};
 ghost use Rattle.ptk_gate_pools.specs.Kept.{part_at, put_part, limits_at};
 ghost use Rattle.ptk_gate_steps.specs.Replies.{IsMade};
 
 use crate::tables::Tables;
 use ptk_gate_steps::{Quiet, idle_until, make_reply, quiet_until};
 use ptk_trace::Trace;
-use ptk_trace_rows::BATCH;
-use ptk_words::{Entry, PartId, Tick};
+use ptk_words::{PartId, Tick};
 
 impl Tables {
     /// Whether the partition only computes from the tick on, and up to which tick, at most `stop`: no input comes before
@@ -36,15 +35,8 @@ impl Tables {
 
     /// Plain steps of the running thread of a quiet partition in a row, the first of them at the tick, as many as come
     /// before the partition's stop, at most 2^31, and before a step that is not plain; how many. They are its next steps,
-    /// and the trace has them as the newest; `batch` is room for entries on their way there, of which nothing is told.
-    pub fn run_row(
-        &mut self,
-        p: PartId,
-        quiet: Quiet,
-        tick: Tick,
-        trace: &mut Trace,
-        batch: &mut [Entry; BATCH],
-    ) -> u32
+    /// and the trace has them as the newest.
+    pub fn run_row(&mut self, p: PartId, quiet: Quiet, tick: Tick, trace: &mut Trace) -> u32
         requires partition { p < length self.old.limits }
         requires order { tick < quiet.stop }
         requires time { quiet.stop ≤ 2 ^ 41 }
@@ -56,8 +48,7 @@ impl Tables {
         ensures ended { (thread : Thread) → thread_at (part_at p self.old).locks quiet.thread ≡ Some thread → tick + result < quiet.stop → result < 2 ^ 31 → is_plain (plain_steps result (core_of thread (part_at p self.old))) ≡ false }
     {
         let most = ticks_between(tick, quiet.stop);
-        self.pools
-            .run_row(p, quiet.thread, tick, most, trace, batch)
+        self.pools.run_row(p, quiet.thread, tick, most, trace)
     }
 
     /// The next step of a quiet partition's running thread at the tick, where that is a quiet call and ends at the

@@ -15,7 +15,7 @@ use Rattle.ptk_words_instructions.specs.PlainSteps.{Core, core, plain_steps}
 use Rattle.ptk_words_quiet.specs.Quiet.{computed, last_after, after_row}
 use Rattle.ptk_threads.specs.Table.{with_changed}
 use Rattle.ptk_threads.proofs.Slots.{length-pool_changed}
-use Rattle.ptk_trace_rows.specs.TracedRows.{last_entry}
+use Rattle.ptk_trace.specs.TracedRows.{last_entry}
 use Rattle.ptk_gate_pools.specs.Kept.{Kept, part_at, put_part}
 use Rattle.ptk_gate_pools.specs.Pooled.{kept_of, ArePooled}
 use Rattle.ptk_gate_pools.specs.declared.pools.Pools.TheInside.{Inside}

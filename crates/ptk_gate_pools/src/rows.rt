@@ -7,20 +7,18 @@ ghost use Rattle.ptk_words.specs.declared.threads.Thread.{Thread};
 ghost use Rattle.ptk_words_instructions.specs.PlainSteps.{Core, core, is_plain, plain_steps};
 ghost use Rattle.ptk_words_model.specs.Priority.{thread_at};
 ghost use Rattle.ptk_words_quiet.specs.Quiet.{ArePlain, core_of, computed, after_row};
-ghost use Rattle.ptk_trace_rows.specs.TracedRows.{last_entry, traced};
+ghost use Rattle.ptk_trace.specs.TracedRows.{last_entry, traced};
 ghost use Rattle.ptk_gate_pools.specs.Kept.{part_at, put_part};
 
 use crate::pools::Pools;
 use ptk_threads::Slot;
 use ptk_trace::Trace;
-use ptk_trace_rows::{BATCH, run_row};
 use ptk_words::{Entry, PartId, Policy, Thread, ThreadNo, Tick};
 
 impl Pools {
     /// Plain steps of a thread in use in a row, the first of them at the tick, at most so many, until the next word is no
     /// plain step; how many. Each is counted as if it had been a decision: the registers, the memory, the used ticks of
-    /// SCHED_RR, the last step, and the trace, which has them as the newest. Nothing else changes. `batch` is room for
-    /// entries on their way into the trace, of which nothing is told.
+    /// SCHED_RR, the last step, and the trace, which has them as the newest. Nothing else changes.
     pub fn run_row(
         &mut self,
         p: PartId,
@@ -28,7 +26,6 @@ impl Pools {
         tick: Tick,
         most: u32,
         trace: &mut Trace,
-        batch: &mut [Entry; BATCH],
     ) -> u32
         requires partition { p < length self.old.limits }
         requires time { tick < 2 ^ 63 }
@@ -47,7 +44,6 @@ impl Pools {
             tick,
             most,
             trace,
-            batch,
             &mut self.lasts[p.index()],
         )
     }
@@ -62,7 +58,6 @@ fn run_at(
     tick: Tick,
     most: u32,
     trace: &mut Trace,
-    batch: &mut [Entry; BATCH],
     last: &mut Option<Entry>,
 ) -> u32
     requires time { tick < 2 ^ 63 }
@@ -77,7 +72,7 @@ fn run_at(
     ensures ended { (thread : Thread) → pool_get slots.old t ≡ Some thread → result < most → is_plain (plain_steps result (core thread.cpu memory.old)) ≡ false }
 {
     let slot = &mut slots[t.place()];
-    run_slot(slot, memory, t, tick, most, trace, batch, last)
+    run_slot(slot, memory, t, tick, most, trace, last)
 }
 
 /// A row of a slot's thread on its registers and this memory.
@@ -89,7 +84,6 @@ fn run_slot(
     tick: Tick,
     most: u32,
     trace: &mut Trace,
-    batch: &mut [Entry; BATCH],
     last: &mut Option<Entry>,
 ) -> u32
     requires time { tick < 2 ^ 63 }
@@ -104,7 +98,7 @@ fn run_slot(
     ensures ended { (thread : Thread) → slot.old ≡ Some thread → result < most → is_plain (plain_steps result (core thread.cpu memory.old)) ≡ false }
 {
     match &mut slot.thread {
-        Some(thread) => run_thread(thread, memory, t, tick, most, trace, batch, last),
+        Some(thread) => run_thread(thread, memory, t, tick, most, trace, last),
         None => unreachable!(),
     }
 }
@@ -118,7 +112,6 @@ fn run_thread(
     tick: Tick,
     most: u32,
     trace: &mut Trace,
-    batch: &mut [Entry; BATCH],
     last: &mut Option<Entry>,
 ) -> u32
     requires time { tick < 2 ^ 63 }
@@ -131,7 +124,7 @@ fn run_thread(
     ensures last { last.new ≡ option_or (last_entry tick t result (core thread.old.cpu memory.old)) last.old }
     ensures ended { result < most → is_plain (plain_steps result (core thread.old.cpu memory.old)) ≡ false }
 {
-    let steps = run_row(&mut thread.cpu, memory, tick, t, most, trace, batch, last);
+    let steps = trace.run_row(&mut thread.cpu, memory, tick, t, most, last);
     match thread.policy {
         Policy::Fifo => {}
         Policy::RoundRobin => thread.used += steps,

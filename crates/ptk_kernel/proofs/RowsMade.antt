@@ -13,7 +13,7 @@ use Rattle.ptk_words_quiet.proofs.QuietRows.{row_stays}
 use Rattle.ptk_words_quiet.proofs.ReplyDecisions.{reply_decided, reply_quiet}
 use Rattle.ptk_words_quiet.proofs.Sooner.{row_none, quiet_sooner}
 use Rattle.ptk_trace.specs.KeptSteps.{KeptSteps}
-use Rattle.ptk_trace_rows.specs.TracedRows as rows
+use Rattle.ptk_trace.specs.TracedRows as rows
 use Rattle.ptk_gate_pools.specs.Kept.{Kept, AreParts, limits_at, part_at, put_part}
 use Rattle.ptk_gate_pools.proofs.Parted.{part_at-put}
 use Rattle.ptk_gate_steps.specs.Replies.{IsMade}

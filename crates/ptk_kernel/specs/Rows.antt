@@ -3,7 +3,7 @@ use Rattle.std.specs.Prelude.{◌≡◌, ℕ, ◌+◌}
 use Rattle.ptk_words.specs.declared.threads.Thread.{Thread}
 use Rattle.ptk_words_quiet.specs.Quiet.{IsQuiet, ArePlain, core_of, after_row}
 use Rattle.ptk_trace.specs.KeptSteps.{KeptSteps}
-use Rattle.ptk_trace_rows.specs.TracedRows as rows
+use Rattle.ptk_trace.specs.TracedRows as rows
 use Rattle.ptk_gate_steps.specs.declared.quiet_stops.Quiet.{Quiet}
 use Rattle.ptk_gate_pools.specs.Kept.{Kept, limits_at, part_at, put_part}
 

@@ -16,8 +16,7 @@ ghost use Rattle.ptk_kernel.specs.Rows.{IsRow, IsStill, IsStillTo};
 use ptk_gate::Tables;
 use ptk_gate_steps::Quiet;
 use ptk_trace::Trace;
-use ptk_trace_rows::BATCH;
-use ptk_words::{Entry, PartId, Tick};
+use ptk_words::{PartId, Tick};
 
 /// Whether the partition only computes from the tick on, and up to which tick, at most `stop`: no input comes before
 /// it, no deadline is due, no round-robin interval ends, and the running thread stays and begins no unwinding. None where
@@ -36,16 +35,8 @@ pub fn quiet_until(tables: &Tables, p: PartId, tick: Tick, stop: Tick) -> Option
 /// Plain steps of a quiet partition in a row, the first of them at the tick, each in place of a decision: as many as come
 /// before the partition's stop and before a step that is not plain, and no fewer up to 2^31. How many ticks they took,
 /// one each; 0, and nothing changes, where its next step isn't plain. The partition is as quiet as it was, up to that
-/// stop or a later one. The trace has the steps as the newest; `batch` is room for entries on their way there, of which
-/// nothing is told. No other partition changes.
-pub fn compute(
-    tables: &mut Tables,
-    p: PartId,
-    quiet: Quiet,
-    tick: Tick,
-    trace: &mut Trace,
-    batch: &mut [Entry; BATCH],
-) -> u32
+/// stop or a later one. The trace has the steps as the newest. No other partition changes.
+pub fn compute(tables: &mut Tables, p: PartId, quiet: Quiet, tick: Tick, trace: &mut Trace) -> u32
     requires partition { p < length tables.old.limits }
     requires order { tick < quiet.stop }
     requires time { quiet.stop ≤ 2 ^ 41 }
@@ -58,7 +49,7 @@ pub fn compute(
 {
     let _kept = trace.kept();
     let _parts = tables.parts();
-    tables.run_row(p, quiet, tick, trace, batch)
+    tables.run_row(p, quiet, tick, trace)
 }
 
 /// The decision of a quiet partition at the tick, where its next step is a quiet call, which replies at once, wakes

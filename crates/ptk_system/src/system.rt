@@ -10,8 +10,7 @@ use crate::fault::BootFault;
 use ptk_config::Config;
 use ptk_system_files::Files;
 use ptk_system_machine::Machine;
-use ptk_trace_rows::BATCH;
-use ptk_words::{Entry, ThreadNo, Tick};
+use ptk_words::Tick;
 use std::alloc::Global;
 use std::marker::Model;
 
@@ -68,21 +67,20 @@ impl<'a> System<'a> {
         requires { n ≤ LAST_TICK }
         ensures { self.new ≡ at_tick (max self.old.tick n) self.old }
     {
-        let mut batch = [unset(n); BATCH];
         if self.tick.ticks() < n.ticks() {
-            self.go_on(n, &mut batch);
+            self.go_on(n);
         }
     }
 
-    /// Goes on to a later tick. `batch` is room for entries on their way into a trace.
-    fn go_on(&mut self, n: Tick, batch: &mut [Entry; BATCH])
+    /// Goes on to a later tick.
+    fn go_on(&mut self, n: Tick)
         requires later { self.old.tick < n }
         requires small { n ≤ LAST_TICK }
         ensures { self.new ≡ at_tick n self.old }
     {
         let config = self.config;
         let plan = config.plan();
-        self.machine.run(plan, self.tick, n, batch);
+        self.machine.run(plan, self.tick, n);
         self.tick = n;
     }
 
@@ -94,13 +92,12 @@ impl<'a> System<'a> {
         ensures within { self.new.tick ≤ max self.old.tick n }
         ensures run { self.new ≡ at_tick self.new.tick self.old }
     {
-        let mut batch = [unset(n); BATCH];
         if n.ticks() <= self.tick.ticks() {
             return;
         }
         let config = self.config;
         let plan = config.plan();
-        self.tick = self.machine.run_row(plan, self.tick, n, &mut batch);
+        self.tick = self.machine.run_row(plan, self.tick, n);
     }
 
     /// The tick that was reached.
@@ -108,16 +105,5 @@ impl<'a> System<'a> {
         ensures { result ≡ self.now.tick }
     {
         self.tick
-    }
-}
-
-/// An entry that no step has made.
-fn unset(tick: Tick) -> Entry {
-    Entry {
-        tick,
-        thread: ThreadNo::new(1),
-        pc: 0,
-        word: 0,
-        a0: 0,
     }
 }

@@ -12,8 +12,9 @@ use Rattle.ptk_words_windows.proofs.OwnLaws.{window_whole}
 use Rattle.ptk_words_quiet.proofs.TicksInARow.{join, window_own}
 use Rattle.ptk_window.specs.declared.near.Turn.{Turn}
 use Rattle.ptk_window.specs.Turn.{IsTurn}
+use Rattle.ptk_window.specs.Walks.{Way}
 use Rattle.ptk_gate_pools.specs.Kept.{limits_at}
-use Rattle.ptk_system_machine.specs.Turns.{IsComing, IsInWindow, IsStillUntil, IsUpTo, turn_at, no_turn}
+use Rattle.ptk_system_machine.specs.Turns.{IsAt, IsComing, IsInWindow, IsStillUntil, IsUpTo, turn_at, no_turn}
 use Rattle.ptk_system_machine.specs.Whole.{Whole, IsWhole, state_at, gone_on}
 use Rattle.ptk_system_machine.proofs.States.{state_at-put, state_at-other}
 use Rattle.ptk_system_machine.proofs.Ticks.{not_due, still_never, still_on}
@@ -197,3 +198,32 @@ pub one_left : (plan : WindowPlan) (p tick n : ℕ) (old mid new : Whole) → ((
 one_left plan p tick n old mid new left gone q above =
     let differ : q ≢ p = λ one. omega (arith, above, one) in
     ap (state_at q) gone ∙ (state_at-other p q _ mid differ ∙ left q (omega (arith, above)))
+
+-- ---- a way through the windows
+-- at the window of the turn that comes, where that is in the run
+pub at_coming : (plan : WindowPlan) (p to end : ℕ) (next : Option ℕ) (way : Way) (turn : Turn) → IfSome next (λ n. IsAt plan p end way) → (turn.start < to → next ≡ Some turn.start) → (turn.start < to → turn.end ≡ end)
+    → turn.start < to → IsAt plan p turn.end way
+at_coming plan p to end next way turn at due ends within =
+    subst (λ (e : ℕ). IsAt plan p e way) (sym (ends within)) (subst (λ (o : Option ℕ). IfSome o (λ (n : ℕ). IsAt plan p end way)) (due within) at)
+
+-- a way that is known to be at no window
+pub at_none : (plan : WindowPlan) (p end : ℕ) (way : Way) → way ≡ record { plan = plan; partition = p; end = None } → IsAt plan p end way
+at_none plan p end way is =
+    record {
+      of_plan = ap (λ (w : Way). w.plan) is;
+      of_partition = ap (λ (w : Way). w.partition) is;
+      at = subst (λ (o : Option ℕ). IfSome o (λ (known : ℕ). known ≡ end)) (sym (ap (λ (w : Way). w.end) is)) tt;
+    }
+
+-- a way of this plan and partition, at this window
+pub at_some : (plan : WindowPlan) (p end : ℕ) (old way : Way) → old.plan ≡ plan → old.partition ≡ p → way.plan ≡ old.plan → way.partition ≡ old.partition → IfSome way.end (λ known. known ≡ end) → IsAt plan p end way
+at_some plan p end old way plan_is part_is same_plan same_part at = record {
+  of_plan = same_plan ∙ plan_is;
+  of_partition = same_part ∙ part_is;
+  at = at;
+}
+
+-- the turn that was found, in the plan and of the partition
+pub turn_of : (plan : WindowPlan) (p tick : ℕ) (old : Way) (turn : Turn) → old.plan ≡ plan → old.partition ≡ p → IsTurn old.plan old.partition tick turn → IsTurn plan p tick turn
+turn_of plan p tick old turn plan_is part_is is =
+    subst (λ (w : WindowPlan). IsTurn w p tick turn) plan_is (subst (λ (q : ℕ). IsTurn old.plan q tick turn) part_is is)

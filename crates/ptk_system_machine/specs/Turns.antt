@@ -1,12 +1,13 @@
 -- How a run goes on: each partition by its turns, in which it is at a tick of its own.
-use Rattle.std.specs.Prelude.{◌≡◌, ℕ, ◌+◌, ◌-◌, ◌<◌, ◌≤◌, List, Option, Some, slice_index_or}
+use Rattle.std.specs.Prelude.{◌≡◌, ℕ, ◌+◌, ◌-◌, ◌<◌, ◌≤◌, List, Option, Some, IfSome, slice_index_or}
 use Rattle.ptk_words.specs.declared.sections.Limits.{Limits}
-use Rattle.ptk_words_windows.specs.Windows.{OwnTicks}
+use Rattle.ptk_words_windows.specs.Windows.{WindowPlan, OwnTicks}
 use Rattle.ptk_words_model.specs.declared.Spent.{Spent}
 use Rattle.ptk_words_model.specs.declared.Spent.TheVariants.{Idle}
 use Rattle.ptk_words_model.specs.State.{Part, State}
 use Rattle.ptk_words_quiet.specs.Quiet.{AreOwn, after_ticks}
 use Rattle.ptk_words_quiet.specs.Idle.{IsIdle}
+use Rattle.ptk_window.specs.Walks.{Way}
 use Rattle.ptk_window.specs.declared.near.Turn.{Turn}
 use Rattle.ptk_system_machine.specs.Accounts.{duration_of}
 
@@ -22,6 +23,12 @@ pub record IsComing (ticks : OwnTicks) (to : ℕ) (next : Option ℕ) (turn : Tu
   pub within : turn.start ≤ to
   pub due : turn.start < to → next ≡ Some turn.start
   pub window : turn.start < to → IsInWindow ticks turn.start turn.end
+
+-- the way is the partition's through the plan's windows, and where it is known to be at one, that ends at this tick (own)
+pub record IsAt (plan : WindowPlan) (p end : ℕ) (way : Way) : Type 0 where
+  pub of_plan : way.plan ≡ plan
+  pub of_partition : way.partition ≡ p
+  pub at : IfSome way.end (λ known. known ≡ end)
 
 -- in a run to a tick the next decision comes at this one or later: behind the ticks of a decision with this room that came to this and left the partition so; after an idle one the partition may have nothing to do up to then (own)
 pub record IsFreeFrom (limits : Limits) (tick room : ℕ) (spent : Spent) (to : ℕ) (part : Part) (from : ℕ) : Type 0 where

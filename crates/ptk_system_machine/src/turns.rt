@@ -10,15 +10,14 @@ ghost use Rattle.ptk_gate_pools.specs.Kept.{limits_at, part_at};
 ghost use Rattle.ptk_kernel.specs.Rows.{IsStill, IsStillTo};
 ghost use Rattle.ptk_kernel.specs.Spending.{cost_in};
 ghost use Rattle.ptk_system_machine.specs.Accounts.{IsBehind};
-ghost use Rattle.ptk_system_machine.specs.Turns.{IsComing, IsFreeFrom, IsInWindow, IsStillUntil, IsUpTo, turn_at};
+ghost use Rattle.ptk_system_machine.specs.Turns.{IsAt, IsComing, IsFreeFrom, IsInWindow, IsStillUntil, IsUpTo, turn_at};
 ghost use Rattle.ptk_system_machine.specs.Whole.{AreWindowsOf, account_at, gone_on, state_at};
 
 use crate::account::duration;
 use crate::machine::{Machine, is_active};
 use ptk_kernel::{Quiet, Tables, compute, decide, idle_until, last_step, quiet_until, reply};
-use ptk_trace_rows::BATCH;
-use ptk_window::{Near, Turn, WindowPlan};
-use ptk_words::{Entry, PartId, Status, Tick};
+use ptk_window::{Near, Turn, Walk, WindowPlan};
+use ptk_words::{PartId, Status, Tick};
 use ptk_words_model::Spent;
 
 /// How many partitions there are at most.
@@ -26,9 +25,8 @@ const PARTS: usize = 8;
 
 impl Machine {
     /// Goes on from a tick to `to`: with one partition after the other, in the order of sections, since none sees how far
-    /// another has come. To each partition it does what so many ticks would do to that partition alone. `batch` is room for
-    /// entries on their way into a trace, of which nothing is told.
-    pub fn run(&mut self, plan: &WindowPlan, tick: Tick, to: Tick, batch: &mut [Entry; BATCH])
+    /// another has come. To each partition it does what so many ticks would do to that partition alone.
+    pub fn run(&mut self, plan: &WindowPlan, tick: Tick, to: Tick)
         requires windows { AreWindowsOf (length self.old.accounts) plan.now }
         requires order { tick ≤ to }
         requires time { to ≤ LAST_TICK }
@@ -41,19 +39,12 @@ impl Machine {
         let count = self.parts();
         for i in 0..count {
             let _parts = self.parts();
-            self.run_partition(plan, PartId::new(i as u8), tick, to, batch);
+            self.run_partition(plan, PartId::new(i as u8), tick, to);
         }
     }
 
     /// Goes on with one partition from a tick to `to`, turn after turn.
-    fn run_partition(
-        &mut self,
-        plan: &WindowPlan,
-        p: PartId,
-        tick: Tick,
-        to: Tick,
-        batch: &mut [Entry; BATCH],
-    )
+    fn run_partition(&mut self, plan: &WindowPlan, p: PartId, tick: Tick, to: Tick)
         requires partition { p < length self.old.accounts }
         requires windows { AreWindowsOf (length self.old.accounts) plan.now }
         requires order { tick ≤ to }
@@ -65,20 +56,14 @@ impl Machine {
         plan.is_plan();
         let mut now = self.first_turn(plan, p, tick, to);
         while now.start.ticks() < to.ticks() {
-            now = self.go_on(plan, p, now, to, batch);
+            now = self.go_on(plan, p, now, to);
         }
     }
 
     /// Goes on from a tick by plain steps and quiet calls of the partition that decides next, up to `to` at most,
     /// and before any other decision. Answers the tick that it came to. To each partition it does what so many ticks would
-    /// do to that partition alone. `batch` is room for entries on their way into a trace, of which nothing is told.
-    pub fn run_row(
-        &mut self,
-        plan: &WindowPlan,
-        tick: Tick,
-        to: Tick,
-        batch: &mut [Entry; BATCH],
-    ) -> Tick
+    /// do to that partition alone.
+    pub fn run_row(&mut self, plan: &WindowPlan, tick: Tick, to: Tick) -> Tick
         requires windows { AreWindowsOf (length self.old.accounts) plan.now }
         requires order { tick ≤ to }
         requires time { to ≤ LAST_TICK }
@@ -104,7 +89,7 @@ impl Machine {
         if stop.ticks() <= first.start.ticks() {
             return first.start;
         }
-        self.rows(plan, p, first, stop, batch).start
+        self.rows(plan, p, first, stop).start
     }
 
     /// Each partition's first turn in a run, which goes on from a tick to `to`.
@@ -174,14 +159,7 @@ impl Machine {
 
     /// Goes on from the partition's next decision, with which the turn begins: by plain steps in a row and quiet calls, and
     /// by the decision after them where `to` still lies ahead. Answers its next turn.
-    fn go_on(
-        &mut self,
-        plan: &WindowPlan,
-        p: PartId,
-        turn: Turn,
-        to: Tick,
-        batch: &mut [Entry; BATCH],
-    ) -> Turn
+    fn go_on(&mut self, plan: &WindowPlan, p: PartId, turn: Turn, to: Tick) -> Turn
         requires partition { p < length self.old.accounts }
         requires windows { AreWindowsOf (length self.old.accounts) plan.now }
         requires time { to ≤ LAST_TICK }
@@ -194,7 +172,7 @@ impl Machine {
     {
         let _parts = self.parts();
         plan.is_plan();
-        let next = self.rows(plan, p, turn, to, batch);
+        let next = self.rows(plan, p, turn, to);
         if next.start.ticks() < to.ticks() {
             self.decide(plan, p, next, to)
         } else {
@@ -206,14 +184,7 @@ impl Machine {
     /// begins, each in place of a decision and counted as one: as many as come before `to`, over any number of windows. What
     /// else may come is asked once, before the first. Answers the next turn, which is the same, and nothing changes, where
     /// the next decision is no such step of a quiet partition.
-    fn rows(
-        &mut self,
-        plan: &WindowPlan,
-        p: PartId,
-        turn: Turn,
-        to: Tick,
-        batch: &mut [Entry; BATCH],
-    ) -> Turn
+    fn rows(&mut self, plan: &WindowPlan, p: PartId, turn: Turn, to: Tick) -> Turn
         requires partition { p < length self.old.accounts }
         requires windows { AreWindowsOf (length self.old.accounts) plan.now }
         requires time { to ≤ LAST_TICK }
@@ -227,21 +198,13 @@ impl Machine {
         let _parts = self.parts();
         plan.is_plan();
         match quiet_until(&self.tables, p, turn.start, to) {
-            Some(quiet) => self.rows_on(plan, p, turn, quiet, to, batch),
+            Some(quiet) => self.rows_on(plan, p, turn, quiet, to),
             None => turn,
         }
     }
 
     /// Plain steps of a quiet partition and quiet calls, as `rows` tells of them, before its stop.
-    fn rows_on(
-        &mut self,
-        plan: &WindowPlan,
-        p: PartId,
-        turn: Turn,
-        quiet: Quiet,
-        to: Tick,
-        batch: &mut [Entry; BATCH],
-    ) -> Turn
+    fn rows_on(&mut self, plan: &WindowPlan, p: PartId, turn: Turn, quiet: Quiet, to: Tick) -> Turn
         requires partition { p < length self.old.accounts }
         requires windows { AreWindowsOf (length self.old.accounts) plan.now }
         requires time { to ≤ LAST_TICK }
@@ -257,14 +220,25 @@ impl Machine {
         let _parts = self.parts();
         plan.is_plan();
         let stop = quiet.stop.ticks();
+        let mut walk = plan.walk(p, self.accounts[p.index()].near);
         let mut now = turn;
         let mut is_going = true;
         while is_going {
-            let (next, goes_on) = self.row_and_reply(plan, p, now, &quiet, to, batch);
+            let (next, goes_on) = self.row_and_reply(plan, p, now, &quiet, to, &mut walk);
             is_going = goes_on && next.start.ticks() < stop;
             now = next;
         }
+        self.keep_near(p, walk.near());
         now
+    }
+
+    /// Keeps where the partition was last found among its windows, which changes nothing that is told of it.
+    fn keep_near(&mut self, p: PartId, near: Near)
+        requires { p < length self.old.accounts }
+        ensures { self.new ≡ self.old }
+    {
+        let _parts = self.parts();
+        self.accounts[p.index()].near = near;
     }
 
     /// Plain steps of a quiet partition in a row, in the turn's window, and the quiet call behind them, where one follows
@@ -277,7 +251,7 @@ impl Machine {
         turn: Turn,
         quiet: &Quiet,
         to: Tick,
-        batch: &mut [Entry; BATCH],
+        walk: &mut Walk<'_>,
     ) -> (Turn, bool)
         requires partition { p < length self.old.accounts }
         requires windows { AreWindowsOf (length self.old.accounts) plan.now }
@@ -287,22 +261,24 @@ impl Machine {
         requires quiet { IsStill p turn.start quiet.now self.old.kept }
         requires coming { IsComing (own_ticks plan.now p) to (account_at p self.old).account.next turn }
         requires behind { IsBehind turn.start (state_at p self.old) }
+        requires walk { IsAt plan.now p turn.end walk.old }
         ensures from { turn.start ≤ result.0.start }
         ensures on { IsTrue result.1 → turn.start < result.0.start }
         ensures coming { IsComing (own_ticks plan.now p) to (account_at p self.new).account.next result.0 }
         ensures gone { self.new ≡ gone_on (own_ticks plan.now p) p turn.start (result.0.start - turn.start) self.old }
         ensures still { IsStill p result.0.start quiet.now self.new.kept }
+        ensures walk { result.0.start < to → IsAt plan.now p result.0.end walk.new }
     {
         let _parts = self.parts();
         plan.is_plan();
         let end = turn.end.ticks();
         let within = quiet_within(quiet, turn.end);
-        let next = self.row(plan, p, turn, &within, to, batch);
+        let next = self.row(plan, p, turn, &within, to, walk);
         let reached = next.start.ticks();
         if end <= reached {
             return (next, true);
         }
-        let after = self.reply(plan, p, next, &within, to);
+        let after = self.reply(plan, p, next, &within, to, walk);
         let goes_on = reached < after.start.ticks();
         (after, goes_on)
     }
@@ -319,7 +295,7 @@ impl Machine {
         turn: Turn,
         quiet: &Quiet,
         to: Tick,
-        batch: &mut [Entry; BATCH],
+        walk: &mut Walk<'_>,
     ) -> Turn
         requires partition { p < length self.old.accounts }
         requires frame { plan.now.frame ≤ 1000000 }
@@ -330,23 +306,18 @@ impl Machine {
         requires quiet { IsStill p turn.start quiet.now self.old.kept }
         requires coming { IsComing (own_ticks plan.now p) to (account_at p self.old).account.next turn }
         requires behind { IsBehind turn.start (state_at p self.old) }
+        requires walk { IsAt plan.now p turn.end walk.old }
         ensures from { turn.start ≤ result.start }
         ensures coming { IsComing (own_ticks plan.now p) to (account_at p self.new).account.next result }
         ensures gone { self.new ≡ gone_on (own_ticks plan.now p) p turn.start (result.start - turn.start) self.old }
         ensures still { (stop : ℕ) → quiet.now.stop ≤ stop → IsStillTo p turn.start stop quiet.now.thread self.old.kept → IsStillTo p result.start stop quiet.now.thread self.new.kept }
+        ensures walk { result.start < to → IsAt plan.now p result.end walk.new }
     {
         let Turn { start, end } = turn;
         let account = &mut self.accounts[p.index()];
-        let steps = compute(
-            &mut self.tables,
-            p,
-            *quiet,
-            start,
-            &mut account.trace,
-            batch,
-        );
+        let steps = compute(&mut self.tables, p, *quiet, start, &mut account.trace);
         let reached = Tick::new(start.ticks() + u64::from(steps));
-        let (next, end) = next_turn(plan, p, Status::Active, reached, end, &mut account.near);
+        let (next, end) = turn_on(plan, p, reached, end, walk);
         account.count_row(next, steps);
         coming(account.next(), end, to)
     }
@@ -355,7 +326,15 @@ impl Machine {
     /// the partition's stop or before. Answers the next turn, which is the same, and nothing changes, where it is any
     /// other or the turn begins at that stop or later. The partition is as quiet as it was, up to that stop or a later one.
     #[tactic(auto, using(crate::proofs::States::states))]
-    fn reply(&mut self, plan: &WindowPlan, p: PartId, turn: Turn, quiet: &Quiet, to: Tick) -> Turn
+    fn reply(
+        &mut self,
+        plan: &WindowPlan,
+        p: PartId,
+        turn: Turn,
+        quiet: &Quiet,
+        to: Tick,
+        walk: &mut Walk<'_>,
+    ) -> Turn
         requires partition { p < length self.old.accounts }
         requires frame { plan.now.frame ≤ 1000000 }
         requires time { to ≤ LAST_TICK }
@@ -364,10 +343,12 @@ impl Machine {
         requires quiet { turn.start < quiet.now.stop → IsStill p turn.start quiet.now self.old.kept }
         requires coming { IsComing (own_ticks plan.now p) to (account_at p self.old).account.next turn }
         requires behind { IsBehind turn.start (state_at p self.old) }
+        requires walk { turn.start < to → IsAt plan.now p turn.end walk.old }
         ensures from { turn.start ≤ result.start }
         ensures coming { IsComing (own_ticks plan.now p) to (account_at p self.new).account.next result }
         ensures gone { self.new ≡ gone_on (own_ticks plan.now p) p turn.start (result.start - turn.start) self.old }
         ensures still { (stop : ℕ) → quiet.now.stop ≤ stop → IsStillTo p turn.start stop quiet.now.thread self.old.kept → IsStillTo p result.start stop quiet.now.thread self.new.kept }
+        ensures walk { result.start < to → IsAt plan.now p result.end walk.new }
     {
         plan.is_plan();
         let Turn { start, end } = turn;
@@ -382,7 +363,7 @@ impl Machine {
         let room = (end.ticks() - start.ticks()) as u32;
         let account = &mut self.accounts[p.index()];
         let reached = Tick::new(start.ticks() + u64::from(ticks));
-        let (next, end) = next_turn(plan, p, Status::Active, reached, end, &mut account.near);
+        let (next, end) = turn_on(plan, p, reached, end, walk);
         account.count(next, room, Spent::Step(ticks), last);
         coming(account.next(), end, to)
     }
@@ -529,6 +510,37 @@ fn next_turn(
         return (Some(tick), end);
     }
     match plan.turn_from(p, tick, near) {
+        Some(turn) => (Some(turn.start), turn.end),
+        None => (None, end),
+    }
+}
+
+/// The partition's first own tick from this one on, which is not after `end`, and the end of the window that holds it.
+/// Where the tick lies before `end`, it is in the partition's window with that end. The walk is at that window, where it
+/// is known to be at one, and then at the one that was answered.
+#[inline(always)]
+fn turn_on(
+    plan: &WindowPlan,
+    p: PartId,
+    tick: Tick,
+    end: Tick,
+    walk: &mut Walk<'_>,
+) -> (Option<Tick>, Tick)
+    requires frame { plan.now.frame ≤ 1000000 }
+    requires time { tick ≤ 2 ^ 41 }
+    requires before { tick ≤ end }
+    requires window { tick < end → IsInWindow (own_ticks plan.now p) tick end }
+    requires walk { IsAt plan.now p end walk.old }
+    ensures next { result.0 ≡ (own_ticks plan.now p).next_of tick }
+    ensures from { IfSome result.0 (λ next. tick ≤ next) }
+    ensures window { IfSome result.0 (λ next. IsInWindow (own_ticks plan.now p) next result.1) }
+    ensures walk { IfSome result.0 (λ next. IsAt plan.now p result.1 walk.new) }
+{
+    plan.is_plan();
+    if tick.ticks() < end.ticks() {
+        return (Some(tick), end);
+    }
+    match walk.turn_after(tick) {
         Some(turn) => (Some(turn.start), turn.end),
         None => (None, end),
     }

@@ -1,7 +1,7 @@
 //! What traces write after a boot with ample memory, and what they answer where the writer fails.
 
 use crate::Trace;
-use ptk_words::{Entry, ThreadNo, Tick};
+use ptk_words::{A0, Cpu, Entry, ThreadNo, Tick};
 use std::alloc::{AllocError, Global};
 use std::io;
 use std::io::Write;
@@ -9,6 +9,13 @@ use std::test::Fail;
 
 // The two lines that are kept: 76 bytes.
 const KEPT: &str = "13 1 0x0000001c 0x00000513 0x00000000\n14 1 0x00000020 0x00000073 0x00000000\n";
+
+// addi a0, a0, 1 and a jump back to it.
+const ADD_AND_JUMP_BACK: [u8; 8] = [0x13, 0x05, 0x15, 0x00, 0x6f, 0xf0, 0xdf, 0xff];
+
+// The last two of 600 steps of these words, more than two batches: 78 bytes.
+const ROW_KEPT: &str =
+    "598 1 0x00000000 0x00150513 0x0000012c\n599 1 0x00000004 0xffdff06f 0x0000012c\n";
 
 // A writer that takes so many bytes into its array and then fails.
 #[derive(Drop)]
@@ -75,17 +82,20 @@ fn the_last_two_of_three_are_written(rt: HostRuntime) -> Result<(), Fail> {
 }
 
 #[test]
-fn steps_put_in_together_are_those_one_by_one(rt: HostRuntime) -> Result<(), Fail> {
+fn a_row_is_kept_as_its_steps_one_by_one(rt: HostRuntime) -> Result<(), Fail> {
     let mut trace = Trace::new(rt.alloc(), 2)?;
-    trace.push(step(8, 0x18, 0x0000_0073, 0));
-    trace.extend(&[
-        step(13, 0x1c, 0x0000_0513, 0),
-        step(14, 0x20, 0x0000_0073, 0),
-    ]);
+    let mut memory = ADD_AND_JUMP_BACK;
+    let mut cpu = Cpu::at(0);
+    let mut last = None;
+    let thread = ThreadNo::new(1);
+    let most = 600;
+    let steps = trace.run_row(&mut cpu, &mut memory, Tick::new(0), thread, most, &mut last);
+    assert_eq!(rt; steps, 600);
+    assert_eq!(rt; cpu.register(A0), 300);
     let mut out = Broken::new(128);
     assert!(rt; trace.lines(&mut out).is_ok());
-    assert_eq!(rt; out.len, 76);
-    assert_eq!(rt; &out.bytes[..76], KEPT.as_bytes());
+    assert_eq!(rt; &out.bytes[..78], ROW_KEPT.as_bytes());
+    assert_eq!(rt; out.len, 78);
     Ok(())
 }
 

@@ -1,30 +1,41 @@
-//! The ring of the last steps, and the lines that tell them.
+//! The last steps, and the lines that tell them.
 
-ghost use Rattle.std.specs.Prelude.{◌≡◌, ◌≤◌, ◌++◌, ◌∷◌, [], length, IfOk, OnOk};
+ghost use Rattle.std.specs.Prelude.{◌≡◌, ◌≤◌, ◌++◌, ◌∷◌, [], length, take, drop, IfOk, OnOk};
 ghost use Rattle.std.specs.Io.KnownBytes.{Appends};
+ghost use Rattle.circular_buffer.specs.Buffer.{Buffer};
 ghost use Rattle.ptk_words_model.specs.Run.{last_of};
 ghost use Rattle.ptk_words_model.specs.Text.{trace_line, trace_text};
+ghost use Rattle.ptk_trace.specs.KeptSteps.{kept_steps};
 
 use crate::text::{Decimal, Word};
 use circular_buffer::HeapCircularBuffer;
-use ptk_words::Entry;
+use ptk_words::{Entry, ThreadNo, Tick};
 use std::alloc::{AllocError, Global};
 use std::io;
 use std::io::Write;
 use std::marker::Model;
 
-/// The last steps of a partition, with room for as many as its section keeps.
+// How many of the newest steps are noted before they go into the ring.
+pub(crate) const BATCH: usize = 256;
+
+/// The last steps of a partition, with room for as many as its section keeps: a ring of them, and after it the newest
+/// ones in a batch, which goes into the ring as one.
 #[derive(Drop)]
 pub struct Trace {
-    ring: HeapCircularBuffer<Entry>,
+    pub(crate) ring: HeapCircularBuffer<Entry>,
+    pub(crate) batch: [Entry; BATCH],
+    pub(crate) noted: usize,
 }
 
 impl Model for Trace {
-    ghost use Rattle.ptk_trace.specs.KeptSteps.{KeptSteps};
+    ghost use Rattle.std.specs.Prelude.{◌≤◌};
+    ghost use Rattle.ptk_trace.specs.KeptSteps.{KeptSteps, kept_steps};
 
     ghost Value = { KeptSteps };
 
-    ghost view = { λ a. record { kept = a.ring.capacity; entries = a.ring.items } };
+    ghost view = { λ a. kept_steps a.ring.capacity a.ring.items a.noted a.batch };
+
+    ghost invariant = { λ a. a.noted ≤ 256 };
 }
 
 impl Trace {
@@ -34,7 +45,18 @@ impl Trace {
         ensures { IfOk result (λ made. made ≡ record { kept = kept; entries = [] }) }
     {
         let ring = HeapCircularBuffer::with_capacity(alloc, kept as usize)?;
-        Ok(Trace { ring })
+        let unset = Entry {
+            tick: Tick::new(0),
+            thread: ThreadNo::new(1),
+            pc: 0,
+            word: 0,
+            a0: 0,
+        };
+        Ok(Trace {
+            ring,
+            batch: [unset; BATCH],
+            noted: 0,
+        })
     }
 
     /// How many steps it keeps at most.
@@ -49,14 +71,9 @@ impl Trace {
     pub fn push(&mut self, entry: Entry)
         ensures { self.new ≡ record self.old { entries = last_of self.old.kept (self.old.entries ++ entry ∷ []) } }
     {
-        self.ring.push_back(entry);
-    }
-
-    /// Puts steps in as the newest, the last one as the newest of all. Where the room is full the oldest go.
-    pub fn extend(&mut self, entries: &[Entry])
-        ensures { self.new ≡ record self.old { entries = last_of self.old.kept (self.old.entries ++ entries.now) } }
-    {
-        self.ring.extend_from_slice(entries);
+        self.noted = make_room(&mut self.ring, &self.batch, self.noted);
+        self.batch[self.noted] = entry;
+        self.noted += 1;
     }
 
     /// Writes the lines of the steps that are kept, oldest first, a newline after each, and takes no memory. An error
@@ -65,9 +82,48 @@ impl Trace {
         ensures { OnOk result (Appends (W.contents out.old) (W.contents out.new) (trace_text self.now.entries)) }
     {
         let (front, back) = self.ring.as_slices();
-        put_lines(out, front)?;
-        put_lines(out, back)
+        let newest = &self.batch[..self.noted];
+        let older = front.len() + back.len();
+        let gone = (older + newest.len()).saturating_sub(self.ring.capacity());
+        put_lines(out, after(front, gone))?;
+        put_lines(out, after(back, gone.saturating_sub(front.len())))?;
+        put_lines(out, after(newest, gone.saturating_sub(older)))
     }
+}
+
+// Room for 64 more in the batch: where there is less, its entries go into the ring. How many it then has.
+#[inline(always)]
+pub(crate) fn make_room(
+    ring: &mut HeapCircularBuffer<Entry>,
+    batch: &[Entry; BATCH],
+    noted: usize,
+) -> usize
+    requires { noted ≤ 256 }
+    ensures room { result ≤ 192 }
+    ensures kept { kept_steps ring.new.capacity ring.new.items result batch.now ≡ kept_steps ring.old.capacity ring.old.items noted batch.now }
+{
+    if noted <= BATCH - 64 {
+        return noted;
+    }
+    hand_over(ring, &batch[..noted]);
+    0
+}
+
+// The newest steps go into the ring.
+#[cold]
+#[inline(never)]
+fn hand_over(ring: &mut HeapCircularBuffer<Entry>, newest: &[Entry])
+    ensures room { ring.new.capacity ≡ ring.old.capacity }
+    ensures kept { ring.new.items ≡ last_of ring.old.capacity (ring.old.items ++ newest.now) }
+{
+    ring.extend_from_slice(newest);
+}
+
+// The steps after so many.
+fn after(entries: &[Entry], count: usize) -> &[Entry]
+    ensures { result.now ≡ drop count entries.now }
+{
+    &entries[count.min(entries.len())..]
 }
 
 // The lines of the steps, in order.

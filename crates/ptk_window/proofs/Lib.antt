@@ -3,5 +3,6 @@ pub mod Orders
 pub mod Searches
 pub mod Pairs
 pub mod StageLaws
+pub mod Ways
 pub mod Nexts
 pub mod Found

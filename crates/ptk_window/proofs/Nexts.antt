@@ -1,5 +1,5 @@
 -- A partition's next window, and the turn that it gives.
-use Rattle.std.proofs.Common.{◌≡◌, ℕ, suc, ◌+◌, ◌-◌, ◌*◌, ◌/◌, ◌%◌, ◌<◌, ◌≤◌, max, Bool, true, false, List, length, get_or, None, Any, All, Contains, MatchBool, refl, sym, ap, subst, ◌∙◌, inl, inr, arith, suc-mul}
+use Rattle.std.proofs.Common.{◌≡◌, ℕ, suc, ◌+◌, ◌-◌, ◌*◌, ◌%◌, ◌<◌, ◌≤◌, max, Bool, true, false, List, length, get_or, None, All, Contains, MatchBool, refl, sym, ap, subst, ◌∙◌, inl, inr, arith, suc-mul}
 use Rattle.std.proofs.lemmas.Bool.{cases_order, cases_lt}
 use Rattle.std.proofs.lemmas.Nat.{mod_below, div-add-mod', mod-mul-add}
 use Rattle.std.proofs.lemmas.List.{get_or_default}
@@ -16,9 +16,9 @@ use Rattle.ptk_window.specs.declared.table.Table.{Table}
 use Rattle.ptk_window.specs.Order.{AreGrouped, IsFirst, IsFirstAfter}
 use Rattle.ptk_window.specs.Stages.{ArePlanned, HasTick, plan_of, from_at, groups_at}
 use Rattle.ptk_window.specs.Near.{IsNextFrom, IsTurnAt}
-use Rattle.ptk_window.specs.Turn.{IsTurn, IsSoon, IsShort}
+use Rattle.ptk_window.specs.Turn.{IsTurn, IsShort}
 use Rattle.ptk_window.proofs.Searches.{starts_order}
-use Rattle.ptk_window.proofs.StageLaws.{table_at, from_is, groups_is, kept_at, from_low, from_rises, aligned_room, some_has, frame_has, own_groups, groups_own}
+use Rattle.ptk_window.proofs.StageLaws.{table_at, groups_is, kept_at, from_low, from_rises, aligned_room, some_has, frame_has, own_groups, groups_own}
 
 -- ---- frames begin at multiples
 pub frame_start_aligned : (frame tick : ℕ) → 0 < frame → (tick - tick % frame) % frame ≡ 0

@@ -1,5 +1,5 @@
 -- Which stage of the tables has a tick, and its windows in their orders.
-use Rattle.std.proofs.Common.{◌≡◌, ℕ, zero, suc, ◌+◌, ◌-◌, ◌*◌, ◌/◌, ◌%◌, ◌<◌, ◌≤◌, true, false, leb, List, [], ◌∷◌, ◌++◌, map, take, length, get_or, Any, All, Contains, IsPermutation, refl, sym, ap, subst, ◌∙◌, inl, inr, arith, suc-mul}
+use Rattle.std.proofs.Common.{◌≡◌, ℕ, zero, suc, ◌+◌, ◌-◌, ◌*◌, ◌/◌, ◌%◌, ◌<◌, ◌≤◌, true, false, leb, List, [], ◌∷◌, ◌++◌, map, take, length, get_or, Any, Contains, IsPermutation, refl, sym, ap, subst, ◌∙◌, inl, inr, arith, suc-mul}
 use Rattle.std.proofs.lemmas.Bool.{cases_order, cases_lt, leb-true, leb-false}
 use Rattle.std.specs.List.Sorted.{IsNonDecreasingBy, IsPartitionPoint}
 use Rattle.std.proofs.lemmas.List.{length-map, map-append, map_more, get_or_default}

@@ -23,6 +23,10 @@ pub record IsNextFrom (frame : ℕ) (tables : List Table) (p tick : ℕ) (near :
       → near.frame_start + ((slice_index_or (groups_at tables near.stage) k d).start + (slice_index_or (groups_at tables near.stage) k d).length) ≤ tick
   pub earlier : (k : ℕ) → tick ≤ k → k < near.frame_start → ¬ IsOwn (plan_of frame tables) p k
 
+-- the window that near is at, d where there is none, ends at the tick (own)
+abbrev pub IsEndAt : List Table → Near → Window → ℕ → Type 0
+IsEndAt tables near d tick = near.frame_start + ((slice_index_or (groups_at tables near.stage) near.place d).start + (slice_index_or (groups_at tables near.stage) near.place d).length) ≡ tick
+
 -- the turn has the ticks of the window that near is at, from the tick on
 pub record IsTurnAt (tables : List Table) (tick : ℕ) (near : Near) (turn : Turn) : Type 0 where
   pub start : (d : Window) → turn.start ≡ max tick (near.frame_start + (slice_index_or (groups_at tables near.stage) near.place d).start)

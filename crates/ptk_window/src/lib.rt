@@ -17,8 +17,10 @@ mod stages;
 mod table;
 #[cfg(test)]
 mod tests;
+mod walk;
 
 pub use faults::{fault_of, overlaps_any, plan_fault, window_fault};
 pub use near::{Near, Turn};
 pub use plan::WindowPlan;
 pub use ptk_words_windows::{Window, WindowFault};
+pub use walk::Walk;

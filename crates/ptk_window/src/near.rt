@@ -1,7 +1,8 @@
 //! Where a partition was last found among its windows, and how it goes on from there.
 
-ghost use Rattle.std.specs.Prelude.{◌≡◌, ℕ, ◌+◌, ◌*◌, ◌%◌, ◌^◌, ◌<◌, ◌≤◌, length, slice_index_or, IsTrue, All, MatchBool};
+ghost use Rattle.std.specs.Prelude.{◌≡◌, ℕ, ◌+◌, ◌*◌, ◌%◌, ◌^◌, ◌<◌, ◌≤◌, false, length, slice_index_or, IsTrue, All, MatchBool};
 ghost use Rattle.ptk_words_windows.specs.Windows.{IsOwn};
+ghost use Rattle.ptk_window.specs.Order.{IsFirst};
 ghost use Rattle.ptk_window.specs.Stages.{ArePlanned, HasTick, from_at, groups_at, plan_of};
 
 use crate::lookup::place_after;
@@ -37,7 +38,7 @@ pub struct Near {
 }
 
 impl Near {
-    ghost use Rattle.ptk_window.specs.Near.{IsNextFrom, IsTurnAt};
+    ghost use Rattle.ptk_window.specs.Near.{IsEndAt, IsNextFrom, IsTurnAt};
 
     /// A place that helps no look-up: the next one searches.
     pub fn new() -> Near {
@@ -49,16 +50,31 @@ impl Near {
         }
     }
 
-    /// Goes to the partition's next window from the tick on, where that is the window here, which holds the tick, or
-    /// the partition's next one. False where it is neither.
+    /// Goes to the partition's next window from the tick on. False where it has none from there on.
     #[inline(always)]
-    pub(crate) fn goes_on(
+    pub(crate) fn look_up(
         &mut self,
         tables: &[Table],
         frame: u32,
         partition: PartId,
         tick: Tick,
     ) -> bool
+        requires planned { ArePlanned frame tables.now }
+        requires time { tick ≤ 2 ^ 41 }
+        ensures { MatchBool result
+            (IsNextFrom frame tables.now partition tick self.new)
+            ((k : ℕ) → tick ≤ k → ¬ IsOwn (plan_of frame tables.now) partition k) }
+    {
+        if self.goes_on(tables, frame, partition, tick) {
+            return true;
+        }
+        self.search(tables, frame, partition, tick)
+    }
+
+    /// Goes to the partition's next window from the tick on, where that is the window here, which holds the tick, or
+    /// the partition's next one. False where it is neither.
+    #[inline(always)]
+    fn goes_on(&mut self, tables: &[Table], frame: u32, partition: PartId, tick: Tick) -> bool
         requires planned { ArePlanned frame tables.now }
         requires time { tick ≤ 2 ^ 41 }
         ensures { IsTrue result → IsNextFrom frame tables.now partition tick self.new }
@@ -138,6 +154,53 @@ impl Near {
             place,
         };
         tick.ticks() < frame_start + windows[place].end()
+    }
+
+    /// Goes from the partition's window here to its next one, in this stage, which ends at `stage_end` and where the
+    /// partition's first window stands at `first`. False, and nothing changes, where this stage has none after it.
+    #[inline(always)]
+    pub(crate) fn steps_on(
+        &mut self,
+        tables: &[Table],
+        partition: PartId,
+        first: usize,
+        stage_end: u64,
+    ) -> bool
+        requires planned { ArePlanned self.old.frame tables.now }
+        requires has { HasTick self.old.frame tables.now self.old.stage self.old.frame_start }
+        requires room { self.old.frame_start ≤ 72057594037927936 }
+        requires place { self.old.place < length (groups_at tables.now self.old.stage) }
+        requires own { (d : Window) → (slice_index_or (groups_at tables.now self.old.stage) self.old.place d).partition ≡ partition }
+        requires first { IsFirst (groups_at tables.now self.old.stage) partition first }
+        requires stage_end { self.old.stage + 1 < length tables.now → stage_end ≡ from_at tables.now (self.old.stage + 1) * self.old.frame }
+        ensures next { IsTrue result → (tick : ℕ) → tick ≤ 2 ^ 41 → ((d : Window) → IsEndAt tables.now self.old d tick) → IsNextFrom self.old.frame tables.now partition tick self.new }
+        ensures stage { self.new.stage ≡ self.old.stage }
+        ensures stays { result ≡ false → self.new ≡ self.old }
+    {
+        let windows = tables[self.stage].by_partition.as_slice();
+        let next = self.place + 1;
+        if next < windows.len() && windows[next].partition == partition {
+            self.place = next;
+            return true;
+        }
+        let next_frame = self.frame_start + u64::from(self.frame);
+        if next_frame < stage_end {
+            *self = Near {
+                frame: self.frame,
+                frame_start: next_frame,
+                stage: self.stage,
+                place: first,
+            };
+            return true;
+        }
+        false
+    }
+
+    /// The stage here.
+    pub(crate) fn stage(&self) -> usize
+        ensures { result ≡ self.now.stage }
+    {
+        self.stage
     }
 
     /// The stage that has the next frame, which begins at the tick.

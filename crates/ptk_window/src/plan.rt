@@ -5,6 +5,7 @@ use crate::lookup::holder;
 use crate::near::{Near, Turn};
 use crate::stages::stage_at;
 use crate::table::Table;
+use crate::walk::Walk;
 use ptk_words::{PartId, Tick};
 use ptk_words_windows::{Window, WindowFault};
 use std::alloc::{AllocError, Global};
@@ -128,6 +129,14 @@ impl WindowPlan {
         }
     }
 
+    /// The partition's way through its windows, which begins near the one where it was last found.
+    #[inline(always)]
+    pub fn walk(&self, partition: PartId, near: Near) -> Walk<'_>
+        ensures { result ≡ record { plan = self.now; partition = partition; end = None } }
+    {
+        Walk::new(self.tables.as_slice(), self.frame, partition, near)
+    }
+
     /// The partition's first own tick that is not before the tick, which is at most 2^41, and the end of the window
     /// that holds it. None where the partition has no tick from this one on.
     ///
@@ -142,13 +151,11 @@ impl WindowPlan {
         ensures near { IfSome result (IsShort self.now tick) }
     {
         let tables = self.tables.as_slice();
-        if near.goes_on(tables, self.frame, partition, tick) {
-            return Some(near.turn(tables, tick));
+        if near.look_up(tables, self.frame, partition, tick) {
+            Some(near.turn(tables, tick))
+        } else {
+            None
         }
-        if near.search(tables, self.frame, partition, tick) {
-            return Some(near.turn(tables, tick));
-        }
-        None
     }
 }
 

@@ -1,9 +1,6 @@
-use Rattle.std.proofs.Common.{◌≡◌, ℕ, ◌+◌, ◌-◌, ◌*◌, ◌/◌, ◌<◌, ◌≤◌, leb, get_or, length, rules, arith, sym, subst, ◌∙◌, inl, inr}
-use Rattle.std.proofs.lemmas.Bool.{cases_lt, leb-true, leb-false, le-leb}
-use Rattle.std.specs.List.Sorted.{IsPartitionedBy, IsPartitionPoint}
+use Rattle.std.proofs.Common.{◌/◌, leb, rules}
 use Rattle.std.proofs.lemmas.List.Sorted.{IsPartitionPoint-from_clause, IsPartitionedBy-leb}
 use Rattle.ptk_window.specs.declared.table.Table.{Table}
-use Rattle.ptk_window.specs.Stages.{HasTick}
 use Rattle.ptk_window.proofs.StageLaws.{froms_rise, begun_some, point_has}
 use Rattle.ptk_window.proofs.stages.stage_at.Goals as goal
 

@@ -6,11 +6,11 @@ use Rattle.ptk_words_model.specs.declared.Spent.TheVariants.{Step}
 use Rattle.ptk_words_model.specs.Run.{is_active}
 use Rattle.ptk_gate_pools.specs.Kept.{Kept, limits_at, part_at}
 use Rattle.ptk_kernel.specs.Rows.{IsStill, IsStillTo}
-use Rattle.ptk_system_machine.specs.Accounts.{KeptAccount, kept_account_of, spent_account}
+use Rattle.ptk_system_machine.specs.Accounts.{KeptAccount, spent_account}
 use Rattle.ptk_system_machine.specs.Turns.{IsFreeFrom, IsInWindow}
 use Rattle.ptk_system_machine.specs.Whole.{Whole, IsWhole, account_at, gone_on, no_account}
 use Rattle.ptk_system_machine.proofs.States.{account_put, account_read, decided_whole, entry_told, free_told, spent_next, still_whole}
-use Rattle.ptk_system_machine.proofs.Coming.{begins_from}
+use Rattle.ptk_system_machine.proofs.Coming.{at_coming, begins_from}
 use Rattle.ptk_system_machine.proofs.Costs.{decision_costs}
 use Rattle.ptk_system_machine.proofs.StillQuiet.{still_later}
 use Rattle.ptk_system_machine.proofs.Ticks.{decided_on, gone_start}
@@ -40,8 +40,8 @@ invariant_of-self-2 c =
     let some : 0 < n = omega (arith, c.if-ticks-eq0.false) in
     let all : n ≤ n = omega arith in
     let lt : c.args.p < length c.self.inside.accounts.items = subst (λ (w : Whole). c.args.p < length w.accounts) (sym c.self.view_is) c.requires.partition in
-    let account : kept_account_of c.account.inside ≡ get_or c.self.inside.accounts.items c.args.p no_account =
-    c.account.view_is ∙ account_read c.args.p c.index.result c.self.inside.accounts.items c.index_mut-account.result.now c.index_mut-account.ensures.value c.index.ensures lt in
+    let account : c.index_mut-account.result.now ≡ get_or c.self.inside.accounts.items c.args.p no_account =
+    account_read c.args.p c.index.result c.self.inside.accounts.items c.index_mut-account.result.now c.index_mut-account.ensures.value c.index.ensures lt in
     subst (λ (i : ℕ). IsWhole c.reply-ticks.new.tables (set c.self.inside.accounts.items i c.count.new.self)) (sym c.index.ensures)
     (still_whole c.args.p _ c.self.inside.tables c.reply-ticks.new.tables c.self.inside.accounts.items c.count.new.self c.self.invariant (c.reply-ticks.ensures.moved n some all)
     (ap (λ (a : KeptAccount). a.kept) c.count.ensures ∙ ap (λ (a : KeptAccount). a.kept) account))
@@ -65,18 +65,18 @@ returns-clause-gone c =
     let moved = c.reply-ticks.ensures.moved room some fits in
     let reached : from ≡ c.args.turn.start + n = cc in
     let due : (get_or c.self.inside.accounts.items c.args.p no_account).account.next ≡ Some c.args.turn.start = subst (λ (w : Whole). (account_at c.args.p w).account.next ≡ Some c.args.turn.start) (sym c.self.view_is) (c.requires.coming.due before) in
-    let account : kept_account_of c.account.inside ≡ get_or c.self.inside.accounts.items c.args.p no_account =
-    c.account.view_is ∙ account_read c.args.p c.index.result c.self.inside.accounts.items c.index_mut-account.result.now c.index_mut-account.ensures.value c.index.ensures lt in
+    let account : c.index_mut-account.result.now ≡ get_or c.self.inside.accounts.items c.args.p no_account =
+    account_read c.args.p c.index.result c.self.inside.accounts.items c.index_mut-account.result.now c.index_mut-account.ensures.value c.index.ensures lt in
     let put = account_put c.args.p c.index.result c.self.inside.accounts.items c.count.new.self c.index.ensures lt in
     let next = c.next.ensures
     ∙ (ap (λ (a : KeptAccount). a.account.next) c.count.ensures
-    ∙ spent_next c.next_turn.result.0 c.account.inside.trace.kept room (Step n) c.last_step-last.result (kept_account_of c.account.inside).account) in
+    ∙ spent_next c.turn_on.result.0 c.index_mut-account.result.now.kept room (Step n) c.last_step-last.result c.index_mut-account.result.now.account) in
     let same : c.args.quiet.now.stop ≤ c.args.quiet.now.stop = omega arith in
     let quiet : IsStill c.args.p c.args.turn.start c.args.quiet.now c.self.inside.tables = subst (λ (w : Whole). IsStill c.args.p c.args.turn.start c.args.quiet.now w.kept) (sym c.self.view_is) (c.requires.quiet begun) in
     let active : is_active (part_at c.args.p c.reply-ticks.new.tables).status ≡ true = (c.reply-ticks.ensures.still c.args.quiet.now.stop same quiet).1.active in
     let le : from ≤ from = omega arith in
     let later : c.args.turn.start + 1 ≤ c.coming.result.start =
-    begins_from (c.args.turn.start + 1) from c.args.to c.next_turn.result.0 c.coming.result (omega (arith, reached, some)) (omega (arith, before)) c.next_turn.ensures.from (λ it. sym next ∙ c.coming.ensures.due it) in
+    begins_from (c.args.turn.start + 1) from c.args.to c.turn_on.result.0 c.coming.result (omega (arith, reached, some)) (omega (arith, before)) c.turn_on.ensures.from (λ it. sym next ∙ c.coming.ensures.due it) in
     let free : IsFreeFrom (limits_at c.args.p c.reply-ticks.new.tables) c.args.turn.start room (Step n) c.args.to (part_at c.args.p c.reply-ticks.new.tables) from = record {
       behind = omega (arith, reached);
       idle = λ early. absurd (omega (arith, early, reached));
@@ -88,15 +88,15 @@ returns-clause-gone c =
     c.is_plan.ensures c.self.invariant lt (window.ends c.args.turn.start (omega arith) less) room_is
     (decision_costs (limits_at c.args.p c.self.inside.tables) c.args.turn.start room (part_at c.args.p c.self.inside.tables) _ one refl)
     due (omega (arith, later))
-    (λ within. begins_from from from c.args.to c.next_turn.result.0 c.coming.result le within c.next_turn.ensures.from (λ it. sym next ∙ c.coming.ensures.due it))
+    (λ within. begins_from from from c.args.to c.turn_on.result.0 c.coming.result le within c.turn_on.ensures.from (λ it. sym next ∙ c.coming.ensures.due it))
     (λ k at. c.coming.ensures.before k (c.next.ensures ∙ (sym (ap (λ (a : KeptAccount). a.account.next) put) ∙ at)))
     (free_told (length c.self.inside.accounts.items) c.args.p c.args.turn.start room c.args.to from c.self.inside.tables c.reply-ticks.new.tables (Step n) c.self.invariant.parts lt told moved free)
     (ap (λ (i : ℕ). record { kept = c.reply-ticks.new.tables; accounts = set c.self.inside.accounts.items i c.count.new.self }) c.index.ensures
     ∙ decided_whole (own_ticks c.args.plan.now c.args.p) c.args.turn.start room from c.args.p c.self.inside.tables c.reply-ticks.new.tables c.self.inside.accounts.items c.count.new.self
-    (Step n) c.next_turn.result.0 c.last_step-last.result c.self.invariant lt told moved
-    (c.next_turn.ensures.next ∙ ap (λ (b : Bool). if b then (own_ticks c.args.plan.now c.args.p).next_of from else None) (sym active))
+    (Step n) c.turn_on.result.0 c.last_step-last.result c.self.invariant lt told moved
+    (c.turn_on.ensures.next ∙ ap (λ (b : Bool). if b then (own_ticks c.args.plan.now c.args.p).next_of from else None) (sym active))
     c.last_step-last.ensures
-    (c.count.ensures ∙ ap (λ (a : KeptAccount). record a { account = spent_account c.next_turn.result.0 a.kept room (Step n) c.last_step-last.result a.account }) account)))
+    (c.count.ensures ∙ ap (λ (a : KeptAccount). record a { account = spent_account c.turn_on.result.0 a.kept room (Step n) c.last_step-last.result a.account }) account)))
 
 pub returns-clause-still : goal.returns-clause-still
 returns-clause-still c = λ stop beyond still.
@@ -106,10 +106,10 @@ returns-clause-still c = λ stop beyond still.
     let reached : from ≡ c.args.turn.start + n = cc in
     let next = c.next.ensures
     ∙ (ap (λ (a : KeptAccount). a.account.next) c.count.ensures
-    ∙ spent_next c.next_turn.result.0 c.account.inside.trace.kept room (Step n) c.last_step-last.result (kept_account_of c.account.inside).account) in
+    ∙ spent_next c.turn_on.result.0 c.index_mut-account.result.now.kept room (Step n) c.last_step-last.result c.index_mut-account.result.now.account) in
     let begun : c.args.turn.start < c.args.quiet.now.stop = omega (arith, c.if-ticks.false) in
     let later : c.args.turn.start + n ≤ c.coming.result.start =
-    begins_from (c.args.turn.start + n) from c.args.to c.next_turn.result.0 c.coming.result (omega (arith, reached)) (omega (arith, c.reply-ticks.ensures.within, c.requires.within)) c.next_turn.ensures.from (λ it. sym next ∙ c.coming.ensures.due it) in
+    begins_from (c.args.turn.start + n) from c.args.to c.turn_on.result.0 c.coming.result (omega (arith, reached)) (omega (arith, c.reply-ticks.ensures.within, c.requires.within)) c.turn_on.ensures.from (λ it. sym next ∙ c.coming.ensures.due it) in
     still_later c.args.p (c.args.turn.start + n) c.coming.result.start stop c.args.quiet.now.thread c.reply-ticks.new.tables later
     (c.reply-ticks.ensures.still stop beyond (subst (λ (w : Whole). IsStillTo c.args.p c.args.turn.start stop c.args.quiet.now.thread w.kept) (sym c.self.view_is) still))
 
@@ -117,3 +117,11 @@ pub returns-then-ticks-eq0-clause-still : goal.returns-then-ticks-eq0-clause-sti
 returns-then-ticks-eq0-clause-still c = λ stop beyond still.
     subst (λ (k : Kept). IsStillTo c.args.p c.args.turn.start stop c.args.quiet.now.thread k) (sym (c.reply-ticks.ensures.none c.if-ticks-eq0.true))
     (subst (λ (w : Whole). IsStillTo c.args.p c.args.turn.start stop c.args.quiet.now.thread w.kept) (sym c.self.view_is) still)
+
+pub returns-clause-walk : goal.returns-clause-walk
+returns-clause-walk c =
+    let room : ℕ = c.ticks-3.result - c.ticks-4.result in
+    let next = c.next.ensures
+    ∙ (ap (λ (a : KeptAccount). a.account.next) c.count.ensures
+    ∙ spent_next c.turn_on.result.0 c.index_mut-account.result.now.kept room (Step c.reply-ticks.result) c.last_step-last.result c.index_mut-account.result.now.account) in
+    at_coming c.args.plan.now c.args.p c.args.to c.turn_on.result.1 c.turn_on.result.0 c.turn_on.new.walk c.coming.result c.turn_on.ensures.walk (λ it. sym next ∙ c.coming.ensures.due it) c.coming.ensures.end

@@ -6,7 +6,7 @@ use Rattle.ptk_system_machine.specs.Accounts.{KeptAccount, kept_account_of}
 use Rattle.ptk_system_machine.specs.Turns.{IsInWindow}
 use Rattle.ptk_system_machine.specs.Whole.{Whole, IsWhole, no_account, account_at, gone_on}
 use Rattle.ptk_system_machine.proofs.States.{account_put, account_read}
-use Rattle.ptk_system_machine.proofs.Coming.{begins_from}
+use Rattle.ptk_system_machine.proofs.Coming.{at_coming, begins_from}
 use Rattle.ptk_system_machine.proofs.CountedRows.{row_counted, row_whole}
 use Rattle.ptk_system_machine.proofs.StillQuiet.{still_later}
 use Rattle.ptk_system_machine.proofs.Ticks.{gone_up, own_within}
@@ -32,7 +32,7 @@ returns-clause-gone c =
     let next = c.next.ensures ∙ ap (λ (a : KeptAccount). a.account.next) c.count_row.ensures in
     let put = account_put c.args.p c.index.result c.self.inside.accounts.items c.count_row.new.self c.index.ensures lt in
     let later : c.args.turn.start + c.compute-steps.result ≤ c.coming.result.start =
-    begins_from (c.args.turn.start + c.compute-steps.result) c.new-reached.result c.args.to _ c.coming.result (omega arith) (omega (arith, c.compute-steps.ensures.within)) c.next_turn-next.ensures.from (λ less. sym next ∙ c.coming.ensures.due less) in
+    begins_from (c.args.turn.start + c.compute-steps.result) c.new-reached.result c.args.to _ c.coming.result (omega arith) (omega (arith, c.compute-steps.ensures.within)) c.turn_on-next.ensures.from (λ less. sym next ∙ c.coming.ensures.due less) in
     gone_up (own_ticks c.args.plan.now c.args.p) c.args.p c.args.turn.start c.compute-steps.result c.coming.result.start c.args.self.now _
     (subst (λ (w : Whole). IsWhole w.kept w.accounts) c.self.view_is c.self.invariant) c.requires.partition later
     (λ k at. c.coming.ensures.before k (c.next.ensures ∙ (sym (ap (λ (a : KeptAccount). a.account.next) put) ∙ at)))
@@ -41,7 +41,7 @@ returns-clause-gone c =
     (row_counted (own_ticks c.args.plan.now c.args.p) c.args.p c.index.result c.args.turn.start c.args.quiet.now.stop c.compute-steps.result _ c.self.inside.tables c.compute-steps.new.tables c.self.inside.accounts.items c.compute-steps.new.trace
     (kept_account_of c.account.inside) c.count_row.new.self c.self.invariant lt due
     (own_within (own_ticks c.args.plan.now c.args.p) c.args.turn.start c.args.turn.end c.args.turn.start c.args.quiet.now.stop window.own (omega arith) c.requires.end) c.requires.order c.compute-steps.ensures.within
-    (c.next_turn-next.ensures.next ∙ ap (own_ticks c.args.plan.now c.args.p).next_of reached) c.index.ensures read
+    (c.turn_on-next.ensures.next ∙ ap (own_ticks c.args.plan.now c.args.p).next_of reached) c.index.ensures read
     c.compute-steps.ensures.none c.compute-steps.ensures.row c.count_row.ensures))
 
 pub returns-clause-still : goal.returns-clause-still
@@ -49,6 +49,11 @@ returns-clause-still c = λ stop beyond still.
     let reached : c.new-reached.result ≡ c.args.turn.start + c.compute-steps.result = cc in
     let next = c.next.ensures ∙ ap (λ (a : KeptAccount). a.account.next) c.count_row.ensures in
     let later : c.args.turn.start + c.compute-steps.result ≤ c.coming.result.start =
-    begins_from (c.args.turn.start + c.compute-steps.result) c.new-reached.result c.args.to _ c.coming.result (omega arith) (omega (arith, c.compute-steps.ensures.within)) c.next_turn-next.ensures.from (λ lt. sym next ∙ c.coming.ensures.due lt) in
+    begins_from (c.args.turn.start + c.compute-steps.result) c.new-reached.result c.args.to _ c.coming.result (omega arith) (omega (arith, c.compute-steps.ensures.within)) c.turn_on-next.ensures.from (λ lt. sym next ∙ c.coming.ensures.due lt) in
     still_later c.args.p (c.args.turn.start + c.compute-steps.result) c.coming.result.start stop c.args.quiet.now.thread c.compute-steps.new.tables later
     (c.compute-steps.ensures.still stop beyond (subst (λ (w : Whole). IsStillTo c.args.p c.args.turn.start stop c.args.quiet.now.thread w.kept) (sym c.self.view_is) still))
+
+pub returns-clause-walk : goal.returns-clause-walk
+returns-clause-walk c =
+    let next = c.next.ensures ∙ ap (λ (a : KeptAccount). a.account.next) c.count_row.ensures in
+    at_coming c.args.plan.now c.args.p c.args.to c.turn_on-next.result.1 c.turn_on-next.result.0 c.turn_on-next.new.walk c.coming.result c.turn_on-next.ensures.walk (λ less. sym next ∙ c.coming.ensures.due less) c.coming.ensures.end

@@ -1,6 +1,7 @@
 use Rattle.std.proofs.Common.{◌-◌, ◌<◌, ◌≤◌, sym, ◌∙◌, arith}
 use Rattle.std.proofs.lemmas.Bool.{false≢true, ltb-true}
 use Rattle.ptk_words_windows.specs.Windows.{own_ticks}
+use Rattle.ptk_system_machine.proofs.Coming.{at_none}
 use Rattle.ptk_system_machine.proofs.Ticks.{gone_behind, gone_further, gone_start}
 use Rattle.ptk_system_machine.proofs.machine.Machine.rows_on.Goals as goal
 
@@ -11,6 +12,7 @@ loop-is_going-init c = record {
   gone = gone_start (own_ticks c.args.plan.now c.args.p) c.args.p c.args.turn.start (c.args.turn.start - c.args.turn.start) c.args.self.now (omega arith);
   before = λ going. c.requires.order;
   still = λ going. c.requires.quiet;
+  walk = λ within. at_none c.args.plan.now c.args.p c.args.turn.end c.walk-walk.result c.walk-walk.ensures;
 }
 
 pub row_and_reply-goes_on-requires-clause-behind : goal.row_and_reply-goes_on-requires-clause-behind
@@ -30,6 +32,7 @@ loop-is_going-preserved-then-goes_on c =
           from on c.loop-is_going.invariant.gone c.row_and_reply-goes_on.ensures.gone;
       before = λ e. let lt : c.ticks.result < c.ticks-stop.result = ltb-true c.ticks.result c.ticks-stop.result e in omega (arith, lt);
       still = λ e. c.row_and_reply-goes_on.ensures.still;
+      walk = c.row_and_reply-goes_on.ensures.walk;
     }
 
 pub loop-is_going-preserved : goal.loop-is_going-preserved
@@ -44,4 +47,8 @@ loop-is_going-preserved c =
           from on c.loop-is_going.invariant.gone c.row_and_reply-goes_on.ensures.gone;
       before = λ e. absurd (false≢true (sym c.if-goes_on.false ∙ e));
       still = λ e. c.row_and_reply-goes_on.ensures.still;
+      walk = c.row_and_reply-goes_on.ensures.walk;
     }
+
+pub row_and_reply-goes_on-requires-clause-walk : goal.row_and_reply-goes_on-requires-clause-walk
+row_and_reply-goes_on-requires-clause-walk c = c.loop-is_going.invariant.walk (omega (arith, c.loop-is_going.invariant.before c.loop-is_going-test.true, c.requires.within))

@@ -2,7 +2,7 @@ use Rattle.std.proofs.Common.{◌≡◌, ◌+◌, ◌-◌, ◌≤◌, ◌<◌, t
 use Rattle.std.specs.Prelude.{if◌then◌else◌}
 use Rattle.ptk_words_windows.specs.Windows.{own_ticks}
 use Rattle.ptk_kernel.specs.Rows.{IsStill}
-use Rattle.ptk_system_machine.specs.Turns.{IsComing}
+use Rattle.ptk_system_machine.specs.Turns.{IsAt, IsComing}
 use Rattle.ptk_system_machine.specs.Whole.{account_at, gone_on}
 use Rattle.ptk_system_machine.proofs.machine.Machine.rows_on.Given as goal
 
@@ -13,6 +13,7 @@ invariant-loop-is_going l = record {
   gone : l.self ≡ gone_on (own_ticks l.plan l.p) l.p l.fn.turn.start (l.now.start - l.fn.turn.start) l.fn.self;
   before : l.is_going ≡ true → l.now.start < l.quiet.stop;
   still : l.is_going ≡ true → IsStill l.p l.now.start l.quiet l.self.kept;
+  walk : l.now.start < l.to → IsAt l.plan l.p l.now.end l.walk;
 }
 
 abbrev pub decreases-loop-is_going : goal.decreases-loop-is_going

@@ -1,4 +1,4 @@
-use Rattle.std.proofs.Common.{◌≡◌, ◌+◌, ◌%◌, ◌<◌, ◌≤◌, List, length, get_or, ltb-true, refl, sym, ap, subst, ◌∙◌, arith}
+use Rattle.std.proofs.Common.{◌≡◌, List, get_or, ltb-true, refl, sym, ap, subst, ◌∙◌, arith}
 use Rattle.ptk_words_windows.specs.declared.window.Window.{Window}
 use Rattle.ptk_window.specs.Order.{IsFirst}
 use Rattle.ptk_window.specs.Stages.{groups_at}

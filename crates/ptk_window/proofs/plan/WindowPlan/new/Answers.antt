@@ -1,4 +1,4 @@
-use Rattle.std.proofs.Common.{◌≡◌, List, None, map, All, sym, ap, subst, ◌∙◌}
+use Rattle.std.proofs.Common.{List, map, sym, subst}
 use Rattle.ptk_words_windows.specs.Windows.{Stage, IsPlan}
 use Rattle.ptk_words_windows.proofs.FaultLaws.{accepted, accepted_windows}
 use Rattle.ptk_window.proofs.plan.WindowPlan.new.Goals as goal

@@ -12,43 +12,25 @@ turn-requires-clause-room c =
     let frame = c.self.inside.frame in
     let tables = c.as_slice-tables.result.now in
     let are : ArePlanned frame tables = subst (λ (ts : List Table). ArePlanned frame ts) (sym c.as_slice-tables.ensures.value) c.self.invariant in
-    turn_room frame tables are c.args.partition c.args.tick c.goes_on.new.self (c.goes_on.ensures c.if-goes_on.true)
+    turn_room frame tables are c.args.partition c.args.tick c.look_up.new.self c.if-look_up.ensures
 
-pub returns-then-goes_on : goal.returns-then-goes_on
-returns-then-goes_on c =
+pub returns-then-look_up : goal.returns-then-look_up
+returns-then-look_up c =
     let frame = c.self.inside.frame in
     let tables = c.as_slice-tables.result.now in
     let are : ArePlanned frame tables = subst (λ (ts : List Table). ArePlanned frame ts) (sym c.as_slice-tables.ensures.value) c.self.invariant in
     let seen : plan_of frame tables ≡ c.args.self.now = ap (plan_of frame) c.as_slice-tables.ensures.value ∙ c.self.view_is in
-    let is = c.goes_on.ensures c.if-goes_on.true in
+    let is = c.if-look_up.ensures in
     record {
-      turn = subst (λ (plan : WindowPlan). IsTurn plan c.args.partition c.args.tick c.turn.result) seen (IsTurn-at frame tables are c.args.partition c.args.tick c.goes_on.new.self is c.turn.result c.turn.ensures);
-      near = subst (λ (plan : WindowPlan). IsShort plan c.args.tick c.turn.result) seen (IsShort-at frame tables are c.args.partition c.args.tick c.goes_on.new.self is c.turn.result c.turn.ensures);
+      turn = subst (λ (plan : WindowPlan). IsTurn plan c.args.partition c.args.tick c.turn.result) seen (IsTurn-at frame tables are c.args.partition c.args.tick c.look_up.new.self is c.turn.result c.turn.ensures);
+      near = subst (λ (plan : WindowPlan). IsShort plan c.args.tick c.turn.result) seen (IsShort-at frame tables are c.args.partition c.args.tick c.look_up.new.self is c.turn.result c.turn.ensures);
     }
 
-pub turn-requires-then-search-clause-room : goal.turn-requires-then-search-clause-room
-turn-requires-then-search-clause-room c =
-    let frame = c.self.inside.frame in
-    let tables = c.as_slice-tables.result.now in
-    let are : ArePlanned frame tables = subst (λ (ts : List Table). ArePlanned frame ts) (sym c.as_slice-tables.ensures.value) c.self.invariant in
-    turn_room frame tables are c.args.partition c.args.tick c.search.new.self c.if-search.ensures
-
-pub returns-then-search : goal.returns-then-search
-returns-then-search c =
-    let frame = c.self.inside.frame in
-    let tables = c.as_slice-tables.result.now in
-    let are : ArePlanned frame tables = subst (λ (ts : List Table). ArePlanned frame ts) (sym c.as_slice-tables.ensures.value) c.self.invariant in
-    let seen : plan_of frame tables ≡ c.args.self.now = ap (plan_of frame) c.as_slice-tables.ensures.value ∙ c.self.view_is in
-    record {
-      turn = subst (λ (plan : WindowPlan). IsTurn plan c.args.partition c.args.tick c.turn-then-search.result) seen (IsTurn-at frame tables are c.args.partition c.args.tick c.search.new.self c.if-search.ensures c.turn-then-search.result c.turn-then-search.ensures);
-      near = subst (λ (plan : WindowPlan). IsShort plan c.args.tick c.turn-then-search.result) seen (IsShort-at frame tables are c.args.partition c.args.tick c.search.new.self c.if-search.ensures c.turn-then-search.result c.turn-then-search.ensures);
-    }
-
-pub returns-clause-turn : goal.returns-clause-turn
-returns-clause-turn c =
+pub returns-else-look_up-clause-turn : goal.returns-else-look_up-clause-turn
+returns-else-look_up-clause-turn c =
     let frame = c.self.inside.frame in
     let tables = c.as_slice-tables.result.now in
     let are : ArePlanned frame tables = subst (λ (ts : List Table). ArePlanned frame ts) (sym c.as_slice-tables.ensures.value) c.self.invariant in
     let seen : plan_of frame tables ≡ c.args.self.now = ap (plan_of frame) c.as_slice-tables.ensures.value ∙ c.self.view_is in
     let planned : IsPlan c.args.self.now = subst IsPlan seen are.plan in
-    next_none c.args.self.now c.args.partition c.args.tick planned (subst (λ (plan : WindowPlan). (n : ℕ) → c.args.tick ≤ n → ¬ IsOwn plan c.args.partition n) seen c.if-search.ensures)
+    next_none c.args.self.now c.args.partition c.args.tick planned (subst (λ (plan : WindowPlan). (n : ℕ) → c.args.tick ≤ n → ¬ IsOwn plan c.args.partition n) seen c.if-look_up.ensures)
