@@ -8,10 +8,11 @@
 //! that a loan of one partition's list leaves a table, with as many stored priorities as slots (`proofs/Slots`).
 #![tactic(auto)]
 
+mod changes;
 mod references;
-mod slot;
+mod slot_table;
 mod threads;
-mod writing;
 
-pub use slot::Slot;
+pub use ptk_threads_slots::{Ends, Link, QueueName, Slot};
+pub use slot_table::LinkedSlots;
 pub use threads::{Threads, stored_in};
