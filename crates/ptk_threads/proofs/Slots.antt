@@ -158,6 +158,8 @@ pub ruleset pools = (pool_get_below, pool_set_below, stored_of_below, add-one, l
 
 pub ruleset numbers = (pool_get_below, pool_set_below, stored_of_below, add-one, set_past)
 
+pub ruleset free_numbers = (position_threads, add-one)
+
 pub ruleset reads = (read_at, read_past)
 
 pub ruleset changes = (changed_at, changed_past, put_at, put_past, links_at)

@@ -9,6 +9,7 @@ ghost use Rattle.ptk_threads.specs.Table.{free_table, thread_in, stored_of, with
 ghost use Rattle.ptk_threads.specs.Changes.{thread_changed};
 ghost use Rattle.ptk_threads.specs.Registers.{with_pc};
 ghost use Rattle.ptk_threads.specs.Queues.{AreListed, IsUnqueued, with_last, with_first, with_before, with_none};
+ghost use Rattle.ptk_threads_slots.specs.declared.slot.Slot.{Slot};
 ghost use Rattle.ptk_threads_slots.specs.Links.{links_of, threads_of, queues, AreQueues};
 ghost use Rattle.ptk_words_model.specs.Schedule.{with_reply};
 
@@ -94,7 +95,7 @@ impl Threads {
     }
 
     /// The least free number of a partition; None where no number is free.
-    #[tactic(auto, using(crate::proofs::Slots::numbers))]
+    #[tactic(auto, using(crate::proofs::Slots::free_numbers))]
     pub fn first_free(&self, p: PartId) -> Option<ThreadNo>
         requires { p < length self.now.threads }
         ensures { result ≡ least_free (part_of self.now.threads p) }
@@ -491,7 +492,7 @@ fn put_stored(stored: &mut [u8], k: ThreadNo, priority: u8)
 
 /// The place of the first free slot, from 0.
 fn first_free_place(slots: &[Slot]) -> Option<usize>
-    ensures { result ≡ position is_none (threads_of slots.now) }
+    ensures { result ≡ position (λ (slot : Slot). is_none slot.thread) slots.now }
 {
     slots.iter().position(|slot| slot.is_free())
 }
