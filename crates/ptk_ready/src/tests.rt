@@ -34,7 +34,9 @@ fn push<L: Line>(
     k: ThreadNo,
     head: bool,
 )
-    requires { (p < length (L.entries line.old threads.old)) × (p < length threads.old.threads) }
+    requires partition { (p < length (L.entries line.old threads.old)) × (p < length threads.old.threads) }
+    requires sound { L.is_sound line.old threads.old }
+    ensures sound { L.is_sound line.new threads.new }
     ensures lines { length (L.entries line.new threads.new) ≡ length (L.entries line.old threads.old) }
     ensures threads { threads.new.threads ≡ threads.old.threads }
 {
@@ -55,7 +57,9 @@ fn first_after_raise<L: Line>(
     k: ThreadNo,
     priority: Priority,
 ) -> Option<ThreadNo>
-    requires { (p < length (L.entries line.old threads.old)) × (p < length threads.old.threads) }
+    requires partition { (p < length (L.entries line.old threads.old)) × (p < length threads.old.threads) }
+    requires sound { L.is_sound line.old threads.old }
+    ensures sound { L.is_sound line.new threads.new }
     ensures lines { length (L.entries line.new threads.new) ≡ length (L.entries line.old threads.old) }
     ensures threads { threads.new.threads ≡ threads.old.threads }
 {
@@ -71,7 +75,9 @@ fn first_after_removal<L: Line>(
     p: PartId,
     k: ThreadNo,
 ) -> Option<ThreadNo>
-    requires { (p < length (L.entries line.old threads.old)) × (p < length threads.old.threads) }
+    requires partition { (p < length (L.entries line.old threads.old)) × (p < length threads.old.threads) }
+    requires sound { L.is_sound line.old threads.old }
+    ensures sound { L.is_sound line.new threads.new }
     ensures lines { length (L.entries line.new threads.new) ≡ length (L.entries line.old threads.old) }
     ensures threads { threads.new.threads ≡ threads.old.threads }
 {

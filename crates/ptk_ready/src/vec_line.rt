@@ -1,6 +1,8 @@
 //! The form with a list of its own for each partition.
 
-ghost use Rattle.std.specs.Prelude.{◌≡◌, [], length, IfOk, replicate};
+ghost use Rattle.std.specs.Prelude.{◌≡◌, ℕ, List, [], length, IfOk, replicate};
+ghost use Rattle.ptk_threads.specs.Table.{free_table};
+ghost use Rattle.ptk_ready.specs.Queues.{AreUnused};
 
 use crate::choice::first_of_greatest;
 use crate::line::Line;
@@ -25,9 +27,12 @@ impl Model for VecLine {
 }
 
 impl VecLine {
-    /// An empty line for each of so many partitions. An error where memory ran out.
+    /// An empty line for each of so many partitions, sound over a slot table as it is built. An error where memory ran
+    /// out.
+    #[tactic(auto, using(crate::proofs::Unused::unused_built))]
     pub fn build(alloc: Global, parts: usize) -> Result<VecLine, AllocError>
-        ensures { IfOk result (λ line. line ≡ replicate parts []) }
+        ensures empty { IfOk result (λ line. line ≡ replicate parts []) }
+        ensures sound { (counts : List ℕ) → AreUnused (free_table counts).queues }
     {
         let mut lines = Vec::new(alloc);
         for i in 0..parts {
@@ -45,7 +50,18 @@ impl VecLine {
 }
 
 impl Line for VecLine {
+    ghost use Rattle.ptk_ready.specs.Queues.{AreUnused, unused_same, unused_apart};
+    ghost use Rattle.std.specs.Prelude.{refl};
+
     ghost entries = { λ line table. line };
+
+    ghost is_sound = { λ line table. AreUnused table.queues };
+
+    ghost entries_same = { λ line a b same. refl };
+
+    ghost sound_same = { λ line a b stored same sound. unused_same a.queues b.queues same sound };
+
+    ghost apart = { λ line a p k i sound out lt. unused_apart a.queues p k i sound lt };
 
     fn push_tail(&mut self, threads: &mut Threads, p: PartId, k: ThreadNo) {
         let line = &mut self.lines[p.index()];

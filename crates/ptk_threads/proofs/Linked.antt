@@ -1,6 +1,6 @@
 -- The table of slots after a change of one partition's threads, or of its queues.
-use Rattle.std.proofs.Common.{◌≡◌, ◌≢◌, ℕ, zero, suc, ◌<◌, ◌≤◌, List, [], ◌∷◌, ◌++◌, length, map, take, true, false, refl, sym, ◌∙◌, ap, subst, arith, get_or, inl, inr}
-use Rattle.std.specs.Prelude.{Option, Some, None, nat_eq, replicate}
+use Rattle.std.proofs.Common.{◌≡◌, ◌≢◌, ℕ, zero, suc, ◌<◌, ◌≤◌, List, [], ◌∷◌, ◌++◌, length, map, take, true, false, refl, sym, ◌∙◌, ap, subst, arith, inl, inr}
+use Rattle.std.specs.Prelude.{Option, Some, None, replicate}
 use Rattle.std.proofs.Math.ListN.{set, get_or-map}
 use Rattle.std.proofs.lemmas.Bool.{cases_eq}
 use Rattle.std.proofs.lemmas.List.{length-replicate, length-map, map-set, map-append, length-set, get_or-set_same, get_or-set_other}
@@ -17,7 +17,7 @@ use Rattle.ptk_threads_slots.specs.Changes.{put_before, with_inserted, with_take
 use Rattle.ptk_threads_slots.proofs.Along.{along_marked, not_true}
 use Rattle.ptk_threads_slots.proofs.Lists.{list_at, without_none, put_none}
 use Rattle.ptk_threads_slots.proofs.Empty.{empty_queues, empty_lists}
-use Rattle.ptk_threads.specs.Queues.{LinkedThreads, no_queues, queues_by, AreLinked, AreListed, IsUnqueued, with_before, with_none}
+use Rattle.ptk_threads.specs.Queues.{LinkedThreads, queues_by, AreLinked, AreListed, IsUnqueued, with_before, with_none}
 
 -- ---- reading
 

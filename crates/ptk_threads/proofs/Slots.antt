@@ -1,6 +1,6 @@
 -- Pools, whose numbers count from 1, read and written at a number, and the table after a change of one partition.
 use Rattle.std.proofs.Common.{◌≡◌, ℕ, zero, suc, ◌+◌, ◌-◌, ◌<◌, ◌≤◌, List, [], ◌∷◌, ◌++◌, length, map, take, drop, refl, sym, ◌∙◌, ap, arith, All, get_or, add-one, length-append, length-drop, length-take}
-use Rattle.std.specs.Prelude.{Option, Some, None, option_map, is_none, position, slice_get, slice_set, slice_index, if◌then◌else◌, Bool, not}
+use Rattle.std.specs.Prelude.{Option, None, option_map, is_none, position, slice_get, slice_set, slice_index, if◌then◌else◌, Bool, not}
 use Rattle.std.specs.List.{prefix_len}
 use Rattle.std.specs.Option.{option_flatten}
 use Rattle.std.proofs.Math.ListN.{set, get_or-map}

@@ -25,7 +25,7 @@ use std::marker::Model;
 /// through the slots.
 #[derive(Drop)]
 pub struct Threads {
-    pub(crate) slots: SlotTable,
+    slots: SlotTable,
     stored: Parted<u8>,
 }
 

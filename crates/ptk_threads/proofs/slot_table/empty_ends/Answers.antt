@@ -1,4 +1,4 @@
-use Rattle.std.proofs.Common.{length, ap, subst, map, take, ◌∙◌, replicate, ◌≡◌, ◌≤◌, IfOk}
+use Rattle.std.proofs.Common.{length, ap, subst, map, take, ◌∙◌, replicate, ◌≡◌, IfOk}
 use Rattle.ptk_words_parted.specs.Parts.{filled}
 use Rattle.ptk_threads_slots.specs.declared.link.Ends.{Ends}
 use Rattle.ptk_threads_slots.specs.Links.{no_ends}
