@@ -1,6 +1,6 @@
 //! The trait of all forms.
 
-ghost use Rattle.std.specs.Prelude.{◌≡◌, ℕ, ◌<◌, ◌≤◌, false, List, [], ◌∷◌, ◌++◌, length, slice_set, IsSome};
+ghost use Rattle.std.specs.Prelude.{◌≡◌, ℕ, ◌<◌, ◌≤◌, true, false, List, [], ◌∷◌, ◌++◌, length, slice_set, IsSome};
 ghost use Rattle.ptk_words.specs.Pools.{pool_set, without, first_of_greatest, is_in};
 ghost use Rattle.ptk_words_parted.specs.Parts.{part_of};
 ghost use Rattle.ptk_threads.specs.Table.{ThreadTable, thread_in, stored_of};
@@ -86,8 +86,8 @@ pub trait Line {
     /// The lists depend on the queues of ready threads alone.
     ghost entries_same: { (line : Self) (a b : ThreadTable) → ready_queues a.queues ≡ ready_queues b.queues → entries line a ≡ entries line b };
 
-    /// What holds depends on the stored priorities and the queues of ready threads alone.
-    ghost sound_same: { (line : Self) (a b : ThreadTable) → a.stored ≡ b.stored → ready_queues a.queues ≡ ready_queues b.queues → is_sound line a → is_sound line b };
+    /// What holds depends on the stored priorities of threads in the line and the queues of ready threads alone.
+    ghost sound_same: { (line : Self) (a b : ThreadTable) → ((p k : ℕ) → is_in k (part_of (entries line a) p) ≡ true → stored_of (part_of b.stored p) k ≡ stored_of (part_of a.stored p) k) → ready_queues a.queues ≡ ready_queues b.queues → is_sound line a → is_sound line b };
 
     /// A thread that is not in the line lies in no queue of ready threads.
     ghost apart: { (line : Self) (a : ThreadTable) (p k i : ℕ) → is_sound line a → is_in k (part_of (entries line a) p) ≡ false → i < 32 → is_in k (part_of (part_of a.queues p) i) ≡ false };

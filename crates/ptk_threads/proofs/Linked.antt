@@ -1,6 +1,6 @@
 -- The table of slots after a change of one partition's threads, or of its queues.
 use Rattle.std.proofs.Common.{◌≡◌, ◌≢◌, ℕ, zero, suc, ◌<◌, ◌≤◌, List, [], ◌∷◌, ◌++◌, length, map, take, true, false, refl, sym, ◌∙◌, ap, subst, arith, inl, inr}
-use Rattle.std.specs.Prelude.{Option, Some, None, replicate}
+use Rattle.std.specs.Prelude.{is_some, option_map, ◌↔◌, Option, Some, None, replicate}
 use Rattle.std.proofs.Math.ListN.{set, get_or-map}
 use Rattle.std.proofs.lemmas.Bool.{cases_eq}
 use Rattle.std.proofs.lemmas.List.{length-replicate, length-map, map-set, map-append, length-set, get_or-set_same, get_or-set_other}
@@ -11,8 +11,9 @@ use Rattle.ptk_words_parted.specs.Cuts.{lent}
 use Rattle.ptk_words_parted.proofs.Cuts.{lent-same}
 use Rattle.ptk_threads_slots.specs.declared.link.Ends.{Ends}
 use Rattle.ptk_threads_slots.specs.declared.link.Link.{Link}
+use Rattle.ptk_threads_slots.specs.declared.link.QueueName.{QueueName}
 use Rattle.ptk_threads_slots.specs.declared.slot.Slot.{Slot}
-use Rattle.ptk_threads_slots.specs.Links.{links_of, threads_of, free_slot, no_link, no_ends, mark_of, queue_from, queue_at, queues, AreQueues}
+use Rattle.ptk_threads_slots.specs.Links.{place_of, link_in, links_of, threads_of, free_slot, no_link, no_ends, mark_of, queue_from, queue_at, queues, AreQueues}
 use Rattle.ptk_threads_slots.specs.Changes.{put_before, with_inserted, with_taken}
 use Rattle.ptk_threads_slots.proofs.Along.{along_marked, not_true}
 use Rattle.ptk_threads_slots.proofs.Lists.{list_at, without_none, put_none}
@@ -240,6 +241,23 @@ pub view_at : (slots : List (List Slot)) (ends : List (List Ends)) (p : ℕ) (v 
 view_at slots ends p v w late lists is done =
     ap (λ l. record { threads = l; queues = queues_by (lent slots p w) (lent ends p late) }) done.threads
     ∙ (ap (λ l. record { threads = map threads_of slots; queues = l }) done.queues ∙ ap (λ (z : LinkedThreads). record z { queues = set z.queues p lists }) is)
+
+-- the mark that was read tells whether a thread lies in a queue
+unmarked : (name : Option QueueName) → is_some name ≡ false → option_map place_of name ≡ None
+unmarked None e = refl
+unmarked (Some name) e = absurd (cc)
+
+no_name : (name : Option QueueName) → option_map place_of name ≡ None → is_some name ≡ false
+no_name None e = refl
+no_name (Some name) e = absurd (cc)
+
+pub queued_told : (links : List Link) (ends : List Ends) (lists : List (List ℕ)) (k : ℕ) (link : Link) → AreQueues links ends → queues links ends ≡ lists → link ≡ link_in links k
+    → (is_some link.queue ≡ false) ↔ IsUnqueued k lists
+queued_told links ends lists k link are is e =
+    let same : mark_of links k ≡ option_map place_of link.queue = ap (λ (l : Link). option_map place_of l.queue) (sym e) in (
+      λ free i. subst (λ l. is_in k (part_of l i) ≡ false) is (outside links ends k i None are (same ∙ unmarked link.queue free) (none_some i)),
+      λ out. no_name link.queue (sym same ∙ unqueued_mark links ends k are (subst (IsUnqueued k) (sym is) out)),
+    )
 
 -- a thread goes before another, or leaves
 pub inserted_lists : (slots : List (List Slot)) (ends : List (List Ends)) (p k before : ℕ) (part : List Slot) (was : List Ends) → AreLinked slots ends → part ≡ part_of slots p → was ≡ part_of ends p

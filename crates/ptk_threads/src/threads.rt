@@ -1,6 +1,6 @@
 //! The table: the life of numbers, and the fields of a thread.
 
-ghost use Rattle.std.specs.Prelude.{◌≡◌, ◌<◌, ◌≤◌, length, slice_set, position, is_none, IfOk, All, option_map, option_and_then};
+ghost use Rattle.std.specs.Prelude.{◌≡◌, ◌↔◌, ◌<◌, ◌≤◌, false, length, slice_set, position, is_none, IfOk, All, option_map, option_and_then};
 ghost use Rattle.ptk_words.specs.Pools.{least_free, pool_get, pool_set};
 ghost use Rattle.ptk_words.specs.Threads.{left_at_end, left_at_detach};
 ghost use Rattle.ptk_words.specs.declared.threads.Thread.{Thread};
@@ -15,7 +15,7 @@ ghost use Rattle.ptk_words_model.specs.Schedule.{with_reply};
 
 use crate::changes::Change;
 use crate::slot_table::{LinkedSlots, SlotTable};
-use ptk_threads_slots::{QueueName, Slot};
+use ptk_threads_slots::{QueueName, Slot, link_of};
 use ptk_words::{Cpu, PartId, Phase, Policy, Priority, Thread, ThreadNo, Wait};
 use ptk_words_parted::Parted;
 use std::alloc::{AllocError, Global};
@@ -376,6 +376,17 @@ impl Threads {
         ensures { self.new ≡ with_stored p k priority self.old }
     {
         put_stored(self.stored.lend(p), k, priority);
+    }
+
+    /// Whether a thread lies in a queue.
+    #[tactic(auto, using(crate::proofs::Linked::queued_told))]
+    pub fn is_queued(&self, p: PartId, k: ThreadNo) -> bool
+        requires { p < length self.now.threads }
+        ensures { (result ≡ false) ↔ IsUnqueued k (part_of self.now.queues p) }
+    {
+        let part = self.linked(p);
+        let link = link_of(part.slots, k);
+        link.queue.is_some()
     }
 
     /// A thread that lies in no queue becomes the last of one.
