@@ -1,17 +1,17 @@
 -- The line read from the queues' lists is the line read from the links.
 use Rattle.std.proofs.Common.{◌≡◌, ℕ, zero, suc, ◌+◌, ◌-◌, ◌<◌, ◌≤◌, List, [], ◌∷◌, ◌++◌, length, take, true, false, refl, sym, ◌∙◌, ap, subst, arith, inl, inr, length-take}
-use Rattle.std.specs.Prelude.{Bool, ℤ, None, filter, ◌↔◌, ◌==◌}
+use Rattle.std.specs.Prelude.{Bool, ℤ, None, filter, ◌↔◌}
 use Rattle.std.proofs.lemmas.List.{get_or-take, append-nil}
 use Rattle.std.proofs.lemmas.List.Elements.{filter-append}
 use Rattle.ptk_words.specs.Pools.{is_in, numbers_to}
 use Rattle.ptk_words_parted.specs.Parts.{part_of, joined}
 use Rattle.ptk_threads_slots.specs.declared.link.Link.{Link}
 use Rattle.ptk_threads_slots.specs.declared.link.Ends.{Ends}
-use Rattle.ptk_threads_slots.specs.Links.{mark_of, queue_at, queues, AreQueues}
+use Rattle.ptk_threads_slots.specs.Links.{queue_at, queues, AreQueues}
 use Rattle.ptk_threads_slots.proofs.Along.{in_left, in_right, in_parts, not_true, marked_within, along_marked}
 use Rattle.ptk_threads_slots.proofs.Lists.{list_at}
 use Rattle.ptk_ready_slots.specs.Orders.{in_order}
-use Rattle.ptk_ready_slots.specs.Entries.{is_ready, ready_of, stamp_of, entries, of_priority, has_any, AreStamps, IsSound}
+use Rattle.ptk_ready_slots.specs.Entries.{is_ready, ready_of, stamp_of, entries, of_priority, has_any, IsSound}
 use Rattle.ptk_ready_slots.specs.Lines.{queued, line_of, IsFiled}
 use Rattle.ptk_ready_slots.proofs.Orders.{same_test}
 use Rattle.ptk_ready_slots.proofs.Ready.{ready_mark, marked_ready}
@@ -88,9 +88,9 @@ sound_line limit links ends stored stamps bitmap are few filed =
     record {
       queues = are;
       stamped = record {
-          apart = λ j k a b e. filed.apart j k (same j are ∙ a) (same k are ∙ b) e;
-          within = λ k ready. filed.within k (same k are ∙ ready);
-        };
+        apart = λ j k a b e. filed.apart j k (same j are ∙ a) (same k are ∙ b) e;
+        within = λ k ready. filed.within k (same k are ∙ ready);
+      };
       lines = λ i lt. sym (list_at links ends i) ∙ (filed.lines i lt ∙ ap (of_priority stored (suc i)) (sym (line_same links ends stamps are few)));
       bits = λ i lt. filed.bits i lt ∙ ap has_any (list_at links ends i);
     }
@@ -98,5 +98,3 @@ sound_line limit links ends stored stamps bitmap are few filed =
 pub filed_sound : (limit : ℕ) (links : List Link) (ends : List Ends) (stored : List ℕ) (stamps : List ℤ) (bitmap : ℕ) → AreQueues links ends → length links ≤ 32 → IsSound limit links ends stored stamps bitmap ↔ IsFiled limit (queues links ends) stored stamps bitmap
 filed_sound limit links ends stored stamps bitmap are few =
     (filed_line limit links ends stored stamps bitmap few, sound_line limit links ends stored stamps bitmap are few)
-
-pub ruleset lists = (line_same, filed_sound)

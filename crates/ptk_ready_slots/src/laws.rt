@@ -20,7 +20,7 @@ pub fn marks_tell_queues()
 
 /// The line and its soundness can be told by the queues' lists alone: whatever links lead along the same lists, both
 /// are the same.
-#[tactic(auto, using(crate::proofs::Lists::lists))]
+#[tactic(auto, using(crate::proofs::Lists::filed_sound))]
 pub fn lists_tell_line()
     ensures line { (links : List Link) (ends : List Ends) (stamps : List ℤ) → AreQueues links ends → length links ≤ 32
         → entries links stamps ≡ line_of (queues links ends) stamps }
