@@ -226,6 +226,19 @@ pub kept_at : (slots : List (List Slot)) (ends : List (List Ends)) (p : ℕ) (v 
     → AreLinked (lent slots p w) ends
 kept_at slots ends p v part w are is lt e same = linked_lent slots ends p w are (below_of slots ends p v is lt) (same ∙ ap links_of e)
 
+pub threads_here : (slots : List (List Slot)) (ends : List (List Ends)) (p : ℕ) (v : LinkedThreads) (part : List Slot) → linked_of slots ends ≡ v → part ≡ part_of slots p → threads_of part ≡ part_of v.threads p
+threads_here slots ends p v part is e = ap threads_of e ∙ (sym (part_threads slots p) ∙ ap (λ (z : LinkedThreads). part_of z.threads p) is)
+
+pub changed_view : (slots : List (List Slot)) (ends : List (List Ends)) (p : ℕ) (v : LinkedThreads) (part w : List Slot) (f : List (Option Thread) → List (Option Thread)) → linked_of slots ends ≡ v → p < length v.threads → part ≡ part_of slots p
+    → links_of w ≡ links_of part → threads_of w ≡ f (threads_of part) → linked_of (lent slots p w) ends ≡ record v { threads = set v.threads p (f (part_of v.threads p)) }
+changed_view slots ends p v part w f is lt e same made =
+    let below = below_of slots ends p v is lt in
+    let row : threads_of w ≡ f (part_of (map threads_of slots) p) = made ∙ ap f (ap threads_of e ∙ sym (part_threads slots p)) in
+    let links : links_of w ≡ links_of (part_of slots p) = same ∙ ap links_of e in
+    ap (λ l. record { threads = l; queues = queues_by (lent slots p w) ends }) (threads_lent slots p w (f (part_of (map threads_of slots) p)) below links row)
+    ∙ (ap (λ l. record { threads = set (map threads_of slots) p (f (part_of (map threads_of slots) p)); queues = l }) (queues_lent slots ends p w below links)
+    ∙ ap (λ (z : LinkedThreads). record z { threads = set z.threads p (f (part_of z.threads p)) }) is)
+
 -- the queues changed
 pub relinked_at : (slots : List (List Slot)) (ends : List (List Ends)) (p : ℕ) (v : LinkedThreads) (part w : List Slot) (was late : List Ends) (f : List (List ℕ) → List (List ℕ))
     → AreLinked slots ends → linked_of slots ends ≡ v → p < length v.threads → part ≡ part_of slots p → was ≡ part_of ends p

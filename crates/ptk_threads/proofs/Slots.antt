@@ -1,7 +1,7 @@
 -- Pools, whose numbers count from 1, read and written at a number, and the table after a change of one partition.
-use Rattle.std.proofs.Common.{◌≡◌, ℕ, zero, suc, ◌+◌, ◌-◌, ◌<◌, ◌≤◌, List, [], ◌∷◌, ◌++◌, length, map, take, drop, refl, sym, ◌∙◌, ap, arith, All, get_or, add-one, length-append, length-drop, length-take}
-use Rattle.std.specs.Prelude.{Option, None, option_map, is_none, position, slice_get, slice_set, slice_index, if◌then◌else◌, Bool, not}
-use Rattle.std.specs.List.{prefix_len}
+use Rattle.std.proofs.Common.{◌≡◌, ℕ, zero, suc, ◌+◌, ◌-◌, ◌<◌, ◌≤◌, List, [], ◌∷◌, ◌++◌, length, map, take, drop, refl, sym, ◌∙◌, ap, subst, arith, All, get_or, add-one, length-append, length-drop, length-take}
+use Rattle.std.specs.Prelude.{Option, Some, None, IsSome, option_map, is_none, position, slice_get, slice_set, slice_index, if◌then◌else◌, Bool, not, ◌||◌}
+use Rattle.std.specs.List.{prefix_len, list_any}
 use Rattle.std.specs.Option.{option_flatten}
 use Rattle.std.proofs.Math.ListN.{set, get_or-map}
 use Rattle.std.proofs.Math.Seq.{map-set_same}
@@ -14,7 +14,7 @@ use Rattle.ptk_words_parted.specs.Cuts.{lent}
 use Rattle.ptk_words_parted.proofs.Cuts.{lent-same, set_part-same}
 use Rattle.ptk_threads_slots.specs.declared.slot.Slot.{Slot}
 use Rattle.ptk_threads_slots.specs.Links.{links_of, threads_of, free_slot}
-use Rattle.ptk_threads.specs.Table.{IsTable, stored_of}
+use Rattle.ptk_threads.specs.Table.{IsTable, stored_of, replaced_by}
 
 -- ---- a number
 
@@ -99,6 +99,42 @@ pub position_threads : (slots : List Slot) → position (λ (slot : Slot). is_no
 position_threads slots =
     let same : length (threads_of slots) ≡ length slots = length_threads slots in
     rw (same, prefix_threads (λ thread. not (is_none thread)) slots) refl
+
+-- ---- a thread in use, and work on it
+
+pub threads_any : (f : Option Thread → Bool) (slots : List Slot) → list_any (λ (slot : Slot). f slot.thread) slots ≡ list_any f (threads_of slots)
+threads_any f [] = refl
+threads_any f (slot ∷ slots) = ap (λ b. f slot.thread || b) (threads_any f slots)
+
+pub replaced_some : (made : Thread) (place : Option Thread) → IsSome place → Some made ≡ option_map (replaced_by made) place
+replaced_some made None used = absurd (cc)
+replaced_some made (Some thread) used = refl
+
+some_below : {X : Type 0} (xs : List (Option X)) (i : ℕ) → IsSome (option_flatten (slice_get xs i)) → i < length xs
+some_below [] i used = absurd (cc)
+some_below (x ∷ xs) zero used = omega arith
+some_below (x ∷ xs) (suc i) used = let lt = some_below xs i used in omega (arith, lt)
+
+-- a number in use is that of a slot
+pub used_below : (slots : List Slot) (k : ℕ) → IsSome (pool_get (threads_of slots) k) → k - 1 < length slots
+used_below slots zero used = absurd (cc)
+used_below slots (suc i) used = rw (place_of_number i) (rw (length_threads slots) at (some_below (threads_of slots) i used))
+
+-- work on the thread of a number in use, as the code reads and writes its slot
+pub used_at : (k i : ℕ) (slots : List Slot) (slot : Slot) → i ≡ k - 1 → 0 < k → IsSome (pool_get (threads_of slots) k) → slot ≡ get_or slots i slot → (get_or slots i slot).thread ≡ pool_get (threads_of slots) k
+used_at k i slots slot same h used is =
+    let here : slot ≡ get_or slots (k - 1) slot = subst (λ (j : ℕ). slot ≡ get_or slots j slot) same is in
+    ap (λ (s : Slot). s.thread) (sym is) ∙ read_at slots k slot h (used_below slots k used) here
+
+pub worked_at : (k i : ℕ) (slots : List Slot) (after : Slot) (made : Thread) → i ≡ k - 1 → 0 < k → IsSome (pool_get (threads_of slots) k) → after.thread ≡ Some made → threads_of (set slots i after) ≡ pool_changed k (replaced_by made) (threads_of slots)
+worked_at zero i slots after made same h used is = absurd (omega (arith, h))
+worked_at (suc j) i slots after made same h used is =
+    let here : i ≡ j = same ∙ place_of_number j in
+    ap (λ (n : ℕ). threads_of (set slots n after)) here
+    ∙ (map-set (λ (s : Slot). s.thread) slots j after ∙ ap (set (threads_of slots) j) (is ∙ replaced_some made (pool_get (threads_of slots) (suc j)) used))
+
+pub worked_links : (i : ℕ) (slots : List Slot) (slot after : Slot) → after.link ≡ (get_or slots i slot).link → links_of (set slots i after) ≡ links_of slots
+worked_links i slots slot after same = map-set_same (λ (s : Slot). s.link) slots i after slot same
 
 -- ---- a partition
 

@@ -1,13 +1,15 @@
 //! The slots of one partition after a change of one thread, whose link stays.
 
-ghost use Rattle.std.specs.Prelude.{◌≡◌, ◌<◌, length, option_map};
-ghost use Rattle.ptk_words.specs.Pools.{pool_set, pool_changed};
+ghost use Rattle.std.specs.Prelude.{◌≡◌, ◌<◌, length, option_map, Some, IsSome, IfSome};
+ghost use Rattle.ptk_words.specs.Pools.{pool_get, pool_set, pool_changed};
+ghost use Rattle.ptk_words.specs.declared.threads.Thread.{Thread};
 ghost use Rattle.ptk_threads_slots.specs.Links.{links_of, threads_of};
 ghost use Rattle.ptk_threads.specs.Table.{with_cpu, replaced_by};
 ghost use Rattle.ptk_threads.specs.Changes.{thread_changed};
 ghost use Rattle.ptk_threads.specs.Registers.{with_pc};
 ghost use Rattle.ptk_words_model.specs.Schedule.{with_registers, with_reply};
 
+use crate::work::Work;
 use ptk_threads_slots::Slot;
 use ptk_words::{A0, Cpu, Phase, Policy, Priority, Thread, ThreadNo, Wait};
 
@@ -101,6 +103,29 @@ pub(crate) fn put_in(slots: &mut [Slot], k: ThreadNo, thread: Option<Thread>)
     if i < slots.len() {
         let slot = &mut slots[i];
         slot.thread = thread;
+    }
+}
+
+/// Does a piece of work on the thread of a number, which is in use, where it lies.
+pub(crate) fn work_in<W: Work>(slots: &mut [Slot], k: ThreadNo, work: &mut W) -> W::Answer
+    requires in_use { IsSome (pool_get (threads_of slots.old) k) }
+    requires ready { IfSome (pool_get (threads_of slots.old) k) (W.can_run work.old) }
+    ensures threads { (made : Thread) × (threads_of slots.new ≡ pool_changed k (replaced_by made) (threads_of slots.old)) × IfSome (pool_get (threads_of slots.old) k) (λ thread. W.has_run work.old thread result work.new made) }
+    ensures links { links_of slots.new ≡ links_of slots.old }
+{
+    let slot = &mut slots[k.place()];
+    work_at(&mut slot.thread, work)
+}
+
+/// Does a piece of work on a thread that is one.
+fn work_at<W: Work>(place: &mut Option<Thread>, work: &mut W) -> W::Answer
+    requires in_use { IsSome place.old }
+    requires ready { IfSome place.old (W.can_run work.old) }
+    ensures { (made : Thread) × (place.new ≡ Some made) × IfSome place.old (λ thread. W.has_run work.old thread result work.new made) }
+{
+    match place {
+        Some(thread) => work.run(thread),
+        None => unreachable!(),
     }
 }
 

@@ -1,7 +1,8 @@
 //! The slots of all partitions, with the queues that are linked through them.
 
-ghost use Rattle.std.specs.Prelude.{◌≡◌, ◌<◌, ◌≤◌, length, map, replicate, slice_set, None, IfOk};
-ghost use Rattle.ptk_words.specs.Pools.{pool_set, pool_changed};
+ghost use Rattle.std.specs.Prelude.{◌≡◌, ◌<◌, ◌≤◌, length, map, replicate, slice_set, None, IsSome, IfSome, IfOk};
+ghost use Rattle.ptk_words.specs.Pools.{pool_get, pool_set, pool_changed};
+ghost use Rattle.ptk_words.specs.declared.threads.Thread.{Thread};
 ghost use Rattle.ptk_words_model.specs.Schedule.{with_reply};
 ghost use Rattle.ptk_words_parted.specs.Parts.{part_of, joined, filled};
 ghost use Rattle.ptk_threads_slots.specs.Links.{links_of, threads_of, no_ends, queues, AreQueues};
@@ -10,7 +11,10 @@ ghost use Rattle.ptk_threads.specs.Changes.{thread_changed};
 ghost use Rattle.ptk_threads.specs.Registers.{with_pc};
 ghost use Rattle.ptk_threads.specs.Queues.{no_queues, AreListed, IsUnqueued, with_last, with_first, with_before, with_none};
 
-use crate::changes::{Change, change_in, put_in, replace_in, set_cpu_in, set_pc_in, set_values_in};
+use crate::changes::{
+    Change, change_in, put_in, replace_in, set_cpu_in, set_pc_in, set_values_in, work_in,
+};
+use crate::work::Work;
 use ptk_threads_slots::{Ends, PLACES, QueueName, Slot, append, insert, prepend, take};
 use ptk_words::{Cpu, PartId, Thread, ThreadNo};
 use ptk_words_parted::Parted;
@@ -148,6 +152,16 @@ impl SlotTable {
         ensures { self.new ≡ record self.old { threads = slice_set self.old.threads p (pool_set (part_of self.old.threads p) k thread) } }
     {
         put_in(self.slots.lend(p), k, thread);
+    }
+
+    /// Does a piece of work on the thread of a number, which is in use, where it lies.
+    pub(crate) fn work_on<W: Work>(&mut self, p: PartId, k: ThreadNo, work: &mut W) -> W::Answer
+        requires partition { p < length self.old.threads }
+        requires in_use { IsSome (pool_get (part_of self.old.threads p) k) }
+        requires ready { IfSome (pool_get (part_of self.old.threads p) k) (W.can_run work.old) }
+        ensures { (made : Thread) × (self.new ≡ record self.old { threads = slice_set self.old.threads p (pool_changed k (replaced_by made) (part_of self.old.threads p)) }) × IfSome (pool_get (part_of self.old.threads p) k) (λ thread. W.has_run work.old thread result work.new made) }
+    {
+        work_in(self.slots.lend(p), k, work)
     }
 
     /// A thread that lies in no queue becomes the last of one.

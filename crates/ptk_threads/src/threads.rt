@@ -1,6 +1,6 @@
 //! The table: the life of numbers, and the fields of a thread.
 
-ghost use Rattle.std.specs.Prelude.{◌≡◌, ◌↔◌, ◌<◌, ◌≤◌, false, length, slice_set, position, is_none, IfOk, All, option_map, option_and_then};
+ghost use Rattle.std.specs.Prelude.{◌≡◌, ◌↔◌, ◌<◌, ◌≤◌, false, length, slice_set, position, is_none, IsSome, IfSome, IfOk, All, option_map, option_and_then};
 ghost use Rattle.ptk_words.specs.Pools.{least_free, pool_get, pool_set};
 ghost use Rattle.ptk_words.specs.Threads.{left_at_end, left_at_detach};
 ghost use Rattle.ptk_words.specs.declared.threads.Thread.{Thread};
@@ -15,6 +15,7 @@ ghost use Rattle.ptk_words_model.specs.Schedule.{with_reply};
 
 use crate::changes::Change;
 use crate::slot_table::{LinkedSlots, SlotTable};
+use crate::work::Work;
 use ptk_threads_slots::{QueueName, Slot, link_of};
 use ptk_words::{Cpu, PartId, Phase, Policy, Priority, Thread, ThreadNo, Wait};
 use ptk_words_parted::Parted;
@@ -340,6 +341,16 @@ impl Threads {
         ensures { self.new ≡ with_changed p k (replaced_by thread) self.old }
     {
         self.slots.replace(p, k, thread);
+    }
+
+    /// Does a piece of work on a thread where it lies: nothing of it is copied, and nothing else of the table changes.
+    pub fn work_on<W: Work>(&mut self, p: PartId, k: ThreadNo, work: &mut W) -> W::Answer
+        requires partition { p < length self.old.threads }
+        requires in_use { IsSome (thread_in self.old p k) }
+        requires ready { IfSome (thread_in self.old p k) (W.can_run work.old) }
+        ensures { (made : Thread) × (self.new ≡ with_changed p k (replaced_by made) self.old) × IfSome (thread_in self.old p k) (λ thread. W.has_run work.old thread result work.new made) }
+    {
+        self.slots.work_on(p, k, work)
     }
 
     /// The stored effective priorities of a partition, by number from 1; 0 of a number that was never used.
