@@ -116,8 +116,8 @@ abbrev Follows : ℕ → ℕ → Inside → ThreadTable → List (List (Option �
 Follows p k a mid = set a.deadlines p (pool_set (part_of a.deadlines p) k (deadline_at (thread_in mid p k)))
 
 -- neither step changes a queue
-same_queues : {p : ℕ} {a : Inside} {mid new table : ThreadTable} → new ≡ Again p a mid → mid ≡ table → new.queues ≡ table.queues
-same_queues again e = ap (λ (t : ThreadTable). t.queues) again ∙ ap (λ (t : ThreadTable). t.queues) e
+same_queues : (p : ℕ) (a : Inside) (mid new table : ThreadTable) → new ≡ Again p a mid → mid ≡ table → new.queues ≡ table.queues
+same_queues p a mid new table again e = ap (λ (t : ThreadTable). t.queues) again ∙ ap (λ (t : ThreadTable). t.queues) e
 
 -- a thread has left what f leaves
 pub left_pooled : (p k : ℕ) (f : Thread → Option Thread) (a : Inside) (mid new : ThreadTable) (after : List (List (Option ℕ))) → p < length a.limits.items → mid ≡ with_left p k f a.threads → new ≡ Again p a mid → after ≡ Follows p k a mid → ArePooled a
@@ -126,7 +126,7 @@ left_pooled p k f a mid new after lt e again g old =
     let within : p < length a.threads.stored = omega (arith, lt, old.priorities) in
     let rest : Option Thread = option_and_then f (thread_in a.threads p k) in
     threads_pooled a new after (ap (λ (t : ThreadTable). length t.threads) again ∙ ap (λ (t : ThreadTable). length t.threads) e ∙ length-set a.threads.threads p _)
-    (ap (λ (t : ThreadTable). length t.stored) again ∙ length-set mid.stored p _ ∙ ap (λ (t : ThreadTable). length t.stored) e ∙ left_long p k rest a.threads.stored) (ap length g ∙ length-set a.deadlines p _) (same_queues again e)
+    (ap (λ (t : ThreadTable). length t.stored) again ∙ length-set mid.stored p _ ∙ ap (λ (t : ThreadTable). length t.stored) e ∙ left_long p k rest a.threads.stored) (ap length g ∙ length-set a.deadlines p _) (same_queues p a mid new _ again e)
     (refreshed_left p k f a.threads mid new a.mutexes e again within old.stored)
     (timed_left p k f a.threads mid new (set mid.stored p (effective_priorities (part_of mid.threads p) (part_of a.mutexes p))) a.deadlines after e again g old.timed) old
 
@@ -136,7 +136,7 @@ pub slot_pooled : (p k priority : ℕ) (slot : Option Thread) (a : Inside) (mid 
 slot_pooled p k priority slot a mid new after lt e again g old =
     let within : p < length a.threads.stored = omega (arith, lt, old.priorities) in
     threads_pooled a new after (ap (λ (t : ThreadTable). length t.threads) again ∙ ap (λ (t : ThreadTable). length t.threads) e ∙ length-set a.threads.threads p _)
-    (ap (λ (t : ThreadTable). length t.stored) again ∙ length-set mid.stored p _ ∙ ap (λ (t : ThreadTable). length t.stored) e ∙ length-set a.threads.stored p _) (ap length g ∙ length-set a.deadlines p _) (same_queues again e)
+    (ap (λ (t : ThreadTable). length t.stored) again ∙ length-set mid.stored p _ ∙ ap (λ (t : ThreadTable). length t.stored) e ∙ length-set a.threads.stored p _) (ap length g ∙ length-set a.deadlines p _) (same_queues p a mid new _ again e)
     (refreshed_slot p k priority slot a.threads mid new a.mutexes e again within old.stored)
     (timed_slot p k priority slot a.threads mid new (set mid.stored p (effective_priorities (part_of mid.threads p) (part_of a.mutexes p))) a.deadlines after e again g old.timed) old
 
@@ -146,6 +146,6 @@ pub wait_pooled : (p k : ℕ) (f : Thread → Thread) (a : Inside) (mid new : Th
 wait_pooled p k f a mid new after lt e again g old =
     let within : p < length a.threads.stored = omega (arith, lt, old.priorities) in
     threads_pooled a new after (ap (λ (t : ThreadTable). length t.threads) again ∙ ap (λ (t : ThreadTable). length t.threads) e ∙ length-set a.threads.threads p _)
-    (ap (λ (t : ThreadTable). length t.stored) again ∙ length-set mid.stored p _ ∙ ap (λ (t : ThreadTable). length t.stored) e) (ap length g ∙ length-set a.deadlines p _) (same_queues again e)
+    (ap (λ (t : ThreadTable). length t.stored) again ∙ length-set mid.stored p _ ∙ ap (λ (t : ThreadTable). length t.stored) e) (ap length g ∙ length-set a.deadlines p _) (same_queues p a mid new _ again e)
     (refreshed_changed p k f a.threads mid new a.mutexes e again within old.stored)
     (timed_wait_again p k f a.threads mid new (set mid.stored p (effective_priorities (part_of mid.threads p) (part_of a.mutexes p))) a.deadlines after e again g old.timed) old

@@ -13,9 +13,8 @@ use Rattle.ptk_words_parted.specs.Cuts.{lent}
 use Rattle.ptk_words_parted.proofs.Cuts.{lent-same}
 use Rattle.ptk_words_instructions.specs.PlainSteps.{Core, core, plain_steps}
 use Rattle.ptk_words_quiet.specs.Quiet.{computed, last_after, after_row}
-use Rattle.ptk_threads.specs.Table.{ThreadTable, thread_in, with_changed, replaced_by}
+use Rattle.ptk_threads.specs.Table.{ThreadTable, with_changed}
 use Rattle.ptk_ready.specs.Queues.{AreUnused}
-use Rattle.ptk_mutex.proofs.Moved.{replaced-is}
 use Rattle.ptk_trace_rows.specs.TracedRows.{last_entry}
 use Rattle.ptk_gate_pools.specs.Kept.{Kept, part_at, put_part}
 use Rattle.ptk_gate_pools.specs.Pooled.{kept_of, ArePooled}
@@ -47,22 +46,21 @@ pub record IsRow (p t tick n : ℕ) (thread : Thread) (a : Inside) (memory : Lis
   pub of_last : last ≡ last_after tick t n (core thread.cpu (part_of a.regions p)) (slice_index_or a.lasts.items p None)
 
 -- what was lent, and what was told of it, make a row
-pub row_is : (p i t tick n : ℕ) (thread made : Thread) (a : Inside) (kept : Kept) (lent_memory memory : List ℕ) (table : ThreadTable) (old last : Option Entry) → kept_of a ≡ kept → ArePooled a → p < length kept.limits
+pub row_is : (p i t tick n : ℕ) (thread : Thread) (a : Inside) (kept : Kept) (lent_memory memory : List ℕ) (table : ThreadTable) (old last : Option Entry) → kept_of a ≡ kept → ArePooled a → p < length kept.limits
     → lent_memory ≡ part_of a.regions p → length memory ≡ length lent_memory → memory ≡ (plain_steps n (core thread.cpu lent_memory)).memory
-    → thread_in a.threads p t ≡ Some thread → table ≡ with_changed p t (replaced_by made) a.threads → made ≡ computed n (plain_steps n (core thread.cpu lent_memory)).cpu thread
+    → table ≡ with_changed p t (computed n (plain_steps n (core thread.cpu lent_memory)).cpu) a.threads
     → last ≡ option_or (last_entry tick t n (core thread.cpu lent_memory)) old → i ≡ p → old ≡ get_or a.lasts.items i old
     → IsRow p t tick n thread a memory table last
-row_is p i t tick n thread made a kept lent_memory memory table old last view pooled lt bytes long moved found changed ran told place before =
+row_is p i t tick n thread a kept lent_memory memory table old last view pooled lt bytes long moved changed told place before =
     let within : p < length a.limits.items = subst (λ (k : Kept). p < length k.limits) (sym view) lt in
     let in_lasts : p < length a.lasts.items = omega (arith, within, pooled.lasts) in
     let older : old ≡ slice_index_or a.lasts.items p None = before ∙ ap (λ (j : ℕ). get_or a.lasts.items j old) place ∙ get_or_default a.lasts.items p old None in_lasts in
-    let left : made ≡ computed n (plain_steps n (core thread.cpu (part_of a.regions p))).cpu thread = ran ∙ ap (λ (m : List ℕ). computed n (plain_steps n (core thread.cpu m)).cpu thread) bytes in
     record {
       within = within;
       pooled = pooled;
       of_memory = moved ∙ ap (λ (m : List ℕ). (plain_steps n (core thread.cpu m)).memory) bytes;
       as_long = long ∙ ap length bytes;
-      of_table = changed ∙ replaced-is p t (computed n (plain_steps n (core thread.cpu (part_of a.regions p))).cpu) thread made a.threads found left;
+      of_table = changed ∙ ap (λ (m : List ℕ). with_changed p t (computed n (plain_steps n (core thread.cpu m)).cpu) a.threads) bytes;
       of_last = told ∙ ap (λ (m : List ℕ). option_or (last_entry tick t n (core thread.cpu m)) old) bytes
           ∙ last_noted tick t n (core thread.cpu (part_of a.regions p)) old ∙ ap (last_after tick t n (core thread.cpu (part_of a.regions p))) older;
     }

@@ -16,7 +16,7 @@ pub record MayRun (row : Row) (thread : Thread) : Type 0 where
 pub record HasRun (row : Row) (thread : Thread) (steps : ℕ) (after : Row) (made : Thread) : Type 0 where
   pub few : steps ≤ row.most
   pub plain : ArePlain steps (core thread.cpu row.memory.now)
-  pub thread : made ≡ computed steps (plain_steps steps (core thread.cpu row.memory.now)).cpu thread
+  pub left : made ≡ computed steps (plain_steps steps (core thread.cpu row.memory.now)).cpu thread
   pub memory : after.memory.now ≡ (plain_steps steps (core thread.cpu row.memory.now)).memory
   pub traced : after.trace.now ≡ traced row.tick row.t steps (core thread.cpu row.memory.now) row.trace.now
   pub last : after.last.now ≡ option_or (last_entry row.tick row.t steps (core thread.cpu row.memory.now)) row.last.now

@@ -5,12 +5,13 @@ ghost use Rattle.std.specs.Option.{option_or};
 ghost use Rattle.ptk_words.specs.declared.threads.Thread.{Thread};
 ghost use Rattle.ptk_words_instructions.specs.PlainSteps.{Core, core, is_plain, plain_steps};
 ghost use Rattle.ptk_words_model.specs.Priority.{thread_at};
+ghost use Rattle.ptk_threads.specs.Table.{thread_in, with_changed};
 ghost use Rattle.ptk_words_quiet.specs.Quiet.{ArePlain, core_of, computed, after_row};
 ghost use Rattle.ptk_trace_rows.specs.TracedRows.{last_entry, traced};
 ghost use Rattle.ptk_gate_pools.specs.Kept.{part_at, put_part};
 
 use crate::pools::Pools;
-use ptk_threads::Work;
+use ptk_threads::{Threads, Work};
 use ptk_trace::Trace;
 use ptk_trace_rows::{BATCH, run_row};
 use ptk_words::{Entry, PartId, Policy, Thread, ThreadNo, Tick};
@@ -39,18 +40,56 @@ impl Pools {
         ensures traced { (thread : Thread) → thread_at (part_at p self.old).locks t ≡ Some thread → trace.new ≡ traced tick t result (core_of thread (part_at p self.old)) trace.old }
         ensures ended { (thread : Thread) → thread_at (part_at p self.old).locks t ≡ Some thread → result < most → is_plain (plain_steps result (core_of thread (part_at p self.old))) ≡ false }
     {
-        let last = &mut self.lasts[p.index()];
-        let mut row = Row {
+        run_at(
+            &mut self.threads,
+            self.regions.lend(p),
+            p,
             t,
             tick,
             most,
-            memory: self.regions.lend(p),
             trace,
             batch,
-            last,
-        };
-        self.threads.work_on(p, t, &mut row)
+            &mut self.lasts[p.index()],
+        )
     }
+}
+
+/// A row of the thread of a number on its registers and this memory.
+#[inline(always)]
+#[tactic(auto, using(ptk_mutex::proofs::Moved::wakes))]
+fn run_at(
+    threads: &mut Threads,
+    memory: &mut [u8],
+    p: PartId,
+    t: ThreadNo,
+    tick: Tick,
+    most: u32,
+    trace: &mut Trace,
+    batch: &mut [Entry; BATCH],
+    last: &mut Option<Entry>,
+) -> u32
+    requires partition { p < length threads.old.threads }
+    requires time { tick < 2 ^ 63 }
+    requires in_use { IsSome (thread_in threads.old p t) }
+    requires room { (thread : Thread) → thread_in threads.old p t ≡ Some thread → thread.used + most < 2 ^ 32 }
+    ensures few { result ≤ most }
+    ensures plain { (thread : Thread) → thread_in threads.old p t ≡ Some thread → ArePlain result (core thread.cpu memory.old) }
+    ensures threads { (thread : Thread) → thread_in threads.old p t ≡ Some thread → threads.new ≡ with_changed p t (computed result (plain_steps result (core thread.cpu memory.old)).cpu) threads.old }
+    ensures memory { (thread : Thread) → thread_in threads.old p t ≡ Some thread → memory.new ≡ (plain_steps result (core thread.cpu memory.old)).memory }
+    ensures traced { (thread : Thread) → thread_in threads.old p t ≡ Some thread → trace.new ≡ traced tick t result (core thread.cpu memory.old) trace.old }
+    ensures last { (thread : Thread) → thread_in threads.old p t ≡ Some thread → last.new ≡ option_or (last_entry tick t result (core thread.cpu memory.old)) last.old }
+    ensures ended { (thread : Thread) → thread_in threads.old p t ≡ Some thread → result < most → is_plain (plain_steps result (core thread.cpu memory.old)) ≡ false }
+{
+    let mut row = Row {
+        t,
+        tick,
+        most,
+        memory,
+        trace,
+        batch,
+        last,
+    };
+    threads.work_on(p, t, &mut row)
 }
 
 /// Plain steps of a thread in a row, as work on it: whose they are, from when on and at most how many, and what they
