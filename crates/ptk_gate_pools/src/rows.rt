@@ -1,9 +1,9 @@
 //! Plain steps of a thread in a row, on its registers where they lie in the slot table.
 
-ghost use Rattle.std.specs.Prelude.{◌≡◌, ℕ, true, false, ◌+◌, ◌^◌, ◌<◌, ◌≤◌, length, Option, Some, IsSome};
+ghost use Rattle.std.specs.Prelude.{◌≡◌, false, ◌+◌, ◌^◌, ◌<◌, ◌≤◌, length, Option, Some, IsSome};
 ghost use Rattle.std.specs.Option.{option_or};
 ghost use Rattle.ptk_words.specs.declared.threads.Thread.{Thread};
-ghost use Rattle.ptk_words_instructions.specs.PlainSteps.{Core, core, is_plain, plain_steps};
+ghost use Rattle.ptk_words_instructions.specs.PlainSteps.{core, is_plain, plain_steps};
 ghost use Rattle.ptk_words_model.specs.Priority.{thread_at};
 ghost use Rattle.ptk_threads.specs.Table.{thread_in, with_changed};
 ghost use Rattle.ptk_words_quiet.specs.Quiet.{ArePlain, core_of, computed, after_row};

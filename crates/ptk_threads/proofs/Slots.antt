@@ -1,5 +1,5 @@
 -- Pools, whose numbers count from 1, read and written at a number, and the table after a change of one partition.
-use Rattle.std.proofs.Common.{◌≡◌, ℕ, zero, suc, ◌+◌, ◌-◌, ◌<◌, ◌≤◌, List, [], ◌∷◌, ◌++◌, length, map, take, drop, refl, sym, ◌∙◌, ap, subst, arith, All, get_or, add-one, length-append, length-drop, length-take}
+use Rattle.std.proofs.Common.{◌≡◌, ℕ, zero, suc, ◌+◌, ◌-◌, ◌<◌, ◌≤◌, List, [], ◌∷◌, length, map, refl, sym, ◌∙◌, ap, subst, arith, All, get_or, add-one}
 use Rattle.std.specs.Prelude.{Option, Some, None, IsSome, option_map, is_none, position, slice_get, slice_set, slice_index, if◌then◌else◌, Bool, not, ◌||◌}
 use Rattle.std.specs.List.{prefix_len, list_any}
 use Rattle.std.specs.Option.{option_flatten}

@@ -1,6 +1,5 @@
 //! Work that is done on one thread where it lies in the table.
 
-ghost use Rattle.std.specs.Prelude.{◌≡◌};
 ghost use Rattle.ptk_words.specs.declared.threads.Thread.{Thread};
 
 use ptk_words::Thread;

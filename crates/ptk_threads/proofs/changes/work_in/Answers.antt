@@ -1,4 +1,4 @@
-use Rattle.std.proofs.Common.{◌≡◌, refl, sym, subst}
+use Rattle.std.proofs.Common.{refl, sym, subst}
 use Rattle.std.specs.Prelude.{Option, IsSome, IfSome}
 use Rattle.ptk_words.specs.declared.threads.Thread.{Thread}
 use Rattle.ptk_threads.proofs.Slots.{used_at, worked_at, worked_links}
@@ -14,8 +14,7 @@ work_at-requires-clause-ready g c =
 
 pub returns-clause-threads : goal.returns-clause-threads
 returns-clause-threads g c =
-    let here = used_at c.args.k c.place.result c.args.slots.now c.index-slots-place.result c.place.ensures.value c.place.ensures.positive c.requires.in_use c.index-slots-place.is in
-    (
+    let here = used_at c.args.k c.place.result c.args.slots.now c.index-slots-place.result c.place.ensures.value c.place.ensures.positive c.requires.in_use c.index-slots-place.is in (
       c.work_at.ensures.0,
       worked_at c.args.k c.place.result c.args.slots.now _ c.work_at.ensures.0 c.place.ensures.value c.place.ensures.positive c.requires.in_use c.work_at.ensures.1,
       subst (λ (place : Option Thread). IfSome place (λ thread. g.W.Work.has_run c.args.work.now thread c.work_at.result c.work_at.new.work c.work_at.ensures.0)) here c.work_at.ensures.2,

@@ -1,5 +1,4 @@
-use Rattle.std.proofs.Common.{◌≡◌, ◌∙◌, ap, arith, Option, Some}
-use Rattle.ptk_words.specs.declared.threads.Thread.{Thread}
+use Rattle.std.proofs.Common.{◌≡◌, ◌∙◌, ap, arith, Some}
 use Rattle.ptk_words_model.specs.Priority.{thread_at}
 use Rattle.ptk_threads.specs.Table.{thread_in}
 use Rattle.ptk_gate_pools.specs.Kept.{Kept, part_at}

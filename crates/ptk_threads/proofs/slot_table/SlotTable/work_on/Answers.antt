@@ -1,4 +1,4 @@
-use Rattle.std.proofs.Common.{◌≡◌, List, subst}
+use Rattle.std.proofs.Common.{List, subst}
 use Rattle.std.specs.Prelude.{Option, IfSome}
 use Rattle.ptk_words.specs.Pools.{pool_get, pool_changed}
 use Rattle.ptk_words.specs.declared.threads.Thread.{Thread}
@@ -12,8 +12,7 @@ invariant_of-self g c =
 
 pub returns : goal.returns
 returns g c =
-    let made = c.work_in.ensures.threads.0 in
-    (
+    let made = c.work_in.ensures.threads.0 in (
       made,
       changed_view c.self.inside.slots c.self.inside.ends c.args.p c.args.self.now c.lend.result.now c.work_in.new.slots (pool_changed c.args.k (replaced_by made)) c.self.view_is c.requires.partition c.lend.ensures.value c.work_in.ensures.links c.work_in.ensures.threads.1,
       subst (λ (pool : List (Option Thread)). IfSome (pool_get pool c.args.k) (λ thread. g.W.Work.has_run c.args.work.now thread c.work_in.result c.work_in.new.work made)) (threads_here c.self.inside.slots c.self.inside.ends c.args.p c.args.self.now c.lend.result.now c.self.view_is c.lend.ensures.value) c.work_in.ensures.threads.2,
