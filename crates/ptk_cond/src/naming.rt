@@ -7,6 +7,7 @@ ghost use Rattle.ptk_words_parted.specs.Parts.{part_of};
 ghost use Rattle.ptk_words_model.specs.State.{locks_of};
 ghost use Rattle.ptk_words_model.specs.Mutex.{wait_of};
 ghost use Rattle.ptk_words_model.specs.Condition.{mutex_named, is_named, names_mutex, names_another};
+ghost use Rattle.ptk_threads_slots.specs.Links.{threads_of};
 ghost use Rattle.ptk_cond.specs.Tables.{conditions_of, syncs_of};
 
 use crate::conditions::Conditions;
@@ -34,21 +35,21 @@ impl Conditions {
 
 /// Whether one of these threads names the mutex.
 fn is_any_naming(threads: &[Slot], m: MutexNo) -> bool
-    ensures { result ≡ list_any (λ thread. is_named m (mutex_named (wait_of thread))) threads.now }
+    ensures { result ≡ list_any (λ thread. is_named m (mutex_named (wait_of thread))) (threads_of threads.now) }
 {
     threads.iter().any(|slot| is_naming(slot, m))
 }
 
 /// Whether one of these waiters names another mutex.
 fn is_any_naming_another(threads: &[Slot], waiters: &[ThreadNo], m: MutexNo) -> bool
-    ensures { result ≡ list_any (λ t. not (is_named m (mutex_named (wait_of (pool_get threads.now t))))) waiters.now }
+    ensures { result ≡ list_any (λ t. not (is_named m (mutex_named (wait_of (pool_get (threads_of threads.now) t))))) waiters.now }
 {
     waiters.iter().any(|t| !is_naming_at(threads, *t, m))
 }
 
 /// Whether the thread of a number names the mutex.
 fn is_naming_at(threads: &[Slot], t: ThreadNo, m: MutexNo) -> bool
-    ensures { result ≡ is_named m (mutex_named (wait_of (pool_get threads.now t))) }
+    ensures { result ≡ is_named m (mutex_named (wait_of (pool_get (threads_of threads.now) t))) }
 {
     match thread_slot(threads, t) {
         Some(slot) => is_naming(slot, m),
@@ -59,7 +60,7 @@ fn is_naming_at(threads: &[Slot], t: ThreadNo, m: MutexNo) -> bool
 /// Whether the thread of a slot names the mutex.
 #[tactic(auto, using(crate::proofs::Slots::waits))]
 fn is_naming(slot: &Slot, m: MutexNo) -> bool
-    ensures { result ≡ is_named m (mutex_named (wait_of slot.now)) }
+    ensures { result ≡ is_named m (mutex_named (wait_of slot.now.thread)) }
 {
     is_named(m, mutex_named(slot.wait()))
 }

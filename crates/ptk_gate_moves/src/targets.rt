@@ -6,6 +6,7 @@ ghost use Rattle.ptk_words.specs.Pools.{pool_get};
 ghost use Rattle.ptk_words_model.specs.Decision.{runner_at};
 ghost use Rattle.ptk_words.specs.Threads.{is_ended, is_taken};
 ghost use Rattle.ptk_words_model.specs.Priority.{thread_at};
+ghost use Rattle.ptk_threads_slots.specs.Links.{threads_of};
 ghost use Rattle.ptk_gate_pools.specs.Kept.{part_at};
 
 use ptk_gate_pools::Pools;
@@ -23,10 +24,10 @@ pub fn target(pools: &Pools, p: PartId, word: u32) -> Option<Runner>
 }
 
 /// The thread of a word among the slots, which are at most 32.
-#[tactic(auto, using(ptk_threads::proofs::Slots::numbers))]
+#[tactic(auto, using(ptk_threads::proofs::Slots::reads))]
 fn named(slots: &[Slot], word: u32) -> Option<Runner>
     requires few { length slots.now ≤ 32 }
-    ensures { result ≡ runner_at word (pool_get slots.now word) }
+    ensures { result ≡ runner_at word (pool_get (threads_of slots.now) word) }
 {
     if word == 0 {
         return None;
@@ -55,10 +56,10 @@ pub fn named_thread(pools: &Pools, p: PartId, word: u32) -> Option<&Thread>
 }
 
 /// The thread of a word among the slots, which are at most 32, where it lies.
-#[tactic(auto, using(ptk_threads::proofs::Slots::numbers))]
+#[tactic(auto, using(ptk_threads::proofs::Slots::reads))]
 fn thread_named(slots: &[Slot], word: u32) -> Option<&Thread>
     requires few { length slots.now ≤ 32 }
-    ensures thread { option_copied result ≡ pool_get slots.now word }
+    ensures thread { option_copied result ≡ pool_get (threads_of slots.now) word }
     ensures number { IfSome result (λ _. (0 < word) × (word ≤ 32)) }
 {
     if word == 0 {

@@ -1,6 +1,7 @@
 //! The threads of each partition, their line, and the running one.
 
 ghost use Rattle.std.specs.Prelude.{◌≡◌, ◌≤◌, [], length, map, replicate, IfOk, All, None};
+ghost use Rattle.ptk_threads.specs.Queues.{no_queues};
 ghost use Rattle.ptk_gate_parts.specs.Sections.{per_section};
 
 use crate::counts::counts_of;
@@ -16,7 +17,7 @@ pub type Schedules = (Threads, VecLine, Vec<Option<ThreadNo>>);
 pub fn schedules_of(alloc: Global, limits: &[Limits]) -> Result<Schedules, AllocError>
     requires sections { length limits.now ≤ 8 }
     requires threads { All (λ count. count ≤ 32) (map (λ l. l.threads) limits.now) }
-    ensures table { IfOk result (λ made. made.0 ≡ record { threads = per_section (λ l. l.threads) None limits.now; stored = per_section (λ l. l.threads) 0 limits.now }) }
+    ensures table { IfOk result (λ made. made.0 ≡ record { threads = per_section (λ l. l.threads) None limits.now; stored = per_section (λ l. l.threads) 0 limits.now; queues = map no_queues (map (λ l. l.threads) limits.now) }) }
     ensures line { IfOk result (λ made. made.1 ≡ replicate (length limits.now) []) }
     ensures running { IfOk result (λ made. made.2.items ≡ replicate (length limits.now) None) }
 {
@@ -31,7 +32,7 @@ pub fn schedules_of(alloc: Global, limits: &[Limits]) -> Result<Schedules, Alloc
 fn threads_of(alloc: Global, limits: &[Limits]) -> Result<Threads, AllocError>
     requires sections { length limits.now ≤ 8 }
     requires threads { All (λ count. count ≤ 32) (map (λ l. l.threads) limits.now) }
-    ensures { IfOk result (λ table. table ≡ record { threads = per_section (λ l. l.threads) None limits.now; stored = per_section (λ l. l.threads) 0 limits.now }) }
+    ensures { IfOk result (λ table. table ≡ record { threads = per_section (λ l. l.threads) None limits.now; stored = per_section (λ l. l.threads) 0 limits.now; queues = map no_queues (map (λ l. l.threads) limits.now) }) }
 {
     let counts = counts_of(alloc, limits)?;
     Ok(Threads::build(alloc, &counts)?)

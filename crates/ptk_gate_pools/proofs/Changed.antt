@@ -11,6 +11,7 @@ use Rattle.ptk_words_locks.specs.Deadlines.{without_deadlines}
 use Rattle.ptk_words_locks.proofs.Deadlines.{deadline_at}
 use Rattle.ptk_words_parted.specs.Parts.{part_of}
 use Rattle.ptk_threads.specs.Table.{ThreadTable, thread_in, with_changed, with_slot, with_left}
+use Rattle.ptk_ready.specs.Queues.{AreUnused}
 use Rattle.ptk_mutex_slots.specs.Sets.{IsSetOf}
 use Rattle.ptk_mutex.specs.Tables.{with_threads}
 use Rattle.ptk_gate_pools.specs.declared.pools.Pools.TheInside.{Inside}
@@ -60,6 +61,7 @@ tables_pooled p syncs a table lines mutexes conditions deadlines within set_so l
       lasts = old.lasts;
       stored = stored_moved p (length a.limits.items) syncs.locks a.threads table a.mutexes mutexes set_so.of_threads set_so.of_mutexes within old.threads old.priorities old.mutexes old.stored;
       timed = timed;
+      idle = subst AreUnused (sym (ap (λ (t : ThreadTable). t.queues) set_so.of_threads)) old.idle;
     }
 
 -- and the model's
@@ -80,8 +82,8 @@ ended_long p set_bits ts deadlines after woken f = ap length (f ts woken) ∙ le
 
 -- pools with other threads and deadlines are pools again
 pub threads_pooled : (a : Inside) (table : ThreadTable) (deadlines : List (List (Option ℕ))) → length table.threads ≡ length a.threads.threads → length table.stored ≡ length a.threads.stored → length deadlines ≡ length a.deadlines
-    → AreStored table.stored table.threads a.mutexes → AreTimed deadlines table.threads → ArePooled a → ArePooled (record a { threads = table; deadlines = deadlines })
-threads_pooled a table deadlines threads priorities long stored timed old = record {
+    → table.queues ≡ a.threads.queues → AreStored table.stored table.threads a.mutexes → AreTimed deadlines table.threads → ArePooled a → ArePooled (record a { threads = table; deadlines = deadlines })
+threads_pooled a table deadlines threads priorities long queues stored timed old = record {
   few = old.few;
   memory = old.memory;
   threads = threads ∙ old.threads;
@@ -102,6 +104,7 @@ threads_pooled a table deadlines threads priorities long stored timed old = reco
   lasts = old.lasts;
   stored = stored;
   timed = timed;
+  idle = subst AreUnused (sym queues) old.idle;
 }
 
 -- the priorities of a partition are made again (own)
@@ -112,6 +115,10 @@ Again p a mid = record mid { stored = set mid.stored p (effective_priorities (pa
 abbrev Follows : ℕ → ℕ → Inside → ThreadTable → List (List (Option ℕ))
 Follows p k a mid = set a.deadlines p (pool_set (part_of a.deadlines p) k (deadline_at (thread_in mid p k)))
 
+-- neither step changes a queue
+same_queues : (p : ℕ) (a : Inside) (mid new table : ThreadTable) → new ≡ Again p a mid → mid ≡ table → new.queues ≡ table.queues
+same_queues p a mid new table again e = ap (λ (t : ThreadTable). t.queues) again ∙ ap (λ (t : ThreadTable). t.queues) e
+
 -- a thread has left what f leaves
 pub left_pooled : (p k : ℕ) (f : Thread → Option Thread) (a : Inside) (mid new : ThreadTable) (after : List (List (Option ℕ))) → p < length a.limits.items → mid ≡ with_left p k f a.threads → new ≡ Again p a mid → after ≡ Follows p k a mid → ArePooled a
     → ArePooled (record a { threads = new; deadlines = after })
@@ -119,7 +126,7 @@ left_pooled p k f a mid new after lt e again g old =
     let within : p < length a.threads.stored = omega (arith, lt, old.priorities) in
     let rest : Option Thread = option_and_then f (thread_in a.threads p k) in
     threads_pooled a new after (ap (λ (t : ThreadTable). length t.threads) again ∙ ap (λ (t : ThreadTable). length t.threads) e ∙ length-set a.threads.threads p _)
-    (ap (λ (t : ThreadTable). length t.stored) again ∙ length-set mid.stored p _ ∙ ap (λ (t : ThreadTable). length t.stored) e ∙ left_long p k rest a.threads.stored) (ap length g ∙ length-set a.deadlines p _)
+    (ap (λ (t : ThreadTable). length t.stored) again ∙ length-set mid.stored p _ ∙ ap (λ (t : ThreadTable). length t.stored) e ∙ left_long p k rest a.threads.stored) (ap length g ∙ length-set a.deadlines p _) (same_queues p a mid new _ again e)
     (refreshed_left p k f a.threads mid new a.mutexes e again within old.stored)
     (timed_left p k f a.threads mid new (set mid.stored p (effective_priorities (part_of mid.threads p) (part_of a.mutexes p))) a.deadlines after e again g old.timed) old
 
@@ -129,7 +136,7 @@ pub slot_pooled : (p k priority : ℕ) (slot : Option Thread) (a : Inside) (mid 
 slot_pooled p k priority slot a mid new after lt e again g old =
     let within : p < length a.threads.stored = omega (arith, lt, old.priorities) in
     threads_pooled a new after (ap (λ (t : ThreadTable). length t.threads) again ∙ ap (λ (t : ThreadTable). length t.threads) e ∙ length-set a.threads.threads p _)
-    (ap (λ (t : ThreadTable). length t.stored) again ∙ length-set mid.stored p _ ∙ ap (λ (t : ThreadTable). length t.stored) e ∙ length-set a.threads.stored p _) (ap length g ∙ length-set a.deadlines p _)
+    (ap (λ (t : ThreadTable). length t.stored) again ∙ length-set mid.stored p _ ∙ ap (λ (t : ThreadTable). length t.stored) e ∙ length-set a.threads.stored p _) (ap length g ∙ length-set a.deadlines p _) (same_queues p a mid new _ again e)
     (refreshed_slot p k priority slot a.threads mid new a.mutexes e again within old.stored)
     (timed_slot p k priority slot a.threads mid new (set mid.stored p (effective_priorities (part_of mid.threads p) (part_of a.mutexes p))) a.deadlines after e again g old.timed) old
 
@@ -139,6 +146,6 @@ pub wait_pooled : (p k : ℕ) (f : Thread → Thread) (a : Inside) (mid new : Th
 wait_pooled p k f a mid new after lt e again g old =
     let within : p < length a.threads.stored = omega (arith, lt, old.priorities) in
     threads_pooled a new after (ap (λ (t : ThreadTable). length t.threads) again ∙ ap (λ (t : ThreadTable). length t.threads) e ∙ length-set a.threads.threads p _)
-    (ap (λ (t : ThreadTable). length t.stored) again ∙ length-set mid.stored p _ ∙ ap (λ (t : ThreadTable). length t.stored) e) (ap length g ∙ length-set a.deadlines p _)
+    (ap (λ (t : ThreadTable). length t.stored) again ∙ length-set mid.stored p _ ∙ ap (λ (t : ThreadTable). length t.stored) e) (ap length g ∙ length-set a.deadlines p _) (same_queues p a mid new _ again e)
     (refreshed_changed p k f a.threads mid new a.mutexes e again within old.stored)
     (timed_wait_again p k f a.threads mid new (set mid.stored p (effective_priorities (part_of mid.threads p) (part_of a.mutexes p))) a.deadlines after e again g old.timed) old

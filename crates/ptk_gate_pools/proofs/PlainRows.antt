@@ -1,10 +1,9 @@
--- Plain steps of a thread in a row: the slot that they change, what the loans leave of the pools, and that stored priorities stay the effective ones.
-use Rattle.std.proofs.Common.{arith, ◌≡◌, ℕ, zero, suc, ◌-◌, ◌<◌, List, [], ◌∷◌, length, get_or, refl, sym, ◌∙◌, ap, subst}
-use Rattle.std.specs.Prelude.{Option, Some, None, IsSome, slice_get, slice_set, slice_index_or}
-use Rattle.std.specs.Option.{option_flatten, option_or}
+-- Plain steps of a thread in a row: what they leave of the pools, and that stored priorities stay the effective ones.
+use Rattle.std.proofs.Common.{arith, ◌≡◌, ℕ, zero, suc, ◌-◌, ◌<◌, List, length, get_or, refl, sym, ◌∙◌, ap, subst}
+use Rattle.std.specs.Prelude.{Option, Some, None, IsSome, slice_set, slice_index_or}
+use Rattle.std.specs.Option.{option_or}
 use Rattle.std.specs.Vec.{with_item}
 use Rattle.std.proofs.lemmas.List.{length-set, set-get_or, get_or_default}
-use Rattle.ptk_words.specs.Pools.{pool_get, pool_changed}
 use Rattle.ptk_words.specs.Processor.{Processor}
 use Rattle.ptk_words.specs.declared.sections.Entry.{Entry}
 use Rattle.ptk_words.specs.declared.threads.Thread.{Thread}
@@ -13,8 +12,8 @@ use Rattle.ptk_words_parted.specs.Cuts.{lent}
 use Rattle.ptk_words_parted.proofs.Cuts.{lent-same}
 use Rattle.ptk_words_instructions.specs.PlainSteps.{Core, core, plain_steps}
 use Rattle.ptk_words_quiet.specs.Quiet.{computed, last_after, after_row}
-use Rattle.ptk_threads.specs.Table.{with_changed}
-use Rattle.ptk_threads.proofs.Slots.{length-pool_changed}
+use Rattle.ptk_threads.specs.Table.{ThreadTable, with_changed}
+use Rattle.ptk_ready.specs.Queues.{AreUnused}
 use Rattle.ptk_trace.specs.TracedRows.{last_entry}
 use Rattle.ptk_gate_pools.specs.Kept.{Kept, part_at, put_part}
 use Rattle.ptk_gate_pools.specs.Pooled.{kept_of, ArePooled}
@@ -29,28 +28,6 @@ pub in_use : {A : Type 0} (x : Option A) → IsSome x → (a : A) × (x ≡ Some
 in_use None e = absurd (cc e)
 in_use (Some a) e = (a, refl)
 
--- the place of a number in use is within the list
-place_below : {A : Type 0} (entries : List (Option A)) (i : ℕ) → IsSome (option_flatten (slice_get entries i)) → i < length entries
-place_below [] i e = absurd (cc e)
-place_below (x ∷ entries) zero e = omega arith
-place_below (x ∷ entries) (suc i) e = let lt : i < length entries = place_below entries i e in omega arith
-
-entry_at : {A : Type 0} (entries : List (Option A)) (i : ℕ) (x : Option A) → i < length entries → x ≡ get_or entries i x → option_flatten (slice_get entries i) ≡ x
-entry_at [] i x lt e = absurd (omega arith)
-entry_at (y ∷ entries) zero x lt e = sym e
-entry_at (y ∷ entries) (suc i) x lt e = entry_at entries i x (omega arith) e
-
--- what was found at the place is the number's
-pub entry_is : {A : Type 0} (entries : List (Option A)) (k i : ℕ) (x : Option A) → 0 < k → i ≡ k - 1 → IsSome (pool_get entries k) → x ≡ get_or entries i x → pool_get entries k ≡ x
-entry_is entries zero i x h place used e = absurd (omega arith)
-entry_is entries (suc j) i x h place used e =
-    let same : i ≡ j = omega arith in
-    entry_at entries j x (place_below entries j used) (rw same at e)
-
--- one thread is found
-pub some_same : {A : Type 0} (x : Option A) (a b : A) → x ≡ Some a → x ≡ Some b → a ≡ b
-some_same x a b e f = cc
-
 -- ---- the tables after a row
 
 -- the last step of a row, or else the one before it
@@ -58,22 +35,22 @@ pub last_noted : (tick t n : ℕ) (c : Core) (last : Option Entry) → option_or
 last_noted tick t zero c last = refl
 last_noted tick t (suc n) c last = refl
 
--- what a row left of one partition's memory, slots and last step
-pub record IsRow (p t tick n : ℕ) (thread : Thread) (a : Inside) (memory : List ℕ) (slots : List (Option Thread)) (last : Option Entry) : Type 0 where
+-- what a row left of one partition's memory, of the slot table, and of the last step
+pub record IsRow (p t tick n : ℕ) (thread : Thread) (a : Inside) (memory : List ℕ) (table : ThreadTable) (last : Option Entry) : Type 0 where
   pub within : p < length a.limits.items
   pub pooled : ArePooled a
   pub of_memory : memory ≡ (plain_steps n (core thread.cpu (part_of a.regions p))).memory
   pub as_long : length memory ≡ length (part_of a.regions p)
-  pub of_slots : slots ≡ pool_changed t (computed n (plain_steps n (core thread.cpu (part_of a.regions p))).cpu) (part_of a.threads.threads p)
+  pub of_table : table ≡ with_changed p t (computed n (plain_steps n (core thread.cpu (part_of a.regions p))).cpu) a.threads
   pub of_last : last ≡ last_after tick t n (core thread.cpu (part_of a.regions p)) (slice_index_or a.lasts.items p None)
 
 -- what was lent, and what was told of it, make a row
-pub row_is : (p i t tick n : ℕ) (thread : Thread) (a : Inside) (kept : Kept) (lent_memory memory : List ℕ) (lent_slots slots : List (Option Thread)) (old last : Option Entry) → kept_of a ≡ kept → ArePooled a → p < length kept.limits
+pub row_is : (p i t tick n : ℕ) (thread : Thread) (a : Inside) (kept : Kept) (lent_memory memory : List ℕ) (table : ThreadTable) (old last : Option Entry) → kept_of a ≡ kept → ArePooled a → p < length kept.limits
     → lent_memory ≡ part_of a.regions p → length memory ≡ length lent_memory → memory ≡ (plain_steps n (core thread.cpu lent_memory)).memory
-    → lent_slots ≡ part_of a.threads.threads p → slots ≡ pool_changed t (computed n (plain_steps n (core thread.cpu lent_memory)).cpu) lent_slots
+    → table ≡ with_changed p t (computed n (plain_steps n (core thread.cpu lent_memory)).cpu) a.threads
     → last ≡ option_or (last_entry tick t n (core thread.cpu lent_memory)) old → i ≡ p → old ≡ get_or a.lasts.items i old
-    → IsRow p t tick n thread a memory slots last
-row_is p i t tick n thread a kept lent_memory memory lent_slots slots old last view pooled lt bytes long moved threads changed told place before =
+    → IsRow p t tick n thread a memory table last
+row_is p i t tick n thread a kept lent_memory memory table old last view pooled lt bytes long moved changed told place before =
     let within : p < length a.limits.items = subst (λ (k : Kept). p < length k.limits) (sym view) lt in
     let in_lasts : p < length a.lasts.items = omega (arith, within, pooled.lasts) in
     let older : old ≡ slice_index_or a.lasts.items p None = before ∙ ap (λ (j : ℕ). get_or a.lasts.items j old) place ∙ get_or_default a.lasts.items p old None in_lasts in
@@ -82,47 +59,35 @@ row_is p i t tick n thread a kept lent_memory memory lent_slots slots old last v
       pooled = pooled;
       of_memory = moved ∙ ap (λ (m : List ℕ). (plain_steps n (core thread.cpu m)).memory) bytes;
       as_long = long ∙ ap length bytes;
-      of_slots = changed ∙ ap (λ (m : List ℕ). pool_changed t (computed n (plain_steps n (core thread.cpu m)).cpu) lent_slots) bytes
-          ∙ ap (pool_changed t (computed n (plain_steps n (core thread.cpu (part_of a.regions p))).cpu)) threads;
+      of_table = changed ∙ ap (λ (m : List ℕ). with_changed p t (computed n (plain_steps n (core thread.cpu m)).cpu) a.threads) bytes;
       of_last = told ∙ ap (λ (m : List ℕ). option_or (last_entry tick t n (core thread.cpu m)) old) bytes
           ∙ last_noted tick t n (core thread.cpu (part_of a.regions p)) old ∙ ap (last_after tick t n (core thread.cpu (part_of a.regions p))) older;
     }
 
--- the pools with these in place of what was lent
-abbrev pub with_loans : ℕ → ℕ → Inside → List ℕ → List (Option Thread) → Option Entry → Inside
-with_loans p i a memory slots last =
+-- the pools with these in place of what was lent, and of the slot table
+abbrev pub with_loans : ℕ → ℕ → Inside → List ℕ → ThreadTable → Option Entry → Inside
+with_loans p i a memory table last =
     record a {
       regions = lent a.regions p memory;
-      threads = record (a.threads) { threads = lent a.threads.threads p slots };
+      threads = table;
       lasts = with_item a.lasts i last;
     }
 
-memory_put : (p t tick n : ℕ) (thread : Thread) (a : Inside) (memory : List ℕ) (slots : List (Option Thread)) (last : Option Entry) → IsRow p t tick n thread a memory slots last → lent a.regions p memory ≡ slice_set a.regions p memory
-memory_put p t tick n thread a memory slots last row =
+memory_put : (p t tick n : ℕ) (thread : Thread) (a : Inside) (memory : List ℕ) (table : ThreadTable) (last : Option Entry) → IsRow p t tick n thread a memory table last → lent a.regions p memory ≡ slice_set a.regions p memory
+memory_put p t tick n thread a memory table last row =
     let lt : p < length a.regions = omega (arith, row.within, row.pooled.memory) in
     lent-same a.regions p memory lt row.as_long
 
-slots_put : (p t tick n : ℕ) (thread : Thread) (a : Inside) (memory : List ℕ) (slots : List (Option Thread)) (last : Option Entry) → IsRow p t tick n thread a memory slots last → lent a.threads.threads p slots ≡ slice_set a.threads.threads p slots
-slots_put p t tick n thread a memory slots last row =
-    let lt : p < length a.threads.threads = omega (arith, row.within, row.pooled.threads) in
-    let cpu : Processor = (plain_steps n (core thread.cpu (part_of a.regions p))).cpu in
-    lent-same a.threads.threads p slots lt (ap length row.of_slots ∙ length-pool_changed t (computed n cpu) (part_of a.threads.threads p))
-
-table_put : (p t tick n : ℕ) (thread : Thread) (a : Inside) (memory : List ℕ) (slots : List (Option Thread)) (last : Option Entry) → IsRow p t tick n thread a memory slots last
-    → record (a.threads) { threads = lent a.threads.threads p slots } ≡ with_changed p t (computed n (plain_steps n (core thread.cpu (part_of a.regions p))).cpu) a.threads
-table_put p t tick n thread a memory slots last row =
-    ap (λ (threads : List (List (Option Thread))). record (a.threads) { threads = threads }) (slots_put p t tick n thread a memory slots last row ∙ ap (slice_set a.threads.threads p) row.of_slots)
-
 -- a row leaves pools: plain steps change no effective priority
-pub row_pooled : (p i t tick n : ℕ) (thread : Thread) (a : Inside) (memory : List ℕ) (slots : List (Option Thread)) (last : Option Entry) → IsRow p t tick n thread a memory slots last → ArePooled (with_loans p i a memory slots last)
-row_pooled p i t tick n thread a memory slots last row =
+pub row_pooled : (p i t tick n : ℕ) (thread : Thread) (a : Inside) (memory : List ℕ) (table : ThreadTable) (last : Option Entry) → IsRow p t tick n thread a memory table last → ArePooled (with_loans p i a memory table last)
+row_pooled p i t tick n thread a memory table last row =
     let old = row.pooled in
     let cpu : Processor = (plain_steps n (core thread.cpu (part_of a.regions p))).cpu in
     record {
       few = old.few;
-      memory = ap length (memory_put p t tick n thread a memory slots last row) ∙ length-set a.regions p memory ∙ old.memory;
-      threads = ap length (slots_put p t tick n thread a memory slots last row) ∙ length-set a.threads.threads p slots ∙ old.threads;
-      priorities = old.priorities;
+      memory = ap length (memory_put p t tick n thread a memory table last row) ∙ length-set a.regions p memory ∙ old.memory;
+      threads = ap (λ (z : ThreadTable). length z.threads) row.of_table ∙ length-set a.threads.threads p _ ∙ old.threads;
+      priorities = ap (λ (z : ThreadTable). length z.stored) row.of_table ∙ old.priorities;
       lines = old.lines;
       mutexes = old.mutexes;
       conditions = old.conditions;
@@ -137,13 +102,12 @@ row_pooled p i t tick n thread a memory slots last row =
       sections = old.sections;
       statuses = old.statuses;
       lasts = length-set a.lasts.items i last ∙ old.lasts;
-      stored = stored_changed p t (computed n cpu) a.threads (record (a.threads) { threads = lent a.threads.threads p slots }) a.mutexes (table_put p t tick n thread a memory slots last row) (λ thread. refl) (λ thread. refl) old.stored;
-      timed = timed_changed p t (computed n cpu) a.threads (record (a.threads) { threads = lent a.threads.threads p slots }) a.deadlines (table_put p t tick n thread a memory slots last row) (λ thread. refl) old.timed;
+      stored = stored_changed p t (computed n cpu) a.threads table a.mutexes row.of_table (λ thread. refl) (λ thread. refl) old.stored;
+      timed = timed_changed p t (computed n cpu) a.threads table a.deadlines row.of_table (λ thread. refl) old.timed;
+      idle = subst AreUnused (sym (ap (λ (z : ThreadTable). z.queues) row.of_table)) old.idle;
     }
 
 -- a row is the model's
-pub row_put : (p i t tick n : ℕ) (thread : Thread) (a : Inside) (memory : List ℕ) (slots : List (Option Thread)) (last : Option Entry) → i ≡ p → IsRow p t tick n thread a memory slots last
-    → kept_of (with_loans p i a memory slots last) ≡ put_part p (after_row tick t n thread (part_at p (kept_of a))) (kept_of a)
-row_put p i t tick n thread a memory slots last e row =
-    rw (e, memory_put p t tick n thread a memory slots last row, slots_put p t tick n thread a memory slots last row, row.of_slots, row.of_memory, row.of_last)
-    (simp set-get_or)
+pub row_put : (p i t tick n : ℕ) (thread : Thread) (a : Inside) (memory : List ℕ) (table : ThreadTable) (last : Option Entry) → i ≡ p → IsRow p t tick n thread a memory table last
+    → kept_of (with_loans p i a memory table last) ≡ put_part p (after_row tick t n thread (part_at p (kept_of a))) (kept_of a)
+row_put p i t tick n thread a memory table last e row = rw (e, memory_put p t tick n thread a memory table last row, row.of_table, row.of_memory, row.of_last) (simp set-get_or)

@@ -3,3 +3,4 @@ pub mod Pooled
 pub mod Moves
 pub mod Expired
 pub mod Blank
+pub mod Rows

@@ -1,5 +1,6 @@
 -- What the pools have inside, as the tables of all partitions, and what holds of it.
 use Rattle.std.specs.Prelude.{◌≡◌, ◌≤◌, length}
+use Rattle.ptk_ready.specs.Queues.{AreUnused}
 use Rattle.ptk_mutex.specs.Tables.{mutexes_of}
 use Rattle.ptk_cond.specs.Tables.{conditions_of}
 use Rattle.ptk_gate_pools.specs.declared.pools.Pools.TheInside.{Inside}
@@ -26,7 +27,7 @@ kept_of a =
       limits = a.limits.items;
     }
 
--- every pool has an entry for each of at most 8 partitions, the consoles have the sections' numbers, the stored priorities are the effective ones, and the kept deadlines are those of the threads' waits
+-- every pool has an entry for each of at most 8 partitions, the consoles have the sections' numbers, the stored priorities are the effective ones, the kept deadlines are those of the threads' waits, and no ready thread lies in a queue of the slot table, since the line has lists of its own
 pub record ArePooled (a : Inside) : Type 0 where
   pub few : length a.limits.items ≤ 8
   pub memory : length a.regions ≡ length a.limits.items
@@ -48,3 +49,4 @@ pub record ArePooled (a : Inside) : Type 0 where
   pub lasts : length a.lasts.items ≡ length a.limits.items
   pub stored : AreStored a.threads.stored a.threads.threads (mutexes_of a.mutexes a.threads)
   pub timed : AreTimed a.deadlines a.threads.threads
+  pub idle : AreUnused a.threads.queues

@@ -5,6 +5,7 @@ ghost use Rattle.ptk_words.specs.declared.faults.Status.TheVariants.{Active};
 ghost use Rattle.ptk_cancel.specs.KeptCancellations.{fresh_cancellations};
 ghost use Rattle.ptk_keys.specs.KeptKeys.{fresh_keys};
 ghost use Rattle.ptk_console.specs.ConsoleTable.{fresh_console};
+ghost use Rattle.ptk_threads.specs.Queues.{no_queues};
 ghost use Rattle.ptk_gate_pools.specs.Blank.{blank};
 ghost use Rattle.ptk_gate_pools.specs.Kept.{per_section};
 
@@ -56,7 +57,7 @@ fn joined(
     requires inputs { length inputs.now ≡ length limits.now }
     requires memory { stores.0 ≡ per_section (λ l. l.memory) 0 limits.now }
     requires consoles { stores.1 ≡ record { limits = limits.now; consoles = map (λ input. fresh_console input.now) inputs.now } }
-    requires table { schedules.0 ≡ record { threads = per_section (λ l. l.threads) None limits.now; stored = per_section (λ l. l.threads) 0 limits.now } }
+    requires table { schedules.0 ≡ record { threads = per_section (λ l. l.threads) None limits.now; stored = per_section (λ l. l.threads) 0 limits.now; queues = map no_queues (map (λ l. l.threads) limits.now) } }
     requires line { schedules.1 ≡ replicate (length limits.now) [] }
     requires running { schedules.2.items ≡ replicate (length limits.now) None }
     requires mutexes { waits.0 ≡ per_section (λ l. l.mutexes) None limits.now }

@@ -10,10 +10,11 @@
 //! without a search. Plain steps in a row (`run_row`) are one move too, made on the thread's registers in the slot
 //! table and on the lent memory. Its clauses speak of the thread of the number: `plain` and `ended` say which steps
 //! they are, `moved` what they leave of the part (registers, memory, used ticks, last step), `traced` what the trace
-//! has; in `proofs/PlainRows` the two loans become that move. Below stand the pools of each kind (threads, line,
-//! mutexes, condition variables, deadlines, cancellation, keys, memory, consoles), `ptk_gate_parts`, which makes them,
-//! `ptk_gate_waits`, in which a deadline comes, the instructions and their rows; above, `ptk_gate_moves` with the moves
-//! composed of several. Dear to prove are `build` and the choices by stored priorities.
+//! has; in `proofs/PlainRows` the loan of the memory and the work on the thread become that move. Below stand the pools
+//! of each kind (threads, line, mutexes, condition variables, deadlines, cancellation, keys, memory, consoles),
+//! `ptk_gate_parts`, which makes them, `ptk_gate_waits`, in which a deadline comes, the instructions and their rows;
+//! above, `ptk_gate_moves` with the moves composed of several. Dear to prove are `build` and the choices by stored
+//! priorities.
 #![tactic(auto)]
 
 mod arrivals;

@@ -1,17 +1,17 @@
 //! Plain steps of a thread in a row, on its registers where they lie in the slot table.
 
-ghost use Rattle.std.specs.Prelude.{◌≡◌, ℕ, true, false, ◌+◌, ◌^◌, ◌<◌, ◌≤◌, length, Option, Some, IsSome};
+ghost use Rattle.std.specs.Prelude.{◌≡◌, false, ◌+◌, ◌^◌, ◌<◌, ◌≤◌, length, Option, Some, IsSome};
 ghost use Rattle.std.specs.Option.{option_or};
-ghost use Rattle.ptk_words.specs.Pools.{pool_get, pool_changed};
 ghost use Rattle.ptk_words.specs.declared.threads.Thread.{Thread};
-ghost use Rattle.ptk_words_instructions.specs.PlainSteps.{Core, core, is_plain, plain_steps};
+ghost use Rattle.ptk_words_instructions.specs.PlainSteps.{core, is_plain, plain_steps};
 ghost use Rattle.ptk_words_model.specs.Priority.{thread_at};
+ghost use Rattle.ptk_threads.specs.Table.{thread_in, with_changed};
 ghost use Rattle.ptk_words_quiet.specs.Quiet.{ArePlain, core_of, computed, after_row};
 ghost use Rattle.ptk_trace.specs.TracedRows.{last_entry, traced};
 ghost use Rattle.ptk_gate_pools.specs.Kept.{part_at, put_part};
 
 use crate::pools::Pools;
-use ptk_threads::Slot;
+use ptk_threads::{Threads, Work};
 use ptk_trace::Trace;
 use ptk_words::{Entry, PartId, Policy, Thread, ThreadNo, Tick};
 
@@ -38,68 +38,84 @@ impl Pools {
         ensures ended { (thread : Thread) → thread_at (part_at p self.old).locks t ≡ Some thread → result < most → is_plain (plain_steps result (core_of thread (part_at p self.old))) ≡ false }
     {
         run_at(
-            self.threads.lend(p),
+            &mut self.threads,
             self.regions.lend(p),
+            p,
             t,
             tick,
             most,
             trace,
-            &mut self.lasts[p.index()],
+                &mut self.lasts[p.index()],
         )
     }
 }
 
 /// A row of the thread of a number on its registers and this memory.
 #[inline(always)]
+#[tactic(auto, using(ptk_mutex::proofs::Moved::wakes))]
 fn run_at(
-    slots: &mut [Slot],
+    threads: &mut Threads,
     memory: &mut [u8],
+    p: PartId,
     t: ThreadNo,
     tick: Tick,
     most: u32,
     trace: &mut Trace,
     last: &mut Option<Entry>,
 ) -> u32
+    requires partition { p < length threads.old.threads }
     requires time { tick < 2 ^ 63 }
-    requires in_use { IsSome (pool_get slots.old t) }
-    requires room { (thread : Thread) → pool_get slots.old t ≡ Some thread → thread.used + most < 2 ^ 32 }
+    requires in_use { IsSome (thread_in threads.old p t) }
+    requires room { (thread : Thread) → thread_in threads.old p t ≡ Some thread → thread.used + most < 2 ^ 32 }
     ensures few { result ≤ most }
-    ensures plain { (thread : Thread) → pool_get slots.old t ≡ Some thread → ArePlain result (core thread.cpu memory.old) }
-    ensures slots { (thread : Thread) → pool_get slots.old t ≡ Some thread → slots.new ≡ pool_changed t (computed result (plain_steps result (core thread.cpu memory.old)).cpu) slots.old }
-    ensures memory { (thread : Thread) → pool_get slots.old t ≡ Some thread → memory.new ≡ (plain_steps result (core thread.cpu memory.old)).memory }
-    ensures traced { (thread : Thread) → pool_get slots.old t ≡ Some thread → trace.new ≡ traced tick t result (core thread.cpu memory.old) trace.old }
-    ensures last { (thread : Thread) → pool_get slots.old t ≡ Some thread → last.new ≡ option_or (last_entry tick t result (core thread.cpu memory.old)) last.old }
-    ensures ended { (thread : Thread) → pool_get slots.old t ≡ Some thread → result < most → is_plain (plain_steps result (core thread.cpu memory.old)) ≡ false }
+    ensures plain { (thread : Thread) → thread_in threads.old p t ≡ Some thread → ArePlain result (core thread.cpu memory.old) }
+    ensures threads { (thread : Thread) → thread_in threads.old p t ≡ Some thread → threads.new ≡ with_changed p t (computed result (plain_steps result (core thread.cpu memory.old)).cpu) threads.old }
+    ensures memory { (thread : Thread) → thread_in threads.old p t ≡ Some thread → memory.new ≡ (plain_steps result (core thread.cpu memory.old)).memory }
+    ensures traced { (thread : Thread) → thread_in threads.old p t ≡ Some thread → trace.new ≡ traced tick t result (core thread.cpu memory.old) trace.old }
+    ensures last { (thread : Thread) → thread_in threads.old p t ≡ Some thread → last.new ≡ option_or (last_entry tick t result (core thread.cpu memory.old)) last.old }
+    ensures ended { (thread : Thread) → thread_in threads.old p t ≡ Some thread → result < most → is_plain (plain_steps result (core thread.cpu memory.old)) ≡ false }
 {
-    let slot = &mut slots[t.place()];
-    run_slot(slot, memory, t, tick, most, trace, last)
+    let mut row = Row {
+        t,
+        tick,
+        most,
+        memory,
+        trace,
+        last,
+    };
+    threads.work_on(p, t, &mut row)
 }
 
-/// A row of a slot's thread on its registers and this memory.
-#[inline(always)]
-fn run_slot(
-    slot: &mut Slot,
-    memory: &mut [u8],
+/// Plain steps of a thread in a row, as work on it: whose they are, from when on and at most how many, and what they
+/// write beside its registers.
+#[derive(Drop)]
+struct Row<'a> {
     t: ThreadNo,
     tick: Tick,
     most: u32,
-    trace: &mut Trace,
-    last: &mut Option<Entry>,
-) -> u32
-    requires time { tick < 2 ^ 63 }
-    requires in_use { IsSome slot.old }
-    requires room { (thread : Thread) → slot.old ≡ Some thread → thread.used + most < 2 ^ 32 }
-    ensures few { result ≤ most }
-    ensures plain { (thread : Thread) → slot.old ≡ Some thread → ArePlain result (core thread.cpu memory.old) }
-    ensures slot { (thread : Thread) → slot.old ≡ Some thread → slot.new ≡ Some (computed result (plain_steps result (core thread.cpu memory.old)).cpu thread) }
-    ensures memory { (thread : Thread) → slot.old ≡ Some thread → memory.new ≡ (plain_steps result (core thread.cpu memory.old)).memory }
-    ensures traced { (thread : Thread) → slot.old ≡ Some thread → trace.new ≡ traced tick t result (core thread.cpu memory.old) trace.old }
-    ensures last { (thread : Thread) → slot.old ≡ Some thread → last.new ≡ option_or (last_entry tick t result (core thread.cpu memory.old)) last.old }
-    ensures ended { (thread : Thread) → slot.old ≡ Some thread → result < most → is_plain (plain_steps result (core thread.cpu memory.old)) ≡ false }
-{
-    match &mut slot.thread {
-        Some(thread) => run_thread(thread, memory, t, tick, most, trace, last),
-        None => unreachable!(),
+    memory: &'a mut [u8],
+    trace: &'a mut Trace,
+    last: &'a mut Option<Entry>,
+}
+
+impl Work for Row<'_> {
+    ghost use Rattle.ptk_gate_pools.specs.Rows.{MayRun, HasRun};
+
+    type Answer = u32;
+
+    ghost can_run = { λ row thread. MayRun row thread };
+
+    ghost has_run = { λ row thread steps after made. HasRun row thread steps after made };
+
+    /// Runs the row; told is how many steps.
+    #[inline(always)]
+    fn run(&mut self, thread: &mut Thread) -> u32 {
+        let memory = &mut *self.memory;
+        let trace = &mut *self.trace;
+        let last = &mut *self.last;
+        run_thread(
+            thread, memory, self.t, self.tick, self.most, trace, last,
+        )
     }
 }
 

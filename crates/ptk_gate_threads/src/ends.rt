@@ -8,6 +8,7 @@ ghost use Rattle.ptk_words_model.specs.Unwinding.{is_alive, after_join_by, after
 ghost use Rattle.ptk_words_locks.specs.Locks.{joiner_of};
 ghost use Rattle.ptk_words_well.specs.Well.{IsWell};
 ghost use Rattle.ptk_words.specs.Pools.{is_in};
+ghost use Rattle.ptk_threads_slots.specs.Links.{threads_of};
 ghost use Rattle.ptk_gate_pools.specs.Kept.{part_at, put_part, limits_at};
 ghost use Rattle.ptk_gate_pools.specs.Moves.{stopped};
 
@@ -105,7 +106,7 @@ fn halt_at_last_end(pools: &mut Pools, p: PartId)
 
 /// Whether the slot's thread is in use and has not ended.
 fn is_alive(slot: &Slot) -> bool
-    ensures { result ≡ is_alive slot.now }
+    ensures { result ≡ is_alive slot.now.thread }
 {
     match slot.thread() {
         Some(thread) => !is_ended(thread.phase),
@@ -115,7 +116,7 @@ fn is_alive(slot: &Slot) -> bool
 
 /// Whether a thread of the slots is in use and has not ended.
 fn is_any_alive(slots: &[Slot]) -> bool
-    ensures { result ≡ list_any is_alive slots.now }
+    ensures { result ≡ list_any is_alive (threads_of slots.now) }
 {
     slots.iter().any(|slot| is_alive(slot))
 }

@@ -41,7 +41,7 @@ slept p t deadline table new lines mutexes conditions ready is e =
     let awake : awaited (pool_get row t) ≡ None = awaits_by_wait (pool_get row t) ∙ ap mutex_of_wait is in
     let same : set table.stored p (effective_priorities (pool_changed t (woken_with (0 ∷ [])) row) (part_of mutexes p)) ≡ table.stored =
     ap (set table.stored p) (priorities_woken t (0 ∷ []) row (part_of mutexes p) awake ∙ sym ready.stored) ∙ set-get_or table.stored p [] in
-    e ∙ ap (λ (stored : List (List ℕ)). record { threads = set table.threads p (pool_changed t (woken_with (0 ∷ [])) row); stored = stored }) (sym same)
+    e ∙ ap (λ (stored : List (List ℕ)). record table { threads = set table.threads p (pool_changed t (woken_with (0 ∷ [])) row); stored = stored }) (sym same)
 
 sleep_of : (wait : Option Wait) → is_sleep wait ≡ true → (deadline : ℕ) × (wait ≡ Some (SleepWait deadline))
 sleep_of None e = absurd (false≢true e)

@@ -7,6 +7,7 @@ ghost use Rattle.ptk_words_parted.specs.Parts.{part_of};
 ghost use Rattle.ptk_words_model.specs.Schedule.{woken_with};
 ghost use Rattle.ptk_words_model.specs.Mutex.{wait_of};
 ghost use Rattle.ptk_threads.specs.Table.{thread_in, with_changed};
+ghost use Rattle.ptk_ready.specs.Queues.{AreUnused};
 ghost use Rattle.ptk_mutex.specs.Tables.{mutexes_of, with_threads};
 ghost use Rattle.ptk_cond.specs.Tables.{conditions_of, syncs_at, AreSynced};
 ghost use Rattle.ptk_gate_waits.specs.Timeouts.{after_sync_timeout, IsBlocked};
@@ -56,6 +57,7 @@ fn wake_sleeper(line: &mut VecLine, threads: &mut Threads, p: PartId, t: ThreadN
     requires partition { (p < length line.old) × (p < length threads.old.threads) }
     requires in_use { IsSome (thread_in threads.old p t) }
     requires out { is_in t (part_of line.old p) ≡ false }
+    requires idle { AreUnused threads.old.queues }
     ensures threads { threads.new ≡ with_changed p t (woken_with (0 ∷ [])) threads.old }
     ensures line { line.new ≡ slice_set line.old p (part_of line.old p ++ t ∷ []) }
 {

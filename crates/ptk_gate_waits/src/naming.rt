@@ -4,6 +4,7 @@ ghost use Rattle.std.specs.Prelude.{◌≡◌};
 ghost use Rattle.std.specs.List.{list_any};
 ghost use Rattle.ptk_words_model.specs.Mutex.{wait_of};
 ghost use Rattle.ptk_words_model.specs.Condition.{is_named, mutex_named};
+ghost use Rattle.ptk_threads_slots.specs.Links.{threads_of};
 
 use crate::kinds::mutex_named;
 use ptk_threads::Slot;
@@ -11,7 +12,7 @@ use ptk_words::MutexNo;
 
 /// Whether one of these threads waits on a condition variable and is to have the mutex again.
 pub fn is_any_naming(slots: &[Slot], m: MutexNo) -> bool
-    ensures { result ≡ list_any (λ thread. is_named m (mutex_named (wait_of thread))) slots.now }
+    ensures { result ≡ list_any (λ thread. is_named m (mutex_named (wait_of thread))) (threads_of slots.now) }
 {
     slots.iter().any(|slot| is_naming(slot, m))
 }
@@ -19,7 +20,7 @@ pub fn is_any_naming(slots: &[Slot], m: MutexNo) -> bool
 /// Whether the thread waits on a condition variable and is to have the mutex again.
 #[tactic(auto, using(crate::proofs::Waits::waits))]
 fn is_naming(slot: &Slot, m: MutexNo) -> bool
-    ensures { result ≡ is_named m (mutex_named (wait_of slot.now)) }
+    ensures { result ≡ is_named m (mutex_named (wait_of slot.now.thread)) }
 {
     match mutex_named(slot.wait()) {
         Some(n) => n.number() == m.number(),

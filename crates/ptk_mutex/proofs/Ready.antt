@@ -22,6 +22,7 @@ use Rattle.ptk_words_model.specs.MutexCalls.{is_locked}
 use Rattle.ptk_words_locks.proofs.MutexPlaces.{pool_set_same, effective-set}
 use Rattle.ptk_threads.specs.Table.{ThreadTable, free_table}
 use Rattle.ptk_threads.proofs.Pools.{part_of-set}
+use Rattle.ptk_ready.proofs.Unused.{unused_built}
 use Rattle.ptk_mutex_slots.proofs.Levels.{length-numbers_to}
 use Rattle.ptk_mutex.specs.Pool.{with_new_mutex}
 use Rattle.ptk_mutex.specs.Tables.{AreLocked, AreReady}
@@ -105,6 +106,7 @@ ready_set p m x table lines mutexes was idle le ready =
         of_stored = ready.part.of_stored;
         of_lines = ready.part.of_lines;
         of_mutexes = rw length-set ready.part.of_mutexes;
+        idle = ready.part.idle;
       };
       locked = subst (λ (l : List (Option Mutex)). AreLocked (record { threads = part_of table.threads p; line = part_of lines p; mutexes = l })) (sym here)
           (locked_set m x (record { threads = part_of table.threads p; line = part_of lines p; mutexes = part_of mutexes p }) was idle le ready.locked);
@@ -181,6 +183,7 @@ ready_blank p counts limits lines of_threads of_mutexes of_lines = record {
     of_stored = rw (length-map counts (filled {X = ℕ} 0)) of_threads;
     of_lines = of_lines;
     of_mutexes = rw (length-map limits (filled {X = Option Mutex} None)) of_mutexes;
+    idle = unused_built counts;
   };
   locked = locked_blank _ (λ m. ap (λ (row : List (Option Mutex)). pool_get row m) (row_blank None limits p of_mutexes) ∙ pool_blank (get_or limits p 0) m);
   stored = rw (row_blank {A = ℕ} 0 counts p of_threads, row_blank {A = Option Thread} None counts p of_threads, row_blank {A = Option Mutex} None limits p of_mutexes) (sym (effective_blank (get_or counts p 0) (get_or limits p 0)));

@@ -65,6 +65,7 @@ has_moved p table lines mutexes locks has = record {
   of_stored = rw length-set has.of_stored;
   of_lines = rw length-set has.of_lines;
   of_mutexes = rw length-set has.of_mutexes;
+  idle = has.idle;
 }
 
 locks_put : (p : ℕ) (table : ThreadTable) (lines : List (List ℕ)) (mutexes : List (List (Option Mutex))) (locks : Locks) → HasPart p table lines mutexes → locks_at p (with_threads p locks table) (set lines p locks.line) (set mutexes p locks.mutexes) ≡ locks

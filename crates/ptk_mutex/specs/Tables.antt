@@ -7,6 +7,7 @@ use Rattle.ptk_words_model.specs.State.{Mutex, Locks}
 use Rattle.ptk_words_model.specs.Priority.{thread_at, awaited, effective_priorities}
 use Rattle.ptk_words_model.specs.Mutex.{mutex_at, waiters_of, count_of}
 use Rattle.ptk_threads.specs.Table.{ThreadTable}
+use Rattle.ptk_ready.specs.Queues.{AreUnused}
 
 -- the mutexes of all partitions with their waiters, as the pool and the slot table keep them; the pool keeps both today (own)
 abbrev pub mutexes_of : List (List (Option Mutex)) → ThreadTable → List (List (Option Mutex))
@@ -19,7 +20,7 @@ locks_at p table lines pool = record { threads = part_of table.threads p; line =
 -- the threads of a partition, with the effective priorities that they then have as the stored ones (pthread_mutexattr_getprotocol)
 abbrev pub with_threads : ℕ → Locks → ThreadTable → ThreadTable
 with_threads p locks table =
-    record {
+    record table {
       threads = slice_set table.threads p locks.threads;
       stored = slice_set table.stored p (effective_priorities locks.threads locks.mutexes);
     }
@@ -28,12 +29,13 @@ with_threads p locks table =
 abbrev pub with_threads_alone : ℕ → Locks → ThreadTable → ThreadTable
 with_threads_alone p locks table = record table { threads = slice_set table.threads p locks.threads }
 
--- every table has the partition (own)
+-- every table has the partition, and no ready thread lies in a queue of the slot table, since the line has lists of its own (own)
 pub record HasPart (p : ℕ) (table : ThreadTable) (lines : List (List ℕ)) (pool : List (List (Option Mutex))) : Type 0 where
   pub of_threads : p < length table.threads
   pub of_stored : p < length table.stored
   pub of_lines : p < length lines
   pub of_mutexes : p < length (mutexes_of pool table)
+  pub idle : AreUnused table.queues
 
 -- who waits for mutex m: a thread whose wait names it, and which is not in the line (pthread_mutex_lock)
 pub record IsWaiter (locks : Locks) (m k : ℕ) : Type 0 where

@@ -11,6 +11,7 @@ ghost use Rattle.ptk_words.specs.declared.mutexes.Soundness.TheVariants.{Consist
 ghost use Rattle.ptk_words_parted.specs.Parts.{part_of};
 ghost use Rattle.ptk_words_model.specs.State.{locks_of};
 ghost use Rattle.ptk_words_model.specs.Priority.{assigned_of};
+ghost use Rattle.ptk_threads_slots.specs.Links.{threads_of};
 ghost use Rattle.ptk_mutex_rise.specs.Visits.{IsVisited};
 ghost use Rattle.ptk_words_model.specs.Mutex.{mutex_at, lock_move, trylock_move, relock_move, count_of, owns, owns_raising, is_raising_for, after_move, with_soundness};
 ghost use Rattle.ptk_mutex_slots.specs.declared.slot.Change.TheVariants.{CountUp, Enqueue};
@@ -195,7 +196,7 @@ impl Mutexes {
 
 /// The move of lock.
 fn lock_move(threads: &[Slot], mutexes: &[MutexSlot], t: ThreadNo, m: MutexNo) -> LockMove
-    ensures { result ≡ lock_move (locks_of threads.now mutexes.now) t (pool_get mutexes.now m) }
+    ensures { result ≡ lock_move (locks_of (threads_of threads.now) mutexes.now) t (pool_get mutexes.now m) }
 {
     match slot_in(mutexes, m) {
         Some(slot) => slot.lock_move(threads, t),
@@ -205,7 +206,7 @@ fn lock_move(threads: &[Slot], mutexes: &[MutexSlot], t: ThreadNo, m: MutexNo) -
 
 /// The move of trylock.
 fn trylock_move(threads: &[Slot], mutexes: &[MutexSlot], t: ThreadNo, m: MutexNo) -> LockMove
-    ensures { result ≡ trylock_move (locks_of threads.now mutexes.now) t (pool_get mutexes.now m) }
+    ensures { result ≡ trylock_move (locks_of (threads_of threads.now) mutexes.now) t (pool_get mutexes.now m) }
 {
     match slot_in(mutexes, m) {
         Some(slot) => slot.trylock_move(threads, t),

@@ -9,6 +9,7 @@ ghost use Rattle.ptk_words_model.specs.Schedule.{woken_with};
 ghost use Rattle.ptk_words_model.specs.declared.LockMove.TheVariants.{Counts};
 ghost use Rattle.ptk_words_model.specs.Mutex.{mutex_at, count_of, relock_move, after_relock, after_relock_move, after_leave};
 ghost use Rattle.ptk_threads.specs.Table.{thread_in, with_changed};
+ghost use Rattle.ptk_ready.specs.Queues.{AreUnused};
 ghost use Rattle.ptk_mutex_slots.specs.declared.slot.Change.TheVariants.{CountUp, Enqueue};
 ghost use Rattle.ptk_mutex_slots.specs.Changes.{SlotMayChange};
 ghost use Rattle.ptk_mutex.specs.Tables.{mutexes_of, locks_at, with_threads, with_threads_alone, HasPart, IsWaiter, MayWait, AreReady};
@@ -172,6 +173,7 @@ fn wake(line: &mut VecLine, threads: &mut Threads, p: PartId, t: ThreadNo, reply
     requires partition { (p < length line.old) × (p < length threads.old.threads) }
     requires in_use { IsSome (thread_in threads.old p t) }
     requires out { is_in t (part_of line.old p) ≡ false }
+    requires idle { AreUnused threads.old.queues }
     ensures threads { threads.new ≡ with_changed p t (woken_with (option_to_list reply)) threads.old }
     ensures line { line.new ≡ slice_set line.old p (part_of line.old p ++ t ∷ []) }
 {

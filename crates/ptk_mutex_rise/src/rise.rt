@@ -4,6 +4,7 @@ ghost use Rattle.std.specs.Prelude.{◌≡◌, ◌≤◌, true, Some, None, leng
 ghost use Rattle.ptk_words.specs.Pools.{pool_get, greatest};
 ghost use Rattle.ptk_words_model.specs.Priority.{awaited, effective_priorities};
 ghost use Rattle.ptk_words_model.specs.Mutex.{owns};
+ghost use Rattle.ptk_threads_slots.specs.Links.{threads_of};
 ghost use Rattle.ptk_threads.specs.Table.{stored_of};
 ghost use Rattle.ptk_mutex_rise.specs.Risings.{IsBefore};
 ghost use Rattle.ptk_mutex_rise.specs.Before.{IsBeforeWait, IsBeforeTake, IsBeforeAssignment};
@@ -30,8 +31,8 @@ pub enum Rise {
 /// the walk along the chain read.
 pub fn raise(threads: &[Slot], mutexes: &[MutexSlot], stored: &mut [u8], rise: Rise) -> u32
     requires few { length threads.now ≤ 32 }
-    requires before { IsBefore rise threads.now mutexes.now stored.old }
-    ensures stored { stored.new ≡ effective_priorities threads.now mutexes.now }
+    requires before { IsBefore rise (threads_of threads.now) mutexes.now stored.old }
+    ensures stored { stored.new ≡ effective_priorities (threads_of threads.now) mutexes.now }
     ensures visited { IsVisited result stored.old stored.new }
 {
     match rise {
@@ -46,8 +47,8 @@ pub fn raise(threads: &[Slot], mutexes: &[MutexSlot], stored: &mut [u8], rise: R
 #[tactic(auto, using(crate::proofs::Waits::waits))]
 fn rise_after_wait(threads: &[Slot], mutexes: &[MutexSlot], stored: &mut [u8], t: ThreadNo) -> u32
     requires few { length threads.now ≤ 32 }
-    requires before { IsBeforeWait t threads.now mutexes.now stored.old }
-    ensures stored { stored.new ≡ effective_priorities threads.now mutexes.now }
+    requires before { IsBeforeWait t (threads_of threads.now) mutexes.now stored.old }
+    ensures stored { stored.new ≡ effective_priorities (threads_of threads.now) mutexes.now }
     ensures visited { IsVisited result stored.old stored.new }
 {
     match next_of(threads, mutexes, t) {
@@ -71,10 +72,10 @@ fn rise_after_take(
     m: MutexNo,
 ) -> u32
     requires few { length threads.now ≤ 32 }
-    requires used { IsSome (pool_get threads.now t) }
+    requires used { IsSome (pool_get (threads_of threads.now) t) }
     requires owned { owns t (pool_get mutexes.now m) ≡ true }
-    requires before { IsBeforeTake m threads.now mutexes.now stored.old }
-    ensures stored { stored.new ≡ effective_priorities threads.now mutexes.now }
+    requires before { IsBeforeTake m (threads_of threads.now) mutexes.now stored.old }
+    ensures stored { stored.new ≡ effective_priorities (threads_of threads.now) mutexes.now }
     ensures visited { IsVisited result stored.old stored.new }
 {
     let gained = gained_of(threads, mutexes, stored, m);
@@ -94,8 +95,8 @@ fn rise_after_assignment(
     t: ThreadNo,
 ) -> u32
     requires few { length threads.now ≤ 32 }
-    requires before { IsBeforeAssignment t threads.now mutexes.now stored.old }
-    ensures stored { stored.new ≡ effective_priorities threads.now mutexes.now }
+    requires before { IsBeforeAssignment t (threads_of threads.now) mutexes.now stored.old }
+    ensures stored { stored.new ≡ effective_priorities (threads_of threads.now) mutexes.now }
     ensures visited { IsVisited result stored.old stored.new }
 {
     let priority = assigned(threads, t);
@@ -105,7 +106,7 @@ fn rise_after_assignment(
 /// The priority that the owner of a mutex has at least by it.
 fn gained_of(threads: &[Slot], mutexes: &[MutexSlot], stored: &[u8], m: MutexNo) -> u8
     requires few { length threads.now ≤ 32 }
-    ensures { result ≡ gained_of threads.now stored.now m (pool_get mutexes.now m) }
+    ensures { result ≡ gained_of (threads_of threads.now) stored.now m (pool_get mutexes.now m) }
 {
     let Some(slot) = slot_in(mutexes, m) else {
         return 0;
@@ -119,7 +120,7 @@ fn gained_of(threads: &[Slot], mutexes: &[MutexSlot], stored: &[u8], m: MutexNo)
 /// The same, of a mutex of this protocol.
 fn gained_by(threads: &[Slot], stored: &[u8], m: MutexNo, protocol: Protocol) -> u8
     requires few { length threads.now ≤ 32 }
-    ensures { result ≡ gained_by threads.now stored.now m protocol }
+    ensures { result ≡ gained_by (threads_of threads.now) stored.now m protocol }
 {
     match protocol {
         Protocol::NoProtocol => 0,
@@ -131,7 +132,7 @@ fn gained_by(threads: &[Slot], stored: &[u8], m: MutexNo, protocol: Protocol) ->
 /// The greatest stored priority of the threads that wait for a mutex; 0 of none.
 fn greatest_awaiting(threads: &[Slot], stored: &[u8], m: MutexNo) -> u8
     requires few { length threads.now ≤ 32 }
-    ensures { result ≡ greatest (stored_of stored.now) (awaiting m threads.now) }
+    ensures { result ≡ greatest (stored_of stored.now) (awaiting m (threads_of threads.now)) }
 {
     let mut most = 0;
     for k in 0..threads.len() {
@@ -143,7 +144,7 @@ fn greatest_awaiting(threads: &[Slot], stored: &[u8], m: MutexNo) -> u8
 
 /// The stored priority of a thread that waits for the mutex; 0 of any other.
 fn passed_by(threads: &[Slot], stored: &[u8], t: ThreadNo, m: MutexNo) -> u8
-    ensures { result ≡ (if is_for m (awaited (pool_get threads.now t)) then stored_of stored.now t else 0) }
+    ensures { result ≡ (if is_for m (awaited (pool_get (threads_of threads.now) t)) then stored_of stored.now t else 0) }
 {
     if is_for(m, awaited(threads, t)) {
         stored_in(stored, t)

@@ -3,6 +3,7 @@
 ghost use Rattle.std.specs.Prelude.{◌≡◌, ◌+◌, ◌<◌, ◌≤◌, length};
 ghost use Rattle.ptk_words.specs.Pools.{pool_set};
 ghost use Rattle.ptk_words_model.specs.Priority.{next_of};
+ghost use Rattle.ptk_threads_slots.specs.Links.{threads_of};
 ghost use Rattle.ptk_threads.specs.Table.{stored_of};
 ghost use Rattle.ptk_mutex_rise.specs.Risen.{risen, reads};
 
@@ -20,8 +21,8 @@ pub(crate) fn rise(
     priority: u8,
 ) -> u32
     requires few { length threads.now ≤ 32 }
-    ensures stored { stored.new ≡ risen (next_of threads.now mutexes.now) priority (length threads.now) u stored.old }
-    ensures visited { result ≡ reads (next_of threads.now mutexes.now) priority (length threads.now) u stored.old }
+    ensures stored { stored.new ≡ risen (next_of (threads_of threads.now) mutexes.now) priority (length (threads_of threads.now)) u stored.old }
+    ensures visited { result ≡ reads (next_of (threads_of threads.now) mutexes.now) priority (length (threads_of threads.now)) u stored.old }
 {
     let mut visited = 0;
     raise_until(
@@ -48,8 +49,8 @@ fn raise_until(
     visited: &mut u32,
 )
     requires room { visited.old + fuel < 100 }
-    ensures stored { stored.new ≡ risen (next_of threads.now mutexes.now) priority fuel u stored.old }
-    ensures visited { visited.new ≡ visited.old + reads (next_of threads.now mutexes.now) priority fuel u stored.old }
+    ensures stored { stored.new ≡ risen (next_of (threads_of threads.now) mutexes.now) priority fuel u stored.old }
+    ensures visited { visited.new ≡ visited.old + reads (next_of (threads_of threads.now) mutexes.now) priority fuel u stored.old }
 {
     if visit(stored, u, visited) >= priority {
         return;

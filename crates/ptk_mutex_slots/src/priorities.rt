@@ -5,6 +5,7 @@ ghost use Rattle.std.specs.Option.{option_flatten};
 ghost use Rattle.ptk_words.specs.Pools.{pool_get};
 ghost use Rattle.ptk_words_model.specs.Priority.{mutex_of_wait, awaited, assigned_of, next_of, held_of, inheritor_of, effective_priorities};
 ghost use Rattle.ptk_words_parted.specs.Parts.{part_of};
+ghost use Rattle.ptk_threads_slots.specs.Links.{threads_of};
 ghost use Rattle.ptk_threads.specs.Table.{thread_in, stored_of};
 ghost use Rattle.ptk_mutex_slots.specs.Raised.{raised, raised_along};
 ghost use Rattle.ptk_mutex_slots.specs.Tables.{effective_at};
@@ -31,7 +32,7 @@ pub fn effective(threads: &Threads, p: PartId, t: ThreadNo) -> Option<u8>
 pub fn recompute(threads: &[Slot], mutexes: &[MutexSlot], stored: &mut [u8])
     requires same { length stored.old ≡ length threads.now }
     requires few { length threads.now ≤ 32 }
-    ensures { stored.new ≡ effective_priorities threads.now mutexes.now }
+    ensures { stored.new ≡ effective_priorities (threads_of threads.now) mutexes.now }
 {
     stored.fill(0);
     for k in 0..threads.len() {
@@ -57,7 +58,7 @@ fn raise_chain(
     priority: u8,
     fuel: usize,
 )
-    ensures { stored.new ≡ raised_along (next_of threads.now mutexes.now) priority fuel u stored.old }
+    ensures { stored.new ≡ raised_along (next_of (threads_of threads.now) mutexes.now) priority fuel u stored.old }
 {
     raise(stored, u, priority);
     if fuel == 0 {
@@ -82,7 +83,7 @@ fn raise(stored: &mut [u8], t: ThreadNo, priority: u8)
 
 /// The next thread of a chain: the owner of the INHERIT mutex that the thread waits for.
 pub fn next_of(threads: &[Slot], mutexes: &[MutexSlot], t: ThreadNo) -> Option<ThreadNo>
-    ensures { result ≡ next_of threads.now mutexes.now t }
+    ensures { result ≡ next_of (threads_of threads.now) mutexes.now t }
 {
     match awaited(threads, t) {
         Some(m) => inheritor_of(mutexes, m),
@@ -93,7 +94,7 @@ pub fn next_of(threads: &[Slot], mutexes: &[MutexSlot], t: ThreadNo) -> Option<T
 /// The mutex that a thread waits for.
 #[tactic(auto, using(crate::proofs::Levels::readings))]
 pub fn awaited(threads: &[Slot], t: ThreadNo) -> Option<MutexNo>
-    ensures { result ≡ awaited (pool_get threads.now t) }
+    ensures { result ≡ awaited (pool_get (threads_of threads.now) t) }
 {
     match thread_slot(threads, t) {
         Some(slot) => mutex_of_wait(slot.wait()),
@@ -125,7 +126,7 @@ fn inheritor_of(mutexes: &[MutexSlot], m: MutexNo) -> Option<ThreadNo>
 
 /// The greatest of a thread's assigned priority and the ceilings of the PROTECT mutexes that it owns.
 fn held_of(threads: &[Slot], mutexes: &[MutexSlot], t: ThreadNo) -> u8
-    ensures { result ≡ held_of threads.now mutexes.now t }
+    ensures { result ≡ held_of (threads_of threads.now) mutexes.now t }
 {
     let mut most = assigned(threads, t);
     for slot in mutexes {
@@ -136,7 +137,7 @@ fn held_of(threads: &[Slot], mutexes: &[MutexSlot], t: ThreadNo) -> u8
 
 /// The assigned priority of a thread, 0 of a free number (XSH 2.8.4).
 pub fn assigned(threads: &[Slot], t: ThreadNo) -> u8
-    ensures { result ≡ assigned_of threads.now t }
+    ensures { result ≡ assigned_of (threads_of threads.now) t }
 {
     match thread_slot(threads, t) {
         Some(slot) => match slot.assigned_priority() {
@@ -150,7 +151,7 @@ pub fn assigned(threads: &[Slot], t: ThreadNo) -> u8
 /// The slot of a number, None past the partition's.
 #[tactic(auto, using(crate::proofs::Slots::numbers))]
 pub fn thread_slot(threads: &[Slot], t: ThreadNo) -> Option<&Slot>
-    ensures { option_flatten (option_map (λ r. r.now) result) ≡ pool_get threads.now t }
+    ensures { option_flatten (option_map (λ r. r.now.thread) result) ≡ pool_get (threads_of threads.now) t }
 {
     threads.get(t.place())
 }

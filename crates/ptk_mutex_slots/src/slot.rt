@@ -8,6 +8,7 @@ ghost use Rattle.ptk_words_model.specs.State.{locks_of};
 ghost use Rattle.ptk_words_model.specs.declared.LockMove.TheVariants.{Refuses};
 ghost use Rattle.ptk_words_model.specs.Mutex.{new_mutex, waiters_of, lock_move, trylock_move, relock_move, owns, is_free, is_raising_for, is_raising, soundness_of, count_of, is_above_ceiling, owner_move, free_move};
 ghost use Rattle.ptk_words_model.specs.Priority.{inheritor, inheritor_of, ceiling_for, ceiling_of, is_owner};
+ghost use Rattle.ptk_threads_slots.specs.Links.{threads_of};
 ghost use Rattle.ptk_mutex_slots.specs.Slots.{mutex_with, state_of, is_robust_at};
 ghost use Rattle.ptk_mutex_slots.specs.Changes.{mutex_changed, SlotMayChange};
 ghost use Rattle.ptk_mutex_slots.specs.Plain.{is_sound, is_takeable, is_releasable};
@@ -234,7 +235,7 @@ fn ceiling_of(protocol: Protocol) -> u8
 impl MutexSlot {
     /// The move of lock; the ceiling is tested first (pthread_mutex_lock).
     pub fn lock_move(&self, threads: &[Slot], t: ThreadNo) -> LockMove
-        ensures { result ≡ lock_move (locks_of threads.now []) t self.now }
+        ensures { result ≡ lock_move (locks_of (threads_of threads.now) []) t self.now }
     {
         match &self.state {
             Some(state) => {
@@ -247,7 +248,7 @@ impl MutexSlot {
 
     /// The move of trylock; the ceiling is tested first (pthread_mutex_trylock).
     pub fn trylock_move(&self, threads: &[Slot], t: ThreadNo) -> LockMove
-        ensures { result ≡ trylock_move (locks_of threads.now []) t self.now }
+        ensures { result ≡ trylock_move (locks_of (threads_of threads.now) []) t self.now }
     {
         match &self.state {
             Some(state) => {

@@ -1,11 +1,13 @@
 //! Every call once, through the bound.
 
-ghost use Rattle.std.specs.Prelude.{◌≡◌, ◌<◌, length};
+ghost use Rattle.std.specs.Prelude.{◌≡◌, ◌<◌, length, IfOk};
+ghost use Rattle.ptk_ready.specs.Queues.{AreUnused};
 
 use crate::line::Line;
 use crate::vec_line::VecLine;
 use ptk_threads::Threads;
 use ptk_words::{Cpu, PartId, Phase, Policy, Priority, Thread, ThreadNo};
+use std::alloc::{AllocError, Global};
 use std::process::Abort;
 use std::test::Fail;
 
@@ -24,6 +26,19 @@ fn new_thread() -> Thread {
     }
 }
 
+/// A table of one partition with three threads.
+#[tactic(auto, using(crate::proofs::Unused::built))]
+fn three_threads(alloc: Global) -> Result<Threads, AllocError>
+    ensures { IfOk result (λ threads. AreUnused threads.queues × (length threads.threads ≡ 1)) }
+{
+    let p = PartId::new(0);
+    let mut threads = Threads::build(alloc, &[3])?;
+    let _ = threads.create(p, new_thread());
+    let _ = threads.create(p, new_thread());
+    let _ = threads.create(p, new_thread());
+    Ok(threads)
+}
+
 /// Pushes a thread at the head or the tail, through the bound.
 #[tactic(auto, using(ptk_words_parted::proofs::Cuts::loans))]
 fn push<L: Line>(
@@ -34,12 +49,18 @@ fn push<L: Line>(
     k: ThreadNo,
     head: bool,
 )
-    requires { (p < length (L.entries line.old threads.old)) × (p < length threads.old.threads) }
+    requires partition { (p < length (L.entries line.old threads.old)) × (p < length threads.old.threads) }
+    requires sound { L.is_sound line.old threads.old }
+    ensures sound { L.is_sound line.new threads.new }
     ensures lines { length (L.entries line.new threads.new) ≡ length (L.entries line.old threads.old) }
     ensures threads { threads.new.threads ≡ threads.old.threads }
 {
     assert!(rt; threads.thread(p, k).is_some());
     assert!(rt; !line.contains(threads, p, k));
+    assert!(rt; !threads.is_queued(p, k));
+    let level = threads.stored_priority(p, k);
+    assert!(rt; level > 0);
+    assert!(rt; level <= 32);
     if head {
         line.push_head(threads, p, k);
     } else {
@@ -55,7 +76,9 @@ fn first_after_raise<L: Line>(
     k: ThreadNo,
     priority: Priority,
 ) -> Option<ThreadNo>
-    requires { (p < length (L.entries line.old threads.old)) × (p < length threads.old.threads) }
+    requires partition { (p < length (L.entries line.old threads.old)) × (p < length threads.old.threads) }
+    requires sound { L.is_sound line.old threads.old }
+    ensures sound { L.is_sound line.new threads.new }
     ensures lines { length (L.entries line.new threads.new) ≡ length (L.entries line.old threads.old) }
     ensures threads { threads.new.threads ≡ threads.old.threads }
 {
@@ -71,7 +94,9 @@ fn first_after_removal<L: Line>(
     p: PartId,
     k: ThreadNo,
 ) -> Option<ThreadNo>
-    requires { (p < length (L.entries line.old threads.old)) × (p < length threads.old.threads) }
+    requires partition { (p < length (L.entries line.old threads.old)) × (p < length threads.old.threads) }
+    requires sound { L.is_sound line.old threads.old }
+    ensures sound { L.is_sound line.new threads.new }
     ensures lines { length (L.entries line.new threads.new) ≡ length (L.entries line.old threads.old) }
     ensures threads { threads.new.threads ≡ threads.old.threads }
 {
@@ -86,11 +111,8 @@ fn greatest_priority_then_place(rt: HostRuntime) -> Result<(), Fail> {
     let one = ThreadNo::new(1);
     let two = ThreadNo::new(2);
     let three = ThreadNo::new(3);
-    let mut threads = Threads::build(rt.alloc(), &[3])?;
+    let mut threads = three_threads(rt.alloc())?;
     let mut line = VecLine::build(rt.alloc(), 1)?;
-    assert_eq!(rt; threads.create(p, new_thread()), Some(one));
-    assert_eq!(rt; threads.create(p, new_thread()), Some(two));
-    assert_eq!(rt; threads.create(p, new_thread()), Some(three));
     push(&rt, &mut line, &mut threads, p, one, false);
     push(&rt, &mut line, &mut threads, p, two, false);
     push(&rt, &mut line, &mut threads, p, three, true);

@@ -1,6 +1,10 @@
 //! The form with a list of its own for each partition.
 
-ghost use Rattle.std.specs.Prelude.{◌≡◌, [], length, IfOk, replicate};
+ghost use Rattle.std.specs.Prelude.{◌≡◌, ℕ, ◌<◌, false, List, [], ◌∷◌, ◌++◌, length, slice_set, IfOk, IsSome, replicate};
+ghost use Rattle.ptk_words.specs.Pools.{without, is_in};
+ghost use Rattle.ptk_words_parted.specs.Parts.{part_of};
+ghost use Rattle.ptk_threads.specs.Table.{free_table, thread_in, with_stored};
+ghost use Rattle.ptk_ready.specs.Queues.{AreUnused};
 
 use crate::choice::first_of_greatest;
 use crate::line::Line;
@@ -25,9 +29,12 @@ impl Model for VecLine {
 }
 
 impl VecLine {
-    /// An empty line for each of so many partitions. An error where memory ran out.
+    /// An empty line for each of so many partitions, sound over a slot table as it is built. An error where memory ran
+    /// out.
+    #[tactic(auto, using(crate::proofs::Unused::unused_built))]
     pub fn build(alloc: Global, parts: usize) -> Result<VecLine, AllocError>
-        ensures { IfOk result (λ line. line ≡ replicate parts []) }
+        ensures empty { IfOk result (λ line. line ≡ replicate parts []) }
+        ensures sound { (counts : List ℕ) → AreUnused (free_table counts).queues }
     {
         let mut lines = Vec::new(alloc);
         for i in 0..parts {
@@ -45,19 +52,55 @@ impl VecLine {
 }
 
 impl Line for VecLine {
+    ghost use Rattle.ptk_ready.specs.Queues.{AreUnused, unused_same, unused_apart};
+    ghost use Rattle.std.specs.Prelude.{refl};
+
     ghost entries = { λ line table. line };
 
-    fn push_tail(&mut self, threads: &mut Threads, p: PartId, k: ThreadNo) {
+    ghost is_sound = { λ line table. AreUnused table.queues };
+
+    ghost entries_same = { λ line a b same. refl };
+
+    ghost sound_same = { λ line a b stored same sound. unused_same a.queues b.queues same sound };
+
+    ghost apart = { λ line a p k i sound out lt. unused_apart a.queues p k i sound lt };
+
+    /// Appends a thread that is in use and not in the line; its stored priority and its queue are not read.
+    fn push_tail(&mut self, threads: &mut Threads, p: PartId, k: ThreadNo)
+        requires partition { (p < length self.old) × (p < length threads.old.threads) }
+        requires in_use { IsSome (thread_in threads.old p k) }
+        requires fresh { is_in k (part_of self.old p) ≡ false }
+        requires sound { AreUnused threads.old.queues }
+        ensures sound { AreUnused threads.new.queues }
+        ensures line { self.new ≡ slice_set self.old p (part_of self.old p ++ k ∷ []) }
+        ensures same { threads.new ≡ threads.old }
+    {
         let line = &mut self.lines[p.index()];
         line.push_tail(k);
     }
 
-    fn push_head(&mut self, threads: &mut Threads, p: PartId, k: ThreadNo) {
+    /// Puts a thread that is in use and not in the line first; its stored priority and its queue are not read.
+    fn push_head(&mut self, threads: &mut Threads, p: PartId, k: ThreadNo)
+        requires partition { (p < length self.old) × (p < length threads.old.threads) }
+        requires in_use { IsSome (thread_in threads.old p k) }
+        requires fresh { is_in k (part_of self.old p) ≡ false }
+        requires sound { AreUnused threads.old.queues }
+        ensures sound { AreUnused threads.new.queues }
+        ensures line { self.new ≡ slice_set self.old p (k ∷ part_of self.old p) }
+        ensures same { threads.new ≡ threads.old }
+    {
         let line = &mut self.lines[p.index()];
         line.push_head(k);
     }
 
-    fn remove(&mut self, threads: &mut Threads, p: PartId, k: ThreadNo) {
+    /// Takes a thread out; nothing changes where it is not in the line.
+    fn remove(&mut self, threads: &mut Threads, p: PartId, k: ThreadNo)
+        requires partition { (p < length self.old) × (p < length threads.old.threads) }
+        requires sound { AreUnused threads.old.queues }
+        ensures sound { AreUnused threads.new.queues }
+        ensures line { self.new ≡ slice_set self.old p (without k (part_of self.old p)) }
+        ensures same { threads.new ≡ threads.old }
+    {
         let line = &mut self.lines[p.index()];
         line.remove(k);
     }
@@ -72,7 +115,14 @@ impl Line for VecLine {
         line.contains(k)
     }
 
-    fn set_priority(&mut self, threads: &mut Threads, p: PartId, k: ThreadNo, priority: Priority) {
+    /// Stores a thread's effective priority in the slot table; the lists stay.
+    fn set_priority(&mut self, threads: &mut Threads, p: PartId, k: ThreadNo, priority: Priority)
+        requires partition { (p < length self.old) × (p < length threads.old.threads) }
+        requires sound { AreUnused threads.old.queues }
+        ensures sound { AreUnused threads.new.queues }
+        ensures line { self.new ≡ self.old }
+        ensures table { threads.new ≡ with_stored p k priority threads.old }
+    {
         threads.set_stored_priority(p, k, priority.level());
     }
 }

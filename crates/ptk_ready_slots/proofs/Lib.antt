@@ -7,3 +7,4 @@ pub mod Filed
 pub mod Firsts
 pub mod Extremes
 pub mod Ranks
+pub mod Lists

@@ -1,4 +1,5 @@
 pub mod Orders
 pub mod Entries
+pub mod Lines
 pub mod Stamps
 pub mod Bits

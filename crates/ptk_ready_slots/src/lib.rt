@@ -17,4 +17,4 @@ mod stamps;
 mod tests;
 
 pub use entries::LinkedEntries;
-pub use laws::marks_tell_queues;
+pub use laws::{lists_tell_line, marks_tell_queues};

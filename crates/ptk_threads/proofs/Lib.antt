@@ -1,3 +1,4 @@
 pub mod Slots
+pub mod Linked
 pub mod Pools
 pub mod Registers

@@ -1,16 +1,20 @@
 -- Pools, whose numbers count from 1, read and written at a number, and the table after a change of one partition.
-use Rattle.std.proofs.Common.{◌≡◌, ℕ, zero, suc, ◌+◌, ◌-◌, ◌<◌, ◌≤◌, List, [], ◌∷◌, ◌++◌, length, map, take, drop, refl, sym, ◌∙◌, ap, arith, All, get_or, add-one, length-append, length-drop, length-take}
-use Rattle.std.specs.Prelude.{Option, option_map, slice_get, slice_set, slice_index}
+use Rattle.std.proofs.Common.{◌≡◌, ℕ, zero, suc, ◌+◌, ◌-◌, ◌<◌, ◌≤◌, List, [], ◌∷◌, length, map, refl, sym, ◌∙◌, ap, subst, arith, All, get_or, add-one}
+use Rattle.std.specs.Prelude.{Option, Some, None, IsSome, option_map, is_none, position, slice_get, slice_set, slice_index, if◌then◌else◌, Bool, not, ◌||◌}
+use Rattle.std.specs.List.{prefix_len, list_any}
 use Rattle.std.specs.Option.{option_flatten}
-use Rattle.std.proofs.Math.ListN.{set}
-use Rattle.std.proofs.lemmas.List.{length-replicate, length-set, set_past, set-get_or, set-set}
+use Rattle.std.proofs.Math.ListN.{set, get_or-map}
+use Rattle.std.proofs.Math.Seq.{map-set_same}
+use Rattle.std.proofs.lemmas.List.{length-replicate, length-map, length-set, map-set, set_past, set-get_or, set-set, get_or_read}
 use Rattle.std.proofs.lemmas.List.Elements.{All-head, All-tail}
 use Rattle.ptk_words.specs.Pools.{pool_get, pool_set, pool_changed}
 use Rattle.ptk_words.specs.declared.threads.Thread.{Thread}
-use Rattle.ptk_words_parted.specs.Parts.{part_of, joined, filled}
-use Rattle.ptk_words_parted.specs.Cuts.{cut, start_at, ends_of, over, refilled, lent}
+use Rattle.ptk_words_parted.specs.Parts.{part_of, filled}
+use Rattle.ptk_words_parted.specs.Cuts.{lent}
 use Rattle.ptk_words_parted.proofs.Cuts.{lent-same, set_part-same}
-use Rattle.ptk_threads.specs.Table.{IsTable, stored_of}
+use Rattle.ptk_threads_slots.specs.declared.slot.Slot.{Slot}
+use Rattle.ptk_threads_slots.specs.Links.{links_of, threads_of, free_slot}
+use Rattle.ptk_threads.specs.Table.{IsTable, stored_of, replaced_by}
 
 -- ---- a number
 
@@ -38,17 +42,99 @@ slot_at [] i d lt = absurd (omega (arith, lt))
 slot_at (x ∷ xs) zero d lt = refl
 slot_at (x ∷ xs) (suc i) d lt = slot_at xs i d (omega (arith, lt))
 
--- a change of an entry, as the code makes it
-pub changed_at : {A : Type 0} (k : ℕ) (f : A → A) (entries new : List (Option A)) (x : Option A) → 0 < k → k - 1 < length entries → x ≡ get_or entries (k - 1) x → new ≡ set entries (k - 1) (option_map f x) → new ≡ pool_changed k f entries
-changed_at zero f entries new x h lt r e = absurd (omega (arith, h))
-changed_at (suc i) f entries new x h lt r e =
-    let same : suc i - 1 ≡ i = omega arith in
-    let within : i < length entries = omega (arith, lt) in
-    rw same at e ∙ ap (λ y. set entries i (option_map f y)) ((rw same at r) ∙ sym (slot_at entries i x within))
+none_past : {X : Type 0} (xs : List (Option X)) (i : ℕ) → length xs ≤ i → option_flatten (slice_get xs i) ≡ None
+none_past [] i le = refl
+none_past (x ∷ xs) zero le = absurd (omega (arith, le))
+none_past (x ∷ xs) (suc i) le = none_past xs i (omega (arith, le))
 
-pub changed_past : {A : Type 0} (k : ℕ) (f : A → A) (entries : List (Option A)) → 0 < k → length entries ≤ k - 1 → entries ≡ pool_changed k f entries
-changed_past zero f entries h le = absurd (omega (arith, h))
-changed_past (suc i) f entries h le = let past : length entries ≤ i = omega (arith, le) in sym (set_past entries i _ past)
+-- ---- a slot, as the code reads and writes it
+
+place_of_number : (i : ℕ) → suc i - 1 ≡ i
+place_of_number i = omega arith
+
+length_threads : (slots : List Slot) → length (threads_of slots) ≡ length slots
+length_threads slots = length-map slots (λ (slot : Slot). slot.thread)
+
+thread_here : (slots : List Slot) (i : ℕ) (slot : Slot) → i < length slots → slot ≡ get_or slots i slot → slot.thread ≡ option_flatten (slice_get (threads_of slots) i)
+thread_here slots i slot lt is =
+    ap (λ (s : Slot). s.thread) (get_or_read slots i slot lt is free_slot)
+    ∙ (sym (get_or-map (λ (s : Slot). s.thread) slots i free_slot) ∙ sym (slot_at (threads_of slots) i None (rw (length_threads slots) lt)))
+
+pub read_at : (slots : List Slot) (k : ℕ) (slot : Slot) → 0 < k → k - 1 < length slots → slot ≡ get_or slots (k - 1) slot → slot.thread ≡ pool_get (threads_of slots) k
+read_at slots zero slot h lt is = absurd (omega (arith, h))
+read_at slots (suc i) slot h lt is = thread_here slots i slot (omega (arith, lt)) (rw (place_of_number i) at is)
+
+pub read_past : (slots : List Slot) (k : ℕ) → 0 < k → length slots ≤ k - 1 → None ≡ pool_get (threads_of slots) k
+read_past slots zero h le = absurd (omega (arith, h))
+read_past slots (suc i) h le = sym (none_past (threads_of slots) i (rw (length_threads slots) (omega (arith, le))))
+
+pub changed_at : (k : ℕ) (f : Thread → Thread) (slots new : List Slot) (slot after : Slot) → 0 < k → k - 1 < length slots → slot ≡ get_or slots (k - 1) slot → new ≡ set slots (k - 1) after
+    → after.thread ≡ option_map f slot.thread → threads_of new ≡ pool_changed k f (threads_of slots)
+changed_at zero f slots new slot after h lt r e is = absurd (omega (arith, h))
+changed_at (suc i) f slots new slot after h lt r e is =
+    let read = thread_here slots i slot (omega (arith, lt)) (rw (place_of_number i) at r) in
+    ap threads_of (rw (place_of_number i) at e) ∙ (map-set (λ (s : Slot). s.thread) slots i after ∙ ap (set (threads_of slots) i) (is ∙ ap (option_map f) read))
+
+pub changed_past : (k : ℕ) (f : Thread → Thread) (slots : List Slot) → 0 < k → length slots ≤ k - 1 → threads_of slots ≡ pool_changed k f (threads_of slots)
+changed_past zero f slots h le = absurd (omega (arith, h))
+changed_past (suc i) f slots h le = sym (set_past (threads_of slots) i _ (rw (length_threads slots) (omega (arith, le))))
+
+pub put_at : (k : ℕ) (thread : Option Thread) (slots new : List Slot) (after : Slot) → 0 < k → new ≡ set slots (k - 1) after → after.thread ≡ thread → threads_of new ≡ pool_set (threads_of slots) k thread
+put_at zero thread slots new after h e is = absurd (omega (arith, h))
+put_at (suc i) thread slots new after h e is = ap threads_of (rw (place_of_number i) at e) ∙ (map-set (λ (s : Slot). s.thread) slots i after ∙ ap (set (threads_of slots) i) is)
+
+pub put_past : (k : ℕ) (thread : Option Thread) (slots : List Slot) → 0 < k → length slots ≤ k - 1 → threads_of slots ≡ pool_set (threads_of slots) k thread
+put_past zero thread slots h le = absurd (omega (arith, h))
+put_past (suc i) thread slots h le = sym (set_past (threads_of slots) i thread (rw (length_threads slots) (omega (arith, le))))
+
+pub links_at : (k : ℕ) (slots new : List Slot) (slot after : Slot) → k - 1 < length slots → slot ≡ get_or slots (k - 1) slot → new ≡ set slots (k - 1) after → after.link ≡ slot.link → links_of new ≡ links_of slots
+links_at k slots new slot after lt is e same =
+    ap links_of e ∙ map-set_same (λ (s : Slot). s.link) slots (k - 1) after free_slot (same ∙ ap (λ (s : Slot). s.link) (get_or_read slots (k - 1) slot lt is free_slot))
+
+prefix_threads : (f : Option Thread → Bool) (slots : List Slot) → prefix_len (λ (slot : Slot). f slot.thread) slots ≡ prefix_len f (threads_of slots)
+prefix_threads f [] = refl
+prefix_threads f (slot ∷ slots) = ap (λ n. if f slot.thread then 1 + n else 0) (prefix_threads f slots)
+
+pub position_threads : (slots : List Slot) → position (λ (slot : Slot). is_none slot.thread) slots ≡ position is_none (threads_of slots)
+position_threads slots =
+    let same : length (threads_of slots) ≡ length slots = length_threads slots in
+    rw (same, prefix_threads (λ thread. not (is_none thread)) slots) refl
+
+-- ---- a thread in use, and work on it
+
+pub threads_any : (f : Option Thread → Bool) (slots : List Slot) → list_any (λ (slot : Slot). f slot.thread) slots ≡ list_any f (threads_of slots)
+threads_any f [] = refl
+threads_any f (slot ∷ slots) = ap (λ b. f slot.thread || b) (threads_any f slots)
+
+pub replaced_some : (made : Thread) (place : Option Thread) → IsSome place → Some made ≡ option_map (replaced_by made) place
+replaced_some made None used = absurd (cc)
+replaced_some made (Some thread) used = refl
+
+some_below : {X : Type 0} (xs : List (Option X)) (i : ℕ) → IsSome (option_flatten (slice_get xs i)) → i < length xs
+some_below [] i used = absurd (cc)
+some_below (x ∷ xs) zero used = omega arith
+some_below (x ∷ xs) (suc i) used = let lt = some_below xs i used in omega (arith, lt)
+
+-- a number in use is that of a slot
+pub used_below : (slots : List Slot) (k : ℕ) → IsSome (pool_get (threads_of slots) k) → k - 1 < length slots
+used_below slots zero used = absurd (cc)
+used_below slots (suc i) used = rw (place_of_number i) (rw (length_threads slots) at (some_below (threads_of slots) i used))
+
+-- work on the thread of a number in use, as the code reads and writes its slot
+pub used_at : (k i : ℕ) (slots : List Slot) (slot : Slot) → i ≡ k - 1 → 0 < k → IsSome (pool_get (threads_of slots) k) → slot ≡ get_or slots i slot → (get_or slots i slot).thread ≡ pool_get (threads_of slots) k
+used_at k i slots slot same h used is =
+    let here : slot ≡ get_or slots (k - 1) slot = subst (λ (j : ℕ). slot ≡ get_or slots j slot) same is in
+    ap (λ (s : Slot). s.thread) (sym is) ∙ read_at slots k slot h (used_below slots k used) here
+
+pub worked_at : (k i : ℕ) (slots : List Slot) (after : Slot) (made : Thread) → i ≡ k - 1 → 0 < k → IsSome (pool_get (threads_of slots) k) → after.thread ≡ Some made → threads_of (set slots i after) ≡ pool_changed k (replaced_by made) (threads_of slots)
+worked_at zero i slots after made same h used is = absurd (omega (arith, h))
+worked_at (suc j) i slots after made same h used is =
+    let here : i ≡ j = same ∙ place_of_number j in
+    ap (λ (n : ℕ). threads_of (set slots n after)) here
+    ∙ (map-set (λ (s : Slot). s.thread) slots j after ∙ ap (set (threads_of slots) j) (is ∙ replaced_some made (pool_get (threads_of slots) (suc j)) used))
+
+pub worked_links : (i : ℕ) (slots : List Slot) (slot after : Slot) → after.link ≡ (get_or slots i slot).link → links_of (set slots i after) ≡ links_of slots
+worked_links i slots slot after same = map-set_same (λ (s : Slot). s.link) slots i after slot same
 
 -- ---- a partition
 
@@ -60,14 +146,13 @@ length_part-set (x ∷ rows) zero (suc q) row e = refl
 length_part-set (x ∷ rows) (suc p) zero row e = refl
 length_part-set (x ∷ rows) (suc p) (suc q) row e = length_part-set rows p q row e
 
-pub table_threads : (threads : List (List (Option Thread))) (stored : List (List ℕ)) (p : ℕ) (row : List (Option Thread)) → IsTable threads stored → p < length threads → length row ≡ length (part_of threads p) → IsTable (lent threads p row) stored
-table_threads threads stored p row table lt e =
-    rw (lent-same threads p row lt e)
-    (record {
+pub table_threads : (threads : List (List (Option Thread))) (stored : List (List ℕ)) (p : ℕ) (row : List (Option Thread)) → IsTable threads stored → length row ≡ length (part_of threads p) → IsTable (set threads p row) stored
+table_threads threads stored p row table e =
+    record {
       parts = table.parts ∙ sym (length-set threads p row);
       same = λ q. table.same q ∙ sym (length_part-set threads p q row e);
       few = λ q. rw (length_part-set threads p q row e) (table.few q);
-    })
+    }
 
 pub table_stored : (threads : List (List (Option Thread))) (stored : List (List ℕ)) (p : ℕ) (row : List ℕ) → IsTable threads stored → p < length threads → length row ≡ length (part_of stored p) → IsTable threads (lent stored p row)
 table_stored threads stored p row table lt e =
@@ -78,44 +163,6 @@ table_stored threads stored p row table lt e =
       same = λ q. length_part-set stored p q row e ∙ table.same q;
       few = table.few;
     })
-
-length-lent : (threads : List (List (Option Thread))) (p : ℕ) (row : List (Option Thread)) → p < length threads → length row ≡ length (part_of threads p) → length (lent threads p row) ≡ length threads
-length-lent threads p row lt e = rw (lent-same threads p row lt e) (length-set threads p row)
-
-pub table_both : (threads : List (List (Option Thread))) (stored : List (List ℕ)) (p : ℕ) (row : List (Option Thread)) (priorities : List ℕ) → IsTable threads stored → p < length threads
-    → length row ≡ length (part_of threads p) → length priorities ≡ length (part_of stored p) → IsTable (lent threads p row) (lent stored p priorities)
-table_both threads stored p row priorities table lt e f =
-    let lt' : p < length (lent threads p row) = rw (length-lent threads p row lt e) lt in
-    table_stored (lent threads p row) stored p priorities (table_threads threads stored p row table lt e) lt' f
-
--- ---- a loan, whatever it leaves
-
-length-refilled : {X : Type 0} (xs ws : List X) → length (refilled xs ws) ≡ length xs
-length-refilled xs ws = omega (arith, length-take (length xs) (ws ++ drop (length ws) xs), length-append ws (drop (length ws) xs), length-drop (length ws) xs)
-
-length-cut_again : {X : Type 0} (a : ℕ) (parts : List (List X)) (items : List X) → length (cut a (ends_of a parts) items) ≡ length parts
-length-cut_again a [] items = refl
-length-cut_again a (part ∷ parts) items = ap suc (length-cut_again (a + length part) parts items)
-
--- lists are cut again at their own lengths, whatever items there are
-length_part-cut : {X : Type 0} (a : ℕ) (parts : List (List X)) (items : List X) (q : ℕ) → a + length (joined parts) ≤ length items → length (part_of (cut a (ends_of a parts) items) q) ≡ length (part_of parts q)
-length_part-cut a [] items q le = refl
-length_part-cut a (part ∷ parts) items zero le =
-    let room : a + length part ≤ length items = omega (arith, le, length-append part (joined parts)) in
-    omega (arith, room, length-take (a + length part - a) (drop a items), length-drop a items)
-length_part-cut a (part ∷ parts) items (suc q) le = length_part-cut (a + length part) parts items q (omega (arith, le, length-append part (joined parts)))
-
--- a loan leaves a table, even if it left a list of another length
-pub table_lent : (threads : List (List (Option Thread))) (stored : List (List ℕ)) (p : ℕ) (row : List (Option Thread)) → IsTable threads stored → IsTable (lent threads p row) stored
-unfolding lent
-table_lent threads stored p row table =
-    let items : List (Option Thread) = refilled (joined threads) (over (start_at 0 (ends_of 0 threads) p) row (joined threads)) in
-    let room : 0 + length (joined threads) ≤ length items = omega (arith, length-refilled (joined threads) (over (start_at 0 (ends_of 0 threads) p) row (joined threads))) in
-    record {
-      parts = table.parts ∙ sym (length-cut_again 0 threads items);
-      same = λ q. table.same q ∙ sym (length_part-cut 0 threads items q room);
-      few = λ q. rw (length_part-cut 0 threads items q room) (table.few q);
-    }
 
 -- a list for each count is as long as the count
 few_filled : {X : Type 0} (x : X) (counts : List ℕ) → All (λ count. count ≤ 32) counts → (p : ℕ) → length (part_of (map (filled x) counts) p) ≤ 32
@@ -143,8 +190,12 @@ table_filled threads stored slot n counts small e f =
       few = few_filled slot counts small;
     })
 
-pub ruleset pools = (pool_get_below, pool_set_below, stored_of_below, add-one, lent-same, length-set, set_part-same, set_past, set-get_or, set-set, length-pool_set, length-pool_changed, table_threads, table_stored, table_both)
+pub ruleset pools = (pool_get_below, pool_set_below, stored_of_below, add-one, lent-same, length-set, set_part-same, set_past, set-get_or, set-set, length-pool_set, length-pool_changed, table_threads, table_stored)
 
 pub ruleset numbers = (pool_get_below, pool_set_below, stored_of_below, add-one, set_past)
 
-pub ruleset changes = (changed_at, changed_past)
+pub ruleset free_numbers = (position_threads, add-one)
+
+pub ruleset reads = (read_at, read_past)
+
+pub ruleset changes = (changed_at, changed_past, put_at, put_past, links_at)

@@ -1,7 +1,7 @@
 -- A change of one field of a thread.
 use Rattle.ptk_words.specs.declared.threads.Thread.{Thread}
-use Rattle.ptk_threads.specs.declared.slot.Change.{Change}
-use Rattle.ptk_threads.specs.declared.slot.Change.TheVariants.{Policy, AssignedPriority, Used, Phase, Main, Detached, Joiner, Result, Wait}
+use Rattle.ptk_threads.specs.declared.changes.Change.{Change}
+use Rattle.ptk_threads.specs.declared.changes.Change.TheVariants.{Policy, AssignedPriority, Used, Phase, Main, Detached, Joiner, Result, Wait}
 use Rattle.ptk_threads.specs.Table.{with_policy, with_priority, with_used, with_phase, with_main, with_detached_mark, with_joiner, with_result, with_wait}
 
 -- the thread with that field set

@@ -1,4 +1,4 @@
+pub mod Queues
 pub mod Table
 pub mod Changes
-pub mod Lending
 pub mod Registers

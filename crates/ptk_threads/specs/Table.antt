@@ -1,4 +1,4 @@
--- The slot table: the threads of each partition by number, their stored priorities, and what each call makes of it.
+-- The slot table: the threads of each partition by number, their stored priorities and queues, and what each call makes of it.
 use Rattle.std.specs.Prelude.{◌≡◌, ℕ, zero, suc, ◌≤◌, Bool, List, length, Option, Some, None, option_and_then, slice_index, slice_set, map}
 use Rattle.ptk_words.specs.Processor.{Processor}
 use Rattle.ptk_words.specs.Pools.{pool_get, pool_set, pool_changed, least_free}
@@ -7,11 +7,14 @@ use Rattle.ptk_words.specs.declared.threads.Phase.{Phase}
 use Rattle.ptk_words.specs.declared.threads.Policy.{Policy}
 use Rattle.ptk_words.specs.declared.threads.Wait.{Wait}
 use Rattle.ptk_words_parted.specs.Parts.{part_of, filled}
+use Rattle.ptk_threads.specs.Queues.{no_queues}
 
--- by partition and then by number: the threads, None where the number is free, and their stored effective priorities
+-- by partition and then by number: the threads, None where the number is free, and their stored effective priorities;
+-- by partition and then by place: the queues that are linked through the slots
 pub record ThreadTable : Type 0 where
   pub threads : List (List (Option Thread))
   pub stored : List (List ℕ)
+  pub queues : List (List (List ℕ))
 
 -- every partition has as many stored priorities as slots, at most 32
 pub record IsTable (threads : List (List (Option Thread))) (stored : List (List ℕ)) : Type 0 where
@@ -19,9 +22,9 @@ pub record IsTable (threads : List (List (Option Thread))) (stored : List (List 
   pub same : (p : ℕ) → length (part_of stored p) ≡ length (part_of threads p)
   pub few : (p : ℕ) → length (part_of threads p) ≤ 32
 
--- as many free numbers for each partition as its count, with stored priority 0
+-- as many free numbers for each partition as its count, with stored priority 0, and empty queues
 abbrev pub free_table : List ℕ → ThreadTable
-free_table counts = record { threads = map (filled None) counts; stored = map (filled 0) counts }
+free_table counts = record { threads = map (filled None) counts; stored = map (filled 0) counts; queues = map no_queues counts }
 
 -- ---- reading
 
@@ -39,7 +42,7 @@ stored_of stored (suc i) = slice_index stored i
 -- the entry of a number, and its stored priority
 abbrev pub with_slot : ℕ → ℕ → Option Thread → ℕ → ThreadTable → ThreadTable
 with_slot p k slot priority table =
-    record {
+    record table {
       threads = slice_set table.threads p (pool_set (part_of table.threads p) k slot);
       stored = slice_set table.stored p (pool_set (part_of table.stored p) k priority);
     }
@@ -73,7 +76,7 @@ stored_left p k (Some thread) stored = stored
 -- this is left at a number
 abbrev pub with_rest : ℕ → ℕ → Option Thread → ThreadTable → ThreadTable
 with_rest p k rest table =
-    record {
+    record table {
       threads = slice_set table.threads p (pool_set (part_of table.threads p) k rest);
       stored = stored_left p k rest table.stored;
     }
@@ -81,6 +84,12 @@ with_rest p k rest table =
 -- what f leaves of the thread of a number, which is free where f leaves nothing
 abbrev pub with_left : ℕ → ℕ → (Thread → Option Thread) → ThreadTable → ThreadTable
 with_left p k f table = with_rest p k (option_and_then f (thread_in table p k)) table
+
+-- ---- one partition's queues changed
+
+-- a partition's queues changed by f
+abbrev pub with_queues : ℕ → (List (List ℕ) → List (List ℕ)) → ThreadTable → ThreadTable
+with_queues p f table = record table { queues = slice_set table.queues p (f (part_of table.queues p)) }
 
 -- ---- one field of a thread changed
 

@@ -3,10 +3,11 @@
 ghost use Rattle.std.specs.Prelude.{◌≡◌, ◌<◌, length};
 ghost use Rattle.std.specs.Option.{option_copied};
 ghost use Rattle.ptk_words.specs.Pools.{pool_get};
+ghost use Rattle.ptk_threads_slots.specs.Links.{threads_of};
 ghost use Rattle.ptk_threads.specs.Table.{thread_in};
 
-use crate::slot::Slot;
 use crate::threads::Threads;
+use ptk_threads_slots::Slot;
 use ptk_words::{PartId, Thread, ThreadNo};
 
 impl Threads {
@@ -22,9 +23,9 @@ impl Threads {
 
 /// The thread of a number among a partition's slots, None of a free one.
 #[inline]
-#[tactic(auto, using(crate::proofs::Slots::numbers))]
+#[tactic(auto, using(crate::proofs::Slots::reads))]
 fn thread_among(slots: &[Slot], k: ThreadNo) -> Option<&Thread>
-    ensures { option_copied result ≡ pool_get slots.now k }
+    ensures { option_copied result ≡ pool_get (threads_of slots.now) k }
 {
     let i = k.place();
     if i < slots.len() {

@@ -1,25 +1,32 @@
 //! The table: the life of numbers, and the fields of a thread.
 
-ghost use Rattle.std.specs.Prelude.{◌≡◌, ◌<◌, ◌≤◌, length, slice_set, position, is_none, IfOk, All, option_map, option_and_then};
-ghost use Rattle.std.specs.Borrow.{sem};
-ghost use Rattle.ptk_words.specs.Pools.{least_free, pool_get, pool_set, pool_changed};
+ghost use Rattle.std.specs.Prelude.{◌≡◌, ◌↔◌, ◌<◌, ◌≤◌, false, length, slice_set, position, is_none, IsSome, IfSome, IfOk, All, option_map, option_and_then};
+ghost use Rattle.ptk_words.specs.Pools.{least_free, pool_get, pool_set};
 ghost use Rattle.ptk_words.specs.Threads.{left_at_end, left_at_detach};
 ghost use Rattle.ptk_words.specs.declared.threads.Thread.{Thread};
 ghost use Rattle.ptk_words_parted.specs.Parts.{part_of, joined};
-ghost use Rattle.ptk_threads.specs.Table.{free_table, thread_in, stored_of, with_slot, with_changed, with_stored, with_free, with_new, with_rest, with_left, with_cpu, with_policy, with_priority, with_used, with_phase, with_main, with_joiner, with_result, with_wait, with_detached_mark, replaced_by};
+ghost use Rattle.ptk_threads.specs.Table.{free_table, thread_in, stored_of, with_slot, with_changed, with_stored, with_queues, with_free, with_new, with_rest, with_left, with_cpu, with_policy, with_priority, with_used, with_phase, with_main, with_joiner, with_result, with_wait, with_detached_mark, replaced_by};
 ghost use Rattle.ptk_threads.specs.Changes.{thread_changed};
-ghost use Rattle.ptk_threads.specs.Lending.{LendsSlots};
+ghost use Rattle.ptk_threads.specs.Registers.{with_pc};
+ghost use Rattle.ptk_threads.specs.Queues.{AreListed, IsUnqueued, with_last, with_first, with_before, with_none};
+ghost use Rattle.ptk_threads_slots.specs.declared.slot.Slot.{Slot};
+ghost use Rattle.ptk_threads_slots.specs.Links.{links_of, threads_of, queues, AreQueues};
+ghost use Rattle.ptk_words_model.specs.Schedule.{with_reply};
 
-use crate::slot::{Change, Slot};
+use crate::changes::Change;
+use crate::slot_table::{LinkedSlots, SlotTable};
+use crate::work::Work;
+use ptk_threads_slots::{QueueName, Slot, link_of};
 use ptk_words::{Cpu, PartId, Phase, Policy, Priority, Thread, ThreadNo, Wait};
 use ptk_words_parted::Parted;
 use std::alloc::{AllocError, Global};
 use std::marker::Model;
 
-/// The threads of each partition by number from 1, and their stored effective priorities.
+/// The threads of each partition by number from 1, their stored effective priorities, and the queues that are linked
+/// through the slots.
 #[derive(Drop)]
 pub struct Threads {
-    pub(crate) slots: Parted<Slot>,
+    slots: SlotTable,
     stored: Parted<u8>,
 }
 
@@ -28,9 +35,9 @@ impl Model for Threads {
 
     ghost Value = { ThreadTable };
 
-    ghost view = { λ a. record { threads = a.slots; stored = a.stored } };
+    ghost view = { λ a. record { threads = a.slots.threads; stored = a.stored; queues = a.slots.queues } };
 
-    ghost invariant = { λ a. IsTable a.slots a.stored };
+    ghost invariant = { λ a. IsTable a.slots.threads a.stored };
 }
 
 impl Threads {
@@ -40,21 +47,22 @@ impl Threads {
         requires threads { All (λ count. count ≤ 32) counts.now }
         ensures { IfOk result (λ table. table ≡ free_table counts.now) }
     {
-        let slots = Parted::build(alloc, counts, Slot::new(None))?;
+        let slots = SlotTable::build(alloc, counts)?;
         let stored = Parted::build(alloc, counts, 0)?;
         Ok(Threads { slots, stored })
     }
 
-    /// How many partitions there are.
+    /// How many partitions there are; each has 128 queues.
     pub fn parts(&self) -> usize
-        ensures { result ≡ length self.now.threads }
+        ensures parts { result ≡ length self.now.threads }
+        ensures queues { AreListed (length self.now.threads) self.now.queues }
     {
         self.slots.parts()
     }
 
     /// All slots, by partition and then by number.
     pub fn slots(&self) -> &[Slot]
-        ensures { result.now ≡ joined self.now.threads }
+        ensures { threads_of result.now ≡ joined self.now.threads }
     {
         self.slots.whole()
     }
@@ -62,20 +70,21 @@ impl Threads {
     /// The slots of a partition, by number from 1.
     pub fn part(&self, p: PartId) -> &[Slot]
         requires { p < length self.now.threads }
-        ensures slots { result.now ≡ part_of self.now.threads p }
+        ensures slots { threads_of result.now ≡ part_of self.now.threads p }
         ensures few { length result.now ≤ 32 }
     {
         self.slots.part(p)
     }
 
-    /// Lends the slots of a partition for writing, by number from 1; every other partition's slots and all stored
-    /// priorities stay.
-    pub fn lend(&mut self, p: PartId) -> &mut [Slot]
-        requires { p < length self.old.threads }
-        ensures* writes_back { sem 𝓛 (LendsSlots self.entry p result) }
-        ensures value { result.now ≡ part_of self.old.threads p }
+    /// The slots of a partition with their links, and the ends of its queues.
+    pub fn linked(&self, p: PartId) -> LinkedSlots<'_>
+        requires { p < length self.now.threads }
+        ensures threads { threads_of result.slots.now ≡ part_of self.now.threads p }
+        ensures sound { AreQueues (links_of result.slots.now) result.ends.now }
+        ensures places { length result.ends.now ≡ 128 }
+        ensures lists { queues (links_of result.slots.now) result.ends.now ≡ part_of self.now.queues p }
     {
-        self.slots.lend(p)
+        self.slots.linked(p)
     }
 
     /// The thread of a number, None of a free one.
@@ -87,7 +96,7 @@ impl Threads {
     }
 
     /// The least free number of a partition; None where no number is free.
-    #[tactic(auto, using(crate::proofs::Slots::numbers))]
+    #[tactic(auto, using(crate::proofs::Slots::free_numbers))]
     pub fn first_free(&self, p: PartId) -> Option<ThreadNo>
         requires { p < length self.now.threads }
         ensures { result ≡ least_free (part_of self.now.threads p) }
@@ -159,7 +168,26 @@ impl Threads {
         requires { p < length self.old.threads }
         ensures { self.new ≡ with_changed p k (with_cpu cpu) self.old }
     {
-        set_cpu_in(self.slots.lend(p), k, cpu);
+        self.slots.set_cpu(p, k, cpu);
+    }
+
+    /// The thread goes on at this address; its registers stay.
+    #[tactic(auto, using(crate::proofs::Slots::pools))]
+    pub fn set_pc(&mut self, p: PartId, k: ThreadNo, pc: u32)
+        requires { p < length self.old.threads }
+        ensures { self.new ≡ with_changed p k (with_pc pc) self.old }
+    {
+        self.slots.set_pc(p, k, pc);
+    }
+
+    /// Puts at most 3 values into the thread's a0, a1 and so on; its pc stays.
+    #[tactic(auto, using(crate::proofs::Slots::pools))]
+    pub fn set_values(&mut self, p: PartId, k: ThreadNo, values: &[u32])
+        requires partition { p < length self.old.threads }
+        requires few { length values.now < 4 }
+        ensures { self.new ≡ with_changed p k (with_reply values.now) self.old }
+    {
+        self.slots.set_values(p, k, values);
     }
 
     /// Its policy (XSH 2.8.4); None of a free number.
@@ -312,7 +340,17 @@ impl Threads {
         requires { p < length self.old.threads }
         ensures { self.new ≡ with_changed p k (replaced_by thread) self.old }
     {
-        replace_in(self.slots.lend(p), k, thread);
+        self.slots.replace(p, k, thread);
+    }
+
+    /// Does a piece of work on a thread where it lies: nothing of it is copied, and nothing else of the table changes.
+    pub fn work_on<W: Work>(&mut self, p: PartId, k: ThreadNo, work: &mut W) -> W::Answer
+        requires partition { p < length self.old.threads }
+        requires in_use { IsSome (thread_in self.old p k) }
+        requires ready { IfSome (thread_in self.old p k) (W.can_run work.old) }
+        ensures { (made : Thread) × (self.new ≡ with_changed p k (replaced_by made) self.old) × IfSome (thread_in self.old p k) (λ thread. W.has_run work.old thread result work.new made) }
+    {
+        self.slots.work_on(p, k, work)
     }
 
     /// The stored effective priorities of a partition, by number from 1; 0 of a number that was never used.
@@ -351,10 +389,60 @@ impl Threads {
         put_stored(self.stored.lend(p), k, priority);
     }
 
+    /// Whether a thread lies in a queue.
+    #[tactic(auto, using(crate::proofs::Linked::queued_told))]
+    pub fn is_queued(&self, p: PartId, k: ThreadNo) -> bool
+        requires { p < length self.now.threads }
+        ensures { (result ≡ false) ↔ IsUnqueued k (part_of self.now.queues p) }
+    {
+        let part = self.linked(p);
+        let link = link_of(part.slots, k);
+        link.queue.is_some()
+    }
+
+    /// A thread that lies in no queue becomes the last of one.
+    pub fn append(&mut self, p: PartId, name: QueueName, k: ThreadNo)
+        requires partition { p < length self.old.threads }
+        requires slot { k ≤ length (part_of self.old.threads p) }
+        requires free { IsUnqueued k (part_of self.old.queues p) }
+        ensures { self.new ≡ with_queues p (with_last name k) self.old }
+    {
+        self.slots.append(p, name, k);
+    }
+
+    /// A thread that lies in no queue becomes the first of one.
+    pub fn prepend(&mut self, p: PartId, name: QueueName, k: ThreadNo)
+        requires partition { p < length self.old.threads }
+        requires slot { k ≤ length (part_of self.old.threads p) }
+        requires free { IsUnqueued k (part_of self.old.queues p) }
+        ensures { self.new ≡ with_queues p (with_first name k) self.old }
+    {
+        self.slots.prepend(p, name, k);
+    }
+
+    /// A thread that lies in no queue goes before another one, into the queue in which that one lies; nothing changes
+    /// where that one lies in none.
+    pub fn insert(&mut self, p: PartId, k: ThreadNo, before: ThreadNo)
+        requires partition { p < length self.old.threads }
+        requires slot { k ≤ length (part_of self.old.threads p) }
+        requires free { IsUnqueued k (part_of self.old.queues p) }
+        ensures { self.new ≡ with_queues p (with_before k before) self.old }
+    {
+        self.slots.insert(p, k, before);
+    }
+
+    /// A thread leaves the queue in which it lies; nothing changes where it lies in none.
+    pub fn take(&mut self, p: PartId, k: ThreadNo)
+        requires { p < length self.old.threads }
+        ensures { self.new ≡ with_queues p (with_none k) self.old }
+    {
+        self.slots.take(p, k);
+    }
+
     /// The slot of a number, a free one past the partition's.
     fn slot(&self, p: PartId, k: ThreadNo) -> Slot
         requires { p < length self.now.threads }
-        ensures { result ≡ thread_in self.now p k }
+        ensures { result.thread ≡ thread_in self.now p k }
     {
         slot_of(self.part(p), k)
     }
@@ -365,7 +453,7 @@ impl Threads {
         requires { p < length self.old.threads }
         ensures { self.new ≡ with_changed p k (thread_changed change) self.old }
     {
-        change_in(self.slots.lend(p), k, change);
+        self.slots.change(p, k, change);
     }
 
     /// Sets a number's entry and its stored priority; nothing past the partition's slots.
@@ -374,7 +462,7 @@ impl Threads {
         requires { p < length self.old.threads }
         ensures { self.new ≡ with_slot p k thread priority self.old }
     {
-        put_slot(self.slots.lend(p), k, thread);
+        self.slots.put(p, k, thread);
         self.set_stored_priority(p, k, priority);
     }
 
@@ -385,58 +473,22 @@ impl Threads {
         ensures { self.new ≡ with_rest p k left self.old }
     {
         match left {
-            Some(thread) => put_slot(self.slots.lend(p), k, Some(thread)),
+            Some(thread) => self.slots.put(p, k, Some(thread)),
             None => self.put(p, k, None, 0),
         }
     }
 }
 
-/// Changes the thread of a number, if there is one.
-#[tactic(auto, using(crate::proofs::Slots::changes))]
-fn change_in(slots: &mut [Slot], k: ThreadNo, change: Change)
-    ensures { slots.new ≡ pool_changed k (thread_changed change) slots.old }
-{
-    let i = k.place();
-    if i < slots.len() {
-        let slot = &mut slots[i];
-        slot.change(change);
-    }
-}
-
-/// Gives the thread of a number, if there is one, these registers.
-#[tactic(auto, using(crate::proofs::Slots::changes))]
-fn set_cpu_in(slots: &mut [Slot], k: ThreadNo, cpu: Cpu)
-    ensures { slots.new ≡ pool_changed k (with_cpu cpu) slots.old }
-{
-    let i = k.place();
-    if i < slots.len() {
-        let slot = &mut slots[i];
-        slot.set_cpu(cpu);
-    }
-}
-
 /// The slot of a number, a free one past the partition's.
-#[tactic(auto, using(crate::proofs::Slots::numbers))]
+#[tactic(auto, using(crate::proofs::Slots::reads))]
 fn slot_of(slots: &[Slot], k: ThreadNo) -> Slot
-    ensures { result ≡ pool_get slots.now k }
+    ensures { result.thread ≡ pool_get (threads_of slots.now) k }
 {
     let i = k.place();
     if i < slots.len() {
         slots[i]
     } else {
         Slot::new(None)
-    }
-}
-
-/// Puts this thread in place of the one of a number, if there is one.
-#[tactic(auto, using(crate::proofs::Slots::changes))]
-fn replace_in(slots: &mut [Slot], k: ThreadNo, thread: Thread)
-    ensures { slots.new ≡ pool_changed k (replaced_by thread) slots.old }
-{
-    let i = k.place();
-    if i < slots.len() {
-        let slot = &mut slots[i];
-        slot.replace(thread);
     }
 }
 
@@ -447,17 +499,6 @@ pub fn stored_in(stored: &[u8], k: ThreadNo) -> u8
 {
     let i = k.place();
     if i < stored.len() { stored[i] } else { 0 }
-}
-
-/// Sets the entry of a number.
-#[tactic(auto, using(crate::proofs::Slots::numbers))]
-fn put_slot(slots: &mut [Slot], k: ThreadNo, thread: Option<Thread>)
-    ensures { slots.new ≡ pool_set slots.old k thread }
-{
-    let i = k.place();
-    if i < slots.len() {
-        slots[i] = Slot::new(thread);
-    }
 }
 
 /// Sets the stored priority of a number.
@@ -473,7 +514,7 @@ fn put_stored(stored: &mut [u8], k: ThreadNo, priority: u8)
 
 /// The place of the first free slot, from 0.
 fn first_free_place(slots: &[Slot]) -> Option<usize>
-    ensures { result ≡ position is_none slots.now }
+    ensures { result ≡ position (λ (slot : Slot). is_none slot.thread) slots.now }
 {
     slots.iter().position(|slot| slot.is_free())
 }

@@ -9,8 +9,7 @@ use Rattle.std.proofs.Math.Seq.{map-set_same}
 use Rattle.std.proofs.lemmas.Bool.{cases_eq}
 use Rattle.std.proofs.lemmas.List.{map-set, length-map, get_or-set_same, get_or-set_other, get_or_read}
 use Rattle.ptk_threads_slots.specs.declared.slot.Slot.{Slot}
-use Rattle.ptk_threads_slots.proofs.Slots.{free_slot}
-use Rattle.ptk_threads_slots.specs.Links.{links_of, threads_of, link_in, no_link, no_ends, place_of, AreQueues, queues}
+use Rattle.ptk_threads_slots.specs.Links.{links_of, threads_of, link_in, no_link, no_ends, free_slot, place_of, AreQueues, queues}
 
 none_distinct : IsDistinct nat_eq []
 unfolding IsDistinct

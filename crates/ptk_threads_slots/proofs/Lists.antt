@@ -56,7 +56,15 @@ put_split k b (x ∷ xs) ys out =
     let apart : nat_eq b x ≡ false = grind (arith, nat_tests, both.0) in
     rw apart (ap (λ l. x ∷ l) (put_split k b xs ys both.1))
 
-without_none : (k : ℕ) (ys : List ℕ) → is_in k ys ≡ false → without k ys ≡ ys
+-- what is not there changes nothing
+pub put_none : (k b : ℕ) (ys : List ℕ) → is_in b ys ≡ false → put_before k b ys ≡ ys
+put_none k b [] out = refl
+put_none k b (y ∷ ys) out =
+    let both = out_parts b (y ∷ []) ys out in
+    let apart : nat_eq b y ≡ false = grind (arith, nat_tests, both.0) in
+    rw apart (ap (λ l. y ∷ l) (put_none k b ys both.1))
+
+pub without_none : (k : ℕ) (ys : List ℕ) → is_in k ys ≡ false → without k ys ≡ ys
 without_none k [] out = refl
 without_none k (y ∷ ys) out =
     let both = out_parts k (y ∷ []) ys out in

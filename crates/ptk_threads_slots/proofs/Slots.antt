@@ -1,16 +1,12 @@
 -- The links and threads of slots, read and written at a number.
 use Rattle.std.proofs.Common.{◌≡◌, ℕ, zero, suc, ◌-◌, ◌<◌, ◌≤◌, List, length, sym, ◌∙◌, ap, arith, get_or}
-use Rattle.std.specs.Prelude.{None}
 use Rattle.std.proofs.Math.ListN.{set, get_or-map}
 use Rattle.std.proofs.Math.Seq.{map-set_same}
 use Rattle.std.proofs.lemmas.List.{get_or_past, length-map, map-set, set_past, get_or_read}
 use Rattle.ptk_words.specs.Pools.{pool_set}
 use Rattle.ptk_threads_slots.specs.declared.link.Link.{Link}
 use Rattle.ptk_threads_slots.specs.declared.slot.Slot.{Slot}
-use Rattle.ptk_threads_slots.specs.Links.{links_of, threads_of, link_in, no_link}
-
-abbrev pub free_slot : Slot
-free_slot = record { thread = None; link = no_link }
+use Rattle.ptk_threads_slots.specs.Links.{links_of, threads_of, link_in, no_link, free_slot}
 
 -- a read as the code makes it
 pub link_here : (slots : List Slot) (k : ℕ) (slot : Slot) → 0 < k → k - 1 < length slots → slot ≡ get_or slots (k - 1) slot → slot.link ≡ link_in (links_of slots) k

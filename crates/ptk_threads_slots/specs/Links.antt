@@ -25,6 +25,10 @@ no_link = record { previous = None; next = None; queue = None }
 abbrev pub no_ends : Ends
 no_ends = record { first = None; last = None }
 
+-- the slot of no thread
+abbrev pub free_slot : Slot
+free_slot = record { thread = None; link = no_link }
+
 -- the links of the slots, and their threads
 abbrev pub links_of : List Slot → List Link
 links_of slots = map (λ (slot : Slot). slot.link) slots

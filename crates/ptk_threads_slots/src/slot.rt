@@ -1,11 +1,13 @@
 //! The slots of one partition, read and written at a thread's number.
 
-ghost use Rattle.std.specs.Prelude.{◌≡◌, ◌<◌};
+ghost use Rattle.std.specs.Prelude.{◌≡◌, ◌<◌, is_none, option_map, option_and_then};
+ghost use Rattle.std.specs.Option.{option_copied};
 ghost use Rattle.ptk_words.specs.Pools.{pool_set};
-ghost use Rattle.ptk_threads_slots.specs.Links.{links_of, threads_of, link_in, with_next, with_previous};
+ghost use Rattle.ptk_words.specs.declared.threads.Thread.{Thread};
+ghost use Rattle.ptk_threads_slots.specs.Links.{links_of, threads_of, link_in, no_link, with_next, with_previous};
 
-use crate::link::Link;
-use ptk_words::{Thread, ThreadNo};
+use crate::link::{Link, QueueName};
+use ptk_words::{Cpu, Phase, Policy, Priority, Thread, ThreadNo, Wait};
 
 /// A place for a thread, and its link in the queue that the thread lies in.
 #[derive(Clone, Copy)]
@@ -14,6 +16,162 @@ pub struct Slot {
     pub thread: Option<Thread>,
     /// Its link.
     pub link: Link,
+}
+
+impl Slot {
+    /// A slot with this thread, or with none, which lies in no queue.
+    pub fn new(thread: Option<Thread>) -> Slot
+        ensures { result ≡ record { thread = thread; link = no_link } }
+    {
+        let link = Link::none();
+        Slot { thread, link }
+    }
+
+    /// The thread, None in a free slot.
+    pub fn thread(&self) -> Option<Thread>
+        ensures { result ≡ self.now.thread }
+    {
+        self.thread
+    }
+
+    /// The thread where it lies, None in a free slot.
+    #[inline]
+    pub fn thread_ref(&self) -> Option<&Thread>
+        ensures { option_copied result ≡ self.now.thread }
+    {
+        match &self.thread {
+            Some(thread) => Some(thread),
+            None => None,
+        }
+    }
+
+    /// Whether no thread has it.
+    pub fn is_free(&self) -> bool
+        ensures { result ≡ is_none self.now.thread }
+    {
+        self.thread.is_none()
+    }
+
+    /// Its thread's registers and pc; None in a free slot.
+    pub fn cpu(&self) -> Option<Cpu>
+        ensures { result ≡ option_map (λ (thread : Thread). thread.cpu) self.now.thread }
+    {
+        match &self.thread {
+            Some(thread) => Some(thread.cpu),
+            None => None,
+        }
+    }
+
+    /// Its thread's policy; None in a free slot.
+    pub fn policy(&self) -> Option<Policy>
+        ensures { result ≡ option_map (λ (thread : Thread). thread.policy) self.now.thread }
+    {
+        match &self.thread {
+            Some(thread) => Some(thread.policy),
+            None => None,
+        }
+    }
+
+    /// Its thread's assigned priority; None in a free slot.
+    pub fn assigned_priority(&self) -> Option<Priority>
+        ensures { result ≡ option_map (λ (thread : Thread). thread.priority) self.now.thread }
+    {
+        match &self.thread {
+            Some(thread) => Some(thread.priority),
+            None => None,
+        }
+    }
+
+    /// The ticks that its thread used of a round-robin interval; None in a free slot.
+    pub fn used(&self) -> Option<u32>
+        ensures { result ≡ option_map (λ (thread : Thread). thread.used) self.now.thread }
+    {
+        match &self.thread {
+            Some(thread) => Some(thread.used),
+            None => None,
+        }
+    }
+
+    /// How far its thread is; None in a free slot.
+    pub fn phase(&self) -> Option<Phase>
+        ensures { result ≡ option_map (λ (thread : Thread). thread.phase) self.now.thread }
+    {
+        match &self.thread {
+            Some(thread) => Some(thread.phase),
+            None => None,
+        }
+    }
+
+    /// Whether the image started its thread; None in a free slot.
+    pub fn is_main(&self) -> Option<bool>
+        ensures { result ≡ option_map (λ (thread : Thread). thread.is_main) self.now.thread }
+    {
+        match &self.thread {
+            Some(thread) => Some(thread.is_main),
+            None => None,
+        }
+    }
+
+    /// Whether its thread's number is free at its end; None in a free slot.
+    pub fn is_detached(&self) -> Option<bool>
+        ensures { result ≡ option_map (λ (thread : Thread). thread.is_detached) self.now.thread }
+    {
+        match &self.thread {
+            Some(thread) => Some(thread.is_detached),
+            None => None,
+        }
+    }
+
+    /// What a joiner of its thread is told; None in a free slot.
+    pub fn result(&self) -> Option<u32>
+        ensures { result ≡ option_map (λ (thread : Thread). thread.result) self.now.thread }
+    {
+        match &self.thread {
+            Some(thread) => Some(thread.result),
+            None => None,
+        }
+    }
+
+    /// The thread that waits for its thread's end; None in a free slot too.
+    pub fn joiner(&self) -> Option<ThreadNo>
+        ensures { result ≡ option_and_then (λ (thread : Thread). thread.joiner) self.now.thread }
+    {
+        match &self.thread {
+            Some(thread) => thread.joiner,
+            None => None,
+        }
+    }
+
+    /// What its thread waits for; None in a free slot too.
+    pub fn wait(&self) -> Option<Wait>
+        ensures { result ≡ option_and_then (λ (thread : Thread). thread.wait) self.now.thread }
+    {
+        match &self.thread {
+            Some(thread) => thread.wait,
+            None => None,
+        }
+    }
+
+    /// The thread before its own in the queue; None of the first one, and of a thread that lies in no queue.
+    pub fn previous(&self) -> Option<ThreadNo>
+        ensures { result ≡ self.now.link.previous }
+    {
+        self.link.previous
+    }
+
+    /// The thread after its own in the queue; None of the last one, and of a thread that lies in no queue.
+    pub fn next(&self) -> Option<ThreadNo>
+        ensures { result ≡ self.now.link.next }
+    {
+        self.link.next
+    }
+
+    /// The queue that its thread lies in; None of a thread that lies in none.
+    pub fn queue(&self) -> Option<QueueName>
+        ensures { result ≡ self.now.link.queue }
+    {
+        self.link.queue
+    }
 }
 
 /// The link of a thread; that of no queue past the slots.

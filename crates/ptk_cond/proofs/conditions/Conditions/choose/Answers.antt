@@ -2,10 +2,15 @@ use Rattle.std.proofs.Common.{◌∙◌, ap, List, ℕ}
 use Rattle.ptk_words.specs.Pools.{first_of_greatest}
 use Rattle.ptk_words_parted.specs.Parts.{part_of}
 use Rattle.ptk_threads.specs.Table.{stored_of}
-use Rattle.ptk_cond.proofs.Steps.{next-is}
+use Rattle.ptk_cond.proofs.Steps.{next-is, next_may}
 use Rattle.ptk_cond.proofs.conditions.Conditions.choose.Goals as goal
 
 pub returns-clause-told : goal.returns-clause-told
 returns-clause-told c =
     next-is c.args.p c.args.c c.first_of_greatest.result c.args.threads.now c.args.line.now c.args.mutexes.now c.args.self.now c.requires.ready
+    (c.first_of_greatest.ensures ∙ ap (λ (ks : List ℕ). first_of_greatest (stored_of (part_of c.args.threads.now.stored c.args.p)) ks) c.waiters.ensures)
+
+pub returns-clause-may : goal.returns-clause-may
+returns-clause-may c =
+    next_may c.args.p c.args.c c.first_of_greatest.result c.args.threads.now c.args.line.now c.args.mutexes.now c.args.self.now c.requires.ready
     (c.first_of_greatest.ensures ∙ ap (λ (ks : List ℕ). first_of_greatest (stored_of (part_of c.args.threads.now.stored c.args.p)) ks) c.waiters.ensures)

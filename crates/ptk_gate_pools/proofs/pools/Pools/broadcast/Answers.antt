@@ -12,7 +12,7 @@ broadcast-woken-requires c =
     let old = c.self.invariant in
     record {
       ready = synced_is c.args.p _ (limits_at c.args.p c.args.self.now) (part_at c.args.p c.args.self.now) c.self.inside.threads c.self.inside.line c.self.inside.mutexes c.self.inside.conditions (within_of c.args.p c.self.inside c.args.self.now c.self.view_is c.requires.partition)
-          old.threads old.priorities old.lines old.mutexes old.conditions old.stored (ap (λ (kept : Kept). (part_at c.args.p kept).syncs) (sym c.self.view_is)) c.requires.well;
+          old.threads old.priorities old.lines old.mutexes old.conditions old.stored old.idle (ap (λ (kept : Kept). (part_at c.args.p kept).syncs) (sym c.self.view_is)) c.requires.well;
     }
 
 -- whoever is woken has no deadline

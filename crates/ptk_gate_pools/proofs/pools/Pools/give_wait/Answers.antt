@@ -1,6 +1,7 @@
-use Rattle.std.proofs.Common.{◌∙◌, ap, sym, length}
+use Rattle.std.proofs.Common.{◌∙◌, ap, sym, subst, length}
 use Rattle.std.proofs.lemmas.List.{length-set}
 use Rattle.ptk_threads.specs.Table.{ThreadTable, with_wait}
+use Rattle.ptk_ready.specs.Queues.{AreUnused}
 use Rattle.ptk_gate_pools.proofs.Stored.{stored_wait}
 use Rattle.ptk_gate_pools.proofs.Timed.{timed_wait}
 use Rattle.ptk_gate_pools.proofs.Changed.{within_of, wait_pooled}
@@ -32,6 +33,7 @@ invariant_of-self c =
       stored = stored_wait c.args.p c.args.t c.args.wait c.wait.result c.self.inside.threads c.set_wait.new.self c.self.inside.mutexes c.set_wait.ensures c.wait.ensures
           (sym c.is_for_mutex-had_mutex.ensures ∙ c.if-not-had_mutex.true) (sym c.is_for_mutex-has_mutex.ensures ∙ c.if-not-has_mutex.true) old.stored;
       timed = timed_wait c.args.p c.args.t (with_wait c.args.wait) c.self.inside.threads c.set_wait.new.self c.self.inside.deadlines c.follow_wait.new.deadlines c.set_wait.ensures c.follow_wait.ensures old.timed;
+      idle = subst AreUnused (sym (ap (λ (table : ThreadTable). table.queues) c.set_wait.ensures)) old.idle;
     }
 
 -- the priorities are made again

@@ -1,0 +1,29 @@
+-- The slot table's queues of ready threads, and those of waiters (own).
+use Rattle.std.proofs.Common.{◌≡◌, ℕ, ◌<◌, false, List, [], take, drop, map, sym, ◌∙◌, ap}
+use Rattle.std.proofs.Math.ListN.{get_or-map}
+use Rattle.std.proofs.lemmas.List.{get_or-take}
+use Rattle.ptk_words.specs.Pools.{is_in}
+use Rattle.ptk_words_parted.specs.Parts.{part_of}
+
+-- by partition: the first 32 queues, one for each priority, and those after them
+abbrev pub ready_queues : List (List (List ℕ)) → List (List (List ℕ))
+ready_queues queues = map (take 32) queues
+
+abbrev pub waiters_of : List (List (List ℕ)) → List (List (List ℕ))
+waiters_of queues = map (drop 32) queues
+
+-- no thread lies in a queue of ready threads
+abbrev pub AreUnused : List (List (List ℕ)) → Type 0
+AreUnused queues = (p i : ℕ) → i < 32 → part_of (part_of queues p) i ≡ []
+
+-- ---- what the laws of a line without queues say
+
+list_ready : (queues : List (List (List ℕ))) (p i : ℕ) → i < 32 → part_of (part_of (ready_queues queues) p) i ≡ part_of (part_of queues p) i
+list_ready queues p i lt = ap (λ lists. part_of lists i) (get_or-map (take 32) queues p []) ∙ get_or-take 32 (part_of queues p) i [] lt
+
+pub unused_same : (a b : List (List (List ℕ))) → ready_queues a ≡ ready_queues b → AreUnused a → AreUnused b
+unused_same a b same unused = λ p i lt.
+    sym (list_ready b p i lt) ∙ (ap (λ queues. part_of (part_of queues p) i) (sym same) ∙ (list_ready a p i lt ∙ unused p i lt))
+
+pub unused_apart : (queues : List (List (List ℕ))) (p k i : ℕ) → AreUnused queues → i < 32 → is_in k (part_of (part_of queues p) i) ≡ false
+unused_apart queues p k i unused lt = ap (is_in k) (unused p i lt)

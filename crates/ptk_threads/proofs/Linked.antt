@@ -1,0 +1,332 @@
+-- The table of slots after a change of one partition's threads, or of its queues.
+use Rattle.std.proofs.Common.{◌≡◌, ◌≢◌, ℕ, zero, suc, ◌<◌, ◌≤◌, List, [], ◌∷◌, ◌++◌, length, map, take, true, false, refl, sym, ◌∙◌, ap, subst, arith, inl, inr}
+use Rattle.std.specs.Prelude.{is_some, option_map, ◌↔◌, Option, Some, None, replicate}
+use Rattle.std.proofs.Math.ListN.{set, get_or-map}
+use Rattle.std.proofs.lemmas.Bool.{cases_eq}
+use Rattle.std.proofs.lemmas.List.{length-replicate, length-map, map-set, map-append, length-set, get_or-set_same, get_or-set_other}
+use Rattle.ptk_words.specs.Pools.{is_in, without}
+use Rattle.ptk_words.specs.declared.threads.Thread.{Thread}
+use Rattle.ptk_words_parted.specs.Parts.{part_of, joined, filled}
+use Rattle.ptk_words_parted.specs.Cuts.{lent}
+use Rattle.ptk_words_parted.proofs.Cuts.{lent-same}
+use Rattle.ptk_threads_slots.specs.declared.link.Ends.{Ends}
+use Rattle.ptk_threads_slots.specs.declared.link.Link.{Link}
+use Rattle.ptk_threads_slots.specs.declared.link.QueueName.{QueueName}
+use Rattle.ptk_threads_slots.specs.declared.slot.Slot.{Slot}
+use Rattle.ptk_threads_slots.specs.Links.{place_of, link_in, links_of, threads_of, free_slot, no_link, no_ends, mark_of, queue_from, queue_at, queues, AreQueues}
+use Rattle.ptk_threads_slots.specs.Changes.{put_before, with_inserted, with_taken}
+use Rattle.ptk_threads_slots.proofs.Along.{along_marked, not_true}
+use Rattle.ptk_threads_slots.proofs.Lists.{list_at, without_none, put_none}
+use Rattle.ptk_threads_slots.proofs.Empty.{empty_queues, empty_lists}
+use Rattle.ptk_threads.specs.Queues.{LinkedThreads, queues_by, AreLinked, AreListed, IsUnqueued, with_before, with_none}
+
+-- ---- reading
+
+pub part_threads : (slots : List (List Slot)) (p : ℕ) → part_of (map threads_of slots) p ≡ threads_of (part_of slots p)
+part_threads slots p = get_or-map threads_of slots p []
+
+pub joined_threads : (slots : List (List Slot)) → threads_of (joined slots) ≡ joined (map threads_of slots)
+joined_threads [] = refl
+joined_threads (part ∷ slots) = map-append (λ (slot : Slot). slot.thread) part (joined slots) ∙ ap (λ l. threads_of part ++ l) (joined_threads slots)
+
+part_queues : (slots : List (List Slot)) (ends : List (List Ends)) (p : ℕ) → length ends ≡ length slots → part_of (queues_by slots ends) p ≡ queues (links_of (part_of slots p)) (part_of ends p)
+part_queues [] [] p e = refl
+part_queues [] (end ∷ ends) p e = absurd (omega (arith, e))
+part_queues (part ∷ slots) [] p e = absurd (omega (arith, e))
+part_queues (part ∷ slots) (end ∷ ends) zero e = refl
+part_queues (part ∷ slots) (end ∷ ends) (suc p) e = part_queues slots ends p (omega (arith, e))
+
+length_queues : (slots : List (List Slot)) (ends : List (List Ends)) → length (queues_by slots ends) ≡ length slots
+length_queues [] ends = refl
+length_queues (part ∷ slots) [] = ap suc (length_queues slots [])
+length_queues (part ∷ slots) (end ∷ ends) = ap suc (length_queues slots ends)
+
+pub part_linked : (slots : List (List Slot)) (ends : List (List Ends)) (p : ℕ) → AreLinked slots ends → queues (links_of (part_of slots p)) (part_of ends p) ≡ part_of (queues_by slots ends) p
+part_linked slots ends p are = sym (part_queues slots ends p are.parts)
+
+pub listed : (slots : List (List Slot)) (ends : List (List Ends)) → AreLinked slots ends → AreListed (length slots) (queues_by slots ends)
+listed slots ends are = record {
+  same = length_queues slots ends;
+  places = λ p lt. ap length (part_queues slots ends p are.parts) ∙ (length-map (part_of ends p) (queue_from (links_of (part_of slots p))) ∙ are.places p lt);
+}
+
+-- ---- threads changed, and no link
+
+same_length : (w part : List Slot) → links_of w ≡ links_of part → length w ≡ length part
+same_length w part e = sym (length-map w (λ (slot : Slot). slot.link)) ∙ (ap length e ∙ length-map part (λ (slot : Slot). slot.link))
+
+lent_set : (slots : List (List Slot)) (p : ℕ) (w : List Slot) → p < length (map threads_of slots) → links_of w ≡ links_of (part_of slots p) → lent slots p w ≡ set slots p w
+lent_set slots p w lt e = lent-same slots p w (rw (length-map slots threads_of) at lt) (same_length w (part_of slots p) e)
+
+pub threads_lent : (slots : List (List Slot)) (p : ℕ) (w : List Slot) (row : List (Option Thread)) → p < length (map threads_of slots) → links_of w ≡ links_of (part_of slots p) → threads_of w ≡ row
+    → map threads_of (lent slots p w) ≡ set (map threads_of slots) p row
+threads_lent slots p w row lt e is = ap (map threads_of) (lent_set slots p w lt e) ∙ (map-set threads_of slots p w ∙ ap (set (map threads_of slots) p) is)
+
+queues_same : (slots : List (List Slot)) (ends : List (List Ends)) (p : ℕ) (w : List Slot) → links_of w ≡ links_of (part_of slots p) → queues_by (set slots p w) ends ≡ queues_by slots ends
+queues_same [] ends p w e = refl
+queues_same (part ∷ slots) [] zero w e = refl
+queues_same (part ∷ slots) [] (suc p) w e = ap (λ l. [] ∷ l) (queues_same slots [] p w e)
+queues_same (part ∷ slots) (end ∷ ends) zero w e = ap (λ links. queues links end ∷ queues_by slots ends) e
+queues_same (part ∷ slots) (end ∷ ends) (suc p) w e = ap (λ l. queues (links_of part) end ∷ l) (queues_same slots ends p w e)
+
+pub queues_lent : (slots : List (List Slot)) (ends : List (List Ends)) (p : ℕ) (w : List Slot) → p < length (map threads_of slots) → links_of w ≡ links_of (part_of slots p) → queues_by (lent slots p w) ends ≡ queues_by slots ends
+queues_lent slots ends p w lt e = ap (λ l. queues_by l ends) (lent_set slots p w lt e) ∙ queues_same slots ends p w e
+
+links_same : (slots : List (List Slot)) (p q : ℕ) (w : List Slot) → links_of w ≡ links_of (part_of slots p) → links_of (part_of (set slots p w) q) ≡ links_of (part_of slots q)
+links_same [] p q w e = refl
+links_same (part ∷ slots) zero zero w e = e
+links_same (part ∷ slots) zero (suc q) w e = refl
+links_same (part ∷ slots) (suc p) zero w e = refl
+links_same (part ∷ slots) (suc p) (suc q) w e = links_same slots p q w e
+
+linked_same : (slots : List (List Slot)) (ends : List (List Ends)) (p : ℕ) (w : List Slot) → AreLinked slots ends → links_of w ≡ links_of (part_of slots p) → AreLinked (set slots p w) ends
+linked_same slots ends p w are e = record {
+  parts = are.parts ∙ sym (length-set slots p w);
+  places = λ q lt. are.places q (rw (length-set slots p w) at lt);
+  each = λ q. subst (λ links. AreQueues links (part_of ends q)) (sym (links_same slots p q w e)) (are.each q);
+}
+
+pub linked_lent : (slots : List (List Slot)) (ends : List (List Ends)) (p : ℕ) (w : List Slot) → AreLinked slots ends → p < length (map threads_of slots) → links_of w ≡ links_of (part_of slots p) → AreLinked (lent slots p w) ends
+linked_lent slots ends p w are lt e = rw (lent_set slots p w lt e) (linked_same slots ends p w are e)
+
+-- ---- one queue changed, and no thread
+
+length_threads : (w part : List Slot) → threads_of w ≡ threads_of part → length w ≡ length part
+length_threads w part e = sym (length-map w (λ (slot : Slot). slot.thread)) ∙ (ap length e ∙ length-map part (λ (slot : Slot). slot.thread))
+
+threads_same : (slots : List (List Slot)) (p : ℕ) (w : List Slot) → threads_of w ≡ threads_of (part_of slots p) → map threads_of (set slots p w) ≡ map threads_of slots
+threads_same [] p w e = refl
+threads_same (part ∷ slots) zero w e = ap (λ l. l ∷ map threads_of slots) e
+threads_same (part ∷ slots) (suc p) w e = ap (λ l. threads_of part ∷ l) (threads_same slots p w e)
+
+queues_set : (slots : List (List Slot)) (ends : List (List Ends)) (p : ℕ) (w : List Slot) (late : List Ends) → length ends ≡ length slots
+    → queues_by (set slots p w) (set ends p late) ≡ set (queues_by slots ends) p (queues (links_of w) late)
+queues_set [] [] p w late e = refl
+queues_set [] (end ∷ ends) p w late e = absurd (omega (arith, e))
+queues_set (part ∷ slots) [] p w late e = absurd (omega (arith, e))
+queues_set (part ∷ slots) (end ∷ ends) zero w late e = refl
+queues_set (part ∷ slots) (end ∷ ends) (suc p) w late e = ap (λ l. queues (links_of part) end ∷ l) (queues_set slots ends p w late (omega (arith, e)))
+
+linked_set : (slots : List (List Slot)) (ends : List (List Ends)) (p : ℕ) (w : List Slot) (late : List Ends) → AreLinked slots ends → p < length slots → AreQueues (links_of w) late → length late ≡ 128 → AreLinked (set slots p w) (set ends p late)
+linked_set slots ends p w late are lt queued long =
+    let lt' : p < length ends = omega (arith, lt, are.parts) in
+    record {
+      parts = length-set ends p late ∙ (are.parts ∙ sym (length-set slots p w));
+      places = λ q below. elim (cases_eq q p) as (λ _. length (part_of (set ends p late) q) ≡ 128) [
+        | inl e ↦ rw e (ap length (get_or-set_same ends p late [] lt') ∙ long)
+        | inr ne ↦ ap length (get_or-set_other ends p q late [] ne) ∙ are.places q (rw (length-set slots p w) at below)
+      ];
+      each = λ q. elim (cases_eq q p) as (λ _. AreQueues (links_of (part_of (set slots p w) q)) (part_of (set ends p late) q)) [
+        | inl e ↦ rw (e, get_or-set_same slots p w [] lt, get_or-set_same ends p late [] lt') queued
+        | inr ne ↦ rw (get_or-set_other slots p q w [] ne, get_or-set_other ends p q late [] ne) (are.each q)
+      ];
+    }
+
+-- a partition's slots and ends lent for a change of one queue
+pub record AreRelinked (slots : List (List Slot)) (ends : List (List Ends)) (p : ℕ) (w : List Slot) (late : List Ends) (lists : List (List ℕ)) : Type 0 where
+  pub linked : AreLinked (lent slots p w) (lent ends p late)
+  pub threads : map threads_of (lent slots p w) ≡ map threads_of slots
+  pub queues : queues_by (lent slots p w) (lent ends p late) ≡ set (queues_by slots ends) p lists
+
+pub relinked : (slots : List (List Slot)) (ends : List (List Ends)) (p : ℕ) (w : List Slot) (late : List Ends) (lists : List (List ℕ)) → AreLinked slots ends → p < length (map threads_of slots)
+    → AreQueues (links_of w) late → threads_of w ≡ threads_of (part_of slots p) → length late ≡ 128 → queues (links_of w) late ≡ lists → AreRelinked slots ends p w late lists
+relinked slots ends p w late lists are lt queued same long is =
+    let below : p < length slots = rw (length-map slots threads_of) at lt in
+    let below' : p < length ends = omega (arith, below, are.parts) in
+    let first : lent slots p w ≡ set slots p w = lent-same slots p w below (length_threads w (part_of slots p) same) in
+    let second : lent ends p late ≡ set ends p late = lent-same ends p late below' (long ∙ sym (are.places p below)) in
+    record {
+      linked = rw (first, second) (linked_set slots ends p w late are below queued long);
+      threads = ap (map threads_of) first ∙ threads_same slots p w same;
+      queues = ap (λ l. queues_by l (lent ends p late)) first ∙ (ap (queues_by (set slots p w)) second ∙ (queues_set slots ends p w late are.parts ∙ ap (set (queues_by slots ends) p) is));
+    }
+
+-- ---- who lies in no queue
+
+none_of : (o : Option ℕ) → ((i : ℕ) → o ≡ Some i → ⊥) → o ≡ None
+none_of None h = refl
+none_of (Some i) h = absurd (h i refl)
+
+member_mark : (links : List Link) (ends : List Ends) (k i : ℕ) → AreQueues links ends → is_in k (part_of (queues links ends) i) ≡ true → mark_of links k ≡ Some i
+member_mark links ends k i are inside =
+    along_marked links i None None (queue_at links ends i) k (are.each i).along (subst (λ l. is_in k l ≡ true) (list_at links ends i) inside)
+
+pub unqueued_mark : (links : List Link) (ends : List Ends) (k : ℕ) → AreQueues links ends → IsUnqueued k (queues links ends) → mark_of links k ≡ None
+unqueued_mark links ends k are out = none_of (mark_of links k) (λ i mark.
+    (let inside : is_in k (part_of (queues links ends) i) ≡ true = subst (λ l. is_in k l ≡ true) (sym (list_at links ends i)) (are.marked k i mark) in
+    let outside = out i in absurd (cc)))
+
+-- ---- one queue changed as all are
+
+map_same : (f : List ℕ → List ℕ) (lists : List (List ℕ)) → ((j : ℕ) → f (part_of lists j) ≡ part_of lists j) → map f lists ≡ lists
+map_same f [] h = refl
+map_same f (x ∷ lists) h = ap (λ y. y ∷ map f lists) (h 0) ∙ ap (λ l. x ∷ l) (map_same f lists (λ j. h (suc j)))
+
+map_at : (f : List ℕ → List ℕ) (lists : List (List ℕ)) (i : ℕ) → ((j : ℕ) → j ≢ i → f (part_of lists j) ≡ part_of lists j) → map f lists ≡ set lists i (f (part_of lists i))
+map_at f [] i h = refl
+map_at f (x ∷ lists) zero h = ap (λ l. f x ∷ l) (map_same f lists (λ j. h (suc j) (λ e. absurd (omega (arith, e)))))
+map_at f (x ∷ lists) (suc i) h =
+    ap (λ y. y ∷ map f lists) (h 0 (λ e. absurd (omega (arith, e)))) ∙ ap (λ l. x ∷ l) (map_at f lists i (λ j ne. h (suc j) (λ e. ne (omega (arith, e)))))
+
+-- who is not in a queue with another mark
+outside : (links : List Link) (ends : List Ends) (k j : ℕ) (mark : Option ℕ) → AreQueues links ends → mark_of links k ≡ mark → mark ≢ Some j → is_in k (part_of (queues links ends) j) ≡ false
+outside links ends k j mark are is ne = not_true (is_in k (part_of (queues links ends) j)) (λ inside. ne (sym is ∙ member_mark links ends k j are inside))
+
+some_other : (i j : ℕ) → j ≢ i → Some i ≢ Some j
+some_other i j ne e = ne (let same : i ≡ j = cc in sym same)
+
+none_some : (j : ℕ) → None ≢ Some j
+none_some j e = absurd (cc)
+
+inserted_at : (links : List Link) (ends : List Ends) (k before : ℕ) (mark : Option ℕ) → AreQueues links ends → mark_of links before ≡ mark → with_inserted mark k before (queues links ends) ≡ map (put_before k before) (queues links ends)
+inserted_at links ends k before None are is = sym (map_same (put_before k before) (queues links ends) (λ j. put_none k before (part_of (queues links ends) j) (outside links ends before j None are is (none_some j))))
+inserted_at links ends k before (Some i) are is =
+    sym (map_at (put_before k before) (queues links ends) i (λ j ne. put_none k before (part_of (queues links ends) j) (outside links ends before j (Some i) are is (some_other i j ne))))
+
+pub inserted_all : (links : List Link) (ends : List Ends) (k before : ℕ) → AreQueues links ends → with_inserted (mark_of links before) k before (queues links ends) ≡ map (put_before k before) (queues links ends)
+inserted_all links ends k before are = inserted_at links ends k before (mark_of links before) are refl
+
+taken_at : (links : List Link) (ends : List Ends) (k : ℕ) (mark : Option ℕ) → AreQueues links ends → mark_of links k ≡ mark → with_taken mark k (queues links ends) ≡ map (without k) (queues links ends)
+taken_at links ends k None are is = sym (map_same (without k) (queues links ends) (λ j. without_none k (part_of (queues links ends) j) (outside links ends k j None are is (none_some j))))
+taken_at links ends k (Some i) are is =
+    sym (map_at (without k) (queues links ends) i (λ j ne. without_none k (part_of (queues links ends) j) (outside links ends k j (Some i) are is (some_other i j ne))))
+
+pub taken_all : (links : List Link) (ends : List Ends) (k : ℕ) → AreQueues links ends → with_taken (mark_of links k) k (queues links ends) ≡ map (without k) (queues links ends)
+taken_all links ends k are = taken_at links ends k (mark_of links k) are refl
+
+-- ---- the table as its calls see it
+
+-- what the slots and their ends are to a contract
+abbrev pub linked_of : List (List Slot) → List (List Ends) → LinkedThreads
+linked_of slots ends = record { threads = map threads_of slots; queues = queues_by slots ends }
+
+below_of : (slots : List (List Slot)) (ends : List (List Ends)) (p : ℕ) (v : LinkedThreads) → linked_of slots ends ≡ v → p < length v.threads → p < length (map threads_of slots)
+below_of slots ends p v is lt = subst (λ (z : LinkedThreads). p < length z.threads) (sym is) lt
+
+queued_at : (slots : List (List Slot)) (ends : List (List Ends)) (p : ℕ) (part : List Slot) (was : List Ends) → AreLinked slots ends → part ≡ part_of slots p → was ≡ part_of ends p → AreQueues (links_of part) was
+queued_at slots ends p part was are e f = rw (e, f) (are.each p)
+
+pub listed_at : (slots : List (List Slot)) (ends : List (List Ends)) (v : LinkedThreads) (n : ℕ) → AreLinked slots ends → linked_of slots ends ≡ v → n ≡ length slots → AreListed n v.queues
+listed_at slots ends v n are is e = subst (λ (z : LinkedThreads). AreListed n z.queues) is (subst (λ m. AreListed m (queues_by slots ends)) (sym e) (listed slots ends are))
+
+pub whole_at : (slots : List (List Slot)) (ends : List (List Ends)) (v : LinkedThreads) (items : List Slot) → linked_of slots ends ≡ v → items ≡ joined slots → threads_of items ≡ joined v.threads
+whole_at slots ends v items is e = ap threads_of e ∙ (joined_threads slots ∙ ap (λ (z : LinkedThreads). joined z.threads) is)
+
+pub lists_at : (slots : List (List Slot)) (ends : List (List Ends)) (p : ℕ) (v : LinkedThreads) (part : List Slot) (was : List Ends) → AreLinked slots ends → linked_of slots ends ≡ v → part ≡ part_of slots p → was ≡ part_of ends p
+    → queues (links_of part) was ≡ part_of v.queues p
+lists_at slots ends p v part was are is e f = rw (e, f) (part_linked slots ends p are ∙ ap (λ (z : LinkedThreads). part_of z.queues p) is)
+
+pub free_at : (slots : List (List Slot)) (ends : List (List Ends)) (p k : ℕ) (v : LinkedThreads) (part : List Slot) (was : List Ends) → AreLinked slots ends → linked_of slots ends ≡ v → part ≡ part_of slots p → was ≡ part_of ends p
+    → IsUnqueued k (part_of v.queues p) → mark_of (links_of part) k ≡ None
+free_at slots ends p k v part was are is e f out =
+    unqueued_mark (links_of part) was k (queued_at slots ends p part was are e f) (subst (IsUnqueued k) (sym (lists_at slots ends p v part was are is e f)) out)
+
+-- a thread changed
+pub kept_at : (slots : List (List Slot)) (ends : List (List Ends)) (p : ℕ) (v : LinkedThreads) (part w : List Slot) → AreLinked slots ends → linked_of slots ends ≡ v → p < length v.threads → part ≡ part_of slots p → links_of w ≡ links_of part
+    → AreLinked (lent slots p w) ends
+kept_at slots ends p v part w are is lt e same = linked_lent slots ends p w are (below_of slots ends p v is lt) (same ∙ ap links_of e)
+
+pub threads_here : (slots : List (List Slot)) (ends : List (List Ends)) (p : ℕ) (v : LinkedThreads) (part : List Slot) → linked_of slots ends ≡ v → part ≡ part_of slots p → threads_of part ≡ part_of v.threads p
+threads_here slots ends p v part is e = ap threads_of e ∙ (sym (part_threads slots p) ∙ ap (λ (z : LinkedThreads). part_of z.threads p) is)
+
+pub changed_view : (slots : List (List Slot)) (ends : List (List Ends)) (p : ℕ) (v : LinkedThreads) (part w : List Slot) (f : List (Option Thread) → List (Option Thread)) → linked_of slots ends ≡ v → p < length v.threads → part ≡ part_of slots p
+    → links_of w ≡ links_of part → threads_of w ≡ f (threads_of part) → linked_of (lent slots p w) ends ≡ record v { threads = set v.threads p (f (part_of v.threads p)) }
+changed_view slots ends p v part w f is lt e same made =
+    let below = below_of slots ends p v is lt in
+    let row : threads_of w ≡ f (part_of (map threads_of slots) p) = made ∙ ap f (ap threads_of e ∙ sym (part_threads slots p)) in
+    let links : links_of w ≡ links_of (part_of slots p) = same ∙ ap links_of e in
+    ap (λ l. record { threads = l; queues = queues_by (lent slots p w) ends }) (threads_lent slots p w (f (part_of (map threads_of slots) p)) below links row)
+    ∙ (ap (λ l. record { threads = set (map threads_of slots) p (f (part_of (map threads_of slots) p)); queues = l }) (queues_lent slots ends p w below links)
+    ∙ ap (λ (z : LinkedThreads). record z { threads = set z.threads p (f (part_of z.threads p)) }) is)
+
+-- the queues changed
+pub relinked_at : (slots : List (List Slot)) (ends : List (List Ends)) (p : ℕ) (v : LinkedThreads) (part w : List Slot) (was late : List Ends) (f : List (List ℕ) → List (List ℕ))
+    → AreLinked slots ends → linked_of slots ends ≡ v → p < length v.threads → part ≡ part_of slots p → was ≡ part_of ends p
+    → AreQueues (links_of w) late → threads_of w ≡ threads_of part → length late ≡ length was → queues (links_of w) late ≡ f (queues (links_of part) was)
+    → AreRelinked slots ends p w late (f (part_of v.queues p))
+relinked_at slots ends p v part w was late f are is lt e g queued same long lists =
+    let below = below_of slots ends p v is lt in
+    let places : length late ≡ 128 = long ∙ (ap length g ∙ are.places p (rw (length-map slots threads_of) at below)) in
+    relinked slots ends p w late (f (part_of v.queues p)) are below queued (same ∙ ap threads_of e) places (lists ∙ ap f (lists_at slots ends p v part was are is e g))
+
+pub view_at : (slots : List (List Slot)) (ends : List (List Ends)) (p : ℕ) (v : LinkedThreads) (w : List Slot) (late : List Ends) (lists : List (List ℕ)) → linked_of slots ends ≡ v → AreRelinked slots ends p w late lists
+    → linked_of (lent slots p w) (lent ends p late) ≡ record v { queues = set v.queues p lists }
+view_at slots ends p v w late lists is done =
+    ap (λ l. record { threads = l; queues = queues_by (lent slots p w) (lent ends p late) }) done.threads
+    ∙ (ap (λ l. record { threads = map threads_of slots; queues = l }) done.queues ∙ ap (λ (z : LinkedThreads). record z { queues = set z.queues p lists }) is)
+
+-- the mark that was read tells whether a thread lies in a queue
+unmarked : (name : Option QueueName) → is_some name ≡ false → option_map place_of name ≡ None
+unmarked None e = refl
+unmarked (Some name) e = absurd (cc)
+
+no_name : (name : Option QueueName) → option_map place_of name ≡ None → is_some name ≡ false
+no_name None e = refl
+no_name (Some name) e = absurd (cc)
+
+pub queued_told : (links : List Link) (ends : List Ends) (lists : List (List ℕ)) (k : ℕ) (link : Link) → AreQueues links ends → queues links ends ≡ lists → link ≡ link_in links k
+    → (is_some link.queue ≡ false) ↔ IsUnqueued k lists
+queued_told links ends lists k link are is e =
+    let same : mark_of links k ≡ option_map place_of link.queue = ap (λ (l : Link). option_map place_of l.queue) (sym e) in (
+      λ free i. subst (λ l. is_in k (part_of l i) ≡ false) is (outside links ends k i None are (same ∙ unmarked link.queue free) (none_some i)),
+      λ out. no_name link.queue (sym same ∙ unqueued_mark links ends k are (subst (IsUnqueued k) (sym is) out)),
+    )
+
+-- a thread goes before another, or leaves
+pub inserted_lists : (slots : List (List Slot)) (ends : List (List Ends)) (p k before : ℕ) (part : List Slot) (was : List Ends) → AreLinked slots ends → part ≡ part_of slots p → was ≡ part_of ends p
+    → with_inserted (mark_of (links_of part) before) k before (queues (links_of part) was) ≡ with_before k before (queues (links_of part) was)
+inserted_lists slots ends p k before part was are e f = inserted_all (links_of part) was k before (queued_at slots ends p part was are e f)
+
+pub taken_lists : (slots : List (List Slot)) (ends : List (List Ends)) (p k : ℕ) (part : List Slot) (was : List Ends) → AreLinked slots ends → part ≡ part_of slots p → was ≡ part_of ends p
+    → with_taken (mark_of (links_of part) k) k (queues (links_of part) was) ≡ with_none k (queues (links_of part) was)
+taken_lists slots ends p k part was are e f = taken_all (links_of part) was k (queued_at slots ends p part was are e f)
+
+pub ruleset lifts = (part_threads, threads_lent, queues_lent)
+
+pub ruleset reads = (whole_at, lists_at)
+
+-- ---- an empty table
+
+threads_filled : (n : ℕ) → threads_of (filled free_slot n) ≡ filled None n
+threads_filled zero = refl
+threads_filled (suc n) = ap (λ l. None ∷ l) (threads_filled n)
+
+links_filled : (n : ℕ) → links_of (filled free_slot n) ≡ filled no_link n
+links_filled zero = refl
+links_filled (suc n) = ap (λ l. no_link ∷ l) (links_filled n)
+
+pub filled_threads : (counts : List ℕ) → map threads_of (map (filled free_slot) counts) ≡ map (filled None) counts
+filled_threads [] = refl
+filled_threads (n ∷ counts) = ap (λ l. l ∷ map threads_of (map (filled free_slot) counts)) (threads_filled n) ∙ ap (λ l. filled None n ∷ l) (filled_threads counts)
+
+pub filled_queues : (counts : List ℕ) (m : ℕ) → queues_by (map (filled free_slot) counts) (map (filled no_ends) (replicate (length counts) m)) ≡ map (λ count. replicate m []) counts
+filled_queues [] m = refl
+filled_queues (n ∷ counts) m =
+    ap (λ l. l ∷ queues_by (map (filled free_slot) counts) (map (filled no_ends) (replicate (length counts) m))) (empty_lists (links_of (filled free_slot n)) m)
+    ∙ ap (λ l. replicate m [] ∷ l) (filled_queues counts m)
+
+each_filled : (counts : List ℕ) (m p : ℕ) → AreQueues (links_of (part_of (map (filled free_slot) counts) p)) (part_of (map (filled no_ends) (replicate (length counts) m)) p)
+each_filled [] m p = empty_queues 0 0
+each_filled (n ∷ counts) m zero = rw (links_filled n) (empty_queues n m)
+each_filled (n ∷ counts) m (suc p) = each_filled counts m p
+
+places_filled : (counts : List ℕ) (m p : ℕ) → p < length counts → length (part_of (map (filled no_ends) (replicate (length counts) m)) p) ≡ m
+places_filled [] m p lt = absurd (omega (arith, lt))
+places_filled (n ∷ counts) m zero lt = length-replicate m no_ends
+places_filled (n ∷ counts) m (suc p) lt = places_filled counts m p (omega (arith, lt))
+
+parts_filled : (counts : List ℕ) (m : ℕ) → length (map (filled no_ends) (replicate (length counts) m)) ≡ length (map (filled free_slot) counts)
+parts_filled [] m = refl
+parts_filled (n ∷ counts) m = ap suc (parts_filled counts m)
+
+pub linked_filled : (counts : List ℕ) (m : ℕ) → m ≡ 128 → AreLinked (map (filled free_slot) counts) (map (filled no_ends) (replicate (length counts) m))
+linked_filled counts m e = record {
+  parts = parts_filled counts m;
+  places = λ p lt. places_filled counts m p (rw (length-map counts (filled free_slot)) at lt) ∙ e;
+  each = each_filled counts m;
+}
+
+pub taken_same : (n m : ℕ) (x : ℕ) → n ≤ m → take n (replicate m x) ≡ replicate n x
+taken_same zero m x le = refl
+taken_same (suc n) zero x le = absurd (omega (arith, le))
+taken_same (suc n) (suc m) x le = ap (λ l. x ∷ l) (taken_same n m x (omega (arith, le)))

@@ -1,0 +1,215 @@
+//! The slots of all partitions, with the queues that are linked through them.
+
+ghost use Rattle.std.specs.Prelude.{◌≡◌, ◌<◌, ◌≤◌, length, map, replicate, slice_set, None, IsSome, IfSome, IfOk};
+ghost use Rattle.ptk_words.specs.Pools.{pool_get, pool_set, pool_changed};
+ghost use Rattle.ptk_words.specs.declared.threads.Thread.{Thread};
+ghost use Rattle.ptk_words_model.specs.Schedule.{with_reply};
+ghost use Rattle.ptk_words_parted.specs.Parts.{part_of, joined, filled};
+ghost use Rattle.ptk_threads_slots.specs.Links.{links_of, threads_of, no_ends, queues, AreQueues};
+ghost use Rattle.ptk_threads.specs.Table.{with_cpu, replaced_by};
+ghost use Rattle.ptk_threads.specs.Changes.{thread_changed};
+ghost use Rattle.ptk_threads.specs.Registers.{with_pc};
+ghost use Rattle.ptk_threads.specs.Queues.{no_queues, AreListed, IsUnqueued, with_last, with_first, with_before, with_none};
+
+use crate::changes::{
+    Change, change_in, put_in, replace_in, set_cpu_in, set_pc_in, set_values_in, work_in,
+};
+use crate::work::Work;
+use ptk_threads_slots::{Ends, PLACES, QueueName, Slot, append, insert, prepend, take};
+use ptk_words::{Cpu, PartId, Thread, ThreadNo};
+use ptk_words_parted::Parted;
+use std::alloc::{AllocError, Global};
+use std::marker::Model;
+
+/// A partition's slots, and the ends of the queues that are linked through them.
+#[derive(Clone, Copy)]
+pub struct LinkedSlots<'a> {
+    /// The slots, by number from 1.
+    pub slots: &'a [Slot],
+    /// The first and the last thread of each queue, by place.
+    pub ends: &'a [Ends],
+}
+
+/// The threads of each partition by number from 1, and its queues by place.
+#[derive(Drop)]
+pub(crate) struct SlotTable {
+    slots: Parted<Slot>,
+    ends: Parted<Ends>,
+}
+
+impl Model for SlotTable {
+    ghost use Rattle.std.specs.Prelude.{map};
+    ghost use Rattle.ptk_threads_slots.specs.Links.{threads_of};
+    ghost use Rattle.ptk_threads.specs.Queues.{LinkedThreads, queues_by, AreLinked};
+
+    ghost Value = { LinkedThreads };
+
+    ghost view = { λ a. record { threads = map threads_of a.slots; queues = queues_by a.slots a.ends } };
+
+    ghost invariant = { λ a. AreLinked a.slots a.ends };
+}
+
+impl SlotTable {
+    /// As many free slots for each partition as its count, and empty queues. An error where memory ran out.
+    pub(crate) fn build(alloc: Global, counts: &[u32]) -> Result<SlotTable, AllocError>
+        requires { length counts.now ≤ 8 }
+        ensures threads { IfOk result (λ table. table.threads ≡ map (filled None) counts.now) }
+        ensures queues { IfOk result (λ table. table.queues ≡ map no_queues counts.now) }
+    {
+        let slots = Parted::build(alloc, counts, Slot::new(None))?;
+        let ends = empty_ends(alloc, counts)?;
+        Ok(SlotTable { slots, ends })
+    }
+
+    /// How many partitions there are.
+    pub(crate) fn parts(&self) -> usize
+        ensures parts { result ≡ length self.now.threads }
+        ensures listed { AreListed result self.now.queues }
+    {
+        self.slots.parts()
+    }
+
+    /// All slots, by partition and then by number.
+    #[tactic(auto, using(crate::proofs::Linked::reads))]
+    pub(crate) fn whole(&self) -> &[Slot]
+        ensures { threads_of result.now ≡ joined self.now.threads }
+    {
+        self.slots.whole()
+    }
+
+    /// The slots of a partition.
+    pub(crate) fn part(&self, p: PartId) -> &[Slot]
+        requires { p < length self.now.threads }
+        ensures { threads_of result.now ≡ part_of self.now.threads p }
+    {
+        self.slots.part(p)
+    }
+
+    /// The slots of a partition, and the ends of its queues.
+    #[tactic(auto, using(crate::proofs::Linked::reads))]
+    pub(crate) fn linked(&self, p: PartId) -> LinkedSlots<'_>
+        requires { p < length self.now.threads }
+        ensures threads { threads_of result.slots.now ≡ part_of self.now.threads p }
+        ensures sound { AreQueues (links_of result.slots.now) result.ends.now }
+        ensures places { length result.ends.now ≡ 128 }
+        ensures lists { queues (links_of result.slots.now) result.ends.now ≡ part_of self.now.queues p }
+    {
+        let slots = self.slots.part(p);
+        let ends = self.ends.part(p);
+        LinkedSlots { slots, ends }
+    }
+
+    /// Changes one field of a thread.
+    #[tactic(auto, using(crate::proofs::Linked::lifts))]
+    pub(crate) fn change(&mut self, p: PartId, k: ThreadNo, change: Change)
+        requires { p < length self.old.threads }
+        ensures { self.new ≡ record self.old { threads = slice_set self.old.threads p (pool_changed k (thread_changed change) (part_of self.old.threads p)) } }
+    {
+        change_in(self.slots.lend(p), k, change);
+    }
+
+    /// Gives a thread these registers.
+    #[tactic(auto, using(crate::proofs::Linked::lifts))]
+    pub(crate) fn set_cpu(&mut self, p: PartId, k: ThreadNo, cpu: Cpu)
+        requires { p < length self.old.threads }
+        ensures { self.new ≡ record self.old { threads = slice_set self.old.threads p (pool_changed k (with_cpu cpu) (part_of self.old.threads p)) } }
+    {
+        set_cpu_in(self.slots.lend(p), k, cpu);
+    }
+
+    /// Puts this thread in place of the one of a number.
+    #[tactic(auto, using(crate::proofs::Linked::lifts))]
+    pub(crate) fn replace(&mut self, p: PartId, k: ThreadNo, thread: Thread)
+        requires { p < length self.old.threads }
+        ensures { self.new ≡ record self.old { threads = slice_set self.old.threads p (pool_changed k (replaced_by thread) (part_of self.old.threads p)) } }
+    {
+        replace_in(self.slots.lend(p), k, thread);
+    }
+
+    /// A thread goes on at this address.
+    #[tactic(auto, using(crate::proofs::Linked::lifts))]
+    pub(crate) fn set_pc(&mut self, p: PartId, k: ThreadNo, pc: u32)
+        requires { p < length self.old.threads }
+        ensures { self.new ≡ record self.old { threads = slice_set self.old.threads p (pool_changed k (with_pc pc) (part_of self.old.threads p)) } }
+    {
+        set_pc_in(self.slots.lend(p), k, pc);
+    }
+
+    /// Puts the values into a thread's a0, a1 and so on.
+    #[tactic(auto, using(crate::proofs::Linked::lifts))]
+    pub(crate) fn set_values(&mut self, p: PartId, k: ThreadNo, values: &[u32])
+        requires partition { p < length self.old.threads }
+        requires few { length values.now < 4 }
+        ensures { self.new ≡ record self.old { threads = slice_set self.old.threads p (pool_changed k (with_reply values.now) (part_of self.old.threads p)) } }
+    {
+        set_values_in(self.slots.lend(p), k, values);
+    }
+
+    /// Sets the entry of a number.
+    #[tactic(auto, using(crate::proofs::Linked::lifts))]
+    pub(crate) fn put(&mut self, p: PartId, k: ThreadNo, thread: Option<Thread>)
+        requires { p < length self.old.threads }
+        ensures { self.new ≡ record self.old { threads = slice_set self.old.threads p (pool_set (part_of self.old.threads p) k thread) } }
+    {
+        put_in(self.slots.lend(p), k, thread);
+    }
+
+    /// Does a piece of work on the thread of a number, which is in use, where it lies.
+    pub(crate) fn work_on<W: Work>(&mut self, p: PartId, k: ThreadNo, work: &mut W) -> W::Answer
+        requires partition { p < length self.old.threads }
+        requires in_use { IsSome (pool_get (part_of self.old.threads p) k) }
+        requires ready { IfSome (pool_get (part_of self.old.threads p) k) (W.can_run work.old) }
+        ensures { (made : Thread) × (self.new ≡ record self.old { threads = slice_set self.old.threads p (pool_changed k (replaced_by made) (part_of self.old.threads p)) }) × IfSome (pool_get (part_of self.old.threads p) k) (λ thread. W.has_run work.old thread result work.new made) }
+    {
+        work_in(self.slots.lend(p), k, work)
+    }
+
+    /// A thread that lies in no queue becomes the last of one.
+    pub(crate) fn append(&mut self, p: PartId, name: QueueName, k: ThreadNo)
+        requires partition { p < length self.old.threads }
+        requires slot { k ≤ length (part_of self.old.threads p) }
+        requires free { IsUnqueued k (part_of self.old.queues p) }
+        ensures { self.new ≡ record self.old { queues = slice_set self.old.queues p (with_last name k (part_of self.old.queues p)) } }
+    {
+        append(self.slots.lend(p), self.ends.lend(p), name, k);
+    }
+
+    /// A thread that lies in no queue becomes the first of one.
+    pub(crate) fn prepend(&mut self, p: PartId, name: QueueName, k: ThreadNo)
+        requires partition { p < length self.old.threads }
+        requires slot { k ≤ length (part_of self.old.threads p) }
+        requires free { IsUnqueued k (part_of self.old.queues p) }
+        ensures { self.new ≡ record self.old { queues = slice_set self.old.queues p (with_first name k (part_of self.old.queues p)) } }
+    {
+        prepend(self.slots.lend(p), self.ends.lend(p), name, k);
+    }
+
+    /// A thread that lies in no queue goes before another one, into the queue in which that one lies; nothing changes
+    /// where that one lies in none.
+    pub(crate) fn insert(&mut self, p: PartId, k: ThreadNo, before: ThreadNo)
+        requires partition { p < length self.old.threads }
+        requires slot { k ≤ length (part_of self.old.threads p) }
+        requires free { IsUnqueued k (part_of self.old.queues p) }
+        ensures { self.new ≡ record self.old { queues = slice_set self.old.queues p (with_before k before (part_of self.old.queues p)) } }
+    {
+        insert(self.slots.lend(p), self.ends.lend(p), k, before);
+    }
+
+    /// A thread leaves the queue in which it lies; nothing changes where it lies in none.
+    pub(crate) fn take(&mut self, p: PartId, k: ThreadNo)
+        requires { p < length self.old.threads }
+        ensures { self.new ≡ record self.old { queues = slice_set self.old.queues p (with_none k (part_of self.old.queues p)) } }
+    {
+        take(self.slots.lend(p), self.ends.lend(p), k);
+    }
+}
+
+/// The ends of empty queues, as many for each partition as there are places. An error where memory ran out.
+#[tactic(auto, using(crate::proofs::Linked::taken_same))]
+fn empty_ends(alloc: Global, counts: &[u32]) -> Result<Parted<Ends>, AllocError>
+    requires { length counts.now ≤ 8 }
+    ensures { IfOk result (λ ends. ends ≡ map (filled no_ends) (replicate (length counts.now) 128)) }
+{
+    let places = [PLACES as u32; 8];
+    Parted::build(alloc, &places[..counts.len()], Ends::none())
+}
