@@ -1,19 +1,20 @@
 -- The line read from the queues' lists is the line read from the links.
 use Rattle.std.proofs.Common.{◌≡◌, ℕ, zero, suc, ◌+◌, ◌-◌, ◌<◌, ◌≤◌, List, [], ◌∷◌, ◌++◌, length, take, true, false, refl, sym, ◌∙◌, ap, subst, arith, inl, inr, length-take}
-use Rattle.std.specs.Prelude.{Bool, ℤ, None, filter, ◌↔◌}
+use Rattle.std.specs.Prelude.{Bool, ℤ, None, filter, ◌==◌, ◌↔◌}
 use Rattle.std.proofs.lemmas.List.{get_or-take, append-nil}
+use Rattle.std.proofs.lemmas.Nat.Bits.{bit_at-zero}
 use Rattle.std.proofs.lemmas.List.Elements.{filter-append}
 use Rattle.ptk_words.specs.Pools.{is_in, numbers_to}
 use Rattle.ptk_words_parted.specs.Parts.{part_of, joined}
 use Rattle.ptk_threads_slots.specs.declared.link.Link.{Link}
 use Rattle.ptk_threads_slots.specs.declared.link.Ends.{Ends}
 use Rattle.ptk_threads_slots.specs.Links.{queue_at, queues, AreQueues}
-use Rattle.ptk_threads_slots.proofs.Along.{in_left, in_right, in_parts, not_true, marked_within, along_marked}
+use Rattle.ptk_threads_slots.proofs.Along.{in_here, in_left, in_right, in_parts, not_true, marked_within, along_marked}
 use Rattle.ptk_threads_slots.proofs.Lists.{list_at}
 use Rattle.ptk_ready_slots.specs.Orders.{in_order}
 use Rattle.ptk_ready_slots.specs.Entries.{is_ready, ready_of, stamp_of, entries, of_priority, has_any, IsSound}
 use Rattle.ptk_ready_slots.specs.Lines.{queued, line_of, IsFiled}
-use Rattle.ptk_ready_slots.proofs.Orders.{same_test}
+use Rattle.ptk_ready_slots.proofs.Orders.{same_test, and_parts, in_kept, in_sorted}
 use Rattle.ptk_ready_slots.proofs.Ready.{ready_mark, marked_ready}
 use Rattle.ptk_ready_slots.proofs.Kept.{filter_agree}
 
@@ -98,3 +99,25 @@ sound_line limit links ends stored stamps bitmap are few filed =
 pub filed_sound : (limit : ℕ) (links : List Link) (ends : List Ends) (stored : List ℕ) (stamps : List ℤ) (bitmap : ℕ) → AreQueues links ends → length links ≤ 32 → IsSound limit links ends stored stamps bitmap ↔ IsFiled limit (queues links ends) stored stamps bitmap
 filed_sound limit links ends stored stamps bitmap are few =
     (filed_line limit links ends stored stamps bitmap few, sound_line limit links ends stored stamps bitmap are few)
+
+-- ---- no thread
+
+no_members : (ks : List ℕ) → ((k : ℕ) → is_in k ks ≡ true → ⊥) → ks ≡ []
+no_members [] h = refl
+no_members (k ∷ ks) h = absurd (h k (in_here k ks))
+
+pub none_filed : (limit : ℕ) (lists : List (List ℕ)) (stored : List ℕ) (stamps : List ℤ) → ((i : ℕ) → i < 32 → part_of lists i ≡ []) → IsFiled limit lists stored stamps 0
+none_filed limit lists stored stamps none =
+    let out : (k : ℕ) → is_in k (queued lists) ≡ true → ⊥ = λ k inside.
+    (let at = among k (take 32 lists) inside in
+    let lt : at.place < 32 = omega (arith, at.low, length-take 32 lists) in
+    let there : is_in k [] ≡ true = subst (λ l. is_in k l ≡ true) (get_or-take 32 lists at.place [] lt ∙ none at.place lt) at.inside in absurd (cc)) in
+    let line : line_of lists stamps ≡ [] = no_members (line_of lists stamps) (λ k inside.
+    out k (and_parts (is_in k (queued lists)) (is_in k (numbers_to 32))
+    (sym (in_sorted (stamp_of stamps) k (filter (λ j. is_in j (queued lists)) (numbers_to 32)) ∙ in_kept (λ j. is_in j (queued lists)) k (numbers_to 32)) ∙ inside)).0) in
+    record {
+      apart = λ j k a b e. absurd (out j a);
+      within = λ k inside. absurd (out k inside);
+      lines = λ i lt. none i lt ∙ sym (ap (of_priority stored (suc i)) line);
+      bits = λ i lt. ap (λ b. b == 1) (bit_at-zero i) ∙ sym (ap has_any (none i lt));
+    }

@@ -31,7 +31,7 @@ pub record IsDone (limit : ℕ) (links new : List Link) (ends late : List Ends) 
   pub line : entries new stamps ≡ xs
   pub waiters : KeepsWaiters links ends new late
 
-done : (limit : ℕ) (links new : List Link) (ends late : List Ends) (stored : List ℕ) (stamps : List ℤ) (bitmap : ℕ) (xs : List ℕ) (i : ℕ) (line : List ℕ) → i < 32 → queues new late ≡ set (queues links ends) i line
+pub done : (limit : ℕ) (links new : List Link) (ends late : List Ends) (stored : List ℕ) (stamps : List ℤ) (bitmap : ℕ) (xs : List ℕ) (i : ℕ) (line : List ℕ) → i < 32 → queues new late ≡ set (queues links ends) i line
     → IsKept limit new late stored stamps bitmap xs → IsDone limit links new ends late stored stamps bitmap xs
 done limit links new ends late stored stamps bitmap xs i line low lists kept = record {
   sound = kept_sound limit new late stored stamps bitmap xs kept;
@@ -41,7 +41,7 @@ done limit links new ends late stored stamps bitmap xs i line low lists kept = r
 
 -- ---- a removal
 
-any_first : (line : List ℕ) → is_some (first_or None line) ≡ has_any line
+pub any_first : (line : List ℕ) → is_some (first_or None line) ≡ has_any line
 any_first [] = refl
 any_first (k ∷ ks) = refl
 

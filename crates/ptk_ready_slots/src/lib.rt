@@ -13,8 +13,6 @@ mod entries;
 mod laws;
 mod places;
 mod stamps;
-#[cfg(test)]
-mod tests;
 
 pub use entries::LinkedEntries;
 pub use laws::{lists_tell_line, marks_tell_queues};
