@@ -1,9 +1,9 @@
 -- What each call makes of the line, told by the queues' lists.
-use Rattle.std.proofs.Common.{◌≡◌, ℕ, zero, suc, ◌-◌, ◌<◌, ◌≤◌, List, [], ◌∷◌, ◌++◌, length, true, false, refl, sym, ◌∙◌, ap, subst, arith, inl, inr}
+use Rattle.std.proofs.Common.{◌≡◌, ℕ, zero, suc, ◌-◌, ◌<◌, ◌≤◌, List, [], ◌∷◌, ◌++◌, length, drop, true, false, refl, sym, ◌∙◌, ap, subst, arith, inl, inr}
 use Rattle.std.specs.Prelude.{ℤ, pos, neg_ℤ, ◌<ℤ◌, ◌≤ℤ◌, int_lt, ◌==◌, ◌||◌, Bool, not, find, filter, map, is_some, option_map, Option, Some, None}
 use Rattle.std.proofs.Math.ListN.{set, get_or-map}
 use Rattle.std.proofs.lemmas.Bool.{cases_eq}
-use Rattle.std.proofs.lemmas.List.{get_or-set_same, length-set}
+use Rattle.std.proofs.lemmas.List.{get_or-set_same, length-map, length-set}
 use Rattle.ptk_words.specs.Pools.{is_in, without, pool_set}
 use Rattle.ptk_words_parted.specs.Parts.{part_of}
 use Rattle.ptk_threads.specs.Table.{stored_of}
@@ -13,7 +13,7 @@ use Rattle.ptk_threads_slots.specs.declared.link.Link.{Link}
 use Rattle.ptk_threads_slots.specs.declared.link.Ends.{Ends}
 use Rattle.ptk_threads_slots.specs.declared.link.QueueName.{QueueName}
 use Rattle.ptk_threads_slots.specs.declared.link.QueueName.TheVariants.{Ready}
-use Rattle.ptk_threads_slots.specs.Links.{place_of, mark_of, link_in, no_ends, no_link, ends_at, first_or, first_after, queue_at, queues, with_next, with_previous, AreQueues}
+use Rattle.ptk_threads_slots.specs.Links.{place_of, mark_of, link_in, no_ends, no_link, ends_at, first_or, first_after, queue_from, queue_at, queues, with_next, with_previous, AreQueues}
 use Rattle.ptk_threads_slots.specs.Changes.{put_before, with_inserted, linked_between, end_between, unlinked, end_without}
 use Rattle.ptk_threads_slots.proofs.Along.{not_true, length_next, length_previous, along_marked, marked_within}
 use Rattle.ptk_threads_slots.proofs.Lists.{AreTurned, list_at, appended, prepended, inserted}
@@ -30,17 +30,28 @@ use Rattle.ptk_ready_slots.proofs.Filed.{found_passes, placed_end, placed_before
 use Rattle.ptk_ready_slots.proofs.Lists.{line_same, filed_line, sound_line}
 use Rattle.ptk_ready_slots.proofs.Moves.{IsDone, done, any_first, pushed_tail, pushed_head, refiled, taken_free}
 
--- the queues with these lists are filed, and the line is this list
-pub record IsListed (limit : ℕ) (lists : List (List ℕ)) (stored : List ℕ) (stamps : List ℤ) (bitmap : ℕ) (xs : List ℕ) : Type 0 where
+-- the queues with these lists are filed, the line is this list, and those of waiters are as before
+pub record IsListed (limit : ℕ) (was lists : List (List ℕ)) (stored : List ℕ) (stamps : List ℤ) (bitmap : ℕ) (xs : List ℕ) : Type 0 where
   pub sound : IsFiled limit lists stored stamps bitmap
   pub line : line_of lists stamps ≡ xs
+  pub waiters : drop 32 lists ≡ drop 32 was
 
-as_lists : (limit : ℕ) (links new : List Link) (ends late : List Ends) (stored : List ℕ) (stamps : List ℤ) (bitmap : ℕ) (xs ys : List ℕ) (lists : List (List ℕ)) → length new ≤ 32 → queues new late ≡ lists → xs ≡ ys
-    → IsDone limit links new ends late stored stamps bitmap xs → IsListed limit lists stored stamps bitmap ys
-as_lists limit links new ends late stored stamps bitmap xs ys lists few e same is =
-    subst (λ l. IsListed limit l stored stamps bitmap ys) e (record {
+drop_agree : (n : ℕ) (xs ys : List (List ℕ)) → length xs ≡ length ys → ((i : ℕ) → n ≤ i → part_of xs i ≡ part_of ys i) → drop n xs ≡ drop n ys
+drop_agree n [] [] long h = refl
+drop_agree n [] (y ∷ ys) long h = absurd (omega (arith, long))
+drop_agree n (x ∷ xs) [] long h = absurd (omega (arith, long))
+drop_agree zero (x ∷ xs) (y ∷ ys) long h =
+    ap (λ l. l ∷ xs) (h 0 (omega arith)) ∙ ap (λ l. y ∷ l) (drop_agree zero xs ys (omega (arith, long)) (λ i le. h (suc i) (omega arith)))
+drop_agree (suc n) (x ∷ xs) (y ∷ ys) long h = drop_agree n xs ys (omega (arith, long)) (λ i le. h (suc i) (omega (arith, le)))
+
+as_lists : (limit : ℕ) (links new : List Link) (ends late : List Ends) (stored : List ℕ) (stamps : List ℤ) (bitmap : ℕ) (xs ys : List ℕ) (lists : List (List ℕ)) → length new ≤ 32 → length late ≡ length ends → queues new late ≡ lists → xs ≡ ys
+    → IsDone limit links new ends late stored stamps bitmap xs → IsListed limit (queues links ends) lists stored stamps bitmap ys
+as_lists limit links new ends late stored stamps bitmap xs ys lists few wide e same is =
+    subst (λ l. IsListed limit (queues links ends) l stored stamps bitmap ys) e (record {
       sound = filed_line limit new late stored stamps bitmap few is.sound;
       line = sym (line_same new late stamps is.sound.queues few) ∙ (is.line ∙ same);
+      waiters = drop_agree 32 (queues new late) (queues links ends) (length-map late (queue_from new) ∙ (wide ∙ sym (length-map ends (queue_from links))))
+          (λ i far. list_at new late i ∙ (is.waiters i far ∙ sym (list_at links ends i)));
     })
 
 -- ---- as many links as before
@@ -58,7 +69,7 @@ pub pushed_last : (limit : ℕ) (links : List Link) (ends : List Ends) (stored :
     → AreQueues links ends → length links ≤ 32 → IsFiled limit (queues links ends) stored stamps bitmap → AreStamps limit links mid → entries links mid ≡ entries links stamps
     → IsUnqueued k (queues links ends) → 0 < k → k ≤ length links → length mid ≡ 32 → anew ≡ set mid (k - 1) stamp → stored_of stored k ≡ suc i → i < 32 → place_of name ≡ i
     → ((j : ℕ) → is_ready links j ≡ true → stamp_of mid j <ℤ stamp) → (neg_ℤ (pos limit) ≤ℤ stamp) × (stamp ≤ℤ pos limit) → length ends ≡ 128 → IsBitChanged bitmap bits i true
-    → IsListed limit (with_last name k (queues links ends)) stored anew bits (line_of (queues links ends) stamps ++ k ∷ [])
+    → IsListed limit (queues links ends) (with_last name k (queues links ends)) stored anew bits (line_of (queues links ends) stamps ++ k ∷ [])
 pushed_last limit links ends stored stamps mid anew bitmap bits k i stamp name queued few filed are line free some within long made level low place last bounds wide bit =
     let end = ends_at ends i in
     let link : Link = record { previous = end.last; next = None; queue = Some name } in
@@ -69,7 +80,7 @@ pushed_last limit links ends stored stamps mid anew bitmap bits k i stamp name q
     appended links new ends late i k name end queued (omega (arith, low, wide)) some within none place refl refl refl in
     as_lists limit links new ends late stored anew bits (entries links stamps ++ k ∷ []) (line_of (queues links ends) stamps ++ k ∷ []) (with_last name k (queues links ends))
     (omega (arith, few, both_long links end.last None (Some k) (Some k) k link))
-    (turned.lists ∙ ap (λ j. set (queues links ends) j (part_of (queues links ends) j ++ k ∷ [])) (sym place))
+    (length-set ends i _) (turned.lists ∙ ap (λ j. set (queues links ends) j (part_of (queues links ends) j ++ k ∷ [])) (sym place))
     (ap (λ l. l ++ k ∷ []) (line_same links ends stamps queued few))
     (pushed_tail limit links new ends late stored stamps mid anew bitmap bits k i stamp (sound_line limit links ends stored stamps bitmap queued few filed) are line
     none some (omega (arith, few, within)) long made level low last bounds wide turned.sound turned.lists bit)
@@ -78,7 +89,7 @@ pub pushed_first : (limit : ℕ) (links : List Link) (ends : List Ends) (stored 
     → AreQueues links ends → length links ≤ 32 → IsFiled limit (queues links ends) stored stamps bitmap → AreStamps limit links mid → entries links mid ≡ entries links stamps
     → IsUnqueued k (queues links ends) → 0 < k → k ≤ length links → length mid ≡ 32 → anew ≡ set mid (k - 1) stamp → stored_of stored k ≡ suc i → i < 32 → place_of name ≡ i
     → ((j : ℕ) → is_ready links j ≡ true → stamp <ℤ stamp_of mid j) → (neg_ℤ (pos limit) ≤ℤ stamp) × (stamp ≤ℤ pos limit) → length ends ≡ 128 → IsBitChanged bitmap bits i true
-    → IsListed limit (with_first name k (queues links ends)) stored anew bits (k ∷ line_of (queues links ends) stamps)
+    → IsListed limit (queues links ends) (with_first name k (queues links ends)) stored anew bits (k ∷ line_of (queues links ends) stamps)
 pushed_first limit links ends stored stamps mid anew bitmap bits k i stamp name queued few filed are line free some within long made level low place first bounds wide bit =
     let end = ends_at ends i in
     let link : Link = record { previous = None; next = end.first; queue = Some name } in
@@ -89,7 +100,7 @@ pushed_first limit links ends stored stamps mid anew bitmap bits k i stamp name 
     prepended links new ends late i k name end queued (omega (arith, low, wide)) some within none place refl refl refl in
     as_lists limit links new ends late stored anew bits (k ∷ entries links stamps) (k ∷ line_of (queues links ends) stamps) (with_first name k (queues links ends))
     (omega (arith, few, both_long links None end.first (Some k) (Some k) k link))
-    (turned.lists ∙ ap (λ j. set (queues links ends) j (k ∷ part_of (queues links ends) j)) (sym place))
+    (length-set ends i _) (turned.lists ∙ ap (λ j. set (queues links ends) j (k ∷ part_of (queues links ends) j)) (sym place))
     (ap (λ l. k ∷ l) (line_same links ends stamps queued few))
     (pushed_head limit links new ends late stored stamps mid anew bitmap bits k i stamp (sound_line limit links ends stored stamps bitmap queued few filed) are line
     none some (omega (arith, few, within)) long made level low first bounds wide turned.sound turned.lists bit)
@@ -173,11 +184,11 @@ left limit links ends stored stamps bitmap bits k sound wide ready cleared =
 
 pub removed_lists : (limit : ℕ) (links : List Link) (ends : List Ends) (stored : List ℕ) (stamps : List ℤ) (bitmap bits k : ℕ) → AreQueues links ends → length links ≤ 32 → IsFiled limit (queues links ends) stored stamps bitmap → length ends ≡ 128
     → is_in k (line_of (queues links ends) stamps) ≡ true → IsCleared links bitmap bits k
-    → IsListed limit (with_none k (queues links ends)) stored stamps bits (without k (line_of (queues links ends) stamps))
+    → IsListed limit (queues links ends) (with_none k (queues links ends)) stored stamps bits (without k (line_of (queues links ends) stamps))
 removed_lists limit links ends stored stamps bitmap bits k are few filed wide inside cleared =
     let at = left limit links ends stored stamps bitmap bits k (sound_line limit links ends stored stamps bitmap are few filed) wide (member_ready links ends stamps k are few inside) cleared in
     as_lists limit links at.new ends at.late stored stamps bits (without k (entries links stamps)) (without k (line_of (queues links ends) stamps)) (with_none k (queues links ends))
-    (omega (arith, few, at.is.few)) at.is.lists (ap (without k) (line_same links ends stamps are few)) at.is.done
+    (omega (arith, few, at.is.few)) at.is.wide at.is.lists (ap (without k) (line_same links ends stamps are few)) at.is.done
 
 -- ---- a thread is filed anew
 
@@ -200,6 +211,7 @@ record IsBack (links new : List Link) (ends late : List Ends) (stamps : List ℤ
   placed : queues new late ≡ set (queues links ends) i (placed (stamp_of stamps) k (part_of (queues links ends) i))
   lists : queues new late ≡ to
   few : length new ≡ length links
+  wide : length late ≡ length ends
 
 record IsSomewhere (links : List Link) (ends : List Ends) (stamps : List ℤ) (k i : ℕ) (lists : List (List ℕ)) : Type 0 where
   new : List Link
@@ -225,6 +237,7 @@ back_last links ends stamps k i priority are lt some within free level none =
         placed = turned.lists ∙ ap (set (queues links ends) i) (sym (placed_end (stamp_of stamps) k (part_of (queues links ends) i) none));
         lists = turned.lists ∙ ap (λ j. set (queues links ends) j (part_of (queues links ends) j ++ k ∷ [])) (sym place);
         few = both_long links end.last None (Some k) (Some k) k link;
+        wide = length-set ends i _;
       };
     }
 
@@ -250,6 +263,7 @@ back_before links ends stamps k i b are lt some within free found =
         placed = turned.lists ∙ ap (set (queues links ends) i) (placed_before (stamp_of stamps) k b (part_of (queues links ends) i) found);
         lists = turned.lists ∙ (rw mark at (inserted_all links ends k b are));
         few = both_long links was.previous (Some b) (Some k) (Some k) k link;
+        wide = length-set ends i _;
       };
     }
 
@@ -274,7 +288,7 @@ never_less a = not_true (int_lt a a) (λ e. no_less a (less_test a a e))
 pub refiled_lists : (limit : ℕ) (links : List Link) (ends : List Ends) (stored : List ℕ) (stamps : List ℤ) (bitmap bits after k i priority : ℕ) (found : Option ℕ) → AreQueues links ends → length links ≤ 32 → IsFiled limit (queues links ends) stored stamps bitmap → length ends ≡ 128
     → is_in k (line_of (queues links ends) stamps) ≡ true → IsCleared links bitmap bits k → priority ≡ suc i → i < 32 → IsBitChanged bits after i true
     → find (λ j. int_lt (stamp_of stamps k) (stamp_of stamps j)) (queue_at links ends i) ≡ found
-    → IsListed limit (with_refiled found priority k (queues links ends)) (pool_set stored k priority) stamps after (line_of (queues links ends) stamps)
+    → IsListed limit (queues links ends) (with_refiled found priority k (queues links ends)) (pool_set stored k priority) stamps after (line_of (queues links ends) stamps)
 refiled_lists limit links ends stored stamps bitmap bits after k i priority found are few filed wide inside cleared level low bit is =
     let sound = sound_line limit links ends stored stamps bitmap are few filed in
     let ready = member_ready links ends stamps k are few inside in
@@ -291,6 +305,6 @@ refiled_lists limit links ends stored stamps bitmap bits after k i priority foun
     let whole = refiled limit links mid.new there.new ends mid.late there.late stored stamps bitmap bits after k i priority sound (in_entries links stamps k ∙ ready) then.done.sound then.done.line then.done.waiters low level
     (omega (arith, then.wide, wide)) there.is.sound there.is.placed bit in
     as_lists limit links there.new ends there.late (pool_set stored k priority) stamps after (entries links stamps) (line_of (queues links ends) stamps) (with_refiled found priority k (queues links ends))
-    (omega (arith, few, there.is.few, then.few))
+    (omega (arith, few, there.is.few, then.few)) (there.is.wide ∙ then.wide)
     (there.is.lists ∙ (ap (back_lists found priority k) then.lists ∙ back_refiled found priority k (queues links ends)))
     (line_same links ends stamps are few) whole

@@ -1,6 +1,6 @@
 //! The line of one partition.
 
-ghost use Rattle.std.specs.Prelude.{◌≡◌, ℕ, ◌<◌, ◌≤◌, ◌^◌, true, pos, neg_ℤ, ◌<ℤ◌, ◌≤ℤ◌, MatchOption, ⊤, is_some, option_map, ◌||◌, List, [], ◌∷◌, ◌++◌, length};
+ghost use Rattle.std.specs.Prelude.{◌≡◌, ℕ, ◌<◌, ◌≤◌, ◌^◌, true, pos, neg_ℤ, ◌<ℤ◌, ◌≤ℤ◌, MatchOption, ⊤, is_some, option_map, ◌||◌, List, [], ◌∷◌, ◌++◌, length, drop};
 ghost use Rattle.ptk_words.specs.Pools.{pool_set, without, first_of_greatest, is_in};
 ghost use Rattle.ptk_words_parted.specs.Parts.{part_of};
 ghost use Rattle.ptk_threads.specs.Table.{stored_of};
@@ -53,6 +53,8 @@ impl<const LIMIT: u64> LinkedEntries<LIMIT> {
             self.new.stamps self.new.bitmap }
         ensures line { line_of (with_last result k (queues (links_of slots.now) ends.now)) self.new.stamps
             ≡ line_of (queues (links_of slots.now) ends.now) self.old.stamps ++ k ∷ [] }
+        ensures waiters { drop 32 (with_last result k (queues (links_of slots.now) ends.now))
+            ≡ drop 32 (queues (links_of slots.now) ends.now) }
     {
         let priority = Priority::new(stored_in(stored, k));
         let stamp = self.tail_stamp(slots, ends, stored);
@@ -75,6 +77,8 @@ impl<const LIMIT: u64> LinkedEntries<LIMIT> {
             self.new.stamps self.new.bitmap }
         ensures line { line_of (with_first result k (queues (links_of slots.now) ends.now)) self.new.stamps
             ≡ k ∷ line_of (queues (links_of slots.now) ends.now) self.old.stamps }
+        ensures waiters { drop 32 (with_first result k (queues (links_of slots.now) ends.now))
+            ≡ drop 32 (queues (links_of slots.now) ends.now) }
     {
         let priority = Priority::new(stored_in(stored, k));
         let stamp = self.head_stamp(slots, ends, stored);
@@ -93,6 +97,8 @@ impl<const LIMIT: u64> LinkedEntries<LIMIT> {
             self.new.stamps self.new.bitmap }
         ensures line { line_of (with_none k (queues (links_of slots.now) ends.now)) self.new.stamps
             ≡ without k (line_of (queues (links_of slots.now) ends.now) self.old.stamps) }
+        ensures waiters { drop 32 (with_none k (queues (links_of slots.now) ends.now))
+            ≡ drop 32 (queues (links_of slots.now) ends.now) }
     {
         self.bitmap = bitmap_without(self.bitmap, &link_of(slots, k));
     }
@@ -116,6 +122,8 @@ impl<const LIMIT: u64> LinkedEntries<LIMIT> {
             (pool_set stored.now k priority) self.new.stamps self.new.bitmap }
         ensures line { line_of (with_refiled result priority k (queues (links_of slots.now) ends.now)) self.new.stamps
             ≡ line_of (queues (links_of slots.now) ends.now) self.old.stamps }
+        ensures waiters { drop 32 (with_refiled result priority k (queues (links_of slots.now) ends.now))
+            ≡ drop 32 (queues (links_of slots.now) ends.now) }
     {
         let i = priority.level() as usize - 1;
         let left = bitmap_without(self.bitmap, &link_of(slots, k));

@@ -35,4 +35,4 @@ returns g c =
     c.args.k (c.new-priority.result - 1) stamp (Ready c.new-priority.result) c.requires.queues few c.requires.sound c.head_stamp-stamp.ensures.stamps c.head_stamp-stamp.ensures.line
     c.requires.free c.place.ensures.positive within long (ap (λ n. set mid n stamp) c.place.ensures.value) level low refl
     first (rw same c.head_stamp-stamp.ensures.within) c.requires.places.1 bit in
-    record { queue = ap Ready (c.new-priority.ensures ∙ c.stored_in.ensures); sound = done.sound; line = done.line }
+    record { queue = ap Ready (c.new-priority.ensures ∙ c.stored_in.ensures); sound = done.sound; line = done.line; waiters = done.waiters }

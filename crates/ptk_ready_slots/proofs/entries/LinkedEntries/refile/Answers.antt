@@ -34,4 +34,4 @@ returns g c =
     long lt c.index-ends-i.is (to_z-of_z w64 c.stamp_in.result fits ∙ c.stamp_in.ensures) c.first_after.ensures in
     let done = refiled_lists g.row.LIMIT links c.args.ends.now c.args.stored.now c.args.self.now.stamps bitmap bits c.with_bit-self.result c.args.k i c.args.priority c.first_after.result c.requires.queues few c.requires.sound c.requires.places.1 c.requires.ready
     cleared priority low c.with_bit-self.ensures found in
-    record { sound = done.sound; line = done.line }
+    record { sound = done.sound; line = done.line; waiters = done.waiters }
