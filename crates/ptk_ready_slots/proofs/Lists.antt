@@ -6,6 +6,7 @@ use Rattle.std.proofs.lemmas.Nat.Bits.{bit_at-zero}
 use Rattle.std.proofs.lemmas.List.Elements.{filter-append}
 use Rattle.ptk_words.specs.Pools.{is_in, numbers_to}
 use Rattle.ptk_words_parted.specs.Parts.{part_of, joined}
+use Rattle.ptk_threads.specs.Table.{stored_of}
 use Rattle.ptk_threads_slots.specs.declared.link.Link.{Link}
 use Rattle.ptk_threads_slots.specs.declared.link.Ends.{Ends}
 use Rattle.ptk_threads_slots.specs.Links.{queue_at, queues, AreQueues}
@@ -16,7 +17,7 @@ use Rattle.ptk_ready_slots.specs.Entries.{is_ready, ready_of, stamp_of, entries,
 use Rattle.ptk_ready_slots.specs.Lines.{queued, line_of, IsFiled}
 use Rattle.ptk_ready_slots.proofs.Orders.{same_test, and_parts, in_kept, in_sorted}
 use Rattle.ptk_ready_slots.proofs.Ready.{ready_mark, marked_ready}
-use Rattle.ptk_ready_slots.proofs.Kept.{filter_agree}
+use Rattle.ptk_ready_slots.proofs.Kept.{filter_agree, in_priority}
 
 -- ---- lists joined
 
@@ -121,3 +122,26 @@ none_filed limit lists stored stamps none =
       lines = λ i lt. none i lt ∙ sym (ap (of_priority stored (suc i)) line);
       bits = λ i lt. ap (λ b. b == 1) (bit_at-zero i) ∙ sym (ap has_any (none i lt));
     }
+
+-- ---- the first 32 queues alone
+
+pub line_take : (a b : List (List ℕ)) (stamps : List ℤ) → take 32 a ≡ take 32 b → line_of a stamps ≡ line_of b stamps
+line_take a b stamps same = ap (λ lists. in_order (stamp_of stamps) (filter (λ k. is_in k (joined lists)) (numbers_to 32))) same
+
+list_take : (a b : List (List ℕ)) (i : ℕ) → take 32 a ≡ take 32 b → i < 32 → part_of b i ≡ part_of a i
+list_take a b i same lt = sym (get_or-take 32 b i [] lt) ∙ (ap (λ lists. part_of lists i) (sym same) ∙ get_or-take 32 a i [] lt)
+
+-- the stored priorities of threads in the line alone
+pub filed_take : (limit : ℕ) (a b : List (List ℕ)) (stored after : List ℕ) (stamps : List ℤ) (bitmap : ℕ) → take 32 a ≡ take 32 b → ((k : ℕ) → is_in k (line_of a stamps) ≡ true → stored_of after k ≡ stored_of stored k)
+    → IsFiled limit a stored stamps bitmap → IsFiled limit b after stamps bitmap
+filed_take limit a b stored after stamps bitmap same levels filed = record {
+  apart = λ j k x y e. filed.apart j k (subst (λ lists. is_in j (joined lists) ≡ true) (sym same) x) (subst (λ lists. is_in k (joined lists) ≡ true) (sym same) y) e;
+  within = λ k inside. filed.within k (subst (λ lists. is_in k (joined lists) ≡ true) (sym same) inside);
+  lines = λ i lt. list_take a b i same lt ∙ (filed.lines i lt
+      ∙ (filter_agree (λ k. stored_of stored k == suc i) (λ k. stored_of after k == suc i) (line_of a stamps) (λ k inside. ap (λ n. n == suc i) (sym (levels k inside)))
+      ∙ ap (of_priority after (suc i)) (line_take a b stamps same)));
+  bits = λ i lt. filed.bits i lt ∙ sym (ap has_any (list_take a b i same lt));
+}
+
+pub filed_member : (limit : ℕ) (lists : List (List ℕ)) (stored : List ℕ) (stamps : List ℤ) (bitmap k i : ℕ) → IsFiled limit lists stored stamps bitmap → i < 32 → is_in k (part_of lists i) ≡ true → is_in k (line_of lists stamps) ≡ true
+filed_member limit lists stored stamps bitmap k i filed lt inside = (in_priority stored (suc i) k (line_of lists stamps) (subst (λ l. is_in k l ≡ true) (filed.lines i lt) inside)).1
