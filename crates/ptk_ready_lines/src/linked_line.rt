@@ -1,7 +1,9 @@
 //! The form with queues that are linked through the slot table.
 
-ghost use Rattle.std.specs.Prelude.{◌≡◌, ℕ, ◌≤◌, ◌^◌, List, [], length, IfOk, replicate};
-ghost use Rattle.ptk_threads.specs.Table.{free_table};
+ghost use Rattle.std.specs.Prelude.{◌≡◌, ℕ, ◌<◌, ◌≤◌, ◌^◌, List, [], length, IfOk, replicate};
+ghost use Rattle.ptk_words_parted.specs.Parts.{part_of};
+ghost use Rattle.ptk_threads.specs.Table.{free_table, with_queues};
+ghost use Rattle.ptk_ready_slots.specs.Lines.{with_refiled};
 ghost use Rattle.ptk_ready_lines.specs.Lines.{lines_by, AreFiled};
 
 use ptk_ready::Line;
@@ -82,10 +84,11 @@ impl<const LIMIT: u64> Line for LinkedLine<LIMIT> {
     fn remove(&mut self, threads: &mut Threads, p: PartId, k: ThreadNo) {
         let part = threads.linked(p);
         let entries = &mut self.entries[p.index()];
-        if entries.contains(part.slots, part.ends, k) {
-            entries.remove(part.slots, part.ends, threads.stored(p), k);
-            threads.take(p, k);
+        if !entries.contains(part.slots, part.ends, k) {
+            return;
         }
+        entries.remove(part.slots, part.ends, threads.stored(p), k);
+        threads.take(p, k);
     }
 
     fn first_of_greatest(&self, threads: &Threads, p: PartId) -> Option<ThreadNo> {
@@ -109,10 +112,25 @@ impl<const LIMIT: u64> Line for LinkedLine<LIMIT> {
         }
         let before = entries.refile(part.slots, part.ends, threads.stored(p), k, priority);
         threads.set_stored_priority(p, k, priority.level());
-        threads.take(p, k);
-        match before {
-            Some(before) => threads.insert(p, k, before),
-            None => threads.append(p, QueueName::Ready(priority), k),
-        }
+        refile(threads, p, k, before, priority);
+    }
+}
+
+/// Takes a thread out of its queue and puts it before another one, or last into that of a priority's ready threads.
+fn refile(
+    threads: &mut Threads,
+    p: PartId,
+    k: ThreadNo,
+    before: Option<ThreadNo>,
+    priority: Priority,
+)
+    requires partition { (p < length threads.old.threads) × (p < length threads.old.queues) }
+    requires slot { k ≤ length (part_of threads.old.threads p) }
+    ensures { threads.new ≡ with_queues p (with_refiled before priority k) threads.old }
+{
+    threads.take(p, k);
+    match before {
+        Some(before) => threads.insert(p, k, before),
+        None => threads.append(p, QueueName::Ready(priority), k),
     }
 }

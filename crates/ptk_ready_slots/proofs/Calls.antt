@@ -308,3 +308,7 @@ refiled_lists limit links ends stored stamps bitmap bits after k i priority foun
     (omega (arith, few, there.is.few, then.few)) (there.is.wide ∙ then.wide)
     (there.is.lists ∙ (ap (back_lists found priority k) then.lists ∙ back_refiled found priority k (queues links ends)))
     (line_same links ends stamps are few) whole
+
+-- a thread of the line has a slot
+pub member_within : (links : List Link) (ends : List Ends) (stamps : List ℤ) (k : ℕ) → AreQueues links ends → length links ≤ 32 → is_in k (line_of (queues links ends) stamps) ≡ true → k ≤ length links
+member_within links ends stamps k are few inside = let at = ready_mark links k (member_ready links ends stamps k are few inside) in (marked_within links k at.place at.mark).1
