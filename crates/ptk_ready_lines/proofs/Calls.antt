@@ -1,16 +1,16 @@
 -- What each call makes of the lines of all partitions.
 use Rattle.std.proofs.Common.{◌≡◌, ◌≢◌, ℕ, zero, suc, ◌<◌, ◌≤◌, List, [], ◌∷◌, length, drop, map, true, false, refl, sym, ◌∙◌, ap, subst, arith, get_or, inl, inr}
-use Rattle.std.specs.Prelude.{ℤ, IsSome, Option, slice_get}
+use Rattle.std.specs.Prelude.{ℤ, IsSome, Option, replicate, slice_get}
 use Rattle.std.proofs.Math.ListN.{set, get_or-map}
 use Rattle.std.proofs.Math.Seq.{map-set_same}
 use Rattle.std.proofs.lemmas.Bool.{cases_eq}
-use Rattle.std.proofs.lemmas.List.{get_or-set_same, get_or-set_other, get_or_read, get_or_past, set_past, set-get_or, set-set, length-map, length-set}
+use Rattle.std.proofs.lemmas.List.{get_or-set_same, get_or-set_other, get_or_read, get_or_past, set_past, set-get_or, set-set, ext_get_or, get_or-replicate, length-map, length-set, length-replicate}
 use Rattle.std.specs.Option.{option_flatten}
 use Rattle.ptk_words.specs.Pools.{is_in, without, pool_get, pool_set}
 use Rattle.ptk_words.specs.declared.threads.Thread.{Thread}
 use Rattle.ptk_words_parted.specs.Parts.{part_of}
-use Rattle.ptk_threads.specs.Table.{ThreadTable, thread_in, stored_of, with_stored, with_queues}
-use Rattle.ptk_threads.specs.Queues.{IsUnqueued, with_none}
+use Rattle.ptk_threads.specs.Table.{ThreadTable, free_table, thread_in, stored_of, with_stored, with_queues}
+use Rattle.ptk_threads.specs.Queues.{IsUnqueued, no_queues, with_none}
 use Rattle.ptk_threads_slots.specs.declared.link.Ends.{Ends}
 use Rattle.ptk_threads_slots.specs.declared.slot.Slot.{Slot}
 use Rattle.ptk_threads_slots.specs.Links.{links_of, threads_of, queues, AreQueues}
@@ -18,6 +18,8 @@ use Rattle.ptk_threads_slots.proofs.Along.{le_or_gt, not_true}
 use Rattle.ptk_ready.specs.Queues.{waiters_of}
 use Rattle.ptk_ready_slots.specs.declared.entries.LinkedEntries.{LinkedEntries}
 use Rattle.ptk_ready_slots.specs.Lines.{line_of, IsFiled}
+use Rattle.ptk_ready.proofs.Unused.{unused_built}
+use Rattle.ptk_ready_slots.proofs.Lists.{none_line}
 use Rattle.ptk_ready_slots.proofs.Kept.{member_apart}
 use Rattle.ptk_ready_slots.proofs.Moves.{without_out, out_without, stored_other}
 use Rattle.ptk_ready_slots.proofs.Calls.{member_within}
@@ -152,3 +154,25 @@ slot_of_member slots ends stamps table p k same are few inside =
     let links : length (links_of slots) ≡ length slots = length-map slots (λ (slot : Slot). slot.link) in
     let long : length slots ≡ length (part_of table.threads p) = sym (length-map slots (λ (slot : Slot). slot.thread)) ∙ ap length same in
     omega (arith, links, long, member_within (links_of slots) ends stamps k are (omega (arith, links, few)) inside)
+
+-- ---- no thread
+
+pub built_empty : (limit parts : ℕ) (items : List (LinkedEntries limit)) (entries : LinkedEntries limit) (counts : List ℕ) → items ≡ replicate parts entries → length counts ≡ parts → lines_by items (free_table counts).queues ≡ replicate parts []
+built_empty limit parts items entries counts is same =
+    let long : length items ≡ parts = ap length is ∙ length-replicate parts entries in
+    ext_get_or [] (lines_by items (map no_queues counts)) (replicate parts []) (lines_long items (map no_queues counts) ∙ (long ∙ sym (length-replicate parts [])))
+    (λ p lt. (let below : p < length items = omega (arith, lt, lines_long items (map no_queues counts)) in
+    lines_at items (map no_queues counts) p below
+    ∙ (none_line (part_of (map no_queues counts) p) (entries_at items p).stamps (unused_built counts p) ∙ sym (get_or-replicate parts p [] [] (omega (arith, below, long))))))
+
+pub built_filed : (limit parts : ℕ) (items : List (LinkedEntries limit)) (entries : LinkedEntries limit) (counts : List ℕ) → items ≡ replicate parts entries → length counts ≡ parts
+    → ((lists : List (List ℕ)) (stored : List ℕ) → ((i : ℕ) → i < 32 → part_of lists i ≡ []) → IsFiled limit lists stored entries.stamps entries.bitmap)
+    → AreFiled limit items (free_table counts)
+built_filed limit parts items entries counts is same new =
+    let long : length items ≡ parts = ap length is ∙ length-replicate parts entries in
+    record {
+      parts = long ∙ (sym same ∙ sym (length-map counts no_queues));
+      each = λ p lt.
+          (let own : entries_at items p ≡ entries = ap (λ l. entries_at l p) is ∙ get_or-replicate parts p entries (record { stamps = []; bitmap = 0 }) (omega (arith, lt, long)) in
+          rw own (new (part_of (map no_queues counts) p) (part_of (free_table counts).stored p) (unused_built counts p)));
+    }

@@ -107,21 +107,24 @@ no_members : (ks : List ℕ) → ((k : ℕ) → is_in k ks ≡ true → ⊥) →
 no_members [] h = refl
 no_members (k ∷ ks) h = absurd (h k (in_here k ks))
 
-pub none_filed : (limit : ℕ) (lists : List (List ℕ)) (stored : List ℕ) (stamps : List ℤ) → ((i : ℕ) → i < 32 → part_of lists i ≡ []) → IsFiled limit lists stored stamps 0
-none_filed limit lists stored stamps none =
-    let out : (k : ℕ) → is_in k (queued lists) ≡ true → ⊥ = λ k inside.
-    (let at = among k (take 32 lists) inside in
+none_queued : (lists : List (List ℕ)) → ((i : ℕ) → i < 32 → part_of lists i ≡ []) → (k : ℕ) → is_in k (queued lists) ≡ true → ⊥
+none_queued lists none k inside =
+    let at = among k (take 32 lists) inside in
     let lt : at.place < 32 = omega (arith, at.low, length-take 32 lists) in
-    let there : is_in k [] ≡ true = subst (λ l. is_in k l ≡ true) (get_or-take 32 lists at.place [] lt ∙ none at.place lt) at.inside in absurd (cc)) in
-    let line : line_of lists stamps ≡ [] = no_members (line_of lists stamps) (λ k inside.
-    out k (and_parts (is_in k (queued lists)) (is_in k (numbers_to 32))
-    (sym (in_sorted (stamp_of stamps) k (filter (λ j. is_in j (queued lists)) (numbers_to 32)) ∙ in_kept (λ j. is_in j (queued lists)) k (numbers_to 32)) ∙ inside)).0) in
-    record {
-      apart = λ j k a b e. absurd (out j a);
-      within = λ k inside. absurd (out k inside);
-      lines = λ i lt. none i lt ∙ sym (ap (of_priority stored (suc i)) line);
-      bits = λ i lt. ap (λ b. b == 1) (bit_at-zero i) ∙ sym (ap has_any (none i lt));
-    }
+    let there : is_in k [] ≡ true = subst (λ l. is_in k l ≡ true) (get_or-take 32 lists at.place [] lt ∙ none at.place lt) at.inside in absurd (cc)
+
+pub none_line : (lists : List (List ℕ)) (stamps : List ℤ) → ((i : ℕ) → i < 32 → part_of lists i ≡ []) → line_of lists stamps ≡ []
+none_line lists stamps none = no_members (line_of lists stamps) (λ k inside.
+    none_queued lists none k (and_parts (is_in k (queued lists)) (is_in k (numbers_to 32))
+    (sym (in_sorted (stamp_of stamps) k (filter (λ j. is_in j (queued lists)) (numbers_to 32)) ∙ in_kept (λ j. is_in j (queued lists)) k (numbers_to 32)) ∙ inside)).0)
+
+pub none_filed : (limit : ℕ) (lists : List (List ℕ)) (stored : List ℕ) (stamps : List ℤ) → ((i : ℕ) → i < 32 → part_of lists i ≡ []) → IsFiled limit lists stored stamps 0
+none_filed limit lists stored stamps none = record {
+  apart = λ j k a b e. absurd (none_queued lists none j a);
+  within = λ k inside. absurd (none_queued lists none k inside);
+  lines = λ i lt. none i lt ∙ sym (ap (of_priority stored (suc i)) (none_line lists stamps none));
+  bits = λ i lt. ap (λ b. b == 1) (bit_at-zero i) ∙ sym (ap has_any (none i lt));
+}
 
 -- ---- the first 32 queues alone
 
