@@ -8,5 +8,7 @@
 #![tactic(auto)]
 
 mod linked_line;
+#[cfg(test)]
+mod tests;
 
 pub use linked_line::LinkedLine;
