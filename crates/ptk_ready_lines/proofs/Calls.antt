@@ -9,16 +9,15 @@ use Rattle.std.specs.Option.{option_flatten}
 use Rattle.ptk_words.specs.Pools.{is_in, without, pool_get, pool_set}
 use Rattle.ptk_words.specs.declared.threads.Thread.{Thread}
 use Rattle.ptk_words_parted.specs.Parts.{part_of}
-use Rattle.ptk_threads.specs.Table.{ThreadTable, free_table, thread_in, stored_of, with_stored, with_queues}
-use Rattle.ptk_threads.specs.Queues.{IsUnqueued, no_queues, with_none}
+use Rattle.ptk_threads.specs.Table.{ThreadTable, thread_in, stored_of, with_stored, with_queues}
+use Rattle.ptk_threads.specs.Queues.{IsUnqueued, with_none}
 use Rattle.ptk_threads_slots.specs.declared.link.Ends.{Ends}
 use Rattle.ptk_threads_slots.specs.declared.slot.Slot.{Slot}
 use Rattle.ptk_threads_slots.specs.Links.{links_of, threads_of, queues, AreQueues}
 use Rattle.ptk_threads_slots.proofs.Along.{le_or_gt, not_true}
-use Rattle.ptk_ready.specs.Queues.{waiters_of}
+use Rattle.ptk_ready.specs.Queues.{waiters_of, AreUnused}
 use Rattle.ptk_ready_slots.specs.declared.entries.LinkedEntries.{LinkedEntries}
 use Rattle.ptk_ready_slots.specs.Lines.{line_of, IsFiled}
-use Rattle.ptk_ready.proofs.Unused.{unused_built}
 use Rattle.ptk_ready_slots.proofs.Lists.{none_line}
 use Rattle.ptk_ready_slots.proofs.Kept.{member_apart}
 use Rattle.ptk_ready_slots.proofs.Moves.{without_out, out_without, stored_other}
@@ -157,22 +156,22 @@ slot_of_member slots ends stamps table p k same are few inside =
 
 -- ---- no thread
 
-pub built_empty : (limit parts : ℕ) (items : List (LinkedEntries limit)) (entries : LinkedEntries limit) (counts : List ℕ) → items ≡ replicate parts entries → length counts ≡ parts → lines_by items (free_table counts).queues ≡ replicate parts []
-built_empty limit parts items entries counts is same =
+pub built_empty : (limit parts : ℕ) (items : List (LinkedEntries limit)) (entries : LinkedEntries limit) (table : ThreadTable) → items ≡ replicate parts entries → AreUnused table.queues → lines_by items table.queues ≡ replicate parts []
+built_empty limit parts items entries table is unused =
     let long : length items ≡ parts = ap length is ∙ length-replicate parts entries in
-    ext_get_or [] (lines_by items (map no_queues counts)) (replicate parts []) (lines_long items (map no_queues counts) ∙ (long ∙ sym (length-replicate parts [])))
-    (λ p lt. (let below : p < length items = omega (arith, lt, lines_long items (map no_queues counts)) in
-    lines_at items (map no_queues counts) p below
-    ∙ (none_line (part_of (map no_queues counts) p) (entries_at items p).stamps (unused_built counts p) ∙ sym (get_or-replicate parts p [] [] (omega (arith, below, long))))))
+    ext_get_or [] (lines_by items table.queues) (replicate parts []) (lines_long items table.queues ∙ (long ∙ sym (length-replicate parts [])))
+    (λ p lt. (let below : p < length items = omega (arith, lt, lines_long items table.queues) in
+    lines_at items table.queues p below
+    ∙ (none_line (part_of table.queues p) (entries_at items p).stamps (unused p) ∙ sym (get_or-replicate parts p [] [] (omega (arith, below, long))))))
 
-pub built_filed : (limit parts : ℕ) (items : List (LinkedEntries limit)) (entries : LinkedEntries limit) (counts : List ℕ) → items ≡ replicate parts entries → length counts ≡ parts
+pub built_filed : (limit parts : ℕ) (items : List (LinkedEntries limit)) (entries : LinkedEntries limit) (table : ThreadTable) → items ≡ replicate parts entries → length table.queues ≡ parts → AreUnused table.queues
     → ((lists : List (List ℕ)) (stored : List ℕ) → ((i : ℕ) → i < 32 → part_of lists i ≡ []) → IsFiled limit lists stored entries.stamps entries.bitmap)
-    → AreFiled limit items (free_table counts)
-built_filed limit parts items entries counts is same new =
+    → AreFiled limit items table
+built_filed limit parts items entries table is same unused new =
     let long : length items ≡ parts = ap length is ∙ length-replicate parts entries in
     record {
-      parts = long ∙ (sym same ∙ sym (length-map counts no_queues));
+      parts = long ∙ sym same;
       each = λ p lt.
           (let own : entries_at items p ≡ entries = ap (λ l. entries_at l p) is ∙ get_or-replicate parts p entries (record { stamps = []; bitmap = 0 }) (omega (arith, lt, long)) in
-          rw own (new (part_of (map no_queues counts) p) (part_of (free_table counts).stored p) (unused_built counts p)));
+          rw own (new (part_of table.queues p) (part_of table.stored p) (unused p)));
     }

@@ -1,8 +1,9 @@
 //! The form with queues that are linked through the slot table.
 
-ghost use Rattle.std.specs.Prelude.{◌≡◌, ℕ, ◌<◌, ◌≤◌, ◌^◌, List, [], length, IfOk, replicate};
+ghost use Rattle.std.specs.Prelude.{◌≡◌, ◌<◌, ◌≤◌, ◌^◌, [], length, IfOk, replicate};
 ghost use Rattle.ptk_words_parted.specs.Parts.{part_of};
-ghost use Rattle.ptk_threads.specs.Table.{free_table, with_queues};
+ghost use Rattle.ptk_threads.specs.Table.{ThreadTable, with_queues};
+ghost use Rattle.ptk_ready.specs.Queues.{AreUnused};
 ghost use Rattle.ptk_ready_slots.specs.Lines.{with_refiled};
 ghost use Rattle.ptk_ready_lines.specs.Lines.{lines_by, AreFiled};
 
@@ -32,14 +33,14 @@ impl<const LIMIT: u64> Model for LinkedLine<LIMIT> {
 }
 
 impl<const LIMIT: u64> LinkedLine<LIMIT> {
-    /// An empty line for each of so many partitions, sound over a slot table as it is built. An error where memory ran
-    /// out.
+    /// An empty line for each of so many partitions, sound over a slot table in whose queues no thread is ready. An error
+    /// where memory ran out.
     pub fn build(alloc: Global, parts: usize) -> Result<LinkedLine<LIMIT>, AllocError>
         requires limit { (64 ≤ LIMIT) × (LIMIT ≤ 2 ^ 62) }
-        ensures empty { IfOk result (λ line. (counts : List ℕ) → length counts ≡ parts
-            → lines_by line (free_table counts).queues ≡ replicate parts []) }
-        ensures sound { IfOk result (λ line. (counts : List ℕ) → length counts ≡ parts
-            → AreFiled LIMIT line (free_table counts)) }
+        ensures empty { IfOk result (λ line. (table : ThreadTable) → length table.queues ≡ parts → AreUnused table.queues
+            → lines_by line table.queues ≡ replicate parts []) }
+        ensures sound { IfOk result (λ line. (table : ThreadTable) → length table.queues ≡ parts → AreUnused table.queues
+            → AreFiled LIMIT line table) }
     {
         let entries = vec![in alloc; LinkedEntries::new(); parts]?;
         Ok(LinkedLine { entries })

@@ -28,7 +28,7 @@ fn new_thread() -> Thread {
 
 /// A table of two partitions, the second with 32 threads.
 fn table(alloc: Global) -> Result<Threads, AllocError>
-    ensures { IfOk result (λ threads. threads.queues ≡ (free_table (1 ∷ 32 ∷ [])).queues × (length threads.threads ≡ 2)) }
+    ensures { IfOk result (λ threads. (threads.queues ≡ (free_table (1 ∷ 32 ∷ [])).queues) × (length threads.threads ≡ 2)) }
 {
     let mut threads = Threads::build(alloc, &[1, 32])?;
     for _ in 0..32 {
