@@ -1,6 +1,6 @@
 -- What each call makes of the line, told by the queues' lists.
 use Rattle.std.proofs.Common.{◌≡◌, ℕ, zero, suc, ◌-◌, ◌<◌, ◌≤◌, List, [], ◌∷◌, ◌++◌, length, drop, true, false, refl, sym, ◌∙◌, ap, subst, arith, inl, inr}
-use Rattle.std.specs.Prelude.{ℤ, pos, neg_ℤ, ◌<ℤ◌, ◌≤ℤ◌, int_lt, ◌==◌, ◌||◌, Bool, not, find, filter, map, is_some, option_map, Option, Some, None}
+use Rattle.std.specs.Prelude.{ℤ, pos, neg_ℤ, ◌<ℤ◌, ◌≤ℤ◌, int_lt, ◌==◌, ◌||◌, Bool, find, is_some, option_map, Option, Some, None}
 use Rattle.std.proofs.Math.ListN.{set, get_or-map}
 use Rattle.std.proofs.lemmas.Bool.{cases_eq}
 use Rattle.std.proofs.lemmas.List.{get_or-set_same, length-map, length-set}
@@ -13,14 +13,14 @@ use Rattle.ptk_threads_slots.specs.declared.link.Link.{Link}
 use Rattle.ptk_threads_slots.specs.declared.link.Ends.{Ends}
 use Rattle.ptk_threads_slots.specs.declared.link.QueueName.{QueueName}
 use Rattle.ptk_threads_slots.specs.declared.link.QueueName.TheVariants.{Ready}
-use Rattle.ptk_threads_slots.specs.Links.{place_of, mark_of, link_in, no_ends, no_link, ends_at, first_or, first_after, queue_from, queue_at, queues, with_next, with_previous, AreQueues}
-use Rattle.ptk_threads_slots.specs.Changes.{put_before, with_inserted, linked_between, end_between, unlinked, end_without}
+use Rattle.ptk_threads_slots.specs.Links.{place_of, mark_of, link_in, no_ends, no_link, ends_at, first_after, queue_from, queue_at, queues, with_next, with_previous, AreQueues}
+use Rattle.ptk_threads_slots.specs.Changes.{put_before, linked_between, end_between, unlinked, end_without}
 use Rattle.ptk_threads_slots.proofs.Along.{not_true, length_next, length_previous, along_marked, marked_within}
 use Rattle.ptk_threads_slots.proofs.Lists.{AreTurned, list_at, appended, prepended, inserted}
 use Rattle.ptk_threads_slots.proofs.Lists.{went as left_links}
 use Rattle.ptk_ready_slots.specs.Bits.{has_bit, IsBitChanged}
 use Rattle.ptk_ready_slots.specs.Orders.{placed}
-use Rattle.ptk_ready_slots.specs.Entries.{is_ready, stamp_of, entries, has_any, AreStamps, IsSound, KeepsWaiters}
+use Rattle.ptk_ready_slots.specs.Entries.{is_ready, stamp_of, entries, has_any, AreStamps, IsSound}
 use Rattle.ptk_ready_slots.specs.Lines.{line_of, with_refiled, IsFiled}
 use Rattle.ptk_ready_slots.proofs.Orders.{no_less, less_test, true_or_false}
 use Rattle.ptk_ready_slots.proofs.Ready.{in_entries, ready_mark}
@@ -218,10 +218,10 @@ record IsSomewhere (links : List Link) (ends : List Ends) (stamps : List ℤ) (k
   late : List Ends
   is : IsBack links new ends late stamps k i lists
 
-back_last : (links : List Link) (ends : List Ends) (stamps : List ℤ) (k i priority : ℕ) → AreQueues links ends → i < length ends → 0 < k → k ≤ length links → mark_of links k ≡ None → priority ≡ suc i
+back_last : (links : List Link) (ends : List Ends) (stamps : List ℤ) (k i priority : ℕ) (was : List (List ℕ)) → queues links ends ≡ with_none k was → AreQueues links ends → i < length ends → 0 < k → k ≤ length links → mark_of links k ≡ None → priority ≡ suc i
     → find (λ j. int_lt (stamp_of stamps k) (stamp_of stamps j)) (part_of (queues links ends) i) ≡ None
-    → IsSomewhere links ends stamps k i (with_last (Ready priority) k (queues links ends))
-back_last links ends stamps k i priority are lt some within free level none =
+    → IsSomewhere links ends stamps k i (with_last (Ready priority) k (with_none k was))
+back_last links ends stamps k i priority was e are lt some within free level none =
     let end = ends_at ends i in
     let link : Link = record { previous = end.last; next = None; queue = Some (Ready priority) } in
     let new = linked_between k link links in
@@ -235,52 +235,43 @@ back_last links ends stamps k i priority are lt some within free level none =
       is = record {
         sound = turned.sound;
         placed = turned.lists ∙ ap (set (queues links ends) i) (sym (placed_end (stamp_of stamps) k (part_of (queues links ends) i) none));
-        lists = turned.lists ∙ ap (λ j. set (queues links ends) j (part_of (queues links ends) j ++ k ∷ [])) (sym place);
+        lists = turned.lists ∙ (ap (λ j. set (queues links ends) j (part_of (queues links ends) j ++ k ∷ [])) (sym place) ∙ ap (with_last (Ready priority) k) e);
         few = both_long links end.last None (Some k) (Some k) k link;
         wide = length-set ends i _;
       };
     }
 
-back_before : (links : List Link) (ends : List Ends) (stamps : List ℤ) (k i b : ℕ) → AreQueues links ends → i < length ends → 0 < k → k ≤ length links → mark_of links k ≡ None
+back_before : (links : List Link) (ends : List Ends) (stamps : List ℤ) (k i b : ℕ) (was : List (List ℕ)) → queues links ends ≡ with_none k was → AreQueues links ends → i < length ends → 0 < k → k ≤ length links → mark_of links k ≡ None
     → find (λ j. int_lt (stamp_of stamps k) (stamp_of stamps j)) (part_of (queues links ends) i) ≡ Some b
-    → IsSomewhere links ends stamps k i (with_before k b (queues links ends))
-back_before links ends stamps k i b are lt some within free found =
+    → IsSomewhere links ends stamps k i (with_before k b (with_none k was))
+back_before links ends stamps k i b was e are lt some within free found =
     let inside : is_in b (queue_at links ends i) ≡ true =
     subst (λ l. is_in b l ≡ true) (list_at links ends i) (found_passes (λ j. int_lt (stamp_of stamps k) (stamp_of stamps j)) b (part_of (queues links ends) i) found).1 in
     let mark : mark_of links b ≡ Some i = along_marked links i None None (queue_at links ends i) b (are.each i).along inside in
-    let was = link_in links b in
-    let at = named was.queue i mark in
-    let link : Link = record was { next = Some b } in
+    let link_b = link_in links b in
+    let at = named link_b.queue i mark in
+    let link : Link = record link_b { next = Some b } in
     let new = linked_between k link links in
-    let late = set ends i (end_between was.previous k (Some b) (ends_at ends i)) in
+    let late = set ends i (end_between link_b.previous k (Some b) (ends_at ends i)) in
     let turned : AreTurned links new ends late i (put_before k b (part_of (queues links ends) i)) =
-    inserted links new ends late i k b at.name was are lt some within free at.place refl at.is refl refl in
+    inserted links new ends late i k b at.name link_b are lt some within free at.place refl at.is refl refl in
     record {
       new = new;
       late = late;
       is = record {
         sound = turned.sound;
         placed = turned.lists ∙ ap (set (queues links ends) i) (placed_before (stamp_of stamps) k b (part_of (queues links ends) i) found);
-        lists = turned.lists ∙ (rw mark at (inserted_all links ends k b are));
-        few = both_long links was.previous (Some b) (Some k) (Some k) k link;
+        lists = turned.lists ∙ ((rw mark at (inserted_all links ends k b are)) ∙ ap (with_before k b) e);
+        few = both_long links link_b.previous (Some b) (Some k) (Some k) k link;
         wide = length-set ends i _;
       };
     }
 
--- the queues as they are then, where this thread was found
-abbrev back_lists : Option ℕ → ℕ → ℕ → List (List ℕ) → List (List ℕ)
-back_lists None priority k lists = with_last (Ready priority) k lists
-back_lists (Some b) priority k lists = with_before k b lists
-
-back_refiled : (found : Option ℕ) (priority k : ℕ) (lists : List (List ℕ)) → back_lists found priority k (with_none k lists) ≡ with_refiled found priority k lists
-back_refiled None priority k lists = refl
-back_refiled (Some b) priority k lists = refl
-
-back : (links : List Link) (ends : List Ends) (stamps : List ℤ) (k i priority : ℕ) (found : Option ℕ) → AreQueues links ends → i < length ends → 0 < k → k ≤ length links → mark_of links k ≡ None → priority ≡ suc i
+back : (links : List Link) (ends : List Ends) (stamps : List ℤ) (k i priority : ℕ) (found : Option ℕ) (was : List (List ℕ)) → queues links ends ≡ with_none k was → AreQueues links ends → i < length ends → 0 < k → k ≤ length links → mark_of links k ≡ None → priority ≡ suc i
     → find (λ j. int_lt (stamp_of stamps k) (stamp_of stamps j)) (part_of (queues links ends) i) ≡ found
-    → IsSomewhere links ends stamps k i (back_lists found priority k (queues links ends))
-back links ends stamps k i priority None are lt some within free level found = back_last links ends stamps k i priority are lt some within free level found
-back links ends stamps k i priority (Some b) are lt some within free level found = back_before links ends stamps k i b are lt some within free found
+    → IsSomewhere links ends stamps k i (with_refiled found priority k was)
+back links ends stamps k i priority None was e are lt some within free level found = back_last links ends stamps k i priority was e are lt some within free level found
+back links ends stamps k i priority (Some b) was e are lt some within free level found = back_before links ends stamps k i b was e are lt some within free found
 
 never_less : (a : ℤ) → int_lt a a ≡ false
 never_less a = not_true (int_lt a a) (λ e. no_less a (less_test a a e))
@@ -301,13 +292,12 @@ refiled_lists limit links ends stored stamps bitmap bits after k i priority foun
     ap (λ l. part_of l i) then.lists ∙ (get_or-map (without k) (queues links ends) i [] ∙ ap (without k) (list_at links ends i)) in
     let first : find (λ j. int_lt (stamp_of stamps k) (stamp_of stamps j)) (part_of (queues mid.new mid.late) i) ≡ found =
     ap (find (λ j. int_lt (stamp_of stamps k) (stamp_of stamps j))) own ∙ (find_without (λ j. int_lt (stamp_of stamps k) (stamp_of stamps j)) k (queue_at links ends i) (never_less (stamp_of stamps k)) ∙ is) in
-    let there = back mid.new mid.late stamps k i priority found then.done.sound.queues (omega (arith, low, then.wide, wide)) within.0 (omega (arith, within.1, then.few)) free level first in
+    let there = back mid.new mid.late stamps k i priority found (queues links ends) then.lists then.done.sound.queues (omega (arith, low, then.wide, wide)) within.0 (omega (arith, within.1, then.few)) free level first in
     let whole = refiled limit links mid.new there.new ends mid.late there.late stored stamps bitmap bits after k i priority sound (in_entries links stamps k ∙ ready) then.done.sound then.done.line then.done.waiters low level
     (omega (arith, then.wide, wide)) there.is.sound there.is.placed bit in
     as_lists limit links there.new ends there.late (pool_set stored k priority) stamps after (entries links stamps) (line_of (queues links ends) stamps) (with_refiled found priority k (queues links ends))
-    (omega (arith, few, there.is.few, then.few)) (there.is.wide ∙ then.wide)
-    (there.is.lists ∙ (ap (back_lists found priority k) then.lists ∙ back_refiled found priority k (queues links ends)))
-    (line_same links ends stamps are few) whole
+    (omega (arith, few, there.is.few, then.few)) (omega (arith, there.is.wide, then.wide))
+    there.is.lists (line_same links ends stamps are few) whole
 
 -- a thread of the line has a slot
 pub member_within : (links : List Link) (ends : List Ends) (stamps : List ℤ) (k : ℕ) → AreQueues links ends → length links ≤ 32 → is_in k (line_of (queues links ends) stamps) ≡ true → k ≤ length links

@@ -4,16 +4,13 @@ use Rattle.std.specs.Prelude.{ℤ, int_lt, find, nat_eq, Option, Some, None}
 use Rattle.std.proofs.lemmas.Bool.Decides.{nat_tests}
 use Rattle.std.proofs.lemmas.Bool.{eqb-true}
 use Rattle.ptk_words.specs.Pools.{is_in}
-use Rattle.ptk_threads_slots.proofs.Along.{in_here, in_later, not_true, along_marked}
-use Rattle.ptk_threads_slots.proofs.Lists.{list_at}
-use Rattle.ptk_words_parted.specs.Parts.{part_of}
-use Rattle.std.proofs.Math.ListN.{set}
+use Rattle.ptk_threads_slots.proofs.Along.{in_here, in_later, not_true}
 use Rattle.std.proofs.lemmas.List.{get_or_read}
 use Rattle.ptk_ready_slots.specs.Entries.{stamp_of}
 use Rattle.ptk_threads_slots.specs.declared.link.Link.{Link}
 use Rattle.ptk_threads_slots.specs.declared.link.Ends.{Ends}
-use Rattle.ptk_threads_slots.specs.Links.{link_in, walk, mark_of, no_ends, ends_at, queue_at, queues, AreQueues}
-use Rattle.ptk_threads_slots.specs.Changes.{put_before, with_inserted}
+use Rattle.ptk_threads_slots.specs.Links.{link_in, walk, no_ends, ends_at, queue_at}
+use Rattle.ptk_threads_slots.specs.Changes.{put_before}
 use Rattle.ptk_ready_slots.specs.Orders.{placed}
 use Rattle.ptk_ready_slots.proofs.Orders.{true_or_false}
 

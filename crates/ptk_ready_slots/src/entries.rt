@@ -19,8 +19,8 @@ use ptk_threads_slots::{Ends, Link, QueueName, Slot, link_of};
 use ptk_words::{Priority, ThreadNo};
 
 /// What a partition's line keeps beside the links: each number's stamp, of magnitude `LIMIT` at most where its thread
-/// is ready, and the queues of ready threads that are not empty. A call that changes them tells which change of the
-/// queues is to follow, and its contract speaks of the line once that is made.
+/// is ready, and the queues of ready threads that are not empty. The queues themselves are the slot table's: a call here
+/// says which call of the slot table its caller makes next, and its contract speaks of the line as it is then.
 #[derive(Clone, Copy)]
 pub struct LinkedEntries<const LIMIT: u64> {
     stamps: [i64; 32],
@@ -39,8 +39,14 @@ impl<const LIMIT: u64> LinkedEntries<LIMIT> {
         }
     }
 
-    /// Readies the line for a thread that lies in no queue and is to be the last: it is to be appended to this queue.
-    pub fn push_tail(&mut self, slots: &[Slot], ends: &[Ends], stored: &[u8], k: ThreadNo) -> QueueName
+    /// Makes a thread that lies in no queue the last of the line. The caller appends it to the queue that this names.
+    pub fn push_tail(
+        &mut self,
+        slots: &[Slot],
+        ends: &[Ends],
+        stored: &[u8],
+        k: ThreadNo,
+    ) -> QueueName
         requires queues { AreQueues (links_of slots.now) ends.now }
         requires sound { IsFiled LIMIT (queues (links_of slots.now) ends.now) stored.now self.old.stamps self.old.bitmap }
         requires limit { (64 ≤ LIMIT) × (LIMIT ≤ 2 ^ 62) }
@@ -63,8 +69,14 @@ impl<const LIMIT: u64> LinkedEntries<LIMIT> {
         QueueName::Ready(priority)
     }
 
-    /// Readies the line for a thread that lies in no queue and is to be the first: it is to be prepended to this queue.
-    pub fn push_head(&mut self, slots: &[Slot], ends: &[Ends], stored: &[u8], k: ThreadNo) -> QueueName
+    /// Makes a thread that lies in no queue the first of the line. The caller prepends it to the queue that this names.
+    pub fn push_head(
+        &mut self,
+        slots: &[Slot],
+        ends: &[Ends],
+        stored: &[u8],
+        k: ThreadNo,
+    ) -> QueueName
         requires queues { AreQueues (links_of slots.now) ends.now }
         requires sound { IsFiled LIMIT (queues (links_of slots.now) ends.now) stored.now self.old.stamps self.old.bitmap }
         requires limit { (64 ≤ LIMIT) × (LIMIT ≤ 2 ^ 62) }
@@ -87,7 +99,7 @@ impl<const LIMIT: u64> LinkedEntries<LIMIT> {
         QueueName::Ready(priority)
     }
 
-    /// Readies the line for a thread that is to be taken out of its queue, one of ready threads.
+    /// Removes a thread of the line. The caller takes it out of its queue.
     pub fn remove(&mut self, slots: &[Slot], ends: &[Ends], stored: &[u8], k: ThreadNo)
         requires queues { AreQueues (links_of slots.now) ends.now }
         requires sound { IsFiled LIMIT (queues (links_of slots.now) ends.now) stored.now self.old.stamps self.old.bitmap }
@@ -103,9 +115,9 @@ impl<const LIMIT: u64> LinkedEntries<LIMIT> {
         self.bitmap = bitmap_without(self.bitmap, &link_of(slots, k));
     }
 
-    /// Readies the line for a thread that is to be filed anew for the stored priority that it is about to get: it is to
-    /// be taken out of its queue, and then to be inserted before this thread, or to be appended to its new queue where
-    /// there is none. The line stays, so also the thread's place.
+    /// Files a thread of the line anew for the stored priority that it is about to get; the line stays, so also the
+    /// thread's place. The caller takes it out of its queue and inserts it before the thread that this names, or where
+    /// it names none appends it to the new priority's queue.
     pub fn refile(
         &mut self,
         slots: &[Slot],
