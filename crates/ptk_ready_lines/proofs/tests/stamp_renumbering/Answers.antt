@@ -1,5 +1,4 @@
-use Rattle.std.proofs.Common.{◌≡◌, ◌<◌, List, [], ◌∷◌, length, sym, ◌∙◌, ap, subst, arith}
-use Rattle.ptk_threads.specs.Table.{ThreadTable, free_table}
+use Rattle.std.proofs.Common.{◌≡◌, [], ◌∷◌, length, sym, ap, subst, arith}
 use Rattle.ptk_ready.specs.Queues.{AreUnused}
 use Rattle.ptk_ready.proofs.Unused.{unused_built}
 use Rattle.ptk_ready_lines.specs.Lines.{lines_by}

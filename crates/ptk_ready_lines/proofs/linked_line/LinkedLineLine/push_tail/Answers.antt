@@ -1,9 +1,9 @@
-use Rattle.std.proofs.Common.{◌≡◌, ℕ, ◌<◌, ◌≤◌, List, [], ◌∷◌, ◌++◌, drop, refl, sym, ◌∙◌, ap, subst, lit<}
+use Rattle.std.proofs.Common.{◌≡◌, ℕ, ◌<◌, ◌≤◌, List, [], ◌∷◌, ◌++◌, drop, sym, ◌∙◌, ap, subst, lit<}
 use Rattle.ptk_words_parted.specs.Parts.{part_of}
 use Rattle.ptk_threads.specs.Table.{ThreadTable, stored_of}
 use Rattle.ptk_threads.specs.Queues.{IsUnqueued, with_last}
 use Rattle.ptk_threads_slots.specs.Links.{links_of, queues}
-use Rattle.ptk_ready_slots.specs.Lines.{line_of, IsFiled}
+use Rattle.ptk_ready_slots.specs.Lines.{line_of}
 use Rattle.ptk_ready_lines.specs.Lines.{lines_by}
 use Rattle.ptk_ready_lines.proofs.Calls.{moved, read, slot_of_used, number_of_used}
 use Rattle.ptk_ready_lines.proofs.linked_line.LinkedLineLine.push_tail.Goals as goal
