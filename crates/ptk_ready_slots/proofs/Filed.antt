@@ -4,16 +4,13 @@ use Rattle.std.specs.Prelude.{ℤ, int_lt, find, nat_eq, Option, Some, None}
 use Rattle.std.proofs.lemmas.Bool.Decides.{nat_tests}
 use Rattle.std.proofs.lemmas.Bool.{eqb-true}
 use Rattle.ptk_words.specs.Pools.{is_in}
-use Rattle.ptk_threads_slots.proofs.Along.{in_here, in_later, not_true, along_marked}
-use Rattle.ptk_threads_slots.proofs.Lists.{list_at}
-use Rattle.ptk_words_parted.specs.Parts.{part_of}
-use Rattle.std.proofs.Math.ListN.{set}
+use Rattle.ptk_threads_slots.proofs.Along.{in_here, in_later, not_true}
 use Rattle.std.proofs.lemmas.List.{get_or_read}
 use Rattle.ptk_ready_slots.specs.Entries.{stamp_of}
 use Rattle.ptk_threads_slots.specs.declared.link.Link.{Link}
 use Rattle.ptk_threads_slots.specs.declared.link.Ends.{Ends}
-use Rattle.ptk_threads_slots.specs.Links.{link_in, walk, mark_of, no_ends, ends_at, queue_at, queues, AreQueues}
-use Rattle.ptk_threads_slots.specs.Changes.{put_before, with_inserted}
+use Rattle.ptk_threads_slots.specs.Links.{link_in, walk, no_ends, ends_at, queue_at}
+use Rattle.ptk_threads_slots.specs.Changes.{put_before}
 use Rattle.ptk_ready_slots.specs.Orders.{placed}
 use Rattle.ptk_ready_slots.proofs.Orders.{true_or_false}
 
@@ -57,33 +54,9 @@ placed_before stamp k b (j ∷ ks) h = elim (true_or_false (int_lt (stamp k) (st
 ]
 
 -- what was found along the links from the queue's first thread
-first_later : (links : List Link) (ends : List Ends) (stamps : List ℤ) (k i n : ℕ) (stamp : ℤ) (end : Ends) (found : Option ℕ) → n ≡ length links → i < length ends → end ≡ get_or ends i end → stamp ≡ stamp_of stamps k
+pub first_later : (links : List Link) (ends : List Ends) (stamps : List ℤ) (k i n : ℕ) (stamp : ℤ) (end : Ends) (found : Option ℕ) → n ≡ length links → i < length ends → end ≡ get_or ends i end → stamp ≡ stamp_of stamps k
     → found ≡ find (λ j. int_lt stamp (stamp_of stamps j)) (walk (suc n) links end.first)
     → find (λ j. int_lt (stamp_of stamps k) (stamp_of stamps j)) (queue_at links ends i) ≡ found
 first_later links ends stamps k i n stamp end found long lt read e is =
     let at : end ≡ ends_at ends i = get_or_read ends i end lt read no_ends in
     sym (is ∙ (rw (e, long) (ap (λ (o : Ends). find (λ j. int_lt (stamp_of stamps k) (stamp_of stamps j)) (walk (suc (length links)) links o.first)) at)))
-
-pub filed_before : (links : List Link) (ends : List Ends) (stamps : List ℤ) (lists : List (List ℕ)) (k i n b : ℕ) (stamp : ℤ) (end : Ends) (found : Option ℕ) → AreQueues links ends → n ≡ length links → i < length ends → end ≡ get_or ends i end → stamp ≡ stamp_of stamps k
-    → found ≡ find (λ j. int_lt stamp (stamp_of stamps j)) (walk (suc n) links end.first) → found ≡ Some b
-    → lists ≡ with_inserted (mark_of links b) k b (queues links ends)
-    → lists ≡ set (queues links ends) i (placed (stamp_of stamps) k (part_of (queues links ends) i))
-filed_before links ends stamps lists k i n b stamp end found are long lt read e is some made =
-    let first : find (λ j. int_lt (stamp_of stamps k) (stamp_of stamps j)) (queue_at links ends i) ≡ Some b =
-    first_later links ends stamps k i n stamp end found long lt read e is ∙ some in
-    let there = (found_passes (λ j. int_lt (stamp_of stamps k) (stamp_of stamps j)) b (queue_at links ends i) first).1 in
-    let mark : mark_of links b ≡ Some i = along_marked links i None None (queue_at links ends i) b (are.each i).along there in
-    let own : put_before k b (part_of (queues links ends) i) ≡ placed (stamp_of stamps) k (part_of (queues links ends) i) =
-    rw (list_at links ends i) (placed_before (stamp_of stamps) k b (queue_at links ends i) first) in
-    made ∙ (rw mark (ap (set (queues links ends) i) own))
-
-pub filed_last : (links : List Link) (ends : List Ends) (stamps : List ℤ) (lists : List (List ℕ)) (k i n : ℕ) (stamp : ℤ) (end : Ends) (found : Option ℕ) → n ≡ length links → i < length ends → end ≡ get_or ends i end → stamp ≡ stamp_of stamps k
-    → found ≡ find (λ j. int_lt stamp (stamp_of stamps j)) (walk (suc n) links end.first) → found ≡ None
-    → lists ≡ set (queues links ends) i (part_of (queues links ends) i ++ k ∷ [])
-    → lists ≡ set (queues links ends) i (placed (stamp_of stamps) k (part_of (queues links ends) i))
-filed_last links ends stamps lists k i n stamp end found long lt read e is none made =
-    let first : find (λ j. int_lt (stamp_of stamps k) (stamp_of stamps j)) (queue_at links ends i) ≡ None =
-    first_later links ends stamps k i n stamp end found long lt read e is ∙ none in
-    let own : part_of (queues links ends) i ++ k ∷ [] ≡ placed (stamp_of stamps) k (part_of (queues links ends) i) =
-    rw (list_at links ends i) (sym (placed_end (stamp_of stamps) k (queue_at links ends i) first)) in
-    made ∙ ap (set (queues links ends) i) own

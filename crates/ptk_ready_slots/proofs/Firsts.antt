@@ -56,7 +56,7 @@ some_member : (ks : List ℕ) → has_any ks ≡ true → Member ks
 some_member [] h = absurd (cc)
 some_member (k ∷ ks) h = record { one = k; inside = in_here k ks }
 
-any_member : (k : ℕ) (ks : List ℕ) → is_in k ks ≡ true → has_any ks ≡ true
+pub any_member : (k : ℕ) (ks : List ℕ) → is_in k ks ≡ true → has_any ks ≡ true
 any_member k [] h = absurd (cc)
 any_member k (j ∷ ks) h = refl
 

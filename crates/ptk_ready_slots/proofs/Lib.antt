@@ -8,3 +8,4 @@ pub mod Firsts
 pub mod Extremes
 pub mod Ranks
 pub mod Lists
+pub mod Calls

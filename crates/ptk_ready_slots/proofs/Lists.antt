@@ -1,21 +1,23 @@
 -- The line read from the queues' lists is the line read from the links.
 use Rattle.std.proofs.Common.{◌≡◌, ℕ, zero, suc, ◌+◌, ◌-◌, ◌<◌, ◌≤◌, List, [], ◌∷◌, ◌++◌, length, take, true, false, refl, sym, ◌∙◌, ap, subst, arith, inl, inr, length-take}
-use Rattle.std.specs.Prelude.{Bool, ℤ, None, filter, ◌↔◌}
+use Rattle.std.specs.Prelude.{Bool, ℤ, None, filter, ◌==◌, ◌↔◌}
 use Rattle.std.proofs.lemmas.List.{get_or-take, append-nil}
+use Rattle.std.proofs.lemmas.Nat.Bits.{bit_at-zero}
 use Rattle.std.proofs.lemmas.List.Elements.{filter-append}
 use Rattle.ptk_words.specs.Pools.{is_in, numbers_to}
 use Rattle.ptk_words_parted.specs.Parts.{part_of, joined}
+use Rattle.ptk_threads.specs.Table.{stored_of}
 use Rattle.ptk_threads_slots.specs.declared.link.Link.{Link}
 use Rattle.ptk_threads_slots.specs.declared.link.Ends.{Ends}
 use Rattle.ptk_threads_slots.specs.Links.{queue_at, queues, AreQueues}
-use Rattle.ptk_threads_slots.proofs.Along.{in_left, in_right, in_parts, not_true, marked_within, along_marked}
+use Rattle.ptk_threads_slots.proofs.Along.{in_here, in_left, in_right, in_parts, not_true, marked_within, along_marked}
 use Rattle.ptk_threads_slots.proofs.Lists.{list_at}
 use Rattle.ptk_ready_slots.specs.Orders.{in_order}
 use Rattle.ptk_ready_slots.specs.Entries.{is_ready, ready_of, stamp_of, entries, of_priority, has_any, IsSound}
 use Rattle.ptk_ready_slots.specs.Lines.{queued, line_of, IsFiled}
-use Rattle.ptk_ready_slots.proofs.Orders.{same_test}
+use Rattle.ptk_ready_slots.proofs.Orders.{same_test, and_parts, in_kept, in_sorted}
 use Rattle.ptk_ready_slots.proofs.Ready.{ready_mark, marked_ready}
-use Rattle.ptk_ready_slots.proofs.Kept.{filter_agree}
+use Rattle.ptk_ready_slots.proofs.Kept.{filter_agree, in_priority}
 
 -- ---- lists joined
 
@@ -98,3 +100,51 @@ sound_line limit links ends stored stamps bitmap are few filed =
 pub filed_sound : (limit : ℕ) (links : List Link) (ends : List Ends) (stored : List ℕ) (stamps : List ℤ) (bitmap : ℕ) → AreQueues links ends → length links ≤ 32 → IsSound limit links ends stored stamps bitmap ↔ IsFiled limit (queues links ends) stored stamps bitmap
 filed_sound limit links ends stored stamps bitmap are few =
     (filed_line limit links ends stored stamps bitmap few, sound_line limit links ends stored stamps bitmap are few)
+
+-- ---- no thread
+
+no_members : (ks : List ℕ) → ((k : ℕ) → is_in k ks ≡ true → ⊥) → ks ≡ []
+no_members [] h = refl
+no_members (k ∷ ks) h = absurd (h k (in_here k ks))
+
+none_queued : (lists : List (List ℕ)) → ((i : ℕ) → i < 32 → part_of lists i ≡ []) → (k : ℕ) → is_in k (queued lists) ≡ true → ⊥
+none_queued lists none k inside =
+    let at = among k (take 32 lists) inside in
+    let lt : at.place < 32 = omega (arith, at.low, length-take 32 lists) in
+    let there : is_in k [] ≡ true = subst (λ l. is_in k l ≡ true) (get_or-take 32 lists at.place [] lt ∙ none at.place lt) at.inside in absurd (cc)
+
+pub none_line : (lists : List (List ℕ)) (stamps : List ℤ) → ((i : ℕ) → i < 32 → part_of lists i ≡ []) → line_of lists stamps ≡ []
+none_line lists stamps none = no_members (line_of lists stamps) (λ k inside.
+    none_queued lists none k (and_parts (is_in k (queued lists)) (is_in k (numbers_to 32))
+    (sym (in_sorted (stamp_of stamps) k (filter (λ j. is_in j (queued lists)) (numbers_to 32)) ∙ in_kept (λ j. is_in j (queued lists)) k (numbers_to 32)) ∙ inside)).0)
+
+pub none_filed : (limit : ℕ) (lists : List (List ℕ)) (stored : List ℕ) (stamps : List ℤ) → ((i : ℕ) → i < 32 → part_of lists i ≡ []) → IsFiled limit lists stored stamps 0
+none_filed limit lists stored stamps none = record {
+  apart = λ j k a b e. absurd (none_queued lists none j a);
+  within = λ k inside. absurd (none_queued lists none k inside);
+  lines = λ i lt. none i lt ∙ sym (ap (of_priority stored (suc i)) (none_line lists stamps none));
+  bits = λ i lt. ap (λ b. b == 1) (bit_at-zero i) ∙ sym (ap has_any (none i lt));
+}
+
+-- ---- the first 32 queues alone
+
+pub line_take : (a b : List (List ℕ)) (stamps : List ℤ) → take 32 a ≡ take 32 b → line_of a stamps ≡ line_of b stamps
+line_take a b stamps same = ap (λ lists. in_order (stamp_of stamps) (filter (λ k. is_in k (joined lists)) (numbers_to 32))) same
+
+list_take : (a b : List (List ℕ)) (i : ℕ) → take 32 a ≡ take 32 b → i < 32 → part_of b i ≡ part_of a i
+list_take a b i same lt = sym (get_or-take 32 b i [] lt) ∙ (ap (λ lists. part_of lists i) (sym same) ∙ get_or-take 32 a i [] lt)
+
+-- the stored priorities of threads in the line alone
+pub filed_take : (limit : ℕ) (a b : List (List ℕ)) (stored after : List ℕ) (stamps : List ℤ) (bitmap : ℕ) → take 32 a ≡ take 32 b → ((k : ℕ) → is_in k (line_of a stamps) ≡ true → stored_of after k ≡ stored_of stored k)
+    → IsFiled limit a stored stamps bitmap → IsFiled limit b after stamps bitmap
+filed_take limit a b stored after stamps bitmap same levels filed = record {
+  apart = λ j k x y e. filed.apart j k (subst (λ lists. is_in j (joined lists) ≡ true) (sym same) x) (subst (λ lists. is_in k (joined lists) ≡ true) (sym same) y) e;
+  within = λ k inside. filed.within k (subst (λ lists. is_in k (joined lists) ≡ true) (sym same) inside);
+  lines = λ i lt. list_take a b i same lt ∙ (filed.lines i lt
+      ∙ (filter_agree (λ k. stored_of stored k == suc i) (λ k. stored_of after k == suc i) (line_of a stamps) (λ k inside. ap (λ n. n == suc i) (sym (levels k inside)))
+      ∙ ap (of_priority after (suc i)) (line_take a b stamps same)));
+  bits = λ i lt. filed.bits i lt ∙ sym (ap has_any (list_take a b i same lt));
+}
+
+pub filed_member : (limit : ℕ) (lists : List (List ℕ)) (stored : List ℕ) (stamps : List ℤ) (bitmap k i : ℕ) → IsFiled limit lists stored stamps bitmap → i < 32 → is_in k (part_of lists i) ≡ true → is_in k (line_of lists stamps) ≡ true
+filed_member limit lists stored stamps bitmap k i filed lt inside = (in_priority stored (suc i) k (line_of lists stamps) (subst (λ l. is_in k l ≡ true) (filed.lines i lt) inside)).1

@@ -3,27 +3,29 @@ use Rattle.std.proofs.Common.{◌≡◌, ◌≢◌, ℕ, zero, suc, ◌-◌, ◌
 use Rattle.std.specs.Prelude.{ℤ, pos, neg_ℤ, ◌<ℤ◌, ◌≤ℤ◌, int_lt, ◌==◌, ◌↔◌, is_some, Option, Some, None}
 use Rattle.std.proofs.Math.ListN.{set}
 use Rattle.std.proofs.lemmas.Bool.Decides.{nat_tests}
-use Rattle.std.proofs.lemmas.List.{get_or_default, get_or_past, get_or-set_same, get_or-set_other}
+use Rattle.std.proofs.lemmas.List.{get_or_past, get_or-set_same, get_or-set_other}
 use Rattle.ptk_words.specs.Pools.{is_in, without, pool_set}
 use Rattle.ptk_words_parted.specs.Parts.{part_of}
 use Rattle.ptk_threads.specs.Table.{stored_of}
 use Rattle.ptk_threads_slots.specs.declared.link.Link.{Link}
 use Rattle.ptk_threads_slots.specs.declared.link.Ends.{Ends}
-use Rattle.ptk_threads_slots.specs.Links.{mark_of, no_ends, ends_at, first_or, queue_at, queues, AreQueues}
-use Rattle.ptk_threads_slots.specs.Changes.{with_taken}
+use Rattle.ptk_threads_slots.specs.Links.{mark_of, first_or, queue_at, queues, AreQueues}
 use Rattle.ptk_threads_slots.proofs.Along.{in_front, in_here, in_later, not_true, le_or_gt, along_marked}
 use Rattle.ptk_threads_slots.proofs.Lists.{list_at}
 use Rattle.std.proofs.lemmas.Int.{ints}
-use Rattle.std.proofs.lemmas.Nat.Bits.{bit_at-zero}
 use Rattle.ptk_ready_slots.specs.Bits.{IsBitChanged}
 use Rattle.ptk_ready_slots.specs.Orders.{placed, IsInOrder}
-use Rattle.ptk_ready_slots.specs.Entries.{is_ready, stamp_of, entries, of_priority, has_any, AreStamps, IsSound, KeepsWaiters}
+use Rattle.ptk_ready_slots.specs.Entries.{is_ready, stamp_of, entries, of_priority, has_any, AreStamps, IsSound}
 use Rattle.ptk_ready_slots.specs.Stamps.{AreFiled}
 use Rattle.ptk_ready_slots.proofs.Ranks.{IsRenumbered}
 use Rattle.ptk_ready_slots.proofs.Ready.{in_entries, marked_ready, entries_order}
 use Rattle.ptk_ready_slots.proofs.Orders.{no_less, less_test, test_less, in_placed, in_kept, order_kept, order_placed, order_apart, same_list}
 use Rattle.std.proofs.lemmas.Bool.{cases_eq}
-use Rattle.ptk_ready_slots.proofs.Kept.{IsKept, IsComing, sound_kept, kept_sound, kept_entries, is_priority, no_priority, in_priority, queue_other, member_apart, in_without, filter_agree, came, went}
+use Rattle.ptk_ready_slots.proofs.Kept.{IsKept, IsComing, sound_kept, kept_sound, kept_entries, is_priority, no_priority, in_priority, queue_other, member_apart, in_without, came}
+
+-- the queues of waiters, which come after those of ready threads, have the same lists
+abbrev pub KeepsWaiters : List Link → List Ends → List Link → List Ends → Type 0
+KeepsWaiters links ends new after = (i : ℕ) → 32 ≤ i → queue_at new after i ≡ queue_at links ends i
 
 -- the line is sound, and is this list; the queues of waiters are as before
 pub record IsDone (limit : ℕ) (links new : List Link) (ends late : List Ends) (stored : List ℕ) (stamps : List ℤ) (bitmap : ℕ) (xs : List ℕ) : Type 0 where
@@ -31,7 +33,7 @@ pub record IsDone (limit : ℕ) (links new : List Link) (ends late : List Ends) 
   pub line : entries new stamps ≡ xs
   pub waiters : KeepsWaiters links ends new late
 
-done : (limit : ℕ) (links new : List Link) (ends late : List Ends) (stored : List ℕ) (stamps : List ℤ) (bitmap : ℕ) (xs : List ℕ) (i : ℕ) (line : List ℕ) → i < 32 → queues new late ≡ set (queues links ends) i line
+pub done : (limit : ℕ) (links new : List Link) (ends late : List Ends) (stored : List ℕ) (stamps : List ℤ) (bitmap : ℕ) (xs : List ℕ) (i : ℕ) (line : List ℕ) → i < 32 → queues new late ≡ set (queues links ends) i line
     → IsKept limit new late stored stamps bitmap xs → IsDone limit links new ends late stored stamps bitmap xs
 done limit links new ends late stored stamps bitmap xs i line low lists kept = record {
   sound = kept_sound limit new late stored stamps bitmap xs kept;
@@ -39,9 +41,9 @@ done limit links new ends late stored stamps bitmap xs i line low lists kept = r
   waiters = λ j far. queue_other links new ends late i j line (omega (arith, low, far)) lists;
 }
 
--- ---- a removal
+-- ---- who is in no list
 
-any_first : (line : List ℕ) → is_some (first_or None line) ≡ has_any line
+pub any_first : (line : List ℕ) → is_some (first_or None line) ≡ has_any line
 any_first [] = refl
 any_first (k ∷ ks) = refl
 
@@ -54,23 +56,6 @@ without_out k (j ∷ ks) out =
 
 pub unmarked : (links : List Link) (stamps : List ℤ) (k : ℕ) → mark_of links k ≡ None → is_in k (entries links stamps) ≡ false
 unmarked links stamps k mark = in_entries links stamps k ∙ (rw mark refl)
-
-pub elsewhere : (links : List Link) (stamps : List ℤ) (k i : ℕ) → 32 ≤ i → mark_of links k ≡ Some i → is_in k (entries links stamps) ≡ false
-elsewhere links stamps k i far mark = in_entries links stamps k ∙ (rw mark (grind (arith, nat_tests)))
-
-pub removed : (limit : ℕ) (links new : List Link) (ends late : List Ends) (stored : List ℕ) (stamps : List ℤ) (bitmap bits : ℕ) (k i : ℕ) (end : Ends)
-    → IsSound limit links ends stored stamps bitmap → i < 32 → length ends ≡ 128 → length late ≡ 128 → mark_of links k ≡ Some i → AreQueues new late
-    → queues new late ≡ with_taken (mark_of links k) k (queues links ends) → IsBitChanged bitmap bits i (is_some (get_or late i end).first)
-    → IsDone limit links new ends late stored stamps bits (without k (entries links stamps))
-removed limit links new ends late stored stamps bitmap bits k i end sound low long same mark are lists bit =
-    let kept = sound_kept limit links ends stored stamps bitmap sound in
-    let lt : i < length late = omega (arith, same, low) in
-    let at : get_or late i end ≡ ends_at late i = get_or_default late i end no_ends lt in
-    let any : is_some (get_or late i end).first ≡ has_any (queue_at new late i) =
-    ap (λ (e : Ends). is_some e.first) at ∙ ap is_some (are.each i).first ∙ any_first (queue_at new late i) in
-    let made : queues new late ≡ set (queues links ends) i (without k (part_of (queues links ends) i)) = rw mark at lists in
-    done limit links new ends late stored stamps bits (without k (entries links stamps)) i (without k (part_of (queues links ends) i)) low made
-    (went limit links new ends late stored stamps bitmap bits (entries links stamps) k i kept low long mark are made (subst (IsBitChanged bitmap bits i) any bit))
 
 -- ---- a thread filed anew
 
@@ -157,29 +142,6 @@ refiled limit links mid new ends then late stored stamps bitmap bits after k i p
     subst (IsKept limit new late stored' stamps after) (placed_back (stamp_of stamps) k xs was.order inside) back in
     let there = done limit mid new then late stored' stamps after xs i (placed (stamp_of stamps) k (part_of (queues mid then) i)) low lists whole in
     record { sound = there.sound; line = there.line; waiters = λ j far. there.waiters j far ∙ keeps j far }
-
--- a thread that is not in the line may get any stored priority
-pub unlined : (limit : ℕ) (links : List Link) (ends : List Ends) (stored : List ℕ) (stamps : List ℤ) (bitmap k priority : ℕ) → IsSound limit links ends stored stamps bitmap → is_in k (entries links stamps) ≡ false
-    → IsSound limit links ends (pool_set stored k priority) stamps bitmap
-unlined limit links ends stored stamps bitmap k priority sound out = record {
-  queues = sound.queues;
-  stamped = sound.stamped;
-  lines = λ i lt. sound.lines i lt ∙ filter_agree (λ j. stored_of stored j == suc i) (λ j. stored_of (pool_set stored k priority) j == suc i) (entries links stamps)
-      (λ j inside. ap (λ n. n == suc i) (sym (stored_other stored k priority j (member_apart k j (entries links stamps) out inside))));
-  bits = sound.bits;
-}
-
--- the same, where the stamps are known to be those before the removal
-pub refiled_anew : (limit : ℕ) (links mid new : List Link) (ends then late : List Ends) (stored : List ℕ) (stamps anew : List ℤ) (bitmap bits after : ℕ) (k i priority : ℕ) → anew ≡ stamps
-    → IsSound limit links ends stored stamps bitmap → is_in k (entries links stamps) ≡ true → IsSound limit mid then stored anew bits → entries mid anew ≡ without k (entries links stamps)
-    → KeepsWaiters links ends mid then → i < 32 → priority ≡ suc i → length then ≡ 128 → AreQueues new late
-    → queues new late ≡ set (queues mid then) i (placed (stamp_of anew) k (part_of (queues mid then) i)) → IsBitChanged bits after i true
-    → IsDone limit links new ends late (pool_set stored k priority) anew after (entries links stamps)
-refiled_anew limit links mid new ends then late stored stamps anew bitmap bits after k i priority same sound inside left line keeps low e long are lists bit =
-    subst (λ z. IsDone limit links new ends late (pool_set stored k priority) z after (entries links stamps)) (sym same)
-    (refiled limit links mid new ends then late stored stamps bitmap bits after k i priority sound inside
-    (subst (λ z. IsSound limit mid then stored z bits) same left) (sym (ap (entries mid) same) ∙ line) keeps low e long are
-    (lists ∙ ap (λ z. set (queues mid then) i (placed (stamp_of z) k (part_of (queues mid then) i))) same) bit)
 
 -- ---- a thread that is pushed
 
@@ -285,25 +247,6 @@ pushed_head limit links new ends late stored stamps mid anew bitmap bits k i sta
     λ j inside. rw (coming.others j (member_apart k j (entries links mid) coming.out inside), own) (first j (sym (in_entries links mid j) ∙ inside)) in
     pushed limit links new ends late stored stamps mid anew bitmap bits k i (λ ks. k ∷ ks) sound are line coming
     (λ ks among. placed_first (stamp_of anew) k ks (λ j inside. after j (among j inside))) wide queued lists bit
-
--- ---- no thread
-
-no_members : (ks : List ℕ) → ((k : ℕ) → is_in k ks ≡ true → ⊥) → ks ≡ []
-no_members [] h = refl
-no_members (k ∷ ks) h = absurd (h k (in_here k ks))
-
-pub none_sound : (limit : ℕ) (links : List Link) (ends : List Ends) (stored : List ℕ) (stamps : List ℤ) → AreQueues links ends → ((k : ℕ) → is_ready links k ≡ false) → IsSound limit links ends stored stamps 0
-none_sound limit links ends stored stamps are none =
-    let line : entries links stamps ≡ [] = no_members (entries links stamps) (λ k inside. (let out = none k in let inside_too = sym (in_entries links stamps k) ∙ inside in absurd (cc))) in
-    let empty : (i : ℕ) → i < 32 → queue_at links ends i ≡ [] = λ i lt. no_members (queue_at links ends i)
-    (λ k inside. (let out = none k in
-    let ready = marked_ready links k i lt (along_marked links i None None (queue_at links ends i) k (are.each i).along inside) in absurd (cc))) in
-    record {
-      queues = are;
-      stamped = record { apart = λ j k a b e. (let out = none j in absurd (cc)); within = λ k ready. (let out = none k in absurd (cc)) };
-      lines = λ i lt. empty i lt ∙ sym (ap (of_priority stored (suc i)) line);
-      bits = λ i lt. ap (λ b. b == 1) (bit_at-zero i) ∙ sym (ap has_any (empty i lt));
-    }
 
 -- ---- marks and queues
 

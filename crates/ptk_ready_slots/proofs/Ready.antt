@@ -1,13 +1,13 @@
 -- The ready threads of a partition's links, and the one list of them that is in order.
-use Rattle.std.proofs.Common.{◌≡◌, ℕ, zero, suc, ◌<◌, ◌≤◌, List, [], ◌∷◌, length, true, false, refl, sym, ◌∙◌, ap, arith, get_or, inl, inr}
-use Rattle.std.specs.Prelude.{ℤ, nat_eq, Option, Some, None, option_map, replicate}
+use Rattle.std.proofs.Common.{◌≡◌, ℕ, zero, suc, ◌<◌, ◌≤◌, List, [], ◌∷◌, length, true, refl, sym, ◌∙◌, arith, inl, inr}
+use Rattle.std.specs.Prelude.{ℤ, nat_eq, Option, Some, None}
 use Rattle.std.specs.List.{IsDistinct}
 use Rattle.std.specs.Cmp.{nat_eq_equiv}
 use Rattle.std.proofs.lemmas.Bool.Decides.{nat_tests}
 use Rattle.std.proofs.lemmas.Map.Keys.{IsDistinct-push}
 use Rattle.ptk_words.specs.Pools.{is_in, numbers_to}
 use Rattle.ptk_threads_slots.specs.declared.link.Link.{Link}
-use Rattle.ptk_threads_slots.specs.Links.{mark_of, no_link, place_of}
+use Rattle.ptk_threads_slots.specs.Links.{mark_of}
 use Rattle.ptk_threads_slots.proofs.Along.{in_front, in_here, in_left, in_right, in_parts, not_true, le_or_gt, marked_within}
 use Rattle.ptk_ready_slots.specs.Orders.{IsInOrder}
 use Rattle.ptk_ready_slots.specs.Entries.{is_ready_place, is_ready, ready_of, stamp_of, entries, AreStamps}
@@ -85,13 +85,3 @@ entries_are links stamps xs order same =
     (order_sorted (stamp_of stamps) (ready_of links) (ready_distinct links) apart) order
     (λ k inside. same k ∙ (sym (in_entries links stamps k) ∙ inside))
     (λ k inside. in_entries links stamps k ∙ (sym (same k) ∙ inside))
-
--- slots without links have no ready thread
-one_of_same : (n i : ℕ) → get_or (replicate n no_link) i no_link ≡ no_link
-one_of_same zero i = refl
-one_of_same (suc n) zero = refl
-one_of_same (suc n) (suc i) = one_of_same n i
-
-pub none_ready : (links : List Link) (n : ℕ) → links ≡ replicate n no_link → (k : ℕ) → is_ready links k ≡ false
-none_ready links n e zero = refl
-none_ready links n e (suc i) = ap (λ (l : Link). is_ready_place (option_map place_of l.queue)) (ap (λ ls. get_or ls i no_link) e ∙ one_of_same n i)

@@ -1,5 +1,5 @@
 -- The line of one partition's ready threads, read from its links and stamps (XSH 2.8.4).
-use Rattle.std.specs.Prelude.{◌≡◌, ℕ, zero, suc, ◌<◌, ◌≤◌, ◌==◌, nat_lt, Bool, true, false, ℤ, pos, ◌≤ℤ◌, neg_ℤ, List, [], ◌∷◌, length, filter, Option, Some, None, slice_index_or}
+use Rattle.std.specs.Prelude.{◌≡◌, ℕ, zero, suc, ◌<◌, ◌==◌, nat_lt, Bool, true, false, ℤ, pos, ◌≤ℤ◌, neg_ℤ, List, [], ◌∷◌, length, filter, Option, Some, None, slice_index_or}
 use Rattle.ptk_words.specs.Pools.{numbers_to}
 use Rattle.ptk_threads.specs.Table.{stored_of}
 use Rattle.ptk_threads_slots.specs.declared.link.Link.{Link}
@@ -53,9 +53,3 @@ pub record IsSound (limit : ℕ) (links : List Link) (ends : List Ends) (stored 
   pub stamped : AreStamps limit links stamps
   pub lines : (i : ℕ) → i < 32 → queue_at links ends i ≡ of_priority stored (suc i) (entries links stamps)
   pub bits : (i : ℕ) → i < 32 → has_bit bitmap i ≡ has_any (queue_at links ends i)
-
--- ---- what stays
-
--- the queues of waiters, which come after those of ready threads, have the same lists
-abbrev pub KeepsWaiters : List Link → List Ends → List Link → List Ends → Type 0
-KeepsWaiters links ends new after = (i : ℕ) → 32 ≤ i → queue_at new after i ≡ queue_at links ends i

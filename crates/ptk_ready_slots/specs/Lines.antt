@@ -1,7 +1,9 @@
 -- The line of one partition's ready threads, read from the lists of its queues and the stamps, whatever the links (XSH 2.8.4).
-use Rattle.std.specs.Prelude.{◌≡◌, ℕ, suc, ◌<◌, true, ℤ, pos, neg_ℤ, ◌≤ℤ◌, List, take, filter}
+use Rattle.std.specs.Prelude.{◌≡◌, ℕ, suc, ◌<◌, true, ℤ, pos, neg_ℤ, ◌≤ℤ◌, List, take, filter, Option, Some, None}
 use Rattle.ptk_words.specs.Pools.{is_in, numbers_to}
 use Rattle.ptk_words_parted.specs.Parts.{part_of, joined}
+use Rattle.ptk_threads_slots.specs.declared.link.QueueName.TheVariants.{Ready}
+use Rattle.ptk_threads.specs.Queues.{with_none, with_last, with_before}
 use Rattle.ptk_ready_slots.specs.Bits.{has_bit}
 use Rattle.ptk_ready_slots.specs.Orders.{in_order}
 use Rattle.ptk_ready_slots.specs.Entries.{stamp_of, of_priority, has_any}
@@ -20,3 +22,8 @@ pub record IsFiled (limit : ℕ) (lists : List (List ℕ)) (stored : List ℕ) (
   pub within : (k : ℕ) → is_in k (queued lists) ≡ true → (neg_ℤ (pos limit) ≤ℤ stamp_of stamps k) × (stamp_of stamps k ≤ℤ pos limit)
   pub lines : (i : ℕ) → i < 32 → part_of lists i ≡ of_priority stored (suc i) (line_of lists stamps)
   pub bits : (i : ℕ) → i < 32 → has_bit bitmap i ≡ has_any (part_of lists i)
+
+-- the queues with k taken out of its own, and put before another thread, or last into that of a priority's ready threads
+abbrev pub with_refiled : Option ℕ → ℕ → ℕ → List (List ℕ) → List (List ℕ)
+with_refiled (Some before) priority k lists = with_before k before (with_none k lists)
+with_refiled None priority k lists = with_last (Ready priority) k (with_none k lists)

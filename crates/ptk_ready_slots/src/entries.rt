@@ -1,24 +1,26 @@
 //! The line of one partition.
 
-ghost use Rattle.std.specs.Prelude.{◌≡◌, ℕ, ◌<◌, ◌≤◌, ◌^◌, true, pos, neg_ℤ, ◌<ℤ◌, ◌≤ℤ◌, MatchOption, ⊤, is_some, false, List, [], ◌∷◌, ◌++◌, length};
+ghost use Rattle.std.specs.Prelude.{◌≡◌, ℕ, ◌<◌, ◌≤◌, ◌^◌, true, pos, neg_ℤ, ◌<ℤ◌, ◌≤ℤ◌, MatchOption, ⊤, is_some, option_map, ◌||◌, List, [], ◌∷◌, ◌++◌, length, drop};
 ghost use Rattle.ptk_words.specs.Pools.{pool_set, without, first_of_greatest, is_in};
+ghost use Rattle.ptk_words_parted.specs.Parts.{part_of};
 ghost use Rattle.ptk_threads.specs.Table.{stored_of};
-ghost use Rattle.ptk_threads_slots.specs.declared.link.Link.{Link};
-ghost use Rattle.ptk_threads_slots.specs.declared.link.Ends.{Ends as ListEnds};
-ghost use Rattle.ptk_threads_slots.specs.Links.{links_of, threads_of, mark_of, AreQueues};
-ghost use Rattle.ptk_ready_slots.specs.Bits.{IsBitChanged};
-ghost use Rattle.ptk_ready_slots.specs.Entries.{entries, is_ready, stamp_of, AreStamps, IsSound, KeepsWaiters};
+ghost use Rattle.ptk_threads.specs.Queues.{IsUnqueued, with_last, with_first, with_none};
+ghost use Rattle.ptk_threads_slots.specs.Links.{links_of, place_of, queues, AreQueues};
+ghost use Rattle.ptk_ready_slots.specs.Bits.{has_bit, IsBitChanged};
+ghost use Rattle.ptk_ready_slots.specs.Entries.{entries, is_ready_place, is_ready, stamp_of, AreStamps, IsSound};
+ghost use Rattle.ptk_ready_slots.specs.Lines.{line_of, with_refiled, IsFiled};
 ghost use Rattle.ptk_ready_slots.specs.Stamps.{above, below};
 
 use crate::bits::{greatest_bit, with_bit, without_bit};
-use crate::places::file;
-use crate::stamps::{NUMBERS, greatest_stamp, is_ready_link, least_stamp, renumbered};
+use crate::places::first_after;
+use crate::stamps::{NUMBERS, greatest_stamp, is_ready_link, least_stamp, renumbered, stamp_in};
 use ptk_threads::stored_in;
-use ptk_threads_slots::{Ends, QueueName, Slot, append, link_of, prepend, take};
+use ptk_threads_slots::{Ends, Link, QueueName, Slot, link_of};
 use ptk_words::{Priority, ThreadNo};
 
 /// What a partition's line keeps beside the links: each number's stamp, of magnitude `LIMIT` at most where its thread
-/// is ready, and the queues of ready threads that are not empty.
+/// is ready, and the queues of ready threads that are not empty. The queues themselves are the slot table's: a call here
+/// says which call of the slot table its caller makes next, and its contract speaks of the line as it is then.
 #[derive(Clone, Copy)]
 pub struct LinkedEntries<const LIMIT: u64> {
     stamps: [i64; 32],
@@ -26,10 +28,10 @@ pub struct LinkedEntries<const LIMIT: u64> {
 }
 
 impl<const LIMIT: u64> LinkedEntries<LIMIT> {
-    /// The line of slots without ready threads.
+    /// The line of queues without ready threads.
     pub fn new() -> LinkedEntries<LIMIT>
-        ensures { (links : List Link) (ends : List ListEnds) (stored : List ℕ) → AreQueues links ends
-            → ((k : ℕ) → is_ready links k ≡ false) → IsSound LIMIT links ends stored result.stamps result.bitmap }
+        ensures { (lists : List (List ℕ)) (stored : List ℕ) → ((i : ℕ) → i < 32 → part_of lists i ≡ [])
+            → IsFiled LIMIT lists stored result.stamps result.bitmap }
     {
         LinkedEntries {
             stamps: [0; NUMBERS],
@@ -37,66 +39,109 @@ impl<const LIMIT: u64> LinkedEntries<LIMIT> {
         }
     }
 
-    /// Appends a thread that lies in no queue.
-    pub fn push_tail(&mut self, slots: &mut [Slot], ends: &mut [Ends], stored: &[u8], k: ThreadNo)
-        requires sound { IsSound LIMIT (links_of slots.old) ends.old stored.now self.old.stamps self.old.bitmap }
+    /// Makes a thread that lies in no queue the last of the line. The caller appends it to the queue that this names.
+    pub fn push_tail(
+        &mut self,
+        slots: &[Slot],
+        ends: &[Ends],
+        stored: &[u8],
+        k: ThreadNo,
+    ) -> QueueName
+        requires queues { AreQueues (links_of slots.now) ends.now }
+        requires sound { IsFiled LIMIT (queues (links_of slots.now) ends.now) stored.now self.old.stamps self.old.bitmap }
         requires limit { (64 ≤ LIMIT) × (LIMIT ≤ 2 ^ 62) }
-        requires places { (length slots.old ≤ 32) × (length ends.old ≡ 128) }
-        requires slot { k ≤ length slots.old }
-        requires free { mark_of (links_of slots.old) k ≡ None }
+        requires places { (length slots.now ≤ 32) × (length ends.now ≡ 128) }
+        requires slot { k ≤ length slots.now }
+        requires free { IsUnqueued k (queues (links_of slots.now) ends.now) }
         requires priority { (0 < stored_of stored.now k) × (stored_of stored.now k ≤ 32) }
-        ensures sound { IsSound LIMIT (links_of slots.new) ends.new stored.now self.new.stamps self.new.bitmap }
-        ensures line { entries (links_of slots.new) self.new.stamps
-            ≡ entries (links_of slots.old) self.old.stamps ++ k ∷ [] }
-        ensures waiters { KeepsWaiters (links_of slots.old) ends.old (links_of slots.new) ends.new }
-        ensures threads { threads_of slots.new ≡ threads_of slots.old }
+        ensures queue { result ≡ QueueName.Ready (stored_of stored.now k) }
+        ensures sound { IsFiled LIMIT (with_last result k (queues (links_of slots.now) ends.now)) stored.now
+            self.new.stamps self.new.bitmap }
+        ensures line { line_of (with_last result k (queues (links_of slots.now) ends.now)) self.new.stamps
+            ≡ line_of (queues (links_of slots.now) ends.now) self.old.stamps ++ k ∷ [] }
+        ensures waiters { drop 32 (with_last result k (queues (links_of slots.now) ends.now))
+            ≡ drop 32 (queues (links_of slots.now) ends.now) }
     {
         let priority = Priority::new(stored_in(stored, k));
         let stamp = self.tail_stamp(slots, ends, stored);
         self.stamps[k.place()] = stamp;
         self.bitmap = with_bit(self.bitmap, priority.level() as usize - 1);
-        append(slots, ends, QueueName::Ready(priority), k);
+        QueueName::Ready(priority)
     }
 
-    /// Puts a thread that lies in no queue first.
-    pub fn push_head(&mut self, slots: &mut [Slot], ends: &mut [Ends], stored: &[u8], k: ThreadNo)
-        requires sound { IsSound LIMIT (links_of slots.old) ends.old stored.now self.old.stamps self.old.bitmap }
+    /// Makes a thread that lies in no queue the first of the line. The caller prepends it to the queue that this names.
+    pub fn push_head(
+        &mut self,
+        slots: &[Slot],
+        ends: &[Ends],
+        stored: &[u8],
+        k: ThreadNo,
+    ) -> QueueName
+        requires queues { AreQueues (links_of slots.now) ends.now }
+        requires sound { IsFiled LIMIT (queues (links_of slots.now) ends.now) stored.now self.old.stamps self.old.bitmap }
         requires limit { (64 ≤ LIMIT) × (LIMIT ≤ 2 ^ 62) }
-        requires places { (length slots.old ≤ 32) × (length ends.old ≡ 128) }
-        requires slot { k ≤ length slots.old }
-        requires free { mark_of (links_of slots.old) k ≡ None }
+        requires places { (length slots.now ≤ 32) × (length ends.now ≡ 128) }
+        requires slot { k ≤ length slots.now }
+        requires free { IsUnqueued k (queues (links_of slots.now) ends.now) }
         requires priority { (0 < stored_of stored.now k) × (stored_of stored.now k ≤ 32) }
-        ensures sound { IsSound LIMIT (links_of slots.new) ends.new stored.now self.new.stamps self.new.bitmap }
-        ensures line { entries (links_of slots.new) self.new.stamps ≡ k ∷ entries (links_of slots.old) self.old.stamps }
-        ensures waiters { KeepsWaiters (links_of slots.old) ends.old (links_of slots.new) ends.new }
-        ensures threads { threads_of slots.new ≡ threads_of slots.old }
+        ensures queue { result ≡ QueueName.Ready (stored_of stored.now k) }
+        ensures sound { IsFiled LIMIT (with_first result k (queues (links_of slots.now) ends.now)) stored.now
+            self.new.stamps self.new.bitmap }
+        ensures line { line_of (with_first result k (queues (links_of slots.now) ends.now)) self.new.stamps
+            ≡ k ∷ line_of (queues (links_of slots.now) ends.now) self.old.stamps }
+        ensures waiters { drop 32 (with_first result k (queues (links_of slots.now) ends.now))
+            ≡ drop 32 (queues (links_of slots.now) ends.now) }
     {
         let priority = Priority::new(stored_in(stored, k));
         let stamp = self.head_stamp(slots, ends, stored);
         self.stamps[k.place()] = stamp;
         self.bitmap = with_bit(self.bitmap, priority.level() as usize - 1);
-        prepend(slots, ends, QueueName::Ready(priority), k);
+        QueueName::Ready(priority)
     }
 
-    /// Takes a thread out; nothing changes where it is not ready.
-    pub fn remove(&mut self, slots: &mut [Slot], ends: &mut [Ends], stored: &[u8], k: ThreadNo)
-        requires sound { IsSound LIMIT (links_of slots.old) ends.old stored.now self.old.stamps self.old.bitmap }
-        requires places { length ends.old ≡ 128 }
-        ensures sound { IsSound LIMIT (links_of slots.new) ends.new stored.now self.new.stamps self.new.bitmap }
-        ensures line { entries (links_of slots.new) self.new.stamps
-            ≡ without k (entries (links_of slots.old) self.old.stamps) }
-        ensures waiters { KeepsWaiters (links_of slots.old) ends.old (links_of slots.new) ends.new }
-        ensures threads { threads_of slots.new ≡ threads_of slots.old }
-        ensures stamps { self.new.stamps ≡ self.old.stamps }
+    /// Removes a thread of the line. The caller takes it out of its queue.
+    pub fn remove(&mut self, slots: &[Slot], ends: &[Ends], stored: &[u8], k: ThreadNo)
+        requires queues { AreQueues (links_of slots.now) ends.now }
+        requires sound { IsFiled LIMIT (queues (links_of slots.now) ends.now) stored.now self.old.stamps self.old.bitmap }
+        requires places { (length slots.now ≤ 32) × (length ends.now ≡ 128) }
+        requires ready { is_in k (line_of (queues (links_of slots.now) ends.now) self.old.stamps) ≡ true }
+        ensures sound { IsFiled LIMIT (with_none k (queues (links_of slots.now) ends.now)) stored.now
+            self.new.stamps self.new.bitmap }
+        ensures line { line_of (with_none k (queues (links_of slots.now) ends.now)) self.new.stamps
+            ≡ without k (line_of (queues (links_of slots.now) ends.now) self.old.stamps) }
+        ensures waiters { drop 32 (with_none k (queues (links_of slots.now) ends.now))
+            ≡ drop 32 (queues (links_of slots.now) ends.now) }
     {
-        let link = link_of(slots, k);
-        if let Some(name) = &link.queue {
-            let i = name.place();
-            if i < 32 {
-                take(slots, ends, k);
-                self.bitmap = refreshed(self.bitmap, i, &ends[i]);
-            }
-        }
+        self.bitmap = bitmap_without(self.bitmap, &link_of(slots, k));
+    }
+
+    /// Files a thread of the line anew for the stored priority that it is about to get; the line stays, so also the
+    /// thread's place. The caller takes it out of its queue and inserts it before the thread that this names, or where
+    /// it names none appends it to the new priority's queue.
+    pub fn refile(
+        &mut self,
+        slots: &[Slot],
+        ends: &[Ends],
+        stored: &[u8],
+        k: ThreadNo,
+        priority: Priority,
+    ) -> Option<ThreadNo>
+        requires queues { AreQueues (links_of slots.now) ends.now }
+        requires sound { IsFiled LIMIT (queues (links_of slots.now) ends.now) stored.now self.old.stamps self.old.bitmap }
+        requires places { (length slots.now ≤ 32) × (length ends.now ≡ 128) }
+        requires ready { is_in k (line_of (queues (links_of slots.now) ends.now) self.old.stamps) ≡ true }
+        ensures sound { IsFiled LIMIT (with_refiled result priority k (queues (links_of slots.now) ends.now))
+            (pool_set stored.now k priority) self.new.stamps self.new.bitmap }
+        ensures line { line_of (with_refiled result priority k (queues (links_of slots.now) ends.now)) self.new.stamps
+            ≡ line_of (queues (links_of slots.now) ends.now) self.old.stamps }
+        ensures waiters { drop 32 (with_refiled result priority k (queues (links_of slots.now) ends.now))
+            ≡ drop 32 (queues (links_of slots.now) ends.now) }
+    {
+        let i = priority.level() as usize - 1;
+        let left = bitmap_without(self.bitmap, &link_of(slots, k));
+        self.bitmap = with_bit(left, i);
+        let end = ends[i];
+        first_after(slots, &self.stamps, end.first, stamp_in(&self.stamps, k))
     }
 
     /// The first thread of the greatest stored priority; None of an empty line.
@@ -106,9 +151,11 @@ impl<const LIMIT: u64> LinkedEntries<LIMIT> {
         ends: &[Ends],
         stored: &[u8],
     ) -> Option<ThreadNo>
-        requires sound { IsSound LIMIT (links_of slots.now) ends.now stored.now self.now.stamps self.now.bitmap }
-        requires places { length ends.now ≡ 128 }
-        ensures { result ≡ first_of_greatest (stored_of stored.now) (entries (links_of slots.now) self.now.stamps) }
+        requires queues { AreQueues (links_of slots.now) ends.now }
+        requires sound { IsFiled LIMIT (queues (links_of slots.now) ends.now) stored.now self.now.stamps self.now.bitmap }
+        requires places { (length slots.now ≤ 32) × (length ends.now ≡ 128) }
+        ensures { result ≡ first_of_greatest (stored_of stored.now)
+            (line_of (queues (links_of slots.now) ends.now) self.now.stamps) }
     {
         match greatest_bit(self.bitmap) {
             Some(i) => ends[i].first,
@@ -117,41 +164,13 @@ impl<const LIMIT: u64> LinkedEntries<LIMIT> {
     }
 
     /// Whether a thread is in the line.
-    pub fn contains(&self, slots: &[Slot], k: ThreadNo) -> bool
-        ensures { result ≡ is_in k (entries (links_of slots.now) self.now.stamps) }
+    pub fn contains(&self, slots: &[Slot], ends: &[Ends], k: ThreadNo) -> bool
+        requires queues { AreQueues (links_of slots.now) ends.now }
+        requires few { length slots.now ≤ 32 }
+        ensures { result ≡ is_in k (line_of (queues (links_of slots.now) ends.now) self.now.stamps) }
     {
         let link = link_of(slots, k);
         is_ready_link(&link)
-    }
-
-    /// Files a thread anew for the stored priority that it is about to get; the line stays, so also the thread's place.
-    pub fn refile(
-        &mut self,
-        slots: &mut [Slot],
-        ends: &mut [Ends],
-        stored: &[u8],
-        k: ThreadNo,
-        priority: Priority,
-    )
-        requires sound { IsSound LIMIT (links_of slots.old) ends.old stored.now self.old.stamps self.old.bitmap }
-        requires places { length ends.old ≡ 128 }
-        ensures sound { IsSound LIMIT (links_of slots.new) ends.new (pool_set stored.now k priority)
-            self.new.stamps self.new.bitmap }
-        ensures line { entries (links_of slots.new) self.new.stamps ≡ entries (links_of slots.old) self.old.stamps }
-        ensures waiters { KeepsWaiters (links_of slots.old) ends.old (links_of slots.new) ends.new }
-        ensures threads { threads_of slots.new ≡ threads_of slots.old }
-    {
-        if self.contains(slots, k) {
-            self.remove(slots, ends, stored, k);
-            file(slots, ends, &self.stamps, k, priority);
-            self.bitmap = with_bit(self.bitmap, priority.level() as usize - 1);
-        }
-    }
-
-    /// The stamp of a number.
-    #[cfg(test)]
-    pub(crate) fn stamp(&self, k: ThreadNo) -> i64 {
-        self.stamps[k.place()]
     }
 
     /// The stamp of a thread that comes last, after all are numbered anew where it would pass the limit.
@@ -193,15 +212,19 @@ impl<const LIMIT: u64> LinkedEntries<LIMIT> {
     }
 }
 
-/// The bitmap in which bit i tells whether the queue with these ends has any.
-fn refreshed(bitmap: u32, i: usize, end: &Ends) -> u32
-    requires { i < 32 }
-    ensures { IsBitChanged bitmap result i (is_some end.now.first) }
+/// The bitmap once the ready thread with this link is gone from its queue, whose bit is clear then where it was alone.
+fn bitmap_without(bitmap: u32, link: &Link) -> u32
+    requires { is_ready_place (option_map place_of link.now.queue) ≡ true }
+    ensures { (i : ℕ) → option_map place_of link.now.queue ≡ Some i → has_bit bitmap i ≡ true
+        → IsBitChanged bitmap result i (is_some link.now.previous || is_some link.now.next) }
 {
-    match &end.first {
-        Some(_) => with_bit(bitmap, i),
-        None => without_bit(bitmap, i),
+    let Some(name) = &link.queue else {
+        return bitmap;
+    };
+    if link.previous.is_some() || link.next.is_some() {
+        return bitmap;
     }
+    without_bit(bitmap, name.place())
 }
 
 /// The stamp after the greatest, 0 where there is none.

@@ -81,6 +81,7 @@ impl Threads {
         requires { p < length self.now.threads }
         ensures threads { threads_of result.slots.now ≡ part_of self.now.threads p }
         ensures sound { AreQueues (links_of result.slots.now) result.ends.now }
+        ensures few { length result.slots.now ≤ 32 }
         ensures places { length result.ends.now ≡ 128 }
         ensures lists { queues (links_of result.slots.now) result.ends.now ≡ part_of self.now.queues p }
     {

@@ -1,46 +1,37 @@
-use Rattle.std.proofs.Common.{◌≡◌, suc, ◌-◌, ◌<◌, length, true, sym, ◌∙◌, subst, rules, arith}
+use Rattle.std.proofs.Common.{◌≡◌, ℕ, suc, ◌-◌, ◌<◌, ◌≤◌, true, length, sym, ◌∙◌, ap, subst, rules, arith, w64, to_z, of_z, FitsSigned}
+use Rattle.std.specs.Prelude.{Some, is_some, option_map, ◌||◌}
+use Rattle.std.proofs.lemmas.Int.{to_z-of_z}
 use Rattle.std.proofs.lemmas.List.{length-map}
-use Rattle.ptk_words.specs.Pools.{is_in}
+use Rattle.ptk_threads_slots.specs.declared.link.Link.{Link}
 use Rattle.ptk_threads_slots.specs.declared.slot.Slot.{Slot}
-use Rattle.ptk_threads_slots.specs.Links.{links_of}
-use Rattle.ptk_threads_slots.proofs.Along.{marked_within}
-use Rattle.ptk_ready_slots.specs.Bits.{IsBitChanged}
-use Rattle.ptk_ready_slots.specs.Entries.{entries}
-use Rattle.ptk_ready_slots.proofs.Ready.{in_entries, ready_mark}
-use Rattle.ptk_ready_slots.proofs.Moves.{refiled_anew, unlined, taken_free}
+use Rattle.ptk_threads_slots.specs.Links.{links_of, place_of}
+use Rattle.ptk_ready_slots.specs.Bits.{has_bit, IsBitChanged}
+use Rattle.ptk_ready_slots.specs.Entries.{is_ready_place}
+use Rattle.ptk_ready_slots.proofs.Filed.{first_later}
+use Rattle.ptk_ready_slots.proofs.Calls.{member_ready, refiled_lists}
 use Rattle.ptk_ready_slots.proofs.entries.LinkedEntries.refile.Goals as goal
 
-pub file-requires-clause-slot : goal.file-requires-clause-slot
-file-requires-clause-slot g c =
+pub bitmap_without-left-requires : goal.bitmap_without-left-requires
+bitmap_without-left-requires g c =
     let links = links_of c.args.slots.now in
-    let inside : is_in c.args.k (entries links c.args.self.now.stamps) ≡ true = sym c.contains.ensures ∙ c.if-contains.true in
-    let at = ready_mark links c.args.k (sym (in_entries links c.args.self.now.stamps c.args.k) ∙ inside) in
-    let within = marked_within links c.args.k at.place at.mark in
-    let long : length links ≡ length c.args.slots.now = length-map c.args.slots.now (λ (slot : Slot). slot.link) in
-    let same : length c.remove.new.slots ≡ length c.args.slots.now = search rules in
-    omega (arith, within.1, long, same)
+    let few : length links ≤ 32 = omega (arith, length-map c.args.slots.now (λ (slot : Slot). slot.link), c.requires.places.0) in
+    ap (λ (l : Link). is_ready_place (option_map place_of l.queue)) c.link_of.ensures ∙ member_ready links c.args.ends.now c.args.self.now.stamps c.args.k c.requires.queues few c.requires.ready
 
-pub file-requires-clause-free : goal.file-requires-clause-free
-file-requires-clause-free g c =
+pub returns : goal.returns
+returns g c =
     let links = links_of c.args.slots.now in
-    let stamps = c.args.self.now.stamps in
-    let inside : is_in c.args.k (entries links stamps) ≡ true = sym c.contains.ensures ∙ c.if-contains.true in
-    taken_free links (links_of c.remove.new.slots) c.args.ends.now c.remove.new.ends stamps c.args.k c.requires.sound.queues c.remove.ensures.sound.queues
-    (sym (in_entries links stamps c.args.k) ∙ inside) c.remove.ensures.waiters (rw c.remove.ensures.stamps at c.remove.ensures.line)
-
-pub returns-then-contains : goal.returns-then-contains
-returns-then-contains g c =
-    let long : length c.remove.new.ends ≡ 128 = search rules in
-    let priority : c.args.priority ≡ suc (c.args.priority - 1) = omega (arith, c.level.ensures.value, c.level.ensures.positive) in
-    let low : c.args.priority - 1 < 32 = omega (arith, c.level.ensures.value, c.level.ensures.positive, c.level.ensures.in_range) in
-    let bit = subst (λ n. IsBitChanged c.remove.new.self.bitmap c.with_bit-self.result (n - 1) true) c.level.ensures.value c.with_bit-self.ensures in
-    let filed = refiled_anew g.row.LIMIT (links_of c.args.slots.now) (links_of c.remove.new.slots) (links_of c.file.new.slots) c.args.ends.now c.remove.new.ends c.file.new.ends
-    c.args.stored.now c.args.self.now.stamps c.remove.new.self.stamps c.args.self.now.bitmap c.remove.new.self.bitmap c.with_bit-self.result c.args.k (c.args.priority - 1) c.args.priority
-    c.remove.ensures.stamps c.requires.sound (sym c.contains.ensures ∙ c.if-contains.true) c.remove.ensures.sound c.remove.ensures.line c.remove.ensures.waiters low priority long
-    c.file.ensures.queues c.file.ensures.lists bit in
-    record { sound = filed.sound; line = filed.line; waiters = filed.waiters; threads = c.file.ensures.threads ∙ c.remove.ensures.threads }
-
-pub returns-else-contains-clause-sound : goal.returns-else-contains-clause-sound
-returns-else-contains-clause-sound g c =
-    unlined g.row.LIMIT (links_of c.args.slots.now) c.args.ends.now c.args.stored.now c.args.self.now.stamps c.args.self.now.bitmap c.args.k c.args.priority c.requires.sound
-    (sym c.contains.ensures ∙ c.if-contains.false)
+    let long : length c.args.slots.now ≡ length links = sym (length-map c.args.slots.now (λ (slot : Slot). slot.link)) in
+    let few : length links ≤ 32 = omega (arith, long, c.requires.places.0) in
+    let bitmap = c.args.self.now.bitmap in
+    let bits = c.bitmap_without-left.result in
+    let i = c.level.result - 1 in
+    let priority : c.args.priority ≡ suc (c.level.result - 1) = omega (arith, c.level.ensures.value, c.level.ensures.positive) in
+    let low : c.level.result - 1 < 32 = omega (arith, c.level.ensures.in_range, c.level.ensures.positive) in
+    let lt : c.level.result - 1 < length c.args.ends.now = omega (arith, low, c.requires.places.1) in
+    let fits : FitsSigned w64 c.stamp_in.result = search rules in
+    let cleared = subst (λ (l : Link). (i : ℕ) → option_map place_of l.queue ≡ Some i → has_bit bitmap i ≡ true → IsBitChanged bitmap bits i (is_some l.previous || is_some l.next)) c.link_of.ensures c.bitmap_without-left.ensures in
+    let found = first_later links c.args.ends.now c.args.self.now.stamps c.args.k i (length c.args.slots.now) (to_z w64 (of_z w64 c.stamp_in.result)) c.index-ends-i.result c.first_after.result
+    long lt c.index-ends-i.is (to_z-of_z w64 c.stamp_in.result fits ∙ c.stamp_in.ensures) c.first_after.ensures in
+    let done = refiled_lists g.row.LIMIT links c.args.ends.now c.args.stored.now c.args.self.now.stamps bitmap bits c.with_bit-self.result c.args.k i c.args.priority c.first_after.result c.requires.queues few c.requires.sound c.requires.places.1 c.requires.ready
+    cleared priority low c.with_bit-self.ensures found in
+    record { sound = done.sound; line = done.line; waiters = done.waiters }

@@ -1,28 +1,26 @@
-use Rattle.std.proofs.Common.{◌≡◌, length, refl, sym, ◌∙◌, ap, rules}
-use Rattle.std.specs.Prelude.{None, option_map}
+use Rattle.std.proofs.Common.{◌≡◌, ℕ, ◌≤◌, true, length, ◌∙◌, ap, subst, arith}
+use Rattle.std.specs.Prelude.{Some, is_some, option_map, ◌||◌}
+use Rattle.std.proofs.lemmas.List.{length-map}
 use Rattle.ptk_threads_slots.specs.declared.link.Link.{Link}
-use Rattle.ptk_threads_slots.specs.Links.{links_of, place_of, mark_of}
-use Rattle.ptk_threads_slots.proofs.Lists.{mark_is}
-use Rattle.ptk_ready_slots.specs.Entries.{entries}
-use Rattle.ptk_ready_slots.proofs.Moves.{removed, without_out, unmarked, elsewhere}
+use Rattle.ptk_threads_slots.specs.declared.slot.Slot.{Slot}
+use Rattle.ptk_threads_slots.specs.Links.{links_of, place_of}
+use Rattle.ptk_ready_slots.specs.Bits.{has_bit, IsBitChanged}
+use Rattle.ptk_ready_slots.specs.Entries.{is_ready_place}
+use Rattle.ptk_ready_slots.proofs.Calls.{member_ready, removed_lists}
 use Rattle.ptk_ready_slots.proofs.entries.LinkedEntries.remove.Goals as goal
 
-pub returns-then-i-lt32 : goal.returns-then-i-lt32
-returns-then-i-lt32 g c =
-    let mark = mark_is (links_of c.args.slots.now) c.place-i.result c.args.k _ c.link_of-link.result (sym c.place-i.ensures.value) c.link_of-link.ensures c.in-Some.is in
-    let long : length c.take.new.ends ≡ 128 = search rules in
-    let gone = removed g.row.LIMIT (links_of c.args.slots.now) (links_of c.take.new.slots) c.args.ends.now c.take.new.ends c.args.stored.now c.args.self.now.stamps c.args.self.now.bitmap c.refreshed-self.result
-    c.args.k c.place-i.result c.index-ends-i.result c.requires.sound c.if-i-lt32.true c.requires.places long mark c.take.ensures.queues c.take.ensures.lists c.refreshed-self.ensures in
-    record { sound = gone.sound; line = gone.line; waiters = gone.waiters; threads = c.take.ensures.threads; stamps = refl }
+pub bitmap_without-self-requires : goal.bitmap_without-self-requires
+bitmap_without-self-requires g c =
+    let links = links_of c.args.slots.now in
+    let few : length links ≤ 32 = omega (arith, length-map c.args.slots.now (λ (slot : Slot). slot.link), c.requires.places.0) in
+    ap (λ (l : Link). is_ready_place (option_map place_of l.queue)) c.link_of.ensures ∙ member_ready links c.args.ends.now c.args.self.now.stamps c.args.k c.requires.queues few c.requires.ready
 
-pub returns-else-i-lt32-clause-line : goal.returns-else-i-lt32-clause-line
-returns-else-i-lt32-clause-line g c =
-    let mark = mark_is (links_of c.args.slots.now) c.place-i.result c.args.k _ c.link_of-link.result (sym c.place-i.ensures.value) c.link_of-link.ensures c.in-Some.is in
-    sym (without_out c.args.k (entries (links_of c.args.slots.now) c.args.self.now.stamps)
-    (elsewhere (links_of c.args.slots.now) c.args.self.now.stamps c.args.k c.place-i.result c.if-i-lt32.false mark))
-
-pub returns-in_default-clause-line : goal.returns-in_default-clause-line
-returns-in_default-clause-line g c =
-    let mark : mark_of (links_of c.args.slots.now) c.args.k ≡ None = ap (λ (l : Link). option_map place_of l.queue) (sym c.link_of-link.ensures) ∙ ap (λ o. option_map place_of o) c.in_default.is in
-    sym (without_out c.args.k (entries (links_of c.args.slots.now) c.args.self.now.stamps)
-    (unmarked (links_of c.args.slots.now) c.args.self.now.stamps c.args.k mark))
+pub returns : goal.returns
+returns g c =
+    let links = links_of c.args.slots.now in
+    let few : length links ≤ 32 = omega (arith, length-map c.args.slots.now (λ (slot : Slot). slot.link), c.requires.places.0) in
+    let bitmap = c.args.self.now.bitmap in
+    let bits = c.bitmap_without-self.result in
+    let cleared = subst (λ (l : Link). (i : ℕ) → option_map place_of l.queue ≡ Some i → has_bit bitmap i ≡ true → IsBitChanged bitmap bits i (is_some l.previous || is_some l.next)) c.link_of.ensures c.bitmap_without-self.ensures in
+    let done = removed_lists g.row.LIMIT links c.args.ends.now c.args.stored.now c.args.self.now.stamps bitmap bits c.args.k c.requires.queues few c.requires.sound c.requires.places.1 c.requires.ready cleared in
+    record { sound = done.sound; line = done.line; waiters = done.waiters }
