@@ -45,7 +45,7 @@ impl Pools {
             tick,
             most,
             trace,
-                &mut self.lasts[p.index()],
+            &mut self.lasts[p.index()],
         )
     }
 }
@@ -113,9 +113,7 @@ impl Work for Row<'_> {
         let memory = &mut *self.memory;
         let trace = &mut *self.trace;
         let last = &mut *self.last;
-        run_thread(
-            thread, memory, self.t, self.tick, self.most, trace, last,
-        )
+        run_thread(thread, memory, self.t, self.tick, self.most, trace, last)
     }
 }
 
