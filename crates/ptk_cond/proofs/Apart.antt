@@ -24,7 +24,7 @@ use Rattle.ptk_words_locks.proofs.Conditions.{room_map}
 use Rattle.ptk_words_locks.proofs.Rooms.{counts_owner, roomy_joined}
 use Rattle.ptk_threads.proofs.Pools.{pool_get-changed, pool_get-changed_other}
 use Rattle.ptk_mutex_slots.specs.declared.slot.Change.TheVariants.{Release, Mark}
-use Rattle.ptk_mutex.specs.Tables.{IsWaiter, AreLocked, MayGet}
+use Rattle.ptk_mutex.specs.Tables.{AreLocked, MayGet}
 use Rattle.ptk_mutex.proofs.Locked.{heir_may_get}
 use Rattle.ptk_mutex.proofs.Steps.{locked_change, locked_refusal}
 
@@ -50,17 +50,17 @@ calm_more m a b c first second = record {
 calm_mutex : (m : ℕ) (f : Mutex → Mutex) (locks : Locks) → IsCalm m locks (with_mutex m f locks)
 calm_mutex m f locks = record { others = λ n ne. pool_get-changed_other m n f locks.mutexes ne; threads = λ k none. refl; out = λ k none out. out }
 
-not_waiter : (m t k : ℕ) (locks : Locks) → IsWaiter locks m t → awaited (thread_at locks k) ≡ None → k ≢ t
-not_waiter m t k locks waiter none = λ same.
-    let named : awaited (thread_at locks k) ≡ Some m = subst (λ (j : ℕ). awaited (thread_at locks j) ≡ Some m) (sym same) waiter.waits in
+not_waiter : (m t k : ℕ) (locks : Locks) → awaited (thread_at locks t) ≡ Some m → awaited (thread_at locks k) ≡ None → k ≢ t
+not_waiter m t k locks waits none = λ same.
+    let named : awaited (thread_at locks k) ≡ Some m = subst (λ (j : ℕ). awaited (thread_at locks j) ≡ Some m) (sym same) waits in
     let no : ⊥ = cc in no
 
 -- a waiter gone
-calm_left : (m t : ℕ) (f : Thread → Thread) (locks : Locks) → IsWaiter locks m t → IsCalm m locks (at_tail_with f t (without_mutex_waiter t m locks))
-calm_left m t f locks waiter = record {
+calm_left : (m t : ℕ) (f : Thread → Thread) (locks : Locks) → awaited (thread_at locks t) ≡ Some m → IsCalm m locks (at_tail_with f t (without_mutex_waiter t m locks))
+calm_left m t f locks waits = record {
   others = λ n ne. pool_get-changed_other m n (λ (mutex : Mutex). record mutex { waiters = without t mutex.waiters }) locks.mutexes ne;
-  threads = λ k none. pool_get-changed_other t k f locks.threads (not_waiter m t k locks waiter none);
-  out = λ k none out. out_push t k locks.line (not_waiter m t k locks waiter none) out;
+  threads = λ k none. pool_get-changed_other t k f locks.threads (not_waiter m t k locks waits none);
+  out = λ k none out. out_push t k locks.line (not_waiter m t k locks waits none) out;
 }
 
 calm_hand_to : (m : ℕ) (next : Option ℕ) (locks : Locks) → MayGet next locks m → IsCalm m locks (after_hand_over_to next m locks)
@@ -68,14 +68,14 @@ calm_hand_to m None locks may = calm_mutex m (λ (mutex : Mutex). record mutex {
 calm_hand_to m (Some t) locks may =
     let taken : Locks = after_take t m locks in
     calm_more m locks taken (after_hand_over_to (Some t) m locks) (calm_mutex m (λ (mutex : Mutex). record mutex { owner = OwnedBy t; count = 1 }) locks)
-    (calm_left m t (handed (free_move (soundness_of (mutex_at locks m)))) taken (record { waits = may.waits; out = may.out }))
+    (calm_left m t (handed (free_move (soundness_of (mutex_at locks m)))) taken may.waits)
 
 calm_hand_over : (m : ℕ) (locks : Locks) → AreLocked locks → IsCalm m locks (after_hand_over m locks)
 calm_hand_over m locks locked = calm_hand_to m (heir m locks) locks (heir_may_get m locks (heir m locks) locked refl)
 
 calm_refuse_to : (m : ℕ) (next : Option ℕ) (locks : Locks) → MayGet next locks m → IsCalm m locks (after_refusal_to next m locks)
 calm_refuse_to m None locks may = calm_none m locks
-calm_refuse_to m (Some t) locks may = calm_left m t (handed (Refuses ENOTRECOVERABLE)) locks may
+calm_refuse_to m (Some t) locks may = calm_left m t (handed (Refuses ENOTRECOVERABLE)) locks may.waits
 
 calm_refusals : (n m : ℕ) (locks : Locks) → AreLocked locks → IsCalm m locks (iterate (after_refusal m) n locks)
 calm_refusals zero m locks locked = calm_none m locks

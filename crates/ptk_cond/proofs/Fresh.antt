@@ -11,10 +11,11 @@ use Rattle.ptk_words_model.specs.State.{Condition, Mutex}
 use Rattle.ptk_words_locks.specs.Conditions.{waiters_on}
 use Rattle.ptk_threads.specs.Table.{ThreadTable, free_table}
 use Rattle.ptk_threads.proofs.Pools.{part_of-set}
+use Rattle.ptk_roster.specs.Rosters.{seen}
+use Rattle.ptk_roster.specs.Waiters.{condition_of}
 use Rattle.ptk_mutex.proofs.Pool.{least_free_is}
 use Rattle.ptk_words_locks.proofs.MutexPlaces.{pool_set_same}
 use Rattle.ptk_mutex.proofs.Ready.{row_blank, pool_blank, ready_blank}
-use Rattle.ptk_cond.specs.Slots.{condition_of}
 use Rattle.ptk_cond.specs.Pool.{with_new_condition}
 use Rattle.ptk_cond.specs.Tables.{AreSynced}
 
@@ -54,7 +55,7 @@ synced_destroy p c table lines mutexes conditions unused synced = synced_set p c
 -- ---- fresh tables
 
 -- tables in which every number is free are so at each partition
-pub synced_blank : (p : ℕ) (counts limits others : List ℕ) (lines : List (List ℕ)) → p < length counts → p < length limits → p < length others → p < length lines → AreSynced p (free_table counts) lines (map (filled None) limits) (map (filled None) others)
+pub synced_blank : (p : ℕ) (counts limits others : List ℕ) (lines : List (List ℕ)) → p < length counts → p < length limits → p < length others → p < length lines → AreSynced p (seen (free_table counts)) lines (map (filled None) limits) (map (filled None) others)
 synced_blank p counts limits others lines of_threads of_mutexes of_conditions of_lines = record {
   ready = ready_blank p counts limits lines of_threads of_mutexes of_lines;
   of_conditions = rw (length-map others (filled {X = Option Condition} None)) of_conditions;

@@ -1,5 +1,5 @@
-pub mod Slots
-pub mod Pool
+pub mod Waits
+pub mod Numbers
 pub mod Apart
 pub mod Waiters
 pub mod Steps

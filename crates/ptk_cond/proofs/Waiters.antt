@@ -11,17 +11,17 @@ use Rattle.ptk_words.specs.declared.threads.Wait.TheVariants.{ConditionWait}
 use Rattle.ptk_words_model.specs.State.{Condition, Locks, Syncs}
 use Rattle.ptk_words_model.specs.Priority.{awaited, mutex_of_wait, thread_at, effective_priority, effective_priorities}
 use Rattle.ptk_words_model.specs.Schedule.{with_thread}
-use Rattle.ptk_words_model.specs.Mutex.{mutex_at, wait_of, after_unlock, after_relock}
+use Rattle.ptk_words_model.specs.Mutex.{mutex_at, wait_of, waiters_of, after_unlock, after_relock}
 use Rattle.ptk_words_model.specs.Condition.{condition_waiters, mutex_named, after_condition_wait, after_unblock_for}
-use Rattle.ptk_words_locks.specs.Conditions.{condition_of_wait, HasRoom, waiters_on}
+use Rattle.ptk_words_locks.specs.Conditions.{condition_of_wait, HasRoom, IsNoWaiter, waiters_on}
 use Rattle.ptk_words_locks.proofs.Lines.{in_push, in_without, first_in}
-use Rattle.ptk_words_locks.proofs.Threads.{idle_awaits}
+use Rattle.ptk_words_locks.proofs.Threads.{idle_awaits, none_awaits}
 use Rattle.ptk_words_locks.proofs.Conditions.{condition_wait}
 use Rattle.ptk_threads.specs.Table.{stored_of}
 use Rattle.ptk_threads.proofs.Pools.{pool_get-changed, pool_get-changed_other, pool_get-set_other}
+use Rattle.ptk_roster.specs.Waiters.{condition_of}
 use Rattle.ptk_mutex.specs.Tables.{AreLocked, MayWait}
 use Rattle.ptk_mutex.proofs.Locked.{stored_first, some_same, other_than}
-use Rattle.ptk_cond.specs.Slots.{condition_of}
 use Rattle.ptk_cond.specs.Tables.{IsOnCondition, AreWaiting, IsAwake, MayLeave, next_waiter}
 use Rattle.ptk_cond.proofs.Apart.{IsApart, calm_unlock, below_unlock, apart_more, apart_thread, apart_unlock, apart_relock}
 
@@ -159,7 +159,7 @@ pub locked_sleep : (t : ℕ) (wait : Option Wait) (locks : Locks) → awaited (t
 locked_sleep t wait locks none locked = record {
   waiters = λ n k h.
       let was = locked.waiters n k h in
-      record { waits = ap awaited (pool_get-changed_other t k (λ (thread : Thread). record thread { wait = wait }) locks.threads (other_than n t k locks none was)) ∙ was.waits; out = was.out };
+      record { waits = ap awaited (pool_get-changed_other t k (λ (thread : Thread). record thread { wait = wait }) locks.threads (other_than n t k locks none was)) ∙ was.waits; out = was.out; inside = h };
   counts = locked.counts;
 }
 
@@ -168,8 +168,15 @@ out_by : (t c : ℕ) (syncs : Syncs) → IsAwake syncs.locks t → AreWaiting sy
 out_by t c syncs may waiting true e = absurd (awake_other t c t syncs.locks may (waiting.waiters c t e) refl)
 out_by t c syncs may waiting false e = e
 
-pub awake_out : (t c : ℕ) (syncs : Syncs) → IsAwake syncs.locks t → AreWaiting syncs → is_in t (condition_waiters syncs c) ≡ false
-awake_out t c syncs may waiting = out_by t c syncs may waiting (is_in t (condition_waiters syncs c)) refl
+out_of_mutex : (t m : ℕ) (locks : Locks) → IsAwake locks t → AreLocked locks → (b : Bool) → is_in t (waiters_of (mutex_at locks m)) ≡ b → is_in t (waiters_of (mutex_at locks m)) ≡ false
+out_of_mutex t m locks may locked true e = absurd (none_awaits m (thread_at locks t) (awake_none t locks may) (locked.waiters m t e).waits)
+out_of_mutex t m locks may locked false e = e
+
+pub awake_free : (t : ℕ) (syncs : Syncs) → IsAwake syncs.locks t → AreLocked syncs.locks → AreWaiting syncs → IsNoWaiter t syncs.mutexes syncs.conditions
+awake_free t syncs may locked waiting = record {
+  of_mutexes = λ m. out_of_mutex t m syncs.locks may locked (is_in t (waiters_of (mutex_at syncs.locks m))) refl;
+  of_conditions = λ c. out_by t c syncs may waiting (is_in t (condition_waiters syncs c)) refl;
+}
 
 -- ---- the choice
 

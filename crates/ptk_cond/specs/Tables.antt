@@ -12,13 +12,9 @@ use Rattle.ptk_words_locks.specs.Conditions.{condition_of_wait, HasRoom}
 use Rattle.ptk_threads.specs.Table.{ThreadTable}
 use Rattle.ptk_mutex.specs.Tables.{locks_at, AreReady}
 
--- the condition variables of all partitions with their waiters, as the pool and the slot table keep them; the pool keeps both today (own)
-abbrev pub conditions_of : List (List (Option Condition)) → ThreadTable → List (List (Option Condition))
-conditions_of pool table = pool
-
 -- what the condition calls read and change of a partition (own)
 abbrev pub syncs_at : ℕ → ThreadTable → List (List ℕ) → List (List (Option Mutex)) → List (List (Option Condition)) → Syncs
-syncs_at p table lines mutexes pool = record { locks = locks_at p table lines mutexes; conditions = part_of (conditions_of pool table) p }
+syncs_at p table lines mutexes conditions = record { locks = locks_at p table lines mutexes; conditions = part_of conditions p }
 
 -- threads and condition variables without a line or mutexes, on which no mutex that is named depends (own)
 abbrev pub syncs_of : List (Option Thread) → List (Option Condition) → Syncs
@@ -36,10 +32,10 @@ pub record AreWaiting (syncs : Syncs) : Type 0 where
   pub waiters : (c k : ℕ) → is_in k (condition_waiters syncs c) ≡ true → IsOnCondition syncs.locks c k
 
 -- what the condition calls need of the tables at a partition, and what they leave: what the mutex calls need, and waiters that wait (own)
-pub record AreSynced (p : ℕ) (table : ThreadTable) (lines : List (List ℕ)) (mutexes : List (List (Option Mutex))) (pool : List (List (Option Condition))) : Type 0 where
+pub record AreSynced (p : ℕ) (table : ThreadTable) (lines : List (List ℕ)) (mutexes : List (List (Option Mutex))) (conditions : List (List (Option Condition))) : Type 0 where
   pub ready : AreReady p table lines mutexes
-  pub of_conditions : p < length (conditions_of pool table)
-  pub waiting : AreWaiting (syncs_at p table lines mutexes pool)
+  pub of_conditions : p < length conditions
+  pub waiting : AreWaiting (syncs_at p table lines mutexes conditions)
 
 -- a thread that may begin to wait on a condition variable: it is in use, not in the line, and waits for nothing (pthread_cond_wait)
 pub record IsAwake (locks : Locks) (t : ℕ) : Type 0 where

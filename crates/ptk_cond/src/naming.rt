@@ -8,29 +8,28 @@ ghost use Rattle.ptk_words_model.specs.State.{locks_of};
 ghost use Rattle.ptk_words_model.specs.Mutex.{wait_of};
 ghost use Rattle.ptk_words_model.specs.Condition.{mutex_named, is_named, names_mutex, names_another};
 ghost use Rattle.ptk_threads_slots.specs.Links.{threads_of};
-ghost use Rattle.ptk_cond.specs.Tables.{conditions_of, syncs_of};
+ghost use Rattle.ptk_cond.specs.Tables.{syncs_of};
 
-use crate::conditions::Conditions;
 use ptk_mutex_slots::thread_slot;
-use ptk_threads::{Slot, Threads};
+use ptk_roster::Roster;
+use ptk_threads::Slot;
 use ptk_words::{ConditionNo, MutexNo, PartId, ThreadNo, Wait};
 
 /// Whether a thread waits on a condition variable and is to have this mutex again (pthread_mutex_destroy, EBUSY).
-pub fn names(threads: &Threads, p: PartId, m: MutexNo) -> bool
-    requires { p < length threads.now.threads }
-    ensures { result ≡ names_mutex (locks_of (part_of threads.now.threads p) []) m }
+pub fn names(roster: &Roster, p: PartId, m: MutexNo) -> bool
+    requires { p < length roster.now.table.threads }
+    ensures { result ≡ names_mutex (locks_of (part_of roster.now.table.threads p) []) m }
 {
-    is_any_naming(threads.part(p), m)
+    is_any_naming(roster.threads().part(p), m)
 }
 
-impl Conditions {
-    /// Whether a waiter of a condition variable is to have another mutex again (pthread_cond_wait, EINVAL).
-    pub fn names_another(&self, threads: &Threads, p: PartId, c: ConditionNo, m: MutexNo) -> bool
-        requires { (p < length self.now) × (p < length threads.now.threads) }
-        ensures { result ≡ names_another (syncs_of (part_of threads.now.threads p) (part_of (conditions_of self.now threads.now) p)) c m }
-    {
-        is_any_naming_another(threads.part(p), self.waiters(threads, p, c), m)
-    }
+/// Whether a waiter of a condition variable is to have another mutex again (pthread_cond_wait, EINVAL).
+pub fn names_another(roster: &Roster, p: PartId, c: ConditionNo, m: MutexNo) -> bool
+    requires { p < length roster.now.table.threads }
+    ensures { result ≡ names_another (syncs_of (part_of roster.now.table.threads p) (part_of roster.now.conditions p)) c m }
+{
+    let waiters = roster.condition_waiters(p, c);
+    is_any_naming_another(roster.threads().part(p), waiters.as_slice(), m)
 }
 
 /// Whether one of these threads names the mutex.
@@ -58,7 +57,7 @@ fn is_naming_at(threads: &[Slot], t: ThreadNo, m: MutexNo) -> bool
 }
 
 /// Whether the thread of a slot names the mutex.
-#[tactic(auto, using(crate::proofs::Slots::waits))]
+#[tactic(auto, using(crate::proofs::Waits::waits))]
 fn is_naming(slot: &Slot, m: MutexNo) -> bool
     ensures { result ≡ is_named m (mutex_named (wait_of slot.now.thread)) }
 {

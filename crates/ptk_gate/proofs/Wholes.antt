@@ -29,6 +29,8 @@ use Rattle.ptk_words_well.proofs.Unwindings.{well_unwinding_start}
 use Rattle.ptk_words_well.proofs.Timeouts.{well_expiries}
 use Rattle.ptk_gate_pools.specs.Moves.{with_last_step}
 use Rattle.ptk_gate_pools.specs.Kept.{Kept, AreWell, part_at, put_part, limits_at}
+use Rattle.ptk_words_locks.specs.Conditions.{IsNoWaiter}
+use Rattle.ptk_gate_pools.proofs.NoWaiters.{runner_apart}
 use Rattle.ptk_gate_pools.proofs.Parted.{part_at-put, part_at-other, parts_put}
 use Rattle.ptk_gate_steps.specs.Instructions.{after_instruction}
 use Rattle.ptk_gate.specs.Whole.{AreWhole}
@@ -62,6 +64,10 @@ well_at p kept are lt = are.wells.wells p lt
 -- the running thread is not in the line
 pub running_out_at : (p t : ℕ) (kept : Kept) → AreWhole kept → p < length kept.limits → (part_at p kept).running ≡ Some t → is_in t (part_at p kept).line ≡ false
 running_out_at p t kept are lt e = (are.wells.wells p lt).running_out t e
+
+-- nor in a list of waiters
+pub running_free_at : (p t : ℕ) (kept : Kept) → AreWhole kept → p < length kept.limits → (part_at p kept).running ≡ Some t → IsNoWaiter t (part_at p kept).mutexes (part_at p kept).conditions
+running_free_at p t kept are lt e = runner_apart (limits_at p kept) t (part_at p kept) (are.wells.wells p lt) e
 
 -- ---- the moves whose result a tactic does not fit to a part by itself
 
@@ -116,4 +122,4 @@ pub ruleset wholes = (are_whole_put, well_at)
 
 pub ruleset moves = (well_at, whole_instruction, whole_arrivals, whole_expiries, whole_choice, whole_unwinding, whole_gate_step, whole_last)
 
-pub ruleset placed = (running_out_at)
+pub ruleset placed = (running_out_at, running_free_at)

@@ -70,6 +70,11 @@ impl Tables {
         self.pools.threads()
     }
 
+    /// How many stored priorities the last call on mutexes read as it raised some, of whatever partition.
+    pub fn visited(&self) -> u32 {
+        self.pools.visited()
+    }
+
     /// The memory of all partitions.
     pub fn regions(&self) -> &Regions
         ensures { result.now ≡ self.now.memory }

@@ -6,6 +6,7 @@ use Rattle.ptk_words.specs.Pools.{is_in}
 use Rattle.ptk_words.specs.declared.sections.Limits.{Limits}
 use Rattle.ptk_words.specs.declared.threads.Thread.{Thread}
 use Rattle.ptk_words.specs.declared.threads.Wait.{Wait}
+use Rattle.ptk_words.specs.declared.threads.Wait.TheVariants.{InputWait, SleepWait, JoinWait}
 use Rattle.ptk_words_model.specs.State.{Locks, Part}
 use Rattle.ptk_words_model.specs.Priority.{thread_at}
 use Rattle.ptk_words_model.specs.Mutex.{wait_of}
@@ -15,6 +16,8 @@ use Rattle.ptk_words_locks.proofs.Pools.{changed_own, changed_other}
 use Rattle.ptk_words_well.specs.Well.{IsWell}
 use Rattle.ptk_words_well.proofs.Whole.{lined_of}
 use Rattle.ptk_words_well.proofs.Waits.{waits_not_ready}
+use Rattle.ptk_words_locks.specs.Conditions.{IsNoWaiter}
+use Rattle.ptk_gate_pools.proofs.NoWaiters.{reader_apart, sleeper_apart, joiner_apart}
 
 waits_some : (wait : Wait) (o : Option Thread) → wait_of o ≡ Some wait → IsSome o
 waits_some wait None e = absurd (let no : ⊥ = cc in no)
@@ -28,7 +31,17 @@ waits_in_use t wait o s e is = waits_some wait (thread_at s.locks t) (e ∙ is)
 pub waits_out : (limits : Limits) (t : ℕ) (wait : Wait) (o : Option Wait) (s : Part) → IsWell limits s → wait_of (thread_at s.locks t) ≡ o → o ≡ Some wait → is_in t s.line ≡ false
 waits_out limits t wait o s well e is = not_ready_out s.threads s.line s.running t (lined_of limits s well) (waits_not_ready wait (thread_at s.locks t) (e ∙ is))
 
-pub ruleset waiting = (waits_in_use, waits_out)
+-- nor, where it waits at a cancellation point but on no condition variable, in a list of waiters
+pub reader_free : (limits : Limits) (t : ℕ) (o : Option Wait) (s : Part) → IsWell limits s → wait_of (thread_at s.locks t) ≡ o → o ≡ Some InputWait → IsNoWaiter t s.mutexes s.conditions
+reader_free limits t o s well e is = reader_apart limits t s well (e ∙ is)
+
+pub sleeper_free : (limits : Limits) (t deadline : ℕ) (o : Option Wait) (s : Part) → IsWell limits s → wait_of (thread_at s.locks t) ≡ o → o ≡ Some (SleepWait deadline) → IsNoWaiter t s.mutexes s.conditions
+sleeper_free limits t deadline o s well e is = sleeper_apart limits t deadline s well (e ∙ is)
+
+pub joiner_free : (limits : Limits) (t u : ℕ) (o : Option Wait) (s : Part) → IsWell limits s → wait_of (thread_at s.locks t) ≡ o → o ≡ Some (JoinWait u) → IsNoWaiter t s.mutexes s.conditions
+joiner_free limits t u o s well e is = joiner_apart limits t u s well (e ∙ is)
+
+pub ruleset waiting = (waits_in_use, waits_out, reader_free, sleeper_free, joiner_free)
 
 -- ---- a joiner
 

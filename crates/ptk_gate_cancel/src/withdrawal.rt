@@ -10,6 +10,7 @@ ghost use Rattle.ptk_words_model.specs.Console.{without_waiter};
 ghost use Rattle.ptk_words_model.specs.Withdrawal.{with_mark, without_joiner, after_cancelled_wait};
 ghost use Rattle.ptk_words_well.specs.Well.{IsWell};
 ghost use Rattle.ptk_gate_pools.specs.Kept.{part_at, put_part, limits_at};
+ghost use Rattle.ptk_words_locks.specs.Conditions.{IsNoWaiter};
 
 use ptk_gate_moves::wake;
 use ptk_gate_pools::Pools;
@@ -43,6 +44,7 @@ fn wake_marked(pools: &mut Pools, p: PartId, t: ThreadNo)
     requires partition { p < length pools.old.limits }
     requires in_use { IsSome (thread_at (part_at p pools.old).locks t) }
     requires fresh { is_in t (part_at p pools.old).line ≡ false }
+    requires free { IsNoWaiter t (part_at p pools.old).mutexes (part_at p pools.old).conditions }
     ensures { pools.new ≡ put_part p (with_mark t (with_locks (after_wake t []) (part_at p pools.old))) pools.old }
 {
     let _parts = pools.parts();
@@ -51,11 +53,12 @@ fn wake_marked(pools: &mut Pools, p: PartId, t: ThreadNo)
 }
 
 /// The thread no longer waits for a byte of the console: a later one does not go to it.
-#[tactic(auto, using(ptk_gate_pools::proofs::Parted::parted))]
+#[tactic(auto, using(ptk_gate_pools::proofs::Parted::parted, ptk_gate_pools::proofs::NoWaiters::still_apart))]
 fn stop_reading(pools: &mut Pools, p: PartId, t: ThreadNo)
     requires partition { p < length pools.old.limits }
     requires in_use { IsSome (thread_at (part_at p pools.old).locks t) }
     requires fresh { is_in t (part_at p pools.old).line ≡ false }
+    requires free { IsNoWaiter t (part_at p pools.old).mutexes (part_at p pools.old).conditions }
     ensures { pools.new ≡ put_part p (with_mark t (with_locks (after_wake t []) (with_console (without_waiter t) (part_at p pools.old)))) pools.old }
 {
     let _parts = pools.parts();
@@ -64,11 +67,12 @@ fn stop_reading(pools: &mut Pools, p: PartId, t: ThreadNo)
 }
 
 /// The thread no longer waits for the end of thread u, which stays joinable (pthread_join).
-#[tactic(auto, using(ptk_gate_pools::proofs::Parted::parted, crate::proofs::Withdrawals::unjoined))]
+#[tactic(auto, using(ptk_gate_pools::proofs::Parted::parted, ptk_gate_pools::proofs::NoWaiters::still_apart, crate::proofs::Withdrawals::unjoined))]
 fn stop_joining(pools: &mut Pools, p: PartId, t: ThreadNo, u: ThreadNo)
     requires partition { p < length pools.old.limits }
     requires in_use { IsSome (thread_at (part_at p pools.old).locks t) }
     requires fresh { is_in t (part_at p pools.old).line ≡ false }
+    requires free { IsNoWaiter t (part_at p pools.old).mutexes (part_at p pools.old).conditions }
     ensures { pools.new ≡ put_part p (with_mark t (with_locks (λ locks. after_wake t [] (without_joiner u locks)) (part_at p pools.old))) pools.old }
 {
     let _parts = pools.parts();

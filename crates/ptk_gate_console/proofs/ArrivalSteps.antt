@@ -24,6 +24,8 @@ use Rattle.ptk_words_well.proofs.Waits.{well_arrival_for}
 use Rattle.ptk_console.specs.ConsoleTable.{next_byte, without_next}
 use Rattle.ptk_console.proofs.Arrivals.{arriving-without_next, without_arriving-without_next}
 use Rattle.ptk_gate_pools.specs.Moves.{with_next_taken}
+use Rattle.ptk_words_locks.specs.Conditions.{IsNoWaiter}
+use Rattle.ptk_gate_pools.proofs.NoWaiters.{reader_apart}
 use Rattle.ptk_gate_console.specs.Arrivals.{after_byte}
 
 -- the byte goes to the waiter or into the ring, and the input to come is as it was
@@ -118,6 +120,10 @@ waiter_in_use limits s t well e = waits_used (thread_at s.locks t) (waiter_waits
 pub waiter_fresh : (limits : Limits) (s : Part) (t : ℕ) → IsWell limits s → first_waiter s ≡ Some t → is_in t s.line ≡ false
 waiter_fresh limits s t well e =
     false_from_ne_true (is_in t s.line) (λ lined. false≢true (sym (waits_idle (thread_at s.locks t) (waiter_waits limits s t well e)) ∙ well.line_ready t lined))
+
+-- and in no list of waiters of a mutex or a condition variable
+pub waiter_apart : (limits : Limits) (s : Part) (t : ℕ) → IsWell limits s → first_waiter s ≡ Some t → IsNoWaiter t s.mutexes s.conditions
+waiter_apart limits s t well e = reader_apart limits t s well (waiter_waits limits s t well e)
 
 -- ---- the count of lost bytes
 

@@ -10,6 +10,7 @@ ghost use Rattle.ptk_words_well.specs.Well.{IsWell};
 ghost use Rattle.ptk_words.specs.Pools.{is_in};
 ghost use Rattle.ptk_console.specs.ConsoleTable.{next_byte};
 ghost use Rattle.ptk_gate_pools.specs.Kept.{AreParts, part_at, put_part, limits_at};
+ghost use Rattle.ptk_words_locks.specs.Conditions.{IsNoWaiter};
 ghost use Rattle.ptk_gate_console.specs.Arrivals.{after_next};
 
 use ptk_gate_moves::wake;
@@ -17,11 +18,12 @@ use ptk_gate_pools::Pools;
 use ptk_words::{PartId, ThreadNo, Tick};
 
 /// The waiter is ready, with the byte in a1.
-#[tactic(auto, using(ptk_gate_pools::proofs::Parted::parted))]
+#[tactic(auto, using(ptk_gate_pools::proofs::Parted::parted, ptk_gate_pools::proofs::NoWaiters::still_apart))]
 fn hand_byte(pools: &mut Pools, p: PartId, t: ThreadNo, byte: u8)
     requires partition { p < length pools.old.limits }
     requires in_use { IsSome (thread_at (part_at p pools.old).locks t) }
     requires fresh { is_in t (part_at p pools.old).line ≡ false }
+    requires free { IsNoWaiter t (part_at p pools.old).mutexes (part_at p pools.old).conditions }
     ensures { pools.new ≡ put_part p (with_locks (after_wake t (0 ∷ byte ∷ [])) (with_console (without_waiter t) (part_at p pools.old))) pools.old }
 {
     let _parts = pools.parts();
@@ -30,12 +32,13 @@ fn hand_byte(pools: &mut Pools, p: PartId, t: ThreadNo, byte: u8)
 }
 
 /// Hands the next input byte, if it comes at the tick or before, to the first waiter; whether one came.
-#[tactic(auto, using(ptk_gate_pools::proofs::Parted::parted))]
+#[tactic(auto, using(ptk_gate_pools::proofs::Parted::parted, ptk_gate_pools::proofs::NoWaiters::still_apart))]
 fn hand_next(pools: &mut Pools, p: PartId, t: ThreadNo, tick: Tick) -> bool
     requires partition { p < length pools.old.limits }
     requires waiter { first_waiter (part_at p pools.old) ≡ Some t }
     requires in_use { IsSome (thread_at (part_at p pools.old).locks t) }
     requires fresh { is_in t (part_at p pools.old).line ≡ false }
+    requires free { IsNoWaiter t (part_at p pools.old).mutexes (part_at p pools.old).conditions }
     ensures told { result ≡ is_some (next_byte tick (part_at p pools.old).console) }
     ensures moved { pools.new ≡ put_part p (after_next (limits_at p pools.old).ring tick (part_at p pools.old)) pools.old }
 {

@@ -11,13 +11,14 @@ use Rattle.ptk_words_locks.proofs.Threads.{idle_awaits, awaits_not_ready}
 use Rattle.ptk_words_well.specs.Well.{IsWell}
 use Rattle.ptk_words_well.proofs.Whole.{lined_of}
 use Rattle.ptk_mutex.specs.Tables.{IsWaiter, AreLocked, MayWait}
+use Rattle.ptk_gate_pools.proofs.NoWaiters.{runner_apart}
 use Rattle.ptk_gate_moves.proofs.Ready.{running_in_use}
 
 -- a waiter waits, so it is not ready, so it is not in the line
 waiter_is : (limits : Limits) (m t : ℕ) (s : Part) → IsWell limits s → is_in t (waiters_of (mutex_at s.locks m)) ≡ true → IsWaiter s.locks m t
 waiter_is limits m t s well e =
     let waits : awaited (thread_at s.locks t) ≡ Some m = well.exclusion.waiters_wait m t e in
-    record { waits = waits; out = not_ready_out s.threads s.line s.running t (lined_of limits s well) (awaits_not_ready m (thread_at s.locks t) waits) }
+    record { waits = waits; out = not_ready_out s.threads s.line s.running t (lined_of limits s well) (awaits_not_ready m (thread_at s.locks t) waits); inside = e }
 
 -- the mutexes are used as they should be
 pub locked_of : (limits : Limits) (s : Part) → IsWell limits s → AreLocked s.locks
@@ -31,4 +32,4 @@ may_wait limits s t well runs = record {
   awake = idle_awaits (thread_at s.locks t) (ready_waits (thread_at s.locks t) (well.running_ready t runs));
 }
 
-pub ruleset locked = (locked_of, may_wait)
+pub ruleset locked = (locked_of, may_wait, runner_apart)

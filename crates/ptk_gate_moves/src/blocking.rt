@@ -7,6 +7,7 @@ ghost use Rattle.ptk_words_model.specs.Schedule.{with_thread, woken_with, after_
 ghost use Rattle.ptk_words_model.specs.Calls.{blocked_in};
 ghost use Rattle.ptk_words.specs.Pools.{is_in};
 ghost use Rattle.ptk_gate_pools.specs.Kept.{part_at, put_part};
+ghost use Rattle.ptk_words_locks.specs.Conditions.{IsNoWaiter};
 
 use crate::places::push_tail;
 use crate::replies::reply;
@@ -27,13 +28,15 @@ pub fn block(pools: &mut Pools, p: PartId, i: Invocation, wait: Wait) -> Reply
     Reply::Blocked
 }
 
-/// A blocked thread is ready, at the tail, with these values in a0 and so on (XSH 2.8.4).
+/// A blocked thread, in no list of waiters any more, is ready, at the tail, with these values in a0 and so on (XSH
+/// 2.8.4).
 #[tactic(auto, using(ptk_gate_pools::proofs::Parted::parted, ptk_words_locks::proofs::Pools::changed_twice))]
 pub fn wake(pools: &mut Pools, p: PartId, t: ThreadNo, values: &[u32])
     requires partition { p < length pools.old.limits }
     requires few { length values.now < 4 }
     requires in_use { IsSome (thread_at (part_at p pools.old).locks t) }
     requires fresh { is_in t (part_at p pools.old).line ≡ false }
+    requires free { IsNoWaiter t (part_at p pools.old).mutexes (part_at p pools.old).conditions }
     ensures { pools.new ≡ put_part p (with_locks (after_wake t values.now) (part_at p pools.old)) pools.old }
 {
     let _parts = pools.parts();

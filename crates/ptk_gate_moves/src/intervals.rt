@@ -5,6 +5,7 @@ ghost use Rattle.ptk_words_model.specs.Priority.{thread_at};
 ghost use Rattle.ptk_words_model.specs.Schedule.{is_round_robin, after_interval};
 ghost use Rattle.ptk_words.specs.Pools.{is_in};
 ghost use Rattle.ptk_gate_pools.specs.Kept.{part_at, put_part};
+ghost use Rattle.ptk_words_locks.specs.Conditions.{IsNoWaiter};
 
 use crate::places::end_turn;
 use ptk_gate_pools::Pools;
@@ -16,6 +17,7 @@ use ptk_words::{PartId, Policy, ThreadNo};
 pub fn count_interval(pools: &mut Pools, p: PartId, interval: u32, cost: u32, t: ThreadNo)
     requires partition { p < length pools.old.limits }
     requires fresh { (part_at p pools.old).running ≡ Some t → is_in t (part_at p pools.old).line ≡ false }
+    requires free { (part_at p pools.old).running ≡ Some t → IsNoWaiter t (part_at p pools.old).mutexes (part_at p pools.old).conditions }
     ensures { pools.new ≡ put_part p (after_interval interval cost t (thread_at (part_at p pools.old).locks t) (part_at p pools.old)) pools.old }
 {
     let _parts = pools.parts();

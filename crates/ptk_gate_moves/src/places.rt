@@ -7,16 +7,18 @@ ghost use Rattle.ptk_words_model.specs.Schedule.{at_tail, at_head, after_turn_en
 ghost use Rattle.ptk_words.specs.Pools.{is_in};
 ghost use Rattle.ptk_gate_pools.specs.Moves.{stopped};
 ghost use Rattle.ptk_gate_pools.specs.Kept.{part_at, put_part};
+ghost use Rattle.ptk_words_locks.specs.Conditions.{IsNoWaiter};
 
 use ptk_gate_pools::Pools;
 use ptk_words::{PartId, ThreadNo};
 
-/// Puts a thread that is in use and not in the line at its tail, with no ticks used.
+/// Puts a thread that is in use, not in the line and no waiter at its tail, with no ticks used.
 #[tactic(auto, using(ptk_gate_pools::proofs::Parted::parted))]
 pub fn push_tail(pools: &mut Pools, p: PartId, t: ThreadNo)
     requires partition { p < length pools.old.limits }
     requires in_use { IsSome (thread_at (part_at p pools.old).locks t) }
     requires fresh { is_in t (part_at p pools.old).line ≡ false }
+    requires free { IsNoWaiter t (part_at p pools.old).mutexes (part_at p pools.old).conditions }
     ensures { pools.new ≡ put_part p (with_locks (at_tail t) (part_at p pools.old)) pools.old }
 {
     let _parts = pools.parts();
@@ -30,6 +32,7 @@ pub fn end_turn(pools: &mut Pools, p: PartId, t: ThreadNo)
     requires partition { p < length pools.old.limits }
     requires in_use { IsSome (thread_at (part_at p pools.old).locks t) }
     requires fresh { is_in t (part_at p pools.old).line ≡ false }
+    requires free { IsNoWaiter t (part_at p pools.old).mutexes (part_at p pools.old).conditions }
     ensures { pools.new ≡ put_part p (after_turn_end t (part_at p pools.old)) pools.old }
 {
     let _parts = pools.parts();
@@ -43,6 +46,7 @@ pub fn step_back(pools: &mut Pools, p: PartId, t: ThreadNo)
     requires partition { p < length pools.old.limits }
     requires in_use { IsSome (thread_at (part_at p pools.old).locks t) }
     requires fresh { is_in t (part_at p pools.old).line ≡ false }
+    requires free { IsNoWaiter t (part_at p pools.old).mutexes (part_at p pools.old).conditions }
     ensures { pools.new ≡ put_part p (stopped (with_locks (at_head t) (part_at p pools.old))) pools.old }
 {
     let _parts = pools.parts();

@@ -1,19 +1,20 @@
 //! The parts of the gate's pools as they are before any image is loaded, each made from the sections' numbers: memory
-//! and consoles, threads and their line, what they wait for, what their ends are made of, and what is kept of each
-//! partition as a whole. Each function takes all the memory that its part ever needs, and answers an error where memory
-//! ran out. Its contract is what a reader then sees of it, a list for each section (`per_section`). Below stand the
-//! pools of each kind; above, `ptk_gate_pools`, which joins the parts to one structure. No clause is dear to prove.
+//! and consoles, threads with their line, mutexes and condition variables, until when they wait, what their ends are made
+//! of, and what is kept of each partition as a whole. Each function takes all the memory that its part ever needs, and
+//! answers an error where memory ran out. Its contract is what a reader then sees of it, a list for each section
+//! (`per_section`). Below stand the pools of each kind; above, `ptk_gate_pools`, which joins the parts to one structure.
+//! No clause is dear to prove.
 #![tactic(auto)]
 
 mod counts;
+mod deadlines;
 mod endings;
 mod records;
 mod schedules;
 mod stores;
-mod waits;
 
+pub use deadlines::deadlines_of;
 pub use endings::{Endings, endings_of};
 pub use records::{Records, records_of};
 pub use schedules::{Schedules, schedules_of};
 pub use stores::{Stores, stores_of};
-pub use waits::{Waits, waits_of};

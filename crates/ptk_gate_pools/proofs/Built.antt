@@ -7,9 +7,6 @@ use Rattle.ptk_words_parted.specs.Parts.{part_of}
 use Rattle.ptk_words_model.specs.State.{Console, Mutex}
 use Rattle.ptk_words_model.specs.Priority.{effective_priorities}
 use Rattle.ptk_threads.specs.Table.{ThreadTable}
-use Rattle.ptk_threads.specs.Queues.{no_queues}
-use Rattle.ptk_ready.specs.Queues.{AreUnused}
-use Rattle.ptk_ready.proofs.Unused.{unused_built}
 use Rattle.ptk_mutex.proofs.Ready.{effective_blank}
 use Rattle.ptk_gate_pools.specs.Blank.{blank}
 use Rattle.ptk_gate_pools.specs.Kept.{AreParts, AreStored, AreTimed, deadlines_in, per_section}
@@ -37,15 +34,12 @@ timed_blank limits = record { all = timed_rows limits }
 
 -- so with the tables that were made
 pub timed_made : (table : ThreadTable) (deadlines : List (List (Option ℕ))) (limits : List Limits) → deadlines ≡ per_section (λ l. l.threads) None limits
-    → table ≡ record { threads = per_section (λ l. l.threads) None limits; stored = per_section (λ l. l.threads) 0 limits; queues = map no_queues (map (λ l. l.threads) limits) } → AreTimed deadlines table.threads
+    → table ≡ record { threads = per_section (λ l. l.threads) None limits; stored = per_section (λ l. l.threads) 0 limits; queues = [] } → AreTimed deadlines table.threads
 timed_made table deadlines limits e f = rw (e, f) (timed_blank limits)
 
 pub stored_made : (table : ThreadTable) (mutexes : List (List (Option Mutex))) (limits : List Limits) → mutexes ≡ per_section (λ l. l.mutexes) None limits
-    → table ≡ record { threads = per_section (λ l. l.threads) None limits; stored = per_section (λ l. l.threads) 0 limits; queues = map no_queues (map (λ l. l.threads) limits) } → AreStored table.stored table.threads mutexes
+    → table ≡ record { threads = per_section (λ l. l.threads) None limits; stored = per_section (λ l. l.threads) 0 limits; queues = [] } → AreStored table.stored table.threads mutexes
 stored_made table mutexes limits e f = rw (e, f) (stored_blank limits)
-
-pub idle_made : (table : ThreadTable) (limits : List Limits) → table ≡ record { threads = per_section (λ l. l.threads) None limits; stored = per_section (λ l. l.threads) 0 limits; queues = map no_queues (map (λ l. l.threads) limits) } → AreUnused table.queues
-idle_made table limits e = rw e (unused_built (map (λ (l : Limits). l.threads) limits))
 
 -- every component of the pools before any image has an entry for each section
 pub parts_blank : (limits : List Limits) (consoles : List Console) → length limits ≤ 8 → length consoles ≡ length limits → AreParts (length limits) (blank limits consoles)

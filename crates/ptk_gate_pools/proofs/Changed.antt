@@ -11,9 +11,10 @@ use Rattle.ptk_words_locks.specs.Deadlines.{without_deadlines}
 use Rattle.ptk_words_locks.proofs.Deadlines.{deadline_at}
 use Rattle.ptk_words_parted.specs.Parts.{part_of}
 use Rattle.ptk_threads.specs.Table.{ThreadTable, thread_in, with_changed, with_slot, with_left}
-use Rattle.ptk_ready.specs.Queues.{AreUnused}
+use Rattle.ptk_roster.specs.Rosters.{Rostered}
 use Rattle.ptk_mutex_slots.specs.Sets.{IsSetOf}
 use Rattle.ptk_mutex.specs.Tables.{with_threads}
+use Rattle.ptk_mutex.specs.declared.mutexes.Mutexes.{Mutexes}
 use Rattle.ptk_gate_pools.specs.declared.pools.Pools.TheInside.{Inside}
 use Rattle.ptk_gate_pools.specs.Kept.{Kept, AreStored, AreTimed, part_at, put_part}
 use Rattle.ptk_gate_pools.specs.Pooled.{kept_of, ArePooled}
@@ -26,28 +27,28 @@ pub within_of : (p : ℕ) (a : Inside) (kept : Kept) → kept_of a ≡ kept → 
 within_of p a kept view lt = subst (λ (k : Kept). p < length k.limits) (sym view) lt
 
 -- the tables of one partition's moves are those that these leave
-pub record AreSet (p : ℕ) (syncs : Syncs) (a : Inside) (table : ThreadTable) (lines : List (List ℕ)) (mutexes : List (List (Option Mutex))) (conditions : List (List (Option Condition))) : Type 0 where
-  pub of_threads : table ≡ with_threads p syncs.locks a.threads
-  pub of_lines : lines ≡ set a.line p syncs.line
-  pub of_mutexes : mutexes ≡ set a.mutexes p syncs.mutexes
-  pub of_conditions : conditions ≡ set a.conditions p syncs.conditions
+pub record AreSet (p : ℕ) (syncs : Syncs) (a : Inside) (roster : Rostered) : Type 0 where
+  pub of_threads : roster.table ≡ with_threads p syncs.locks a.roster.table
+  pub of_lines : roster.lines ≡ set a.roster.lines p syncs.line
+  pub of_mutexes : roster.mutexes ≡ set a.roster.mutexes p syncs.mutexes
+  pub of_conditions : roster.conditions ≡ set a.roster.conditions p syncs.conditions
 
 -- the pools with these in place of their own
-abbrev pub with_tables : Inside → ThreadTable → List (List ℕ) → List (List (Option Mutex)) → List (List (Option Condition)) → List (List (Option ℕ)) → Inside
-with_tables a table lines mutexes conditions deadlines = record a { threads = table; line = lines; mutexes = mutexes; conditions = conditions; deadlines = deadlines }
+abbrev pub with_tables : Inside → Rostered → Mutexes → List (List (Option ℕ)) → Inside
+with_tables a roster mutexes deadlines = record a { roster = roster; mutexes = mutexes; deadlines = deadlines }
 
 -- they are pools again
-pub tables_pooled : (p : ℕ) (syncs : Syncs) (a : Inside) (table : ThreadTable) (lines : List (List ℕ)) (mutexes : List (List (Option Mutex))) (conditions : List (List (Option Condition))) (deadlines : List (List (Option ℕ)))
-    → p < length a.limits.items → AreSet p syncs a table lines mutexes conditions → length deadlines ≡ length a.deadlines → AreTimed deadlines table.threads → ArePooled a → ArePooled (with_tables a table lines mutexes conditions deadlines)
-tables_pooled p syncs a table lines mutexes conditions deadlines within set_so long timed old =
+pub tables_pooled : (p : ℕ) (syncs : Syncs) (a : Inside) (roster : Rostered) (mutexes : Mutexes) (deadlines : List (List (Option ℕ)))
+    → p < length a.limits.items → AreSet p syncs a roster → length deadlines ≡ length a.deadlines → AreTimed deadlines roster.table.threads → ArePooled a → ArePooled (with_tables a roster mutexes deadlines)
+tables_pooled p syncs a roster mutexes deadlines within set_so long timed old =
     record {
       few = old.few;
       memory = old.memory;
-      threads = ap (λ (t : ThreadTable). length t.threads) set_so.of_threads ∙ length-set a.threads.threads p syncs.threads ∙ old.threads;
-      priorities = ap (λ (t : ThreadTable). length t.stored) set_so.of_threads ∙ length-set a.threads.stored p _ ∙ old.priorities;
-      lines = ap length set_so.of_lines ∙ length-set a.line p syncs.line ∙ old.lines;
-      mutexes = ap length set_so.of_mutexes ∙ length-set a.mutexes p syncs.mutexes ∙ old.mutexes;
-      conditions = ap length set_so.of_conditions ∙ length-set a.conditions p syncs.conditions ∙ old.conditions;
+      threads = ap (λ (t : ThreadTable). length t.threads) set_so.of_threads ∙ length-set a.roster.table.threads p syncs.threads ∙ old.threads;
+      priorities = ap (λ (t : ThreadTable). length t.stored) set_so.of_threads ∙ length-set a.roster.table.stored p _ ∙ old.priorities;
+      lines = ap length set_so.of_lines ∙ length-set a.roster.lines p syncs.line ∙ old.lines;
+      mutexes = ap length set_so.of_mutexes ∙ length-set a.roster.mutexes p syncs.mutexes ∙ old.mutexes;
+      conditions = ap length set_so.of_conditions ∙ length-set a.roster.conditions p syncs.conditions ∙ old.conditions;
       deadlines = long ∙ old.deadlines;
       running = old.running;
       cancellations = old.cancellations;
@@ -59,15 +60,14 @@ tables_pooled p syncs a table lines mutexes conditions deadlines within set_so l
       sections = old.sections;
       statuses = old.statuses;
       lasts = old.lasts;
-      stored = stored_moved p (length a.limits.items) syncs.locks a.threads table a.mutexes mutexes set_so.of_threads set_so.of_mutexes within old.threads old.priorities old.mutexes old.stored;
+      stored = stored_moved p (length a.limits.items) syncs.locks a.roster.table roster.table a.roster.mutexes roster.mutexes set_so.of_threads set_so.of_mutexes within old.threads old.priorities old.mutexes old.stored;
       timed = timed;
-      idle = subst AreUnused (sym (ap (λ (t : ThreadTable). t.queues) set_so.of_threads)) old.idle;
     }
 
 -- and the model's
-pub tables_put : (p : ℕ) (syncs : Syncs) (a : Inside) (table : ThreadTable) (lines : List (List ℕ)) (mutexes : List (List (Option Mutex))) (conditions : List (List (Option Condition))) (deadlines : List (List (Option ℕ)))
-    → AreSet p syncs a table lines mutexes conditions → kept_of (with_tables a table lines mutexes conditions deadlines) ≡ put_part p (with_syncs (λ _. syncs) (part_at p (kept_of a))) (kept_of a)
-tables_put p syncs a table lines mutexes conditions deadlines set_so = rw (set_so.of_threads, set_so.of_lines, set_so.of_mutexes, set_so.of_conditions) (simp set-get_or)
+pub tables_put : (p : ℕ) (syncs : Syncs) (a : Inside) (roster : Rostered) (mutexes : Mutexes) (deadlines : List (List (Option ℕ)))
+    → AreSet p syncs a roster → kept_of (with_tables a roster mutexes deadlines) ≡ put_part p (with_syncs (λ _. syncs) (part_at p (kept_of a))) (kept_of a)
+tables_put p syncs a roster mutexes deadlines set_so = rw (set_so.of_threads, set_so.of_lines, set_so.of_mutexes, set_so.of_conditions) (simp set-get_or)
 
 -- what stays
 pub stay : {A : Type 0} (p : ℕ) (rows : List (List A)) → rows ≡ set rows p (part_of rows p)
@@ -81,16 +81,16 @@ ended_long p set_bits ts deadlines after woken f = ap length (f ts woken) ∙ le
 -- ---- threads and deadlines alone
 
 -- pools with other threads and deadlines are pools again
-pub threads_pooled : (a : Inside) (table : ThreadTable) (deadlines : List (List (Option ℕ))) → length table.threads ≡ length a.threads.threads → length table.stored ≡ length a.threads.stored → length deadlines ≡ length a.deadlines
-    → table.queues ≡ a.threads.queues → AreStored table.stored table.threads a.mutexes → AreTimed deadlines table.threads → ArePooled a → ArePooled (record a { threads = table; deadlines = deadlines })
-threads_pooled a table deadlines threads priorities long queues stored timed old = record {
+pub threads_pooled : (a : Inside) (roster : Rostered) (kept : Mutexes) (deadlines : List (List (Option ℕ))) → length roster.table.threads ≡ length a.roster.table.threads → length roster.table.stored ≡ length a.roster.table.stored → length deadlines ≡ length a.deadlines
+    → roster.lines ≡ a.roster.lines → roster.mutexes ≡ a.roster.mutexes → roster.conditions ≡ a.roster.conditions → AreStored roster.table.stored roster.table.threads a.roster.mutexes → AreTimed deadlines roster.table.threads → ArePooled a → ArePooled (record a { roster = roster; mutexes = kept; deadlines = deadlines })
+threads_pooled a roster kept deadlines threads priorities long lines mutexes conditions stored timed old = record {
   few = old.few;
   memory = old.memory;
   threads = threads ∙ old.threads;
   priorities = priorities ∙ old.priorities;
-  lines = old.lines;
-  mutexes = old.mutexes;
-  conditions = old.conditions;
+  lines = ap length lines ∙ old.lines;
+  mutexes = ap length mutexes ∙ old.mutexes;
+  conditions = ap length conditions ∙ old.conditions;
   deadlines = long ∙ old.deadlines;
   running = old.running;
   cancellations = old.cancellations;
@@ -102,50 +102,50 @@ threads_pooled a table deadlines threads priorities long queues stored timed old
   sections = old.sections;
   statuses = old.statuses;
   lasts = old.lasts;
-  stored = stored;
+  stored = subst (AreStored roster.table.stored roster.table.threads) (sym mutexes) stored;
   timed = timed;
-  idle = subst AreUnused (sym queues) old.idle;
 }
 
 -- the priorities of a partition are made again (own)
-abbrev Again : ℕ → Inside → ThreadTable → ThreadTable
-Again p a mid = record mid { stored = set mid.stored p (effective_priorities (part_of mid.threads p) (part_of a.mutexes p)) }
+abbrev pub Again : ℕ → Inside → ThreadTable → ThreadTable
+Again p a mid = record mid { stored = set mid.stored p (effective_priorities (part_of mid.threads p) (part_of a.roster.mutexes p)) }
+
+-- so with mutexes that are the same
+pub again_of : (p : ℕ) (a : Inside) (mid new : ThreadTable) (before : List (List (Option Mutex))) → before ≡ a.roster.mutexes → new ≡ record mid { stored = set mid.stored p (effective_priorities (part_of mid.threads p) (part_of before p)) } → new ≡ Again p a mid
+again_of p a mid new before same again =
+    subst (λ (mutexes : List (List (Option Mutex))). new ≡ record mid { stored = set mid.stored p (effective_priorities (part_of mid.threads p) (part_of mutexes p)) }) same again
 
 -- the deadline of a number is made that of its wait (own)
 abbrev Follows : ℕ → ℕ → Inside → ThreadTable → List (List (Option ℕ))
 Follows p k a mid = set a.deadlines p (pool_set (part_of a.deadlines p) k (deadline_at (thread_in mid p k)))
 
--- neither step changes a queue
-same_queues : (p : ℕ) (a : Inside) (mid new table : ThreadTable) → new ≡ Again p a mid → mid ≡ table → new.queues ≡ table.queues
-same_queues p a mid new table again e = ap (λ (t : ThreadTable). t.queues) again ∙ ap (λ (t : ThreadTable). t.queues) e
-
 -- a thread has left what f leaves
-pub left_pooled : (p k : ℕ) (f : Thread → Option Thread) (a : Inside) (mid new : ThreadTable) (after : List (List (Option ℕ))) → p < length a.limits.items → mid ≡ with_left p k f a.threads → new ≡ Again p a mid → after ≡ Follows p k a mid → ArePooled a
-    → ArePooled (record a { threads = new; deadlines = after })
-left_pooled p k f a mid new after lt e again g old =
-    let within : p < length a.threads.stored = omega (arith, lt, old.priorities) in
-    let rest : Option Thread = option_and_then f (thread_in a.threads p k) in
-    threads_pooled a new after (ap (λ (t : ThreadTable). length t.threads) again ∙ ap (λ (t : ThreadTable). length t.threads) e ∙ length-set a.threads.threads p _)
-    (ap (λ (t : ThreadTable). length t.stored) again ∙ length-set mid.stored p _ ∙ ap (λ (t : ThreadTable). length t.stored) e ∙ left_long p k rest a.threads.stored) (ap length g ∙ length-set a.deadlines p _) (same_queues p a mid new _ again e)
-    (refreshed_left p k f a.threads mid new a.mutexes e again within old.stored)
-    (timed_left p k f a.threads mid new (set mid.stored p (effective_priorities (part_of mid.threads p) (part_of a.mutexes p))) a.deadlines after e again g old.timed) old
+pub left_pooled : (p k : ℕ) (f : Thread → Option Thread) (a : Inside) (mid : ThreadTable) (new : Rostered) (kept : Mutexes) (after : List (List (Option ℕ))) → p < length a.limits.items → mid ≡ with_left p k f a.roster.table → new.table ≡ Again p a mid → new.lines ≡ a.roster.lines → new.mutexes ≡ a.roster.mutexes → new.conditions ≡ a.roster.conditions → after ≡ Follows p k a mid → ArePooled a
+    → ArePooled (record a { roster = new; mutexes = kept; deadlines = after })
+left_pooled p k f a mid new kept after lt e again lines mutexes conditions g old =
+    let within : p < length a.roster.table.stored = omega (arith, lt, old.priorities) in
+    let rest : Option Thread = option_and_then f (thread_in a.roster.table p k) in
+    threads_pooled a new kept after (ap (λ (t : ThreadTable). length t.threads) again ∙ ap (λ (t : ThreadTable). length t.threads) e ∙ length-set a.roster.table.threads p _)
+    (ap (λ (t : ThreadTable). length t.stored) again ∙ length-set mid.stored p _ ∙ ap (λ (t : ThreadTable). length t.stored) e ∙ left_long p k rest a.roster.table.stored) (ap length g ∙ length-set a.deadlines p _) lines mutexes conditions
+    (refreshed_left p k f a.roster.table mid new.table a.roster.mutexes e again within old.stored)
+    (timed_left p k f a.roster.table mid new.table (set mid.stored p (effective_priorities (part_of mid.threads p) (part_of a.roster.mutexes p))) a.deadlines after e again g old.timed) old
 
 -- an entry was written
-pub slot_pooled : (p k priority : ℕ) (slot : Option Thread) (a : Inside) (mid new : ThreadTable) (after : List (List (Option ℕ))) → p < length a.limits.items → mid ≡ with_slot p k slot priority a.threads → new ≡ Again p a mid → after ≡ Follows p k a mid → ArePooled a
-    → ArePooled (record a { threads = new; deadlines = after })
-slot_pooled p k priority slot a mid new after lt e again g old =
-    let within : p < length a.threads.stored = omega (arith, lt, old.priorities) in
-    threads_pooled a new after (ap (λ (t : ThreadTable). length t.threads) again ∙ ap (λ (t : ThreadTable). length t.threads) e ∙ length-set a.threads.threads p _)
-    (ap (λ (t : ThreadTable). length t.stored) again ∙ length-set mid.stored p _ ∙ ap (λ (t : ThreadTable). length t.stored) e ∙ length-set a.threads.stored p _) (ap length g ∙ length-set a.deadlines p _) (same_queues p a mid new _ again e)
-    (refreshed_slot p k priority slot a.threads mid new a.mutexes e again within old.stored)
-    (timed_slot p k priority slot a.threads mid new (set mid.stored p (effective_priorities (part_of mid.threads p) (part_of a.mutexes p))) a.deadlines after e again g old.timed) old
+pub slot_pooled : (p k priority : ℕ) (slot : Option Thread) (a : Inside) (mid : ThreadTable) (new : Rostered) (kept : Mutexes) (after : List (List (Option ℕ))) → p < length a.limits.items → mid ≡ with_slot p k slot priority a.roster.table → new.table ≡ Again p a mid → new.lines ≡ a.roster.lines → new.mutexes ≡ a.roster.mutexes → new.conditions ≡ a.roster.conditions → after ≡ Follows p k a mid → ArePooled a
+    → ArePooled (record a { roster = new; mutexes = kept; deadlines = after })
+slot_pooled p k priority slot a mid new kept after lt e again lines mutexes conditions g old =
+    let within : p < length a.roster.table.stored = omega (arith, lt, old.priorities) in
+    threads_pooled a new kept after (ap (λ (t : ThreadTable). length t.threads) again ∙ ap (λ (t : ThreadTable). length t.threads) e ∙ length-set a.roster.table.threads p _)
+    (ap (λ (t : ThreadTable). length t.stored) again ∙ length-set mid.stored p _ ∙ ap (λ (t : ThreadTable). length t.stored) e ∙ length-set a.roster.table.stored p _) (ap length g ∙ length-set a.deadlines p _) lines mutexes conditions
+    (refreshed_slot p k priority slot a.roster.table mid new.table a.roster.mutexes e again within old.stored)
+    (timed_slot p k priority slot a.roster.table mid new.table (set mid.stored p (effective_priorities (part_of mid.threads p) (part_of a.roster.mutexes p))) a.deadlines after e again g old.timed) old
 
 -- a thread was changed, its wait too
-pub wait_pooled : (p k : ℕ) (f : Thread → Thread) (a : Inside) (mid new : ThreadTable) (after : List (List (Option ℕ))) → p < length a.limits.items → mid ≡ with_changed p k f a.threads → new ≡ Again p a mid → after ≡ Follows p k a mid → ArePooled a
-    → ArePooled (record a { threads = new; deadlines = after })
-wait_pooled p k f a mid new after lt e again g old =
-    let within : p < length a.threads.stored = omega (arith, lt, old.priorities) in
-    threads_pooled a new after (ap (λ (t : ThreadTable). length t.threads) again ∙ ap (λ (t : ThreadTable). length t.threads) e ∙ length-set a.threads.threads p _)
-    (ap (λ (t : ThreadTable). length t.stored) again ∙ length-set mid.stored p _ ∙ ap (λ (t : ThreadTable). length t.stored) e) (ap length g ∙ length-set a.deadlines p _) (same_queues p a mid new _ again e)
-    (refreshed_changed p k f a.threads mid new a.mutexes e again within old.stored)
-    (timed_wait_again p k f a.threads mid new (set mid.stored p (effective_priorities (part_of mid.threads p) (part_of a.mutexes p))) a.deadlines after e again g old.timed) old
+pub wait_pooled : (p k : ℕ) (f : Thread → Thread) (a : Inside) (mid : ThreadTable) (new : Rostered) (kept : Mutexes) (after : List (List (Option ℕ))) → p < length a.limits.items → mid ≡ with_changed p k f a.roster.table → new.table ≡ Again p a mid → new.lines ≡ a.roster.lines → new.mutexes ≡ a.roster.mutexes → new.conditions ≡ a.roster.conditions → after ≡ Follows p k a mid → ArePooled a
+    → ArePooled (record a { roster = new; mutexes = kept; deadlines = after })
+wait_pooled p k f a mid new kept after lt e again lines mutexes conditions g old =
+    let within : p < length a.roster.table.stored = omega (arith, lt, old.priorities) in
+    threads_pooled a new kept after (ap (λ (t : ThreadTable). length t.threads) again ∙ ap (λ (t : ThreadTable). length t.threads) e ∙ length-set a.roster.table.threads p _)
+    (ap (λ (t : ThreadTable). length t.stored) again ∙ length-set mid.stored p _ ∙ ap (λ (t : ThreadTable). length t.stored) e) (ap length g ∙ length-set a.deadlines p _) lines mutexes conditions
+    (refreshed_changed p k f a.roster.table mid new.table a.roster.mutexes e again within old.stored)
+    (timed_wait_again p k f a.roster.table mid new.table (set mid.stored p (effective_priorities (part_of mid.threads p) (part_of a.roster.mutexes p))) a.deadlines after e again g old.timed) old

@@ -22,7 +22,7 @@ use Rattle.ptk_threads.specs.Table.{ThreadTable, thread_in}
 use Rattle.ptk_threads.proofs.Pools.{part_of-set}
 use Rattle.ptk_mutex_slots.specs.Sets.{IsSetOf}
 use Rattle.ptk_mutex.specs.Tables.{locks_at, with_threads}
-use Rattle.ptk_cond.specs.Slots.{condition_of}
+use Rattle.ptk_roster.specs.Waiters.{condition_of}
 use Rattle.ptk_cond.specs.Pool.{with_new_condition}
 use Rattle.ptk_cond.specs.Tables.{syncs_at, next_waiter}
 use Rattle.ptk_gate_pools.specs.Kept.{AreTimed, deadlines_in}

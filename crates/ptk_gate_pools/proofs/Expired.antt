@@ -50,6 +50,7 @@ timeout_syncs t (Some (RelockWait m reply)) s = refl
 pub blocked_of : (limits : Limits) (s : Part) (t : ℕ) → IsWell limits s → IsBlocked s.syncs t
 blocked_of limits s t well = record {
   out = λ wait e. not_ready_out s.threads s.line s.running t (lined_of limits s well) (waits_not_ready wait (thread_at s.locks t) e);
+  queued = λ m e. well.exclusion.waits_listed m t e;
   listed = λ c e. well.conditional.waits_listed c t e;
 }
 
@@ -57,15 +58,15 @@ blocked_of limits s t well = record {
 
 -- what a partition's calls read and change (own)
 abbrev syncs_in : ℕ → Inside → Syncs
-syncs_in p a = syncs_at p a.threads a.line a.mutexes a.conditions
+syncs_in p a = syncs_at p a.roster.table a.roster.lines a.roster.mutexes a.roster.conditions
 
 -- what is left of it once the deadline of a thread's wait came (own)
 abbrev pub expired_syncs : ℕ → ℕ → Inside → Syncs
-expired_syncs p t a = after_sync_timeout t (wait_of (thread_in a.threads p t)) (syncs_in p a)
+expired_syncs p t a = after_sync_timeout t (wait_of (thread_in a.roster.table p t)) (syncs_in p a)
 
 -- the next expiry of kept deadlines is that of the waits
-pub next_same : (p tick : ℕ) (a : Inside) → AreTimed a.deadlines a.threads.threads → next_expiry tick (part_of a.deadlines p) ≡ next_expiry tick (deadlines_of (part_at p (kept_of a)).locks)
-next_same p tick a timed = ap (next_expiry tick) (timed_row p a.deadlines a.threads.threads timed)
+pub next_same : (p tick : ℕ) (a : Inside) → AreTimed a.deadlines a.roster.table.threads → next_expiry tick (part_of a.deadlines p) ≡ next_expiry tick (deadlines_of (part_at p (kept_of a)).locks)
+next_same p tick a timed = ap (next_expiry tick) (timed_row p a.deadlines a.roster.table.threads timed)
 
 one_expired : (p t : ℕ) (a : Inside) (o : Option Expiry) → Some t ≡ option_map (λ (x : Expiry). x.thread) o → with_syncs (λ _. expired_syncs p t a) (part_at p (kept_of a)) ≡ after_one_expiry o (part_at p (kept_of a))
 one_expired p t a None e = absurd (let no : ⊥ = cc in no)
@@ -75,7 +76,7 @@ one_expired p t a (Some x) e =
     ap (λ (u : ℕ). with_syncs (λ _. expired_syncs p u a) s) same ∙ sym (timeout_syncs x.thread (wait_of (thread_at s.locks x.thread)) s)
 
 -- it is the model's move
-pub expired_move : (p t tick : ℕ) (a : Inside) → Some t ≡ option_map (λ (x : Expiry). x.thread) (next_expiry tick (part_of a.deadlines p)) → AreTimed a.deadlines a.threads.threads
+pub expired_move : (p t tick : ℕ) (a : Inside) → Some t ≡ option_map (λ (x : Expiry). x.thread) (next_expiry tick (part_of a.deadlines p)) → AreTimed a.deadlines a.roster.table.threads
     → with_syncs (λ _. expired_syncs p t a) (part_at p (kept_of a)) ≡ after_one_expiry (next_expiry tick (deadlines_of (part_at p (kept_of a)).locks)) (part_at p (kept_of a))
 expired_move p t tick a told timed =
     one_expired p t a (next_expiry tick (part_of a.deadlines p)) told ∙ ap (λ (o : Option Expiry). after_one_expiry o (part_at p (kept_of a))) (next_same p tick a timed)
@@ -89,28 +90,28 @@ none_told None e = refl
 none_told (Some x) e = absurd (let no : ⊥ = cc in no)
 
 -- one was due
-pub expired_told : (p t tick : ℕ) (a : Inside) → Some t ≡ option_map (λ (x : Expiry). x.thread) (next_expiry tick (part_of a.deadlines p)) → AreTimed a.deadlines a.threads.threads
+pub expired_told : (p t tick : ℕ) (a : Inside) → Some t ≡ option_map (λ (x : Expiry). x.thread) (next_expiry tick (part_of a.deadlines p)) → AreTimed a.deadlines a.roster.table.threads
     → true ≡ is_some (next_expiry tick (deadlines_of (part_at p (kept_of a)).locks))
 expired_told p t tick a told timed = some_told t (next_expiry tick (part_of a.deadlines p)) told ∙ ap is_some (next_same p tick a timed)
 
 -- none was due
-pub none_due : (p tick : ℕ) (a : Inside) → None ≡ option_map (λ (x : Expiry). x.thread) (next_expiry tick (part_of a.deadlines p)) → AreTimed a.deadlines a.threads.threads
+pub none_due : (p tick : ℕ) (a : Inside) → None ≡ option_map (λ (x : Expiry). x.thread) (next_expiry tick (part_of a.deadlines p)) → AreTimed a.deadlines a.roster.table.threads
     → next_expiry tick (deadlines_of (part_at p (kept_of a)).locks) ≡ None
 none_due p tick a told timed = sym (next_same p tick a timed) ∙ none_told (next_expiry tick (part_of a.deadlines p)) told
 
-without_one : (p t : ℕ) (a : Inside) (o : Option Expiry) → Some t ≡ option_map (λ (x : Expiry). x.thread) o → AreTimed a.deadlines a.threads.threads → without_expiry o (part_of a.deadlines p) ≡ deadlines_of (expired_syncs p t a).locks
+without_one : (p t : ℕ) (a : Inside) (o : Option Expiry) → Some t ≡ option_map (λ (x : Expiry). x.thread) o → AreTimed a.deadlines a.roster.table.threads → without_expiry o (part_of a.deadlines p) ≡ deadlines_of (expired_syncs p t a).locks
 without_one p t a None e timed = absurd (let no : ⊥ = cc in no)
 without_one p t a (Some x) e timed =
     let same : x.thread ≡ t = cc in
     let s : Part = part_at p (kept_of a) in
-    ap (λ (u : ℕ). pool_set (part_of a.deadlines p) u None) same ∙ ap (λ (ds : List (Option ℕ)). pool_set ds t None) (timed_row p a.deadlines a.threads.threads timed)
+    ap (λ (u : ℕ). pool_set (part_of a.deadlines p) u None) same ∙ ap (λ (ds : List (Option ℕ)). pool_set ds t None) (timed_row p a.deadlines a.roster.table.threads timed)
     ∙ sym (deadlines-timeout t s) ∙ ap (λ (u : Part). deadlines_of u.locks) (timeout_syncs t (wait_of (thread_at s.locks t)) s)
 
 -- the expired thread has no deadline
-pub timed_expired : (p t : ℕ) (o : Option Expiry) (a : Inside) (table : ThreadTable) (after : List (List (Option ℕ))) → Some t ≡ option_map (λ (x : Expiry). x.thread) o → table ≡ with_threads p (expired_syncs p t a).locks a.threads
-    → after ≡ set a.deadlines p (without_expiry o (part_of a.deadlines p)) → AreTimed a.deadlines a.threads.threads → AreTimed after table.threads
+pub timed_expired : (p t : ℕ) (o : Option Expiry) (a : Inside) (table : ThreadTable) (after : List (List (Option ℕ))) → Some t ≡ option_map (λ (x : Expiry). x.thread) o → table ≡ with_threads p (expired_syncs p t a).locks a.roster.table
+    → after ≡ set a.deadlines p (without_expiry o (part_of a.deadlines p)) → AreTimed a.deadlines a.roster.table.threads → AreTimed after table.threads
 timed_expired p t o a table after told e f timed =
-    timed_locks p (expired_syncs p t a).locks (without_expiry o (part_of a.deadlines p)) a.threads table a.deadlines after e f (without_one p t a o told timed) timed
+    timed_locks p (expired_syncs p t a).locks (without_expiry o (part_of a.deadlines p)) a.roster.table table a.deadlines after e f (without_one p t a o told timed) timed
 
 -- without an expiry the deadlines are as they were
 pub none_taken : (p : ℕ) (o : Option Expiry) (deadlines after : List (List (Option ℕ))) → None ≡ option_map (λ (x : Expiry). x.thread) o → after ≡ set deadlines p (without_expiry o (part_of deadlines p)) → after ≡ deadlines

@@ -3,6 +3,7 @@ pub mod Numbers
 pub mod Stored
 pub mod Timed
 pub mod Vacant
+pub mod Places
 pub mod PlainMutexes
 pub mod Locking
 pub mod TimedMoves
@@ -14,6 +15,7 @@ pub mod Expired
 pub mod Built
 pub mod Ranks
 pub mod Opened
+pub mod NoWaiters
 pub mod Filled
 pub mod LineLaws
 pub mod PlainRows

@@ -9,15 +9,14 @@ use Rattle.ptk_words_model.specs.State.{Mutex, Locks}
 use Rattle.ptk_words_model.specs.Priority.{effective_priorities}
 use Rattle.ptk_threads.specs.Table.{ThreadTable}
 use Rattle.ptk_threads.proofs.Pools.{part_of-set, part_of-set_other}
-use Rattle.ptk_ready.specs.Queues.{AreUnused}
 use Rattle.ptk_mutex.specs.Tables.{locks_at, with_threads, AreLocked, AreReady}
 use Rattle.ptk_gate_pools.specs.Kept.{AreStored}
 
 -- each table has the partition, mutexes are used as they should be, and stored priorities are the effective ones
 pub ready_is : (p n : ℕ) (table : ThreadTable) (lines : List (List ℕ)) (mutexes : List (List (Option Mutex))) → p < n → length table.threads ≡ n → length table.stored ≡ n → length lines ≡ n → length mutexes ≡ n
-    → AreStored table.stored table.threads mutexes → AreUnused table.queues → AreLocked (locks_at p table lines mutexes) → AreReady p table lines mutexes
-ready_is p n table lines mutexes lt threads stored line pool are idle locked = record {
-  part = record { of_threads = omega arith; of_stored = omega arith; of_lines = omega arith; of_mutexes = omega arith; idle = idle };
+    → AreStored table.stored table.threads mutexes → AreLocked (locks_at p table lines mutexes) → AreReady p table lines mutexes
+ready_is p n table lines mutexes lt threads stored line pool are locked = record {
+  part = record { of_threads = omega arith; of_stored = omega arith; of_lines = omega arith; of_mutexes = omega arith };
   locked = locked;
   stored = are.each p;
 }

@@ -1,13 +1,13 @@
 -- A mutex that is neither INHERIT nor PROTECT has another owner: no priority changes, so stored priorities stay the effective ones.
 use Rattle.std.proofs.Common.{◌≡◌, ℕ, List, map, refl, sym, ◌∙◌, ap}
-use Rattle.std.specs.Prelude.{false, Option, None, option_map}
+use Rattle.std.specs.Prelude.{false, Option, option_map}
 use Rattle.std.proofs.Math.ListN.{set}
 use Rattle.ptk_words.specs.Pools.{pool_get, pool_changed, numbers_of}
 use Rattle.ptk_words.specs.declared.mutexes.Owner.TheVariants.{Free, OwnedBy}
 use Rattle.ptk_words.specs.declared.threads.Thread.{Thread}
 use Rattle.ptk_words_parted.specs.Parts.{part_of}
 use Rattle.ptk_words_model.specs.State.{Mutex, locks_of}
-use Rattle.ptk_words_model.specs.Priority.{inheritor_of, ceiling_for, effective_of, effective_priorities}
+use Rattle.ptk_words_model.specs.Priority.{effective_of}
 use Rattle.ptk_words_model.specs.Mutex.{after_take, after_free}
 use Rattle.ptk_words_locks.proofs.MutexPlaces.{effective-set}
 use Rattle.ptk_mutex_slots.specs.Plain.{is_raising_at}

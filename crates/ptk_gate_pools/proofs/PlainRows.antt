@@ -1,5 +1,5 @@
 -- Plain steps of a thread in a row: what they leave of the pools, and that stored priorities stay the effective ones.
-use Rattle.std.proofs.Common.{arith, ◌≡◌, ℕ, zero, suc, ◌-◌, ◌<◌, List, length, get_or, refl, sym, ◌∙◌, ap, subst}
+use Rattle.std.proofs.Common.{arith, ◌≡◌, ℕ, zero, suc, ◌<◌, List, length, get_or, refl, sym, ◌∙◌, ap, subst}
 use Rattle.std.specs.Prelude.{Option, Some, None, IsSome, slice_set, slice_index_or}
 use Rattle.std.specs.Option.{option_or}
 use Rattle.std.specs.Vec.{with_item}
@@ -13,9 +13,9 @@ use Rattle.ptk_words_parted.proofs.Cuts.{lent-same}
 use Rattle.ptk_words_instructions.specs.PlainSteps.{Core, core, plain_steps}
 use Rattle.ptk_words_quiet.specs.Quiet.{computed, last_after, after_row}
 use Rattle.ptk_threads.specs.Table.{ThreadTable, with_changed}
-use Rattle.ptk_ready.specs.Queues.{AreUnused}
+use Rattle.ptk_roster.specs.Rosters.{Rostered}
 use Rattle.ptk_trace.specs.TracedRows.{last_entry}
-use Rattle.ptk_gate_pools.specs.Kept.{Kept, part_at, put_part}
+use Rattle.ptk_gate_pools.specs.Kept.{Kept, AreStored, part_at, put_part}
 use Rattle.ptk_gate_pools.specs.Pooled.{kept_of, ArePooled}
 use Rattle.ptk_gate_pools.specs.declared.pools.Pools.TheInside.{Inside}
 use Rattle.ptk_gate_pools.proofs.Stored.{stored_changed}
@@ -36,21 +36,24 @@ last_noted tick t zero c last = refl
 last_noted tick t (suc n) c last = refl
 
 -- what a row left of one partition's memory, of the slot table, and of the last step
-pub record IsRow (p t tick n : ℕ) (thread : Thread) (a : Inside) (memory : List ℕ) (table : ThreadTable) (last : Option Entry) : Type 0 where
+pub record IsRow (p t tick n : ℕ) (thread : Thread) (a : Inside) (memory : List ℕ) (roster : Rostered) (last : Option Entry) : Type 0 where
   pub within : p < length a.limits.items
   pub pooled : ArePooled a
   pub of_memory : memory ≡ (plain_steps n (core thread.cpu (part_of a.regions p))).memory
   pub as_long : length memory ≡ length (part_of a.regions p)
-  pub of_table : table ≡ with_changed p t (computed n (plain_steps n (core thread.cpu (part_of a.regions p))).cpu) a.threads
+  pub of_table : roster.table ≡ with_changed p t (computed n (plain_steps n (core thread.cpu (part_of a.regions p))).cpu) a.roster.table
+  pub of_lines : roster.lines ≡ a.roster.lines
+  pub of_mutexes : roster.mutexes ≡ a.roster.mutexes
+  pub of_conditions : roster.conditions ≡ a.roster.conditions
   pub of_last : last ≡ last_after tick t n (core thread.cpu (part_of a.regions p)) (slice_index_or a.lasts.items p None)
 
 -- what was lent, and what was told of it, make a row
-pub row_is : (p i t tick n : ℕ) (thread : Thread) (a : Inside) (kept : Kept) (lent_memory memory : List ℕ) (table : ThreadTable) (old last : Option Entry) → kept_of a ≡ kept → ArePooled a → p < length kept.limits
+pub row_is : (p i t tick n : ℕ) (thread : Thread) (a : Inside) (kept : Kept) (lent_memory memory : List ℕ) (roster : Rostered) (old last : Option Entry) → kept_of a ≡ kept → ArePooled a → p < length kept.limits
     → lent_memory ≡ part_of a.regions p → length memory ≡ length lent_memory → memory ≡ (plain_steps n (core thread.cpu lent_memory)).memory
-    → table ≡ with_changed p t (computed n (plain_steps n (core thread.cpu lent_memory)).cpu) a.threads
+    → roster.table ≡ with_changed p t (computed n (plain_steps n (core thread.cpu lent_memory)).cpu) a.roster.table → roster.lines ≡ a.roster.lines → roster.mutexes ≡ a.roster.mutexes → roster.conditions ≡ a.roster.conditions
     → last ≡ option_or (last_entry tick t n (core thread.cpu lent_memory)) old → i ≡ p → old ≡ get_or a.lasts.items i old
-    → IsRow p t tick n thread a memory table last
-row_is p i t tick n thread a kept lent_memory memory table old last view pooled lt bytes long moved changed told place before =
+    → IsRow p t tick n thread a memory roster last
+row_is p i t tick n thread a kept lent_memory memory roster old last view pooled lt bytes long moved changed lines mutexes conditions told place before =
     let within : p < length a.limits.items = subst (λ (k : Kept). p < length k.limits) (sym view) lt in
     let in_lasts : p < length a.lasts.items = omega (arith, within, pooled.lasts) in
     let older : old ≡ slice_index_or a.lasts.items p None = before ∙ ap (λ (j : ℕ). get_or a.lasts.items j old) place ∙ get_or_default a.lasts.items p old None in_lasts in
@@ -59,38 +62,41 @@ row_is p i t tick n thread a kept lent_memory memory table old last view pooled 
       pooled = pooled;
       of_memory = moved ∙ ap (λ (m : List ℕ). (plain_steps n (core thread.cpu m)).memory) bytes;
       as_long = long ∙ ap length bytes;
-      of_table = changed ∙ ap (λ (m : List ℕ). with_changed p t (computed n (plain_steps n (core thread.cpu m)).cpu) a.threads) bytes;
+      of_table = changed ∙ ap (λ (m : List ℕ). with_changed p t (computed n (plain_steps n (core thread.cpu m)).cpu) a.roster.table) bytes;
+      of_lines = lines;
+      of_mutexes = mutexes;
+      of_conditions = conditions;
       of_last = told ∙ ap (λ (m : List ℕ). option_or (last_entry tick t n (core thread.cpu m)) old) bytes
           ∙ last_noted tick t n (core thread.cpu (part_of a.regions p)) old ∙ ap (last_after tick t n (core thread.cpu (part_of a.regions p))) older;
     }
 
 -- the pools with these in place of what was lent, and of the slot table
-abbrev pub with_loans : ℕ → ℕ → Inside → List ℕ → ThreadTable → Option Entry → Inside
-with_loans p i a memory table last =
+abbrev pub with_loans : ℕ → ℕ → Inside → List ℕ → Rostered → Option Entry → Inside
+with_loans p i a memory roster last =
     record a {
       regions = lent a.regions p memory;
-      threads = table;
+      roster = roster;
       lasts = with_item a.lasts i last;
     }
 
-memory_put : (p t tick n : ℕ) (thread : Thread) (a : Inside) (memory : List ℕ) (table : ThreadTable) (last : Option Entry) → IsRow p t tick n thread a memory table last → lent a.regions p memory ≡ slice_set a.regions p memory
-memory_put p t tick n thread a memory table last row =
+memory_put : (p t tick n : ℕ) (thread : Thread) (a : Inside) (memory : List ℕ) (roster : Rostered) (last : Option Entry) → IsRow p t tick n thread a memory roster last → lent a.regions p memory ≡ slice_set a.regions p memory
+memory_put p t tick n thread a memory roster last row =
     let lt : p < length a.regions = omega (arith, row.within, row.pooled.memory) in
     lent-same a.regions p memory lt row.as_long
 
 -- a row leaves pools: plain steps change no effective priority
-pub row_pooled : (p i t tick n : ℕ) (thread : Thread) (a : Inside) (memory : List ℕ) (table : ThreadTable) (last : Option Entry) → IsRow p t tick n thread a memory table last → ArePooled (with_loans p i a memory table last)
-row_pooled p i t tick n thread a memory table last row =
+pub row_pooled : (p i t tick n : ℕ) (thread : Thread) (a : Inside) (memory : List ℕ) (roster : Rostered) (last : Option Entry) → IsRow p t tick n thread a memory roster last → ArePooled (with_loans p i a memory roster last)
+row_pooled p i t tick n thread a memory roster last row =
     let old = row.pooled in
     let cpu : Processor = (plain_steps n (core thread.cpu (part_of a.regions p))).cpu in
     record {
       few = old.few;
-      memory = ap length (memory_put p t tick n thread a memory table last row) ∙ length-set a.regions p memory ∙ old.memory;
-      threads = ap (λ (z : ThreadTable). length z.threads) row.of_table ∙ length-set a.threads.threads p _ ∙ old.threads;
+      memory = ap length (memory_put p t tick n thread a memory roster last row) ∙ length-set a.regions p memory ∙ old.memory;
+      threads = ap (λ (z : ThreadTable). length z.threads) row.of_table ∙ length-set a.roster.table.threads p _ ∙ old.threads;
       priorities = ap (λ (z : ThreadTable). length z.stored) row.of_table ∙ old.priorities;
-      lines = old.lines;
-      mutexes = old.mutexes;
-      conditions = old.conditions;
+      lines = ap length row.of_lines ∙ old.lines;
+      mutexes = ap length row.of_mutexes ∙ old.mutexes;
+      conditions = ap length row.of_conditions ∙ old.conditions;
       deadlines = old.deadlines;
       running = old.running;
       cancellations = old.cancellations;
@@ -102,12 +108,11 @@ row_pooled p i t tick n thread a memory table last row =
       sections = old.sections;
       statuses = old.statuses;
       lasts = length-set a.lasts.items i last ∙ old.lasts;
-      stored = stored_changed p t (computed n cpu) a.threads table a.mutexes row.of_table (λ thread. refl) (λ thread. refl) old.stored;
-      timed = timed_changed p t (computed n cpu) a.threads table a.deadlines row.of_table (λ thread. refl) old.timed;
-      idle = subst AreUnused (sym (ap (λ (z : ThreadTable). z.queues) row.of_table)) old.idle;
+      stored = subst (AreStored roster.table.stored roster.table.threads) (sym row.of_mutexes) (stored_changed p t (computed n cpu) a.roster.table roster.table a.roster.mutexes row.of_table (λ thread. refl) (λ thread. refl) old.stored);
+      timed = timed_changed p t (computed n cpu) a.roster.table roster.table a.deadlines row.of_table (λ thread. refl) old.timed;
     }
 
 -- a row is the model's
-pub row_put : (p i t tick n : ℕ) (thread : Thread) (a : Inside) (memory : List ℕ) (table : ThreadTable) (last : Option Entry) → i ≡ p → IsRow p t tick n thread a memory table last
-    → kept_of (with_loans p i a memory table last) ≡ put_part p (after_row tick t n thread (part_at p (kept_of a))) (kept_of a)
-row_put p i t tick n thread a memory table last e row = rw (e, memory_put p t tick n thread a memory table last row, row.of_table, row.of_memory, row.of_last) (simp set-get_or)
+pub row_put : (p i t tick n : ℕ) (thread : Thread) (a : Inside) (memory : List ℕ) (roster : Rostered) (last : Option Entry) → i ≡ p → IsRow p t tick n thread a memory roster last
+    → kept_of (with_loans p i a memory roster last) ≡ put_part p (after_row tick t n thread (part_at p (kept_of a))) (kept_of a)
+row_put p i t tick n thread a memory roster last e row = rw (e, memory_put p t tick n thread a memory roster last row, row.of_table, row.of_lines, row.of_mutexes, row.of_conditions, row.of_memory, row.of_last) (simp set-get_or)

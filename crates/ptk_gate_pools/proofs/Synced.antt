@@ -18,7 +18,6 @@ use Rattle.ptk_threads.specs.Table.{ThreadTable}
 use Rattle.ptk_mutex.specs.Tables.{IsWaiter, AreLocked}
 use Rattle.ptk_cond.specs.Tables.{syncs_at, AreSynced, IsOnCondition, AreWaiting, IsAwake}
 use Rattle.ptk_gate_pools.specs.Kept.{AreStored}
-use Rattle.ptk_ready.specs.Queues.{AreUnused}
 use Rattle.ptk_gate_pools.proofs.Locking.{ready_is}
 
 pub lined_of : (limits : Limits) (s : Part) → IsWell limits s → AreLined s.threads s.line s.running
@@ -43,7 +42,7 @@ whole_of limits s well = record {
 
 -- a waiter waits, so it is not ready, so it is not in the line
 waiter_is : (limits : Limits) (m t : ℕ) (s : Part) → IsWell limits s → awaited (thread_at s.locks t) ≡ Some m → IsWaiter s.locks m t
-waiter_is limits m t s well waits = record { waits = waits; out = not_ready_out s.threads s.line s.running t (lined_of limits s well) (awaits_not_ready m (thread_at s.locks t) waits) }
+waiter_is limits m t s well waits = record { waits = waits; out = not_ready_out s.threads s.line s.running t (lined_of limits s well) (awaits_not_ready m (thread_at s.locks t) waits); inside = well.exclusion.waits_listed m t waits }
 
 -- the mutexes are used as they should be
 pub locked_of : (limits : Limits) (s : Part) → IsWell limits s → AreLocked s.locks
@@ -62,9 +61,9 @@ waiting_of limits s well = record { waiters = λ c t e. on_condition limits c t 
 
 -- what the condition calls need of the tables of a whole state
 pub synced_is : (p n : ℕ) (limits : Limits) (s : Part) (table : ThreadTable) (lines : List (List ℕ)) (mutexes : List (List (Option Mutex))) (conditions : List (List (Option Condition))) → p < n → length table.threads ≡ n → length table.stored ≡ n
-    → length lines ≡ n → length mutexes ≡ n → length conditions ≡ n → AreStored table.stored table.threads mutexes → AreUnused table.queues → s.syncs ≡ syncs_at p table lines mutexes conditions → IsWell limits s → AreSynced p table lines mutexes conditions
-synced_is p n limits s table lines mutexes conditions lt threads stored line pool others are idle same well = record {
-  ready = ready_is p n table lines mutexes lt threads stored line pool are idle (subst (λ (syncs : Syncs). AreLocked syncs.locks) same (locked_of limits s well));
+    → length lines ≡ n → length mutexes ≡ n → length conditions ≡ n → AreStored table.stored table.threads mutexes → s.syncs ≡ syncs_at p table lines mutexes conditions → IsWell limits s → AreSynced p table lines mutexes conditions
+synced_is p n limits s table lines mutexes conditions lt threads stored line pool others are same well = record {
+  ready = ready_is p n table lines mutexes lt threads stored line pool are (subst (λ (syncs : Syncs). AreLocked syncs.locks) same (locked_of limits s well));
   of_conditions = omega arith;
   waiting = subst AreWaiting same (waiting_of limits s well);
 }

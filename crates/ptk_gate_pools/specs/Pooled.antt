@@ -1,8 +1,5 @@
 -- What the pools have inside, as the tables of all partitions, and what holds of it.
 use Rattle.std.specs.Prelude.{◌≡◌, ◌≤◌, length}
-use Rattle.ptk_ready.specs.Queues.{AreUnused}
-use Rattle.ptk_mutex.specs.Tables.{mutexes_of}
-use Rattle.ptk_cond.specs.Tables.{conditions_of}
 use Rattle.ptk_gate_pools.specs.declared.pools.Pools.TheInside.{Inside}
 use Rattle.ptk_gate_pools.specs.Kept.{Kept, AreStored, AreTimed}
 
@@ -11,10 +8,10 @@ abbrev pub kept_of : Inside → Kept
 kept_of a =
     record {
       memory = a.regions;
-      threads = a.threads.threads;
-      lines = a.line;
-      mutexes = mutexes_of a.mutexes a.threads;
-      conditions = conditions_of a.conditions a.threads;
+      threads = a.roster.table.threads;
+      lines = a.roster.lines;
+      mutexes = a.roster.mutexes;
+      conditions = a.roster.conditions;
       running = a.running.items;
       cancellations = a.cancellations.cancellations;
       cleanups = a.cancellations.cleanups;
@@ -27,15 +24,15 @@ kept_of a =
       limits = a.limits.items;
     }
 
--- every pool has an entry for each of at most 8 partitions, the consoles have the sections' numbers, the stored priorities are the effective ones, the kept deadlines are those of the threads' waits, and no ready thread lies in a queue of the slot table, since the line has lists of its own
+-- every pool has an entry for each of at most 8 partitions, the consoles have the sections' numbers, the stored priorities are the effective ones and the kept deadlines are those of the threads' waits
 pub record ArePooled (a : Inside) : Type 0 where
   pub few : length a.limits.items ≤ 8
   pub memory : length a.regions ≡ length a.limits.items
-  pub threads : length a.threads.threads ≡ length a.limits.items
-  pub priorities : length a.threads.stored ≡ length a.limits.items
-  pub lines : length a.line ≡ length a.limits.items
-  pub mutexes : length a.mutexes ≡ length a.limits.items
-  pub conditions : length a.conditions ≡ length a.limits.items
+  pub threads : length a.roster.table.threads ≡ length a.limits.items
+  pub priorities : length a.roster.table.stored ≡ length a.limits.items
+  pub lines : length a.roster.lines ≡ length a.limits.items
+  pub mutexes : length a.roster.mutexes ≡ length a.limits.items
+  pub conditions : length a.roster.conditions ≡ length a.limits.items
   pub deadlines : length a.deadlines ≡ length a.limits.items
   pub running : length a.running.items ≡ length a.limits.items
   pub cancellations : length a.cancellations.cancellations ≡ length a.limits.items
@@ -47,6 +44,5 @@ pub record ArePooled (a : Inside) : Type 0 where
   pub sections : a.consoles.limits ≡ a.limits.items
   pub statuses : length a.statuses.items ≡ length a.limits.items
   pub lasts : length a.lasts.items ≡ length a.limits.items
-  pub stored : AreStored a.threads.stored a.threads.threads (mutexes_of a.mutexes a.threads)
-  pub timed : AreTimed a.deadlines a.threads.threads
-  pub idle : AreUnused a.threads.queues
+  pub stored : AreStored a.roster.table.stored a.roster.table.threads a.roster.mutexes
+  pub timed : AreTimed a.deadlines a.roster.table.threads

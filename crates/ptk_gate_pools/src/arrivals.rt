@@ -10,7 +10,6 @@ ghost use Rattle.ptk_gate_pools.specs.Kept.{part_at, put_part, limits_at, AreInU
 ghost use Rattle.ptk_gate_pools.specs.Moves.{with_next_taken};
 
 use crate::pools::Pools;
-use ptk_ready::first_of_greatest;
 use ptk_words::{PartId, ThreadNo, Tick};
 
 impl Pools {
@@ -22,7 +21,7 @@ impl Pools {
         requires in_use { AreInUse (part_at p self.now).threads (part_at p self.now).console.waiters }
         ensures { result ≡ first_waiter (part_at p self.now) }
     {
-        first_of_greatest(&self.threads, p, self.consoles.waiters(p))
+        self.roster.first_among(p, self.consoles.waiters(p))
     }
 
     /// Takes the next input byte, if it comes at the tick or before; None, and nothing changes, where none is due.

@@ -5,15 +5,16 @@ ghost use Rattle.ptk_words.specs.declared.faults.Status.TheVariants.{Active};
 ghost use Rattle.ptk_cancel.specs.KeptCancellations.{fresh_cancellations};
 ghost use Rattle.ptk_keys.specs.KeptKeys.{fresh_keys};
 ghost use Rattle.ptk_console.specs.ConsoleTable.{fresh_console};
-ghost use Rattle.ptk_threads.specs.Queues.{no_queues};
 ghost use Rattle.ptk_gate_pools.specs.Blank.{blank};
 ghost use Rattle.ptk_gate_pools.specs.Kept.{per_section};
 
 use crate::pools::Pools;
+use ptk_clock::ThreadDeadlines;
 use ptk_gate_parts::{
-    Endings, Records, Schedules, Stores, Waits, endings_of, records_of, schedules_of, stores_of,
-    waits_of,
+    Endings, Records, Schedules, Stores, deadlines_of, endings_of, records_of, schedules_of,
+    stores_of,
 };
+use ptk_mutex::Mutexes;
 use ptk_words::{Arrival, Limits};
 use std::alloc::{AllocError, Global};
 
@@ -35,10 +36,12 @@ impl Pools {
     {
         let stores = stores_of(alloc, limits, inputs)?;
         let schedules = schedules_of(alloc, limits)?;
-        let waits = waits_of(alloc, limits)?;
+        let deadlines = deadlines_of(alloc, limits)?;
         let endings = endings_of(alloc, limits)?;
         let records = records_of(alloc, limits)?;
-        Ok(joined(limits, inputs, stores, schedules, waits, endings, records))
+        Ok(joined(
+            limits, inputs, stores, schedules, deadlines, endings, records,
+        ))
     }
 }
 
@@ -49,7 +52,7 @@ fn joined(
     inputs: &[&[Arrival]],
     stores: Stores,
     schedules: Schedules,
-    waits: Waits,
+    deadlines: ThreadDeadlines,
     endings: Endings,
     records: Records,
 ) -> Pools
@@ -57,12 +60,12 @@ fn joined(
     requires inputs { length inputs.now ≡ length limits.now }
     requires memory { stores.0 ≡ per_section (λ l. l.memory) 0 limits.now }
     requires consoles { stores.1 ≡ record { limits = limits.now; consoles = map (λ input. fresh_console input.now) inputs.now } }
-    requires table { schedules.0 ≡ record { threads = per_section (λ l. l.threads) None limits.now; stored = per_section (λ l. l.threads) 0 limits.now; queues = map no_queues (map (λ l. l.threads) limits.now) } }
-    requires line { schedules.1 ≡ replicate (length limits.now) [] }
-    requires running { schedules.2.items ≡ replicate (length limits.now) None }
-    requires mutexes { waits.0 ≡ per_section (λ l. l.mutexes) None limits.now }
-    requires conditions { waits.1 ≡ per_section (λ l. l.conditions) None limits.now }
-    requires deadlines { waits.2 ≡ per_section (λ l. l.threads) None limits.now }
+    requires table { schedules.0.table ≡ record { threads = per_section (λ l. l.threads) None limits.now; stored = per_section (λ l. l.threads) 0 limits.now; queues = [] } }
+    requires line { schedules.0.lines ≡ replicate (length limits.now) [] }
+    requires running { schedules.1.items ≡ replicate (length limits.now) None }
+    requires mutexes { schedules.0.mutexes ≡ per_section (λ l. l.mutexes) None limits.now }
+    requires conditions { schedules.0.conditions ≡ per_section (λ l. l.conditions) None limits.now }
+    requires deadlines { deadlines ≡ per_section (λ l. l.threads) None limits.now }
     requires cancellations { endings.0 ≡ fresh_cancellations limits.now }
     requires keys { endings.1 ≡ fresh_keys limits.now }
     requires statuses { records.0.items ≡ replicate (length limits.now) Active }
@@ -71,16 +74,13 @@ fn joined(
     ensures { result ≡ blank limits.now (map (λ input. fresh_console input.now) inputs.now) }
 {
     let (regions, consoles) = stores;
-    let (threads, line, running) = schedules;
-    let (mutexes, conditions, deadlines) = waits;
+    let (roster, running) = schedules;
     let (cancellations, keys) = endings;
     let (statuses, lasts, limits) = records;
     Pools {
         regions,
-        threads,
-        line,
-        mutexes,
-        conditions,
+        roster,
+        mutexes: Mutexes::new(),
         deadlines,
         running,
         cancellations,

@@ -18,7 +18,7 @@ impl Pools {
         requires partition { p < length self.old.limits }
         ensures { self.new ≡ put_part p (with_locks (with_thread t (with_pc pc)) (part_at p self.old)) self.old }
     {
-        self.threads.set_pc(p, t, pc);
+        self.roster.set_pc(p, t, pc);
     }
 
     /// Puts the values into the thread's a0, a1 and so on; a free number stays free.
@@ -28,7 +28,7 @@ impl Pools {
         requires few { length values.now < 4 }
         ensures { self.new ≡ put_part p (replied t values.now (part_at p self.old)) self.old }
     {
-        self.threads.set_values(p, t, values);
+        self.roster.set_values(p, t, values);
     }
 
     /// Whether the next input byte comes at the tick or before.

@@ -22,7 +22,7 @@ impl Pools {
         requires partition { p < length self.now.limits }
         ensures { result ≡ (if is_some (pool_get (part_at p self.now).conditions word) then Some word else None) }
     {
-        self.conditions.numbered(p, word)
+        ptk_cond::numbered(&self.roster, p, word)
     }
 
     /// The least free number of a condition variable; None where no number is free.
@@ -30,7 +30,7 @@ impl Pools {
         requires partition { p < length self.now.limits }
         ensures { result ≡ least_free (part_at p self.now).conditions }
     {
-        self.conditions.first_free(p)
+        self.roster.free_condition(p)
     }
 
     /// Whether a thread waits on the condition variable (pthread_cond_destroy, EBUSY).
@@ -39,7 +39,7 @@ impl Pools {
         requires partition { p < length self.now.limits }
         ensures { result ≡ nat_lt 0 (length (condition_waiters (part_at p self.now).syncs c)) }
     {
-        !self.conditions.waiters(&self.threads, p, c).is_empty()
+        self.roster.has_condition_waiters(p, c)
     }
 
     /// Whether a waiter of the condition variable is to have another mutex again (pthread_cond_wait, EINVAL).
@@ -47,7 +47,7 @@ impl Pools {
         requires partition { p < length self.now.limits }
         ensures { result ≡ names_another (part_at p self.now).syncs c m }
     {
-        self.conditions.names_another(&self.threads, p, c, m)
+        ptk_cond::names_another(&self.roster, p, c, m)
     }
 
     /// A new condition variable, without waiters, at the least free number (pthread_cond_init).
@@ -57,7 +57,7 @@ impl Pools {
         requires free { least_free (part_at p self.old).conditions ≡ Some c }
         ensures { self.new ≡ put_part p (with_pool_condition c (Some (record { waiters = [] })) (part_at p self.old)) self.old }
     {
-        self.conditions.init(&self.threads, p);
+        ptk_cond::init(&mut self.roster, p);
     }
 
     /// The number of a condition variable without waiters is free (pthread_cond_destroy).
@@ -67,7 +67,7 @@ impl Pools {
         requires unwaited { condition_waiters (part_at p self.old).syncs c ≡ [] }
         ensures { self.new ≡ put_part p (with_pool_condition c None (part_at p self.old)) self.old }
     {
-        self.conditions.destroy(&self.threads, p, c);
+        ptk_cond::destroy(&mut self.roster, p, c);
     }
 
     /// The running thread unlocks its mutex once, as unlock does, and is then the last waiter of the condition
@@ -89,14 +89,11 @@ impl Pools {
         requires used { IsSome (pool_get (part_at p self.old).conditions c) }
         ensures { self.new ≡ put_part p (with_syncs (after_condition_wait t c m deadline) (part_at p self.old)) self.old }
     {
-        let line = &mut self.line;
-        let threads = &mut self.threads;
+        let roster = &mut self.roster;
         let mutexes = &mut self.mutexes;
-        let woken = self
-            .conditions
-            .wait(line, threads, mutexes, p, t, c, m, deadline);
+        let woken = ptk_cond::wait(roster, mutexes, p, t, c, m, deadline);
         self.deadlines.end_all(p, woken);
-        follow_wait(&mut self.deadlines, &self.threads, p, t);
+        follow_wait(&mut self.deadlines, &self.roster, p, t);
     }
 
     /// The waiter of greatest effective priority, the earliest among equals, is unblocked: it re-locks the mutex that it
@@ -107,10 +104,9 @@ impl Pools {
         requires well { IsWell (limits_at p self.old) (part_at p self.old) }
         ensures { self.new ≡ put_part p (with_syncs (after_signal c) (part_at p self.old)) self.old }
     {
-        let line = &mut self.line;
-        let threads = &mut self.threads;
+        let roster = &mut self.roster;
         let mutexes = &mut self.mutexes;
-        let woken = self.conditions.signal(line, threads, mutexes, p, c);
+        let woken = ptk_cond::signal(roster, mutexes, p, c);
         end_one(&mut self.deadlines, p, woken);
     }
 
@@ -122,10 +118,9 @@ impl Pools {
         requires well { IsWell (limits_at p self.old) (part_at p self.old) }
         ensures { self.new ≡ put_part p (with_syncs (after_broadcast c) (part_at p self.old)) self.old }
     {
-        let line = &mut self.line;
-        let threads = &mut self.threads;
+        let roster = &mut self.roster;
         let mutexes = &mut self.mutexes;
-        let woken = self.conditions.broadcast(line, threads, mutexes, p, c);
+        let woken = ptk_cond::broadcast(roster, mutexes, p, c);
         self.deadlines.end_all(p, woken);
     }
 
@@ -138,11 +133,9 @@ impl Pools {
         requires waits { condition_of_wait (wait_of (thread_at (part_at p self.old).locks t)) ≡ Some c }
         ensures { self.new ≡ put_part p (with_syncs (after_unblock t c None) (part_at p self.old)) self.old }
     {
-        let line = &mut self.line;
-        let threads = &mut self.threads;
+        let roster = &mut self.roster;
         let mutexes = &mut self.mutexes;
-        self.conditions
-            .withdraw(line, threads, mutexes, p, t, c, None);
+        ptk_cond::withdraw(roster, mutexes, p, t, c, None);
         self.deadlines.set(p, t, None);
     }
 }

@@ -46,11 +46,9 @@ impl Pools {
     {
         match self.deadlines.take_due(p, tick) {
             Some(t) => {
-                let line = &mut self.line;
-                let threads = &mut self.threads;
+                let roster = &mut self.roster;
                 let mutexes = &mut self.mutexes;
-                let conditions = &mut self.conditions;
-                time_out(line, threads, mutexes, conditions, p, t);
+                time_out(roster, mutexes, p, t);
                 true
             }
             None => false,

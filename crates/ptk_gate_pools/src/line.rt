@@ -7,9 +7,9 @@ ghost use Rattle.ptk_words_model.specs.Schedule.{at_head, first_ready};
 ghost use Rattle.ptk_words.specs.Pools.{is_in};
 ghost use Rattle.ptk_gate_pools.specs.Kept.{part_at, put_part, AreInUse};
 ghost use Rattle.ptk_gate_pools.specs.Moves.{with_last, out_of_line};
+ghost use Rattle.ptk_words_locks.specs.Conditions.{IsNoWaiter};
 
 use crate::pools::Pools;
-use ptk_ready::Line;
 use ptk_words::{PartId, ThreadNo};
 
 impl Pools {
@@ -19,29 +19,31 @@ impl Pools {
         requires partition { p < length self.now.limits }
         ensures { result ≡ is_in t (part_at p self.now).line }
     {
-        self.line.contains(&self.threads, p, t)
+        self.roster.contains(p, t)
     }
 
-    /// Puts a thread that is in use and not in the line last.
+    /// Puts a thread that is in use, not in the line and no waiter last.
     #[tactic(auto, using(crate::proofs::Parted::parted, crate::proofs::Stored::stored, crate::proofs::Timed::kept))]
     pub fn append(&mut self, p: PartId, t: ThreadNo)
         requires partition { p < length self.old.limits }
         requires in_use { IsSome (thread_at (part_at p self.old).locks t) }
         requires fresh { is_in t (part_at p self.old).line ≡ false }
+        requires free { IsNoWaiter t (part_at p self.old).mutexes (part_at p self.old).conditions }
         ensures { self.new ≡ put_part p (with_locks (with_last t) (part_at p self.old)) self.old }
     {
-        self.line.push_tail(&mut self.threads, p, t);
+        self.roster.push_tail(p, t);
     }
 
-    /// Puts a thread that is in use and not in the line first.
+    /// Puts a thread that is in use, not in the line and no waiter first.
     #[tactic(auto, using(crate::proofs::Parted::parted, crate::proofs::Stored::stored, crate::proofs::Timed::kept))]
     pub fn push_head(&mut self, p: PartId, t: ThreadNo)
         requires partition { p < length self.old.limits }
         requires in_use { IsSome (thread_at (part_at p self.old).locks t) }
         requires fresh { is_in t (part_at p self.old).line ≡ false }
+        requires free { IsNoWaiter t (part_at p self.old).mutexes (part_at p self.old).conditions }
         ensures { self.new ≡ put_part p (with_locks (at_head t) (part_at p self.old)) self.old }
     {
-        self.line.push_head(&mut self.threads, p, t);
+        self.roster.push_head(p, t);
     }
 
     /// Takes a thread out of the line; nothing changes where it is not in it.
@@ -50,7 +52,7 @@ impl Pools {
         requires partition { p < length self.old.limits }
         ensures { self.new ≡ put_part p (with_locks (out_of_line t) (part_at p self.old)) self.old }
     {
-        self.line.remove(&mut self.threads, p, t);
+        self.roster.remove(p, t);
     }
 
     /// The first thread of the line's greatest effective priority, where all of them are in use; None of an empty
@@ -61,7 +63,7 @@ impl Pools {
         requires in_use { AreInUse (part_at p self.now).threads (part_at p self.now).line }
         ensures { result ≡ first_ready (part_at p self.now).locks }
     {
-        self.line.first_of_greatest(&self.threads, p)
+        self.roster.first_of_greatest(p)
     }
 
     /// Whether a thread of the partition is in the line.
@@ -69,8 +71,7 @@ impl Pools {
         requires { p < length self.now.limits }
         ensures { result ≡ nat_lt 0 (length (part_at p self.now).line) }
     {
-        let threads = &self.threads;
-        self.line.first_of_greatest(threads, p).is_some()
+        self.roster.first_of_greatest(p).is_some()
     }
 
     /// The effective priority of a thread that is in use.
@@ -80,6 +81,6 @@ impl Pools {
         requires in_use { IsSome (thread_at (part_at p self.now).locks t) }
         ensures { result ≡ effective_priority (part_at p self.now).locks t }
     {
-        self.threads.stored_priority(p, t)
+        self.roster.stored_priority(p, t)
     }
 }

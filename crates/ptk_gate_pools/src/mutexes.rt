@@ -1,8 +1,8 @@
 //! Mutexes: their numbers, what is told of them, and the moves of lock, unlock and an owner's end. After each move the
 //! partition's stored priorities are the effective ones (pthread_mutex_lock, pthread_mutexattr_getprotocol).
 
-ghost use Rattle.std.specs.Prelude.{◌≡◌, ◌<◌, false, None, Some, [], length, option_map};
-ghost use Rattle.ptk_words.specs.Pools.{least_free};
+ghost use Rattle.std.specs.Prelude.{◌≡◌, ◌<◌, ◌≤◌, false, None, Some, [], length, option_map, is_some, if◌then◌else◌};
+ghost use Rattle.ptk_words.specs.Pools.{least_free, pool_get};
 ghost use Rattle.ptk_words.specs.declared.mutexes.Soundness.TheVariants.{Consistent};
 ghost use Rattle.ptk_words.specs.declared.TheConstants.{COUNT_LIMIT};
 ghost use Rattle.ptk_words.specs.declared.threads.Wait.TheVariants.{MutexWait, RelockWait};
@@ -15,20 +15,30 @@ ghost use Rattle.ptk_words_model.specs.Calls.{with_pool_mutex};
 ghost use Rattle.ptk_mutex_slots.specs.Slots.{state_of};
 ghost use Rattle.ptk_mutex.specs.Tables.{AreLocked, MayWait};
 ghost use Rattle.ptk_gate_pools.specs.Kept.{part_at, put_part};
+ghost use Rattle.ptk_words_locks.specs.Conditions.{IsNoWaiter};
 
 use crate::pools::Pools;
 use ptk_gate_waits::{follow_move, is_any_naming};
 use ptk_mutex::MutexState;
+use ptk_mutex_slots::MutexSlot;
 use ptk_words::{MutexKind, MutexNo, PartId, Protocol, ThreadNo, Tick, Wait};
 use ptk_words_model::LockMove;
 
 impl Pools {
+    /// The mutex in use whose number the word is; None of another word (own choice).
+    pub fn mutex_numbered(&self, p: PartId, word: u32) -> Option<MutexNo>
+        requires partition { p < length self.now.limits }
+        ensures { result ≡ (if is_some (pool_get (part_at p self.now).mutexes word) then Some word else None) }
+    {
+        numbered_in(self.roster.mutex_slots(p), word)
+    }
+
     /// The least free number of a mutex; None where no number is free.
     pub fn first_free_mutex(&self, p: PartId) -> Option<MutexNo>
         requires partition { p < length self.now.limits }
         ensures { result ≡ least_free (part_at p self.now).mutexes }
     {
-        self.mutexes.first_free(p)
+        self.roster.free_mutex(p)
     }
 
     /// A new mutex, free and consistent, at the least free number (pthread_mutex_init).
@@ -46,7 +56,7 @@ impl Pools {
         ensures { self.new ≡ put_part p (with_pool_mutex m (Some (new_mutex kind protocol is_robust)) (part_at p self.old)) self.old }
     {
         self.mutexes
-            .init(&self.threads, p, kind, protocol, is_robust);
+            .init(&mut self.roster, p, kind, protocol, is_robust);
     }
 
     /// The number of a mutex that is not locked and has no waiters is free (pthread_mutex_destroy).
@@ -57,7 +67,7 @@ impl Pools {
         requires unwaited { waiters_of (mutex_at (part_at p self.old).locks m) ≡ [] }
         ensures { self.new ≡ put_part p (with_pool_mutex m None (part_at p self.old)) self.old }
     {
-        self.mutexes.destroy(&self.threads, p, m);
+        self.mutexes.destroy(&mut self.roster, p, m);
     }
 
     /// What the mutex is, but for its waiters; None of a free number.
@@ -65,7 +75,7 @@ impl Pools {
         requires partition { p < length self.now.limits }
         ensures { result ≡ option_map state_of (mutex_at (part_at p self.now).locks m) }
     {
-        self.mutexes.state(p, m)
+        self.mutexes.state(&self.roster, p, m)
     }
 
     /// Whether the thread owns the mutex (pthread_mutex_unlock).
@@ -73,7 +83,7 @@ impl Pools {
         requires partition { p < length self.now.limits }
         ensures { result ≡ owns t (mutex_at (part_at p self.now).locks m) }
     {
-        self.mutexes.owns(p, t, m)
+        self.mutexes.owns(&self.roster, p, t, m)
     }
 
     /// Whether the thread owns an INHERIT or PROTECT mutex (pthread_mutexattr_getprotocol).
@@ -81,7 +91,7 @@ impl Pools {
         requires partition { p < length self.now.limits }
         ensures { result ≡ owns_raising (part_at p self.now).locks t }
     {
-        self.mutexes.owns_raising(p, t)
+        self.mutexes.owns_raising(&self.roster, p, t)
     }
 
     /// Whether a thread waits on a condition variable and is to have the mutex again (pthread_mutex_destroy).
@@ -89,7 +99,7 @@ impl Pools {
         requires partition { p < length self.now.limits }
         ensures { result ≡ names_mutex (part_at p self.now).locks m }
     {
-        is_any_naming(self.threads.part(p), m)
+        is_any_naming(self.roster.threads().part(p), m)
     }
 
     /// What lock would do now; nothing changes (pthread_mutex_lock, pthread_mutex_timedlock).
@@ -97,7 +107,7 @@ impl Pools {
         requires partition { p < length self.now.limits }
         ensures { result ≡ lock_move (part_at p self.now).locks t (mutex_at (part_at p self.now).locks m) }
     {
-        self.mutexes.lock_move(&self.threads, p, t, m)
+        self.mutexes.lock_move(&self.roster, p, t, m)
     }
 
     /// A thread that waits for no mutex locks this one, or waits for it, until the deadline (a tick) if there is one, or
@@ -108,14 +118,13 @@ impl Pools {
         requires partition { p < length self.old.limits }
         requires locked { AreLocked (part_at p self.old).locks }
         requires caller { MayWait (part_at p self.old).locks t }
+        requires free { IsNoWaiter t (part_at p self.old).mutexes (part_at p self.old).conditions }
         ensures told { result ≡ lock_move (part_at p self.old).locks t (mutex_at (part_at p self.old).locks m) }
         ensures moved { self.new ≡ put_part p (with_locks (after_move (lock_move (part_at p self.old).locks t (mutex_at (part_at p self.old).locks m)) t m (MutexWait m deadline)) (part_at p self.old)) self.old }
     {
         let until = deadline;
         let wait = Wait::MutexWait(m, until);
-        let made = self
-            .mutexes
-            .lock(&self.line, &mut self.threads, p, t, m, deadline);
+        let made = self.mutexes.lock(&mut self.roster, p, t, m, deadline);
         follow_move(&mut self.deadlines, p, t, made, wait);
         made
     }
@@ -128,14 +137,13 @@ impl Pools {
         requires partition { p < length self.old.limits }
         requires locked { AreLocked (part_at p self.old).locks }
         requires caller { MayWait (part_at p self.old).locks t }
+        requires free { IsNoWaiter t (part_at p self.old).mutexes (part_at p self.old).conditions }
         requires countable { relock_move t (mutex_at (part_at p self.old).locks m) ≡ Counts → count_of (mutex_at (part_at p self.old).locks m) < COUNT_LIMIT }
         ensures told { result ≡ relock_move t (mutex_at (part_at p self.old).locks m) }
         ensures moved { self.new ≡ put_part p (with_locks (after_move (relock_move t (mutex_at (part_at p self.old).locks m)) t m (RelockWait m reply)) (part_at p self.old)) self.old }
     {
         let wait = Wait::RelockWait(m, reply);
-        let made = self
-            .mutexes
-            .lock_again(&self.line, &mut self.threads, p, t, m, reply);
+        let made = self.mutexes.lock_again(&mut self.roster, p, t, m, reply);
         follow_move(&mut self.deadlines, p, t, made, wait);
         made
     }
@@ -146,10 +154,11 @@ impl Pools {
         requires partition { p < length self.old.limits }
         requires locked { AreLocked (part_at p self.old).locks }
         requires caller { MayWait (part_at p self.old).locks t }
+        requires free { IsNoWaiter t (part_at p self.old).mutexes (part_at p self.old).conditions }
         ensures told { result ≡ trylock_move (part_at p self.old).locks t (mutex_at (part_at p self.old).locks m) }
         ensures moved { self.new ≡ put_part p (with_locks (after_move (trylock_move (part_at p self.old).locks t (mutex_at (part_at p self.old).locks m)) t m (MutexWait m None)) (part_at p self.old)) self.old }
     {
-        let made = self.mutexes.trylock(&self.line, &mut self.threads, p, t, m);
+        let made = self.mutexes.trylock(&mut self.roster, p, t, m);
         follow_move(&mut self.deadlines, p, t, made, Wait::MutexWait(m, None));
         made
     }
@@ -161,7 +170,7 @@ impl Pools {
         requires locked { AreLocked (part_at p self.old).locks }
         ensures { self.new ≡ put_part p (with_locks (after_unlock m) (part_at p self.old)) self.old }
     {
-        let woken = self.mutexes.unlock(&mut self.line, &mut self.threads, p, m);
+        let woken = self.mutexes.unlock(&mut self.roster, p, m);
         self.deadlines.end_all(p, woken);
     }
 
@@ -172,7 +181,7 @@ impl Pools {
         requires locked { AreLocked (part_at p self.old).locks }
         ensures { self.new ≡ put_part p (with_locks (with_soundness Consistent m) (part_at p self.old)) self.old }
     {
-        self.mutexes.consistent(&self.line, &mut self.threads, p, m);
+        self.mutexes.consistent(&mut self.roster, p, m);
     }
 
     /// What the end of the thread makes of the mutexes that it owns (pthread_mutexattr_setrobust; own choice).
@@ -182,9 +191,26 @@ impl Pools {
         requires locked { AreLocked (part_at p self.old).locks }
         ensures { self.new ≡ put_part p (with_locks (after_owner_end t) (part_at p self.old)) self.old }
     {
-        let heirs = self
-            .mutexes
-            .abandon(&mut self.line, &mut self.threads, p, t);
+        let heirs = self.mutexes.abandon(&mut self.roster, p, t);
         self.deadlines.end_all(p, heirs);
     }
+}
+
+/// The mutex in use whose number the word is, among a partition's places.
+#[tactic(auto, using(ptk_threads::proofs::Slots::numbers))]
+fn numbered_in(places: &[MutexSlot], word: u32) -> Option<MutexNo>
+    requires few { length places.now ≤ 64 }
+    ensures { result ≡ (if is_some (pool_get places.now word) then Some word else None) }
+{
+    if word == 0 {
+        return None;
+    }
+    let index = word as usize - 1;
+    if index >= places.len() {
+        return None;
+    }
+    if places[index].is_free() {
+        return None;
+    }
+    Some(MutexNo::new(word as u8))
 }

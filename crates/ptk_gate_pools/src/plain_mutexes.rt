@@ -17,7 +17,7 @@ impl Pools {
         requires partition { p < length self.now.limits }
         ensures { result ≡ is_takeable (mutex_at (part_at p self.now).locks m) }
     {
-        self.mutexes.is_takeable(p, m)
+        self.mutexes.is_takeable(&self.roster, p, m)
     }
 
     /// Whether an unlock by the thread frees the mutex, wakes nobody and changes no priority: the thread locked it once,
@@ -27,7 +27,7 @@ impl Pools {
         requires partition { p < length self.now.limits }
         ensures { result ≡ is_releasable t (mutex_at (part_at p self.now).locks m) }
     {
-        self.mutexes.is_releasable(&self.threads, p, t, m)
+        self.mutexes.is_releasable(&self.roster, p, t, m)
     }
 
     /// The thread owns a mutex that is neither INHERIT nor PROTECT, counted once (pthread_mutex_lock).
@@ -38,7 +38,7 @@ impl Pools {
         requires plain { is_raising_at (mutex_at (part_at p self.old).locks m) ≡ false }
         ensures { self.new ≡ put_part p (with_locks (after_take t m) (part_at p self.old)) self.old }
     {
-        self.mutexes.take_plain(&self.threads, p, t, m);
+        self.mutexes.take_plain(&mut self.roster, p, t, m);
     }
 
     /// Nobody owns a mutex that is neither INHERIT nor PROTECT, and nobody is woken (pthread_mutex_unlock).
@@ -49,6 +49,6 @@ impl Pools {
         requires plain { is_raising_at (mutex_at (part_at p self.old).locks m) ≡ false }
         ensures { self.new ≡ put_part p (with_locks (after_free m) (part_at p self.old)) self.old }
     {
-        self.mutexes.release_plain(&self.threads, p, m);
+        self.mutexes.release_plain(&mut self.roster, p, m);
     }
 }

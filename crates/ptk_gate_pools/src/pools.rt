@@ -5,12 +5,11 @@ ghost use Rattle.ptk_gate_pools.specs.Kept.{AreParts};
 
 use ptk_cancel::Cancellations;
 use ptk_clock::ThreadDeadlines;
-use ptk_cond::Conditions;
 use ptk_console::Consoles;
 use ptk_keys::KeyTable;
 use ptk_mutex::Mutexes;
-use ptk_ready::VecLine;
 use ptk_regions::Regions;
+use ptk_roster::Roster;
 use ptk_threads::Threads;
 use ptk_words::{Entry, Limits, Status, ThreadNo};
 use std::marker::Model;
@@ -19,10 +18,8 @@ use std::marker::Model;
 #[derive(Drop)]
 pub struct Pools {
     pub(crate) regions: Regions,
-    pub(crate) threads: Threads,
-    pub(crate) line: VecLine,
+    pub(crate) roster: Roster,
     pub(crate) mutexes: Mutexes,
-    pub(crate) conditions: Conditions,
     pub(crate) deadlines: ThreadDeadlines,
     pub(crate) running: Vec<Option<ThreadNo>>,
     pub(crate) cancellations: Cancellations,
@@ -58,14 +55,12 @@ impl Pools {
     pub fn threads(&self) -> &Threads
         ensures { result.now.threads ≡ self.now.threads }
     {
-        &self.threads
+        self.roster.threads()
     }
 
-    /// The mutexes of all partitions.
-    pub fn mutexes(&self) -> &Mutexes
-        ensures { result.now ≡ self.now.mutexes }
-    {
-        &self.mutexes
+    /// How many stored priorities the last call on mutexes read as it raised some, of whatever partition.
+    pub fn visited(&self) -> u32 {
+        self.mutexes.visited()
     }
 
     /// The memory of all partitions.

@@ -11,7 +11,8 @@ ghost use Rattle.ptk_trace.specs.TracedRows.{last_entry, traced};
 ghost use Rattle.ptk_gate_pools.specs.Kept.{part_at, put_part};
 
 use crate::pools::Pools;
-use ptk_threads::{Threads, Work};
+use ptk_roster::Roster;
+use ptk_threads::Work;
 use ptk_trace::Trace;
 use ptk_words::{Entry, PartId, Policy, Thread, ThreadNo, Tick};
 
@@ -38,7 +39,7 @@ impl Pools {
         ensures ended { (thread : Thread) → thread_at (part_at p self.old).locks t ≡ Some thread → result < most → is_plain (plain_steps result (core_of thread (part_at p self.old))) ≡ false }
     {
         run_at(
-            &mut self.threads,
+            &mut self.roster,
             self.regions.lend(p),
             p,
             t,
@@ -54,7 +55,7 @@ impl Pools {
 #[inline(always)]
 #[tactic(auto, using(ptk_mutex::proofs::Moved::wakes))]
 fn run_at(
-    threads: &mut Threads,
+    roster: &mut Roster,
     memory: &mut [u8],
     p: PartId,
     t: ThreadNo,
@@ -63,17 +64,20 @@ fn run_at(
     trace: &mut Trace,
     last: &mut Option<Entry>,
 ) -> u32
-    requires partition { p < length threads.old.threads }
+    requires partition { p < length roster.old.table.threads }
     requires time { tick < 2 ^ 63 }
-    requires in_use { IsSome (thread_in threads.old p t) }
-    requires room { (thread : Thread) → thread_in threads.old p t ≡ Some thread → thread.used + most < 2 ^ 32 }
+    requires in_use { IsSome (thread_in roster.old.table p t) }
+    requires room { (thread : Thread) → thread_in roster.old.table p t ≡ Some thread → thread.used + most < 2 ^ 32 }
     ensures few { result ≤ most }
-    ensures plain { (thread : Thread) → thread_in threads.old p t ≡ Some thread → ArePlain result (core thread.cpu memory.old) }
-    ensures threads { (thread : Thread) → thread_in threads.old p t ≡ Some thread → threads.new ≡ with_changed p t (computed result (plain_steps result (core thread.cpu memory.old)).cpu) threads.old }
-    ensures memory { (thread : Thread) → thread_in threads.old p t ≡ Some thread → memory.new ≡ (plain_steps result (core thread.cpu memory.old)).memory }
-    ensures traced { (thread : Thread) → thread_in threads.old p t ≡ Some thread → trace.new ≡ traced tick t result (core thread.cpu memory.old) trace.old }
-    ensures last { (thread : Thread) → thread_in threads.old p t ≡ Some thread → last.new ≡ option_or (last_entry tick t result (core thread.cpu memory.old)) last.old }
-    ensures ended { (thread : Thread) → thread_in threads.old p t ≡ Some thread → result < most → is_plain (plain_steps result (core thread.cpu memory.old)) ≡ false }
+    ensures plain { (thread : Thread) → thread_in roster.old.table p t ≡ Some thread → ArePlain result (core thread.cpu memory.old) }
+    ensures threads { (thread : Thread) → thread_in roster.old.table p t ≡ Some thread → roster.new.table ≡ with_changed p t (computed result (plain_steps result (core thread.cpu memory.old)).cpu) roster.old.table }
+    ensures lines { roster.new.lines ≡ roster.old.lines }
+    ensures mutexes { roster.new.mutexes ≡ roster.old.mutexes }
+    ensures conditions { roster.new.conditions ≡ roster.old.conditions }
+    ensures memory { (thread : Thread) → thread_in roster.old.table p t ≡ Some thread → memory.new ≡ (plain_steps result (core thread.cpu memory.old)).memory }
+    ensures traced { (thread : Thread) → thread_in roster.old.table p t ≡ Some thread → trace.new ≡ traced tick t result (core thread.cpu memory.old) trace.old }
+    ensures last { (thread : Thread) → thread_in roster.old.table p t ≡ Some thread → last.new ≡ option_or (last_entry tick t result (core thread.cpu memory.old)) last.old }
+    ensures ended { (thread : Thread) → thread_in roster.old.table p t ≡ Some thread → result < most → is_plain (plain_steps result (core thread.cpu memory.old)) ≡ false }
 {
     let mut row = Row {
         t,
@@ -83,7 +87,7 @@ fn run_at(
         trace,
         last,
     };
-    threads.work_on(p, t, &mut row)
+    roster.work_on(p, t, &mut row)
 }
 
 /// Plain steps of a thread in a row, as work on it: whose they are, from when on and at most how many, and what they

@@ -38,7 +38,7 @@ fn builds_for_two_sections(rt: HostRuntime) -> Result<(), Fail> {
     let pools = Pools::build(rt.alloc(), &limits, &inputs)?;
     assert_eq!(rt; pools.parts(), 2);
     assert_eq!(rt; pools.threads().slots().len(), 6);
-    assert_eq!(rt; pools.mutexes().parts(), 2);
+    assert_eq!(rt; pools.visited(), 0);
     assert_eq!(rt; pools.regions().whole().len(), 8192);
     let second = PartId::new(1);
     assert!(rt; pools.parts() == 2);

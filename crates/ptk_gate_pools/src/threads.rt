@@ -1,10 +1,11 @@
 //! A thread's number, and the fields of its entry. A move of a field leaves a free number free. Where a move may change
 //! who raises whom, the partition's stored priorities are computed again.
 
-ghost use Rattle.std.specs.Prelude.{◌≡◌, ◌<◌, length, Some};
-ghost use Rattle.ptk_words.specs.Pools.{least_free};
+ghost use Rattle.std.specs.Prelude.{◌≡◌, ◌<◌, false, length, Some, None, option_and_then};
+ghost use Rattle.ptk_words.specs.Pools.{least_free, is_in};
 ghost use Rattle.ptk_words.specs.Threads.{left_at_end, left_at_detach};
 ghost use Rattle.ptk_words_model.specs.State.{with_locks};
+ghost use Rattle.ptk_words_model.specs.Priority.{thread_at};
 ghost use Rattle.ptk_words_model.specs.Schedule.{with_thread, with_used};
 ghost use Rattle.ptk_words_model.specs.Unwinding.{without_thread};
 ghost use Rattle.ptk_words_model.specs.Withdrawal.{without_joiner};
@@ -26,20 +27,21 @@ impl Pools {
         requires free { least_free (part_at p self.old).threads ≡ Some t }
         ensures { self.new ≡ put_part p (with_locks (with_number t thread) (part_at p self.old)) self.old }
     {
-        self.threads.create(p, thread);
-        follow_wait(&mut self.deadlines, &self.threads, p, t);
-        self.mutexes.refresh(&mut self.threads, p);
+        self.roster.create(p, thread);
+        follow_wait(&mut self.deadlines, &self.roster, p, t);
+        self.mutexes.refresh(&mut self.roster, p);
     }
 
-    /// The number becomes free; a free number stays free.
+    /// The number of a thread that is not in the line becomes free; a free number stays free.
     #[tactic(auto, using(crate::proofs::Parted::parted, crate::proofs::Stored::refreshed, crate::proofs::Timed::followed))]
     pub fn free(&mut self, p: PartId, t: ThreadNo)
         requires partition { p < length self.old.limits }
+        requires out { is_in t (part_at p self.old).line ≡ false }
         ensures { self.new ≡ put_part p (with_locks (without_thread t) (part_at p self.old)) self.old }
     {
-        self.threads.free(p, t);
-        follow_wait(&mut self.deadlines, &self.threads, p, t);
-        self.mutexes.refresh(&mut self.threads, p);
+        self.roster.free(p, t);
+        follow_wait(&mut self.deadlines, &self.roster, p, t);
+        self.mutexes.refresh(&mut self.roster, p);
     }
 
     /// The thread has these registers.
@@ -48,7 +50,7 @@ impl Pools {
         requires partition { p < length self.old.limits }
         ensures { self.new ≡ put_part p (with_cpu t cpu (part_at p self.old)) self.old }
     {
-        self.threads.set_cpu(p, t, cpu);
+        self.roster.set_cpu(p, t, cpu);
     }
 
     /// The thread has this policy (XSH 2.8.4).
@@ -57,7 +59,7 @@ impl Pools {
         requires partition { p < length self.old.limits }
         ensures { self.new ≡ put_part p (with_locks (with_thread t (with_policy policy)) (part_at p self.old)) self.old }
     {
-        self.threads.set_policy(p, t, policy);
+        self.roster.set_policy(p, t, policy);
     }
 
     /// The thread has this assigned priority (XSH 2.8.4).
@@ -67,8 +69,7 @@ impl Pools {
         requires locked { AreLocked (part_at p self.old).locks }
         ensures { self.new ≡ put_part p (with_locks (with_thread t (with_priority priority)) (part_at p self.old)) self.old }
     {
-        self.mutexes
-            .assign(&self.line, &mut self.threads, p, t, priority);
+        self.mutexes.assign(&mut self.roster, p, t, priority);
     }
 
     /// The thread has used so many ticks of its interval (XSH 2.8.4, SCHED_RR).
@@ -77,7 +78,7 @@ impl Pools {
         requires partition { p < length self.old.limits }
         ensures { self.new ≡ put_part p (with_used t used (part_at p self.old)) self.old }
     {
-        self.threads.set_used(p, t, used);
+        self.roster.set_used(p, t, used);
     }
 
     /// The thread waits for this, or for nothing (XSH 2.8.4).
@@ -86,14 +87,14 @@ impl Pools {
         requires partition { p < length self.old.limits }
         ensures { self.new ≡ put_part p (with_locks (with_thread t (with_wait wait)) (part_at p self.old)) self.old }
     {
-        let had_mutex = is_for_mutex(&self.threads.wait(p, t));
+        let had_mutex = is_for_mutex(&self.roster.threads().wait(p, t));
         let has_mutex = is_for_mutex(&wait);
-        self.threads.set_wait(p, t, wait);
-        follow_wait(&mut self.deadlines, &self.threads, p, t);
+        self.roster.set_wait(p, t, wait);
+        follow_wait(&mut self.deadlines, &self.roster, p, t);
         if !had_mutex && !has_mutex {
             return;
         }
-        self.mutexes.refresh(&mut self.threads, p);
+        self.mutexes.refresh(&mut self.roster, p);
     }
 
     /// The thread is this far (pthread_exit).
@@ -102,7 +103,7 @@ impl Pools {
         requires partition { p < length self.old.limits }
         ensures { self.new ≡ put_part p (with_locks (with_thread t (with_phase phase)) (part_at p self.old)) self.old }
     {
-        self.threads.set_phase(p, t, phase);
+        self.roster.set_phase(p, t, phase);
     }
 
     /// The thread has this result (pthread_exit).
@@ -111,7 +112,7 @@ impl Pools {
         requires partition { p < length self.old.limits }
         ensures { self.new ≡ put_part p (with_locks (with_thread t (with_result value)) (part_at p self.old)) self.old }
     {
-        self.threads.set_result(p, t, value);
+        self.roster.set_result(p, t, value);
     }
 
     /// The thread's end is waited for by this one (pthread_join).
@@ -120,7 +121,7 @@ impl Pools {
         requires partition { p < length self.old.limits }
         ensures { self.new ≡ put_part p (with_locks (with_thread t (with_joiner (Some joiner))) (part_at p self.old)) self.old }
     {
-        self.threads.set_joiner(p, t, Some(joiner));
+        self.roster.set_joiner(p, t, Some(joiner));
     }
 
     /// Nobody waits for the end of the thread any more (pthread_join).
@@ -129,28 +130,30 @@ impl Pools {
         requires partition { p < length self.old.limits }
         ensures { self.new ≡ put_part p (with_locks (without_joiner u) (part_at p self.old)) self.old }
     {
-        self.threads.set_joiner(p, u, None);
+        self.roster.set_joiner(p, u, None);
     }
 
-    /// The thread is detached: its number is free where it has ended (pthread_detach).
+    /// The thread is detached: its number is free where it has ended, and then it is not in the line (pthread_detach).
     #[tactic(auto, using(crate::proofs::Parted::parted, crate::proofs::Stored::refreshed, crate::proofs::Timed::followed))]
     pub fn detach(&mut self, p: PartId, t: ThreadNo)
         requires partition { p < length self.old.limits }
+        requires out { option_and_then left_at_detach (thread_at (part_at p self.old).locks t) ≡ None → is_in t (part_at p self.old).line ≡ false }
         ensures { self.new ≡ put_part p (with_locks (with_left t left_at_detach) (part_at p self.old)) self.old }
     {
-        self.threads.detach(p, t);
-        follow_wait(&mut self.deadlines, &self.threads, p, t);
-        self.mutexes.refresh(&mut self.threads, p);
+        self.roster.detach(p, t);
+        follow_wait(&mut self.deadlines, &self.roster, p, t);
+        self.mutexes.refresh(&mut self.roster, p);
     }
 
-    /// The thread has ended: its number stays with the result until a join or a detachment, or is free (pthread_exit).
+    /// The thread, which is not in the line, has ended: its number stays with the result until a join or a detachment, or is free (pthread_exit).
     #[tactic(auto, using(crate::proofs::Parted::parted, crate::proofs::Stored::refreshed, crate::proofs::Timed::followed))]
     pub fn end(&mut self, p: PartId, t: ThreadNo)
         requires partition { p < length self.old.limits }
+        requires out { is_in t (part_at p self.old).line ≡ false }
         ensures { self.new ≡ put_part p (with_locks (with_left t left_at_end) (part_at p self.old)) self.old }
     {
-        self.threads.end(p, t);
-        follow_wait(&mut self.deadlines, &self.threads, p, t);
-        self.mutexes.refresh(&mut self.threads, p);
+        self.roster.end(p, t);
+        follow_wait(&mut self.deadlines, &self.roster, p, t);
+        self.mutexes.refresh(&mut self.roster, p);
     }
 }

@@ -18,6 +18,8 @@ use Rattle.ptk_words_well.specs.Well.{IsWell}
 use Rattle.ptk_words_well.proofs.Synced.{running_syncs}
 use Rattle.ptk_words_well.proofs.MutexCalls.{well_unlock}
 use Rattle.ptk_mutex.specs.Tables.{AreLocked, MayWait}
+use Rattle.ptk_words_locks.specs.Conditions.{IsNoWaiter}
+use Rattle.ptk_gate_pools.proofs.NoWaiters.{runner_apart}
 use Rattle.ptk_gate_moves.specs.Moves.{deadline_asked}
 use Rattle.ptk_gate_moves.proofs.Locked.{locked_of, may_wait}
 use Rattle.ptk_gate_sync.specs.Waits.{lock_by, is_waiting, timedlock_named, timed_wait_named, wait_until, wait_until_asked}
@@ -121,10 +123,14 @@ released_locked limits m s well = locked_of limits (with_locks (after_unlock m) 
 pub released_wait : (limits : Limits) (m t : ℕ) (s : Part) → IsWell limits s → s.running ≡ Some t → MayWait (after_unlock m s.locks) t
 released_wait limits m t s well runs = may_wait limits (with_locks (after_unlock m) s) t (well_unlock limits m s well) runs
 
+-- and is in no list of waiters
+pub released_free : (limits : Limits) (m t : ℕ) (s : Part) → IsWell limits s → s.running ≡ Some t → IsNoWaiter t (after_unlock m s.locks).mutexes s.conditions
+released_free limits m t s well runs = runner_apart limits t (with_locks (after_unlock m) s) (well_unlock limits m s well) runs
+
 -- and count it up, where it is still its own
 pub released_count : (limits : Limits) (m t : ℕ) (s : Part) → IsWell limits s → s.running ≡ Some t → owns t (mutex_at s.locks m) ≡ true
     → relock_move t (mutex_at (after_unlock m s.locks) m) ≡ Counts → count_of (mutex_at (after_unlock m s.locks) m) < COUNT_LIMIT
 released_count limits m t s well runs own =
     (room_unlock limits.interval t m (Some t) s.console.waiters s.syncs (used_of_owner t (mutex_at s.locks m) own) (running_syncs limits t s runs well)).room
 
-pub ruleset released = (released_locked, released_wait, released_count)
+pub ruleset released = (released_locked, released_wait, released_free, released_count)

@@ -1,6 +1,6 @@
 //! The mutex of the word that a call points to.
 
-ghost use Rattle.std.specs.Prelude.{◌≡◌, ◌<◌, ◌≤◌, true, length, is_some, Ok, Err, if◌then◌else◌};
+ghost use Rattle.std.specs.Prelude.{◌≡◌, ◌<◌, true, length, is_some, Ok, Err, if◌then◌else◌};
 ghost use Rattle.ptk_words.specs.Pools.{pool_get};
 ghost use Rattle.ptk_words.specs.declared.faults.Errno.TheVariants.{EINVAL};
 ghost use Rattle.ptk_words_model.specs.Calls.{is_pointer};
@@ -11,7 +11,6 @@ ghost use Rattle.ptk_gate_sync.specs.Named.{IsNamed, IsMutexOfWord};
 use crate::creation::{NewMutex, make};
 use ptk_gate_moves::is_pointer;
 use ptk_gate_pools::Pools;
-use ptk_mutex_slots::MutexSlot;
 use ptk_words::{Errno, MutexKind, MutexNo, PartId, Protocol, read_word};
 use ptk_words_model::Invocation;
 
@@ -48,7 +47,7 @@ pub(crate) fn mutex_of_word(pools: &mut Pools, p: PartId, pointer: u32) -> Resul
     let _parts = pools.parts();
     let word = read_word(pools.regions().part(p), pointer as usize);
     if word != 0 {
-        return known_mutex(pools.mutexes().part(p), word);
+        return known_mutex(pools, p, word);
     }
     let Some(number) = pools.first_free_mutex(p) else {
         return Err(Errno::ENOMEM);
@@ -63,21 +62,13 @@ pub(crate) fn mutex_of_word(pools: &mut Pools, p: PartId, pointer: u32) -> Resul
     Ok(number)
 }
 
-/// The mutex of a word that is the number of one in use, among a partition's places; else EINVAL (own choice).
-#[tactic(auto, using(ptk_threads::proofs::Slots::numbers))]
-fn known_mutex(places: &[MutexSlot], word: u32) -> Result<MutexNo, Errno>
-    requires few { length places.now ≤ 64 }
-    ensures { result ≡ (if is_some (pool_get places.now word) then Ok word else Err EINVAL) }
+/// The mutex of a word that is the number of one in use; else EINVAL (own choice).
+fn known_mutex(pools: &Pools, p: PartId, word: u32) -> Result<MutexNo, Errno>
+    requires partition { p < length pools.now.limits }
+    ensures { result ≡ (if is_some (pool_get (part_at p pools.now).mutexes word) then Ok word else Err EINVAL) }
 {
-    if word == 0 {
-        return Err(Errno::EINVAL);
+    match pools.mutex_numbered(p, word) {
+        Some(m) => Ok(m),
+        None => Err(Errno::EINVAL),
     }
-    let index = word as usize - 1;
-    if index >= places.len() {
-        return Err(Errno::EINVAL);
-    }
-    if places[index].is_free() {
-        return Err(Errno::EINVAL);
-    }
-    Ok(MutexNo::new(word as u8))
 }

@@ -16,6 +16,8 @@ use Rattle.ptk_words_well.proofs.Whole.{lined_of}
 use Rattle.ptk_words_well.proofs.Waits.{waits_not_ready}
 use Rattle.ptk_gate_pools.specs.Kept.{Kept, AreParts, part_at, put_part, limits_at}
 use Rattle.ptk_gate_pools.specs.Moves.{stopped}
+use Rattle.ptk_words_locks.specs.Conditions.{IsNoWaiter}
+use Rattle.ptk_gate_pools.proofs.NoWaiters.{joiner_apart}
 use Rattle.ptk_gate_pools.proofs.Parted.{part_at-put}
 use Rattle.ptk_gate_threads.proofs.Owners.{well_abandonment, release_same}
 use Rattle.ptk_gate_threads.proofs.Leaving.{moved_twice}
@@ -41,6 +43,13 @@ joiner_fresh_at limits t s (Some u) e well =
 joiner_fresh : (limits : Limits) (t : ℕ) (s : Part) → IsWell limits s → IfSome (joiner_of (thread_at s.locks t)) (λ u. is_in u s.line ≡ false)
 joiner_fresh limits t s well = joiner_fresh_at limits t s (joiner_of (thread_at s.locks t)) refl well
 
+joiner_free_at : (limits : Limits) (t : ℕ) (s : Part) (o : Option ℕ) → joiner_of (thread_at s.locks t) ≡ o → IsWell limits s → IfSome o (λ u. IsNoWaiter u s.mutexes s.conditions)
+joiner_free_at limits t s None e well = tt
+joiner_free_at limits t s (Some u) e well = joiner_apart limits u t s well (well.joiners_wait u t e)
+
+joiner_free : (limits : Limits) (t : ℕ) (s : Part) → IsWell limits s → IfSome (joiner_of (thread_at s.locks t)) (λ u. IsNoWaiter u s.mutexes s.conditions)
+joiner_free limits t s well = joiner_free_at limits t s (joiner_of (thread_at s.locks t)) refl well
+
 -- ---- the end
 
 -- the end of a thread that has given up its mutexes
@@ -48,7 +57,7 @@ end_is : (t : ℕ) (s : Part) → after_last_end (stopped (with_locks (after_rel
 end_is t s = ap (λ (locks : Locks). after_last_end (stopped (with_locks (λ _. locks) s))) (release_same t s.locks)
 
 -- what a thread leaves that gives up its mutexes is whole
-left_well : (n p t : ℕ) (kept mid : Kept) → AreParts n kept → p < n → IsWell (limits_at p kept) (part_at p kept) → mid ≡ put_part p (with_locks (after_owner_end t) (part_at p kept)) kept → IsWell (limits_at p kept) (part_at p mid)
+pub left_well : (n p t : ℕ) (kept mid : Kept) → AreParts n kept → p < n → IsWell (limits_at p kept) (part_at p kept) → mid ≡ put_part p (with_locks (after_owner_end t) (part_at p kept)) kept → IsWell (limits_at p kept) (part_at p mid)
 left_well n p t kept mid parts lt well e =
     let after : Part = with_locks (after_owner_end t) (part_at p kept) in
     let at : part_at p mid ≡ after = ap (part_at p) e ∙ part_at-put n p after kept parts lt in
@@ -61,6 +70,10 @@ left_in_use n p t kept mid parts lt well e = joiner_in_use (limits_at p kept) t 
 pub left_fresh : (n p t : ℕ) (kept mid : Kept) → AreParts n kept → p < n → IsWell (limits_at p kept) (part_at p kept) → mid ≡ put_part p (with_locks (after_owner_end t) (part_at p kept)) kept
     → IfSome (joiner_of (thread_at (part_at p mid).locks t)) (λ u. is_in u (part_at p mid).line ≡ false)
 left_fresh n p t kept mid parts lt well e = joiner_fresh (limits_at p kept) t (part_at p mid) (left_well n p t kept mid parts lt well e)
+
+pub left_free : (n p t : ℕ) (kept mid : Kept) → AreParts n kept → p < n → IsWell (limits_at p kept) (part_at p kept) → mid ≡ put_part p (with_locks (after_owner_end t) (part_at p kept)) kept
+    → IfSome (joiner_of (thread_at (part_at p mid).locks t)) (λ u. IsNoWaiter u (part_at p mid).mutexes (part_at p mid).conditions)
+left_free n p t kept mid parts lt well e = joiner_free (limits_at p kept) t (part_at p mid) (left_well n p t kept mid parts lt well e)
 
 -- a thread gives up its mutexes, and then ends
 pub ended : (n p t : ℕ) (kept mid new : Kept) → AreParts n kept → p < n → mid ≡ put_part p (with_locks (after_owner_end t) (part_at p kept)) kept

@@ -4,3 +4,4 @@ pub mod Owners
 pub mod Leaving
 pub mod Endings
 pub mod Handlers
+pub mod Absent

@@ -7,6 +7,7 @@ ghost use Rattle.ptk_words_model.specs.Schedule.{at_head, after_dispatch, after_
 ghost use Rattle.ptk_words_well.specs.Well.{IsWell};
 ghost use Rattle.ptk_words.specs.Pools.{is_in};
 ghost use Rattle.ptk_gate_pools.specs.Kept.{part_at, put_part, limits_at};
+ghost use Rattle.ptk_words_locks.specs.Conditions.{IsNoWaiter};
 
 use ptk_gate_pools::Pools;
 use ptk_words::{PartId, ThreadNo};
@@ -28,6 +29,7 @@ fn preempt(pools: &mut Pools, p: PartId, running: ThreadNo, t: ThreadNo)
     requires partition { p < length pools.old.limits }
     requires in_use { IsSome (thread_at (part_at p pools.old).locks running) }
     requires fresh { is_in running (part_at p pools.old).line ≡ false }
+    requires free { IsNoWaiter running (part_at p pools.old).mutexes (part_at p pools.old).conditions }
     ensures { pools.new ≡ put_part p (after_dispatch t (with_locks (at_head running) (part_at p pools.old))) pools.old }
 {
     let _parts = pools.parts();
@@ -43,6 +45,7 @@ fn choose_over(pools: &mut Pools, p: PartId, running: ThreadNo, t: ThreadNo)
     requires in_use { IsSome (thread_at (part_at p pools.old).locks running) }
     requires next_in_use { IsSome (thread_at (part_at p pools.old).locks t) }
     requires fresh { is_in running (part_at p pools.old).line ≡ false }
+    requires free { IsNoWaiter running (part_at p pools.old).mutexes (part_at p pools.old).conditions }
     ensures { pools.new ≡ put_part p (after_choice_between (Some running) (Some t) (part_at p pools.old)) pools.old }
 {
     if pools.effective_priority(p, running) < pools.effective_priority(p, t) {

@@ -1,6 +1,6 @@
 //! The end of a thread.
 
-ghost use Rattle.std.specs.Prelude.{◌≡◌, ◌<◌, false, length, Some, IsSome, IfSome};
+ghost use Rattle.std.specs.Prelude.{◌≡◌, ◌≢◌, ◌<◌, false, length, Some, IsSome, IfSome};
 ghost use Rattle.std.specs.List.{list_any};
 ghost use Rattle.ptk_words_model.specs.State.{with_locks};
 ghost use Rattle.ptk_words_model.specs.Priority.{thread_at};
@@ -10,6 +10,7 @@ ghost use Rattle.ptk_words_well.specs.Well.{IsWell};
 ghost use Rattle.ptk_words.specs.Pools.{is_in};
 ghost use Rattle.ptk_threads_slots.specs.Links.{threads_of};
 ghost use Rattle.ptk_gate_pools.specs.Kept.{part_at, put_part, limits_at};
+ghost use Rattle.ptk_words_locks.specs.Conditions.{IsNoWaiter};
 ghost use Rattle.ptk_gate_pools.specs.Moves.{stopped};
 
 use ptk_gate_moves::{halt, is_ended, wake};
@@ -17,13 +18,14 @@ use ptk_gate_pools::Pools;
 use ptk_threads::Slot;
 use ptk_words::{PartId, Status, Thread, ThreadNo};
 
-/// The thread has ended: its robust mutexes go to their heirs and its others are nobody's, then its joiner is woken,
+/// The running thread has ended: its robust mutexes go to their heirs and its others are nobody's, then its joiner is woken,
 /// its number free or kept, and the last thread's end exits the partition with 0 (pthread_exit,
 /// pthread_mutexattr_setrobust).
 #[tactic(auto, using(ptk_gate_moves::proofs::Locked::locked))]
 pub(crate) fn end(pools: &mut Pools, p: PartId, t: ThreadNo)
     requires partition { p < length pools.old.limits }
     requires well { IsWell (limits_at p pools.old) (part_at p pools.old) }
+    requires runs { (part_at p pools.old).running ≡ Some t }
     ensures { pools.new ≡ put_part p (after_end t (part_at p pools.old)) pools.old }
 {
     let _parts = pools.parts();
@@ -38,6 +40,9 @@ fn end_without_mutexes(pools: &mut Pools, p: PartId, t: ThreadNo)
     requires partition { p < length pools.old.limits }
     requires in_use { IfSome (joiner_of (thread_at (part_at p pools.old).locks t)) (λ u. IsSome (thread_at (part_at p pools.old).locks u)) }
     requires fresh { IfSome (joiner_of (thread_at (part_at p pools.old).locks t)) (λ u. is_in u (part_at p pools.old).line ≡ false) }
+    requires free { IfSome (joiner_of (thread_at (part_at p pools.old).locks t)) (λ u. IsNoWaiter u (part_at p pools.old).mutexes (part_at p pools.old).conditions) }
+    requires apart { IfSome (joiner_of (thread_at (part_at p pools.old).locks t)) (λ u. u ≢ t) }
+    requires out { is_in t (part_at p pools.old).line ≡ false }
     ensures { pools.new ≡ put_part p (after_last_end (stopped (with_locks (after_release t (thread_at (part_at p pools.old).locks t)) (part_at p pools.old)))) pools.old }
 {
     let _parts = pools.parts();
@@ -52,6 +57,9 @@ fn release(pools: &mut Pools, p: PartId, t: ThreadNo)
     requires partition { p < length pools.old.limits }
     requires in_use { IfSome (joiner_of (thread_at (part_at p pools.old).locks t)) (λ u. IsSome (thread_at (part_at p pools.old).locks u)) }
     requires fresh { IfSome (joiner_of (thread_at (part_at p pools.old).locks t)) (λ u. is_in u (part_at p pools.old).line ≡ false) }
+    requires free { IfSome (joiner_of (thread_at (part_at p pools.old).locks t)) (λ u. IsNoWaiter u (part_at p pools.old).mutexes (part_at p pools.old).conditions) }
+    requires apart { IfSome (joiner_of (thread_at (part_at p pools.old).locks t)) (λ u. u ≢ t) }
+    requires out { is_in t (part_at p pools.old).line ≡ false }
     ensures { pools.new ≡ put_part p (with_locks (after_release t (thread_at (part_at p pools.old).locks t)) (part_at p pools.old)) pools.old }
 {
     let _parts = pools.parts();
@@ -70,6 +78,9 @@ fn release_thread(pools: &mut Pools, p: PartId, t: ThreadNo, thread: Thread)
     requires named { thread_at (part_at p pools.old).locks t ≡ Some thread }
     requires in_use { IfSome thread.joiner (λ u. IsSome (thread_at (part_at p pools.old).locks u)) }
     requires fresh { IfSome thread.joiner (λ u. is_in u (part_at p pools.old).line ≡ false) }
+    requires free { IfSome thread.joiner (λ u. IsNoWaiter u (part_at p pools.old).mutexes (part_at p pools.old).conditions) }
+    requires apart { IfSome thread.joiner (λ u. u ≢ t) }
+    requires out { is_in t (part_at p pools.old).line ≡ false }
     ensures { pools.new ≡ put_part p (with_locks (after_release t (Some thread)) (part_at p pools.old)) pools.old }
 {
     let _parts = pools.parts();
@@ -83,6 +94,7 @@ fn tell_joiner(pools: &mut Pools, p: PartId, joiner: Option<ThreadNo>, value: u3
     requires partition { p < length pools.old.limits }
     requires in_use { IfSome joiner (λ u. IsSome (thread_at (part_at p pools.old).locks u)) }
     requires fresh { IfSome joiner (λ u. is_in u (part_at p pools.old).line ≡ false) }
+    requires free { IfSome joiner (λ u. IsNoWaiter u (part_at p pools.old).mutexes (part_at p pools.old).conditions) }
     ensures { pools.new ≡ put_part p (with_locks (after_join_by joiner value) (part_at p pools.old)) pools.old }
 {
     match joiner {

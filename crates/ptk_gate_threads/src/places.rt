@@ -1,6 +1,6 @@
 //! A thread's place after a change of its scheduling.
 
-ghost use Rattle.std.specs.Prelude.{◌≡◌, ◌<◌, false, length, Some, IsSome};
+ghost use Rattle.std.specs.Prelude.{◌≡◌, ◌<◌, true, false, length, Some, IsSome};
 ghost use Rattle.ptk_words_model.specs.State.{with_locks};
 ghost use Rattle.ptk_words_model.specs.Schedule.{at_tail, at_head, with_thread};
 ghost use Rattle.ptk_words_model.specs.Priority.{thread_at};
@@ -9,6 +9,7 @@ ghost use Rattle.ptk_words_well.specs.Well.{IsWell};
 ghost use Rattle.ptk_words.specs.Pools.{is_in};
 ghost use Rattle.ptk_mutex.specs.Tables.{AreLocked};
 ghost use Rattle.ptk_gate_pools.specs.Kept.{part_at, put_part, limits_at};
+ghost use Rattle.ptk_words_locks.specs.Conditions.{IsNoWaiter};
 ghost use Rattle.ptk_gate_moves.specs.Moves.{with_scheduling};
 
 use ptk_gate_moves::{end_turn, push_tail, step_back, succeed};
@@ -22,6 +23,8 @@ pub(crate) fn place_at_tail(pools: &mut Pools, p: PartId, t: ThreadNo)
     requires partition { p < length pools.old.limits }
     requires in_use { IsSome (thread_at (part_at p pools.old).locks t) }
     requires fresh { (part_at p pools.old).running ≡ Some t → is_in t (part_at p pools.old).line ≡ false }
+    requires free { (part_at p pools.old).running ≡ Some t → IsNoWaiter t (part_at p pools.old).mutexes (part_at p pools.old).conditions }
+    requires lined_free { is_in t (part_at p pools.old).line ≡ true → IsNoWaiter t (part_at p pools.old).mutexes (part_at p pools.old).conditions }
     ensures { pools.new ≡ put_part p (after_placing at_tail t (part_at p pools.old)) pools.old }
 {
     let _parts = pools.parts();
@@ -39,6 +42,8 @@ pub(crate) fn place_at_head(pools: &mut Pools, p: PartId, t: ThreadNo)
     requires partition { p < length pools.old.limits }
     requires in_use { IsSome (thread_at (part_at p pools.old).locks t) }
     requires fresh { (part_at p pools.old).running ≡ Some t → is_in t (part_at p pools.old).line ≡ false }
+    requires free { (part_at p pools.old).running ≡ Some t → IsNoWaiter t (part_at p pools.old).mutexes (part_at p pools.old).conditions }
+    requires lined_free { is_in t (part_at p pools.old).line ≡ true → IsNoWaiter t (part_at p pools.old).mutexes (part_at p pools.old).conditions }
     ensures { pools.new ≡ put_part p (after_placing at_head t (part_at p pools.old)) pools.old }
 {
     let _parts = pools.parts();
@@ -71,6 +76,8 @@ pub(crate) fn place_last(pools: &mut Pools, p: PartId, t: ThreadNo)
     requires partition { p < length pools.old.limits }
     requires in_use { IsSome (thread_at (part_at p pools.old).locks t) }
     requires fresh { (part_at p pools.old).running ≡ Some t → is_in t (part_at p pools.old).line ≡ false }
+    requires free { (part_at p pools.old).running ≡ Some t → IsNoWaiter t (part_at p pools.old).mutexes (part_at p pools.old).conditions }
+    requires lined_free { is_in t (part_at p pools.old).line ≡ true → IsNoWaiter t (part_at p pools.old).mutexes (part_at p pools.old).conditions }
     ensures { pools.new ≡ put_part p (after_placing_at_tail t (part_at p pools.old)) pools.old }
 {
     if !pools.owns_raising(p, t) {
@@ -91,6 +98,8 @@ pub(crate) fn reschedule(
     requires partition { p < length pools.old.limits }
     requires in_use { IsSome (thread_at (part_at p pools.old).locks t) }
     requires fresh { (part_at p pools.old).running ≡ Some t → is_in t (part_at p pools.old).line ≡ false }
+    requires free { (part_at p pools.old).running ≡ Some t → IsNoWaiter t (part_at p pools.old).mutexes (part_at p pools.old).conditions }
+    requires lined_free { is_in t (part_at p pools.old).line ≡ true → IsNoWaiter t (part_at p pools.old).mutexes (part_at p pools.old).conditions }
     requires locked { AreLocked (part_at p pools.old).locks }
     ensures { pools.new ≡ put_part p (after_placing_at_tail t (with_locks (with_thread t (with_scheduling policy priority)) (part_at p pools.old))) pools.old }
 {

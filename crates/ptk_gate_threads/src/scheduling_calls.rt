@@ -1,6 +1,6 @@
 //! Calls 16 and 18: the policy and the priority of a thread.
 
-ghost use Rattle.std.specs.Prelude.{◌≡◌, ◌<◌, false, length, Some, IsSome, IfOk};
+ghost use Rattle.std.specs.Prelude.{◌≡◌, ◌<◌, true, false, length, Some, IsSome, IfOk};
 ghost use Rattle.ptk_words_model.specs.State.{with_locks};
 ghost use Rattle.ptk_words_model.specs.Schedule.{with_thread};
 ghost use Rattle.ptk_words_model.specs.Priority.{thread_at};
@@ -11,6 +11,7 @@ ghost use Rattle.ptk_words_well.specs.Well.{IsWell};
 ghost use Rattle.ptk_words.specs.Pools.{is_in};
 ghost use Rattle.ptk_mutex.specs.Tables.{AreLocked};
 ghost use Rattle.ptk_gate_pools.specs.Kept.{part_at, put_part, limits_at};
+ghost use Rattle.ptk_words_locks.specs.Conditions.{IsNoWaiter};
 ghost use Rattle.ptk_gate_moves.specs.Moves.{with_scheduling};
 
 use crate::attributes::named_policy;
@@ -123,6 +124,8 @@ fn change_priority(pools: &mut Pools, p: PartId, t: ThreadNo, old: Priority, new
     requires partition { p < length pools.old.limits }
     requires in_use { IsSome (thread_at (part_at p pools.old).locks t) }
     requires fresh { (part_at p pools.old).running ≡ Some t → is_in t (part_at p pools.old).line ≡ false }
+    requires free { (part_at p pools.old).running ≡ Some t → IsNoWaiter t (part_at p pools.old).mutexes (part_at p pools.old).conditions }
+    requires lined_free { is_in t (part_at p pools.old).line ≡ true → IsNoWaiter t (part_at p pools.old).mutexes (part_at p pools.old).conditions }
     requires locked { AreLocked (part_at p pools.old).locks }
     ensures { pools.new ≡ put_part p (after_priority_change old new t (with_locks (with_thread t (with_priority new)) (part_at p pools.old))) pools.old }
 {
@@ -138,6 +141,8 @@ fn place_anew(pools: &mut Pools, p: PartId, t: ThreadNo, old: Priority, new: Pri
     requires partition { p < length pools.old.limits }
     requires in_use { IsSome (thread_at (part_at p pools.old).locks t) }
     requires fresh { (part_at p pools.old).running ≡ Some t → is_in t (part_at p pools.old).line ≡ false }
+    requires free { (part_at p pools.old).running ≡ Some t → IsNoWaiter t (part_at p pools.old).mutexes (part_at p pools.old).conditions }
+    requires lined_free { is_in t (part_at p pools.old).line ≡ true → IsNoWaiter t (part_at p pools.old).mutexes (part_at p pools.old).conditions }
     ensures { pools.new ≡ put_part p (after_priority_change old new t (part_at p pools.old)) pools.old }
 {
     if old.level() < new.level() {

@@ -3,7 +3,8 @@
 ghost use Rattle.std.specs.Prelude.{◌≡◌, ◌<◌, length};
 ghost use Rattle.ptk_words_model.specs.ThreadCalls.{getschedparam};
 ghost use Rattle.ptk_words_model.specs.ThreadCalls as calls;
-ghost use Rattle.ptk_gate_pools.specs.Kept.{part_at, put_part};
+ghost use Rattle.ptk_words_well.specs.Well.{IsWell};
+ghost use Rattle.ptk_gate_pools.specs.Kept.{part_at, put_part, limits_at};
 
 use ptk_gate_moves::{is_taken, named_thread, policy_number, refuse, succeed, succeed_with_two};
 use ptk_gate_pools::Pools;
@@ -32,6 +33,7 @@ pub fn getschedparam(pools: &mut Pools, p: PartId, i: Invocation) -> Reply
 #[tactic(auto, using(ptk_gate_pools::proofs::Parted::parted))]
 pub fn detach(pools: &mut Pools, p: PartId, i: Invocation) -> Reply
     requires partition { p < length pools.old.limits }
+    requires well { IsWell (limits_at p pools.old) (part_at p pools.old) }
     ensures told { result ≡ (calls.detach i (part_at p pools.old)).reply }
     ensures moved { pools.new ≡ put_part p (calls.detach i (part_at p pools.old)).part pools.old }
 {

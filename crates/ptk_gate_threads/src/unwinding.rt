@@ -12,12 +12,13 @@ use ptk_gate_pools::Pools;
 use ptk_keys::DestructorCall;
 use ptk_words::{A0, PartId, Phase, Status, Thread, ThreadNo};
 
-/// A step at the return gate: a normal thread's start routine has returned, an unwinding one goes on with its
+/// A step of the running thread at the return gate: a normal thread's start routine has returned, an unwinding one goes on with its
 /// unwinding, and one that has ended takes no step (pthread_exit, XSH 2.9.5.3).
 #[tactic(auto, using(ptk_gate_pools::proofs::Parted::parted))]
 pub fn step_at_gate(pools: &mut Pools, p: PartId, t: ThreadNo, thread: Thread)
     requires partition { p < length pools.old.limits }
     requires well { IsWell (limits_at p pools.old) (part_at p pools.old) }
+    requires runs { (part_at p pools.old).running ≡ Some t }
     ensures { pools.new ≡ put_part p (after_gate_step thread.phase t thread (part_at p pools.old)) pools.old }
 {
     match thread.phase {
@@ -41,12 +42,13 @@ fn return_from(pools: &mut Pools, p: PartId, t: ThreadNo, thread: Thread)
     }
 }
 
-/// The next move of an unwinding thread: the handler pushed last is taken off and called, else its next destructor is
+/// The next move of the running thread, which unwinds: the handler pushed last is taken off and called, else its next destructor is
 /// called, else it ends (XSH 2.9.5.3).
 #[tactic(auto, using(ptk_gate_pools::proofs::Parted::parted, crate::proofs::Handlers::handler_called))]
 fn unwind_further(pools: &mut Pools, p: PartId, t: ThreadNo)
     requires partition { p < length pools.old.limits }
     requires well { IsWell (limits_at p pools.old) (part_at p pools.old) }
+    requires runs { (part_at p pools.old).running ≡ Some t }
     ensures { pools.new ≡ put_part p (after_unwinding_move t (cleanups_of (part_at p pools.old) t) (part_at p pools.old)) pools.old }
 {
     let _parts = pools.parts();
@@ -56,12 +58,13 @@ fn unwind_further(pools: &mut Pools, p: PartId, t: ThreadNo)
     }
 }
 
-/// The next move of an unwinding thread without handlers: its next destructor is called, else it ends
+/// The next move of the running thread, which unwinds and has no handlers: its next destructor is called, else it ends
 /// (pthread_key_create, pthread_exit).
 #[tactic(auto, using(ptk_gate_pools::proofs::Parted::parted))]
 fn call_destructor_or_end(pools: &mut Pools, p: PartId, t: ThreadNo)
     requires partition { p < length pools.old.limits }
     requires well { IsWell (limits_at p pools.old) (part_at p pools.old) }
+    requires runs { (part_at p pools.old).running ≡ Some t }
     ensures { pools.new ≡ put_part p (after_destructor_or_end t (next_destructor (part_at p pools.old).keys t) (part_at p pools.old)) pools.old }
 {
     let _parts = pools.parts();

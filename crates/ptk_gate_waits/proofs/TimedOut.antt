@@ -1,21 +1,24 @@
 -- The thread whose deadline comes: a waiter of a mutex, or a sleeper, whose waking changes no effective priority.
 use Rattle.std.proofs.Common.{◌≡◌, ℕ, List, [], ◌∷◌, refl, sym, ◌∙◌, ap}
-use Rattle.std.specs.Prelude.{true, Option, Some, None, IsSome}
+use Rattle.std.specs.Prelude.{Bool, true, false, Option, Some, None, IsSome}
 use Rattle.std.proofs.Math.ListN.{set}
 use Rattle.std.proofs.lemmas.Bool.{false≢true}
 use Rattle.std.proofs.lemmas.List.{set-get_or}
-use Rattle.ptk_words.specs.Pools.{pool_get, pool_changed}
+use Rattle.ptk_words.specs.Pools.{pool_get, pool_changed, is_in}
 use Rattle.ptk_words.specs.declared.threads.Thread.{Thread}
 use Rattle.ptk_words.specs.declared.threads.Wait.{Wait}
 use Rattle.ptk_words.specs.declared.threads.Wait.TheVariants.{InputWait, SleepWait, JoinWait, MutexWait, ConditionWait, RelockWait}
 use Rattle.ptk_words_parted.specs.Parts.{part_of}
-use Rattle.ptk_words_model.specs.State.{Mutex, Condition, Syncs}
+use Rattle.ptk_words_model.specs.State.{Mutex, Condition, Locks, Syncs}
 use Rattle.ptk_words_model.specs.Priority.{thread_at, awaited, mutex_of_wait, effective_priorities}
 use Rattle.ptk_words_model.specs.Schedule.{woken_with}
-use Rattle.ptk_words_model.specs.Mutex.{wait_of}
+use Rattle.ptk_words_model.specs.Mutex.{mutex_at, wait_of, waiters_of}
+use Rattle.ptk_words_model.specs.Condition.{condition_waiters}
+use Rattle.ptk_words_locks.specs.Conditions.{condition_of_wait, IsNoWaiter}
+use Rattle.ptk_words_locks.proofs.Threads.{none_awaits}
 use Rattle.ptk_threads.specs.Table.{ThreadTable, thread_in, with_changed}
-use Rattle.ptk_mutex.specs.Tables.{with_threads, AreReady, IsWaiter}
-use Rattle.ptk_cond.specs.Tables.{syncs_at}
+use Rattle.ptk_mutex.specs.Tables.{with_threads, AreLocked, AreReady, IsWaiter}
+use Rattle.ptk_cond.specs.Tables.{syncs_at, AreSynced, AreWaiting}
 use Rattle.ptk_gate_waits.specs.Timeouts.{after_sync_timeout, IsBlocked, is_sleep}
 use Rattle.ptk_gate_waits.proofs.Priorities.{priorities_woken}
 
@@ -30,7 +33,9 @@ waits_used (Some thread) wait e = refl
 
 -- a thread in a wait for a mutex is a waiter of it
 pub waiter_of : (t m : ℕ) (deadline : Option ℕ) (syncs : Syncs) → IsBlocked syncs t → wait_of (thread_at syncs.locks t) ≡ Some (MutexWait m deadline) → IsWaiter syncs.locks m t
-waiter_of t m deadline syncs blocked e = record { waits = awaits_by_wait (thread_at syncs.locks t) ∙ ap mutex_of_wait e; out = blocked.out (MutexWait m deadline) e }
+waiter_of t m deadline syncs blocked e =
+    let waits : awaited (thread_at syncs.locks t) ≡ Some m = awaits_by_wait (thread_at syncs.locks t) ∙ ap mutex_of_wait e in
+    record { waits = waits; out = blocked.out (MutexWait m deadline) e; inside = blocked.queued m waits }
 
 -- a sleeper is woken: the stored priorities are those that it leaves
 pub slept : (p t deadline : ℕ) (table new : ThreadTable) (lines : List (List ℕ)) (mutexes : List (List (Option Mutex))) (conditions : List (List (Option Condition))) → AreReady p table lines mutexes
@@ -58,3 +63,27 @@ pub slept_is : (p t : ℕ) (table new : ThreadTable) (lines : List (List ℕ)) (
 slept_is p t table new lines mutexes conditions ready sleeps e =
     let asleep = sleep_of (wait_of (thread_in table p t)) sleeps in
     slept p t asleep.0 table new lines mutexes conditions ready asleep.1 e ∙ ap (λ (w : Option Wait). with_threads p (after_sync_timeout t w (syncs_at p table lines mutexes conditions)).locks table) (sym asleep.1)
+
+-- a sleeper is among no waiters
+asleep_of_mutex : (t m deadline : ℕ) (locks : Locks) → wait_of (thread_at locks t) ≡ Some (SleepWait deadline) → AreLocked locks → (b : Bool) → is_in t (waiters_of (mutex_at locks m)) ≡ b → is_in t (waiters_of (mutex_at locks m)) ≡ false
+asleep_of_mutex t m deadline locks e locked true there =
+    let none : awaited (thread_at locks t) ≡ None = awaits_by_wait (thread_at locks t) ∙ ap mutex_of_wait e in
+    absurd (none_awaits m (thread_at locks t) none (locked.waiters m t there).waits)
+asleep_of_mutex t m deadline locks e locked false there = there
+
+asleep_of_condition : (t c deadline : ℕ) (syncs : Syncs) → wait_of (thread_at syncs.locks t) ≡ Some (SleepWait deadline) → AreWaiting syncs → (b : Bool) → is_in t (condition_waiters syncs c) ≡ b → is_in t (condition_waiters syncs c) ≡ false
+asleep_of_condition t c deadline syncs e waiting true there =
+    let none : condition_of_wait (wait_of (thread_at syncs.locks t)) ≡ None = ap condition_of_wait e in
+    let some : condition_of_wait (wait_of (thread_at syncs.locks t)) ≡ Some c = (waiting.waiters c t there).waits in
+    let no : ⊥ = cc in absurd no
+asleep_of_condition t c deadline syncs e waiting false there = there
+
+pub sleeper_free : (p t : ℕ) (table : ThreadTable) (lines : List (List ℕ)) (mutexes : List (List (Option Mutex))) (conditions : List (List (Option Condition))) → AreSynced p table lines mutexes conditions
+    → is_sleep (wait_of (thread_in table p t)) ≡ true → IsNoWaiter t (part_of mutexes p) (part_of conditions p)
+sleeper_free p t table lines mutexes conditions synced sleeps =
+    let syncs : Syncs = syncs_at p table lines mutexes conditions in
+    let asleep = sleep_of (wait_of (thread_in table p t)) sleeps in
+    record {
+      of_mutexes = λ m. asleep_of_mutex t m asleep.0 syncs.locks asleep.1 synced.ready.locked (is_in t (waiters_of (mutex_at syncs.locks m))) refl;
+      of_conditions = λ c. asleep_of_condition t c asleep.0 syncs asleep.1 synced.waiting (is_in t (condition_waiters syncs c)) refl;
+    }

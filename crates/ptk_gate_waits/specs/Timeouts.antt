@@ -7,9 +7,9 @@ use Rattle.ptk_words.specs.declared.faults.Errno.TheVariants.{ETIMEDOUT}
 use Rattle.ptk_words.specs.declared.threads.Wait.{Wait}
 use Rattle.ptk_words.specs.declared.threads.Wait.TheVariants.{InputWait, SleepWait, JoinWait, MutexWait, ConditionWait, RelockWait}
 use Rattle.ptk_words_model.specs.State.{Syncs}
-use Rattle.ptk_words_model.specs.Priority.{thread_at}
+use Rattle.ptk_words_model.specs.Priority.{awaited, thread_at}
 use Rattle.ptk_words_model.specs.Schedule.{after_wake}
-use Rattle.ptk_words_model.specs.Mutex.{wait_of}
+use Rattle.ptk_words_model.specs.Mutex.{mutex_at, wait_of, waiters_of}
 use Rattle.ptk_words_model.specs.Condition.{condition_waiters, after_unblock}
 use Rattle.ptk_words_locks.specs.Conditions.{condition_of_wait}
 use Rattle.ptk_mutex.specs.Moves.{after_withdrawal}
@@ -24,9 +24,10 @@ after_sync_timeout t (Some (MutexWait m deadline)) syncs = record syncs { locks 
 after_sync_timeout t (Some (ConditionWait c m deadline)) syncs = after_unblock t c (Some (errno_number ETIMEDOUT)) syncs
 after_sync_timeout t (Some (RelockWait m reply)) syncs = syncs
 
--- a thread that waits is not in the line, and on a condition variable it is one of its waiters (pthread_cond_wait)
+-- a thread that waits is not in the line, and one that waits for a mutex or on a condition variable is among its waiters (pthread_mutex_lock, pthread_cond_wait)
 pub record IsBlocked (syncs : Syncs) (t : ℕ) : Type 0 where
   pub out : (wait : Wait) → wait_of (thread_at syncs.locks t) ≡ Some wait → is_in t syncs.line ≡ false
+  pub queued : (m : ℕ) → awaited (thread_at syncs.locks t) ≡ Some m → is_in t (waiters_of (mutex_at syncs.locks m)) ≡ true
   pub listed : (c : ℕ) → condition_of_wait (wait_of (thread_at syncs.locks t)) ≡ Some c → is_in t (condition_waiters syncs c) ≡ true
 
 -- the wait is a sleep (clock_nanosleep)

@@ -11,17 +11,17 @@ ghost use Rattle.ptk_threads.specs.Table.{thread_in};
 
 use crate::kinds::deadline_of;
 use ptk_clock::ThreadDeadlines;
-use ptk_threads::Threads;
+use ptk_roster::Roster;
 use ptk_words::{PartId, ThreadNo, Wait};
 use ptk_words_model::LockMove;
 
 /// The kept deadline of the thread is made that of its wait; of a free number none is kept.
 #[tactic(auto, using(crate::proofs::Waits::waits))]
-pub fn follow_wait(deadlines: &mut ThreadDeadlines, threads: &Threads, p: PartId, t: ThreadNo)
-    requires { (p < length deadlines.old) × (p < length threads.now.threads) }
-    ensures { deadlines.new ≡ slice_set deadlines.old p (pool_set (part_of deadlines.old p) t (deadline_of_wait (wait_of (thread_in threads.now p t)))) }
+pub fn follow_wait(deadlines: &mut ThreadDeadlines, roster: &Roster, p: PartId, t: ThreadNo)
+    requires { (p < length deadlines.old) × (p < length roster.now.table.threads) }
+    ensures { deadlines.new ≡ slice_set deadlines.old p (pool_set (part_of deadlines.old p) t (deadline_of_wait (wait_of (thread_in roster.now.table p t)))) }
 {
-    deadlines.set(p, t, deadline_of(threads.wait(p, t)));
+    deadlines.set(p, t, deadline_of(roster.threads().wait(p, t)));
 }
 
 /// The thread has made this move of a lock: where it waits, so, the deadline of its wait is kept.

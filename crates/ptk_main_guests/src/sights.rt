@@ -16,6 +16,8 @@ pub enum Sight {
     Level(u8),
     /// The number of the mutex that a thread waits for.
     Awaited(u8),
+    /// How many stored priorities the last call on mutexes read as it raised some, of whatever partition.
+    Visited,
     /// The byte at an address.
     Byte(u32),
     /// The steps so far.
@@ -50,6 +52,7 @@ fn seen(system: &System<'_>, sight: Sight) -> Option<u32> {
         Sight::Register(t, i) => system.register(p, thread_of(t)?, i),
         Sight::Level(t) => Some(u32::from(effective(threads, p, thread_of(t)?)?)),
         Sight::Awaited(t) => Some(u32::from(mutex_of(threads.wait(p, thread_of(t)?))?.number())),
+        Sight::Visited => Some(system.tables().visited()),
         Sight::Byte(address) => Some(u32::from(system.byte(p, address)?)),
         Sight::Steps => u32::try_from(system.steps(p)).ok(),
     }

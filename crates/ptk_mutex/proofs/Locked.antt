@@ -130,7 +130,7 @@ pub locked_mild : (m : ℕ) (f : Mutex → Mutex) (locks : Locks) → IsMild f �
 locked_mild m f locks mild locked = record {
   waiters = λ n k h.
       let was = locked.waiters n k (mild_in m n k f locks.mutexes mild (cases_eq n m) h) in
-      record { waits = was.waits; out = was.out };
+      record { waits = was.waits; out = was.out; inside = h };
   counts = λ n. mild_count m n f locks.mutexes mild (cases_eq n m) (locked.counts n);
 }
 
@@ -169,6 +169,7 @@ locked_left m t f locks waiter locked =
           record {
             waits = ap awaited (pool_get-changed_other t k f locks.threads other) ∙ was.waits;
             out = out_push t k locks.line other was.out;
+            inside = h;
           };
       counts = λ n. before.counts n;
     }
@@ -213,13 +214,17 @@ pub locked_wait : (t m : ℕ) (wait : Wait) (locks : Locks) → mutex_of_wait (S
 locked_wait t m wait locks names awake used out locked = record {
   waiters = λ n k h.
       elim (more_in m n t k locks.mutexes (cases_eq n m) h) as (λ _. IsWaiter (after_wait t m wait locks) n k) [
-        | inl (own, same) ↦ subst (λ (j : ℕ). IsWaiter (after_wait t m wait locks) n j) (sym same) (subst (λ (j : ℕ). IsWaiter (after_wait t m wait locks) j t) (sym own) (record {
-          waits = ap awaited (pool_get-changed t (λ (thread : Thread). record thread { wait = Some wait }) locks.threads) ∙ waiting_entry m wait (thread_at locks t) names used;
-          out = out;
-        }))
+        | inl (own, same) ↦ (let named : awaited (thread_at (after_wait t m wait locks) t) ≡ Some n =
+            ap awaited (pool_get-changed t (λ (thread : Thread). record thread { wait = Some wait }) locks.threads) ∙ waiting_entry m wait (thread_at locks t) names used ∙ ap Some (sym own) in
+            record {
+              waits = subst (λ (j : ℕ). awaited (thread_at (after_wait t m wait locks) j) ≡ Some n) (sym same) named;
+              out = subst (λ (j : ℕ). is_in j locks.line ≡ false) (sym same) out;
+              inside = h;
+            })
         | inr old ↦ (let was = locked.waiters n k old in record {
           waits = ap awaited (pool_get-changed_other t k (λ (thread : Thread). record thread { wait = Some wait }) locks.threads (other_than n t k locks awake was)) ∙ was.waits;
           out = was.out;
+          inside = h;
         })
       ];
   counts = λ n. let same = count_kept m n (λ (mutex : Mutex). record mutex { waiters = mutex.waiters ++ t ∷ [] }) locks.mutexes (more_count t) (cases_eq n m) in rw same (locked.counts n);
@@ -234,6 +239,7 @@ locked_wake t f locks awake locked = record {
       record {
         waits = ap awaited (pool_get-changed_other t k f locks.threads other) ∙ was.waits;
         out = out_push t k locks.line other was.out;
+        inside = h;
       };
   counts = λ n. locked.counts n;
 }
@@ -266,7 +272,7 @@ pub locked_count : (m : ℕ) (locks : Locks) → count_of (mutex_at locks m) < C
 locked_count m locks lt locked = record {
   waiters = λ n k h.
       let was = locked.waiters n k (counted_in m n k locks.mutexes (cases_eq n m) h) in
-      record { waits = was.waits; out = was.out };
+      record { waits = was.waits; out = was.out; inside = h };
   counts = λ n. counted_limit m n locks.mutexes (cases_eq n m) lt (locked.counts n);
 }
 
@@ -287,6 +293,6 @@ pub locked_assignment : (t priority : ℕ) (locks : Locks) → AreLocked locks �
 locked_assignment t priority locks locked = record {
   waiters = λ n k h.
       let was = locked.waiters n k h in
-      record { waits = assigned_at t k priority locks.threads (cases_eq k t) ∙ was.waits; out = was.out };
+      record { waits = assigned_at t k priority locks.threads (cases_eq k t) ∙ was.waits; out = was.out; inside = h };
   counts = λ n. locked.counts n;
 }

@@ -3,15 +3,14 @@ use Rattle.std.proofs.Common.{◌≡◌, ℕ, ◌-◌, ◌<◌, ◌≤◌, List,
 use Rattle.std.specs.Prelude.{Option, Some, None, option_map}
 use Rattle.std.proofs.Math.ListN.{set}
 use Rattle.std.proofs.lemmas.List.{length-set, set-set, set-get_or}
-use Rattle.ptk_words.specs.Pools.{pool_get, is_in}
+use Rattle.ptk_words.specs.Pools.{pool_get}
 use Rattle.ptk_words.specs.declared.TheConstants.{COUNT_LIMIT}
 use Rattle.ptk_words_model.specs.State.{Mutex, Locks}
-use Rattle.ptk_words_model.specs.Priority.{awaited, thread_at}
 use Rattle.ptk_words_model.specs.Mutex.{waiters_of, count_of}
 use Rattle.ptk_words_parted.specs.Parts.{part_of}
 use Rattle.ptk_threads.specs.Table.{ThreadTable, thread_in}
 use Rattle.ptk_threads.proofs.Pools.{pool_get-changed, pool_changed-changed, part_of-set}
-use Rattle.ptk_mutex_slots.specs.declared.slot.Change.TheVariants.{CountUp, CountDown, Enqueue}
+use Rattle.ptk_mutex_slots.specs.declared.slot.Change.TheVariants.{CountUp, CountDown}
 use Rattle.ptk_mutex_slots.specs.Changes.{SlotMayChange}
 use Rattle.std.specs.Prelude.{option_and_then, option_to_list}
 use Rattle.ptk_words.specs.Pools.{pool_set}
@@ -27,9 +26,9 @@ use Rattle.ptk_words_model.specs.Mutex.{heir, owns, after_mutex_end, after_beque
 use Rattle.ptk_mutex_slots.specs.Slots.{is_robust_at}
 use Rattle.ptk_mutex.specs.Tables.{with_threads}
 use Rattle.ptk_threads.specs.Table.{stored_of}
-use Rattle.ptk_mutex.specs.Tables.{MayGet, MayWait}
+use Rattle.ptk_mutex.specs.Tables.{MayGet}
 use Rattle.ptk_mutex.proofs.Locked.{waiter_used, stored_heir, heir_may_get}
-use Rattle.ptk_mutex.specs.Tables.{locks_at, HasPart, AreLocked, AreReady}
+use Rattle.ptk_mutex.specs.Tables.{locks_at, HasPart, AreReady}
 
 -- ---- room
 
@@ -37,22 +36,9 @@ count_room : (x : Option Mutex) → count_of x ≤ COUNT_LIMIT → SlotMayChange
 count_room None h = tt
 count_room (Some m) h = h
 
-enqueue_room : (t : ℕ) (x : Option Mutex) → is_in t (waiters_of x) ≡ false → SlotMayChange (Enqueue t) x
-enqueue_room t None h = tt
-enqueue_room t (Some m) h = h
-
 -- a count can go up
 pub countable : (p m : ℕ) (table : ThreadTable) (lines : List (List ℕ)) (mutexes : List (List (Option Mutex))) → AreReady p table lines mutexes → SlotMayChange CountUp (pool_get (part_of mutexes p) m)
 countable p m table lines mutexes ready = count_room (pool_get (part_of mutexes p) m) (ready.locked.counts m)
-
-out_by : (locks : Locks) (t m : ℕ) (b : Bool) → AreLocked locks → awaited (thread_at locks t) ≡ None → is_in t (waiters_of (pool_get locks.mutexes m)) ≡ b → is_in t (waiters_of (pool_get locks.mutexes m)) ≡ false
-out_by locks t m true locked awake e = let named : awaited (thread_at locks t) ≡ Some m = (locked.waiters m t e).waits in cc
-out_by locks t m false locked awake e = e
-
--- a thread that waits for no mutex can begin to
-pub fresh : (p t m : ℕ) (table : ThreadTable) (lines : List (List ℕ)) (mutexes : List (List (Option Mutex))) → AreReady p table lines mutexes → MayWait (locks_at p table lines mutexes) t → SlotMayChange (Enqueue t) (pool_get (part_of mutexes p) m)
-fresh p t m table lines mutexes ready may =
-    enqueue_room t (pool_get (part_of mutexes p) m) (out_by (locks_at p table lines mutexes) t m (is_in t (waiters_of (pool_get (part_of mutexes p) m))) ready.locked may.awake refl)
 
 pub has_part : (p : ℕ) (table : ThreadTable) (lines : List (List ℕ)) (mutexes : List (List (Option Mutex))) → AreReady p table lines mutexes → HasPart p table lines mutexes
 has_part p table lines mutexes ready = ready.part
@@ -116,6 +102,6 @@ stays p table lines mutexes ready = rw (← ready.stored, set_part-same, set_par
 
 pub ruleset ends = (end-other, end-robust, end-plain, stays, has_part, set_part-same)
 
-pub ruleset moves = (set_part-same, count_down_room, waiter_used, countable, fresh, has_part, pool_get-changed, pool_changed-changed, part_of-set, set-set, set-get_or, length-set)
+pub ruleset moves = (set_part-same, count_down_room, waiter_used, countable, has_part, pool_get-changed, pool_changed-changed, part_of-set, set-set, set-get_or, length-set)
 
 pub ruleset wakes = (replaced-is, free-is, handed-is, pool_get-changed, pool_changed-changed, part_of-set, set-set, set-get_or, length-set)

@@ -1,9 +1,9 @@
 -- What a rise needs of the tables before it, and what the moves leave that raise a thread or nobody.
 use Rattle.std.proofs.Common.{◌≡◌, ℕ, ◌<◌, ◌≤◌, List, length, refl, sym, ◌∙◌, ap, subst, arith, Bool, true, false}
-use Rattle.std.specs.Prelude.{◌==◌, nat_lt, if◌then◌else◌, Option, Some, None, IsSome, option_map, option_to_list}
+use Rattle.std.specs.Prelude.{◌==◌, nat_lt, if◌then◌else◌, Option, Some, None, option_map, option_to_list}
 use Rattle.std.proofs.Math.ListN.{set}
 use Rattle.std.proofs.lemmas.Bool.{eq-eqb}
-use Rattle.std.proofs.lemmas.List.{set-set, length-set}
+use Rattle.std.proofs.lemmas.List.{set-set}
 use Rattle.ptk_words.specs.Pools.{pool_get, pool_changed}
 use Rattle.ptk_words.specs.declared.TheConstants.{COUNT_LIMIT}
 use Rattle.ptk_words.specs.declared.faults.Errno.TheVariants.{EAGAIN, EBUSY, EINVAL}
@@ -22,19 +22,20 @@ use Rattle.ptk_words_model.specs.declared.LockMove.{LockMove}
 use Rattle.ptk_words_model.specs.declared.LockMove.TheVariants.{Takes, Recovers, Counts, Waits, Refuses}
 use Rattle.ptk_words_model.specs.State.{Mutex, Locks}
 use Rattle.ptk_words_model.specs.Priority.{awaited, thread_at, assigned_priority, assigned_of, inheritor, inheritor_of, ceiling_for, effective_priorities}
-use Rattle.ptk_words_model.specs.Schedule.{woken_with, at_tail_with, after_wake}
-use Rattle.ptk_words_model.specs.Mutex.{mutex_at, owns, count_move, own_lock_move, own_trylock_move, free_move, owner_move, is_above_ceiling, lock_move, trylock_move, relock_move, move_reply, after_take, after_count, after_wait, after_move, after_relock_move}
+use Rattle.ptk_words_model.specs.Schedule.{woken_with, after_wake}
+use Rattle.ptk_words_model.specs.Mutex.{owns, own_lock_move, own_trylock_move, free_move, owner_move, is_above_ceiling, lock_move, trylock_move, relock_move, move_reply, after_count, after_move, after_relock_move}
 use Rattle.ptk_words_locks.proofs.Pools.{changed_twice, changed_own}
 use Rattle.ptk_words_locks.proofs.Raising.{level_of}
 use Rattle.ptk_threads.specs.Table.{ThreadTable, thread_in, with_changed, with_wait, with_priority}
 use Rattle.ptk_threads.proofs.Pools.{part_of-set}
-use Rattle.ptk_mutex_slots.specs.declared.slot.Change.TheVariants.{Take, CountUp, Enqueue}
+use Rattle.ptk_mutex_slots.specs.declared.slot.Change.TheVariants.{Take, CountUp}
 use Rattle.ptk_mutex_slots.specs.Changes.{mutex_changed}
+use Rattle.ptk_roster.specs.Waiters.{waited_by}
 use Rattle.ptk_mutex_rise.specs.Before.{awake, freed, IsBeforeWait, IsBeforeTake, IsBeforeAssignment}
 use Rattle.ptk_mutex_rise.specs.Visits.{IsVisited}
 use Rattle.ptk_mutex_rise.proofs.Changes.{effective_mutex, effective_thread}
 use Rattle.ptk_mutex_rise.proofs.Visits.{unvisited}
-use Rattle.ptk_mutex.specs.Tables.{locks_at, with_threads, HasPart, AreReady}
+use Rattle.ptk_mutex.specs.Tables.{locks_at, with_threads, AreReady}
 use Rattle.ptk_mutex.specs.Rises.{IsFree, MayTake, is_wait}
 use Rattle.ptk_mutex.proofs.Moved.{stays}
 
@@ -64,12 +65,14 @@ take_effective t m threads row free =
     ∙ effective_mutex m (λ a. freed (mutex_changed (Take t) a)) threads row (taken_inheritor t (pool_get row m) free) (λ u. taken_ceiling t u (pool_get row m) free)
 
 -- the stored priorities are those of before the take
-pub take_before : (p t m : ℕ) (table : ThreadTable) (lines : List (List ℕ)) (mutexes mutexes' : List (List (Option Mutex))) → AreReady p table lines mutexes → IsFree (pool_get (part_of mutexes p) m)
-    → mutexes' ≡ set mutexes p (pool_changed m (mutex_changed (Take t)) (part_of mutexes p)) → IsBeforeTake m (part_of table.threads p) (part_of mutexes' p) (part_of table.stored p)
-take_before p t m table lines mutexes mutexes' ready free e =
+pub take_before : (p t m : ℕ) (table table' : ThreadTable) (lines : List (List ℕ)) (mutexes mutexes' : List (List (Option Mutex))) → AreReady p table lines mutexes → IsFree (pool_get (part_of mutexes p) m)
+    → table' ≡ table → mutexes' ≡ set mutexes p (pool_changed m (mutex_changed (Take t)) (part_of mutexes p)) → IsBeforeTake m (part_of table'.threads p) (part_of mutexes' p) (part_of table'.stored p)
+take_before p t m table table' lines mutexes mutexes' ready free same e =
     let row : List (Option Mutex) = part_of mutexes p in
     let here : part_of mutexes' p ≡ pool_changed m (mutex_changed (Take t)) row = ap (λ l. part_of l p) e ∙ part_of-set mutexes p (pool_changed m (mutex_changed (Take t)) row) ready.part.of_mutexes in
-    ready.stored ∙ sym (ap (λ l. effective_priorities (part_of table.threads p) (pool_changed m freed l)) here ∙ take_effective t m (part_of table.threads p) row free)
+    let before : IsBeforeTake m (part_of table.threads p) (part_of mutexes' p) (part_of table.stored p) =
+    ready.stored ∙ sym (ap (λ l. effective_priorities (part_of table.threads p) (pool_changed m freed l)) here ∙ take_effective t m (part_of table.threads p) row free) in
+    subst (λ (l : ThreadTable). IsBeforeTake m (part_of l.threads p) (part_of mutexes' p) (part_of l.stored p)) (sym same) before
 
 -- ---- a count more
 
@@ -90,11 +93,11 @@ count_stays p m table lines mutexes ready =
 
 -- ---- a thread that begins to wait
 
-joined_inheritor : (t : ℕ) (x : Option Mutex) → inheritor_of (option_map (mutex_changed (Enqueue t)) x) ≡ inheritor_of x
+joined_inheritor : (t : ℕ) (x : Option Mutex) → inheritor_of (option_map (waited_by t) x) ≡ inheritor_of x
 joined_inheritor t None = refl
 joined_inheritor t (Some a) = refl
 
-joined_ceiling : (t u : ℕ) (x : Option Mutex) → ceiling_for u (option_map (mutex_changed (Enqueue t)) x) ≡ ceiling_for u x
+joined_ceiling : (t u : ℕ) (x : Option Mutex) → ceiling_for u (option_map (waited_by t) x) ≡ ceiling_for u x
 joined_ceiling t u None = refl
 joined_ceiling t u (Some a) = refl
 
@@ -107,19 +110,19 @@ awake_awaits wait None e = refl
 awake_awaits wait (Some thread) e = sym e
 
 block_effective : (t m : ℕ) (wait : Wait) (threads : List (Option Thread)) (row : List (Option Mutex)) → awaited (pool_get threads t) ≡ None
-    → effective_priorities (pool_changed t awake (pool_changed t (with_wait (Some wait)) threads)) (pool_changed m (mutex_changed (Enqueue t)) row) ≡ effective_priorities threads row
+    → effective_priorities (pool_changed t awake (pool_changed t (with_wait (Some wait)) threads)) (pool_changed m (waited_by t) row) ≡ effective_priorities threads row
 block_effective t m wait threads row none =
-    ap (λ l. effective_priorities l (pool_changed m (mutex_changed (Enqueue t)) row)) (changed_twice t awake (with_wait (Some wait)) threads)
-    ∙ effective_thread t (λ a. awake (with_wait (Some wait) a)) threads (pool_changed m (mutex_changed (Enqueue t)) row) (awake_level wait (pool_get threads t)) (awake_awaits wait (pool_get threads t) none)
-    ∙ effective_mutex m (mutex_changed (Enqueue t)) threads row (joined_inheritor t (pool_get row m)) (λ u. joined_ceiling t u (pool_get row m))
+    ap (λ l. effective_priorities l (pool_changed m (waited_by t) row)) (changed_twice t awake (with_wait (Some wait)) threads)
+    ∙ effective_thread t (λ a. awake (with_wait (Some wait) a)) threads (pool_changed m (waited_by t) row) (awake_level wait (pool_get threads t)) (awake_awaits wait (pool_get threads t) none)
+    ∙ effective_mutex m (waited_by t) threads row (joined_inheritor t (pool_get row m)) (λ u. joined_ceiling t u (pool_get row m))
 
 -- the stored priorities are those of before the wait
 pub block_before : (p t m : ℕ) (wait : Wait) (table table' : ThreadTable) (lines : List (List ℕ)) (mutexes mutexes' : List (List (Option Mutex))) → AreReady p table lines mutexes → awaited (thread_in table p t) ≡ None
-    → mutexes' ≡ set mutexes p (pool_changed m (mutex_changed (Enqueue t)) (part_of mutexes p)) → table' ≡ with_changed p t (with_wait (Some wait)) table → IsBeforeWait t (part_of table'.threads p) (part_of mutexes' p) (part_of table'.stored p)
+    → mutexes' ≡ set mutexes p (pool_changed m (waited_by t) (part_of mutexes p)) → table' ≡ with_changed p t (with_wait (Some wait)) table → IsBeforeWait t (part_of table'.threads p) (part_of mutexes' p) (part_of table'.stored p)
 block_before p t m wait table table' lines mutexes mutexes' ready none e f =
     let row : List (Option Mutex) = part_of mutexes p in
     let threads : List (Option Thread) = part_of table.threads p in
-    let here : part_of mutexes' p ≡ pool_changed m (mutex_changed (Enqueue t)) row = ap (λ l. part_of l p) e ∙ part_of-set mutexes p (pool_changed m (mutex_changed (Enqueue t)) row) ready.part.of_mutexes in
+    let here : part_of mutexes' p ≡ pool_changed m (waited_by t) row = ap (λ l. part_of l p) e ∙ part_of-set mutexes p (pool_changed m (waited_by t) row) ready.part.of_mutexes in
     let there : part_of table'.threads p ≡ pool_changed t (with_wait (Some wait)) threads = ap (λ (l : ThreadTable). part_of l.threads p) f ∙ part_of-set table.threads p (pool_changed t (with_wait (Some wait)) threads) ready.part.of_threads in
     let stored : part_of table'.stored p ≡ part_of table.stored p = ap (λ (l : ThreadTable). part_of l.stored p) f in
     stored ∙ ready.stored
@@ -160,12 +163,8 @@ assignment_before p t before after table table' lines mutexes ready e le f =
 -- ---- what was read
 
 -- the priorities that are stored then
-pub stored_visited : (p visited : ℕ) (priorities : List ℕ) (table table' new : ThreadTable) → p < length table.stored → table'.stored ≡ table.stored → new ≡ record table' { stored = set table'.stored p priorities }
-    → IsVisited visited (part_of table'.stored p) priorities → IsVisited visited (part_of table.stored p) (part_of new.stored p)
-stored_visited p visited priorities table table' new lt same e read =
-    let long : p < length table'.stored = rw same lt in
-    let after : part_of new.stored p ≡ priorities = ap (λ (l : ThreadTable). part_of l.stored p) e ∙ part_of-set table'.stored p priorities long in
-    subst (λ l. IsVisited visited (part_of l p) (part_of new.stored p)) same (subst (λ l. IsVisited visited (part_of table'.stored p) l) (sym after) read)
+pub stored_visited : (p visited : ℕ) (table table' new : ThreadTable) → table'.stored ≡ table.stored → IsVisited visited (part_of table'.stored p) (part_of new.stored p) → IsVisited visited (part_of table.stored p) (part_of new.stored p)
+stored_visited p visited table table' new same read = subst (λ l. IsVisited visited (part_of l p) (part_of new.stored p)) same read
 
 -- ---- which moves take a free mutex
 

@@ -1,6 +1,6 @@
 -- That tables stay ready where the number of a mutex is taken or freed, and that fresh tables are ready.
 use Rattle.std.proofs.Common.{◌≡◌, ℕ, zero, suc, ◌<◌, ◌≤◌, List, [], ◌∷◌, length, map, max, get_or, replicate, refl, sym, ◌∙◌, ap, subst, arith, Bool, true, false}
-use Rattle.std.specs.Prelude.{Option, Some, None, option_map, option_and_then, unwrap_or, slice_get, fold, filter, not, if◌then◌else◌}
+use Rattle.std.specs.Prelude.{Option, Some, None, option_map, unwrap_or, slice_get, fold, filter, not, if◌then◌else◌}
 use Rattle.std.specs.Option.{option_flatten}
 use Rattle.std.proofs.Math.ListN.{set}
 use Rattle.std.proofs.lemmas.List.{length-set, length-map, length-replicate, get_or-map}
@@ -16,13 +16,13 @@ use Rattle.ptk_words_parted.specs.Parts.{part_of, filled}
 use Rattle.ptk_words_parted.proofs.Cuts.{set_part-same}
 use Rattle.ptk_words_model.specs.State.{Mutex, Locks}
 use Rattle.ptk_words_model.specs.Chain.{leads_to, greatest_leading}
-use Rattle.ptk_words_model.specs.Priority.{awaited, is_owner, ceiling_of, ceiling_for, inheritor, inheritor_of, assigned_of, held_of, next_of, effective_of, effective_priorities}
+use Rattle.ptk_words_model.specs.Priority.{is_owner, ceiling_of, ceiling_for, inheritor, inheritor_of, assigned_of, held_of, next_of, effective_of, effective_priorities}
 use Rattle.ptk_words_model.specs.Mutex.{mutex_at, new_mutex, is_free, waiters_of, count_of}
 use Rattle.ptk_words_model.specs.MutexCalls.{is_locked}
 use Rattle.ptk_words_locks.proofs.MutexPlaces.{pool_set_same, effective-set}
 use Rattle.ptk_threads.specs.Table.{ThreadTable, free_table}
 use Rattle.ptk_threads.proofs.Pools.{part_of-set}
-use Rattle.ptk_ready.proofs.Unused.{unused_built}
+use Rattle.ptk_roster.specs.Rosters.{seen}
 use Rattle.ptk_mutex_slots.proofs.Levels.{length-numbers_to}
 use Rattle.ptk_mutex.specs.Pool.{with_new_mutex}
 use Rattle.ptk_mutex.specs.Tables.{AreLocked, AreReady}
@@ -91,7 +91,7 @@ locked_set m x locks was idle le locked = record {
   waiters = λ n k h.
       let old : is_in k (waiters_of (mutex_at locks n)) ≡ true = subst (λ (ks : List ℕ). is_in k ks ≡ true) (pool_set_same waiters_of locks.mutexes m n x (idle.waiters ∙ sym was.waiters)) h in
       let waiter = locked.waiters n k old in
-      record { waits = waiter.waits; out = waiter.out };
+      record { waits = waiter.waits; out = waiter.out; inside = h };
   counts = λ n. pool_set_all (λ (y : Option Mutex). count_of y ≤ COUNT_LIMIT) locks.mutexes m n x le (locked.counts n);
 }
 
@@ -106,7 +106,6 @@ ready_set p m x table lines mutexes was idle le ready =
         of_stored = ready.part.of_stored;
         of_lines = ready.part.of_lines;
         of_mutexes = rw length-set ready.part.of_mutexes;
-        idle = ready.part.idle;
       };
       locked = subst (λ (l : List (Option Mutex)). AreLocked (record { threads = part_of table.threads p; line = part_of lines p; mutexes = l })) (sym here)
           (locked_set m x (record { threads = part_of table.threads p; line = part_of lines p; mutexes = part_of mutexes p }) was idle le ready.locked);
@@ -176,14 +175,13 @@ locked_blank locks blank = record {
 }
 
 -- tables in which every number is free are ready at each partition
-pub ready_blank : (p : ℕ) (counts limits : List ℕ) (lines : List (List ℕ)) → p < length counts → p < length limits → p < length lines → AreReady p (free_table counts) lines (map (filled None) limits)
+pub ready_blank : (p : ℕ) (counts limits : List ℕ) (lines : List (List ℕ)) → p < length counts → p < length limits → p < length lines → AreReady p (seen (free_table counts)) lines (map (filled None) limits)
 ready_blank p counts limits lines of_threads of_mutexes of_lines = record {
   part = record {
     of_threads = rw (length-map counts (filled {X = Option Thread} None)) of_threads;
     of_stored = rw (length-map counts (filled {X = ℕ} 0)) of_threads;
     of_lines = of_lines;
     of_mutexes = rw (length-map limits (filled {X = Option Mutex} None)) of_mutexes;
-    idle = unused_built counts;
   };
   locked = locked_blank _ (λ m. ap (λ (row : List (Option Mutex)). pool_get row m) (row_blank None limits p of_mutexes) ∙ pool_blank (get_or limits p 0) m);
   stored = rw (row_blank {A = ℕ} 0 counts p of_threads, row_blank {A = Option Thread} None counts p of_threads, row_blank {A = Option Mutex} None limits p of_mutexes) (sym (effective_blank (get_or counts p 0) (get_or limits p 0)));

@@ -39,11 +39,12 @@ use Rattle.ptk_words_model.specs.Mutex.{move_reply, after_count, after_relock_mo
 use Rattle.ptk_threads.specs.Table.{ThreadTable}
 use Rattle.ptk_threads.proofs.Pools.{part_of-set}
 use Rattle.ptk_mutex_slots.specs.declared.slot.Change.{Change}
-use Rattle.ptk_mutex_slots.specs.declared.slot.Change.TheVariants.{Take, CountUp, CountDown, Release, Abandon, Mark, Enqueue, Dequeue}
+use Rattle.ptk_mutex_slots.specs.declared.slot.Change.TheVariants.{Take, CountUp, CountDown, Release, Abandon, Mark}
 use Rattle.ptk_mutex_slots.specs.Changes.{mutex_changed, IsQuiet}
-use Rattle.ptk_mutex.specs.Tables.{locks_at, with_threads, HasPart, AreLocked, AreReady, MayGet}
+use Rattle.ptk_mutex.specs.Tables.{locks_at, with_threads, HasPart, AreLocked, AreReady, IsWaiter, MayGet}
 use Rattle.ptk_mutex.specs.Moves.{after_change}
 use Rattle.ptk_mutex.proofs.Locked.{IsMild, locked_mild, locked_left, heir_may_get}
+use Rattle.ptk_mutex.proofs.NoWaiters.{changed_waiters}
 
 -- the tables are the first ones with these locks at p
 pub record AreMoved (p : ℕ) (table : ThreadTable) (lines : List (List ℕ)) (mutexes : List (List (Option Mutex))) (table' : ThreadTable) (lines' : List (List ℕ)) (mutexes' : List (List (Option Mutex))) (locks : Locks) : Type 0 where
@@ -65,7 +66,6 @@ has_moved p table lines mutexes locks has = record {
   of_stored = rw length-set has.of_stored;
   of_lines = rw length-set has.of_lines;
   of_mutexes = rw length-set has.of_mutexes;
-  idle = has.idle;
 }
 
 locks_put : (p : ℕ) (table : ThreadTable) (lines : List (List ℕ)) (mutexes : List (List (Option Mutex))) (locks : Locks) → HasPart p table lines mutexes → locks_at p (with_threads p locks table) (set lines p locks.line) (set mutexes p locks.mutexes) ≡ locks
@@ -114,17 +114,19 @@ mild_quiet CountDown quiet = record { waiters = λ k x h. h; counts = λ x le. o
 mild_quiet Release quiet = record { waiters = λ k x h. h; counts = λ x le. omega arith }
 mild_quiet Abandon quiet = record { waiters = λ k x h. h; counts = λ x le. le }
 mild_quiet (Mark soundness) quiet = record { waiters = λ k x h. h; counts = λ x le. le }
-mild_quiet (Enqueue t) quiet = absurd quiet
-mild_quiet (Dequeue t) quiet = absurd quiet
 
 -- a quiet change
 pub locked_change : (change : Change) (m : ℕ) (locks : Locks) → IsQuiet change → AreLocked locks → AreLocked (after_change change m locks)
 locked_change change m locks quiet locked = locked_mild m (mutex_changed change) locks (mild_quiet change quiet) locked
 
+-- who waits does so while the mutex gets its next owner
+pub taken_waiter : (t m : ℕ) (locks : Locks) → IsWaiter locks m t → IsWaiter (after_take t m locks) m t
+taken_waiter t m locks waiter = record { waits = waiter.waits; out = waiter.out; inside = rw (changed_waiters m m (mutex_changed (Take t)) locks.mutexes (λ x. refl)) waiter.inside }
+
 hand_to_locked : (m : ℕ) (next : Option ℕ) (locks : Locks) → MayGet next locks m → AreLocked locks → AreLocked (after_hand_over_to next m locks)
 hand_to_locked m None locks may locked = locked_change Release m locks tt locked
 hand_to_locked m (Some t) locks may locked =
-    locked_left m t (handed (free_move (soundness_of (mutex_at locks m)))) (after_take t m locks) (record { waits = may.waits; out = may.out }) (locked_change (Take t) m locks tt locked)
+    locked_left m t (handed (free_move (soundness_of (mutex_at locks m)))) (after_take t m locks) (taken_waiter t m locks may) (locked_change (Take t) m locks tt locked)
 
 -- a hand over
 pub locked_hand_over : (m : ℕ) (locks : Locks) → AreLocked locks → AreLocked (after_hand_over m locks)

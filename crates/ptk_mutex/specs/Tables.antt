@@ -7,15 +7,10 @@ use Rattle.ptk_words_model.specs.State.{Mutex, Locks}
 use Rattle.ptk_words_model.specs.Priority.{thread_at, awaited, effective_priorities}
 use Rattle.ptk_words_model.specs.Mutex.{mutex_at, waiters_of, count_of}
 use Rattle.ptk_threads.specs.Table.{ThreadTable}
-use Rattle.ptk_ready.specs.Queues.{AreUnused}
-
--- the mutexes of all partitions with their waiters, as the pool and the slot table keep them; the pool keeps both today (own)
-abbrev pub mutexes_of : List (List (Option Mutex)) → ThreadTable → List (List (Option Mutex))
-mutexes_of pool table = pool
 
 -- what the mutex calls read and change of a partition (own)
 abbrev pub locks_at : ℕ → ThreadTable → List (List ℕ) → List (List (Option Mutex)) → Locks
-locks_at p table lines pool = record { threads = part_of table.threads p; line = part_of lines p; mutexes = part_of (mutexes_of pool table) p }
+locks_at p table lines pool = record { threads = part_of table.threads p; line = part_of lines p; mutexes = part_of pool p }
 
 -- the threads of a partition, with the effective priorities that they then have as the stored ones (pthread_mutexattr_getprotocol)
 abbrev pub with_threads : ℕ → Locks → ThreadTable → ThreadTable
@@ -29,18 +24,18 @@ with_threads p locks table =
 abbrev pub with_threads_alone : ℕ → Locks → ThreadTable → ThreadTable
 with_threads_alone p locks table = record table { threads = slice_set table.threads p locks.threads }
 
--- every table has the partition, and no ready thread lies in a queue of the slot table, since the line has lists of its own (own)
+-- every table has the partition (own)
 pub record HasPart (p : ℕ) (table : ThreadTable) (lines : List (List ℕ)) (pool : List (List (Option Mutex))) : Type 0 where
   pub of_threads : p < length table.threads
   pub of_stored : p < length table.stored
   pub of_lines : p < length lines
-  pub of_mutexes : p < length (mutexes_of pool table)
-  pub idle : AreUnused table.queues
+  pub of_mutexes : p < length pool
 
--- who waits for mutex m: a thread whose wait names it, and which is not in the line (pthread_mutex_lock)
+-- who waits for mutex m: one of its waiters, whose wait names it, and which is not in the line (pthread_mutex_lock)
 pub record IsWaiter (locks : Locks) (m k : ℕ) : Type 0 where
   pub waits : awaited (thread_at locks k) ≡ Some m
   pub out : is_in k locks.line ≡ false
+  pub inside : is_in k (waiters_of (mutex_at locks m)) ≡ true
 
 -- what mutexes are while they are used (own)
 pub record AreLocked (locks : Locks) : Type 0 where
@@ -53,7 +48,7 @@ pub record AreLocked (locks : Locks) : Type 0 where
 pub record AreReady (p : ℕ) (table : ThreadTable) (lines : List (List ℕ)) (pool : List (List (Option Mutex))) : Type 0 where
   pub part : HasPart p table lines pool
   pub locked : AreLocked (locks_at p table lines pool)
-  pub stored : part_of table.stored p ≡ effective_priorities (part_of table.threads p) (part_of (mutexes_of pool table) p)
+  pub stored : part_of table.stored p ≡ effective_priorities (part_of table.threads p) (part_of pool p)
 
 -- nobody, or one that waits for the mutex (pthread_mutex_unlock)
 abbrev pub MayGet : Option ℕ → Locks → ℕ → Type 0

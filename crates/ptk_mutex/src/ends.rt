@@ -8,97 +8,85 @@ ghost use Rattle.ptk_words_model.specs.Mutex.{heir, with_soundness, after_beques
 ghost use Rattle.ptk_words_locks.specs.Deadlines.{woken_by_mutex_end, woken_by_owner_end};
 ghost use Rattle.ptk_mutex_slots.specs.Sets.{IsSetOf};
 ghost use Rattle.ptk_mutex_slots.specs.Slots.{is_robust_at};
-ghost use Rattle.ptk_mutex.specs.Tables.{mutexes_of, locks_at, with_threads, AreReady};
+ghost use Rattle.ptk_mutex.specs.Tables.{locks_at, with_threads, AreReady};
 
+use crate::locking::is_owner;
 use crate::mutexes::Mutexes;
+use crate::unlocking::{alter, hand_over};
 use ptk_mutex_slots::{Change, ThreadSet, slot_in};
-use ptk_ready::VecLine;
-use ptk_threads::Threads;
+use ptk_roster::Roster;
 use ptk_words::{MutexNo, PartId, Soundness, ThreadNo};
 
 impl Mutexes {
     /// What the end of a thread makes of its mutexes, in ascending number: a robust one goes, inconsistent, to its
     /// heir, who is told of the dead owner; any other stays locked, and nobody owns it (pthread_mutexattr_setrobust;
     /// own choice). Told is who was woken.
-    pub fn abandon(
-        &mut self,
-        line: &mut VecLine,
-        threads: &mut Threads,
-        p: PartId,
-        t: ThreadNo,
-    ) -> ThreadSet
-        requires ready { AreReady p threads.old line.old self.old }
-        ensures woken { IsSetOf result (woken_by_owner_end t (locks_at p threads.old line.old self.old)) }
-        ensures threads { threads.new ≡ with_threads p (after_owner_end t (locks_at p threads.old line.old self.old)) threads.old }
-        ensures line { line.new ≡ slice_set line.old p (after_owner_end t (locks_at p threads.old line.old self.old)).line }
-        ensures mutexes { mutexes_of self.new threads.new ≡ slice_set (mutexes_of self.old threads.old) p (after_owner_end t (locks_at p threads.old line.old self.old)).mutexes }
-        ensures ready { AreReady p threads.new line.new self.new }
+    pub fn abandon(&mut self, roster: &mut Roster, p: PartId, t: ThreadNo) -> ThreadSet
+        requires ready { AreReady p roster.old.table roster.old.lines roster.old.mutexes }
+        ensures woken { IsSetOf result (woken_by_owner_end t (locks_at p roster.old.table roster.old.lines roster.old.mutexes)) }
+        ensures threads { roster.new.table ≡ with_threads p (after_owner_end t (locks_at p roster.old.table roster.old.lines roster.old.mutexes)) roster.old.table }
+        ensures line { roster.new.lines ≡ slice_set roster.old.lines p (after_owner_end t (locks_at p roster.old.table roster.old.lines roster.old.mutexes)).line }
+        ensures mutexes { roster.new.mutexes ≡ slice_set roster.old.mutexes p (after_owner_end t (locks_at p roster.old.table roster.old.lines roster.old.mutexes)).mutexes }
+        ensures conditions { roster.new.conditions ≡ roster.old.conditions }
+        ensures visited { self.new.visited ≡ 0 }
+        ensures ready { AreReady p roster.new.table roster.new.lines roster.new.mutexes }
     {
-        let count = self.part(p).len();
+        self.visited = 0;
+        let count = roster.mutex_slots(p).len();
         let mut woken = ThreadSet::empty();
         for i in 0..count {
-            let heir = self.end_mutex(line, threads, p, t, MutexNo::new(i as u8 + 1));
+            let heir = end_mutex(roster, p, t, MutexNo::new(i as u8 + 1));
             woken = woken.union(ThreadSet::of_option(heir));
         }
         woken
     }
+}
 
-    /// What the end of a thread makes of one mutex; told is whom that wakes.
-    #[tactic(auto, using(crate::proofs::Moved::ends, crate::proofs::Woken::ends))]
-    fn end_mutex(
-        &mut self,
-        line: &mut VecLine,
-        threads: &mut Threads,
-        p: PartId,
-        t: ThreadNo,
-        m: MutexNo,
-    ) -> Option<ThreadNo>
-        requires ready { AreReady p threads.old line.old self.old }
-        ensures told { option_to_list result ≡ woken_by_mutex_end t (pool_get (part_of self.old p) m) m (locks_at p threads.old line.old self.old) }
-        ensures threads { threads.new ≡ with_threads p (after_mutex_end t (pool_get (part_of self.old p) m) m (locks_at p threads.old line.old self.old)) threads.old }
-        ensures line { line.new ≡ slice_set line.old p (after_mutex_end t (pool_get (part_of self.old p) m) m (locks_at p threads.old line.old self.old)).line }
-        ensures mutexes { self.new ≡ slice_set self.old p (after_mutex_end t (pool_get (part_of self.old p) m) m (locks_at p threads.old line.old self.old)).mutexes }
-        ensures ready { AreReady p threads.new line.new self.new }
-    {
-        if !self.owns(p, t, m) {
-            return None;
-        }
-        if self.is_robust(p, m) {
-            self.bequeath(line, threads, p, m)
-        } else {
-            self.alter(line, threads, p, m, Change::Abandon);
-            None
-        }
+/// What the end of a thread makes of one mutex; told is whom that wakes.
+#[tactic(auto, using(crate::proofs::Moved::ends, crate::proofs::Woken::ends))]
+fn end_mutex(roster: &mut Roster, p: PartId, t: ThreadNo, m: MutexNo) -> Option<ThreadNo>
+    requires ready { AreReady p roster.old.table roster.old.lines roster.old.mutexes }
+    ensures told { option_to_list result ≡ woken_by_mutex_end t (pool_get (part_of roster.old.mutexes p) m) m (locks_at p roster.old.table roster.old.lines roster.old.mutexes) }
+    ensures threads { roster.new.table ≡ with_threads p (after_mutex_end t (pool_get (part_of roster.old.mutexes p) m) m (locks_at p roster.old.table roster.old.lines roster.old.mutexes)) roster.old.table }
+    ensures line { roster.new.lines ≡ slice_set roster.old.lines p (after_mutex_end t (pool_get (part_of roster.old.mutexes p) m) m (locks_at p roster.old.table roster.old.lines roster.old.mutexes)).line }
+    ensures mutexes { roster.new.mutexes ≡ slice_set roster.old.mutexes p (after_mutex_end t (pool_get (part_of roster.old.mutexes p) m) m (locks_at p roster.old.table roster.old.lines roster.old.mutexes)).mutexes }
+    ensures conditions { roster.new.conditions ≡ roster.old.conditions }
+    ensures ready { AreReady p roster.new.table roster.new.lines roster.new.mutexes }
+{
+    if !is_owner(roster, p, t, m) {
+        return None;
     }
-
-    /// A robust mutex is inconsistent and goes to its heir, who is told.
-    fn bequeath(
-        &mut self,
-        line: &mut VecLine,
-        threads: &mut Threads,
-        p: PartId,
-        m: MutexNo,
-    ) -> Option<ThreadNo>
-        requires ready { AreReady p threads.old line.old self.old }
-        ensures told { result ≡ heir m (with_soundness Inconsistent m (locks_at p threads.old line.old self.old)) }
-        ensures threads { threads.new ≡ with_threads p (after_bequest m (locks_at p threads.old line.old self.old)) threads.old }
-        ensures line { line.new ≡ slice_set line.old p (after_bequest m (locks_at p threads.old line.old self.old)).line }
-        ensures mutexes { self.new ≡ slice_set self.old p (after_bequest m (locks_at p threads.old line.old self.old)).mutexes }
-        ensures ready { AreReady p threads.new line.new self.new }
-    {
-        let marked = Change::Mark(Soundness::Inconsistent);
-        self.alter(line, threads, p, m, marked);
-        self.hand_over(line, threads, p, m)
+    if is_robust(roster, p, m) {
+        bequeath(roster, p, m)
+    } else {
+        alter(roster, p, m, Change::Abandon);
+        None
     }
+}
 
-    /// Whether a mutex is robust.
-    fn is_robust(&self, p: PartId, m: MutexNo) -> bool
-        requires { p < length self.now }
-        ensures { result ≡ is_robust_at (pool_get (part_of self.now p) m) }
-    {
-        match slot_in(self.part(p), m) {
-            Some(slot) => slot.is_robust(),
-            None => false,
-        }
+/// A robust mutex is inconsistent and goes to its heir, who is told.
+fn bequeath(roster: &mut Roster, p: PartId, m: MutexNo) -> Option<ThreadNo>
+    requires ready { AreReady p roster.old.table roster.old.lines roster.old.mutexes }
+    ensures told { result ≡ heir m (with_soundness Inconsistent m (locks_at p roster.old.table roster.old.lines roster.old.mutexes)) }
+    ensures threads { roster.new.table ≡ with_threads p (after_bequest m (locks_at p roster.old.table roster.old.lines roster.old.mutexes)) roster.old.table }
+    ensures line { roster.new.lines ≡ slice_set roster.old.lines p (after_bequest m (locks_at p roster.old.table roster.old.lines roster.old.mutexes)).line }
+    ensures mutexes { roster.new.mutexes ≡ slice_set roster.old.mutexes p (after_bequest m (locks_at p roster.old.table roster.old.lines roster.old.mutexes)).mutexes }
+    ensures conditions { roster.new.conditions ≡ roster.old.conditions }
+    ensures ready { AreReady p roster.new.table roster.new.lines roster.new.mutexes }
+{
+    let marked = Change::Mark(Soundness::Inconsistent);
+    alter(roster, p, m, marked);
+    hand_over(roster, p, m)
+}
+
+/// Whether a mutex is robust.
+#[tactic(auto, using(ptk_mutex_slots::proofs::Bare::bares))]
+fn is_robust(roster: &Roster, p: PartId, m: MutexNo) -> bool
+    requires { p < length roster.now.table.threads }
+    ensures { result ≡ is_robust_at (pool_get (part_of roster.now.mutexes p) m) }
+{
+    match slot_in(roster.mutex_slots(p), m) {
+        Some(slot) => slot.is_robust(),
+        None => false,
     }
 }

@@ -6,25 +6,24 @@ ghost use Rattle.std.specs.List.{list_any};
 ghost use Rattle.ptk_words.specs.Pools.{pool_get};
 ghost use Rattle.ptk_words.specs.declared.TheConstants.{COUNT_LIMIT};
 ghost use Rattle.ptk_words.specs.declared.threads.Wait.TheVariants.{RelockWait};
-ghost use Rattle.ptk_words_model.specs.declared.LockMove.TheVariants.{Counts};
 ghost use Rattle.ptk_words.specs.declared.mutexes.Soundness.TheVariants.{Consistent};
 ghost use Rattle.ptk_words_parted.specs.Parts.{part_of};
+ghost use Rattle.ptk_words_model.specs.declared.LockMove.TheVariants.{Counts};
 ghost use Rattle.ptk_words_model.specs.State.{locks_of};
 ghost use Rattle.ptk_words_model.specs.Priority.{assigned_of};
-ghost use Rattle.ptk_threads_slots.specs.Links.{threads_of};
-ghost use Rattle.ptk_mutex_rise.specs.Visits.{IsVisited};
 ghost use Rattle.ptk_words_model.specs.Mutex.{mutex_at, lock_move, trylock_move, relock_move, count_of, owns, owns_raising, is_raising_for, after_move, with_soundness};
-ghost use Rattle.ptk_mutex_slots.specs.declared.slot.Change.TheVariants.{CountUp, Enqueue};
-ghost use Rattle.ptk_mutex_slots.specs.Changes.{SlotMayChange};
-ghost use Rattle.ptk_mutex.specs.Tables.{mutexes_of, locks_at, with_threads, with_threads_alone, HasPart, MayWait, AreReady};
+ghost use Rattle.ptk_words_locks.specs.Conditions.{IsNoWaiter};
+ghost use Rattle.ptk_mutex_rise.specs.Visits.{IsVisited};
+ghost use Rattle.ptk_mutex.specs.Tables.{locks_at, with_threads, MayWait, AreReady};
 ghost use Rattle.ptk_mutex.specs.Moves.{after_lock, after_trylock, after_assignment};
 
-use crate::mutexes::Mutexes;
+use crate::mutexes::{Mutexes, refresh_priorities};
+use crate::rising::make;
+use crate::unlocking::alter;
 use crate::waking::relock_move;
-use ptk_mutex_rise::Rise;
+use ptk_mutex_rise::{Rise, raise};
 use ptk_mutex_slots::{Change, MutexSlot, assigned, slot_in};
-use ptk_ready::VecLine;
-use ptk_threads::{Slot, Threads};
+use ptk_roster::Roster;
 use ptk_words::{Errno, MutexNo, PartId, Priority, Soundness, ThreadNo, Tick, Wait};
 use ptk_words_model::LockMove;
 
@@ -37,23 +36,25 @@ impl Mutexes {
     #[tactic(auto, using(crate::proofs::Moved::moves))]
     pub fn lock(
         &mut self,
-        line: &VecLine,
-        threads: &mut Threads,
+        roster: &mut Roster,
         p: PartId,
         t: ThreadNo,
         m: MutexNo,
         deadline: Option<Tick>,
     ) -> LockMove
-        requires ready { AreReady p threads.old line.now self.old }
-        requires caller { MayWait (locks_at p threads.old line.now self.old) t }
-        ensures told { result ≡ lock_move (locks_at p threads.old line.now self.old) t (mutex_at (locks_at p threads.old line.now self.old) m) }
-        ensures threads { threads.new ≡ with_threads p (after_lock t m deadline (locks_at p threads.old line.now self.old)) threads.old }
-        ensures mutexes { mutexes_of self.new threads.new ≡ slice_set (mutexes_of self.old threads.old) p (after_lock t m deadline (locks_at p threads.old line.now self.old)).mutexes }
-        ensures ready { AreReady p threads.new line.now self.new }
+        requires ready { AreReady p roster.old.table roster.old.lines roster.old.mutexes }
+        requires caller { MayWait (locks_at p roster.old.table roster.old.lines roster.old.mutexes) t }
+        requires free { IsNoWaiter t (part_of roster.old.mutexes p) (part_of roster.old.conditions p) }
+        ensures told { result ≡ lock_move (locks_at p roster.old.table roster.old.lines roster.old.mutexes) t (mutex_at (locks_at p roster.old.table roster.old.lines roster.old.mutexes) m) }
+        ensures threads { roster.new.table ≡ with_threads p (after_lock t m deadline (locks_at p roster.old.table roster.old.lines roster.old.mutexes)) roster.old.table }
+        ensures line { roster.new.lines ≡ roster.old.lines }
+        ensures mutexes { roster.new.mutexes ≡ slice_set roster.old.mutexes p (after_lock t m deadline (locks_at p roster.old.table roster.old.lines roster.old.mutexes)).mutexes }
+        ensures conditions { roster.new.conditions ≡ roster.old.conditions }
+        ensures visited { IsVisited self.new.visited (part_of roster.old.table.stored p) (part_of roster.new.table.stored p) }
+        ensures ready { AreReady p roster.new.table roster.new.lines roster.new.mutexes }
     {
-        let made = lock_move(threads.part(p), self.part(p), t, m);
-        let visited = self.make(line, threads, p, t, m, Wait::MutexWait(m, deadline), made);
-        self.tell_visited(visited);
+        let made = self.lock_move(roster, p, t, m);
+        self.visited = make(roster, p, t, m, Wait::MutexWait(m, deadline), made);
         made
     }
 
@@ -62,33 +63,33 @@ impl Mutexes {
     /// assigned priority, ENOTRECOVERABLE of a lost mutex, EBUSY of a locked one, EAGAIN of one's own recursive one at
     /// its limit. The line stays.
     #[tactic(auto, using(crate::proofs::Moved::moves))]
-    pub fn trylock(
-        &mut self,
-        line: &VecLine,
-        threads: &mut Threads,
-        p: PartId,
-        t: ThreadNo,
-        m: MutexNo,
-    ) -> LockMove
-        requires ready { AreReady p threads.old line.now self.old }
-        requires caller { MayWait (locks_at p threads.old line.now self.old) t }
-        ensures told { result ≡ trylock_move (locks_at p threads.old line.now self.old) t (mutex_at (locks_at p threads.old line.now self.old) m) }
-        ensures threads { threads.new ≡ with_threads p (after_trylock t m (locks_at p threads.old line.now self.old)) threads.old }
-        ensures mutexes { mutexes_of self.new threads.new ≡ slice_set (mutexes_of self.old threads.old) p (after_trylock t m (locks_at p threads.old line.now self.old)).mutexes }
-        ensures ready { AreReady p threads.new line.now self.new }
+    pub fn trylock(&mut self, roster: &mut Roster, p: PartId, t: ThreadNo, m: MutexNo) -> LockMove
+        requires ready { AreReady p roster.old.table roster.old.lines roster.old.mutexes }
+        requires caller { MayWait (locks_at p roster.old.table roster.old.lines roster.old.mutexes) t }
+        requires free { IsNoWaiter t (part_of roster.old.mutexes p) (part_of roster.old.conditions p) }
+        ensures told { result ≡ trylock_move (locks_at p roster.old.table roster.old.lines roster.old.mutexes) t (mutex_at (locks_at p roster.old.table roster.old.lines roster.old.mutexes) m) }
+        ensures threads { roster.new.table ≡ with_threads p (after_trylock t m (locks_at p roster.old.table roster.old.lines roster.old.mutexes)) roster.old.table }
+        ensures line { roster.new.lines ≡ roster.old.lines }
+        ensures mutexes { roster.new.mutexes ≡ slice_set roster.old.mutexes p (after_trylock t m (locks_at p roster.old.table roster.old.lines roster.old.mutexes)).mutexes }
+        ensures conditions { roster.new.conditions ≡ roster.old.conditions }
+        ensures visited { IsVisited self.new.visited (part_of roster.old.table.stored p) (part_of roster.new.table.stored p) }
+        ensures ready { AreReady p roster.new.table roster.new.lines roster.new.mutexes }
     {
-        let made = trylock_move(threads.part(p), self.part(p), t, m);
-        let visited = self.make(line, threads, p, t, m, Wait::MutexWait(m, None), made);
-        self.tell_visited(visited);
+        let made = trylock_move(roster, p, t, m);
+        self.visited = make(roster, p, t, m, Wait::MutexWait(m, None), made);
         made
     }
 
     /// What a lock by the thread would come to now; nothing changes (pthread_mutex_timedlock).
-    pub fn lock_move(&self, threads: &Threads, p: PartId, t: ThreadNo, m: MutexNo) -> LockMove
-        requires { (p < length self.now) × (p < length threads.now.threads) }
-        ensures { result ≡ lock_move (locks_of (part_of threads.now.threads p) (part_of (mutexes_of self.now threads.now) p)) t (pool_get (part_of (mutexes_of self.now threads.now) p) m) }
+    #[tactic(auto, using(ptk_mutex_slots::proofs::Bare::bares))]
+    pub fn lock_move(&self, roster: &Roster, p: PartId, t: ThreadNo, m: MutexNo) -> LockMove
+        requires { p < length roster.now.table.threads }
+        ensures { result ≡ lock_move (locks_of (part_of roster.now.table.threads p) (part_of roster.now.mutexes p)) t (pool_get (part_of roster.now.mutexes p) m) }
     {
-        lock_move(threads.part(p), self.part(p), t, m)
+        match slot_in(roster.mutex_slots(p), m) {
+            Some(slot) => slot.lock_move(roster.threads().part(p), t),
+            None => LockMove::Refuses(Errno::EINVAL),
+        }
     }
 
     /// A running thread that waits for no mutex locks this one again, as after a condition wait whose deadline was
@@ -98,119 +99,119 @@ impl Mutexes {
     #[tactic(auto, using(crate::proofs::Moved::moves))]
     pub fn lock_again(
         &mut self,
-        line: &VecLine,
-        threads: &mut Threads,
+        roster: &mut Roster,
         p: PartId,
         t: ThreadNo,
         m: MutexNo,
         reply: Option<u32>,
     ) -> LockMove
-        requires ready { AreReady p threads.old line.now self.old }
-        requires caller { MayWait (locks_at p threads.old line.now self.old) t }
-        requires countable { relock_move t (mutex_at (locks_at p threads.old line.now self.old) m) ≡ Counts → count_of (mutex_at (locks_at p threads.old line.now self.old) m) < COUNT_LIMIT }
-        ensures told { result ≡ relock_move t (mutex_at (locks_at p threads.old line.now self.old) m) }
-        ensures threads { threads.new ≡ with_threads p (after_move (relock_move t (mutex_at (locks_at p threads.old line.now self.old) m)) t m (RelockWait m reply) (locks_at p threads.old line.now self.old)) threads.old }
-        ensures mutexes { mutexes_of self.new threads.new ≡ slice_set (mutexes_of self.old threads.old) p (after_move (relock_move t (mutex_at (locks_at p threads.old line.now self.old) m)) t m (RelockWait m reply) (locks_at p threads.old line.now self.old)).mutexes }
-        ensures ready { AreReady p threads.new line.now self.new }
+        requires ready { AreReady p roster.old.table roster.old.lines roster.old.mutexes }
+        requires caller { MayWait (locks_at p roster.old.table roster.old.lines roster.old.mutexes) t }
+        requires free { IsNoWaiter t (part_of roster.old.mutexes p) (part_of roster.old.conditions p) }
+        requires countable { relock_move t (mutex_at (locks_at p roster.old.table roster.old.lines roster.old.mutexes) m) ≡ Counts → count_of (mutex_at (locks_at p roster.old.table roster.old.lines roster.old.mutexes) m) < COUNT_LIMIT }
+        ensures told { result ≡ relock_move t (mutex_at (locks_at p roster.old.table roster.old.lines roster.old.mutexes) m) }
+        ensures threads { roster.new.table ≡ with_threads p (after_move (relock_move t (mutex_at (locks_at p roster.old.table roster.old.lines roster.old.mutexes) m)) t m (RelockWait m reply) (locks_at p roster.old.table roster.old.lines roster.old.mutexes)) roster.old.table }
+        ensures line { roster.new.lines ≡ roster.old.lines }
+        ensures mutexes { roster.new.mutexes ≡ slice_set roster.old.mutexes p (after_move (relock_move t (mutex_at (locks_at p roster.old.table roster.old.lines roster.old.mutexes) m)) t m (RelockWait m reply) (locks_at p roster.old.table roster.old.lines roster.old.mutexes)).mutexes }
+        ensures conditions { roster.new.conditions ≡ roster.old.conditions }
+        ensures visited { IsVisited self.new.visited (part_of roster.old.table.stored p) (part_of roster.new.table.stored p) }
+        ensures ready { AreReady p roster.new.table roster.new.lines roster.new.mutexes }
     {
-        let made = relock_move(self.part(p), t, m);
-        let visited = self.make(line, threads, p, t, m, Wait::RelockWait(m, reply), made);
-        self.tell_visited(visited);
+        let made = relock_move(roster, p, t, m);
+        self.visited = make(roster, p, t, m, Wait::RelockWait(m, reply), made);
         made
     }
 
     /// Whether the thread owns the mutex (pthread_mutex_unlock).
-    pub fn owns(&self, p: PartId, t: ThreadNo, m: MutexNo) -> bool
-        requires { p < length self.now }
-        ensures { result ≡ owns t (pool_get (part_of self.now p) m) }
+    pub fn owns(&self, roster: &Roster, p: PartId, t: ThreadNo, m: MutexNo) -> bool
+        requires { p < length roster.now.table.threads }
+        ensures { result ≡ owns t (pool_get (part_of roster.now.mutexes p) m) }
     {
-        match slot_in(self.part(p), m) {
-            Some(slot) => slot.is_owned_by(t),
-            None => false,
-        }
+        is_owner(roster, p, t, m)
     }
 
     /// Whether the thread owns an INHERIT or PROTECT mutex (pthread_mutexattr_getprotocol).
-    pub fn owns_raising(&self, p: PartId, t: ThreadNo) -> bool
-        requires { p < length self.now }
-        ensures { result ≡ owns_raising (locks_of [] (part_of self.now p)) t }
+    pub fn owns_raising(&self, roster: &Roster, p: PartId, t: ThreadNo) -> bool
+        requires { p < length roster.now.table.threads }
+        ensures { result ≡ owns_raising (locks_of [] (part_of roster.now.mutexes p)) t }
     {
-        is_any_raising_for(self.part(p), t)
+        is_any_raising_for(roster.mutex_slots(p), t)
     }
 
     /// What a mutex guards is sound again (pthread_mutex_consistent).
     #[tactic(auto, using(crate::proofs::Moved::moves))]
-    pub fn consistent(&mut self, line: &VecLine, threads: &mut Threads, p: PartId, m: MutexNo)
-        requires ready { AreReady p threads.old line.now self.old }
-        ensures threads { threads.new ≡ with_threads p (with_soundness Consistent m (locks_at p threads.old line.now self.old)) threads.old }
-        ensures mutexes { mutexes_of self.new threads.new ≡ slice_set (mutexes_of self.old threads.old) p (with_soundness Consistent m (locks_at p threads.old line.now self.old)).mutexes }
-        ensures ready { AreReady p threads.new line.now self.new }
+    pub fn consistent(&mut self, roster: &mut Roster, p: PartId, m: MutexNo)
+        requires ready { AreReady p roster.old.table roster.old.lines roster.old.mutexes }
+        ensures threads { roster.new.table ≡ with_threads p (with_soundness Consistent m (locks_at p roster.old.table roster.old.lines roster.old.mutexes)) roster.old.table }
+        ensures line { roster.new.lines ≡ roster.old.lines }
+        ensures mutexes { roster.new.mutexes ≡ slice_set roster.old.mutexes p (with_soundness Consistent m (locks_at p roster.old.table roster.old.lines roster.old.mutexes)).mutexes }
+        ensures conditions { roster.new.conditions ≡ roster.old.conditions }
+        ensures visited { self.new.visited ≡ 0 }
+        ensures ready { AreReady p roster.new.table roster.new.lines roster.new.mutexes }
     {
+        self.visited = 0;
         let marked = Change::Mark(Soundness::Consistent);
-        self.alter(line, threads, p, m, marked);
+        alter(roster, p, m, marked);
     }
 
     /// A thread has this assigned priority (pthread_setschedprio).
     #[tactic(auto, using(crate::proofs::Moved::moves))]
-    pub fn assign(
-        &self,
-        line: &VecLine,
-        threads: &mut Threads,
-        p: PartId,
-        t: ThreadNo,
-        priority: Priority,
-    )
-        requires ready { AreReady p threads.old line.now self.now }
-        ensures threads { threads.new ≡ with_threads p (after_assignment t priority (locks_at p threads.old line.now self.now)) threads.old }
-        ensures mutexes { mutexes_of self.now threads.new ≡ mutexes_of self.now threads.old }
-        ensures ready { AreReady p threads.new line.now self.now }
+    pub fn assign(&mut self, roster: &mut Roster, p: PartId, t: ThreadNo, priority: Priority)
+        requires ready { AreReady p roster.old.table roster.old.lines roster.old.mutexes }
+        ensures threads { roster.new.table ≡ with_threads p (after_assignment t priority (locks_at p roster.old.table roster.old.lines roster.old.mutexes)) roster.old.table }
+        ensures line { roster.new.lines ≡ roster.old.lines }
+        ensures mutexes { roster.new.mutexes ≡ roster.old.mutexes }
+        ensures conditions { roster.new.conditions ≡ roster.old.conditions }
+        ensures visited { assigned_of (part_of roster.old.table.threads p) t ≤ priority → IsVisited self.new.visited (part_of roster.old.table.stored p) (part_of roster.new.table.stored p) }
+        ensures fallen { priority < assigned_of (part_of roster.old.table.threads p) t → self.new.visited ≡ 0 }
+        ensures ready { AreReady p roster.new.table roster.new.lines roster.new.mutexes }
     {
-        let visited = self.reassign(line, threads, p, t, priority);
-        self.tell_visited(visited);
-    }
-
-    /// A thread has this assigned priority, and the stored priorities are those that it then makes. Told is how many
-    /// stored priorities the walk of a rise read; 0 after a fall.
-    #[tactic(auto, using(crate::proofs::Moved::moves))]
-    fn reassign(
-        &self,
-        line: &VecLine,
-        threads: &mut Threads,
-        p: PartId,
-        t: ThreadNo,
-        priority: Priority,
-    ) -> u32
-        requires ready { AreReady p threads.old line.now self.now }
-        ensures threads { threads.new ≡ with_threads p (after_assignment t priority (locks_at p threads.old line.now self.now)) threads.old }
-        ensures visited { assigned_of (part_of threads.old.threads p) t ≤ priority → IsVisited result (part_of threads.old.stored p) (part_of threads.new.stored p) }
-    {
-        let before = assigned(threads.part(p), t);
-        threads.set_assigned_priority(p, t, priority);
-        if priority.level() < before {
-            self.refresh(threads, p);
-            return 0;
-        }
-        self.raise(threads, p, Rise::Assignment(t))
+        self.visited = reassign(roster, p, t, priority);
     }
 }
 
-/// The move of lock.
-fn lock_move(threads: &[Slot], mutexes: &[MutexSlot], t: ThreadNo, m: MutexNo) -> LockMove
-    ensures { result ≡ lock_move (locks_of (threads_of threads.now) mutexes.now) t (pool_get mutexes.now m) }
+/// A thread has this assigned priority, and the stored priorities are those that it then makes. Told is how many stored
+/// priorities the walk of a rise read; 0 after a fall.
+#[tactic(auto, using(crate::proofs::Moved::moves))]
+fn reassign(roster: &mut Roster, p: PartId, t: ThreadNo, priority: Priority) -> u32
+    requires ready { AreReady p roster.old.table roster.old.lines roster.old.mutexes }
+    ensures threads { roster.new.table ≡ with_threads p (after_assignment t priority (locks_at p roster.old.table roster.old.lines roster.old.mutexes)) roster.old.table }
+    ensures line { roster.new.lines ≡ roster.old.lines }
+    ensures mutexes { roster.new.mutexes ≡ roster.old.mutexes }
+    ensures conditions { roster.new.conditions ≡ roster.old.conditions }
+    ensures visited { assigned_of (part_of roster.old.table.threads p) t ≤ priority → IsVisited result (part_of roster.old.table.stored p) (part_of roster.new.table.stored p) }
+    ensures fallen { priority < assigned_of (part_of roster.old.table.threads p) t → result ≡ 0 }
 {
-    match slot_in(mutexes, m) {
-        Some(slot) => slot.lock_move(threads, t),
-        None => LockMove::Refuses(Errno::EINVAL),
+    let before = assigned(roster.threads().part(p), t);
+    roster.set_assigned_priority(p, t, priority);
+    if priority.level() < before {
+        refresh_priorities(roster, p);
+        return 0;
     }
+    raise(roster, p, Rise::Assignment(t))
 }
 
 /// The move of trylock.
-fn trylock_move(threads: &[Slot], mutexes: &[MutexSlot], t: ThreadNo, m: MutexNo) -> LockMove
-    ensures { result ≡ trylock_move (locks_of (threads_of threads.now) mutexes.now) t (pool_get mutexes.now m) }
+#[tactic(auto, using(ptk_mutex_slots::proofs::Bare::bares))]
+fn trylock_move(roster: &Roster, p: PartId, t: ThreadNo, m: MutexNo) -> LockMove
+    requires { p < length roster.now.table.threads }
+    ensures { result ≡ trylock_move (locks_of (part_of roster.now.table.threads p) (part_of roster.now.mutexes p)) t (pool_get (part_of roster.now.mutexes p) m) }
 {
-    match slot_in(mutexes, m) {
-        Some(slot) => slot.trylock_move(threads, t),
+    match slot_in(roster.mutex_slots(p), m) {
+        Some(slot) => slot.trylock_move(roster.threads().part(p), t),
         None => LockMove::Refuses(Errno::EINVAL),
+    }
+}
+
+/// Whether the thread owns the mutex.
+#[tactic(auto, using(ptk_mutex_slots::proofs::Bare::bares))]
+pub(crate) fn is_owner(roster: &Roster, p: PartId, t: ThreadNo, m: MutexNo) -> bool
+    requires { p < length roster.now.table.threads }
+    ensures { result ≡ owns t (pool_get (part_of roster.now.mutexes p) m) }
+{
+    match slot_in(roster.mutex_slots(p), m) {
+        Some(slot) => slot.is_owned_by(t),
+        None => false,
     }
 }
 

@@ -6,22 +6,22 @@ ghost use Rattle.ptk_words_parted.specs.Parts.{part_of};
 ghost use Rattle.ptk_words_model.specs.State.{locks_of};
 ghost use Rattle.ptk_words_model.specs.Mutex.{after_take, after_free};
 ghost use Rattle.ptk_mutex_slots.specs.Plain.{is_takeable, is_releasable};
-ghost use Rattle.ptk_mutex.specs.Tables.{mutexes_of};
 
 use crate::mutexes::Mutexes;
 use ptk_mutex_slots::{Change, slot_in};
-use ptk_threads::Threads;
+use ptk_roster::Roster;
 use ptk_words::{MutexNo, PartId, ThreadNo};
 
 impl Mutexes {
     /// Whether a lock takes the mutex and changes no priority: it is free and sound, and neither INHERIT nor PROTECT
     /// (pthread_mutex_lock).
     #[inline]
-    pub fn is_takeable(&self, p: PartId, m: MutexNo) -> bool
-        requires { p < length self.now }
-        ensures { result ≡ is_takeable (pool_get (part_of self.now p) m) }
+    #[tactic(auto, using(ptk_mutex_slots::proofs::Bare::bares))]
+    pub fn is_takeable(&self, roster: &Roster, p: PartId, m: MutexNo) -> bool
+        requires { p < length roster.now.table.threads }
+        ensures { result ≡ is_takeable (pool_get (part_of roster.now.mutexes p) m) }
     {
-        match slot_in(self.part(p), m) {
+        match slot_in(roster.mutex_slots(p), m) {
             Some(slot) => slot.is_takeable(),
             None => false,
         }
@@ -30,32 +30,37 @@ impl Mutexes {
     /// Whether an unlock by the thread frees the mutex, wakes nobody and changes no priority: the thread locked it once,
     /// it is sound and neither INHERIT nor PROTECT, and nobody waits for it (pthread_mutex_unlock).
     #[inline]
-    pub fn is_releasable(&self, threads: &Threads, p: PartId, t: ThreadNo, m: MutexNo) -> bool
-        requires { p < length self.now }
-        ensures { result ≡ is_releasable t (pool_get (part_of (mutexes_of self.now threads.now) p) m) }
+    #[tactic(auto, using(ptk_mutex_slots::proofs::Bare::bares))]
+    pub fn is_releasable(&self, roster: &Roster, p: PartId, t: ThreadNo, m: MutexNo) -> bool
+        requires { p < length roster.now.table.threads }
+        ensures { result ≡ is_releasable t (pool_get (part_of roster.now.mutexes p) m) }
     {
-        match slot_in(self.part(p), m) {
-            Some(slot) => slot.is_releasable(t),
+        match slot_in(roster.mutex_slots(p), m) {
+            Some(slot) => slot.is_releasable(t, roster.has_mutex_waiters(p, m)),
             None => false,
         }
     }
 
     /// The thread owns the mutex, counted once; that this changes no priority is the caller's to know (pthread_mutex_lock).
     #[inline]
-    pub fn take_plain(&mut self, threads: &Threads, p: PartId, t: ThreadNo, m: MutexNo)
-        requires { p < length self.old }
-        ensures { mutexes_of self.new threads.now ≡ slice_set (mutexes_of self.old threads.now) p (after_take t m (locks_of (part_of threads.now.threads p) (part_of (mutexes_of self.old threads.now) p))).mutexes }
+    pub fn take_plain(&mut self, roster: &mut Roster, p: PartId, t: ThreadNo, m: MutexNo)
+        requires { p < length roster.old.table.threads }
+        ensures roster { roster.new ≡ record roster.old { mutexes = slice_set roster.old.mutexes p (after_take t m (locks_of (part_of roster.old.table.threads p) (part_of roster.old.mutexes p))).mutexes } }
+        ensures visited { self.new.visited ≡ 0 }
     {
-        self.change(p, m, Change::Take(t));
+        self.visited = 0;
+        roster.change_mutex(p, m, Change::Take(t));
     }
 
     /// Nobody owns the mutex; that this changes no priority and nobody waits is the caller's to know
     /// (pthread_mutex_unlock).
     #[inline]
-    pub fn release_plain(&mut self, threads: &Threads, p: PartId, m: MutexNo)
-        requires { p < length self.old }
-        ensures { mutexes_of self.new threads.now ≡ slice_set (mutexes_of self.old threads.now) p (after_free m (locks_of (part_of threads.now.threads p) (part_of (mutexes_of self.old threads.now) p))).mutexes }
+    pub fn release_plain(&mut self, roster: &mut Roster, p: PartId, m: MutexNo)
+        requires { p < length roster.old.table.threads }
+        ensures roster { roster.new ≡ record roster.old { mutexes = slice_set roster.old.mutexes p (after_free m (locks_of (part_of roster.old.table.threads p) (part_of roster.old.mutexes p))).mutexes } }
+        ensures visited { self.new.visited ≡ 0 }
     {
-        self.change(p, m, Change::Release);
+        self.visited = 0;
+        roster.change_mutex(p, m, Change::Release);
     }
 }

@@ -1,27 +1,32 @@
 //! The life of numbers, by the calls that may want memory.
 
 use crate::mutexes::Mutexes;
-use ptk_threads::Threads;
+use ptk_roster::Roster;
 use ptk_words::{MutexKind, MutexNo, PartId, Protocol};
 use std::test::Fail;
 
 #[test]
-#[tactic(auto, using(crate::proofs::Pool::pools))]
 fn the_least_number_is_used_again(rt: HostRuntime) -> Result<(), Fail> {
     let first = PartId::new(0);
     let second = PartId::new(1);
     let one = MutexNo::new(1);
     let two = MutexNo::new(2);
-    let threads = Threads::build(rt.alloc(), &[1, 1])?;
-    let mut mutexes = Mutexes::build(rt.alloc(), &[2, 1])?;
-    assert_eq!(rt; mutexes.parts(), 2);
+    let mut roster = Roster::build(rt.alloc(), &[1, 1], &[2, 1], &[0, 0])?;
+    let mut mutexes = Mutexes::new();
+    assert_eq!(rt; roster.parts(), 2);
     assert_eq!(rt;
-        mutexes.init(&threads, first, MutexKind::Normal, Protocol::Inherit, false),
+        mutexes.init(
+            &mut roster,
+            first,
+            MutexKind::Normal,
+            Protocol::Inherit,
+            false
+        ),
         Some(one)
     );
     assert_eq!(rt;
         mutexes.init(
-            &threads,
+            &mut roster,
             first,
             MutexKind::Recursive,
             Protocol::Inherit,
@@ -30,12 +35,18 @@ fn the_least_number_is_used_again(rt: HostRuntime) -> Result<(), Fail> {
         Some(two)
     );
     assert_eq!(rt;
-        mutexes.init(&threads, first, MutexKind::Normal, Protocol::Inherit, true),
+        mutexes.init(
+            &mut roster,
+            first,
+            MutexKind::Normal,
+            Protocol::Inherit,
+            true
+        ),
         None
     );
     assert_eq!(rt;
         mutexes.init(
-            &threads,
+            &mut roster,
             second,
             MutexKind::ErrorCheck,
             Protocol::NoProtocol,
@@ -43,12 +54,18 @@ fn the_least_number_is_used_again(rt: HostRuntime) -> Result<(), Fail> {
         ),
         Some(one)
     );
-    assert!(rt; mutexes.waiters(&threads, first, one).is_empty());
-    mutexes.destroy(&threads, first, one);
-    assert!(rt; mutexes.state(first, one).is_none());
-    assert!(rt; mutexes.state(first, two).is_some());
+    assert!(rt; !roster.has_mutex_waiters(first, one));
+    mutexes.destroy(&mut roster, first, one);
+    assert!(rt; mutexes.state(&roster, first, one).is_none());
+    assert!(rt; mutexes.state(&roster, first, two).is_some());
     assert_eq!(rt;
-        mutexes.init(&threads, first, MutexKind::Normal, Protocol::Inherit, false),
+        mutexes.init(
+            &mut roster,
+            first,
+            MutexKind::Normal,
+            Protocol::Inherit,
+            false
+        ),
         Some(one)
     );
     Ok(())

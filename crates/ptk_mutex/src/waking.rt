@@ -8,19 +8,17 @@ ghost use Rattle.ptk_words_parted.specs.Parts.{part_of};
 ghost use Rattle.ptk_words_model.specs.Schedule.{woken_with};
 ghost use Rattle.ptk_words_model.specs.declared.LockMove.TheVariants.{Counts};
 ghost use Rattle.ptk_words_model.specs.Mutex.{mutex_at, count_of, relock_move, after_relock, after_relock_move, after_leave};
+ghost use Rattle.ptk_words_locks.specs.Conditions.{IsNoWaiter};
 ghost use Rattle.ptk_threads.specs.Table.{thread_in, with_changed};
-ghost use Rattle.ptk_ready.specs.Queues.{AreUnused};
-ghost use Rattle.ptk_mutex_slots.specs.declared.slot.Change.TheVariants.{CountUp, Enqueue};
-ghost use Rattle.ptk_mutex_slots.specs.Changes.{SlotMayChange};
-ghost use Rattle.ptk_mutex.specs.Tables.{mutexes_of, locks_at, with_threads, with_threads_alone, HasPart, IsWaiter, MayWait, AreReady};
 ghost use Rattle.ptk_mutex_rise.specs.Visits.{IsVisited};
+ghost use Rattle.ptk_mutex.specs.Tables.{locks_at, with_threads, with_threads_alone, HasPart, IsWaiter, MayWait, AreReady};
 ghost use Rattle.ptk_mutex.specs.Moves.{after_withdrawal};
 ghost use Rattle.ptk_mutex.specs.Rises.{MayTake, is_wait};
 
-use crate::mutexes::Mutexes;
-use ptk_mutex_slots::{Change, MutexSlot, kept_reply, reply_of, slot_in};
-use ptk_ready::{Line, VecLine};
-use ptk_threads::Threads;
+use crate::mutexes::{Mutexes, refresh_priorities};
+use crate::rising::make;
+use ptk_mutex_slots::{kept_reply, reply_of, slot_in};
+use ptk_roster::Roster;
 use ptk_words::{A0, MutexNo, PartId, Thread, ThreadNo, Wait};
 use ptk_words_model::LockMove;
 
@@ -32,25 +30,26 @@ impl Mutexes {
     #[tactic(auto, using(crate::proofs::Moved::moves))]
     pub fn relock(
         &mut self,
-        line: &mut VecLine,
-        threads: &mut Threads,
+        roster: &mut Roster,
         p: PartId,
         t: ThreadNo,
         m: MutexNo,
         reply: Option<u32>,
     ) -> LockMove
-        requires ready { AreReady p threads.old line.old self.old }
-        requires caller { MayWait (locks_at p threads.old line.old self.old) t }
-        requires countable { relock_move t (mutex_at (locks_at p threads.old line.old self.old) m) ≡ Counts → count_of (mutex_at (locks_at p threads.old line.old self.old) m) < COUNT_LIMIT }
-        ensures told { result ≡ relock_move t (mutex_at (locks_at p threads.old line.old self.old) m) }
-        ensures threads { threads.new ≡ with_threads p (after_relock t m reply (locks_at p threads.old line.old self.old)) threads.old }
-        ensures line { line.new ≡ slice_set line.old p (after_relock t m reply (locks_at p threads.old line.old self.old)).line }
-        ensures mutexes { mutexes_of self.new threads.new ≡ slice_set (mutexes_of self.old threads.old) p (after_relock t m reply (locks_at p threads.old line.old self.old)).mutexes }
-        ensures ready { AreReady p threads.new line.new self.new }
+        requires ready { AreReady p roster.old.table roster.old.lines roster.old.mutexes }
+        requires caller { MayWait (locks_at p roster.old.table roster.old.lines roster.old.mutexes) t }
+        requires free { IsNoWaiter t (part_of roster.old.mutexes p) (part_of roster.old.conditions p) }
+        requires countable { relock_move t (mutex_at (locks_at p roster.old.table roster.old.lines roster.old.mutexes) m) ≡ Counts → count_of (mutex_at (locks_at p roster.old.table roster.old.lines roster.old.mutexes) m) < COUNT_LIMIT }
+        ensures told { result ≡ relock_move t (mutex_at (locks_at p roster.old.table roster.old.lines roster.old.mutexes) m) }
+        ensures threads { roster.new.table ≡ with_threads p (after_relock t m reply (locks_at p roster.old.table roster.old.lines roster.old.mutexes)) roster.old.table }
+        ensures line { roster.new.lines ≡ slice_set roster.old.lines p (after_relock t m reply (locks_at p roster.old.table roster.old.lines roster.old.mutexes)).line }
+        ensures mutexes { roster.new.mutexes ≡ slice_set roster.old.mutexes p (after_relock t m reply (locks_at p roster.old.table roster.old.lines roster.old.mutexes)).mutexes }
+        ensures conditions { roster.new.conditions ≡ roster.old.conditions }
+        ensures visited { IsVisited self.new.visited (part_of roster.old.table.stored p) (part_of roster.new.table.stored p) }
+        ensures ready { AreReady p roster.new.table roster.new.lines roster.new.mutexes }
     {
-        let made = relock_move(self.part(p), t, m);
-        let visited = self.make_relock(line, threads, p, t, m, reply, made);
-        self.tell_visited(visited);
+        let made = relock_move(roster, p, t, m);
+        self.visited = make_relock(roster, p, t, m, reply, made);
         made
     }
 
@@ -58,100 +57,90 @@ impl Mutexes {
     #[tactic(auto, using(crate::proofs::Moved::moves))]
     pub fn withdraw(
         &mut self,
-        line: &mut VecLine,
-        threads: &mut Threads,
+        roster: &mut Roster,
         p: PartId,
         t: ThreadNo,
         m: MutexNo,
         reply: Option<u32>,
     )
-        requires ready { AreReady p threads.old line.old self.old }
-        requires waiter { IsWaiter (locks_at p threads.old line.old self.old) m t }
-        ensures threads { threads.new ≡ with_threads p (after_withdrawal t m reply (locks_at p threads.old line.old self.old)) threads.old }
-        ensures line { line.new ≡ slice_set line.old p (after_withdrawal t m reply (locks_at p threads.old line.old self.old)).line }
-        ensures mutexes { mutexes_of self.new threads.new ≡ slice_set (mutexes_of self.old threads.old) p (after_withdrawal t m reply (locks_at p threads.old line.old self.old)).mutexes }
-        ensures ready { AreReady p threads.new line.new self.new }
+        requires ready { AreReady p roster.old.table roster.old.lines roster.old.mutexes }
+        requires waiter { IsWaiter (locks_at p roster.old.table roster.old.lines roster.old.mutexes) m t }
+        ensures threads { roster.new.table ≡ with_threads p (after_withdrawal t m reply (locks_at p roster.old.table roster.old.lines roster.old.mutexes)) roster.old.table }
+        ensures line { roster.new.lines ≡ slice_set roster.old.lines p (after_withdrawal t m reply (locks_at p roster.old.table roster.old.lines roster.old.mutexes)).line }
+        ensures mutexes { roster.new.mutexes ≡ slice_set roster.old.mutexes p (after_withdrawal t m reply (locks_at p roster.old.table roster.old.lines roster.old.mutexes)).mutexes }
+        ensures conditions { roster.new.conditions ≡ roster.old.conditions }
+        ensures visited { self.new.visited ≡ 0 }
+        ensures ready { AreReady p roster.new.table roster.new.lines roster.new.mutexes }
     {
-        self.take_out(line, threads, p, t, m, reply);
-        self.refresh(threads, p);
-    }
-
-    /// A thread makes its move of a re-lock; the chain that it raises is stored.
-    #[tactic(auto, using(crate::proofs::Moved::moves))]
-    fn make_relock(
-        &mut self,
-        line: &mut VecLine,
-        threads: &mut Threads,
-        p: PartId,
-        t: ThreadNo,
-        m: MutexNo,
-        reply: Option<u32>,
-        made: LockMove,
-    ) -> u32
-        requires ready { AreReady p threads.old line.old self.old }
-        requires caller { MayWait (locks_at p threads.old line.old self.old) t }
-        requires free { MayTake made (pool_get (part_of self.old p) m) }
-        ensures threads { threads.new ≡ with_threads p (after_relock_move made t m reply (locks_at p threads.old line.old self.old)) threads.old }
-        ensures line { line.new ≡ slice_set line.old p (after_relock_move made t m reply (locks_at p threads.old line.old self.old)).line }
-        ensures mutexes { self.new ≡ slice_set self.old p (after_relock_move made t m reply (locks_at p threads.old line.old self.old)).mutexes }
-        ensures visited { IsVisited result (part_of threads.old.stored p) (part_of threads.new.stored p) }
-    {
-        let visited = self.make(line, threads, p, t, m, Wait::RelockWait(m, reply), made);
-        if is_wait(made) {
-            return visited;
-        }
-        wake(line, threads, p, t, reply_of(made, reply));
-        visited
-    }
-
-    /// A waiter leaves and is woken, told of this move what its wait kept; the stored priorities stay.
-    #[tactic(auto, using(crate::proofs::Moved::wakes))]
-    pub(crate) fn leave(
-        &mut self,
-        line: &mut VecLine,
-        threads: &mut Threads,
-        p: PartId,
-        t: ThreadNo,
-        m: MutexNo,
-        made: LockMove,
-    )
-        requires part { HasPart p threads.old line.old self.old }
-        requires waiter { IsWaiter (locks_at p threads.old line.old self.old) m t }
-        ensures threads { threads.new ≡ with_threads_alone p (after_leave made t m (locks_at p threads.old line.old self.old)) threads.old }
-        ensures line { line.new ≡ slice_set line.old p (after_leave made t m (locks_at p threads.old line.old self.old)).line }
-        ensures mutexes { self.new ≡ slice_set self.old p (after_leave made t m (locks_at p threads.old line.old self.old)).mutexes }
-    {
-        let kept = kept_reply(threads.wait(p, t));
-        self.take_out(line, threads, p, t, m, reply_of(made, kept));
-    }
-
-    /// A waiter leaves and is woken; the stored priorities stay.
-    #[tactic(auto, using(crate::proofs::Moved::moves))]
-    fn take_out(
-        &mut self,
-        line: &mut VecLine,
-        threads: &mut Threads,
-        p: PartId,
-        t: ThreadNo,
-        m: MutexNo,
-        reply: Option<u32>,
-    )
-        requires part { HasPart p threads.old line.old self.old }
-        requires waiter { IsWaiter (locks_at p threads.old line.old self.old) m t }
-        ensures threads { threads.new ≡ with_threads_alone p (after_withdrawal t m reply (locks_at p threads.old line.old self.old)) threads.old }
-        ensures line { line.new ≡ slice_set line.old p (after_withdrawal t m reply (locks_at p threads.old line.old self.old)).line }
-        ensures mutexes { self.new ≡ slice_set self.old p (after_withdrawal t m reply (locks_at p threads.old line.old self.old)).mutexes }
-    {
-        self.change(p, m, Change::Dequeue(t));
-        wake(line, threads, p, t, reply);
+        self.visited = 0;
+        take_out(roster, p, t, m, reply);
+        refresh_priorities(roster, p);
     }
 }
 
-/// The move of a re-lock.
-pub(crate) fn relock_move(mutexes: &[MutexSlot], t: ThreadNo, m: MutexNo) -> LockMove
-    ensures { result ≡ relock_move t (pool_get mutexes.now m) }
+/// A thread makes its move of a re-lock; the chain that it raises is stored.
+#[tactic(auto, using(crate::proofs::Moved::moves))]
+fn make_relock(
+    roster: &mut Roster,
+    p: PartId,
+    t: ThreadNo,
+    m: MutexNo,
+    reply: Option<u32>,
+    made: LockMove,
+) -> u32
+    requires ready { AreReady p roster.old.table roster.old.lines roster.old.mutexes }
+    requires caller { MayWait (locks_at p roster.old.table roster.old.lines roster.old.mutexes) t }
+    requires free { IsNoWaiter t (part_of roster.old.mutexes p) (part_of roster.old.conditions p) }
+    requires takes { MayTake made (pool_get (part_of roster.old.mutexes p) m) }
+    ensures threads { roster.new.table ≡ with_threads p (after_relock_move made t m reply (locks_at p roster.old.table roster.old.lines roster.old.mutexes)) roster.old.table }
+    ensures line { roster.new.lines ≡ slice_set roster.old.lines p (after_relock_move made t m reply (locks_at p roster.old.table roster.old.lines roster.old.mutexes)).line }
+    ensures mutexes { roster.new.mutexes ≡ slice_set roster.old.mutexes p (after_relock_move made t m reply (locks_at p roster.old.table roster.old.lines roster.old.mutexes)).mutexes }
+    ensures conditions { roster.new.conditions ≡ roster.old.conditions }
+    ensures visited { IsVisited result (part_of roster.old.table.stored p) (part_of roster.new.table.stored p) }
 {
-    match slot_in(mutexes, m) {
+    let visited = make(roster, p, t, m, Wait::RelockWait(m, reply), made);
+    if is_wait(made) {
+        return visited;
+    }
+    wake(roster, p, t, reply_of(made, reply));
+    visited
+}
+
+/// A waiter leaves and is woken, told of this move what its wait kept; the stored priorities stay.
+#[tactic(auto, using(crate::proofs::Moved::wakes))]
+pub(crate) fn leave(roster: &mut Roster, p: PartId, t: ThreadNo, m: MutexNo, made: LockMove)
+    requires part { HasPart p roster.old.table roster.old.lines roster.old.mutexes }
+    requires waiter { IsWaiter (locks_at p roster.old.table roster.old.lines roster.old.mutexes) m t }
+    ensures threads { roster.new.table ≡ with_threads_alone p (after_leave made t m (locks_at p roster.old.table roster.old.lines roster.old.mutexes)) roster.old.table }
+    ensures line { roster.new.lines ≡ slice_set roster.old.lines p (after_leave made t m (locks_at p roster.old.table roster.old.lines roster.old.mutexes)).line }
+    ensures mutexes { roster.new.mutexes ≡ slice_set roster.old.mutexes p (after_leave made t m (locks_at p roster.old.table roster.old.lines roster.old.mutexes)).mutexes }
+    ensures conditions { roster.new.conditions ≡ roster.old.conditions }
+{
+    let kept = kept_reply(roster.threads().wait(p, t));
+    take_out(roster, p, t, m, reply_of(made, kept));
+}
+
+/// A waiter leaves and is woken; the stored priorities stay.
+#[tactic(auto, using(crate::proofs::Moved::moves))]
+fn take_out(roster: &mut Roster, p: PartId, t: ThreadNo, m: MutexNo, reply: Option<u32>)
+    requires part { HasPart p roster.old.table roster.old.lines roster.old.mutexes }
+    requires waiter { IsWaiter (locks_at p roster.old.table roster.old.lines roster.old.mutexes) m t }
+    ensures threads { roster.new.table ≡ with_threads_alone p (after_withdrawal t m reply (locks_at p roster.old.table roster.old.lines roster.old.mutexes)) roster.old.table }
+    ensures line { roster.new.lines ≡ slice_set roster.old.lines p (after_withdrawal t m reply (locks_at p roster.old.table roster.old.lines roster.old.mutexes)).line }
+    ensures mutexes { roster.new.mutexes ≡ slice_set roster.old.mutexes p (after_withdrawal t m reply (locks_at p roster.old.table roster.old.lines roster.old.mutexes)).mutexes }
+    ensures conditions { roster.new.conditions ≡ roster.old.conditions }
+{
+    roster.leave_mutex(p, m, t);
+    wake(roster, p, t, reply);
+}
+
+/// The move of a re-lock.
+#[tactic(auto, using(ptk_mutex_slots::proofs::Bare::bares))]
+pub(crate) fn relock_move(roster: &Roster, p: PartId, t: ThreadNo, m: MutexNo) -> LockMove
+    requires { p < length roster.now.table.threads }
+    ensures { result ≡ relock_move t (pool_get (part_of roster.now.mutexes p) m) }
+{
+    match slot_in(roster.mutex_slots(p), m) {
         Some(slot) => slot.relock_move(t),
         None => LockMove::Waits,
     }
@@ -169,26 +158,31 @@ fn is_wait(made: LockMove) -> bool
 
 /// A blocked thread is ready, at the tail, told this if anything.
 #[tactic(auto, using(crate::proofs::Moved::wakes))]
-fn wake(line: &mut VecLine, threads: &mut Threads, p: PartId, t: ThreadNo, reply: Option<u32>)
-    requires partition { (p < length line.old) × (p < length threads.old.threads) }
-    requires in_use { IsSome (thread_in threads.old p t) }
-    requires out { is_in t (part_of line.old p) ≡ false }
-    requires idle { AreUnused threads.old.queues }
-    ensures threads { threads.new ≡ with_changed p t (woken_with (option_to_list reply)) threads.old }
-    ensures line { line.new ≡ slice_set line.old p (part_of line.old p ++ t ∷ []) }
+fn wake(roster: &mut Roster, p: PartId, t: ThreadNo, reply: Option<u32>)
+    requires partition { p < length roster.old.table.threads }
+    requires in_use { IsSome (thread_in roster.old.table p t) }
+    requires out { is_in t (part_of roster.old.lines p) ≡ false }
+    requires free { IsNoWaiter t (part_of roster.old.mutexes p) (part_of roster.old.conditions p) }
+    ensures threads { roster.new.table ≡ with_changed p t (woken_with (option_to_list reply)) roster.old.table }
+    ensures line { roster.new.lines ≡ slice_set roster.old.lines p (part_of roster.old.lines p ++ t ∷ []) }
+    ensures mutexes { roster.new.mutexes ≡ roster.old.mutexes }
+    ensures conditions { roster.new.conditions ≡ roster.old.conditions }
 {
-    line.push_tail(threads, p, t);
-    rouse(threads, p, t, reply);
+    roster.push_tail(p, t);
+    rouse(roster, p, t, reply);
 }
 
 /// A thread waits for nothing any more, told this if anything.
 #[tactic(auto, using(crate::proofs::Moved::wakes))]
-fn rouse(threads: &mut Threads, p: PartId, t: ThreadNo, reply: Option<u32>)
-    requires { p < length threads.old.threads }
-    ensures { threads.new ≡ with_changed p t (woken_with (option_to_list reply)) threads.old }
+fn rouse(roster: &mut Roster, p: PartId, t: ThreadNo, reply: Option<u32>)
+    requires { p < length roster.old.table.threads }
+    ensures threads { roster.new.table ≡ with_changed p t (woken_with (option_to_list reply)) roster.old.table }
+    ensures line { roster.new.lines ≡ roster.old.lines }
+    ensures mutexes { roster.new.mutexes ≡ roster.old.mutexes }
+    ensures conditions { roster.new.conditions ≡ roster.old.conditions }
 {
-    if let Some(thread) = threads.thread(p, t) {
-        threads.set_thread(p, t, woken(thread, reply));
+    if let Some(thread) = roster.threads().thread(p, t) {
+        roster.set_thread(p, t, woken(thread, reply));
     }
 }
 

@@ -4,6 +4,7 @@ pub mod Joins
 pub mod Gains
 pub mod Steps
 pub mod Visits
+pub mod Rosters
 pub mod Changes
 pub mod Waits
 pub mod Takes

@@ -1,11 +1,9 @@
 -- The steps of the walk that stops early, and of its count.
 use Rattle.std.proofs.Common.{◌≡◌, ℕ, zero, suc, ◌-◌, ◌<◌, ◌≤◌, List, get_or, max, true, false, refl, arith}
-use Rattle.std.specs.Prelude.{nat_le, Option, Some, None}
+use Rattle.std.specs.Prelude.{nat_le, Option, Some}
 use Rattle.std.proofs.lemmas.Bool.Decides.{nat_tests}
-use Rattle.std.proofs.lemmas.List.{set_past}
 use Rattle.ptk_words.specs.Pools.{pool_set}
 use Rattle.ptk_threads.specs.Table.{stored_of}
-use Rattle.ptk_threads.proofs.Slots.{pool_set_below}
 use Rattle.ptk_mutex_slots.specs.Raised.{raised}
 use Rattle.ptk_mutex_rise.specs.Risen.{risen, reads}
 use Rattle.ptk_mutex_rise.proofs.Rises.{raised-same}
@@ -27,14 +25,6 @@ pub risen_stop : (next : ℕ → Option ℕ) (priority fuel u : ℕ) (stored : L
 risen_stop next priority zero u stored h = rw (raised-same priority u stored h) refl
 risen_stop next priority (suc fuel) u stored h = rw (le_true priority (stored_of stored u) h) refl
 
-pub risen_zero : (next : ℕ → Option ℕ) (priority fuel u : ℕ) (stored new : List ℕ) → fuel ≡ 0 → stored_of stored u < priority → new ≡ pool_set stored u priority → new ≡ risen next priority fuel u stored
-risen_zero next priority zero u stored new z h e = raised-set priority u stored new h e
-risen_zero next priority (suc fuel) u stored new z h e = absurd (omega (arith, z))
-
-pub risen_none : (next : ℕ → Option ℕ) (priority fuel u : ℕ) (stored new : List ℕ) → 0 < fuel → stored_of stored u < priority → next u ≡ None → new ≡ pool_set stored u priority → new ≡ risen next priority fuel u stored
-risen_none next priority zero u stored new lt h n e = absurd (omega (arith, lt))
-risen_none next priority (suc fuel) u stored new lt h n e = rw (le_false priority (stored_of stored u) h, n) (raised-set priority u stored new h e)
-
 pub risen_some : (next : ℕ → Option ℕ) (priority fuel u v : ℕ) (stored mid new : List ℕ) → 0 < fuel → stored_of stored u < priority → next u ≡ Some v → mid ≡ pool_set stored u priority → new ≡ risen next priority (fuel - 1) v mid
     → new ≡ risen next priority fuel u stored
 risen_some next priority zero u v stored mid new lt h n f e = absurd (omega (arith, lt))
@@ -43,25 +33,9 @@ risen_some next priority (suc fuel) u v stored mid new lt h n f e =
     let here : mid ≡ raised priority u stored = raised-set priority u stored mid h f in
     rw (le_false priority (stored_of stored u) h, n) (rw (same, here) at e)
 
-pub reads_stop : (next : ℕ → Option ℕ) (priority fuel u : ℕ) (stored : List ℕ) → priority ≤ stored_of stored u → reads next priority fuel u stored ≡ 1
-reads_stop next priority zero u stored h = refl
-reads_stop next priority (suc fuel) u stored h = rw (le_true priority (stored_of stored u) h) refl
-
-pub reads_zero : (next : ℕ → Option ℕ) (priority fuel u : ℕ) (stored : List ℕ) → fuel ≡ 0 → reads next priority fuel u stored ≡ 1
-reads_zero next priority zero u stored z = refl
-reads_zero next priority (suc fuel) u stored z = absurd (omega (arith, z))
-
-pub reads_none : (next : ℕ → Option ℕ) (priority fuel u : ℕ) (stored : List ℕ) → 0 < fuel → stored_of stored u < priority → next u ≡ None → reads next priority fuel u stored ≡ 1
-reads_none next priority zero u stored lt h n = refl
-reads_none next priority (suc fuel) u stored lt h n = rw (le_false priority (stored_of stored u) h, n) refl
-
 pub reads_some : (next : ℕ → Option ℕ) (priority fuel u v : ℕ) (stored mid : List ℕ) → 0 < fuel → stored_of stored u < priority → next u ≡ Some v → mid ≡ pool_set stored u priority → reads next priority fuel u stored ≡ suc (reads next priority (fuel - 1) v mid)
 reads_some next priority zero u v stored mid lt h n f = absurd (omega (arith, lt))
 reads_some next priority (suc fuel) u v stored mid lt h n f =
     let same : suc fuel - 1 ≡ fuel = omega arith in
     let here : mid ≡ raised priority u stored = raised-set priority u stored mid h f in
     rw (le_false priority (stored_of stored u) h, n, same, here) refl
-
-pub ruleset steps = (risen_stop, risen_zero, risen_none, risen_some, reads_stop, reads_zero, reads_none, reads_some)
-
-pub ruleset numbers = (pool_set_below, set_past)

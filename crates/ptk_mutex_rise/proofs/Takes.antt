@@ -1,5 +1,5 @@
 -- A thread that took a free mutex, or got a higher assigned priority: the rise from it on gives the effective priorities.
-use Rattle.std.proofs.Common.{◌≡◌, ◌≢◌, ℕ, suc, ◌+◌, ◌≤◌, Bool, true, false, ◌&&◌, List, length, max, refl, sym, ◌∙◌, ap, arith, ◌⊎◌, inl, inr}
+use Rattle.std.proofs.Common.{◌≡◌, ◌≢◌, ℕ, suc, ◌+◌, ◌≤◌, Bool, true, false, ◌&&◌, List, [], length, map, max, refl, sym, ◌∙◌, ap, arith, ◌⊎◌, inl, inr}
 use Rattle.std.specs.Prelude.{filter, nat_eq, ◌==◌, Option, Some, None, IsSome, option_map, option_and_then, if◌then◌else◌}
 use Rattle.std.specs.List.{list_any}
 use Rattle.std.proofs.lemmas.Bool.{eqb-true, eq-eqb}
@@ -19,6 +19,8 @@ use Rattle.ptk_words_locks.proofs.Threads.{changed_same}
 use Rattle.ptk_words_locks.proofs.Raising.{level_of}
 use Rattle.ptk_threads.specs.Table.{stored_of}
 use Rattle.ptk_threads.proofs.Pools.{pool_changed-free}
+use Rattle.ptk_mutex_slots.specs.Slots.{bare, with_waiters}
+use Rattle.ptk_mutex_slots.proofs.Bare.{pool_get-bare}
 use Rattle.ptk_mutex_slots.proofs.Levels.{greatest_more}
 use Rattle.ptk_mutex_rise.specs.Risen.{risen, reads}
 use Rattle.ptk_mutex_rise.specs.Visits.{IsVisited}
@@ -28,9 +30,19 @@ use Rattle.ptk_mutex_rise.proofs.ChainLaws.{false_true, none_some, IsNumber}
 use Rattle.ptk_mutex_rise.proofs.Joins.{IsJoin, IsPassed, Attained, attained, member_le, numbers_member, number_member, both_true, parts, priorities, length-priorities, stored_as, join-is}
 use Rattle.ptk_mutex_rise.proofs.Gains.{IsGain, gain-is}
 use Rattle.ptk_mutex_rise.proofs.Steps.{risen_stop}
-use Rattle.ptk_mutex_rise.proofs.Visits.{unvisited}
 use Rattle.ptk_mutex_rise.proofs.Changes.{bounded, used_number, next_mutex, held_mutex, effective_mutex, held_gain, ceilings, ceilings_max}
 use Rattle.ptk_mutex_rise.proofs.Waits.{rise_visited}
+
+-- ---- what it gives is read without its waiters
+
+gained_of-waiters : (threads : List (Option Thread)) (stored : List ℕ) (m : ℕ) (w : List ℕ) (x : Option Mutex) → gained_of threads stored m (with_waiters w x) ≡ gained_of threads stored m x
+gained_of-waiters threads stored m w None = refl
+gained_of-waiters threads stored m w (Some x) = refl
+
+pub gained_of-here : (threads : List (Option Thread)) (stored : List ℕ) (m : ℕ) (mutexes slots : List (Option Mutex)) → slots ≡ map bare mutexes → gained_of threads stored m (pool_get slots m) ≡ gained_of threads stored m (pool_get mutexes m)
+gained_of-here threads stored m mutexes slots e =
+    ap (λ (l : List (Option Mutex)). gained_of threads stored m (pool_get l m)) e ∙ ap (gained_of threads stored m) (pool_get-bare mutexes m)
+    ∙ gained_of-waiters threads stored m [] (pool_get mutexes m)
 
 -- ---- the mutex that was free
 
@@ -186,8 +198,6 @@ pub take_visited : (m u h visited : ℕ) (threads : List (Option Thread)) (mutex
 take_visited m u h visited threads mutexes stored new before e r =
     rise_visited threads mutexes u h visited stored new (ap length before ∙ length-priorities (length threads) (next_of threads (pool_changed m freed mutexes)) (held_of threads (pool_changed m freed mutexes))) e r
 
-pub ruleset takes = (take_rises, take_stays, take_visited, unvisited)
-
 -- ---- a higher assigned priority
 
 abbrev given : ℕ → ℕ → List (Option Thread) → List (Option Thread)
@@ -248,8 +258,6 @@ pub assignment_visited : (t h visited : ℕ) (threads : List (Option Thread)) (m
     → new ≡ risen (next_of threads mutexes) h (length threads) t stored → visited ≡ reads (next_of threads mutexes) h (length threads) t stored → IsVisited visited stored new
 assignment_visited t h visited threads mutexes stored new (before, le, e) r c =
     rise_visited threads mutexes t h visited stored new (ap length (e ∙ given-is t before threads mutexes) ∙ length-priorities (length threads) (next_of threads mutexes) (held_of (given t before threads) mutexes)) r c
-
-pub ruleset assignments = (assignment_rises, assignment_visited)
 
 -- ---- the threads that wait for a mutex
 

@@ -17,7 +17,7 @@ use Rattle.ptk_mutex_rise.specs.Before.{awake, IsBeforeWait}
 use Rattle.ptk_mutex_rise.proofs.ChainLaws.{false_true, IsNumber, IsBounded}
 use Rattle.ptk_mutex_rise.proofs.Rises.{IsWithin}
 use Rattle.ptk_mutex_rise.proofs.Joins.{IsJoin, IsPassed, priorities, length-priorities, stored_as, join-is}
-use Rattle.ptk_mutex_rise.proofs.Visits.{visits, unvisited}
+use Rattle.ptk_mutex_rise.proofs.Visits.{visits}
 use Rattle.ptk_mutex_rise.proofs.Changes.{bounded}
 
 -- ---- the thread before it waited
@@ -108,5 +108,3 @@ rise_visited threads mutexes u h visited stored new long e r = rw (e, r) (visits
 pub wait_visited : (t u h visited : ℕ) (threads : List (Option Thread)) (mutexes : List (Option Mutex)) (stored new : List ℕ) → IsBeforeWait t threads mutexes stored
     → new ≡ risen (next_of threads mutexes) h (length threads) u stored → visited ≡ reads (next_of threads mutexes) h (length threads) u stored → IsVisited visited stored new
 wait_visited t u h visited threads mutexes stored new before e r = rise_visited threads mutexes u h visited stored new (length-before t threads mutexes stored before) e r
-
-pub ruleset waits = (wait_rises, wait_stays, wait_visited, unvisited)

@@ -1,4 +1,5 @@
 pub mod Risen
+pub mod Rosters
 pub mod Visits
 pub mod Before
 pub mod Gained

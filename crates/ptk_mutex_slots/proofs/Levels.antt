@@ -1,19 +1,20 @@
 -- What a chain that is raised holds, and what is left once each number raised its chain.
-use Rattle.std.proofs.Common.{◌≡◌, ◌≢◌, ℕ, zero, suc, ◌+◌, ◌-◌, ◌<◌, List, [], ◌∷◌, ◌++◌, length, map, get_or, max, Bool, true, false, refl, sym, ◌∙◌, ap, arith, ◌⊎◌, inl, inr, add-one}
-use Rattle.std.specs.Prelude.{◌==◌, ◌||◌, if◌then◌else◌, Option, Some, None, option_map, unwrap_or, filter, fold, replicate}
+use Rattle.std.proofs.Common.{◌≡◌, ◌≢◌, ℕ, zero, suc, ◌+◌, ◌-◌, ◌<◌, ◌≤◌, List, [], ◌∷◌, ◌++◌, length, map, get_or, max, Bool, true, false, refl, sym, ◌∙◌, ap, subst, arith, ◌⊎◌, inl, inr, add-one}
+use Rattle.std.specs.Prelude.{◌==◌, ◌||◌, if◌then◌else◌, Option, Some, None, IsSome, option_map, unwrap_or, filter, fold, replicate}
 use Rattle.std.proofs.Math.ListN.{set}
-use Rattle.std.proofs.lemmas.Bool.{cases_eq}
+use Rattle.std.proofs.lemmas.Bool.{cases_eq, cases_lt, eq-eqb, or_left}
 use Rattle.std.proofs.lemmas.Bool.Decides.{nat_tests}
 use Rattle.std.proofs.lemmas.Grind.{common_steps, elements}
 use Rattle.std.proofs.lemmas.List.{length-set, length-map, get_or-map, get_or_append_left, get_or-append_right, length-append}
 use Rattle.std.proofs.lemmas.List.Elements.{filter-append}
 use Rattle.std.proofs.lemmas.List.Sums.{fold-append}
-use Rattle.ptk_words.specs.Pools.{greatest, numbers_to}
+use Rattle.ptk_words.specs.Pools.{pool_get, greatest, numbers_to}
 use Rattle.ptk_words_model.specs.Chain.{leads_to, greatest_leading}
 use Rattle.std.specs.Prelude.{slice_set, slice_index, option_and_then}
-use Rattle.std.proofs.lemmas.List.{set_past}
+use Rattle.std.proofs.lemmas.List.{set_past, get_or_past}
 use Rattle.ptk_words.specs.declared.threads.Thread.{Thread}
 use Rattle.ptk_words_model.specs.Priority.{mutex_of_wait, awaited}
+use Rattle.ptk_threads.specs.Table.{stored_of, AreLevelsOf}
 use Rattle.ptk_mutex_slots.specs.Raised.{raised, raised_along}
 
 -- ---- what a slot tells
@@ -149,3 +150,66 @@ swept_all n next rank stored swept =
     swept.each i below ∙ sym (get_or-map (greatest_leading n next rank) (numbers_to n) i 0 0 long ∙ ap (greatest_leading n next rank) (get_or-numbers_to n i below)))
 
 pub ruleset sweeps = (swept_none, swept_more, swept_all)
+
+-- ---- each priority in its range
+
+-- once the numbers 1 to k raised their chains, no priority is above 32, and each of them that is in use has one
+pub record IsLeveled (threads : List (Option Thread)) (k : ℕ) (stored : List ℕ) : Type 0 where
+  pub greatest : (i : ℕ) → get_or stored i 0 ≤ 32
+  pub least : (i : ℕ) → i < k → IsSome (pool_get threads (suc i)) → 0 < get_or stored i 0
+
+zero_filled : (n i : ℕ) → slice_index (replicate n 0) i ≡ 0
+zero_filled zero i = refl
+zero_filled (suc n) zero = refl
+zero_filled (suc n) (suc i) = zero_filled n i
+
+pub leveled_none : (n : ℕ) (threads : List (Option Thread)) (stored : List ℕ) → stored ≡ replicate n 0 → IsLeveled threads 0 stored
+leveled_none n threads stored e = rw e (record { greatest = λ i. omega (arith, zero_filled n i); least = λ i lt used. absurd (omega arith) })
+
+-- the priority at place i of the raised chain is one of two, and no less than before
+raised_between : (next : ℕ → Option ℕ) (priority fuel u i : ℕ) (stored : List ℕ) → (i < length stored) ⊎ (length stored ≤ i) → priority ≤ 32 → get_or stored i 0 ≤ 32
+    → (get_or stored i 0 ≤ get_or (raised_along next priority fuel u stored) i 0) × (get_or (raised_along next priority fuel u stored) i 0 ≤ 32)
+raised_between next priority fuel u i stored (inl lt) le own = let e = raised_along_at next priority fuel u i stored lt in rw e (grind (arith, nat_tests), grind (arith, nat_tests))
+raised_between next priority fuel u i stored (inr past) le own =
+    let old : get_or stored i 0 ≡ 0 = get_or_past stored i 0 past in
+    let new : get_or (raised_along next priority fuel u stored) i 0 ≡ 0 = get_or_past (raised_along next priority fuel u stored) i 0 (rw (length-raised_along next priority fuel u stored) past) in
+    (omega arith, omega arith)
+
+leads_self : (next : ℕ → Option ℕ) (t fuel : ℕ) → leads_to next t fuel t ≡ true
+leads_self next t zero = eq-eqb t t refl
+leads_self next t (suc fuel) = or_left _ _ (eq-eqb t t refl)
+
+pub leveled_more : (n : ℕ) (next : ℕ → Option ℕ) (threads : List (Option Thread)) (k u priority : ℕ) (stored new : List ℕ) → u ≡ k + 1 → k < length stored → new ≡ raised_along next priority n u stored → priority ≤ 32
+    → (IsSome (pool_get threads u) → 0 < priority) → IsLeveled threads k stored → IsLeveled threads (k + 1) new
+leveled_more n next threads k u priority stored new here lt e le own leveled =
+    let at : u ≡ suc k = here ∙ add-one k in
+    rw (e, at, add-one) (record {
+      greatest = λ i. (raised_between next priority n (suc k) i stored (cases_lt i (length stored)) le (leveled.greatest i)).1;
+      least = λ i below used. elim (cases_eq i k) as (λ _. 0 < get_or (raised_along next priority n (suc k) stored) i 0) [
+        | inl same ↦
+            (let more : 0 < priority = own (subst (λ j. IsSome (pool_get threads j)) (ap suc same ∙ sym at) used) in
+            let own_chain = leads_self next (suc k) n in
+            let here = raised_along_at next priority n (suc k) k stored lt in
+            rw (same, here, own_chain) (omega (arith, more)))
+        | inr ne ↦
+            (let more = leveled.least i (omega (arith, below, ne)) used in
+            let kept = (raised_between next priority n (suc k) i stored (cases_lt i (length stored)) le (leveled.greatest i)).0 in
+            omega (arith, more, kept))
+      ];
+    })
+
+used_within : (threads : List (Option Thread)) (i : ℕ) → IsSome (pool_get threads (suc i)) → i < length threads
+used_within [] i used = absurd (cc)
+used_within (x ∷ threads) zero used = omega arith
+used_within (x ∷ threads) (suc i) used = omega (arith, used_within threads i used)
+
+greatest_all : (threads : List (Option Thread)) (n k : ℕ) (stored : List ℕ) → IsLeveled threads n stored → stored_of stored k ≤ 32
+greatest_all threads n zero stored leveled = omega arith
+greatest_all threads n (suc i) stored leveled = leveled.greatest i
+
+least_all : (threads : List (Option Thread)) (n k : ℕ) (stored : List ℕ) → n ≡ length threads → IsLeveled threads n stored → IsSome (pool_get threads k) → 0 < stored_of stored k
+least_all threads n zero stored e leveled used = absurd (cc)
+least_all threads n (suc i) stored e leveled used = leveled.least i (rw e (used_within threads i used)) used
+
+pub leveled_all : (threads : List (Option Thread)) (n : ℕ) (stored : List ℕ) → n ≡ length threads → IsLeveled threads n stored → AreLevelsOf threads stored
+leveled_all threads n stored e leveled = record { greatest = λ k. greatest_all threads n k stored leveled; least = λ k used. least_all threads n k stored e leveled used }

@@ -1,5 +1,5 @@
 -- Mutexes that change their owner with no change of priority, and nobody woken.
-use Rattle.std.specs.Prelude.{ℕ, Bool, true, false, not, ◌&&◌, ◌==◌, length, Option, Some, None}
+use Rattle.std.specs.Prelude.{Bool, true, false, not, ◌&&◌, ◌==◌, length, Option, Some, None}
 use Rattle.ptk_words.specs.Names.{ThreadNumber}
 use Rattle.ptk_words.specs.declared.mutexes.Soundness.{Soundness}
 use Rattle.ptk_words.specs.declared.mutexes.Soundness.TheVariants.{Consistent, Inconsistent, Unrecoverable}

@@ -1,5 +1,5 @@
--- A mutex as its slot keeps it: what it is, and its waiters beside it.
-use Rattle.std.specs.Prelude.{Bool, false, ◌≡◌, ℕ, List, [], Option, Some, None}
+-- A mutex as its slot keeps it, and its waiters, which the slot does not keep.
+use Rattle.std.specs.Prelude.{Bool, false, ◌≡◌, ℕ, List, [], Option, Some, None, option_map, refl}
 use Rattle.ptk_words_model.specs.State.{Mutex}
 use Rattle.ptk_mutex_slots.specs.declared.slot.MutexState.{MutexState}
 
@@ -28,10 +28,18 @@ state_of m =
       count = m.count;
     }
 
--- a free number has no waiters (own)
-abbrev pub IsVacant : Option MutexState → List ℕ → Type 0
-IsVacant None waiters = waiters ≡ []
-IsVacant (Some state) waiters = Unit {0}
+pub state_of-bare : (state : Option MutexState) → option_map state_of (option_map (mutex_with []) state) ≡ state
+state_of-bare None = refl
+state_of-bare (Some state) = refl
+
+-- the mutex with these waiters in place of its own (own)
+abbrev pub with_waiters : List ℕ → Option Mutex → Option Mutex
+with_waiters waiters None = None
+with_waiters waiters (Some m) = Some (record m { waiters = waiters })
+
+-- the mutex without its waiters (own)
+abbrev pub bare : Option Mutex → Option Mutex
+bare x = with_waiters [] x
 
 -- the mutex is robust (pthread_mutexattr_setrobust)
 abbrev pub is_robust_at : Option Mutex → Bool

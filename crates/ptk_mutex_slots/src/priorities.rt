@@ -1,12 +1,12 @@
 //! Stored effective priorities: those of one partition computed again, and what is stored of a thread.
 
-ghost use Rattle.std.specs.Prelude.{◌≡◌, ◌<◌, ◌≤◌, length, option_map};
+ghost use Rattle.std.specs.Prelude.{◌≡◌, ◌<◌, ◌≤◌, length, option_map, IsSome};
 ghost use Rattle.std.specs.Option.{option_flatten};
 ghost use Rattle.ptk_words.specs.Pools.{pool_get};
 ghost use Rattle.ptk_words_model.specs.Priority.{mutex_of_wait, awaited, assigned_of, next_of, held_of, inheritor_of, effective_priorities};
 ghost use Rattle.ptk_words_parted.specs.Parts.{part_of};
 ghost use Rattle.ptk_threads_slots.specs.Links.{threads_of};
-ghost use Rattle.ptk_threads.specs.Table.{thread_in, stored_of};
+ghost use Rattle.ptk_threads.specs.Table.{thread_in, stored_of, AreLevelsOf};
 ghost use Rattle.ptk_mutex_slots.specs.Raised.{raised, raised_along};
 ghost use Rattle.ptk_mutex_slots.specs.Tables.{effective_at};
 
@@ -27,12 +27,14 @@ pub fn effective(threads: &Threads, p: PartId, t: ThreadNo) -> Option<u8>
     }
 }
 
-/// Computes the priorities again: each thread raises its chain (pthread_mutexattr_getprotocol).
+/// Computes the priorities again: each thread raises its chain (pthread_mutexattr_getprotocol). None is above 32, and that
+/// of a thread is at least 1.
 #[tactic(auto, using(crate::proofs::Levels::sweeps))]
 pub fn recompute(threads: &[Slot], mutexes: &[MutexSlot], stored: &mut [u8])
     requires same { length stored.old ≡ length threads.now }
     requires few { length threads.now ≤ 32 }
-    ensures { stored.new ≡ effective_priorities (threads_of threads.now) mutexes.now }
+    ensures stored { stored.new ≡ effective_priorities (threads_of threads.now) mutexes.now }
+    ensures levels { AreLevelsOf (threads_of threads.now) stored.new }
 {
     stored.fill(0);
     for k in 0..threads.len() {
@@ -126,7 +128,9 @@ fn inheritor_of(mutexes: &[MutexSlot], m: MutexNo) -> Option<ThreadNo>
 
 /// The greatest of a thread's assigned priority and the ceilings of the PROTECT mutexes that it owns.
 fn held_of(threads: &[Slot], mutexes: &[MutexSlot], t: ThreadNo) -> u8
-    ensures { result ≡ held_of (threads_of threads.now) mutexes.now t }
+    ensures value { result ≡ held_of (threads_of threads.now) mutexes.now t }
+    ensures in_range { result ≤ 32 }
+    ensures positive { IsSome (pool_get (threads_of threads.now) t) → 0 < result }
 {
     let mut most = assigned(threads, t);
     for slot in mutexes {
@@ -135,9 +139,11 @@ fn held_of(threads: &[Slot], mutexes: &[MutexSlot], t: ThreadNo) -> u8
     most
 }
 
-/// The assigned priority of a thread, 0 of a free number (XSH 2.8.4).
+/// The assigned priority of a thread, 1 to 32; 0 of a free number (XSH 2.8.4).
 pub fn assigned(threads: &[Slot], t: ThreadNo) -> u8
-    ensures { result ≡ assigned_of (threads_of threads.now) t }
+    ensures value { result ≡ assigned_of (threads_of threads.now) t }
+    ensures in_range { result ≤ 32 }
+    ensures positive { IsSome (pool_get (threads_of threads.now) t) → 0 < result }
 {
     match thread_slot(threads, t) {
         Some(slot) => match slot.assigned_priority() {

@@ -1,15 +1,15 @@
-//! One place of the pool, what becomes of the mutex at it, and the place of a number.
+//! One place of the pool, what becomes of the mutex at it, but for its waiters, and the place of a number.
 
-ghost use Rattle.std.specs.Prelude.{◌≡◌, ◌&&◌, [], Some, None, IfOk, not, is_none, option_map, if◌then◌else◌};
+ghost use Rattle.std.specs.Prelude.{◌≡◌, ◌≤◌, ◌&&◌, [], Some, None, IfOk, not, is_none, option_map, if◌then◌else◌};
 ghost use Rattle.std.specs.Option.{option_flatten};
 ghost use Rattle.ptk_words.specs.Pools.{pool_get};
 ghost use Rattle.ptk_words.specs.declared.faults.Errno.TheVariants.{EINVAL};
 ghost use Rattle.ptk_words_model.specs.State.{locks_of};
 ghost use Rattle.ptk_words_model.specs.declared.LockMove.TheVariants.{Refuses};
-ghost use Rattle.ptk_words_model.specs.Mutex.{new_mutex, waiters_of, lock_move, trylock_move, relock_move, owns, is_free, is_raising_for, is_raising, soundness_of, count_of, is_above_ceiling, owner_move, free_move};
+ghost use Rattle.ptk_words_model.specs.Mutex.{new_mutex, lock_move, trylock_move, relock_move, owns, is_free, is_raising_for, is_raising, soundness_of, count_of, is_above_ceiling, owner_move, free_move};
 ghost use Rattle.ptk_words_model.specs.Priority.{inheritor, inheritor_of, ceiling_for, ceiling_of, is_owner};
 ghost use Rattle.ptk_threads_slots.specs.Links.{threads_of};
-ghost use Rattle.ptk_mutex_slots.specs.Slots.{mutex_with, state_of, is_robust_at};
+ghost use Rattle.ptk_mutex_slots.specs.Slots.{state_of, is_robust_at};
 ghost use Rattle.ptk_mutex_slots.specs.Changes.{mutex_changed, SlotMayChange};
 ghost use Rattle.ptk_mutex_slots.specs.Plain.{is_sound, is_takeable, is_releasable};
 
@@ -17,11 +17,9 @@ use crate::moves::{
     OwnerMoves, free_move, is_above_ceiling, own_lock_move, own_trylock_move, owner_move,
 };
 use crate::priorities::assigned;
-use ptk_ready::Queue;
 use ptk_threads::Slot;
 use ptk_words::{Errno, MutexKind, MutexNo, Owner, Protocol, Soundness, ThreadNo};
 use ptk_words_model::LockMove;
-use std::alloc::{AllocError, Global};
 use std::marker::Model;
 
 /// What a mutex is, but for its waiters.
@@ -41,23 +39,26 @@ pub struct MutexState {
     pub count: u32,
 }
 
-/// A place for a mutex, with room for its waiters.
-#[derive(Drop)]
+/// A place for a mutex, seen as the mutex without waiters.
+#[derive(Clone, Copy)]
 pub struct MutexSlot {
     state: Option<MutexState>,
-    waiters: Queue,
 }
 
 impl Model for MutexSlot {
-    ghost use Rattle.std.specs.Prelude.{Option, option_map};
+    ghost use Rattle.std.specs.Prelude.{[], Option, option_map};
     ghost use Rattle.ptk_words_model.specs.State.{Mutex};
-    ghost use Rattle.ptk_mutex_slots.specs.Slots.{mutex_with, IsVacant};
+    ghost use Rattle.std.proofs.Common.{ap};
+    ghost use Rattle.ptk_mutex_slots.specs.declared.slot.MutexState.{MutexState};
+    ghost use Rattle.ptk_mutex_slots.specs.Slots.{mutex_with, state_of, state_of-bare};
 
     ghost Value = { Option Mutex };
 
-    ghost view = { λ a. option_map (mutex_with a.waiters) a.state };
+    ghost view = { λ a. option_map (mutex_with []) a.state };
 
-    ghost invariant = { λ a. IsVacant a.state a.waiters };
+    ghost inverse = { λ x. record { state = option_map state_of x } };
+
+    ghost inverse_ok = { λ a h. ap (λ (x : Option MutexState). record { state = x }) (state_of-bare a.state) };
 }
 
 /// What becomes of a mutex.
@@ -75,22 +76,14 @@ pub enum Change {
     Abandon,
     /// What it guards is in this state.
     Mark(Soundness),
-    /// The thread is its last waiter.
-    Enqueue(ThreadNo),
-    /// The thread waits for it no more.
-    Dequeue(ThreadNo),
 }
 
 impl MutexSlot {
-    /// A free place. An error where memory ran out.
-    pub fn new(alloc: Global) -> Result<MutexSlot, AllocError>
-        ensures { IfOk result (λ slot. slot ≡ None) }
+    /// A free place.
+    pub fn free() -> MutexSlot
+        ensures { result ≡ None }
     {
-        let waiters = Queue::new(alloc)?;
-        Ok(MutexSlot {
-            state: None,
-            waiters,
-        })
+        MutexSlot { state: None }
     }
 
     /// What its mutex is; None at a free place.
@@ -109,16 +102,7 @@ impl MutexSlot {
         self.state.is_none()
     }
 
-    /// The waiters of its mutex, in order of arrival; none at a free place.
-    #[tactic(auto, using(crate::proofs::Slots::slots))]
-    pub fn waiters(&self) -> &[ThreadNo]
-        ensures { result.now ≡ waiters_of self.now }
-    {
-        self.waiters.threads()
-    }
-
     /// A new mutex, which is free and consistent, at a free place (pthread_mutex_init).
-    #[tactic(auto, using(crate::proofs::Slots::slots))]
     pub fn open(&mut self, kind: MutexKind, protocol: Protocol, is_robust: bool)
         requires { self.old ≡ None }
         ensures { self.new ≡ Some (new_mutex kind protocol is_robust) }
@@ -134,9 +118,7 @@ impl MutexSlot {
     }
 
     /// The place is free (pthread_mutex_destroy).
-    #[tactic(auto, using(crate::proofs::Slots::slots))]
     pub fn close(&mut self)
-        requires { waiters_of self.old ≡ [] }
         ensures { self.new ≡ None }
     {
         self.state = None;
@@ -164,8 +146,6 @@ impl MutexSlot {
             }
             Change::Abandon => state.owner = Owner::Abandoned,
             Change::Mark(soundness) => state.soundness = soundness,
-            Change::Enqueue(t) => self.waiters.push_tail(t),
-            Change::Dequeue(t) => self.waiters.remove(t),
         }
     }
 }
@@ -184,7 +164,8 @@ impl MutexSlot {
     /// The ceiling that it gives the thread, 0 where the thread doesn't own a PROTECT mutex there
     /// (pthread_mutexattr_getprotocol).
     pub(crate) fn ceiling_for(&self, t: ThreadNo) -> u8
-        ensures { result ≡ ceiling_for t self.now }
+        ensures value { result ≡ ceiling_for t self.now }
+        ensures in_range { result ≤ 32 }
     {
         match &self.state {
             Some(state) => {
@@ -224,7 +205,8 @@ fn inheritor(protocol: Protocol, owner: Owner) -> Option<ThreadNo>
 
 /// The ceiling of a PROTECT mutex, 0 of any other.
 fn ceiling_of(protocol: Protocol) -> u8
-    ensures { result ≡ ceiling_of protocol }
+    ensures value { result ≡ ceiling_of protocol }
+    ensures in_range { result ≤ 32 }
 {
     match protocol {
         Protocol::Protect(ceiling) => ceiling.level(),
@@ -343,17 +325,14 @@ impl MutexSlot {
     }
 
     /// Whether an unlock by the thread frees its mutex, wakes nobody and changes no priority: the thread locked it once,
-    /// it is sound and neither INHERIT nor PROTECT, and nobody waits for it (pthread_mutex_unlock).
+    /// it is sound and neither INHERIT nor PROTECT, and nobody waits for it, as the caller tells (pthread_mutex_unlock).
     #[inline]
-    pub fn is_releasable(&self, t: ThreadNo) -> bool
-        ensures { result ≡ is_releasable t self.now }
+    pub fn is_releasable(&self, t: ThreadNo, has_waiters: bool) -> bool
+        ensures { result ≡ (not has_waiters && is_releasable t self.now) }
     {
         match &self.state {
             Some(state) => {
-                is_plain(state)
-                    && is_owner(t, state.owner)
-                    && state.count == 1
-                    && self.waiters.threads().len() == 0
+                !has_waiters && is_plain(state) && is_owner(t, state.owner) && state.count == 1
             }
             None => false,
         }

@@ -104,6 +104,7 @@ impl<const LIMIT: u64> Line for LinkedLine<LIMIT> {
         entries.contains(part.slots, part.ends, k)
     }
 
+    #[inline(always)]
     fn set_priority(&mut self, threads: &mut Threads, p: PartId, k: ThreadNo, priority: Priority) {
         let part = threads.linked(p);
         let entries = &mut self.entries[p.index()];
@@ -118,6 +119,7 @@ impl<const LIMIT: u64> Line for LinkedLine<LIMIT> {
 }
 
 /// Takes a thread out of its queue and puts it before another one, or last into that of a priority's ready threads.
+#[inline(never)]
 fn refile(
     threads: &mut Threads,
     p: PartId,

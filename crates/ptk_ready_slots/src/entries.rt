@@ -118,6 +118,7 @@ impl<const LIMIT: u64> LinkedEntries<LIMIT> {
     /// Files a thread of the line anew for the stored priority that it is about to get; the line stays, so also the
     /// thread's place. The caller takes it out of its queue and inserts it before the thread that this names, or where
     /// it names none appends it to the new priority's queue.
+    #[inline(never)]
     pub fn refile(
         &mut self,
         slots: &[Slot],

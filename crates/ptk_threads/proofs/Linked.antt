@@ -1,9 +1,10 @@
 -- The table of slots after a change of one partition's threads, or of its queues.
-use Rattle.std.proofs.Common.{◌≡◌, ◌≢◌, ℕ, zero, suc, ◌<◌, ◌≤◌, List, [], ◌∷◌, ◌++◌, length, map, take, true, false, refl, sym, ◌∙◌, ap, subst, arith, inl, inr}
-use Rattle.std.specs.Prelude.{is_some, option_map, ◌↔◌, Option, Some, None, replicate}
+use Rattle.std.proofs.Common.{◌≡◌, ◌≢◌, ℕ, zero, suc, ◌<◌, ◌≤◌, List, [], ◌∷◌, ◌++◌, length, map, take, Bool, true, false, refl, sym, ◌∙◌, ap, subst, arith, inl, inr}
+use Rattle.std.specs.Prelude.{nat_eq, ◌==◌, is_some, option_map, ◌↔◌, Option, Some, None, replicate}
 use Rattle.std.proofs.Math.ListN.{set, get_or-map}
 use Rattle.std.proofs.lemmas.Bool.{cases_eq}
-use Rattle.std.proofs.lemmas.List.{length-replicate, length-map, map-set, map-append, length-set, get_or-set_same, get_or-set_other}
+use Rattle.std.proofs.lemmas.Bool.Decides.{nat_tests}
+use Rattle.std.proofs.lemmas.List.{length-replicate, length-map, map-set, map-append, length-set, set_past, get_or_past, set-get_or, get_or-set_same, get_or-set_other}
 use Rattle.ptk_words.specs.Pools.{is_in, without}
 use Rattle.ptk_words.specs.declared.threads.Thread.{Thread}
 use Rattle.ptk_words_parted.specs.Parts.{part_of, joined, filled}
@@ -15,10 +16,11 @@ use Rattle.ptk_threads_slots.specs.declared.link.QueueName.{QueueName}
 use Rattle.ptk_threads_slots.specs.declared.slot.Slot.{Slot}
 use Rattle.ptk_threads_slots.specs.Links.{place_of, link_in, links_of, threads_of, free_slot, no_link, no_ends, mark_of, queue_from, queue_at, queues, AreQueues}
 use Rattle.ptk_threads_slots.specs.Changes.{put_before, with_inserted, with_taken}
-use Rattle.ptk_threads_slots.proofs.Along.{along_marked, not_true}
+use Rattle.ptk_threads_slots.proofs.Along.{along_marked, le_or_gt, not_true}
 use Rattle.ptk_threads_slots.proofs.Lists.{list_at, without_none, put_none}
 use Rattle.ptk_threads_slots.proofs.Empty.{empty_queues, empty_lists}
-use Rattle.ptk_threads.specs.Queues.{LinkedThreads, queues_by, AreLinked, AreListed, IsUnqueued, with_before, with_none}
+use Rattle.ptk_threads.specs.Queues.{LinkedThreads, queues_by, AreLinked, AreListed, IsUnqueued, with_before, with_none, with_out}
+use Rattle.ptk_threads.specs.Table.{ThreadTable, with_queues}
 
 -- ---- reading
 
@@ -330,3 +332,60 @@ pub taken_same : (n m : ℕ) (x : ℕ) → n ≤ m → take n (replicate m x) �
 taken_same zero m x le = refl
 taken_same (suc n) zero x le = absurd (omega (arith, le))
 taken_same (suc n) (suc m) x le = ap (λ l. x ∷ l) (taken_same n m x (omega (arith, le)))
+
+-- ---- one thread and one queue
+
+-- a mark says of which queue a thread is a member
+pub member_told : (links : List Link) (ends : List Ends) (lists : List (List ℕ)) (k i : ℕ) (b : Bool) → AreQueues links ends → queues links ends ≡ lists → ((b ≡ true) ↔ (mark_of links k ≡ Some i)) → b ≡ is_in k (part_of lists i)
+member_told links ends lists k i true are is told = sym (subst (λ l. is_in k (part_of l i) ≡ true) is (subst (λ l. is_in k l ≡ true) (sym (list_at links ends i)) (are.marked k i (told.0 refl))))
+member_told links ends lists k i false are is told =
+    sym (not_true (is_in k (part_of lists i)) (λ inside. (let no = told.1 (member_mark links ends k i are (subst (λ l. is_in k (part_of l i) ≡ true) (sym is) inside)) in absurd (cc))))
+
+-- a member of one queue is in no other
+pub alone : (links : List Link) (ends : List Ends) (lists : List (List ℕ)) (k i j : ℕ) → AreQueues links ends → queues links ends ≡ lists → is_in k (part_of lists i) ≡ true → j ≢ i → is_in k (part_of lists j) ≡ false
+alone links ends lists k i j are is inside ne =
+    subst (λ l. is_in k (part_of l j) ≡ false) is (outside links ends k j (Some i) are (member_mark links ends k i are (subst (λ l. is_in k (part_of l i) ≡ true) (sym is) inside)) (some_other i j ne))
+
+-- so it leaves that one where it leaves all
+pub left_one : (links : List Link) (ends : List Ends) (lists : List (List ℕ)) (name : QueueName) (k : ℕ) → AreQueues links ends → queues links ends ≡ lists → is_in k (part_of lists (place_of name)) ≡ true → with_none k lists ≡ with_out name k lists
+left_one links ends lists name k are is inside =
+    map_at (without k) lists (place_of name) (λ j ne. without_none k (part_of lists j) (alone links ends lists k (place_of name) j are is inside ne))
+
+gone : (k : ℕ) (xs : List ℕ) → is_in k (without k xs) ≡ false
+gone k [] = refl
+gone k (x ∷ xs) = elim (cases_eq x k) as (λ _. is_in k (without k (x ∷ xs)) ≡ false) [
+  | inl e ↦ (let same : (x == k) ≡ true = grind (arith, nat_tests) in rw same (gone k xs))
+  | inr ne ↦ (let apart : (x == k) ≡ false = grind (arith, nat_tests) in let other : nat_eq k x ≡ false = grind (arith, nat_tests) in rw (apart, other) (gone k xs))
+]
+
+-- and lies in none
+pub left_all : (k : ℕ) (lists : List (List ℕ)) → IsUnqueued k (with_none k lists)
+left_all k lists = λ i. ap (is_in k) (get_or-map (without k) lists i []) ∙ gone k (part_of lists i)
+
+-- who is not there leaves it as it is
+pub left_none : (lists : List (List ℕ)) (name : QueueName) (k : ℕ) → is_in k (part_of lists (place_of name)) ≡ false → with_out name k lists ≡ lists
+left_none lists name k out = ap (set lists (place_of name)) (without_none k (part_of lists (place_of name)) out) ∙ set-get_or lists (place_of name) []
+
+-- ---- a thread taken from one queue of the table
+
+emptied : (queues : List (List (List ℕ))) (p k : ℕ) → IsUnqueued k (part_of (set queues p (with_none k (part_of queues p))) p)
+emptied queues p k = λ i. elim (le_or_gt (length queues) p) as (λ _. is_in k (part_of (part_of (set queues p (with_none k (part_of queues p))) p) i) ≡ false) [
+  | inl past ↦ ap (λ lists. is_in k (part_of lists i)) (ap (λ l. part_of l p) (set_past queues p (with_none k (part_of queues p)) past) ∙ get_or_past queues p [] past)
+  | inr lt ↦ ap (λ lists. is_in k (part_of lists i)) (get_or-set_same queues p (with_none k (part_of queues p)) [] lt) ∙ left_all k (part_of queues p) i
+]
+
+-- a thread with the queue's mark was taken
+pub taken_table : (links : List Link) (ends : List Ends) (p k : ℕ) (name : QueueName) (b : Bool) (now late : ThreadTable) → AreQueues links ends → queues links ends ≡ part_of now.queues p → ((b ≡ true) ↔ (mark_of links k ≡ Some (place_of name))) → b ≡ true
+    → late ≡ with_queues p (with_none k) now → late ≡ with_queues p (with_out name k) now
+taken_table links ends p k name b now late are is told marked made =
+    made ∙ ap (λ lists. record now { queues = set now.queues p lists }) (left_one links ends (part_of now.queues p) name k are is (sym (member_told links ends (part_of now.queues p) k (place_of name) b are is told) ∙ marked))
+
+pub taken_apart : (p k : ℕ) (now late : ThreadTable) → late ≡ with_queues p (with_none k) now → IsUnqueued k (part_of late.queues p)
+taken_apart p k now late made = λ i. ap (λ (t : ThreadTable). is_in k (part_of (part_of t.queues p) i)) made ∙ emptied now.queues p k i
+
+-- one without it stays
+pub stayed_table : (links : List Link) (ends : List Ends) (p k : ℕ) (name : QueueName) (b : Bool) (now : ThreadTable) → AreQueues links ends → queues links ends ≡ part_of now.queues p → ((b ≡ true) ↔ (mark_of links k ≡ Some (place_of name))) → b ≡ false
+    → (now ≡ with_queues p (with_out name k) now) × (is_in k (part_of (part_of now.queues p) (place_of name)) ≡ false)
+stayed_table links ends p k name b now are is told unmarked =
+    let out : is_in k (part_of (part_of now.queues p) (place_of name)) ≡ false = sym (member_told links ends (part_of now.queues p) k (place_of name) b are is told) ∙ unmarked in
+    (ap (λ l. record now { queues = l }) (sym (ap (set now.queues p) (left_none (part_of now.queues p) name k out) ∙ set-get_or now.queues p [])), out)

@@ -35,6 +35,10 @@ with_before k before lists = map (put_before k before) lists
 abbrev pub with_none : ℕ → List (List ℕ) → List (List ℕ)
 with_none k lists = map (without k) lists
 
+-- k is not in this queue
+abbrev pub with_out : QueueName → ℕ → List (List ℕ) → List (List ℕ)
+with_out name k lists = slice_set lists (place_of name) (without k (part_of lists (place_of name)))
+
 -- ---- all partitions' slots
 
 -- by partition: the threads by number, and the queues by place

@@ -1,5 +1,5 @@
 -- The slot table: the threads of each partition by number, their stored priorities and queues, and what each call makes of it.
-use Rattle.std.specs.Prelude.{◌≡◌, ℕ, zero, suc, ◌≤◌, Bool, List, length, Option, Some, None, option_and_then, slice_index, slice_set, map}
+use Rattle.std.specs.Prelude.{◌≡◌, ℕ, zero, suc, ◌<◌, ◌≤◌, Bool, IsSome, List, length, Option, Some, None, option_and_then, slice_index, slice_set, map}
 use Rattle.ptk_words.specs.Processor.{Processor}
 use Rattle.ptk_words.specs.Pools.{pool_get, pool_set, pool_changed, least_free}
 use Rattle.ptk_words.specs.declared.threads.Thread.{Thread}
@@ -36,6 +36,15 @@ thread_in table p k = pool_get (part_of table.threads p) k
 abbrev pub stored_of : List ℕ → ℕ → ℕ
 stored_of stored zero = 0
 stored_of stored (suc i) = slice_index stored i
+
+-- of one partition's numbers: no stored priority is above 32, and that of a thread in use is at least 1 (XSH 2.8.4)
+pub record AreLevelsOf (threads : List (Option Thread)) (stored : List ℕ) : Type 0 where
+  pub greatest : (k : ℕ) → stored_of stored k ≤ 32
+  pub least : (k : ℕ) → IsSome (pool_get threads k) → 0 < stored_of stored k
+
+-- so are those of each partition
+abbrev pub AreLevels : ThreadTable → Type 0
+AreLevels table = (p : ℕ) → AreLevelsOf (part_of table.threads p) (part_of table.stored p)
 
 -- ---- one partition's entries changed
 

@@ -3,7 +3,7 @@
 //! partition and then by place the queues that are linked through the slots, each as the list that its links lead along.
 //! Each call changes one partition's entries alone, says so in one equation on that record, and is total in all but the
 //! partition: a number that is free answers None, and setting something of it changes nothing. `create` gives the least
-//! free number. `append`, `prepend`, `insert` and `take` change one queue, and the threads stay; all other calls leave the
+//! free number. `append`, `prepend`, `insert`, `take` and `take_from` change one queue, and the threads stay; all other calls leave the
 //! links as they are. `work_on` does a piece of `Work` on a thread where it lies, of which nothing is copied, in place of
 //! a loan of it. No call but the constructor takes memory. Below stand `ptk_threads_slots`, the slots of one
 //! partition, `ptk_words`, `ptk_words_parted`, which keeps the lists, and `ptk_words_model`, whose word a reply is; above,
@@ -17,7 +17,7 @@ mod slot_table;
 mod threads;
 mod work;
 
-pub use ptk_threads_slots::{Ends, Link, QueueName, Slot};
+pub use ptk_threads_slots::{Ends, Link, QueueName, Slot, ThreadList};
 pub use slot_table::LinkedSlots;
 pub use threads::{Threads, stored_in};
 pub use work::Work;

@@ -1,22 +1,22 @@
 //! The table: the life of numbers, and the fields of a thread.
 
-ghost use Rattle.std.specs.Prelude.{◌≡◌, ◌↔◌, ◌<◌, ◌≤◌, false, length, slice_set, position, is_none, IsSome, IfSome, IfOk, All, option_map, option_and_then};
-ghost use Rattle.ptk_words.specs.Pools.{least_free, pool_get, pool_set};
+ghost use Rattle.std.specs.Prelude.{◌≡◌, ◌↔◌, ◌<◌, ◌≤◌, ◌==◌, not, true, false, length, slice_set, position, is_none, IsSome, IfSome, IfOk, All, option_map, option_and_then};
+ghost use Rattle.ptk_words.specs.Pools.{least_free, pool_get, pool_set, is_in};
 ghost use Rattle.ptk_words.specs.Threads.{left_at_end, left_at_detach};
 ghost use Rattle.ptk_words.specs.declared.threads.Thread.{Thread};
 ghost use Rattle.ptk_words_parted.specs.Parts.{part_of, joined};
 ghost use Rattle.ptk_threads.specs.Table.{free_table, thread_in, stored_of, with_slot, with_changed, with_stored, with_queues, with_free, with_new, with_rest, with_left, with_cpu, with_policy, with_priority, with_used, with_phase, with_main, with_joiner, with_result, with_wait, with_detached_mark, replaced_by};
 ghost use Rattle.ptk_threads.specs.Changes.{thread_changed};
 ghost use Rattle.ptk_threads.specs.Registers.{with_pc};
-ghost use Rattle.ptk_threads.specs.Queues.{AreListed, IsUnqueued, with_last, with_first, with_before, with_none};
+ghost use Rattle.ptk_threads.specs.Queues.{AreListed, IsUnqueued, with_last, with_first, with_before, with_none, with_out};
 ghost use Rattle.ptk_threads_slots.specs.declared.slot.Slot.{Slot};
-ghost use Rattle.ptk_threads_slots.specs.Links.{links_of, threads_of, queues, AreQueues};
+ghost use Rattle.ptk_threads_slots.specs.Links.{links_of, threads_of, place_of, queues, AreQueues};
 ghost use Rattle.ptk_words_model.specs.Schedule.{with_reply};
 
 use crate::changes::Change;
 use crate::slot_table::{LinkedSlots, SlotTable};
 use crate::work::Work;
-use ptk_threads_slots::{QueueName, Slot, link_of};
+use ptk_threads_slots::{QueueName, Slot, ThreadList, has_members, is_marked, link_of, members};
 use ptk_words::{Cpu, PartId, Phase, Policy, Priority, Thread, ThreadNo, Wait};
 use ptk_words_parted::Parted;
 use std::alloc::{AllocError, Global};
@@ -438,6 +438,37 @@ impl Threads {
         ensures { self.new ≡ with_queues p (with_none k) self.old }
     {
         self.slots.take(p, k);
+    }
+
+    /// A thread leaves this queue; nothing changes where it lies in another one, or in none. One that lay in it lies in
+    /// no queue then.
+    pub fn take_from(&mut self, p: PartId, name: QueueName, k: ThreadNo)
+        requires { p < length self.old.threads }
+        ensures table { self.new ≡ with_queues p (with_out name k) self.old }
+        ensures apart { is_in k (part_of (part_of self.old.queues p) (place_of name)) ≡ true → IsUnqueued k (part_of self.new.queues p) }
+    {
+        let part = self.linked(p);
+        if is_marked(part.slots, k, name) {
+            self.take(p, k);
+        }
+    }
+
+    /// The threads of a queue, in its order.
+    pub fn members(&self, p: PartId, name: QueueName) -> ThreadList
+        requires { p < length self.now.threads }
+        ensures { result ≡ part_of (part_of self.now.queues p) (place_of name) }
+    {
+        let part = self.linked(p);
+        members(part.slots, part.ends, name)
+    }
+
+    /// Whether any thread lies in a queue.
+    pub fn has_members(&self, p: PartId, name: QueueName) -> bool
+        requires { p < length self.now.threads }
+        ensures { result ≡ not (length (part_of (part_of self.now.queues p) (place_of name)) == 0) }
+    {
+        let part = self.linked(p);
+        has_members(part.slots, part.ends, name)
     }
 
     /// The slot of a number, a free one past the partition's.

@@ -3,3 +3,4 @@ pub mod Along
 pub mod Turns
 pub mod Lists
 pub mod Empty
+mod Walks

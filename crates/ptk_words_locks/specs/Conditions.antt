@@ -10,7 +10,7 @@ use Rattle.ptk_words.specs.declared.threads.Wait.TheVariants.{InputWait, SleepWa
 use Rattle.ptk_words_model.specs.declared.LockMove.TheVariants.{Counts}
 use Rattle.ptk_words_model.specs.State.{Mutex, Condition, Syncs}
 use Rattle.ptk_words_model.specs.Priority.{thread_at}
-use Rattle.ptk_words_model.specs.Mutex.{wait_of, count_of, relock_move}
+use Rattle.ptk_words_model.specs.Mutex.{wait_of, waiters_of, count_of, relock_move}
 use Rattle.ptk_words_model.specs.Condition.{mutex_named}
 use Rattle.ptk_words_model.specs.Unwinding.{is_alive}
 use Rattle.ptk_words_locks.specs.Locks.{joiner_of, used_of, AreMutexes, AreLined}
@@ -32,6 +32,11 @@ HasRoom t x = relock_move t x ≡ Counts → count_of x < COUNT_LIMIT
 -- the waiters of a condition variable, none of a free number (pthread_cond_wait)
 abbrev pub waiters_on : Option Condition → List ThreadNumber
 waiters_on x = unwrap_or (option_map (λ condition. condition.waiters) x) []
+
+-- the thread is in no list of waiters (own)
+pub record IsNoWaiter (t : ℕ) (mutexes : List (Option Mutex)) (conditions : List (Option Condition)) : Type 0 where
+  pub of_mutexes : (m : ℕ) → is_in t (waiters_of (pool_get mutexes m)) ≡ false
+  pub of_conditions : (c : ℕ) → is_in t (waiters_on (pool_get conditions c)) ≡ false
 
 -- the condition variables agree with the threads and the mutexes: the waiters of each are the threads whose wait is on it, none of them twice; the mutex that a waiter names is in use, and has room for the waiter's re-lock (pthread_cond_wait; pthread_mutex_destroy, EBUSY)
 pub record AreConditions (threads : List (Option Thread)) (mutexes : List (Option Mutex)) (conditions : List (Option Condition)) : Type 0 where

@@ -1,4 +1,4 @@
-//! Rows of priorities: inheritance over chains and a cycle, hand overs, and ceilings.
+//! Rows of priorities: inheritance over chains and a cycle, a raised thread's place, hand overs, and ceilings.
 
 use ptk_main_guests::{ALONE, INHERIT_BASIC, LIBRARY, NUMBERS, P, Sight, check_row, is_report};
 
@@ -43,6 +43,63 @@ fn mutexes_are_a_partitions_own(rt: HostRuntime) {
             395,
             "partition p exit 0 steps 78 lost 0\noutput 5\nlhmLo\npartition q exit 0 steps 78 lost 0\noutput 5\nlhmLo\n"
         )
+    );
+}
+
+// Row raised-in-place. L is main, 1, at 5 and owns the mutex; W, 2, at 10 makes `x`, 3, of its own priority, and then
+// locks. L is first in the line and, raised to 10, runs before x; after its unlock x runs, then W.
+const RAISED_IN_PLACE: &str = "
+    li a0, 1            #   0
+    li a1, 5            #   1
+    li a7, 18           #   2  setschedprio
+    ecall               #   3
+    li a0, 1024         #  11
+    li a1, 0            #  12  NORMAL
+    li a2, 1            #  13  INHERIT
+    li a7, 20           #  14  mutex_init
+    ecall               #  15
+    li a0, 1024         #  21
+    li a7, 22           #  22  mutex_lock
+    ecall               #  23
+    la a1, waiter       #  31
+    li a3, 10           #  33
+    call create         #  34  its ret comes at 83
+    li a0, 108          #  84  l
+    li a7, 1            #  85  console_put
+    ecall               #  86
+    li a0, 1024         #  90
+    li a7, 25           #  91  mutex_unlock
+    ecall               #  92  then x from 102 to 116
+waiter:
+    la a1, letter       #  51
+    li a2, 120          #  53  x
+    li a3, 10           #  54
+    call create         #  55
+    li a0, 1024         #  73
+    li a7, 22           #  74  mutex_lock
+    ecall               #  75  blocks
+    li a0, 119          # 116  w
+    li a7, 1            # 117  console_put
+    ecall               # 118
+    li a7, 0            # 122  exit
+    ecall               # 123
+";
+
+#[test]
+fn a_raised_thread_keeps_its_place(rt: HostRuntime) {
+    let source = [RAISED_IN_PLACE, LIBRARY];
+    let sights = [
+        (75, Sight::Level(1), 5),
+        (76, Sight::Level(1), 10),
+        (76, Sight::Awaited(2), 1),
+        (92, Sight::Level(1), 10),
+        (93, Sight::Level(1), 5),
+        (123, Sight::Steps, 51),
+    ];
+    let want = "partition p exit 0 steps 52 lost 0\noutput 3\nlxw\n";
+    assert_eq!(rt;
+        check_row(rt.alloc(), &ALONE, &source, &sights, 124, want),
+        None
     );
 }
 
@@ -228,6 +285,71 @@ fn a_mutex_of_protocol_none_ends_a_chain(rt: HostRuntime) {
     let want = "partition p exit 0 steps 77 lost 0\noutput 4\nxabc\n";
     assert_eq!(rt;
         check_row(rt.alloc(), &ALONE, &source, &sights, 191, want),
+        None
+    );
+}
+
+// Row visited-count. A is main, 1, at 2 and owns mutex 1; B, 2, at 3 owns mutex 2 and waits for mutex 1; C, 3, at 9 and
+// then D, 4, at 9 wait for mutex 2. C's lock reads the priorities of B and of A, D's that of B alone.
+const VISITED_COUNT: &str = "
+    li a0, 1            #   0
+    li a1, 2            #   1
+    li a7, 18           #   2  setschedprio
+    ecall               #   3
+    li a0, 1024         #  11
+    li a1, 0            #  12  NORMAL
+    li a2, 1            #  13  INHERIT
+    li a7, 20           #  14  mutex_init
+    ecall               #  15  its number is 1
+    li a0, 1028         #  21
+    ecall               #  22  its number is 2
+    li a0, 1024         #  28
+    li a7, 22           #  29  mutex_lock
+    ecall               #  30
+    la a1, second       #  38
+    li a3, 3            #  40
+    call create         #  41  its ret comes at 77
+    la a1, later        #  78
+    li a3, 9            #  80
+    call create         #  81  its ret comes at 108
+    la a1, later        # 109
+    li a3, 9            # 111
+    call create         # 112
+    li a7, 15           # 130  yield
+    ecall               # 131
+    li a7, 0            # 145  exit
+    ecall               # 146
+second:
+    li a0, 1028         #  58
+    li a7, 22           #  59  mutex_lock
+    ecall               #  60
+    li a0, 1024         #  68
+    ecall               #  69  blocks
+later:
+    li a0, 1028         #  98, 135
+    li a7, 22           #  99, 136  mutex_lock
+    ecall               # 100, 137  blocks
+";
+
+#[test]
+fn a_rise_reads_no_more_than_it_raises_and_one(rt: HostRuntime) {
+    let source = [VISITED_COUNT, LIBRARY];
+    let sights = [
+        (70, Sight::Level(1), 3),
+        (70, Sight::Level(2), 3),
+        (70, Sight::Visited, 1),
+        (101, Sight::Level(1), 9),
+        (101, Sight::Level(2), 9),
+        (101, Sight::Visited, 2),
+        (138, Sight::Level(1), 9),
+        (138, Sight::Level(2), 9),
+        (138, Sight::Awaited(4), 2),
+        (138, Sight::Visited, 1),
+        (146, Sight::Steps, 58),
+    ];
+    let want = "partition p exit 0 steps 59 lost 0\noutput 0\n\n";
+    assert_eq!(rt;
+        check_row(rt.alloc(), &ALONE, &source, &sights, 147, want),
         None
     );
 }

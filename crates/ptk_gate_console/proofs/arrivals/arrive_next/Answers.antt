@@ -1,6 +1,6 @@
 use Rattle.std.proofs.Common.{◌∙◌, sym}
 use Rattle.ptk_gate_pools.specs.Kept.{part_at, limits_at}
-use Rattle.ptk_gate_console.proofs.ArrivalSteps.{waiter_in_use, waiter_fresh}
+use Rattle.ptk_gate_console.proofs.ArrivalSteps.{waiter_in_use, waiter_fresh, waiter_apart}
 use Rattle.ptk_gate_console.proofs.ArrivalLoop.{kept_moved, undue_moved}
 use Rattle.ptk_gate_console.proofs.arrivals.arrive_next.Goals as goal
 
@@ -9,6 +9,9 @@ hand_next-requires-clause-in_use c = waiter_in_use (limits_at c.args.p c.args.po
 
 pub hand_next-requires-clause-fresh : goal.hand_next-requires-clause-fresh
 hand_next-requires-clause-fresh c = waiter_fresh (limits_at c.args.p c.args.pools.now) (part_at c.args.p c.args.pools.now) c.in-Some.t c.requires.well (sym c.first_waiter-waiter.ensures ∙ c.in-Some.is)
+
+pub hand_next-requires-clause-free : goal.hand_next-requires-clause-free
+hand_next-requires-clause-free c = waiter_apart (limits_at c.args.p c.args.pools.now) (part_at c.args.p c.args.pools.now) c.in-Some.t c.requires.well (sym c.first_waiter-waiter.ensures ∙ c.in-Some.is)
 
 pub returns-in-None-clause-moved : goal.returns-in-None-clause-moved
 returns-in-None-clause-moved c =

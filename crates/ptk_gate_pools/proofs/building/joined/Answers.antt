@@ -5,7 +5,7 @@ use Rattle.ptk_threads.specs.Table.{ThreadTable}
 use Rattle.ptk_console.specs.ConsoleTable.{ConsoleTable}
 use Rattle.ptk_cancel.specs.KeptCancellations.{KeptCancellations}
 use Rattle.ptk_keys.specs.KeptKeys.{KeptKeys}
-use Rattle.ptk_gate_pools.proofs.Built.{stored_made, timed_made, idle_made}
+use Rattle.ptk_gate_pools.proofs.Built.{stored_made, timed_made}
 use Rattle.ptk_gate_pools.proofs.building.joined.Goals as goal
 
 pub invariant_of-result : goal.invariant_of-result
@@ -31,9 +31,8 @@ invariant_of-result c =
       sections = ap (λ (table : ConsoleTable). table.limits) c.requires.consoles ∙ sym c.requires.limits;
       statuses = ap length c.requires.statuses ∙ length-replicate (length limits) _ ∙ back;
       lasts = ap length c.requires.lasts ∙ length-replicate (length limits) _ ∙ back;
-      stored = stored_made c.args.schedules.0 c.args.waits.0 limits c.requires.mutexes c.requires.table;
-      timed = timed_made c.args.schedules.0 c.args.waits.2 limits c.requires.deadlines c.requires.table;
-      idle = idle_made c.args.schedules.0 limits c.requires.table;
+      stored = stored_made c.args.schedules.0.table c.args.schedules.0.mutexes limits c.requires.mutexes c.requires.table;
+      timed = timed_made c.args.schedules.0.table c.args.deadlines limits c.requires.deadlines c.requires.table;
     }
 
 pub returns : goal.returns

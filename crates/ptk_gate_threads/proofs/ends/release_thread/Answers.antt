@@ -5,7 +5,12 @@ use Rattle.ptk_words_model.specs.Unwinding.{after_join_by, after_release}
 use Rattle.ptk_gate_pools.specs.Kept.{part_at}
 use Rattle.ptk_gate_pools.specs.Moves.{with_left}
 use Rattle.ptk_gate_threads.proofs.Leaving.{moved_twice, released_is}
+use Rattle.ptk_gate_threads.proofs.Absent.{joined_out}
 use Rattle.ptk_gate_threads.proofs.ends.release_thread.Goals as goal
+
+pub end-requires-clause-out : goal.end-requires-clause-out
+end-requires-clause-out c =
+    joined_out (length c.args.pools.now.limits) c.args.p c.args.t c.args.thread.result c.args.thread.joiner c.args.pools.now _ c.parts-parts.ensures.entries c.requires.partition c.tell_joiner.ensures c.requires.apart c.requires.out
 
 pub returns : goal.returns
 returns c =

@@ -6,10 +6,14 @@ use Rattle.ptk_words_model.specs.Calls.{Answer, success}
 use Rattle.ptk_words_model.specs.State.{Part, with_locks}
 use Rattle.ptk_words_model.specs.Priority.{thread_at}
 use Rattle.ptk_words_model.specs.ThreadCalls as calls
-use Rattle.ptk_gate_pools.specs.Kept.{part_at, put_part}
+use Rattle.ptk_gate_pools.specs.Kept.{part_at, put_part, limits_at}
 use Rattle.ptk_gate_pools.specs.Moves.{with_left}
 use Rattle.ptk_gate_threads.proofs.Leaving.{moved_twice, detached_is}
+use Rattle.ptk_gate_threads.proofs.Absent.{detached_out}
 use Rattle.ptk_gate_threads.proofs.thread_calls.detach.Goals as goal
+
+pub detach-requires-clause-out : goal.detach-requires-clause-out
+detach-requires-clause-out c = rw c.new.ensures (λ left. detached_out (limits_at c.args.p c.args.pools.now) c.args.i.a0 (part_at c.args.p c.args.pools.now) c.requires.well left)
 
 pub returns-clause-told : goal.returns-clause-told
 returns-clause-told c =

@@ -6,7 +6,7 @@ use Rattle.ptk_gate_pools.proofs.pools.Pools.first_ready.Goals as goal
 
 pub returns : goal.returns
 returns c =
-    let used : AreInUse (part_of c.self.inside.threads.threads c.args.p) (part_of c.self.inside.line c.args.p) =
+    let used : AreInUse (part_of c.self.inside.roster.table.threads c.args.p) (part_of c.self.inside.roster.lines c.args.p) =
     subst (λ (kept : Kept). AreInUse (part_at c.args.p kept).threads (part_at c.args.p kept).line) (sym c.self.view_is) c.requires.in_use in
     rw (← c.self.view_is)
-    (stored_first c.args.p c.first_of_greatest.result (part_of c.self.inside.line c.args.p) c.self.inside.threads.stored c.self.inside.threads.threads c.self.inside.mutexes c.first_of_greatest.ensures c.self.invariant.stored used)
+    (stored_first c.args.p c.first_of_greatest.result (part_of c.self.inside.roster.lines c.args.p) c.self.inside.roster.table.stored c.self.inside.roster.table.threads c.self.inside.roster.mutexes c.first_of_greatest.ensures c.self.invariant.stored used)

@@ -14,10 +14,10 @@ use Rattle.ptk_gate_pools.proofs.pools.Pools.lock_again.Goals as goal
 pub invariant_of-self : goal.invariant_of-self
 invariant_of-self c =
     let a = c.self.inside in
-    let locks : Locks = locks_at c.args.p a.threads a.line a.mutexes in
-    tables_pooled c.args.p (record { locks = after_move (relock_move c.args.t (mutex_at locks c.args.m)) c.args.t c.args.m (RelockWait c.args.m c.args.reply) locks; conditions = part_of a.conditions c.args.p }) a c.lock_again-made.new.threads a.line c.lock_again-made.new.self a.conditions c.follow_move.new.deadlines
+    let locks : Locks = locks_at c.args.p a.roster.table a.roster.lines a.roster.mutexes in
+    tables_pooled c.args.p (record { locks = after_move (relock_move c.args.t (mutex_at locks c.args.m)) c.args.t c.args.m (RelockWait c.args.m c.args.reply) locks; conditions = part_of a.roster.conditions c.args.p }) a c.lock_again-made.new.roster c.lock_again-made.new.self c.follow_move.new.deadlines
     (within_of c.args.p a c.args.self.now c.self.view_is c.requires.partition)
-    (record { of_threads = c.lock_again-made.ensures.threads; of_lines = line_stays c.args.p c.args.t c.args.m (relock_move c.args.t (mutex_at locks c.args.m)) (RelockWait c.args.m c.args.reply) a.threads a.line a.mutexes; of_mutexes = c.lock_again-made.ensures.mutexes; of_conditions = stay c.args.p a.conditions })
+    (record { of_threads = c.lock_again-made.ensures.threads; of_lines = c.lock_again-made.ensures.line ∙ line_stays c.args.p c.args.t c.args.m (relock_move c.args.t (mutex_at locks c.args.m)) (RelockWait c.args.m c.args.reply) a.roster.table a.roster.lines a.roster.mutexes; of_mutexes = c.lock_again-made.ensures.mutexes; of_conditions = c.lock_again-made.ensures.conditions ∙ stay c.args.p a.roster.conditions })
     (ap length c.follow_move.ensures ∙ length-set a.deadlines c.args.p _)
-    (timed_move c.args.p c.args.t c.args.m (relock_move c.args.t (mutex_at locks c.args.m)) c.lock_again-made.result (RelockWait c.args.m c.args.reply) a.threads c.lock_again-made.new.threads a.line a.mutexes a.deadlines c.follow_move.new.deadlines c.lock_again-made.ensures.threads c.lock_again-made.ensures.told c.follow_move.ensures
+    (timed_move c.args.p c.args.t c.args.m (relock_move c.args.t (mutex_at locks c.args.m)) c.lock_again-made.result (RelockWait c.args.m c.args.reply) a.roster.table c.lock_again-made.new.roster.table a.roster.lines a.roster.mutexes a.deadlines c.follow_move.new.deadlines c.lock_again-made.ensures.threads c.lock_again-made.ensures.told c.follow_move.ensures
     (subst (λ (kept : Kept). MayWait (part_at c.args.p kept).locks c.args.t) (sym c.self.view_is) c.requires.caller) c.self.invariant.timed) c.self.invariant

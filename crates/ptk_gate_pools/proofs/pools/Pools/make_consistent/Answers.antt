@@ -1,4 +1,4 @@
-use Rattle.std.proofs.Common.{refl}
+use Rattle.std.proofs.Common.{◌∙◌, refl}
 use Rattle.std.proofs.lemmas.List.{set-get_or}
 use Rattle.ptk_words.specs.declared.mutexes.Soundness.TheVariants.{Consistent}
 use Rattle.ptk_words_parted.specs.Parts.{part_of}
@@ -12,10 +12,10 @@ use Rattle.ptk_gate_pools.proofs.pools.Pools.make_consistent.Goals as goal
 pub invariant_of-self : goal.invariant_of-self
 invariant_of-self c =
     let a = c.self.inside in
-    tables_pooled c.args.p (record { locks = with_soundness Consistent c.args.m (locks_at c.args.p a.threads a.line a.mutexes); conditions = part_of a.conditions c.args.p }) a c.consistent.new.threads a.line c.consistent.new.self a.conditions a.deadlines
+    tables_pooled c.args.p (record { locks = with_soundness Consistent c.args.m (locks_at c.args.p a.roster.table a.roster.lines a.roster.mutexes); conditions = part_of a.roster.conditions c.args.p }) a c.consistent.new.roster c.consistent.new.self a.deadlines
     (within_of c.args.p a c.args.self.now c.self.view_is c.requires.partition)
-    (record { of_threads = c.consistent.ensures.threads; of_lines = stay c.args.p a.line; of_mutexes = c.consistent.ensures.mutexes; of_conditions = stay c.args.p a.conditions }) refl
-    (timed_marked c.args.p c.args.m Consistent a.threads c.consistent.new.threads a.line a.mutexes a.deadlines c.consistent.ensures.threads c.self.invariant.timed) c.self.invariant
+    (record { of_threads = c.consistent.ensures.threads; of_lines = c.consistent.ensures.line ∙ stay c.args.p a.roster.lines; of_mutexes = c.consistent.ensures.mutexes; of_conditions = c.consistent.ensures.conditions ∙ stay c.args.p a.roster.conditions }) refl
+    (timed_marked c.args.p c.args.m Consistent a.roster.table c.consistent.new.roster.table a.roster.lines a.roster.mutexes a.deadlines c.consistent.ensures.threads c.self.invariant.timed) c.self.invariant
 
 pub returns : goal.returns
-returns c = rw (← c.self.view_is, c.consistent.ensures.threads, c.consistent.ensures.mutexes) (simp set-get_or)
+returns c = rw (← c.self.view_is, c.consistent.ensures.threads, c.consistent.ensures.line, c.consistent.ensures.mutexes, c.consistent.ensures.conditions) (simp set-get_or)

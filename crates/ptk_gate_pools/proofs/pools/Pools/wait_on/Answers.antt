@@ -13,8 +13,8 @@ use Rattle.ptk_gate_pools.proofs.pools.Pools.wait_on.Goals as goal
 pub wait-woken-requires-clause-ready : goal.wait-woken-requires-clause-ready
 wait-woken-requires-clause-ready c =
     let old = c.self.invariant in
-    synced_is c.args.p _ (limits_at c.args.p c.args.self.now) (part_at c.args.p c.args.self.now) c.self.inside.threads c.self.inside.line c.self.inside.mutexes c.self.inside.conditions (within_of c.args.p c.self.inside c.args.self.now c.self.view_is c.requires.partition)
-    old.threads old.priorities old.lines old.mutexes old.conditions old.stored old.idle (ap (λ (kept : Kept). (part_at c.args.p kept).syncs) (sym c.self.view_is)) c.requires.well
+    synced_is c.args.p _ (limits_at c.args.p c.args.self.now) (part_at c.args.p c.args.self.now) c.self.inside.roster.table c.self.inside.roster.lines c.self.inside.roster.mutexes c.self.inside.roster.conditions (within_of c.args.p c.self.inside c.args.self.now c.self.view_is c.requires.partition)
+    old.threads old.priorities old.lines old.mutexes old.conditions old.stored (ap (λ (kept : Kept). (part_at c.args.p kept).syncs) (sym c.self.view_is)) c.requires.well
 
 pub wait-woken-requires-clause-caller : goal.wait-woken-requires-clause-caller
 wait-woken-requires-clause-caller c =
@@ -23,15 +23,15 @@ wait-woken-requires-clause-caller c =
 -- whoever is woken has no deadline
 pub invariant_of-self : goal.invariant_of-self
 invariant_of-self c =
-    tables_pooled c.args.p (after_condition_wait c.args.t c.args.c c.args.m c.args.deadline (syncs_at c.args.p c.self.inside.threads c.self.inside.line c.self.inside.mutexes c.self.inside.conditions)) c.self.inside c.wait-woken.new.threads c.wait-woken.new.line c.wait-woken.new.mutexes c.wait-woken.new.self c.follow_wait.new.deadlines (within_of c.args.p c.self.inside c.args.self.now c.self.view_is c.requires.partition)
+    tables_pooled c.args.p (after_condition_wait c.args.t c.args.c c.args.m c.args.deadline (syncs_at c.args.p c.self.inside.roster.table c.self.inside.roster.lines c.self.inside.roster.mutexes c.self.inside.roster.conditions)) c.self.inside c.wait-woken.new.roster c.wait-woken.new.mutexes c.follow_wait.new.deadlines (within_of c.args.p c.self.inside c.args.self.now c.self.view_is c.requires.partition)
     (record { of_threads = c.wait-woken.ensures.threads; of_lines = c.wait-woken.ensures.line; of_mutexes = c.wait-woken.ensures.mutexes; of_conditions = c.wait-woken.ensures.conditions })
     (ap length c.follow_wait.ensures ∙ length-set c.end_all.new.self c.args.p _
-    ∙ ended_long c.args.p c.wait-woken.result (woken_by_unlock c.args.m (locks_at c.args.p c.self.inside.threads c.self.inside.line c.self.inside.mutexes)) c.self.inside.deadlines c.end_all.new.self c.wait-woken.ensures.woken c.end_all.ensures.ended)
-    (timed_waited c.args.p c.args.t c.args.c c.args.m c.wait-woken.result c.args.deadline c.self.inside.threads c.wait-woken.new.threads c.self.inside.line c.self.inside.mutexes c.self.inside.conditions c.self.inside.deadlines c.end_all.new.self
+    ∙ ended_long c.args.p c.wait-woken.result (woken_by_unlock c.args.m (locks_at c.args.p c.self.inside.roster.table c.self.inside.roster.lines c.self.inside.roster.mutexes)) c.self.inside.deadlines c.end_all.new.self c.wait-woken.ensures.woken c.end_all.ensures.ended)
+    (timed_waited c.args.p c.args.t c.args.c c.args.m c.wait-woken.result c.args.deadline c.self.inside.roster.table c.wait-woken.new.roster.table c.self.inside.roster.lines c.self.inside.roster.mutexes c.self.inside.roster.conditions c.self.inside.deadlines c.end_all.new.self
     c.follow_wait.new.deadlines (subst (λ (n : ℕ). c.args.p < n) (sym c.self.invariant.threads) (within_of c.args.p c.self.inside c.args.self.now c.self.view_is c.requires.partition)) c.wait-woken.ensures.threads c.wait-woken.ensures.woken c.end_all.ensures.ended c.follow_wait.ensures c.self.invariant.timed) c.self.invariant
 
 pub returns : goal.returns
 returns c =
     rw (← c.self.view_is)
-    (tables_put c.args.p (after_condition_wait c.args.t c.args.c c.args.m c.args.deadline (syncs_at c.args.p c.self.inside.threads c.self.inside.line c.self.inside.mutexes c.self.inside.conditions)) c.self.inside c.wait-woken.new.threads c.wait-woken.new.line c.wait-woken.new.mutexes c.wait-woken.new.self c.follow_wait.new.deadlines
+    (tables_put c.args.p (after_condition_wait c.args.t c.args.c c.args.m c.args.deadline (syncs_at c.args.p c.self.inside.roster.table c.self.inside.roster.lines c.self.inside.roster.mutexes c.self.inside.roster.conditions)) c.self.inside c.wait-woken.new.roster c.wait-woken.new.mutexes c.follow_wait.new.deadlines
     (record { of_threads = c.wait-woken.ensures.threads; of_lines = c.wait-woken.ensures.line; of_mutexes = c.wait-woken.ensures.mutexes; of_conditions = c.wait-woken.ensures.conditions }))

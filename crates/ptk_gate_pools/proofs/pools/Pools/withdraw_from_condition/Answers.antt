@@ -14,8 +14,8 @@ use Rattle.ptk_gate_pools.proofs.pools.Pools.withdraw_from_condition.Goals as go
 -- the thread has no deadline
 pub invariant_of-self : goal.invariant_of-self
 invariant_of-self c =
-    tables_pooled c.args.p (after_unblock c.args.t c.args.c None (syncs_at c.args.p c.self.inside.threads c.self.inside.line c.self.inside.mutexes c.self.inside.conditions)) c.self.inside c.withdraw.new.threads c.withdraw.new.line c.withdraw.new.mutexes c.withdraw.new.self c.set.new.self (within_of c.args.p c.self.inside c.args.self.now c.self.view_is c.requires.partition)
+    tables_pooled c.args.p (after_unblock c.args.t c.args.c None (syncs_at c.args.p c.self.inside.roster.table c.self.inside.roster.lines c.self.inside.roster.mutexes c.self.inside.roster.conditions)) c.self.inside c.withdraw.new.roster c.withdraw.new.mutexes c.set.new.self (within_of c.args.p c.self.inside c.args.self.now c.self.view_is c.requires.partition)
     (record { of_threads = c.withdraw.ensures.threads; of_lines = c.withdraw.ensures.line; of_mutexes = c.withdraw.ensures.mutexes; of_conditions = c.withdraw.ensures.conditions })
     (ap length c.set.ensures ∙ length-set c.self.inside.deadlines c.args.p _)
-    (timed_withdrawn c.args.p c.args.t c.args.c None c.self.inside.threads c.withdraw.new.threads c.self.inside.line c.self.inside.mutexes c.self.inside.conditions c.self.inside.deadlines c.set.new.self c.withdraw.ensures.threads c.set.ensures
+    (timed_withdrawn c.args.p c.args.t c.args.c None c.self.inside.roster.table c.withdraw.new.roster.table c.self.inside.roster.lines c.self.inside.roster.mutexes c.self.inside.roster.conditions c.self.inside.deadlines c.set.new.self c.withdraw.ensures.threads c.set.ensures
     (ap (λ (kept : Kept). condition_of_wait (wait_of (thread_at (part_at c.args.p kept).locks c.args.t))) c.self.view_is ∙ c.requires.waits) c.self.invariant.timed) c.self.invariant

@@ -1,3 +1,4 @@
+use Rattle.std.proofs.Common.{◌∙◌}
 use Rattle.ptk_mutex.proofs.Steps.{ended_more}
 use Rattle.ptk_mutex.proofs.Woken.{woken_more}
 use Rattle.ptk_mutex.proofs.mutexes.Mutexes.abandon.Goals as goal
@@ -11,4 +12,5 @@ loop-i-preserved c = record {
   woken =
       woken_more _ _ _ c.args.p c.args.t c.loop-i.i c.new.result c.end_mutex-heir.result _ _ _ _ _ _ c.requires.ready.part c.new.ensures c.loop-i.invariant.ended
       c.loop-i.invariant.woken c.end_mutex-heir.ensures.told c.of_option.ensures c.union-woken.ensures;
+  conditions = c.end_mutex-heir.ensures.conditions ∙ c.loop-i.invariant.conditions;
 }

@@ -1,3 +1,4 @@
+use Rattle.std.proofs.Common.{◌≡◌}
 use Rattle.ptk_words.specs.Pools.{numbers_to}
 use Rattle.ptk_words_locks.specs.Deadlines.{woken_by_ends}
 use Rattle.ptk_mutex_slots.specs.Sets.{IsSetOf}
@@ -7,6 +8,7 @@ use Rattle.ptk_mutex.proofs.mutexes.Mutexes.abandon.Given as goal
 
 abbrev pub invariant-loop-i : goal.invariant-loop-i
 invariant-loop-i l = record {
-  ended : AreEnded l.p l.t l.i l.initial.threads l.initial.line l.initial.self l.threads l.line l.self;
-  woken : IsSetOf l.woken (woken_by_ends l.t (numbers_to l.i) (locks_at l.p l.initial.threads l.initial.line l.initial.self));
+  ended : AreEnded l.p l.t l.i l.initial.roster.table l.initial.roster.lines l.initial.roster.mutexes l.roster.table l.roster.lines l.roster.mutexes;
+  woken : IsSetOf l.woken (woken_by_ends l.t (numbers_to l.i) (locks_at l.p l.initial.roster.table l.initial.roster.lines l.initial.roster.mutexes));
+  conditions : l.roster.conditions ≡ l.initial.roster.conditions;
 }

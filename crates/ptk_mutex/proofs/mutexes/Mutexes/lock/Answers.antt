@@ -13,16 +13,16 @@ use Rattle.ptk_mutex.proofs.mutexes.Mutexes.lock.Goals as goal
 
 pub returns-clause-ready : goal.returns-clause-ready
 returns-clause-ready c =
-    let locks : Locks = locks_at c.args.p c.args.threads.now c.args.line.now c.args.self.now in
+    let locks : Locks = locks_at c.args.p c.args.roster.now.table c.args.roster.now.lines c.args.roster.now.mutexes in
     let made : LockMove = lock_move locks c.args.t (mutex_at locks c.args.m) in
     let after : Locks = after_lock c.args.t c.args.m c.args.deadline locks in
-    let threads : c.make-visited.new.threads ≡ with_threads c.args.p after c.args.threads.now = grind (arith, moves) in
-    let mutexes : c.make-visited.new.self ≡ slice_set c.args.self.now c.args.p after.mutexes = grind (arith, moves) in
+    let threads : c.make-self.new.roster.table ≡ with_threads c.args.p after c.args.roster.now.table = grind (arith, moves) in
+    let mutexes : c.make-self.new.roster.mutexes ≡ slice_set c.args.roster.now.mutexes c.args.p after.mutexes = grind (arith, moves) in
     let line : after.line ≡ locks.line = line_after_move made c.args.t c.args.m (MutexWait c.args.m c.args.deadline) locks in
-    moved_ready c.args.p c.args.threads.now c.make-visited.new.threads c.args.line.now c.args.line.now c.args.self.now c.make-visited.new.self after c.requires.ready.part
+    moved_ready c.args.p c.args.roster.now.table c.make-self.new.roster.table c.args.roster.now.lines c.make-self.new.roster.lines c.args.roster.now.mutexes c.make-self.new.roster.mutexes after c.requires.ready.part
     (locked_move made c.args.t c.args.m (MutexWait c.args.m c.args.deadline) locks (lock_counts locks c.args.t (mutex_at locks c.args.m)) refl c.requires.caller c.requires.ready.locked)
     (record {
       of_threads = threads;
-      of_lines = sym (set_part-same c.args.line.now c.args.p) ∙ ap (slice_set c.args.line.now c.args.p) (sym line);
+      of_lines = c.make-self.ensures.line ∙ sym (set_part-same c.args.roster.now.lines c.args.p) ∙ ap (slice_set c.args.roster.now.lines c.args.p) (sym line);
       of_mutexes = mutexes;
     })

@@ -9,11 +9,11 @@ use Rattle.ptk_mutex.proofs.mutexes.Mutexes.relock.Goals as goal
 
 pub returns-clause-ready : goal.returns-clause-ready
 returns-clause-ready c =
-    let locks : Locks = locks_at c.args.p c.args.threads.now c.args.line.now c.args.self.now in
+    let locks : Locks = locks_at c.args.p c.args.roster.now.table c.args.roster.now.lines c.args.roster.now.mutexes in
     let after : Locks = after_relock c.args.t c.args.m c.args.reply locks in
-    let threads : c.make_relock-visited.new.threads ≡ with_threads c.args.p after c.args.threads.now = grind (arith, moves) in
-    let lines : c.make_relock-visited.new.line ≡ slice_set c.args.line.now c.args.p after.line = grind (arith, moves) in
-    let mutexes : c.make_relock-visited.new.self ≡ slice_set c.args.self.now c.args.p after.mutexes = grind (arith, moves) in
-    moved_ready c.args.p c.args.threads.now c.make_relock-visited.new.threads c.args.line.now c.make_relock-visited.new.line c.args.self.now c.make_relock-visited.new.self after c.requires.ready.part
+    let threads : c.make_relock-self.new.roster.table ≡ with_threads c.args.p after c.args.roster.now.table = grind (arith, moves) in
+    let lines : c.make_relock-self.new.roster.lines ≡ slice_set c.args.roster.now.lines c.args.p after.line = grind (arith, moves) in
+    let mutexes : c.make_relock-self.new.roster.mutexes ≡ slice_set c.args.roster.now.mutexes c.args.p after.mutexes = grind (arith, moves) in
+    moved_ready c.args.p c.args.roster.now.table c.make_relock-self.new.roster.table c.args.roster.now.lines c.make_relock-self.new.roster.lines c.args.roster.now.mutexes c.make_relock-self.new.roster.mutexes after c.requires.ready.part
     (locked_relock (relock_move c.args.t (mutex_at locks c.args.m)) c.args.t c.args.m c.args.reply locks c.requires.countable c.requires.caller c.requires.ready.locked)
     (record { of_threads = threads; of_lines = lines; of_mutexes = mutexes })

@@ -1,0 +1,42 @@
+use Rattle.std.proofs.Common.{ℕ, List, [], ◌∷◌, ◌++◌, subst}
+use Rattle.ptk_words.specs.Pools.{pool_get}
+use Rattle.ptk_words_parted.specs.Parts.{part_of}
+use Rattle.ptk_words_model.specs.State.{Locks}
+use Rattle.ptk_words_model.specs.Mutex.{after_unlock}
+use Rattle.ptk_words_model.specs.Condition.{after_condition_wait}
+use Rattle.ptk_words_locks.specs.Conditions.{waiters_on}
+use Rattle.ptk_words_locks.specs.Deadlines.{woken_by_unlock}
+use Rattle.ptk_roster.specs.Rosters.{Rostered}
+use Rattle.ptk_mutex_slots.specs.Sets.{IsSetOf}
+use Rattle.ptk_mutex.specs.Tables.{locks_at}
+use Rattle.ptk_mutex.proofs.Steps.{AreMoved}
+use Rattle.ptk_cond.proofs.Waiters.{waiting_wait}
+use Rattle.ptk_cond.proofs.Steps.{of_part, AreSyncsMoved, ready_waiters, same_waiters, asleep, asleep_ready, moved_synced}
+use Rattle.ptk_cond.proofs.waiting.wait.Goals as goal
+
+pub unlock-woken-requires : goal.unlock-woken-requires
+unlock-woken-requires c = record {
+  ready = ready_waiters c.args.p c.args.c (waiters_on (pool_get (part_of c.args.roster.now.conditions c.args.p) c.args.c) ++ c.args.t ∷ []) c.args.roster.now c.await_condition.new.self c.await_condition.ensures c.requires.ready.ready;
+}
+
+pub returns : goal.returns
+returns c =
+    let ks : List ℕ = waiters_on (pool_get (part_of c.args.roster.now.conditions c.args.p) c.args.c) ++ c.args.t ∷ [] in
+    let joined : Rostered = c.await_condition.new.self in
+    let unlocked : Rostered = c.unlock-woken.new.roster in
+    let after : Rostered = c.set_wait.new.self in
+    let first : AreMoved c.args.p joined.table joined.lines joined.mutexes unlocked.table unlocked.lines unlocked.mutexes (after_unlock c.args.m (locks_at c.args.p joined.table joined.lines joined.mutexes)) = record { of_threads = c.unlock-woken.ensures.threads; of_lines = c.unlock-woken.ensures.line; of_mutexes = c.unlock-woken.ensures.mutexes } in
+    let moved : AreSyncsMoved c.args.p c.args.roster.now after (after_condition_wait c.args.t c.args.c c.args.m c.args.deadline (of_part c.args.p c.args.roster.now)) =
+    asleep c.args.p c.args.t c.args.c c.args.m c.args.deadline c.args.roster.now joined unlocked after c.requires.ready c.requires.caller c.await_condition.ensures
+    first c.unlock-woken.ensures.conditions
+    (record { table = c.set_wait.ensures.table; lines = c.set_wait.ensures.lines; mutexes = c.set_wait.ensures.mutexes; conditions = c.set_wait.ensures.conditions }) in
+    record {
+      woken = subst (λ (l : Locks). IsSetOf c.unlock-woken.result (woken_by_unlock c.args.m l)) (same_waiters c.args.p c.args.c ks c.args.roster.now joined c.await_condition.ensures) c.unlock-woken.ensures.woken;
+      threads = moved.of_locks.of_threads;
+      line = moved.of_locks.of_lines;
+      mutexes = moved.of_locks.of_mutexes;
+      conditions = moved.of_conditions;
+      ready = moved_synced c.args.p c.args.roster.now after (after_condition_wait c.args.t c.args.c c.args.m c.args.deadline (of_part c.args.p c.args.roster.now)) c.requires.ready moved
+          (asleep_ready c.args.p c.args.t c.args.c c.args.m c.args.deadline c.args.roster.now joined unlocked after c.requires.ready c.requires.caller c.await_condition.ensures first c.unlock-woken.ensures.ready moved)
+          (waiting_wait c.args.t c.args.c c.args.m c.args.deadline (of_part c.args.p c.args.roster.now) c.requires.caller c.requires.ready.ready.locked c.requires.ready.waiting);
+    }

@@ -1,0 +1,61 @@
+-- Who is no waiter stays none, where lists of waiters stay.
+use Rattle.std.proofs.Common.{◌≡◌, ◌≢◌, ℕ, List, refl, sym, ◌∙◌, ap, subst, false, ◌⊎◌, inl, inr}
+use Rattle.std.specs.Prelude.{Option, Some, None, option_map}
+use Rattle.std.proofs.Math.ListN.{set}
+use Rattle.std.proofs.lemmas.Bool.{cases_eq}
+use Rattle.ptk_words.specs.Pools.{pool_get, pool_changed, is_in}
+use Rattle.ptk_words.specs.declared.threads.Wait.{Wait}
+use Rattle.ptk_words_parted.specs.Parts.{part_of}
+use Rattle.ptk_words_model.specs.declared.LockMove.{LockMove}
+use Rattle.ptk_words_model.specs.declared.LockMove.TheVariants.{Takes, Recovers, Counts, Waits, Refuses}
+use Rattle.ptk_words_model.specs.State.{Mutex, Condition, Locks}
+use Rattle.ptk_words_model.specs.Mutex.{waiters_of, after_move}
+use Rattle.ptk_words_locks.specs.Conditions.{IsNoWaiter}
+use Rattle.ptk_words_locks.proofs.Pools.{changed_own, changed_other}
+use Rattle.ptk_threads.specs.Table.{ThreadTable}
+use Rattle.ptk_threads.proofs.Pools.{part_of-set}
+use Rattle.ptk_mutex_slots.specs.declared.slot.Change.TheVariants.{Take, CountUp}
+use Rattle.ptk_mutex_slots.specs.Changes.{mutex_changed}
+use Rattle.ptk_mutex.specs.Tables.{locks_at, HasPart}
+use Rattle.ptk_mutex.specs.Rises.{is_wait}
+
+-- ---- a mutex changed
+
+entry_waiters : (f : Mutex → Mutex) (x : Option Mutex) → ((y : Mutex) → (f y).waiters ≡ y.waiters) → waiters_of (option_map f x) ≡ waiters_of x
+entry_waiters f None keeps = refl
+entry_waiters f (Some x) keeps = keeps x
+
+waiters_cases : (m n : ℕ) (f : Mutex → Mutex) (mutexes : List (Option Mutex)) → ((y : Mutex) → (f y).waiters ≡ y.waiters) → (n ≡ m) ⊎ (n ≢ m) → waiters_of (pool_get (pool_changed m f mutexes) n) ≡ waiters_of (pool_get mutexes n)
+waiters_cases m n f mutexes keeps (inl same) = rw same (ap waiters_of (changed_own m f mutexes) ∙ entry_waiters f (pool_get mutexes m) keeps)
+waiters_cases m n f mutexes keeps (inr ne) = ap waiters_of (changed_other m n f mutexes ne)
+
+-- all waiters, where f leaves them
+pub changed_waiters : (m n : ℕ) (f : Mutex → Mutex) (mutexes : List (Option Mutex)) → ((y : Mutex) → (f y).waiters ≡ y.waiters) → waiters_of (pool_get (pool_changed m f mutexes) n) ≡ waiters_of (pool_get mutexes n)
+changed_waiters m n f mutexes keeps = waiters_cases m n f mutexes keeps (cases_eq n m)
+
+-- then who is none stays none
+pub no_waiter-changed : (t m : ℕ) (f : Mutex → Mutex) (mutexes : List (Option Mutex)) (conditions : List (Option Condition)) → ((y : Mutex) → (f y).waiters ≡ y.waiters) → IsNoWaiter t mutexes conditions → IsNoWaiter t (pool_changed m f mutexes) conditions
+no_waiter-changed t m f mutexes conditions keeps none = record {
+  of_mutexes = λ n. ap (is_in t) (changed_waiters m n f mutexes keeps) ∙ none.of_mutexes n;
+  of_conditions = λ c. none.of_conditions c;
+}
+
+-- ---- a move
+
+-- that begins no wait
+no_waiter-move : (made : LockMove) (t m : ℕ) (wait : Wait) (locks : Locks) (conditions : List (Option Condition)) → is_wait made ≡ false → IsNoWaiter t locks.mutexes conditions → IsNoWaiter t (after_move made t m wait locks).mutexes conditions
+no_waiter-move Takes t m wait locks conditions e none = no_waiter-changed t m (mutex_changed (Take t)) locks.mutexes conditions (λ y. refl) none
+no_waiter-move Recovers t m wait locks conditions e none = no_waiter-changed t m (mutex_changed (Take t)) locks.mutexes conditions (λ y. refl) none
+no_waiter-move Counts t m wait locks conditions e none = no_waiter-changed t m (mutex_changed CountUp) locks.mutexes conditions (λ y. refl) none
+no_waiter-move Waits t m wait locks conditions e none = cc
+no_waiter-move (Refuses error) t m wait locks conditions e none = none
+
+-- a thread that made it is still no waiter
+pub made_free : (made : LockMove) (p t m : ℕ) (wait : Wait) (table : ThreadTable) (lines : List (List ℕ)) (mutexes mutexes' : List (List (Option Mutex))) (conditions conditions' : List (List (Option Condition))) → HasPart p table lines mutexes → is_wait made ≡ false
+    → mutexes' ≡ set mutexes p (after_move made t m wait (locks_at p table lines mutexes)).mutexes → conditions' ≡ conditions → IsNoWaiter t (part_of mutexes p) (part_of conditions p) → IsNoWaiter t (part_of mutexes' p) (part_of conditions' p)
+made_free made p t m wait table lines mutexes mutexes' conditions conditions' has e moved same none =
+    let row : List (Option Mutex) = (after_move made t m wait (locks_at p table lines mutexes)).mutexes in
+    let here : part_of mutexes' p ≡ row = ap (λ (l : List (List (Option Mutex))). part_of l p) moved ∙ part_of-set mutexes p row has.of_mutexes in
+    let there : part_of conditions' p ≡ part_of conditions p = ap (λ (l : List (List (Option Condition))). part_of l p) same in
+    let kept : IsNoWaiter t row (part_of conditions p) = no_waiter-move made t m wait (locks_at p table lines mutexes) (part_of conditions p) e none in
+    subst (λ (l : List (Option Mutex)). IsNoWaiter t l (part_of conditions' p)) (sym here) (subst (λ (l : List (Option Condition)). IsNoWaiter t row l) (sym there) kept)

@@ -1,6 +1,0 @@
-use Rattle.std.proofs.Common.{◌-◌}
-use Rattle.ptk_mutex.proofs.Steps.{AreRefused}
-use Rattle.ptk_mutex.proofs.mutexes.Mutexes.refuse_all.Given as goal
-
-abbrev pub invariant-loop-i : goal.invariant-loop-i
-invariant-loop-i l = AreRefused l.p l.m (l.count - l.i) l.count l.initial.threads l.initial.line l.initial.self l.threads l.line l.self

@@ -1,0 +1,18 @@
+use Rattle.std.proofs.Common.{◌≡◌, arith, sym, ap, ◌∙◌}
+use Rattle.ptk_roster.specs.Rosters.{Rostered}
+use Rattle.ptk_words_model.specs.State.{Locks}
+use Rattle.ptk_words_parted.proofs.Cuts.{set_part-same}
+use Rattle.ptk_mutex.specs.Tables.{locks_at, with_threads}
+use Rattle.ptk_mutex.specs.Moves.{after_change}
+use Rattle.ptk_mutex.proofs.Moved.{moves}
+use Rattle.ptk_mutex.proofs.Steps.{moved_ready, locked_change}
+use Rattle.ptk_mutex.proofs.unlocking.alter.Goals as goal
+
+pub returns-clause-ready : goal.returns-clause-ready
+returns-clause-ready c =
+    let locks : Locks = locks_at c.args.p c.args.roster.now.table c.args.roster.now.lines c.args.roster.now.mutexes in
+    let after : Locks = after_change c.args.change c.args.m locks in
+    let threads : c.refresh_priorities.new.roster.table ≡ with_threads c.args.p after c.args.roster.now.table = grind (arith, moves) in
+    moved_ready c.args.p c.args.roster.now.table c.refresh_priorities.new.roster.table c.args.roster.now.lines c.refresh_priorities.new.roster.lines c.args.roster.now.mutexes c.refresh_priorities.new.roster.mutexes after c.requires.ready.part
+    (locked_change c.args.change c.args.m locks c.requires.quiet c.requires.ready.locked)
+    (record { of_threads = threads; of_lines = c.refresh_priorities.ensures.line ∙ ap (λ (r : Rostered). r.lines) c.change_mutex.ensures ∙ sym (set_part-same c.args.roster.now.lines c.args.p); of_mutexes = c.refresh_priorities.ensures.mutexes ∙ ap (λ (r : Rostered). r.mutexes) c.change_mutex.ensures })

@@ -1,0 +1,6 @@
+mod Numbered
+mod Seen
+mod Rosters
+mod Pools
+mod Waits
+mod Opens
