@@ -5,3 +5,5 @@ pub mod Waiters
 pub mod Steps
 pub mod Fresh
 pub mod Asleep
+pub mod Priorities
+pub mod TimedOut

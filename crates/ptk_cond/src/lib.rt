@@ -5,13 +5,17 @@
 //! unlocks one once, and who is unblocked re-locks the one that it named. What a call needs of the roster, and leaves of
 //! it, is `AreSynced` of `specs/Tables`: what the mutex calls need, and waiters that wait, from which it follows that a
 //! thread that waits for nothing is among no waiters; `proofs/Fresh` has it of a fresh roster, and where a number is
-//! taken or freed. No call takes memory. Dear to prove is that waiters still wait after a mutex was unlocked or locked
-//! again (`proofs/Apart`, `proofs/Waiters`). Below stand `ptk_mutex`, `ptk_roster`, which has the waiters as linked
-//! queues, and `ptk_words_locks`, which says what a wait on a condition variable is; above, the pools of
-//! `ptk_gate_pools`.
+//! taken or freed. `time_out` is what the coming of a deadline does to a thread, whatever its wait is: a sleeper is woken,
+//! a waiter of a mutex or a condition variable is withdrawn from it. No call takes memory. Dear to prove is that waiters
+//! still wait after a mutex was unlocked or locked again (`proofs/Apart`, `proofs/Waiters`), and that waking a sleeper
+//! leaves every effective priority as it was (`proofs/Priorities`). Below stand `ptk_mutex`, `ptk_roster`, which has the
+//! waiters as linked queues, and `ptk_words_locks`, which says what a wait on a condition variable is; above, the pools
+//! of `ptk_gate_pools`.
 #![tactic(auto)]
 
 mod conditions;
+mod expiries;
+mod kinds;
 mod naming;
 mod signals;
 #[cfg(test)]
@@ -19,6 +23,7 @@ mod tests;
 mod waiting;
 
 pub use conditions::{destroy, init, is_there, numbered};
+pub use expiries::time_out;
 pub use naming::{names, names_another};
 pub use signals::{broadcast, signal, withdraw};
 pub use waiting::wait;

@@ -103,6 +103,14 @@ impl Consoles {
         console.get()
     }
 
+    /// Whether the partition's output has all the bytes that it may have.
+    pub fn is_full(&self, p: PartId) -> bool
+        requires { p < length self.now.consoles }
+        ensures { result ≡ is_full (limits_at self.now p).output (console_at self.now p) }
+    {
+        self.items[p.index()].is_full()
+    }
+
     /// Appends a byte to the partition's output; false, and nothing changes, where the output is full.
     pub fn put(&mut self, p: PartId, byte: u8) -> bool
         requires { p < length self.old.consoles }

@@ -6,7 +6,7 @@ ghost use Rattle.ptk_words_model.specs.Calls.{is_cancelled, cancellation_answer}
 ghost use Rattle.ptk_words_model.specs.Decision.{is_to_unwind};
 ghost use Rattle.ptk_gate_pools.specs.Kept.{part_at, put_part};
 
-use crate::unwinding::{phase_of, start_unwinding};
+use crate::unwinding::start_unwinding;
 use ptk_gate_pools::Pools;
 use ptk_words::{CANCELED, PartId, Phase, Thread, ThreadNo};
 use ptk_words_model::{Invocation, Reply};
@@ -27,8 +27,10 @@ pub fn is_cancelled(pools: &Pools, p: PartId, t: ThreadNo) -> bool
     ensures { result ≡ is_cancelled (part_at p pools.now) t }
 {
     let _parts = pools.parts();
-    let phase = phase_of(pools.threads().thread(p, t));
-    is_normal(phase) && pools.cancellations().is_point_acting(p, t)
+    match pools.threads().thread_ref(p, t) {
+        Some(thread) => is_normal(thread.phase) && pools.cancellations().is_point_acting(p, t),
+        None => false,
+    }
 }
 
 /// Whether the thread's next step begins its unwinding (XSH 2.9.5.2).

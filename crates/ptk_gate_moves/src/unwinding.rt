@@ -56,7 +56,7 @@ pub fn call_routine(pools: &mut Pools, p: PartId, t: ThreadNo, routine: u32, arg
 }
 
 /// The phase of a thread; a free number's is that of one that has ended.
-pub(crate) fn phase_of(thread: Option<Thread>) -> Phase
+fn phase_of(thread: Option<Thread>) -> Phase
     ensures { result ≡ phase_of thread }
 {
     match thread {

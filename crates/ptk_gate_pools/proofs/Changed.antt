@@ -5,7 +5,7 @@ use Rattle.std.proofs.Math.ListN.{set}
 use Rattle.std.proofs.lemmas.List.{length-set, set-get_or}
 use Rattle.ptk_words.specs.Pools.{pool_set}
 use Rattle.ptk_words.specs.declared.threads.Thread.{Thread}
-use Rattle.ptk_words_model.specs.State.{Mutex, Condition, Syncs, with_syncs}
+use Rattle.ptk_words_model.specs.State.{Mutex, Syncs, with_syncs}
 use Rattle.ptk_words_model.specs.Priority.{effective_priorities}
 use Rattle.ptk_words_locks.specs.Deadlines.{without_deadlines}
 use Rattle.ptk_words_locks.proofs.Deadlines.{deadline_at}

@@ -28,7 +28,7 @@ use Rattle.ptk_clock.specs.BySlot.{deadlines_from}
 use Rattle.ptk_clock.specs.ByThread.{first_slot}
 use Rattle.ptk_gate_pools.specs.Kept.{AreTimed, deadlines_in, part_at}
 use Rattle.ptk_gate_pools.specs.Pooled.{kept_of}
-use Rattle.ptk_gate_waits.specs.Timeouts.{after_sync_timeout, IsBlocked}
+use Rattle.ptk_cond.specs.Timeouts.{after_sync_timeout, IsBlocked}
 use Rattle.ptk_gate_pools.specs.Expired.{after_one_expiry}
 use Rattle.ptk_gate_pools.proofs.Timed.{timed_row}
 use Rattle.ptk_gate_pools.proofs.TimedMoves.{timed_locks}

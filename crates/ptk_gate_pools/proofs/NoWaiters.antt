@@ -1,5 +1,5 @@
 -- Threads that are in no list of waiters: whom a mutex or a condition variable lists waits for it, so no other thread is listed.
-use Rattle.std.proofs.Common.{◌≡◌, ℕ, true, false, List, refl, ◌∙◌, ap}
+use Rattle.std.proofs.Common.{◌≡◌, ℕ, true, List, refl, ◌∙◌, ap}
 use Rattle.std.specs.Prelude.{Option, Some, None}
 use Rattle.std.proofs.lemmas.Bool.{false_from_ne_true}
 use Rattle.ptk_words.specs.Pools.{pool_get, least_free, is_in}
@@ -8,10 +8,9 @@ use Rattle.ptk_words.specs.declared.threads.Thread.{Thread}
 use Rattle.ptk_words.specs.declared.threads.Wait.{Wait}
 use Rattle.ptk_words.specs.declared.threads.Wait.TheVariants.{InputWait, SleepWait, JoinWait}
 use Rattle.ptk_words_model.specs.State.{Mutex, Condition, Part}
-use Rattle.ptk_words_model.specs.Priority.{thread_at, awaited, mutex_of_wait}
+use Rattle.ptk_words_model.specs.Priority.{thread_at, mutex_of_wait}
 use Rattle.ptk_words_model.specs.Mutex.{wait_of, waiters_of}
-use Rattle.ptk_words_model.specs.Decision.{first_waiter}
-use Rattle.ptk_words_locks.specs.Locks.{joiner_of, AreMutexes}
+use Rattle.ptk_words_locks.specs.Locks.{AreMutexes}
 use Rattle.ptk_words_locks.specs.Conditions.{condition_of_wait, waiters_on, AreConditions}
 use Rattle.ptk_words_locks.proofs.Lined.{ready_waits}
 use Rattle.ptk_words_locks.proofs.Threads.{awaits_wait}

@@ -12,7 +12,7 @@ use Rattle.ptk_words_model.specs.State.{Mutex}
 use Rattle.ptk_words_model.specs.Priority.{mutex_of_wait, awaited, effective_priorities}
 use Rattle.ptk_threads.specs.Table.{ThreadTable, thread_in, stored_left, with_changed, with_slot, with_left, with_wait}
 use Rattle.ptk_threads.proofs.Pools.{part_of-set}
-use Rattle.ptk_gate_waits.proofs.Priorities.{level, priorities_changed, level_kept, awaited_kept}
+use Rattle.ptk_cond.proofs.Priorities.{level, priorities_changed, level_kept, awaited_kept}
 use Rattle.ptk_gate_pools.specs.Kept.{AreStored}
 
 -- ---- a change that no priority reads

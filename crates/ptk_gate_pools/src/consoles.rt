@@ -26,6 +26,14 @@ impl Pools {
         self.consoles.dropped(p)
     }
 
+    /// Whether the partition's output has all the bytes that it may have.
+    pub fn is_output_full(&self, p: PartId) -> bool
+        requires { p < length self.now.limits }
+        ensures { result ≡ is_full (limits_at p self.now).output (part_at p self.now).console }
+    {
+        self.consoles.is_full(p)
+    }
+
     /// Appends a byte to the output; false, and nothing changes, where the output is full.
     #[tactic(auto, using(crate::proofs::Parted::parted))]
     pub fn put_byte(&mut self, p: PartId, byte: u8) -> bool

@@ -18,7 +18,7 @@ ghost use Rattle.ptk_gate_pools.specs.Kept.{part_at, put_part};
 ghost use Rattle.ptk_words_locks.specs.Conditions.{IsNoWaiter};
 
 use crate::pools::Pools;
-use ptk_gate_waits::{follow_move, is_any_naming};
+use ptk_gate_waits::follow_move;
 use ptk_mutex::MutexState;
 use ptk_mutex_slots::MutexSlot;
 use ptk_words::{MutexKind, MutexNo, PartId, Protocol, ThreadNo, Tick, Wait};
@@ -99,7 +99,7 @@ impl Pools {
         requires partition { p < length self.now.limits }
         ensures { result ≡ names_mutex (part_at p self.now).locks m }
     {
-        is_any_naming(self.roster.threads().part(p), m)
+        ptk_cond::names(&self.roster, p, m)
     }
 
     /// What lock would do now; nothing changes (pthread_mutex_lock, pthread_mutex_timedlock).

@@ -1,8 +1,7 @@
 -- Before the least deadline no thread's deadline is due, and at it one is.
-use Rattle.std.proofs.Common.{◌≡◌, ℕ, ◌+◌, ◌≤◌, ◌<◌, Bool, true, false, cond, List, [], ◌∷◌, refl, sym, ◌∙◌, ap, subst, arith, inl, inr}
+use Rattle.std.proofs.Common.{◌≡◌, ℕ, ◌+◌, ◌≤◌, ◌<◌, Bool, true, false, cond, List, [], ◌∷◌, refl, sym, ◌∙◌, ap, arith, inl, inr}
 use Rattle.std.specs.Prelude.{Option, Some, None, IfSome, option_map, unwrap_or, min, filter, filter_map, nat_le}
 use Rattle.std.specs.List.{enumerate_from}
-use Rattle.std.proofs.lemmas.Bool.{le-leb, false≢true}
 use Rattle.std.proofs.lemmas.Bool.Decides.{leb_tells}
 use Rattle.ptk_words_model.specs.Withdrawal.{Expiry, expiry_of}
 use Rattle.ptk_clock.specs.ByThread.{earlier, least_deadline}

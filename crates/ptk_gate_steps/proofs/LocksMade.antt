@@ -1,15 +1,16 @@
 -- What lock and unlock come to of a mutex that nobody else wants.
-use Rattle.std.proofs.Common.{◌≡◌, ℕ, ◌-◌, ◌<◌, Bool, true, false, not, ◌&&◌, List, [], ◌∷◌, length, refl, sym, ap, subst, ◌∙◌, arith}
+use Rattle.std.proofs.Common.{◌≡◌, ℕ, ◌-◌, ◌<◌, Bool, true, false, not, ◌&&◌, List, [], ◌∷◌, length, refl, sym, ap, ◌∙◌, arith}
 use Rattle.std.specs.Prelude.{◌==◌, Option, Some, None, is_some, option_map, unwrap_or, nat_lt, if◌then◌else◌}
 use Rattle.std.proofs.lemmas.Bool.{ne_eqb, eqb-true}
 use Rattle.ptk_words.specs.Calls.{call_of, ticks_of}
 use Rattle.ptk_words.specs.Pools.{least_free, first_of_greatest}
 use Rattle.ptk_words.specs.Processor.{Processor, register, with_register}
 use Rattle.ptk_words.specs.Words.{word_at}
-use Rattle.ptk_words.specs.declared.TheConstants.{A0}
+use Rattle.ptk_words.specs.declared.TheConstants.{A0, A7}
 use Rattle.ptk_words.specs.declared.calls.Call.{Call}
 use Rattle.ptk_words.specs.declared.calls.Call.TheVariants.{MutexLock, MutexUnlock}
 use Rattle.ptk_words.specs.declared.faults.Errno.TheVariants.{EPERM, EFAULT, EINVAL}
+use Rattle.ptk_words.specs.declared.sections.Limits.{Limits}
 use Rattle.ptk_words.specs.declared.mutexes.Protocol.{Protocol}
 use Rattle.ptk_words.specs.declared.mutexes.Protocol.TheVariants.{NoProtocol, Inherit, Protect}
 use Rattle.ptk_words.specs.declared.mutexes.Soundness.{Soundness}
@@ -26,10 +27,10 @@ use Rattle.ptk_words_model.specs.MutexCalls.{mutex_lock, mutex_unlock, make_move
 use Rattle.ptk_words_model.specs.Calls.{Answer, replied, refusal, success, is_pointer, set_up_mutex}
 use Rattle.ptk_words_model.specs.CallTable.{answer_to}
 use Rattle.ptk_words_model.specs.Steps.{Row, readable, mutex_named}
-use Rattle.ptk_words_model.specs.Decision.{with_cpu}
+use Rattle.ptk_words_model.specs.Decision.{with_cpu, invocation}
 use Rattle.ptk_mutex_slots.specs.Plain.{is_sound, is_takeable, is_releasable}
 use Rattle.ptk_mutex_slots.proofs.Plain.{takeable_plain, releasable_plain}
-use Rattle.ptk_gate_steps.specs.declared.replies.MutexMove.TheVariants.{Takes, Releases}
+use Rattle.ptk_gate_steps.specs.declared.quiet_calls.QuietEffect.TheVariants.{Takes, Releases}
 use Rattle.ptk_gate_steps.specs.Replies.{IsPut}
 
 -- ---- the moves
@@ -141,35 +142,33 @@ abbrev cost_by : Option Call → ℕ
 cost_by o = unwrap_or (option_map ticks_of o) 2
 
 -- the state that the thread's registers are of names the same mutex
-named_with : (t m a0 : ℕ) (i : Invocation) (cpu : Processor) (s : Part) → i.a0 ≡ a0 → IsNamed a0 m s → IsNamed i.a0 m (with_cpu t cpu s)
-named_with t m a0 i cpu s e is =
-    subst (λ (a : ℕ). IsNamed a m (with_cpu t cpu s)) (sym e) (record { pointed = is.pointed; word = is.word; some = is.some; used = is.used })
+named_with : (t m pointer : ℕ) (cpu : Processor) (s : Part) → IsNamed pointer m s → IsNamed pointer m (with_cpu t cpu s)
+named_with t m pointer cpu s is = record { pointed = is.pointed; word = is.word; some = is.some; used = is.used }
 
 -- pthread_mutex_lock
-pub lock_put : (number t m : ℕ) (before after : Processor) (s : Part) → call_of number ≡ Some MutexLock → is_pointer s (register before A0) 4 ≡ true → word_at s.memory (register before A0) ≡ m → 0 < m
-    → is_takeable (mutex_at s.locks m) ≡ true → after ≡ with_register before A0 0 → IsPut 8 number t before after (Takes m) s
-lock_put number t m before after s e pointed word some free left = record {
+pub lock_put : (limits : Limits) (t m : ℕ) (before after : Processor) (s : Part) → call_of (register before A7) ≡ Some MutexLock → is_pointer s (register before A0) 4 ≡ true → word_at s.memory (register before A0) ≡ m → 0 < m
+    → is_takeable (mutex_at s.locks m) ≡ true → after ≡ with_register before A0 0 → IsPut limits 8 t before after (Takes m) s
+lock_put limits t m before after s e pointed word some free left = record {
   cost = ap (λ (o : Option Call). cost_by o) (sym e);
   values = 0 ∷ [];
-  replies = λ i cpu caller a0.
-      ap (λ (o : Option Call). (answer_to o i (with_cpu t cpu s)).part) e
-      ∙ (lock_row m i (with_cpu t cpu s) (named_with t m (register before A0) i cpu s a0 (record { pointed = pointed; word = word; some = some; used = used_by (mutex_at s.locks m) free })) free
-      ∙ ap (λ (c : ℕ). replied c (0 ∷ []) (with_locks (after_take c m) (with_cpu t cpu s))) caller);
+  replies = λ tick.
+      let named : IsNamed (register before A0) m s = record { pointed = pointed; word = word; some = some; used = used_by (mutex_at s.locks m) free } in
+      ap (λ (o : Option Call). (answer_to o (invocation limits tick t before) (with_cpu t before s)).part) e
+      ∙ lock_row m (invocation limits tick t before) (with_cpu t before s) (named_with t m (register before A0) before s named) free;
   left = left;
   plain = takeable_plain (mutex_at s.locks m) free;
 }
 
 -- pthread_mutex_unlock
-pub unlock_put : (number t m : ℕ) (before after : Processor) (s : Part) → call_of number ≡ Some MutexUnlock → is_pointer s (register before A0) 4 ≡ true → word_at s.memory (register before A0) ≡ m → 0 < m
-    → is_releasable t (mutex_at s.locks m) ≡ true → after ≡ with_register before A0 0 → IsPut 10 number t before after (Releases m) s
-unlock_put number t m before after s e pointed word some free left = record {
+pub unlock_put : (limits : Limits) (t m : ℕ) (before after : Processor) (s : Part) → call_of (register before A7) ≡ Some MutexUnlock → is_pointer s (register before A0) 4 ≡ true → word_at s.memory (register before A0) ≡ m → 0 < m
+    → is_releasable t (mutex_at s.locks m) ≡ true → after ≡ with_register before A0 0 → IsPut limits 10 t before after (Releases m) s
+unlock_put limits t m before after s e pointed word some free left = record {
   cost = ap (λ (o : Option Call). cost_by o) (sym e);
   values = 0 ∷ [];
-  replies = λ i cpu caller a0.
-      let free_for : is_releasable i.caller (mutex_at s.locks m) ≡ true = ap (λ (c : ℕ). is_releasable c (mutex_at s.locks m)) caller ∙ free in
-      ap (λ (o : Option Call). (answer_to o i (with_cpu t cpu s)).part) e
-      ∙ (unlock_row m i (with_cpu t cpu s) (named_with t m (register before A0) i cpu s a0 (record { pointed = pointed; word = word; some = some; used = used_last t (mutex_at s.locks m) free })) free_for
-      ∙ ap (λ (c : ℕ). replied c (0 ∷ []) (with_locks (after_free m) (with_cpu t cpu s))) caller);
+  replies = λ tick.
+      let named : IsNamed (register before A0) m s = record { pointed = pointed; word = word; some = some; used = used_last t (mutex_at s.locks m) free } in
+      ap (λ (o : Option Call). (answer_to o (invocation limits tick t before) (with_cpu t before s)).part) e
+      ∙ unlock_row m (invocation limits tick t before) (with_cpu t before s) (named_with t m (register before A0) before s named) free;
   left = left;
   plain = releasable_plain t (mutex_at s.locks m) free;
 }

@@ -9,7 +9,7 @@ use Rattle.ptk_words.specs.declared.TheConstants.{RETURN_GATE}
 use Rattle.ptk_words.specs.declared.sections.Arrival.{Arrival}
 use Rattle.ptk_words.specs.declared.sections.Limits.{Limits}
 use Rattle.ptk_words.specs.declared.threads.Thread.{Thread}
-use Rattle.ptk_words_model.specs.State.{Console, Part}
+use Rattle.ptk_words_model.specs.State.{Part}
 use Rattle.ptk_words_model.specs.Console.{is_due_at, arriving}
 use Rattle.ptk_words_model.specs.Priority.{thread_at, effective_priority}
 use Rattle.ptk_words_model.specs.Schedule.{first_ready, is_round_robin}

@@ -11,6 +11,7 @@
 mod idle_stops;
 mod instructions;
 mod kinds;
+mod quiet_calls;
 mod quiet_stops;
 mod replies;
 mod turns;

@@ -1,3 +1,1 @@
 pub mod Waits
-pub mod Priorities
-pub mod TimedOut

@@ -363,16 +363,6 @@ impl Threads {
         self.stored.part(p)
     }
 
-    /// Stores the effective priorities of a partition.
-    #[tactic(auto, using(crate::proofs::Slots::pools))]
-    pub fn store(&mut self, p: PartId, priorities: &[u8])
-        requires partition { p < length self.old.threads }
-        requires same { length priorities.now ≡ length (part_of self.old.threads p) }
-        ensures { self.new ≡ record self.old { stored = slice_set self.old.stored p priorities.now } }
-    {
-        self.stored.lend(p).copy_from_slice(priorities);
-    }
-
     /// The stored effective priority of a number, 0 past the partition's slots.
     pub fn stored_priority(&self, p: PartId, k: ThreadNo) -> u8
         requires { p < length self.now.threads }

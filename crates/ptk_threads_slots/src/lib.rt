@@ -14,6 +14,6 @@ mod slot;
 mod thread_list;
 
 pub use link::{Ends, Link, PLACES, QueueName};
-pub use queues::{append, clear, ends_of, insert, prepend, take};
+pub use queues::{append, ends_of, insert, prepend, take};
 pub use slot::{Slot, link_of};
 pub use thread_list::{ThreadList, has_members, is_marked, members};

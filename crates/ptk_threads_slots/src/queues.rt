@@ -1,8 +1,8 @@
 //! The queues of one partition.
 
-ghost use Rattle.std.specs.Prelude.{◌≡◌, ◌<◌, ◌≤◌, [], ◌∷◌, ◌++◌, length, Some, None, slice_set, replicate};
+ghost use Rattle.std.specs.Prelude.{◌≡◌, ◌<◌, ◌≤◌, [], ◌∷◌, ◌++◌, length, Some, None, slice_set};
 ghost use Rattle.ptk_words_parted.specs.Parts.{part_of};
-ghost use Rattle.ptk_threads_slots.specs.Links.{AreQueues, queues, links_of, threads_of, link_in, mark_of, place_of, ends_at, no_link};
+ghost use Rattle.ptk_threads_slots.specs.Links.{AreQueues, queues, links_of, threads_of, mark_of, place_of, ends_at};
 ghost use Rattle.ptk_threads_slots.specs.Changes.{with_inserted, with_taken, linked_between, end_between, unlinked, end_without};
 
 use crate::link::{Ends, Link, QueueName};
@@ -126,26 +126,4 @@ fn unlink(slots: &mut [Slot], ends: &mut [Ends], i: usize, k: ThreadNo, link: &L
     let end = ends[i];
     ends[i] = end.without(link);
     set_link(slots, k, Link::none());
-}
-
-/// No thread lies in a queue any more: every queue is empty. The threads stay.
-#[tactic(auto, using(crate::proofs::Empty::empties))]
-pub fn clear(slots: &mut [Slot], ends: &mut [Ends])
-    ensures queues { AreQueues (links_of slots.new) ends.new }
-    ensures lists { queues (links_of slots.new) ends.new ≡ replicate (length ends.old) [] }
-    ensures free { links_of slots.new ≡ replicate (length slots.old) no_link }
-    ensures threads { threads_of slots.new ≡ threads_of slots.old }
-{
-    clear_links(slots);
-    ends.fill(Ends::none());
-}
-
-/// Every slot has the link of a thread that lies in no queue.
-fn clear_links(slots: &mut [Slot])
-    ensures links { links_of slots.new ≡ replicate (length slots.old) no_link }
-    ensures threads { threads_of slots.new ≡ threads_of slots.old }
-{
-    for slot in slots.iter_mut() {
-        slot.link = Link::none();
-    }
 }

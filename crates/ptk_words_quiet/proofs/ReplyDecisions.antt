@@ -1,6 +1,6 @@
 -- The decision of a quiet partition whose next step is a quiet call, and what it leaves.
 use Rattle.std.proofs.Common.{◌≡◌, ℕ, ◌+◌, ◌%◌, ◌≤◌, ◌<◌, ◌==◌, eq-eqb, Bool, true, false, not, ◌&&◌, List, length, refl, sym, ap, ◌∙◌, arith}
-use Rattle.std.specs.Prelude.{Option, Some, None, option_map, nat_lt, nat_le, if◌then◌else◌}
+use Rattle.std.specs.Prelude.{Option, Some, option_map, nat_lt, nat_le, if◌then◌else◌}
 use Rattle.std.proofs.lemmas.Bool.{leb-true, lt-leb, le-ltb}
 use Rattle.std.proofs.Math.Bool.{and-false}
 use Rattle.ptk_words.specs.Calls.{cost_of}
@@ -20,14 +20,13 @@ use Rattle.ptk_words_instructions.specs.PlainSteps.{Core, core}
 use Rattle.ptk_words_model.specs.declared.Runner.{Runner}
 use Rattle.ptk_words_model.specs.declared.Spent.TheVariants.{Step}
 use Rattle.ptk_words_model.specs.declared.StepKind.TheVariants.{CallStep}
-use Rattle.ptk_words_model.specs.State.{Mutex, Part, with_locks}
+use Rattle.ptk_words_model.specs.State.{Part, with_locks}
 use Rattle.ptk_words_model.specs.Priority.{thread_at, effective_priority}
-use Rattle.ptk_words_model.specs.Schedule.{with_reply, with_registers, with_thread, is_round_robin, is_running, after_interval, after_turn_end, with_used}
-use Rattle.ptk_words_model.specs.Calls.{replied}
-use Rattle.ptk_words_model.specs.Decision.{with_cpu, word_fetched, invocation, entry_of, a0_after, after_effect, step_kind, after_whole_step, after_turn, spent_in_turn, after_decision, spent_by_decision, runner_of}
+use Rattle.ptk_words_model.specs.Schedule.{with_reply, is_round_robin, is_running, after_interval, after_turn_end, with_used}
+use Rattle.ptk_words_model.specs.Decision.{with_cpu, word_fetched, entry_of, a0_after, after_effect, step_kind, after_whole_step, after_turn, spent_in_turn, runner_of}
 use Rattle.ptk_words_locks.proofs.Pools.{changed_own, changed_twice}
 use Rattle.ptk_words_quiet.specs.Quiet.{stays_before, IsQuiet, used_after, computed, with_row}
-use Rattle.ptk_words_quiet.specs.Replies.{with_mutexes, IsReply, ReplyIsDecided, ReplyStaysQuiet, reply_entry, after_reply}
+use Rattle.ptk_words_quiet.specs.Replies.{Outcome, with_outcome, IsReply, ReplyIsDecided, ReplyStaysQuiet, reply_entry, after_reply}
 use Rattle.ptk_words_quiet.proofs.PlainSteps.{no_gate_by}
 use Rattle.ptk_words_quiet.proofs.PlainRows.{used_fifo, used_robin}
 use Rattle.ptk_words_quiet.proofs.PlainDecisions.{runner, with_registers_of, moved, with_threads, quiet_ready, quiet_runner}
@@ -65,11 +64,11 @@ reply_kind limits tick stop t thread s quiet word = rw (quiet.goes_on, no_gate t
 
 -- ---- the step
 
--- the partition is as quiet with mutexes that change no priority
-quiet_with : (limits : Limits) (tick stop t : ℕ) (thread : Thread) (mutexes : List (Option Mutex)) (s : Part) → ((u : ℕ) → effective_priority (with_mutexes mutexes s).locks u ≡ effective_priority s.locks u)
-    → IsQuiet limits tick stop t thread s → IsQuiet limits tick stop t thread (with_mutexes mutexes s)
-quiet_with limits tick stop t thread mutexes s same quiet =
-    let ranks : effective_priority (with_mutexes mutexes s).locks ≡ effective_priority s.locks = λ i u. same u i in
+-- the partition is as quiet with an outcome that changes no priority
+quiet_with : (limits : Limits) (tick stop t : ℕ) (thread : Thread) (o : Outcome) (s : Part) → ((u : ℕ) → effective_priority (with_outcome o s).locks u ≡ effective_priority s.locks u)
+    → IsQuiet limits tick stop t thread s → IsQuiet limits tick stop t thread (with_outcome o s)
+quiet_with limits tick stop t thread o s same quiet =
+    let ranks : effective_priority (with_outcome o s).locks ≡ effective_priority s.locks = λ i u. same u i in
     record {
       active = quiet.active;
       none_comes = quiet.none_comes;
@@ -83,14 +82,14 @@ quiet_with limits tick stop t thread mutexes s same quiet =
       gate = quiet.gate;
     }
 
--- the call leaves the caller's registers, and the mutexes
-call_left : (limits : Limits) (tick t ticks : ℕ) (thread : Thread) (after : Processor) (mutexes : List (Option Mutex)) (s : Part) → IsReply ticks t thread after mutexes s
-    → after_effect limits tick t thread.cpu.pc (effect_at thread.cpu s.memory) s ≡ with_cpu t after (with_mutexes mutexes s)
-call_left limits tick t ticks thread after mutexes s reply =
+-- the call leaves the caller's registers, and the outcome
+call_left : (limits : Limits) (tick t ticks : ℕ) (thread : Thread) (after : Processor) (o : Outcome) (s : Part) → IsReply limits ticks t thread after o s
+    → after_effect limits tick t thread.cpu.pc (effect_at thread.cpu s.memory) s ≡ with_cpu t after (with_outcome o s)
+call_left limits tick t ticks thread after o s reply =
     let cpu : Processor = with_next_pc thread.cpu in
-    let left : Part = with_mutexes mutexes s in
+    let left : Part = with_outcome o s in
     ap (λ (e : Effect). after_effect limits tick t thread.cpu.pc e s) (calls thread.cpu s.memory reply.word)
-    ∙ (reply.replies (invocation limits tick t cpu) cpu refl refl
+    ∙ (reply.replies tick
     ∙ (ap (λ threads. with_locks (λ locks. record locks { threads = threads }) left) (changed_twice t (with_reply reply.values) (with_registers_of cpu) s.threads)
     ∙ ap (λ (c : Processor). with_cpu t c left) (sym reply.left)))
 
@@ -136,17 +135,17 @@ interval_by limits tick stop t n thread c last s quiet le true e =
     ∙ (ap (with_threads c last s) (changed_twice t (λ (v : Thread). record v { used = thread.used + n }) (with_registers_of c.cpu) s.threads)
     ∙ ap (λ (o : Option Thread). with_threads c last s (pool_set s.threads t o)) (robin_entry n c.cpu thread (pool_get s.threads t) quiet.in_use e))))
 
-reply_whole : (limits : Limits) (tick stop t ticks : ℕ) (thread : Thread) (after : Processor) (mutexes : List (Option Mutex)) (s : Part) → IsQuiet limits tick stop t thread s → IsReply ticks t thread after mutexes s → tick + ticks ≤ stop
-    → after_whole_step limits tick (runner t thread) (CallStep (register thread.cpu A7)) s ≡ after_reply tick t ticks thread after mutexes s
-reply_whole limits tick stop t ticks thread after mutexes s quiet reply le =
+reply_whole : (limits : Limits) (tick stop t ticks : ℕ) (thread : Thread) (after : Processor) (o : Outcome) (s : Part) → IsQuiet limits tick stop t thread s → IsReply limits ticks t thread after o s → tick + ticks ≤ stop
+    → after_whole_step limits tick (runner t thread) (CallStep (register thread.cpu A7)) s ≡ after_reply tick t ticks thread after o s
+reply_whole limits tick stop t ticks thread after o s quiet reply le =
     let number : ℕ = register thread.cpu A7 in
     let c : Core = core after s.memory in
-    let left : Part = with_mutexes mutexes s in
-    let still : IsQuiet limits tick stop t thread left = quiet_with limits tick stop t thread mutexes s reply.priorities quiet in
+    let left : Part = with_outcome o s in
+    let still : IsQuiet limits tick stop t thread left = quiet_with limits tick stop t thread o s reply.priorities quiet in
     let entry : Option Thread → Option Entry = λ o. Some (entry_of tick (runner t thread) (CallStep number) s.memory o) in
     let own : pool_get (pool_changed t (with_registers_of after) s.threads) t ≡ Some (with_registers_of after thread) =
     changed_own t (with_registers_of after) s.threads ∙ ap (option_map (with_registers_of after)) quiet.in_use in
-    ap (λ (u : Part). after_interval limits.interval (cost_of number) t (thread_at u.locks t) (record u { last = entry (thread_at u.locks t) })) (call_left limits tick t ticks thread after mutexes s reply)
+    ap (λ (u : Part). after_interval limits.interval (cost_of number) t (thread_at u.locks t) (record u { last = entry (thread_at u.locks t) })) (call_left limits tick t ticks thread after o s reply)
     ∙ (ap (λ (o : Option Thread). after_interval limits.interval (cost_of number) t o (moved t c (entry o) left)) own
     ∙ (ap (λ (n : ℕ). after_interval limits.interval n t (Some (with_registers_of after thread)) (moved t c (entry (Some (with_registers_of after thread))) left)) (sym reply.cost)
     ∙ (interval_by limits tick stop t ticks thread c (entry (Some (with_registers_of after thread))) left still le (is_round_robin thread.policy) refl
@@ -157,19 +156,19 @@ reply_whole limits tick stop t ticks thread after mutexes s quiet reply le =
 fits : (room ticks cost : ℕ) → ticks ≡ cost → ticks ≤ room → nat_lt room cost ≡ false
 fits room ticks cost e le = le-ltb room cost (omega (arith, e, le))
 
-reply_turn : (limits : Limits) (tick stop room t ticks : ℕ) (thread : Thread) (after : Processor) (mutexes : List (Option Mutex)) (s : Part) → IsQuiet limits tick stop t thread s → IsReply ticks t thread after mutexes s → tick + ticks ≤ stop → ticks ≤ room
-    → (after_turn limits tick room (Some (runner t thread)) s ≡ after_reply tick t ticks thread after mutexes s) × (spent_in_turn room (Some (runner t thread)) s ≡ Step ticks)
-reply_turn limits tick stop room t ticks thread after mutexes s quiet reply le room_for =
+reply_turn : (limits : Limits) (tick stop room t ticks : ℕ) (thread : Thread) (after : Processor) (o : Outcome) (s : Part) → IsQuiet limits tick stop t thread s → IsReply limits ticks t thread after o s → tick + ticks ≤ stop → ticks ≤ room
+    → (after_turn limits tick room (Some (runner t thread)) s ≡ after_reply tick t ticks thread after o s) × (spent_in_turn room (Some (runner t thread)) s ≡ Step ticks)
+reply_turn limits tick stop room t ticks thread after o s quiet reply le room_for =
     let kind = reply_kind limits tick stop t thread s quiet reply.word in
     let fit = fits room ticks (cost_of (register thread.cpu A7)) reply.cost room_for in (
-      rw (kind, fit) (reply_whole limits tick stop t ticks thread after mutexes s quiet reply le),
+      rw (kind, fit) (reply_whole limits tick stop t ticks thread after o s quiet reply le),
       rw (kind, fit) (ap Step (sym reply.cost)),
     )
 
-pub reply_decided : (limits : Limits) (tick stop room t ticks : ℕ) (thread : Thread) (after : Processor) (mutexes : List (Option Mutex)) (s : Part) → ReplyIsDecided limits tick stop room t ticks thread after mutexes s
-reply_decided limits tick stop room t ticks thread after mutexes s quiet reply some le room_for =
+pub reply_decided : (limits : Limits) (tick stop room t ticks : ℕ) (thread : Thread) (after : Processor) (o : Outcome) (s : Part) → ReplyIsDecided limits tick stop room t ticks thread after o s
+reply_decided limits tick stop room t ticks thread after o s quiet reply some le room_for =
     let lt : tick < stop = omega (arith, some, le) in
-    let made = reply_turn limits tick stop room t ticks thread after mutexes s quiet reply le room_for in (
+    let made = reply_turn limits tick stop room t ticks thread after o s quiet reply le room_for in (
       ap (λ (u : Part). after_turn limits tick room (runner_of u) u) (quiet_ready limits tick stop t thread s quiet lt)
           ∙ (ap (λ (o : Option Runner). after_turn limits tick room o s) (quiet_runner limits tick stop t thread s quiet) ∙ made.0),
       ap (λ (u : Part). spent_in_turn room (runner_of u) u) (quiet_ready limits tick stop t thread s quiet lt)
@@ -182,12 +181,12 @@ within_more : (policy : Policy) (used stop interval tick n : ℕ) → (is_round_
 within_more Fifo used stop interval tick n h e = absurd (let no : ⊥ = cc in no)
 within_more RoundRobin used stop interval tick n h e = let lt : used + stop < interval + tick = h e in omega (arith, lt)
 
-pub reply_quiet : (limits : Limits) (tick stop t ticks : ℕ) (thread : Thread) (after : Processor) (mutexes : List (Option Mutex)) (s : Part) → ReplyStaysQuiet limits tick stop t ticks thread after mutexes s
-reply_quiet limits tick stop t ticks thread after mutexes s quiet reply =
+pub reply_quiet : (limits : Limits) (tick stop t ticks : ℕ) (thread : Thread) (after : Processor) (o : Outcome) (s : Part) → ReplyStaysQuiet limits tick stop t ticks thread after o s
+reply_quiet limits tick stop t ticks thread after o s quiet reply =
     let c : Core = core after s.memory in
     let last : Option Entry = Some (reply_entry tick t thread after) in
-    let left : Part = with_mutexes mutexes s in
-    let still : IsQuiet limits tick stop t thread left = quiet_with limits tick stop t thread mutexes s reply.priorities quiet in
+    let left : Part = with_outcome o s in
+    let still : IsQuiet limits tick stop t thread left = quiet_with limits tick stop t thread o s reply.priorities quiet in
     record {
       active = still.active;
       none_comes = still.none_comes;

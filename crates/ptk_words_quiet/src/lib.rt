@@ -13,11 +13,11 @@ ghost use Rattle.ptk_words.specs.declared.sections.Arrival.{Arrival};
 ghost use Rattle.ptk_words.specs.declared.sections.Limits.{Limits};
 ghost use Rattle.ptk_words.specs.declared.threads.Thread.{Thread};
 ghost use Rattle.ptk_words_windows.specs.Windows.{OwnTicks, WindowPlan};
-ghost use Rattle.ptk_words_model.specs.State.{Console, Mutex, Part, State};
+ghost use Rattle.ptk_words_model.specs.State.{Console, Part, State};
 ghost use Rattle.ptk_words.specs.Processor.{Processor};
 ghost use Rattle.ptk_words_quiet.specs.IdleLaws.{IdleIsDecided, IdleIsTicks};
 ghost use Rattle.ptk_words_quiet.specs.QuietLaws.{PlainIsDecided, RowStaysQuiet, RowKeepsPriorities, RowKeepsWell, RowIsTicks, NoneComesBefore, RowsJoin, OthersStay, AloneGoesOn, WindowIsOwn};
-ghost use Rattle.ptk_words_quiet.specs.Replies.{ReplyIsDecided, ReplyStaysQuiet};
+ghost use Rattle.ptk_words_quiet.specs.Replies.{Outcome, ReplyIsDecided, ReplyStaysQuiet};
 
 /// A plain step is the decision of a quiet state.
 pub fn plain_is_decided()
@@ -81,10 +81,10 @@ pub fn idle_is_ticks()
 
 /// A quiet call is the decision of a quiet partition.
 pub fn reply_is_decided()
-    ensures { (limits : Limits) → (tick stop room t ticks : ℕ) → (thread : Thread) → (after : Processor) → (mutexes : List (Option Mutex)) → (s : Part) → ReplyIsDecided limits tick stop room t ticks thread after mutexes s }
+    ensures { (limits : Limits) → (tick stop room t ticks : ℕ) → (thread : Thread) → (after : Processor) → (o : Outcome) → (s : Part) → ReplyIsDecided limits tick stop room t ticks thread after o s }
 {}
 
 /// A quiet call leaves a quiet partition quiet.
 pub fn reply_stays_quiet()
-    ensures { (limits : Limits) → (tick stop t ticks : ℕ) → (thread : Thread) → (after : Processor) → (mutexes : List (Option Mutex)) → (s : Part) → ReplyStaysQuiet limits tick stop t ticks thread after mutexes s }
+    ensures { (limits : Limits) → (tick stop t ticks : ℕ) → (thread : Thread) → (after : Processor) → (o : Outcome) → (s : Part) → ReplyStaysQuiet limits tick stop t ticks thread after o s }
 {}

@@ -27,12 +27,12 @@ returns-clause-made c = λ thread found some.
     let entry : noted c.pc-pc.result c.register-a0.result ≡ reply_entry c.args.tick c.args.t seen c.put_reply-call.new.cpu =
     ap (λ (pc : ℕ). noted pc c.register-a0.result) c.pc-pc.ensures ∙ ap (noted seen.cpu.pc) c.register-a0.ensures.value in
     subst (λ (it : Thread). IsMade c.args.p c.args.tick c.args.t c.put_reply-call.result.ticks it c.args.pools.now c.note_last.new.self) same
-    (made (length c.args.pools.now.limits) c.args.p c.args.tick c.args.t c.put_reply-call.result.ticks seen c.set_pc.new.self c.put_reply-call.new.cpu c.put_reply-call.result.moved (noted c.pc-pc.result c.register-a0.result)
-    c.args.pools.now c.leave.new.pools c.move_mutex.new.pools c.note_last.new.self
-    c.parts-parts.ensures.entries c.requires.partition word past (c.put_reply-call.ensures.put some) c.leave.ensures c.move_mutex.ensures entry c.note_last.ensures)
+    (made (length c.args.pools.now.limits) c.args.p c.args.tick c.args.t c.put_reply-call.result.ticks seen c.set_pc.new.self c.put_reply-call.new.cpu c.put_reply-call.result.effect (noted c.pc-pc.result c.register-a0.result)
+    c.args.pools.now c.leave.new.pools c.take_effect.new.pools c.note_last.new.self
+    c.parts-parts.ensures.entries c.requires.partition word past (c.put_reply-call.ensures.put some) c.leave.ensures c.take_effect.ensures entry c.note_last.ensures)
 
-pub move_mutex-requires-clause-plain : goal.move_mutex-requires-clause-plain
-move_mutex-requires-clause-plain c =
+pub take_effect-requires-clause-plain : goal.take_effect-requires-clause-plain
+take_effect-requires-clause-plain c =
     let some : 0 < c.put_reply-call.result.ticks = omega (arith, c.if-ticks-eq0.false) in
-    plain_still (length c.args.pools.now.limits) c.args.p c.args.t c.put_reply-call.result.ticks c.put_reply-call.new.cpu c.put_reply-call.result.moved c.args.pools.now c.leave.new.pools
+    plain_still (length c.args.pools.now.limits) c.args.p c.args.t c.put_reply-call.result.ticks c.put_reply-call.new.cpu c.put_reply-call.result.effect c.args.pools.now c.leave.new.pools
     c.parts-parts.ensures.entries c.requires.partition c.leave.ensures (c.put_reply-call.ensures.put some).plain

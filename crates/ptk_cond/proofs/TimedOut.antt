@@ -19,8 +19,8 @@ use Rattle.ptk_words_locks.proofs.Threads.{none_awaits}
 use Rattle.ptk_threads.specs.Table.{ThreadTable, thread_in, with_changed}
 use Rattle.ptk_mutex.specs.Tables.{with_threads, AreLocked, AreReady, IsWaiter}
 use Rattle.ptk_cond.specs.Tables.{syncs_at, AreSynced, AreWaiting}
-use Rattle.ptk_gate_waits.specs.Timeouts.{after_sync_timeout, IsBlocked, is_sleep}
-use Rattle.ptk_gate_waits.proofs.Priorities.{priorities_woken}
+use Rattle.ptk_cond.specs.Timeouts.{after_sync_timeout, IsBlocked, is_sleep}
+use Rattle.ptk_cond.proofs.Priorities.{priorities_woken}
 
 awaits_by_wait : (o : Option Thread) → awaited o ≡ mutex_of_wait (wait_of o)
 awaits_by_wait None = refl

@@ -10,9 +10,10 @@ ghost use Rattle.ptk_threads.specs.Table.{thread_in, with_changed};
 ghost use Rattle.ptk_words_locks.specs.Conditions.{IsNoWaiter};
 ghost use Rattle.ptk_mutex.specs.Tables.{with_threads};
 ghost use Rattle.ptk_cond.specs.Tables.{syncs_at, AreSynced};
-ghost use Rattle.ptk_gate_waits.specs.Timeouts.{after_sync_timeout, IsBlocked};
+ghost use Rattle.ptk_cond.specs.Timeouts.{after_sync_timeout, IsBlocked};
 
 use crate::kinds::{condition_awaited, is_sleep, mutex_locked};
+use crate::signals::withdraw;
 use ptk_mutex::Mutexes;
 use ptk_roster::Roster;
 use ptk_words::{Errno, PartId, ThreadNo};
@@ -38,7 +39,7 @@ pub fn time_out(roster: &mut Roster, mutexes: &mut Mutexes, p: PartId, t: Thread
         return;
     }
     if let Some(c) = condition_awaited(&wait) {
-        ptk_cond::withdraw(roster, mutexes, p, t, c, reply);
+        withdraw(roster, mutexes, p, t, c, reply);
     }
 }
 

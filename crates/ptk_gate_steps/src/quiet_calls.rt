@@ -1,0 +1,273 @@
+//! Which calls are quiet, and what each puts into its caller's registers: pthread_self, pthread_getschedparam, a
+//! pthread_detach that is refused, a number that is no call, lock and unlock of a mutex that nobody else wants,
+//! console_put, pthread_setspecific and pthread_getspecific. None of them changes anything here but the registers: its
+//! effect is told.
+
+ghost use Rattle.std.specs.Prelude.{◌≡◌, ℕ, ◌<◌, ◌≤◌, true, length, Some, IfSome};
+ghost use Rattle.ptk_words.specs.Calls.{call_of};
+ghost use Rattle.ptk_words.specs.Faults.{errno_number};
+ghost use Rattle.ptk_words.specs.Processor.{register, with_register};
+ghost use Rattle.ptk_words.specs.declared.TheConstants.{A0, A1, A7};
+ghost use Rattle.ptk_words.specs.Words.{word_at};
+ghost use Rattle.ptk_words.specs.declared.calls.Call.TheVariants.{ConsolePut, PthreadDetach, PthreadGetschedparam, PthreadGetspecific, PthreadSetspecific, MutexLock, MutexUnlock};
+ghost use Rattle.ptk_words_model.specs.Calls.{is_pointer};
+ghost use Rattle.ptk_gate_pools.specs.Kept.{part_at, limits_at};
+ghost use Rattle.ptk_gate_steps.specs.Replies.{IsPut};
+ghost use Rattle.ptk_gate_steps.specs.declared.quiet_calls.QuietEffect.TheVariants.{Keeps};
+
+use ptk_gate_moves::{is_pointer, is_taken, named_thread, policy_number};
+use ptk_gate_pools::Pools;
+use ptk_keys::KeyNo;
+use ptk_words::{A0, A1, A2, A7, Call, Cpu, Errno, MutexNo, PartId, ThreadNo, read_word};
+
+/// What a quiet call makes of its partition beside its caller's registers.
+#[derive(Clone, Copy)]
+pub(crate) enum QuietEffect {
+    /// Nothing.
+    Keeps,
+    /// The caller owns the mutex, counted once.
+    Takes(MutexNo),
+    /// Nobody owns the mutex.
+    Releases(MutexNo),
+    /// The byte stands at the end of the output.
+    Puts(u8),
+    /// The caller has this value of the key.
+    Sets(KeyNo, u32),
+}
+
+/// A quiet call: its ticks, 0 of any other call, and its effect.
+#[derive(Clone, Copy)]
+pub(crate) struct QuietCall {
+    pub(crate) ticks: u32,
+    pub(crate) effect: QuietEffect,
+}
+
+/// Puts the reply into the caller's registers, whose pc is past the ECALL, where the call is quiet; its ticks and its
+/// effect. 0 ticks of any other call.
+#[inline(always)]
+#[tactic(auto, using(crate::proofs::RepliesPut::replies))]
+pub(crate) fn put_reply(pools: &Pools, p: PartId, t: ThreadNo, cpu: &mut Cpu) -> QuietCall
+    requires partition { p < length pools.now.limits }
+    ensures short { result.ticks ≤ 16 }
+    ensures put { 0 < result.ticks → IsPut (limits_at p pools.now) result.ticks t cpu.old cpu.new result.effect (part_at p pools.now) }
+{
+    let known = Call::of_number(cpu.register(A7));
+    match known {
+        None => {
+            refuse(cpu, Errno::ENOSYS);
+            replied(2)
+        }
+        Some(Call::PthreadSelf) => {
+            tell(cpu, t.number() as u32);
+            replied(2)
+        }
+        Some(Call::PthreadGetschedparam) => {
+            tell_scheduling(pools, p, cpu);
+            replied(4)
+        }
+        Some(Call::PthreadDetach) => {
+            if refuse_detachment(pools, p, cpu) {
+                replied(6)
+            } else {
+                replied(0)
+            }
+        }
+        Some(Call::ConsolePut) => put_out(pools, p, t, cpu),
+        Some(Call::MutexLock) => lock(pools, p, cpu),
+        Some(Call::MutexUnlock) => unlock(pools, p, t, cpu),
+        Some(Call::PthreadSetspecific) => set_specific(pools, p, cpu),
+        Some(Call::PthreadGetspecific) => {
+            tell_specific(pools, p, t, cpu);
+            replied(2)
+        }
+        Some(_) => replied(0),
+    }
+}
+
+/// A call of so many ticks that changes nothing but registers.
+#[inline]
+fn replied(ticks: u32) -> QuietCall
+    ensures { result ≡ record { ticks = ticks; effect = Keeps } }
+{
+    QuietCall {
+        ticks,
+        effect: QuietEffect::Keeps,
+    }
+}
+
+/// The lock of a mutex that its caller takes with no change of priority: 0 in a0. 0 ticks of any other, and the
+/// registers stay.
+#[inline]
+#[tactic(auto, using(crate::proofs::LocksMade::locks))]
+fn lock(pools: &Pools, p: PartId, cpu: &mut Cpu) -> QuietCall
+    requires partition { p < length pools.now.limits }
+    ensures short { result.ticks ≤ 16 }
+    ensures put { (t : ℕ) → call_of (register cpu.old A7) ≡ Some MutexLock → 0 < result.ticks → IsPut (limits_at p pools.now) result.ticks t cpu.old cpu.new result.effect (part_at p pools.now) }
+{
+    match mutex_numbered(pools, p, cpu.register(A0)) {
+        Some(m) => {
+            if !pools.is_takeable(p, m) {
+                return replied(0);
+            }
+            cpu.set_register(A0, 0);
+            QuietCall {
+                ticks: 8,
+                effect: QuietEffect::Takes(m),
+            }
+        }
+        None => replied(0),
+    }
+}
+
+/// The unlock of a mutex that its caller locked once, which wakes nobody and changes no priority: 0 in a0. 0 ticks of
+/// any other, and the registers stay.
+#[inline]
+#[tactic(auto, using(crate::proofs::LocksMade::locks))]
+fn unlock(pools: &Pools, p: PartId, t: ThreadNo, cpu: &mut Cpu) -> QuietCall
+    requires partition { p < length pools.now.limits }
+    ensures short { result.ticks ≤ 16 }
+    ensures put { call_of (register cpu.old A7) ≡ Some MutexUnlock → 0 < result.ticks → IsPut (limits_at p pools.now) result.ticks t cpu.old cpu.new result.effect (part_at p pools.now) }
+{
+    match mutex_numbered(pools, p, cpu.register(A0)) {
+        Some(m) => {
+            if !pools.is_releasable(p, t, m) {
+                return replied(0);
+            }
+            cpu.set_register(A0, 0);
+            QuietCall {
+                ticks: 10,
+                effect: QuietEffect::Releases(m),
+            }
+        }
+        None => replied(0),
+    }
+}
+
+/// The number of a mutex that the word at a pointer is, whether one has it or not; None of a pointer to no word, of 0
+/// and of a word above 64.
+#[inline]
+#[tactic(auto, using(ptk_gate_moves::proofs::Pointers::pointers))]
+fn mutex_numbered(pools: &Pools, p: PartId, pointer: u32) -> Option<MutexNo>
+    requires partition { p < length pools.now.limits }
+    ensures { IfSome result (λ m. (is_pointer (part_at p pools.now) pointer 4 ≡ true) × (word_at (part_at p pools.now).memory pointer ≡ m) × (0 < m)) }
+{
+    let _parts = pools.parts();
+    if !is_pointer(pools, p, pointer, 4) {
+        return None;
+    }
+    let word = read_word(pools.regions().part(p), pointer as usize);
+    if word == 0 || 64 < word {
+        return None;
+    }
+    Some(MutexNo::new(word as u8))
+}
+
+/// The console_put of a caller with no pending request: the low 8 bits of a0 at the end of the output and 0 in a0, or
+/// EAGAIN where the output is full. 0 ticks of one that may be cancelled, and the registers stay.
+#[inline]
+#[tactic(auto, using(crate::proofs::RepliesPut::outputs))]
+fn put_out(pools: &Pools, p: PartId, t: ThreadNo, cpu: &mut Cpu) -> QuietCall
+    requires partition { p < length pools.now.limits }
+    ensures short { result.ticks ≤ 16 }
+    ensures put { call_of (register cpu.old A7) ≡ Some ConsolePut → 0 < result.ticks → IsPut (limits_at p pools.now) result.ticks t cpu.old cpu.new result.effect (part_at p pools.now) }
+{
+    let _parts = pools.parts();
+    if pools.cancellations().is_point_acting(p, t) {
+        return replied(0);
+    }
+    if pools.is_output_full(p) {
+        refuse(cpu, Errno::EAGAIN);
+        return replied(4);
+    }
+    let byte = (cpu.register(A0) % 256) as u8;
+    cpu.set_register(A0, 0);
+    QuietCall {
+        ticks: 4,
+        effect: QuietEffect::Puts(byte),
+    }
+}
+
+/// pthread_setspecific: the caller's value of the key of a0 is to be the word of a1, and 0 in a0; EINVAL of an unknown
+/// key.
+#[inline]
+#[tactic(auto, using(crate::proofs::RepliesPut::values))]
+fn set_specific(pools: &Pools, p: PartId, cpu: &mut Cpu) -> QuietCall
+    requires partition { p < length pools.now.limits }
+    ensures short { result.ticks ≤ 16 }
+    ensures put { (t : ℕ) → call_of (register cpu.old A7) ≡ Some PthreadSetspecific → IsPut (limits_at p pools.now) result.ticks t cpu.old cpu.new result.effect (part_at p pools.now) }
+{
+    let _parts = pools.parts();
+    let key = KeyNo::new(cpu.register(A0));
+    if !pools.keys().is_key(p, key) {
+        refuse(cpu, Errno::EINVAL);
+        return replied(2);
+    }
+    let value = cpu.register(A1);
+    cpu.set_register(A0, 0);
+    QuietCall {
+        ticks: 2,
+        effect: QuietEffect::Sets(key, value),
+    }
+}
+
+/// The reply of pthread_getspecific: the caller's value of the key of a0, 0 of an unknown key.
+#[inline]
+#[tactic(auto, using(crate::proofs::RepliesPut::values))]
+fn tell_specific(pools: &Pools, p: PartId, t: ThreadNo, cpu: &mut Cpu)
+    requires partition { p < length pools.now.limits }
+    ensures { call_of (register cpu.old A7) ≡ Some PthreadGetspecific → IsPut (limits_at p pools.now) 2 t cpu.old cpu.new Keeps (part_at p pools.now) }
+{
+    let _parts = pools.parts();
+    let value = pools.keys().get(p, t, KeyNo::new(cpu.register(A0)));
+    tell(cpu, value);
+}
+
+/// The error number in a0.
+fn refuse(cpu: &mut Cpu, errno: Errno)
+    ensures { cpu.new ≡ with_register cpu.old A0 (errno_number errno) }
+{
+    let number = errno.number();
+    cpu.set_register(A0, number);
+}
+
+/// 0 in a0, and a value in a1.
+fn tell(cpu: &mut Cpu, value: u32)
+    ensures { cpu.new ≡ with_register (with_register cpu.old A0 0) A1 value }
+{
+    cpu.set_register(A0, 0);
+    cpu.set_register(A1, value);
+}
+
+/// The reply of pthread_getschedparam: the policy and the assigned priority of the thread of a0, or ESRCH.
+#[tactic(auto, using(crate::proofs::RepliesPut::replies))]
+fn tell_scheduling(pools: &Pools, p: PartId, cpu: &mut Cpu)
+    requires partition { p < length pools.now.limits }
+    ensures { (t : ℕ) → call_of (register cpu.old A7) ≡ Some PthreadGetschedparam → IsPut (limits_at p pools.now) 4 t cpu.old cpu.new Keeps (part_at p pools.now) }
+{
+    match named_thread(pools, p, cpu.register(A0)) {
+        Some(target) => {
+            let priority = target.priority;
+            tell(cpu, policy_number(target.policy));
+            cpu.set_register(A2, priority.level() as u32);
+        }
+        None => refuse(cpu, Errno::ESRCH),
+    }
+}
+
+/// The reply of a pthread_detach that is refused: ESRCH of a number that is not in use, EINVAL of a thread that is
+/// detached or has a joiner. False of one that detaches, and the registers stay.
+#[tactic(auto, using(crate::proofs::RepliesPut::replies))]
+fn refuse_detachment(pools: &Pools, p: PartId, cpu: &mut Cpu) -> bool
+    requires partition { p < length pools.now.limits }
+    ensures { (t : ℕ) → result ≡ true → call_of (register cpu.old A7) ≡ Some PthreadDetach → IsPut (limits_at p pools.now) 6 t cpu.old cpu.new Keeps (part_at p pools.now) }
+{
+    let Some(target) = named_thread(pools, p, cpu.register(A0)) else {
+        refuse(cpu, Errno::ESRCH);
+        return true;
+    };
+    if !is_taken(target) {
+        return false;
+    }
+    refuse(cpu, Errno::EINVAL);
+    true
+}
