@@ -12,7 +12,7 @@
 //! they are, `moved` what they leave of the part (registers, memory, used ticks, last step), `traced` what the trace
 //! has; in `proofs/PlainRows` the loan of the memory and the work on the thread become that move. Below stand the pools
 //! of each kind (threads, line, mutexes, condition variables, deadlines, cancellation, keys, memory, consoles),
-//! `ptk_gate_parts`, which makes them, `ptk_gate_waits`, in which a deadline comes, the instructions and their rows;
+//! `ptk_gate_parts`, which makes them, `ptk_gate_waits`, which keeps their deadlines, the instructions and their rows;
 //! above, `ptk_gate_moves` with the moves composed of several. Dear to prove are `build` and the choices by stored
 //! priorities.
 #![tactic(auto)]

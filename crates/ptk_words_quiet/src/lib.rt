@@ -1,6 +1,7 @@
 //! Rows of plain steps and idle ticks: what happens to a partition while its running thread only computes, or while it
 //! has nothing to do. `specs/Quiet` says when a partition is quiet, so that nothing but plain steps can come before a
-//! given tick, and what so many plain steps leave; `specs/Idle` says when it is idle up to a tick. The functions without
+//! given tick, and what so many plain steps leave; `specs/Replies` what a quiet call is, which replies at once and leaves
+//! it quiet; `specs/Idle` says when it is idle up to a tick. The functions without
 //! code are laws: a plain step of a quiet state is its whole decision and leaves it quiet, under SCHED_RR too; plain
 //! steps in a row are as many ticks, with steps, used ticks, the last step and the trace counted as by so many decisions;
 //! and ticks in a row change nothing of an idle partition but the tick of its next decision. Below stand the definitions
