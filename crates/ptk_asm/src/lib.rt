@@ -18,8 +18,6 @@ mod placed;
 mod references;
 mod second_pass;
 mod statements;
-#[cfg(test)]
-mod tests;
 
 pub use assembling::assemble;
 pub use fault::AsmFault;

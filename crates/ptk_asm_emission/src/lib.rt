@@ -10,8 +10,6 @@ mod fields;
 mod instructions;
 mod laws;
 mod statements;
-#[cfg(test)]
-mod tests;
 
 pub use instructions::{Instructions, instructions_of};
 pub use laws::words_decode;

@@ -11,8 +11,6 @@ mod mnemonics;
 mod operands;
 mod registers;
 mod slots;
-#[cfg(test)]
-mod tests;
 
 pub use forms::{distances, is_even, is_within, size_of, stands_in};
 pub use mnemonics::form_named;

@@ -12,7 +12,5 @@ mod entries;
 mod stack;
 mod stacks;
 mod table;
-#[cfg(test)]
-mod tests;
 
 pub use table::Cancellations;

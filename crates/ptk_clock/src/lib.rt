@@ -18,8 +18,6 @@ mod pairs;
 mod plain;
 mod queue;
 mod shared;
-#[cfg(test)]
-mod tests;
 mod threads;
 mod ticks;
 

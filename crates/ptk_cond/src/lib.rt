@@ -18,8 +18,6 @@ mod expiries;
 mod kinds;
 mod naming;
 mod signals;
-#[cfg(test)]
-mod tests;
 mod waiting;
 
 pub use conditions::{destroy, init, is_there, numbered};

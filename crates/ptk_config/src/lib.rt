@@ -11,8 +11,6 @@ mod input;
 mod reading;
 mod section;
 mod stage;
-#[cfg(test)]
-mod tests;
 mod window;
 
 pub use config::{Config, read_config};

@@ -12,8 +12,6 @@ mod explain;
 mod lookup;
 mod place;
 mod reason;
-#[cfg(test)]
-mod tests;
 mod walk;
 mod windows;
 mod words;

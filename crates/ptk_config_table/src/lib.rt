@@ -9,7 +9,5 @@ mod explanation;
 mod images;
 mod share;
 mod table;
-#[cfg(test)]
-mod tests;
 
 pub use explanation::explain;

@@ -7,7 +7,5 @@
 
 mod console;
 mod consoles;
-#[cfg(test)]
-mod tests;
 
 pub use consoles::Consoles;

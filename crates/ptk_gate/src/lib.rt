@@ -15,8 +15,6 @@ mod rows;
 mod steps;
 mod tables;
 mod telling;
-#[cfg(test)]
-mod tests;
 
 pub use calls::call;
 pub use tables::Tables;

@@ -33,8 +33,6 @@ mod plain_mutexes;
 mod pools;
 mod rows;
 mod running;
-#[cfg(test)]
-mod tests;
 mod threads;
 
 pub use pools::Pools;

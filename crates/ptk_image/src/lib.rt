@@ -7,8 +7,6 @@
 mod image;
 mod laws;
 mod reading;
-#[cfg(test)]
-mod tests;
 mod writing;
 
 pub use image::Image;

@@ -14,8 +14,6 @@
 mod decisions;
 mod rows;
 mod steps;
-#[cfg(test)]
-mod tests;
 
 pub use decisions::{decide, last_step};
 pub use ptk_gate::Tables;

@@ -12,8 +12,6 @@ mod numbers;
 mod rounds;
 mod rows;
 mod table;
-#[cfg(test)]
-mod tests;
 
 pub use destructors::DestructorCall;
 pub use numbers::KeyNo;

@@ -8,8 +8,6 @@
 
 mod fault;
 mod status;
-#[cfg(test)]
-mod tests;
 
 pub use fault::{Fault, fault_line};
 pub use status::ExitStatus;

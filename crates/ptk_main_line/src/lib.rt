@@ -9,7 +9,5 @@
 mod commands;
 mod help;
 mod line;
-#[cfg(test)]
-mod tests;
 
 pub use line::{MOST_TICKS, Request, not_text, read_line};

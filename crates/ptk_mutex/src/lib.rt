@@ -19,8 +19,6 @@ mod locking;
 mod mutexes;
 mod plain;
 mod rising;
-#[cfg(test)]
-mod tests;
 mod unlocking;
 mod waking;
 

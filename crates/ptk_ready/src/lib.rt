@@ -10,8 +10,6 @@
 mod choice;
 mod line;
 mod queue;
-#[cfg(test)]
-mod tests;
 mod vec_line;
 
 pub use choice::first_of_greatest;

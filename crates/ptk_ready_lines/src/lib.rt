@@ -8,7 +8,5 @@
 #![tactic(auto)]
 
 mod linked_line;
-#[cfg(test)]
-mod tests;
 
 pub use linked_line::LinkedLine;

@@ -8,8 +8,6 @@
 #![tactic(auto)]
 
 mod rows;
-#[cfg(test)]
-mod tests;
 mod text;
 mod trace;
 

@@ -15,8 +15,6 @@ mod near;
 mod plan;
 mod stages;
 mod table;
-#[cfg(test)]
-mod tests;
 mod walk;
 
 pub use faults::{fault_of, overlaps_any, plan_fault, window_fault};

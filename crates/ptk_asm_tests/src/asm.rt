@@ -1,0 +1,264 @@
+//! Sources and what they come to: worked images, each statement with its word, each fault with its token, and sizes.
+
+ghost use Rattle.std.specs.Prelude.{◌≤◌, length};
+
+use ptk_asm::assemble;
+use ptk_image::{Image, write_image};
+use std::alloc::Global;
+use std::process::Abort;
+use std::test::Fail;
+
+/// Writes `h` and `i` and exits with 0.
+const HELLO: &str = "_start: li a7, 1
+        li a0, 104  # h
+        ecall
+        li a7, 1
+        li a0, 105  # i
+        ecall
+        li a7, 0
+        li a0, 0
+        ecall
+";
+
+/// The 60 bytes of its image.
+const HELLO_IMAGE: [u8; 60] = [
+    0x50, 0x54, 0x4b, 0x49, 0x01, 0x00, 0x00, 0x00, 0x00, 0x00, 0x00, 0x00, 0x24, 0x00, 0x00, 0x00,
+    0x00, 0x00, 0x00, 0x00, 0x00, 0x00, 0x00, 0x00, 0x93, 0x08, 0x10, 0x00, 0x13, 0x05, 0x80, 0x06,
+    0x73, 0x00, 0x00, 0x00, 0x93, 0x08, 0x10, 0x00, 0x13, 0x05, 0x90, 0x06, 0x73, 0x00, 0x00, 0x00,
+    0x93, 0x08, 0x00, 0x00, 0x13, 0x05, 0x00, 0x00, 0x73, 0x00, 0x00, 0x00,
+];
+
+/// Statements of one word each, all instructions among them, with the words of the manual's listing (RISC-V 24, 25), put
+/// together field by field; LLVM's assembler gives the same.
+const STATEMENTS: [(&str, u32); 47] = [
+    ("addi a0, a1, -2048", 0x8005_8513),
+    ("slti t0, t1, 2047", 0x7ff3_2293),
+    ("sltiu s0, fp, -1", 0xfff4_3413),
+    ("xori x31, x30, 0x7f", 0x07ff_4f93),
+    ("ori a2, a3, 1", 0x0016_e613),
+    ("andi a4, a5, 15", 0x00f7_f713),
+    ("slli a6, a7, 31", 0x01f8_9813),
+    ("srli s1, s2, 0", 0x0009_5493),
+    ("srai s3, s4, 7", 0x407a_5993),
+    ("add s5, s6, s7", 0x017b_0ab3),
+    ("sub s8, s9, s10", 0x41ac_8c33),
+    ("sll s11, t3, t4", 0x01de_1db3),
+    ("slt t5, t6, gp", 0x003f_af33),
+    ("sltu tp, ra, sp", 0x0020_b233),
+    ("xor a0, a1, a2", 0x00c5_c533),
+    ("srl a3, a4, a5", 0x00f7_56b3),
+    ("sra a6, a7, t0", 0x4058_d833),
+    ("or t1, t2, zero", 0x0003_e333),
+    ("and x1, x2, x3", 0x0031_70b3),
+    ("lb a0, -1(sp)", 0xfff1_0503),
+    ("lh a1, 2(sp)", 0x0021_1583),
+    ("lw a2, 4(sp)", 0x0041_2603),
+    ("lbu a3, 2047(sp)", 0x7ff1_4683),
+    ("lhu a4, -2048(sp)", 0x8001_5703),
+    ("sb a5, 0(sp)", 0x00f1_0023),
+    ("sh a6, -2(gp)", 0xff01_9f23),
+    ("sw a7, 2044(tp)", 0x7f12_2e23),
+    ("jalr ra, 8(t0)", 0x0082_80e7),
+    ("beq a0, a1, -4096", 0x80b5_0063),
+    ("bne a0, a1, 4094", 0x7eb5_1fe3),
+    ("blt a0, a1, 8", 0x00b5_4463),
+    ("bge a0, a1, -8", 0xfeb5_5ce3),
+    ("bltu a0, a1, 0", 0x00b5_6063),
+    ("bgeu a0, a1, 16", 0x00b5_7863),
+    ("jal ra, -1048576", 0x8000_00ef),
+    ("lui a0, 1048575", 0xffff_f537),
+    ("auipc a1, 1", 0x0000_1597),
+    ("ecall", 0x0000_0073),
+    ("ebreak", 0x0010_0073),
+    ("fence", 0x0ff0_000f),
+    ("nop", 0x0000_0013),
+    ("mv a0, a1", 0x0005_8513),
+    ("j 1048574", 0x7fff_f06f),
+    ("jr a2", 0x0006_0067),
+    ("ret", 0x0000_8067),
+    ("li a0, -2048", 0x8000_0513),
+    ("li a1, 2047", 0x7ff0_0593),
+];
+
+/// The text of the image is these words.
+fn check_text(rt: &impl Abort, image: &Image, words: &[u32])
+    requires { length words.now ≤ 1000 }
+{
+    let text = image.text();
+    assert_eq!(rt; text.len(), words.len() * 4);
+    for (i, word) in words.iter().enumerate() {
+        assert_eq!(rt;
+            &text[4 * i..4 * i + 4],
+            word.to_le_bytes().as_slice(),
+            "word {i}"
+        );
+    }
+}
+
+/// The source is refused with the fault of this number, in this line, at these bytes.
+fn check_fault(
+    rt: &impl Abort,
+    alloc: Global,
+    source: &str,
+    line: usize,
+    from: usize,
+    to: usize,
+    number: u8,
+) {
+    match assemble(alloc, source) {
+        Ok(_image) => assert!(rt; false, "an image of {source}"),
+        Err(fault) => {
+            assert_eq!(rt; fault.kind.number(), number, "kind of {source}");
+            assert_eq!(rt; fault.line, line, "line of {source}");
+            assert_eq!(rt; fault.from, from, "from of {source}");
+            assert_eq!(rt; fault.to, to, "to of {source}");
+        }
+    }
+}
+
+#[test]
+fn hello_source(rt: HostRuntime) -> Result<(), Fail> {
+    let image = assemble(rt.alloc(), HELLO)?;
+    let bytes = write_image(rt.alloc(), &image)?;
+    assert_eq!(rt; bytes.as_slice(), HELLO_IMAGE.as_slice());
+    Ok(())
+}
+
+#[test]
+fn load_address(rt: HostRuntime) -> Result<(), Fail> {
+    let source = ".data\nx: .word 7\n.text\n_start: la a0, x\nlw a1, 0(a0)\nj _start";
+    let image = assemble(rt.alloc(), source)?;
+    check_text(
+        &rt,
+        &image,
+        &[0x0000_0537, 0x0105_0513, 0x0005_2583, 0xff5f_f06f],
+    );
+    assert_eq!(rt; image.data(), [7, 0, 0, 0].as_slice());
+    assert_eq!(rt; image.entry(), 0);
+    assert_eq!(rt; write_image(rt.alloc(), &image)?.len(), 44);
+    Ok(())
+}
+
+#[test]
+fn each_statement_has_its_word(rt: HostRuntime) -> Result<(), Fail> {
+    for (statement, word) in STATEMENTS {
+        let image = assemble(rt.alloc(), statement)?;
+        check_text(&rt, &image, &[word]);
+    }
+    Ok(())
+}
+
+#[test]
+fn statements_of_two_words(rt: HostRuntime) -> Result<(), Fail> {
+    let image = assemble(rt.alloc(), "li a0, 4095")?;
+    check_text(&rt, &image, &[0x0000_1537, 0xfff5_0513]);
+    let image = assemble(rt.alloc(), "li a2, 2048")?;
+    check_text(&rt, &image, &[0x0000_1637, 0x8006_0613]);
+    let image = assemble(rt.alloc(), "li a3, 4294967295")?;
+    check_text(&rt, &image, &[0x0000_06b7, 0xfff6_8693]);
+    let image = assemble(rt.alloc(), "li a4, -2147483648")?;
+    check_text(&rt, &image, &[0x8000_0737, 0x0007_0713]);
+    Ok(())
+}
+
+#[test]
+fn labels_and_sections(rt: HostRuntime) -> Result<(), Fail> {
+    let source =
+        "nop\n_start : call f\n.word table\n.data\n.byte -1\n.space 3\ntable: .word end, \n";
+    check_fault(&rt, rt.alloc(), source, 7, 72, 73, 1);
+    let source =
+        "nop\n_start : call f\nf: beq x0, x0, _start\n.word table\n.bss\nend: .space 5\n.data\n.byte -1\n.space 3\ntable: .word end\n";
+    let image = assemble(rt.alloc(), source)?;
+    check_text(&rt, &image, &[0x0000_0013, 0x0040_00ef, 0xfe00_0ee3, 20]);
+    assert_eq!(rt; image.data(), [255, 0, 0, 0, 24, 0, 0, 0].as_slice());
+    assert_eq!(rt; image.entry(), 4);
+    assert_eq!(rt; image.bss(), 5);
+    let image = assemble(rt.alloc(), "nop\n.data\n_start: .word 0x10")?;
+    assert_eq!(rt; image.entry(), 0);
+    Ok(())
+}
+
+#[test]
+fn line_endings(rt: HostRuntime) -> Result<(), Fail> {
+    let image = assemble(rt.alloc(), "nop\r\nnop # \u{e9}\r\n\r\nebreak")?;
+    check_text(&rt, &image, &[0x0000_0013, 0x0000_0013, 0x0010_0073]);
+    let image = assemble(rt.alloc(), "")?;
+    check_text(&rt, &image, &[]);
+    check_fault(&rt, rt.alloc(), "nop\r", 1, 3, 4, 1);
+    Ok(())
+}
+
+#[test]
+fn faults_of_tokens(rt: HostRuntime) {
+    let alloc = rt.alloc();
+    check_fault(&rt, alloc, "nop\n  addi a0, a0, 0x", 2, 19, 21, 1);
+    check_fault(&rt, alloc, "foo - 1", 1, 4, 5, 1);
+    check_fault(&rt, alloc, "nop \u{20ac} # \u{20ac}", 1, 4, 7, 1);
+    check_fault(&rt, alloc, "mv a0 a1", 1, 6, 8, 1);
+    check_fault(&rt, alloc, "mv a0,  # b", 1, 8, 8, 1);
+    check_fault(&rt, alloc, "mv a0\r\n", 1, 5, 5, 1);
+    check_fault(&rt, alloc, "ret ra", 1, 4, 6, 1);
+    check_fault(&rt, alloc, "mv , a1", 1, 3, 4, 1);
+    check_fault(&rt, alloc, "li a0, a1", 1, 7, 9, 1);
+    check_fault(&rt, alloc, "call 4", 1, 5, 6, 1);
+}
+
+#[test]
+fn faults_of_statements(rt: HostRuntime) {
+    let alloc = rt.alloc();
+    check_fault(&rt, alloc, "\nfoo a0", 2, 1, 4, 2);
+    check_fault(&rt, alloc, "a: 5", 1, 3, 4, 2);
+    check_fault(&rt, alloc, ".data\nnop", 2, 6, 9, 2);
+    check_fault(&rt, alloc, ".byte 1", 1, 0, 5, 2);
+    check_fault(&rt, alloc, "mv a0, a8", 1, 7, 9, 3);
+    check_fault(&rt, alloc, "mv a0, 8", 1, 7, 8, 3);
+    check_fault(&rt, alloc, "nop\naddi a0, a0, 2048", 2, 17, 21, 4);
+    check_fault(&rt, alloc, "beq a0, a0, 3", 1, 12, 13, 4);
+    check_fault(&rt, alloc, "li a0, 18446744073709551616", 1, 7, 27, 4);
+    check_fault(&rt, alloc, ".data\n.byte 1\n.word 2", 3, 14, 19, 4);
+}
+
+#[test]
+fn faults_of_labels(rt: HostRuntime) {
+    let alloc = rt.alloc();
+    check_fault(&rt, alloc, "j away\nfoo", 2, 7, 10, 2);
+    check_fault(&rt, alloc, "nop\nj away # far", 2, 6, 10, 5);
+    check_fault(
+        &rt,
+        alloc,
+        ".data\n.space 4096\nx:\n.text\nbeq a0, a1, x",
+        5,
+        39,
+        40,
+        4,
+    );
+    check_fault(&rt, alloc, "a:\na:", 2, 3, 4, 6);
+    check_fault(&rt, alloc, "a: nop\n b :\n a : foo", 3, 13, 14, 6);
+}
+
+#[test]
+fn sections_of_the_greatest_size(rt: HostRuntime) -> Result<(), Fail> {
+    let alloc = rt.alloc();
+    let image = assemble(
+        alloc,
+        ".data\n.space 1048576\n.bss\n.space 1048575\n.space 1",
+    )?;
+    assert_eq!(rt; image.data().len(), 1_048_576);
+    assert_eq!(rt; image.bss(), 1_048_576);
+    check_fault(&rt, alloc, ".data\n.space 1048576\n.byte 1", 3, 21, 26, 4);
+    check_fault(&rt, alloc, ".bss\n.space 1048575\n.space 2", 3, 20, 26, 4);
+    Ok(())
+}
+
+#[test]
+fn a_source_of_a_mebibyte(rt: HostRuntime) -> Result<(), Fail> {
+    let mut source = String::new(rt.alloc());
+    for _ in 0..262_144 {
+        source.push_str("nop\n")?;
+    }
+    let image = assemble(rt.alloc(), &source)?;
+    assert_eq!(rt; image.text().len(), 1_048_576);
+    source.push_str("ret")?;
+    check_fault(&rt, rt.alloc(), &source, 262_145, 1_048_576, 1_048_579, 4);
+    Ok(())
+}

@@ -1,9 +1,0 @@
-use Rattle.std.proofs.Common.{◌≡◌, [], ◌∷◌, length}
-use Rattle.ptk_threads.specs.Table.{free_table}
-use Rattle.ptk_ready_lines.proofs.tests.table.Given as goal
-
-abbrev pub invariant-loop : goal.invariant-loop
-invariant-loop l = record {
-  queues : l.threads.queues ≡ (free_table (1 ∷ 32 ∷ [])).queues;
-  parts : length l.threads.threads ≡ 2;
-}
