@@ -9,13 +9,12 @@ ghost use Rattle.ptk_gate_pools.specs.Kept.{part_at, put_part, limits_at};
 ghost use Rattle.ptk_gate.specs.Answers.{call_answer};
 
 use crate::tables::Tables;
-use ptk_gate_cancel::{
-    cancel, cleanup_pop, cleanup_push, setcancelstate, setcanceltype, testcancel,
-};
-use ptk_gate_console::{get, put};
-use ptk_gate_keys::{getspecific, key_create, key_delete, setspecific};
 use ptk_gate_moves::{exit, leave, own_number, refuse};
 use ptk_gate_pools::Pools;
+use ptk_gate_services::{
+    cancel, cleanup_pop, cleanup_push, clock_gettime, clock_nanosleep, get, getspecific, key_create,
+    key_delete, put, setcancelstate, setcanceltype, setspecific, testcancel,
+};
 use ptk_gate_sync::{
     cond_broadcast, cond_destroy, cond_init, cond_signal, cond_timedwait, cond_wait,
     mutex_consistent, mutex_destroy, mutex_init, mutex_lock, mutex_timedlock, mutex_trylock,
@@ -24,7 +23,6 @@ use ptk_gate_sync::{
 use ptk_gate_threads::{
     create, detach, getschedparam, join, setschedparam, setschedprio, yield_turn,
 };
-use ptk_gate_time::{clock_gettime, clock_nanosleep};
 use ptk_words::{A0, A1, A2, A3, A4, A7, Call, Cpu, Errno, Limits, PartId, ThreadNo, Tick};
 use ptk_words_model::{Invocation, Reply};
 

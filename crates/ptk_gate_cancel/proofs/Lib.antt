@@ -1,3 +1,0 @@
-pub mod Handlers
-pub mod Withdrawals
-pub mod Requested

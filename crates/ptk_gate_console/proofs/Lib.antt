@@ -1,3 +1,0 @@
-pub mod Rings
-pub mod ArrivalSteps
-pub mod ArrivalLoop
