@@ -5,3 +5,5 @@ pub mod Called
 pub mod Passing
 pub mod RowsWhole
 pub mod RepliesWhole
+pub use Rattle.ptk_gate_pools.proofs.Parted
+pub use Rattle.ptk_gate_pools.proofs.Ranks

@@ -1,2 +1,3 @@
 pub mod Whole
 pub mod Answers
+pub use Rattle.ptk_gate_pools.specs.Kept

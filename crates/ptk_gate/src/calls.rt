@@ -12,8 +12,8 @@ use crate::tables::Tables;
 use ptk_gate_moves::{exit, leave, own_number, refuse};
 use ptk_gate_pools::Pools;
 use ptk_gate_services::{
-    cancel, cleanup_pop, cleanup_push, clock_gettime, clock_nanosleep, get, getspecific, key_create,
-    key_delete, put, setcancelstate, setcanceltype, setspecific, testcancel,
+    cancel, cleanup_pop, cleanup_push, clock_gettime, clock_nanosleep, get, getspecific,
+    key_create, key_delete, put, setcancelstate, setcanceltype, setspecific, testcancel,
 };
 use ptk_gate_sync::{
     cond_broadcast, cond_destroy, cond_init, cond_signal, cond_timedwait, cond_wait,

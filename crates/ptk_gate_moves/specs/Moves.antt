@@ -6,6 +6,7 @@ use Rattle.ptk_words.specs.declared.threads.Thread.{Thread}
 use Rattle.ptk_words.specs.declared.threads.Phase.TheVariants.{Unwinding}
 use Rattle.ptk_words.specs.declared.threads.Policy.{Policy}
 use Rattle.ptk_words_model.specs.Time.{Timespec, is_timespec, deadline_of}
+pub use Rattle.ptk_gate_pools.specs.Moves.{stopped, with_left, with_memory, with_next_taken}
 
 -- the thread unwinds with this result, and its next step is at the return gate (pthread_exit)
 abbrev pub unwinding : Word → Thread → Thread

@@ -4,9 +4,10 @@
 //! cancellation points, and the calls that are no more than one of these. Each is one equation: the pools are the old
 //! ones with partition p's part replaced by the model's move, so that every other partition's part stays. A function of
 //! several moves begins with `parts`, which opens the invariant of the pools. Besides it is told what a word of a guest
-//! stands for: a thread, a priority, a deadline, a place in memory. Below stands `ptk_gate_pools`; above,
-//! `ptk_gate_console`, `ptk_gate_threads`, `ptk_gate_sync`, `ptk_gate_time`, `ptk_gate_cancel`, `ptk_gate_keys` and the
-//! gate's tables, which make calls and decisions of these moves. Dear to prove is `begin`, four moves in a row.
+//! stands for: a thread, a priority, a deadline, a place in memory. Below stands `ptk_gate_pools`, whose `Pools` and
+//! their specs are passed on to the crates above: `ptk_gate_services`, `ptk_gate_steps`, `ptk_gate_threads`,
+//! `ptk_gate_sync` and the gate's tables, which make calls and decisions of these moves. Dear to prove is `begin`, four
+//! moves in a row.
 #![tactic(auto)]
 
 mod blocking;
@@ -27,6 +28,7 @@ pub use cancellation::{cancel, is_cancelled, is_to_unwind};
 pub use creation::begin;
 pub use intervals::count_interval;
 pub use places::{end_turn, push_tail, step_back};
+pub use ptk_gate_pools::Pools;
 pub use replies::{refuse, reply, succeed, succeed_with, succeed_with_two};
 pub use targets::{is_ended, is_taken, named_thread, target};
 pub use times::asked_deadline;

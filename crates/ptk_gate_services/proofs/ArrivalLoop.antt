@@ -11,11 +11,11 @@ use Rattle.ptk_words_model.specs.Decision.{first_waiter, after_arrival_for, afte
 use Rattle.ptk_words_well.specs.Well.{IsWell}
 use Rattle.ptk_console.specs.ConsoleTable.{next_byte, without_next, with_any_input, no_limits}
 use Rattle.ptk_console.specs.ConsoleTable as console
-use Rattle.ptk_gate_pools.specs.Kept.{Kept, AreParts, part_at, put_part, limits_at}
-use Rattle.ptk_gate_pools.specs.Moves.{with_next_taken}
+use Rattle.ptk_gate_moves.specs.Kept.{Kept, AreParts, part_at, put_part, limits_at}
+use Rattle.ptk_gate_moves.specs.Moves.{with_next_taken}
 use Rattle.ptk_gate_services.specs.Arrivals.{after_byte, after_next, after_next_of}
-use Rattle.ptk_gate_pools.proofs.Parted.{part_at-put, put_part-put}
-use Rattle.ptk_gate_pools.proofs.Ranks.{put_same}
+use Rattle.ptk_gate_moves.proofs.Parted.{part_at-put, put_part-put}
+use Rattle.ptk_gate_moves.proofs.Ranks.{put_same}
 use Rattle.ptk_gate_services.proofs.ArrivalSteps.{arrivals_step, arrivals_end, next_well, byte_well, next_fewer, arrival_coming}
 
 -- ---- one turn of the loop

@@ -23,9 +23,9 @@ use Rattle.ptk_words_well.proofs.Parts.{well_console}
 use Rattle.ptk_words_well.proofs.Waits.{well_arrival_for}
 use Rattle.ptk_console.specs.ConsoleTable.{next_byte, without_next}
 use Rattle.ptk_console.proofs.Arrivals.{arriving-without_next, without_arriving-without_next}
-use Rattle.ptk_gate_pools.specs.Moves.{with_next_taken}
+use Rattle.ptk_gate_moves.specs.Moves.{with_next_taken}
 use Rattle.ptk_words_locks.specs.Conditions.{IsNoWaiter}
-use Rattle.ptk_gate_pools.proofs.NoWaiters.{reader_apart}
+use Rattle.ptk_gate_moves.proofs.NoWaiters.{reader_apart}
 use Rattle.ptk_gate_services.specs.Arrivals.{after_byte}
 
 -- the byte goes to the waiter or into the ring, and the input to come is as it was

@@ -9,10 +9,10 @@ use Rattle.ptk_words_locks.specs.Expiries.{next_expiry, after_expiry, after_next
 use Rattle.ptk_words_locks.proofs.Expiries.{in_turn, one_at_a_time}
 use Rattle.ptk_words_well.specs.Well.{IsWell}
 use Rattle.ptk_words_well.proofs.Timeouts.{well_timeout}
-use Rattle.ptk_gate_pools.specs.Kept.{Kept, AreParts, part_at, put_part, limits_at}
-use Rattle.ptk_gate_pools.specs.Expired.{after_one_expiry}
-use Rattle.ptk_gate_pools.proofs.Parted.{part_at-put, put_part-put}
-use Rattle.ptk_gate_pools.proofs.Ranks.{put_same}
+use Rattle.ptk_gate_moves.specs.Kept.{Kept, AreParts, part_at, put_part, limits_at}
+use Rattle.ptk_gate_moves.specs.Expired.{after_one_expiry}
+use Rattle.ptk_gate_moves.proofs.Parted.{part_at-put, put_part-put}
+use Rattle.ptk_gate_moves.proofs.Ranks.{put_same}
 
 some_of : (o : Option Expiry) → is_some o ≡ true → (a : Expiry) × (o ≡ Some a)
 some_of None e = absurd (false≢true e)

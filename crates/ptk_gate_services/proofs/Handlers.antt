@@ -10,8 +10,8 @@ use Rattle.ptk_words_model.specs.Calls.{Answer, refusal, success}
 use Rattle.ptk_words_model.specs.CancellationCalls.{cleanup_pop_answer, cleanup_pop}
 use Rattle.ptk_words_model.specs.State.{Part, with_cleanups}
 use Rattle.ptk_words_model.specs.Unwinding.{cleanups_of}
-use Rattle.ptk_gate_pools.specs.Kept.{Kept, part_at, put_part}
-use Rattle.ptk_gate_pools.proofs.Ranks.{put_same}
+use Rattle.ptk_gate_moves.specs.Kept.{Kept, part_at, put_part}
+use Rattle.ptk_gate_moves.proofs.Ranks.{put_same}
 
 -- ---- a handler pushed
 

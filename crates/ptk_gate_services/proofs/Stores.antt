@@ -8,8 +8,8 @@ use Rattle.ptk_words_model.specs.Time.{time_bytes}
 use Rattle.ptk_words_model.specs.State.{Part}
 use Rattle.ptk_words_model.specs.Calls.{with_stored}
 use Rattle.ptk_words_well.proofs.Effects.{length-with_bytes}
-use Rattle.ptk_gate_pools.specs.Kept.{Kept, AreParts, part_at, put_part}
-use Rattle.ptk_gate_pools.proofs.Parted.{part_at-put, put_part-put}
+use Rattle.ptk_gate_moves.specs.Kept.{Kept, AreParts, part_at, put_part}
+use Rattle.ptk_gate_moves.proofs.Parted.{part_at-put, put_part-put}
 use Rattle.ptk_gate_services.specs.Times.{with_seconds, with_time}
 
 -- they are as one row of bytes stored

@@ -17,7 +17,7 @@ use Rattle.ptk_words_well.specs.Well.{IsWell}
 use Rattle.ptk_words_well.proofs.Whole.{lined_of}
 use Rattle.ptk_words_well.proofs.Waits.{waits_not_ready}
 use Rattle.ptk_words_locks.specs.Conditions.{IsNoWaiter}
-use Rattle.ptk_gate_pools.proofs.NoWaiters.{reader_apart, sleeper_apart, joiner_apart}
+use Rattle.ptk_gate_moves.proofs.NoWaiters.{reader_apart, sleeper_apart, joiner_apart}
 
 waits_some : (wait : Wait) (o : Option Thread) → wait_of o ≡ Some wait → IsSome o
 waits_some wait None e = absurd (let no : ⊥ = cc in no)

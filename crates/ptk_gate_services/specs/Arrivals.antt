@@ -4,7 +4,7 @@ use Rattle.ptk_words.specs.Names.{Byte, Tick}
 use Rattle.ptk_words_model.specs.State.{Part}
 use Rattle.ptk_words_model.specs.Decision.{after_arrival_for, first_waiter}
 use Rattle.ptk_console.specs.ConsoleTable.{next_byte}
-use Rattle.ptk_gate_pools.specs.Moves.{with_next_taken}
+use Rattle.ptk_gate_moves.specs.Moves.{with_next_taken}
 
 -- the byte goes to the waiter of greatest effective priority, or into a ring of this limit, or is lost (own)
 abbrev pub after_byte : ℕ → Byte → Part → Part

@@ -9,16 +9,15 @@ ghost use Rattle.ptk_words_model.specs.Decision.{first_waiter, after_arrivals};
 ghost use Rattle.ptk_words_well.specs.Well.{IsWell};
 ghost use Rattle.ptk_words.specs.Pools.{is_in};
 ghost use Rattle.ptk_console.specs.ConsoleTable.{next_byte};
-ghost use Rattle.ptk_gate_pools.specs.Kept.{AreParts, part_at, put_part, limits_at};
+ghost use Rattle.ptk_gate_moves.specs.Kept.{AreParts, part_at, put_part, limits_at};
 ghost use Rattle.ptk_words_locks.specs.Conditions.{IsNoWaiter};
 ghost use Rattle.ptk_gate_services.specs.Arrivals.{after_next};
 
-use ptk_gate_moves::wake;
-use ptk_gate_pools::Pools;
+use ptk_gate_moves::{Pools, wake};
 use ptk_words::{PartId, ThreadNo, Tick};
 
 /// The waiter is ready, with the byte in a1.
-#[tactic(auto, using(ptk_gate_pools::proofs::Parted::parted, ptk_gate_pools::proofs::NoWaiters::still_apart))]
+#[tactic(auto, using(ptk_gate_moves::proofs::Parted::parted, ptk_gate_moves::proofs::NoWaiters::still_apart))]
 fn hand_byte(pools: &mut Pools, p: PartId, t: ThreadNo, byte: u8)
     requires partition { p < length pools.old.limits }
     requires in_use { IsSome (thread_at (part_at p pools.old).locks t) }
@@ -32,7 +31,7 @@ fn hand_byte(pools: &mut Pools, p: PartId, t: ThreadNo, byte: u8)
 }
 
 /// Hands the next input byte, if it comes at the tick or before, to the first waiter; whether one came.
-#[tactic(auto, using(ptk_gate_pools::proofs::Parted::parted, ptk_gate_pools::proofs::NoWaiters::still_apart))]
+#[tactic(auto, using(ptk_gate_moves::proofs::Parted::parted, ptk_gate_moves::proofs::NoWaiters::still_apart))]
 fn hand_next(pools: &mut Pools, p: PartId, t: ThreadNo, tick: Tick) -> bool
     requires partition { p < length pools.old.limits }
     requires waiter { first_waiter (part_at p pools.old) ≡ Some t }

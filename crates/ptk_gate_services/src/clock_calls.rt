@@ -3,20 +3,21 @@
 ghost use Rattle.std.specs.Prelude.{◌≡◌, ◌<◌, ◌≤◌, ◌+◌, length};
 ghost use Rattle.ptk_words_model.specs.TimeCalls.{is_no_clock, clock_gettime, clock_nanosleep};
 ghost use Rattle.ptk_words_well.specs.Well.{IsWell};
-ghost use Rattle.ptk_gate_pools.specs.Kept.{part_at, put_part, limits_at};
+ghost use Rattle.ptk_gate_moves.specs.Kept.{part_at, put_part, limits_at};
 ghost use Rattle.ptk_clock.specs.Ticks.{seconds_of, nanoseconds_of};
 ghost use Rattle.ptk_gate_services.specs.Times.{with_seconds, with_time, slept};
 
 use ptk_clock::from_tick;
-use ptk_gate_moves::{asked_deadline, block, cancel, is_cancelled, is_pointer, refuse, succeed};
-use ptk_gate_pools::Pools;
+use ptk_gate_moves::{
+    Pools, asked_deadline, block, cancel, is_cancelled, is_pointer, refuse, succeed,
+};
 use ptk_words::{Errno, PartId, Tick, Wait};
 use ptk_words_model::{Invocation, Reply};
 
 /// clock_gettime: the tick at which the step began, of 1,000 ns, as a timespec at the pointer of a1; CLOCK_REALTIME, 0,
 /// and CLOCK_MONOTONIC, 1, read the same (own choice). EFAULT where the pointer is no multiple of 4 or its 12 bytes lie
 /// outside memory, then EINVAL of another clock in a0; a refusal changes nothing but a0.
-#[tactic(auto, using(ptk_gate_pools::proofs::Parted::parted, ptk_gate_moves::proofs::Pointers::pointers))]
+#[tactic(auto, using(ptk_gate_moves::proofs::Parted::parted, ptk_gate_moves::proofs::Pointers::pointers))]
 pub fn clock_gettime(pools: &mut Pools, p: PartId, i: Invocation) -> Reply
     requires partition { p < length pools.old.limits }
     requires well { IsWell (limits_at p pools.old) (part_at p pools.old) }
@@ -43,7 +44,7 @@ fn is_no_clock(word: u32) -> bool
 }
 
 /// Stores the tick as a timespec at the pointer, in a memory of this size: seconds low and high, then nanoseconds.
-#[tactic(auto, using(ptk_gate_pools::proofs::Parted::parted, crate::proofs::Stores::time_stores))]
+#[tactic(auto, using(ptk_gate_moves::proofs::Parted::parted, crate::proofs::Stores::time_stores))]
 fn store_time(pools: &mut Pools, p: PartId, pointer: u32, size: u32, tick: Tick)
     requires partition { p < length pools.old.limits }
     requires size { length (part_at p pools.old).memory ≡ size }
@@ -65,7 +66,7 @@ fn time_of(tick: Tick) -> (u64, u32)
 }
 
 /// Stores the seconds at the pointer, in a memory of this size: the low word, then the high one.
-#[tactic(auto, using(ptk_gate_pools::proofs::Parted::parted, crate::proofs::Stores::seconds_stores))]
+#[tactic(auto, using(ptk_gate_moves::proofs::Parted::parted, crate::proofs::Stores::seconds_stores))]
 fn store_seconds(pools: &mut Pools, p: PartId, pointer: u32, size: u32, seconds: u64)
     requires partition { p < length pools.old.limits }
     requires size { length (part_at p pools.old).memory ≡ size }

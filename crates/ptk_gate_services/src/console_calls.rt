@@ -3,16 +3,15 @@
 ghost use Rattle.std.specs.Prelude.{◌≡◌, ◌<◌, length};
 ghost use Rattle.ptk_words_model.specs.ConsoleCalls.{console_put, console_get, take_input};
 ghost use Rattle.ptk_console.specs.ConsoleTable.{IsNotWaiting};
-ghost use Rattle.ptk_gate_pools.specs.Kept.{part_at, put_part, limits_at};
+ghost use Rattle.ptk_gate_moves.specs.Kept.{part_at, put_part, limits_at};
 
-use ptk_gate_moves::{block, cancel, is_cancelled, refuse, succeed, succeed_with};
-use ptk_gate_pools::Pools;
+use ptk_gate_moves::{Pools, block, cancel, is_cancelled, refuse, succeed, succeed_with};
 use ptk_words::{Errno, PartId, Wait};
 use ptk_words_model::{Invocation, Reply};
 
 /// console_put: the low 8 bits of a0 at the end of the output (own choice). A cancellation point: a cancelled caller
 /// begins its unwinding, and no byte is put. EAGAIN where the output is full; the refusal changes nothing but a0.
-#[tactic(auto, using(ptk_gate_pools::proofs::Parted::parted))]
+#[tactic(auto, using(ptk_gate_moves::proofs::Parted::parted))]
 pub fn put(pools: &mut Pools, p: PartId, i: Invocation) -> Reply
     requires partition { p < length pools.old.limits }
     requires limits { i.limits ≡ limits_at p pools.old }
@@ -46,7 +45,7 @@ pub fn get(pools: &mut Pools, p: PartId, i: Invocation) -> Reply
 }
 
 /// The ring's first byte in a1, or the caller blocks as the last waiter.
-#[tactic(auto, using(ptk_gate_pools::proofs::Parted::parted, crate::proofs::Rings::rings))]
+#[tactic(auto, using(ptk_gate_moves::proofs::Parted::parted, crate::proofs::Rings::rings))]
 fn take_or_wait(pools: &mut Pools, p: PartId, i: Invocation) -> Reply
     requires partition { p < length pools.old.limits }
     requires new { IsNotWaiting i.caller (part_at p pools.old).console }

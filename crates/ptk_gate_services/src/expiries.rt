@@ -4,10 +4,10 @@ ghost use Rattle.std.specs.Prelude.{◌≡◌, ◌<◌, length, is_some};
 ghost use Rattle.ptk_words_model.specs.Withdrawal.{deadlines_of, after_expiries};
 ghost use Rattle.ptk_words_locks.specs.Expiries.{next_expiry};
 ghost use Rattle.ptk_words_well.specs.Well.{IsWell};
-ghost use Rattle.ptk_gate_pools.specs.Kept.{AreParts, part_at, put_part, limits_at};
-ghost use Rattle.ptk_gate_pools.specs.Expired.{after_one_expiry};
+ghost use Rattle.ptk_gate_moves.specs.Kept.{AreParts, part_at, put_part, limits_at};
+ghost use Rattle.ptk_gate_moves.specs.Expired.{after_one_expiry};
 
-use ptk_gate_pools::Pools;
+use ptk_gate_moves::Pools;
 use ptk_words::{PartId, Tick};
 
 /// Ends the wait of the thread whose deadline is first by (tick, thread number) of those that have come; whether there

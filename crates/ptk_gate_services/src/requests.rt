@@ -5,12 +5,11 @@ ghost use Rattle.ptk_words_model.specs.Priority.{thread_at};
 ghost use Rattle.ptk_words_model.specs.Mutex.{wait_of};
 ghost use Rattle.ptk_words_model.specs.CancellationCalls as calls;
 ghost use Rattle.ptk_words_well.specs.Well.{IsWell};
-ghost use Rattle.ptk_gate_pools.specs.Kept.{part_at, put_part, limits_at};
+ghost use Rattle.ptk_gate_moves.specs.Kept.{part_at, put_part, limits_at};
 ghost use Rattle.ptk_gate_services.specs.Requests.{after_request};
 
 use crate::withdrawal::withdraw;
-use ptk_gate_moves::{is_cancelled, is_ended, refuse, succeed, target};
-use ptk_gate_pools::Pools;
+use ptk_gate_moves::{Pools, is_cancelled, is_ended, refuse, succeed, target};
 use ptk_words::{Errno, PartId, ThreadNo, Wait};
 use ptk_words_model::{Invocation, Reply};
 
@@ -19,7 +18,7 @@ use ptk_words_model::{Invocation, Reply};
 /// its unwinding; one that waits on a condition variable re-locks its mutex first (XSH 2.9.5.2). A wait for a mutex
 /// goes on. Of a thread that has ended nothing changes, and the answer is 0 too. ESRCH of a number that is not in use;
 /// the refusal changes nothing but a0.
-#[tactic(auto, using(ptk_gate_pools::proofs::Parted::parted, crate::proofs::Requested::requested))]
+#[tactic(auto, using(ptk_gate_moves::proofs::Parted::parted, crate::proofs::Requested::requested))]
 pub fn cancel(pools: &mut Pools, p: PartId, i: Invocation) -> Reply
     requires partition { p < length pools.old.limits }
     requires well { IsWell (limits_at p pools.old) (part_at p pools.old) }
@@ -39,7 +38,7 @@ pub fn cancel(pools: &mut Pools, p: PartId, i: Invocation) -> Reply
 
 /// A request is pending for the thread, which is in this wait, if in any; where it acts, the thread is taken out of it
 /// (XSH 2.9.5.2).
-#[tactic(auto, using(ptk_gate_pools::proofs::Parted::parted), unfolding(crate::specs::Requests::after_request))]
+#[tactic(auto, using(ptk_gate_moves::proofs::Parted::parted), unfolding(crate::specs::Requests::after_request))]
 fn request(pools: &mut Pools, p: PartId, t: ThreadNo, wait: Option<Wait>)
     requires partition { p < length pools.old.limits }
     requires well { IsWell (limits_at p pools.old) (part_at p pools.old) }

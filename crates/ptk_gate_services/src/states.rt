@@ -2,10 +2,9 @@
 
 ghost use Rattle.std.specs.Prelude.{◌≡◌, ◌<◌, length, if◌then◌else◌};
 ghost use Rattle.ptk_words_model.specs.CancellationCalls.{setcancelstate, setcanceltype, testcancel};
-ghost use Rattle.ptk_gate_pools.specs.Kept.{part_at, put_part};
+ghost use Rattle.ptk_gate_moves.specs.Kept.{part_at, put_part};
 
-use ptk_gate_moves::{cancel, is_cancelled, refuse, succeed, succeed_with};
-use ptk_gate_pools::Pools;
+use ptk_gate_moves::{Pools, cancel, is_cancelled, refuse, succeed, succeed_with};
 use ptk_words::{Errno, PartId};
 use ptk_words_model::{Invocation, Reply};
 
@@ -28,7 +27,7 @@ fn type_number(is_asynchronous: bool) -> u32
 /// pthread_setcancelstate: the caller's cancelability state is that of a0, PTHREAD_CANCEL_ENABLE, 0, or
 /// PTHREAD_CANCEL_DISABLE, 1, and the old one is told in a1. A pending request stays pending. EINVAL of another word; a
 /// refusal changes nothing but a0.
-#[tactic(auto, using(ptk_gate_pools::proofs::Parted::parted))]
+#[tactic(auto, using(ptk_gate_moves::proofs::Parted::parted))]
 pub fn setcancelstate(pools: &mut Pools, p: PartId, i: Invocation) -> Reply
     requires partition { p < length pools.old.limits }
     ensures told { result ≡ (setcancelstate i (part_at p pools.old)).reply }
@@ -46,7 +45,7 @@ pub fn setcancelstate(pools: &mut Pools, p: PartId, i: Invocation) -> Reply
 /// pthread_setcanceltype: the caller's cancelability type is that of a0, PTHREAD_CANCEL_DEFERRED, 0, or
 /// PTHREAD_CANCEL_ASYNCHRONOUS, 1, and the old one is told in a1. EINVAL of another word; a refusal changes nothing but
 /// a0.
-#[tactic(auto, using(ptk_gate_pools::proofs::Parted::parted))]
+#[tactic(auto, using(ptk_gate_moves::proofs::Parted::parted))]
 pub fn setcanceltype(pools: &mut Pools, p: PartId, i: Invocation) -> Reply
     requires partition { p < length pools.old.limits }
     ensures told { result ≡ (setcanceltype i (part_at p pools.old)).reply }

@@ -3,17 +3,16 @@
 ghost use Rattle.std.specs.Prelude.{◌≡◌, ◌<◌, length};
 ghost use Rattle.ptk_words_model.specs.KeyCalls.{setspecific, getspecific};
 ghost use Rattle.ptk_words_model.specs.Keys.{specific};
-ghost use Rattle.ptk_gate_pools.specs.Kept.{part_at, put_part};
+ghost use Rattle.ptk_gate_moves.specs.Kept.{part_at, put_part};
 
-use ptk_gate_moves::{refuse, succeed, succeed_with};
-use ptk_gate_pools::Pools;
+use ptk_gate_moves::{Pools, refuse, succeed, succeed_with};
 use ptk_keys::KeyNo;
 use ptk_words::{Errno, PartId, ThreadNo};
 use ptk_words_model::{Invocation, Reply};
 
 /// pthread_setspecific: the caller's value of the key of a0 is the word of a1; no other thread's value changes. EINVAL
 /// of an unknown key; a refusal changes nothing but a0.
-#[tactic(auto, using(ptk_gate_pools::proofs::Parted::parted))]
+#[tactic(auto, using(ptk_gate_moves::proofs::Parted::parted))]
 pub fn setspecific(pools: &mut Pools, p: PartId, i: Invocation) -> Reply
     requires partition { p < length pools.old.limits }
     ensures told { result ≡ (setspecific i (part_at p pools.old)).reply }

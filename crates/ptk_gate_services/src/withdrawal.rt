@@ -9,16 +9,15 @@ ghost use Rattle.ptk_words_model.specs.Mutex.{wait_of};
 ghost use Rattle.ptk_words_model.specs.Console.{without_waiter};
 ghost use Rattle.ptk_words_model.specs.Withdrawal.{with_mark, without_joiner, after_cancelled_wait};
 ghost use Rattle.ptk_words_well.specs.Well.{IsWell};
-ghost use Rattle.ptk_gate_pools.specs.Kept.{part_at, put_part, limits_at};
+ghost use Rattle.ptk_gate_moves.specs.Kept.{part_at, put_part, limits_at};
 ghost use Rattle.ptk_words_locks.specs.Conditions.{IsNoWaiter};
 
-use ptk_gate_moves::wake;
-use ptk_gate_pools::Pools;
+use ptk_gate_moves::{Pools, wake};
 use ptk_words::{PartId, ThreadNo, Wait};
 
 /// A thread blocked at a cancellation point is taken out of its wait with no reply, a condition waiter re-locks its
 /// mutex first, and its next step begins its unwinding; any other wait goes on (XSH 2.9.5.2).
-#[tactic(auto, using(ptk_gate_pools::proofs::Parted::parted, ptk_gate_pools::proofs::Ranks::put_same, crate::proofs::Withdrawals::waiting))]
+#[tactic(auto, using(ptk_gate_moves::proofs::Parted::parted, ptk_gate_moves::proofs::Ranks::put_same, crate::proofs::Withdrawals::waiting))]
 pub(crate) fn withdraw(pools: &mut Pools, p: PartId, t: ThreadNo, wait: Option<Wait>)
     requires partition { p < length pools.old.limits }
     requires well { IsWell (limits_at p pools.old) (part_at p pools.old) }
@@ -39,7 +38,7 @@ pub(crate) fn withdraw(pools: &mut Pools, p: PartId, t: ThreadNo, wait: Option<W
 }
 
 /// The thread is ready, at the tail, with its registers as they are, and its next step begins its unwinding.
-#[tactic(auto, using(ptk_gate_pools::proofs::Parted::parted))]
+#[tactic(auto, using(ptk_gate_moves::proofs::Parted::parted))]
 fn wake_marked(pools: &mut Pools, p: PartId, t: ThreadNo)
     requires partition { p < length pools.old.limits }
     requires in_use { IsSome (thread_at (part_at p pools.old).locks t) }
@@ -53,7 +52,7 @@ fn wake_marked(pools: &mut Pools, p: PartId, t: ThreadNo)
 }
 
 /// The thread no longer waits for a byte of the console: a later one does not go to it.
-#[tactic(auto, using(ptk_gate_pools::proofs::Parted::parted, ptk_gate_pools::proofs::NoWaiters::still_apart))]
+#[tactic(auto, using(ptk_gate_moves::proofs::Parted::parted, ptk_gate_moves::proofs::NoWaiters::still_apart))]
 fn stop_reading(pools: &mut Pools, p: PartId, t: ThreadNo)
     requires partition { p < length pools.old.limits }
     requires in_use { IsSome (thread_at (part_at p pools.old).locks t) }
@@ -67,7 +66,7 @@ fn stop_reading(pools: &mut Pools, p: PartId, t: ThreadNo)
 }
 
 /// The thread no longer waits for the end of thread u, which stays joinable (pthread_join).
-#[tactic(auto, using(ptk_gate_pools::proofs::Parted::parted, ptk_gate_pools::proofs::NoWaiters::still_apart, crate::proofs::Withdrawals::unjoined))]
+#[tactic(auto, using(ptk_gate_moves::proofs::Parted::parted, ptk_gate_moves::proofs::NoWaiters::still_apart, crate::proofs::Withdrawals::unjoined))]
 fn stop_joining(pools: &mut Pools, p: PartId, t: ThreadNo, u: ThreadNo)
     requires partition { p < length pools.old.limits }
     requires in_use { IsSome (thread_at (part_at p pools.old).locks t) }

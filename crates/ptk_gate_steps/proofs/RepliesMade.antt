@@ -22,9 +22,9 @@ use Rattle.ptk_words_quiet.specs.Replies.{Outcome, outcome_of, with_outcome, rep
 use Rattle.ptk_words_quiet.proofs.PlainDecisions.{with_registers_of}
 use Rattle.ptk_words_quiet.proofs.ReplyDecisions.{fifo_entry, robin_entry}
 use Rattle.ptk_console.specs.ConsoleTable.{after_put}
-use Rattle.ptk_gate_pools.specs.Kept.{Kept, AreParts, limits_at, part_at, put_part}
-use Rattle.ptk_gate_pools.proofs.Parted.{part_at-put, put_part-put}
-use Rattle.ptk_gate_pools.proofs.PlainMutexes.{effective-plain}
+use Rattle.ptk_gate_moves.specs.Kept.{Kept, AreParts, limits_at, part_at, put_part}
+use Rattle.ptk_gate_moves.proofs.Parted.{part_at-put, put_part-put}
+use Rattle.ptk_gate_moves.proofs.PlainMutexes.{effective-plain}
 use Rattle.ptk_gate_steps.specs.declared.quiet_calls.QuietEffect.{QuietEffect}
 use Rattle.ptk_gate_steps.specs.declared.quiet_calls.QuietEffect.TheVariants.{Keeps, Takes, Releases, Puts, Sets}
 use Rattle.ptk_gate_steps.specs.Replies.{IsPut, IsPlainEffect, IsMade, after_quiet_effect}

@@ -4,10 +4,10 @@ ghost use Rattle.std.specs.Prelude.{◌≡◌, ℕ, ◌<◌, ◌≤◌, length, 
 ghost use Rattle.std.specs.Option.{IsSomeAnd};
 ghost use Rattle.ptk_words_well.specs.Well.{IsWell};
 ghost use Rattle.ptk_words_quiet.specs.Idle.{IsIdle};
-ghost use Rattle.ptk_gate_pools.specs.Kept.{part_at, limits_at};
+ghost use Rattle.ptk_gate_moves.specs.Kept.{part_at, limits_at};
 
 use crate::quiet_stops::before_events;
-use ptk_gate_pools::Pools;
+use ptk_gate_moves::Pools;
 use ptk_words::{PartId, Status, Tick};
 
 /// The tick up to which the partition has nothing to do, at most `stop`: no thread runs or is ready, and no input comes

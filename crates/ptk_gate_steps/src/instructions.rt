@@ -2,11 +2,10 @@
 
 ghost use Rattle.std.specs.Prelude.{◌≡◌, ◌<◌, length};
 ghost use Rattle.ptk_words_instructions.specs.Instructions.{effect_at};
-ghost use Rattle.ptk_gate_pools.specs.Kept.{part_at, put_part};
+ghost use Rattle.ptk_gate_moves.specs.Kept.{part_at, put_part};
 ghost use Rattle.ptk_gate_steps.specs.Instructions.{after_instruction, settled};
 
-use ptk_gate_moves::halt;
-use ptk_gate_pools::Pools;
+use ptk_gate_moves::{Pools, halt};
 use ptk_rv32i::Outcome;
 use ptk_words::{Cause, Cpu, PartId, Status, ThreadNo};
 
@@ -25,7 +24,7 @@ pub fn instruct(pools: &mut Pools, p: PartId, t: ThreadNo, cpu: Cpu)
 }
 
 /// After a step that came to this: the thread has the registers, or the partition has stopped at the pc.
-#[tactic(auto, using(ptk_gate_pools::proofs::Parted::parted))]
+#[tactic(auto, using(ptk_gate_moves::proofs::Parted::parted))]
 fn settle(pools: &mut Pools, p: PartId, t: ThreadNo, pc: u32, outcome: Outcome, cpu: Cpu)
     requires partition { p < length pools.old.limits }
     ensures { pools.new ≡ put_part p (settled t pc outcome cpu (part_at p pools.old)) pools.old }

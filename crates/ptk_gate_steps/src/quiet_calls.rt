@@ -11,12 +11,11 @@ ghost use Rattle.ptk_words.specs.declared.TheConstants.{A0, A1, A7};
 ghost use Rattle.ptk_words.specs.Words.{word_at};
 ghost use Rattle.ptk_words.specs.declared.calls.Call.TheVariants.{ConsolePut, PthreadDetach, PthreadGetschedparam, PthreadGetspecific, PthreadSetspecific, MutexLock, MutexUnlock};
 ghost use Rattle.ptk_words_model.specs.Calls.{is_pointer};
-ghost use Rattle.ptk_gate_pools.specs.Kept.{part_at, limits_at};
+ghost use Rattle.ptk_gate_moves.specs.Kept.{part_at, limits_at};
 ghost use Rattle.ptk_gate_steps.specs.Replies.{IsPut};
 ghost use Rattle.ptk_gate_steps.specs.declared.quiet_calls.QuietEffect.TheVariants.{Keeps};
 
-use ptk_gate_moves::{is_pointer, is_taken, named_thread, policy_number};
-use ptk_gate_pools::Pools;
+use ptk_gate_moves::{Pools, is_pointer, is_taken, named_thread, policy_number};
 use ptk_keys::KeyNo;
 use ptk_words::{A0, A1, A2, A7, Call, Cpu, Errno, MutexNo, PartId, ThreadNo, read_word};
 

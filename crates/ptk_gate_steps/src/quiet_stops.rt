@@ -9,11 +9,10 @@ ghost use Rattle.ptk_words_model.specs.Schedule.{first_ready};
 ghost use Rattle.ptk_words_model.specs.Run.{is_active};
 ghost use Rattle.ptk_words_well.specs.Well.{IsWell};
 ghost use Rattle.ptk_words_quiet.specs.Quiet.{stays_before, IsQuiet};
-ghost use Rattle.ptk_gate_pools.specs.Kept.{part_at, limits_at};
+ghost use Rattle.ptk_gate_moves.specs.Kept.{part_at, limits_at};
 ghost use Rattle.ptk_gate_steps.specs.QuietStops.{before_event, quiet_stop};
 
-use ptk_gate_moves::is_to_unwind;
-use ptk_gate_pools::Pools;
+use ptk_gate_moves::{Pools, is_to_unwind};
 use ptk_words::{PartId, Policy, Thread, ThreadNo, Tick};
 
 /// A partition that only computes.

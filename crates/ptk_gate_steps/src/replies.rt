@@ -7,12 +7,12 @@ ghost use Rattle.ptk_words_model.specs.Priority.{thread_at};
 ghost use Rattle.ptk_words_model.specs.Schedule.{with_thread};
 ghost use Rattle.ptk_words_model.specs.State.{with_locks};
 ghost use Rattle.ptk_words_quiet.specs.Quiet.{computed};
-ghost use Rattle.ptk_gate_pools.specs.Kept.{part_at, put_part, limits_at};
+ghost use Rattle.ptk_gate_moves.specs.Kept.{part_at, put_part, limits_at};
 ghost use Rattle.ptk_gate_steps.specs.Replies.{IsMade, IsPlainEffect, after_quiet_effect};
 
 use crate::kinds::word_fetched;
 use crate::quiet_calls::{QuietEffect, put_reply};
-use ptk_gate_pools::Pools;
+use ptk_gate_moves::Pools;
 use ptk_words::{A0, Cpu, ECALL, Entry, PartId, Policy, ThreadNo, Tick};
 
 /// The next step of a thread, where that is a quiet call that takes at most so many ticks: the thread has the reply,
@@ -61,7 +61,7 @@ pub fn make_reply(pools: &mut Pools, p: PartId, t: ThreadNo, tick: Tick, room: u
 
 /// The call's effect on the rest of the partition is made; no priority changes.
 #[inline]
-#[tactic(auto, using(ptk_gate_pools::proofs::Ranks::put_same, crate::proofs::RepliesMade::effects))]
+#[tactic(auto, using(ptk_gate_moves::proofs::Ranks::put_same, crate::proofs::RepliesMade::effects))]
 fn take_effect(pools: &mut Pools, p: PartId, t: ThreadNo, effect: QuietEffect)
     requires partition { p < length pools.old.limits }
     requires plain { IsPlainEffect effect (limits_at p pools.old) (part_at p pools.old) }

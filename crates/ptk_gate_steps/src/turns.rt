@@ -3,12 +3,11 @@
 ghost use Rattle.std.specs.Prelude.{◌≡◌, ◌<◌, length};
 ghost use Rattle.ptk_words_model.specs.Decision.{runner_of};
 ghost use Rattle.ptk_words_model.specs.Priority.{thread_at};
-ghost use Rattle.ptk_gate_pools.specs.Kept.{part_at};
+ghost use Rattle.ptk_gate_moves.specs.Kept.{part_at};
 ghost use Rattle.ptk_gate_steps.specs.NextSteps.{a0_kept, next_step_in, next_step_of};
 
 use crate::kinds::word_fetched;
-use ptk_gate_moves::{is_ended, is_to_unwind};
-use ptk_gate_pools::Pools;
+use ptk_gate_moves::{Pools, is_ended, is_to_unwind};
 use ptk_words::{A0, A7, ECALL, PartId, RETURN_GATE, Thread, ThreadNo};
 use ptk_words_model::{Runner, StepKind};
 

@@ -3,8 +3,8 @@ use Rattle.std.proofs.Common.{◌≡◌, ℕ, ◌<◌, sym, ◌∙◌, ap}
 use Rattle.ptk_words_model.specs.declared.Reply.{Reply}
 use Rattle.ptk_words_model.specs.State.{Part}
 use Rattle.ptk_words_model.specs.Calls.{Answer}
-use Rattle.ptk_gate_pools.specs.Kept.{Kept, part_at, put_part, AreParts}
-use Rattle.ptk_gate_pools.proofs.Parted.{part_at-put, put_part-put}
+use Rattle.ptk_gate_moves.specs.Kept.{Kept, part_at, put_part, AreParts}
+use Rattle.ptk_gate_moves.proofs.Parted.{part_at-put, put_part-put}
 
 -- what the partition's part is after a move
 pub part_moved : (n p : ℕ) (u : Part) (kept new : Kept) → AreParts n kept → p < n → new ≡ put_part p u kept → part_at p new ≡ u

@@ -19,7 +19,7 @@ use Rattle.ptk_words_well.proofs.Synced.{running_syncs}
 use Rattle.ptk_words_well.proofs.MutexCalls.{well_unlock}
 use Rattle.ptk_mutex.specs.Tables.{AreLocked, MayWait}
 use Rattle.ptk_words_locks.specs.Conditions.{IsNoWaiter}
-use Rattle.ptk_gate_pools.proofs.NoWaiters.{runner_apart}
+use Rattle.ptk_gate_moves.proofs.NoWaiters.{runner_apart}
 use Rattle.ptk_gate_moves.specs.Moves.{deadline_asked}
 use Rattle.ptk_gate_moves.proofs.Locked.{locked_of, may_wait}
 use Rattle.ptk_gate_sync.specs.Waits.{lock_by, is_waiting, timedlock_named, timed_wait_named, wait_until, wait_until_asked}

@@ -5,11 +5,10 @@ ghost use Rattle.ptk_words.specs.Pools.{least_free, pool_get};
 ghost use Rattle.ptk_words.specs.declared.faults.Errno.TheVariants.{EINVAL};
 ghost use Rattle.ptk_words_model.specs.Calls.{is_pointer, with_stored, with_pool_condition};
 ghost use Rattle.ptk_words_well.specs.Well.{IsWell};
-ghost use Rattle.ptk_gate_pools.specs.Kept.{part_at, put_part, limits_at};
+ghost use Rattle.ptk_gate_moves.specs.Kept.{part_at, put_part, limits_at};
 ghost use Rattle.ptk_gate_sync.specs.Named.{IsConditionOfWord, IsConditionNamed};
 
-use ptk_gate_moves::is_pointer;
-use ptk_gate_pools::Pools;
+use ptk_gate_moves::{Pools, is_pointer};
 use ptk_words::{ConditionNo, Errno, PartId, read_word};
 use ptk_words_model::Invocation;
 
@@ -74,7 +73,7 @@ fn known_condition(pools: &Pools, p: PartId, word: u32) -> Result<ConditionNo, E
 }
 
 /// The condition variable is made at the least free number, and the word at the pointer holds that (pthread_cond_init).
-#[tactic(auto, using(ptk_gate_pools::proofs::Parted::parted))]
+#[tactic(auto, using(ptk_gate_moves::proofs::Parted::parted))]
 pub(crate) fn make_condition(pools: &mut Pools, p: PartId, pointer: u32, c: ConditionNo)
     requires partition { p < length pools.old.limits }
     requires free { least_free (part_at p pools.old).conditions ≡ Some c }

@@ -3,19 +3,18 @@
 ghost use Rattle.std.specs.Prelude.{◌≡◌, ◌<◌, ◌≤◌, ◌+◌, length};
 ghost use Rattle.ptk_words_model.specs.ConditionCalls.{cond_init, cond_destroy, cond_signal, cond_broadcast};
 ghost use Rattle.ptk_words_well.specs.Well.{IsWell};
-ghost use Rattle.ptk_gate_pools.specs.Kept.{part_at, put_part, limits_at};
+ghost use Rattle.ptk_gate_moves.specs.Kept.{part_at, put_part, limits_at};
 ghost use Rattle.ptk_gate_sync.specs.Waits.{destroy_condition_named, signal_named, broadcast_named};
 
 use crate::condition_naming::{make_condition, named_condition};
-use ptk_gate_moves::{is_pointer, refuse, succeed};
-use ptk_gate_pools::Pools;
+use ptk_gate_moves::{Pools, is_pointer, refuse, succeed};
 use ptk_words::{ConditionNo, DESTROYED, Errno, PartId};
 use ptk_words_model::{Invocation, Reply};
 
 /// pthread_cond_init: a condition variable without waiters at the least free number, which the word at the pointer of
 /// a0 then holds; the old word is not looked at. EFAULT where the pointer is no multiple of 4 or the word lies outside
 /// memory, ENOMEM where no number is free (own choice); a refusal changes nothing but a0.
-#[tactic(auto, using(ptk_gate_pools::proofs::Parted::parted, ptk_gate_moves::proofs::Pointers::pointers))]
+#[tactic(auto, using(ptk_gate_moves::proofs::Parted::parted, ptk_gate_moves::proofs::Pointers::pointers))]
 pub fn cond_init(pools: &mut Pools, p: PartId, i: Invocation) -> Reply
     requires partition { p < length pools.old.limits }
     ensures told { result ≡ (cond_init i (part_at p pools.old)).reply }
@@ -48,7 +47,7 @@ pub fn cond_destroy(pools: &mut Pools, p: PartId, i: Invocation) -> Reply
 }
 
 /// The destruction of the condition variable named, or EBUSY where a thread waits on it.
-#[tactic(auto, using(ptk_gate_pools::proofs::Parted::parted, crate::proofs::Waits::unwaited))]
+#[tactic(auto, using(ptk_gate_moves::proofs::Parted::parted, crate::proofs::Waits::unwaited))]
 fn destroy_condition_named(pools: &mut Pools, p: PartId, i: Invocation, c: ConditionNo) -> Reply
     requires partition { p < length pools.old.limits }
     requires room { i.a0 + 4 ≤ length (part_at p pools.old).memory }
@@ -80,7 +79,7 @@ pub fn cond_signal(pools: &mut Pools, p: PartId, i: Invocation) -> Reply
 }
 
 /// One waiter of the condition variable named is unblocked.
-#[tactic(auto, using(ptk_gate_pools::proofs::Parted::parted))]
+#[tactic(auto, using(ptk_gate_moves::proofs::Parted::parted))]
 fn signal_named(pools: &mut Pools, p: PartId, i: Invocation, c: ConditionNo) -> Reply
     requires partition { p < length pools.old.limits }
     requires well { IsWell (limits_at p pools.old) (part_at p pools.old) }
@@ -108,7 +107,7 @@ pub fn cond_broadcast(pools: &mut Pools, p: PartId, i: Invocation) -> Reply
 }
 
 /// Every waiter of the condition variable named is unblocked.
-#[tactic(auto, using(ptk_gate_pools::proofs::Parted::parted))]
+#[tactic(auto, using(ptk_gate_moves::proofs::Parted::parted))]
 fn broadcast_named(pools: &mut Pools, p: PartId, i: Invocation, c: ConditionNo) -> Reply
     requires partition { p < length pools.old.limits }
     requires well { IsWell (limits_at p pools.old) (part_at p pools.old) }

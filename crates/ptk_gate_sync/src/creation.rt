@@ -6,11 +6,10 @@ ghost use Rattle.ptk_words_model.specs.Mutex.{new_mutex};
 ghost use Rattle.ptk_words_model.specs.Calls.{with_stored, with_pool_mutex};
 ghost use Rattle.ptk_words_model.specs.Steps.{valid, change, succeed};
 ghost use Rattle.ptk_words_model.specs.MutexCalls.{mutex_init};
-ghost use Rattle.ptk_gate_pools.specs.Kept.{part_at, put_part};
+ghost use Rattle.ptk_gate_moves.specs.Kept.{part_at, put_part};
 
 use crate::attributes::{is_robust_type, kind_of, protocol_of};
-use ptk_gate_moves::{is_pointer, refuse, succeed};
-use ptk_gate_pools::Pools;
+use ptk_gate_moves::{Pools, is_pointer, refuse, succeed};
 use ptk_words::{Errno, MutexKind, MutexNo, PartId, Protocol};
 use ptk_words_model::{Invocation, Reply};
 
@@ -27,7 +26,7 @@ pub(crate) struct NewMutex {
 /// least free number, which the word at the pointer of a0 then holds; the old word is not looked at. Refusals in this
 /// order (own choice), which change nothing but a0: EFAULT where the pointer is no multiple of 4 or the word lies
 /// outside memory; EINVAL of a type, of a protocol or of PROTECT's ceiling; ENOMEM where no number is free.
-#[tactic(auto, using(ptk_gate_pools::proofs::Parted::parted))]
+#[tactic(auto, using(ptk_gate_moves::proofs::Parted::parted))]
 pub fn mutex_init(pools: &mut Pools, p: PartId, i: Invocation) -> Reply
     requires partition { p < length pools.old.limits }
     ensures told { result ≡ (mutex_init i (part_at p pools.old)).reply }
@@ -71,7 +70,7 @@ fn asked_mutex(pools: &Pools, p: PartId, i: &Invocation) -> Result<NewMutex, Err
 }
 
 /// The mutex is made at the least free number, and the word at the pointer holds that (pthread_mutex_init).
-#[tactic(auto, using(ptk_gate_pools::proofs::Parted::parted))]
+#[tactic(auto, using(ptk_gate_moves::proofs::Parted::parted))]
 pub(crate) fn make(pools: &mut Pools, p: PartId, pointer: u32, new: NewMutex)
     requires partition { p < length pools.old.limits }
     requires free { least_free (part_at p pools.old).mutexes ≡ Some new.number }

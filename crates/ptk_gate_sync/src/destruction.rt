@@ -6,11 +6,10 @@ ghost use Rattle.ptk_words_model.specs.Condition.{names_mutex};
 ghost use Rattle.ptk_words_model.specs.MutexCalls.{is_locked, mutex_destroy, destroy_named};
 ghost use Rattle.ptk_words_well.specs.Well.{IsWell};
 ghost use Rattle.ptk_mutex_slots.specs.Slots.{mutex_with};
-ghost use Rattle.ptk_gate_pools.specs.Kept.{part_at, put_part, limits_at};
+ghost use Rattle.ptk_gate_moves.specs.Kept.{part_at, put_part, limits_at};
 
 use crate::naming::named_mutex;
-use ptk_gate_moves::{refuse, succeed};
-use ptk_gate_pools::Pools;
+use ptk_gate_moves::{Pools, refuse, succeed};
 use ptk_mutex_slots::MutexState;
 use ptk_words::{DESTROYED, Errno, MutexNo, Owner, PartId};
 use ptk_words_model::{Invocation, Reply};
@@ -32,7 +31,7 @@ pub fn mutex_destroy(pools: &mut Pools, p: PartId, i: Invocation) -> Reply
 }
 
 /// The destruction of the mutex named, or EBUSY where it is in use.
-#[tactic(auto, using(ptk_gate_pools::proofs::Parted::parted))]
+#[tactic(auto, using(ptk_gate_moves::proofs::Parted::parted))]
 fn destroy_named(pools: &mut Pools, p: PartId, i: Invocation, m: MutexNo) -> Reply
     requires partition { p < length pools.old.limits }
     requires well { IsWell (limits_at p pools.old) (part_at p pools.old) }

@@ -6,12 +6,11 @@ ghost use Rattle.ptk_words_model.specs.MutexCalls.{mutex_lock, mutex_trylock, mu
 ghost use Rattle.ptk_words_model.specs.declared.LockMove.TheVariants.{Waits};
 ghost use Rattle.ptk_words_model.specs.Mutex.{mutex_at, lock_move};
 ghost use Rattle.ptk_words_well.specs.Well.{IsWell};
-ghost use Rattle.ptk_gate_pools.specs.Kept.{part_at, put_part, limits_at};
+ghost use Rattle.ptk_gate_moves.specs.Kept.{part_at, put_part, limits_at};
 ghost use Rattle.ptk_gate_sync.specs.Waits.{lock_by, is_waiting, timedlock_named, timed_wait_named};
 
 use crate::naming::named_mutex;
-use ptk_gate_moves::{asked_deadline, is_pointer, refuse, reply};
-use ptk_gate_pools::Pools;
+use ptk_gate_moves::{Pools, asked_deadline, is_pointer, refuse, reply};
 use ptk_mutex_slots::reply_of;
 use ptk_words::{Errno, MutexNo, PartId, Tick};
 use ptk_words_model::{Invocation, LockMove, Reply};
@@ -35,7 +34,7 @@ pub fn mutex_lock(pools: &mut Pools, p: PartId, i: Invocation) -> Reply
 }
 
 /// The caller's lock of the mutex named; where it waits, until the deadline if there is one.
-#[tactic(auto, using(ptk_gate_pools::proofs::Parted::parted, ptk_gate_moves::proofs::Locked::locked))]
+#[tactic(auto, using(ptk_gate_moves::proofs::Parted::parted, ptk_gate_moves::proofs::Locked::locked))]
 fn lock_by(pools: &mut Pools, p: PartId, i: Invocation, m: MutexNo, deadline: Option<Tick>) -> Reply
     requires partition { p < length pools.old.limits }
     requires well { IsWell (limits_at p pools.old) (part_at p pools.old) }
@@ -67,7 +66,7 @@ pub fn mutex_trylock(pools: &mut Pools, p: PartId, i: Invocation) -> Reply
 }
 
 /// The caller's trylock of the mutex named.
-#[tactic(auto, using(ptk_gate_pools::proofs::Parted::parted, ptk_gate_moves::proofs::Locked::locked))]
+#[tactic(auto, using(ptk_gate_moves::proofs::Parted::parted, ptk_gate_moves::proofs::Locked::locked))]
 fn trylock_named(pools: &mut Pools, p: PartId, i: Invocation, m: MutexNo) -> Reply
     requires partition { p < length pools.old.limits }
     requires well { IsWell (limits_at p pools.old) (part_at p pools.old) }

@@ -5,12 +5,11 @@ ghost use Rattle.ptk_words.specs.Pools.{pool_get};
 ghost use Rattle.ptk_words.specs.declared.faults.Errno.TheVariants.{EINVAL};
 ghost use Rattle.ptk_words_model.specs.Calls.{is_pointer};
 ghost use Rattle.ptk_words_well.specs.Well.{IsWell};
-ghost use Rattle.ptk_gate_pools.specs.Kept.{part_at, put_part, limits_at};
+ghost use Rattle.ptk_gate_moves.specs.Kept.{part_at, put_part, limits_at};
 ghost use Rattle.ptk_gate_sync.specs.Named.{IsNamed, IsMutexOfWord};
 
 use crate::creation::{NewMutex, make};
-use ptk_gate_moves::is_pointer;
-use ptk_gate_pools::Pools;
+use ptk_gate_moves::{Pools, is_pointer};
 use ptk_words::{Errno, MutexKind, MutexNo, PartId, Protocol, read_word};
 use ptk_words_model::Invocation;
 

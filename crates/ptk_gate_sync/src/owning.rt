@@ -5,11 +5,10 @@ ghost use Rattle.ptk_words_model.specs.Mutex.{mutex_at};
 ghost use Rattle.ptk_words_model.specs.MutexCalls.{mutex_unlock, is_inconsistent, is_repairable, mutex_consistent, unlock_named, consistent_named};
 ghost use Rattle.ptk_words_well.specs.Well.{IsWell};
 ghost use Rattle.ptk_mutex_slots.specs.Slots.{mutex_with};
-ghost use Rattle.ptk_gate_pools.specs.Kept.{part_at, put_part, limits_at};
+ghost use Rattle.ptk_gate_moves.specs.Kept.{part_at, put_part, limits_at};
 
 use crate::naming::named_mutex;
-use ptk_gate_moves::{refuse, succeed};
-use ptk_gate_pools::Pools;
+use ptk_gate_moves::{Pools, refuse, succeed};
 use ptk_mutex_slots::MutexState;
 use ptk_words::{Errno, MutexNo, PartId, Soundness};
 use ptk_words_model::{Invocation, Reply};
@@ -31,7 +30,7 @@ pub fn mutex_unlock(pools: &mut Pools, p: PartId, i: Invocation) -> Reply
 }
 
 /// The caller's unlock of the mutex named, or EPERM.
-#[tactic(auto, using(ptk_gate_pools::proofs::Parted::parted, ptk_gate_moves::proofs::Locked::locked))]
+#[tactic(auto, using(ptk_gate_moves::proofs::Parted::parted, ptk_gate_moves::proofs::Locked::locked))]
 fn unlock_named(pools: &mut Pools, p: PartId, i: Invocation, m: MutexNo) -> Reply
     requires partition { p < length pools.old.limits }
     requires well { IsWell (limits_at p pools.old) (part_at p pools.old) }
@@ -64,7 +63,7 @@ pub fn mutex_consistent(pools: &mut Pools, p: PartId, i: Invocation) -> Reply
 }
 
 /// The mutex named is made consistent, or EINVAL, or EPERM.
-#[tactic(auto, using(ptk_gate_pools::proofs::Parted::parted, ptk_gate_moves::proofs::Locked::locked))]
+#[tactic(auto, using(ptk_gate_moves::proofs::Parted::parted, ptk_gate_moves::proofs::Locked::locked))]
 fn repair_named(pools: &mut Pools, p: PartId, i: Invocation, m: MutexNo) -> Reply
     requires partition { p < length pools.old.limits }
     requires well { IsWell (limits_at p pools.old) (part_at p pools.old) }

@@ -7,14 +7,13 @@ ghost use Rattle.ptk_words_model.specs.Mutex.{mutex_at, owns};
 ghost use Rattle.ptk_words_model.specs.Steps.{Row, condition_named, mutex_named, valid};
 ghost use Rattle.ptk_words_model.specs.ConditionCalls.{cond_wait, cond_timedwait, late_wait_answer};
 ghost use Rattle.ptk_words_well.specs.Well.{IsWell};
-ghost use Rattle.ptk_gate_pools.specs.Kept.{part_at, put_part, limits_at};
+ghost use Rattle.ptk_gate_moves.specs.Kept.{part_at, put_part, limits_at};
 ghost use Rattle.ptk_gate_sync.specs.Waits.{block_on, wait_named, wait_until, wait_until_asked, timedwait_named};
 
 use crate::condition_naming::condition_of_word;
 use crate::locking::tell;
 use crate::naming::mutex_of_word;
-use ptk_gate_moves::{asked_deadline, cancel, is_cancelled, is_pointer, refuse};
-use ptk_gate_pools::Pools;
+use ptk_gate_moves::{Pools, asked_deadline, cancel, is_cancelled, is_pointer, refuse};
 use ptk_mutex_slots::reply_of;
 use ptk_words::{ConditionNo, Errno, MutexNo, PartId, Tick};
 use ptk_words_model::{Invocation, Reply};
@@ -111,7 +110,7 @@ fn named_both(pools: &mut Pools, p: PartId, i: &Invocation) -> Result<Named, Err
 }
 
 /// The wait without a deadline on what is named, or EPERM, or EINVAL.
-#[tactic(auto, using(ptk_gate_pools::proofs::Parted::parted))]
+#[tactic(auto, using(ptk_gate_moves::proofs::Parted::parted))]
 fn wait_named(pools: &mut Pools, p: PartId, i: Invocation, named: Named) -> Reply
     requires partition { p < length pools.old.limits }
     requires well { IsWell (limits_at p pools.old) (part_at p pools.old) }
@@ -131,7 +130,7 @@ fn wait_named(pools: &mut Pools, p: PartId, i: Invocation, named: Named) -> Repl
 }
 
 /// The wait with the deadline of a2's timespec on what is named, or EPERM, or EINVAL.
-#[tactic(auto, using(ptk_gate_pools::proofs::Parted::parted))]
+#[tactic(auto, using(ptk_gate_moves::proofs::Parted::parted))]
 fn timedwait_named(pools: &mut Pools, p: PartId, i: Invocation, named: Named) -> Reply
     requires partition { p < length pools.old.limits }
     requires well { IsWell (limits_at p pools.old) (part_at p pools.old) }
@@ -186,7 +185,7 @@ fn wait_until(pools: &mut Pools, p: PartId, i: Invocation, named: Named, deadlin
 }
 
 /// The mutex's owner releases it and blocks on the condition variable, and no thread runs.
-#[tactic(auto, using(ptk_gate_pools::proofs::Parted::parted))]
+#[tactic(auto, using(ptk_gate_moves::proofs::Parted::parted))]
 fn block_on(
     pools: &mut Pools,
     p: PartId,
@@ -210,7 +209,7 @@ fn block_on(
 
 /// The mutex's owner releases it and locks it again, or waits for it; the reply is ETIMEDOUT, or that of the lock where
 /// it is no success.
-#[tactic(auto, using(ptk_gate_pools::proofs::Parted::parted, crate::proofs::Waits::released))]
+#[tactic(auto, using(ptk_gate_moves::proofs::Parted::parted, crate::proofs::Waits::released))]
 fn wait_late(pools: &mut Pools, p: PartId, i: Invocation, m: MutexNo) -> Reply
     requires partition { p < length pools.old.limits }
     requires well { IsWell (limits_at p pools.old) (part_at p pools.old) }

@@ -19,8 +19,8 @@ use Rattle.ptk_words_locks.proofs.Lines.{out_push}
 use Rattle.ptk_words_well.specs.Well.{IsWell}
 use Rattle.ptk_words_well.proofs.Whole.{lined_of}
 use Rattle.ptk_words_well.proofs.Waits.{waits_not_ready}
-use Rattle.ptk_gate_pools.specs.Kept.{Kept, AreParts, part_at, put_part, limits_at}
-use Rattle.ptk_gate_pools.proofs.Parted.{part_at-put}
+use Rattle.ptk_gate_moves.specs.Kept.{Kept, AreParts, part_at, put_part, limits_at}
+use Rattle.ptk_gate_moves.proofs.Parted.{part_at-put}
 use Rattle.ptk_gate_threads.proofs.Endings.{left_well}
 
 -- ---- a thread that has ended

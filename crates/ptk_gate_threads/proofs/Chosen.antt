@@ -6,7 +6,7 @@ use Rattle.ptk_words_model.specs.Priority.{thread_at, effective_priority}
 use Rattle.ptk_words_model.specs.Schedule.{first_ready}
 use Rattle.ptk_words_locks.proofs.Lines.{first_in}
 use Rattle.ptk_words_well.specs.Well.{IsWell}
-use Rattle.ptk_gate_pools.specs.Kept.{Kept, part_at, limits_at}
+use Rattle.ptk_gate_moves.specs.Kept.{Kept, part_at, limits_at}
 use Rattle.ptk_gate_moves.proofs.Ready.{lined_in_use}
 
 pub chosen_in_use : (p t : ℕ) (next : Option ℕ) (kept : Kept) → IsWell (limits_at p kept) (part_at p kept) → next ≡ first_ready (part_at p kept).locks → next ≡ Some t → IsSome (thread_at (part_at p kept).locks t)

@@ -14,11 +14,11 @@ use Rattle.ptk_words.specs.Pools.{is_in}
 use Rattle.ptk_words_locks.proofs.Lined.{not_ready_out}
 use Rattle.ptk_words_well.proofs.Whole.{lined_of}
 use Rattle.ptk_words_well.proofs.Waits.{waits_not_ready}
-use Rattle.ptk_gate_pools.specs.Kept.{Kept, AreParts, part_at, put_part, limits_at}
-use Rattle.ptk_gate_pools.specs.Moves.{stopped}
+use Rattle.ptk_gate_moves.specs.Kept.{Kept, AreParts, part_at, put_part, limits_at}
+use Rattle.ptk_gate_moves.specs.Moves.{stopped}
 use Rattle.ptk_words_locks.specs.Conditions.{IsNoWaiter}
-use Rattle.ptk_gate_pools.proofs.NoWaiters.{joiner_apart}
-use Rattle.ptk_gate_pools.proofs.Parted.{part_at-put}
+use Rattle.ptk_gate_moves.proofs.NoWaiters.{joiner_apart}
+use Rattle.ptk_gate_moves.proofs.Parted.{part_at-put}
 use Rattle.ptk_gate_threads.proofs.Owners.{well_abandonment, release_same}
 use Rattle.ptk_gate_threads.proofs.Leaving.{moved_twice}
 

@@ -7,8 +7,8 @@ use Rattle.ptk_words_model.specs.State.{Part, with_cleanups}
 use Rattle.ptk_words_model.specs.Keys.{next_destructor}
 use Rattle.ptk_words_model.specs.Unwinding.{cleanups_of, after_routine_call, after_destructor_or_end, after_unwinding_move}
 use Rattle.ptk_words_well.specs.Well.{IsWell}
-use Rattle.ptk_gate_pools.specs.Kept.{Kept, part_at, put_part, limits_at}
-use Rattle.ptk_gate_pools.proofs.Ranks.{put_same}
+use Rattle.ptk_gate_moves.specs.Kept.{Kept, part_at, put_part, limits_at}
+use Rattle.ptk_gate_moves.proofs.Ranks.{put_same}
 
 -- ---- with a handler left
 

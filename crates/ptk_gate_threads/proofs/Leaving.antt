@@ -16,9 +16,9 @@ use Rattle.ptk_words_model.specs.Calls.{success}
 use Rattle.ptk_words_model.specs.ThreadCalls.{detach}
 use Rattle.ptk_words_model.specs.Unwinding.{after_join_by, after_release, without_thread}
 use Rattle.ptk_words_locks.proofs.Pools.{changed_own, changed_other}
-use Rattle.ptk_gate_pools.specs.Kept.{Kept, part_at, put_part, AreParts}
-use Rattle.ptk_gate_pools.specs.Moves.{with_left}
-use Rattle.ptk_gate_pools.proofs.Parted.{part_at-put, put_part-put}
+use Rattle.ptk_gate_moves.specs.Kept.{Kept, part_at, put_part, AreParts}
+use Rattle.ptk_gate_moves.specs.Moves.{with_left}
+use Rattle.ptk_gate_moves.proofs.Parted.{part_at-put, put_part-put}
 
 if_over : {A B : Type 0} (b : Bool) (x y : A) (f : A → B) → f (if b then x else y) ≡ (if b then f x else f y)
 if_over true x y f = refl

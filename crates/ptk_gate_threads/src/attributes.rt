@@ -2,10 +2,9 @@
 
 ghost use Rattle.std.specs.Prelude.{◌≡◌, ◌<◌, length};
 ghost use Rattle.ptk_words_model.specs.ThreadCreation.{policy_of, readable_attributes, asked_scheduling, given_stack_top, asked_creation, creation_at};
-ghost use Rattle.ptk_gate_pools.specs.Kept.{part_at};
+ghost use Rattle.ptk_gate_moves.specs.Kept.{part_at};
 
-use ptk_gate_moves::{is_pointer, named_priority};
-use ptk_gate_pools::Pools;
+use ptk_gate_moves::{Pools, is_pointer, named_priority};
 use ptk_words::{Errno, PartId, Policy, read_word};
 use ptk_words_model::{Creation, Scheduling};
 use std::marker::Model;

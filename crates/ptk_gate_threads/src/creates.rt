@@ -7,11 +7,10 @@ ghost use Rattle.ptk_words_model.specs.ThreadCalls.{create};
 ghost use Rattle.ptk_words_model.specs.ThreadCreation.{default_stack_top, start_cpu, created_thread, with_new_thread};
 ghost use Rattle.ptk_words_model.specs.ThreadCreation as creation;
 ghost use Rattle.ptk_words_well.specs.Well.{IsWell};
-ghost use Rattle.ptk_gate_pools.specs.Kept.{part_at, put_part, limits_at};
+ghost use Rattle.ptk_gate_moves.specs.Kept.{part_at, put_part, limits_at};
 
 use crate::attributes::requested;
-use ptk_gate_moves::{begin, refuse, succeed_with};
-use ptk_gate_pools::Pools;
+use ptk_gate_moves::{Pools, begin, refuse, succeed_with};
 use ptk_words::{
     A0, Cpu, Errno, Limits, PartId, Phase, Policy, Priority, RA, RETURN_GATE, SP, Thread, ThreadNo,
 };
@@ -29,7 +28,7 @@ struct NewThread {
 /// EFAULT where the attributes can't be read; EINVAL where their detach or inherit is neither 0 nor 1; of explicit
 /// scheduling ENOTSUP where the policy is unknown and EINVAL where the priority is not 1 to 32; EINVAL where the stack
 /// top is no multiple of 16 or lies past the memory; EAGAIN where no number is free.
-#[tactic(auto, using(ptk_gate_pools::proofs::Parted::parted))]
+#[tactic(auto, using(ptk_gate_moves::proofs::Parted::parted))]
 pub fn create(pools: &mut Pools, p: PartId, i: Invocation) -> Reply
     requires partition { p < length pools.old.limits }
     requires limits { i.limits ≡ limits_at p pools.old }

@@ -9,12 +9,11 @@ ghost use Rattle.ptk_words_locks.specs.Locks.{joiner_of};
 ghost use Rattle.ptk_words_well.specs.Well.{IsWell};
 ghost use Rattle.ptk_words.specs.Pools.{is_in};
 ghost use Rattle.ptk_threads_slots.specs.Links.{threads_of};
-ghost use Rattle.ptk_gate_pools.specs.Kept.{part_at, put_part, limits_at};
+ghost use Rattle.ptk_gate_moves.specs.Kept.{part_at, put_part, limits_at};
 ghost use Rattle.ptk_words_locks.specs.Conditions.{IsNoWaiter};
-ghost use Rattle.ptk_gate_pools.specs.Moves.{stopped};
+ghost use Rattle.ptk_gate_moves.specs.Moves.{stopped};
 
-use ptk_gate_moves::{halt, is_ended, wake};
-use ptk_gate_pools::Pools;
+use ptk_gate_moves::{Pools, halt, is_ended, wake};
 use ptk_threads::Slot;
 use ptk_words::{PartId, Status, Thread, ThreadNo};
 
@@ -35,7 +34,7 @@ pub(crate) fn end(pools: &mut Pools, p: PartId, t: ThreadNo)
 
 /// The end of a thread that has no mutex any more: its joiner is woken, its number free or kept, no thread runs, and
 /// the last thread's end exits the partition with 0 (pthread_exit).
-#[tactic(auto, using(ptk_gate_pools::proofs::Parted::parted))]
+#[tactic(auto, using(ptk_gate_moves::proofs::Parted::parted))]
 fn end_without_mutexes(pools: &mut Pools, p: PartId, t: ThreadNo)
     requires partition { p < length pools.old.limits }
     requires in_use { IfSome (joiner_of (thread_at (part_at p pools.old).locks t)) (λ u. IsSome (thread_at (part_at p pools.old).locks u)) }
@@ -52,7 +51,7 @@ fn end_without_mutexes(pools: &mut Pools, p: PartId, t: ThreadNo)
 }
 
 /// The thread's number is free, or kept with its result until a joiner comes (pthread_exit, pthread_detach).
-#[tactic(auto, using(ptk_gate_pools::proofs::Parted::parted))]
+#[tactic(auto, using(ptk_gate_moves::proofs::Parted::parted))]
 fn release(pools: &mut Pools, p: PartId, t: ThreadNo)
     requires partition { p < length pools.old.limits }
     requires in_use { IfSome (joiner_of (thread_at (part_at p pools.old).locks t)) (λ u. IsSome (thread_at (part_at p pools.old).locks u)) }
@@ -72,7 +71,7 @@ fn release(pools: &mut Pools, p: PartId, t: ThreadNo)
 
 /// The joiner of a thread in use is woken with its result, and its number is free or kept (pthread_exit,
 /// pthread_detach).
-#[tactic(auto, using(ptk_gate_pools::proofs::Parted::parted))]
+#[tactic(auto, using(ptk_gate_moves::proofs::Parted::parted))]
 fn release_thread(pools: &mut Pools, p: PartId, t: ThreadNo, thread: Thread)
     requires partition { p < length pools.old.limits }
     requires named { thread_at (part_at p pools.old).locks t ≡ Some thread }
@@ -89,7 +88,7 @@ fn release_thread(pools: &mut Pools, p: PartId, t: ThreadNo, thread: Thread)
 }
 
 /// The thread's result goes to the thread that joins it (pthread_join).
-#[tactic(auto, using(ptk_gate_pools::proofs::Parted::parted))]
+#[tactic(auto, using(ptk_gate_moves::proofs::Parted::parted))]
 fn tell_joiner(pools: &mut Pools, p: PartId, joiner: Option<ThreadNo>, value: u32)
     requires partition { p < length pools.old.limits }
     requires in_use { IfSome joiner (λ u. IsSome (thread_at (part_at p pools.old).locks u)) }
@@ -104,7 +103,7 @@ fn tell_joiner(pools: &mut Pools, p: PartId, joiner: Option<ThreadNo>, value: u3
 }
 
 /// With no thread alive, the partition exits with 0 (pthread_exit).
-#[tactic(auto, using(ptk_gate_pools::proofs::Parted::parted))]
+#[tactic(auto, using(ptk_gate_moves::proofs::Parted::parted))]
 fn halt_at_last_end(pools: &mut Pools, p: PartId)
     requires partition { p < length pools.old.limits }
     ensures { pools.new ≡ put_part p (after_last_end (part_at p pools.old)) pools.old }

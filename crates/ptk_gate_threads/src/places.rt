@@ -8,17 +8,16 @@ ghost use Rattle.ptk_words_model.specs.ThreadCalls.{after_placing, after_placing
 ghost use Rattle.ptk_words_well.specs.Well.{IsWell};
 ghost use Rattle.ptk_words.specs.Pools.{is_in};
 ghost use Rattle.ptk_mutex.specs.Tables.{AreLocked};
-ghost use Rattle.ptk_gate_pools.specs.Kept.{part_at, put_part, limits_at};
+ghost use Rattle.ptk_gate_moves.specs.Kept.{part_at, put_part, limits_at};
 ghost use Rattle.ptk_words_locks.specs.Conditions.{IsNoWaiter};
 ghost use Rattle.ptk_gate_moves.specs.Moves.{with_scheduling};
 
-use ptk_gate_moves::{end_turn, push_tail, step_back, succeed};
-use ptk_gate_pools::Pools;
+use ptk_gate_moves::{Pools, end_turn, push_tail, step_back, succeed};
 use ptk_words::{PartId, Policy, Priority, ThreadNo};
 use ptk_words_model::{Invocation, Reply};
 
 /// A running or ready thread goes to the tail; a running one no longer runs (pthread_setschedparam).
-#[tactic(auto, using(ptk_gate_pools::proofs::Parted::parted, ptk_gate_moves::proofs::Ready::ready))]
+#[tactic(auto, using(ptk_gate_moves::proofs::Parted::parted, ptk_gate_moves::proofs::Ready::ready))]
 pub(crate) fn place_at_tail(pools: &mut Pools, p: PartId, t: ThreadNo)
     requires partition { p < length pools.old.limits }
     requires in_use { IsSome (thread_at (part_at p pools.old).locks t) }
@@ -37,7 +36,7 @@ pub(crate) fn place_at_tail(pools: &mut Pools, p: PartId, t: ThreadNo)
 }
 
 /// A running or ready thread goes to the head; a running one no longer runs (pthread_setschedprio).
-#[tactic(auto, using(ptk_gate_pools::proofs::Parted::parted, ptk_gate_moves::proofs::Ready::ready))]
+#[tactic(auto, using(ptk_gate_moves::proofs::Parted::parted, ptk_gate_moves::proofs::Ready::ready))]
 pub(crate) fn place_at_head(pools: &mut Pools, p: PartId, t: ThreadNo)
     requires partition { p < length pools.old.limits }
     requires in_use { IsSome (thread_at (part_at p pools.old).locks t) }
@@ -56,7 +55,7 @@ pub(crate) fn place_at_head(pools: &mut Pools, p: PartId, t: ThreadNo)
 }
 
 /// sched_yield: the caller, which runs, goes to the tail.
-#[tactic(auto, using(ptk_gate_pools::proofs::Parted::parted, ptk_gate_moves::proofs::Ready::ready))]
+#[tactic(auto, using(ptk_gate_moves::proofs::Parted::parted, ptk_gate_moves::proofs::Ready::ready))]
 pub fn yield_turn(pools: &mut Pools, p: PartId, i: Invocation) -> Reply
     requires partition { p < length pools.old.limits }
     requires well { IsWell (limits_at p pools.old) (part_at p pools.old) }
@@ -71,7 +70,7 @@ pub fn yield_turn(pools: &mut Pools, p: PartId, i: Invocation) -> Reply
 
 /// A running or ready thread goes to the tail, and a running one no longer runs; an owner of an INHERIT or PROTECT
 /// mutex keeps its place (pthread_mutexattr_getprotocol).
-#[tactic(auto, using(ptk_gate_pools::proofs::Ranks::put_same))]
+#[tactic(auto, using(ptk_gate_moves::proofs::Ranks::put_same))]
 pub(crate) fn place_last(pools: &mut Pools, p: PartId, t: ThreadNo)
     requires partition { p < length pools.old.limits }
     requires in_use { IsSome (thread_at (part_at p pools.old).locks t) }
@@ -87,7 +86,7 @@ pub(crate) fn place_last(pools: &mut Pools, p: PartId, t: ThreadNo)
 
 /// The thread has this policy and priority. If it runs or is ready, it goes to the tail, but an owner of an INHERIT or
 /// PROTECT mutex keeps its place (pthread_setschedparam).
-#[tactic(auto, using(ptk_gate_pools::proofs::Parted::parted, ptk_words_locks::proofs::Pools::changed_own))]
+#[tactic(auto, using(ptk_gate_moves::proofs::Parted::parted, ptk_words_locks::proofs::Pools::changed_own))]
 pub(crate) fn reschedule(
     pools: &mut Pools,
     p: PartId,
@@ -109,7 +108,7 @@ pub(crate) fn reschedule(
 }
 
 /// The thread has this policy and assigned priority, and has used no tick.
-#[tactic(auto, using(ptk_gate_pools::proofs::Parted::parted, ptk_words_locks::proofs::Pools::changed_twice))]
+#[tactic(auto, using(ptk_gate_moves::proofs::Parted::parted, ptk_words_locks::proofs::Pools::changed_twice))]
 fn give_scheduling(pools: &mut Pools, p: PartId, t: ThreadNo, policy: Policy, priority: Priority)
     requires partition { p < length pools.old.limits }
     requires locked { AreLocked (part_at p pools.old).locks }

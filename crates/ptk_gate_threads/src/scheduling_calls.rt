@@ -10,14 +10,13 @@ ghost use Rattle.ptk_threads.specs.Table.{with_priority};
 ghost use Rattle.ptk_words_well.specs.Well.{IsWell};
 ghost use Rattle.ptk_words.specs.Pools.{is_in};
 ghost use Rattle.ptk_mutex.specs.Tables.{AreLocked};
-ghost use Rattle.ptk_gate_pools.specs.Kept.{part_at, put_part, limits_at};
+ghost use Rattle.ptk_gate_moves.specs.Kept.{part_at, put_part, limits_at};
 ghost use Rattle.ptk_words_locks.specs.Conditions.{IsNoWaiter};
 ghost use Rattle.ptk_gate_moves.specs.Moves.{with_scheduling};
 
 use crate::attributes::named_policy;
 use crate::places::{place_at_head, place_last, reschedule};
-use ptk_gate_moves::{named_priority, refuse, succeed, target};
-use ptk_gate_pools::Pools;
+use ptk_gate_moves::{Pools, named_priority, refuse, succeed, target};
 use ptk_words::{Errno, PartId, Policy, Priority, ThreadNo};
 use ptk_words_model::{Invocation, Reply};
 
@@ -40,7 +39,7 @@ struct NewPriority {
 /// pthread_setschedparam: the thread of a0 has the policy of a1 and the priority of a2. If it runs or is ready, it
 /// goes to the tail, but an owner of an INHERIT or PROTECT mutex keeps its place. ESRCH, ENOTSUP, EINVAL; a refusal
 /// changes nothing but a0.
-#[tactic(auto, using(ptk_gate_pools::proofs::Parted::parted, ptk_gate_moves::proofs::Ready::ready, ptk_gate_moves::proofs::Locked::locked))]
+#[tactic(auto, using(ptk_gate_moves::proofs::Parted::parted, ptk_gate_moves::proofs::Ready::ready, ptk_gate_moves::proofs::Locked::locked))]
 pub fn setschedparam(pools: &mut Pools, p: PartId, i: Invocation) -> Reply
     requires partition { p < length pools.old.limits }
     requires well { IsWell (limits_at p pools.old) (part_at p pools.old) }
@@ -82,7 +81,7 @@ fn asked_scheduling(pools: &Pools, p: PartId, i: &Invocation) -> Result<NewSched
 /// pthread_setschedprio: the thread of a0 has the priority of a1. If it runs or is ready, it goes to the tail where
 /// its priority rose, to the head where it fell, but an owner of an INHERIT or PROTECT mutex never to the tail. ESRCH,
 /// EINVAL; a refusal changes nothing but a0.
-#[tactic(auto, using(ptk_gate_pools::proofs::Parted::parted, ptk_gate_moves::proofs::Ready::ready, ptk_gate_moves::proofs::Locked::locked))]
+#[tactic(auto, using(ptk_gate_moves::proofs::Parted::parted, ptk_gate_moves::proofs::Ready::ready, ptk_gate_moves::proofs::Locked::locked))]
 pub fn setschedprio(pools: &mut Pools, p: PartId, i: Invocation) -> Reply
     requires partition { p < length pools.old.limits }
     requires well { IsWell (limits_at p pools.old) (part_at p pools.old) }
@@ -119,7 +118,7 @@ fn asked_priority(pools: &Pools, p: PartId, i: &Invocation) -> Result<NewPriorit
 }
 
 /// The thread, whose priority was the old one, has the new one, and its place follows.
-#[tactic(auto, using(ptk_gate_pools::proofs::Parted::parted, ptk_words_locks::proofs::Pools::changed_own))]
+#[tactic(auto, using(ptk_gate_moves::proofs::Parted::parted, ptk_words_locks::proofs::Pools::changed_own))]
 fn change_priority(pools: &mut Pools, p: PartId, t: ThreadNo, old: Priority, new: Priority)
     requires partition { p < length pools.old.limits }
     requires in_use { IsSome (thread_at (part_at p pools.old).locks t) }
@@ -136,7 +135,7 @@ fn change_priority(pools: &mut Pools, p: PartId, t: ThreadNo, old: Priority, new
 
 /// The place of a thread whose priority was the old one and is the new one, if it runs or is ready: the tail where it
 /// rose, unless it owns an INHERIT or PROTECT mutex, the head where it fell (pthread_setschedprio).
-#[tactic(auto, using(ptk_gate_pools::proofs::Parted::parted))]
+#[tactic(auto, using(ptk_gate_moves::proofs::Parted::parted))]
 fn place_anew(pools: &mut Pools, p: PartId, t: ThreadNo, old: Priority, new: Priority)
     requires partition { p < length pools.old.limits }
     requires in_use { IsSome (thread_at (part_at p pools.old).locks t) }

@@ -4,10 +4,11 @@ ghost use Rattle.std.specs.Prelude.{◌≡◌, ◌<◌, length};
 ghost use Rattle.ptk_words_model.specs.ThreadCalls.{getschedparam};
 ghost use Rattle.ptk_words_model.specs.ThreadCalls as calls;
 ghost use Rattle.ptk_words_well.specs.Well.{IsWell};
-ghost use Rattle.ptk_gate_pools.specs.Kept.{part_at, put_part, limits_at};
+ghost use Rattle.ptk_gate_moves.specs.Kept.{part_at, put_part, limits_at};
 
-use ptk_gate_moves::{is_taken, named_thread, policy_number, refuse, succeed, succeed_with_two};
-use ptk_gate_pools::Pools;
+use ptk_gate_moves::{
+    Pools, is_taken, named_thread, policy_number, refuse, succeed, succeed_with_two,
+};
 use ptk_words::{Errno, PartId, ThreadNo};
 use ptk_words_model::{Invocation, Reply};
 
@@ -30,7 +31,7 @@ pub fn getschedparam(pools: &mut Pools, p: PartId, i: Invocation) -> Reply
 
 /// pthread_detach: the number of an ended thread is free, another thread is detached. ESRCH of a number that is not in
 /// use, EINVAL of a thread that is detached or has a joiner; a refusal changes nothing but a0.
-#[tactic(auto, using(ptk_gate_pools::proofs::Parted::parted))]
+#[tactic(auto, using(ptk_gate_moves::proofs::Parted::parted))]
 pub fn detach(pools: &mut Pools, p: PartId, i: Invocation) -> Reply
     requires partition { p < length pools.old.limits }
     requires well { IsWell (limits_at p pools.old) (part_at p pools.old) }

@@ -4,17 +4,16 @@ ghost use Rattle.std.specs.Prelude.{◌≡◌, ◌<◌, length, None, Some};
 ghost use Rattle.ptk_words_model.specs.Keys.{next_destructor};
 ghost use Rattle.ptk_words_model.specs.Unwinding.{after_return, after_gate_step, after_unwinding_move, after_destructor_or_end, cleanups_of};
 ghost use Rattle.ptk_words_well.specs.Well.{IsWell};
-ghost use Rattle.ptk_gate_pools.specs.Kept.{part_at, put_part, limits_at};
+ghost use Rattle.ptk_gate_moves.specs.Kept.{part_at, put_part, limits_at};
 
 use crate::ends::end;
-use ptk_gate_moves::{call_routine, halt, start_unwinding};
-use ptk_gate_pools::Pools;
+use ptk_gate_moves::{Pools, call_routine, halt, start_unwinding};
 use ptk_keys::DestructorCall;
 use ptk_words::{A0, PartId, Phase, Status, Thread, ThreadNo};
 
 /// A step of the running thread at the return gate: a normal thread's start routine has returned, an unwinding one goes on with its
 /// unwinding, and one that has ended takes no step (pthread_exit, XSH 2.9.5.3).
-#[tactic(auto, using(ptk_gate_pools::proofs::Parted::parted))]
+#[tactic(auto, using(ptk_gate_moves::proofs::Parted::parted))]
 pub fn step_at_gate(pools: &mut Pools, p: PartId, t: ThreadNo, thread: Thread)
     requires partition { p < length pools.old.limits }
     requires well { IsWell (limits_at p pools.old) (part_at p pools.old) }
@@ -29,7 +28,7 @@ pub fn step_at_gate(pools: &mut Pools, p: PartId, t: ThreadNo, thread: Thread)
 }
 
 /// A return of the main thread exits the partition with a0, of any other begins its unwinding (pthread_create).
-#[tactic(auto, using(ptk_gate_pools::proofs::Parted::parted))]
+#[tactic(auto, using(ptk_gate_moves::proofs::Parted::parted))]
 fn return_from(pools: &mut Pools, p: PartId, t: ThreadNo, thread: Thread)
     requires partition { p < length pools.old.limits }
     ensures { pools.new ≡ put_part p (after_return t thread (part_at p pools.old)) pools.old }
@@ -44,7 +43,7 @@ fn return_from(pools: &mut Pools, p: PartId, t: ThreadNo, thread: Thread)
 
 /// The next move of the running thread, which unwinds: the handler pushed last is taken off and called, else its next destructor is
 /// called, else it ends (XSH 2.9.5.3).
-#[tactic(auto, using(ptk_gate_pools::proofs::Parted::parted, crate::proofs::Handlers::handler_called))]
+#[tactic(auto, using(ptk_gate_moves::proofs::Parted::parted, crate::proofs::Handlers::handler_called))]
 fn unwind_further(pools: &mut Pools, p: PartId, t: ThreadNo)
     requires partition { p < length pools.old.limits }
     requires well { IsWell (limits_at p pools.old) (part_at p pools.old) }
@@ -60,7 +59,7 @@ fn unwind_further(pools: &mut Pools, p: PartId, t: ThreadNo)
 
 /// The next move of the running thread, which unwinds and has no handlers: its next destructor is called, else it ends
 /// (pthread_key_create, pthread_exit).
-#[tactic(auto, using(ptk_gate_pools::proofs::Parted::parted))]
+#[tactic(auto, using(ptk_gate_moves::proofs::Parted::parted))]
 fn call_destructor_or_end(pools: &mut Pools, p: PartId, t: ThreadNo)
     requires partition { p < length pools.old.limits }
     requires well { IsWell (limits_at p pools.old) (part_at p pools.old) }
@@ -76,7 +75,7 @@ fn call_destructor_or_end(pools: &mut Pools, p: PartId, t: ThreadNo)
 
 /// The destructor of the call's key is called with the value, which is 0 from then on, and the key is passed in its
 /// round (pthread_key_create).
-#[tactic(auto, using(ptk_gate_pools::proofs::Parted::parted))]
+#[tactic(auto, using(ptk_gate_moves::proofs::Parted::parted))]
 fn call_destructor(pools: &mut Pools, p: PartId, t: ThreadNo, call: DestructorCall)
     requires partition { p < length pools.old.limits }
     ensures { pools.new ≡ put_part p (after_destructor_or_end t (Some call) (part_at p pools.old)) pools.old }

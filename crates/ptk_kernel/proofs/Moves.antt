@@ -8,11 +8,11 @@ use Rattle.ptk_words_model.specs.Withdrawal.{after_expiries}
 use Rattle.ptk_words_model.specs.Run.{is_active}
 use Rattle.ptk_words_well.proofs.Decisions.{arrivals_status}
 use Rattle.ptk_words_well.proofs.Timeouts.{expiries_status}
-use Rattle.ptk_gate_pools.specs.Kept.{Kept, AreParts, part_at, put_part, limits_at}
+use Rattle.ptk_gate.specs.Kept.{Kept, AreParts, part_at, put_part, limits_at}
 use Rattle.ptk_gate_steps.specs.declared.turns.NextStep.{NextStep}
 use Rattle.ptk_gate.specs.Answers.{call_answer}
 use Rattle.ptk_kernel.specs.StepParts.{passed}
-use Rattle.ptk_gate_pools.proofs.Parted.{part_at-put, put_part-put}
+use Rattle.ptk_gate.proofs.Parted.{part_at-put, put_part-put}
 
 -- what was put is the partition's part
 pub part_after : (n p : ℕ) (s : Part) (old new : Kept) → AreParts n old → p < n → new ≡ put_part p s old → part_at p new ≡ s

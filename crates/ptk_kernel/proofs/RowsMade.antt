@@ -14,13 +14,13 @@ use Rattle.ptk_words_quiet.proofs.ReplyDecisions.{reply_decided, reply_quiet}
 use Rattle.ptk_words_quiet.proofs.Sooner.{row_none, quiet_sooner}
 use Rattle.ptk_trace.specs.KeptSteps.{KeptSteps}
 use Rattle.ptk_trace.specs.TracedRows as rows
-use Rattle.ptk_gate_pools.specs.Kept.{Kept, AreParts, limits_at, part_at, put_part}
-use Rattle.ptk_gate_pools.proofs.Parted.{part_at-put}
+use Rattle.ptk_gate.specs.Kept.{Kept, AreParts, limits_at, part_at, put_part}
+use Rattle.ptk_gate.proofs.Parted.{part_at-put}
 use Rattle.ptk_gate_steps.specs.Replies.{IsMade}
 use Rattle.ptk_kernel.specs.Rows.{IsRow, IsStill, IsStillTo}
 use Rattle.ptk_words_model.specs.declared.Spent.TheVariants.{Step}
 use Rattle.ptk_words_model.specs.Decision.{after_decision, spent_by_decision}
-use Rattle.ptk_gate_pools.proofs.Ranks.{put_same}
+use Rattle.ptk_gate.proofs.Ranks.{put_same}
 use Rattle.ptk_gate_steps.specs.declared.quiet_stops.Quiet.{Quiet}
 
 nothing_more : (kept : ℕ) (entries : List Entry) → length entries ≤ kept → last_of kept (entries ++ []) ≡ entries

@@ -18,8 +18,8 @@ use Rattle.ptk_words_model.specs.Priority.{thread_at}
 use Rattle.ptk_words_model.specs.Decision.{a0_after, after_effect, after_step, after_turn, after_whole_step, is_to_unwind, runner_of, spent_in_turn, step_cost, step_kind, traced_word, with_cpu, word_fetched}
 use Rattle.ptk_words_model.specs.Unwinding.{after_unwinding_start, after_gate_step}
 use Rattle.ptk_words_well.proofs.Decisions.{runner_runs}
-use Rattle.ptk_gate_pools.specs.Kept.{Kept, part_at, put_part, limits_at}
-use Rattle.ptk_gate_pools.proofs.Ranks.{put_same}
+use Rattle.ptk_gate.specs.Kept.{Kept, part_at, put_part, limits_at}
+use Rattle.ptk_gate.proofs.Ranks.{put_same}
 use Rattle.ptk_gate_steps.specs.declared.turns.NextStep.{NextStep}
 use Rattle.ptk_gate_steps.specs.Instructions.{after_instruction}
 use Rattle.ptk_gate_steps.specs.NextSteps.{a0_kept, next_step_in, next_step_of}

@@ -1,3 +1,4 @@
 pub mod Spending
 pub mod StepParts
 pub mod Rows
+pub use Rattle.ptk_gate.specs.Kept

@@ -5,7 +5,7 @@ use Rattle.ptk_words_quiet.specs.Quiet.{IsQuiet, ArePlain, core_of, after_row}
 use Rattle.ptk_trace.specs.KeptSteps.{KeptSteps}
 use Rattle.ptk_trace.specs.TracedRows as rows
 use Rattle.ptk_gate_steps.specs.declared.quiet_stops.Quiet.{Quiet}
-use Rattle.ptk_gate_pools.specs.Kept.{Kept, limits_at, part_at, put_part}
+use Rattle.ptk_gate.specs.Kept.{Kept, limits_at, part_at, put_part}
 
 -- so many next steps of partition p, the first of them at the tick, are plain steps of its running thread, with which nothing else comes; the tables and the trace are those after them (own)
 pub record IsRow (p tick n t : ℕ) (thread : Thread) (old new : Kept) (before after : KeptSteps) : Type 0 where

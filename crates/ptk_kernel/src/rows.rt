@@ -10,7 +10,7 @@ ghost use Rattle.ptk_words_model.specs.Priority.{thread_at};
 ghost use Rattle.ptk_words_model.specs.Run.{is_active};
 ghost use Rattle.ptk_words_quiet.specs.Quiet.{IsQuiet, core_of};
 ghost use Rattle.ptk_words_quiet.specs.Idle.{IsIdle};
-ghost use Rattle.ptk_gate_pools.specs.Kept.{part_at, put_part, limits_at};
+ghost use Rattle.ptk_gate.specs.Kept.{part_at, put_part, limits_at};
 ghost use Rattle.ptk_kernel.specs.Rows.{IsRow, IsStill, IsStillTo};
 
 use ptk_gate::Tables;

@@ -1,7 +1,7 @@
 //! Each line of the table with its status, and the line of each refusal.
 
-use ptk_main_faults::{Fault, fault_line};
 use ptk_config::ConfigFault;
+use ptk_main_faults::{Fault, fault_line};
 use ptk_words::ImageFault;
 use ptk_words_windows::WindowFault;
 use std::alloc::{AllocError, Global};

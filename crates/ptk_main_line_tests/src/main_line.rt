@@ -1,7 +1,7 @@
 //! Each subcommand once with its values, the bounds of N, and the kinds of the errors.
 
-use ptk_main_line::{Request, not_text, read_line};
 use clap::error::ErrorKind;
+use ptk_main_line::{Request, not_text, read_line};
 use std::alloc::{AllocError, Global};
 
 /// The kind of the error that the words have, `None` where they are taken.

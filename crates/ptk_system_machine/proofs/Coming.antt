@@ -13,7 +13,7 @@ use Rattle.ptk_words_quiet.proofs.TicksInARow.{join, window_own}
 use Rattle.ptk_window.specs.declared.near.Turn.{Turn}
 use Rattle.ptk_window.specs.Turn.{IsTurn}
 use Rattle.ptk_window.specs.Walks.{Way}
-use Rattle.ptk_gate_pools.specs.Kept.{limits_at}
+use Rattle.ptk_kernel.specs.Kept.{limits_at}
 use Rattle.ptk_system_machine.specs.Turns.{IsAt, IsComing, IsInWindow, IsStillUntil, IsUpTo, turn_at, no_turn}
 use Rattle.ptk_system_machine.specs.Whole.{Whole, IsWhole, state_at, gone_on}
 use Rattle.ptk_system_machine.proofs.States.{state_at-put, state_at-other}

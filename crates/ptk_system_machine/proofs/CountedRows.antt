@@ -14,7 +14,7 @@ use Rattle.ptk_words_quiet.specs.Quiet.{AreOwn, core_of, counted_row, row_state,
 use Rattle.ptk_words_quiet.proofs.TicksInARow.{row_ticks}
 use Rattle.ptk_trace.specs.KeptSteps.{KeptSteps}
 use Rattle.ptk_kernel.specs.Rows.{IsRow}
-use Rattle.ptk_gate_pools.specs.Kept.{Kept, limits_at, part_at, put_part}
+use Rattle.ptk_kernel.specs.Kept.{Kept, limits_at, part_at, put_part}
 use Rattle.ptk_system_machine.specs.Accounts.{KeptAccount}
 use Rattle.ptk_system_machine.specs.Whole.{Whole, IsWhole, no_account, state_at, put_state, gone_on}
 use Rattle.ptk_system_machine.proofs.States.{put_part-same, still_whole}

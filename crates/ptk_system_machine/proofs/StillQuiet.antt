@@ -3,7 +3,7 @@ use Rattle.std.proofs.Common.{◌≡◌, ℕ, ◌<◌, ◌≤◌, sym, ap, subst
 use Rattle.std.specs.Prelude.{Option, unwrap_or}
 use Rattle.ptk_words_windows.specs.Windows.{OwnTicks}
 use Rattle.ptk_words_quiet.proofs.Sooner.{quiet_sooner}
-use Rattle.ptk_gate_pools.specs.Kept.{Kept, limits_at, part_at}
+use Rattle.ptk_kernel.specs.Kept.{Kept, limits_at, part_at}
 use Rattle.ptk_kernel.specs.Rows.{IsStillTo}
 use Rattle.ptk_system_machine.specs.Turns.{IsInWindow}
 

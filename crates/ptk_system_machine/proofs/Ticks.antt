@@ -15,8 +15,8 @@ use Rattle.ptk_words_quiet.specs.Quiet.{AreOwn, after_ticks}
 use Rattle.ptk_words_quiet.specs.Idle.{IsIdle, waiting_from}
 use Rattle.ptk_words_quiet.proofs.IdleTicks.{idle_ticks}
 use Rattle.ptk_words_quiet.proofs.TicksInARow.{join, window_own}
-use Rattle.ptk_gate_pools.specs.Kept.{Kept, limits_at, part_at, put_part}
-use Rattle.ptk_gate_pools.proofs.Parted.{put_part-put}
+use Rattle.ptk_kernel.specs.Kept.{Kept, limits_at, part_at, put_part}
+use Rattle.ptk_kernel.proofs.Parted.{put_part-put}
 use Rattle.ptk_system_machine.specs.Accounts.{KeptAccount, IsBehind, duration_of}
 use Rattle.ptk_system_machine.specs.Turns.{IsFreeFrom, IsInWindow}
 use Rattle.ptk_system_machine.specs.Whole.{Whole, IsWhole, no_account, account_at, state_at, put_state, gone_on}

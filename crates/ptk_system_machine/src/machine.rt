@@ -3,7 +3,7 @@
 ghost use Rattle.std.specs.Prelude.{◌≡◌, ◌<◌, ◌≤◌, ◌^◌, ℕ, IfOk, length, slice_index_or};
 ghost use Rattle.ptk_words_windows.specs.Windows.{own_ticks};
 ghost use Rattle.ptk_words_model.specs.Run.{is_active, next_from};
-ghost use Rattle.ptk_gate_pools.specs.Kept.{AreParts, limits_at};
+ghost use Rattle.ptk_kernel.specs.Kept.{AreParts, limits_at};
 ghost use Rattle.ptk_system_machine.specs.Whole.{IsWhole, account_at, first_account_of, no_account};
 
 use crate::account::Account;

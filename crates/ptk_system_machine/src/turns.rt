@@ -6,7 +6,7 @@ ghost use Rattle.ptk_words_windows.specs.Windows.{own_ticks};
 ghost use Rattle.ptk_words_model.specs.Run.{next_from};
 ghost use Rattle.ptk_words_quiet.specs.Quiet.{after_ticks};
 ghost use Rattle.ptk_words_quiet.specs.Idle.{IsIdle};
-ghost use Rattle.ptk_gate_pools.specs.Kept.{limits_at, part_at};
+ghost use Rattle.ptk_kernel.specs.Kept.{limits_at, part_at};
 ghost use Rattle.ptk_kernel.specs.Rows.{IsStill, IsStillTo};
 ghost use Rattle.ptk_kernel.specs.Spending.{cost_in};
 ghost use Rattle.ptk_system_machine.specs.Accounts.{IsBehind};

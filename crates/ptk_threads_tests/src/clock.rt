@@ -4,11 +4,7 @@ ghost use Rattle.std.specs.Prelude.{◌≡◌, ◌<◌, false, []};
 ghost use Rattle.ptk_words.specs.Pools.{is_in};
 ghost use Rattle.ptk_clock.specs.Pairs.{slots_of, with_pair};
 
-use ptk_clock::Deadlines;
-use ptk_clock::PlainDeadlines;
-use ptk_clock::SharedDeadlines;
-use ptk_clock::ThreadDeadlines;
-use ptk_clock::{from_tick, to_tick};
+use ptk_clock::{Deadlines, PlainDeadlines, SharedDeadlines, ThreadDeadlines, from_tick, to_tick};
 use ptk_mutex_slots::ThreadSet;
 use ptk_words::{LAST_TICK, PartId, SlotNo, ThreadNo, Tick};
 use std::test::Fail;

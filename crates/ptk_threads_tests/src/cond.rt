@@ -1,7 +1,6 @@
 //! The life of numbers, by the calls that may want memory, and what nobody names.
 
-use ptk_cond::{destroy, init, is_there, numbered};
-use ptk_cond::{names, names_another};
+use ptk_cond::{destroy, init, is_there, names, names_another, numbered};
 use ptk_roster::Roster;
 use ptk_words::{ConditionNo, MutexNo, PartId};
 use std::test::Fail;

@@ -3,8 +3,7 @@
 ghost use Rattle.std.specs.Prelude.{◌≡◌, ◌<◌, length, IfOk};
 ghost use Rattle.ptk_ready.specs.Queues.{AreUnused};
 
-use ptk_ready::Line;
-use ptk_ready::VecLine;
+use ptk_ready::{Line, VecLine};
 use ptk_threads::Threads;
 use ptk_words::{Cpu, PartId, Phase, Policy, Priority, Thread, ThreadNo};
 use std::alloc::{AllocError, Global};

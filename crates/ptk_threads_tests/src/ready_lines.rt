@@ -3,8 +3,8 @@
 ghost use Rattle.std.specs.Prelude.{◌≡◌, ◌<◌, [], ◌∷◌, length, IfOk};
 ghost use Rattle.ptk_threads.specs.Table.{free_table};
 
-use ptk_ready_lines::LinkedLine;
 use ptk_ready::{Line, VecLine};
+use ptk_ready_lines::LinkedLine;
 use ptk_threads::Threads;
 use ptk_words::{Cpu, PartId, Phase, Policy, Priority, Thread, ThreadNo};
 use std::alloc::{AllocError, Global};

@@ -1,5 +1,5 @@
 use Rattle.std.proofs.Common.{length}
-use Rattle.ptk_gate_pools.specs.Kept.{part_at}
+use Rattle.ptk_gate_moves.specs.Kept.{part_at}
 use Rattle.ptk_gate_services.proofs.ArrivalLoop.{AreArriving}
 use Rattle.ptk_gate_services.proofs.arrivals.arrive_due.Given as goal
 

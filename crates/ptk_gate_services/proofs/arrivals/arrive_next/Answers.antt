@@ -1,5 +1,5 @@
 use Rattle.std.proofs.Common.{◌∙◌, sym}
-use Rattle.ptk_gate_pools.specs.Kept.{part_at, limits_at}
+use Rattle.ptk_gate_moves.specs.Kept.{part_at, limits_at}
 use Rattle.ptk_gate_services.proofs.ArrivalSteps.{waiter_in_use, waiter_fresh, waiter_apart}
 use Rattle.ptk_gate_services.proofs.ArrivalLoop.{kept_moved, undue_moved}
 use Rattle.ptk_gate_services.proofs.arrivals.arrive_next.Goals as goal

@@ -1,5 +1,5 @@
 use Rattle.std.proofs.Common.{◌∙◌, sym, length}
-use Rattle.ptk_gate_pools.specs.Kept.{limits_at}
+use Rattle.ptk_gate_moves.specs.Kept.{limits_at}
 use Rattle.ptk_gate_services.proofs.ArrivalLoop.{handed_moved, next_none}
 use Rattle.ptk_gate_services.proofs.arrivals.hand_next.Goals as goal
 

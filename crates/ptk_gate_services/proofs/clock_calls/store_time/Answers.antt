@@ -1,6 +1,6 @@
 use Rattle.std.proofs.Common.{◌≡◌, ℕ, ◌+◌, ◌≤◌, ◌*◌, ◌/◌, ◌%◌, length, ◌∙◌, ap}
 use Rattle.ptk_words_model.specs.Calls.{with_stored}
-use Rattle.ptk_gate_pools.specs.Kept.{part_at, put_part}
+use Rattle.ptk_gate_moves.specs.Kept.{part_at, put_part}
 use Rattle.ptk_gate_services.specs.Times.{with_seconds}
 use Rattle.ptk_gate_services.proofs.Stores.{time_moved}
 use Rattle.ptk_gate_services.proofs.clock_calls.store_time.Goals as goal

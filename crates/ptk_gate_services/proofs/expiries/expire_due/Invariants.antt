@@ -1,6 +1,6 @@
 use Rattle.std.proofs.Common.{length}
 use Rattle.ptk_words_model.specs.Withdrawal.{in_order, due}
-use Rattle.ptk_gate_pools.specs.Kept.{part_at}
+use Rattle.ptk_gate_moves.specs.Kept.{part_at}
 use Rattle.ptk_gate_services.proofs.ExpiryLoop.{AreExpiring}
 use Rattle.ptk_gate_services.proofs.expiries.expire_due.Given as goal
 

@@ -1,7 +1,7 @@
 use Rattle.std.proofs.Common.{◌∙◌, ap, length}
 use Rattle.std.specs.Prelude.{ℕ}
 use Rattle.ptk_words_instructions.specs.Instructions.{effect_at}
-use Rattle.ptk_gate_pools.specs.Kept.{part_at, put_part}
+use Rattle.ptk_gate_moves.specs.Kept.{part_at, put_part}
 use Rattle.ptk_gate_steps.specs.Instructions.{settled}
 use Rattle.ptk_gate_steps.proofs.StepEffects.{instruct_moved}
 use Rattle.ptk_gate_steps.proofs.instructions.instruct.Goals as goal

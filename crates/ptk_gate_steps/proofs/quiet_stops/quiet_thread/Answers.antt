@@ -1,7 +1,7 @@
 use Rattle.std.proofs.Common.{ℕ, ◌≤◌, refl, sym, ◌∙◌, subst, arith}
 use Rattle.ptk_words.specs.declared.sections.Limits.{Limits}
 use Rattle.ptk_words_model.specs.State.{Part}
-use Rattle.ptk_gate_pools.specs.Kept.{part_at, limits_at}
+use Rattle.ptk_gate_moves.specs.Kept.{part_at, limits_at}
 use Rattle.ptk_gate_steps.specs.QuietStops.{quiet_stop}
 use Rattle.ptk_gate_steps.proofs.QuietStops.{stop_le, quiet_up, quiet_no_later}
 use Rattle.ptk_gate_steps.proofs.quiet_stops.quiet_thread.Goals as goal

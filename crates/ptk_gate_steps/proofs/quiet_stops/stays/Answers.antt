@@ -1,4 +1,4 @@
-use Rattle.ptk_gate_pools.specs.Kept.{part_at, limits_at}
+use Rattle.ptk_gate_moves.specs.Kept.{part_at, limits_at}
 use Rattle.ptk_gate_steps.proofs.QuietStops.{first_in_use}
 use Rattle.ptk_gate_steps.proofs.quiet_stops.stays.Goals as goal
 

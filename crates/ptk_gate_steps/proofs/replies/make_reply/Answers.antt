@@ -8,7 +8,7 @@ use Rattle.ptk_words.specs.declared.threads.Thread.{Thread}
 use Rattle.ptk_words_instructions.specs.Instructions.{with_next_pc}
 use Rattle.ptk_words_model.specs.Decision.{word_fetched}
 use Rattle.ptk_words_quiet.specs.Replies.{reply_entry}
-use Rattle.ptk_gate_pools.specs.Kept.{part_at}
+use Rattle.ptk_gate_moves.specs.Kept.{part_at}
 use Rattle.ptk_gate_steps.specs.Replies.{IsMade}
 use Rattle.ptk_gate_steps.proofs.RepliesMade.{made, plain_still}
 use Rattle.ptk_gate_steps.proofs.replies.make_reply.Goals as goal

@@ -3,7 +3,7 @@ use Rattle.std.specs.Prelude.{Some}
 use Rattle.ptk_words.specs.Words.{word_at}
 use Rattle.ptk_words_model.specs.State.{Part}
 use Rattle.ptk_words_model.specs.Calls.{with_stored, with_pool_condition}
-use Rattle.ptk_gate_pools.specs.Kept.{part_at, limits_at}
+use Rattle.ptk_gate_moves.specs.Kept.{part_at, limits_at}
 use Rattle.ptk_gate_sync.proofs.Carried.{part_moved}
 use Rattle.ptk_gate_sync.proofs.Namings.{condition_made}
 use Rattle.ptk_gate_sync.proofs.condition_naming.condition_of_word.Goals as goal

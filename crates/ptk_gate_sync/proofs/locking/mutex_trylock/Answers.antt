@@ -1,4 +1,4 @@
-use Rattle.ptk_gate_pools.specs.Kept.{part_at}
+use Rattle.ptk_gate_moves.specs.Kept.{part_at}
 use Rattle.ptk_gate_sync.proofs.Carried.{told_on, moved_on}
 use Rattle.ptk_words_model.specs.MutexCalls.{trylock_named}
 use Rattle.ptk_gate_sync.proofs.locking.mutex_trylock.Goals as goal

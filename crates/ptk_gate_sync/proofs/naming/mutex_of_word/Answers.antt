@@ -6,7 +6,7 @@ use Rattle.ptk_words.specs.declared.mutexes.Protocol.TheVariants.{NoProtocol}
 use Rattle.ptk_words_model.specs.State.{Part}
 use Rattle.ptk_words_model.specs.Mutex.{new_mutex}
 use Rattle.ptk_words_model.specs.Calls.{with_stored, with_pool_mutex}
-use Rattle.ptk_gate_pools.specs.Kept.{part_at, limits_at}
+use Rattle.ptk_gate_moves.specs.Kept.{part_at, limits_at}
 use Rattle.ptk_gate_sync.proofs.Carried.{part_moved}
 use Rattle.ptk_gate_sync.proofs.Namings.{mutex_made}
 use Rattle.ptk_gate_sync.proofs.naming.mutex_of_word.Goals as goal

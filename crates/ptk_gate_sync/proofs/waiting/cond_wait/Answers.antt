@@ -1,5 +1,5 @@
 use Rattle.std.proofs.Common.{sym, ◌∙◌}
-use Rattle.ptk_gate_pools.specs.Kept.{part_at}
+use Rattle.ptk_gate_moves.specs.Kept.{part_at}
 use Rattle.ptk_gate_sync.specs.Waits.{wait_named}
 use Rattle.ptk_gate_sync.proofs.Carried.{told_on, moved_on}
 use Rattle.ptk_gate_sync.proofs.Namings.{wait_row}

@@ -1,6 +1,6 @@
 use Rattle.std.proofs.Common.{◌∙◌}
 use Rattle.ptk_words_model.specs.Steps.{mutex_named}
-use Rattle.ptk_gate_pools.specs.Kept.{part_at}
+use Rattle.ptk_gate_moves.specs.Kept.{part_at}
 use Rattle.ptk_gate_sync.proofs.Carried.{moved_twice}
 use Rattle.ptk_gate_sync.proofs.waiting.named_both.Goals as goal
 

@@ -4,7 +4,7 @@ use Rattle.ptk_words_model.specs.declared.LockMove.TheVariants.{Counts}
 use Rattle.ptk_words_model.specs.State.{Part, with_locks}
 use Rattle.ptk_words_model.specs.Mutex.{mutex_at, after_unlock, relock_move, count_of}
 use Rattle.ptk_mutex.specs.Tables.{AreLocked, MayWait}
-use Rattle.ptk_gate_pools.specs.Kept.{part_at, limits_at}
+use Rattle.ptk_gate_moves.specs.Kept.{part_at, limits_at}
 use Rattle.ptk_words_locks.specs.Conditions.{IsNoWaiter}
 use Rattle.ptk_gate_sync.proofs.Carried.{part_moved}
 use Rattle.ptk_gate_sync.proofs.Waits.{released_locked, released_wait, released_free, released_count}

@@ -2,8 +2,8 @@ use Rattle.std.proofs.Common.{Some, length, ap}
 use Rattle.ptk_words.specs.Threads.{left_at_end}
 use Rattle.ptk_words_model.specs.State.{Locks, Part, with_locks}
 use Rattle.ptk_words_model.specs.Unwinding.{after_join_by, after_release}
-use Rattle.ptk_gate_pools.specs.Kept.{part_at}
-use Rattle.ptk_gate_pools.specs.Moves.{with_left}
+use Rattle.ptk_gate_moves.specs.Kept.{part_at}
+use Rattle.ptk_gate_moves.specs.Moves.{with_left}
 use Rattle.ptk_gate_threads.proofs.Leaving.{moved_twice, released_is}
 use Rattle.ptk_gate_threads.proofs.Absent.{joined_out}
 use Rattle.ptk_gate_threads.proofs.ends.release_thread.Goals as goal

@@ -1,5 +1,5 @@
 use Rattle.std.proofs.Common.{sym, ◌∙◌}
-use Rattle.ptk_gate_pools.specs.Kept.{part_at, limits_at}
+use Rattle.ptk_gate_moves.specs.Kept.{part_at, limits_at}
 use Rattle.ptk_gate_threads.proofs.Absent.{target_out}
 use Rattle.ptk_gate_threads.proofs.joins.join_target.Goals as goal
 

@@ -1,5 +1,5 @@
 use Rattle.std.proofs.Common.{sym, ◌∙◌}
-use Rattle.ptk_gate_pools.specs.Kept.{part_at}
+use Rattle.ptk_gate_moves.specs.Kept.{part_at}
 use Rattle.ptk_gate_threads.proofs.Decoding.{prioritized_is}
 use Rattle.ptk_gate_threads.proofs.scheduling_calls.asked_priority.Goals as goal
 

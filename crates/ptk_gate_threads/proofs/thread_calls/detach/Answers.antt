@@ -6,8 +6,8 @@ use Rattle.ptk_words_model.specs.Calls.{Answer, success}
 use Rattle.ptk_words_model.specs.State.{Part, with_locks}
 use Rattle.ptk_words_model.specs.Priority.{thread_at}
 use Rattle.ptk_words_model.specs.ThreadCalls as calls
-use Rattle.ptk_gate_pools.specs.Kept.{part_at, put_part, limits_at}
-use Rattle.ptk_gate_pools.specs.Moves.{with_left}
+use Rattle.ptk_gate_moves.specs.Kept.{part_at, put_part, limits_at}
+use Rattle.ptk_gate_moves.specs.Moves.{with_left}
 use Rattle.ptk_gate_threads.proofs.Leaving.{moved_twice, detached_is}
 use Rattle.ptk_gate_threads.proofs.Absent.{detached_out}
 use Rattle.ptk_gate_threads.proofs.thread_calls.detach.Goals as goal

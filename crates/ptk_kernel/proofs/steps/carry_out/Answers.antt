@@ -1,6 +1,6 @@
 use Rattle.std.proofs.Common.{◌∙◌, ap}
 use Rattle.ptk_words_model.specs.State.{Part}
-use Rattle.ptk_gate_pools.specs.Kept.{part_at, put_part, limits_at}
+use Rattle.ptk_gate.specs.Kept.{part_at, put_part, limits_at}
 use Rattle.ptk_kernel.proofs.Turns.{next_runs, call_stepped}
 use Rattle.ptk_kernel.proofs.steps.carry_out.Goals as goal
 

@@ -2,7 +2,7 @@ use Rattle.std.proofs.Common.{length}
 use Rattle.ptk_words_model.specs.declared.Runner.{Runner}
 use Rattle.ptk_words_model.specs.State.{Part}
 use Rattle.ptk_words_model.specs.Decision.{after_step}
-use Rattle.ptk_gate_pools.specs.Kept.{part_at, limits_at}
+use Rattle.ptk_gate.specs.Kept.{part_at, limits_at}
 use Rattle.ptk_kernel.proofs.Turns.{within_after}
 use Rattle.ptk_kernel.proofs.WholeSteps.{step_made}
 use Rattle.ptk_kernel.proofs.steps.make_step.Goals as goal

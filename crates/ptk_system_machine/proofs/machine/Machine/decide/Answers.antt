@@ -3,7 +3,7 @@ use Rattle.std.proofs.Math.ListN.{set}
 use Rattle.ptk_words.specs.declared.faults.Status.{Status}
 use Rattle.ptk_words_windows.specs.Windows.{own_ticks}
 use Rattle.ptk_words_model.specs.Run.{next_from}
-use Rattle.ptk_gate_pools.specs.Kept.{limits_at, part_at}
+use Rattle.ptk_kernel.specs.Kept.{limits_at, part_at}
 use Rattle.ptk_system_machine.specs.Accounts.{KeptAccount, kept_account_of, duration_of, spent_account}
 use Rattle.ptk_system_machine.specs.Turns.{IsInWindow}
 use Rattle.ptk_system_machine.specs.Whole.{Whole, IsWhole, account_at, gone_on, no_account}

@@ -1,5 +1,5 @@
 use Rattle.ptk_words_windows.specs.Windows.{own_ticks}
-use Rattle.ptk_gate_pools.specs.Kept.{limits_at}
+use Rattle.ptk_kernel.specs.Kept.{limits_at}
 use Rattle.ptk_system_machine.specs.Whole.{state_at}
 use Rattle.std.proofs.Common.{refl}
 use Rattle.ptk_system_machine.proofs.Coming.{due_still, first_due, first_none, never_still}

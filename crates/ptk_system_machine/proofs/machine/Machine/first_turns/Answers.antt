@@ -1,6 +1,6 @@
 use Rattle.std.proofs.Common.{ℕ, ◌<◌, ◌≤◌, length, subst, ◌∙◌, arith}
 use Rattle.ptk_words_windows.specs.Windows.{own_ticks}
-use Rattle.ptk_gate_pools.specs.Kept.{limits_at}
+use Rattle.ptk_kernel.specs.Kept.{limits_at}
 use Rattle.ptk_window.specs.declared.near.Turn.{Turn}
 use Rattle.ptk_system_machine.specs.Turns.{IsStillUntil, IsUpTo}
 use Rattle.ptk_system_machine.specs.Whole.{Whole, state_at}

@@ -1,6 +1,6 @@
 use Rattle.std.proofs.Common.{◌≡◌, ℕ, ◌<◌}
 use Rattle.ptk_words_windows.specs.Windows.{own_ticks}
-use Rattle.ptk_gate_pools.specs.Kept.{limits_at}
+use Rattle.ptk_kernel.specs.Kept.{limits_at}
 use Rattle.ptk_system_machine.specs.Turns.{IsStillUntil, IsUpTo, turn_at}
 use Rattle.ptk_system_machine.specs.Whole.{state_at}
 use Rattle.ptk_system_machine.proofs.machine.Machine.first_turns.Given as goal

@@ -4,7 +4,7 @@ use Rattle.std.proofs.Math.ListN.{set}
 use Rattle.ptk_words_windows.specs.Windows.{own_ticks}
 use Rattle.ptk_words_model.specs.declared.Spent.TheVariants.{Step}
 use Rattle.ptk_words_model.specs.Run.{is_active}
-use Rattle.ptk_gate_pools.specs.Kept.{Kept, limits_at, part_at}
+use Rattle.ptk_kernel.specs.Kept.{Kept, limits_at, part_at}
 use Rattle.ptk_kernel.specs.Rows.{IsStill, IsStillTo}
 use Rattle.ptk_system_machine.specs.Accounts.{KeptAccount, spent_account}
 use Rattle.ptk_system_machine.specs.Turns.{IsFreeFrom, IsInWindow}

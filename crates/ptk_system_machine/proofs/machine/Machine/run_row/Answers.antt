@@ -3,7 +3,7 @@ use Rattle.std.proofs.Math.ListN.{take}
 use Rattle.std.proofs.lemmas.List.{get_or_default, length-take}
 use Rattle.ptk_words_windows.specs.Windows.{own_ticks}
 use Rattle.ptk_words_quiet.specs.Quiet.{after_ticks}
-use Rattle.ptk_gate_pools.specs.Kept.{limits_at}
+use Rattle.ptk_kernel.specs.Kept.{limits_at}
 use Rattle.ptk_window.specs.declared.near.Turn.{Turn}
 use Rattle.ptk_system_machine.specs.Turns.{IsComing, turn_at, no_turn}
 use Rattle.ptk_system_machine.specs.Whole.{IsWhole, Whole, account_at, gone_on, state_at}
