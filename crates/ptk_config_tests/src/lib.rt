@@ -1,5 +1,6 @@
-//! Tests of `ptk_config`, `ptk_config_places`, `ptk_config_table`, a file each: their public calls and refused allocations. They stand apart so that those crates are
-//! proved once, without them. There is no other code here.
+//! Tests of `ptk_config`, `ptk_config_places` and `ptk_config_table`, a file for each: their public calls. They use
+//! public names alone and stand apart, so that those crates are proved once and not a second time with their tests.
+//! There is no other code here, and nothing stands above.
 #![tactic(auto)]
 
 #[cfg(test)]

@@ -2,7 +2,7 @@
 
 ghost use Rattle.ptk_words.specs.Ranges.{IsWithinLimits};
 
-use ptk_gate::Tables;
+use ptk_kernel::Tables;
 use ptk_words::{Arrival, Limits, PartId, Status, Tick};
 use std::test::Fail;
 

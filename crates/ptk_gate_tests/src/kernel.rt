@@ -2,8 +2,7 @@
 
 ghost use Rattle.std.specs.Prelude.{◌≡◌};
 
-use ptk_gate::Tables;
-use ptk_kernel::{decide, last_step};
+use ptk_kernel::{Tables, decide, last_step};
 use ptk_words::{Arrival, Limits, PartId, Status, Tick};
 use ptk_words_model::Spent;
 use std::test::Fail;

@@ -1,5 +1,7 @@
-//! Tests of `ptk_ready`, `ptk_ready_lines`, `ptk_mutex`, `ptk_cond`, `ptk_cancel`, `ptk_keys`, `ptk_clock`, `ptk_console`, a file each: their public calls and refused allocations. They stand apart so that those crates are
-//! proved once, without them. There is no other code here.
+//! Tests of `ptk_ready`, `ptk_ready_lines`, `ptk_mutex`, `ptk_cond`, `ptk_cancel`, `ptk_keys`, `ptk_clock` and
+//! `ptk_console`, a file for each: their public calls. They use public names alone and stand apart, so that those
+//! crates are proved once and not a second time with their tests. There is no other code here, and nothing stands
+//! above.
 #![tactic(auto)]
 
 #[cfg(test)]
