@@ -1,4 +1,4 @@
-//! The constructor with ample memory.
+//! The constructor of the gate's tables with ample memory.
 
 ghost use Rattle.ptk_words.specs.Ranges.{IsWithinLimits};
 

@@ -1,4 +1,4 @@
-//! The constructor with ample memory.
+//! The constructor of the pools with ample memory.
 
 ghost use Rattle.std.specs.Prelude.{◌≡◌};
 

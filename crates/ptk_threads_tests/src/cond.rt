@@ -1,4 +1,4 @@
-//! The life of numbers, by the calls that may want memory, and what nobody names.
+//! The life of condition variables' numbers, by the calls that may want memory, and what nobody names.
 
 use ptk_cond::{destroy, init, is_there, names, names_another, numbered};
 use ptk_roster::Roster;

@@ -1,4 +1,4 @@
-//! The life of numbers, by the calls that may want memory.
+//! The life of mutexes' numbers, by the calls that may want memory.
 
 use ptk_mutex::Mutexes;
 use ptk_roster::Roster;

@@ -1,4 +1,4 @@
-//! Every call once, through the bound.
+//! Every call of the line of ready threads once, through the bound.
 
 ghost use Rattle.std.specs.Prelude.{◌≡◌, ◌<◌, length, IfOk};
 ghost use Rattle.ptk_ready.specs.Queues.{AreUnused};
