@@ -188,52 +188,40 @@ fn line_endings(rt: HostRuntime) -> Result<(), Fail> {
     Ok(())
 }
 
-#[test]
-fn faults_of_tokens(rt: HostRuntime) {
-    let alloc = rt.alloc();
-    check_fault(&rt, alloc, "nop\n  addi a0, a0, 0x", 2, 19, 21, 1);
-    check_fault(&rt, alloc, "foo - 1", 1, 4, 5, 1);
-    check_fault(&rt, alloc, "nop \u{20ac} # \u{20ac}", 1, 4, 7, 1);
-    check_fault(&rt, alloc, "mv a0 a1", 1, 6, 8, 1);
-    check_fault(&rt, alloc, "mv a0,  # b", 1, 8, 8, 1);
-    check_fault(&rt, alloc, "mv a0\r\n", 1, 5, 5, 1);
-    check_fault(&rt, alloc, "ret ra", 1, 4, 6, 1);
-    check_fault(&rt, alloc, "mv , a1", 1, 3, 4, 1);
-    check_fault(&rt, alloc, "li a0, a1", 1, 7, 9, 1);
-    check_fault(&rt, alloc, "call 4", 1, 5, 6, 1);
-}
+/// Sources, and the line, the bytes and the number of their fault: of tokens, of statements, of labels.
+const FAULTS: [(&str, usize, usize, usize, u8); 25] = [
+    ("nop\n  addi a0, a0, 0x", 2, 19, 21, 1),
+    ("foo - 1", 1, 4, 5, 1),
+    ("nop \u{20ac} # \u{20ac}", 1, 4, 7, 1),
+    ("mv a0 a1", 1, 6, 8, 1),
+    ("mv a0,  # b", 1, 8, 8, 1),
+    ("mv a0\r\n", 1, 5, 5, 1),
+    ("ret ra", 1, 4, 6, 1),
+    ("mv , a1", 1, 3, 4, 1),
+    ("li a0, a1", 1, 7, 9, 1),
+    ("call 4", 1, 5, 6, 1),
+    ("\nfoo a0", 2, 1, 4, 2),
+    ("a: 5", 1, 3, 4, 2),
+    (".data\nnop", 2, 6, 9, 2),
+    (".byte 1", 1, 0, 5, 2),
+    ("mv a0, a8", 1, 7, 9, 3),
+    ("mv a0, 8", 1, 7, 8, 3),
+    ("nop\naddi a0, a0, 2048", 2, 17, 21, 4),
+    ("beq a0, a0, 3", 1, 12, 13, 4),
+    ("li a0, 18446744073709551616", 1, 7, 27, 4),
+    (".data\n.byte 1\n.word 2", 3, 14, 19, 4),
+    ("j away\nfoo", 2, 7, 10, 2),
+    ("nop\nj away # far", 2, 6, 10, 5),
+    (".data\n.space 4096\nx:\n.text\nbeq a0, a1, x", 5, 39, 40, 4),
+    ("a:\na:", 2, 3, 4, 6),
+    ("a: nop\n b :\n a : foo", 3, 13, 14, 6),
+];
 
 #[test]
-fn faults_of_statements(rt: HostRuntime) {
-    let alloc = rt.alloc();
-    check_fault(&rt, alloc, "\nfoo a0", 2, 1, 4, 2);
-    check_fault(&rt, alloc, "a: 5", 1, 3, 4, 2);
-    check_fault(&rt, alloc, ".data\nnop", 2, 6, 9, 2);
-    check_fault(&rt, alloc, ".byte 1", 1, 0, 5, 2);
-    check_fault(&rt, alloc, "mv a0, a8", 1, 7, 9, 3);
-    check_fault(&rt, alloc, "mv a0, 8", 1, 7, 8, 3);
-    check_fault(&rt, alloc, "nop\naddi a0, a0, 2048", 2, 17, 21, 4);
-    check_fault(&rt, alloc, "beq a0, a0, 3", 1, 12, 13, 4);
-    check_fault(&rt, alloc, "li a0, 18446744073709551616", 1, 7, 27, 4);
-    check_fault(&rt, alloc, ".data\n.byte 1\n.word 2", 3, 14, 19, 4);
-}
-
-#[test]
-fn faults_of_labels(rt: HostRuntime) {
-    let alloc = rt.alloc();
-    check_fault(&rt, alloc, "j away\nfoo", 2, 7, 10, 2);
-    check_fault(&rt, alloc, "nop\nj away # far", 2, 6, 10, 5);
-    check_fault(
-        &rt,
-        alloc,
-        ".data\n.space 4096\nx:\n.text\nbeq a0, a1, x",
-        5,
-        39,
-        40,
-        4,
-    );
-    check_fault(&rt, alloc, "a:\na:", 2, 3, 4, 6);
-    check_fault(&rt, alloc, "a: nop\n b :\n a : foo", 3, 13, 14, 6);
+fn faults_have_their_tokens(rt: HostRuntime) {
+    for (source, line, from, to, number) in FAULTS {
+        check_fault(&rt, rt.alloc(), source, line, from, to, number);
+    }
 }
 
 #[test]

@@ -20,20 +20,20 @@ use Rattle.ptk_main_line.specs.declared.line.Request.TheVariants.{Run, Trace, Ti
 abbrev pub required_word : Text → Rule
 required_word id = record (new_rule id) { required = true }
 
--- --ticks N, of which N is a number from 0 to 2^40 (own)
-abbrev pub ticks : Rule
-ticks = record (new_rule (codes "ticks")) {
-  long = Some (codes "ticks");
-  required = true;
+-- an option whose value is a number from 0 to 2^40 (own)
+abbrev pub number_option : Text → Rule
+number_option name = record (new_rule name) {
+  long = Some name;
   parser = Some (parser.Unsigned 0 1099511627776);
 }
 
+-- --ticks N, of which N is a number from 0 to 2^40 (own)
+abbrev pub ticks : Rule
+ticks = record (number_option (codes "ticks")) { required = true }
+
 -- --from M, of which M is a number from 0 to 2^40; it may be left out (own)
 abbrev pub from : Rule
-from = record (new_rule (codes "from")) {
-  long = Some (codes "from");
-  parser = Some (parser.Unsigned 0 1099511627776);
-}
+from = number_option (codes "from")
 
 -- --partition NAME (own)
 abbrev pub partition : Rule

@@ -1,9 +1,9 @@
 //! The command `ptk` and its subcommands, as `clap` builds them.
-ghost use Rattle.std.specs.Prelude.{◌≡◌, false, IfOk};
-ghost use Rattle.clap.specs.Words.{app_of, rule_of};
+ghost use Rattle.std.specs.Prelude.{◌≡◌, codes, false, IfOk};
+ghost use Rattle.clap.specs.Words.{app_of, rule_of, with_rule};
 ghost use Rattle.clap.specs.declared.builder.command.Command.TheViews.{out-Command};
 ghost use Rattle.ptk_main_line.specs.CommandLine.{asm, check, ptk, run, timeline, trace};
-ghost use Rattle.ptk_main_line.specs.CommandLine.{explain, from, partition, required_word, ticks};
+ghost use Rattle.ptk_main_line.specs.CommandLine.{explain, from, number_option, partition, required_word, ticks};
 
 use crate::help;
 use clap::{Arg, ArgAction, Command, value_parser};
@@ -28,35 +28,30 @@ pub(crate) fn ptk_command<'a>(alloc: Global) -> Result<Command<'a>, AllocError>
 fn run_command<'a>(alloc: Global) -> Result<Command<'a>, AllocError>
     ensures { IfOk result (λ c. (app_of c ≡ run) × ((out-Command c).has_globals ≡ false)) }
 {
-    Command::new(alloc, "run")
+    let command = Command::new(alloc, "run")
         .about(help::RUN)
-        .after_help(help::RUN_AFTER)
-        .arg(word_argument(alloc, "FILE", help::CONFIGURATION))?
-        .arg(ticks_argument(alloc))
+        .after_help(help::RUN_AFTER);
+    with_file_and_ticks(alloc, command)
 }
 
 /// `trace FILE --ticks N --partition NAME`.
 fn trace_command<'a>(alloc: Global) -> Result<Command<'a>, AllocError>
     ensures { IfOk result (λ c. (app_of c ≡ trace) × ((out-Command c).has_globals ≡ false)) }
 {
-    Command::new(alloc, "trace")
+    let command = Command::new(alloc, "trace")
         .about(help::TRACE)
-        .after_help(help::TRACE_AFTER)
-        .arg(word_argument(alloc, "FILE", help::CONFIGURATION))?
-        .arg(ticks_argument(alloc))?
-        .arg(partition_argument(alloc))
+        .after_help(help::TRACE_AFTER);
+    with_file_and_ticks(alloc, command)?.arg(partition_argument(alloc))
 }
 
 /// `timeline FILE --ticks N [--from M]`.
 fn timeline_command<'a>(alloc: Global) -> Result<Command<'a>, AllocError>
     ensures { IfOk result (λ c. (app_of c ≡ timeline) × ((out-Command c).has_globals ≡ false)) }
 {
-    Command::new(alloc, "timeline")
+    let command = Command::new(alloc, "timeline")
         .about(help::TIMELINE)
-        .after_help(help::TIMELINE_AFTER)
-        .arg(word_argument(alloc, "FILE", help::CONFIGURATION))?
-        .arg(ticks_argument(alloc))?
-        .arg(from_argument(alloc))
+        .after_help(help::TIMELINE_AFTER);
+    with_file_and_ticks(alloc, command)?.arg(from_argument(alloc))
 }
 
 /// `asm IN OUT`.
@@ -81,6 +76,16 @@ fn check_command<'a>(alloc: Global) -> Result<Command<'a>, AllocError>
         .arg(explain_argument(alloc))
 }
 
+/// The command with the arguments FILE and `--ticks N` behind those that it has.
+fn with_file_and_ticks<'a>(alloc: Global, command: Command<'a>) -> Result<Command<'a>, AllocError>
+    ensures { IfOk result (λ c. (app_of c ≡ with_rule (with_rule (app_of command.entry) (required_word (codes "FILE"))) ticks)
+        × ((out-Command c).has_globals ≡ (out-Command command.entry).has_globals)) }
+{
+    command
+        .arg(word_argument(alloc, "FILE", help::CONFIGURATION))?
+        .arg(ticks_argument(alloc))
+}
+
 /// A word that has to be there, with what help says of it.
 fn word_argument<'a>(alloc: Global, id: &'a str, help: &'a str) -> Arg<'a>
     ensures rule { rule_of result ≡ required_word id.entry.now }
@@ -94,11 +99,7 @@ fn ticks_argument<'a>(alloc: Global) -> Arg<'a>
     ensures rule { rule_of result ≡ ticks }
     ensures own { result.global ≡ false }
 {
-    Arg::new(alloc, "ticks")
-        .long("ticks")
-        .help(help::TICKS)
-        .required(true)
-        .value_parser(value_parser!(u64).range(0..=1_099_511_627_776))
+    number_argument(alloc, "ticks", help::TICKS).required(true)
 }
 
 /// `--from M`, which may be left out.
@@ -106,9 +107,17 @@ fn from_argument<'a>(alloc: Global) -> Arg<'a>
     ensures rule { rule_of result ≡ from }
     ensures own { result.global ≡ false }
 {
-    Arg::new(alloc, "from")
-        .long("from")
-        .help(help::FROM)
+    number_argument(alloc, "from", help::FROM)
+}
+
+/// An option of this name whose value is a number of ticks, with what help says of it.
+fn number_argument<'a>(alloc: Global, name: &'a str, help: &'a str) -> Arg<'a>
+    ensures rule { rule_of result ≡ number_option name.entry.now }
+    ensures own { result.global ≡ false }
+{
+    Arg::new(alloc, name)
+        .long(name)
+        .help(help)
         .value_parser(value_parser!(u64).range(0..=1_099_511_627_776))
 }
 

@@ -12,152 +12,163 @@ fn refusal(alloc: Global, words: &[&str]) -> Option<ErrorKind> {
     }
 }
 
-#[test]
-fn reads_each_subcommand(rt: HostRuntime) {
-    let words = ["ptk", "run", "a.toml", "--ticks", "20"];
-    let run = Request::Run {
-        file: "a.toml",
-        ticks: 20,
-    };
-    assert_eq!(rt; read_line(rt.alloc(), &words).ok(), Some(run));
-    let words = [
-        "ptk",
-        "trace",
-        "a.toml",
-        "--ticks",
-        "20",
-        "--partition",
-        "p",
-    ];
-    let trace = Request::Trace {
-        file: "a.toml",
-        ticks: 20,
-        partition: "p",
-    };
-    assert_eq!(rt; read_line(rt.alloc(), &words).ok(), Some(trace));
-    let words = ["ptk", "timeline", "a.toml", "--ticks", "20"];
-    let whole = Request::Timeline {
-        file: "a.toml",
-        ticks: 20,
-        from: 0,
-    };
-    assert_eq!(rt; read_line(rt.alloc(), &words).ok(), Some(whole));
-    let words = ["ptk", "timeline", "a.toml", "--ticks", "20", "--from", "7"];
-    let later = Request::Timeline {
-        file: "a.toml",
-        ticks: 20,
-        from: 7,
-    };
-    assert_eq!(rt; read_line(rt.alloc(), &words).ok(), Some(later));
-    let words = ["ptk", "asm", "a.s", "a.img"];
-    let asm = Request::Asm {
-        source: "a.s",
-        image: "a.img",
-    };
-    assert_eq!(rt; read_line(rt.alloc(), &words).ok(), Some(asm));
-    let words = ["ptk", "check", "a.toml"];
-    let check = Request::Check {
-        file: "a.toml",
-        explain: false,
-    };
-    assert_eq!(rt; read_line(rt.alloc(), &words).ok(), Some(check));
-}
-
-#[test]
-fn reads_a_flag_before_and_after_a_file(rt: HostRuntime) {
-    let explained = Request::Check {
-        file: "a.toml",
-        explain: true,
-    };
-    for words in [
-        ["ptk", "check", "a.toml", "--explain"],
-        ["ptk", "check", "--explain", "a.toml"],
-    ] {
-        assert_eq!(rt; read_line(rt.alloc(), &words).ok(), Some(explained));
-    }
-}
-
-#[test]
-fn refuses_other_flags(rt: HostRuntime) {
-    let alloc = rt.alloc();
-    assert_eq!(rt;
-        refusal(alloc, &["ptk", "check", "a.toml", "--explain", "--explain"]),
-        Some(ErrorKind::ArgumentConflict)
-    );
-    assert_eq!(rt;
-        refusal(alloc, &["ptk", "check", "a.toml", "--explain=true"]),
-        Some(ErrorKind::TooManyValues)
-    );
-    assert_eq!(rt;
-        refusal(alloc, &["ptk", "check", "--explain"]),
-        Some(ErrorKind::MissingRequiredArgument)
-    );
-    assert_eq!(rt;
-        refusal(
-            alloc,
-            &["ptk", "run", "a.toml", "--ticks", "20", "--explain"]
-        ),
-        Some(ErrorKind::UnknownArgument)
-    );
-}
-
-#[test]
-fn takes_ticks_up_to_the_last(rt: HostRuntime) {
-    for (text, ticks) in [("0", 0), ("1099511627776", 1_099_511_627_776)] {
-        let words = ["ptk", "run", "a.toml", "--ticks", text];
-        let run = Request::Run {
+/// Words, and what they ask for.
+const REQUESTS: [(&[&str], Request<'static>); 10] = [
+    (
+        &["ptk", "run", "a.toml", "--ticks", "20"],
+        Request::Run {
             file: "a.toml",
-            ticks,
-        };
-        assert_eq!(rt; read_line(rt.alloc(), &words).ok(), Some(run));
+            ticks: 20,
+        },
+    ),
+    (
+        &["ptk", "run", "a.toml", "--ticks", "0"],
+        Request::Run {
+            file: "a.toml",
+            ticks: 0,
+        },
+    ),
+    (
+        &["ptk", "run", "a.toml", "--ticks", "1099511627776"],
+        Request::Run {
+            file: "a.toml",
+            ticks: 1_099_511_627_776,
+        },
+    ),
+    (
+        &[
+            "ptk",
+            "trace",
+            "a.toml",
+            "--ticks",
+            "20",
+            "--partition",
+            "p",
+        ],
+        Request::Trace {
+            file: "a.toml",
+            ticks: 20,
+            partition: "p",
+        },
+    ),
+    (
+        &["ptk", "timeline", "a.toml", "--ticks", "20"],
+        Request::Timeline {
+            file: "a.toml",
+            ticks: 20,
+            from: 0,
+        },
+    ),
+    (
+        &["ptk", "timeline", "a.toml", "--ticks", "20", "--from", "7"],
+        Request::Timeline {
+            file: "a.toml",
+            ticks: 20,
+            from: 7,
+        },
+    ),
+    (
+        &["ptk", "asm", "a.s", "a.img"],
+        Request::Asm {
+            source: "a.s",
+            image: "a.img",
+        },
+    ),
+    (
+        &["ptk", "check", "a.toml"],
+        Request::Check {
+            file: "a.toml",
+            explain: false,
+        },
+    ),
+    (
+        &["ptk", "check", "a.toml", "--explain"],
+        Request::Check {
+            file: "a.toml",
+            explain: true,
+        },
+    ),
+    (
+        &["ptk", "check", "--explain", "a.toml"],
+        Request::Check {
+            file: "a.toml",
+            explain: true,
+        },
+    ),
+];
+
+#[test]
+fn reads_each_request(rt: HostRuntime) {
+    for (words, request) in REQUESTS {
+        assert_eq!(rt; read_line(rt.alloc(), words).ok(), Some(request));
     }
 }
 
-#[test]
-fn refuses_other_ticks(rt: HostRuntime) {
-    for text in ["1099511627777", "x", ""] {
-        let words = ["ptk", "run", "a.toml", "--ticks", text];
-        assert_eq!(rt;
-            refusal(rt.alloc(), &words),
-            Some(ErrorKind::ValueValidation)
-        );
-    }
-    let negative = ["ptk", "run", "a.toml", "--ticks", "-1"];
-    assert_eq!(rt;
-        refusal(rt.alloc(), &negative),
-        Some(ErrorKind::UnknownArgument)
-    );
-    let negative = ["ptk", "run", "a.toml", "--ticks=-1"];
-    assert_eq!(rt;
-        refusal(rt.alloc(), &negative),
-        Some(ErrorKind::ValueValidation)
-    );
-}
+/// Words, and the kind of their error.
+const REFUSALS: [(&[&str], ErrorKind); 17] = [
+    (
+        &["ptk", "run", "a.toml", "--ticks", "1099511627777"],
+        ErrorKind::ValueValidation,
+    ),
+    (
+        &["ptk", "run", "a.toml", "--ticks", "x"],
+        ErrorKind::ValueValidation,
+    ),
+    (
+        &["ptk", "run", "a.toml", "--ticks", ""],
+        ErrorKind::ValueValidation,
+    ),
+    (
+        &["ptk", "run", "a.toml", "--ticks=-1"],
+        ErrorKind::ValueValidation,
+    ),
+    (
+        &["ptk", "run", "a.toml", "--ticks", "-1"],
+        ErrorKind::UnknownArgument,
+    ),
+    (
+        &["ptk", "run", "a.toml", "--ticks", "20", "--explain"],
+        ErrorKind::UnknownArgument,
+    ),
+    (
+        &["ptk", "check", "a.toml", "b.toml"],
+        ErrorKind::UnknownArgument,
+    ),
+    (
+        &["ptk", "check", "a.toml", "--explain", "--explain"],
+        ErrorKind::ArgumentConflict,
+    ),
+    (
+        &["ptk", "check", "a.toml", "--explain=true"],
+        ErrorKind::TooManyValues,
+    ),
+    (
+        &["ptk", "check", "--explain"],
+        ErrorKind::MissingRequiredArgument,
+    ),
+    (
+        &["ptk", "run", "--ticks", "20"],
+        ErrorKind::MissingRequiredArgument,
+    ),
+    (
+        &["ptk", "run", "a.toml"],
+        ErrorKind::MissingRequiredArgument,
+    ),
+    (
+        &["ptk", "trace", "a.toml", "--ticks", "20"],
+        ErrorKind::MissingRequiredArgument,
+    ),
+    (&["ptk", "asm", "a.s"], ErrorKind::MissingRequiredArgument),
+    (&["ptk", "stop"], ErrorKind::InvalidSubcommand),
+    (&["ptk"], ErrorKind::MissingSubcommand),
+    (&["ptk", "run", "--help"], ErrorKind::DisplayHelp),
+];
 
 #[test]
 fn refuses_other_words(rt: HostRuntime) {
-    let alloc = rt.alloc();
-    let missing = Some(ErrorKind::MissingRequiredArgument);
-    assert_eq!(rt; refusal(alloc, &["ptk", "run", "--ticks", "20"]), missing);
-    assert_eq!(rt; refusal(alloc, &["ptk", "run", "a.toml"]), missing);
-    assert_eq!(rt;
-        refusal(alloc, &["ptk", "trace", "a.toml", "--ticks", "20"]),
-        missing
-    );
-    assert_eq!(rt; refusal(alloc, &["ptk", "asm", "a.s"]), missing);
-    let unknown = Some(ErrorKind::UnknownArgument);
-    assert_eq!(rt;
-        refusal(alloc, &["ptk", "check", "a.toml", "b.toml"]),
-        unknown
-    );
-    assert_eq!(rt;
-        refusal(alloc, &["ptk", "stop"]),
-        Some(ErrorKind::InvalidSubcommand)
-    );
-    assert_eq!(rt;
-        refusal(alloc, &["ptk"]),
-        Some(ErrorKind::MissingSubcommand)
-    );
+    for (words, kind) in REFUSALS {
+        assert_eq!(rt; refusal(rt.alloc(), words), Some(kind));
+    }
 }
 
 #[test]
@@ -170,8 +181,6 @@ fn answers_help_as_an_error(rt: HostRuntime) {
             assert!(rt; !error.use_stderr());
         }
     }
-    let words = ["ptk", "run", "--help"];
-    assert_eq!(rt; refusal(rt.alloc(), &words), Some(ErrorKind::DisplayHelp));
 }
 
 /// What help says for the words.

@@ -92,22 +92,3 @@ impl Regions {
         true
     }
 }
-
-#[cfg(test)]
-mod tests {
-    use super::*;
-    use std::test::Fail;
-
-    #[test]
-    fn bytes_of_two_partitions(rt: HostRuntime) -> Result<(), Fail> {
-        let first = PartId::new(0);
-        let second = PartId::new(1);
-        let mut regions = Regions::build(rt.alloc(), &[2, 3])?;
-        assert!(rt; regions.write(first, 1, 7));
-        assert!(rt; !regions.write(first, 2, 8));
-        assert!(rt; regions.write(second, 0, 9));
-        assert_eq!(rt; regions.read(first, 2), None);
-        assert_eq!(rt; regions.whole(), [0, 7, 9, 0, 0].as_slice());
-        Ok(())
-    }
-}

@@ -1,22 +1,18 @@
-//! Tests of `ptk_ready`, `ptk_ready_lines`, `ptk_mutex`, `ptk_cond`, `ptk_cancel`, `ptk_keys`, `ptk_clock` and
-//! `ptk_console`, a file for each: their public calls. They use public names alone and stand apart, so that those
-//! crates are proved once and not a second time with their tests. There is no other code here, and nothing stands
-//! above.
+//! Tests of the crates from `ptk_words_parted` up to `ptk_console` by their public names: each call that may want memory
+//! once, with ample memory, and both forms of the line of ready threads beside each other. They stand apart, so that
+//! those crates are proved once and not a second time with their tests. What the other calls do, their clauses say, and
+//! the worked rows of whole runs show. There is no other code here, and nothing stands above.
 #![tactic(auto)]
 
 #[cfg(test)]
-mod cancel;
-#[cfg(test)]
 mod clock;
 #[cfg(test)]
-mod cond;
+mod parted;
 #[cfg(test)]
-mod console;
-#[cfg(test)]
-mod keys;
-#[cfg(test)]
-mod mutex;
-#[cfg(test)]
-mod ready;
+mod pools;
 #[cfg(test)]
 mod ready_lines;
+#[cfg(test)]
+mod regions;
+#[cfg(test)]
+mod roster;

@@ -1,6 +1,6 @@
 //! A long row of pushes and removals over few stamps, beside the form with a list of its own.
 
-ghost use Rattle.std.specs.Prelude.{◌≡◌, ◌<◌, [], ◌∷◌, length, IfOk};
+ghost use Rattle.std.specs.Prelude.{◌≡◌, ◌<◌, ◌≤◌, length, All, IfOk};
 ghost use Rattle.ptk_threads.specs.Table.{free_table};
 
 use ptk_ready::{Line, VecLine};
@@ -26,11 +26,14 @@ fn new_thread() -> Thread {
     }
 }
 
-/// A table of two partitions, the second with 32 threads.
-fn table(alloc: Global) -> Result<Threads, AllocError>
-    ensures { IfOk result (λ threads. (threads.queues ≡ (free_table (1 ∷ 32 ∷ [])).queues) × (length threads.threads ≡ 2)) }
+/// A table with as many slots as these counts, of which the second partition's are all in use. The counts are no numbers
+/// here, so that the check does not write the table out.
+fn table(alloc: Global, counts: &[u32]) -> Result<Threads, AllocError>
+    requires partitions { (1 < length counts.now) × (length counts.now ≤ 8) }
+    requires threads { All (λ count. count ≤ 32) counts.now }
+    ensures { IfOk result (λ threads. (threads.queues ≡ (free_table counts.now).queues) × (length threads.threads ≡ length counts.now)) }
 {
-    let mut threads = Threads::build(alloc, &[1, 32])?;
+    let mut threads = Threads::build(alloc, counts)?;
     for _ in 0..32 {
         let _ = threads.create(PartId::new(1), new_thread());
     }
@@ -147,9 +150,9 @@ fn lines_after<L: Line>(
 #[test]
 fn stamp_renumbering(rt: HostRuntime) -> Result<(), Fail> {
     let p = PartId::new(1);
-    let mut linked_table = table(rt.alloc())?;
+    let mut linked_table = table(rt.alloc(), &[1, 32])?;
     let mut linked = LinkedLine::<64>::build(rt.alloc(), 2)?;
-    let mut plain_table = table(rt.alloc())?;
+    let mut plain_table = table(rt.alloc(), &[1, 32])?;
     let mut plain = VecLine::build(rt.alloc(), 2)?;
     let found = lines_after(&rt, rt.alloc(), &mut linked, &mut linked_table, p)?;
     let wanted = lines_after(&rt, rt.alloc(), &mut plain, &mut plain_table, p)?;

@@ -180,34 +180,3 @@ fn repeated<T: Copy>(alloc: Global, item: T, n: usize) -> Result<Vec<T>, AllocEr
     }
     Ok(items)
 }
-
-#[cfg(test)]
-mod tests {
-    use super::*;
-    use std::test::Fail;
-
-    #[test]
-    #[tactic(auto, using(crate::proofs::Cuts::loans))]
-    fn lists_lie_side_by_side(rt: HostRuntime) -> Result<(), Fail> {
-        let first = PartId::new(0);
-        let second = PartId::new(1);
-        let mut parted = Parted::build(rt.alloc(), &[2, 1], 0u8)?;
-        parted.lend(first).fill(7);
-        parted.set(second, 0, 9);
-        assert_eq!(rt; parted.parts(), 2);
-        assert_eq!(rt; parted.whole(), [7, 7, 9].as_slice());
-        assert_eq!(rt; parted.part(first), [7, 7].as_slice());
-        assert_eq!(rt; parted.get(first, 2), None);
-        Ok(())
-    }
-
-    #[test]
-    fn a_list_is_added_behind_the_others(rt: HostRuntime) -> Result<(), Fail> {
-        let mut parted = Parted::new(rt.alloc());
-        parted.add_part([3, 4].to_vec(rt.alloc())?)?;
-        parted.add_part([5].to_vec(rt.alloc())?)?;
-        assert_eq!(rt; parted.whole(), [3, 4, 5].as_slice());
-        assert_eq!(rt; parted.part(PartId::new(1)), [5].as_slice());
-        Ok(())
-    }
-}
