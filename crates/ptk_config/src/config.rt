@@ -12,10 +12,17 @@ use std::marker::Model;
 use toml::{Table, Value};
 
 /// The sections, by number, and the plan of their windows.
-#[derive(Debug, Drop)]
+#[derive(Debug)]
 pub struct Config {
     sections: Vec<Section>,
     plan: WindowPlan,
+}
+
+// By hand: a function that drops a configuration calls this, and its proof does not spell out the drop of each part.
+impl Drop for Config {
+    fn drop(self) {
+        let Config { sections, plan } = self;
+    }
 }
 
 impl Model for Config {

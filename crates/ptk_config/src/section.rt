@@ -18,12 +18,24 @@ use std::marker::Model;
 use toml::{Table, Value};
 
 /// What a partition is made from.
-#[derive(Debug, Drop)]
+#[derive(Debug)]
 pub struct Section {
     name: String,
     image: Option<String>,
     limits: Limits,
     input: Vec<Arrival>,
+}
+
+// By hand: a function that drops a section calls this, and its proof does not spell out the drop of each part.
+impl Drop for Section {
+    fn drop(self) {
+        let Section {
+            name,
+            image,
+            limits,
+            input,
+        } = self;
+    }
 }
 
 impl Model for Section {

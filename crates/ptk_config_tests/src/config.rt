@@ -1,9 +1,7 @@
 //! Worked documents and their faults, by number.
 
-ghost use Rattle.std.specs.Prelude.{◌≤◌, ◌^◌};
-
-use ptk_config::{Config, ConfigFault, read_config};
-use ptk_words::{PartId, Tick};
+use ptk_config::{Config, ConfigFault, Section, read_config};
+use ptk_words::{Limits, Tick};
 use std::alloc::{AllocError, Global};
 use std::test::Fail;
 
@@ -23,14 +21,6 @@ fn joined(alloc: Global, parts: &[&str]) -> Result<String, AllocError> {
     Ok(text)
 }
 
-fn repeated(alloc: Global, part: &str, count: u32) -> Result<String, AllocError> {
-    let mut text = String::new(alloc);
-    for _ in 0..count {
-        text.push_str(part)?;
-    }
-    Ok(text)
-}
-
 /// The number of the fault and of the windows' fault, 0 where there is none.
 fn fault(alloc: Global, text: &str) -> (u8, u8) {
     match read_config(alloc, text) {
@@ -40,42 +30,60 @@ fn fault(alloc: Global, text: &str) -> (u8, u8) {
     }
 }
 
+/// The fault of the text of these parts, `None` where memory ran out.
+fn fault_in(alloc: Global, parts: &[&str]) -> Option<(u8, u8)> {
+    let text = joined(alloc, parts).ok()?;
+    Some(fault(alloc, text.as_str()))
+}
+
 fn good(alloc: Global) -> Result<String, AllocError> {
     joined(alloc, &[FRAME, SECTION, WINDOW])
 }
 
-/// The fault of the good document in which one text stands for another.
-fn changed(alloc: Global, old: &str, new: &str) -> Result<(u8, u8), AllocError> {
-    let text = good(alloc)?.replace(alloc, old, new)?;
-    Ok(fault(alloc, text.as_str()))
+/// The fault of the good document in which one text stands for another, `None` where memory ran out.
+fn changed(alloc: Global, old: &str, new: &str) -> Option<(u8, u8)> {
+    let text = good(alloc).ok()?.replace(alloc, old, new).ok()?;
+    Some(fault(alloc, text.as_str()))
+}
+
+/// The numbers of the good document's section.
+const LIMITS: Limits = Limits {
+    memory: 4096,
+    threads: 4,
+    stack: 256,
+    mutexes: 4,
+    conditions: 4,
+    keys: 4,
+    interval: 100,
+    ring: 16,
+    output: 64,
+    trace: 16,
+};
+
+/// Whether this is the section of the good document.
+fn is_section(section: &Section) -> bool {
+    section.name() == "p"
+        && section.has_name("p")
+        && !section.has_name("pp")
+        && section.image() == Some("p.img")
+        && section.limits() == LIMITS
+        && section.input().is_empty()
+}
+
+/// Whether this is the good document's configuration.
+fn is_document(config: &Config) -> bool {
+    config.frame() == 20
+        && config.sections().len() == 1
+        && config.sections().iter().all(is_section)
+        && config.plan().windows_at(Tick::new(0)).len() == 1
+        && end_at(config, 0) == 20
 }
 
 #[test]
 fn reads_the_document(rt: HostRuntime) -> Result<(), Fail> {
-    let alloc = rt.alloc();
-    let text = good(alloc)?;
-    let config = read_config(alloc, text.as_str())?;
-    assert_eq!(rt; config.frame(), 20);
-    assert_eq!(rt; config.parts(), 1);
-    let section = &config.sections()[0];
-    assert_eq!(rt; section.name(), "p");
-    assert!(rt; section.has_name("p") && !section.has_name("pp"));
-    assert_eq!(rt; section.image(), Some("p.img"));
-    let limits = section.limits();
-    assert_eq!(rt;
-        (limits.memory, limits.threads, limits.stack),
-        (4096, 4, 256)
-    );
-    assert_eq!(rt; (limits.mutexes, limits.conditions, limits.keys), (4, 4, 4));
-    assert_eq!(rt; (limits.interval, limits.ring), (100, 16));
-    assert_eq!(rt; (limits.output, limits.trace), (64, 16));
-    assert!(rt; section.input().is_empty());
-    let windows = config.plan().windows_at(Tick::new(0));
-    assert_eq!(rt; windows.len(), 1);
-    for window in windows {
-        assert_eq!(rt; (window.start, window.length), (0, 20));
-        assert_eq!(rt; window.partition.index(), 0);
-    }
+    let text = good(rt.alloc())?;
+    let config = read_config(rt.alloc(), text.as_str())?;
+    assert!(rt; is_document(&config));
     Ok(())
 }
 
@@ -95,76 +103,116 @@ fn reads_input(rt: HostRuntime) -> Result<(), Fail> {
     Ok(())
 }
 
+/// The parts of documents, and the numbers of their faults.
+const DOCUMENTS: [(&[&str], (u8, u8)); 7] = [
+    (&[FRAME, SECTION], (2, 0)),
+    (&[FRAME, "window = []\n", SECTION], (7, 1)),
+    (&[FRAME, WINDOW], (2, 0)),
+    (&[FRAME, "partition = []\n", WINDOW], (4, 0)),
+    (&[FRAME, SECTION, SECTION, WINDOW], (6, 0)),
+    (
+        &[
+            "frame = 40\n",
+            SECTION,
+            WINDOW,
+            "[[window]]\nstart = 10\nlength = 20\npartition = \"z\"\n",
+        ],
+        (7, 5),
+    ),
+    (
+        &[
+            "frame = 16\n",
+            SECTION,
+            "[[window]]\nstart = 0\nlength = 15\npartition = \"p\"\n",
+        ],
+        (7, 2),
+    ),
+];
+
 #[test]
-fn refuses_documents(rt: HostRuntime) -> Result<(), Fail> {
-    let alloc = rt.alloc();
-    let no_windows = joined(alloc, &[FRAME, "window = []\n", SECTION])?;
-    let no_sections = joined(alloc, &[FRAME, "partition = []\n", WINDOW])?;
-    let without_windows = joined(alloc, &[FRAME, SECTION])?;
-    let without_sections = joined(alloc, &[FRAME, WINDOW])?;
-    let twice = joined(alloc, &[FRAME, SECTION, SECTION, WINDOW])?;
-    let unknown = "[[window]]\nstart = 10\nlength = 20\npartition = \"z\"\n";
-    let unknown_window = joined(alloc, &["frame = 40\n", SECTION, WINDOW, unknown])?;
-    let short = "[[window]]\nstart = 0\nlength = 15\npartition = \"p\"\n";
-    let short_window = joined(alloc, &["frame = 16\n", SECTION, short])?;
-    for (text, want) in [
-        (&without_windows, (2, 0)),
-        (&no_windows, (7, 1)),
-        (&without_sections, (2, 0)),
-        (&no_sections, (4, 0)),
-        (&twice, (6, 0)),
-        (&unknown_window, (7, 5)),
-        (&short_window, (7, 2)),
-    ] {
-        assert_eq!(rt; fault(alloc, text.as_str()), want, "in {text}");
+fn refuses_documents(rt: HostRuntime) {
+    for (parts, want) in DOCUMENTS {
+        assert_eq!(rt; fault_in(rt.alloc(), parts), Some(want));
     }
-    Ok(())
 }
 
+/// Texts of the good document, what stands for them, and the number of the fault then.
+const VALUES: [(&str, &str, u8); 10] = [
+    ("frame = 20", "frame = 20.0", 3),
+    ("frame = 20", "frame = 9223372036854775808", 1),
+    ("threads = 4", "threads = 0\nextra = 1", 4),
+    ("threads = 4", "threads = 32", 4),
+    ("threads = 4", "threads = true", 3),
+    ("threads = 4\n", "", 2),
+    ("trace = 16", "trace = 16\nextra = 1", 5),
+    ("name = \"p\"", "name = \"abcdefghijklmnopq\"", 4),
+    ("stack = 256", "stack = 24", 4),
+    ("length = 20", "length = 20\nextra = 1", 5),
+];
+
 #[test]
-fn refuses_values(rt: HostRuntime) -> Result<(), Fail> {
-    let alloc = rt.alloc();
-    for (old, new, want) in [
-        ("frame = 20", "frame = 20.0", 3),
-        ("frame = 20", "frame = 9223372036854775808", 1),
-        ("threads = 4", "threads = 0\nextra = 1", 4),
-        ("threads = 4", "threads = 32", 4),
-        ("threads = 4", "threads = true", 3),
-        ("threads = 4\n", "", 2),
-        ("trace = 16", "trace = 16\nextra = 1", 5),
-        ("name = \"p\"", "name = \"abcdefghijklmnopq\"", 4),
-        ("stack = 256", "stack = 24", 4),
-        ("length = 20", "length = 20\nextra = 1", 5),
-    ] {
-        assert_eq!(rt; changed(alloc, old, new)?, (want, 0), "at {new}");
+fn refuses_values(rt: HostRuntime) {
+    for (old, new, want) in VALUES {
+        assert_eq!(rt; changed(rt.alloc(), old, new), Some((want, 0)), "at {new}");
     }
-    Ok(())
 }
 
-/// The fault of the good document with two inputs of these bytes.
-fn with_bytes(alloc: Global, first: &str, second: &str) -> Result<(u8, u8), AllocError> {
-    let mut text = joined(alloc, &[FRAME, SECTION, "input = [{ at = 0, bytes = ["])?;
-    text.push_str(first)?;
-    text.push_str("] }, { at = 0, bytes = [")?;
-    text.push_str(second)?;
-    text.push_str("] }]\n")?;
-    text.push_str(WINDOW)?;
-    Ok(fault(alloc, text.as_str()))
+/// A document with a part that stands in it many times, and the numbers of its fault.
+#[derive(Clone, Copy)]
+struct Many<'a> {
+    head: [&'a str; 3],
+    part: &'a str,
+    count: u32,
+    tail: [&'a str; 2],
+    want: (u8, u8),
 }
+
+/// The fault of such a document, `None` where memory ran out.
+fn fault_of_many(alloc: Global, many: &Many<'_>) -> Option<(u8, u8)> {
+    let mut text = joined(alloc, &many.head).ok()?;
+    for _ in 0..many.count {
+        text.push_str(many.part).ok()?;
+    }
+    fault_in(alloc, &[text.as_str(), many.tail[0], many.tail[1]])
+}
+
+/// One window, one section and one byte of input more than there may be, and as many bytes as there may be.
+const MANY: [Many<'static>; 4] = [
+    Many {
+        head: [FRAME, SECTION, ""],
+        part: WINDOW,
+        count: 65,
+        tail: ["", ""],
+        want: (4, 0),
+    },
+    Many {
+        head: [FRAME, "", ""],
+        part: SECTION,
+        count: 9,
+        tail: [WINDOW, ""],
+        want: (4, 0),
+    },
+    Many {
+        head: [FRAME, SECTION, "input = [{ at = 0, bytes = ["],
+        part: "0,",
+        count: 65_535,
+        tail: ["] }, { at = 0, bytes = [0] }]\n", WINDOW],
+        want: (0, 0),
+    },
+    Many {
+        head: [FRAME, SECTION, "input = [{ at = 0, bytes = ["],
+        part: "0,",
+        count: 65_535,
+        tail: ["] }, { at = 0, bytes = [0,0] }]\n", WINDOW],
+        want: (4, 0),
+    },
+];
 
 #[test]
-fn refuses_too_many(rt: HostRuntime) -> Result<(), Fail> {
-    let alloc = rt.alloc();
-    let windows = repeated(alloc, WINDOW, 65)?;
-    let text = joined(alloc, &[FRAME, SECTION, windows.as_str()])?;
-    assert_eq!(rt; fault(alloc, text.as_str()), (4, 0));
-    let sections = repeated(alloc, SECTION, 9)?;
-    let text = joined(alloc, &[FRAME, sections.as_str(), WINDOW])?;
-    assert_eq!(rt; fault(alloc, text.as_str()), (4, 0));
-    let zeros = repeated(alloc, "0,", 65_535)?;
-    assert_eq!(rt; with_bytes(alloc, zeros.as_str(), "0")?, (0, 0));
-    assert_eq!(rt; with_bytes(alloc, zeros.as_str(), "0,0")?, (4, 0));
-    Ok(())
+fn refuses_too_many(rt: HostRuntime) {
+    for many in MANY {
+        assert_eq!(rt; fault_of_many(rt.alloc(), &many), Some(many.want));
+    }
 }
 
 /// A document of a frame of 40 ticks, of which p has the first half, and what else stands in it.
@@ -195,13 +243,24 @@ fn plans(alloc: Global, numbers: &[&str]) -> Result<String, AllocError> {
 }
 
 /// The end of p's window that holds the tick, 0 where none does.
-fn end_at(config: &Config, tick: Tick) -> u64
-    requires { tick ≤ 2 ^ 41 }
-{
-    match config.plan().at(tick) {
+fn end_at(config: &Config, tick: u64) -> u64 {
+    match config.plan().at(Tick::new(tick.min(1 << 41))) {
         Some((_, end)) => end.ticks(),
         None => 0,
     }
+}
+
+/// Ticks over two plans, and the ends of p's windows that hold them, 0 where none does.
+const ENDS: [(u64, u64); 5] = [(0, 20), (59, 60), (60, 0), (80, 0), (100, 120)];
+
+/// The first of these ticks whose window ends elsewhere.
+fn first_other_end(config: &Config, ends: &[(u64, u64)]) -> Option<u64> {
+    for (tick, end) in ends {
+        if end_at(config, *tick) != *end {
+            return Some(*tick);
+        }
+    }
+    None
 }
 
 #[test]
@@ -210,17 +269,7 @@ fn reads_plans(rt: HostRuntime) -> Result<(), Fail> {
     let key = plans(alloc, &["2", "68719476736"])?;
     let text = with_plans(alloc, key.as_str())?;
     let config = read_config(alloc, text.as_str())?;
-    assert_eq!(rt; config.frame(), 40);
-    assert_eq!(rt; end_at(&config, Tick::new(0)), 20);
-    assert_eq!(rt; end_at(&config, Tick::new(59)), 60);
-    assert_eq!(rt; end_at(&config, Tick::new(60)), 0);
-    assert_eq!(rt; end_at(&config, Tick::new(80)), 0);
-    assert_eq!(rt; end_at(&config, Tick::new(100)), 120);
-    let p = PartId::new(0);
-    assert_eq!(rt;
-        config.plan().next_of(p, Tick::new(60)),
-        Some(Tick::new(100))
-    );
+    assert_eq!(rt; first_other_end(&config, &ENDS), None);
     Ok(())
 }
 
@@ -230,58 +279,68 @@ fn a_document_without_plans(rt: HostRuntime) -> Result<(), Fail> {
     for key in ["", "plan = []\n"] {
         let text = with_plans(alloc, key)?;
         let config = read_config(alloc, text.as_str())?;
-        assert_eq!(rt; end_at(&config, Tick::new(4000)), 4020, "with {key}");
+        assert_eq!(rt; end_at(&config, 4000), 4020, "with {key}");
     }
     Ok(())
 }
 
-#[test]
-fn refuses_numbers_of_plans(rt: HostRuntime) -> Result<(), Fail> {
-    let alloc = rt.alloc();
-    for (numbers, want) in [
-        (["2", "2"], 4),
-        (["2", "1"], 4),
-        (["0", "1"], 4),
-        (["-1", "1"], 4),
-        (["1", "68719476737"], 4),
-        (["1", "68719476736"], 0),
-        (["1", "2.0"], 3),
-        (["1", "true"], 3),
-    ] {
-        let key = plans(alloc, &numbers)?;
-        let text = with_plans(alloc, key.as_str())?;
-        assert_eq!(rt; fault(alloc, text.as_str()), (want, 0), "in {text}");
-    }
-    Ok(())
+/// From which frames two plans are, and the number of their fault.
+const FROM: [(&str, &str, u8); 8] = [
+    ("2", "2", 4),
+    ("2", "1", 4),
+    ("0", "1", 4),
+    ("-1", "1", 4),
+    ("1", "68719476737", 4),
+    ("1", "68719476736", 0),
+    ("1", "2.0", 3),
+    ("1", "true", 3),
+];
+
+/// The fault of a document with plans from these two frames on, `None` where memory ran out.
+fn with_two_plans(alloc: Global, first: &str, second: &str) -> Option<(u8, u8)> {
+    let key = plans(alloc, &[first, second]).ok()?;
+    fault_in(alloc, &["frame = 40\n", key.as_str(), SECTION, WINDOW])
 }
 
 #[test]
-fn refuses_plans(rt: HostRuntime) -> Result<(), Fail> {
-    let alloc = rt.alloc();
-    for (key, want) in [
-        ("plan = 1\n", (3, 0)),
-        ("plan = [1]\n", (3, 0)),
-        ("plan = [{ window = 1 }]\n", (2, 0)),
-        ("plan = [{ from = 1 }]\n", (2, 0)),
-        ("plan = [{ from = 1, window = 1 }]\n", (3, 0)),
-        ("plan = [{ from = 1, window = [] }]\n", (7, 1)),
-        ("plan = [{ from = 1, window = [], to = 2 }]\n", (5, 0)),
-        ("plan = [{ from = 0, window = 1, to = 2 }]\n", (4, 0)),
-        (
-            "plan = [{ from = 1, window = [{ start = 0, length = 0, partition = \"p\" }], to = 2 }]\n",
-            (4, 0),
-        ),
-        (
-            "plan = [{ from = 1, window = [{ start = 0, length = 20, partition = \"z\" }] }]\n",
-            (7, 5),
-        ),
-        ("unknown = 1\nplan = [{ from = 0 }]\n", (4, 0)),
-        ("unknown = 1\nplan = [{ from = 1, window = [] }]\n", (5, 0)),
-    ] {
-        let text = with_plans(alloc, key)?;
-        assert_eq!(rt; fault(alloc, text.as_str()), want, "in {text}");
+fn refuses_numbers_of_plans(rt: HostRuntime) {
+    for (first, second, want) in FROM {
+        assert_eq!(rt;
+            with_two_plans(rt.alloc(), first, second),
+            Some((want, 0)),
+            "{first}, {second}"
+        );
     }
-    Ok(())
+}
+
+/// Keys beside the good document, and the numbers of the fault then.
+const PLANS: [(&str, (u8, u8)); 12] = [
+    ("plan = 1\n", (3, 0)),
+    ("plan = [1]\n", (3, 0)),
+    ("plan = [{ window = 1 }]\n", (2, 0)),
+    ("plan = [{ from = 1 }]\n", (2, 0)),
+    ("plan = [{ from = 1, window = 1 }]\n", (3, 0)),
+    ("plan = [{ from = 1, window = [] }]\n", (7, 1)),
+    ("plan = [{ from = 1, window = [], to = 2 }]\n", (5, 0)),
+    ("plan = [{ from = 0, window = 1, to = 2 }]\n", (4, 0)),
+    (
+        "plan = [{ from = 1, window = [{ start = 0, length = 0, partition = \"p\" }], to = 2 }]\n",
+        (4, 0),
+    ),
+    (
+        "plan = [{ from = 1, window = [{ start = 0, length = 20, partition = \"z\" }] }]\n",
+        (7, 5),
+    ),
+    ("unknown = 1\nplan = [{ from = 0 }]\n", (4, 0)),
+    ("unknown = 1\nplan = [{ from = 1, window = [] }]\n", (5, 0)),
+];
+
+#[test]
+fn refuses_plans(rt: HostRuntime) {
+    for (key, want) in PLANS {
+        let parts = ["frame = 40\n", key, SECTION, WINDOW];
+        assert_eq!(rt; fault_in(rt.alloc(), &parts), Some(want), "in {key}");
+    }
 }
 
 #[test]

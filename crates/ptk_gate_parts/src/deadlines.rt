@@ -10,7 +10,7 @@ use std::alloc::{AllocError, Global};
 
 /// No thread has a deadline.
 #[tactic(auto, using(crate::proofs::Built::built))]
-pub fn deadlines_of(alloc: Global, limits: &[Limits]) -> Result<ThreadDeadlines, AllocError>
+pub(crate) fn deadlines_of(alloc: Global, limits: &[Limits]) -> Result<ThreadDeadlines, AllocError>
     requires sections { length limits.now ≤ 8 }
     requires threads { All (λ count. count ≤ 32) (map (λ l. l.threads) limits.now) }
     ensures { IfOk result (λ deadlines. deadlines ≡ per_section (λ l. l.threads) None limits.now) }

@@ -13,7 +13,7 @@ use std::alloc::{AllocError, Global};
 pub type Endings = (Cancellations, KeyTable);
 
 /// No thread is cancelled or has a cleanup handler, and no key is in use.
-pub fn endings_of(alloc: Global, limits: &[Limits]) -> Result<Endings, AllocError>
+pub(crate) fn endings_of(alloc: Global, limits: &[Limits]) -> Result<Endings, AllocError>
     requires sections { length limits.now ≤ 8 }
     requires keys { All (λ count. count ≤ 32) (map (λ l. l.keys) limits.now) }
     ensures cancellations { IfOk result (λ made. made.0 ≡ fresh_cancellations limits.now) }

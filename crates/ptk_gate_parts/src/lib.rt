@@ -12,9 +12,10 @@ mod endings;
 mod records;
 mod schedules;
 mod stores;
+mod threads;
 
-pub use deadlines::deadlines_of;
-pub use endings::{Endings, endings_of};
+pub use endings::Endings;
 pub use records::{Records, records_of};
-pub use schedules::{Schedules, schedules_of};
+pub use schedules::Schedules;
 pub use stores::{Stores, stores_of};
+pub use threads::{ThreadParts, thread_parts_of};

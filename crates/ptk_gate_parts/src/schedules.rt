@@ -12,7 +12,7 @@ use std::alloc::{AllocError, Global};
 pub type Schedules = (Roster, Vec<Option<ThreadNo>>);
 
 /// Every number of a thread, a mutex and a condition variable is free, the line is empty, and no thread runs.
-pub fn schedules_of(alloc: Global, limits: &[Limits]) -> Result<Schedules, AllocError>
+pub(crate) fn schedules_of(alloc: Global, limits: &[Limits]) -> Result<Schedules, AllocError>
     requires sections { length limits.now ≤ 8 }
     requires threads { All (λ count. count ≤ 32) (map (λ l. l.threads) limits.now) }
     requires mutexes { All (λ count. count ≤ 64) (map (λ l. l.mutexes) limits.now) }

@@ -9,11 +9,7 @@ ghost use Rattle.ptk_gate_pools.specs.Blank.{blank};
 ghost use Rattle.ptk_gate_pools.specs.Kept.{per_section};
 
 use crate::pools::Pools;
-use ptk_clock::ThreadDeadlines;
-use ptk_gate_parts::{
-    Endings, Records, Schedules, Stores, deadlines_of, endings_of, records_of, schedules_of,
-    stores_of,
-};
+use ptk_gate_parts::{Records, Stores, ThreadParts, records_of, stores_of, thread_parts_of};
 use ptk_mutex::Mutexes;
 use ptk_words::{Arrival, Limits};
 use std::alloc::{AllocError, Global};
@@ -34,14 +30,10 @@ impl Pools {
         requires keys { All (λ count. count ≤ 32) (map (λ l. l.keys) limits.now) }
         ensures { IfOk result (λ pools. pools ≡ blank limits.now (map (λ input. fresh_console input.now) inputs.now)) }
     {
-        let stores = stores_of(alloc, limits, inputs)?;
-        let schedules = schedules_of(alloc, limits)?;
-        let deadlines = deadlines_of(alloc, limits)?;
-        let endings = endings_of(alloc, limits)?;
         let records = records_of(alloc, limits)?;
-        Ok(joined(
-            limits, inputs, stores, schedules, deadlines, endings, records,
-        ))
+        let stores = stores_of(alloc, limits, inputs)?;
+        let threads = thread_parts_of(alloc, limits)?;
+        Ok(joined(limits, inputs, records, stores, threads))
     }
 }
 
@@ -50,33 +42,30 @@ impl Pools {
 fn joined(
     limits: &[Limits],
     inputs: &[&[Arrival]],
-    stores: Stores,
-    schedules: Schedules,
-    deadlines: ThreadDeadlines,
-    endings: Endings,
     records: Records,
+    stores: Stores,
+    threads: ThreadParts,
 ) -> Pools
     requires sections { length limits.now ≤ 8 }
     requires inputs { length inputs.now ≡ length limits.now }
     requires memory { stores.0 ≡ per_section (λ l. l.memory) 0 limits.now }
     requires consoles { stores.1 ≡ record { limits = limits.now; consoles = map (λ input. fresh_console input.now) inputs.now } }
-    requires table { schedules.0.table ≡ record { threads = per_section (λ l. l.threads) None limits.now; stored = per_section (λ l. l.threads) 0 limits.now; queues = [] } }
-    requires line { schedules.0.lines ≡ replicate (length limits.now) [] }
-    requires running { schedules.1.items ≡ replicate (length limits.now) None }
-    requires mutexes { schedules.0.mutexes ≡ per_section (λ l. l.mutexes) None limits.now }
-    requires conditions { schedules.0.conditions ≡ per_section (λ l. l.conditions) None limits.now }
-    requires deadlines { deadlines ≡ per_section (λ l. l.threads) None limits.now }
-    requires cancellations { endings.0 ≡ fresh_cancellations limits.now }
-    requires keys { endings.1 ≡ fresh_keys limits.now }
+    requires table { threads.0.0.table ≡ record { threads = per_section (λ l. l.threads) None limits.now; stored = per_section (λ l. l.threads) 0 limits.now; queues = [] } }
+    requires line { threads.0.0.lines ≡ replicate (length limits.now) [] }
+    requires running { threads.0.1.items ≡ replicate (length limits.now) None }
+    requires mutexes { threads.0.0.mutexes ≡ per_section (λ l. l.mutexes) None limits.now }
+    requires conditions { threads.0.0.conditions ≡ per_section (λ l. l.conditions) None limits.now }
+    requires deadlines { threads.1 ≡ per_section (λ l. l.threads) None limits.now }
+    requires cancellations { threads.2.0 ≡ fresh_cancellations limits.now }
+    requires keys { threads.2.1 ≡ fresh_keys limits.now }
     requires statuses { records.0.items ≡ replicate (length limits.now) Active }
     requires lasts { records.1.items ≡ replicate (length limits.now) None }
     requires limits { records.2.items ≡ limits.now }
     ensures { result ≡ blank limits.now (map (λ input. fresh_console input.now) inputs.now) }
 {
-    let (regions, consoles) = stores;
-    let (roster, running) = schedules;
-    let (cancellations, keys) = endings;
     let (statuses, lasts, limits) = records;
+    let (regions, consoles) = stores;
+    let ((roster, running), deadlines, (cancellations, keys)) = threads;
     Pools {
         regions,
         roster,

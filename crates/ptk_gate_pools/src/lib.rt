@@ -13,8 +13,8 @@
 //! has; in `proofs/PlainRows` the loan of the memory and the work on the thread become that move. Below stand the pools
 //! of each kind (threads, line, mutexes, condition variables, deadlines, cancellation, keys, memory, consoles),
 //! `ptk_gate_parts`, which makes them, `ptk_gate_waits`, which keeps their deadlines, the instructions and their rows;
-//! above, `ptk_gate_moves` with the moves composed of several. Dear to prove are `build` and the choices by stored
-//! priorities.
+//! above, `ptk_gate_moves` with the moves composed of several. Dear to prove are the choices by stored priorities; what
+//! takes the check longest is the drop of all pools.
 #![tactic(auto)]
 
 mod arrivals;

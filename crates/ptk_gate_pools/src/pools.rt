@@ -15,7 +15,6 @@ use ptk_words::{Entry, Limits, Status, ThreadNo};
 use std::marker::Model;
 
 /// What the kernel keeps of all partitions: one slot table, one memory vector, and a pool of each other kind.
-#[derive(Drop)]
 pub struct Pools {
     pub(crate) regions: Regions,
     pub(crate) roster: Roster,
@@ -28,6 +27,25 @@ pub struct Pools {
     pub(crate) statuses: Vec<Status>,
     pub(crate) lasts: Vec<Option<Entry>>,
     pub(crate) limits: Vec<Limits>,
+}
+
+// By hand: a function that drops the pools calls this, and its proof does not spell out the drop of each part.
+impl Drop for Pools {
+    fn drop(self) {
+        let Pools {
+            regions,
+            roster,
+            mutexes,
+            deadlines,
+            running,
+            cancellations,
+            keys,
+            consoles,
+            statuses,
+            lasts,
+            limits,
+        } = self;
+    }
 }
 
 impl Model for Pools {

@@ -1,7 +1,8 @@
-//! The constructor of the gate's tables with ample memory.
+//! The pools and the tables of two sections, made with ample memory.
 
 ghost use Rattle.ptk_words.specs.Ranges.{IsWithinLimits};
 
+use ptk_gate_pools::Pools;
 use ptk_kernel::Tables;
 use ptk_words::{Arrival, Limits, PartId, Status, Tick};
 use std::test::Fail;
@@ -24,25 +25,31 @@ fn section() -> Limits
     }
 }
 
+/// A byte at tick 3.
+fn arrival() -> Arrival {
+    Arrival {
+        tick: Tick::new(3),
+        byte: 7,
+    }
+}
+
+#[test]
+fn build_makes_the_pools_of_two_sections(rt: HostRuntime) -> Result<(), Fail> {
+    let input = [arrival()];
+    let pools = Pools::build(rt.alloc(), &[section(), section()], &[&input, &[]])?;
+    assert_eq!(rt; pools.parts(), 2);
+    assert_eq!(rt; pools.threads().slots().len(), 8);
+    assert_eq!(rt; pools.regions().whole().len(), 8192);
+    Ok(())
+}
+
 #[test]
 fn new_makes_the_tables_of_two_sections(rt: HostRuntime) -> Result<(), Fail> {
     let limits = [section(), section()];
-    let input = [Arrival {
-        tick: Tick::new(3),
-        byte: 7,
-    }];
+    let input = [arrival()];
     let inputs: [&[Arrival]; 2] = [&input, &[]];
     let tables = Tables::new(rt.alloc(), &limits, &inputs)?;
-    assert_eq!(rt; tables.parts(), 2);
-    assert_eq!(rt; tables.threads().slots().len(), 8);
-    assert_eq!(rt; tables.regions().whole().len(), 8192);
-    let second = PartId::new(1);
     assert!(rt; tables.parts() == 2);
-    assert_eq!(rt; tables.status(second), Status::Active);
-    assert_eq!(rt; tables.running(second), None);
-    assert!(rt; !tables.has_ready(second));
-    assert_eq!(rt; tables.dropped(second), 0);
-    assert_eq!(rt; tables.output(second).len(), 0);
-    assert_eq!(rt; tables.last_step(second), None);
+    assert_eq!(rt; tables.status(PartId::new(1)), Status::Active);
     Ok(())
 }

@@ -1,7 +1,5 @@
 //! The worked images, byte for byte, and each failed check.
 
-ghost use Rattle.std.specs.Prelude.{◌<◌};
-
 use ptk_image::{Image, read_image, write_image};
 use std::alloc::Global;
 use std::test::Fail;
@@ -34,12 +32,12 @@ fn fault_of(alloc: Global, bytes: &[u8]) -> u8 {
     }
 }
 
-// The worked bytes with another word at a place of the header.
-fn fault_with(alloc: Global, at: usize, word: u32) -> u8
-    requires { at < 24 }
-{
+// The number of the fault of the worked bytes with another word at a place of the header.
+fn fault_with(alloc: Global, at: usize, word: u32) -> u8 {
     let mut bytes = HELLO;
-    bytes[at..at + 4].copy_from_slice(&word.to_le_bytes());
+    if at < 24 {
+        bytes[at..at + 4].copy_from_slice(&word.to_le_bytes());
+    }
     fault_of(alloc, &bytes)
 }
 
@@ -96,37 +94,24 @@ fn refuses_cut_bytes(rt: HostRuntime) {
     }
 }
 
+// A place of the header, another word for it, and the number of the fault then.
+const CHANGES: [(usize, u32, u8); 9] = [
+    (0, 0x494b_5450, 0), // the magic as it is
+    (0, 0x694b_5450, 2),
+    (4, 2, 3), // another version
+    (12, 35, 4), // a text of no whole words
+    (16, 4, 4), // missing data
+    (8, 2, 5), // an entry of no whole word
+    (8, 40, 5), // an entry above the text
+    (8, 36, 0), // an entry at the text's end
+    (20, 0xffff_ffff, 0), // any number of zeros
+];
+
 #[test]
 fn numbers_each_fault(rt: HostRuntime) {
-    assert_eq!(rt;
-        fault_with(rt.alloc(), 0, 0x494b_5450),
-        0,
-        "the magic as it is"
-    );
-    assert_eq!(rt; fault_with(rt.alloc(), 0, 0x694b_5450), 2, "another magic");
-    assert_eq!(rt; fault_with(rt.alloc(), 4, 2), 3, "another version");
-    assert_eq!(rt;
-        fault_with(rt.alloc(), 12, 35),
-        4,
-        "a text of no whole words"
-    );
-    assert_eq!(rt; fault_with(rt.alloc(), 16, 4), 4, "missing data");
-    assert_eq!(rt;
-        fault_with(rt.alloc(), 8, 2),
-        5,
-        "an entry of no whole word"
-    );
-    assert_eq!(rt; fault_with(rt.alloc(), 8, 40), 5, "an entry above the text");
-    assert_eq!(rt;
-        fault_with(rt.alloc(), 8, 36),
-        0,
-        "an entry at the text's end"
-    );
-    assert_eq!(rt;
-        fault_with(rt.alloc(), 20, 0xffff_ffff),
-        0,
-        "any number of zeros"
-    );
+    for (at, word, want) in CHANGES {
+        assert_eq!(rt; fault_with(rt.alloc(), at, word), want, "{word} at {at}");
+    }
 }
 
 #[test]

@@ -119,18 +119,3 @@ fn a_writer_that_fails_is_an_error_and_the_trace_stays(rt: HostRuntime) -> Resul
     assert_eq!(rt; &out.bytes[..76], KEPT.as_bytes());
     Ok(())
 }
-
-#[test]
-fn a_slice_that_is_too_short_is_an_error(rt: HostRuntime) -> Result<(), Fail> {
-    let trace = three_steps(rt.alloc(), 2)?;
-    for most in 0..76 {
-        let mut bytes = [0u8; 76];
-        let mut room = &mut bytes[..most];
-        assert!(rt; trace.lines(&mut room).is_err(), "at {most}");
-    }
-    let mut bytes = [0u8; 76];
-    let mut room = bytes.as_mut_slice();
-    assert!(rt; trace.lines(&mut room).is_ok());
-    assert_eq!(rt; bytes.as_slice(), KEPT.as_bytes());
-    Ok(())
-}

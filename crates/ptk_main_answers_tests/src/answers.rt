@@ -2,11 +2,10 @@
 //! to, with its image and without; and that a check and the words end where their writer fails. What is wanted was
 //! worked out by hand. A helper that promises nothing stands between each row and the calls that it tests.
 
-use crate::{answer_with, explain_with};
 use ptk_config::{Config, read_config};
+use ptk_main_answers::{Files, answer_with, explain_with};
 use ptk_main_faults::Fault;
 use ptk_main_line::Request;
-use ptk_system::Files;
 use std::alloc::Global;
 use std::io::Write;
 use std::process::Abort;

@@ -7,3 +7,33 @@ mod keys;
 mod neighbours;
 mod requests;
 mod waits;
+
+use ptk_main_guests::{first_wrong_cuts, first_wrong_row, first_wrong_trace};
+
+#[test]
+fn rows_of_handlers(rt: HostRuntime) {
+    assert_eq!(rt; first_wrong_row(rt.alloc(), &handlers::ROWS), None);
+}
+
+#[test]
+fn rows_of_keys(rt: HostRuntime) {
+    assert_eq!(rt; first_wrong_row(rt.alloc(), &keys::ROWS), None);
+}
+
+#[test]
+fn rows_of_neighbours(rt: HostRuntime) {
+    assert_eq!(rt; first_wrong_cuts(rt.alloc(), &neighbours::CUTS), None);
+    assert_eq!(rt; first_wrong_trace(rt.alloc(), &neighbours::TRACES), None);
+}
+
+#[test]
+fn rows_of_requests(rt: HostRuntime) {
+    assert_eq!(rt; first_wrong_row(rt.alloc(), &requests::ROWS), None);
+    assert_eq!(rt; first_wrong_trace(rt.alloc(), &requests::TRACES), None);
+}
+
+#[test]
+fn rows_of_waits(rt: HostRuntime) {
+    assert_eq!(rt; first_wrong_row(rt.alloc(), &waits::ROWS), None);
+    assert_eq!(rt; first_wrong_trace(rt.alloc(), &waits::TRACES), None);
+}

@@ -1,6 +1,6 @@
 //! What is seen of a system's first partition.
 
-use crate::guests::{guest_of, is_report, is_text, tick_of};
+use crate::guests::{guest_of, is_report, is_text, is_trace, tick_of};
 use ptk_config::Config;
 use ptk_main_runs::{Files, System};
 use ptk_mutex::effective;
@@ -79,27 +79,86 @@ fn first_wrong(system: &mut System<'_>, sights: &[(u64, Sight, u32)]) -> Option<
     None
 }
 
-/// What of a guest's run is not as wanted: the index of the first entry that is not what is seen after its ticks; as many
-/// as there are entries where there is no such guest, or its report after so many ticks is another. None where all is.
-pub fn check_row(
-    alloc: Global,
-    parts: &[&str],
-    source: &[&str],
-    sights: &[(u64, Sight, u32)],
-    ticks: u64,
-    want: &str,
-) -> Option<usize> {
-    let Some((config, files)) = guest_of(alloc, parts, source) else {
-        return Some(sights.len());
+/// A worked row: a guest, what is seen of its run, and its report.
+#[derive(Clone, Copy)]
+pub struct Row<'a> {
+    /// What the row shows.
+    pub name: &'a str,
+    /// The parts of the configuration's text.
+    pub parts: &'a [&'a str],
+    /// The parts of the guest's source.
+    pub source: &'a [&'a str],
+    /// What is seen of the first partition, each entry after so many ticks, in their order.
+    pub sights: &'a [(u64, Sight, u32)],
+    /// The ticks of the run that is reported.
+    pub ticks: u64,
+    /// The report after them.
+    pub report: &'a str,
+}
+
+/// A worked row of a guest's last steps.
+#[derive(Clone, Copy)]
+pub struct TraceRow<'a> {
+    /// What the row shows.
+    pub name: &'a str,
+    /// The parts of the configuration's text.
+    pub parts: &'a [&'a str],
+    /// The parts of the guest's source.
+    pub source: &'a [&'a str],
+    /// The ticks of the run.
+    pub ticks: u64,
+    /// The trace of p after them.
+    pub trace: &'a str,
+}
+
+/// A worked row of a guest's reports on the way.
+#[derive(Clone, Copy)]
+pub struct CutRow<'a> {
+    /// What the row shows.
+    pub name: &'a str,
+    /// The parts of the configuration's text.
+    pub parts: &'a [&'a str],
+    /// The parts of the guest's source.
+    pub source: &'a [&'a str],
+    /// The report after each of these ticks, in their order.
+    pub cuts: &'a [(u64, &'a str)],
+}
+
+/// What of a row is not as wanted: the index of the first entry that is not what is seen after its ticks; as many as
+/// there are entries where there is no such guest, or its report after so many ticks is another. None where all is.
+pub fn check_row(alloc: Global, row: &Row<'_>) -> Option<usize> {
+    let count = row.sights.len();
+    let Some((config, files)) = guest_of(alloc, row.parts, row.source) else {
+        return Some(count);
     };
     let Some(mut system) = booted(alloc, &config, &files) else {
-        return Some(sights.len());
+        return Some(count);
     };
-    let wrong = first_wrong(&mut system, sights);
-    if wrong.is_some() || is_report(alloc, parts, source, ticks, want) {
+    let wrong = first_wrong(&mut system, row.sights);
+    if wrong.is_some() || is_report(alloc, row.parts, row.source, row.ticks, row.report) {
         return wrong;
     }
-    Some(sights.len())
+    Some(count)
+}
+
+/// The first of these rows that is not as wanted: its name, and what of it, as `check_row` tells it. None where all are.
+pub fn first_wrong_row<'a>(alloc: Global, rows: &[Row<'a>]) -> Option<(&'a str, usize)> {
+    for row in rows {
+        if let Some(wrong) = check_row(alloc, row) {
+            return Some((row.name, wrong));
+        }
+    }
+    None
+}
+
+/// The name of the first of these rows whose trace is another. None where there is none.
+pub fn first_wrong_trace<'a>(alloc: Global, rows: &[TraceRow<'a>]) -> Option<&'a str> {
+    for row in rows {
+        if !is_trace(alloc, row.parts, row.source, row.ticks, row.trace) {
+            return Some(row.name);
+        }
+    }
+    None
 }
 
 /// The system's report, None where memory ran out.
@@ -139,24 +198,31 @@ fn first_other_report(
     None
 }
 
-/// Which of a guest's reports is not as wanted: the first entry that is not the report after its ticks of one run, which
-/// goes on from entry to entry, or of a run of its own. As many as there are entries where there is no such guest. None
-/// where all are.
-pub fn check_cuts(
-    alloc: Global,
-    parts: &[&str],
-    source: &[&str],
-    cuts: &[(u64, &str)],
-) -> Option<usize> {
-    let Some((config, files)) = guest_of(alloc, parts, source) else {
-        return Some(cuts.len());
+// Which of a row's reports is not as wanted: the first entry that is not the report after its ticks of one run, which
+// goes on from entry to entry, or of a run of its own. As many as there are entries where there is no such guest. None
+// where all are.
+fn check_cuts(alloc: Global, row: &CutRow<'_>) -> Option<usize> {
+    let count = row.cuts.len();
+    let Some((config, files)) = guest_of(alloc, row.parts, row.source) else {
+        return Some(count);
     };
     let Some(mut system) = booted(alloc, &config, &files) else {
-        return Some(cuts.len());
+        return Some(count);
     };
-    let wrong = first_other_report(alloc, &mut system, cuts);
+    let wrong = first_other_report(alloc, &mut system, row.cuts);
     if wrong.is_some() {
         return wrong;
     }
-    cuts.iter().position(|(ticks, want)| !is_report(alloc, parts, source, *ticks, want))
+    row.cuts.iter().position(|(ticks, want)| !is_report(alloc, row.parts, row.source, *ticks, want))
+}
+
+/// The first of these rows that is not reported as wanted, however its run is cut: its name, and which of its reports.
+/// None where all are.
+pub fn first_wrong_cuts<'a>(alloc: Global, rows: &[CutRow<'a>]) -> Option<(&'a str, usize)> {
+    for row in rows {
+        if let Some(wrong) = check_cuts(alloc, row) {
+            return Some((row.name, wrong));
+        }
+    }
+    None
 }

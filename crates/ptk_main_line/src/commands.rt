@@ -1,6 +1,6 @@
 //! The command `ptk` and its subcommands, as `clap` builds them.
 ghost use Rattle.std.specs.Prelude.{◌≡◌, codes, false, IfOk};
-ghost use Rattle.clap.specs.Words.{app_of, rule_of, with_rule};
+ghost use Rattle.clap.specs.Words.{app_of, rule_of, with_rule, with_subcommand};
 ghost use Rattle.clap.specs.declared.builder.command.Command.TheViews.{out-Command};
 ghost use Rattle.ptk_main_line.specs.CommandLine.{asm, check, ptk, run, timeline, trace};
 ghost use Rattle.ptk_main_line.specs.CommandLine.{explain, from, number_option, partition, required_word, ticks};
@@ -13,15 +13,23 @@ use std::alloc::{AllocError, Global};
 pub(crate) fn ptk_command<'a>(alloc: Global) -> Result<Command<'a>, AllocError>
     ensures { IfOk result (λ c. app_of c ≡ ptk) }
 {
-    Command::new(alloc, "ptk")
+    let command = Command::new(alloc, "ptk")
         .about(help::PTK)
         .after_help(help::PTK_AFTER)
-        .subcommand_required(true)
-        .subcommand(run_command(alloc)?)?
-        .subcommand(trace_command(alloc)?)?
-        .subcommand(timeline_command(alloc)?)?
+        .subcommand_required(true);
+    with_runs(alloc, command)?
         .subcommand(asm_command(alloc)?)?
         .subcommand(check_command(alloc)?)
+}
+
+/// The command with the three subcommands that run a configuration behind those that it has.
+fn with_runs<'a>(alloc: Global, command: Command<'a>) -> Result<Command<'a>, AllocError>
+    ensures { IfOk result (λ c. app_of c ≡ with_subcommand (with_subcommand (with_subcommand (app_of command.entry) run.top) trace.top) timeline.top) }
+{
+    command
+        .subcommand(run_command(alloc)?)?
+        .subcommand(trace_command(alloc)?)?
+        .subcommand(timeline_command(alloc)?)
 }
 
 /// `run FILE --ticks N`.

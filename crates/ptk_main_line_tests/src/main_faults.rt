@@ -14,28 +14,34 @@ fn told(alloc: Global, fault: &Fault) -> Result<(u8, Vec<u8>), Fail> {
     Ok((status, out))
 }
 
+/// Faults with their line and status.
+const LINES: [(Fault<'static>, &str, u8); 10] = [
+    (Fault::Config(4), "ptk: config fault 4\n", 1),
+    (Fault::ConfigWindow(5), "ptk: config fault 7 window 5\n", 1),
+    (Fault::Asm(2, 4), "ptk: asm line 2 fault 4\n", 1),
+    (Fault::Image("p.img", 3), "ptk: image p.img fault 3\n", 1),
+    (
+        Fault::MissingFile("a.toml"),
+        "ptk: missing file a.toml\n",
+        1,
+    ),
+    (Fault::NotText("a.toml"), "ptk: not text a.toml\n", 1),
+    (Fault::NoPartition("z"), "ptk: no partition z\n", 1),
+    (Fault::ReadFailed("p.img"), "ptk: read failed p.img\n", 3),
+    (Fault::WriteFailed, "ptk: write failed\n", 3),
+    (Fault::NoMemory, "ptk: no memory\n", 3),
+];
+
+/// Whether a fault writes this line and has this status.
+fn is_told(alloc: Global, fault: &Fault, line: &str, status: u8) -> Result<bool, Fail> {
+    let (answer, written) = told(alloc, fault)?;
+    Ok(answer == status && written.as_slice() == line.as_bytes())
+}
+
 #[test]
 fn each_line_has_its_status(rt: HostRuntime) -> Result<(), Fail> {
-    let table = [
-        (Fault::Config(4), "ptk: config fault 4\n", 1),
-        (Fault::ConfigWindow(5), "ptk: config fault 7 window 5\n", 1),
-        (Fault::Asm(2, 4), "ptk: asm line 2 fault 4\n", 1),
-        (Fault::Image("p.img", 3), "ptk: image p.img fault 3\n", 1),
-        (
-            Fault::MissingFile("a.toml"),
-            "ptk: missing file a.toml\n",
-            1,
-        ),
-        (Fault::NotText("a.toml"), "ptk: not text a.toml\n", 1),
-        (Fault::NoPartition("z"), "ptk: no partition z\n", 1),
-        (Fault::ReadFailed("p.img"), "ptk: read failed p.img\n", 3),
-        (Fault::WriteFailed, "ptk: write failed\n", 3),
-        (Fault::NoMemory, "ptk: no memory\n", 3),
-    ];
-    for (fault, line, status) in table {
-        let (answer, written) = told(rt.alloc(), &fault)?;
-        assert_eq!(rt; answer, status, "{line}");
-        assert_eq!(rt; written.as_slice(), line.as_bytes(), "{line}");
+    for (fault, line, status) in LINES {
+        assert!(rt; is_told(rt.alloc(), &fault, line, status)?, "{line}");
     }
     Ok(())
 }
@@ -53,37 +59,39 @@ fn want_of_memory_is_one_line(rt: HostRuntime) {
     assert_eq!(rt; Fault::from(AllocError), Fault::NoMemory);
 }
 
+/// Refusals of a configuration, and their faults.
+const REFUSALS: [(ConfigFault, Fault<'static>); 11] = [
+    (ConfigFault::Text, Fault::Config(1)),
+    (ConfigFault::MissingKey, Fault::Config(2)),
+    (ConfigFault::WrongType, Fault::Config(3)),
+    (ConfigFault::OutOfRange, Fault::Config(4)),
+    (ConfigFault::UnknownKey, Fault::Config(5)),
+    (ConfigFault::DoubledName, Fault::Config(6)),
+    (
+        ConfigFault::Window(WindowFault::Empty),
+        Fault::ConfigWindow(1),
+    ),
+    (
+        ConfigFault::Window(WindowFault::Short),
+        Fault::ConfigWindow(2),
+    ),
+    (
+        ConfigFault::Window(WindowFault::Overlap),
+        Fault::ConfigWindow(3),
+    ),
+    (
+        ConfigFault::Window(WindowFault::PastFrame),
+        Fault::ConfigWindow(4),
+    ),
+    (
+        ConfigFault::Window(WindowFault::UnknownPartition),
+        Fault::ConfigWindow(5),
+    ),
+];
+
 #[test]
 fn refusals_have_their_numbers(rt: HostRuntime) {
-    let table = [
-        (ConfigFault::Text, Fault::Config(1)),
-        (ConfigFault::MissingKey, Fault::Config(2)),
-        (ConfigFault::WrongType, Fault::Config(3)),
-        (ConfigFault::OutOfRange, Fault::Config(4)),
-        (ConfigFault::UnknownKey, Fault::Config(5)),
-        (ConfigFault::DoubledName, Fault::Config(6)),
-        (
-            ConfigFault::Window(WindowFault::Empty),
-            Fault::ConfigWindow(1),
-        ),
-        (
-            ConfigFault::Window(WindowFault::Short),
-            Fault::ConfigWindow(2),
-        ),
-        (
-            ConfigFault::Window(WindowFault::Overlap),
-            Fault::ConfigWindow(3),
-        ),
-        (
-            ConfigFault::Window(WindowFault::PastFrame),
-            Fault::ConfigWindow(4),
-        ),
-        (
-            ConfigFault::Window(WindowFault::UnknownPartition),
-            Fault::ConfigWindow(5),
-        ),
-    ];
-    for (refusal, fault) in table {
+    for (refusal, fault) in REFUSALS {
         assert_eq!(rt; Fault::of_config(refusal), fault);
     }
     assert_eq!(rt;

@@ -4,11 +4,11 @@ use clap::error::ErrorKind;
 use ptk_main_line::{Request, not_text, read_line};
 use std::alloc::{AllocError, Global};
 
-/// The kind of the error that the words have, `None` where they are taken.
-fn refusal(alloc: Global, words: &[&str]) -> Option<ErrorKind> {
+/// The kind of the error that the words have and whether it goes to stderr, `None` where they are taken.
+fn refusal(alloc: Global, words: &[&str]) -> Option<(ErrorKind, bool)> {
     match read_line(alloc, words) {
         Ok(_) => None,
-        Err(error) => Some(error.kind()),
+        Err(error) => Some((error.kind(), error.use_stderr())),
     }
 }
 
@@ -104,8 +104,8 @@ fn reads_each_request(rt: HostRuntime) {
     }
 }
 
-/// Words, and the kind of their error.
-const REFUSALS: [(&[&str], ErrorKind); 17] = [
+/// Words, and the kind of their error. Help alone does not go to stderr.
+const REFUSALS: [(&[&str], ErrorKind); 18] = [
     (
         &["ptk", "run", "a.toml", "--ticks", "1099511627777"],
         ErrorKind::ValueValidation,
@@ -162,24 +162,14 @@ const REFUSALS: [(&[&str], ErrorKind); 17] = [
     (&["ptk", "stop"], ErrorKind::InvalidSubcommand),
     (&["ptk"], ErrorKind::MissingSubcommand),
     (&["ptk", "run", "--help"], ErrorKind::DisplayHelp),
+    (&["ptk", "--help"], ErrorKind::DisplayHelp),
 ];
 
 #[test]
 fn refuses_other_words(rt: HostRuntime) {
     for (words, kind) in REFUSALS {
-        assert_eq!(rt; refusal(rt.alloc(), words), Some(kind));
-    }
-}
-
-#[test]
-fn answers_help_as_an_error(rt: HostRuntime) {
-    let words = ["ptk", "--help"];
-    match read_line(rt.alloc(), &words) {
-        Ok(_) => panic!(rt; "taken"),
-        Err(error) => {
-            assert_eq!(rt; error.kind(), ErrorKind::DisplayHelp);
-            assert!(rt; !error.use_stderr());
-        }
+        let is_usage = kind != ErrorKind::DisplayHelp;
+        assert_eq!(rt; refusal(rt.alloc(), words), Some((kind, is_usage)));
     }
 }
 
@@ -191,42 +181,77 @@ fn help(alloc: Global, words: &[&str]) -> Result<String, AllocError> {
     }
 }
 
-#[test]
-fn help_says_the_statuses_and_an_example(rt: HostRuntime) -> Result<(), AllocError> {
-    let rows = [
-        ("run", "ptk run hello.toml --ticks 20"),
-        ("trace", "ptk trace hello.toml --ticks 20 --partition p"),
-        ("asm", "ptk asm hello.s hello.img"),
-        (
-            "check",
+/// Words, and parts of what help says for them.
+const HELP: [(&[&str], &[&str]); 5] = [
+    (
+        &["ptk", "run", "--help"],
+        &["ptk run hello.toml --ticks 20", STATUS, FAULT, USAGE],
+    ),
+    (
+        &["ptk", "trace", "--help"],
+        &[
+            "ptk trace hello.toml --ticks 20 --partition p",
+            STATUS,
+            FAULT,
+            USAGE,
+        ],
+    ),
+    (
+        &["ptk", "asm", "--help"],
+        &["ptk asm hello.s hello.img", STATUS, FAULT, USAGE],
+    ),
+    (
+        &["ptk", "check", "--help"],
+        &[
             "ptk check hello.toml\n  ptk check hello.toml --explain",
-        ),
-    ];
-    for (command, example) in rows {
-        let text = help(rt.alloc(), &["ptk", command, "--help"])?;
-        for part in [
-            example,
-            "Exit status:\n  0  ",
-            "\n  1  ",
-            "\n  2  usage\n  3  ",
-        ] {
-            assert!(rt; text.as_str().contains(part));
+            STATUS,
+            FAULT,
+            USAGE,
+        ],
+    ),
+    (
+        &["ptk", "--help"],
+        &["Exit status:", "ptk run hello.toml --ticks 20", "check  "],
+    ),
+];
+
+const STATUS: &str = "Exit status:\n  0  ";
+
+const FAULT: &str = "\n  1  ";
+
+const USAGE: &str = "\n  2  usage\n  3  ";
+
+/// Whether help says all these parts for the words.
+fn says_all(alloc: Global, words: &[&str], parts: &[&str]) -> Result<bool, AllocError> {
+    let text = help(alloc, words)?;
+    for part in parts {
+        if !text.as_str().contains(*part) {
+            return Ok(false);
         }
     }
-    let text = help(rt.alloc(), &["ptk", "--help"])?;
-    for part in ["Exit status:", "ptk run hello.toml --ticks 20", "check  "] {
-        assert!(rt; text.as_str().contains(part));
+    Ok(true)
+}
+
+#[test]
+fn help_says_the_statuses_and_an_example(rt: HostRuntime) -> Result<(), AllocError> {
+    for (words, parts) in HELP {
+        assert!(rt; says_all(rt.alloc(), words, parts)?);
     }
     Ok(())
 }
 
+/// The kind of the error of words that are no text and whether it goes to stderr, `None` where memory ran out.
+fn refusal_of_no_text(alloc: Global) -> Option<(ErrorKind, bool)> {
+    match not_text(alloc) {
+        Ok(error) => Some((error.kind(), error.use_stderr())),
+        Err(_) => None,
+    }
+}
+
 #[test]
 fn words_that_are_no_text_are_a_usage_error(rt: HostRuntime) {
-    match not_text(rt.alloc()) {
-        Ok(error) => {
-            assert_eq!(rt; error.kind(), ErrorKind::ValueValidation);
-            assert!(rt; error.use_stderr());
-        }
-        Err(_) => assert!(rt; false, "no memory"),
-    }
+    assert_eq!(rt;
+        refusal_of_no_text(rt.alloc()),
+        Some((ErrorKind::ValueValidation, true))
+    );
 }

@@ -5,3 +5,21 @@
 mod kinds;
 mod priorities;
 mod robust;
+
+use ptk_main_guests::{first_wrong_row, first_wrong_trace};
+
+#[test]
+fn rows_of_kinds(rt: HostRuntime) {
+    assert_eq!(rt; first_wrong_row(rt.alloc(), &kinds::ROWS), None);
+    assert_eq!(rt; first_wrong_trace(rt.alloc(), &kinds::TRACES), None);
+}
+
+#[test]
+fn rows_of_priorities(rt: HostRuntime) {
+    assert_eq!(rt; first_wrong_row(rt.alloc(), &priorities::ROWS), None);
+}
+
+#[test]
+fn rows_of_robust(rt: HostRuntime) {
+    assert_eq!(rt; first_wrong_row(rt.alloc(), &robust::ROWS), None);
+}

@@ -214,16 +214,6 @@ fn is_some_text(got: Option<Vec<u8>>, want: &str) -> bool {
     }
 }
 
-// Whether this is the report after so many ticks, with these images of p and q.
-fn is_report(alloc: Global, parts: &[&str], p: &[u32], q: &[u32], ticks: u32, want: &str) -> bool {
-    is_some_text(report(alloc, parts, p, q, ticks), want)
-}
-
-// Whether this is the trace of p after so many ticks, with these images of p and q.
-fn is_trace(alloc: Global, parts: &[&str], p: &[u32], q: &[u32], ticks: u32, want: &str) -> bool {
-    is_some_text(trace(alloc, parts, p, q, ticks), want)
-}
-
 // The system of a configuration at tick 0, None where it does not boot.
 fn booted<'a>(alloc: Global, config: &'a Config, files: &'a Files) -> Option<System<'a>> {
     match System::boot(alloc, config, files) {
@@ -313,197 +303,270 @@ fn an_image_is_its_words(rt: HostRuntime) {
     }
 }
 
+// A worked row: the images of p and q, and what is wanted after so many ticks.
+#[derive(Clone, Copy)]
+struct Row<'a> {
+    name: &'a str,
+    parts: &'a [&'a str],
+    p: &'a [u32],
+    q: &'a [u32],
+    ticks: u32,
+    want: &'a str,
+}
+
+// The rows' reports.
+const REPORTS: [Row<'static>; 22] = [
+    Row {
+        name: "hello",
+        parts: &ALONE,
+        p: &rows::HELLO,
+        q: &[],
+        ticks: 20,
+        want: HELLO_REPORT,
+    },
+    Row {
+        name: "empty-image",
+        parts: &ALONE,
+        p: &rows::EMPTY,
+        q: &[],
+        ticks: 20,
+        want: "partition p fault illegal pc 0x00000000 steps 1 lost 0\noutput 0\n\n",
+    },
+    Row {
+        name: "load-at-memory-end",
+        parts: &ALONE,
+        p: &rows::LOAD_AT_END,
+        q: &[],
+        ticks: 20,
+        want: "partition p fault misaligned pc 0x0000000c steps 4 lost 0\noutput 0\n\n",
+    },
+    Row {
+        name: "load-at-memory-end",
+        parts: &ALONE,
+        p: &rows::LOAD_PAST_END,
+        q: &[],
+        ticks: 20,
+        want: "partition p fault load pc 0x0000000c steps 4 lost 0\noutput 0\n\n",
+    },
+    Row {
+        name: "late-put",
+        parts: &LATE,
+        p: &rows::LATE_PUT,
+        q: &[],
+        ticks: 40,
+        want: "partition p running steps 13 lost 3\noutput 0\n\n",
+    },
+    Row {
+        name: "late-put",
+        parts: &LATE,
+        p: &rows::LATE_PUT,
+        q: &[],
+        ticks: 41,
+        want: "partition p running steps 14 lost 3\noutput 1\nh\n",
+    },
+    Row {
+        name: "create-join",
+        parts: &WIDE,
+        p: &rows::CREATE_JOIN,
+        q: &[],
+        ticks: 40,
+        want: "partition p exit 7 steps 16 lost 0\noutput 0\n\n",
+    },
+    Row {
+        name: "number-one-reused",
+        parts: &WIDE,
+        p: &rows::NUMBER_ONE_REUSED,
+        q: &[],
+        ticks: 100,
+        want: "partition p exit 5 steps 32 lost 0\noutput 1\n1\n",
+    },
+    Row {
+        name: "own-priority-falls",
+        parts: &WIDE,
+        p: &rows::FALLS_BY_PRIO,
+        q: &[],
+        ticks: 100,
+        want: "partition p exit 0 steps 27 lost 0\noutput 2\nxy\n",
+    },
+    Row {
+        name: "own-priority-falls",
+        parts: &WIDE,
+        p: &rows::FALLS_BY_PARAM,
+        q: &[],
+        ticks: 100,
+        want: "partition p exit 0 steps 28 lost 0\noutput 2\nyx\n",
+    },
+    Row {
+        name: "two-hellos",
+        parts: &TWO,
+        p: &rows::HELLO,
+        q: &rows::HELLO,
+        ticks: 40,
+        want: "partition p exit 0 steps 9 lost 0\noutput 2\nhi\npartition q exit 0 steps 9 lost 0\noutput 2\nhi\n",
+    },
+    Row {
+        name: "load-at-memory-end",
+        parts: &TWO,
+        p: &rows::LOAD_AT_END,
+        q: &rows::HELLO,
+        ticks: 40,
+        want: "partition p fault misaligned pc 0x0000000c steps 4 lost 0\noutput 0\n\npartition q exit 0 steps 9 lost 0\noutput 2\nhi\n",
+    },
+    Row {
+        name: "load-at-memory-end",
+        parts: &TWO,
+        p: &rows::LOAD_PAST_END,
+        q: &rows::HELLO,
+        ticks: 40,
+        want: "partition p fault load pc 0x0000000c steps 4 lost 0\noutput 0\n\npartition q exit 0 steps 9 lost 0\noutput 2\nhi\n",
+    },
+    Row {
+        name: "round-robin-windows",
+        parts: &SLOW,
+        p: &rows::ROUND_ROBIN,
+        q: &[],
+        ticks: 87,
+        want: "partition p running steps 19 lost 3\noutput 0\n\npartition q idle steps 0 lost 0\noutput 0\n\n",
+    },
+    Row {
+        name: "input-ring",
+        parts: &ONE_BYTE,
+        p: &rows::GET_ONE,
+        q: &[],
+        ticks: 41,
+        want: "partition p exit 0 steps 4 lost 0\noutput 0\n\npartition q idle steps 0 lost 0\noutput 0\n\n",
+    },
+    Row {
+        name: "input-ring",
+        parts: &FULL_RING,
+        p: &rows::GET_TWO,
+        q: &[],
+        ticks: 100,
+        want: "partition p exit 0 steps 33 lost 2\noutput 2\nab\npartition q idle steps 0 lost 0\noutput 0\n\n",
+    },
+    Row {
+        name: "neighbour-exhausts",
+        parts: &BESIDE_QUIET,
+        p: &rows::PUTS_THE_NUMBER,
+        q: &rows::QUIET,
+        ticks: 1500,
+        want: "partition q exit 0 steps 3 lost 0\noutput 0\n\npartition p exit 7 steps 20 lost 0\noutput 1\n2\n",
+    },
+    Row {
+        name: "neighbour-exhausts",
+        parts: &BESIDE_STORM,
+        p: &rows::PUTS_THE_NUMBER,
+        q: &rows::STORM,
+        ticks: 1500,
+        want: "partition q fault break pc 0x0000003c steps 207 lost 131\noutput 4\n!!!!\npartition p exit 7 steps 20 lost 0\noutput 1\n2\n",
+    },
+    Row {
+        name: "refused-neighbour-image",
+        parts: &BARE,
+        p: &rows::HELLO,
+        q: &[],
+        ticks: 40,
+        want: "partition p exit 0 steps 9 lost 0\noutput 2\nhi\npartition q idle steps 0 lost 0\noutput 0\n\n",
+    },
+    Row {
+        name: "cut-run",
+        parts: &ALONE,
+        p: &rows::HELLO,
+        q: &[],
+        ticks: 3,
+        want: "partition p running steps 3 lost 0\noutput 1\nh\n",
+    },
+    Row {
+        name: "cut-run",
+        parts: &ALONE,
+        p: &rows::HELLO,
+        q: &[],
+        ticks: 10,
+        want: "partition p running steps 6 lost 0\noutput 2\nhi\n",
+    },
+    Row {
+        name: "cut-run",
+        parts: &ALONE,
+        p: &rows::HELLO,
+        q: &[],
+        ticks: 40,
+        want: HELLO_REPORT,
+    },
+];
+
+// The rows' traces of p.
+const TRACES: [Row<'static>; 5] = [
+    Row {
+        name: "input-ring",
+        parts: &ONE_BYTE,
+        p: &rows::GET_ONE,
+        q: &[],
+        ticks: 41,
+        want: "0 1 0x00000000 0x00200893 0x00000000\n1 1 0x00000004 0x00000073 0x00000000\n19 1 0x00000008 0x00000893 0x00000000\n40 1 0x0000000c 0x00000073 0x00000000\n",
+    },
+    Row {
+        name: "short-trace",
+        parts: &SHORT,
+        p: &rows::HELLO,
+        q: &[],
+        ticks: 20,
+        want: SHORT_TRACE,
+    },
+    Row {
+        name: "full-trace",
+        parts: &ALONE,
+        p: &rows::HELLO,
+        q: &[],
+        ticks: 20,
+        want: FULL_TRACE,
+    },
+    Row {
+        name: "create-join",
+        parts: &WIDE,
+        p: &rows::CREATE_JOIN,
+        q: &[],
+        ticks: 40,
+        want: CREATE_JOIN_TRACE,
+    },
+    Row {
+        name: "round-robin-windows",
+        parts: &SLOW,
+        p: &rows::ROUND_ROBIN,
+        q: &[],
+        ticks: 87,
+        want: ROUND_ROBIN_TRACE,
+    },
+];
+
+// The name of the first row whose report is another.
+fn first_wrong_report<'a>(alloc: Global, rows: &[Row<'a>]) -> Option<&'a str> {
+    for row in rows {
+        if !is_some_text(report(alloc, row.parts, row.p, row.q, row.ticks), row.want) {
+            return Some(row.name);
+        }
+    }
+    None
+}
+
+// The name of the first row whose trace is another.
+fn first_wrong_trace<'a>(alloc: Global, rows: &[Row<'a>]) -> Option<&'a str> {
+    for row in rows {
+        if !is_some_text(trace(alloc, row.parts, row.p, row.q, row.ticks), row.want) {
+            return Some(row.name);
+        }
+    }
+    None
+}
+
 #[test]
-fn one_partition_reports(rt: HostRuntime) {
-    let alloc = rt.alloc();
-    // Row hello.
+fn each_row_is_reported(rt: HostRuntime) {
     assert_eq!(rt; HELLO_REPORT.len(), 46);
-    assert!(rt; is_report(alloc, &ALONE, &rows::HELLO, &[], 20, HELLO_REPORT));
-    // Row empty-image.
-    assert!(rt;
-        is_report(
-            alloc,
-            &ALONE,
-            &rows::EMPTY,
-            &[],
-            20,
-            "partition p fault illegal pc 0x00000000 steps 1 lost 0\noutput 0\n\n"
-        )
-    );
-    // Row load-at-memory-end.
-    assert!(rt;
-        is_report(
-            alloc,
-            &ALONE,
-            &rows::LOAD_AT_END,
-            &[],
-            20,
-            "partition p fault misaligned pc 0x0000000c steps 4 lost 0\noutput 0\n\n"
-        )
-    );
-    assert!(rt;
-        is_report(
-            alloc,
-            &ALONE,
-            &rows::LOAD_PAST_END,
-            &[],
-            20,
-            "partition p fault load pc 0x0000000c steps 4 lost 0\noutput 0\n\n"
-        )
-    );
-    // Row late-put.
-    assert!(rt;
-        is_report(
-            alloc,
-            &LATE,
-            &rows::LATE_PUT,
-            &[],
-            40,
-            "partition p running steps 13 lost 3\noutput 0\n\n"
-        )
-    );
-    assert!(rt;
-        is_report(
-            alloc,
-            &LATE,
-            &rows::LATE_PUT,
-            &[],
-            41,
-            "partition p running steps 14 lost 3\noutput 1\nh\n"
-        )
-    );
+    assert_eq!(rt; first_wrong_report(rt.alloc(), &REPORTS), None);
 }
 
 #[test]
-fn threads_report(rt: HostRuntime) {
-    let alloc = rt.alloc();
-    // Row create-join.
-    assert!(rt;
-        is_report(
-            alloc,
-            &WIDE,
-            &rows::CREATE_JOIN,
-            &[],
-            40,
-            "partition p exit 7 steps 16 lost 0\noutput 0\n\n"
-        )
-    );
-    // Row number-one-reused.
-    assert!(rt;
-        is_report(
-            alloc,
-            &WIDE,
-            &rows::NUMBER_ONE_REUSED,
-            &[],
-            100,
-            "partition p exit 5 steps 32 lost 0\noutput 1\n1\n"
-        )
-    );
-    // Row own-priority-falls.
-    assert!(rt;
-        is_report(
-            alloc,
-            &WIDE,
-            &rows::FALLS_BY_PRIO,
-            &[],
-            100,
-            "partition p exit 0 steps 27 lost 0\noutput 2\nxy\n"
-        )
-    );
-    assert!(rt;
-        is_report(
-            alloc,
-            &WIDE,
-            &rows::FALLS_BY_PARAM,
-            &[],
-            100,
-            "partition p exit 0 steps 28 lost 0\noutput 2\nyx\n"
-        )
-    );
-}
-
-#[test]
-fn two_partitions_report(rt: HostRuntime) {
-    let alloc = rt.alloc();
-    // Row two-hellos.
-    assert!(rt;
-        is_report(
-            alloc,
-            &TWO,
-            &rows::HELLO,
-            &rows::HELLO,
-            40,
-            "partition p exit 0 steps 9 lost 0\noutput 2\nhi\npartition q exit 0 steps 9 lost 0\noutput 2\nhi\n"
-        )
-    );
-    // Row load-at-memory-end.
-    assert!(rt;
-        is_report(
-            alloc,
-            &TWO,
-            &rows::LOAD_AT_END,
-            &rows::HELLO,
-            40,
-            "partition p fault misaligned pc 0x0000000c steps 4 lost 0\noutput 0\n\npartition q exit 0 steps 9 lost 0\noutput 2\nhi\n"
-        )
-    );
-    assert!(rt;
-        is_report(
-            alloc,
-            &TWO,
-            &rows::LOAD_PAST_END,
-            &rows::HELLO,
-            40,
-            "partition p fault load pc 0x0000000c steps 4 lost 0\noutput 0\n\npartition q exit 0 steps 9 lost 0\noutput 2\nhi\n"
-        )
-    );
-    // Row round-robin-windows.
-    assert!(rt;
-        is_report(
-            alloc,
-            &SLOW,
-            &rows::ROUND_ROBIN,
-            &[],
-            87,
-            "partition p running steps 19 lost 3\noutput 0\n\npartition q idle steps 0 lost 0\noutput 0\n\n"
-        )
-    );
-}
-
-#[test]
-fn input_arrives(rt: HostRuntime) {
-    let alloc = rt.alloc();
-    // Row input-ring.
-    assert!(rt;
-        is_report(
-            alloc,
-            &ONE_BYTE,
-            &rows::GET_ONE,
-            &[],
-            41,
-            "partition p exit 0 steps 4 lost 0\noutput 0\n\npartition q idle steps 0 lost 0\noutput 0\n\n"
-        )
-    );
-    assert!(rt;
-        is_trace(
-            alloc,
-            &ONE_BYTE,
-            &rows::GET_ONE,
-            &[],
-            41,
-            "0 1 0x00000000 0x00200893 0x00000000\n1 1 0x00000004 0x00000073 0x00000000\n19 1 0x00000008 0x00000893 0x00000000\n40 1 0x0000000c 0x00000073 0x00000000\n"
-        )
-    );
-    assert!(rt;
-        is_report(
-            alloc,
-            &FULL_RING,
-            &rows::GET_TWO,
-            &[],
-            100,
-            "partition p exit 0 steps 33 lost 2\noutput 2\nab\npartition q idle steps 0 lost 0\noutput 0\n\n"
-        )
-    );
+fn traces_are_the_last_steps(rt: HostRuntime) {
+    assert_eq!(rt; first_wrong_trace(rt.alloc(), &TRACES), None);
 }
 
 // Asserts what main's a1 is before and after the byte comes at tick 19, where main stands then, and bytes of its memory.
@@ -571,27 +634,6 @@ fn input_is_lost_where_the_ring_is_full(rt: HostRuntime) {
 #[test]
 fn a_neighbour_that_exhausts_changes_nothing(rt: HostRuntime) {
     let alloc = rt.alloc();
-    // Row neighbour-exhausts.
-    assert!(rt;
-        is_report(
-            alloc,
-            &BESIDE_QUIET,
-            &rows::PUTS_THE_NUMBER,
-            &rows::QUIET,
-            1500,
-            "partition q exit 0 steps 3 lost 0\noutput 0\n\npartition p exit 7 steps 20 lost 0\noutput 1\n2\n"
-        )
-    );
-    assert!(rt;
-        is_report(
-            alloc,
-            &BESIDE_STORM,
-            &rows::PUTS_THE_NUMBER,
-            &rows::STORM,
-            1500,
-            "partition q fault break pc 0x0000003c steps 207 lost 131\noutput 4\n!!!!\npartition p exit 7 steps 20 lost 0\noutput 1\n2\n"
-        )
-    );
     let beside_quiet = trace(
         alloc,
         &BESIDE_QUIET,
@@ -646,30 +688,6 @@ fn a_refused_image_halts_its_partition_alone(rt: HostRuntime) {
         ),
         _ => assert!(rt; false, "no memory"),
     }
-    // Row refused-neighbour-image.
-    assert!(rt;
-        is_report(
-            alloc,
-            &BARE,
-            &rows::HELLO,
-            &[],
-            40,
-            "partition p exit 0 steps 9 lost 0\noutput 2\nhi\npartition q idle steps 0 lost 0\noutput 0\n\n"
-        )
-    );
-}
-
-#[test]
-fn traces_are_the_last_steps(rt: HostRuntime) {
-    let alloc = rt.alloc();
-    // Row short-trace.
-    assert!(rt; is_trace(alloc, &SHORT, &rows::HELLO, &[], 20, SHORT_TRACE));
-    // Row full-trace.
-    assert!(rt; is_trace(alloc, &ALONE, &rows::HELLO, &[], 20, FULL_TRACE));
-    // Row create-join.
-    assert!(rt; is_trace(alloc, &WIDE, &rows::CREATE_JOIN, &[], 40, CREATE_JOIN_TRACE));
-    // Row round-robin-windows.
-    assert!(rt; is_trace(alloc, &SLOW, &rows::ROUND_ROBIN, &[], 87, ROUND_ROBIN_TRACE));
 }
 
 const SHORT_TRACE: &str =

@@ -14,10 +14,16 @@ use std::alloc::{AllocError, Global};
 use std::marker::Model;
 
 /// All partitions' states: the tables, and each partition's account.
-#[derive(Drop)]
 pub struct Machine {
     pub(crate) tables: Tables,
     pub(crate) accounts: Vec<Account>,
+}
+
+// By hand: a function that drops the machine calls this, and its proof does not spell out the drop of each part.
+impl Drop for Machine {
+    fn drop(self) {
+        let Machine { tables, accounts } = self;
+    }
 }
 
 impl Model for Machine {

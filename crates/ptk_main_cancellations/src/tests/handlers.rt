@@ -1,6 +1,6 @@
 //! Rows of cleanup handlers, and of the mutexes of a thread that is cancelled.
 
-use ptk_main_guests::{ALONE, LIBRARY, Sight, check_row};
+use ptk_main_guests::{ALONE, LIBRARY, Row, Sight};
 
 // Row seventeen-handlers. Main pushes a handler for each letter from `a` on until it is refused, and exits as a thread:
 // a handler takes 10 ticks, the gate's 4 among them.
@@ -18,22 +18,6 @@ push:
     ecall               # 173  the gate at 179, 189 .. 329 for a handler, and at 339
 ";
 
-#[test]
-fn sixteen_handlers_run_the_last_pushed_first(rt: HostRuntime) {
-    let source = [SEVENTEEN, LIBRARY];
-    let sights = [
-        (156, Sight::Register(1, 10), 0),
-        (166, Sight::Register(1, 10), 11),
-        (172, Sight::Register(1, 8), 114),
-        (339, Sight::Steps, 187),
-    ];
-    let want = "partition p exit 0 steps 188 lost 0\noutput 16\nponmlkjihgfedcba\n";
-    assert_eq!(rt;
-        check_row(rt.alloc(), &ALONE, &source, &sights, 340, want),
-        None
-    );
-}
-
 // Main returns from its start with a handler, and the partition exits.
 const RETURNING_MAIN: &str = "
     la a0, letter       #   0
@@ -43,17 +27,6 @@ const RETURNING_MAIN: &str = "
     li a0, 3            #   8
     ret                 #   9  the gate at 10
 ";
-
-#[test]
-fn a_return_of_main_runs_no_handler(rt: HostRuntime) {
-    let source = [RETURNING_MAIN, LIBRARY];
-    let sights = [(10, Sight::Steps, 7)];
-    let want = "partition p exit 3 steps 8 lost 0\noutput 0\n\n";
-    assert_eq!(rt;
-        check_row(rt.alloc(), &ALONE, &source, &sights, 11, want),
-        None
-    );
-}
 
 // Thread 2, at 20, has no handler to pop, then pushes three, pops the last one and calls it. The second one exits with
 // 5 in place of 4, and the first one runs all the same.
@@ -96,23 +69,6 @@ leave:
     ecall               #  80  the gate at 86, and behind the last handler at 96
 ";
 
-#[test]
-fn a_handler_that_exits_gives_its_value_and_the_others_run(rt: HostRuntime) {
-    let source = [POPPED, LIBRARY];
-    let sights = [
-        (22, Sight::Register(2, 10), 22),
-        (50, Sight::Register(2, 10), 0),
-        (50, Sight::Register(2, 12), 99),
-        (74, Sight::Register(2, 8), 1022),
-        (104, Sight::Register(1, 11), 5),
-    ];
-    let want = "partition p exit 5 steps 53 lost 0\noutput 3\ncba\n";
-    assert_eq!(rt;
-        check_row(rt.alloc(), &ALONE, &source, &sights, 114, want),
-        None
-    );
-}
-
 // Thread 2, at 20, owns a robust mutex when it is cancelled in a read; 3, at 18, waits for the mutex.
 const ROBUST: &str = "
     li a0, 1024         #   0
@@ -141,21 +97,6 @@ heir:
     li a7, 0            #  96  exit
     ecall               #  97
 ";
-
-#[test]
-fn a_cancelled_owners_robust_mutex_goes_to_its_heir(rt: HostRuntime) {
-    let source = [ROBUST, LIBRARY];
-    let sights = [
-        (92, Sight::Awaited(3), 1),
-        (92, Sight::Register(3, 10), 1024),
-        (93, Sight::Register(3, 10), 130),
-    ];
-    let want = "partition p exit 130 steps 39 lost 0\noutput 0\n\n";
-    assert_eq!(rt;
-        check_row(rt.alloc(), &ALONE, &source, &sights, 98, want),
-        None
-    );
-}
 
 // Thread 2, at 20, is ASYNCHRONOUS and cancels itself. Its handler finds DISABLE and DEFERRED, sets ENABLE and
 // ASYNCHRONOUS, and goes on, past a point too.
@@ -195,18 +136,66 @@ enable:
     ret                 #  65  the gate at 66
 ";
 
-#[test]
-fn no_request_acts_while_a_thread_unwinds(rt: HostRuntime) {
-    let source = [UNWINDING, LIBRARY];
-    let sights = [
-        (66, Sight::Register(2, 8), 1001),
-        (66, Sight::Register(2, 9), 1000),
-        (66, Sight::Register(2, 18), 1000),
-        (83, Sight::Steps, 40),
-    ];
-    let want = "partition p exit 255 steps 41 lost 0\noutput 0\n\n";
-    assert_eq!(rt;
-        check_row(rt.alloc(), &ALONE, &source, &sights, 84, want),
-        None
-    );
-}
+/// What each guest above comes to.
+pub(super) const ROWS: [Row<'static>; 5] = [
+    Row {
+        name: "sixteen_handlers_run_the_last_pushed_first",
+        parts: &ALONE,
+        source: &[SEVENTEEN, LIBRARY],
+        sights: &[
+            (156, Sight::Register(1, 10), 0),
+            (166, Sight::Register(1, 10), 11),
+            (172, Sight::Register(1, 8), 114),
+            (339, Sight::Steps, 187),
+        ],
+        ticks: 340,
+        report: "partition p exit 0 steps 188 lost 0\noutput 16\nponmlkjihgfedcba\n",
+    },
+    Row {
+        name: "a_return_of_main_runs_no_handler",
+        parts: &ALONE,
+        source: &[RETURNING_MAIN, LIBRARY],
+        sights: &[(10, Sight::Steps, 7)],
+        ticks: 11,
+        report: "partition p exit 3 steps 8 lost 0\noutput 0\n\n",
+    },
+    Row {
+        name: "a_handler_that_exits_gives_its_value_and_the_others_run",
+        parts: &ALONE,
+        source: &[POPPED, LIBRARY],
+        sights: &[
+            (22, Sight::Register(2, 10), 22),
+            (50, Sight::Register(2, 10), 0),
+            (50, Sight::Register(2, 12), 99),
+            (74, Sight::Register(2, 8), 1022),
+            (104, Sight::Register(1, 11), 5),
+        ],
+        ticks: 114,
+        report: "partition p exit 5 steps 53 lost 0\noutput 3\ncba\n",
+    },
+    Row {
+        name: "a_cancelled_owners_robust_mutex_goes_to_its_heir",
+        parts: &ALONE,
+        source: &[ROBUST, LIBRARY],
+        sights: &[
+            (92, Sight::Awaited(3), 1),
+            (92, Sight::Register(3, 10), 1024),
+            (93, Sight::Register(3, 10), 130),
+        ],
+        ticks: 98,
+        report: "partition p exit 130 steps 39 lost 0\noutput 0\n\n",
+    },
+    Row {
+        name: "no_request_acts_while_a_thread_unwinds",
+        parts: &ALONE,
+        source: &[UNWINDING, LIBRARY],
+        sights: &[
+            (66, Sight::Register(2, 8), 1001),
+            (66, Sight::Register(2, 9), 1000),
+            (66, Sight::Register(2, 18), 1000),
+            (83, Sight::Steps, 40),
+        ],
+        ticks: 84,
+        report: "partition p exit 255 steps 41 lost 0\noutput 0\n\n",
+    },
+];

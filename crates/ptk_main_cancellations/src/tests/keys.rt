@@ -1,6 +1,6 @@
 //! Rows of keys, their values and their destructors.
 
-use ptk_main_guests::{ALONE, BY_RETURN, LIBRARY, SET_AGAIN, Sight, check_row};
+use ptk_main_guests::{ALONE, BY_RETURN, LIBRARY, Row, SET_AGAIN, Sight};
 
 // The destructor exits with 7, the gate at 62, 86, 110 and 134.
 const BY_EXIT: &str = "
@@ -8,31 +8,6 @@ const BY_EXIT: &str = "
     li a7, 11           #  55  pthread_exit
     ecall               #  56
 ";
-
-#[test]
-fn a_destructor_runs_four_times_at_most(rt: HostRuntime) {
-    // Row destructor-limit.
-    let source = [SET_AGAIN, BY_RETURN, LIBRARY];
-    let sights = [
-        (24, Sight::Register(2, 11), 1),
-        (31, Sight::Register(2, 10), 0),
-        (39, Sight::Register(2, 10), 49),
-        (106, Sight::Steps, 60),
-    ];
-    let want = "partition p exit 33 steps 68 lost 0\noutput 4\n1234\n";
-    assert_eq!(rt;
-        check_row(rt.alloc(), &ALONE, &source, &sights, 124, want),
-        None
-    );
-    // Row exit-in-destructor.
-    let source = [SET_AGAIN, BY_EXIT, LIBRARY];
-    let sights = [(134, Sight::Steps, 68)];
-    let want = "partition p exit 7 steps 76 lost 0\noutput 4\n1234\n";
-    assert_eq!(rt;
-        check_row(rt.alloc(), &ALONE, &source, &sights, 152, want),
-        None
-    );
-}
 
 // Row destructor-rounds. Thread 2, at 20, ends with values of the keys 1 and 2; the destructor of 2 sets key 1.
 const ROUNDS: &str = "
@@ -68,17 +43,6 @@ second:
     ecall               #  69
     ret                 #  71  the gate at 72, then letter from 76 to 81; the gate at 82
 ";
-
-#[test]
-fn a_value_set_by_a_destructor_is_of_the_next_round(rt: HostRuntime) {
-    let source = [ROUNDS, LIBRARY];
-    let sights = [(30, Sight::Register(2, 11), 2), (82, Sight::Steps, 41)];
-    let want = "partition p exit 0 steps 49 lost 0\noutput 3\nabc\n";
-    assert_eq!(rt;
-        check_row(rt.alloc(), &ALONE, &source, &sights, 100, want),
-        None
-    );
-}
 
 // Main and 2, of its priority, have values of their own of key 1. Main deletes the key, uses it still, and creates it
 // again.
@@ -145,28 +109,6 @@ other:
     ecall               # 105
 ";
 
-#[test]
-fn a_key_is_created_without_values(rt: HostRuntime) {
-    let source = [CREATED_AGAIN, LIBRARY];
-    let sights = [
-        (96, Sight::Register(1, 8), 1001),
-        (96, Sight::Register(1, 9), 1006),
-        (96, Sight::Register(1, 18), 1000),
-        (96, Sight::Register(1, 19), 1022),
-        (96, Sight::Register(1, 20), 1022),
-        (96, Sight::Register(1, 21), 1000),
-        (96, Sight::Register(1, 22), 1001),
-        (96, Sight::Register(1, 23), 1000),
-        (105, Sight::Register(2, 8), 1000),
-        (105, Sight::Register(2, 9), 1000),
-    ];
-    let want = "partition p exit 0 steps 66 lost 0\noutput 0\n\n";
-    assert_eq!(rt;
-        check_row(rt.alloc(), &ALONE, &source, &sights, 106, want),
-        None
-    );
-}
-
 // Main creates keys until it is refused, deletes key 2 and creates one.
 const FULL: &str = "
     li a7, 50           #   0  pthread_key_create
@@ -185,16 +127,68 @@ again:
     ecall               #  45
 ";
 
-#[test]
-fn keys_take_the_least_free_number(rt: HostRuntime) {
-    let sights = [
-        (21, Sight::Register(1, 11), 4),
-        (45, Sight::Register(1, 8), 5),
-        (45, Sight::Register(1, 9), 1011),
-    ];
-    let want = "partition p exit 2 steps 25 lost 0\noutput 0\n\n";
-    assert_eq!(rt;
-        check_row(rt.alloc(), &ALONE, &[FULL], &sights, 46, want),
-        None
-    );
-}
+/// What each guest above comes to.
+pub(super) const ROWS: [Row<'static>; 5] = [
+    // Row destructor-limit.
+    Row {
+        name: "a_destructor_runs_four_times_at_most",
+        parts: &ALONE,
+        source: &[SET_AGAIN, BY_RETURN, LIBRARY],
+        sights: &[
+            (24, Sight::Register(2, 11), 1),
+            (31, Sight::Register(2, 10), 0),
+            (39, Sight::Register(2, 10), 49),
+            (106, Sight::Steps, 60),
+        ],
+        ticks: 124,
+        report: "partition p exit 33 steps 68 lost 0\noutput 4\n1234\n",
+    },
+    // Row exit-in-destructor.
+    Row {
+        name: "a_destructor_runs_four_times_at_most",
+        parts: &ALONE,
+        source: &[SET_AGAIN, BY_EXIT, LIBRARY],
+        sights: &[(134, Sight::Steps, 68)],
+        ticks: 152,
+        report: "partition p exit 7 steps 76 lost 0\noutput 4\n1234\n",
+    },
+    Row {
+        name: "a_value_set_by_a_destructor_is_of_the_next_round",
+        parts: &ALONE,
+        source: &[ROUNDS, LIBRARY],
+        sights: &[(30, Sight::Register(2, 11), 2), (82, Sight::Steps, 41)],
+        ticks: 100,
+        report: "partition p exit 0 steps 49 lost 0\noutput 3\nabc\n",
+    },
+    Row {
+        name: "a_key_is_created_without_values",
+        parts: &ALONE,
+        source: &[CREATED_AGAIN, LIBRARY],
+        sights: &[
+            (96, Sight::Register(1, 8), 1001),
+            (96, Sight::Register(1, 9), 1006),
+            (96, Sight::Register(1, 18), 1000),
+            (96, Sight::Register(1, 19), 1022),
+            (96, Sight::Register(1, 20), 1022),
+            (96, Sight::Register(1, 21), 1000),
+            (96, Sight::Register(1, 22), 1001),
+            (96, Sight::Register(1, 23), 1000),
+            (105, Sight::Register(2, 8), 1000),
+            (105, Sight::Register(2, 9), 1000),
+        ],
+        ticks: 106,
+        report: "partition p exit 0 steps 66 lost 0\noutput 0\n\n",
+    },
+    Row {
+        name: "keys_take_the_least_free_number",
+        parts: &ALONE,
+        source: &[FULL],
+        sights: &[
+            (21, Sight::Register(1, 11), 4),
+            (45, Sight::Register(1, 8), 5),
+            (45, Sight::Register(1, 9), 1011),
+        ],
+        ticks: 46,
+        report: "partition p exit 2 steps 25 lost 0\noutput 0\n\n",
+    },
+];

@@ -1,6 +1,6 @@
 //! Rows of two partitions: what one cancels, keeps under its keys and pushes, the other never sees.
 
-use ptk_main_guests::{LIBRARY, P, check_cuts, is_trace};
+use ptk_main_guests::{CutRow, LIBRARY, P, TraceRow};
 
 // The numbers of a section, with a trace of 16 steps.
 const NUMBERS: &str =
@@ -65,38 +65,54 @@ target:
 const TRACE: &str =
     "266 2 0x00000070 0x00000000 0x00000000\n270 2 0xfffffff0 0x00000000 0x00000068\n274 2 0x00000088 0x00100893 0x00000068\n275 2 0x0000008c 0x00000073 0x00000000\n279 2 0x00000090 0x00008067 0x00000000\n280 2 0xfffffff0 0x00000000 0x00000064\n284 2 0x00000088 0x00100893 0x00000064\n285 2 0x0000008c 0x00000073 0x00000000\n289 2 0x00000090 0x00008067 0x00000000\n290 2 0xfffffff0 0x00000000 0x00000000\n294 1 0x0000001c 0x00200513 0x00000002\n295 1 0x00000020 0x00c00893 0x00000002\n296 1 0x00000024 0x00000073 0x00000000\n304 1 0x00000028 0x00058513 0xffffffff\n305 1 0x0000002c 0x00000893 0xffffffff\n306 1 0x00000030 0x00000073 0xffffffff\n";
 
-#[test]
-fn a_neighbours_cancellations_change_nothing(rt: HostRuntime) {
-    let alloc = rt.alloc();
-    let source = [CANCELLED, LIBRARY];
-    let beside_itself = [
-        (
-            256,
-            "partition p running steps 27 lost 8\noutput 0\n\npartition q exit 255 steps 44 lost 0\noutput 2\nhd\n",
-        ),
-        (
-            307,
-            "partition p exit 255 steps 44 lost 8\noutput 2\nhd\npartition q exit 255 steps 44 lost 0\noutput 2\nhd\n",
-        ),
-    ];
-    assert_eq!(rt;
-        check_cuts(alloc, &BESIDE_ITSELF, &source, &beside_itself),
-        None
-    );
-    let beside_nobody = [
-        (
-            256,
-            "partition p running steps 27 lost 8\noutput 0\n\npartition q idle steps 0 lost 0\noutput 0\n\n",
-        ),
-        (
-            307,
-            "partition p exit 255 steps 44 lost 8\noutput 2\nhd\npartition q idle steps 0 lost 0\noutput 0\n\n",
-        ),
-    ];
-    assert_eq!(rt;
-        check_cuts(alloc, &BESIDE_NOBODY, &source, &beside_nobody),
-        None
-    );
-    assert!(rt; is_trace(alloc, &BESIDE_ITSELF, &source, 307, TRACE));
-    assert!(rt; is_trace(alloc, &BESIDE_NOBODY, &source, 307, TRACE));
-}
+/// Their reports however a run is cut.
+pub(super) const CUTS: [CutRow<'static>; 2] = [
+    CutRow {
+        name: "beside itself",
+        parts: &BESIDE_ITSELF,
+        source: &[CANCELLED, LIBRARY],
+        cuts: &[
+            (
+                256,
+                "partition p running steps 27 lost 8\noutput 0\n\npartition q exit 255 steps 44 lost 0\noutput 2\nhd\n",
+            ),
+            (
+                307,
+                "partition p exit 255 steps 44 lost 8\noutput 2\nhd\npartition q exit 255 steps 44 lost 0\noutput 2\nhd\n",
+            ),
+        ],
+    },
+    CutRow {
+        name: "beside nobody",
+        parts: &BESIDE_NOBODY,
+        source: &[CANCELLED, LIBRARY],
+        cuts: &[
+            (
+                256,
+                "partition p running steps 27 lost 8\noutput 0\n\npartition q idle steps 0 lost 0\noutput 0\n\n",
+            ),
+            (
+                307,
+                "partition p exit 255 steps 44 lost 8\noutput 2\nhd\npartition q idle steps 0 lost 0\noutput 0\n\n",
+            ),
+        ],
+    },
+];
+
+/// Its last steps, which a neighbour's cancellations do not change.
+pub(super) const TRACES: [TraceRow<'static>; 2] = [
+    TraceRow {
+        name: "beside itself",
+        parts: &BESIDE_ITSELF,
+        source: &[CANCELLED, LIBRARY],
+        ticks: 307,
+        trace: TRACE,
+    },
+    TraceRow {
+        name: "beside nobody",
+        parts: &BESIDE_NOBODY,
+        source: &[CANCELLED, LIBRARY],
+        ticks: 307,
+        trace: TRACE,
+    },
+];

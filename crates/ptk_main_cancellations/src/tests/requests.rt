@@ -1,6 +1,6 @@
 //! Rows of requests to threads that are ready or running: states, types, points, and threads that are no targets.
 
-use ptk_main_guests::{ALONE, LIBRARY, Sight, check_row, is_trace};
+use ptk_main_guests::{ALONE, LIBRARY, Row, Sight, TraceRow};
 
 // Row async-cancel-ready. Thread 2, at main's priority, is ASYNCHRONOUS and ready.
 const ASYNCHRONOUS_READY: &str = "
@@ -26,30 +26,6 @@ target:
     ecall               #  31  its unwinding begins at 57, the gate at 61
     ebreak              #      not reached
 ";
-
-#[test]
-fn an_asynchronous_request_acts_at_the_next_step(rt: HostRuntime) {
-    let source = [ASYNCHRONOUS_READY, LIBRARY];
-    let sights = [
-        (38, Sight::Register(1, 10), 0),
-        (62, Sight::Register(1, 11), 0xffff_ffff),
-        (67, Sight::Register(1, 8), 999),
-    ];
-    let want = "partition p exit 0 steps 28 lost 0\noutput 0\n\n";
-    assert_eq!(rt;
-        check_row(rt.alloc(), &ALONE, &source, &sights, 68, want),
-        None
-    );
-    assert!(rt;
-        is_trace(
-            rt.alloc(),
-            &ALONE,
-            &source,
-            66,
-            "57 2 0x00000050 0x00000000 0x00000000\n61 2 0xfffffff0 0x00000000 0x00000000\n65 1 0x00000030 0x3e858413 0x00000000\n"
-        )
-    );
-}
 
 // Row disable-then-enable. Thread 2, at 20, is in DISABLE when it cancels itself. The point that acts writes no reply.
 const DISABLE_THEN_ENABLE: &str = "
@@ -83,24 +59,6 @@ target:
     ecall               #  49  the gate at 51
 ";
 
-#[test]
-fn a_request_waits_until_cancellation_is_enabled(rt: HostRuntime) {
-    let source = [DISABLE_THEN_ENABLE, LIBRARY];
-    let sights = [
-        (40, Sight::Register(2, 10), 0),
-        (50, Sight::Register(2, 8), 1000),
-        (50, Sight::Register(2, 9), 1000),
-        (50, Sight::Register(2, 18), 1001),
-        (50, Sight::Register(2, 10), 7),
-        (68, Sight::Register(1, 8), 999),
-    ];
-    let want = "partition p exit 0 steps 35 lost 0\noutput 0\n\n";
-    assert_eq!(rt;
-        check_row(rt.alloc(), &ALONE, &source, &sights, 69, want),
-        None
-    );
-}
-
 // Row bad-pointer-with-request. Main cancels itself, and waits with a bad third pointer, which is told first. Its next
 // point is a wait of two zero words, which it leaves as they are; then it ends as the last thread.
 const BAD_POINTER: &str = "
@@ -117,23 +75,6 @@ const BAD_POINTER: &str = "
     li a7, 32           #  32  cond_wait
     ecall               #  33  the gate at 45
 ";
-
-#[test]
-fn a_bad_pointer_is_told_and_the_request_stays(rt: HostRuntime) {
-    let sights = [
-        (17, Sight::Register(1, 10), 14),
-        (34, Sight::Register(1, 8), 1014),
-        (34, Sight::Register(1, 10), 1028),
-        (34, Sight::Byte(1024), 0),
-        (34, Sight::Byte(1028), 0),
-        (45, Sight::Steps, 12),
-    ];
-    let want = "partition p exit 0 steps 13 lost 0\noutput 0\n\n";
-    assert_eq!(rt;
-        check_row(rt.alloc(), &ALONE, &[BAD_POINTER], &sights, 46, want),
-        None
-    );
-}
 
 // Thread 2, at 20, has ended with 9 when it is cancelled; there is no 3. Then states and types that there are not, and
 // both types in turn.
@@ -173,21 +114,73 @@ target:
     ret                 #  21  the gate at 22 and 26
 ";
 
-#[test]
-fn only_a_thread_in_use_is_cancelled(rt: HostRuntime) {
-    let source = [REFUSALS, LIBRARY];
-    let sights = [
-        (86, Sight::Register(1, 8), 1000),
-        (86, Sight::Register(1, 9), 1003),
-        (86, Sight::Register(1, 18), 1009),
-        (86, Sight::Register(1, 19), 1022),
-        (86, Sight::Register(1, 20), 1022),
-        (86, Sight::Register(1, 21), 1000),
-        (86, Sight::Register(1, 22), 1001),
-    ];
-    let want = "partition p exit 0 steps 41 lost 0\noutput 0\n\n";
-    assert_eq!(rt;
-        check_row(rt.alloc(), &ALONE, &source, &sights, 87, want),
-        None
-    );
-}
+/// What each guest above comes to.
+pub(super) const ROWS: [Row<'static>; 4] = [
+    Row {
+        name: "an_asynchronous_request_acts_at_the_next_step",
+        parts: &ALONE,
+        source: &[ASYNCHRONOUS_READY, LIBRARY],
+        sights: &[
+            (38, Sight::Register(1, 10), 0),
+            (62, Sight::Register(1, 11), 0xffff_ffff),
+            (67, Sight::Register(1, 8), 999),
+        ],
+        ticks: 68,
+        report: "partition p exit 0 steps 28 lost 0\noutput 0\n\n",
+    },
+    Row {
+        name: "a_request_waits_until_cancellation_is_enabled",
+        parts: &ALONE,
+        source: &[DISABLE_THEN_ENABLE, LIBRARY],
+        sights: &[
+            (40, Sight::Register(2, 10), 0),
+            (50, Sight::Register(2, 8), 1000),
+            (50, Sight::Register(2, 9), 1000),
+            (50, Sight::Register(2, 18), 1001),
+            (50, Sight::Register(2, 10), 7),
+            (68, Sight::Register(1, 8), 999),
+        ],
+        ticks: 69,
+        report: "partition p exit 0 steps 35 lost 0\noutput 0\n\n",
+    },
+    Row {
+        name: "a_bad_pointer_is_told_and_the_request_stays",
+        parts: &ALONE,
+        source: &[BAD_POINTER],
+        sights: &[
+            (17, Sight::Register(1, 10), 14),
+            (34, Sight::Register(1, 8), 1014),
+            (34, Sight::Register(1, 10), 1028),
+            (34, Sight::Byte(1024), 0),
+            (34, Sight::Byte(1028), 0),
+            (45, Sight::Steps, 12),
+        ],
+        ticks: 46,
+        report: "partition p exit 0 steps 13 lost 0\noutput 0\n\n",
+    },
+    Row {
+        name: "only_a_thread_in_use_is_cancelled",
+        parts: &ALONE,
+        source: &[REFUSALS, LIBRARY],
+        sights: &[
+            (86, Sight::Register(1, 8), 1000),
+            (86, Sight::Register(1, 9), 1003),
+            (86, Sight::Register(1, 18), 1009),
+            (86, Sight::Register(1, 19), 1022),
+            (86, Sight::Register(1, 20), 1022),
+            (86, Sight::Register(1, 21), 1000),
+            (86, Sight::Register(1, 22), 1001),
+        ],
+        ticks: 87,
+        report: "partition p exit 0 steps 41 lost 0\noutput 0\n\n",
+    },
+];
+
+/// The last steps of some of them.
+pub(super) const TRACES: [TraceRow<'static>; 1] = [TraceRow {
+    name: "an_asynchronous_request_acts_at_the_next_step",
+    parts: &ALONE,
+    source: &[ASYNCHRONOUS_READY, LIBRARY],
+    ticks: 66,
+    trace: "57 2 0x00000050 0x00000000 0x00000000\n61 2 0xfffffff0 0x00000000 0x00000000\n65 1 0x00000030 0x3e858413 0x00000000\n",
+}];

@@ -1,35 +1,6 @@
 //! Rows of requests to threads that wait.
 
-use ptk_main_guests::{ALONE, CANCELLED_WAITER, LIBRARY, NUMBERS, P, Sight, check_row, is_trace};
-
-#[test]
-fn a_cancelled_waiter_owns_its_mutex_and_takes_no_signal(rt: HostRuntime) {
-    let source = [CANCELLED_WAITER, LIBRARY];
-    let sights = [
-        (122, Sight::Register(2, 10), 1028),
-        (135, Sight::Register(1, 8), 1000),
-        (135, Sight::Register(3, 10), 1028),
-        (135, Sight::Awaited(3), 1),
-        (165, Sight::Awaited(3), 1),
-        (166, Sight::Register(2, 10), 0),
-        (166, Sight::Register(3, 10), 0),
-        (219, Sight::Register(1, 9), 999),
-    ];
-    let want = "partition p exit 0 steps 79 lost 0\noutput 0\n\n";
-    assert_eq!(rt;
-        check_row(rt.alloc(), &ALONE, &source, &sights, 220, want),
-        None
-    );
-    assert!(rt;
-        is_trace(
-            rt.alloc(),
-            &ALONE,
-            &source,
-            165,
-            "156 2 0x0000009c 0x00000000 0x00000404\n160 2 0xfffffff0 0x00000000 0x00000400\n164 2 0x000000a4 0x01900893 0x00000400\n"
-        )
-    );
-}
+use ptk_main_guests::{ALONE, CANCELLED_WAITER, LIBRARY, NUMBERS, P, Row, Sight, TraceRow};
 
 // Row cancelled-joiner. Thread 2, at main's priority, joins 3, at 10, and is cancelled; then main joins 3, and 2.
 const CANCELLED_JOINER: &str = "
@@ -64,24 +35,6 @@ target:
     ret                 #  89  the gate at 90 and 94
 ";
 
-#[test]
-fn a_cancelled_joiner_leaves_its_target_joinable(rt: HostRuntime) {
-    let source = [CANCELLED_JOINER, LIBRARY];
-    let sights = [
-        (61, Sight::Register(2, 10), 3),
-        (61, Sight::Register(2, 11), 77),
-        (73, Sight::Register(1, 10), 3),
-        (95, Sight::Register(1, 10), 0),
-        (95, Sight::Register(1, 11), 33),
-        (111, Sight::Register(1, 9), 999),
-    ];
-    let want = "partition p exit 33 steps 45 lost 0\noutput 0\n\n";
-    assert_eq!(rt;
-        check_row(rt.alloc(), &ALONE, &source, &sights, 112, want),
-        None
-    );
-}
-
 // A sleeper, 2, at 20 is cancelled long before its time.
 const CANCELLED_SLEEPER: &str = "
     la a1, sleeper      #   0
@@ -110,20 +63,6 @@ two_hundred:
     .word 0
     .word 200000
 ";
-
-#[test]
-fn a_cancelled_sleeper_sleeps_no_longer(rt: HostRuntime) {
-    let source = [CANCELLED_SLEEPER, LIBRARY, TIME];
-    let sights = [
-        (34, Sight::Register(2, 10), 1),
-        (54, Sight::Register(1, 11), 0xffff_ffff),
-    ];
-    let want = "partition p exit 255 steps 26 lost 0\noutput 0\n\n";
-    assert_eq!(rt;
-        check_row(rt.alloc(), &ALONE, &source, &sights, 64, want),
-        None
-    );
-}
 
 // The window of `ALONE`.
 const WINDOW: &str = "[[window]]\nstart = 0\nlength = 1000000\npartition = \"p\"\n";
@@ -162,21 +101,6 @@ reader:
     li a7, 2            #  26  console_get
     ecall               #  27  blocks; its unwinding begins at 64, the gate at 68
 ";
-
-#[test]
-fn a_cancelled_reader_gets_no_later_byte(rt: HostRuntime) {
-    let source = [CANCELLED_READER, LIBRARY];
-    let sights = [
-        (44, Sight::Register(2, 11), 0),
-        (45, Sight::Register(1, 11), 97),
-        (65, Sight::Register(2, 11), 0),
-    ];
-    let want = "partition p exit 255 steps 30 lost 0\noutput 1\na\n";
-    assert_eq!(rt;
-        check_row(rt.alloc(), &BYTE_AT_40, &source, &sights, 75, want),
-        None
-    );
-}
 
 // A byte comes at tick 250.
 const BYTE_AT_250: [&str; 5] = [
@@ -233,25 +157,6 @@ cleanup:
     ret                 # 256  the gate at 257
 ";
 
-#[test]
-fn a_cancelled_timed_waiter_has_no_deadline_left(rt: HostRuntime) {
-    let source = [CANCELLED_TIMED_WAITER, LIBRARY, TIME];
-    let sights = [
-        (71, Sight::Awaited(2), 1),
-        (83, Sight::Register(2, 10), 1028),
-        (102, Sight::Register(2, 10), 0),
-        (250, Sight::Register(2, 10), 0),
-        (250, Sight::Register(2, 11), 1024),
-        (250, Sight::Steps, 43),
-        (251, Sight::Register(2, 11), 97),
-    ];
-    let want = "partition p exit 255 steps 51 lost 0\noutput 1\na\n";
-    assert_eq!(rt;
-        check_row(rt.alloc(), &BYTE_AT_250, &source, &sights, 264, want),
-        None
-    );
-}
-
 // A waiter, 2, at 20 that is signalled waits for main's mutex again, and is then cancelled. It goes on with its reply;
 // its next point is console_get.
 const SIGNALLED_FIRST: &str = "
@@ -292,22 +197,6 @@ waiter:
     ecall               # 108  the gate at 112
 ";
 
-#[test]
-fn a_waiter_that_was_signalled_goes_on_to_the_next_point(rt: HostRuntime) {
-    let source = [SIGNALLED_FIRST, LIBRARY];
-    let sights = [
-        (73, Sight::Awaited(2), 1),
-        (85, Sight::Register(2, 10), 0),
-        (95, Sight::Register(2, 8), 1000),
-        (98, Sight::Register(2, 10), 0),
-    ];
-    let want = "partition p exit 255 steps 42 lost 0\noutput 0\n\n";
-    assert_eq!(rt;
-        check_row(rt.alloc(), &ALONE, &source, &sights, 129, want),
-        None
-    );
-}
-
 // Thread 2, at 20, is cancelled while it waits for main's mutex. It gets the mutex, goes on to testcancel, and ends as
 // its owner.
 const MUTEX_WAITER: &str = "
@@ -343,23 +232,6 @@ waiter:
     ecall               #  68  the gate at 70
 ";
 
-#[test]
-fn a_request_does_not_end_a_wait_for_a_mutex(rt: HostRuntime) {
-    let source = [MUTEX_WAITER, LIBRARY];
-    let sights = [
-        (44, Sight::Awaited(2), 1),
-        (57, Sight::Register(2, 10), 0),
-        (68, Sight::Register(2, 8), 1000),
-        (95, Sight::Register(1, 8), 1000),
-        (95, Sight::Register(1, 9), 1016),
-    ];
-    let want = "partition p exit 255 steps 37 lost 0\noutput 0\n\n";
-    assert_eq!(rt;
-        check_row(rt.alloc(), &ALONE, &source, &sights, 96, want),
-        None
-    );
-}
-
 // The same, but 2 is ASYNCHRONOUS: with the mutex its next step begins its unwinding.
 const ASYNCHRONOUS_WAITER: &str = "
     li a0, 1024         #   0
@@ -389,26 +261,134 @@ waiter:
     addi s0, a0, 1000   #      not reached
 ";
 
-#[test]
-fn an_asynchronous_request_acts_after_a_wait_for_a_mutex(rt: HostRuntime) {
-    let source = [ASYNCHRONOUS_WAITER, LIBRARY];
-    let sights = [
-        (48, Sight::Awaited(2), 1),
-        (60, Sight::Register(2, 10), 0),
-        (70, Sight::Register(2, 8), 0),
-    ];
-    let want = "partition p exit 16 steps 32 lost 0\noutput 0\n\n";
-    assert_eq!(rt;
-        check_row(rt.alloc(), &ALONE, &source, &sights, 87, want),
-        None
-    );
-    assert!(rt;
-        is_trace(
-            rt.alloc(),
-            &ALONE,
-            &source,
-            77,
-            "59 1 0x00000030 0x00000073 0x00000000\n69 2 0x00000060 0x00000000 0x00000000\n73 2 0xfffffff0 0x00000000 0x00000000\n"
-        )
-    );
-}
+/// What each guest above comes to.
+pub(super) const ROWS: [Row<'static>; 8] = [
+    Row {
+        name: "a_cancelled_waiter_owns_its_mutex_and_takes_no_signal",
+        parts: &ALONE,
+        source: &[CANCELLED_WAITER, LIBRARY],
+        sights: &[
+            (122, Sight::Register(2, 10), 1028),
+            (135, Sight::Register(1, 8), 1000),
+            (135, Sight::Register(3, 10), 1028),
+            (135, Sight::Awaited(3), 1),
+            (165, Sight::Awaited(3), 1),
+            (166, Sight::Register(2, 10), 0),
+            (166, Sight::Register(3, 10), 0),
+            (219, Sight::Register(1, 9), 999),
+        ],
+        ticks: 220,
+        report: "partition p exit 0 steps 79 lost 0\noutput 0\n\n",
+    },
+    Row {
+        name: "a_cancelled_joiner_leaves_its_target_joinable",
+        parts: &ALONE,
+        source: &[CANCELLED_JOINER, LIBRARY],
+        sights: &[
+            (61, Sight::Register(2, 10), 3),
+            (61, Sight::Register(2, 11), 77),
+            (73, Sight::Register(1, 10), 3),
+            (95, Sight::Register(1, 10), 0),
+            (95, Sight::Register(1, 11), 33),
+            (111, Sight::Register(1, 9), 999),
+        ],
+        ticks: 112,
+        report: "partition p exit 33 steps 45 lost 0\noutput 0\n\n",
+    },
+    Row {
+        name: "a_cancelled_sleeper_sleeps_no_longer",
+        parts: &ALONE,
+        source: &[CANCELLED_SLEEPER, LIBRARY, TIME],
+        sights: &[
+            (34, Sight::Register(2, 10), 1),
+            (54, Sight::Register(1, 11), 0xffff_ffff),
+        ],
+        ticks: 64,
+        report: "partition p exit 255 steps 26 lost 0\noutput 0\n\n",
+    },
+    Row {
+        name: "a_cancelled_reader_gets_no_later_byte",
+        parts: &BYTE_AT_40,
+        source: &[CANCELLED_READER, LIBRARY],
+        sights: &[
+            (44, Sight::Register(2, 11), 0),
+            (45, Sight::Register(1, 11), 97),
+            (65, Sight::Register(2, 11), 0),
+        ],
+        ticks: 75,
+        report: "partition p exit 255 steps 30 lost 0\noutput 1\na\n",
+    },
+    Row {
+        name: "a_cancelled_timed_waiter_has_no_deadline_left",
+        parts: &BYTE_AT_250,
+        source: &[CANCELLED_TIMED_WAITER, LIBRARY, TIME],
+        sights: &[
+            (71, Sight::Awaited(2), 1),
+            (83, Sight::Register(2, 10), 1028),
+            (102, Sight::Register(2, 10), 0),
+            (250, Sight::Register(2, 10), 0),
+            (250, Sight::Register(2, 11), 1024),
+            (250, Sight::Steps, 43),
+            (251, Sight::Register(2, 11), 97),
+        ],
+        ticks: 264,
+        report: "partition p exit 255 steps 51 lost 0\noutput 1\na\n",
+    },
+    Row {
+        name: "a_waiter_that_was_signalled_goes_on_to_the_next_point",
+        parts: &ALONE,
+        source: &[SIGNALLED_FIRST, LIBRARY],
+        sights: &[
+            (73, Sight::Awaited(2), 1),
+            (85, Sight::Register(2, 10), 0),
+            (95, Sight::Register(2, 8), 1000),
+            (98, Sight::Register(2, 10), 0),
+        ],
+        ticks: 129,
+        report: "partition p exit 255 steps 42 lost 0\noutput 0\n\n",
+    },
+    Row {
+        name: "a_request_does_not_end_a_wait_for_a_mutex",
+        parts: &ALONE,
+        source: &[MUTEX_WAITER, LIBRARY],
+        sights: &[
+            (44, Sight::Awaited(2), 1),
+            (57, Sight::Register(2, 10), 0),
+            (68, Sight::Register(2, 8), 1000),
+            (95, Sight::Register(1, 8), 1000),
+            (95, Sight::Register(1, 9), 1016),
+        ],
+        ticks: 96,
+        report: "partition p exit 255 steps 37 lost 0\noutput 0\n\n",
+    },
+    Row {
+        name: "an_asynchronous_request_acts_after_a_wait_for_a_mutex",
+        parts: &ALONE,
+        source: &[ASYNCHRONOUS_WAITER, LIBRARY],
+        sights: &[
+            (48, Sight::Awaited(2), 1),
+            (60, Sight::Register(2, 10), 0),
+            (70, Sight::Register(2, 8), 0),
+        ],
+        ticks: 87,
+        report: "partition p exit 16 steps 32 lost 0\noutput 0\n\n",
+    },
+];
+
+/// The last steps of some of them.
+pub(super) const TRACES: [TraceRow<'static>; 2] = [
+    TraceRow {
+        name: "a_cancelled_waiter_owns_its_mutex_and_takes_no_signal",
+        parts: &ALONE,
+        source: &[CANCELLED_WAITER, LIBRARY],
+        ticks: 165,
+        trace: "156 2 0x0000009c 0x00000000 0x00000404\n160 2 0xfffffff0 0x00000000 0x00000400\n164 2 0x000000a4 0x01900893 0x00000400\n",
+    },
+    TraceRow {
+        name: "an_asynchronous_request_acts_after_a_wait_for_a_mutex",
+        parts: &ALONE,
+        source: &[ASYNCHRONOUS_WAITER, LIBRARY],
+        ticks: 77,
+        trace: "59 1 0x00000030 0x00000073 0x00000000\n69 2 0x00000060 0x00000000 0x00000000\n73 2 0xfffffff0 0x00000000 0x00000000\n",
+    },
+];

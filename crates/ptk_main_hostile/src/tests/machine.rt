@@ -1,7 +1,7 @@
 //! Guests that misuse the machine. The ticks stand beside the lines.
 
 use super::FIRST_PATH;
-use ptk_main_guests::{ALONE, Sight, check_row, is_report};
+use ptk_main_guests::{ALONE, Row, Sight, check_row, is_report};
 
 // Row return-to-gate. Main is a normal thread, so its step at the gate exits with the low 8 bits of a0.
 const RETURN_TO_GATE: &str = "
@@ -72,17 +72,20 @@ const EDGE_POINTERS: &str = "
 
 #[test]
 fn a_time_is_stored_within_memory(rt: HostRuntime) {
-    let sights = [
-        (4, Sight::Register(1, 10), 14),
-        (4, Sight::Byte(4088), 0),
-        (11, Sight::Byte(4092), 0),
-        (12, Sight::Register(1, 10), 0),
-        (12, Sight::Byte(4092), 0xf8),
-        (12, Sight::Byte(4093), 0x2a),
-    ];
-    let want = "partition p exit 14 steps 12 lost 0\noutput 0\n\n";
-    assert_eq!(rt;
-        check_row(rt.alloc(), &ALONE, &[EDGE_POINTERS], &sights, 18, want),
-        None
-    );
+    let row = Row {
+        name: "edge-pointers",
+        parts: &ALONE,
+        source: &[EDGE_POINTERS],
+        sights: &[
+            (4, Sight::Register(1, 10), 14),
+            (4, Sight::Byte(4088), 0),
+            (11, Sight::Byte(4092), 0),
+            (12, Sight::Register(1, 10), 0),
+            (12, Sight::Byte(4092), 0xf8),
+            (12, Sight::Byte(4093), 0x2a),
+        ],
+        ticks: 18,
+        report: "partition p exit 14 steps 12 lost 0\noutput 0\n\n",
+    };
+    assert_eq!(rt; check_row(rt.alloc(), &row), None);
 }

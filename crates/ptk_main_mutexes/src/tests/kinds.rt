@@ -1,6 +1,6 @@
 //! Rows of types, words, pointers and pools, and of a lock at a window's end.
 
-use ptk_main_guests::{ALONE, LIBRARY, NUMBERS, P, Sight, check_row, is_report, is_trace};
+use ptk_main_guests::{ALONE, LIBRARY, NUMBERS, P, Row, Sight, TraceRow};
 
 // Row lock-over-window-end: the instructions are at 0 to 17; the lock, of 8 ticks, does not fit the 2 that are left,
 // and begins at 40.
@@ -16,35 +16,6 @@ const HALVES: [&str; 6] = [
     NUMBERS,
     "[[window]]\nstart = 0\nlength = 20\npartition = \"p\"\n[[window]]\nstart = 20\nlength = 20\npartition = \"q\"\n",
 ];
-
-#[test]
-fn a_lock_waits_for_the_next_window(rt: HostRuntime) {
-    let source = [LOCK_OVER_WINDOW_END];
-    let sights = [
-        (40, Sight::Register(1, 10), 1024),
-        (40, Sight::Byte(1024), 0),
-        (48, Sight::Register(1, 10), 0),
-        (48, Sight::Byte(1024), 1),
-        (48, Sight::Byte(1025), 0),
-        (48, Sight::Byte(1026), 0),
-        (48, Sight::Byte(1027), 0),
-    ];
-    let want =
-        "partition p running steps 19 lost 2\noutput 0\n\npartition q idle steps 0 lost 0\noutput 0\n\n";
-    assert_eq!(rt;
-        check_row(rt.alloc(), &HALVES, &source, &sights, 48, want),
-        None
-    );
-    assert!(rt;
-        is_trace(
-            rt.alloc(),
-            &HALVES,
-            &source,
-            48,
-            "16 1 0x00000040 0x40000513 0x00000400\n17 1 0x00000044 0x01600893 0x00000400\n40 1 0x00000048 0x00000073 0x00000000\n"
-        )
-    );
-}
 
 // Row recursive-limit. A lock takes 12 ticks with what is beside it, an unlock 14. The window ends at 1000000: the
 // unlock of the tick before it does not fit, and that tick is lost.
@@ -74,23 +45,6 @@ free:
     ecall               # 1703946
 ";
 
-#[test]
-fn a_recursive_mutex_counts_to_65535(rt: HostRuntime) {
-    let source = [RECURSIVE_LIMIT];
-    let sights = [
-        (786_440, Sight::Register(1, 10), 11),
-        (786_440, Sight::Register(1, 8), 65_535),
-        (1_703_946, Sight::Register(1, 10), 1),
-        (1_703_946, Sight::Register(1, 18), 65_535),
-        (1_703_946, Sight::Steps, 655_364),
-    ];
-    let want = "partition p exit 1 steps 655365 lost 1\noutput 0\n\n";
-    assert_eq!(rt;
-        check_row(rt.alloc(), &ALONE, &source, &sights, 1_703_947, want),
-        None
-    );
-}
-
 // Row zero-pools: a lock of a word 0 and mutex_init find no number.
 const ZERO_POOLS: &str = "
     li a0, 1024         #   0
@@ -110,22 +64,6 @@ const NO_MUTEXES: [&str; 4] = [
     "memory = 4096\nthreads = 4\nstack = 256\nmutexes = 0\nconds = 0\nkeys = 0\ninterval = 100\nring = 16\noutput = 64\ntrace = 3\n",
     "[[window]]\nstart = 0\nlength = 100\npartition = \"p\"\n",
 ];
-
-#[test]
-fn a_pool_may_be_empty(rt: HostRuntime) {
-    let sights = [
-        (21, Sight::Register(1, 8), 12),
-        (21, Sight::Byte(1024), 0),
-        (21, Sight::Byte(1025), 0),
-        (21, Sight::Byte(1026), 0),
-        (21, Sight::Byte(1027), 0),
-    ];
-    let want = "partition p exit 12 steps 9 lost 0\noutput 0\n\n";
-    assert_eq!(rt;
-        check_row(rt.alloc(), &NO_MUTEXES, &[ZERO_POOLS], &sights, 21, want),
-        None
-    );
-}
 
 // Row self-deadlock, after an ERRORCHECK mutex of one's own. A lock of the NORMAL one blocks for good.
 const SELF_DEADLOCK: &str = "
@@ -149,22 +87,6 @@ const SELF_DEADLOCK: &str = "
     li a7, 22           #  48  mutex_lock
     ecall               #  49  blocks
 ";
-
-#[test]
-fn a_lock_of_ones_own_mutex_goes_by_its_type(rt: HostRuntime) {
-    let sights = [
-        (50, Sight::Register(1, 8), 35),
-        (50, Sight::Register(1, 9), 16),
-        (50, Sight::Register(1, 10), 1024),
-        (50, Sight::Awaited(1), 2),
-        (50, Sight::Level(1), 16),
-    ];
-    let want = "partition p idle steps 19 lost 0\noutput 0\n\n";
-    assert_eq!(rt;
-        check_row(rt.alloc(), &ALONE, &[SELF_DEADLOCK], &sights, 100, want),
-        None
-    );
-}
 
 // Row edge-pointers: every call on a mutex with each of three bad pointers, then a lock at the last word of memory.
 // Main exits with the first reply that is not 14. With c ticks for the call a round takes 10 + 3 c: 28, 28, 34, 28,
@@ -201,20 +123,6 @@ calls:
     .byte 25            # mutex_unlock
     .byte 26            # mutex_consistent
 ";
-
-#[test]
-fn a_pointer_is_aligned_and_within_memory(rt: HostRuntime) {
-    let sights = [
-        (193, Sight::Byte(4092), 0),
-        (194, Sight::Byte(4092), 1),
-        (202, Sight::Steps, 87),
-    ];
-    let want = "partition p exit 0 steps 88 lost 0\noutput 0\n\n";
-    assert_eq!(rt;
-        check_row(rt.alloc(), &ALONE, &[EDGE_POINTERS], &sights, 203, want),
-        None
-    );
-}
 
 // Row copied-word. Replies are kept in s0 to s4, those of a success as 1000 more.
 const COPIED_WORD: &str = "
@@ -254,26 +162,6 @@ const COPIED_WORD: &str = "
     ecall               #  94
 ";
 
-#[test]
-fn a_copied_word_names_the_same_mutex(rt: HostRuntime) {
-    let sights = [
-        (94, Sight::Register(1, 8), 16),
-        (94, Sight::Register(1, 9), 1000),
-        (94, Sight::Register(1, 18), 1000),
-        (94, Sight::Register(1, 19), 22),
-        (94, Sight::Register(1, 20), 22),
-        (94, Sight::Byte(1024), 255),
-        (94, Sight::Byte(1027), 255),
-        (94, Sight::Byte(1028), 1),
-        (94, Sight::Byte(1032), 1),
-    ];
-    let want = "partition p exit 0 steps 34 lost 0\noutput 0\n\n";
-    assert_eq!(rt;
-        check_row(rt.alloc(), &ALONE, &[COPIED_WORD], &sights, 95, want),
-        None
-    );
-}
-
 // Unlock of a word 0: the caller is no owner, but the mutex is set up and stays.
 const REFUSED_SET_UP: &str = "
     li a0, 1024         #   0
@@ -282,16 +170,6 @@ const REFUSED_SET_UP: &str = "
     li a7, 0            #  12  exit
     ecall               #  13
 ";
-
-#[test]
-fn what_a_refused_call_set_up_stays(rt: HostRuntime) {
-    let sights = [(2, Sight::Byte(1024), 0), (13, Sight::Byte(1024), 1)];
-    let want = "partition p exit 1 steps 5 lost 0\noutput 0\n\n";
-    assert_eq!(rt;
-        check_row(rt.alloc(), &ALONE, &[REFUSED_SET_UP], &sights, 14, want),
-        None
-    );
-}
 
 // Row number-one-reused, where main owns a mutex when it ends: nobody owns it then, the later thread 1 neither. That
 // thread puts its replies to unlock and trylock, each 48 more.
@@ -339,15 +217,119 @@ third:
     ret                 # 124  the gate at 125 and 129
 ";
 
-#[test]
-fn a_later_thread_1_owns_nothing(rt: HostRuntime) {
-    assert!(rt;
-        is_report(
-            rt.alloc(),
-            &ALONE,
-            &[NUMBER_ONE_REUSED, LIBRARY],
-            136,
-            "partition p exit 5 steps 56 lost 0\noutput 3\n11@\n"
-        )
-    );
-}
+/// What each guest above comes to.
+pub(super) const ROWS: [Row<'static>; 8] = [
+    Row {
+        name: "a_lock_waits_for_the_next_window",
+        parts: &HALVES,
+        source: &[LOCK_OVER_WINDOW_END],
+        sights: &[
+            (40, Sight::Register(1, 10), 1024),
+            (40, Sight::Byte(1024), 0),
+            (48, Sight::Register(1, 10), 0),
+            (48, Sight::Byte(1024), 1),
+            (48, Sight::Byte(1025), 0),
+            (48, Sight::Byte(1026), 0),
+            (48, Sight::Byte(1027), 0),
+        ],
+        ticks: 48,
+        report: "partition p running steps 19 lost 2\noutput 0\n\npartition q idle steps 0 lost 0\noutput 0\n\n",
+    },
+    Row {
+        name: "a_recursive_mutex_counts_to_65535",
+        parts: &ALONE,
+        source: &[RECURSIVE_LIMIT],
+        sights: &[
+            (786_440, Sight::Register(1, 10), 11),
+            (786_440, Sight::Register(1, 8), 65_535),
+            (1_703_946, Sight::Register(1, 10), 1),
+            (1_703_946, Sight::Register(1, 18), 65_535),
+            (1_703_946, Sight::Steps, 655_364),
+        ],
+        ticks: 1_703_947,
+        report: "partition p exit 1 steps 655365 lost 1\noutput 0\n\n",
+    },
+    Row {
+        name: "a_pool_may_be_empty",
+        parts: &NO_MUTEXES,
+        source: &[ZERO_POOLS],
+        sights: &[
+            (21, Sight::Register(1, 8), 12),
+            (21, Sight::Byte(1024), 0),
+            (21, Sight::Byte(1025), 0),
+            (21, Sight::Byte(1026), 0),
+            (21, Sight::Byte(1027), 0),
+        ],
+        ticks: 21,
+        report: "partition p exit 12 steps 9 lost 0\noutput 0\n\n",
+    },
+    Row {
+        name: "a_lock_of_ones_own_mutex_goes_by_its_type",
+        parts: &ALONE,
+        source: &[SELF_DEADLOCK],
+        sights: &[
+            (50, Sight::Register(1, 8), 35),
+            (50, Sight::Register(1, 9), 16),
+            (50, Sight::Register(1, 10), 1024),
+            (50, Sight::Awaited(1), 2),
+            (50, Sight::Level(1), 16),
+        ],
+        ticks: 100,
+        report: "partition p idle steps 19 lost 0\noutput 0\n\n",
+    },
+    Row {
+        name: "a_pointer_is_aligned_and_within_memory",
+        parts: &ALONE,
+        source: &[EDGE_POINTERS],
+        sights: &[
+            (193, Sight::Byte(4092), 0),
+            (194, Sight::Byte(4092), 1),
+            (202, Sight::Steps, 87),
+        ],
+        ticks: 203,
+        report: "partition p exit 0 steps 88 lost 0\noutput 0\n\n",
+    },
+    Row {
+        name: "a_copied_word_names_the_same_mutex",
+        parts: &ALONE,
+        source: &[COPIED_WORD],
+        sights: &[
+            (94, Sight::Register(1, 8), 16),
+            (94, Sight::Register(1, 9), 1000),
+            (94, Sight::Register(1, 18), 1000),
+            (94, Sight::Register(1, 19), 22),
+            (94, Sight::Register(1, 20), 22),
+            (94, Sight::Byte(1024), 255),
+            (94, Sight::Byte(1027), 255),
+            (94, Sight::Byte(1028), 1),
+            (94, Sight::Byte(1032), 1),
+        ],
+        ticks: 95,
+        report: "partition p exit 0 steps 34 lost 0\noutput 0\n\n",
+    },
+    Row {
+        name: "what_a_refused_call_set_up_stays",
+        parts: &ALONE,
+        source: &[REFUSED_SET_UP],
+        sights: &[(2, Sight::Byte(1024), 0), (13, Sight::Byte(1024), 1)],
+        ticks: 14,
+        report: "partition p exit 1 steps 5 lost 0\noutput 0\n\n",
+    },
+    Row {
+        name: "a_later_thread_1_owns_nothing",
+        parts: &ALONE,
+        source: &[NUMBER_ONE_REUSED, LIBRARY],
+        sights: &[],
+        ticks: 136,
+        report: "partition p exit 5 steps 56 lost 0\noutput 3\n11@\n",
+    },
+];
+
+/// The last steps of some of them.
+pub(super) const TRACES: [TraceRow<'static>; 1] = [TraceRow {
+    name: "a_lock_waits_for_the_next_window",
+    parts: &HALVES,
+    source: &[LOCK_OVER_WINDOW_END],
+    ticks: 48,
+    trace: "16 1 0x00000040 0x40000513 0x00000400\n17 1 0x00000044 0x01600893 0x00000400\n40 1 0x00000048 0x00000073 0x00000000\n",
+}];

@@ -1,26 +1,6 @@
 //! Rows of priorities: inheritance over chains and a cycle, a raised thread's place, hand overs, and ceilings.
 
-use ptk_main_guests::{ALONE, INHERIT_BASIC, LIBRARY, NUMBERS, P, Sight, check_row, is_report};
-
-#[test]
-fn an_owner_inherits(rt: HostRuntime) {
-    let source = [INHERIT_BASIC, LIBRARY];
-    let sights = [
-        (97, Sight::Level(1), 5),
-        (98, Sight::Level(1), 20),
-        (98, Sight::Awaited(2), 1),
-        (114, Sight::Level(1), 20),
-        (114, Sight::Register(2, 10), 1024),
-        (115, Sight::Level(1), 5),
-        (115, Sight::Register(2, 10), 0),
-        (194, Sight::Steps, 77),
-    ];
-    let want = "partition p exit 0 steps 78 lost 0\noutput 5\nlhmLo\n";
-    assert_eq!(rt;
-        check_row(rt.alloc(), &ALONE, &source, &sights, 195, want),
-        None
-    );
-}
+use ptk_main_guests::{ALONE, INHERIT_BASIC, LIBRARY, NUMBERS, P, Row, Sight};
 
 // Two partitions in windows of 200 ticks, both with the image of p.
 const SIDE_BY_SIDE: [&str; 6] = [
@@ -31,20 +11,6 @@ const SIDE_BY_SIDE: [&str; 6] = [
     NUMBERS,
     "[[window]]\nstart = 0\nlength = 200\npartition = \"p\"\n[[window]]\nstart = 200\nlength = 200\npartition = \"q\"\n",
 ];
-
-#[test]
-fn mutexes_are_a_partitions_own(rt: HostRuntime) {
-    // Row inherit-basic, twice.
-    assert!(rt;
-        is_report(
-            rt.alloc(),
-            &SIDE_BY_SIDE,
-            &[INHERIT_BASIC, LIBRARY],
-            395,
-            "partition p exit 0 steps 78 lost 0\noutput 5\nlhmLo\npartition q exit 0 steps 78 lost 0\noutput 5\nlhmLo\n"
-        )
-    );
-}
 
 // Row raised-in-place. L is main, 1, at 5 and owns the mutex; W, 2, at 10 makes `x`, 3, of its own priority, and then
 // locks. L is first in the line and, raised to 10, runs before x; after its unlock x runs, then W.
@@ -84,24 +50,6 @@ waiter:
     li a7, 0            # 122  exit
     ecall               # 123
 ";
-
-#[test]
-fn a_raised_thread_keeps_its_place(rt: HostRuntime) {
-    let source = [RAISED_IN_PLACE, LIBRARY];
-    let sights = [
-        (75, Sight::Level(1), 5),
-        (76, Sight::Level(1), 10),
-        (76, Sight::Awaited(2), 1),
-        (92, Sight::Level(1), 10),
-        (93, Sight::Level(1), 5),
-        (123, Sight::Steps, 51),
-    ];
-    let want = "partition p exit 0 steps 52 lost 0\noutput 3\nlxw\n";
-    assert_eq!(rt;
-        check_row(rt.alloc(), &ALONE, &source, &sights, 124, want),
-        None
-    );
-}
 
 // Row inherit-cycle, without a deadline. A, 2, at 2 owns mutex 1 and waits for mutex 2; B, 3, at 3 owns mutex 2 and
 // waits for mutex 1; H, 4, at 10 locks mutex 1. Main, at 1, then unlocks mutex 3, and sets H to 1.
@@ -158,31 +106,6 @@ third:
     li a7, 22           # 147  mutex_lock
     ecall               # 148  blocks
 ";
-
-#[test]
-fn a_cycle_is_raised_as_a_whole(rt: HostRuntime) {
-    let source = [INHERIT_CYCLE, LIBRARY];
-    let sights = [
-        (107, Sight::Level(2), 3),
-        (118, Sight::Level(2), 3),
-        (118, Sight::Level(3), 3),
-        (118, Sight::Awaited(2), 2),
-        (118, Sight::Awaited(3), 1),
-        (149, Sight::Level(2), 10),
-        (149, Sight::Level(3), 10),
-        (160, Sight::Level(2), 10),
-        (160, Sight::Level(3), 10),
-        (173, Sight::Level(2), 3),
-        (173, Sight::Level(3), 3),
-        (173, Sight::Level(4), 1),
-        (181, Sight::Steps, 68),
-    ];
-    let want = "partition p exit 0 steps 69 lost 0\noutput 0\n\n";
-    assert_eq!(rt;
-        check_row(rt.alloc(), &ALONE, &source, &sights, 182, want),
-        None
-    );
-}
 
 // Row two-step-chain. A is main, 1, at 2 and owns mutex 1; B, 2, at 3 owns mutex 2 and waits for mutex 1; C, 3, at 9
 // waits for mutex 2; `x`, 4, at 5 is ready. The protocol of mutex 1 stands between the two parts. The second column
@@ -253,42 +176,6 @@ third:
     ecall               # 176, 190
 ";
 
-#[test]
-fn priority_is_inherited_over_two_steps(rt: HostRuntime) {
-    let source = [CHAIN, CHAIN_INHERIT, CHAIN_REST, LIBRARY];
-    let sights = [
-        (114, Sight::Level(2), 9),
-        (114, Sight::Level(1), 2),
-        (125, Sight::Level(1), 9),
-        (125, Sight::Level(2), 9),
-        (142, Sight::Level(1), 2),
-        (142, Sight::Level(2), 9),
-        (160, Sight::Level(2), 3),
-        (176, Sight::Steps, 71),
-    ];
-    let want = "partition p exit 0 steps 72 lost 0\noutput 3\nabc\n";
-    assert_eq!(rt;
-        check_row(rt.alloc(), &ALONE, &source, &sights, 177, want),
-        None
-    );
-}
-
-#[test]
-fn a_mutex_of_protocol_none_ends_a_chain(rt: HostRuntime) {
-    let source = [CHAIN, CHAIN_NONE, CHAIN_REST, LIBRARY];
-    let sights = [
-        (125, Sight::Level(1), 2),
-        (125, Sight::Level(2), 9),
-        (125, Sight::Awaited(2), 2),
-        (190, Sight::Steps, 76),
-    ];
-    let want = "partition p exit 0 steps 77 lost 0\noutput 4\nxabc\n";
-    assert_eq!(rt;
-        check_row(rt.alloc(), &ALONE, &source, &sights, 191, want),
-        None
-    );
-}
-
 // Row visited-count. A is main, 1, at 2 and owns mutex 1; B, 2, at 3 owns mutex 2 and waits for mutex 1; C, 3, at 9 and
 // then D, 4, at 9 wait for mutex 2. C's lock reads the priorities of B and of A, D's that of B alone.
 const VISITED_COUNT: &str = "
@@ -330,29 +217,6 @@ later:
     li a7, 22           #  99, 136  mutex_lock
     ecall               # 100, 137  blocks
 ";
-
-#[test]
-fn a_rise_reads_no_more_than_it_raises_and_one(rt: HostRuntime) {
-    let source = [VISITED_COUNT, LIBRARY];
-    let sights = [
-        (70, Sight::Level(1), 3),
-        (70, Sight::Level(2), 3),
-        (70, Sight::Visited, 1),
-        (101, Sight::Level(1), 9),
-        (101, Sight::Level(2), 9),
-        (101, Sight::Visited, 2),
-        (138, Sight::Level(1), 9),
-        (138, Sight::Level(2), 9),
-        (138, Sight::Awaited(4), 2),
-        (138, Sight::Visited, 1),
-        (146, Sight::Steps, 58),
-    ];
-    let want = "partition p exit 0 steps 59 lost 0\noutput 0\n\n";
-    assert_eq!(rt;
-        check_row(rt.alloc(), &ALONE, &source, &sights, 147, want),
-        None
-    );
-}
 
 // Row inherit-after-handover. O is main, 1, at 2; `x`, 2, at 5, `y`, 3, at 9 and `z`, 4, wait for its mutex in this
 // order. z begins at 10, so that it comes to wait, and O then sets it to 7. Each of them, once it has the mutex, puts
@@ -411,32 +275,6 @@ waiter:
     ret                 # 249, 267, 258  the gate twice, 4 ticks each
 ";
 
-#[test]
-fn priority_goes_on_with_the_mutex(rt: HostRuntime) {
-    let source = [HANDOVER, LIBRARY];
-    let sights = [
-        (56, Sight::Level(1), 5),
-        (89, Sight::Level(1), 9),
-        (122, Sight::Level(1), 10),
-        (134, Sight::Level(1), 9),
-        (134, Sight::Level(4), 7),
-        (144, Sight::Level(1), 2),
-        (144, Sight::Level(2), 5),
-        (144, Sight::Level(3), 9),
-        (144, Sight::Level(4), 7),
-        (166, Sight::Level(3), 7),
-        (176, Sight::Level(3), 3),
-        (198, Sight::Level(4), 5),
-        (230, Sight::Level(2), 3),
-        (277, Sight::Steps, 110),
-    ];
-    let want = "partition p exit 0 steps 111 lost 0\noutput 3\nyzx\n";
-    assert_eq!(rt;
-        check_row(rt.alloc(), &ALONE, &source, &sights, 278, want),
-        None
-    );
-}
-
 // Row ceiling-refusal, with trylock beside lock. Replies are kept in s0 to s3, those of a success as 1000 more.
 const CEILING_REFUSAL: &str = "
     li a0, 1024         #   0
@@ -476,25 +314,6 @@ const CEILING_REFUSAL: &str = "
     li a7, 0            #  89  exit
     ecall               #  90
 ";
-
-#[test]
-fn a_ceiling_is_tested_against_the_assigned_priority(rt: HostRuntime) {
-    let sights = [
-        (40, Sight::Level(1), 9),
-        (71, Sight::Level(1), 20),
-        (81, Sight::Level(1), 20),
-        (90, Sight::Register(1, 8), 22),
-        (90, Sight::Register(1, 9), 22),
-        (90, Sight::Register(1, 18), 1000),
-        (90, Sight::Register(1, 19), 1000),
-        (90, Sight::Steps, 35),
-    ];
-    let want = "partition p exit 0 steps 36 lost 0\noutput 0\n\n";
-    assert_eq!(rt;
-        check_row(rt.alloc(), &ALONE, &[CEILING_REFUSAL], &sights, 91, want),
-        None
-    );
-}
 
 // Row nested-ceilings. Main at 5 owns ceilings of 10 and 20; `x` at 15 and `y` at 8 are ready.
 const NESTED_CEILINGS: &str = "
@@ -543,20 +362,174 @@ const NESTED_CEILINGS: &str = "
     ecall               # 164
 ";
 
-#[test]
-fn the_greatest_ceiling_counts(rt: HostRuntime) {
-    let source = [NESTED_CEILINGS, LIBRARY];
-    let sights = [
-        (32, Sight::Level(1), 5),
-        (33, Sight::Level(1), 10),
-        (42, Sight::Level(1), 20),
-        (102, Sight::Level(1), 10),
-        (134, Sight::Level(1), 5),
-        (164, Sight::Steps, 66),
-    ];
-    let want = "partition p exit 0 steps 67 lost 0\noutput 5\naxbyc\n";
-    assert_eq!(rt;
-        check_row(rt.alloc(), &ALONE, &source, &sights, 165, want),
-        None
-    );
-}
+/// What each guest above comes to.
+pub(super) const ROWS: [Row<'static>; 10] = [
+    Row {
+        name: "an_owner_inherits",
+        parts: &ALONE,
+        source: &[INHERIT_BASIC, LIBRARY],
+        sights: &[
+            (97, Sight::Level(1), 5),
+            (98, Sight::Level(1), 20),
+            (98, Sight::Awaited(2), 1),
+            (114, Sight::Level(1), 20),
+            (114, Sight::Register(2, 10), 1024),
+            (115, Sight::Level(1), 5),
+            (115, Sight::Register(2, 10), 0),
+            (194, Sight::Steps, 77),
+        ],
+        ticks: 195,
+        report: "partition p exit 0 steps 78 lost 0\noutput 5\nlhmLo\n",
+    },
+    // Row inherit-basic, twice.
+    Row {
+        name: "mutexes_are_a_partitions_own",
+        parts: &SIDE_BY_SIDE,
+        source: &[INHERIT_BASIC, LIBRARY],
+        sights: &[],
+        ticks: 395,
+        report: "partition p exit 0 steps 78 lost 0\noutput 5\nlhmLo\npartition q exit 0 steps 78 lost 0\noutput 5\nlhmLo\n",
+    },
+    Row {
+        name: "a_raised_thread_keeps_its_place",
+        parts: &ALONE,
+        source: &[RAISED_IN_PLACE, LIBRARY],
+        sights: &[
+            (75, Sight::Level(1), 5),
+            (76, Sight::Level(1), 10),
+            (76, Sight::Awaited(2), 1),
+            (92, Sight::Level(1), 10),
+            (93, Sight::Level(1), 5),
+            (123, Sight::Steps, 51),
+        ],
+        ticks: 124,
+        report: "partition p exit 0 steps 52 lost 0\noutput 3\nlxw\n",
+    },
+    Row {
+        name: "a_cycle_is_raised_as_a_whole",
+        parts: &ALONE,
+        source: &[INHERIT_CYCLE, LIBRARY],
+        sights: &[
+            (107, Sight::Level(2), 3),
+            (118, Sight::Level(2), 3),
+            (118, Sight::Level(3), 3),
+            (118, Sight::Awaited(2), 2),
+            (118, Sight::Awaited(3), 1),
+            (149, Sight::Level(2), 10),
+            (149, Sight::Level(3), 10),
+            (160, Sight::Level(2), 10),
+            (160, Sight::Level(3), 10),
+            (173, Sight::Level(2), 3),
+            (173, Sight::Level(3), 3),
+            (173, Sight::Level(4), 1),
+            (181, Sight::Steps, 68),
+        ],
+        ticks: 182,
+        report: "partition p exit 0 steps 69 lost 0\noutput 0\n\n",
+    },
+    Row {
+        name: "priority_is_inherited_over_two_steps",
+        parts: &ALONE,
+        source: &[CHAIN, CHAIN_INHERIT, CHAIN_REST, LIBRARY],
+        sights: &[
+            (114, Sight::Level(2), 9),
+            (114, Sight::Level(1), 2),
+            (125, Sight::Level(1), 9),
+            (125, Sight::Level(2), 9),
+            (142, Sight::Level(1), 2),
+            (142, Sight::Level(2), 9),
+            (160, Sight::Level(2), 3),
+            (176, Sight::Steps, 71),
+        ],
+        ticks: 177,
+        report: "partition p exit 0 steps 72 lost 0\noutput 3\nabc\n",
+    },
+    Row {
+        name: "a_mutex_of_protocol_none_ends_a_chain",
+        parts: &ALONE,
+        source: &[CHAIN, CHAIN_NONE, CHAIN_REST, LIBRARY],
+        sights: &[
+            (125, Sight::Level(1), 2),
+            (125, Sight::Level(2), 9),
+            (125, Sight::Awaited(2), 2),
+            (190, Sight::Steps, 76),
+        ],
+        ticks: 191,
+        report: "partition p exit 0 steps 77 lost 0\noutput 4\nxabc\n",
+    },
+    Row {
+        name: "a_rise_reads_no_more_than_it_raises_and_one",
+        parts: &ALONE,
+        source: &[VISITED_COUNT, LIBRARY],
+        sights: &[
+            (70, Sight::Level(1), 3),
+            (70, Sight::Level(2), 3),
+            (70, Sight::Visited, 1),
+            (101, Sight::Level(1), 9),
+            (101, Sight::Level(2), 9),
+            (101, Sight::Visited, 2),
+            (138, Sight::Level(1), 9),
+            (138, Sight::Level(2), 9),
+            (138, Sight::Awaited(4), 2),
+            (138, Sight::Visited, 1),
+            (146, Sight::Steps, 58),
+        ],
+        ticks: 147,
+        report: "partition p exit 0 steps 59 lost 0\noutput 0\n\n",
+    },
+    Row {
+        name: "priority_goes_on_with_the_mutex",
+        parts: &ALONE,
+        source: &[HANDOVER, LIBRARY],
+        sights: &[
+            (56, Sight::Level(1), 5),
+            (89, Sight::Level(1), 9),
+            (122, Sight::Level(1), 10),
+            (134, Sight::Level(1), 9),
+            (134, Sight::Level(4), 7),
+            (144, Sight::Level(1), 2),
+            (144, Sight::Level(2), 5),
+            (144, Sight::Level(3), 9),
+            (144, Sight::Level(4), 7),
+            (166, Sight::Level(3), 7),
+            (176, Sight::Level(3), 3),
+            (198, Sight::Level(4), 5),
+            (230, Sight::Level(2), 3),
+            (277, Sight::Steps, 110),
+        ],
+        ticks: 278,
+        report: "partition p exit 0 steps 111 lost 0\noutput 3\nyzx\n",
+    },
+    Row {
+        name: "a_ceiling_is_tested_against_the_assigned_priority",
+        parts: &ALONE,
+        source: &[CEILING_REFUSAL],
+        sights: &[
+            (40, Sight::Level(1), 9),
+            (71, Sight::Level(1), 20),
+            (81, Sight::Level(1), 20),
+            (90, Sight::Register(1, 8), 22),
+            (90, Sight::Register(1, 9), 22),
+            (90, Sight::Register(1, 18), 1000),
+            (90, Sight::Register(1, 19), 1000),
+            (90, Sight::Steps, 35),
+        ],
+        ticks: 91,
+        report: "partition p exit 0 steps 36 lost 0\noutput 0\n\n",
+    },
+    Row {
+        name: "the_greatest_ceiling_counts",
+        parts: &ALONE,
+        source: &[NESTED_CEILINGS, LIBRARY],
+        sights: &[
+            (32, Sight::Level(1), 5),
+            (33, Sight::Level(1), 10),
+            (42, Sight::Level(1), 20),
+            (102, Sight::Level(1), 10),
+            (134, Sight::Level(1), 5),
+            (164, Sight::Steps, 66),
+        ],
+        ticks: 165,
+        report: "partition p exit 0 steps 67 lost 0\noutput 5\naxbyc\n",
+    },
+];

@@ -1,25 +1,6 @@
 //! Rows of robust mutexes: what becomes of them at their owners' ends. Replies are kept in s registers, 1000 more.
 
-use ptk_main_guests::{ALONE, LIBRARY, OWNER_DIED, Sight, check_row};
-
-#[test]
-fn a_dead_owners_mutex_goes_to_its_heir(rt: HostRuntime) {
-    let source = [OWNER_DIED, LIBRARY];
-    let sights = [
-        (78, Sight::Register(2, 10), 1024),
-        (78, Sight::Awaited(2), 1),
-        (79, Sight::Register(2, 10), 130),
-        (127, Sight::Register(2, 8), 1130),
-        (127, Sight::Register(2, 9), 1000),
-        (127, Sight::Register(2, 18), 1000),
-        (127, Sight::Register(3, 8), 1000),
-    ];
-    let want = "partition p exit 0 steps 51 lost 0\noutput 0\n\n";
-    assert_eq!(rt;
-        check_row(rt.alloc(), &ALONE, &source, &sights, 128, want),
-        None
-    );
-}
+use ptk_main_guests::{ALONE, LIBRARY, OWNER_DIED, Row, Sight};
 
 // Row unrecoverable. A is main, 1; B, 2, at 20 and C, 3, at 18 wait for its mutex when it ends.
 const UNRECOVERABLE: &str = "
@@ -70,27 +51,6 @@ third:
     li a7, 0            # 146  exit
     ecall               # 147
 ";
-
-#[test]
-fn an_inconsistent_mutex_that_is_unlocked_is_lost(rt: HostRuntime) {
-    let source = [UNRECOVERABLE, LIBRARY];
-    let sights = [
-        (95, Sight::Awaited(3), 1),
-        (96, Sight::Register(3, 10), 131),
-        (147, Sight::Register(2, 8), 1130),
-        (147, Sight::Register(2, 9), 1000),
-        (147, Sight::Register(3, 8), 1131),
-        (147, Sight::Register(3, 9), 1131),
-        (147, Sight::Register(3, 18), 1131),
-        (147, Sight::Register(3, 19), 1000),
-        (147, Sight::Byte(1024), 255),
-    ];
-    let want = "partition p exit 0 steps 59 lost 0\noutput 0\n\n";
-    assert_eq!(rt;
-        check_row(rt.alloc(), &ALONE, &source, &sights, 148, want),
-        None
-    );
-}
 
 // Row consistent-refusals. Thread 2, at 20, ends as the owner of the robust RECURSIVE mutex at 1032, which is then
 // free and inconsistent: main does not own it at first, and then recovers it.
@@ -149,22 +109,57 @@ second:
     ret                 # 102  the gate at 103 and 107
 ";
 
-#[test]
-fn only_an_owner_makes_an_inconsistent_mutex_consistent(rt: HostRuntime) {
-    let source = [CONSISTENT_REFUSALS, LIBRARY];
-    let sights = [
-        (142, Sight::Register(1, 8), 1022),
-        (142, Sight::Register(1, 9), 1022),
-        (142, Sight::Register(1, 18), 1022),
-        (142, Sight::Register(1, 19), 1022),
-        (142, Sight::Register(1, 20), 1001),
-        (142, Sight::Register(1, 21), 1130),
-        (142, Sight::Register(1, 22), 1000),
-        (142, Sight::Byte(1036), 0),
-    ];
-    let want = "partition p exit 0 steps 60 lost 0\noutput 0\n\n";
-    assert_eq!(rt;
-        check_row(rt.alloc(), &ALONE, &source, &sights, 143, want),
-        None
-    );
-}
+/// What each guest above comes to.
+pub(super) const ROWS: [Row<'static>; 3] = [
+    Row {
+        name: "a_dead_owners_mutex_goes_to_its_heir",
+        parts: &ALONE,
+        source: &[OWNER_DIED, LIBRARY],
+        sights: &[
+            (78, Sight::Register(2, 10), 1024),
+            (78, Sight::Awaited(2), 1),
+            (79, Sight::Register(2, 10), 130),
+            (127, Sight::Register(2, 8), 1130),
+            (127, Sight::Register(2, 9), 1000),
+            (127, Sight::Register(2, 18), 1000),
+            (127, Sight::Register(3, 8), 1000),
+        ],
+        ticks: 128,
+        report: "partition p exit 0 steps 51 lost 0\noutput 0\n\n",
+    },
+    Row {
+        name: "an_inconsistent_mutex_that_is_unlocked_is_lost",
+        parts: &ALONE,
+        source: &[UNRECOVERABLE, LIBRARY],
+        sights: &[
+            (95, Sight::Awaited(3), 1),
+            (96, Sight::Register(3, 10), 131),
+            (147, Sight::Register(2, 8), 1130),
+            (147, Sight::Register(2, 9), 1000),
+            (147, Sight::Register(3, 8), 1131),
+            (147, Sight::Register(3, 9), 1131),
+            (147, Sight::Register(3, 18), 1131),
+            (147, Sight::Register(3, 19), 1000),
+            (147, Sight::Byte(1024), 255),
+        ],
+        ticks: 148,
+        report: "partition p exit 0 steps 59 lost 0\noutput 0\n\n",
+    },
+    Row {
+        name: "only_an_owner_makes_an_inconsistent_mutex_consistent",
+        parts: &ALONE,
+        source: &[CONSISTENT_REFUSALS, LIBRARY],
+        sights: &[
+            (142, Sight::Register(1, 8), 1022),
+            (142, Sight::Register(1, 9), 1022),
+            (142, Sight::Register(1, 18), 1022),
+            (142, Sight::Register(1, 19), 1022),
+            (142, Sight::Register(1, 20), 1001),
+            (142, Sight::Register(1, 21), 1130),
+            (142, Sight::Register(1, 22), 1000),
+            (142, Sight::Byte(1036), 0),
+        ],
+        ticks: 143,
+        report: "partition p exit 0 steps 60 lost 0\noutput 0\n\n",
+    },
+];

@@ -5,8 +5,8 @@ ghost use Rattle.std.specs.Prelude.{◌≤◌};
 
 use super::{
     ALONE, FULL_TRACE, HELLO_REPORT, SHORT, SHORT_TRACE, TWO, booted, config_of, files_of,
-    first_steps, is_added, is_first_output, is_report, is_told, is_traced, parts_of, run_on,
-    run_on_to, trace_on, writes_report, writes_trace,
+    first_steps, is_added, is_first_output, is_told, is_traced, parts_of, run_on, run_on_to,
+    trace_on, writes_report, writes_trace,
 };
 use crate::rows;
 use ptk_config::Config;
@@ -14,33 +14,6 @@ use ptk_main_runs::{BootFault, Files, RunFault, System};
 use ptk_words::PartId;
 use std::alloc::Global;
 use std::process::Abort;
-
-#[test]
-fn a_run_may_end_anywhere(rt: HostRuntime) {
-    let alloc = rt.alloc();
-    // Row cut-run.
-    assert!(rt;
-        is_report(
-            alloc,
-            &ALONE,
-            &rows::HELLO,
-            &[],
-            3,
-            "partition p running steps 3 lost 0\noutput 1\nh\n"
-        )
-    );
-    assert!(rt;
-        is_report(
-            alloc,
-            &ALONE,
-            &rows::HELLO,
-            &[],
-            10,
-            "partition p running steps 6 lost 0\noutput 2\nhi\n"
-        )
-    );
-    assert!(rt; is_report(alloc, &ALONE, &rows::HELLO, &[], 40, HELLO_REPORT));
-}
 
 // Row cut-run: stops at 3, 10 and 40 on the way, and asserts what is told there.
 fn check_stops(rt: &impl Abort, alloc: Global, system: &mut System<'_>) {

@@ -1,6 +1,6 @@
 //! Rows of condition variables. Replies are kept in s registers, 1000 more.
 
-use ptk_main_guests::{ALONE, LIBRARY, NUMBERS, P, Sight, check_row, is_trace};
+use ptk_main_guests::{ALONE, LIBRARY, NUMBERS, P, Row, Sight, TraceRow};
 
 // Row broadcast-needs-sixteen: the instructions are at 0 to 15, the broadcast begins at 16 and takes the whole window.
 const BROADCAST: &str =
@@ -12,31 +12,6 @@ const SIXTEEN: [&str; 4] = [
     NUMBERS,
     "[[window]]\nstart = 0\nlength = 16\npartition = \"p\"\n",
 ];
-
-#[test]
-fn a_broadcast_fits_a_window_of_sixteen(rt: HostRuntime) {
-    let source = [BROADCAST];
-    let sights = [
-        (16, Sight::Byte(1024), 0),
-        (17, Sight::Byte(1024), 1),
-        (17, Sight::Register(1, 10), 0),
-        (32, Sight::Steps, 17),
-    ];
-    let want = "partition p running steps 18 lost 0\noutput 0\n\n";
-    assert_eq!(rt;
-        check_row(rt.alloc(), &SIXTEEN, &source, &sights, 33, want),
-        None
-    );
-    assert!(rt;
-        is_trace(
-            rt.alloc(),
-            &SIXTEEN,
-            &source,
-            33,
-            "15 1 0x0000003c 0x02300893 0x00000400\n16 1 0x00000040 0x00000073 0x00000000\n32 1 0x00000044 0x00000013 0x00000000\n"
-        )
-    );
-}
 
 // Row counted-recursive-wait. Main counts its mutex twice and waits; 2, at 10, finds it locked, and signals. Main then
 // unlocks it twice, and a third time.
@@ -79,22 +54,6 @@ other:
     ecall               #  75
 ";
 
-#[test]
-fn a_wait_counts_down_once_and_up_once(rt: HostRuntime) {
-    let source = [COUNTED_WAIT, LIBRARY];
-    let sights = [
-        (67, Sight::Register(2, 10), 16),
-        (125, Sight::Register(1, 8), 1000),
-        (125, Sight::Register(1, 9), 1000),
-        (125, Sight::Register(1, 18), 1000),
-    ];
-    let want = "partition p exit 1 steps 42 lost 0\noutput 0\n\n";
-    assert_eq!(rt;
-        check_row(rt.alloc(), &ALONE, &source, &sights, 126, want),
-        None
-    );
-}
-
 // Row wait-on-dead-owner. W, 2, at 20 waits with a robust mutex; 3, at 18, locks it and ends; then main signals.
 const DEAD_OWNER: &str = "
     li a0, 1024         #   0
@@ -128,20 +87,6 @@ owner:
     ecall               #  86  the gate at 92
 ";
 
-#[test]
-fn a_waiter_is_told_of_a_dead_owner(rt: HostRuntime) {
-    let source = [DEAD_OWNER, LIBRARY];
-    let sights = [
-        (99, Sight::Register(2, 10), 1028),
-        (100, Sight::Register(2, 10), 130),
-    ];
-    let want = "partition p exit 130 steps 42 lost 0\noutput 0\n\n";
-    assert_eq!(rt;
-        check_row(rt.alloc(), &ALONE, &source, &sights, 113, want),
-        None
-    );
-}
-
 // Row zero-words-wait: a condition variable and a mutex are set up, and the mutex is not the caller's.
 const ZERO_WORDS: &str = "
     li a0, 1024         #   0
@@ -161,22 +106,6 @@ const ONE_ZERO_WORD: &str = "
     li a7, 0            #  15  exit
     ecall               #  16
 ";
-
-#[test]
-fn words_are_read_in_their_turn(rt: HostRuntime) {
-    let sights = [(4, Sight::Byte(1024), 1), (4, Sight::Byte(1028), 1)];
-    let want = "partition p exit 1 steps 6 lost 0\noutput 0\n\n";
-    assert_eq!(rt;
-        check_row(rt.alloc(), &ALONE, &[ZERO_WORDS], &sights, 17, want),
-        None
-    );
-    let sights = [(4, Sight::Byte(1024), 1)];
-    let want = "partition p exit 22 steps 6 lost 0\noutput 0\n\n";
-    assert_eq!(rt;
-        check_row(rt.alloc(), &ALONE, &[ONE_ZERO_WORD], &sights, 17, want),
-        None
-    );
-}
 
 // A waiter, 2, at 20 names the mutex, which main then destroys, as it does the condition variable.
 const NAMED_MUTEX: &str = "
@@ -202,13 +131,76 @@ waiter:
     ecall               #  33  blocks
 ";
 
-#[test]
-fn a_named_mutex_is_not_destroyed(rt: HostRuntime) {
-    let source = [NAMED_MUTEX, LIBRARY];
-    let sights = [(64, Sight::Register(1, 8), 1016)];
-    let want = "partition p exit 16 steps 26 lost 0\noutput 0\n\n";
-    assert_eq!(rt;
-        check_row(rt.alloc(), &ALONE, &source, &sights, 65, want),
-        None
-    );
-}
+/// What each guest above comes to.
+pub(super) const ROWS: [Row<'static>; 6] = [
+    Row {
+        name: "a_broadcast_fits_a_window_of_sixteen",
+        parts: &SIXTEEN,
+        source: &[BROADCAST],
+        sights: &[
+            (16, Sight::Byte(1024), 0),
+            (17, Sight::Byte(1024), 1),
+            (17, Sight::Register(1, 10), 0),
+            (32, Sight::Steps, 17),
+        ],
+        ticks: 33,
+        report: "partition p running steps 18 lost 0\noutput 0\n\n",
+    },
+    Row {
+        name: "a_wait_counts_down_once_and_up_once",
+        parts: &ALONE,
+        source: &[COUNTED_WAIT, LIBRARY],
+        sights: &[
+            (67, Sight::Register(2, 10), 16),
+            (125, Sight::Register(1, 8), 1000),
+            (125, Sight::Register(1, 9), 1000),
+            (125, Sight::Register(1, 18), 1000),
+        ],
+        ticks: 126,
+        report: "partition p exit 1 steps 42 lost 0\noutput 0\n\n",
+    },
+    Row {
+        name: "a_waiter_is_told_of_a_dead_owner",
+        parts: &ALONE,
+        source: &[DEAD_OWNER, LIBRARY],
+        sights: &[
+            (99, Sight::Register(2, 10), 1028),
+            (100, Sight::Register(2, 10), 130),
+        ],
+        ticks: 113,
+        report: "partition p exit 130 steps 42 lost 0\noutput 0\n\n",
+    },
+    Row {
+        name: "words_are_read_in_their_turn",
+        parts: &ALONE,
+        source: &[ZERO_WORDS],
+        sights: &[(4, Sight::Byte(1024), 1), (4, Sight::Byte(1028), 1)],
+        ticks: 17,
+        report: "partition p exit 1 steps 6 lost 0\noutput 0\n\n",
+    },
+    Row {
+        name: "words_are_read_in_their_turn",
+        parts: &ALONE,
+        source: &[ONE_ZERO_WORD],
+        sights: &[(4, Sight::Byte(1024), 1)],
+        ticks: 17,
+        report: "partition p exit 22 steps 6 lost 0\noutput 0\n\n",
+    },
+    Row {
+        name: "a_named_mutex_is_not_destroyed",
+        parts: &ALONE,
+        source: &[NAMED_MUTEX, LIBRARY],
+        sights: &[(64, Sight::Register(1, 8), 1016)],
+        ticks: 65,
+        report: "partition p exit 16 steps 26 lost 0\noutput 0\n\n",
+    },
+];
+
+/// The last steps of some of them.
+pub(super) const TRACES: [TraceRow<'static>; 1] = [TraceRow {
+    name: "a_broadcast_fits_a_window_of_sixteen",
+    parts: &SIXTEEN,
+    source: &[BROADCAST],
+    ticks: 33,
+    trace: "15 1 0x0000003c 0x02300893 0x00000400\n16 1 0x00000040 0x00000073 0x00000000\n32 1 0x00000044 0x00000013 0x00000000\n",
+}];

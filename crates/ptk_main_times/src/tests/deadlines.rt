@@ -1,6 +1,6 @@
 //! Rows of locks and condition waits that end at a time.
 
-use ptk_main_guests::{ALONE, EXPIRED_WAIT, LIBRARY, Sight, TIMES, check_row};
+use ptk_main_guests::{ALONE, EXPIRED_WAIT, LIBRARY, Row, Sight, TIMES};
 
 // Row inherit-cycle, whole. A, 2, at 2 owns mutex 1 and waits for mutex 2; B, 3, at 3 owns mutex 2 and waits for mutex 1;
 // H, 4, at 10 waits for mutex 1 until tick 200. Main, at 1, loops meanwhile.
@@ -50,28 +50,6 @@ third:
     ecall               # 202
 ";
 
-#[test]
-fn a_cycle_falls_as_its_waiter_leaves(rt: HostRuntime) {
-    let source = [CLOSED_BEFORE, LIBRARY, TIMES];
-    let sights = [
-        (133, Sight::Level(2), 3),
-        (133, Sight::Level(3), 3),
-        (134, Sight::Level(2), 10),
-        (134, Sight::Level(3), 10),
-        (134, Sight::Awaited(4), 1),
-        (200, Sight::Level(2), 10),
-        (200, Sight::Level(3), 10),
-        (201, Sight::Level(2), 3),
-        (201, Sight::Level(3), 3),
-        (201, Sight::Register(4, 10), 110),
-    ];
-    let want = "partition p exit 110 steps 116 lost 0\noutput 0\n\n";
-    assert_eq!(rt;
-        check_row(rt.alloc(), &ALONE, &source, &sights, 203, want),
-        None
-    );
-}
-
 // Row cycle-before-and-after: as above, but A makes H before it waits for mutex 2, and so closes the cycle.
 const CLOSED_AFTER: &str = "
     li a0, 1            #   0
@@ -119,43 +97,6 @@ third:
     ecall               # 202
 ";
 
-#[test]
-fn a_cycle_that_is_closed_later_falls_too(rt: HostRuntime) {
-    let source = [CLOSED_AFTER, LIBRARY, TIMES];
-    let sights = [
-        (123, Sight::Level(2), 10),
-        (123, Sight::Level(3), 3),
-        (136, Sight::Level(2), 10),
-        (136, Sight::Level(3), 10),
-        (200, Sight::Level(2), 10),
-        (200, Sight::Level(3), 10),
-        (201, Sight::Level(2), 3),
-        (201, Sight::Level(3), 3),
-        (201, Sight::Register(4, 10), 110),
-    ];
-    let want = "partition p exit 110 steps 116 lost 0\noutput 0\n\n";
-    assert_eq!(rt;
-        check_row(rt.alloc(), &ALONE, &source, &sights, 203, want),
-        None
-    );
-}
-
-#[test]
-fn a_wait_that_is_over_at_once_releases_its_mutex(rt: HostRuntime) {
-    let source = [EXPIRED_WAIT, LIBRARY, TIMES];
-    let sights = [
-        (47, Sight::Register(2, 10), 0),
-        (47, Sight::Awaited(1), 1),
-        (63, Sight::Register(1, 10), 1028),
-        (64, Sight::Register(1, 10), 110),
-    ];
-    let want = "partition p exit 110 steps 36 lost 0\noutput 0\n\n";
-    assert_eq!(rt;
-        check_row(rt.alloc(), &ALONE, &source, &sights, 100, want),
-        None
-    );
-}
-
 // Row bad-nanoseconds-order. Main locks the free mutex with a bad time, then 2, at 20, main's.
 const BAD_NANOSECONDS: &str = "
     li a0, 1024         #   0
@@ -174,17 +115,6 @@ other:
     li a7, 0            #  49  exit
     ecall               #  50
 ";
-
-#[test]
-fn a_free_mutex_is_locked_whatever_the_time(rt: HostRuntime) {
-    let source = [BAD_NANOSECONDS, LIBRARY, TIMES];
-    let sights = [(50, Sight::Register(1, 8), 1000)];
-    let want = "partition p exit 22 steps 22 lost 0\noutput 0\n\n";
-    assert_eq!(rt;
-        check_row(rt.alloc(), &ALONE, &source, &sights, 51, want),
-        None
-    );
-}
 
 // Row expired-timedlock. Main owns the mutex, 2, at 18, waits for it, and 3, at 20, comes too late. The mutex is then
 // 2's, and free after its unlock.
@@ -223,17 +153,76 @@ late:
     ecall               #  77  the gate at 83
 ";
 
-#[test]
-fn a_lock_whose_time_is_over_leaves_the_waiters(rt: HostRuntime) {
-    let source = [EXPIRED_TIMEDLOCK, LIBRARY, TIMES];
-    let sights = [
-        (66, Sight::Register(3, 10), 110),
-        (66, Sight::Awaited(2), 1),
-        (91, Sight::Register(2, 10), 0),
-    ];
-    let want = "partition p exit 0 steps 46 lost 0\noutput 0\n\n";
-    assert_eq!(rt;
-        check_row(rt.alloc(), &ALONE, &source, &sights, 122, want),
-        None
-    );
-}
+/// What each guest above comes to.
+pub(super) const ROWS: [Row<'static>; 5] = [
+    Row {
+        name: "a_cycle_falls_as_its_waiter_leaves",
+        parts: &ALONE,
+        source: &[CLOSED_BEFORE, LIBRARY, TIMES],
+        sights: &[
+            (133, Sight::Level(2), 3),
+            (133, Sight::Level(3), 3),
+            (134, Sight::Level(2), 10),
+            (134, Sight::Level(3), 10),
+            (134, Sight::Awaited(4), 1),
+            (200, Sight::Level(2), 10),
+            (200, Sight::Level(3), 10),
+            (201, Sight::Level(2), 3),
+            (201, Sight::Level(3), 3),
+            (201, Sight::Register(4, 10), 110),
+        ],
+        ticks: 203,
+        report: "partition p exit 110 steps 116 lost 0\noutput 0\n\n",
+    },
+    Row {
+        name: "a_cycle_that_is_closed_later_falls_too",
+        parts: &ALONE,
+        source: &[CLOSED_AFTER, LIBRARY, TIMES],
+        sights: &[
+            (123, Sight::Level(2), 10),
+            (123, Sight::Level(3), 3),
+            (136, Sight::Level(2), 10),
+            (136, Sight::Level(3), 10),
+            (200, Sight::Level(2), 10),
+            (200, Sight::Level(3), 10),
+            (201, Sight::Level(2), 3),
+            (201, Sight::Level(3), 3),
+            (201, Sight::Register(4, 10), 110),
+        ],
+        ticks: 203,
+        report: "partition p exit 110 steps 116 lost 0\noutput 0\n\n",
+    },
+    Row {
+        name: "a_wait_that_is_over_at_once_releases_its_mutex",
+        parts: &ALONE,
+        source: &[EXPIRED_WAIT, LIBRARY, TIMES],
+        sights: &[
+            (47, Sight::Register(2, 10), 0),
+            (47, Sight::Awaited(1), 1),
+            (63, Sight::Register(1, 10), 1028),
+            (64, Sight::Register(1, 10), 110),
+        ],
+        ticks: 100,
+        report: "partition p exit 110 steps 36 lost 0\noutput 0\n\n",
+    },
+    Row {
+        name: "a_free_mutex_is_locked_whatever_the_time",
+        parts: &ALONE,
+        source: &[BAD_NANOSECONDS, LIBRARY, TIMES],
+        sights: &[(50, Sight::Register(1, 8), 1000)],
+        ticks: 51,
+        report: "partition p exit 22 steps 22 lost 0\noutput 0\n\n",
+    },
+    Row {
+        name: "a_lock_whose_time_is_over_leaves_the_waiters",
+        parts: &ALONE,
+        source: &[EXPIRED_TIMEDLOCK, LIBRARY, TIMES],
+        sights: &[
+            (66, Sight::Register(3, 10), 110),
+            (66, Sight::Awaited(2), 1),
+            (91, Sight::Register(2, 10), 0),
+        ],
+        ticks: 122,
+        report: "partition p exit 0 steps 46 lost 0\noutput 0\n\n",
+    },
+];

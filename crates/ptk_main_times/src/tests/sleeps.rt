@@ -1,6 +1,6 @@
 //! Rows of clocks and sleeps.
 
-use ptk_main_guests::{ALONE, LIBRARY, NUMBERS, P, Sight, TIMES, check_cuts, check_row};
+use ptk_main_guests::{ALONE, CutRow, LIBRARY, NUMBERS, P, Row, Sight, TIMES};
 
 // Row tick-conversion: main sleeps until one second, and reads the clock a tick later.
 const CLOCK: &str = "
@@ -21,21 +21,6 @@ time:
     .word 0
     .word 0
 ";
-
-#[test]
-fn a_tick_is_a_thousand_nanoseconds(rt: HostRuntime) {
-    let sights = [
-        (1_000_000, Sight::Steps, 5),
-        (1_000_009, Sight::Register(1, 8), 1),
-        (1_000_009, Sight::Register(1, 9), 0),
-        (1_000_009, Sight::Register(1, 18), 1000),
-    ];
-    let want = "partition p exit 0 steps 12 lost 0\noutput 0\n\n";
-    assert_eq!(rt;
-        check_row(rt.alloc(), &ALONE, &[CLOCK], &sights, 1_000_010, want),
-        None
-    );
-}
 
 // Row equal-wakeups. Threads 2 and 3, both at 20, sleep until tick 100; 2 yields before, so 3 is the first to sleep. Main,
 // at 30, joins 3.
@@ -73,22 +58,7 @@ third:
     j sleep             #  69
 ";
 
-#[test]
-fn equal_deadlines_go_by_thread_number(rt: HostRuntime) {
-    let source = [EQUAL_WAKEUPS, LIBRARY, TIMES];
-    let sights = [
-        (100, Sight::Steps, 42),
-        (101, Sight::Register(2, 10), 50),
-        (116, Sight::Register(3, 10), 51),
-    ];
-    let want = "partition p exit 0 steps 56 lost 0\noutput 2\n23\n";
-    assert_eq!(rt;
-        check_row(rt.alloc(), &ALONE, &source, &sights, 132, want),
-        None
-    );
-}
-
-// Rows long-sleep and same-deadline-neighbours, but for the time.
+// Rows long-sleep, cut-long-sleep and same-deadline-neighbours, but for the time.
 const SLEEPER: &str = "
     la a1, time         #   0
     li a0, 0            #   2
@@ -113,29 +83,6 @@ const TWENTY: [&str; 4] = [
     "[[window]]\nstart = 0\nlength = 20\npartition = \"p\"\n",
 ];
 
-// Row cut-long-sleep, with long-sleep's report at its end.
-#[test]
-fn a_long_sleep_is_the_same_however_it_is_cut(rt: HostRuntime) {
-    let asleep = "partition p idle steps 5 lost 0\noutput 0\n\n";
-    let cuts = [
-        (10, asleep),
-        (11, asleep),
-        (1_099_511_627_000, asleep),
-        (
-            1_099_511_627_001,
-            "partition p running steps 6 lost 0\noutput 0\n\n",
-        ),
-        (
-            1_099_511_627_776,
-            "partition p exit 0 steps 7 lost 0\noutput 0\n\n",
-        ),
-    ];
-    assert_eq!(rt;
-        check_cuts(rt.alloc(), &TWENTY, &[SLEEPER, LONG], &cuts),
-        None
-    );
-}
-
 // p has the first 20 ticks of 40, q the others, with the same image.
 const HALVES: [&str; 6] = [
     "frame = 40\n",
@@ -152,24 +99,75 @@ const SHORT: &str = "
     .word 45000
 ";
 
-#[test]
-fn neighbours_with_one_deadline_go_on_in_their_own_windows(rt: HostRuntime) {
-    let cuts = [
-        (
-            47,
-            "partition p exit 0 steps 7 lost 0\noutput 0\n\npartition q idle steps 5 lost 0\noutput 0\n\n",
-        ),
-        (
-            60,
-            "partition p exit 0 steps 7 lost 0\noutput 0\n\npartition q idle steps 5 lost 0\noutput 0\n\n",
-        ),
-        (
-            62,
-            "partition p exit 0 steps 7 lost 0\noutput 0\n\npartition q exit 0 steps 7 lost 0\noutput 0\n\n",
-        ),
-    ];
-    assert_eq!(rt;
-        check_cuts(rt.alloc(), &HALVES, &[SLEEPER, SHORT], &cuts),
-        None
-    );
-}
+/// What each guest above comes to.
+pub(super) const ROWS: [Row<'static>; 2] = [
+    Row {
+        name: "a_tick_is_a_thousand_nanoseconds",
+        parts: &ALONE,
+        source: &[CLOCK],
+        sights: &[
+            (1_000_000, Sight::Steps, 5),
+            (1_000_009, Sight::Register(1, 8), 1),
+            (1_000_009, Sight::Register(1, 9), 0),
+            (1_000_009, Sight::Register(1, 18), 1000),
+        ],
+        ticks: 1_000_010,
+        report: "partition p exit 0 steps 12 lost 0\noutput 0\n\n",
+    },
+    Row {
+        name: "equal_deadlines_go_by_thread_number",
+        parts: &ALONE,
+        source: &[EQUAL_WAKEUPS, LIBRARY, TIMES],
+        sights: &[
+            (100, Sight::Steps, 42),
+            (101, Sight::Register(2, 10), 50),
+            (116, Sight::Register(3, 10), 51),
+        ],
+        ticks: 132,
+        report: "partition p exit 0 steps 56 lost 0\noutput 2\n23\n",
+    },
+];
+
+/// The report of a guest that sleeps.
+const ASLEEP: &str = "partition p idle steps 5 lost 0\noutput 0\n\n";
+
+/// Their reports however a run is cut.
+pub(super) const CUTS: [CutRow<'static>; 2] = [
+    CutRow {
+        name: "a_long_sleep_is_the_same_however_it_is_cut",
+        parts: &TWENTY,
+        source: &[SLEEPER, LONG],
+        cuts: &[
+            (10, ASLEEP),
+            (11, ASLEEP),
+            (1_099_511_627_000, ASLEEP),
+            (
+                1_099_511_627_001,
+                "partition p running steps 6 lost 0\noutput 0\n\n",
+            ),
+            (
+                1_099_511_627_776,
+                "partition p exit 0 steps 7 lost 0\noutput 0\n\n",
+            ),
+        ],
+    },
+    CutRow {
+        name: "neighbours_with_one_deadline_go_on_in_their_own_windows",
+        parts: &HALVES,
+        source: &[SLEEPER, SHORT],
+        cuts: &[
+            (
+                47,
+                "partition p exit 0 steps 7 lost 0\noutput 0\n\npartition q idle steps 5 lost 0\noutput 0\n\n",
+            ),
+            (
+                60,
+                "partition p exit 0 steps 7 lost 0\noutput 0\n\npartition q idle steps 5 lost 0\noutput 0\n\n",
+            ),
+            (
+                62,
+                "partition p exit 0 steps 7 lost 0\noutput 0\n\npartition q exit 0 steps 7 lost 0\noutput 0\n\n",
+            ),
+        ],
+    },
+];

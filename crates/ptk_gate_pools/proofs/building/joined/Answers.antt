@@ -31,8 +31,8 @@ invariant_of-result c =
       sections = ap (λ (table : ConsoleTable). table.limits) c.requires.consoles ∙ sym c.requires.limits;
       statuses = ap length c.requires.statuses ∙ length-replicate (length limits) _ ∙ back;
       lasts = ap length c.requires.lasts ∙ length-replicate (length limits) _ ∙ back;
-      stored = stored_made c.args.schedules.0.table c.args.schedules.0.mutexes limits c.requires.mutexes c.requires.table;
-      timed = timed_made c.args.schedules.0.table c.args.deadlines limits c.requires.deadlines c.requires.table;
+      stored = stored_made c.args.threads.0.0.table c.args.threads.0.0.mutexes limits c.requires.mutexes c.requires.table;
+      timed = timed_made c.args.threads.0.0.table c.args.threads.1 limits c.requires.deadlines c.requires.table;
     }
 
 pub returns : goal.returns

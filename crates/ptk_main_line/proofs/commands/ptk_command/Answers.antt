@@ -2,6 +2,7 @@ use Rattle.std.proofs.Common.{◌≡◌, ◌∙◌, ap, ap₂, true, codes}
 use Rattle.std.proofs.lemmas.Result.{IfOk-weaker}
 use Rattle.clap.specs.Words.{App, app_of, new_app, with_subcommand}
 use Rattle.clap.specs.Simple.{Shape, app_of_fields, on_top}
+use Rattle.ptk_main_line.specs.CommandLine.{run, trace, timeline}
 use Rattle.ptk_main_line.proofs.commands.ptk_command.Goals as goal
 
 abbrev wants_subcommand : Shape → Shape
@@ -10,15 +11,16 @@ wants_subcommand s = record s { subcommand_required = true }
 abbrev top_of : App → Shape
 top_of a = a.top
 
+abbrev with_all_runs : App → App
+with_all_runs a = with_subcommand (with_subcommand (with_subcommand a run.top) trace.top) timeline.top
+
 pub returns : goal.returns
 returns c =
-    let start : app_of c.subcommand_required.result ≡ on_top wants_subcommand (new_app (codes "ptk")) =
-    ap app_of_fields c.subcommand_required.ensures
+    let start : app_of c.subcommand_required-command.result ≡ on_top wants_subcommand (new_app (codes "ptk")) =
+    ap app_of_fields c.subcommand_required-command.ensures
     ∙ ap (on_top wants_subcommand) (ap app_of_fields c.after_help.ensures ∙ ap app_of_fields c.about.ensures ∙ c.new.ensures.app) in
-    let one = c.in_ok-subcommand.ensures.shape c.in_ok-run_command.ensures.1 ∙ ap₂ with_subcommand start (ap top_of c.in_ok-run_command.ensures.0) in
-    let two = c.in_ok-subcommand-2.ensures.shape c.in_ok-trace_command.ensures.1 ∙ ap₂ with_subcommand one (ap top_of c.in_ok-trace_command.ensures.0) in
-    let three = c.in_ok-subcommand-3.ensures.shape c.in_ok-timeline_command.ensures.1 ∙ ap₂ with_subcommand two (ap top_of c.in_ok-timeline_command.ensures.0) in
-    let four = c.in_ok-subcommand-4.ensures.shape c.in_ok-asm_command.ensures.1 ∙ ap₂ with_subcommand three (ap top_of c.in_ok-asm_command.ensures.0) in
-    IfOk-weaker c.subcommand-5.result _ _
-    (λ r h. h.shape c.in_ok-check_command.ensures.1 ∙ ap₂ with_subcommand four (ap top_of c.in_ok-check_command.ensures.0))
-    c.subcommand-5.ensures
+    let runs = c.in_ok-with_runs.ensures ∙ ap with_all_runs start in
+    let asm = c.in_ok-subcommand.ensures.shape c.in_ok-asm_command.ensures.1 ∙ ap₂ with_subcommand runs (ap top_of c.in_ok-asm_command.ensures.0) in
+    IfOk-weaker c.subcommand-2.result _ _
+    (λ r h. h.shape c.in_ok-check_command.ensures.1 ∙ ap₂ with_subcommand asm (ap top_of c.in_ok-check_command.ensures.0))
+    c.subcommand-2.ensures
