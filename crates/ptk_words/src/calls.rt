@@ -83,6 +83,9 @@ pub enum Call {
     PthreadGetspecific,
 }
 
+/// A call, under the name that the number types of this crate have: a guest's number is read as one of these.
+pub type CallNo = Call;
+
 impl Call {
     /// The call of a number, None of a number that is no call (own choice of the numbers).
     pub fn of_number(number: u32) -> Option<Call>
