@@ -14,6 +14,7 @@ use Rattle.ptk_threads.specs.Queues.{IsUnqueued, with_none}
 use Rattle.ptk_threads_slots.specs.declared.link.Ends.{Ends}
 use Rattle.ptk_threads_slots.specs.declared.slot.Slot.{Slot}
 use Rattle.ptk_threads_slots.specs.Links.{links_of, threads_of, queues, AreQueues}
+use Rattle.ptk_threads_slots.proofs.Slots.{links_count}
 use Rattle.ptk_threads_slots.proofs.Along.{le_or_gt, not_true}
 use Rattle.ptk_ready.specs.Queues.{waiters_of, AreUnused}
 use Rattle.ptk_ready_slots.specs.declared.entries.LinkedEntries.{LinkedEntries}
@@ -150,7 +151,7 @@ unqueued_there p k table lt = λ i.
 pub slot_of_member : (slots : List Slot) (ends : List Ends) (stamps : List ℤ) (table : ThreadTable) (p k : ℕ) → threads_of slots ≡ part_of table.threads p → AreQueues (links_of slots) ends → length slots ≤ 32
     → is_in k (line_of (queues (links_of slots) ends) stamps) ≡ true → k ≤ length (part_of table.threads p)
 slot_of_member slots ends stamps table p k same are few inside =
-    let links : length (links_of slots) ≡ length slots = length-map slots (λ (slot : Slot). slot.link) in
+    let links : length (links_of slots) ≡ length slots = links_count slots in
     let long : length slots ≡ length (part_of table.threads p) = sym (length-map slots (λ (slot : Slot). slot.thread)) ∙ ap length same in
     omega (arith, links, long, member_within (links_of slots) ends stamps k are (omega (arith, links, few)) inside)
 

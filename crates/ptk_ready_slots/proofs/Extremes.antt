@@ -9,7 +9,7 @@ use Rattle.ptk_words.specs.Pools.{is_in}
 use Rattle.ptk_threads_slots.specs.declared.link.Ends.{Ends}
 use Rattle.ptk_threads_slots.specs.declared.link.Link.{Link}
 use Rattle.ptk_threads_slots.specs.declared.slot.Slot.{Slot}
-use Rattle.ptk_threads_slots.specs.Links.{links_of, no_link, no_ends, ends_at, place_of, mark_of, first_or, last_or, queue_at, AreQueues}
+use Rattle.ptk_threads_slots.specs.Links.{links_of, own_link, no_link, no_ends, ends_at, place_of, mark_of, first_or, last_or, queue_at, AreQueues}
 use Rattle.ptk_threads_slots.proofs.Along.{in_front, in_here, in_later, not_true, along_marked}
 use Rattle.ptk_ready_slots.specs.Bits.{has_bit, IsBitChanged, IsGreatestBit}
 use Rattle.ptk_ready_slots.specs.Orders.{IsInOrder}
@@ -20,7 +20,7 @@ use Rattle.ptk_ready_slots.proofs.Ready.{ready_mark, marked_ready}
 
 pub read_ready : (slots : List Slot) (i : ℕ) (slot : Slot) (answer : Bool) → i < length slots → slot ≡ get_or slots i slot → answer ≡ is_ready_place (option_map place_of slot.link.queue) → answer ≡ is_ready (links_of slots) (suc i)
 read_ready slots i slot answer lt read e =
-    e ∙ ap (λ (l : Link). is_ready_place (option_map place_of l.queue)) (ap (λ (s : Slot). s.link) read ∙ sym (get_or-map (λ (s : Slot). s.link) slots i slot no_link lt))
+    e ∙ ap (λ (l : Link). is_ready_place (option_map place_of l.queue)) (ap (λ (s : Slot). own_link s.link) read ∙ sym (get_or-map (λ (s : Slot). own_link s.link) slots i slot no_link lt))
 
 -- ---- queues that are still to be looked at
 

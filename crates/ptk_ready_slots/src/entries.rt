@@ -13,7 +13,7 @@ ghost use Rattle.ptk_ready_slots.specs.Stamps.{above, below};
 
 use crate::bits::{greatest_bit, with_bit, without_bit};
 use crate::places::first_after;
-use crate::stamps::{NUMBERS, greatest_stamp, is_ready_link, least_stamp, renumbered, stamp_in};
+use crate::stamps::{NUMBERS, greatest_stamp, is_ready_queue, least_stamp, renumbered, stamp_in};
 use ptk_threads::stored_in;
 use ptk_threads_slots::{Ends, Link, QueueName, Slot, link_of};
 use ptk_words::{Priority, ThreadNo};
@@ -171,7 +171,7 @@ impl<const LIMIT: u64> LinkedEntries<LIMIT> {
         ensures { result ≡ is_in k (line_of (queues (links_of slots.now) ends.now) self.now.stamps) }
     {
         let link = link_of(slots, k);
-        is_ready_link(&link)
+        is_ready_queue(&link.queue)
     }
 
     /// The stamp of a thread that comes last, after all are numbered anew where it would pass the limit.

@@ -7,7 +7,7 @@ ghost use Rattle.ptk_ready_slots.specs.Entries.{is_ready_place, stamp_of};
 ghost use Rattle.ptk_ready_slots.specs.Stamps.{AreFiled, IsGreatestStamp, IsLeastStamp, greater_of, lesser_of, rank, renumbered};
 
 use crate::bits::{greatest_bit, without_bit};
-use ptk_threads_slots::{Ends, Link, Slot};
+use ptk_threads_slots::{Ends, QueueName, Slot};
 use ptk_words::ThreadNo;
 
 /// How many numbers a partition has at most.
@@ -20,11 +20,11 @@ pub(crate) fn stamp_in(stamps: &[i64; NUMBERS], k: ThreadNo) -> i64
     stamps[k.place()]
 }
 
-/// Whether a thread with this link is ready.
-pub(crate) fn is_ready_link(link: &Link) -> bool
-    ensures { result ≡ is_ready_place (option_map place_of link.now.queue) }
+/// Whether a thread that lies in this queue, or in none, is ready.
+pub(crate) fn is_ready_queue(queue: &Option<QueueName>) -> bool
+    ensures { result ≡ is_ready_place (option_map place_of queue.now) }
 {
-    match &link.queue {
+    match queue {
         Some(name) => name.place() < 32,
         None => false,
     }
@@ -118,11 +118,11 @@ fn lesser(least: Option<i64>, stamp: i64) -> i64
     }
 }
 
-/// Whether a thread with this link and stamp is ready and comes before a stamp.
-fn is_ready_before(link: &Link, own: i64, stamp: i64) -> bool
-    ensures { result ≡ (is_ready_place (option_map place_of link.now.queue) && int_lt own stamp) }
+/// Whether a thread that lies in this queue, or in none, with this stamp is ready and comes before a stamp.
+fn is_ready_before(queue: &Option<QueueName>, own: i64, stamp: i64) -> bool
+    ensures { result ≡ (is_ready_place (option_map place_of queue.now) && int_lt own stamp) }
 {
-    is_ready_link(link) && own < stamp
+    is_ready_queue(queue) && own < stamp
 }
 
 /// How many ready threads have a lesser stamp.
@@ -132,7 +132,7 @@ fn rank(slots: &[Slot], stamps: &[i64; NUMBERS], stamp: i64) -> u8
 {
     let mut count = 0;
     for (i, slot) in slots.iter().enumerate() {
-        if is_ready_before(&slot.link, stamps[i], stamp) {
+        if is_ready_before(&slot.link.queue, stamps[i], stamp) {
             count += 1;
         }
     }

@@ -105,13 +105,15 @@ none_ready stored n = refl
 
 pub queues_of : (limit : ℕ) (line : List (LinkedEntries limit)) (a : ThreadTable) (mutexes : List (List (Option Mutex))) (marks : List (List Bool)) → IsRoster limit line a mutexes marks → AreQueuesOf (seen_of line a mutexes marks) a.queues
 queues_of limit line a mutexes marks roster = record {
-  of_ready = λ p i lt. elim (le_or_gt (length line) p) as (λ _. part_of (part_of a.queues p) i ≡ of_priority (part_of a.stored p) (suc i) (part_of (lines_by line a.queues) p)) [
-    | inl past ↦ ap (λ lists. part_of lists i) (get_or_past a.queues p [] (omega (arith, past, roster.lined.filed.parts)))
-        ∙ sym (ap (of_priority (part_of a.stored p) (suc i)) (get_or_past (lines_by line a.queues) p [] (omega (arith, past, lines_long line a.queues))))
-    | inr below ↦ (roster.lined.filed.each p below).lines i lt ∙ sym (ap (of_priority (part_of a.stored p) (suc i)) (lines_at line a.queues p below))
-  ];
-  of_mutexes = λ p m pos le. waiters_at a mutexes marks p m roster.pools pos le;
-  of_conditions = λ p c pos. sleepers_at a mutexes marks p c roster.pools pos;
+  each = λ p. record {
+    of_ready = λ i lt. elim (le_or_gt (length line) p) as (λ _. part_of (part_of a.queues p) i ≡ of_priority (part_of a.stored p) (suc i) (part_of (lines_by line a.queues) p)) [
+      | inl past ↦ ap (λ lists. part_of lists i) (get_or_past a.queues p [] (omega (arith, past, roster.lined.filed.parts)))
+          ∙ sym (ap (of_priority (part_of a.stored p) (suc i)) (get_or_past (lines_by line a.queues) p [] (omega (arith, past, lines_long line a.queues))))
+      | inr below ↦ (roster.lined.filed.each p below).lines i lt ∙ sym (ap (of_priority (part_of a.stored p) (suc i)) (lines_at line a.queues p below))
+    ];
+    of_mutexes = λ m pos le. waiters_at a mutexes marks p m roster.pools pos le;
+    of_conditions = λ c pos. sleepers_at a mutexes marks p c roster.pools pos;
+  };
 }
 
 pub line_parts : (limit : ℕ) (line : List (LinkedEntries limit)) (a : ThreadTable) (mutexes : List (List (Option Mutex))) (marks : List (List Bool)) (now : Rostered) (p : ℕ) → seen_of line a mutexes marks ≡ now → IsRoster limit line a mutexes marks → p < length now.table.threads

@@ -22,11 +22,15 @@ pub record Rostered : Type 0 where
 abbrev pub seen : ThreadTable → ThreadTable
 seen table = record table { queues = [] }
 
--- the queues of the slot table are the line's threads of each priority in the line's order, and the waiters of each mutex and of each condition variable (own)
+-- a partition's queues are the line's threads of each stored priority in the line's order, and the waiters of each mutex and of each condition variable (own)
+pub record AreQueuesIn (stored line : List ℕ) (mutexes : List (Option Mutex)) (conditions : List (Option Condition)) (queues : List (List ℕ)) : Type 0 where
+  pub of_ready : (i : ℕ) → i < 32 → part_of queues i ≡ of_priority stored (suc i) line
+  pub of_mutexes : (m : ℕ) → 0 < m → m ≤ 64 → part_of queues (m + 31) ≡ waiters_of (pool_get mutexes m)
+  pub of_conditions : (c : ℕ) → 0 < c → part_of queues (c + 95) ≡ waiters_on (pool_get conditions c)
+
+-- so are those of each partition of the slot table (own)
 pub record AreQueuesOf (roster : Rostered) (queues : List (List (List ℕ))) : Type 0 where
-  pub of_ready : (p i : ℕ) → i < 32 → part_of (part_of queues p) i ≡ of_priority (part_of roster.table.stored p) (suc i) (part_of roster.lines p)
-  pub of_mutexes : (p m : ℕ) → 0 < m → m ≤ 64 → part_of (part_of queues p) (m + 31) ≡ waiters_of (pool_get (part_of roster.mutexes p) m)
-  pub of_conditions : (p c : ℕ) → 0 < c → part_of (part_of queues p) (c + 95) ≡ waiters_on (pool_get (part_of roster.conditions p) c)
+  pub each : (p : ℕ) → AreQueuesIn (part_of roster.table.stored p) (part_of roster.lines p) (part_of roster.mutexes p) (part_of roster.conditions p) (part_of queues p)
 
 -- the mark of a number, false past the last
 abbrev pub is_marked : List Bool → ℕ → Bool

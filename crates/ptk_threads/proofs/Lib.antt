@@ -1,4 +1,5 @@
 pub mod Slots
+pub mod Joined
 pub mod Linked
 pub mod Pools
 pub mod Registers

@@ -1,5 +1,5 @@
 -- The table of slots after a change of one partition's threads, or of its queues.
-use Rattle.std.proofs.Common.{◌≡◌, ◌≢◌, ℕ, zero, suc, ◌<◌, ◌≤◌, List, [], ◌∷◌, ◌++◌, length, map, take, Bool, true, false, refl, sym, ◌∙◌, ap, subst, arith, inl, inr}
+use Rattle.std.proofs.Common.{◌≡◌, ◌≢◌, ℕ, zero, suc, ◌+◌, ◌<◌, ◌≤◌, List, [], ◌∷◌, ◌++◌, length, map, take, Bool, true, false, refl, sym, ◌∙◌, ap, subst, arith, inl, inr}
 use Rattle.std.specs.Prelude.{nat_eq, ◌==◌, is_some, option_map, ◌↔◌, Option, Some, None, replicate}
 use Rattle.std.proofs.Math.ListN.{set, get_or-map}
 use Rattle.std.proofs.lemmas.Bool.{cases_eq}
@@ -12,15 +12,18 @@ use Rattle.ptk_words_parted.specs.Cuts.{lent}
 use Rattle.ptk_words_parted.proofs.Cuts.{lent-same}
 use Rattle.ptk_threads_slots.specs.declared.link.Ends.{Ends}
 use Rattle.ptk_threads_slots.specs.declared.link.Link.{Link}
+use Rattle.ptk_threads_slots.specs.declared.link.SlotLink.{SlotLink}
 use Rattle.ptk_threads_slots.specs.declared.link.QueueName.{QueueName}
 use Rattle.ptk_threads_slots.specs.declared.slot.Slot.{Slot}
-use Rattle.ptk_threads_slots.specs.Links.{place_of, link_in, links_of, threads_of, free_slot, no_link, no_ends, mark_of, queue_from, queue_at, queues, AreQueues}
+use Rattle.ptk_threads_slots.specs.Links.{place_of, link_in, links_of, shared_links, shared_link, AreLinksFrom, threads_of, free_slot, no_link, no_ends, mark_of, queue_from, queue_at, queues, AreQueues}
 use Rattle.ptk_threads_slots.specs.Changes.{put_before, with_inserted, with_taken}
 use Rattle.ptk_threads_slots.proofs.Along.{along_marked, le_or_gt, not_true}
 use Rattle.ptk_threads_slots.proofs.Lists.{list_at, without_none, put_none}
 use Rattle.ptk_threads_slots.proofs.Empty.{empty_queues, empty_lists}
-use Rattle.ptk_threads.specs.Queues.{LinkedThreads, queues_by, AreLinked, AreListed, IsUnqueued, with_before, with_none, with_out}
+use Rattle.ptk_threads.specs.Queues.{LinkedThreads, queues_by, free_parts, AreLinked, AreListed, IsUnqueued, with_before, with_none, with_out}
 use Rattle.ptk_threads.specs.Table.{ThreadTable, with_queues}
+use Rattle.ptk_threads.specs.Shared.{first_slot, AreAlongLinks, StayInPartitions}
+use Rattle.ptk_threads.proofs.Joined.{own_same, from_same, first_set, first_threads, link_joined, along_joined, stays}
 
 -- ---- reading
 
@@ -54,41 +57,43 @@ listed slots ends are = record {
 
 -- ---- threads changed, and no link
 
-same_length : (w part : List Slot) → links_of w ≡ links_of part → length w ≡ length part
+same_length : (w part : List Slot) → shared_links w ≡ shared_links part → length w ≡ length part
 same_length w part e = sym (length-map w (λ (slot : Slot). slot.link)) ∙ (ap length e ∙ length-map part (λ (slot : Slot). slot.link))
 
-lent_set : (slots : List (List Slot)) (p : ℕ) (w : List Slot) → p < length (map threads_of slots) → links_of w ≡ links_of (part_of slots p) → lent slots p w ≡ set slots p w
+lent_set : (slots : List (List Slot)) (p : ℕ) (w : List Slot) → p < length (map threads_of slots) → shared_links w ≡ shared_links (part_of slots p) → lent slots p w ≡ set slots p w
 lent_set slots p w lt e = lent-same slots p w (rw (length-map slots threads_of) at lt) (same_length w (part_of slots p) e)
 
-pub threads_lent : (slots : List (List Slot)) (p : ℕ) (w : List Slot) (row : List (Option Thread)) → p < length (map threads_of slots) → links_of w ≡ links_of (part_of slots p) → threads_of w ≡ row
+pub threads_lent : (slots : List (List Slot)) (p : ℕ) (w : List Slot) (row : List (Option Thread)) → p < length (map threads_of slots) → shared_links w ≡ shared_links (part_of slots p) → threads_of w ≡ row
     → map threads_of (lent slots p w) ≡ set (map threads_of slots) p row
 threads_lent slots p w row lt e is = ap (map threads_of) (lent_set slots p w lt e) ∙ (map-set threads_of slots p w ∙ ap (set (map threads_of slots) p) is)
 
-queues_same : (slots : List (List Slot)) (ends : List (List Ends)) (p : ℕ) (w : List Slot) → links_of w ≡ links_of (part_of slots p) → queues_by (set slots p w) ends ≡ queues_by slots ends
+queues_same : (slots : List (List Slot)) (ends : List (List Ends)) (p : ℕ) (w : List Slot) → shared_links w ≡ shared_links (part_of slots p) → queues_by (set slots p w) ends ≡ queues_by slots ends
 queues_same [] ends p w e = refl
 queues_same (part ∷ slots) [] zero w e = refl
 queues_same (part ∷ slots) [] (suc p) w e = ap (λ l. [] ∷ l) (queues_same slots [] p w e)
-queues_same (part ∷ slots) (end ∷ ends) zero w e = ap (λ links. queues links end ∷ queues_by slots ends) e
+queues_same (part ∷ slots) (end ∷ ends) zero w e = ap (λ links. queues links end ∷ queues_by slots ends) (own_same w part e)
 queues_same (part ∷ slots) (end ∷ ends) (suc p) w e = ap (λ l. queues (links_of part) end ∷ l) (queues_same slots ends p w e)
 
-pub queues_lent : (slots : List (List Slot)) (ends : List (List Ends)) (p : ℕ) (w : List Slot) → p < length (map threads_of slots) → links_of w ≡ links_of (part_of slots p) → queues_by (lent slots p w) ends ≡ queues_by slots ends
+pub queues_lent : (slots : List (List Slot)) (ends : List (List Ends)) (p : ℕ) (w : List Slot) → p < length (map threads_of slots) → shared_links w ≡ shared_links (part_of slots p) → queues_by (lent slots p w) ends ≡ queues_by slots ends
 queues_lent slots ends p w lt e = ap (λ l. queues_by l ends) (lent_set slots p w lt e) ∙ queues_same slots ends p w e
 
-links_same : (slots : List (List Slot)) (p q : ℕ) (w : List Slot) → links_of w ≡ links_of (part_of slots p) → links_of (part_of (set slots p w) q) ≡ links_of (part_of slots q)
+links_same : (slots : List (List Slot)) (p q : ℕ) (w : List Slot) → shared_links w ≡ shared_links (part_of slots p) → shared_links (part_of (set slots p w) q) ≡ shared_links (part_of slots q)
 links_same [] p q w e = refl
 links_same (part ∷ slots) zero zero w e = e
 links_same (part ∷ slots) zero (suc q) w e = refl
 links_same (part ∷ slots) (suc p) zero w e = refl
 links_same (part ∷ slots) (suc p) (suc q) w e = links_same slots p q w e
 
-linked_same : (slots : List (List Slot)) (ends : List (List Ends)) (p : ℕ) (w : List Slot) → AreLinked slots ends → links_of w ≡ links_of (part_of slots p) → AreLinked (set slots p w) ends
+linked_same : (slots : List (List Slot)) (ends : List (List Ends)) (p : ℕ) (w : List Slot) → AreLinked slots ends → shared_links w ≡ shared_links (part_of slots p) → AreLinked (set slots p w) ends
 linked_same slots ends p w are e = record {
   parts = are.parts ∙ sym (length-set slots p w);
   places = λ q lt. are.places q (rw (length-set slots p w) at lt);
-  each = λ q. subst (λ links. AreQueues links (part_of ends q)) (sym (links_same slots p q w e)) (are.each q);
+  each = λ q. subst (λ links. AreQueues links (part_of ends q)) (sym (own_same (part_of (set slots p w) q) (part_of slots q) (links_same slots p q w e))) (are.each q);
+  own = λ q. subst (λ first. AreLinksFrom first (part_of (set slots p w) q)) (sym (first_set slots p q w (same_length w (part_of slots p) e)))
+      (from_same (first_slot slots q) (part_of (set slots p w) q) (part_of slots q) (links_same slots p q w e) (are.own q));
 }
 
-pub linked_lent : (slots : List (List Slot)) (ends : List (List Ends)) (p : ℕ) (w : List Slot) → AreLinked slots ends → p < length (map threads_of slots) → links_of w ≡ links_of (part_of slots p) → AreLinked (lent slots p w) ends
+pub linked_lent : (slots : List (List Slot)) (ends : List (List Ends)) (p : ℕ) (w : List Slot) → AreLinked slots ends → p < length (map threads_of slots) → shared_links w ≡ shared_links (part_of slots p) → AreLinked (lent slots p w) ends
 linked_lent slots ends p w are lt e = rw (lent_set slots p w lt e) (linked_same slots ends p w are e)
 
 -- ---- one queue changed, and no thread
@@ -109,8 +114,9 @@ queues_set (part ∷ slots) [] p w late e = absurd (omega (arith, e))
 queues_set (part ∷ slots) (end ∷ ends) zero w late e = refl
 queues_set (part ∷ slots) (end ∷ ends) (suc p) w late e = ap (λ l. queues (links_of part) end ∷ l) (queues_set slots ends p w late (omega (arith, e)))
 
-linked_set : (slots : List (List Slot)) (ends : List (List Ends)) (p : ℕ) (w : List Slot) (late : List Ends) → AreLinked slots ends → p < length slots → AreQueues (links_of w) late → length late ≡ 128 → AreLinked (set slots p w) (set ends p late)
-linked_set slots ends p w late are lt queued long =
+linked_set : (slots : List (List Slot)) (ends : List (List Ends)) (p : ℕ) (w : List Slot) (late : List Ends) → AreLinked slots ends → p < length slots → AreQueues (links_of w) late → length w ≡ length (part_of slots p)
+    → ((first : ℕ) → AreLinksFrom first (part_of slots p) → AreLinksFrom first w) → length late ≡ 128 → AreLinked (set slots p w) (set ends p late)
+linked_set slots ends p w late are lt queued same from long =
     let lt' : p < length ends = omega (arith, lt, are.parts) in
     record {
       parts = length-set ends p late ∙ (are.parts ∙ sym (length-set slots p w));
@@ -122,6 +128,10 @@ linked_set slots ends p w late are lt queued long =
         | inl e ↦ rw (e, get_or-set_same slots p w [] lt, get_or-set_same ends p late [] lt') queued
         | inr ne ↦ rw (get_or-set_other slots p q w [] ne, get_or-set_other ends p q late [] ne) (are.each q)
       ];
+      own = λ q. rw (first_set slots p q w same) (elim (cases_eq q p) as (λ _. AreLinksFrom (first_slot slots q) (part_of (set slots p w) q)) [
+        | inl e ↦ rw (e, get_or-set_same slots p w [] lt) (from (first_slot slots p) (are.own p))
+        | inr ne ↦ rw (get_or-set_other slots p q w [] ne) (are.own q)
+      ]);
     }
 
 -- a partition's slots and ends lent for a change of one queue
@@ -131,14 +141,15 @@ pub record AreRelinked (slots : List (List Slot)) (ends : List (List Ends)) (p :
   pub queues : queues_by (lent slots p w) (lent ends p late) ≡ set (queues_by slots ends) p lists
 
 pub relinked : (slots : List (List Slot)) (ends : List (List Ends)) (p : ℕ) (w : List Slot) (late : List Ends) (lists : List (List ℕ)) → AreLinked slots ends → p < length (map threads_of slots)
-    → AreQueues (links_of w) late → threads_of w ≡ threads_of (part_of slots p) → length late ≡ 128 → queues (links_of w) late ≡ lists → AreRelinked slots ends p w late lists
-relinked slots ends p w late lists are lt queued same long is =
+    → AreQueues (links_of w) late → threads_of w ≡ threads_of (part_of slots p) → ((first : ℕ) → AreLinksFrom first (part_of slots p) → AreLinksFrom first w) → length late ≡ 128 → queues (links_of w) late ≡ lists
+    → AreRelinked slots ends p w late lists
+relinked slots ends p w late lists are lt queued same from long is =
     let below : p < length slots = rw (length-map slots threads_of) at lt in
     let below' : p < length ends = omega (arith, below, are.parts) in
     let first : lent slots p w ≡ set slots p w = lent-same slots p w below (length_threads w (part_of slots p) same) in
     let second : lent ends p late ≡ set ends p late = lent-same ends p late below' (long ∙ sym (are.places p below)) in
     record {
-      linked = rw (first, second) (linked_set slots ends p w late are below queued long);
+      linked = rw (first, second) (linked_set slots ends p w late are below queued (length_threads w (part_of slots p) same) from long);
       threads = ap (map threads_of) first ∙ threads_same slots p w same;
       queues = ap (λ l. queues_by l (lent ends p late)) first ∙ (ap (queues_by (set slots p w)) second ∙ (queues_set slots ends p w late are.parts ∙ ap (set (queues_by slots ends) p) is));
     }
@@ -224,19 +235,19 @@ free_at slots ends p k v part was are is e f out =
     unqueued_mark (links_of part) was k (queued_at slots ends p part was are e f) (subst (IsUnqueued k) (sym (lists_at slots ends p v part was are is e f)) out)
 
 -- a thread changed
-pub kept_at : (slots : List (List Slot)) (ends : List (List Ends)) (p : ℕ) (v : LinkedThreads) (part w : List Slot) → AreLinked slots ends → linked_of slots ends ≡ v → p < length v.threads → part ≡ part_of slots p → links_of w ≡ links_of part
+pub kept_at : (slots : List (List Slot)) (ends : List (List Ends)) (p : ℕ) (v : LinkedThreads) (part w : List Slot) → AreLinked slots ends → linked_of slots ends ≡ v → p < length v.threads → part ≡ part_of slots p → shared_links w ≡ shared_links part
     → AreLinked (lent slots p w) ends
-kept_at slots ends p v part w are is lt e same = linked_lent slots ends p w are (below_of slots ends p v is lt) (same ∙ ap links_of e)
+kept_at slots ends p v part w are is lt e same = linked_lent slots ends p w are (below_of slots ends p v is lt) (same ∙ ap shared_links e)
 
 pub threads_here : (slots : List (List Slot)) (ends : List (List Ends)) (p : ℕ) (v : LinkedThreads) (part : List Slot) → linked_of slots ends ≡ v → part ≡ part_of slots p → threads_of part ≡ part_of v.threads p
 threads_here slots ends p v part is e = ap threads_of e ∙ (sym (part_threads slots p) ∙ ap (λ (z : LinkedThreads). part_of z.threads p) is)
 
 pub changed_view : (slots : List (List Slot)) (ends : List (List Ends)) (p : ℕ) (v : LinkedThreads) (part w : List Slot) (f : List (Option Thread) → List (Option Thread)) → linked_of slots ends ≡ v → p < length v.threads → part ≡ part_of slots p
-    → links_of w ≡ links_of part → threads_of w ≡ f (threads_of part) → linked_of (lent slots p w) ends ≡ record v { threads = set v.threads p (f (part_of v.threads p)) }
+    → shared_links w ≡ shared_links part → threads_of w ≡ f (threads_of part) → linked_of (lent slots p w) ends ≡ record v { threads = set v.threads p (f (part_of v.threads p)) }
 changed_view slots ends p v part w f is lt e same made =
     let below = below_of slots ends p v is lt in
     let row : threads_of w ≡ f (part_of (map threads_of slots) p) = made ∙ ap f (ap threads_of e ∙ sym (part_threads slots p)) in
-    let links : links_of w ≡ links_of (part_of slots p) = same ∙ ap links_of e in
+    let links : shared_links w ≡ shared_links (part_of slots p) = same ∙ ap shared_links e in
     ap (λ l. record { threads = l; queues = queues_by (lent slots p w) ends }) (threads_lent slots p w (f (part_of (map threads_of slots) p)) below links row)
     ∙ (ap (λ l. record { threads = set (map threads_of slots) p (f (part_of (map threads_of slots) p)); queues = l }) (queues_lent slots ends p w below links)
     ∙ ap (λ (z : LinkedThreads). record z { threads = set z.threads p (f (part_of z.threads p)) }) is)
@@ -244,12 +255,12 @@ changed_view slots ends p v part w f is lt e same made =
 -- the queues changed
 pub relinked_at : (slots : List (List Slot)) (ends : List (List Ends)) (p : ℕ) (v : LinkedThreads) (part w : List Slot) (was late : List Ends) (f : List (List ℕ) → List (List ℕ))
     → AreLinked slots ends → linked_of slots ends ≡ v → p < length v.threads → part ≡ part_of slots p → was ≡ part_of ends p
-    → AreQueues (links_of w) late → threads_of w ≡ threads_of part → length late ≡ length was → queues (links_of w) late ≡ f (queues (links_of part) was)
+    → AreQueues (links_of w) late → threads_of w ≡ threads_of part → ((first : ℕ) → AreLinksFrom first part → AreLinksFrom first w) → length late ≡ length was → queues (links_of w) late ≡ f (queues (links_of part) was)
     → AreRelinked slots ends p w late (f (part_of v.queues p))
-relinked_at slots ends p v part w was late f are is lt e g queued same long lists =
+relinked_at slots ends p v part w was late f are is lt e g queued same from long lists =
     let below = below_of slots ends p v is lt in
     let places : length late ≡ 128 = long ∙ (ap length g ∙ are.places p (rw (length-map slots threads_of) at below)) in
-    relinked slots ends p w late (f (part_of v.queues p)) are below queued (same ∙ ap threads_of e) places (lists ∙ ap f (lists_at slots ends p v part was are is e g))
+    relinked slots ends p w late (f (part_of v.queues p)) are below queued (same ∙ ap threads_of e) (λ first own. from first (subst (AreLinksFrom first) (sym e) own)) places (lists ∙ ap f (lists_at slots ends p v part was are is e g))
 
 pub view_at : (slots : List (List Slot)) (ends : List (List Ends)) (p : ℕ) (v : LinkedThreads) (w : List Slot) (late : List Ends) (lists : List (List ℕ)) → linked_of slots ends ≡ v → AreRelinked slots ends p w late lists
     → linked_of (lent slots p w) (lent ends p late) ≡ record v { queues = set v.queues p lists }
@@ -285,47 +296,93 @@ taken_lists slots ends p k part was are e f = taken_all (links_of part) was k (q
 
 pub ruleset lifts = (part_threads, threads_lent, queues_lent)
 
-pub ruleset reads = (whole_at, lists_at)
+-- the queues along the links of all slots
+pub shared_lists : (slots : List (List Slot)) (ends : List (List Ends)) (v : LinkedThreads) (items : List Slot) → AreLinked slots ends → linked_of slots ends ≡ v → items ≡ joined slots → AreAlongLinks items v.threads v.queues
+shared_lists slots ends v items are is e =
+    subst (λ (z : LinkedThreads). AreAlongLinks items z.threads z.queues) is (rw e (record {
+      along = λ p i. rw (first_threads slots p, part_queues slots ends p are.parts, list_at (links_of (part_of slots p)) (part_of ends p) i) (along_joined slots (part_of ends p) p i (are.own p) (are.each p));
+      marked = λ p k i pos le mark.
+          (let long : length (part_of (map threads_of slots) p) ≡ length (part_of slots p) = ap length (part_threads slots p) ∙ length-map (part_of slots p) (λ (slot : Slot). slot.thread) in
+          let link = link_joined slots p k (are.own p) pos (omega (arith, le, long)) in
+          let own : mark_of (links_of (part_of slots p)) k ≡ Some i = sym (ap (λ (l : SlotLink). option_map place_of l.queue) link) ∙ rw (first_threads slots p) at mark in
+          rw (part_queues slots ends p are.parts, list_at (links_of (part_of slots p)) (part_of ends p) i) ((are.each p).marked k i own));
+      alone = λ p k pos le unnamed.
+          (let long : length (part_of (map threads_of slots) p) ≡ length (part_of slots p) = ap length (part_threads slots p) ∙ length-map (part_of slots p) (λ (slot : Slot). slot.thread) in
+          let link = link_joined slots p k (are.own p) pos (omega (arith, le, long)) in
+          let none : mark_of (links_of (part_of slots p)) k ≡ None = ap (option_map place_of) (sym (ap (λ (l : SlotLink). l.queue) link) ∙ rw (first_threads slots p) at unnamed) in
+          rw (first_threads slots p) (link ∙ ap (shared_link (first_slot slots p)) ((are.each p).unmarked k none)));
+    }))
+
+-- and no link of another partition's slot
+pub shared_within : (slots : List (List Slot)) (ends : List (List Ends)) (v : LinkedThreads) (items : List Slot) → AreLinked slots ends → linked_of slots ends ≡ v → items ≡ joined slots → StayInPartitions items v.threads
+shared_within slots ends v items are is e =
+    subst (λ (z : LinkedThreads). StayInPartitions items z.threads) is (rw e (record {
+      each = λ p slot other at beside.
+          (let long : length (part_of (map threads_of slots) p) ≡ length (part_of slots p) = ap length (part_threads slots p) ∙ length-map (part_of slots p) (λ (slot : Slot). slot.thread) in
+          let first = first_threads slots p in
+          let to = stays slots (part_of ends p) p slot other (are.own p) (are.each p) (rw first at at.from) (rw (first, long) at at.below) beside in
+          record { from = rw first to.0; below = rw (first, long) to.1 });
+    }))
+
+pub ruleset reads = (whole_at, lists_at, shared_lists, shared_within)
 
 -- ---- an empty table
 
-threads_filled : (n : ℕ) → threads_of (filled free_slot n) ≡ filled None n
-threads_filled zero = refl
-threads_filled (suc n) = ap (λ l. None ∷ l) (threads_filled n)
+threads_filled : (first n : ℕ) → threads_of (filled (free_slot first) n) ≡ filled None n
+threads_filled first zero = refl
+threads_filled first (suc n) = ap (λ l. None ∷ l) (threads_filled first n)
 
-links_filled : (n : ℕ) → links_of (filled free_slot n) ≡ filled no_link n
-links_filled zero = refl
-links_filled (suc n) = ap (λ l. no_link ∷ l) (links_filled n)
+links_filled : (first n : ℕ) → links_of (filled (free_slot first) n) ≡ filled no_link n
+links_filled first zero = refl
+links_filled first (suc n) = ap (λ l. no_link ∷ l) (links_filled first n)
 
-pub filled_threads : (counts : List ℕ) → map threads_of (map (filled free_slot) counts) ≡ map (filled None) counts
-filled_threads [] = refl
-filled_threads (n ∷ counts) = ap (λ l. l ∷ map threads_of (map (filled free_slot) counts)) (threads_filled n) ∙ ap (λ l. filled None n ∷ l) (filled_threads counts)
+pub filled_threads : (first : ℕ) (counts : List ℕ) → map threads_of (free_parts first counts) ≡ map (filled None) counts
+filled_threads first [] = refl
+filled_threads first (n ∷ counts) = ap (λ l. l ∷ map threads_of (free_parts (first + n) counts)) (threads_filled first n) ∙ ap (λ l. filled None n ∷ l) (filled_threads (first + n) counts)
 
-pub filled_queues : (counts : List ℕ) (m : ℕ) → queues_by (map (filled free_slot) counts) (map (filled no_ends) (replicate (length counts) m)) ≡ map (λ count. replicate m []) counts
-filled_queues [] m = refl
-filled_queues (n ∷ counts) m =
-    ap (λ l. l ∷ queues_by (map (filled free_slot) counts) (map (filled no_ends) (replicate (length counts) m))) (empty_lists (links_of (filled free_slot n)) m)
-    ∙ ap (λ l. replicate m [] ∷ l) (filled_queues counts m)
+pub filled_queues : (first : ℕ) (counts : List ℕ) (m : ℕ) → queues_by (free_parts first counts) (map (filled no_ends) (replicate (length counts) m)) ≡ map (λ count. replicate m []) counts
+filled_queues first [] m = refl
+filled_queues first (n ∷ counts) m =
+    ap (λ l. l ∷ queues_by (free_parts (first + n) counts) (map (filled no_ends) (replicate (length counts) m))) (empty_lists (links_of (filled (free_slot first) n)) m)
+    ∙ ap (λ l. replicate m [] ∷ l) (filled_queues (first + n) counts m)
 
-each_filled : (counts : List ℕ) (m p : ℕ) → AreQueues (links_of (part_of (map (filled free_slot) counts) p)) (part_of (map (filled no_ends) (replicate (length counts) m)) p)
-each_filled [] m p = empty_queues 0 0
-each_filled (n ∷ counts) m zero = rw (links_filled n) (empty_queues n m)
-each_filled (n ∷ counts) m (suc p) = each_filled counts m p
+each_filled : (first : ℕ) (counts : List ℕ) (m p : ℕ) → AreQueues (links_of (part_of (free_parts first counts) p)) (part_of (map (filled no_ends) (replicate (length counts) m)) p)
+each_filled first [] m p = empty_queues 0 0
+each_filled first (n ∷ counts) m zero = rw (links_filled first n) (empty_queues n m)
+each_filled first (n ∷ counts) m (suc p) = each_filled (first + n) counts m p
+
+shared_filled : (first n : ℕ) → AreLinksFrom first (filled (free_slot first) n)
+shared_filled first zero = refl
+shared_filled first (suc n) = ap (λ l. shared_link first no_link ∷ l) (shared_filled first n)
+
+own_filled : (first : ℕ) (counts : List ℕ) (p : ℕ) → AreLinksFrom (first + first_slot (free_parts first counts) p) (part_of (free_parts first counts) p)
+own_filled first [] p = refl
+own_filled first (n ∷ counts) zero =
+    let here : first + 0 ≡ first = omega arith in
+    rw here (shared_filled first n)
+own_filled first (n ∷ counts) (suc p) =
+    let next : first + (length (filled (free_slot first) n) + first_slot (free_parts (first + n) counts) p) ≡ first + n + first_slot (free_parts (first + n) counts) p = omega (arith, length-replicate n (free_slot first)) in
+    rw next (own_filled (first + n) counts p)
 
 places_filled : (counts : List ℕ) (m p : ℕ) → p < length counts → length (part_of (map (filled no_ends) (replicate (length counts) m)) p) ≡ m
 places_filled [] m p lt = absurd (omega (arith, lt))
 places_filled (n ∷ counts) m zero lt = length-replicate m no_ends
 places_filled (n ∷ counts) m (suc p) lt = places_filled counts m p (omega (arith, lt))
 
-parts_filled : (counts : List ℕ) (m : ℕ) → length (map (filled no_ends) (replicate (length counts) m)) ≡ length (map (filled free_slot) counts)
-parts_filled [] m = refl
-parts_filled (n ∷ counts) m = ap suc (parts_filled counts m)
+parts_filled : (first : ℕ) (counts : List ℕ) (m : ℕ) → length (map (filled no_ends) (replicate (length counts) m)) ≡ length (free_parts first counts)
+parts_filled first [] m = refl
+parts_filled first (n ∷ counts) m = ap suc (parts_filled (first + n) counts m)
 
-pub linked_filled : (counts : List ℕ) (m : ℕ) → m ≡ 128 → AreLinked (map (filled free_slot) counts) (map (filled no_ends) (replicate (length counts) m))
+count_filled : (first : ℕ) (counts : List ℕ) → length (free_parts first counts) ≡ length counts
+count_filled first [] = refl
+count_filled first (n ∷ counts) = ap suc (count_filled (first + n) counts)
+
+pub linked_filled : (counts : List ℕ) (m : ℕ) → m ≡ 128 → AreLinked (free_parts 0 counts) (map (filled no_ends) (replicate (length counts) m))
 linked_filled counts m e = record {
-  parts = parts_filled counts m;
-  places = λ p lt. places_filled counts m p (rw (length-map counts (filled free_slot)) at lt) ∙ e;
-  each = each_filled counts m;
+  parts = parts_filled 0 counts m;
+  places = λ p lt. places_filled counts m p (rw (count_filled 0 counts) at lt) ∙ e;
+  each = each_filled 0 counts m;
+  own = λ p. (let none : 0 + first_slot (free_parts 0 counts) p ≡ first_slot (free_parts 0 counts) p = omega arith in subst (λ first. AreLinksFrom first (part_of (free_parts 0 counts) p)) none (own_filled 0 counts p));
 }
 
 pub taken_same : (n m : ℕ) (x : ℕ) → n ≤ m → take n (replicate m x) ≡ replicate n x

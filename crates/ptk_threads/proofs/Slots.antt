@@ -13,7 +13,7 @@ use Rattle.ptk_words_parted.specs.Parts.{part_of, filled}
 use Rattle.ptk_words_parted.specs.Cuts.{lent}
 use Rattle.ptk_words_parted.proofs.Cuts.{lent-same, set_part-same}
 use Rattle.ptk_threads_slots.specs.declared.slot.Slot.{Slot}
-use Rattle.ptk_threads_slots.specs.Links.{links_of, threads_of, free_slot}
+use Rattle.ptk_threads_slots.specs.Links.{shared_links, threads_of, free_slot}
 use Rattle.ptk_threads.specs.Table.{IsTable, stored_of, replaced_by}
 
 -- ---- a number
@@ -57,8 +57,8 @@ length_threads slots = length-map slots (λ (slot : Slot). slot.thread)
 
 thread_here : (slots : List Slot) (i : ℕ) (slot : Slot) → i < length slots → slot ≡ get_or slots i slot → slot.thread ≡ option_flatten (slice_get (threads_of slots) i)
 thread_here slots i slot lt is =
-    ap (λ (s : Slot). s.thread) (get_or_read slots i slot lt is free_slot)
-    ∙ (sym (get_or-map (λ (s : Slot). s.thread) slots i free_slot) ∙ sym (slot_at (threads_of slots) i None (rw (length_threads slots) lt)))
+    ap (λ (s : Slot). s.thread) (get_or_read slots i slot lt is (free_slot 0))
+    ∙ (sym (get_or-map (λ (s : Slot). s.thread) slots i (free_slot 0)) ∙ sym (slot_at (threads_of slots) i None (rw (length_threads slots) lt)))
 
 pub read_at : (slots : List Slot) (k : ℕ) (slot : Slot) → 0 < k → k - 1 < length slots → slot ≡ get_or slots (k - 1) slot → slot.thread ≡ pool_get (threads_of slots) k
 read_at slots zero slot h lt is = absurd (omega (arith, h))
@@ -87,9 +87,9 @@ pub put_past : (k : ℕ) (thread : Option Thread) (slots : List Slot) → 0 < k 
 put_past zero thread slots h le = absurd (omega (arith, h))
 put_past (suc i) thread slots h le = sym (set_past (threads_of slots) i thread (rw (length_threads slots) (omega (arith, le))))
 
-pub links_at : (k : ℕ) (slots new : List Slot) (slot after : Slot) → k - 1 < length slots → slot ≡ get_or slots (k - 1) slot → new ≡ set slots (k - 1) after → after.link ≡ slot.link → links_of new ≡ links_of slots
+pub links_at : (k : ℕ) (slots new : List Slot) (slot after : Slot) → k - 1 < length slots → slot ≡ get_or slots (k - 1) slot → new ≡ set slots (k - 1) after → after.link ≡ slot.link → shared_links new ≡ shared_links slots
 links_at k slots new slot after lt is e same =
-    ap links_of e ∙ map-set_same (λ (s : Slot). s.link) slots (k - 1) after free_slot (same ∙ ap (λ (s : Slot). s.link) (get_or_read slots (k - 1) slot lt is free_slot))
+    ap shared_links e ∙ map-set_same (λ (s : Slot). s.link) slots (k - 1) after (free_slot 0) (same ∙ ap (λ (s : Slot). s.link) (get_or_read slots (k - 1) slot lt is (free_slot 0)))
 
 prefix_threads : (f : Option Thread → Bool) (slots : List Slot) → prefix_len (λ (slot : Slot). f slot.thread) slots ≡ prefix_len f (threads_of slots)
 prefix_threads f [] = refl
@@ -133,7 +133,7 @@ worked_at (suc j) i slots after made same h used is =
     ap (λ (n : ℕ). threads_of (set slots n after)) here
     ∙ (map-set (λ (s : Slot). s.thread) slots j after ∙ ap (set (threads_of slots) j) (is ∙ replaced_some made (pool_get (threads_of slots) (suc j)) used))
 
-pub worked_links : (i : ℕ) (slots : List Slot) (slot after : Slot) → after.link ≡ (get_or slots i slot).link → links_of (set slots i after) ≡ links_of slots
+pub worked_links : (i : ℕ) (slots : List Slot) (slot after : Slot) → after.link ≡ (get_or slots i slot).link → shared_links (set slots i after) ≡ shared_links slots
 worked_links i slots slot after same = map-set_same (λ (s : Slot). s.link) slots i after slot same
 
 -- ---- a partition

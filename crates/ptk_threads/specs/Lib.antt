@@ -1,3 +1,4 @@
+pub mod Shared
 pub mod Queues
 pub mod Table
 pub mod Changes

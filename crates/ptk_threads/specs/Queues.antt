@@ -1,13 +1,14 @@
 -- The queues of each partition's threads, and what each call makes of those of one partition (own).
-use Rattle.std.specs.Prelude.{◌≡◌, ℕ, ◌<◌, false, List, [], ◌∷◌, ◌++◌, length, Option, slice_set, map, replicate}
+use Rattle.std.specs.Prelude.{◌≡◌, ℕ, ◌+◌, ◌<◌, false, List, [], ◌∷◌, ◌++◌, length, Option, slice_set, map, replicate}
 use Rattle.ptk_words.specs.Pools.{is_in, without}
 use Rattle.ptk_words.specs.declared.threads.Thread.{Thread}
-use Rattle.ptk_words_parted.specs.Parts.{part_of}
+use Rattle.ptk_words_parted.specs.Parts.{part_of, filled}
 use Rattle.ptk_threads_slots.specs.declared.link.Ends.{Ends}
 use Rattle.ptk_threads_slots.specs.declared.link.QueueName.{QueueName}
 use Rattle.ptk_threads_slots.specs.declared.slot.Slot.{Slot}
-use Rattle.ptk_threads_slots.specs.Links.{links_of, place_of, queues, AreQueues}
+use Rattle.ptk_threads_slots.specs.Links.{links_of, place_of, queues, free_slot, AreQueues, AreLinksFrom}
 use Rattle.ptk_threads_slots.specs.Changes.{put_before}
+use Rattle.ptk_threads.specs.Shared.{first_slot}
 
 -- ---- one partition's queues by place
 
@@ -52,11 +53,17 @@ queues_by [] ends = []
 queues_by (part ∷ parts) [] = [] ∷ queues_by parts []
 queues_by (part ∷ parts) (end ∷ ends) = queues (links_of part) end ∷ queues_by parts ends
 
--- the links of each partition's slots make 128 queues
+-- as many free slots for each partition as its count, of which the first of all has this number
+abbrev pub free_parts : ℕ → List ℕ → List (List Slot)
+free_parts first [] = []
+free_parts first (count ∷ counts) = filled (free_slot first) count ∷ free_parts (first + count) counts
+
+-- the links of each partition's slots make 128 queues, and name slots from the partition's first on
 pub record AreLinked (slots : List (List Slot)) (ends : List (List Ends)) : Type 0 where
   pub parts : length ends ≡ length slots
   pub places : (p : ℕ) → p < length slots → length (part_of ends p) ≡ 128
   pub each : (p : ℕ) → AreQueues (links_of (part_of slots p)) (part_of ends p)
+  pub own : (p : ℕ) → AreLinksFrom (first_slot slots p) (part_of slots p)
 
 -- each partition has 128 queues
 pub record AreListed (parts : ℕ) (queues : List (List (List ℕ))) : Type 0 where

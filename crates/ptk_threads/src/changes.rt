@@ -3,7 +3,7 @@
 ghost use Rattle.std.specs.Prelude.{◌≡◌, ◌<◌, length, option_map, Some, IsSome, IfSome};
 ghost use Rattle.ptk_words.specs.Pools.{pool_get, pool_set, pool_changed};
 ghost use Rattle.ptk_words.specs.declared.threads.Thread.{Thread};
-ghost use Rattle.ptk_threads_slots.specs.Links.{links_of, threads_of};
+ghost use Rattle.ptk_threads_slots.specs.Links.{shared_links, threads_of};
 ghost use Rattle.ptk_threads.specs.Table.{with_cpu, replaced_by};
 ghost use Rattle.ptk_threads.specs.Changes.{thread_changed};
 ghost use Rattle.ptk_threads.specs.Registers.{with_pc};
@@ -31,7 +31,7 @@ pub(crate) enum Change {
 #[tactic(auto, using(crate::proofs::Slots::changes))]
 pub(crate) fn change_in(slots: &mut [Slot], k: ThreadNo, change: Change)
     ensures threads { threads_of slots.new ≡ pool_changed k (thread_changed change) (threads_of slots.old) }
-    ensures links { links_of slots.new ≡ links_of slots.old }
+    ensures links { shared_links slots.new ≡ shared_links slots.old }
 {
     let i = k.place();
     if i < slots.len() {
@@ -44,7 +44,7 @@ pub(crate) fn change_in(slots: &mut [Slot], k: ThreadNo, change: Change)
 #[tactic(auto, using(crate::proofs::Slots::changes))]
 pub(crate) fn set_cpu_in(slots: &mut [Slot], k: ThreadNo, cpu: Cpu)
     ensures threads { threads_of slots.new ≡ pool_changed k (with_cpu cpu) (threads_of slots.old) }
-    ensures links { links_of slots.new ≡ links_of slots.old }
+    ensures links { shared_links slots.new ≡ shared_links slots.old }
 {
     let i = k.place();
     if i < slots.len() {
@@ -57,7 +57,7 @@ pub(crate) fn set_cpu_in(slots: &mut [Slot], k: ThreadNo, cpu: Cpu)
 #[tactic(auto, using(crate::proofs::Slots::changes))]
 pub(crate) fn replace_in(slots: &mut [Slot], k: ThreadNo, thread: Thread)
     ensures threads { threads_of slots.new ≡ pool_changed k (replaced_by thread) (threads_of slots.old) }
-    ensures links { links_of slots.new ≡ links_of slots.old }
+    ensures links { shared_links slots.new ≡ shared_links slots.old }
 {
     let i = k.place();
     if i < slots.len() {
@@ -70,7 +70,7 @@ pub(crate) fn replace_in(slots: &mut [Slot], k: ThreadNo, thread: Thread)
 #[tactic(auto, using(crate::proofs::Slots::changes))]
 pub(crate) fn set_pc_in(slots: &mut [Slot], k: ThreadNo, pc: u32)
     ensures threads { threads_of slots.new ≡ pool_changed k (with_pc pc) (threads_of slots.old) }
-    ensures links { links_of slots.new ≡ links_of slots.old }
+    ensures links { shared_links slots.new ≡ shared_links slots.old }
 {
     let i = k.place();
     if i < slots.len() {
@@ -84,7 +84,7 @@ pub(crate) fn set_pc_in(slots: &mut [Slot], k: ThreadNo, pc: u32)
 pub(crate) fn set_values_in(slots: &mut [Slot], k: ThreadNo, values: &[u32])
     requires { length values.now < 4 }
     ensures threads { threads_of slots.new ≡ pool_changed k (with_reply values.now) (threads_of slots.old) }
-    ensures links { links_of slots.new ≡ links_of slots.old }
+    ensures links { shared_links slots.new ≡ shared_links slots.old }
 {
     let i = k.place();
     if i < slots.len() {
@@ -97,7 +97,7 @@ pub(crate) fn set_values_in(slots: &mut [Slot], k: ThreadNo, values: &[u32])
 #[tactic(auto, using(crate::proofs::Slots::changes))]
 pub(crate) fn put_in(slots: &mut [Slot], k: ThreadNo, thread: Option<Thread>)
     ensures threads { threads_of slots.new ≡ pool_set (threads_of slots.old) k thread }
-    ensures links { links_of slots.new ≡ links_of slots.old }
+    ensures links { shared_links slots.new ≡ shared_links slots.old }
 {
     let i = k.place();
     if i < slots.len() {
@@ -111,7 +111,7 @@ pub(crate) fn work_in<W: Work>(slots: &mut [Slot], k: ThreadNo, work: &mut W) ->
     requires in_use { IsSome (pool_get (threads_of slots.old) k) }
     requires ready { IfSome (pool_get (threads_of slots.old) k) (W.can_run work.old) }
     ensures threads { (made : Thread) × (threads_of slots.new ≡ pool_changed k (replaced_by made) (threads_of slots.old)) × IfSome (pool_get (threads_of slots.old) k) (λ thread. W.has_run work.old thread result work.new made) }
-    ensures links { links_of slots.new ≡ links_of slots.old }
+    ensures links { shared_links slots.new ≡ shared_links slots.old }
 {
     let slot = &mut slots[k.place()];
     work_at(&mut slot.thread, work)

@@ -1,6 +1,8 @@
 //! The threads of all partitions in one table of slots: the slot of thread k of a partition is its first slot plus
 //! k − 1. A contract sees, by partition and then by number, the threads and their stored effective priorities, and by
 //! partition and then by place the queues that are linked through the slots, each as the list that its links lead along.
+//! `slots` lends the slots of all partitions, whose links are slot numbers, and says the same of these: along the links of
+//! each queue lies its list, and no link leaves its partition.
 //! Each call changes one partition's entries alone, says so in one equation on that record, and is total in all but the
 //! partition: a number that is free answers None, and setting something of it changes nothing. `create` gives the least
 //! free number. `append`, `prepend`, `insert`, `take` and `take_from` change one queue, and the threads stay; all other calls leave the
@@ -17,7 +19,7 @@ mod slot_table;
 mod threads;
 mod work;
 
-pub use ptk_threads_slots::{Ends, Link, QueueName, Slot, ThreadList};
+pub use ptk_threads_slots::{Ends, Link, QueueName, Slot, SlotLink, ThreadList};
 pub use slot_table::LinkedSlots;
 pub use threads::{Threads, stored_in};
 pub use work::Work;

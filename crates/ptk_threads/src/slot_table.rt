@@ -1,6 +1,6 @@
 //! The slots of all partitions, with the queues that are linked through them.
 
-ghost use Rattle.std.specs.Prelude.{◌≡◌, ◌<◌, ◌≤◌, length, map, replicate, slice_set, None, IsSome, IfSome, IfOk};
+ghost use Rattle.std.specs.Prelude.{◌≡◌, ◌<◌, ◌≤◌, All, length, map, replicate, slice_set, None, IsSome, IfSome, IfOk};
 ghost use Rattle.ptk_words.specs.Pools.{pool_get, pool_set, pool_changed};
 ghost use Rattle.ptk_words.specs.declared.threads.Thread.{Thread};
 ghost use Rattle.ptk_words_model.specs.Schedule.{with_reply};
@@ -9,7 +9,8 @@ ghost use Rattle.ptk_threads_slots.specs.Links.{links_of, threads_of, no_ends, q
 ghost use Rattle.ptk_threads.specs.Table.{with_cpu, replaced_by};
 ghost use Rattle.ptk_threads.specs.Changes.{thread_changed};
 ghost use Rattle.ptk_threads.specs.Registers.{with_pc};
-ghost use Rattle.ptk_threads.specs.Queues.{no_queues, AreListed, IsUnqueued, with_last, with_first, with_before, with_none};
+ghost use Rattle.ptk_threads.specs.Shared.{AreAlongLinks, StayInPartitions};
+ghost use Rattle.ptk_threads.specs.Queues.{no_queues, free_parts, AreListed, IsUnqueued, with_last, with_first, with_before, with_none};
 
 use crate::changes::{
     Change, change_in, put_in, replace_in, set_cpu_in, set_pc_in, set_values_in, work_in,
@@ -52,11 +53,12 @@ impl Model for SlotTable {
 impl SlotTable {
     /// As many free slots for each partition as its count, and empty queues. An error where memory ran out.
     pub(crate) fn build(alloc: Global, counts: &[u32]) -> Result<SlotTable, AllocError>
-        requires { length counts.now ≤ 8 }
+        requires partitions { length counts.now ≤ 8 }
+        requires few { All (λ count. count ≤ 32) counts.now }
         ensures threads { IfOk result (λ table. table.threads ≡ map (filled None) counts.now) }
         ensures queues { IfOk result (λ table. table.queues ≡ map no_queues counts.now) }
     {
-        let slots = Parted::build(alloc, counts, Slot::new(None))?;
+        let slots = free_slots(alloc, counts)?;
         let ends = empty_ends(alloc, counts)?;
         Ok(SlotTable { slots, ends })
     }
@@ -72,7 +74,9 @@ impl SlotTable {
     /// All slots, by partition and then by number.
     #[tactic(auto, using(crate::proofs::Linked::reads))]
     pub(crate) fn whole(&self) -> &[Slot]
-        ensures { threads_of result.now ≡ joined self.now.threads }
+        ensures threads { threads_of result.now ≡ joined self.now.threads }
+        ensures queues { AreAlongLinks result.now self.now.threads self.now.queues }
+        ensures within { StayInPartitions result.now self.now.threads }
     {
         self.slots.whole()
     }
@@ -202,6 +206,34 @@ impl SlotTable {
     {
         take(self.slots.lend(p), self.ends.lend(p), k);
     }
+}
+
+/// As many free slots for each partition as its count, each with its partition's first slot. An error where memory ran
+/// out.
+fn free_slots(alloc: Global, counts: &[u32]) -> Result<Parted<Slot>, AllocError>
+    requires partitions { length counts.now ≤ 8 }
+    requires few { All (λ count. count ≤ 32) counts.now }
+    ensures { IfOk result (λ slots. slots ≡ free_parts 0 counts.now) }
+{
+    let mut slots = Parted::new(alloc);
+    let mut first = 0;
+    for count in counts {
+        let count = *count as usize;
+        slots.add_part(repeated(alloc, Slot::free(first as u8), count)?)?;
+        first += count;
+    }
+    Ok(slots)
+}
+
+/// An item n times. An error where memory ran out.
+fn repeated<T: Copy>(alloc: Global, item: T, n: usize) -> Result<Vec<T>, AllocError>
+    ensures { IfOk result (λ items. items.items ≡ filled item n) }
+{
+    let mut items = Vec::new(alloc);
+    for i in 0..n {
+        items.push(item)?;
+    }
+    Ok(items)
 }
 
 /// The ends of empty queues, as many for each partition as there are places. An error where memory ran out.

@@ -9,6 +9,7 @@ ghost use Rattle.ptk_threads.specs.Table.{free_table, thread_in, stored_of, with
 ghost use Rattle.ptk_threads.specs.Changes.{thread_changed};
 ghost use Rattle.ptk_threads.specs.Registers.{with_pc};
 ghost use Rattle.ptk_threads.specs.Queues.{AreListed, IsUnqueued, with_last, with_first, with_before, with_none, with_out};
+ghost use Rattle.ptk_threads.specs.Shared.{AreAlongLinks, StayInPartitions};
 ghost use Rattle.ptk_threads_slots.specs.declared.slot.Slot.{Slot};
 ghost use Rattle.ptk_threads_slots.specs.Links.{links_of, threads_of, place_of, queues, AreQueues};
 ghost use Rattle.ptk_words_model.specs.Schedule.{with_reply};
@@ -60,9 +61,12 @@ impl Threads {
         self.slots.parts()
     }
 
-    /// All slots, by partition and then by number.
+    /// All slots, by partition and then by number. Along their links lies the list of each queue, and no link leaves its
+    /// partition.
     pub fn slots(&self) -> &[Slot]
-        ensures { threads_of result.now ≡ joined self.now.threads }
+        ensures threads { threads_of result.now ≡ joined self.now.threads }
+        ensures queues { AreAlongLinks result.now self.now.threads self.now.queues }
+        ensures within { StayInPartitions result.now self.now.threads }
     {
         self.slots.whole()
     }
@@ -510,7 +514,7 @@ fn slot_of(slots: &[Slot], k: ThreadNo) -> Slot
     if i < slots.len() {
         slots[i]
     } else {
-        Slot::new(None)
+        Slot::free(0)
     }
 }
 

@@ -24,6 +24,7 @@ empty_queues n m =
     record {
       each = λ i. rw (all_same m i no_ends) (record { along = tt; distinct = none_distinct; first = refl; last = refl });
       marked = λ k i h. (let no : None ≡ Some i = sym (ap (λ (l : Link). option_map place_of l.queue) (link_none n k)) ∙ h in absurd (cc));
+      unmarked = λ k h. link_none n k;
     }
 
 pub empty_lists : (links : List Link) (m : ℕ) → queues links (replicate m no_ends) ≡ replicate m []

@@ -14,12 +14,13 @@ use Rattle.ptk_threads_slots.specs.Links.{place_of, link_in, no_link, no_ends, e
 use Rattle.ptk_threads_slots.specs.Changes.{linked_between, end_between, unlinked, end_without}
 use Rattle.ptk_threads_slots.proofs.Along.{in_front, in_here, in_later, in_left, in_right, in_parts, head_out, out_of, apart, distinct_cons, not_true, out_join, out_parts, distinct_left, distinct_right, le_or_gt, marked_within, link_same, link_other, next_other, previous_other, length_next, length_previous, last_out, first_out, along_same, along_left, along_right, along_join, along_marked, along_ends, along_starts, walk_along}
 
--- the queue at place i is this line now; links of other queues' threads stay, and nobody came to another queue
+-- the queue at place i is this line now; links of other queues' threads stay, nobody came to another queue, and who is in none has no neighbours
 pub record IsMoved (links new : List Link) (ends : List Ends) (i : ℕ) (end : Ends) (line : List ℕ) : Type 0 where
   pub place : i < length ends
   pub own : IsQueue new end i line
   pub others : (j y : ℕ) → j ≢ i → mark_of links y ≡ Some j → link_in new y ≡ link_in links y
   pub marked : (y j : ℕ) → mark_of new y ≡ Some j → ((j ≡ i) × (is_in y line ≡ true)) ⊎ ((j ≢ i) × (mark_of links y ≡ Some j))
+  pub unmarked : (y : ℕ) → mark_of new y ≡ None → link_in new y ≡ no_link
 
 -- a queue's list can be read off its links
 pub queue_is : (links : List Link) (end : Ends) (i : ℕ) (line : List ℕ) → IsQueue links end i line → queue_from links end ≡ line
@@ -75,6 +76,7 @@ are_moved links new ends i end line are moved =
         | inr other ↦ (let same : ends_at (set ends i end) j ≡ ends_at ends j = get_or-set_other ends i j end no_ends other.0 in
             rw (same, other_same links new ends i end line are moved j other.0) (are.marked y j other.1))
       ];
+      unmarked = moved.unmarked;
     }
 
 -- ---- marks
@@ -164,6 +166,10 @@ here links o u v w k link pos le = link_same (with_previous u w (with_next o v l
 not_here : (links : List Link) (i j y : ℕ) (b a : Option ℕ) (line : List ℕ) → j ≢ i → mark_of links y ≡ Some j → IsAlong links i b a line → is_in y line ≡ false
 not_here links i j y b a line ne mark along = not_true (is_in y line) (λ inside. (let own : mark_of links y ≡ Some i = along_marked links i b a line y along inside in let same : j ≡ i = cc in absurd (ne same)))
 
+-- nor is one without a mark
+unmarked_out : (links : List Link) (i y : ℕ) (line : List ℕ) → mark_of links y ≡ None → IsAlong links i None None line → is_in y line ≡ false
+unmarked_out links i y line none along = not_true (is_in y line) (λ inside. (let own : mark_of links y ≡ Some i = along_marked links i None None line y along inside in absurd (cc)))
+
 between_along : (links : List Link) (i k : ℕ) (link : Link) (xs ys : List ℕ) → 0 < k → k ≤ length links → is_in k (xs ++ ys) ≡ false → link.previous ≡ last_or None xs → link.next ≡ first_or None ys → option_map place_of link.queue ≡ Some i
     → IsDistinct nat_eq (xs ++ ys) → IsAlong links i None None (xs ++ ys) → IsAlong (linked_between k link links) i None None (xs ++ k ∷ ys)
 between_along links i k link xs ys pos le out before after mark d h =
@@ -218,6 +224,14 @@ between links ends i k link xs ys are lt pos le free line before after mark =
               | inl same ↦ (let there : is_in y (xs ++ ys) ≡ true = subst (λ l. is_in y l ≡ true) line (are.marked y i (was_j ∙ ap Some same)) in
                   inl (same, elim (in_parts y xs ys there) as (λ _. is_in y (xs ++ k ∷ ys) ≡ true) [ inl l ↦ in_left y xs (k ∷ ys) l | inr r ↦ in_right y xs (k ∷ ys) (in_later y k ys r) ]))
             ])
+      ];
+      unmarked = λ y h. elim (cases_eq y k) as (λ _. link_in (linked_between k link links) y ≡ no_link) [
+        | inl e ↦ (let own : link_in (linked_between k link links) k ≡ link = here links link.previous link.next (Some k) (Some k) k link pos le in
+            let is_i : mark_of (linked_between k link links) y ≡ Some i = rw e (ap (λ (l : Link). option_map place_of l.queue) own ∙ mark) in
+            absurd (cc))
+        | inr ne ↦ (let none : mark_of links y ≡ None = sym (marks links link.previous link.next (Some k) (Some k) k y link ne) ∙ h in
+            let parts = out_parts y xs ys (unmarked_out links i y (xs ++ ys) none was.along) in
+            far links link.previous link.next (Some k) (Some k) k y link (rw before (last_out xs y parts.0)) (rw after (first_out ys y parts.1)) ne ∙ are.unmarked y none)
       ];
     }
 
@@ -284,5 +298,12 @@ taken links ends i k link xs ys are lt is mark line =
                     ],
                   ))
             ])
+      ];
+      unmarked = λ y h. elim (cases_eq y k) as (λ _. link_in (unlinked k link links) y ≡ no_link) [
+        | inl e ↦ rw e (here links link.previous link.next link.next link.previous k no_link within.0 within.1)
+        | inr ne ↦ (let none : mark_of links y ≡ None = sym (marks links link.previous link.next link.next link.previous k y no_link ne) ∙ h in
+            let parts = out_parts y xs (k ∷ ys) (unmarked_out links i y (xs ++ k ∷ ys) none was.along) in
+            let right : is_in y ys ≡ false = not_true (is_in y ys) (λ inside. (let there = in_later y k ys inside in absurd (cc))) in
+            far links link.previous link.next link.next link.previous k y no_link (rw before (last_out xs y parts.0)) (rw after (first_out ys y right)) ne ∙ are.unmarked y none)
       ];
     }

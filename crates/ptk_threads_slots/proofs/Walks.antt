@@ -1,7 +1,7 @@
 -- A queue read along its links.
 use Rattle.std.proofs.Common.{◌≡◌, ℕ, suc, ◌+◌, ◌-◌, ◌<◌, ◌≤◌, List, [], ◌∷◌, ◌++◌, length, true, false, sym, ◌∙◌, ap, arith, inl, inr}
 use Rattle.std.specs.Prelude.{Option, Some, None}
-use Rattle.std.proofs.lemmas.List.{append-nil, length-map}
+use Rattle.std.proofs.lemmas.List.{append-nil}
 use Rattle.std.proofs.Common.{append_assoc, length-append}
 use Rattle.std.proofs.lemmas.Map.Steps.{length-le_from_distinct_below}
 use Rattle.ptk_words.specs.Pools.{is_in}
@@ -11,6 +11,7 @@ use Rattle.ptk_threads_slots.specs.declared.link.Ends.{Ends}
 use Rattle.ptk_threads_slots.specs.declared.slot.Slot.{Slot}
 use Rattle.ptk_threads_slots.specs.Links.{link_in, links_of, queue_at, queues, walk, AreQueues}
 use Rattle.ptk_threads_slots.proofs.Along.{along_marked, marked_within, in_front, distinct_cons, not_true}
+use Rattle.ptk_threads_slots.proofs.Slots.{links_count}
 use Rattle.ptk_threads_slots.proofs.Lists.{list_at}
 
 member_within : (links : List Link) (ends : List Ends) (i q : ℕ) → AreQueues links ends → is_in q (queue_at links ends i) ≡ true → (0 < q) × (q ≤ length links)
@@ -35,7 +36,7 @@ pub read_more : (slots : List Slot) (ends : List Ends) (i counter k : ℕ) (foun
     → link ≡ link_in (links_of slots) k → next ≡ link.next → IsRead (links_of slots) ends i more next (counter + 1)
 read_more slots ends i counter k found more at next link read lt is made told e =
     let links = links_of slots in
-    let long : length links ≡ length slots = length-map slots (λ (slot : Slot). slot.link) in
+    let long : length links ≡ length slots = links_count slots in
     let now : suc (length links) - counter ≡ suc (suc (length links) - (counter + 1)) = omega (arith, lt, long) in
     let here : walk (suc (length links) - counter) links at ≡ k ∷ walk (suc (length links) - (counter + 1)) links next =
     ap (λ n. walk n links at) now ∙ (ap (walk (suc (suc (length links) - (counter + 1))) links) is ∙ ap (λ o. k ∷ walk (suc (length links) - (counter + 1)) links o) (sym (e ∙ ap (λ (l : Link). l.next) told))) in
@@ -49,12 +50,12 @@ pub read_all : (slots : List Slot) (ends : List Ends) (i counter : ℕ) (found :
     → found ≡ part_of (queues (links_of slots) ends) i
 read_all slots ends i counter found None read are all =
     let links = links_of slots in
-    let long : length links ≡ length slots = length-map slots (λ (slot : Slot). slot.link) in
+    let long : length links ≡ length slots = links_count slots in
     let now : suc (length links) - counter ≡ suc (length links - counter) = omega (arith, all, long) in
     sym (append-nil found) ∙ (ap (λ n. found ++ walk n links None) (sym now) ∙ (read.left ∙ sym (list_at links ends i)))
 read_all slots ends i counter found (Some k) read are all =
     let links = links_of slots in
-    let long : length links ≡ length slots = length-map slots (λ (slot : Slot). slot.link) in
+    let long : length links ≡ length slots = links_count slots in
     let now : suc (length links) - counter ≡ suc (length links - counter) = omega (arith, all, long) in
     let left : found ++ k ∷ walk (length links - counter) links (link_in links k).next ≡ queue_at links ends i = ap (λ n. found ++ walk n links (Some k)) (sym now) ∙ read.left in
     let sum = length-append found (k ∷ walk (length links - counter) links (link_in links k).next) in

@@ -1,8 +1,9 @@
 -- Threads of one partition in queues that are linked through its slots.
-use Rattle.std.specs.Prelude.{◌≡◌, ℕ, zero, suc, ◌+◌, ◌-◌, true, List, [], ◌∷◌, length, map, Option, Some, None, option_map, slice_index_or, nat_eq}
+use Rattle.std.specs.Prelude.{◌≡◌, ℕ, zero, suc, ◌+◌, ◌-◌, ◌%◌, true, List, [], ◌∷◌, length, map, Option, Some, None, option_map, slice_index_or, nat_eq}
 use Rattle.std.specs.List.{IsDistinct}
 use Rattle.ptk_words.specs.Pools.{pool_set, is_in}
 use Rattle.ptk_words.specs.declared.threads.Thread.{Thread}
+use Rattle.ptk_threads_slots.specs.declared.link.SlotLink.{SlotLink}
 use Rattle.ptk_threads_slots.specs.declared.link.Link.{Link}
 use Rattle.ptk_threads_slots.specs.declared.link.Ends.{Ends}
 use Rattle.ptk_threads_slots.specs.declared.link.QueueName.{QueueName}
@@ -25,16 +26,39 @@ no_link = record { previous = None; next = None; queue = None }
 abbrev pub no_ends : Ends
 no_ends = record { first = None; last = None }
 
--- the slot of no thread
-abbrev pub free_slot : Slot
-free_slot = record { thread = None; link = no_link }
+-- ---- slots of the shared table
 
--- the links of the slots, and their threads
+-- the slot of a thread in the partition that begins at first, and the thread of a slot, of the 32 that a partition has at most
+abbrev pub slot_at : ℕ → ℕ → ℕ
+slot_at first k = first + (k - 1)
+
+abbrev pub number_at : ℕ → ℕ → ℕ
+number_at first slot = (slot - first) % 32 + 1
+
+-- a link of the partition's numbers as one of slots, and the other way round
+abbrev pub shared_link : ℕ → Link → SlotLink
+shared_link first link = record { first = first; previous = option_map (slot_at first) link.previous; next = option_map (slot_at first) link.next; queue = link.queue }
+
+abbrev pub own_link : SlotLink → Link
+own_link link = record { previous = option_map (number_at link.first) link.previous; next = option_map (number_at link.first) link.next; queue = link.queue }
+
+-- the slot of no thread, in the partition that begins at first
+abbrev pub free_slot : ℕ → Slot
+free_slot first = record { thread = None; link = shared_link first no_link }
+
+-- the links of the slots as they are kept, in numbers of the partition, and their threads
+abbrev pub shared_links : List Slot → List SlotLink
+shared_links slots = map (λ (slot : Slot). slot.link) slots
+
 abbrev pub links_of : List Slot → List Link
-links_of slots = map (λ (slot : Slot). slot.link) slots
+links_of slots = map (λ (slot : Slot). own_link slot.link) slots
 
 abbrev pub threads_of : List Slot → List (Option Thread)
 threads_of slots = map (λ (slot : Slot). slot.thread) slots
+
+-- the slots' links are those of a partition that begins at first
+abbrev pub AreLinksFrom : ℕ → List Slot → Type 0
+AreLinksFrom first slots = shared_links slots ≡ map (shared_link first) (links_of slots)
 
 -- the link of a number, that of no queue past the slots
 abbrev pub link_in : List Link → ℕ → Link
@@ -113,7 +137,8 @@ pub record IsQueue (links : List Link) (end : Ends) (i : ℕ) (line : List ℕ) 
   pub first : end.first ≡ first_or None line
   pub last : end.last ≡ last_or None line
 
--- each queue's links lead along its list, and a thread that has a queue's mark is in its list
+-- each queue's links lead along its list, a thread that has a queue's mark is in its list, and one without a mark has no neighbours
 pub record AreQueues (links : List Link) (ends : List Ends) : Type 0 where
   pub each : (i : ℕ) → IsQueue links (ends_at ends i) i (queue_at links ends i)
   pub marked : (k i : ℕ) → mark_of links k ≡ Some i → is_in k (queue_at links ends i) ≡ true
+  pub unmarked : (k : ℕ) → mark_of links k ≡ None → link_in links k ≡ no_link

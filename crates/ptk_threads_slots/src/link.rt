@@ -1,13 +1,16 @@
 //! What a slot keeps of the queue that its thread lies in.
 
-ghost use Rattle.std.specs.Prelude.{◌≡◌, ◌<◌};
-ghost use Rattle.ptk_threads_slots.specs.Links.{place_of, no_link, no_ends};
+ghost use Rattle.std.specs.Prelude.{◌≡◌, ◌<◌, option_map};
+ghost use Rattle.ptk_threads_slots.specs.Links.{place_of, no_link, no_ends, number_at, slot_at, own_link, shared_link};
 ghost use Rattle.ptk_threads_slots.specs.Changes.{end_between, end_without};
 
-use ptk_words::{ConditionNo, MutexNo, Priority, ThreadNo};
+use ptk_words::{ConditionNo, MutexNo, Priority, SlotNo, ThreadNo};
 
 /// How many queues a partition has.
 pub const PLACES: usize = 128;
+
+/// How many threads a partition has at most.
+const NUMBERS: usize = 32;
 
 /// A queue of a partition.
 #[derive(Clone, Copy, Debug, PartialEq, Eq)]
@@ -31,6 +34,101 @@ impl QueueName {
             QueueName::MutexWaiters(mutex) => mutex.number() as usize + 31,
             QueueName::ConditionWaiters(condition) => condition.number() as usize + 95,
         }
+    }
+}
+
+/// The slots before and after one in its queue, in the table that all partitions share, and the queue.
+#[derive(Clone, Copy, Debug, PartialEq, Eq)]
+pub struct SlotLink {
+    /// The place of its partition's first slot, which is thread 1's; at most 224, since a partition has at most 32 slots,
+    /// and at most 7 come before it.
+    pub first: u8,
+    /// The slot before it; None of the first one, and of a slot that lies in no queue.
+    pub previous: Option<SlotNo>,
+    /// The slot after it; None of the last one, and of a slot that lies in no queue.
+    pub next: Option<SlotNo>,
+    /// The queue; None of a slot that lies in none.
+    pub queue: Option<QueueName>,
+}
+
+impl SlotLink {
+    /// That of a slot that lies in no queue, in a partition with this first slot.
+    pub fn none(first: u8) -> SlotLink
+        ensures { result ≡ shared_link first no_link }
+    {
+        SlotLink {
+            first,
+            previous: None,
+            next: None,
+            queue: None,
+        }
+    }
+
+    /// The same link in numbers of the partition.
+    pub fn own(&self) -> Link
+        ensures { result ≡ own_link self.now }
+    {
+        Link {
+            previous: thread_at(self.first, &self.previous),
+            next: thread_at(self.first, &self.next),
+            queue: self.queue,
+        }
+    }
+
+    /// A link that is given in numbers of the partition, for a slot of the same partition.
+    pub(crate) fn with(&self, link: &Link) -> SlotLink
+        ensures shared { result ≡ shared_link self.now.first link.now }
+        ensures own { own_link result ≡ link.now }
+    {
+        SlotLink {
+            first: self.first,
+            previous: slot_at(self.first, &link.previous),
+            next: slot_at(self.first, &link.next),
+            queue: link.queue,
+        }
+    }
+
+    /// The same link with this thread after it.
+    pub(crate) fn with_next(self, next: &Option<ThreadNo>) -> SlotLink
+        ensures shared { result ≡ record self { next = option_map (slot_at self.first) next.now } }
+        ensures own { own_link result ≡ record (own_link self) { next = next.now } }
+    {
+        let next = slot_at(self.first, next);
+        SlotLink { next, ..self }
+    }
+
+    /// The same link with this thread before it.
+    pub(crate) fn with_previous(self, previous: &Option<ThreadNo>) -> SlotLink
+        ensures shared { result ≡ record self { previous = option_map (slot_at self.first) previous.now } }
+        ensures own { own_link result ≡ record (own_link self) { previous = previous.now } }
+    {
+        let previous = slot_at(self.first, previous);
+        SlotLink { previous, ..self }
+    }
+}
+
+/// The thread of a slot, if it is one, in the partition with this first slot.
+fn thread_at(first: u8, slot: &Option<SlotNo>) -> Option<ThreadNo>
+    ensures { result ≡ option_map (number_at first) slot.now }
+{
+    match slot {
+        Some(slot) => {
+            let place = slot.index().saturating_sub(first as usize) % NUMBERS;
+            Some(ThreadNo::new(place as u8 + 1))
+        }
+        None => None,
+    }
+}
+
+/// The slot of a thread, if it is one, in the partition with this first slot.
+#[tactic(auto, using(crate::proofs::Numbers::numbered_back))]
+fn slot_at(first: u8, thread: &Option<ThreadNo>) -> Option<SlotNo>
+    ensures slot { result ≡ option_map (slot_at first) thread.now }
+    ensures back { option_map (number_at first) result ≡ thread.now }
+{
+    match thread {
+        Some(k) => Some(SlotNo::new(u16::from(first) + k.place() as u16)),
+        None => None,
     }
 }
 

@@ -1,8 +1,8 @@
 //! The queues of one partition.
 
-ghost use Rattle.std.specs.Prelude.{◌≡◌, ◌<◌, ◌≤◌, [], ◌∷◌, ◌++◌, length, Some, None, slice_set};
+ghost use Rattle.std.specs.Prelude.{◌≡◌, ℕ, ◌<◌, ◌≤◌, [], ◌∷◌, ◌++◌, length, Some, None, slice_set};
 ghost use Rattle.ptk_words_parted.specs.Parts.{part_of};
-ghost use Rattle.ptk_threads_slots.specs.Links.{AreQueues, queues, links_of, threads_of, mark_of, place_of, ends_at};
+ghost use Rattle.ptk_threads_slots.specs.Links.{AreQueues, AreLinksFrom, queues, links_of, threads_of, mark_of, place_of, ends_at};
 ghost use Rattle.ptk_threads_slots.specs.Changes.{with_inserted, with_taken, linked_between, end_between, unlinked, end_without};
 
 use crate::link::{Ends, Link, QueueName};
@@ -29,6 +29,7 @@ pub fn append(slots: &mut [Slot], ends: &mut [Ends], name: QueueName, k: ThreadN
         ≡ slice_set (queues (links_of slots.old) ends.old) (place_of name)
         (part_of (queues (links_of slots.old) ends.old) (place_of name) ++ k ∷ []) }
     ensures threads { threads_of slots.new ≡ threads_of slots.old }
+    ensures shared { (first : ℕ) → AreLinksFrom first slots.old → AreLinksFrom first slots.new }
 {
     let i = name.place();
     let end = ends[i];
@@ -51,6 +52,7 @@ pub fn prepend(slots: &mut [Slot], ends: &mut [Ends], name: QueueName, k: Thread
         ≡ slice_set (queues (links_of slots.old) ends.old) (place_of name)
         (k ∷ part_of (queues (links_of slots.old) ends.old) (place_of name)) }
     ensures threads { threads_of slots.new ≡ threads_of slots.old }
+    ensures shared { (first : ℕ) → AreLinksFrom first slots.old → AreLinksFrom first slots.new }
 {
     let i = name.place();
     let end = ends[i];
@@ -73,6 +75,7 @@ pub fn insert(slots: &mut [Slot], ends: &mut [Ends], k: ThreadNo, before: Thread
     ensures lists { queues (links_of slots.new) ends.new
         ≡ with_inserted (mark_of (links_of slots.old) before) k before (queues (links_of slots.old) ends.old) }
     ensures threads { threads_of slots.new ≡ threads_of slots.old }
+    ensures shared { (first : ℕ) → AreLinksFrom first slots.old → AreLinksFrom first slots.new }
 {
     let link = link_of(slots, before);
     if let Some(name) = &link.queue {
@@ -90,6 +93,7 @@ pub fn take(slots: &mut [Slot], ends: &mut [Ends], k: ThreadNo)
     ensures lists { queues (links_of slots.new) ends.new
         ≡ with_taken (mark_of (links_of slots.old) k) k (queues (links_of slots.old) ends.old) }
     ensures threads { threads_of slots.new ≡ threads_of slots.old }
+    ensures shared { (first : ℕ) → AreLinksFrom first slots.old → AreLinksFrom first slots.new }
 {
     let link = link_of(slots, k);
     if let Some(name) = &link.queue {
@@ -99,11 +103,13 @@ pub fn take(slots: &mut [Slot], ends: &mut [Ends], k: ThreadNo)
 }
 
 /// Gives a thread a link in the queue at place i, and its neighbours theirs to it.
+#[inline(always)]
 fn link_between(slots: &mut [Slot], ends: &mut [Ends], i: usize, k: ThreadNo, link: Link)
     requires { i < length ends.old }
     ensures links { links_of slots.new ≡ linked_between k link (links_of slots.old) }
     ensures ends { ends.new ≡ slice_set ends.old i (end_between link.previous k link.next (ends_at ends.old i)) }
     ensures threads { threads_of slots.new ≡ threads_of slots.old }
+    ensures shared { (first : ℕ) → AreLinksFrom first slots.old → AreLinksFrom first slots.new }
     ensures positive { 0 < k }
 {
     let own = Some(k);
@@ -115,11 +121,13 @@ fn link_between(slots: &mut [Slot], ends: &mut [Ends], i: usize, k: ThreadNo, li
 }
 
 /// Links the neighbours of a thread with this link in the queue at place i to each other.
+#[inline(always)]
 fn unlink(slots: &mut [Slot], ends: &mut [Ends], i: usize, k: ThreadNo, link: &Link)
     requires { i < length ends.old }
     ensures links { links_of slots.new ≡ unlinked k link.now (links_of slots.old) }
     ensures ends { ends.new ≡ slice_set ends.old i (end_without link.now.previous link.now.next (ends_at ends.old i)) }
     ensures threads { threads_of slots.new ≡ threads_of slots.old }
+    ensures shared { (first : ℕ) → AreLinksFrom first slots.old → AreLinksFrom first slots.new }
 {
     set_next(slots, &link.previous, &link.next);
     set_previous(slots, &link.next, &link.previous);

@@ -1,30 +1,30 @@
 //! The slots of one partition, read and written at a thread's number.
 
-ghost use Rattle.std.specs.Prelude.{◌≡◌, ◌<◌, is_none, option_map, option_and_then};
+ghost use Rattle.std.specs.Prelude.{◌≡◌, ℕ, ◌<◌, is_none, option_map, option_and_then};
 ghost use Rattle.std.specs.Option.{option_copied};
 ghost use Rattle.ptk_words.specs.Pools.{pool_set};
 ghost use Rattle.ptk_words.specs.declared.threads.Thread.{Thread};
-ghost use Rattle.ptk_threads_slots.specs.Links.{links_of, threads_of, link_in, no_link, with_next, with_previous};
+ghost use Rattle.ptk_threads_slots.specs.Links.{links_of, threads_of, link_in, free_slot, with_next, with_previous, AreLinksFrom};
 
-use crate::link::{Link, QueueName};
-use ptk_words::{Cpu, Phase, Policy, Priority, Thread, ThreadNo, Wait};
+use crate::link::{Link, QueueName, SlotLink};
+use ptk_words::{Cpu, Phase, Policy, Priority, SlotNo, Thread, ThreadNo, Wait};
 
 /// A place for a thread, and its link in the queue that the thread lies in.
 #[derive(Clone, Copy)]
 pub struct Slot {
     /// The thread, None in a free slot.
     pub thread: Option<Thread>,
-    /// Its link.
-    pub link: Link,
+    /// Its link, in slots of the table that all partitions share.
+    pub link: SlotLink,
 }
 
 impl Slot {
-    /// A slot with this thread, or with none, which lies in no queue.
-    pub fn new(thread: Option<Thread>) -> Slot
-        ensures { result ≡ record { thread = thread; link = no_link } }
+    /// A free slot, which lies in no queue, of a partition with this first slot.
+    pub fn free(first: u8) -> Slot
+        ensures { result ≡ free_slot first }
     {
-        let link = Link::none();
-        Slot { thread, link }
+        let link = SlotLink::none(first);
+        Slot { thread: None, link }
     }
 
     /// The thread, None in a free slot.
@@ -152,15 +152,15 @@ impl Slot {
         }
     }
 
-    /// The thread before its own in the queue; None of the first one, and of a thread that lies in no queue.
-    pub fn previous(&self) -> Option<ThreadNo>
+    /// The slot before it in its queue; None of the first one, and of a slot that lies in no queue.
+    pub fn previous(&self) -> Option<SlotNo>
         ensures { result ≡ self.now.link.previous }
     {
         self.link.previous
     }
 
-    /// The thread after its own in the queue; None of the last one, and of a thread that lies in no queue.
-    pub fn next(&self) -> Option<ThreadNo>
+    /// The slot after it in its queue; None of the last one, and of a slot that lies in no queue.
+    pub fn next(&self) -> Option<SlotNo>
         ensures { result ≡ self.now.link.next }
     {
         self.link.next
@@ -174,48 +174,61 @@ impl Slot {
     }
 }
 
-/// The link of a thread; that of no queue past the slots.
+/// The link of a thread, in numbers of the partition; that of no queue past the slots.
 #[tactic(auto, using(crate::proofs::Slots::slots))]
 pub fn link_of(slots: &[Slot], k: ThreadNo) -> Link
     ensures { result ≡ link_in (links_of slots.now) k }
 {
     let i = k.place();
     if i < slots.len() {
-        slots[i].link
+        let slot = &slots[i];
+        slot.link.own()
     } else {
         Link::none()
     }
 }
 
-/// Gives a thread this link; nothing past the slots.
+/// Gives a thread this link, in numbers of the partition; nothing past the slots.
 #[tactic(auto, using(crate::proofs::Slots::slots))]
 pub(crate) fn set_link(slots: &mut [Slot], k: ThreadNo, link: Link)
     ensures links { links_of slots.new ≡ pool_set (links_of slots.old) k link }
     ensures threads { threads_of slots.new ≡ threads_of slots.old }
+    ensures shared { (first : ℕ) → AreLinksFrom first slots.old → AreLinksFrom first slots.new }
     ensures positive { 0 < k }
 {
     let i = k.place();
     if i < slots.len() {
         let slot = &mut slots[i];
-        slot.link = link;
+        slot.link = slot.link.with(&link);
     }
 }
 
 /// Says who comes after this thread, if it is one.
-#[tactic(auto, using(crate::proofs::Slots::slots))]
 pub(crate) fn set_next(slots: &mut [Slot], thread: &Option<ThreadNo>, next: &Option<ThreadNo>)
     ensures links { links_of slots.new ≡ with_next thread.now next.now (links_of slots.old) }
     ensures threads { threads_of slots.new ≡ threads_of slots.old }
+    ensures shared { (first : ℕ) → AreLinksFrom first slots.old → AreLinksFrom first slots.new }
 {
     if let Some(k) = thread {
-        let link = link_of(slots, *k);
-        let next = *next;
-        set_link(slots, *k, Link { next, ..link });
+        set_next_of(slots, *k, next);
+    }
+}
+
+/// Says who comes after a thread; nothing past the slots.
+#[tactic(auto, using(crate::proofs::Slots::slots))]
+fn set_next_of(slots: &mut [Slot], k: ThreadNo, next: &Option<ThreadNo>)
+    ensures links { links_of slots.new ≡ pool_set (links_of slots.old) k (record (link_in (links_of slots.old) k) { next = next.now }) }
+    ensures threads { threads_of slots.new ≡ threads_of slots.old }
+    ensures shared { (first : ℕ) → AreLinksFrom first slots.old → AreLinksFrom first slots.new }
+{
+    let i = k.place();
+    if i < slots.len() {
+        let slot = &mut slots[i];
+        slot.link = slot.link.with_next(next);
     }
 }
 
 /// Says who comes before this thread, if it is one.
-#[tactic(auto, using(crate::proofs::Slots::slots))]
 pub(crate) fn set_previous(
     slots: &mut [Slot],
     thread: &Option<ThreadNo>,
@@ -223,10 +236,23 @@ pub(crate) fn set_previous(
 )
     ensures links { links_of slots.new ≡ with_previous thread.now previous.now (links_of slots.old) }
     ensures threads { threads_of slots.new ≡ threads_of slots.old }
+    ensures shared { (first : ℕ) → AreLinksFrom first slots.old → AreLinksFrom first slots.new }
 {
     if let Some(k) = thread {
-        let link = link_of(slots, *k);
-        let previous = *previous;
-        set_link(slots, *k, Link { previous, ..link });
+        set_previous_of(slots, *k, previous);
+    }
+}
+
+/// Says who comes before a thread; nothing past the slots.
+#[tactic(auto, using(crate::proofs::Slots::slots))]
+fn set_previous_of(slots: &mut [Slot], k: ThreadNo, previous: &Option<ThreadNo>)
+    ensures links { links_of slots.new ≡ pool_set (links_of slots.old) k (record (link_in (links_of slots.old) k) { previous = previous.now }) }
+    ensures threads { threads_of slots.new ≡ threads_of slots.old }
+    ensures shared { (first : ℕ) → AreLinksFrom first slots.old → AreLinksFrom first slots.new }
+{
+    let i = k.place();
+    if i < slots.len() {
+        let slot = &mut slots[i];
+        slot.link = slot.link.with_previous(previous);
     }
 }

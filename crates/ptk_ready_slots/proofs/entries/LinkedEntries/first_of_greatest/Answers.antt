@@ -1,9 +1,8 @@
 use Rattle.std.proofs.Common.{◌≤◌, length, ◌∙◌, ap, subst, arith}
-use Rattle.std.proofs.lemmas.List.{length-map}
 use Rattle.ptk_words.specs.Pools.{first_of_greatest}
 use Rattle.ptk_threads.specs.Table.{stored_of}
-use Rattle.ptk_threads_slots.specs.declared.slot.Slot.{Slot}
 use Rattle.ptk_threads_slots.specs.Links.{links_of}
+use Rattle.ptk_threads_slots.proofs.Slots.{links_count}
 use Rattle.ptk_ready_slots.specs.Bits.{IsGreatestBit}
 use Rattle.ptk_ready_slots.proofs.Firsts.{first_found, none_found}
 use Rattle.ptk_ready_slots.proofs.Lists.{line_same, sound_line}
@@ -12,7 +11,7 @@ use Rattle.ptk_ready_slots.proofs.entries.LinkedEntries.first_of_greatest.Goals 
 pub returns-in-Some : goal.returns-in-Some
 returns-in-Some g c =
     let links = links_of c.args.slots.now in
-    let few : length links ≤ 32 = omega (arith, length-map c.args.slots.now (λ (slot : Slot). slot.link), c.requires.places.0) in
+    let few : length links ≤ 32 = omega (arith, links_count c.args.slots.now, c.requires.places.0) in
     let sound = sound_line g.row.LIMIT links c.args.ends.now c.args.stored.now c.args.self.now.stamps c.args.self.now.bitmap c.requires.queues few c.requires.sound in
     first_found g.row.LIMIT links c.args.ends.now c.args.stored.now c.args.self.now.stamps c.args.self.now.bitmap c.in-Some.i c.index-ends-i.result sound
     (subst (IsGreatestBit c.args.self.now.bitmap) c.in-Some.is c.greatest_bit.ensures) c.requires.places.1
@@ -21,7 +20,7 @@ returns-in-Some g c =
 pub returns-in-None : goal.returns-in-None
 returns-in-None g c =
     let links = links_of c.args.slots.now in
-    let few : length links ≤ 32 = omega (arith, length-map c.args.slots.now (λ (slot : Slot). slot.link), c.requires.places.0) in
+    let few : length links ≤ 32 = omega (arith, links_count c.args.slots.now, c.requires.places.0) in
     let sound = sound_line g.row.LIMIT links c.args.ends.now c.args.stored.now c.args.self.now.stamps c.args.self.now.bitmap c.requires.queues few c.requires.sound in
     none_found g.row.LIMIT links c.args.ends.now c.args.stored.now c.args.self.now.stamps c.args.self.now.bitmap sound
     (subst (IsGreatestBit c.args.self.now.bitmap) c.in-None.is c.greatest_bit.ensures)

@@ -1,8 +1,7 @@
 use Rattle.std.proofs.Common.{◌≡◌, ◌≤◌, ◌^◌, length, refl, sym, ◌∙◌, subst, rules, arith, w64, FitsSigned}
 use Rattle.std.proofs.lemmas.Int.{to_z-of_z}
-use Rattle.std.proofs.lemmas.List.{length-map}
-use Rattle.ptk_threads_slots.specs.declared.slot.Slot.{Slot}
 use Rattle.ptk_threads_slots.specs.Links.{links_of}
+use Rattle.ptk_threads_slots.proofs.Slots.{links_count}
 use Rattle.ptk_ready_slots.proofs.Ranks.{IsRenumbered, numbered_anew, least_small, below_within, below_all}
 use Rattle.ptk_ready_slots.proofs.Moves.{filed_of, anew_filed}
 use Rattle.ptk_ready_slots.proofs.entries.LinkedEntries.head_stamp.Goals as goal
@@ -13,7 +12,7 @@ least_stamp-requires-clause-filed g c = filed_of g.row.LIMIT (links_of c.args.sl
 pub least_stamp-requires-2-clause-filed : goal.least_stamp-requires-2-clause-filed
 least_stamp-requires-2-clause-filed g c =
     let links = links_of c.args.slots.now in
-    let few : length links ≤ 32 = omega (arith, length-map c.args.slots.now (λ (slot : Slot). slot.link), c.requires.places.0) in
+    let few : length links ≤ 32 = omega (arith, links_count c.args.slots.now, c.requires.places.0) in
     let long : length c.args.self.now.stamps ≡ 32 = search rules in
     let anew = subst (IsRenumbered g.row.LIMIT links c.args.self.now.stamps) (sym c.renumbered-self.ensures)
     (numbered_anew g.row.LIMIT links c.args.self.now.stamps c.requires.sound.stamped few long c.requires.limit.0) in
@@ -22,7 +21,7 @@ least_stamp-requires-2-clause-filed g c =
 pub stamp_below-requires : goal.stamp_below-requires
 stamp_below-requires g c =
     let links = links_of c.args.slots.now in
-    let few : length links ≤ 32 = omega (arith, length-map c.args.slots.now (λ (slot : Slot). slot.link), c.requires.places.0) in
+    let few : length links ≤ 32 = omega (arith, links_count c.args.slots.now, c.requires.places.0) in
     let long : length c.args.self.now.stamps ≡ 32 = search rules in
     let anew = subst (IsRenumbered g.row.LIMIT links c.args.self.now.stamps) (sym c.renumbered-self.ensures)
     (numbered_anew g.row.LIMIT links c.args.self.now.stamps c.requires.sound.stamped few long c.requires.limit.0) in
@@ -31,7 +30,7 @@ stamp_below-requires g c =
 pub returns : goal.returns
 returns g c =
     let links = links_of c.args.slots.now in
-    let few : length links ≤ 32 = omega (arith, length-map c.args.slots.now (λ (slot : Slot). slot.link), c.requires.places.0) in
+    let few : length links ≤ 32 = omega (arith, links_count c.args.slots.now, c.requires.places.0) in
     let long : length c.args.self.now.stamps ≡ 32 = search rules in
     let anew = subst (IsRenumbered g.row.LIMIT links c.args.self.now.stamps) (sym c.renumbered-self.ensures)
     (numbered_anew g.row.LIMIT links c.args.self.now.stamps c.requires.sound.stamped few long c.requires.limit.0) in

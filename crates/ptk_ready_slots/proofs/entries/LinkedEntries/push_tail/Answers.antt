@@ -1,10 +1,9 @@
 use Rattle.std.proofs.Common.{◌≡◌, ℕ, suc, ◌-◌, ◌<◌, ◌≤◌, true, length, refl, ◌∙◌, ap, subst, set, rules, arith, ◌<ℤ◌, w64, to_z, of_z, FitsSigned, lit<}
 use Rattle.std.proofs.lemmas.Int.{to_z-of_z}
-use Rattle.std.proofs.lemmas.List.{length-map}
 use Rattle.ptk_threads.specs.Table.{stored_of}
-use Rattle.ptk_threads_slots.specs.declared.slot.Slot.{Slot}
 use Rattle.ptk_threads_slots.specs.declared.link.QueueName.TheVariants.{Ready}
 use Rattle.ptk_threads_slots.specs.Links.{links_of}
+use Rattle.ptk_threads_slots.proofs.Slots.{links_count}
 use Rattle.ptk_ready_slots.specs.Bits.{IsBitChanged}
 use Rattle.ptk_ready_slots.specs.Entries.{is_ready, stamp_of}
 use Rattle.ptk_ready_slots.proofs.Lists.{sound_line}
@@ -13,19 +12,19 @@ use Rattle.ptk_ready_slots.proofs.entries.LinkedEntries.push_tail.Goals as goal
 
 pub tail_stamp-stamp-requires : goal.tail_stamp-stamp-requires
 tail_stamp-stamp-requires g c =
-    let few : length (links_of c.args.slots.now) ≤ 32 = omega (arith, length-map c.args.slots.now (λ (slot : Slot). slot.link), c.requires.places.0) in
+    let few : length (links_of c.args.slots.now) ≤ 32 = omega (arith, links_count c.args.slots.now, c.requires.places.0) in
     (lit< tt, (sound_line g.row.LIMIT (links_of c.args.slots.now) c.args.ends.now c.args.stored.now c.args.self.now.stamps c.args.self.now.bitmap c.requires.queues few c.requires.sound, (c.requires.limit, c.requires.places)))
 
 pub returns : goal.returns
 returns g c =
     let links = links_of c.args.slots.now in
-    let few : length links ≤ 32 = omega (arith, length-map c.args.slots.now (λ (slot : Slot). slot.link), c.requires.places.0) in
+    let few : length links ≤ 32 = omega (arith, links_count c.args.slots.now, c.requires.places.0) in
     let mid = c.tail_stamp-stamp.new.self.stamps in
     let stamp = to_z w64 (of_z w64 c.tail_stamp-stamp.result) in
     let fits : FitsSigned w64 c.tail_stamp-stamp.result = search rules in
     let same : to_z w64 (of_z w64 c.tail_stamp-stamp.result) ≡ c.tail_stamp-stamp.result = to_z-of_z w64 c.tail_stamp-stamp.result fits in
     let long : length c.tail_stamp-stamp.new.self.stamps ≡ 32 = search rules in
-    let within : c.args.k ≤ length links = omega (arith, length-map c.args.slots.now (λ (slot : Slot). slot.link), c.requires.slot) in
+    let within : c.args.k ≤ length links = omega (arith, links_count c.args.slots.now, c.requires.slot) in
     let level : stored_of c.args.stored.now c.args.k ≡ suc (c.new-priority.result - 1) = omega (arith, c.stored_in.ensures, c.new-priority.ensures, c.requires.priority.0) in
     let low : c.new-priority.result - 1 < 32 = omega (arith, c.stored_in.ensures, c.new-priority.ensures, c.requires.priority.0, c.requires.priority.1) in
     let bit = subst (λ b. IsBitChanged b c.with_bit-self.result (c.new-priority.result - 1) true) c.tail_stamp-stamp.ensures.bitmap

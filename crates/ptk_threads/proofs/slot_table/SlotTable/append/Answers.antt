@@ -12,7 +12,7 @@ invariant_of-self c =
     let done =
     let long : length c.append.new.ends ≡ length c.lend-2.result.now = search rules in
     relinked_at c.self.inside.slots c.self.inside.ends c.args.p c.args.self.now c.lend.result.now c.append.new.slots c.lend-2.result.now c.append.new.ends (with_last c.args.name c.args.k)
-    c.self.invariant c.self.view_is c.requires.partition c.lend.ensures.value c.lend-2.ensures.value c.append.ensures.queues c.append.ensures.threads long (c.append.ensures.lists) in
+    c.self.invariant c.self.view_is c.requires.partition c.lend.ensures.value c.lend-2.ensures.value c.append.ensures.queues c.append.ensures.threads c.append.ensures.shared long (c.append.ensures.lists) in
     done.linked
 
 pub returns : goal.returns
@@ -20,5 +20,5 @@ returns c =
     let done =
     let long : length c.append.new.ends ≡ length c.lend-2.result.now = search rules in
     relinked_at c.self.inside.slots c.self.inside.ends c.args.p c.args.self.now c.lend.result.now c.append.new.slots c.lend-2.result.now c.append.new.ends (with_last c.args.name c.args.k)
-    c.self.invariant c.self.view_is c.requires.partition c.lend.ensures.value c.lend-2.ensures.value c.append.ensures.queues c.append.ensures.threads long (c.append.ensures.lists) in
+    c.self.invariant c.self.view_is c.requires.partition c.lend.ensures.value c.lend-2.ensures.value c.append.ensures.queues c.append.ensures.threads c.append.ensures.shared long (c.append.ensures.lists) in
     view_at c.self.inside.slots c.self.inside.ends c.args.p c.args.self.now c.append.new.slots c.append.new.ends _ c.self.view_is done

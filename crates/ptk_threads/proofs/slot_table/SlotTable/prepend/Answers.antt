@@ -12,7 +12,7 @@ invariant_of-self c =
     let done =
     let long : length c.prepend.new.ends ≡ length c.lend-2.result.now = search rules in
     relinked_at c.self.inside.slots c.self.inside.ends c.args.p c.args.self.now c.lend.result.now c.prepend.new.slots c.lend-2.result.now c.prepend.new.ends (with_first c.args.name c.args.k)
-    c.self.invariant c.self.view_is c.requires.partition c.lend.ensures.value c.lend-2.ensures.value c.prepend.ensures.queues c.prepend.ensures.threads long (c.prepend.ensures.lists) in
+    c.self.invariant c.self.view_is c.requires.partition c.lend.ensures.value c.lend-2.ensures.value c.prepend.ensures.queues c.prepend.ensures.threads c.prepend.ensures.shared long (c.prepend.ensures.lists) in
     done.linked
 
 pub returns : goal.returns
@@ -20,5 +20,5 @@ returns c =
     let done =
     let long : length c.prepend.new.ends ≡ length c.lend-2.result.now = search rules in
     relinked_at c.self.inside.slots c.self.inside.ends c.args.p c.args.self.now c.lend.result.now c.prepend.new.slots c.lend-2.result.now c.prepend.new.ends (with_first c.args.name c.args.k)
-    c.self.invariant c.self.view_is c.requires.partition c.lend.ensures.value c.lend-2.ensures.value c.prepend.ensures.queues c.prepend.ensures.threads long (c.prepend.ensures.lists) in
+    c.self.invariant c.self.view_is c.requires.partition c.lend.ensures.value c.lend-2.ensures.value c.prepend.ensures.queues c.prepend.ensures.threads c.prepend.ensures.shared long (c.prepend.ensures.lists) in
     view_at c.self.inside.slots c.self.inside.ends c.args.p c.args.self.now c.prepend.new.slots c.prepend.new.ends _ c.self.view_is done
