@@ -1,4 +1,4 @@
--- That tables stay as the condition calls need them where the number of a condition variable is taken or freed, and that fresh tables are so.
+-- That tables stay as the calls need them where the number of a condition variable is taken or freed.
 use Rattle.std.proofs.Common.{◌≡◌, ℕ, ◌<◌, List, [], length, map, refl, sym, ◌∙◌, ap, subst, true}
 use Rattle.std.specs.Prelude.{Option, Some, None, option_map, unwrap_or}
 use Rattle.std.proofs.Math.ListN.{set}
@@ -7,15 +7,17 @@ use Rattle.std.specs.Prelude.{slice_index}
 use Rattle.ptk_words.specs.Pools.{pool_get, pool_set, is_in, least_free}
 use Rattle.ptk_words_parted.specs.Parts.{part_of, filled}
 use Rattle.ptk_words_parted.proofs.Cuts.{set_part-same}
-use Rattle.ptk_words_model.specs.State.{Condition, Mutex}
+use Rattle.ptk_words_model.specs.State.{Condition, Locks, Mutex}
 use Rattle.ptk_words_locks.specs.Conditions.{waiters_on}
-use Rattle.ptk_threads.specs.Table.{ThreadTable, free_table}
+use Rattle.ptk_threads.specs.Table.{ThreadTable}
 use Rattle.ptk_threads.proofs.Pools.{part_of-set}
-use Rattle.ptk_roster.specs.Rosters.{seen}
+use Rattle.ptk_roster.specs.Rosters.{Rostered}
 use Rattle.ptk_roster.specs.Waiters.{condition_of}
 use Rattle.ptk_mutex.proofs.Pool.{least_free_is}
 use Rattle.ptk_words_locks.proofs.MutexPlaces.{pool_set_same}
-use Rattle.ptk_mutex.proofs.Ready.{row_blank, pool_blank, ready_blank}
+use Rattle.ptk_mutex.specs.Sound.{IsSound}
+use Rattle.ptk_mutex.proofs.Sound.{of_part, AreSyncedAt, sound_moved}
+use Rattle.ptk_mutex.proofs.Steps.{AreMoved, moved_none}
 use Rattle.ptk_cond.specs.Pool.{with_new_condition}
 use Rattle.ptk_cond.specs.Tables.{AreSynced}
 
@@ -52,17 +54,22 @@ pub synced_destroy : (p c : ℕ) (table : ThreadTable) (lines : List (List ℕ))
     → AreSynced p table lines mutexes (set conditions p (pool_set (part_of conditions p) c None))
 synced_destroy p c table lines mutexes conditions unused synced = synced_set p c None table lines mutexes conditions unused refl synced
 
--- ---- fresh tables
+-- ---- the whole roster
 
--- tables in which every number is free are so at each partition
-pub synced_blank : (p : ℕ) (counts limits others : List ℕ) (lines : List (List ℕ)) → p < length counts → p < length limits → p < length others → p < length lines → AreSynced p (seen (free_table counts)) lines (map (filled None) limits) (map (filled None) others)
-synced_blank p counts limits others lines of_threads of_mutexes of_conditions of_lines = record {
-  ready = ready_blank p counts limits lines of_threads of_mutexes of_lines;
-  of_conditions = rw (length-map others (filled {X = Option Condition} None)) of_conditions;
-  waiting = record {
-    waiters = λ c k h.
-        let blank : pool_get (part_of (map (filled None) others) p) c ≡ None = ap (λ (row : List (Option Condition)). pool_get row c) (row_blank None others p of_conditions) ∙ pool_blank (slice_index others p) c in
-        let no : is_in k (waiters_on None) ≡ true = subst (λ (x : Option Condition). is_in k (waiters_on x) ≡ true) blank h in
-        absurd cc;
-  };
-}
+-- with these condition variables of a partition
+sound_set : (p : ℕ) (row : List (Option Condition)) (a b : Rostered) → b ≡ record a { conditions = set a.conditions p row } → p < length a.table.threads → (AreSyncedAt p a → AreSynced p a.table a.lines a.mutexes (set a.conditions p row)) → IsSound a → IsSound b
+sound_set p row a b e lt keeps sound =
+    let synced : AreSyncedAt p a = sound.synced p lt in
+    let locks : Locks = (of_part p a).locks in
+    sound_moved p a b (record { locks = locks; conditions = row })
+    (record {
+      of_locks = subst (λ (r : Rostered). AreMoved p a.table a.lines a.mutexes r.table r.lines r.mutexes locks) (sym e) (moved_none p a.table a.lines a.mutexes synced.ready);
+      of_conditions = ap (λ (r : Rostered). r.conditions) e;
+    })
+    (subst (λ (r : Rostered). AreSyncedAt p r) (sym e) (keeps synced)) sound
+
+pub sound_init : (p : ℕ) (a b : Rostered) → b ≡ record a { conditions = set a.conditions p (with_new_condition (part_of a.conditions p)) } → p < length a.table.threads → IsSound a → IsSound b
+sound_init p a b e lt sound = sound_set p (with_new_condition (part_of a.conditions p)) a b e lt (synced_init p a.table a.lines a.mutexes a.conditions) sound
+
+pub sound_destroy : (p c : ℕ) (a b : Rostered) → waiters_on (pool_get (part_of a.conditions p) c) ≡ [] → b ≡ record a { conditions = set a.conditions p (pool_set (part_of a.conditions p) c None) } → p < length a.table.threads → IsSound a → IsSound b
+sound_destroy p c a b unused e lt sound = sound_set p (pool_set (part_of a.conditions p) c None) a b e lt (synced_destroy p c a.table a.lines a.mutexes a.conditions unused) sound

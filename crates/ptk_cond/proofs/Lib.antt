@@ -1,9 +1,10 @@
 pub mod Waits
 pub mod Numbers
-pub mod Apart
 pub mod Waiters
 pub mod Steps
 pub mod Fresh
 pub mod Asleep
 pub mod Priorities
 pub mod TimedOut
+pub mod Visited
+pub mod Blocked

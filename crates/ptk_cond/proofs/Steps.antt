@@ -1,7 +1,7 @@
 -- What the calls need of the roster, what it is after a move of one partition, and several moves one after the other.
 use Rattle.std.specs.Fn.{iterate}
 use Rattle.std.proofs.Common.{◌≡◌, ℕ, suc, ◌<◌, List, [], ◌∷◌, ◌++◌, length, refl, sym, ◌∙◌, ap, subst, arith, true, false}
-use Rattle.std.specs.Prelude.{Option, Some, None, IsSome}
+use Rattle.std.specs.Prelude.{Option, Some, None, IsSome, option_to_list}
 use Rattle.std.proofs.Math.ListN.{set}
 use Rattle.std.proofs.lemmas.List.{length-set, set-set, set-get_or}
 use Rattle.ptk_words.specs.Pools.{pool_get, pool_set, is_in, without, first_of_greatest}
@@ -18,15 +18,18 @@ use Rattle.ptk_words_locks.specs.Conditions.{waiters_on, HasRoom, IsNoWaiter}
 use Rattle.ptk_words_locks.proofs.Gathered.{waiter_used}
 use Rattle.ptk_threads.specs.Table.{ThreadTable, stored_of, with_changed, with_wait}
 use Rattle.ptk_threads.proofs.Pools.{pool_get-changed, pool_changed-changed, part_of-set}
+use Rattle.ptk_mutex_slots.specs.Sets.{IsSetOf}
 use Rattle.ptk_roster.specs.Rosters.{Rostered}
 use Rattle.ptk_roster.specs.Waiters.{condition_of}
 use Rattle.ptk_mutex.specs.Tables.{locks_at, with_threads, HasPart, MayWait, AreLocked, AreReady}
 use Rattle.ptk_mutex.proofs.Moved.{stays}
 use Rattle.ptk_mutex.proofs.Steps.{AreMoved, moved_none, moved_locks, moved_ready, moved_more}
+use Rattle.ptk_mutex.proofs.Apart.{calm_unlock, may_relock}
+use Rattle.ptk_mutex.proofs.Awake.{awake_none, awake_free}
+pub use Rattle.ptk_mutex.proofs.Sound.{of_part, AreSyncedAt, AreSyncsMoved, syncs_moved, moved_synced, sound_moved}
 use Rattle.ptk_cond.specs.Tables.{syncs_at, AreWaiting, AreSynced, IsAwake, MayLeave, next_waiter}
-use Rattle.ptk_cond.proofs.Apart.{calm_unlock}
 use Rattle.ptk_cond.proofs.Asleep.{asleep-is}
-use Rattle.ptk_cond.proofs.Waiters.{may_relock, awake_none, awake_free, locked_sleep, waiting_unblock, stored_next, next_may_leave}
+use Rattle.ptk_cond.proofs.Waiters.{locked_sleep, waiting_unblock, stored_next, next_may_leave}
 
 -- ---- what the calls need
 
@@ -68,39 +71,17 @@ next_may p c o table lines mutexes conditions synced e = next_may_leave c (syncs
 
 pub ruleset choices = (next-is, next_may, has_part, has_conditions)
 
+-- whose wait a signal ends
+pub woken_next : (bits c : ℕ) (o : Option ℕ) (syncs : Syncs) → o ≡ next_waiter c syncs → IsSetOf bits (option_to_list o) → IsSetOf bits (option_to_list (next_waiter c syncs))
+woken_next bits c o syncs e of = subst (λ (x : Option ℕ). IsSetOf bits (option_to_list x)) e of
+
 -- ---- the roster after a move
-
--- what a partition has there
-abbrev pub of_part : ℕ → Rostered → Syncs
-of_part p a = syncs_at p a.table a.lines a.mutexes a.conditions
-
--- it is as the condition calls need it at a partition
-abbrev pub AreSyncedAt : ℕ → Rostered → Type 0
-AreSyncedAt p a = AreSynced p a.table a.lines a.mutexes a.conditions
-
--- the roster b is the roster a with these syncs at p
-pub record AreSyncsMoved (p : ℕ) (a b : Rostered) (syncs : Syncs) : Type 0 where
-  pub of_locks : AreMoved p a.table a.lines a.mutexes b.table b.lines b.mutexes syncs.locks
-  pub of_conditions : b.conditions ≡ set a.conditions p syncs.conditions
 
 -- nothing moved yet
 syncs_none : (p : ℕ) (a : Rostered) → AreSyncedAt p a → AreSyncsMoved p a a (of_part p a)
 syncs_none p a synced = record {
   of_locks = moved_none p a.table a.lines a.mutexes synced.ready;
   of_conditions = sym (set_part-same a.conditions p);
-}
-
--- what p then has
-syncs_moved : (p : ℕ) (a b : Rostered) (syncs : Syncs) → AreSyncedAt p a → AreSyncsMoved p a b syncs → of_part p b ≡ syncs
-syncs_moved p a b syncs synced moved =
-    rw (moved_locks p a.table b.table a.lines b.lines a.mutexes b.mutexes syncs.locks synced.ready.part moved.of_locks, moved.of_conditions, part_of-set a.conditions p syncs.conditions synced.of_conditions) refl
-
--- a moved roster is as the calls need it, where the mutex calls find it so and waiters wait
-pub moved_synced : (p : ℕ) (a b : Rostered) (syncs : Syncs) → AreSyncedAt p a → AreSyncsMoved p a b syncs → AreReady p b.table b.lines b.mutexes → AreWaiting syncs → AreSyncedAt p b
-moved_synced p a b syncs synced moved ready waiting = record {
-  ready = ready;
-  of_conditions = rw (moved.of_conditions, length-set) synced.of_conditions;
-  waiting = subst (λ (s : Syncs). AreWaiting s) (sym (syncs_moved p a b syncs synced moved)) waiting;
 }
 
 -- one more move

@@ -1,5 +1,5 @@
 -- The thread whose deadline comes: a waiter of a mutex, or a sleeper, whose waking changes no effective priority.
-use Rattle.std.proofs.Common.{◌≡◌, ℕ, List, [], ◌∷◌, refl, sym, ◌∙◌, ap}
+use Rattle.std.proofs.Common.{◌≡◌, ℕ, List, [], ◌∷◌, ◌++◌, refl, sym, ◌∙◌, ap}
 use Rattle.std.specs.Prelude.{Bool, true, false, Option, Some, None, IsSome}
 use Rattle.std.proofs.Math.ListN.{set}
 use Rattle.std.proofs.lemmas.Bool.{false≢true}
@@ -9,20 +9,28 @@ use Rattle.ptk_words.specs.declared.threads.Thread.{Thread}
 use Rattle.ptk_words.specs.declared.threads.Wait.{Wait}
 use Rattle.ptk_words.specs.declared.threads.Wait.TheVariants.{InputWait, SleepWait, JoinWait, MutexWait, ConditionWait, RelockWait}
 use Rattle.ptk_words_parted.specs.Parts.{part_of}
+use Rattle.ptk_words_parted.proofs.Cuts.{set_part-same}
 use Rattle.ptk_words_model.specs.State.{Mutex, Condition, Locks, Syncs}
 use Rattle.ptk_words_model.specs.Priority.{thread_at, awaited, mutex_of_wait, effective_priorities}
-use Rattle.ptk_words_model.specs.Schedule.{woken_with}
+use Rattle.ptk_words_model.specs.Schedule.{woken_with, after_wake}
 use Rattle.ptk_words_model.specs.Mutex.{mutex_at, wait_of, waiters_of}
 use Rattle.ptk_words_model.specs.Condition.{condition_waiters}
 use Rattle.ptk_words_locks.specs.Conditions.{condition_of_wait, IsNoWaiter}
 use Rattle.ptk_words_locks.proofs.Threads.{none_awaits}
 use Rattle.ptk_threads.specs.Table.{ThreadTable, thread_in, with_changed}
+use Rattle.ptk_roster.specs.Rosters.{Rostered}
 use Rattle.ptk_mutex.specs.Tables.{with_threads, AreLocked, AreReady, IsWaiter}
+use Rattle.ptk_mutex.specs.Sound.{IsSound}
+use Rattle.ptk_mutex.proofs.Apart.{apart_woken, other_waiter, waiting_kept}
+use Rattle.ptk_mutex.proofs.Locked.{locked_wake}
+use Rattle.ptk_mutex.proofs.Sound.{of_part, AreSyncedAt, IsLocksMove, sound_locks, synced_locks}
+use Rattle.ptk_mutex.proofs.Steps.{AreMoved, moved_ready}
 use Rattle.ptk_cond.specs.Tables.{syncs_at, AreSynced, AreWaiting}
-use Rattle.ptk_cond.specs.Timeouts.{after_sync_timeout, IsBlocked, is_sleep}
+use Rattle.ptk_cond.specs.Timeouts.{after_sync_timeout, IsBlocked, is_sleep, mutex_locked}
 use Rattle.ptk_cond.proofs.Priorities.{priorities_woken}
 
-awaits_by_wait : (o : Option Thread) → awaited o ≡ mutex_of_wait (wait_of o)
+-- a thread waits for the mutex that its wait is for
+pub awaits_by_wait : (o : Option Thread) → awaited o ≡ mutex_of_wait (wait_of o)
 awaits_by_wait None = refl
 awaits_by_wait (Some thread) = refl
 
@@ -36,6 +44,25 @@ pub waiter_of : (t m : ℕ) (deadline : Option ℕ) (syncs : Syncs) → IsBlocke
 waiter_of t m deadline syncs blocked e =
     let waits : awaited (thread_at syncs.locks t) ≡ Some m = awaits_by_wait (thread_at syncs.locks t) ∙ ap mutex_of_wait e in
     record { waits = waits; out = blocked.out (MutexWait m deadline) e; inside = blocked.queued m waits }
+
+locked_of : (m : ℕ) (wait : Option Wait) → mutex_locked wait ≡ Some m → mutex_of_wait wait ≡ Some m
+locked_of m None e = absurd (cc e)
+locked_of m (Some InputWait) e = absurd (cc e)
+locked_of m (Some (SleepWait deadline)) e = absurd (cc e)
+locked_of m (Some (JoinWait u)) e = absurd (cc e)
+locked_of m (Some (MutexWait n deadline)) e = e
+locked_of m (Some (ConditionWait c n deadline)) e = absurd (cc e)
+locked_of m (Some (RelockWait n reply)) e = absurd (cc e)
+
+locked_out : (t m : ℕ) (wait : Option Wait) (syncs : Syncs) → IsBlocked syncs t → wait_of (thread_at syncs.locks t) ≡ wait → mutex_locked wait ≡ Some m → is_in t syncs.line ≡ false
+locked_out t m None syncs blocked is e = absurd (cc e)
+locked_out t m (Some wait) syncs blocked is e = blocked.out wait is
+
+-- so is one in a wait that locks a mutex first
+pub waiter_by : (t m : ℕ) (syncs : Syncs) → IsBlocked syncs t → mutex_locked (wait_of (thread_at syncs.locks t)) ≡ Some m → IsWaiter syncs.locks m t
+waiter_by t m syncs blocked e =
+    let waits : awaited (thread_at syncs.locks t) ≡ Some m = awaits_by_wait (thread_at syncs.locks t) ∙ locked_of m (wait_of (thread_at syncs.locks t)) e in
+    record { waits = waits; out = locked_out t m (wait_of (thread_at syncs.locks t)) syncs blocked refl e; inside = blocked.queued m waits }
 
 -- a sleeper is woken: the stored priorities are those that it leaves
 pub slept : (p t deadline : ℕ) (table new : ThreadTable) (lines : List (List ℕ)) (mutexes : List (List (Option Mutex))) (conditions : List (List (Option Condition))) → AreReady p table lines mutexes
@@ -87,3 +114,50 @@ sleeper_free p t table lines mutexes conditions synced sleeps =
       of_mutexes = λ m. asleep_of_mutex t m asleep.0 syncs.locks asleep.1 synced.ready.locked (is_in t (waiters_of (mutex_at syncs.locks m))) refl;
       of_conditions = λ c. asleep_of_condition t c asleep.0 syncs asleep.1 synced.waiting (is_in t (condition_waiters syncs c)) refl;
     }
+
+-- ---- what the calls then find
+
+-- after a sleeper was woken
+slept_move : (p t : ℕ) (a b : Rostered) → AreSyncedAt p a → is_sleep (wait_of (thread_in a.table p t)) ≡ true → b.table ≡ with_changed p t (woken_with (0 ∷ [])) a.table → b.lines ≡ set a.lines p (part_of a.lines p ++ t ∷ []) → b.mutexes ≡ a.mutexes → b.conditions ≡ a.conditions
+    → IsLocksMove p a b (after_wake t (0 ∷ []) (of_part p a).locks)
+slept_move p t a b synced sleeps of_table of_lines of_mutexes of_conditions =
+    let locks : Locks = (of_part p a).locks in
+    let after : Locks = after_wake t (0 ∷ []) locks in
+    let asleep = sleep_of (wait_of (thread_in a.table p t)) sleeps in
+    let none : awaited (thread_at locks t) ≡ None = awaits_by_wait (thread_at locks t) ∙ ap mutex_of_wait asleep.1 in
+    let moved : AreMoved p a.table a.lines a.mutexes b.table b.lines b.mutexes after = record {
+      of_threads = slept p t asleep.0 a.table b.table a.lines a.mutexes a.conditions synced.ready asleep.1 of_table;
+      of_lines = of_lines;
+      of_mutexes = of_mutexes ∙ sym (set_part-same a.mutexes p);
+    } in
+    record {
+      before = synced.ready;
+      moved = moved;
+      conditions = of_conditions;
+      after = moved_ready p a.table b.table a.lines b.lines a.mutexes b.mutexes after synced.ready.part (locked_wake t (woken_with (0 ∷ [])) locks none synced.ready.locked) moved;
+    }
+
+slept_waiting : (p t : ℕ) (a : Rostered) → AreSyncedAt p a → is_sleep (wait_of (thread_in a.table p t)) ≡ true → AreWaiting (of_part p a) → AreWaiting (record { locks = after_wake t (0 ∷ []) (of_part p a).locks; conditions = part_of a.conditions p })
+slept_waiting p t a synced sleeps waiting =
+    let locks : Locks = (of_part p a).locks in
+    let free : IsNoWaiter t (part_of a.mutexes p) (part_of a.conditions p) = sleeper_free p t a.table a.lines a.mutexes a.conditions synced sleeps in
+    waiting_kept locks (after_wake t (0 ∷ []) locks) (part_of a.conditions p) (λ c k there may. apart_woken t k (woken_with (0 ∷ [])) locks (other_waiter t c k (part_of a.mutexes p) (part_of a.conditions p) free there)) waiting
+
+pub synced_slept : (p t : ℕ) (a b : Rostered) → AreSyncedAt p a → is_sleep (wait_of (thread_in a.table p t)) ≡ true → b.table ≡ with_changed p t (woken_with (0 ∷ [])) a.table → b.lines ≡ set a.lines p (part_of a.lines p ++ t ∷ []) → b.mutexes ≡ a.mutexes → b.conditions ≡ a.conditions → AreSyncedAt p b
+synced_slept p t a b synced sleeps of_table of_lines of_mutexes of_conditions =
+    synced_locks p a b (after_wake t (0 ∷ []) (of_part p a).locks) (slept_move p t a b synced sleeps of_table of_lines of_mutexes of_conditions) (slept_waiting p t a synced sleeps) synced
+
+pub sound_slept : (p t : ℕ) (a b : Rostered) → AreSyncedAt p a → is_sleep (wait_of (thread_in a.table p t)) ≡ true → b.table ≡ with_changed p t (woken_with (0 ∷ [])) a.table → b.lines ≡ set a.lines p (part_of a.lines p ++ t ∷ []) → b.mutexes ≡ a.mutexes → b.conditions ≡ a.conditions → IsSound a → IsSound b
+sound_slept p t a b synced sleeps of_table of_lines of_mutexes of_conditions sound =
+    sound_locks p a b (after_wake t (0 ∷ []) (of_part p a).locks) (slept_move p t a b synced sleeps of_table of_lines of_mutexes of_conditions) (slept_waiting p t a synced sleeps) sound
+
+-- ---- a thread in no timed wait
+
+pub untimed : (t : ℕ) (wait : Option Wait) (syncs : Syncs) → is_sleep wait ≡ false → mutex_locked wait ≡ None → condition_of_wait wait ≡ None → after_sync_timeout t wait syncs ≡ syncs
+untimed t None syncs asleep locks waits = refl
+untimed t (Some InputWait) syncs asleep locks waits = refl
+untimed t (Some (SleepWait deadline)) syncs asleep locks waits = absurd (false≢true (sym asleep))
+untimed t (Some (JoinWait u)) syncs asleep locks waits = refl
+untimed t (Some (MutexWait m deadline)) syncs asleep locks waits = absurd (cc locks)
+untimed t (Some (ConditionWait c m deadline)) syncs asleep locks waits = absurd (cc waits)
+untimed t (Some (RelockWait m reply)) syncs asleep locks waits = refl

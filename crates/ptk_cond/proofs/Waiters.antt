@@ -22,39 +22,11 @@ use Rattle.ptk_threads.proofs.Pools.{pool_get-changed, pool_get-changed_other, p
 use Rattle.ptk_roster.specs.Waiters.{condition_of}
 use Rattle.ptk_mutex.specs.Tables.{AreLocked, MayWait}
 use Rattle.ptk_mutex.proofs.Locked.{stored_first, some_same, other_than}
+use Rattle.ptk_mutex.proofs.Apart.{calm_unlock, below_unlock, apart_more, apart_thread, apart_unlock, apart_relock, kept_waiter, may_relock}
+use Rattle.ptk_mutex.proofs.Awake.{awake_none, awake_other}
 use Rattle.ptk_cond.specs.Tables.{IsOnCondition, AreWaiting, IsAwake, MayLeave, next_waiter}
-use Rattle.ptk_cond.proofs.Apart.{IsApart, calm_unlock, below_unlock, apart_more, apart_thread, apart_unlock, apart_relock}
 
--- ---- a wait on a condition variable
-
--- it is for no mutex
-unawaited : (c : ℕ) (wait : Option Wait) → condition_of_wait wait ≡ Some c → mutex_of_wait wait ≡ None
-unawaited c wait e = ap mutex_of_wait (condition_wait c wait e).waits
-
-none_awaited : (c : ℕ) (x : Option Thread) → condition_of_wait (wait_of x) ≡ Some c → awaited x ≡ None
-none_awaited c None e = refl
-none_awaited c (Some thread) e = unawaited c thread.wait e
-
-used_by : (c : ℕ) (x : Option Thread) → condition_of_wait (wait_of x) ≡ Some c → IsSome x
-used_by c None e = let no : ⊥ = cc in absurd no
-used_by c (Some thread) e = refl
-
--- who waits on a condition variable may re-lock a mutex
-pub may_relock : (c k : ℕ) (locks : Locks) → IsOnCondition locks c k → MayWait locks k
-may_relock c k locks waiter = record { used = used_by c (thread_at locks k) waiter.waits; out = waiter.out; awake = none_awaited c (thread_at locks k) waiter.waits }
-
--- who is awake waits for no mutex
-pub awake_none : (t : ℕ) (locks : Locks) → IsAwake locks t → awaited (thread_at locks t) ≡ None
-awake_none t locks may = idle_awaits (thread_at locks t) may.awake
-
--- ---- a waiter that others' moves leave alone
-
-kept_waiter : (c k : ℕ) (before after : Locks) → IsApart before after k → IsOnCondition before c k → IsOnCondition after c k
-kept_waiter c k before after apart waiter = record {
-  waits = ap (λ (x : Option Thread). condition_of_wait (wait_of x)) apart.thread ∙ waiter.waits;
-  out = apart.out waiter.out;
-  room = λ m named. apart.room m (waiter.room m (sym (ap (λ (x : Option Thread). mutex_named (wait_of x)) apart.thread) ∙ named));
-}
+-- ---- two waiters
 
 -- who waits on different condition variables are different
 other_waiter : (c d t k : ℕ) (locks : Locks) → IsOnCondition locks c t → IsOnCondition locks d k → d ≢ c → k ≢ t
@@ -121,12 +93,6 @@ sleeper_waits t c m deadline locks may locked =
       room = λ n named. subst (λ (j : ℕ). HasRoom t (mutex_at (after_unlock m locks) j)) (sym (named_same n m _ c deadline now named)) (λ counts. below_unlock m locks (locked.counts m));
     }
 
-awake_other : (t d k : ℕ) (locks : Locks) → IsAwake locks t → IsOnCondition locks d k → k ≢ t
-awake_other t d k locks may was = λ same.
-    let own : condition_of_wait (wait_of (thread_at locks t)) ≡ Some d = subst (λ (j : ℕ). condition_of_wait (wait_of (thread_at locks j)) ≡ Some d) same was.waits in
-    let none : condition_of_wait (wait_of (thread_at locks t)) ≡ None = ap condition_of_wait may.awake in
-    let no : ⊥ = cc in no
-
 -- a thread that waited before
 sleeper_kept : (t c d m k : ℕ) (deadline : Option ℕ) (locks : Locks) → IsAwake locks t → AreLocked locks → IsOnCondition locks d k → IsOnCondition (with_thread t (λ thread. record thread { wait = Some (ConditionWait c m deadline) }) (after_unlock m locks)) d k
 sleeper_kept t c d m k deadline locks may locked was =
@@ -161,21 +127,6 @@ locked_sleep t wait locks none locked = record {
       let was = locked.waiters n k h in
       record { waits = ap awaited (pool_get-changed_other t k (λ (thread : Thread). record thread { wait = wait }) locks.threads (other_than n t k locks none was)) ∙ was.waits; out = was.out; inside = h };
   counts = locked.counts;
-}
-
--- who is awake is among no waiters
-out_by : (t c : ℕ) (syncs : Syncs) → IsAwake syncs.locks t → AreWaiting syncs → (b : Bool) → is_in t (condition_waiters syncs c) ≡ b → is_in t (condition_waiters syncs c) ≡ false
-out_by t c syncs may waiting true e = absurd (awake_other t c t syncs.locks may (waiting.waiters c t e) refl)
-out_by t c syncs may waiting false e = e
-
-out_of_mutex : (t m : ℕ) (locks : Locks) → IsAwake locks t → AreLocked locks → (b : Bool) → is_in t (waiters_of (mutex_at locks m)) ≡ b → is_in t (waiters_of (mutex_at locks m)) ≡ false
-out_of_mutex t m locks may locked true e = absurd (none_awaits m (thread_at locks t) (awake_none t locks may) (locked.waiters m t e).waits)
-out_of_mutex t m locks may locked false e = e
-
-pub awake_free : (t : ℕ) (syncs : Syncs) → IsAwake syncs.locks t → AreLocked syncs.locks → AreWaiting syncs → IsNoWaiter t syncs.mutexes syncs.conditions
-awake_free t syncs may locked waiting = record {
-  of_mutexes = λ m. out_of_mutex t m syncs.locks may locked (is_in t (waiters_of (mutex_at syncs.locks m))) refl;
-  of_conditions = λ c. out_by t c syncs may waiting (is_in t (condition_waiters syncs c)) refl;
 }
 
 -- ---- the choice

@@ -1,3 +1,4 @@
 pub mod Pool
 pub mod Tables
 pub mod Timeouts
+pub mod Visits

@@ -1,13 +1,13 @@
 -- What the coming of a deadline does to threads, line, mutexes and condition variables.
-use Rattle.std.specs.Prelude.{◌≡◌, ℕ, Bool, true, false, [], ◌∷◌, Option, Some, None}
-use Rattle.ptk_words.specs.Names.{MutexNumber, ThreadNumber}
+use Rattle.std.specs.Prelude.{◌≡◌, ℕ, Bool, true, false, not, ◌&&◌, [], ◌∷◌, Option, Some, None}
+use Rattle.ptk_words.specs.Names.{ConditionNumber, MutexNumber, ThreadNumber}
 use Rattle.ptk_words.specs.Pools.{is_in}
 use Rattle.ptk_words.specs.Faults.{errno_number}
 use Rattle.ptk_words.specs.declared.faults.Errno.TheVariants.{ETIMEDOUT}
 use Rattle.ptk_words.specs.declared.threads.Wait.{Wait}
 use Rattle.ptk_words.specs.declared.threads.Wait.TheVariants.{InputWait, SleepWait, JoinWait, MutexWait, ConditionWait, RelockWait}
 use Rattle.ptk_words_model.specs.State.{Syncs}
-use Rattle.ptk_words_model.specs.Priority.{awaited, thread_at}
+use Rattle.ptk_words_model.specs.Priority.{awaited, mutex_of_wait, thread_at}
 use Rattle.ptk_words_model.specs.Schedule.{after_wake}
 use Rattle.ptk_words_model.specs.Mutex.{mutex_at, wait_of, waiters_of}
 use Rattle.ptk_words_model.specs.Condition.{condition_waiters, after_unblock}
@@ -49,3 +49,22 @@ mutex_locked (Some (JoinWait u)) = None
 mutex_locked (Some (MutexWait m deadline)) = Some m
 mutex_locked (Some (ConditionWait c m deadline)) = None
 mutex_locked (Some (RelockWait m reply)) = None
+
+-- the mutex that a wait is for, if for one: the thread is among its waiters (pthread_mutex_lock)
+abbrev pub is_queued : Option MutexNumber → Syncs → ThreadNumber → Bool
+is_queued None syncs t = true
+is_queued (Some m) syncs t = is_in t (waiters_of (mutex_at syncs.locks m))
+
+-- the condition variable that a wait is on, if on one: the thread is among its waiters (pthread_cond_wait)
+abbrev pub is_listed : Option ConditionNumber → Syncs → ThreadNumber → Bool
+is_listed None syncs t = true
+is_listed (Some c) syncs t = is_in t (condition_waiters syncs c)
+
+-- a thread in a wait is not in the line (XSH 2.8.4)
+abbrev pub is_out : Option Wait → Syncs → ThreadNumber → Bool
+is_out None syncs t = true
+is_out (Some wait) syncs t = not (is_in t syncs.line)
+
+-- all three of a thread in this wait (own)
+abbrev pub is_blocked_in : Option Wait → Syncs → ThreadNumber → Bool
+is_blocked_in wait syncs t = is_out wait syncs t && is_queued (mutex_of_wait wait) syncs t && is_listed (condition_of_wait wait) syncs t

@@ -5,6 +5,7 @@ ghost use Rattle.std.specs.Option.{is_some};
 ghost use Rattle.ptk_words.specs.Pools.{least_free, pool_get, pool_set};
 ghost use Rattle.ptk_words_parted.specs.Parts.{part_of};
 ghost use Rattle.ptk_words_locks.specs.Conditions.{waiters_on};
+ghost use Rattle.ptk_mutex.specs.Sound.{AreSynced, IsSound};
 ghost use Rattle.ptk_cond.specs.Pool.{with_new_condition};
 
 use ptk_roster::Roster;
@@ -40,8 +41,31 @@ pub fn numbered(roster: &Roster, p: PartId, word: u32) -> Option<ConditionNo>
 
 /// A new condition variable, without waiters, at the least free number; None, and nothing changes, where no number is
 /// free (pthread_cond_init).
-#[tactic(auto, using(crate::proofs::Numbers::numbers))]
 pub fn init(roster: &mut Roster, p: PartId) -> Option<ConditionNo>
+    requires { p < length roster.old.table.threads }
+    ensures told { result ≡ least_free (part_of roster.old.conditions p) }
+    ensures roster { roster.new ≡ record roster.old { conditions = slice_set roster.old.conditions p (with_new_condition (part_of roster.old.conditions p)) } }
+    ensures ready { AreSynced p roster.old.table roster.old.lines roster.old.mutexes roster.old.conditions → AreSynced p roster.new.table roster.new.lines roster.new.mutexes roster.new.conditions }
+    ensures sound { IsSound roster.old → IsSound roster.new }
+{
+    open_free(roster, p)
+}
+
+/// The number is free (pthread_cond_destroy).
+pub fn destroy(roster: &mut Roster, p: PartId, c: ConditionNo)
+    requires partition { p < length roster.old.table.threads }
+    requires unused { waiters_on (pool_get (part_of roster.old.conditions p) c) ≡ [] }
+    ensures roster { roster.new ≡ record roster.old { conditions = slice_set roster.old.conditions p (pool_set (part_of roster.old.conditions p) c None) } }
+    ensures ready { AreSynced p roster.old.table roster.old.lines roster.old.mutexes roster.old.conditions → AreSynced p roster.new.table roster.new.lines roster.new.mutexes roster.new.conditions }
+    ensures sound { IsSound roster.old → IsSound roster.new }
+{
+    roster.close_condition(p, c);
+}
+
+/// A new condition variable, without waiters, at the least free number; None, and nothing changes, where no number is
+/// free.
+#[tactic(auto, using(crate::proofs::Numbers::numbers))]
+fn open_free(roster: &mut Roster, p: PartId) -> Option<ConditionNo>
     requires { p < length roster.old.table.threads }
     ensures told { result ≡ least_free (part_of roster.old.conditions p) }
     ensures roster { roster.new ≡ record roster.old { conditions = slice_set roster.old.conditions p (with_new_condition (part_of roster.old.conditions p)) } }
@@ -51,13 +75,4 @@ pub fn init(roster: &mut Roster, p: PartId) -> Option<ConditionNo>
         roster.open_condition(p, c);
     }
     free
-}
-
-/// The number is free (pthread_cond_destroy).
-pub fn destroy(roster: &mut Roster, p: PartId, c: ConditionNo)
-    requires partition { p < length roster.old.table.threads }
-    requires unused { waiters_on (pool_get (part_of roster.old.conditions p) c) ≡ [] }
-    ensures { roster.new ≡ record roster.old { conditions = slice_set roster.old.conditions p (pool_set (part_of roster.old.conditions p) c None) } }
-{
-    roster.close_condition(p, c);
 }

@@ -1,22 +1,25 @@
 //! A deadline that comes, and what its coming does to a thread (clock_nanosleep, pthread_mutex_timedlock,
 //! pthread_cond_timedwait).
 
-ghost use Rattle.std.specs.Prelude.{◌≡◌, ◌<◌, ◌++◌, ◌∷◌, [], length, IsSome, slice_set, false};
+ghost use Rattle.std.specs.Prelude.{◌≡◌, ◌<◌, ◌++◌, ◌∷◌, [], None, length, IsSome, slice_set, true, false};
 ghost use Rattle.ptk_words.specs.Pools.{is_in};
 ghost use Rattle.ptk_words_parted.specs.Parts.{part_of};
 ghost use Rattle.ptk_words_model.specs.Schedule.{woken_with};
 ghost use Rattle.ptk_words_model.specs.Mutex.{wait_of};
 ghost use Rattle.ptk_threads.specs.Table.{thread_in, with_changed};
-ghost use Rattle.ptk_words_locks.specs.Conditions.{IsNoWaiter};
+ghost use Rattle.ptk_words_locks.specs.Conditions.{condition_of_wait, IsNoWaiter};
+ghost use Rattle.ptk_mutex_rise.specs.Visits.{IsVisited};
+ghost use Rattle.ptk_mutex.specs.Sound.{IsSound};
 ghost use Rattle.ptk_mutex.specs.Tables.{with_threads};
 ghost use Rattle.ptk_cond.specs.Tables.{syncs_at, AreSynced};
-ghost use Rattle.ptk_cond.specs.Timeouts.{after_sync_timeout, IsBlocked};
+ghost use Rattle.ptk_cond.specs.Timeouts.{after_sync_timeout, mutex_locked, is_out, is_queued, is_listed, is_blocked_in, IsBlocked};
 
-use crate::kinds::{condition_awaited, is_sleep, mutex_locked};
+use crate::kinds::{condition_awaited, is_sleep, mutex_awaited, mutex_locked};
 use crate::signals::withdraw;
 use ptk_mutex::Mutexes;
+use ptk_mutex_slots::ThreadSet;
 use ptk_roster::Roster;
-use ptk_words::{Errno, PartId, ThreadNo};
+use ptk_words::{ConditionNo, Errno, MutexNo, PartId, ThreadNo, Wait};
 
 /// The deadline of the thread's wait comes; a thread that is in no timed wait stays.
 #[tactic(auto, using(crate::proofs::Waits::waits))]
@@ -27,6 +30,11 @@ pub fn time_out(roster: &mut Roster, mutexes: &mut Mutexes, p: PartId, t: Thread
     ensures line { roster.new.lines ≡ slice_set roster.old.lines p (after_sync_timeout t (wait_of (thread_in roster.old.table p t)) (syncs_at p roster.old.table roster.old.lines roster.old.mutexes roster.old.conditions)).line }
     ensures mutexes { roster.new.mutexes ≡ slice_set roster.old.mutexes p (after_sync_timeout t (wait_of (thread_in roster.old.table p t)) (syncs_at p roster.old.table roster.old.lines roster.old.mutexes roster.old.conditions)).mutexes }
     ensures conditions { roster.new.conditions ≡ slice_set roster.old.conditions p (after_sync_timeout t (wait_of (thread_in roster.old.table p t)) (syncs_at p roster.old.table roster.old.lines roster.old.mutexes roster.old.conditions)).conditions }
+    ensures visited { IsSome (condition_of_wait (wait_of (thread_in roster.old.table p t))) → IsVisited mutexes.new.visited (part_of roster.old.table.stored p) (part_of roster.new.table.stored p) }
+    ensures withdrawn { IsSome (mutex_locked (wait_of (thread_in roster.old.table p t))) → mutexes.new.visited ≡ 0 }
+    ensures unvisited { condition_of_wait (wait_of (thread_in roster.old.table p t)) ≡ None → mutex_locked (wait_of (thread_in roster.old.table p t)) ≡ None → mutexes.new ≡ mutexes.old }
+    ensures ready { AreSynced p roster.new.table roster.new.lines roster.new.mutexes roster.new.conditions }
+    ensures sound { IsSound roster.old → IsSound roster.new }
 {
     let wait = roster.threads().wait(p, t);
     if is_sleep(&wait) {
@@ -40,6 +48,57 @@ pub fn time_out(roster: &mut Roster, mutexes: &mut Mutexes, p: PartId, t: Thread
     }
     if let Some(c) = condition_awaited(&wait) {
         withdraw(roster, mutexes, p, t, c, reply);
+    }
+}
+
+/// Whether a thread that waits is where its wait puts it, as `time_out` asks: out of the line, and among the waiters of the
+/// mutex or the condition variable that it waits for; true of a thread that waits for nothing.
+#[tactic(auto, using(crate::proofs::Blocked::blocked))]
+pub fn is_blocked(roster: &Roster, p: PartId, t: ThreadNo) -> bool
+    requires { p < length roster.now.table.threads }
+    ensures told { result ≡ is_blocked_in (wait_of (thread_in roster.now.table p t)) (syncs_at p roster.now.table roster.now.lines roster.now.mutexes roster.now.conditions) t }
+    ensures blocked { result ≡ true → IsBlocked (syncs_at p roster.now.table roster.now.lines roster.now.mutexes roster.now.conditions) t }
+{
+    let wait = roster.threads().wait(p, t);
+    is_out(roster, p, t, &wait)
+        && is_queued(roster, p, t, mutex_awaited(&wait))
+        && is_listed(roster, p, t, condition_awaited(&wait))
+}
+
+/// Whether a thread in this wait, if it is one, is not in the line.
+fn is_out(roster: &Roster, p: PartId, t: ThreadNo, wait: &Option<Wait>) -> bool
+    requires { p < length roster.now.table.threads }
+    ensures { result ≡ is_out wait.now (syncs_at p roster.now.table roster.now.lines roster.now.mutexes roster.now.conditions) t }
+{
+    match wait {
+        Some(_) => !roster.contains(p, t),
+        None => true,
+    }
+}
+
+/// Whether the thread is among the waiters of the mutex, if there is one.
+#[tactic(auto, using(crate::proofs::Blocked::set_in))]
+fn is_queued(roster: &Roster, p: PartId, t: ThreadNo, m: Option<MutexNo>) -> bool
+    requires { p < length roster.now.table.threads }
+    ensures { result ≡ is_queued m (syncs_at p roster.now.table roster.now.lines roster.now.mutexes roster.now.conditions) t }
+{
+    let _number = t.number();
+    match m {
+        Some(m) => ThreadSet::of_all(roster.mutex_waiters(p, m).as_slice()).has(t),
+        None => true,
+    }
+}
+
+/// Whether the thread is among the waiters of the condition variable, if there is one.
+#[tactic(auto, using(crate::proofs::Blocked::set_in))]
+fn is_listed(roster: &Roster, p: PartId, t: ThreadNo, c: Option<ConditionNo>) -> bool
+    requires { p < length roster.now.table.threads }
+    ensures { result ≡ is_listed c (syncs_at p roster.now.table roster.now.lines roster.now.mutexes roster.now.conditions) t }
+{
+    let _number = t.number();
+    match c {
+        Some(c) => ThreadSet::of_all(roster.condition_waiters(p, c).as_slice()).has(t),
+        None => true,
     }
 }
 

@@ -1,6 +1,7 @@
 //! What a wait is for.
 
 ghost use Rattle.std.specs.Prelude.{◌≡◌};
+ghost use Rattle.ptk_words_model.specs.Priority.{mutex_of_wait};
 ghost use Rattle.ptk_words_locks.specs.Conditions.{condition_of_wait};
 ghost use Rattle.ptk_cond.specs.Timeouts.{is_sleep, mutex_locked};
 
@@ -32,6 +33,20 @@ pub(crate) fn mutex_locked(wait: &Option<Wait>) -> Option<MutexNo>
         | Some(Wait::JoinWait(_))
         | Some(Wait::ConditionWait(_, _, _))
         | Some(Wait::RelockWait(_, _))
+        | None => None,
+    }
+}
+
+/// The mutex of a wait for one, as a lock or after a condition wait (pthread_mutex_lock, pthread_cond_wait).
+pub(crate) fn mutex_awaited(wait: &Option<Wait>) -> Option<MutexNo>
+    ensures { result ≡ mutex_of_wait wait.now }
+{
+    match wait {
+        Some(Wait::MutexWait(m, _)) | Some(Wait::RelockWait(m, _)) => Some(*m),
+        Some(Wait::InputWait)
+        | Some(Wait::SleepWait(_))
+        | Some(Wait::JoinWait(_))
+        | Some(Wait::ConditionWait(_, _, _))
         | None => None,
     }
 }

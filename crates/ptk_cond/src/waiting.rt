@@ -6,6 +6,7 @@ ghost use Rattle.ptk_words_parted.specs.Parts.{part_of};
 ghost use Rattle.ptk_words_model.specs.Condition.{after_condition_wait};
 ghost use Rattle.ptk_words_locks.specs.Deadlines.{woken_by_unlock};
 ghost use Rattle.ptk_mutex_slots.specs.Sets.{IsSetOf};
+ghost use Rattle.ptk_mutex.specs.Sound.{IsSound};
 ghost use Rattle.ptk_mutex.specs.Tables.{locks_at, with_threads};
 ghost use Rattle.ptk_cond.specs.Tables.{syncs_at, AreSynced, IsAwake};
 
@@ -15,8 +16,8 @@ use ptk_roster::Roster;
 use ptk_words::{ConditionNo, MutexNo, PartId, ThreadNo, Tick, Wait};
 
 /// A thread that waits for nothing unlocks the mutex once, as unlock does, and is then the last waiter of the condition
-/// variable, until the deadline (a tick) if there is one (pthread_cond_wait, pthread_cond_timedwait). Told is whom the
-/// unlock woke.
+/// variable, until the deadline (a tick) if there is one (pthread_cond_wait, pthread_cond_timedwait). Returns the set of
+/// threads that the unlock woke.
 #[tactic(auto, using(crate::proofs::Steps::waits))]
 pub fn wait(
     roster: &mut Roster,
@@ -36,6 +37,8 @@ pub fn wait(
     ensures mutexes { roster.new.mutexes ≡ slice_set roster.old.mutexes p (after_condition_wait t c m deadline (syncs_at p roster.old.table roster.old.lines roster.old.mutexes roster.old.conditions)).mutexes }
     ensures conditions { roster.new.conditions ≡ slice_set roster.old.conditions p (after_condition_wait t c m deadline (syncs_at p roster.old.table roster.old.lines roster.old.mutexes roster.old.conditions)).conditions }
     ensures ready { AreSynced p roster.new.table roster.new.lines roster.new.mutexes roster.new.conditions }
+    ensures visited { mutexes.new.visited ≡ 0 }
+    ensures sound { IsSound roster.old → IsSound roster.new }
 {
     roster.await_condition(p, c, t);
     let woken = mutexes.unlock(roster, p, m);

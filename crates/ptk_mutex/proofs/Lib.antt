@@ -6,3 +6,8 @@ pub mod Steps
 pub mod Woken
 pub mod Ready
 pub mod Raised
+pub mod Apart
+pub mod Unraised
+pub mod Sound
+pub mod Awake
+pub mod Created

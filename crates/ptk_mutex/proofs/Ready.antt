@@ -71,7 +71,7 @@ set_all P (y ∷ pool) zero (suc j) x own h = h
 set_all P (y ∷ pool) (suc i) zero x own h = h
 set_all P (y ∷ pool) (suc i) (suc j) x own h = set_all P pool i j x own h
 
-pool_set_all : {A : Type 0} (P : Option A → Type 0) (pool : List (Option A)) (m n : ℕ) (x : Option A) → P x → P (pool_get pool n) → P (pool_get (pool_set pool m x) n)
+pub pool_set_all : {A : Type 0} (P : Option A → Type 0) (pool : List (Option A)) (m n : ℕ) (x : Option A) → P x → P (pool_get pool n) → P (pool_get (pool_set pool m x) n)
 pool_set_all P pool zero n x own h = h
 pool_set_all P pool (suc i) zero x own h = h
 pool_set_all P pool (suc i) (suc j) x own h = set_all P pool i j x own h

@@ -8,6 +8,7 @@ ghost use Rattle.ptk_words_model.specs.Mutex.{heir, with_soundness, after_beques
 ghost use Rattle.ptk_words_locks.specs.Deadlines.{woken_by_mutex_end, woken_by_owner_end};
 ghost use Rattle.ptk_mutex_slots.specs.Sets.{IsSetOf};
 ghost use Rattle.ptk_mutex_slots.specs.Slots.{is_robust_at};
+ghost use Rattle.ptk_mutex.specs.Sound.{IsSound};
 ghost use Rattle.ptk_mutex.specs.Tables.{locks_at, with_threads, AreReady};
 
 use crate::locking::is_owner;
@@ -18,9 +19,9 @@ use ptk_roster::Roster;
 use ptk_words::{MutexNo, PartId, Soundness, ThreadNo};
 
 impl Mutexes {
-    /// What the end of a thread makes of its mutexes, in ascending number: a robust one goes, inconsistent, to its
-    /// heir, who is told of the dead owner; any other stays locked, and nobody owns it (pthread_mutexattr_setrobust;
-    /// own choice). Told is who was woken.
+    /// Does to a thread's mutexes what the thread's end does, in ascending number: a robust one goes, inconsistent, to
+    /// its heir, whose reply is EOWNERDEAD; any other stays locked, and nobody owns it (pthread_mutexattr_setrobust; own
+    /// choice). Returns the set of threads woken.
     pub fn abandon(&mut self, roster: &mut Roster, p: PartId, t: ThreadNo) -> ThreadSet
         requires ready { AreReady p roster.old.table roster.old.lines roster.old.mutexes }
         ensures woken { IsSetOf result (woken_by_owner_end t (locks_at p roster.old.table roster.old.lines roster.old.mutexes)) }
@@ -30,19 +31,33 @@ impl Mutexes {
         ensures conditions { roster.new.conditions ≡ roster.old.conditions }
         ensures visited { self.new.visited ≡ 0 }
         ensures ready { AreReady p roster.new.table roster.new.lines roster.new.mutexes }
+        ensures sound { IsSound roster.old → IsSound roster.new }
     {
         self.visited = 0;
-        let count = roster.mutex_slots(p).len();
-        let mut woken = ThreadSet::empty();
-        for i in 0..count {
-            let heir = end_mutex(roster, p, t, MutexNo::new(i as u8 + 1));
-            woken = woken.union(ThreadSet::of_option(heir));
-        }
-        woken
+        end_all(roster, p, t)
     }
 }
 
-/// What the end of a thread makes of one mutex; told is whom that wakes.
+/// What the end of a thread makes of all its mutexes, in ascending number. Returns the set of threads woken.
+fn end_all(roster: &mut Roster, p: PartId, t: ThreadNo) -> ThreadSet
+    requires ready { AreReady p roster.old.table roster.old.lines roster.old.mutexes }
+    ensures woken { IsSetOf result (woken_by_owner_end t (locks_at p roster.old.table roster.old.lines roster.old.mutexes)) }
+    ensures threads { roster.new.table ≡ with_threads p (after_owner_end t (locks_at p roster.old.table roster.old.lines roster.old.mutexes)) roster.old.table }
+    ensures line { roster.new.lines ≡ slice_set roster.old.lines p (after_owner_end t (locks_at p roster.old.table roster.old.lines roster.old.mutexes)).line }
+    ensures mutexes { roster.new.mutexes ≡ slice_set roster.old.mutexes p (after_owner_end t (locks_at p roster.old.table roster.old.lines roster.old.mutexes)).mutexes }
+    ensures conditions { roster.new.conditions ≡ roster.old.conditions }
+    ensures ready { AreReady p roster.new.table roster.new.lines roster.new.mutexes }
+{
+    let count = roster.mutex_slots(p).len();
+    let mut woken = ThreadSet::empty();
+    for i in 0..count {
+        let heir = end_mutex(roster, p, t, MutexNo::new(i as u8 + 1));
+        woken = woken.union(ThreadSet::of_option(heir));
+    }
+    woken
+}
+
+/// What the end of a thread makes of one mutex. Returns the thread woken, if any.
 #[tactic(auto, using(crate::proofs::Moved::ends, crate::proofs::Woken::ends))]
 fn end_mutex(roster: &mut Roster, p: PartId, t: ThreadNo, m: MutexNo) -> Option<ThreadNo>
     requires ready { AreReady p roster.old.table roster.old.lines roster.old.mutexes }
@@ -64,7 +79,7 @@ fn end_mutex(roster: &mut Roster, p: PartId, t: ThreadNo, m: MutexNo) -> Option<
     }
 }
 
-/// A robust mutex is inconsistent and goes to its heir, who is told.
+/// A robust mutex is inconsistent and goes to its heir. Returns the heir, if any.
 fn bequeath(roster: &mut Roster, p: PartId, m: MutexNo) -> Option<ThreadNo>
     requires ready { AreReady p roster.old.table roster.old.lines roster.old.mutexes }
     ensures told { result ≡ heir m (with_soundness Inconsistent m (locks_at p roster.old.table roster.old.lines roster.old.mutexes)) }

@@ -16,6 +16,7 @@ ghost use Rattle.ptk_words_locks.specs.Conditions.{IsNoWaiter};
 ghost use Rattle.ptk_mutex_rise.specs.Visits.{IsVisited};
 ghost use Rattle.ptk_mutex.specs.Tables.{locks_at, with_threads, MayWait, AreReady};
 ghost use Rattle.ptk_mutex.specs.Moves.{after_lock, after_trylock, after_assignment};
+ghost use Rattle.ptk_mutex.specs.Sound.{IsSound};
 
 use crate::mutexes::{Mutexes, refresh_priorities};
 use crate::rising::make;
@@ -29,7 +30,7 @@ use ptk_words_model::LockMove;
 
 impl Mutexes {
     /// A thread that waits for no mutex locks this one, or waits for it, until the deadline (a tick) if there is one, or
-    /// is refused; which of these is told (pthread_mutex_lock, pthread_mutex_timedlock). Refused, nothing changes:
+    /// is refused (pthread_mutex_lock, pthread_mutex_timedlock). Returns which of these. Refused, nothing changes:
     /// EINVAL of a free number and of a PROTECT mutex whose ceiling is below the thread's assigned priority,
     /// ENOTRECOVERABLE of a lost mutex, EDEADLK of one's own that checks errors, EAGAIN of a recursive one at its limit.
     /// A deadline already reached is the caller's to refuse before. The line stays.
@@ -52,13 +53,14 @@ impl Mutexes {
         ensures conditions { roster.new.conditions ≡ roster.old.conditions }
         ensures visited { IsVisited self.new.visited (part_of roster.old.table.stored p) (part_of roster.new.table.stored p) }
         ensures ready { AreReady p roster.new.table roster.new.lines roster.new.mutexes }
+        ensures sound { IsSound roster.old → IsSound roster.new }
     {
         let made = self.lock_move(roster, p, t, m);
         self.visited = make(roster, p, t, m, Wait::MutexWait(m, deadline), made);
         made
     }
 
-    /// A thread that waits for no mutex locks this one, or is refused; which of these is told (pthread_mutex_trylock).
+    /// A thread that waits for no mutex locks this one, or is refused (pthread_mutex_trylock). Returns which of these.
     /// Refused, nothing changes: EINVAL of a free number and of a PROTECT mutex whose ceiling is below the thread's
     /// assigned priority, ENOTRECOVERABLE of a lost mutex, EBUSY of a locked one, EAGAIN of one's own recursive one at
     /// its limit. The line stays.
@@ -74,13 +76,14 @@ impl Mutexes {
         ensures conditions { roster.new.conditions ≡ roster.old.conditions }
         ensures visited { IsVisited self.new.visited (part_of roster.old.table.stored p) (part_of roster.new.table.stored p) }
         ensures ready { AreReady p roster.new.table roster.new.lines roster.new.mutexes }
+        ensures sound { IsSound roster.old → IsSound roster.new }
     {
         let made = trylock_move(roster, p, t, m);
         self.visited = make(roster, p, t, m, Wait::MutexWait(m, None), made);
         made
     }
 
-    /// What a lock by the thread would come to now; nothing changes (pthread_mutex_timedlock).
+    /// What a lock by the thread would do now; nothing changes (pthread_mutex_timedlock).
     #[tactic(auto, using(ptk_mutex_slots::proofs::Bare::bares))]
     pub fn lock_move(&self, roster: &Roster, p: PartId, t: ThreadNo, m: MutexNo) -> LockMove
         requires { p < length roster.now.table.threads }
@@ -93,7 +96,7 @@ impl Mutexes {
     }
 
     /// A running thread that waits for no mutex locks this one again, as after a condition wait whose deadline was
-    /// already reached: it has the mutex, or waits for it with this reply kept, or is refused; which of these is told
+    /// already reached: it has the mutex, or waits for it with this reply kept, or is refused. Returns which of these
     /// (pthread_cond_timedwait; own choice). Where it owns the mutex, the count is below the limit. Refused
     /// (ENOTRECOVERABLE of a lost mutex), nothing changes. The line stays.
     #[tactic(auto, using(crate::proofs::Moved::moves))]
@@ -116,6 +119,7 @@ impl Mutexes {
         ensures conditions { roster.new.conditions ≡ roster.old.conditions }
         ensures visited { IsVisited self.new.visited (part_of roster.old.table.stored p) (part_of roster.new.table.stored p) }
         ensures ready { AreReady p roster.new.table roster.new.lines roster.new.mutexes }
+        ensures sound { IsSound roster.old → IsSound roster.new }
     {
         let made = relock_move(roster, p, t, m);
         self.visited = make(roster, p, t, m, Wait::RelockWait(m, reply), made);
@@ -148,6 +152,7 @@ impl Mutexes {
         ensures conditions { roster.new.conditions ≡ roster.old.conditions }
         ensures visited { self.new.visited ≡ 0 }
         ensures ready { AreReady p roster.new.table roster.new.lines roster.new.mutexes }
+        ensures sound { IsSound roster.old → IsSound roster.new }
     {
         self.visited = 0;
         let marked = Change::Mark(Soundness::Consistent);
@@ -165,12 +170,13 @@ impl Mutexes {
         ensures visited { assigned_of (part_of roster.old.table.threads p) t ≤ priority → IsVisited self.new.visited (part_of roster.old.table.stored p) (part_of roster.new.table.stored p) }
         ensures fallen { priority < assigned_of (part_of roster.old.table.threads p) t → self.new.visited ≡ 0 }
         ensures ready { AreReady p roster.new.table roster.new.lines roster.new.mutexes }
+        ensures sound { IsSound roster.old → IsSound roster.new }
     {
         self.visited = reassign(roster, p, t, priority);
     }
 }
 
-/// A thread has this assigned priority, and the stored priorities are those that it then makes. Told is how many stored
+/// A thread has this assigned priority, and the stored priorities are the effective ones. Returns how many stored
 /// priorities the walk of a rise read; 0 after a fall.
 #[tactic(auto, using(crate::proofs::Moved::moves))]
 fn reassign(roster: &mut Roster, p: PartId, t: ThreadNo, priority: Priority) -> u32

@@ -1,12 +1,15 @@
 //! The state of the mutex calls, the life of numbers, and priorities that are all computed again.
 
-ghost use Rattle.std.specs.Prelude.{◌≡◌, ◌<◌, [], None, length, option_map, slice_set};
+ghost use Rattle.std.specs.Prelude.{◌≡◌, ◌<◌, false, [], None, length, option_map, slice_set};
 ghost use Rattle.ptk_words.specs.Pools.{least_free, pool_get, pool_set};
 ghost use Rattle.ptk_words_model.specs.Mutex.{new_mutex, waiters_of};
+ghost use Rattle.ptk_words_model.specs.MutexCalls.{is_locked};
 ghost use Rattle.ptk_words_model.specs.Priority.{effective_priorities};
 ghost use Rattle.ptk_words_parted.specs.Parts.{part_of};
 ghost use Rattle.ptk_mutex_slots.specs.Slots.{state_of};
 ghost use Rattle.ptk_mutex.specs.Pool.{with_new_mutex};
+ghost use Rattle.ptk_mutex.specs.Sound.{IsSound};
+ghost use Rattle.ptk_mutex.specs.Tables.{AreReady};
 
 use ptk_mutex_slots::{MutexState, recompute, slot_in};
 use ptk_roster::Roster;
@@ -16,7 +19,7 @@ use ptk_words::{MutexKind, MutexNo, PartId, Protocol, THREAD_LIMIT};
 #[derive(Drop)]
 pub struct Mutexes {
     /// How many stored priorities the walk of the last call read; 0 after one without a walk.
-    pub visited: u32,
+    pub(crate) visited: u32,
 }
 
 impl Mutexes {
@@ -27,7 +30,8 @@ impl Mutexes {
         Mutexes { visited: 0 }
     }
 
-    /// How many stored priorities the walk of the last call read; 0 after one that computed all again or changed none.
+    /// How many stored priorities the walk of the last call read, of whatever partition: as many as rose, or one more; 0
+    /// after one that computed all again or changed none.
     pub fn visited(&self) -> u32
         ensures { result ≡ self.now.visited }
     {
@@ -48,7 +52,6 @@ impl Mutexes {
 
     /// A new mutex, free and consistent, at the least free number; None, and nothing changes, where no number is free
     /// (pthread_mutex_init).
-    #[tactic(auto, using(crate::proofs::Pool::pools))]
     pub fn init(
         &mut self,
         roster: &mut Roster,
@@ -61,13 +64,11 @@ impl Mutexes {
         ensures told { result ≡ least_free (part_of roster.old.mutexes p) }
         ensures roster { roster.new ≡ record roster.old { mutexes = slice_set roster.old.mutexes p (with_new_mutex (new_mutex kind protocol is_robust) (part_of roster.old.mutexes p)) } }
         ensures visited { self.new.visited ≡ 0 }
+        ensures ready { AreReady p roster.old.table roster.old.lines roster.old.mutexes → AreReady p roster.new.table roster.new.lines roster.new.mutexes }
+        ensures sound { IsSound roster.old → IsSound roster.new }
     {
         self.visited = 0;
-        let free = roster.free_mutex(p);
-        if let Some(m) = free {
-            roster.open_mutex(p, m, kind, protocol, is_robust);
-        }
-        free
+        open_free(roster, p, kind, protocol, is_robust)
     }
 
     /// The number is free (pthread_mutex_destroy).
@@ -76,6 +77,8 @@ impl Mutexes {
         requires unused { waiters_of (pool_get (part_of roster.old.mutexes p) m) ≡ [] }
         ensures roster { roster.new ≡ record roster.old { mutexes = slice_set roster.old.mutexes p (pool_set (part_of roster.old.mutexes p) m None) } }
         ensures visited { self.new.visited ≡ 0 }
+        ensures ready { is_locked (pool_get (part_of roster.old.mutexes p) m) ≡ false → AreReady p roster.old.table roster.old.lines roster.old.mutexes → AreReady p roster.new.table roster.new.lines roster.new.mutexes }
+        ensures sound { is_locked (pool_get (part_of roster.old.mutexes p) m) ≡ false → IsSound roster.old → IsSound roster.new }
     {
         self.visited = 0;
         roster.close_mutex(p, m);
@@ -90,10 +93,31 @@ impl Mutexes {
         ensures mutexes { roster.new.mutexes ≡ roster.old.mutexes }
         ensures conditions { roster.new.conditions ≡ roster.old.conditions }
         ensures visited { self.new.visited ≡ 0 }
+        ensures sound { IsSound roster.old → IsSound roster.new }
     {
         self.visited = 0;
         refresh_priorities(roster, p);
     }
+}
+
+/// A new mutex, free and consistent, at the least free number; None, and nothing changes, where no number is free.
+#[tactic(auto, using(crate::proofs::Pool::pools))]
+fn open_free(
+    roster: &mut Roster,
+    p: PartId,
+    kind: MutexKind,
+    protocol: Protocol,
+    is_robust: bool,
+) -> Option<MutexNo>
+    requires { p < length roster.old.table.threads }
+    ensures told { result ≡ least_free (part_of roster.old.mutexes p) }
+    ensures roster { roster.new ≡ record roster.old { mutexes = slice_set roster.old.mutexes p (with_new_mutex (new_mutex kind protocol is_robust) (part_of roster.old.mutexes p)) } }
+{
+    let free = roster.free_mutex(p);
+    if let Some(m) = free {
+        roster.open_mutex(p, m, kind, protocol, is_robust);
+    }
+    free
 }
 
 /// Computes the stored priorities of a partition again.

@@ -1,4 +1,4 @@
-//! The moves after which priorities only rise: each stores what its walk along the chain raises, and tells how many
+//! The moves after which priorities only rise: each stores what its walk along the chain raises, and returns how many
 //! stored priorities that read.
 
 ghost use Rattle.std.specs.Prelude.{◌≡◌, ◌<◌, false, None, Some, length, IsSome, slice_set};

@@ -7,6 +7,7 @@ ghost use Rattle.ptk_words_model.specs.Mutex.{heir, waiters_of, soundness_of, co
 ghost use Rattle.ptk_words_locks.specs.Deadlines.{woken_by_last_unlock, woken_by_unlock};
 ghost use Rattle.ptk_mutex_slots.specs.Sets.{IsSetOf};
 ghost use Rattle.ptk_mutex_slots.specs.Changes.{SlotMayChange, IsQuiet};
+ghost use Rattle.ptk_mutex.specs.Sound.{IsSound};
 ghost use Rattle.ptk_mutex.specs.Tables.{locks_at, with_threads, with_threads_alone, HasPart, MayGet, AreReady};
 ghost use Rattle.ptk_mutex.specs.Moves.{after_change};
 
@@ -21,8 +22,7 @@ impl Mutexes {
     /// An owner unlocks its mutex once; who owns it is the caller's to test (`owns`). The last unlock hands it over to
     /// the waiter of greatest effective priority, the earliest among equals, who is woken; but a mutex that was not made
     /// consistent is lost, and every waiter is woken and told ENOTRECOVERABLE (pthread_mutex_unlock,
-    /// pthread_mutex_consistent). Told is who was woken.
-    #[tactic(auto, using(crate::proofs::Moved::moves, crate::proofs::Woken::unlocks))]
+    /// pthread_mutex_consistent). Returns the set of threads woken.
     pub fn unlock(&mut self, roster: &mut Roster, p: PartId, m: MutexNo) -> ThreadSet
         requires ready { AreReady p roster.old.table roster.old.lines roster.old.mutexes }
         ensures woken { IsSetOf result (woken_by_unlock m (locks_at p roster.old.table roster.old.lines roster.old.mutexes)) }
@@ -32,18 +32,33 @@ impl Mutexes {
         ensures conditions { roster.new.conditions ≡ roster.old.conditions }
         ensures visited { self.new.visited ≡ 0 }
         ensures ready { AreReady p roster.new.table roster.new.lines roster.new.mutexes }
+        ensures sound { IsSound roster.old → IsSound roster.new }
     {
         self.visited = 0;
-        if count(roster, p, m) > 1 {
-            alter(roster, p, m, Change::CountDown);
-            ThreadSet::empty()
-        } else {
-            unlock_last(roster, p, m)
-        }
+        unlock_once(roster, p, m)
     }
 }
 
-/// The last unlock, by what the mutex guards; told is who was woken.
+/// A count above 1 goes down by 1, else this is the last unlock. Returns the set of threads woken.
+#[tactic(auto, using(crate::proofs::Moved::moves, crate::proofs::Woken::unlocks))]
+fn unlock_once(roster: &mut Roster, p: PartId, m: MutexNo) -> ThreadSet
+    requires ready { AreReady p roster.old.table roster.old.lines roster.old.mutexes }
+    ensures woken { IsSetOf result (woken_by_unlock m (locks_at p roster.old.table roster.old.lines roster.old.mutexes)) }
+    ensures threads { roster.new.table ≡ with_threads p (after_unlock m (locks_at p roster.old.table roster.old.lines roster.old.mutexes)) roster.old.table }
+    ensures line { roster.new.lines ≡ slice_set roster.old.lines p (after_unlock m (locks_at p roster.old.table roster.old.lines roster.old.mutexes)).line }
+    ensures mutexes { roster.new.mutexes ≡ slice_set roster.old.mutexes p (after_unlock m (locks_at p roster.old.table roster.old.lines roster.old.mutexes)).mutexes }
+    ensures conditions { roster.new.conditions ≡ roster.old.conditions }
+    ensures ready { AreReady p roster.new.table roster.new.lines roster.new.mutexes }
+{
+    if count(roster, p, m) > 1 {
+        alter(roster, p, m, Change::CountDown);
+        ThreadSet::empty()
+    } else {
+        unlock_last(roster, p, m)
+    }
+}
+
+/// The last unlock, by what the mutex guards. Returns the set of threads woken.
 #[tactic(auto, using(crate::proofs::Moved::moves, crate::proofs::Woken::unlocks))]
 fn unlock_last(roster: &mut Roster, p: PartId, m: MutexNo) -> ThreadSet
     requires ready { AreReady p roster.old.table roster.old.lines roster.old.mutexes }
@@ -60,7 +75,7 @@ fn unlock_last(roster: &mut Roster, p: PartId, m: MutexNo) -> ThreadSet
     }
 }
 
-/// The mutex is free for good, and every waiter leaves without it; told is who they are.
+/// The mutex is free for good, and every waiter leaves without it. Returns the set of these.
 fn lose(roster: &mut Roster, p: PartId, m: MutexNo) -> ThreadSet
     requires ready { AreReady p roster.old.table roster.old.lines roster.old.mutexes }
     ensures woken { IsSetOf result (waiters_of (pool_get (part_of roster.old.mutexes p) m)) }
@@ -96,7 +111,7 @@ fn refuse_all(roster: &mut Roster, p: PartId, m: MutexNo)
 }
 
 /// The mutex goes to the waiter of greatest effective priority, the earliest among equals; without one it is free.
-/// Told is that waiter.
+/// Returns that waiter.
 #[tactic(auto, using(crate::proofs::Moved::moves))]
 pub(crate) fn hand_over(roster: &mut Roster, p: PartId, m: MutexNo) -> Option<ThreadNo>
     requires ready { AreReady p roster.old.table roster.old.lines roster.old.mutexes }
@@ -114,7 +129,7 @@ pub(crate) fn hand_over(roster: &mut Roster, p: PartId, m: MutexNo) -> Option<Th
 }
 
 /// The mutex goes to a waiter, who is told so (EOWNERDEAD after a dead owner), or to nobody; the stored priorities
-/// stay. Told is that waiter.
+/// stay. Returns that waiter.
 #[tactic(auto, using(crate::proofs::Moved::moves))]
 fn hand_to(roster: &mut Roster, p: PartId, m: MutexNo, next: Option<ThreadNo>) -> Option<ThreadNo>
     requires part { HasPart p roster.old.table roster.old.lines roster.old.mutexes }

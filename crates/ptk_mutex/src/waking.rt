@@ -11,6 +11,7 @@ ghost use Rattle.ptk_words_model.specs.Mutex.{mutex_at, count_of, relock_move, a
 ghost use Rattle.ptk_words_locks.specs.Conditions.{IsNoWaiter};
 ghost use Rattle.ptk_threads.specs.Table.{thread_in, with_changed};
 ghost use Rattle.ptk_mutex_rise.specs.Visits.{IsVisited};
+ghost use Rattle.ptk_mutex.specs.Sound.{IsSound};
 ghost use Rattle.ptk_mutex.specs.Tables.{locks_at, with_threads, with_threads_alone, HasPart, IsWaiter, MayWait, AreReady};
 ghost use Rattle.ptk_mutex.specs.Moves.{after_withdrawal};
 ghost use Rattle.ptk_mutex.specs.Rises.{MayTake, is_wait};
@@ -24,7 +25,7 @@ use ptk_words_model::LockMove;
 
 impl Mutexes {
     /// A blocked thread that waits for no mutex and is not in the line has this one again, or waits for it, or goes on
-    /// without it where it can't be locked any more; unless it waits it is woken, with this reply if it is told any
+    /// without it where it can't be locked any more; unless it waits it is woken, with this reply if there is one
     /// (pthread_cond_wait; own choice). Where it still owns the mutex, the count is below the limit, since its wait
     /// unlocked it once.
     #[tactic(auto, using(crate::proofs::Moved::moves))]
@@ -47,13 +48,14 @@ impl Mutexes {
         ensures conditions { roster.new.conditions ≡ roster.old.conditions }
         ensures visited { IsVisited self.new.visited (part_of roster.old.table.stored p) (part_of roster.new.table.stored p) }
         ensures ready { AreReady p roster.new.table roster.new.lines roster.new.mutexes }
+        ensures sound { IsSound roster.old → IsSound roster.new }
     {
         let made = relock_move(roster, p, t, m);
         self.visited = make_relock(roster, p, t, m, reply, made);
         made
     }
 
-    /// A waiter leaves without the mutex and is woken, with this reply if it is told any (pthread_mutex_timedlock).
+    /// A waiter leaves without the mutex and is woken, with this reply if there is one (pthread_mutex_timedlock).
     #[tactic(auto, using(crate::proofs::Moved::moves))]
     pub fn withdraw(
         &mut self,
@@ -71,6 +73,7 @@ impl Mutexes {
         ensures conditions { roster.new.conditions ≡ roster.old.conditions }
         ensures visited { self.new.visited ≡ 0 }
         ensures ready { AreReady p roster.new.table roster.new.lines roster.new.mutexes }
+        ensures sound { IsSound roster.old → IsSound roster.new }
     {
         self.visited = 0;
         take_out(roster, p, t, m, reply);

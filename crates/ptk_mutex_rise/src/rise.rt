@@ -28,7 +28,7 @@ pub enum Rise {
     Assignment(ThreadNo),
 }
 
-/// Stores a partition's effective priorities again after a rise (pthread_mutexattr_getprotocol). Told is how many stored
+/// Stores a partition's effective priorities again after a rise (pthread_mutexattr_getprotocol). Returns how many stored
 /// priorities the walk along the chain read.
 pub fn raise(roster: &mut Roster, p: PartId, rise: Rise) -> u32
     requires partition { p < length roster.old.table.threads }
@@ -47,7 +47,7 @@ pub fn raise(roster: &mut Roster, p: PartId, rise: Rise) -> u32
 }
 
 /// A thread that waited for no mutex waits for one: where it is INHERIT, its owner's chain rises to the thread's
-/// priority, and else nothing does (pthread_mutexattr_getprotocol). Told is how many stored priorities the walk read.
+/// priority, and else nothing does (pthread_mutexattr_getprotocol). Returns how many stored priorities the walk read.
 fn rise_after_wait(roster: &mut Roster, p: PartId, t: ThreadNo) -> u32
     requires partition { p < length roster.old.table.threads }
     requires before { IsBeforeWait t (part_of roster.old.table.threads p) (part_of roster.old.mutexes p) (part_of roster.old.table.stored p) }
@@ -64,7 +64,7 @@ fn rise_after_wait(roster: &mut Roster, p: PartId, t: ThreadNo) -> u32
 }
 
 /// A thread has locked a free mutex: of a PROTECT one it has the ceiling, and of an INHERIT one the priority of whoever
-/// waits for it; its chain rises to that (pthread_mutexattr_getprotocol). Told is how many stored priorities the walk
+/// waits for it; its chain rises to that (pthread_mutexattr_getprotocol). Returns how many stored priorities the walk
 /// read.
 fn rise_after_take(roster: &mut Roster, p: PartId, t: ThreadNo, m: MutexNo) -> u32
     requires partition { p < length roster.old.table.threads }
@@ -81,7 +81,7 @@ fn rise_after_take(roster: &mut Roster, p: PartId, t: ThreadNo, m: MutexNo) -> u
     rise(roster, p, t, gained)
 }
 
-/// A thread has an assigned priority no less than before: its chain rises to it (pthread_setschedprio). Told is how many
+/// A thread has an assigned priority no less than before: its chain rises to it (pthread_setschedprio). Returns how many
 /// stored priorities the walk read.
 fn rise_after_assignment(roster: &mut Roster, p: PartId, t: ThreadNo) -> u32
     requires partition { p < length roster.old.table.threads }

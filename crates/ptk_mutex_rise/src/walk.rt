@@ -29,7 +29,7 @@ pub(crate) fn next_in(roster: &Roster, p: PartId, t: ThreadNo) -> Option<ThreadN
     next_of(slots_of(roster, p), roster.mutex_slots(p), t)
 }
 
-/// Each thread of the chain, up to the first that is at least as high, has at least this priority; told is how many
+/// Each thread of the chain, up to the first that is at least as high, has at least this priority. Returns how many
 /// stored priorities that read.
 pub(crate) fn rise(roster: &mut Roster, p: PartId, u: ThreadNo, priority: u8) -> u32
     requires partition { p < length roster.old.table.threads }
@@ -43,7 +43,7 @@ pub(crate) fn rise(roster: &mut Roster, p: PartId, u: ThreadNo, priority: u8) ->
     visited
 }
 
-/// The same, where the chain has at most so many steps; each read is counted.
+/// The same, of a chain of at most `fuel` steps; each read is counted.
 fn raise_until(
     roster: &mut Roster,
     p: PartId,

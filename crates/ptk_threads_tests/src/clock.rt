@@ -1,8 +1,19 @@
-//! The deadlines of some slots in both forms, and those of two partitions' threads, made with ample memory.
+//! Times as ticks, the deadlines of some slots in both forms, and those of two partitions' threads, made with ample
+//! memory.
 
-use ptk_clock::{PlainDeadlines, SharedDeadlines, ThreadDeadlines};
+use ptk_clock::{PlainDeadlines, SharedDeadlines, ThreadDeadlines, from_tick, to_tick};
 use ptk_words::{PartId, SlotNo, ThreadNo, Tick};
 use std::test::Fail;
+
+#[test]
+fn a_deadline_is_the_least_tick_not_before_its_time(rt: HostRuntime) {
+    // Row tick-conversion.
+    assert_eq!(rt; to_tick(0, 1), Tick::new(1));
+    assert_eq!(rt; to_tick(0, 1000), Tick::new(1));
+    assert_eq!(rt; to_tick(0, 1001), Tick::new(2));
+    assert_eq!(rt; to_tick(-1, 0), Tick::new(0));
+    assert_eq!(rt; from_tick(Tick::new(1_000_001)), (1, 1000));
+}
 
 #[test]
 fn deadlines_of_four_slots(rt: HostRuntime) -> Result<(), Fail> {

@@ -1,11 +1,14 @@
 //! Tests of the crates from `ptk_words_parted` up to `ptk_console` by their public names: each call that may want memory
-//! once, with ample memory, and both forms of the line of ready threads beside each other. They stand apart, so that
+//! once, with ample memory, both forms of the line of ready threads beside each other, and mutexes and condition
+//! variables from `build` on, without the gate. They stand apart, so that
 //! those crates are proved once and not a second time with their tests. What the other calls do, their clauses say, and
 //! the worked rows of whole runs show. There is no other code here, and nothing stands above.
 #![tactic(auto)]
 
 #[cfg(test)]
 mod clock;
+#[cfg(test)]
+mod mutexes;
 #[cfg(test)]
 mod parted;
 #[cfg(test)]

@@ -5,8 +5,9 @@ use Rattle.ptk_words_model.specs.State.{Locks}
 use Rattle.ptk_words_model.specs.Condition.{after_unblock_for}
 use Rattle.ptk_words_locks.specs.Conditions.{waiters_on, HasRoom}
 use Rattle.ptk_roster.specs.Rosters.{Rostered}
+use Rattle.ptk_mutex_rise.specs.Visits.{IsVisited}
 use Rattle.ptk_mutex.specs.Tables.{MayWait}
-use Rattle.ptk_cond.proofs.Steps.{of_part, AreSyncsMoved, ready_waiters, same_waiters, waiter_may, waiter_room, unblocked, unblocked_waiting, moved_synced}
+use Rattle.ptk_cond.proofs.Steps.{of_part, AreSyncsMoved, ready_waiters, same_waiters, waiter_may, waiter_room, unblocked, unblocked_waiting, moved_synced, AreSyncedAt, sound_moved}
 use Rattle.ptk_cond.proofs.signals.unblock.Goals as goal
 
 pub relock-requires-clause-ready : goal.relock-requires-clause-ready
@@ -36,11 +37,14 @@ returns-in-Some c =
     let moved : AreSyncsMoved c.args.p a after (after_unblock_for c.args.t c.args.c c.args.reply c.args.named (of_part c.args.p a)) =
     unblocked c.args.p c.args.t c.args.c c.in-Some.m c.args.reply c.args.named a left after c.in-Some.is c.leave_condition.ensures.roster
     (record { of_threads = c.relock.ensures.threads; of_lines = c.relock.ensures.line; of_mutexes = c.relock.ensures.mutexes }) c.relock.ensures.conditions in
+    let ready : AreSyncedAt c.args.p after = moved_synced c.args.p a after (after_unblock_for c.args.t c.args.c c.args.reply c.args.named (of_part c.args.p a)) c.requires.ready moved c.relock.ensures.ready
+    (unblocked_waiting c.args.t c.args.c c.in-Some.m c.args.reply c.args.named (of_part c.args.p a) c.in-Some.is c.requires.waiter c.requires.ready.waiting) in
     record {
       threads = moved.of_locks.of_threads;
       line = moved.of_locks.of_lines;
       mutexes = moved.of_locks.of_mutexes;
       conditions = moved.of_conditions;
-      ready = moved_synced c.args.p a after (after_unblock_for c.args.t c.args.c c.args.reply c.args.named (of_part c.args.p a)) c.requires.ready moved c.relock.ensures.ready
-          (unblocked_waiting c.args.t c.args.c c.in-Some.m c.args.reply c.args.named (of_part c.args.p a) c.in-Some.is c.requires.waiter c.requires.ready.waiting);
+      visited = subst (λ (r : Rostered). IsVisited c.relock.new.self.visited (part_of r.table.stored c.args.p) (part_of after.table.stored c.args.p)) c.leave_condition.ensures.roster c.relock.ensures.visited;
+      ready = ready;
+      sound = λ sound. sound_moved c.args.p a after (after_unblock_for c.args.t c.args.c c.args.reply c.args.named (of_part c.args.p a)) moved ready sound;
     }

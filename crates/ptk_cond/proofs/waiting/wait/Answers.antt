@@ -1,7 +1,7 @@
 use Rattle.std.proofs.Common.{ℕ, List, [], ◌∷◌, ◌++◌, subst}
 use Rattle.ptk_words.specs.Pools.{pool_get}
 use Rattle.ptk_words_parted.specs.Parts.{part_of}
-use Rattle.ptk_words_model.specs.State.{Locks}
+use Rattle.ptk_words_model.specs.State.{Locks, Syncs}
 use Rattle.ptk_words_model.specs.Mutex.{after_unlock}
 use Rattle.ptk_words_model.specs.Condition.{after_condition_wait}
 use Rattle.ptk_words_locks.specs.Conditions.{waiters_on}
@@ -11,7 +11,7 @@ use Rattle.ptk_mutex_slots.specs.Sets.{IsSetOf}
 use Rattle.ptk_mutex.specs.Tables.{locks_at}
 use Rattle.ptk_mutex.proofs.Steps.{AreMoved}
 use Rattle.ptk_cond.proofs.Waiters.{waiting_wait}
-use Rattle.ptk_cond.proofs.Steps.{of_part, AreSyncsMoved, ready_waiters, same_waiters, asleep, asleep_ready, moved_synced}
+use Rattle.ptk_cond.proofs.Steps.{of_part, AreSyncsMoved, ready_waiters, same_waiters, asleep, asleep_ready, moved_synced, AreSyncedAt, sound_moved}
 use Rattle.ptk_cond.proofs.waiting.wait.Goals as goal
 
 pub unlock-woken-requires : goal.unlock-woken-requires
@@ -30,13 +30,17 @@ returns c =
     asleep c.args.p c.args.t c.args.c c.args.m c.args.deadline c.args.roster.now joined unlocked after c.requires.ready c.requires.caller c.await_condition.ensures
     first c.unlock-woken.ensures.conditions
     (record { table = c.set_wait.ensures.table; lines = c.set_wait.ensures.lines; mutexes = c.set_wait.ensures.mutexes; conditions = c.set_wait.ensures.conditions }) in
+    let then : Syncs = after_condition_wait c.args.t c.args.c c.args.m c.args.deadline (of_part c.args.p c.args.roster.now) in
+    let ready : AreSyncedAt c.args.p after = moved_synced c.args.p c.args.roster.now after then c.requires.ready moved
+    (asleep_ready c.args.p c.args.t c.args.c c.args.m c.args.deadline c.args.roster.now joined unlocked after c.requires.ready c.requires.caller c.await_condition.ensures first c.unlock-woken.ensures.ready moved)
+    (waiting_wait c.args.t c.args.c c.args.m c.args.deadline (of_part c.args.p c.args.roster.now) c.requires.caller c.requires.ready.ready.locked c.requires.ready.waiting) in
     record {
       woken = subst (λ (l : Locks). IsSetOf c.unlock-woken.result (woken_by_unlock c.args.m l)) (same_waiters c.args.p c.args.c ks c.args.roster.now joined c.await_condition.ensures) c.unlock-woken.ensures.woken;
       threads = moved.of_locks.of_threads;
       line = moved.of_locks.of_lines;
       mutexes = moved.of_locks.of_mutexes;
       conditions = moved.of_conditions;
-      ready = moved_synced c.args.p c.args.roster.now after (after_condition_wait c.args.t c.args.c c.args.m c.args.deadline (of_part c.args.p c.args.roster.now)) c.requires.ready moved
-          (asleep_ready c.args.p c.args.t c.args.c c.args.m c.args.deadline c.args.roster.now joined unlocked after c.requires.ready c.requires.caller c.await_condition.ensures first c.unlock-woken.ensures.ready moved)
-          (waiting_wait c.args.t c.args.c c.args.m c.args.deadline (of_part c.args.p c.args.roster.now) c.requires.caller c.requires.ready.ready.locked c.requires.ready.waiting);
+      ready = ready;
+      visited = c.unlock-woken.ensures.visited;
+      sound = λ sound. sound_moved c.args.p c.args.roster.now after then moved ready sound;
     }

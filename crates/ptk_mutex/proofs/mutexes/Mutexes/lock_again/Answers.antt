@@ -8,6 +8,9 @@ use Rattle.ptk_words_model.specs.Mutex.{mutex_at, relock_move, after_move}
 use Rattle.ptk_mutex.specs.Tables.{locks_at, with_threads}
 use Rattle.ptk_mutex.proofs.Moved.{moves}
 use Rattle.ptk_mutex.proofs.Steps.{moved_ready, locked_move, line_after_move}
+use Rattle.ptk_roster.specs.Rosters.{Rostered}
+use Rattle.ptk_mutex.proofs.Apart.{relock_owned}
+use Rattle.ptk_mutex.proofs.Sound.{sound_made}
 use Rattle.ptk_mutex.proofs.mutexes.Mutexes.lock_again.Goals as goal
 
 pub returns-clause-ready : goal.returns-clause-ready
@@ -25,3 +28,21 @@ returns-clause-ready c =
       of_lines = c.make-self.ensures.line ∙ sym (set_part-same c.args.roster.now.lines c.args.p) ∙ ap (slice_set c.args.roster.now.lines c.args.p) (sym line);
       of_mutexes = mutexes;
     })
+
+pub returns-clause-sound : goal.returns-clause-sound
+returns-clause-sound c = λ sound.
+    let a : Rostered = c.args.roster.now in
+    let b : Rostered = c.make-self.new.roster in
+    let locks : Locks = locks_at c.args.p a.table a.lines a.mutexes in
+    let made : LockMove = relock_move c.args.t (mutex_at locks c.args.m) in
+    let after : Locks = after_move made c.args.t c.args.m (RelockWait c.args.m c.args.reply) locks in
+    let threads : b.table ≡ with_threads c.args.p after a.table = grind (arith, moves) in
+    let mutexes : b.mutexes ≡ slice_set a.mutexes c.args.p after.mutexes = grind (arith, moves) in
+    let line : after.line ≡ locks.line = line_after_move made c.args.t c.args.m (RelockWait c.args.m c.args.reply) locks in
+    sound_made made c.args.p c.args.t c.args.m (RelockWait c.args.m c.args.reply) a b (relock_owned c.args.t (mutex_at locks c.args.m)) c.requires.free
+    (record {
+      before = c.requires.ready;
+      moved = record { of_threads = threads; of_lines = c.make-self.ensures.line ∙ sym (set_part-same a.lines c.args.p) ∙ ap (slice_set a.lines c.args.p) (sym line); of_mutexes = mutexes };
+      conditions = c.make-self.ensures.conditions;
+      after = returns-clause-ready c;
+    }) sound

@@ -4,7 +4,7 @@ use Rattle.ptk_words_locks.specs.Deadlines.{woken_by_ends}
 use Rattle.ptk_mutex_slots.specs.Sets.{IsSetOf}
 use Rattle.ptk_mutex.specs.Tables.{locks_at}
 use Rattle.ptk_mutex.proofs.Steps.{AreEnded}
-use Rattle.ptk_mutex.proofs.mutexes.Mutexes.abandon.Given as goal
+use Rattle.ptk_mutex.proofs.ends.end_all.Given as goal
 
 abbrev pub invariant-loop-i : goal.invariant-loop-i
 invariant-loop-i l = record {

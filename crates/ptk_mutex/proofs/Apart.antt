@@ -1,32 +1,40 @@
--- What an unlock and a re-lock leave alone: threads that wait for no mutex, their absence from the line, and the room of their counts.
+-- What the calls leave alone: threads that wait for no mutex, their absence from the line, and the room of their counts; so who waits on a condition variable still does.
 use Rattle.std.specs.Fn.{iterate}
 use Rattle.std.proofs.Common.{◌≡◌, ◌≢◌, ℕ, zero, suc, ◌+◌, ◌-◌, ◌<◌, ◌≤◌, Bool, true, false, List, [], ◌∷◌, ◌++◌, length, refl, sym, ◌∙◌, ap, subst, arith, ◌⊎◌, inl, inr}
-use Rattle.std.specs.Prelude.{Option, Some, None, option_map, option_to_list, nat_lt, if◌then◌else◌}
+use Rattle.std.specs.Prelude.{Option, Some, None, option_map, option_to_list, nat_lt, nat_eq, fold, IsSome, if◌then◌else◌}
 use Rattle.std.proofs.lemmas.Bool.{cases_eq, eqb-true}
-use Rattle.ptk_words.specs.Pools.{is_in, without}
+use Rattle.ptk_words.specs.Pools.{is_in, without, pool_get, pool_set}
 use Rattle.ptk_words.specs.declared.TheConstants.{COUNT_LIMIT}
 use Rattle.ptk_words.specs.declared.threads.Thread.{Thread}
+use Rattle.ptk_words.specs.declared.threads.Wait.{Wait}
 use Rattle.ptk_words.specs.declared.threads.Wait.TheVariants.{RelockWait}
-use Rattle.ptk_words.specs.declared.faults.Errno.TheVariants.{ENOTRECOVERABLE}
+use Rattle.ptk_words.specs.declared.faults.Errno.TheVariants.{EBUSY, EINVAL, ENOTRECOVERABLE}
+use Rattle.ptk_words.specs.declared.mutexes.MutexKind.{MutexKind}
+use Rattle.ptk_words.specs.declared.mutexes.Protocol.{Protocol}
 use Rattle.ptk_words.specs.declared.mutexes.Owner.{Owner}
 use Rattle.ptk_words.specs.declared.mutexes.Owner.TheVariants.{Free, Abandoned, OwnedBy}
 use Rattle.ptk_words.specs.declared.mutexes.Soundness.{Soundness}
 use Rattle.ptk_words.specs.declared.mutexes.Soundness.TheVariants.{Consistent, Inconsistent, Unrecoverable}
-use Rattle.ptk_words_model.specs.State.{Mutex, Locks}
+use Rattle.ptk_words_model.specs.State.{Mutex, Condition, Locks}
 use Rattle.ptk_words_model.specs.declared.LockMove.{LockMove}
 use Rattle.ptk_words_model.specs.declared.LockMove.TheVariants.{Takes, Recovers, Counts, Waits, Refuses}
-use Rattle.ptk_words_model.specs.Priority.{awaited, is_owner, thread_at}
+use Rattle.ptk_words_model.specs.Priority.{assigned_priority, awaited, is_owner, mutex_of_wait, thread_at}
 use Rattle.ptk_words_model.specs.Schedule.{with_thread, at_tail_with, woken_with}
-use Rattle.ptk_words_model.specs.Mutex.{mutex_at, with_mutex, waiters_of, count_of, soundness_of, with_soundness, free_move, handed, heir, move_reply, relock_move, without_mutex_waiter, after_take, after_count, after_free, after_hand_over_to, after_hand_over, after_refusal_to, after_refusal, after_loss, after_last_unlock, after_unlock, after_relock, after_relock_move}
-use Rattle.ptk_words_locks.specs.Conditions.{HasRoom}
+use Rattle.ptk_words_model.specs.Mutex.{mutex_at, with_mutex, waiters_of, wait_of, count_of, soundness_of, with_soundness, new_mutex, owns, owner_move, own_lock_move, own_trylock_move, is_above_ceiling, lock_move, trylock_move, free_move, handed, heir, move_reply, relock_move, without_mutex_waiter, after_take, after_count, after_free, after_move, after_hand_over_to, after_hand_over, after_refusal_to, after_refusal, after_loss, after_last_unlock, after_unlock, after_relock, after_relock_move, after_bequest, after_abandonment, after_mutex_end}
+use Rattle.ptk_words_model.specs.Condition.{mutex_named}
+use Rattle.ptk_words_locks.specs.Conditions.{condition_of_wait, HasRoom, IsNoWaiter, waiters_on}
 use Rattle.ptk_words_locks.proofs.Lines.{out_push}
-use Rattle.ptk_words_locks.proofs.Conditions.{room_map}
-use Rattle.ptk_words_locks.proofs.Rooms.{counts_owner, roomy_joined}
-use Rattle.ptk_threads.proofs.Pools.{pool_get-changed, pool_get-changed_other}
-use Rattle.ptk_mutex_slots.specs.declared.slot.Change.TheVariants.{Release, Mark}
-use Rattle.ptk_mutex.specs.Tables.{AreLocked, MayGet}
+use Rattle.ptk_words_locks.proofs.Conditions.{condition_wait, room_map}
+use Rattle.ptk_words_locks.proofs.MutexPlaces.{pool_set_same}
+use Rattle.ptk_words_locks.proofs.Rooms.{counts_owner, roomy_joined, roomy_left, roomy_soundness}
+use Rattle.ptk_threads.proofs.Pools.{pool_get-changed, pool_get-changed_other, pool_get-set_other}
+use Rattle.ptk_mutex_slots.specs.declared.slot.Change.TheVariants.{Abandon, Release, Mark}
+use Rattle.ptk_mutex.specs.Tables.{AreLocked, IsWaiter, MayGet, MayWait}
+use Rattle.ptk_mutex.specs.Moves.{after_assignment, after_withdrawal}
+use Rattle.ptk_mutex.specs.Sound.{AreWaiting, IsOnCondition}
 use Rattle.ptk_mutex.proofs.Locked.{heir_may_get}
-use Rattle.ptk_mutex.proofs.Steps.{locked_change, locked_refusal}
+use Rattle.ptk_mutex.proofs.Ready.{pool_set_all}
+use Rattle.ptk_mutex.proofs.Steps.{end_of, locked_change, locked_hand_over, locked_refusal}
 
 -- ---- the moves of one mutex
 
@@ -200,12 +208,16 @@ pub apart_thread : (t k : ℕ) (f : Thread → Thread) (locks : Locks) → k ≢
 apart_thread t k f locks ne = record { thread = pool_get-changed_other t k f locks.threads ne; out = λ out. out; room = λ n room. room }
 
 -- another thread woken
-apart_woken : (t k : ℕ) (f : Thread → Thread) (locks : Locks) → k ≢ t → IsApart locks (at_tail_with f t locks) k
+pub apart_woken : (t k : ℕ) (f : Thread → Thread) (locks : Locks) → k ≢ t → IsApart locks (at_tail_with f t locks) k
 apart_woken t k f locks ne = record {
   thread = pool_get-changed_other t k f locks.threads ne;
   out = λ out. out_push t k locks.line ne out;
   room = λ n room. room;
 }
+
+-- nothing changed
+pub apart_none : (k : ℕ) (locks : Locks) → IsApart locks locks k
+apart_none k locks = record { thread = refl; out = λ out. out; room = λ n room. room }
 
 room_at : (m n k : ℕ) (before after : Locks) → IsCalm m before after → (n ≡ m) ⊎ (n ≢ m) → (HasRoom k (mutex_at before m) → HasRoom k (mutex_at after m)) → HasRoom k (mutex_at before n) → HasRoom k (mutex_at after n)
 room_at m n k before after calm (inl e) own room =
@@ -267,3 +279,198 @@ apart_move (Refuses e) t m k reply locks ne f = apart_woken t k (woken_with (opt
 -- a re-lock leaves every other thread alone
 pub apart_relock : (t m k : ℕ) (reply : Option ℕ) (locks : Locks) → k ≢ t → IsApart locks (after_relock t m reply locks) k
 apart_relock t m k reply locks ne = apart_move (relock_move t (mutex_at locks m)) t m k reply locks ne refl
+
+-- ---- a lock
+
+counted_same : (t k : ℕ) (x : Option Mutex) → owns t x ≡ true → relock_move k (option_map (λ (mutex : Mutex). record mutex { count = mutex.count + 1 }) x) ≡ Counts → k ≡ t
+counted_same t k None owned e = let no : ⊥ = cc in absurd no
+counted_same t k (Some x) owned e = owner_same x.owner t k owned (counts_owner k (record x { count = x.count + 1 }) e)
+
+-- a lock leaves every other thread alone, where its owner alone counts up
+pub apart_made : (made : LockMove) (t m k : ℕ) (wait : Wait) (locks : Locks) → k ≢ t → (made ≡ Counts → owns t (mutex_at locks m) ≡ true) → IsApart locks (after_move made t m wait locks) k
+apart_made Takes t m k wait locks ne owned = apart_mutex m k (λ (mutex : Mutex). record mutex { owner = OwnedBy t; count = 1 }) locks (λ room counts. below_taken t (mutex_at locks m))
+apart_made Recovers t m k wait locks ne owned = apart_mutex m k (λ (mutex : Mutex). record mutex { owner = OwnedBy t; count = 1 }) locks (λ room counts. below_taken t (mutex_at locks m))
+apart_made Counts t m k wait locks ne owned =
+    apart_mutex m k (λ (mutex : Mutex). record mutex { count = mutex.count + 1 }) locks (λ room counts. absurd (ne (counted_same t k (mutex_at locks m) (owned refl) counts)))
+apart_made Waits t m k wait locks ne owned =
+    let queued : Locks = with_mutex m (λ (mutex : Mutex). record mutex { waiters = mutex.waiters ++ t ∷ [] }) locks in
+    apart_more locks queued (after_move Waits t m wait locks) k
+    (apart_mutex m k (λ (mutex : Mutex). record mutex { waiters = mutex.waiters ++ t ∷ [] }) locks (room_map k (λ (mutex : Mutex). record mutex { waiters = mutex.waiters ++ t ∷ [] }) (mutex_at locks m) (roomy_joined t)))
+    (apart_thread t k (λ (thread : Thread). record thread { wait = Some wait }) queued ne)
+apart_made (Refuses e) t m k wait locks ne owned = apart_none k locks
+
+free_never : (soundness : Soundness) → free_move soundness ≡ Counts → ⊥
+free_never Consistent e = let no : ⊥ = cc in no
+free_never Inconsistent e = let no : ⊥ = cc in no
+free_never Unrecoverable e = let no : ⊥ = cc in no
+
+owned_if : (b : Bool) (own another : LockMove) → (another ≡ Counts → ⊥) → (if b then own else another) ≡ Counts → b ≡ true
+owned_if true own another never e = refl
+owned_if false own another never e = absurd (never e)
+
+owned_by : (owner : Owner) (t : ℕ) (free own another : LockMove) → (free ≡ Counts → ⊥) → (another ≡ Counts → ⊥) → owner_move owner t (record { of_free = free; of_own = own; of_another = another }) ≡ Counts → is_owner t owner ≡ true
+owned_by Free t free own another never none e = absurd (never e)
+owned_by Abandoned t free own another never none e = absurd (none e)
+owned_by (OwnedBy u) t free own another never none e = owned_if (nat_eq u t) own another none e
+
+not_refused : (b : Bool) (move : LockMove) → (if b then Refuses EINVAL else move) ≡ Counts → move ≡ Counts
+not_refused true move e = let no : ⊥ = cc in absurd no
+not_refused false move e = e
+
+-- who counts up owns the mutex, by a lock
+pub lock_owned : (locks : Locks) (t : ℕ) (x : Option Mutex) → lock_move locks t x ≡ Counts → owns t x ≡ true
+lock_owned locks t None e = let no : ⊥ = cc in absurd no
+lock_owned locks t (Some m) e =
+    owned_by m.owner t (free_move m.soundness) (own_lock_move m.kind m.count) Waits (free_never m.soundness) (λ f. let no : ⊥ = cc in no)
+    (not_refused (is_above_ceiling (assigned_priority locks t) m.protocol) _ e)
+
+-- by a trylock
+pub trylock_owned : (locks : Locks) (t : ℕ) (x : Option Mutex) → trylock_move locks t x ≡ Counts → owns t x ≡ true
+trylock_owned locks t None e = let no : ⊥ = cc in absurd no
+trylock_owned locks t (Some m) e =
+    owned_by m.owner t (free_move m.soundness) (own_trylock_move m.kind m.count) (Refuses EBUSY) (free_never m.soundness) (λ f. let no : ⊥ = cc in no)
+    (not_refused (is_above_ceiling (assigned_priority locks t) m.protocol) _ e)
+
+-- and by a re-lock
+pub relock_owned : (t : ℕ) (x : Option Mutex) → relock_move t x ≡ Counts → owns t x ≡ true
+relock_owned t None e = let no : ⊥ = cc in absurd no
+relock_owned t (Some m) e = counts_owner t m e
+
+-- ---- the other moves
+
+-- a waiter that leaves a mutex leaves alone who waits for none
+pub apart_withdrawal : (t m k : ℕ) (reply : Option ℕ) (locks : Locks) → IsWaiter locks m t → awaited (thread_at locks k) ≡ None → IsApart locks (after_withdrawal t m reply locks) k
+apart_withdrawal t m k reply locks waiter none =
+    let left : Locks = without_mutex_waiter t m locks in
+    apart_more locks left (after_withdrawal t m reply locks) k
+    (apart_mutex m k (λ (mutex : Mutex). record mutex { waiters = without t mutex.waiters }) locks (room_map k (λ (mutex : Mutex). record mutex { waiters = without t mutex.waiters }) (mutex_at locks m) (roomy_left t)))
+    (apart_woken t k (woken_with (option_to_list reply)) left (not_waiter m t k locks waiter.waits none))
+
+-- so does what a mutex guards as it is sound or not
+pub apart_soundness : (soundness : Soundness) (m k : ℕ) (locks : Locks) → IsApart locks (with_soundness soundness m locks) k
+apart_soundness soundness m k locks = apart_mutex m k (λ (mutex : Mutex). record mutex { soundness = soundness }) locks (room_map k (λ (mutex : Mutex). record mutex { soundness = soundness }) (mutex_at locks m) (roomy_soundness soundness))
+
+-- and a mutex that is taken or free
+pub apart_take : (t m k : ℕ) (locks : Locks) → IsApart locks (after_take t m locks) k
+apart_take t m k locks = apart_mutex m k (λ (mutex : Mutex). record mutex { owner = OwnedBy t; count = 1 }) locks (λ room counts. below_taken t (mutex_at locks m))
+
+pub apart_free : (m k : ℕ) (locks : Locks) → IsApart locks (after_free m locks) k
+apart_free m k locks = apart_mutex m k (λ (mutex : Mutex). record mutex { owner = Free; count = 0 }) locks (λ room counts. below_free (mutex_at locks m))
+
+abandoned_counts : (k : ℕ) (x : Option Mutex) → relock_move k (option_map (λ (mutex : Mutex). record mutex { owner = Abandoned }) x) ≡ Counts → ⊥
+abandoned_counts k None e = let no : ⊥ = cc in no
+abandoned_counts k (Some x) e = let no : ⊥ = cc in no
+
+apart_abandonment : (m k : ℕ) (locks : Locks) → IsApart locks (after_abandonment m locks) k
+apart_abandonment m k locks = apart_mutex m k (λ (mutex : Mutex). record mutex { owner = Abandoned }) locks (λ room counts. absurd (abandoned_counts k (mutex_at locks m) counts))
+
+apart_bequest : (m k : ℕ) (locks : Locks) → AreLocked locks → awaited (thread_at locks k) ≡ None → IsApart locks (after_bequest m locks) k
+apart_bequest m k locks locked none =
+    let marked : Locks = with_soundness Inconsistent m locks in
+    apart_more locks marked (after_bequest m locks) k (apart_soundness Inconsistent m k locks)
+    (apart_calm m k marked (after_hand_over m marked) (calm_hand_over m marked (locked_change (Mark Inconsistent) m locks tt locked)) none (λ room counts. below_hand_to m (heir m marked) marked))
+
+apart_either : (b : Bool) (a first second : Locks) (k : ℕ) → IsApart a first k → IsApart a second k → IsApart a (if b then first else second) k
+apart_either true a first second k one other = one
+apart_either false a first second k one other = other
+
+apart_mutex_end : (t m k : ℕ) (x : Option Mutex) (locks : Locks) → AreLocked locks → awaited (thread_at locks k) ≡ None → IsApart locks (after_mutex_end t x m locks) k
+apart_mutex_end t m k None locks locked none = apart_none k locks
+apart_mutex_end t m k (Some mutex) locks locked none =
+    apart_either (is_owner t mutex.owner) locks (if mutex.is_robust then after_bequest m locks else after_abandonment m locks) locks k
+    (apart_either mutex.is_robust locks (after_bequest m locks) (after_abandonment m locks) k (apart_bequest m k locks locked none) (apart_abandonment m k locks))
+    (apart_none k locks)
+
+locked_either : (b : Bool) (first second : Locks) → AreLocked first → AreLocked second → AreLocked (if b then first else second)
+locked_either true first second one other = one
+locked_either false first second one other = other
+
+locked_mutex_end : (t m : ℕ) (x : Option Mutex) (locks : Locks) → AreLocked locks → AreLocked (after_mutex_end t x m locks)
+locked_mutex_end t m None locks locked = locked
+locked_mutex_end t m (Some mutex) locks locked =
+    locked_either (is_owner t mutex.owner) (if mutex.is_robust then after_bequest m locks else after_abandonment m locks) locks
+    (locked_either mutex.is_robust (after_bequest m locks) (after_abandonment m locks) (locked_hand_over m (with_soundness Inconsistent m locks) (locked_change (Mark Inconsistent) m locks tt locked)) (locked_change Abandon m locks tt locked))
+    locked
+
+-- the end of an owner
+pub apart_ends : (t k : ℕ) (ms : List ℕ) (locks : Locks) → AreLocked locks → awaited (thread_at locks k) ≡ None → IsApart locks (fold (end_of t) locks ms) k
+apart_ends t k [] locks locked none = apart_none k locks
+apart_ends t k (m ∷ ms) locks locked none =
+    let first : IsApart locks (end_of t locks m) k = apart_mutex_end t m k (mutex_at locks m) locks locked none in
+    apart_more locks (end_of t locks m) (fold (end_of t) (end_of t locks m) ms) k first
+    (apart_ends t k ms (end_of t locks m) (locked_mutex_end t m (mutex_at locks m) locks locked) (ap awaited first.thread ∙ none))
+
+-- a mutex at a number, which leaves the thread room
+apart_entry : (m k : ℕ) (x : Option Mutex) (locks : Locks) → HasRoom k x → IsApart locks (record locks { mutexes = pool_set locks.mutexes m x }) k
+apart_entry m k x locks own = record {
+  thread = refl;
+  out = λ out. out;
+  room = λ n room. pool_set_all (λ (y : Option Mutex). HasRoom k y) locks.mutexes m n x own room;
+}
+
+-- so does a new one, and none
+pub apart_opened : (m k : ℕ) (kind : MutexKind) (protocol : Protocol) (is_robust : Bool) (locks : Locks) → IsApart locks (record locks { mutexes = pool_set locks.mutexes m (Some (new_mutex kind protocol is_robust)) }) k
+apart_opened m k kind protocol is_robust locks = apart_entry m k (Some (new_mutex kind protocol is_robust)) locks (λ counts. let no : ⊥ = cc in absurd no)
+
+pub apart_closed : (m k : ℕ) (locks : Locks) → IsApart locks (record locks { mutexes = pool_set locks.mutexes m None }) k
+apart_closed m k locks = apart_entry m k None locks (λ counts. let no : ⊥ = cc in absurd no)
+
+-- another thread's number is taken
+pub apart_created : (n k : ℕ) (x : Option Thread) (locks : Locks) → k ≢ n → IsApart locks (record locks { threads = pool_set locks.threads n x }) k
+apart_created n k x locks ne = record { thread = pool_get-set_other locks.threads n k x ne; out = λ out. out; room = λ m room. room }
+
+-- ---- who waits on condition variables
+
+-- it is for no mutex
+unawaited : (c : ℕ) (wait : Option Wait) → condition_of_wait wait ≡ Some c → mutex_of_wait wait ≡ None
+unawaited c wait e = ap mutex_of_wait (condition_wait c wait e).waits
+
+none_awaited : (c : ℕ) (x : Option Thread) → condition_of_wait (wait_of x) ≡ Some c → awaited x ≡ None
+none_awaited c None e = refl
+none_awaited c (Some thread) e = unawaited c thread.wait e
+
+used_by : (c : ℕ) (x : Option Thread) → condition_of_wait (wait_of x) ≡ Some c → IsSome x
+used_by c None e = let no : ⊥ = cc in absurd no
+used_by c (Some thread) e = refl
+
+-- who waits on a condition variable may re-lock a mutex
+pub may_relock : (c k : ℕ) (locks : Locks) → IsOnCondition locks c k → MayWait locks k
+may_relock c k locks waiter = record { used = used_by c (thread_at locks k) waiter.waits; out = waiter.out; awake = none_awaited c (thread_at locks k) waiter.waits }
+
+-- a waiter that others' moves leave alone
+pub kept_waiter : (c k : ℕ) (before after : Locks) → IsApart before after k → IsOnCondition before c k → IsOnCondition after c k
+kept_waiter c k before after apart waiter = record {
+  waits = ap (λ (x : Option Thread). condition_of_wait (wait_of x)) apart.thread ∙ waiter.waits;
+  out = apart.out waiter.out;
+  room = λ m named. apart.room m (waiter.room m (sym (ap (λ (x : Option Thread). mutex_named (wait_of x)) apart.thread) ∙ named));
+}
+
+-- so waiters still wait after a call that leaves each of them alone
+pub waiting_kept : (before after : Locks) (conditions : List (Option Condition)) → ((c k : ℕ) → is_in k (waiters_on (pool_get conditions c)) ≡ true → MayWait before k → IsApart before after k)
+    → AreWaiting (record { locks = before; conditions = conditions }) → AreWaiting (record { locks = after; conditions = conditions })
+waiting_kept before after conditions apart waiting = record {
+  waiters = λ c k h.
+      let was : IsOnCondition before c k = waiting.waiters c k h in
+      kept_waiter c k before after (apart c k h (may_relock c k before was)) was;
+}
+
+-- a thread that is no waiter is another than each of them
+pub other_waiter : (t c k : ℕ) (mutexes : List (Option Mutex)) (conditions : List (Option Condition)) → IsNoWaiter t mutexes conditions → is_in k (waiters_on (pool_get conditions c)) ≡ true → k ≢ t
+other_waiter t c k mutexes conditions free there = λ same.
+    let here : is_in t (waiters_on (pool_get conditions c)) ≡ true = subst (λ (j : ℕ). is_in j (waiters_on (pool_get conditions c)) ≡ true) same there in
+    let away : is_in t (waiters_on (pool_get conditions c)) ≡ false = free.of_conditions c in
+    let no : ⊥ = cc in no
+
+wait_kept : (priority : ℕ) (x : Option Thread) → wait_of (option_map (λ (thread : Thread). record thread { priority = priority }) x) ≡ wait_of x
+wait_kept priority None = refl
+wait_kept priority (Some thread) = refl
+
+-- and after another assigned priority
+pub waiting_assigned : (t priority : ℕ) (locks : Locks) (conditions : List (Option Condition)) → AreWaiting (record { locks = locks; conditions = conditions }) → AreWaiting (record { locks = after_assignment t priority locks; conditions = conditions })
+waiting_assigned t priority locks conditions waiting = record {
+  waiters = λ c k h.
+      let was : IsOnCondition locks c k = waiting.waiters c k h in
+      let same : wait_of (thread_at (after_assignment t priority locks) k) ≡ wait_of (thread_at locks k) =
+      pool_set_same wait_of locks.threads t k (option_map (λ (thread : Thread). record thread { priority = priority }) (pool_get locks.threads t)) (wait_kept priority (pool_get locks.threads t)) in
+      record { waits = ap condition_of_wait same ∙ was.waits; out = was.out; room = λ m named. was.room m (sym (ap mutex_named same) ∙ named) };
+}

@@ -1,0 +1,54 @@
+-- What the calls on mutexes and condition variables ask of the roster, and each of them keeps.
+use Rattle.std.specs.Prelude.{IsSome, ◌≡◌, ℕ, ◌<◌, Bool, true, false, ◌&&◌, not, List, length, Option, Some, None, is_none}
+use Rattle.ptk_words.specs.Names.{ThreadNumber}
+use Rattle.ptk_words.specs.Pools.{is_in}
+use Rattle.ptk_words.specs.declared.threads.Thread.{Thread}
+use Rattle.ptk_words_parted.specs.Parts.{part_of}
+use Rattle.ptk_words_model.specs.State.{Condition, Locks, Mutex, Syncs}
+use Rattle.ptk_words_model.specs.Priority.{thread_at}
+use Rattle.ptk_words_model.specs.Mutex.{mutex_at, wait_of}
+use Rattle.ptk_words_model.specs.Condition.{condition_waiters, mutex_named}
+use Rattle.ptk_words_locks.specs.Conditions.{condition_of_wait, HasRoom}
+use Rattle.ptk_threads.specs.Table.{ThreadTable}
+use Rattle.ptk_roster.specs.Rosters.{Rostered}
+use Rattle.ptk_mutex.specs.Tables.{locks_at, AreReady}
+
+-- what the condition calls read and change of a partition (own)
+abbrev pub syncs_at : ℕ → ThreadTable → List (List ℕ) → List (List (Option Mutex)) → List (List (Option Condition)) → Syncs
+syncs_at p table lines mutexes conditions = record { locks = locks_at p table lines mutexes; conditions = part_of conditions p }
+
+-- who waits on condition variable c: a thread whose wait is on it, which is not in the line, and whose re-lock has room (pthread_cond_wait)
+pub record IsOnCondition (locks : Locks) (c k : ℕ) : Type 0 where
+  pub waits : condition_of_wait (wait_of (thread_at locks k)) ≡ Some c
+  pub out : is_in k locks.line ≡ false
+  -- since its wait unlocked the mutex once
+  pub room : (m : ℕ) → mutex_named (wait_of (thread_at locks k)) ≡ Some m → HasRoom k (mutex_at locks m)
+
+-- every waiter waits on its condition variable (own)
+pub record AreWaiting (syncs : Syncs) : Type 0 where
+  pub waiters : (c k : ℕ) → is_in k (condition_waiters syncs c) ≡ true → IsOnCondition syncs.locks c k
+
+-- what the condition calls need of the tables at a partition, and what they leave: what the mutex calls need, and waiters that wait (own)
+pub record AreSynced (p : ℕ) (table : ThreadTable) (lines : List (List ℕ)) (mutexes : List (List (Option Mutex))) (conditions : List (List (Option Condition))) : Type 0 where
+  pub ready : AreReady p table lines mutexes
+  pub of_conditions : p < length conditions
+  pub waiting : AreWaiting (syncs_at p table lines mutexes conditions)
+
+-- each partition is as all calls need it, and its stored priorities are the effective ones (own)
+pub record IsSound (roster : Rostered) : Type 0 where
+  pub synced : (p : ℕ) → p < length roster.table.threads → AreSynced p roster.table roster.lines roster.mutexes roster.conditions
+
+-- a thread that may begin to wait on a condition variable: it is in use, not in the line, and waits for nothing (pthread_cond_wait)
+pub record IsAwake (locks : Locks) (t : ℕ) : Type 0 where
+  pub used : IsSome (thread_at locks t)
+  pub out : is_in t locks.line ≡ false
+  pub awake : wait_of (thread_at locks t) ≡ None
+
+-- a thread in use that waits for nothing (XSH 2.8.4)
+abbrev pub is_idle : Option Thread → Bool
+is_idle None = false
+is_idle (Some thread) = is_none thread.wait
+
+-- the thread may begin to wait: it is in use, waits for nothing, and is not in the line (pthread_cond_wait)
+abbrev pub is_awake : Locks → ThreadNumber → Bool
+is_awake locks t = is_idle (thread_at locks t) && not (is_in t locks.line)
