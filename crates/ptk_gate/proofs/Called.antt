@@ -16,10 +16,11 @@ use Rattle.ptk_words_locks.specs.Locks.{is_ready}
 use Rattle.ptk_words_well.specs.Well.{IsWell}
 use Rattle.ptk_words_well.proofs.Waits.{waits_not_ready}
 use Rattle.ptk_words_well.proofs.Decisions.{runner_runs, well_after_call}
-use Rattle.ptk_gate_pools.specs.Kept.{Kept, part_at, put_part, limits_at}
+use Rattle.ptk_gate_pools.specs.Kept.{part_at, limits_at}
+use Rattle.ptk_gate_pools.specs.Held.{Held, held, all_of, limits_here}
 use Rattle.ptk_gate.specs.Whole.{AreWhole}
-use Rattle.ptk_gate.specs.Answers.{registers_answer, runner_answer, call_answer}
-use Rattle.ptk_gate.proofs.Wholes.{are_whole_put, well_at}
+use Rattle.ptk_gate.specs.Answers.{runner_answer, call_answer}
+use Rattle.ptk_gate.proofs.Wholes.{whole_lifted, well_at}
 
 -- ---- the running thread
 
@@ -35,15 +36,15 @@ pub ruleset called = (running_not_waiting)
 
 -- ---- calls
 
-whole_called : (p tick : ℕ) (r : Runner) (kept new : Kept) → runner_of (part_at p kept) ≡ Some r → new ≡ put_part p (registers_answer (limits_at p kept) tick r.number r.thread.cpu (part_at p kept)).part kept → AreWhole kept → p < length kept.limits → AreWhole new
-whole_called p tick r kept new runs e are lt =
-    are_whole_put p (registers_answer (limits_at p kept) tick r.number r.thread.cpu (part_at p kept)).part kept new e are lt
-    (well_after_call (limits_at p kept) tick r.number r.thread.cpu (part_at p kept) (runner_runs (part_at p kept) r runs) (well_at p kept are lt))
-
-whole_by : (p tick : ℕ) (o : Option Runner) (kept new : Kept) → runner_of (part_at p kept) ≡ o → new ≡ put_part p (runner_answer o (limits_at p kept) tick (part_at p kept)).part kept → AreWhole kept → p < length kept.limits → AreWhole new
-whole_by p tick None kept new runs e are lt = are_whole_put p (part_at p kept) kept new e are lt (well_at p kept are lt)
-whole_by p tick (Some r) kept new runs e are lt = whole_called p tick r kept new runs e are lt
+well_called : (limits : Limits) (tick : ℕ) (o : Option Runner) (s : Part) → runner_of s ≡ o → IsWell limits s → IsWell limits (runner_answer o limits tick s).part
+well_called limits tick None s runs well = well
+well_called limits tick (Some r) s runs well = well_after_call limits tick r.number r.thread.cpu s (runner_runs s r runs) well
 
 -- what the call of the running thread leaves is whole
-pub whole_call : (p tick : ℕ) (kept new : Kept) → new ≡ put_part p (call_answer (limits_at p kept) tick (part_at p kept)).part kept → AreWhole kept → p < length kept.limits → AreWhole new
-whole_call p tick kept new e are lt = whole_by p tick (runner_of (part_at p kept)) kept new refl e are lt
+pub whole_call : (p tick : ℕ) (pools taken new : Held) → taken ≡ held p (all_of pools) → new ≡ record taken { here = (call_answer (limits_here taken) tick taken.here).part } → AreWhole (all_of pools) → p < length pools.elsewhere.limits → AreWhole (all_of new)
+whole_call p tick pools taken new e moved are lt =
+    let s : Part = part_at p (all_of pools) in
+    whole_lifted p (λ limits u. (call_answer limits tick u).part) pools taken new e moved are lt
+    (well_called (limits_at p (all_of pools)) tick (runner_of s) s refl (well_at p (all_of pools) are lt))
+
+pub ruleset whole_calls = (whole_call, well_at)

@@ -18,19 +18,16 @@ use Rattle.ptk_words_well.specs.Well.{IsWell}
 use Rattle.ptk_words_well.proofs.Parts.{well_memory, well_halt}
 use Rattle.ptk_words_well.proofs.Starts.{well_least_free}
 use Rattle.ptk_console.specs.ConsoleTable.{no_limits}
-use Rattle.ptk_gate_pools.specs.Kept.{Kept, part_at, put_part, limits_at}
+use Rattle.ptk_gate_pools.specs.Kept.{part_at, limits_at}
+use Rattle.ptk_gate_pools.specs.Held.{Held, held, all_of, limits_here}
 use Rattle.ptk_gate_pools.specs.Moves.{with_memory}
-use Rattle.ptk_gate_pools.proofs.Parted.{part_at-put, put_part-put}
-use Rattle.ptk_gate.specs.Whole.{AreWhole}
-use Rattle.ptk_gate.proofs.Wholes.{are_whole_put, well_at}
+use Rattle.ptk_gate_pools.proofs.Hands.{lowered}
+use Rattle.ptk_gate.specs.Whole.{AreWhole, IsBlank}
+use Rattle.ptk_gate.proofs.Wholes.{whole_lifted, well_at}
 
 -- memory with text and data at its start
 abbrev pub written : List ℕ → List ℕ → List ℕ → List ℕ
 written text initial memory = text ++ (initial ++ drop (length text + length initial) memory)
-
--- the partition has no image yet
-abbrev pub IsBlank : Limits → Part → Type 0
-IsBlank limits s = s ≡ empty_part limits s.console.coming
 
 fits_room : (limits : Limits) (image : ImageParts) → fits limits image ≡ true → length image.text + length image.«data» + image.bss ≤ limits.memory - limits.threads * limits.stack
 fits_room limits image e = ltb-false _ _ (not-true _ e)
@@ -74,22 +71,11 @@ pub record IsFilled (limits : Limits) (s : Part) : Type 0 where
   pub well : IsWell limits s
   pub free : least_free s.threads ≡ Some 1
 
-pub filled_at : (p : ℕ) (image : ImageParts) (now mid : Kept) → AreWhole now → p < length now.limits → IsBlank (limits_at p now) (part_at p now) → fits (limits_at p now) image ≡ true
-    → mid ≡ put_part p (with_memory (written image.text image.«data» (part_at p now).memory) (part_at p now)) now → (part_at p mid ≡ with_memory (memory_of (limits_at p now) image) (part_at p now)) × IsFilled (limits_at p mid) (part_at p mid)
-filled_at p image now mid are lt blank e first =
-    let limits : Limits = limits_at p now in
-    let s : Part = part_at p now in
-    let at : part_at p mid ≡ with_memory (memory_of limits image) s =
-    ap (part_at p) first ∙ part_at-put (length now.limits) p (with_memory (written image.text image.«data» s.memory) s) now are.wells.parts lt
-    ∙ ap (λ memory. with_memory memory s) (written_is limits image s blank) in
-    let same : limits_at p mid ≡ limits = ap (limits_at p) first in
+pub filled : (limits : Limits) (image : ImageParts) (s : Part) → IsWell limits s → 1 ≤ limits.threads → IsBlank limits s → fits limits image ≡ true → IsFilled limits (with_memory (written image.text image.«data» s.memory) s)
+filled limits image s well some blank e =
     let size : length (memory_of limits image) ≡ length s.memory = length-memory_of limits image e ∙ sym (length-replicate limits.memory 0) ∙ sym (ap (λ (part : Part). length part.memory) blank) in
-    let well : IsWell limits (with_memory (memory_of limits image) s) = well_memory limits (memory_of limits image) s size (well_at p now are lt) in
-    let within : IsWithinLimits limits = are.ranges p no_limits lt in
-    let free : least_free s.threads ≡ Some 1 = ap (λ (part : Part). least_free part.threads) blank ∙ free_first limits.threads within.threads_from in
-    let Q : Part → Type 0 = λ part. IsFilled limits part in
-    let P : Limits → Type 0 = λ l. IsFilled l (part_at p mid) in
-    (at, subst P (sym same) (subst Q (sym at) (record { well = well; free = free })))
+    let free : least_free s.threads ≡ Some 1 = ap (λ (part : Part). least_free part.threads) blank ∙ free_first limits.threads some in
+    rw (written_is limits image s blank) (record { well = well_memory limits (memory_of limits image) s size well; free = free })
 
 fitting : (limits : Limits) (image : ImageParts) (s : Part) (b : Bool) → fits limits image ≡ b → b ≡ true → with_new_thread limits 1 (main_thread limits image) (record s { memory = memory_of limits image }) ≡ with_image limits (Ok image) s
 fitting limits image s b e f = rw (e ∙ f) refl
@@ -98,51 +84,46 @@ unfit : (limits : Limits) (image : ImageParts) (s : Part) → fits limits image 
 unfit limits image s e = rw e refl
 
 -- main starts
-pub loaded : (p t : ℕ) (image : ImageParts) (thread : Thread) (now mid new : Kept) → AreWhole now → p < length now.limits → IsBlank (limits_at p now) (part_at p now) → fits (limits_at p now) image ≡ true → thread ≡ main_thread (limits_at p now) image → t ≡ 1
-    → mid ≡ put_part p (with_memory (written image.text image.«data» (part_at p now).memory) (part_at p now)) now → new ≡ put_part p (with_new_thread (limits_at p mid) t thread (part_at p mid)) mid
-    → new ≡ put_part p (with_image (limits_at p now) (Ok image) (part_at p now)) now
-loaded p t image thread now mid new are lt blank e main one first second =
-    let limits : Limits = limits_at p now in
-    let s : Part = part_at p now in
-    let same : limits_at p mid ≡ limits = ap (limits_at p) first in
-    let at : part_at p mid ≡ with_memory (memory_of limits image) s = (filled_at p image now mid are lt blank e first).0 in
-    let begun : Part = with_new_thread limits 1 (main_thread limits image) (with_memory (memory_of limits image) s) in
-    second
-    ∙ ap (λ (k : ℕ). put_part p (with_new_thread (limits_at p mid) k thread (part_at p mid)) mid) one
-    ∙ ap (λ (l : Limits). put_part p (with_new_thread l 1 thread (part_at p mid)) mid) same
-    ∙ ap (λ (x : Thread). put_part p (with_new_thread limits 1 x (part_at p mid)) mid) main
-    ∙ ap (λ (part : Part). put_part p (with_new_thread limits 1 (main_thread limits image) part) mid) at
-    ∙ ap (put_part p begun) first
-    ∙ put_part-put p begun (with_memory (written image.text image.«data» s.memory) s) now
-    ∙ ap (λ (part : Part). put_part p part now) (fitting limits image s true e refl)
-
-pub loaded_whole : (p t : ℕ) (image : ImageParts) (thread : Thread) (now mid new : Kept) → AreWhole now → p < length now.limits → IsBlank (limits_at p now) (part_at p now) → fits (limits_at p now) image ≡ true → thread ≡ main_thread (limits_at p now) image → t ≡ 1
-    → mid ≡ put_part p (with_memory (written image.text image.«data» (part_at p now).memory) (part_at p now)) now → new ≡ put_part p (with_new_thread (limits_at p mid) t thread (part_at p mid)) mid → AreWhole new
-loaded_whole p t image thread now mid new are lt blank e main one first second =
-    let limits : Limits = limits_at p now in
-    let s : Part = part_at p now in
-    let both = filled_at p image now mid are lt blank e first in
-    let same : limits_at p mid ≡ limits = ap (limits_at p) first in
-    let P : Limits → Type 0 = λ l. IsFilled l (part_at p mid) in
-    let filled : IsFilled limits (part_at p mid) = subst P same both.1 in
-    let Q : Part → Type 0 = λ part. IsFilled limits part in
-    let ready : IsFilled limits (with_memory (memory_of limits image) s) = subst Q both.0 filled in
-    let well : IsWell limits (with_new_thread limits 1 (main_thread limits image) (with_memory (memory_of limits image) s)) =
-    well_least_free limits 1 (main_thread limits image) (with_memory (memory_of limits image) s) ready.free (record { wait = refl; joiner = refl; ended = refl; used = refl }) ready.well in
-    let R : Part → Type 0 = λ part. IsWell limits part in
-    are_whole_put p (with_image limits (Ok image) s) now new (loaded p t image thread now mid new are lt blank e main one first second) are lt (subst R (fitting limits image s true e refl) well)
+pub loaded : (limits : Limits) (image : ImageParts) (s : Part) → IsBlank limits s → fits limits image ≡ true
+    → with_new_thread limits 1 (main_thread limits image) (with_memory (written image.text image.«data» s.memory) s) ≡ with_image limits (Ok image) s
+loaded limits image s blank e = rw (written_is limits image s blank) (fitting limits image s true e refl)
 
 -- a refused image: the partition is halted as it stands, since no thread runs in it
-pub refused : (p : ℕ) (fault : ImageFault) (now new : Kept) → IsBlank (limits_at p now) (part_at p now) → new ≡ put_part p (with_halt (Refused fault) (part_at p now)) now → new ≡ put_part p (with_image (limits_at p now) (Err fault) (part_at p now)) now
-refused p fault now new blank e =
-    e ∙ ap (λ running. put_part p (record (part_at p now) { status = Refused fault; running = running }) now) (sym (ap (λ (part : Part). part.running) blank))
+pub refused : (limits : Limits) (fault : ImageFault) (s : Part) → IsBlank limits s → with_halt (Refused fault) s ≡ with_image limits (Err fault) s
+refused limits fault s blank = ap (λ running. record s { status = Refused fault; running = running }) (sym (ap (λ (part : Part). part.running) blank))
 
-pub refused_unfit : (p : ℕ) (image : ImageParts) (now new : Kept) → IsBlank (limits_at p now) (part_at p now) → fits (limits_at p now) image ≡ false → new ≡ put_part p (with_halt (Refused Unfit) (part_at p now)) now
-    → new ≡ put_part p (with_image (limits_at p now) (Ok image) (part_at p now)) now
-refused_unfit p image now new blank e second = refused p Unfit now new blank second ∙ ap (λ (part : Part). put_part p part now) (unfit (limits_at p now) image (part_at p now) e)
+pub refused_unfit : (limits : Limits) (image : ImageParts) (s : Part) → IsBlank limits s → fits limits image ≡ false → with_halt (Refused Unfit) s ≡ with_image limits (Ok image) s
+refused_unfit limits image s blank e = refused limits Unfit s blank ∙ unfit limits image s e
 
-pub refused_whole : (p : ℕ) (fault : ImageFault) (now new : Kept) → new ≡ put_part p (with_halt (Refused fault) (part_at p now)) now → AreWhole now → p < length now.limits → AreWhole new
-refused_whole p fault now new e are lt =
-    are_whole_put p (with_halt (Refused fault) (part_at p now)) now new e are lt (well_halt (limits_at p now) (Refused fault) (part_at p now) (well_at p now are lt))
+-- ---- the tables stay whole
 
-pub ruleset refusals = (refused_whole)
+well_loaded : (limits : Limits) (image : ImageParts) (s : Part) (b : Bool) → fits limits image ≡ b → IsWell limits s → 1 ≤ limits.threads → IsBlank limits s → IsWell limits (with_image limits (Ok image) s)
+well_loaded limits image s false e well some blank =
+    subst (λ (part : Part). IsWell limits part) (refused_unfit limits image s blank e) (well_halt limits (Refused Unfit) s well)
+well_loaded limits image s true e well some blank =
+    let memory : Part = with_memory (written image.text image.«data» s.memory) s in
+    let ready : IsFilled limits memory = filled limits image s well some blank e in
+    subst (λ (part : Part). IsWell limits part) (loaded limits image s blank e)
+    (well_least_free limits 1 (main_thread limits image) memory ready.free (record { wait = refl; joiner = refl; ended = refl; used = refl }) ready.well)
+
+pub whole_loaded : (p : ℕ) (image : ImageParts) (pools taken new : Held) → taken ≡ held p (all_of pools) → new ≡ record taken { here = with_image (limits_here taken) (Ok image) taken.here } → AreWhole (all_of pools) → p < length pools.elsewhere.limits → IsBlank (limits_at p (all_of pools)) (part_at p (all_of pools)) → AreWhole (all_of new)
+whole_loaded p image pools taken new e moved are lt blank =
+    let within : IsWithinLimits (limits_at p (all_of pools)) = are.ranges p no_limits lt in
+    whole_lifted p (λ limits s. with_image limits (Ok image) s) pools taken new e moved are lt
+    (well_loaded (limits_at p (all_of pools)) image (part_at p (all_of pools)) (fits (limits_at p (all_of pools)) image) refl (well_at p (all_of pools) are lt) within.threads_from blank)
+
+pub whole_refused : (p : ℕ) (fault : ImageFault) (pools taken new : Held) → taken ≡ held p (all_of pools) → new ≡ record taken { here = with_image (limits_here taken) (Err fault) taken.here } → AreWhole (all_of pools) → p < length pools.elsewhere.limits → IsBlank (limits_at p (all_of pools)) (part_at p (all_of pools)) → AreWhole (all_of new)
+whole_refused p fault pools taken new e moved are lt blank =
+    let s : Part = part_at p (all_of pools) in
+    whole_lifted p (λ limits u. with_image limits (Err fault) u) pools taken new e moved are lt
+    (subst (λ (part : Part). IsWell (limits_at p (all_of pools)) part) (refused (limits_at p (all_of pools)) fault s blank) (well_halt (limits_at p (all_of pools)) (Refused fault) s (well_at p (all_of pools) are lt)))
+
+-- there is room for a thread in each partition
+pub some_threads : (p : ℕ) (pools taken : Held) → taken ≡ held p (all_of pools) → AreWhole (all_of pools) → p < length pools.elsewhere.limits → 1 ≤ (limits_here taken).threads
+some_threads p pools taken e are lt =
+    let within : IsWithinLimits (limits_at p (all_of pools)) = are.ranges p no_limits lt in
+    lowered p (λ limits s. 1 ≤ limits.threads) (all_of pools) taken e within.threads_from
+
+pub ruleset loads = (whole_loaded, some_threads, well_at)
+
+pub ruleset refusals = (whole_refused)

@@ -12,10 +12,12 @@ use Rattle.ptk_words_model.specs.Run.{is_active}
 use Rattle.ptk_threads.specs.Registers.{with_pc}
 use Rattle.ptk_words_well.specs.Well.{IsWell}
 use Rattle.ptk_words_well.proofs.Threads.{well_cpu}
-use Rattle.ptk_gate_pools.specs.Kept.{Kept, part_at, put_part, limits_at}
+use Rattle.ptk_gate_pools.specs.Kept.{part_at, limits_at}
+use Rattle.ptk_gate_pools.specs.Held.{Held, held, all_of}
+use Rattle.ptk_gate_pools.proofs.Hands.{lifted}
 use Rattle.ptk_gate_pools.proofs.Parted.{part_at-put}
 use Rattle.ptk_gate.specs.Whole.{AreWhole}
-use Rattle.ptk_gate.proofs.Wholes.{active_at, are_whole_put, well_at}
+use Rattle.ptk_gate.proofs.Wholes.{active_at, whole_lifted, well_at}
 
 -- the entry of the number is this
 abbrev with_entry : ℕ → Option Thread → Part → Part
@@ -33,24 +35,29 @@ well_passed_by limits t pc s None e runs well = absurd (let no : ⊥ = cc (well.
 well_passed_by limits t pc s (Some thread) e runs well =
     subst (λ (after : Part). IsWell limits after) (sym (passed_as t pc thread s e)) (well_cpu limits t (record thread.cpu { pc = pc }) s well)
 
-pub whole_passed : (p t pc : ℕ) (kept new : Kept) → new ≡ put_part p (with_locks (with_thread t (with_pc pc)) (part_at p kept)) kept → AreWhole kept → p < length kept.limits → (part_at p kept).running ≡ Some t → AreWhole new
-whole_passed p t pc kept new e are lt runs =
-    let s : Part = part_at p kept in
-    are_whole_put p (with_locks (with_thread t (with_pc pc)) s) kept new e are lt (well_passed_by (limits_at p kept) t pc s (thread_at s.locks t) refl runs (well_at p kept are lt))
+pub whole_passed : (p t pc : ℕ) (pools taken new : Held) → taken ≡ held p (all_of pools) → new ≡ record taken { here = with_locks (with_thread t (with_pc pc)) taken.here } → AreWhole (all_of pools) → p < length pools.elsewhere.limits → (part_at p (all_of pools)).running ≡ Some t → AreWhole (all_of new)
+whole_passed p t pc pools taken new e moved are lt runs =
+    let s : Part = part_at p (all_of pools) in
+    whole_lifted p (λ limits u. with_locks (with_thread t (with_pc pc)) u) pools taken new e moved are lt
+    (well_passed_by (limits_at p (all_of pools)) t pc s (thread_at s.locks t) refl runs (well_at p (all_of pools) are lt))
 
-pub passed_running : (p t pc : ℕ) (kept new : Kept) → new ≡ put_part p (with_locks (with_thread t (with_pc pc)) (part_at p kept)) kept → AreWhole kept → p < length kept.limits → (part_at p kept).running ≡ Some t
-    → IsSome (part_at p new).running
-passed_running p t pc kept new e are lt runs =
-    let s : Part = with_locks (with_thread t (with_pc pc)) (part_at p kept) in
-    let at : part_at p new ≡ s = ap (part_at p) e ∙ part_at-put (length kept.limits) p s kept are.wells.parts lt in
-    subst (λ (part : Part). IsSome part.running) (sym at) (subst IsSome (sym runs) refl)
+-- the part that is left
+passed_part : (p t pc : ℕ) (pools taken new : Held) → taken ≡ held p (all_of pools) → new ≡ record taken { here = with_locks (with_thread t (with_pc pc)) taken.here } → AreWhole (all_of pools) → p < length pools.elsewhere.limits
+    → part_at p (all_of new) ≡ with_locks (with_thread t (with_pc pc)) (part_at p (all_of pools))
+passed_part p t pc pools taken new e moved are lt =
+    ap (part_at p) (lifted p (λ limits u. with_locks (with_thread t (with_pc pc)) u) (all_of pools) taken new e moved)
+    ∙ part_at-put (length pools.elsewhere.limits) p (with_locks (with_thread t (with_pc pc)) (part_at p (all_of pools))) (all_of pools) are.wells.parts lt
 
-pub passed_active : (p t pc : ℕ) (kept new : Kept) → new ≡ put_part p (with_locks (with_thread t (with_pc pc)) (part_at p kept)) kept → AreWhole kept → p < length kept.limits → (part_at p kept).running ≡ Some t
-    → is_active (part_at p new).status ≡ true
-passed_active p t pc kept new e are lt runs =
-    let s : Part = with_locks (with_thread t (with_pc pc)) (part_at p kept) in
-    let at : part_at p new ≡ s = ap (part_at p) e ∙ part_at-put (length kept.limits) p s kept are.wells.parts lt in
-    ap (λ (part : Part). is_active part.status) at
-    ∙ active_at (limits_at p kept) (part_at p kept) (is_active (part_at p kept).status) (well_at p kept are lt) (subst IsSome (sym runs) refl) refl
+pub passed_running : (p t pc : ℕ) (pools taken new : Held) → taken ≡ held p (all_of pools) → new ≡ record taken { here = with_locks (with_thread t (with_pc pc)) taken.here } → AreWhole (all_of pools) → p < length pools.elsewhere.limits → (part_at p (all_of pools)).running ≡ Some t
+    → IsSome (part_at p (all_of new)).running
+passed_running p t pc pools taken new e moved are lt runs =
+    subst (λ (part : Part). IsSome part.running) (sym (passed_part p t pc pools taken new e moved are lt)) (subst IsSome (sym runs) refl)
+
+pub passed_active : (p t pc : ℕ) (pools taken new : Held) → taken ≡ held p (all_of pools) → new ≡ record taken { here = with_locks (with_thread t (with_pc pc)) taken.here } → AreWhole (all_of pools) → p < length pools.elsewhere.limits → (part_at p (all_of pools)).running ≡ Some t
+    → is_active (part_at p (all_of new)).status ≡ true
+passed_active p t pc pools taken new e moved are lt runs =
+    let s : Part = part_at p (all_of pools) in
+    ap (λ (part : Part). is_active part.status) (passed_part p t pc pools taken new e moved are lt)
+    ∙ active_at (limits_at p (all_of pools)) s (is_active s.status) (well_at p (all_of pools) are lt) (subst IsSome (sym runs) refl) refl
 
 pub ruleset passing = (whole_passed, passed_running, passed_active)

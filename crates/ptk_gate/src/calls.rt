@@ -6,6 +6,7 @@ ghost use Rattle.ptk_words_model.specs.Decision.{invocation};
 ghost use Rattle.ptk_words_model.specs.Run.{is_active};
 ghost use Rattle.ptk_words_well.specs.Well.{IsWell};
 ghost use Rattle.ptk_gate_pools.specs.Kept.{part_at, put_part, limits_at};
+ghost use Rattle.ptk_gate_pools.specs.Held.{limits_here};
 ghost use Rattle.ptk_gate.specs.Answers.{call_answer};
 
 use crate::tables::Tables;
@@ -30,6 +31,7 @@ use ptk_words_model::{Invocation, Reply};
 /// tick at which the step begins. The reply is what the call came to; ENOSYS of a number that is no call. The pc is
 /// already past the ECALL and stays, save that an unwinding puts the return gate there. A refusal changes a0 alone, and
 /// leaves the mutex that a static initialiser set up; no other partition changes.
+#[tactic(auto, using(ptk_gate_pools::proofs::Hands::lifting, crate::proofs::Called::whole_calls))]
 pub fn call(tables: &mut Tables, p: PartId, tick: Tick) -> Reply
     requires partition { p < length tables.old.limits }
     requires active { is_active (part_at p tables.old).status ≡ true }
@@ -37,32 +39,41 @@ pub fn call(tables: &mut Tables, p: PartId, tick: Tick) -> Reply
     ensures told { result ≡ (call_answer (limits_at p tables.old) tick (part_at p tables.old)).reply }
     ensures moved { tables.new ≡ put_part p (call_answer (limits_at p tables.old) tick (part_at p tables.old)).part tables.old }
 {
-    match tables.pools.running(p) {
-        Some(caller) => answer(&mut tables.pools, p, tick, caller),
+    tables.pools.take(p);
+    make_call(&mut tables.pools, tick)
+}
+
+/// Carries out the call of the running thread of the partition in hand.
+fn make_call(pools: &mut Pools, tick: Tick) -> Reply
+    requires well { IsWell (limits_here pools.old) pools.old.here }
+    requires running { IsSome pools.old.here.running }
+    ensures told { result ≡ (call_answer (limits_here pools.old) tick pools.old.here).reply }
+    ensures moved { pools.new ≡ record pools.old { here = (call_answer (limits_here pools.old) tick pools.old.here).part } }
+{
+    match pools.running() {
+        Some(caller) => answer(pools, tick, caller),
         // never met: a thread runs
         None => Reply::Blocked,
     }
 }
 
 /// Carries out the call that the running thread's registers state; ENOSYS of a number that is no call.
-fn answer(pools: &mut Pools, p: PartId, tick: Tick, caller: ThreadNo) -> Reply
-    requires partition { p < length pools.old.limits }
-    requires well { IsWell (limits_at p pools.old) (part_at p pools.old) }
-    requires running { (part_at p pools.old).running ≡ Some caller }
-    ensures told { result ≡ (call_answer (limits_at p pools.old) tick (part_at p pools.old)).reply }
-    ensures moved { pools.new ≡ put_part p (call_answer (limits_at p pools.old) tick (part_at p pools.old)).part pools.old }
+fn answer(pools: &mut Pools, tick: Tick, caller: ThreadNo) -> Reply
+    requires well { IsWell (limits_here pools.old) pools.old.here }
+    requires running { pools.old.here.running ≡ Some caller }
+    ensures told { result ≡ (call_answer (limits_here pools.old) tick pools.old.here).reply }
+    ensures moved { pools.new ≡ record pools.old { here = (call_answer (limits_here pools.old) tick pools.old.here).part } }
 {
-    let _parts = pools.parts();
-    let Some(thread) = pools.threads().thread_ref(p, caller) else {
+    let Some(thread) = pools.thread_ref(caller) else {
         // never met: a thread that runs is in use
         return Reply::Blocked;
     };
     let cpu = &thread.cpu;
-    let i = invocation(pools.limits(p), tick, caller, cpu);
+    let i = invocation(pools.limits(), tick, caller, cpu);
     let known = Call::of_number(cpu.register(A7));
     match known {
-        Some(call) => carry_out(pools, call, p, i),
-        None => refuse(pools, p, i, Errno::ENOSYS),
+        Some(call) => carry_out(pools, call, i),
+        None => refuse(pools, i, Errno::ENOSYS),
     }
 }
 
@@ -84,51 +95,50 @@ fn invocation(limits: Limits, at: Tick, t: ThreadNo, cpu: &Cpu) -> Invocation
 
 /// Carries out the call of the running thread.
 #[tactic(auto, using(crate::proofs::Called::called))]
-fn carry_out(pools: &mut Pools, call: Call, p: PartId, i: Invocation) -> Reply
-    requires partition { p < length pools.old.limits }
-    requires limits { i.limits ≡ limits_at p pools.old }
-    requires well { IsWell (limits_at p pools.old) (part_at p pools.old) }
-    requires running { (part_at p pools.old).running ≡ Some i.caller }
-    ensures told { result ≡ (answer_of call i (part_at p pools.old)).reply }
-    ensures moved { pools.new ≡ put_part p (answer_of call i (part_at p pools.old)).part pools.old }
+fn carry_out(pools: &mut Pools, call: Call, i: Invocation) -> Reply
+    requires limits { i.limits ≡ limits_here pools.old }
+    requires well { IsWell (limits_here pools.old) pools.old.here }
+    requires running { pools.old.here.running ≡ Some i.caller }
+    ensures told { result ≡ (answer_of call i pools.old.here).reply }
+    ensures moved { pools.new ≡ record pools.old { here = (answer_of call i pools.old.here).part } }
 {
     match call {
-        Call::Exit => exit(pools, p, i),
-        Call::ConsolePut => put(pools, p, i),
-        Call::ConsoleGet => get(pools, p, i),
-        Call::ClockGettime => clock_gettime(pools, p, i),
-        Call::ClockNanosleep => clock_nanosleep(pools, p, i),
-        Call::PthreadCreate => create(pools, p, i),
-        Call::PthreadExit => leave(pools, p, i),
-        Call::PthreadJoin => join(pools, p, i),
-        Call::PthreadDetach => detach(pools, p, i),
-        Call::PthreadSelf => own_number(pools, p, i),
-        Call::SchedYield => yield_turn(pools, p, i),
-        Call::PthreadSetschedparam => setschedparam(pools, p, i),
-        Call::PthreadGetschedparam => getschedparam(pools, p, i),
-        Call::PthreadSetschedprio => setschedprio(pools, p, i),
-        Call::MutexInit => mutex_init(pools, p, i),
-        Call::MutexDestroy => mutex_destroy(pools, p, i),
-        Call::MutexLock => mutex_lock(pools, p, i),
-        Call::MutexTrylock => mutex_trylock(pools, p, i),
-        Call::MutexTimedlock => mutex_timedlock(pools, p, i),
-        Call::MutexUnlock => mutex_unlock(pools, p, i),
-        Call::MutexConsistent => mutex_consistent(pools, p, i),
-        Call::CondInit => cond_init(pools, p, i),
-        Call::CondDestroy => cond_destroy(pools, p, i),
-        Call::CondWait => cond_wait(pools, p, i),
-        Call::CondTimedwait => cond_timedwait(pools, p, i),
-        Call::CondSignal => cond_signal(pools, p, i),
-        Call::CondBroadcast => cond_broadcast(pools, p, i),
-        Call::PthreadCancel => cancel(pools, p, i),
-        Call::PthreadSetcancelstate => setcancelstate(pools, p, i),
-        Call::PthreadSetcanceltype => setcanceltype(pools, p, i),
-        Call::PthreadTestcancel => testcancel(pools, p, i),
-        Call::CleanupPush => cleanup_push(pools, p, i),
-        Call::CleanupPop => cleanup_pop(pools, p, i),
-        Call::KeyCreate => key_create(pools, p, i),
-        Call::KeyDelete => key_delete(pools, p, i),
-        Call::PthreadSetspecific => setspecific(pools, p, i),
-        Call::PthreadGetspecific => getspecific(pools, p, i),
+        Call::Exit => exit(pools, i),
+        Call::ConsolePut => put(pools, i),
+        Call::ConsoleGet => get(pools, i),
+        Call::ClockGettime => clock_gettime(pools, i),
+        Call::ClockNanosleep => clock_nanosleep(pools, i),
+        Call::PthreadCreate => create(pools, i),
+        Call::PthreadExit => leave(pools, i),
+        Call::PthreadJoin => join(pools, i),
+        Call::PthreadDetach => detach(pools, i),
+        Call::PthreadSelf => own_number(pools, i),
+        Call::SchedYield => yield_turn(pools, i),
+        Call::PthreadSetschedparam => setschedparam(pools, i),
+        Call::PthreadGetschedparam => getschedparam(pools, i),
+        Call::PthreadSetschedprio => setschedprio(pools, i),
+        Call::MutexInit => mutex_init(pools, i),
+        Call::MutexDestroy => mutex_destroy(pools, i),
+        Call::MutexLock => mutex_lock(pools, i),
+        Call::MutexTrylock => mutex_trylock(pools, i),
+        Call::MutexTimedlock => mutex_timedlock(pools, i),
+        Call::MutexUnlock => mutex_unlock(pools, i),
+        Call::MutexConsistent => mutex_consistent(pools, i),
+        Call::CondInit => cond_init(pools, i),
+        Call::CondDestroy => cond_destroy(pools, i),
+        Call::CondWait => cond_wait(pools, i),
+        Call::CondTimedwait => cond_timedwait(pools, i),
+        Call::CondSignal => cond_signal(pools, i),
+        Call::CondBroadcast => cond_broadcast(pools, i),
+        Call::PthreadCancel => cancel(pools, i),
+        Call::PthreadSetcancelstate => setcancelstate(pools, i),
+        Call::PthreadSetcanceltype => setcanceltype(pools, i),
+        Call::PthreadTestcancel => testcancel(pools, i),
+        Call::CleanupPush => cleanup_push(pools, i),
+        Call::CleanupPop => cleanup_pop(pools, i),
+        Call::KeyCreate => key_create(pools, i),
+        Call::KeyDelete => key_delete(pools, i),
+        Call::PthreadSetspecific => setspecific(pools, i),
+        Call::PthreadGetspecific => getspecific(pools, i),
     }
 }

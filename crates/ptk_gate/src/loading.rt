@@ -1,12 +1,16 @@
 //! Images into memory, before the first decision.
 
-ghost use Rattle.std.specs.Prelude.{◌≡◌, ℕ, ◌^◌, ◌<◌, ◌+◌, length, Ok, Err};
+ghost use Rattle.std.specs.Prelude.{◌≡◌, ℕ, ◌^◌, ◌<◌, ◌≤◌, ◌+◌, length, Ok, Err};
 ghost use Rattle.ptk_words.specs.Image.{ImageParts};
 ghost use Rattle.ptk_words_model.specs.Run.{empty_part, fits, main_thread, with_image};
+ghost use Rattle.ptk_words_well.specs.Well.{IsWell};
 ghost use Rattle.ptk_gate_pools.specs.Kept.{part_at, put_part, limits_at};
+ghost use Rattle.ptk_gate_pools.specs.Held.{limits_here};
+ghost use Rattle.ptk_gate.specs.Whole.{IsBlank};
 
 use crate::tables::Tables;
 use ptk_gate_moves::{begin, halt};
+use ptk_gate_pools::Pools;
 use ptk_words::{
     Cpu, ImageFault, Limits, PartId, Phase, Policy, Priority, RA, RETURN_GATE, SP, Status, Thread,
     ThreadNo,
@@ -16,7 +20,7 @@ impl Tables {
     /// Loads an image into a partition that has none: the text to address 0, the data after it, and main, of
     /// SCHED_FIFO and priority 16, starts at the entry. Where text, data and bss do not fit below all stacks the
     /// partition is halted as refused, and nothing else changes.
-    #[tactic(auto, using(crate::proofs::Loads::refusals))]
+    #[tactic(auto, using(crate::proofs::Loads::loads, ptk_gate_pools::proofs::Hands::lifting))]
     pub fn load(&mut self, p: PartId, entry: u32, text: &[u8], data: &[u8], bss: u32)
         requires partition { p < length self.old.limits }
         requires blank { part_at p self.old ≡ empty_part (limits_at p self.old) (part_at p self.old).console.coming }
@@ -24,25 +28,47 @@ impl Tables {
         requires initial { length «data».now < 2 ^ 32 }
         ensures { self.new ≡ put_part p (with_image (limits_at p self.old) (Ok (record { entry = entry; text = text.now; «data» = «data».now; bss = bss })) (part_at p self.old)) self.old }
     {
-        let limits = self.pools.limits(p);
-        if fits(&limits, text, data, bss) {
-            self.pools.fill_memory(p, text, data);
-            let main = main_thread(&limits, entry);
-            begin(&mut self.pools, p, ThreadNo::new(1), main);
-        } else {
-            halt(&mut self.pools, p, Status::Refused(ImageFault::Unfit));
-        }
+        self.pools.take(p);
+        load(&mut self.pools, entry, text, data, bss);
     }
 
     /// A partition whose image has this fault is halted as refused; nothing else changes.
-    #[tactic(auto, using(crate::proofs::Loads::refusals))]
+    #[tactic(auto, using(crate::proofs::Loads::refusals, ptk_gate_pools::proofs::Hands::lifting))]
     pub fn refuse_image(&mut self, p: PartId, fault: ImageFault)
         requires partition { p < length self.old.limits }
         requires blank { part_at p self.old ≡ empty_part (limits_at p self.old) (part_at p self.old).console.coming }
         ensures { self.new ≡ put_part p (with_image (limits_at p self.old) (Err fault) (part_at p self.old)) self.old }
     {
-        halt(&mut self.pools, p, Status::Refused(fault));
+        self.pools.take(p);
+        refuse_image(&mut self.pools, fault);
     }
+}
+
+/// Loads an image into the partition in hand, which has none, or halts it as refused where the image does not fit.
+fn load(pools: &mut Pools, entry: u32, text: &[u8], data: &[u8], bss: u32)
+    requires well { IsWell (limits_here pools.old) pools.old.here }
+    requires threads { 1 ≤ (limits_here pools.old).threads }
+    requires blank { IsBlank (limits_here pools.old) pools.old.here }
+    requires text { length text.now < 2 ^ 32 }
+    requires initial { length «data».now < 2 ^ 32 }
+    ensures { pools.new ≡ record pools.old { here = with_image (limits_here pools.old) (Ok (record { entry = entry; text = text.now; «data» = «data».now; bss = bss })) pools.old.here } }
+{
+    let limits = pools.limits();
+    if fits(&limits, text, data, bss) {
+        pools.fill_memory(text, data);
+        let main = main_thread(&limits, entry);
+        begin(pools, ThreadNo::new(1), main);
+    } else {
+        halt(pools, Status::Refused(ImageFault::Unfit));
+    }
+}
+
+/// The partition in hand, which has no image, is halted: its image has this fault.
+fn refuse_image(pools: &mut Pools, fault: ImageFault)
+    requires blank { IsBlank (limits_here pools.old) pools.old.here }
+    ensures { pools.new ≡ record pools.old { here = with_image (limits_here pools.old) (Err fault) pools.old.here } }
+{
+    halt(pools, Status::Refused(fault));
 }
 
 /// Whether text, data and bss lie below all stacks.

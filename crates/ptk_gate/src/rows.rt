@@ -30,7 +30,7 @@ impl Tables {
         ensures quiet { IfSome result (λ q. (tick < q.stop) × (q.stop ≤ stop) × ((thread : Thread) × (thread_at (part_at p self.now).locks q.thread ≡ Some thread) × IsQuiet (limits_at p self.now) tick q.stop q.thread thread (part_at p self.now))) }
         ensures full { (t k : ℕ) → (thread : Thread) → tick < k → k ≤ stop → IsQuiet (limits_at p self.now) tick k t thread (part_at p self.now) → IsSomeAnd result (λ q. k ≤ q.stop) }
     {
-        quiet_until(&self.pools, p, tick, stop)
+        quiet_until(&self.pools.look(p), tick, stop)
     }
 
     /// Plain steps of the running thread of a quiet partition in a row, the first of them at the tick, as many as come
@@ -48,7 +48,8 @@ impl Tables {
         ensures ended { (thread : Thread) → thread_at (part_at p self.old).locks quiet.thread ≡ Some thread → tick + result < quiet.stop → result < 2 ^ 31 → is_plain (plain_steps result (core_of thread (part_at p self.old))) ≡ false }
     {
         let most = ticks_between(tick, quiet.stop);
-        self.pools.run_row(p, quiet.thread, tick, most, trace)
+        self.pools.take(p);
+        self.pools.run_row(quiet.thread, tick, most, trace)
     }
 
     /// The next step of a quiet partition's running thread at the tick, where that is a quiet call and ends at the
@@ -64,18 +65,19 @@ impl Tables {
         ensures made { (thread : Thread) → thread_at (part_at p self.old).locks quiet.thread ≡ Some thread → 0 < result → IsMade p tick quiet.thread result thread self.old self.new }
     {
         let room = quiet.stop.ticks() - tick.ticks();
-        make_reply(&mut self.pools, p, quiet.thread, tick, room)
+        self.pools.take(p);
+        make_reply(&mut self.pools, quiet.thread, tick, room)
     }
 
     /// The tick up to which the partition has nothing to do, at most `stop`: no thread runs or is ready, and no input
     /// comes and no deadline is due before it. None where the partition is halted, or a thread runs or is ready.
-    #[tactic(auto, using(crate::proofs::Wholes::moves))]
+    #[tactic(auto, using(crate::proofs::Wholes::moves, ptk_gate_pools::proofs::Hands::lifting))]
     pub fn idle_until(&self, p: PartId, stop: Tick) -> Option<Tick>
         requires partition { p < length self.now.limits }
         ensures idle { IfSome result (λ u. (u ≤ stop) × IsIdle (limits_at p self.now) u (part_at p self.now)) }
         ensures full { (k : ℕ) → k ≤ stop → IsIdle (limits_at p self.now) k (part_at p self.now) → IsSomeAnd result (λ u. k ≤ u) }
     {
-        idle_until(&self.pools, p, stop)
+        idle_until(&self.pools.look(p), stop)
     }
 }
 

@@ -7,7 +7,7 @@ ghost use Rattle.ptk_gate_pools.specs.Blank.{blank};
 ghost use Rattle.ptk_words_model.specs.Withdrawal.{deadlines_of};
 ghost use Rattle.ptk_clock.specs.BySlot.{deadlines_from};
 ghost use Rattle.ptk_clock.specs.ByThread.{first_slot};
-ghost use Rattle.ptk_gate_pools.specs.Kept.{AreParts, part_at, deadlines_in};
+ghost use Rattle.ptk_gate_pools.specs.Kept.{AreParts, AreQueued, AreStored, part_at, deadlines_in};
 
 use ptk_clock::SharedDeadlines;
 use ptk_gate_pools::Pools;
@@ -25,13 +25,14 @@ pub struct Tables {
 
 impl Model for Tables {
     ghost use Rattle.ptk_gate_pools.specs.Kept.{Kept};
+    ghost use Rattle.ptk_gate_pools.specs.Held.{all_of};
     ghost use Rattle.ptk_gate.specs.Whole.{AreWhole};
 
     ghost Value = { Kept };
 
-    ghost view = { λ a. a.pools };
+    ghost view = { λ a. all_of a.pools };
 
-    ghost invariant = { λ a. AreWhole a.pools };
+    ghost invariant = { λ a. AreWhole (all_of a.pools) };
 }
 
 impl Tables {
@@ -63,9 +64,13 @@ impl Tables {
         self.pools.parts()
     }
 
-    /// The slot table of all partitions' threads.
+    /// The slot table of all partitions' threads. Its stored priorities are the effective ones, and its queues, which lie
+    /// along the links of the slots, are the ready threads of each priority, in the line's order, and the waiters of each
+    /// mutex and condition variable (XSH 2.8.4, pthread_mutexattr_getprotocol).
     pub fn threads(&self) -> &Threads
-        ensures { result.now.threads ≡ self.now.threads }
+        ensures threads { result.now.threads ≡ self.now.threads }
+        ensures stored { AreStored result.now.stored self.now.threads self.now.mutexes }
+        ensures queues { AreQueued result.now.stored result.now.queues self.now }
     {
         self.pools.threads()
     }
@@ -95,7 +100,7 @@ impl Tables {
         requires { p < length self.now.limits }
         ensures { result ≡ (part_at p self.now).status }
     {
-        self.pools.status(p)
+        self.pools.look(p).status()
     }
 
     /// The partition's running thread, if one runs.
@@ -103,7 +108,7 @@ impl Tables {
         requires { p < length self.now.limits }
         ensures { result ≡ (part_at p self.now).running }
     {
-        self.pools.running(p)
+        self.pools.look(p).running()
     }
 
     /// Whether a thread of the partition is ready, which the running one is not (XSH 2.8.4).
@@ -111,7 +116,7 @@ impl Tables {
         requires { p < length self.now.limits }
         ensures { result ≡ nat_lt 0 (length (part_at p self.now).line) }
     {
-        self.pools.has_ready(p)
+        self.pools.look(p).has_ready()
     }
 
     /// The partition's output so far.
@@ -127,6 +132,6 @@ impl Tables {
         requires { p < length self.now.limits }
         ensures { result ≡ (part_at p self.now).console.dropped }
     {
-        self.pools.dropped(p)
+        self.pools.look(p).dropped()
     }
 }

@@ -1,14 +1,16 @@
 //! What is told of a partition's threads and mutexes beside the slot table.
 
-ghost use Rattle.std.specs.Prelude.{◌≡◌, ◌<◌, length, option_map};
+ghost use Rattle.std.specs.Prelude.{◌≡◌, ◌<◌, length, option_map, slice_get};
 ghost use Rattle.ptk_words.specs.declared.threads.Thread.{Thread};
 ghost use Rattle.ptk_words_model.specs.State.{Mutex};
 ghost use Rattle.ptk_words_model.specs.Priority.{effective_priority, thread_at};
 ghost use Rattle.ptk_words_model.specs.Mutex.{mutex_at};
+ghost use Rattle.ptk_words_model.specs.Withdrawal.{deadlines_of};
+ghost use Rattle.ptk_clock.specs.ByThread.{least_deadline};
 ghost use Rattle.ptk_gate_pools.specs.Kept.{part_at};
 
 use crate::tables::Tables;
-use ptk_words::{MutexNo, Owner, PartId, ThreadNo};
+use ptk_words::{MutexNo, Owner, PartId, ThreadNo, Tick};
 
 impl Tables {
     /// The effective priority of a thread, 1 to 32; None of a free number (XSH 2.8.4, pthread_mutexattr_getprotocol).
@@ -17,9 +19,9 @@ impl Tables {
         ensures { result ≡ option_map (λ (thread : Thread). effective_priority (part_at p self.now).locks t)
             (thread_at (part_at p self.now).locks t) }
     {
-        let _parts = self.pools.parts();
-        match self.pools.threads().thread_ref(p, t) {
-            Some(_) => Some(self.pools.effective_priority(p, t)),
+        let look = self.pools.look(p);
+        match look.thread_ref(t) {
+            Some(_) => Some(look.effective_priority(t)),
             None => None,
         }
     }
@@ -29,9 +31,26 @@ impl Tables {
         requires { p < length self.now.limits }
         ensures { result ≡ option_map (λ (mutex : Mutex). mutex.owner) (mutex_at (part_at p self.now).locks m) }
     {
-        match self.pools.mutex(p, m) {
+        match self.pools.look(p).mutex(m) {
             Some(state) => Some(state.owner),
             None => None,
         }
+    }
+
+    /// The tick of the partition's first input still to come; None where none is.
+    pub fn next_arrival_tick(&self, p: PartId) -> Option<Tick>
+        requires { p < length self.now.limits }
+        ensures { result ≡ option_map (λ arrival. arrival.tick) (slice_get (part_at p self.now).console.coming 0) }
+    {
+        self.pools.look(p).next_arrival_tick()
+    }
+
+    /// The least deadline of the partition's threads, a tick; None where none has one (clock_nanosleep,
+    /// pthread_mutex_timedlock, pthread_cond_timedwait).
+    pub fn next_deadline(&self, p: PartId) -> Option<Tick>
+        requires { p < length self.now.limits }
+        ensures { result ≡ least_deadline (deadlines_of (part_at p self.now).locks) }
+    {
+        self.pools.look(p).next_deadline()
     }
 }

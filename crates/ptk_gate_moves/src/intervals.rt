@@ -4,31 +4,28 @@ ghost use Rattle.std.specs.Prelude.{◌≡◌, ◌<◌, false, length, Some};
 ghost use Rattle.ptk_words_model.specs.Priority.{thread_at};
 ghost use Rattle.ptk_words_model.specs.Schedule.{is_round_robin, after_interval};
 ghost use Rattle.ptk_words.specs.Pools.{is_in};
-ghost use Rattle.ptk_gate_pools.specs.Kept.{part_at, put_part};
 ghost use Rattle.ptk_words_locks.specs.Conditions.{IsNoWaiter};
 
 use crate::places::end_turn;
 use ptk_gate_pools::Pools;
-use ptk_words::{PartId, Policy, ThreadNo};
+use ptk_words::{Policy, ThreadNo};
 
 /// A thread of SCHED_RR that still runs after a step of so many ticks has used them; at the interval it goes to the
 /// tail, and no thread runs.
-#[tactic(auto, using(ptk_gate_pools::proofs::Parted::parted, ptk_gate_pools::proofs::Ranks::put_same, crate::proofs::Ready::ready))]
-pub fn count_interval(pools: &mut Pools, p: PartId, interval: u32, cost: u32, t: ThreadNo)
-    requires partition { p < length pools.old.limits }
-    requires fresh { (part_at p pools.old).running ≡ Some t → is_in t (part_at p pools.old).line ≡ false }
-    requires free { (part_at p pools.old).running ≡ Some t → IsNoWaiter t (part_at p pools.old).mutexes (part_at p pools.old).conditions }
-    ensures { pools.new ≡ put_part p (after_interval interval cost t (thread_at (part_at p pools.old).locks t) (part_at p pools.old)) pools.old }
+#[tactic(auto, using(ptk_gate_pools::proofs::Ranks::put_same, crate::proofs::Ready::ready))]
+pub fn count_interval(pools: &mut Pools, interval: u32, cost: u32, t: ThreadNo)
+    requires fresh { pools.old.here.running ≡ Some t → is_in t pools.old.here.line ≡ false }
+    requires free { pools.old.here.running ≡ Some t → IsNoWaiter t pools.old.here.mutexes pools.old.here.conditions }
+    ensures { pools.new ≡ record pools.old { here = after_interval interval cost t (thread_at pools.old.here.locks t) pools.old.here } }
 {
-    let _parts = pools.parts();
-    let found = pools.threads().thread_ref(p, t);
+    let found = pools.thread_ref(t);
     if let Some(thread) = found {
-        if is_round_robin(thread.policy) && pools.is_running(p, t) {
+        if is_round_robin(thread.policy) && pools.is_running(t) {
             let used = thread.used as u64 + cost as u64;
             if interval as u64 <= used {
-                end_turn(pools, p, t);
+                end_turn(pools, t);
             } else {
-                pools.give_used(p, t, used as u32);
+                pools.give_used(t, used as u32);
             }
         }
     }

@@ -7,20 +7,17 @@ ghost use Rattle.ptk_words_model.specs.Decision.{runner_at};
 ghost use Rattle.ptk_words.specs.Threads.{is_ended, is_taken};
 ghost use Rattle.ptk_words_model.specs.Priority.{thread_at};
 ghost use Rattle.ptk_threads_slots.specs.Links.{threads_of};
-ghost use Rattle.ptk_gate_pools.specs.Kept.{part_at};
 
 use ptk_gate_pools::Pools;
 use ptk_threads::Slot;
-use ptk_words::{PartId, Phase, Thread, ThreadNo};
+use ptk_words::{Phase, Thread, ThreadNo};
 use ptk_words_model::Runner;
 
 /// The thread that a guest names by a word, if that is the number of one in use.
-pub fn target(pools: &Pools, p: PartId, word: u32) -> Option<Runner>
-    requires partition { p < length pools.now.limits }
-    ensures { result ≡ runner_at word (thread_at (part_at p pools.now).locks word) }
+pub fn target(pools: &Pools, word: u32) -> Option<Runner>
+    ensures { result ≡ runner_at word (thread_at pools.now.here.locks word) }
 {
-    let _parts = pools.parts();
-    named(pools.threads().part(p), word)
+    named(pools.slots(), word)
 }
 
 /// The thread of a word among the slots, which are at most 32.
@@ -46,13 +43,11 @@ fn named(slots: &[Slot], word: u32) -> Option<Runner>
 }
 
 /// The thread that a guest names by a word, where it lies, if that is the number of one in use. Nothing of it is copied.
-pub fn named_thread(pools: &Pools, p: PartId, word: u32) -> Option<&Thread>
-    requires partition { p < length pools.now.limits }
-    ensures thread { option_copied result ≡ thread_at (part_at p pools.now).locks word }
+pub fn named_thread(pools: &Pools, word: u32) -> Option<&Thread>
+    ensures thread { option_copied result ≡ thread_at pools.now.here.locks word }
     ensures number { IfSome result (λ _. (0 < word) × (word ≤ 32)) }
 {
-    let _parts = pools.parts();
-    thread_named(pools.threads().part(p), word)
+    thread_named(pools.slots(), word)
 }
 
 /// The thread of a word among the slots, which are at most 32, where it lies.

@@ -2,23 +2,20 @@
 
 ghost use Rattle.std.specs.Prelude.{◌≡◌, ◌<◌, ◌≤◌, ◌+◌, length};
 ghost use Rattle.ptk_words_model.specs.Time.{timespec_at};
-ghost use Rattle.ptk_gate_pools.specs.Kept.{part_at};
 ghost use Rattle.ptk_gate_moves.specs.Moves.{deadline_asked};
 
 use ptk_clock::to_tick;
 use ptk_gate_pools::Pools;
-use ptk_words::{PartId, Tick, read_word};
+use ptk_words::{Tick, read_word};
 
 /// The deadline of the timespec at the pointer (seconds as two words, low and high, one signed number, then a word of
 /// nanoseconds): the least tick that is not before its time, 0 for negative times, and a tick that never comes for one
 /// past the last. None where the nanoseconds are none from 0 to 999,999,999 (clock_nanosleep, EINVAL).
-pub fn asked_deadline(pools: &Pools, p: PartId, pointer: u32) -> Option<Tick>
-    requires partition { p < length pools.now.limits }
-    requires room { pointer + 12 ≤ length (part_at p pools.now).memory }
-    ensures { result ≡ deadline_asked (timespec_at (part_at p pools.now).memory pointer) }
+pub fn asked_deadline(pools: &Pools, pointer: u32) -> Option<Tick>
+    requires room { pointer + 12 ≤ length pools.now.here.memory }
+    ensures { result ≡ deadline_asked (timespec_at pools.now.here.memory pointer) }
 {
-    let _parts = pools.parts();
-    let memory = pools.regions().part(p);
+    let memory = pools.memory();
     let at = pointer as usize;
     let low = read_word(memory, at);
     let high = read_word(memory, at + 4);

@@ -1,12 +1,11 @@
 //! What a word of a guest stands for: a priority, a policy, or a place in memory.
 
-ghost use Rattle.std.specs.Prelude.{◌≡◌, ◌<◌, length};
+ghost use Rattle.std.specs.Prelude.{◌≡◌};
 ghost use Rattle.ptk_words_model.specs.Calls.{is_pointer};
 ghost use Rattle.ptk_words_model.specs.ThreadCreation.{policy_number, priority_of};
-ghost use Rattle.ptk_gate_pools.specs.Kept.{part_at};
 
 use ptk_gate_pools::Pools;
-use ptk_words::{PartId, Policy, Priority};
+use ptk_words::{Policy, Priority};
 
 /// The priority of a guest's number, 1 to 32; None of another word.
 pub fn named_priority(word: u32) -> Option<Priority>
@@ -30,10 +29,8 @@ pub fn policy_number(policy: Policy) -> u32
 }
 
 /// Whether the word is a multiple of 4 at which so many bytes lie in memory (own choice).
-pub fn is_pointer(pools: &Pools, p: PartId, word: u32, count: u32) -> bool
-    requires partition { p < length pools.now.limits }
-    ensures { result ≡ is_pointer (part_at p pools.now) word count }
+pub fn is_pointer(pools: &Pools, word: u32, count: u32) -> bool
+    ensures { result ≡ is_pointer pools.now.here word count }
 {
-    let _parts = pools.parts();
-    word % 4 == 0 && word as usize + count as usize <= pools.regions().part(p).len()
+    word % 4 == 0 && word as usize + count as usize <= pools.memory().len()
 }

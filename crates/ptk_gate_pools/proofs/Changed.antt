@@ -16,6 +16,9 @@ use Rattle.ptk_mutex_slots.specs.Sets.{IsSetOf}
 use Rattle.ptk_mutex.specs.Tables.{with_threads}
 use Rattle.ptk_mutex.specs.declared.mutexes.Mutexes.{Mutexes}
 use Rattle.ptk_gate_pools.specs.declared.pools.Pools.TheInside.{Inside}
+use Rattle.ptk_gate_pools.specs.Held.{held}
+use Rattle.ptk_gate_pools.proofs.Hands.{held-put}
+use Rattle.ptk_gate_pools.proofs.Opened.{parts_of}
 use Rattle.ptk_gate_pools.specs.Kept.{Kept, AreStored, AreTimed, part_at, put_part}
 use Rattle.ptk_gate_pools.specs.Pooled.{kept_of, ArePooled}
 use Rattle.ptk_gate_pools.proofs.Stored.{left_long, refreshed_slot, refreshed_changed, refreshed_left}
@@ -62,12 +65,19 @@ tables_pooled p syncs a roster mutexes deadlines within set_so long timed old =
       lasts = old.lasts;
       stored = stored_moved p (length a.limits.items) syncs.locks a.roster.table roster.table a.roster.mutexes roster.mutexes set_so.of_threads set_so.of_mutexes within old.threads old.priorities old.mutexes old.stored;
       timed = timed;
+      in_hand = old.in_hand;
     }
 
 -- and the model's
 pub tables_put : (p : ℕ) (syncs : Syncs) (a : Inside) (roster : Rostered) (mutexes : Mutexes) (deadlines : List (List (Option ℕ)))
     → AreSet p syncs a roster → kept_of (with_tables a roster mutexes deadlines) ≡ put_part p (with_syncs (λ _. syncs) (part_at p (kept_of a))) (kept_of a)
 tables_put p syncs a roster mutexes deadlines set_so = rw (set_so.of_threads, set_so.of_lines, set_so.of_mutexes, set_so.of_conditions) (simp set-get_or)
+
+-- so of the part in hand
+pub tables_held : (p : ℕ) (syncs : Syncs) (a : Inside) (roster : Rostered) (mutexes : Mutexes) (deadlines : List (List (Option ℕ)))
+    → AreSet p syncs a roster → ArePooled a → p < length a.limits.items → held p (kept_of (with_tables a roster mutexes deadlines)) ≡ record (held p (kept_of a)) { here = with_syncs (λ _. syncs) (part_at p (kept_of a)) }
+tables_held p syncs a roster mutexes deadlines set_so pooled lt =
+    ap (held p) (tables_put p syncs a roster mutexes deadlines set_so) ∙ held-put (length a.limits.items) p (with_syncs (λ _. syncs) (part_at p (kept_of a))) (kept_of a) (parts_of a pooled) lt
 
 -- what stays
 pub stay : {A : Type 0} (p : ℕ) (rows : List (List A)) → rows ≡ set rows p (part_of rows p)
@@ -104,6 +114,7 @@ threads_pooled a roster kept deadlines threads priorities long lines mutexes con
   lasts = old.lasts;
   stored = subst (AreStored roster.table.stored roster.table.threads) (sym mutexes) stored;
   timed = timed;
+  in_hand = old.in_hand;
 }
 
 -- the priorities of a partition are made again (own)

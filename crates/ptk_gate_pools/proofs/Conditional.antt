@@ -60,15 +60,15 @@ timed_waited p t c m set_bits deadline table new lines mutexes conditions deadli
     timed_read p t x mid after between new.threads moved g unlocked
 
 -- the waiter that a signal unblocks has none
-pub timed_signalled : (p c : ℕ) (limits : Limits) (s : Part) (woken : Option ℕ) (table new : ThreadTable) (lines : List (List ℕ)) (mutexes : List (List (Option Mutex))) (conditions : List (List (Option Condition))) (deadlines after : List (List (Option ℕ)))
-    → new ≡ with_threads p (after_signal c (syncs_at p table lines mutexes conditions)).locks table → woken ≡ next_waiter c (syncs_at p table lines mutexes conditions)
-    → after ≡ set deadlines p (without_deadlines (option_to_list woken) (part_of deadlines p)) → s.syncs ≡ syncs_at p table lines mutexes conditions → IsWell limits s → AreTimed deadlines table.threads → AreTimed after new.threads
-timed_signalled p c limits s woken table new lines mutexes conditions deadlines after e told f same well timed =
+pub timed_signalled : (p c set_bits : ℕ) (limits : Limits) (s : Part) (table new : ThreadTable) (lines : List (List ℕ)) (mutexes : List (List (Option Mutex))) (conditions : List (List (Option Condition))) (deadlines after : List (List (Option ℕ)))
+    → new ≡ with_threads p (after_signal c (syncs_at p table lines mutexes conditions)).locks table → IsSetOf set_bits (option_to_list (next_waiter c (syncs_at p table lines mutexes conditions)))
+    → ((ts : List ℕ) → IsSetOf set_bits ts → after ≡ set deadlines p (without_deadlines ts (part_of deadlines p))) → s.syncs ≡ syncs_at p table lines mutexes conditions → IsWell limits s → AreTimed deadlines table.threads → AreTimed after new.threads
+timed_signalled p c set_bits limits s table new lines mutexes conditions deadlines after e woken f same well timed =
     let syncs : Syncs = syncs_at p table lines mutexes conditions in
     let whole : AreSyncs limits.interval s.running s.console.waiters syncs = subst (AreSyncs limits.interval s.running s.console.waiters) same (whole_of limits s well) in
-    timed_locks p (after_signal c syncs).locks (without_deadlines (option_to_list woken) (part_of deadlines p)) table new deadlines after e f
-    (ap (λ (o : Option ℕ). without_deadlines (option_to_list o) (part_of deadlines p)) told ∙ ap (without_deadlines (option_to_list (next_waiter c syncs))) (timed_row p deadlines table.threads timed)
-    ∙ sym (deadlines-signal c syncs whole.conditions)) timed
+    let next : List ℕ = option_to_list (next_waiter c syncs) in
+    timed_locks p (after_signal c syncs).locks (without_deadlines next (part_of deadlines p)) table new deadlines after e (f next woken)
+    (ap (without_deadlines next) (timed_row p deadlines table.threads timed) ∙ sym (deadlines-signal c syncs whole.conditions)) timed
 
 -- the waiters that a broadcast unblocks have none
 pub timed_broadcast : (p c set_bits : ℕ) (limits : Limits) (s : Part) (table new : ThreadTable) (lines : List (List ℕ)) (mutexes : List (List (Option Mutex))) (conditions : List (List (Option Condition))) (deadlines after : List (List (Option ℕ)))

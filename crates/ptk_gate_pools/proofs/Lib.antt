@@ -1,4 +1,5 @@
 pub mod Parted
+pub mod Hands
 pub mod Numbers
 pub mod Stored
 pub mod Timed

@@ -1,11 +1,13 @@
--- What the invariant of the pools says of what a contract sees of them.
-use Rattle.std.proofs.Common.{◌≡◌, length, subst}
-use Rattle.ptk_gate_pools.specs.Kept.{Kept, AreParts}
+-- What the invariant of the pools says of the tables.
+use Rattle.std.proofs.Common.{◌≡◌, ℕ, length, ◌∙◌, ap, sym}
+use Rattle.ptk_gate_pools.specs.Kept.{AreParts}
+use Rattle.ptk_gate_pools.specs.Held.{Held, Seen, held, all_of, seen}
 use Rattle.ptk_gate_pools.specs.declared.pools.Pools.TheInside.{Inside}
-use Rattle.ptk_gate_pools.specs.contracts.pools.Pools.{the_view, the_invariant}
+use Rattle.ptk_gate_pools.specs.Pooled.{kept_of, ArePooled}
+use Rattle.ptk_gate_pools.proofs.Hands.{all-held}
 
 -- every component has an entry for each partition
-pub parts_of : (a : Inside) → the_invariant a → AreParts (length (the_view a).limits) (the_view a)
+pub parts_of : (a : Inside) → ArePooled a → AreParts (length a.limits.items) (kept_of a)
 parts_of a i = record {
   few = i.few;
   memory = i.memory;
@@ -24,7 +26,10 @@ parts_of a i = record {
   lasts = i.lasts;
 }
 
-pub parts_seen : (a : Inside) (kept : Kept) → the_view a ≡ kept → the_invariant a → AreParts (length kept.limits) kept
-parts_seen a kept e i = let P : Kept → Type 0 = λ k. AreParts (length k.limits) k in subst P e (parts_of a i)
+-- what is looked at is read from what the pools have inside
+pub looked : (p : ℕ) (a : Inside) (pools : Held) (look : Seen) → held a.hand (kept_of a) ≡ pools → seen p (all_of pools) ≡ look → seen p (kept_of a) ≡ look
+looked p a pools look inside e = ap (seen p) (sym (all-held a.hand (kept_of a))) ∙ ap (λ (h : Held). seen p (all_of h)) inside ∙ e
 
-pub ruleset opened = (parts_seen)
+-- the tables are what the pools have inside
+pub whole : (a : Inside) (pools : Held) → held a.hand (kept_of a) ≡ pools → kept_of a ≡ all_of pools
+whole a pools inside = sym (all-held a.hand (kept_of a)) ∙ ap all_of inside

@@ -110,6 +110,7 @@ row_pooled p i t tick n thread a memory roster last row =
       lasts = length-set a.lasts.items i last ∙ old.lasts;
       stored = subst (AreStored roster.table.stored roster.table.threads) (sym row.of_mutexes) (stored_changed p t (computed n cpu) a.roster.table roster.table a.roster.mutexes row.of_table (λ thread. refl) (λ thread. refl) old.stored);
       timed = timed_changed p t (computed n cpu) a.roster.table roster.table a.deadlines row.of_table (λ thread. refl) old.timed;
+      in_hand = old.in_hand;
     }
 
 -- a row is the model's

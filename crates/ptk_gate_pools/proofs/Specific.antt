@@ -7,6 +7,7 @@ use Rattle.ptk_words_model.specs.State.{Keys, with_keys}
 use Rattle.ptk_words_model.specs.Keys.{no_values, with_new_specific}
 use Rattle.ptk_keys.specs.KeptKeys.{KeptKeys, keys_at, put_keys, with_cleared}
 use Rattle.ptk_gate_pools.specs.declared.pools.Pools.TheInside.{Inside}
+use Rattle.ptk_gate_pools.specs.Held.{Held, limits_here}
 use Rattle.ptk_gate_pools.specs.Kept.{Kept, part_at, put_part, limits_at}
 use Rattle.ptk_gate_pools.specs.Pooled.{kept_of}
 
@@ -33,3 +34,7 @@ pub cleared_put : (p t : ℕ) (a : Inside) (new : KeptKeys) → new ≡ put_keys
 cleared_put p t a new e sized =
     keys_put p (with_cleared t (keys_at p a.keys)) a new e
     ∙ ap (λ (keys : Keys). put_part p (with_keys (λ _. keys) (part_at p (kept_of a))) (kept_of a)) (cleared_is (limits_at p (kept_of a)).keys t (keys_at p a.keys) sized)
+
+-- the same of the part in hand (own)
+abbrev pub AreSizedHere : ℕ → Held → Type 0
+AreSizedHere t pools = (values : List ℕ) → numbered pools.here.keys.values t ≡ Some values → length values ≡ (limits_here pools).keys

@@ -16,6 +16,7 @@ use Rattle.ptk_words_model.specs.Priority.{effective_priorities}
 use Rattle.ptk_words_model.specs.Mutex.{wait_of}
 use Rattle.ptk_words_model.specs.Withdrawal.{deadline_of_wait}
 use Rattle.ptk_words_well.specs.Well.{IsWell}
+use Rattle.ptk_roster.specs.Rosters.{AreQueuesIn}
 use Rattle.ptk_console.specs.ConsoleTable.{fresh_console, no_limits}
 pub use Rattle.ptk_gate_parts.specs.Sections.{per_section}
 
@@ -122,3 +123,7 @@ deadlines_in threads = map (λ thread. deadline_of_wait (wait_of thread)) thread
 -- each kept deadline is that of its thread's wait, for every partition
 pub record AreTimed (deadlines : List (List (Option Tick))) (threads : List (List (Option Thread))) : Type 0 where
   pub all : deadlines ≡ map deadlines_in threads
+
+-- each partition's queues are the threads of its line of each stored priority, in the line's order, and the waiters of its mutexes and condition variables (XSH 2.8.4)
+abbrev pub AreQueued : List (List ℕ) → List (List (List ℕ)) → Kept → Type 0
+AreQueued stored queues kept = (p : ℕ) → AreQueuesIn (part_of stored p) (part_at p kept).line (part_at p kept).mutexes (part_at p kept).conditions (part_of queues p)

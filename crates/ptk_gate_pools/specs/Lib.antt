@@ -1,4 +1,5 @@
 pub mod Kept
+pub mod Held
 pub mod Pooled
 pub mod Moves
 pub mod Expired

@@ -1,5 +1,5 @@
 -- What the pools have inside, as the tables of all partitions, and what holds of it.
-use Rattle.std.specs.Prelude.{◌≡◌, ◌≤◌, length}
+use Rattle.std.specs.Prelude.{◌≡◌, ◌<◌, ◌≤◌, length}
 use Rattle.ptk_gate_pools.specs.declared.pools.Pools.TheInside.{Inside}
 use Rattle.ptk_gate_pools.specs.Kept.{Kept, AreStored, AreTimed}
 
@@ -46,3 +46,4 @@ pub record ArePooled (a : Inside) : Type 0 where
   pub lasts : length a.lasts.items ≡ length a.limits.items
   pub stored : AreStored a.roster.table.stored a.roster.table.threads a.roster.mutexes
   pub timed : AreTimed a.deadlines a.roster.table.threads
+  pub in_hand : a.hand < length a.limits.items

@@ -7,11 +7,12 @@ ghost use Rattle.ptk_keys.specs.KeptKeys.{fresh_keys};
 ghost use Rattle.ptk_console.specs.ConsoleTable.{fresh_console};
 ghost use Rattle.ptk_gate_pools.specs.Blank.{blank};
 ghost use Rattle.ptk_gate_pools.specs.Kept.{per_section};
+ghost use Rattle.ptk_gate_pools.specs.Held.{held};
 
 use crate::pools::Pools;
 use ptk_gate_parts::{Records, Stores, ThreadParts, records_of, stores_of, thread_parts_of};
 use ptk_mutex::Mutexes;
-use ptk_words::{Arrival, Limits};
+use ptk_words::{Arrival, Limits, PartId};
 use std::alloc::{AllocError, Global};
 
 impl Pools {
@@ -22,13 +23,14 @@ impl Pools {
         limits: &[Limits],
         inputs: &[&[Arrival]],
     ) -> Result<Pools, AllocError>
+        requires some { 1 ≤ length limits.now }
         requires sections { length limits.now ≤ 8 }
         requires inputs { length inputs.now ≡ length limits.now }
         requires threads { All (λ count. count ≤ 32) (map (λ l. l.threads) limits.now) }
         requires mutexes { All (λ count. count ≤ 64) (map (λ l. l.mutexes) limits.now) }
         requires conditions { All (λ count. count ≤ 32) (map (λ l. l.conditions) limits.now) }
         requires keys { All (λ count. count ≤ 32) (map (λ l. l.keys) limits.now) }
-        ensures { IfOk result (λ pools. pools ≡ blank limits.now (map (λ input. fresh_console input.now) inputs.now)) }
+        ensures { IfOk result (λ pools. pools ≡ held 0 (blank limits.now (map (λ input. fresh_console input.now) inputs.now))) }
     {
         let records = records_of(alloc, limits)?;
         let stores = stores_of(alloc, limits, inputs)?;
@@ -46,6 +48,7 @@ fn joined(
     stores: Stores,
     threads: ThreadParts,
 ) -> Pools
+    requires some { 1 ≤ length limits.now }
     requires sections { length limits.now ≤ 8 }
     requires inputs { length inputs.now ≡ length limits.now }
     requires memory { stores.0 ≡ per_section (λ l. l.memory) 0 limits.now }
@@ -61,7 +64,7 @@ fn joined(
     requires statuses { records.0.items ≡ replicate (length limits.now) Active }
     requires lasts { records.1.items ≡ replicate (length limits.now) None }
     requires limits { records.2.items ≡ limits.now }
-    ensures { result ≡ blank limits.now (map (λ input. fresh_console input.now) inputs.now) }
+    ensures { result ≡ held 0 (blank limits.now (map (λ input. fresh_console input.now) inputs.now)) }
 {
     let (statuses, lasts, limits) = records;
     let (regions, consoles) = stores;
@@ -78,5 +81,6 @@ fn joined(
         statuses,
         lasts,
         limits,
+        hand: PartId::new(0),
     }
 }

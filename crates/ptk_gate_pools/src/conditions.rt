@@ -10,85 +10,78 @@ ghost use Rattle.ptk_words_model.specs.Condition.{condition_waiters, names_anoth
 ghost use Rattle.ptk_words_model.specs.Calls.{with_pool_condition};
 ghost use Rattle.ptk_words_locks.specs.Conditions.{condition_of_wait};
 ghost use Rattle.ptk_words_well.specs.Well.{IsWell};
-ghost use Rattle.ptk_gate_pools.specs.Kept.{part_at, put_part, limits_at};
+ghost use Rattle.ptk_gate_pools.specs.Held.{limits_here};
 
 use crate::pools::Pools;
-use ptk_gate_waits::{end_one, follow_wait};
-use ptk_words::{ConditionNo, MutexNo, PartId, ThreadNo, Tick};
+use ptk_gate_waits::follow_wait;
+use ptk_words::{ConditionNo, MutexNo, ThreadNo, Tick};
 
 impl Pools {
     /// The condition variable in use whose number the word is; None of another word (own choice).
-    pub fn condition_numbered(&self, p: PartId, word: u32) -> Option<ConditionNo>
-        requires partition { p < length self.now.limits }
-        ensures { result ≡ (if is_some (pool_get (part_at p self.now).conditions word) then Some word else None) }
+    pub fn condition_numbered(&self, word: u32) -> Option<ConditionNo>
+        ensures { result ≡ (if is_some (pool_get self.now.here.conditions word) then Some word else None) }
     {
+        let p = self.hand;
         ptk_cond::numbered(&self.roster, p, word)
     }
 
     /// The least free number of a condition variable; None where no number is free.
-    pub fn first_free_condition(&self, p: PartId) -> Option<ConditionNo>
-        requires partition { p < length self.now.limits }
-        ensures { result ≡ least_free (part_at p self.now).conditions }
+    pub fn first_free_condition(&self) -> Option<ConditionNo>
+        ensures { result ≡ least_free self.now.here.conditions }
     {
+        let p = self.hand;
         self.roster.free_condition(p)
     }
 
     /// Whether a thread waits on the condition variable (pthread_cond_destroy, EBUSY).
     #[tactic(auto, using(crate::proofs::Conditional::waited))]
-    pub fn has_condition_waiters(&self, p: PartId, c: ConditionNo) -> bool
-        requires partition { p < length self.now.limits }
-        ensures { result ≡ nat_lt 0 (length (condition_waiters (part_at p self.now).syncs c)) }
+    pub fn has_condition_waiters(&self, c: ConditionNo) -> bool
+        ensures { result ≡ nat_lt 0 (length (condition_waiters self.now.here.syncs c)) }
     {
+        let p = self.hand;
         self.roster.has_condition_waiters(p, c)
     }
 
     /// Whether a waiter of the condition variable is to have another mutex again (pthread_cond_wait, EINVAL).
-    pub fn names_another(&self, p: PartId, c: ConditionNo, m: MutexNo) -> bool
-        requires partition { p < length self.now.limits }
-        ensures { result ≡ names_another (part_at p self.now).syncs c m }
+    pub fn names_another(&self, c: ConditionNo, m: MutexNo) -> bool
+        ensures { result ≡ names_another self.now.here.syncs c m }
     {
+        let p = self.hand;
         ptk_cond::names_another(&self.roster, p, c, m)
     }
 
     /// A new condition variable, without waiters, at the least free number (pthread_cond_init).
-    #[tactic(auto, using(crate::proofs::Parted::parted, crate::proofs::Conditional::opened))]
-    pub fn init_condition(&mut self, p: PartId, c: ConditionNo)
-        requires partition { p < length self.old.limits }
-        requires free { least_free (part_at p self.old).conditions ≡ Some c }
-        ensures { self.new ≡ put_part p (with_pool_condition c (Some (record { waiters = [] })) (part_at p self.old)) self.old }
+    #[tactic(auto, using(crate::proofs::Hands::handed, crate::proofs::Conditional::opened))]
+    pub fn init_condition(&mut self, c: ConditionNo)
+        requires free { least_free self.old.here.conditions ≡ Some c }
+        ensures { self.new ≡ record self.old { here = with_pool_condition c (Some (record { waiters = [] })) self.old.here } }
     {
+        let p = self.hand;
         ptk_cond::init(&mut self.roster, p);
     }
 
     /// The number of a condition variable without waiters is free (pthread_cond_destroy).
-    #[tactic(auto, using(crate::proofs::Parted::parted))]
-    pub fn destroy_condition(&mut self, p: PartId, c: ConditionNo)
-        requires partition { p < length self.old.limits }
-        requires unwaited { condition_waiters (part_at p self.old).syncs c ≡ [] }
-        ensures { self.new ≡ put_part p (with_pool_condition c None (part_at p self.old)) self.old }
+    #[tactic(auto, using(crate::proofs::Hands::handed))]
+    pub fn destroy_condition(&mut self, c: ConditionNo)
+        requires unwaited { condition_waiters self.old.here.syncs c ≡ [] }
+        ensures { self.new ≡ record self.old { here = with_pool_condition c None self.old.here } }
     {
+        let p = self.hand;
         ptk_cond::destroy(&mut self.roster, p, c);
     }
 
     /// The running thread unlocks its mutex once, as unlock does, and is then the last waiter of the condition
     /// variable, until the deadline (a tick) if there is one (pthread_cond_wait, pthread_cond_timedwait). It still runs,
     /// and a deadline already reached is the caller's to refuse before.
-    #[tactic(auto, using(crate::proofs::Parted::parted))]
-    pub fn wait_on(
-        &mut self,
-        p: PartId,
-        t: ThreadNo,
-        c: ConditionNo,
-        m: MutexNo,
-        deadline: Option<Tick>,
-    )
-        requires partition { p < length self.old.limits }
-        requires well { IsWell (limits_at p self.old) (part_at p self.old) }
-        requires runs { (part_at p self.old).running ≡ Some t }
-        requires owned { owns t (mutex_at (part_at p self.old).locks m) ≡ true }
-        requires used { IsSome (pool_get (part_at p self.old).conditions c) }
-        ensures { self.new ≡ put_part p (with_syncs (after_condition_wait t c m deadline) (part_at p self.old)) self.old }
+    #[tactic(auto, using(crate::proofs::Hands::handed))]
+    pub fn wait_on(&mut self, t: ThreadNo, c: ConditionNo, m: MutexNo, deadline: Option<Tick>)
+        requires well { IsWell (limits_here self.old) self.old.here }
+        requires runs { self.old.here.running ≡ Some t }
+        requires owned { owns t (mutex_at self.old.here.locks m) ≡ true }
+        requires used { IsSome (pool_get self.old.here.conditions c) }
+        ensures { self.new ≡ record self.old { here = with_syncs (after_condition_wait t c m deadline) self.old.here } }
     {
+        let p = self.hand;
         let roster = &mut self.roster;
         let mutexes = &mut self.mutexes;
         let woken = ptk_cond::wait(roster, mutexes, p, t, c, m, deadline);
@@ -98,26 +91,26 @@ impl Pools {
 
     /// The waiter of greatest effective priority, the earliest among equals, is unblocked: it re-locks the mutex that it
     /// named, with reply 0 (pthread_cond_signal). Nothing changes without waiters.
-    #[tactic(auto, using(crate::proofs::Parted::parted))]
-    pub fn signal(&mut self, p: PartId, c: ConditionNo)
-        requires partition { p < length self.old.limits }
-        requires well { IsWell (limits_at p self.old) (part_at p self.old) }
-        ensures { self.new ≡ put_part p (with_syncs (after_signal c) (part_at p self.old)) self.old }
+    #[tactic(auto, using(crate::proofs::Hands::handed))]
+    pub fn signal(&mut self, c: ConditionNo)
+        requires well { IsWell (limits_here self.old) self.old.here }
+        ensures { self.new ≡ record self.old { here = with_syncs (after_signal c) self.old.here } }
     {
+        let p = self.hand;
         let roster = &mut self.roster;
         let mutexes = &mut self.mutexes;
         let woken = ptk_cond::signal(roster, mutexes, p, c);
-        end_one(&mut self.deadlines, p, woken);
+        self.deadlines.end_all(p, woken);
     }
 
     /// Every waiter is unblocked, one after the other, each choice in the state that the one before left
     /// (pthread_cond_broadcast).
-    #[tactic(auto, using(crate::proofs::Parted::parted))]
-    pub fn broadcast(&mut self, p: PartId, c: ConditionNo)
-        requires partition { p < length self.old.limits }
-        requires well { IsWell (limits_at p self.old) (part_at p self.old) }
-        ensures { self.new ≡ put_part p (with_syncs (after_broadcast c) (part_at p self.old)) self.old }
+    #[tactic(auto, using(crate::proofs::Hands::handed))]
+    pub fn broadcast(&mut self, c: ConditionNo)
+        requires well { IsWell (limits_here self.old) self.old.here }
+        ensures { self.new ≡ record self.old { here = with_syncs (after_broadcast c) self.old.here } }
     {
+        let p = self.hand;
         let roster = &mut self.roster;
         let mutexes = &mut self.mutexes;
         let woken = ptk_cond::broadcast(roster, mutexes, p, c);
@@ -126,13 +119,13 @@ impl Pools {
 
     /// A thread that waits on the condition variable is taken out of that wait: it re-locks the mutex that it named,
     /// without a reply, and has no deadline (XSH 2.9.5).
-    #[tactic(auto, using(crate::proofs::Parted::parted))]
-    pub fn withdraw_from_condition(&mut self, p: PartId, t: ThreadNo, c: ConditionNo)
-        requires partition { p < length self.old.limits }
-        requires well { IsWell (limits_at p self.old) (part_at p self.old) }
-        requires waits { condition_of_wait (wait_of (thread_at (part_at p self.old).locks t)) ≡ Some c }
-        ensures { self.new ≡ put_part p (with_syncs (after_unblock t c None) (part_at p self.old)) self.old }
+    #[tactic(auto, using(crate::proofs::Hands::handed))]
+    pub fn withdraw_from_condition(&mut self, t: ThreadNo, c: ConditionNo)
+        requires well { IsWell (limits_here self.old) self.old.here }
+        requires waits { condition_of_wait (wait_of (thread_at self.old.here.locks t)) ≡ Some c }
+        ensures { self.new ≡ record self.old { here = with_syncs (after_unblock t c None) self.old.here } }
     {
+        let p = self.hand;
         let roster = &mut self.roster;
         let mutexes = &mut self.mutexes;
         ptk_cond::withdraw(roster, mutexes, p, t, c, None);

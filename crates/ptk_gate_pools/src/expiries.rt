@@ -6,29 +6,21 @@ ghost use Rattle.ptk_words_locks.specs.Expiries.{next_expiry};
 ghost use Rattle.ptk_words_well.specs.Well.{IsWell};
 ghost use Rattle.ptk_clock.specs.BySlot.{deadlines_from};
 ghost use Rattle.ptk_clock.specs.ByThread.{first_slot, least_deadline};
-ghost use Rattle.ptk_gate_pools.specs.Kept.{part_at, put_part, limits_at, deadlines_in};
+ghost use Rattle.ptk_gate_pools.specs.Kept.{part_at, deadlines_in};
+ghost use Rattle.ptk_gate_pools.specs.Held.{limits_here, all_of};
 ghost use Rattle.ptk_gate_pools.specs.Expired.{after_one_expiry};
 
 use crate::pools::Pools;
 use ptk_clock::SharedDeadlines;
 use ptk_cond::time_out;
-use ptk_words::{PartId, Tick};
+use ptk_words::Tick;
 
 impl Pools {
-    /// The least deadline of the partition's threads (a tick); None where none has one.
-    #[tactic(auto, using(crate::proofs::Timed::rows))]
-    pub fn next_deadline(&self, p: PartId) -> Option<Tick>
-        requires partition { p < length self.now.limits }
-        ensures { result ≡ least_deadline (deadlines_of (part_at p self.now).locks) }
-    {
-        self.deadlines.next(p)
-    }
-
     /// The queue of all partitions' deadlines, by slot: a partition's threads have the slots behind those of the
     /// partitions before it, in order of number.
     pub fn deadlines(&self) -> &SharedDeadlines
-        ensures { (p : ℕ) → p < length self.now.limits
-            → deadlines_of (part_at p self.now).locks ≡ deadlines_from (first_slot p (map deadlines_in self.now.threads)) (length (part_at p self.now).threads) result.now.pairs }
+        ensures { (q : ℕ) → q < length self.now.elsewhere.limits
+            → deadlines_of (part_at q (all_of self.now)).locks ≡ deadlines_from (first_slot q (map deadlines_in (all_of self.now).threads)) (length (part_at q (all_of self.now)).threads) result.now.pairs }
     {
         self.deadlines.shared()
     }
@@ -37,13 +29,13 @@ impl Pools {
     /// a sleeper is woken with 0, a timed lock fails with ETIMEDOUT, a timed wait re-locks and is then told ETIMEDOUT
     /// (clock_nanosleep, pthread_mutex_timedlock, pthread_cond_timedwait). False, and nothing changes, where none is
     /// due.
-    #[tactic(auto, using(crate::proofs::Parted::parted))]
-    pub fn expire_next(&mut self, p: PartId, tick: Tick) -> bool
-        requires partition { p < length self.old.limits }
-        requires well { IsWell (limits_at p self.old) (part_at p self.old) }
-        ensures told { result ≡ is_some (next_expiry tick (deadlines_of (part_at p self.old).locks)) }
-        ensures moved { self.new ≡ put_part p (after_one_expiry (next_expiry tick (deadlines_of (part_at p self.old).locks)) (part_at p self.old)) self.old }
+    #[tactic(auto, using(crate::proofs::Hands::handed))]
+    pub fn expire_next(&mut self, tick: Tick) -> bool
+        requires well { IsWell (limits_here self.old) self.old.here }
+        ensures told { result ≡ is_some (next_expiry tick (deadlines_of self.old.here.locks)) }
+        ensures moved { self.new ≡ record self.old { here = after_one_expiry (next_expiry tick (deadlines_of self.old.here.locks)) self.old.here } }
     {
+        let p = self.hand;
         match self.deadlines.take_due(p, tick) {
             Some(t) => {
                 let roster = &mut self.roster;

@@ -1,7 +1,8 @@
 //! The tables.
 
-ghost use Rattle.std.specs.Prelude.{◌≡◌, length};
-ghost use Rattle.ptk_gate_pools.specs.Kept.{AreParts};
+ghost use Rattle.std.specs.Prelude.{◌≡◌, ◌<◌, length};
+ghost use Rattle.ptk_gate_pools.specs.Kept.{AreStored, AreQueued};
+ghost use Rattle.ptk_gate_pools.specs.Held.{held, all_of};
 
 use ptk_cancel::Cancellations;
 use ptk_clock::ThreadDeadlines;
@@ -11,7 +12,7 @@ use ptk_mutex::Mutexes;
 use ptk_regions::Regions;
 use ptk_roster::Roster;
 use ptk_threads::Threads;
-use ptk_words::{Entry, Limits, Status, ThreadNo};
+use ptk_words::{Entry, Limits, PartId, Status, ThreadNo};
 use std::marker::Model;
 
 /// What the kernel keeps of all partitions: one slot table, one memory vector, and a pool of each other kind.
@@ -27,6 +28,7 @@ pub struct Pools {
     pub(crate) statuses: Vec<Status>,
     pub(crate) lasts: Vec<Option<Entry>>,
     pub(crate) limits: Vec<Limits>,
+    pub(crate) hand: PartId,
 }
 
 // By hand: a function that drops the pools calls this, and its proof does not spell out the drop of each part.
@@ -44,34 +46,45 @@ impl Drop for Pools {
             statuses,
             lasts,
             limits,
+            hand,
         } = self;
     }
 }
 
 impl Model for Pools {
-    ghost use Rattle.ptk_gate_pools.specs.Kept.{Kept};
+    ghost use Rattle.ptk_gate_pools.specs.Held.{Held, held};
     ghost use Rattle.ptk_gate_pools.specs.Pooled.{kept_of, ArePooled};
 
-    ghost Value = { Kept };
+    ghost Value = { Held };
 
-    ghost view = { λ a. kept_of a };
+    ghost view = { λ a. held a.hand (kept_of a) };
 
     ghost invariant = { λ a. ArePooled a };
 }
 
 impl Pools {
-    /// How many partitions there are, at most 8. It opens the invariant: each partition has an entry in every component.
-    #[tactic(auto, using(crate::proofs::Opened::opened))]
+    /// How many partitions there are, at most 8.
     pub fn parts(&self) -> usize
-        ensures count { result ≡ length self.now.limits }
-        ensures entries { AreParts (length self.now.limits) self.now }
+        ensures { result ≡ length self.now.elsewhere.limits }
     {
         self.limits.len()
     }
 
-    /// The slot table of all partitions' threads.
+    /// Takes the partition in hand: the calls that follow act on it.
+    #[tactic(auto, using(crate::proofs::Hands::taken))]
+    pub fn take(&mut self, p: PartId)
+        requires { p < length self.old.elsewhere.limits }
+        ensures { self.new ≡ held p (all_of self.old) }
+    {
+        self.hand = p;
+    }
+
+    /// The slot table of all partitions' threads. Its stored priorities are the effective ones, and its queues are the
+    /// ready threads of each priority, in the line's order, and the waiters of each mutex and condition variable.
     pub fn threads(&self) -> &Threads
-        ensures { result.now.threads ≡ self.now.threads }
+        ensures threads { result.now.threads ≡ (all_of self.now).threads }
+        ensures stored { AreStored result.now.stored (all_of self.now).threads (all_of self.now).mutexes }
+        ensures queues { AreQueued result.now.stored result.now.queues (all_of self.now) }
     {
         self.roster.threads()
     }
@@ -82,8 +95,9 @@ impl Pools {
     }
 
     /// The memory of all partitions.
+    #[tactic(auto, using(crate::proofs::Hands::taken))]
     pub fn regions(&self) -> &Regions
-        ensures { result.now ≡ self.now.memory }
+        ensures { result.now ≡ (all_of self.now).memory }
     {
         &self.regions
     }

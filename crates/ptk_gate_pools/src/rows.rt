@@ -8,7 +8,6 @@ ghost use Rattle.ptk_words_model.specs.Priority.{thread_at};
 ghost use Rattle.ptk_threads.specs.Table.{thread_in, with_changed};
 ghost use Rattle.ptk_words_quiet.specs.Quiet.{ArePlain, core_of, computed, after_row};
 ghost use Rattle.ptk_trace.specs.TracedRows.{last_entry, traced};
-ghost use Rattle.ptk_gate_pools.specs.Kept.{part_at, put_part};
 
 use crate::pools::Pools;
 use ptk_roster::Roster;
@@ -20,24 +19,17 @@ impl Pools {
     /// Plain steps of a thread in use in a row, the first of them at the tick, at most so many, until the next word is no
     /// plain step; how many. Each is counted as if it had been a decision: the registers, the memory, the used ticks of
     /// SCHED_RR, the last step, and the trace, which has them as the newest. Nothing else changes.
-    pub fn run_row(
-        &mut self,
-        p: PartId,
-        t: ThreadNo,
-        tick: Tick,
-        most: u32,
-        trace: &mut Trace,
-    ) -> u32
-        requires partition { p < length self.old.limits }
+    pub fn run_row(&mut self, t: ThreadNo, tick: Tick, most: u32, trace: &mut Trace) -> u32
         requires time { tick < 2 ^ 63 }
-        requires in_use { IsSome (thread_at (part_at p self.old).locks t) }
-        requires room { (thread : Thread) → thread_at (part_at p self.old).locks t ≡ Some thread → thread.used + most < 2 ^ 32 }
+        requires in_use { IsSome (thread_at self.old.here.locks t) }
+        requires room { (thread : Thread) → thread_at self.old.here.locks t ≡ Some thread → thread.used + most < 2 ^ 32 }
         ensures few { result ≤ most }
-        ensures plain { (thread : Thread) → thread_at (part_at p self.old).locks t ≡ Some thread → ArePlain result (core_of thread (part_at p self.old)) }
-        ensures moved { (thread : Thread) → thread_at (part_at p self.old).locks t ≡ Some thread → self.new ≡ put_part p (after_row tick t result thread (part_at p self.old)) self.old }
-        ensures traced { (thread : Thread) → thread_at (part_at p self.old).locks t ≡ Some thread → trace.new ≡ traced tick t result (core_of thread (part_at p self.old)) trace.old }
-        ensures ended { (thread : Thread) → thread_at (part_at p self.old).locks t ≡ Some thread → result < most → is_plain (plain_steps result (core_of thread (part_at p self.old))) ≡ false }
+        ensures plain { (thread : Thread) → thread_at self.old.here.locks t ≡ Some thread → ArePlain result (core_of thread self.old.here) }
+        ensures moved { (thread : Thread) → thread_at self.old.here.locks t ≡ Some thread → self.new ≡ record self.old { here = after_row tick t result thread self.old.here } }
+        ensures traced { (thread : Thread) → thread_at self.old.here.locks t ≡ Some thread → trace.new ≡ traced tick t result (core_of thread self.old.here) trace.old }
+        ensures ended { (thread : Thread) → thread_at self.old.here.locks t ≡ Some thread → result < most → is_plain (plain_steps result (core_of thread self.old.here)) ≡ false }
     {
+        let p = self.hand;
         run_at(
             &mut self.roster,
             self.regions.lend(p),

@@ -109,21 +109,23 @@ waits_idle : (o : Option Thread) → wait_of o ≡ Some InputWait → is_ready o
 waits_idle None e = refl
 waits_idle (Some thread) e = ready_wait (not (is_ended thread.phase)) thread.wait e
 
-waiter_waits : (limits : Limits) (s : Part) (t : ℕ) → IsWell limits s → first_waiter s ≡ Some t → wait_of (thread_at s.locks t) ≡ Some InputWait
-waiter_waits limits s t well e = well.waiters_wait t (first_in (effective_priority s.locks) t s.console.waiters e)
+waiter_waits : (limits : Limits) (s : Part) (t : ℕ) (o : Option ℕ) → IsWell limits s → o ≡ first_waiter s → o ≡ Some t → wait_of (thread_at s.locks t) ≡ Some InputWait
+waiter_waits limits s t o well first is = well.waiters_wait t (first_in (effective_priority s.locks) t s.console.waiters (sym first ∙ is))
 
 -- the waiter is in use
-pub waiter_in_use : (limits : Limits) (s : Part) (t : ℕ) → IsWell limits s → first_waiter s ≡ Some t → IsSome (thread_at s.locks t)
-waiter_in_use limits s t well e = waits_used (thread_at s.locks t) (waiter_waits limits s t well e)
+pub waiter_in_use : (limits : Limits) (s : Part) (t : ℕ) (o : Option ℕ) → IsWell limits s → o ≡ first_waiter s → o ≡ Some t → IsSome (thread_at s.locks t)
+waiter_in_use limits s t o well first is = waits_used (thread_at s.locks t) (waiter_waits limits s t o well first is)
 
 -- and not in the line
-pub waiter_fresh : (limits : Limits) (s : Part) (t : ℕ) → IsWell limits s → first_waiter s ≡ Some t → is_in t s.line ≡ false
-waiter_fresh limits s t well e =
-    false_from_ne_true (is_in t s.line) (λ lined. false≢true (sym (waits_idle (thread_at s.locks t) (waiter_waits limits s t well e)) ∙ well.line_ready t lined))
+pub waiter_fresh : (limits : Limits) (s : Part) (t : ℕ) (o : Option ℕ) → IsWell limits s → o ≡ first_waiter s → o ≡ Some t → is_in t s.line ≡ false
+waiter_fresh limits s t o well first is =
+    false_from_ne_true (is_in t s.line) (λ lined. false≢true (sym (waits_idle (thread_at s.locks t) (waiter_waits limits s t o well first is)) ∙ well.line_ready t lined))
 
 -- and in no list of waiters of a mutex or a condition variable
-pub waiter_apart : (limits : Limits) (s : Part) (t : ℕ) → IsWell limits s → first_waiter s ≡ Some t → IsNoWaiter t s.mutexes s.conditions
-waiter_apart limits s t well e = reader_apart limits t s well (waiter_waits limits s t well e)
+pub waiter_apart : (limits : Limits) (s : Part) (t : ℕ) (o : Option ℕ) → IsWell limits s → o ≡ first_waiter s → o ≡ Some t → IsNoWaiter t s.mutexes s.conditions
+waiter_apart limits s t o well first is = reader_apart limits t s well (waiter_waits limits s t o well first is)
+
+pub ruleset waiters = (waiter_in_use, waiter_fresh, waiter_apart)
 
 -- ---- the count of lost bytes
 

@@ -6,12 +6,10 @@ use Rattle.ptk_words.specs.Pools.{numbered, pool_set}
 use Rattle.ptk_words.specs.declared.faults.Errno.TheVariants.{EINVAL}
 use Rattle.ptk_words.specs.declared.threads.Cleanup.{Cleanup}
 use Rattle.ptk_words_model.specs.declared.Invocation.{Invocation}
-use Rattle.ptk_words_model.specs.Calls.{Answer, refusal, success}
+use Rattle.ptk_words_model.specs.Calls.{refusal, success}
 use Rattle.ptk_words_model.specs.CancellationCalls.{cleanup_pop_answer, cleanup_pop}
 use Rattle.ptk_words_model.specs.State.{Part, with_cleanups}
 use Rattle.ptk_words_model.specs.Unwinding.{cleanups_of}
-use Rattle.ptk_gate_moves.specs.Kept.{Kept, part_at, put_part}
-use Rattle.ptk_gate_moves.proofs.Ranks.{put_same}
 
 -- ---- a handler pushed
 
@@ -50,28 +48,16 @@ first_dropped_at t None stacks cleanup cleanups first = absurd (let no : ⊥ = c
 first_dropped_at t (Some stack) stacks cleanup cleanups first = rw first refl
 
 -- so nothing changes
-none_taken_off : (p t : ℕ) (kept mid : Kept) → mid ≡ put_part p (with_cleanups t (drop 1) (part_at p kept)) kept → slice_get (cleanups_of (part_at p kept) t) 0 ≡ None → mid ≡ kept
-none_taken_off p t kept mid e none =
-    let s : Part = part_at p kept in
-    e
-    ∙ ap (λ (stacks : List (List Cleanup)). put_part p (record s { cleanups = stacks }) kept) (none_dropped_at t (numbered s.cleanups t) s.cleanups refl (no_first (cleanups_of s t) none))
-    ∙ sym (put_same p kept)
+none_taken_off : (t : ℕ) (s : Part) → slice_get (cleanups_of s t) 0 ≡ None → with_cleanups t (drop 1) s ≡ s
+none_taken_off t s none = ap (λ (stacks : List (List Cleanup)). record s { cleanups = stacks }) (none_dropped_at t (numbered s.cleanups t) s.cleanups refl (no_first (cleanups_of s t) none))
 
 emptied_at : (handlers : List Cleanup) (i : Invocation) (s : Part) → slice_get handlers 0 ≡ None → cleanup_pop_answer handlers i s ≡ refusal EINVAL i s
 emptied_at [] i s none = refl
 emptied_at (cleanup ∷ cleanups) i s none = absurd (let no : ⊥ = cc in no)
 
--- call 45 of a caller with no handler
-pub emptied_is : (i : Invocation) (s : Part) → slice_get (cleanups_of s i.caller) 0 ≡ None → cleanup_pop i s ≡ refusal EINVAL i s
-emptied_is i s none = emptied_at (cleanups_of s i.caller) i s none
-
--- a refusal after none was taken off
-pub emptied_moved : (p : ℕ) (i : Invocation) (kept mid new : Kept) → slice_get (cleanups_of (part_at p kept) i.caller) 0 ≡ None → mid ≡ put_part p (with_cleanups i.caller (drop 1) (part_at p kept)) kept
-    → new ≡ put_part p (refusal EINVAL i (part_at p mid)).part mid → new ≡ put_part p (cleanup_pop i (part_at p kept)).part kept
-emptied_moved p i kept mid new none first second =
-    second
-    ∙ ap (λ (k : Kept). put_part p (refusal EINVAL i (part_at p k)).part k) (none_taken_off p i.caller kept mid first none)
-    ∙ ap (λ (a : Answer). put_part p a.part kept) (sym (emptied_is i (part_at p kept) none))
+-- call 45 of a caller with no handler: a refusal after none was taken off
+pub emptied_is : (i : Invocation) (s : Part) → slice_get (cleanups_of s i.caller) 0 ≡ None → cleanup_pop i s ≡ refusal EINVAL i (with_cleanups i.caller (drop 1) s)
+emptied_is i s none = emptied_at (cleanups_of s i.caller) i s none ∙ ap (refusal EINVAL i) (sym (none_taken_off i.caller s none))
 
 taken_off_at : (handlers : List Cleanup) (cleanup : Cleanup) (i : Invocation) (s : Part) → cleanups_of s i.caller ≡ handlers → slice_get handlers 0 ≡ Some cleanup
     → cleanup_pop_answer handlers i s ≡ success (cleanup.routine ∷ cleanup.argument ∷ []) i (with_cleanups i.caller (drop 1) s)

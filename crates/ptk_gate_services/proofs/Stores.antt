@@ -1,16 +1,11 @@
 -- Bytes stored one after another.
-use Rattle.std.proofs.Common.{arith, ◌≡◌, ℕ, ◌+◌, ◌<◌, ◌≤◌, min, List, length, take, drop, ◌++◌, refl, sym, ◌∙◌, ap, length-append, length-take}
+use Rattle.std.proofs.Common.{arith, ◌≡◌, ℕ, ◌+◌, ◌≤◌, min, List, length, take, drop, ◌++◌, refl, sym, ◌∙◌, ap, length-append, length-take}
 use Rattle.std.specs.Prelude.{◌*◌, ◌/◌, ◌%◌, ◌^◌}
 use Rattle.std.specs.Int.{w32, w64, to_le_bytes}
 use Rattle.std.proofs.lemmas.List.{take_at, drop_at, drop-drop, append_assoc}
 use Rattle.ptk_words.specs.Words.{with_bytes, with_word}
 use Rattle.ptk_words_model.specs.Time.{time_bytes}
-use Rattle.ptk_words_model.specs.State.{Part}
-use Rattle.ptk_words_model.specs.Calls.{with_stored}
 use Rattle.ptk_words_well.proofs.Effects.{length-with_bytes}
-use Rattle.ptk_gate_moves.specs.Kept.{Kept, AreParts, part_at, put_part}
-use Rattle.ptk_gate_moves.proofs.Parted.{part_at-put, put_part-put}
-use Rattle.ptk_gate_services.specs.Times.{with_seconds, with_time}
 
 -- they are as one row of bytes stored
 pub stored_after : (memory first second : List ℕ) (a b : ℕ) → a + length first ≡ b → b ≤ length memory → with_bytes (with_bytes memory a first) b second ≡ with_bytes memory a (first ++ second)
@@ -64,15 +59,3 @@ seconds_length memory pointer seconds le = length-with_bytes memory (to_le_bytes
 pub ruleset seconds_stores = (seconds_stored, word_length)
 
 pub ruleset time_stores = (time_stored, seconds_length)
-
--- so of a partition's memory
-pub time_moved : (n p pointer tick : ℕ) (kept mid new : Kept) → AreParts n kept → p < n → pointer + 12 ≤ length (part_at p kept).memory → mid ≡ put_part p (with_seconds pointer (tick / 1000000) (part_at p kept)) kept
-    → new ≡ put_part p (with_stored (pointer + 8) (tick % 1000000 * 1000) (part_at p mid)) mid → new ≡ put_part p (with_time pointer tick (part_at p kept)) kept
-time_moved n p pointer tick kept mid new parts lt le first second =
-    let s : Part = part_at p kept in
-    let at : part_at p mid ≡ with_seconds pointer (tick / 1000000) s = ap (part_at p) first ∙ part_at-put n p (with_seconds pointer (tick / 1000000) s) kept parts lt in
-    second
-    ∙ ap (λ (u : Part). put_part p (with_stored (pointer + 8) (tick % 1000000 * 1000) u) mid) at
-    ∙ ap (put_part p (with_stored (pointer + 8) (tick % 1000000 * 1000) (with_seconds pointer (tick / 1000000) s))) first
-    ∙ put_part-put p (with_stored (pointer + 8) (tick % 1000000 * 1000) (with_seconds pointer (tick / 1000000) s)) (with_seconds pointer (tick / 1000000) s) kept
-    ∙ ap (λ memory. put_part p (record s { memory = memory }) kept) (time_stored s.memory pointer tick le)

@@ -1,6 +1,6 @@
 //! Input that arrives: to a waiter, or into the ring (own choice).
 
-ghost use Rattle.std.specs.Prelude.{◌≡◌, ◌<◌, false, [], ◌∷◌, length, Some, IsSome, is_some};
+ghost use Rattle.std.specs.Prelude.{◌≡◌, false, [], ◌∷◌, Some, IsSome, is_some};
 ghost use Rattle.ptk_words_model.specs.State.{with_locks, with_console};
 ghost use Rattle.ptk_words_model.specs.Console.{without_waiter};
 ghost use Rattle.ptk_words_model.specs.Priority.{thread_at};
@@ -9,43 +9,39 @@ ghost use Rattle.ptk_words_model.specs.Decision.{first_waiter, after_arrivals};
 ghost use Rattle.ptk_words_well.specs.Well.{IsWell};
 ghost use Rattle.ptk_words.specs.Pools.{is_in};
 ghost use Rattle.ptk_console.specs.ConsoleTable.{next_byte};
-ghost use Rattle.ptk_gate_moves.specs.Kept.{AreParts, part_at, put_part, limits_at};
+ghost use Rattle.ptk_gate_moves.specs.Held.{limits_here};
 ghost use Rattle.ptk_words_locks.specs.Conditions.{IsNoWaiter};
 ghost use Rattle.ptk_gate_services.specs.Arrivals.{after_next};
 
 use ptk_gate_moves::{Pools, wake};
-use ptk_words::{PartId, ThreadNo, Tick};
+use ptk_words::{ThreadNo, Tick};
 
 /// The waiter is ready, with the byte in a1.
-#[tactic(auto, using(ptk_gate_moves::proofs::Parted::parted, ptk_gate_moves::proofs::NoWaiters::still_apart))]
-fn hand_byte(pools: &mut Pools, p: PartId, t: ThreadNo, byte: u8)
-    requires partition { p < length pools.old.limits }
-    requires in_use { IsSome (thread_at (part_at p pools.old).locks t) }
-    requires fresh { is_in t (part_at p pools.old).line ≡ false }
-    requires free { IsNoWaiter t (part_at p pools.old).mutexes (part_at p pools.old).conditions }
-    ensures { pools.new ≡ put_part p (with_locks (after_wake t (0 ∷ byte ∷ [])) (with_console (without_waiter t) (part_at p pools.old))) pools.old }
+#[tactic(auto, using(ptk_gate_moves::proofs::NoWaiters::still_apart))]
+fn hand_byte(pools: &mut Pools, t: ThreadNo, byte: u8)
+    requires in_use { IsSome (thread_at pools.old.here.locks t) }
+    requires fresh { is_in t pools.old.here.line ≡ false }
+    requires free { IsNoWaiter t pools.old.here.mutexes pools.old.here.conditions }
+    ensures { pools.new ≡ record pools.old { here = with_locks (after_wake t (0 ∷ byte ∷ [])) (with_console (without_waiter t) pools.old.here) } }
 {
-    let _parts = pools.parts();
-    pools.leave_waiters(p, t);
-    wake(pools, p, t, &[0, byte as u32]);
+    pools.leave_waiters(t);
+    wake(pools, t, &[0, byte as u32]);
 }
 
 /// Hands the next input byte, if it comes at the tick or before, to the first waiter; whether one came.
-#[tactic(auto, using(ptk_gate_moves::proofs::Parted::parted, ptk_gate_moves::proofs::NoWaiters::still_apart))]
-fn hand_next(pools: &mut Pools, p: PartId, t: ThreadNo, tick: Tick) -> bool
-    requires partition { p < length pools.old.limits }
-    requires waiter { first_waiter (part_at p pools.old) ≡ Some t }
-    requires in_use { IsSome (thread_at (part_at p pools.old).locks t) }
-    requires fresh { is_in t (part_at p pools.old).line ≡ false }
-    requires free { IsNoWaiter t (part_at p pools.old).mutexes (part_at p pools.old).conditions }
-    ensures told { result ≡ is_some (next_byte tick (part_at p pools.old).console) }
-    ensures moved { pools.new ≡ put_part p (after_next (limits_at p pools.old).ring tick (part_at p pools.old)) pools.old }
+#[tactic(auto, using(crate::proofs::ArrivalLoop::arrivals))]
+fn hand_next(pools: &mut Pools, t: ThreadNo, tick: Tick) -> bool
+    requires waiter { first_waiter pools.old.here ≡ Some t }
+    requires in_use { IsSome (thread_at pools.old.here.locks t) }
+    requires fresh { is_in t pools.old.here.line ≡ false }
+    requires free { IsNoWaiter t pools.old.here.mutexes pools.old.here.conditions }
+    ensures told { result ≡ is_some (next_byte tick pools.old.here.console) }
+    ensures moved { pools.new ≡ record pools.old { here = after_next (limits_here pools.old).ring tick pools.old.here } }
 {
-    let _parts = pools.parts();
-    let next = pools.next_arrival(p, tick);
+    let next = pools.next_arrival(tick);
     match next {
         Some(byte) => {
-            hand_byte(pools, p, t, byte);
+            hand_byte(pools, t, byte);
             true
         }
         None => false,
@@ -54,30 +50,27 @@ fn hand_next(pools: &mut Pools, p: PartId, t: ThreadNo, tick: Tick) -> bool
 
 /// Takes the next input byte, if it comes at the tick or before, and brings it to the first waiter, or into the ring,
 /// or loses it; whether one came.
-fn arrive_next(pools: &mut Pools, p: PartId, tick: Tick) -> bool
-    requires partition { p < length pools.old.limits }
-    requires well { IsWell (limits_at p pools.old) (part_at p pools.old) }
-    ensures told { result ≡ is_some (next_byte tick (part_at p pools.old).console) }
-    ensures moved { pools.new ≡ put_part p (after_next (limits_at p pools.old).ring tick (part_at p pools.old)) pools.old }
-    ensures parts { AreParts (length pools.old.limits) pools.old }
+#[tactic(auto, using(crate::proofs::ArrivalLoop::arrivals))]
+fn arrive_next(pools: &mut Pools, tick: Tick) -> bool
+    requires well { IsWell (limits_here pools.old) pools.old.here }
+    ensures told { result ≡ is_some (next_byte tick pools.old.here.console) }
+    ensures moved { pools.new ≡ record pools.old { here = after_next (limits_here pools.old).ring tick pools.old.here } }
 {
-    let _parts = pools.parts();
-    let is_due = pools.is_input_due(p, tick);
+    let is_due = pools.is_input_due(tick);
     if !is_due {
         return false;
     }
-    let waiter = pools.first_waiter(p);
+    let waiter = pools.first_waiter();
     match waiter {
-        Some(t) => hand_next(pools, p, t, tick),
-        None => pools.keep_next(p, tick),
+        Some(t) => hand_next(pools, t, tick),
+        None => pools.keep_next(tick),
     }
 }
 
 /// All input that comes at the tick or before arrives, in its order.
-pub fn arrive_due(pools: &mut Pools, p: PartId, tick: Tick)
-    requires partition { p < length pools.old.limits }
-    requires well { IsWell (limits_at p pools.old) (part_at p pools.old) }
-    ensures { pools.new ≡ put_part p (after_arrivals (limits_at p pools.old) tick (part_at p pools.old)) pools.old }
+pub fn arrive_due(pools: &mut Pools, tick: Tick)
+    requires well { IsWell (limits_here pools.old) pools.old.here }
+    ensures { pools.new ≡ record pools.old { here = after_arrivals (limits_here pools.old) tick pools.old.here } }
 {
-    'due: while arrive_next(pools, p, tick) {}
+    'due: while arrive_next(pools, tick) {}
 }

@@ -3,7 +3,7 @@
 ghost use Rattle.std.specs.Prelude.{◌≡◌, ◌<◌, ◌≤◌, ◌+◌, length};
 ghost use Rattle.ptk_words_model.specs.TimeCalls.{is_no_clock, clock_gettime, clock_nanosleep};
 ghost use Rattle.ptk_words_well.specs.Well.{IsWell};
-ghost use Rattle.ptk_gate_moves.specs.Kept.{part_at, put_part, limits_at};
+ghost use Rattle.ptk_gate_moves.specs.Held.{limits_here};
 ghost use Rattle.ptk_clock.specs.Ticks.{seconds_of, nanoseconds_of};
 ghost use Rattle.ptk_gate_services.specs.Times.{with_seconds, with_time, slept};
 
@@ -11,29 +11,27 @@ use ptk_clock::from_tick;
 use ptk_gate_moves::{
     Pools, asked_deadline, block, cancel, is_cancelled, is_pointer, refuse, succeed,
 };
-use ptk_words::{Errno, PartId, Tick, Wait};
+use ptk_words::{Errno, Tick, Wait};
 use ptk_words_model::{Invocation, Reply};
 
 /// clock_gettime: the tick at which the step began, of 1,000 ns, as a timespec at the pointer of a1; CLOCK_REALTIME, 0,
 /// and CLOCK_MONOTONIC, 1, read the same (own choice). EFAULT where the pointer is no multiple of 4 or its 12 bytes lie
 /// outside memory, then EINVAL of another clock in a0; a refusal changes nothing but a0.
-#[tactic(auto, using(ptk_gate_moves::proofs::Parted::parted, ptk_gate_moves::proofs::Pointers::pointers))]
-pub fn clock_gettime(pools: &mut Pools, p: PartId, i: Invocation) -> Reply
-    requires partition { p < length pools.old.limits }
-    requires well { IsWell (limits_at p pools.old) (part_at p pools.old) }
-    requires limits { i.limits ≡ limits_at p pools.old }
-    ensures told { result ≡ (clock_gettime i (part_at p pools.old)).reply }
-    ensures moved { pools.new ≡ put_part p (clock_gettime i (part_at p pools.old)).part pools.old }
+#[tactic(auto, using(ptk_gate_moves::proofs::Pointers::pointers))]
+pub fn clock_gettime(pools: &mut Pools, i: Invocation) -> Reply
+    requires well { IsWell (limits_here pools.old) pools.old.here }
+    requires limits { i.limits ≡ limits_here pools.old }
+    ensures told { result ≡ (clock_gettime i pools.old.here).reply }
+    ensures moved { pools.new ≡ record pools.old { here = (clock_gettime i pools.old.here).part } }
 {
-    let _parts = pools.parts();
-    if !is_pointer(pools, p, i.a1, 12) {
-        return refuse(pools, p, i, Errno::EFAULT);
+    if !is_pointer(pools, i.a1, 12) {
+        return refuse(pools, i, Errno::EFAULT);
     }
     if is_no_clock(i.a0) {
-        return refuse(pools, p, i, Errno::EINVAL);
+        return refuse(pools, i, Errno::EINVAL);
     }
-    store_time(pools, p, i.a1, i.limits.memory, i.tick);
-    succeed(pools, p, i)
+    store_time(pools, i.a1, i.limits.memory, i.tick);
+    succeed(pools, i)
 }
 
 /// Whether the word is neither CLOCK_REALTIME, 0, nor CLOCK_MONOTONIC, 1.
@@ -44,17 +42,15 @@ fn is_no_clock(word: u32) -> bool
 }
 
 /// Stores the tick as a timespec at the pointer, in a memory of this size: seconds low and high, then nanoseconds.
-#[tactic(auto, using(ptk_gate_moves::proofs::Parted::parted, crate::proofs::Stores::time_stores))]
-fn store_time(pools: &mut Pools, p: PartId, pointer: u32, size: u32, tick: Tick)
-    requires partition { p < length pools.old.limits }
-    requires size { length (part_at p pools.old).memory ≡ size }
+#[tactic(auto, using(crate::proofs::Stores::time_stores))]
+fn store_time(pools: &mut Pools, pointer: u32, size: u32, tick: Tick)
+    requires size { length pools.old.here.memory ≡ size }
     requires room { pointer + 12 ≤ size }
-    ensures { pools.new ≡ put_part p (with_time pointer tick (part_at p pools.old)) pools.old }
+    ensures { pools.new ≡ record pools.old { here = with_time pointer tick pools.old.here } }
 {
-    let _parts = pools.parts();
     let (seconds, nanoseconds) = time_of(tick);
-    store_seconds(pools, p, pointer, size, seconds);
-    pools.store_word(p, pointer + 8, nanoseconds);
+    store_seconds(pools, pointer, size, seconds);
+    pools.store_word(pointer + 8, nanoseconds);
 }
 
 /// The time of a tick, as seconds and nanoseconds.
@@ -66,16 +62,14 @@ fn time_of(tick: Tick) -> (u64, u32)
 }
 
 /// Stores the seconds at the pointer, in a memory of this size: the low word, then the high one.
-#[tactic(auto, using(ptk_gate_moves::proofs::Parted::parted, crate::proofs::Stores::seconds_stores))]
-fn store_seconds(pools: &mut Pools, p: PartId, pointer: u32, size: u32, seconds: u64)
-    requires partition { p < length pools.old.limits }
-    requires size { length (part_at p pools.old).memory ≡ size }
+#[tactic(auto, using(crate::proofs::Stores::seconds_stores))]
+fn store_seconds(pools: &mut Pools, pointer: u32, size: u32, seconds: u64)
+    requires size { length pools.old.here.memory ≡ size }
     requires room { pointer + 8 ≤ size }
-    ensures { pools.new ≡ put_part p (with_seconds pointer seconds (part_at p pools.old)) pools.old }
+    ensures { pools.new ≡ record pools.old { here = with_seconds pointer seconds pools.old.here } }
 {
-    let _parts = pools.parts();
-    pools.store_word(p, pointer, (seconds % 4_294_967_296) as u32);
-    pools.store_word(p, pointer + 4, (seconds / 4_294_967_296) as u32);
+    pools.store_word(pointer, (seconds % 4_294_967_296) as u32);
+    pools.store_word(pointer + 4, (seconds / 4_294_967_296) as u32);
 }
 
 /// clock_nanosleep with TIMER_ABSTIME: the caller blocks until the time of the timespec at the pointer of a1, rounded
@@ -84,36 +78,33 @@ fn store_seconds(pools: &mut Pools, p: PartId, pointer: u32, size: u32, seconds:
 /// cancellation point: a cancelled caller begins its unwinding; then EINVAL of another clock in a0 or of nanoseconds
 /// that are none from 0 to 999,999,999. A refusal changes nothing but a0.
 #[tactic(auto, using(ptk_gate_moves::proofs::Pointers::pointers))]
-pub fn clock_nanosleep(pools: &mut Pools, p: PartId, i: Invocation) -> Reply
-    requires partition { p < length pools.old.limits }
-    ensures told { result ≡ (clock_nanosleep i (part_at p pools.old)).reply }
-    ensures moved { pools.new ≡ put_part p (clock_nanosleep i (part_at p pools.old)).part pools.old }
+pub fn clock_nanosleep(pools: &mut Pools, i: Invocation) -> Reply
+    ensures told { result ≡ (clock_nanosleep i pools.old.here).reply }
+    ensures moved { pools.new ≡ record pools.old { here = (clock_nanosleep i pools.old.here).part } }
 {
-    let _parts = pools.parts();
-    if !is_pointer(pools, p, i.a1, 12) {
-        return refuse(pools, p, i, Errno::EFAULT);
+    if !is_pointer(pools, i.a1, 12) {
+        return refuse(pools, i, Errno::EFAULT);
     }
-    if is_cancelled(pools, p, i.caller) {
-        return cancel(pools, p, i);
+    if is_cancelled(pools, i.caller) {
+        return cancel(pools, i);
     }
     if is_no_clock(i.a0) {
-        return refuse(pools, p, i, Errno::EINVAL);
+        return refuse(pools, i, Errno::EINVAL);
     }
-    match asked_deadline(pools, p, i.a1) {
-        Some(deadline) => sleep(pools, p, i, deadline),
-        None => refuse(pools, p, i, Errno::EINVAL),
+    match asked_deadline(pools, i.a1) {
+        Some(deadline) => sleep(pools, i, deadline),
+        None => refuse(pools, i, Errno::EINVAL),
     }
 }
 
 /// The caller sleeps until the tick, and not at all where it has come.
-fn sleep(pools: &mut Pools, p: PartId, i: Invocation, deadline: Tick) -> Reply
-    requires partition { p < length pools.old.limits }
-    ensures told { result ≡ (slept deadline i (part_at p pools.old)).reply }
-    ensures moved { pools.new ≡ put_part p (slept deadline i (part_at p pools.old)).part pools.old }
+fn sleep(pools: &mut Pools, i: Invocation, deadline: Tick) -> Reply
+    ensures told { result ≡ (slept deadline i pools.old.here).reply }
+    ensures moved { pools.new ≡ record pools.old { here = (slept deadline i pools.old.here).part } }
 {
     if deadline.ticks() <= i.tick.ticks() {
-        succeed(pools, p, i)
+        succeed(pools, i)
     } else {
-        block(pools, p, i, Wait::SleepWait(deadline))
+        block(pools, i, Wait::SleepWait(deadline))
     }
 }

@@ -1,5 +1,5 @@
 -- How a quiet call is made: its reply and ticks put, its effect made, and the last step noted.
-use Rattle.std.proofs.Common.{◌≡◌, ℕ, ◌<◌, ◌+◌, Bool, true, false, refl, sym, ap, subst, ◌∙◌}
+use Rattle.std.proofs.Common.{◌≡◌, ℕ, ◌+◌, Bool, true, false, refl, sym, ap, subst, ◌∙◌}
 use Rattle.std.specs.Prelude.{Option, Some, if◌then◌else◌}
 use Rattle.ptk_words.specs.Pools.{pool_get, pool_set}
 use Rattle.ptk_words.specs.Processor.{Processor}
@@ -18,16 +18,17 @@ use Rattle.ptk_words_model.specs.Console.{is_full, with_output}
 use Rattle.ptk_words_model.specs.Decision.{with_cpu, word_fetched}
 use Rattle.ptk_words_locks.proofs.Pools.{changed_twice}
 use Rattle.ptk_words_quiet.specs.Quiet.{computed}
-use Rattle.ptk_words_quiet.specs.Replies.{Outcome, outcome_of, with_outcome, reply_entry}
+use Rattle.ptk_words_quiet.specs.Replies.{Outcome, outcome_of, with_outcome, reply_entry, after_reply}
 use Rattle.ptk_words_quiet.proofs.PlainDecisions.{with_registers_of}
 use Rattle.ptk_words_quiet.proofs.ReplyDecisions.{fifo_entry, robin_entry}
 use Rattle.ptk_console.specs.ConsoleTable.{after_put}
-use Rattle.ptk_gate_moves.specs.Kept.{Kept, AreParts, limits_at, part_at, put_part}
-use Rattle.ptk_gate_moves.proofs.Parted.{part_at-put, put_part-put}
+use Rattle.ptk_gate_moves.specs.Kept.{Kept, part_at}
+use Rattle.ptk_gate_moves.specs.Held.{Held, held, all_of, limits_here}
+use Rattle.ptk_gate_pools.proofs.Hands.{all-done}
 use Rattle.ptk_gate_moves.proofs.PlainMutexes.{effective-plain}
 use Rattle.ptk_gate_steps.specs.declared.quiet_calls.QuietEffect.{QuietEffect}
 use Rattle.ptk_gate_steps.specs.declared.quiet_calls.QuietEffect.TheVariants.{Keeps, Takes, Releases, Puts, Sets}
-use Rattle.ptk_gate_steps.specs.Replies.{IsPut, IsPlainEffect, IsMade, after_quiet_effect}
+use Rattle.ptk_gate_steps.specs.Replies.{IsPut, IsPlainEffect, IsMadeHere, IsMade, after_quiet_effect}
 
 -- ---- the registers and the ticks put
 
@@ -47,24 +48,6 @@ left_robin t n used cpu thread policy s found same robin counted =
     ∙ (ap (λ threads. with_locks (λ locks. record locks { threads = threads }) s) (changed_twice t (λ (v : Thread). record v { used = thread.used + n }) (with_registers_of cpu) s.threads)
     ∙ ap (λ (o : Option Thread). with_locks (λ locks. record locks { threads = pool_set s.threads t o }) s) (robin_entry n cpu thread (pool_get s.threads t) found is))
 
--- a part put, and then what f makes of it
-put_twice : (n p : ℕ) (f : Part → Part) (u : Part) (old mid new : Kept) → AreParts n old → p < n → mid ≡ put_part p u old → new ≡ put_part p (f (part_at p mid)) mid → new ≡ put_part p (f u) old
-put_twice n p f u old mid new parts lt first second =
-    second
-    ∙ (ap (λ (k : Kept). put_part p (f (part_at p k)) k) first
-    ∙ (ap (λ (q : Part). put_part p (f q) (put_part p u old)) (part_at-put n p u old parts lt)
-    ∙ put_part-put p (f u) u old))
-
--- the registers, and then the ticks under SCHED_RR
-pub robin_made : (n p t ticks used more : ℕ) (thread : Thread) (cpu : Processor) (policy : Policy) (old mid new : Kept) → AreParts n old → p < n
-    → thread_at (part_at p old).locks t ≡ Some thread → thread.policy ≡ policy → thread.used ≡ used → policy ≡ RoundRobin → more ≡ used + ticks
-    → mid ≡ put_part p (with_cpu t cpu (part_at p old)) old → new ≡ put_part p (with_used t more (part_at p mid)) mid
-    → new ≡ put_part p (with_locks (with_thread t (computed ticks cpu)) (part_at p old)) old
-robin_made n p t ticks used more thread cpu policy old mid new parts lt found same counted robin is first second =
-    let all : more ≡ thread.used + ticks = is ∙ ap (λ (k : ℕ). k + ticks) (sym counted) in
-    put_twice n p (with_used t more) (with_cpu t cpu (part_at p old)) old mid new parts lt first second
-    ∙ ap (λ (q : Part). put_part p q old) (left_robin t ticks more cpu thread policy (part_at p old) found same robin all)
-
 -- ---- the step made
 
 -- the outcome of an effect changes no priority
@@ -76,15 +59,11 @@ effect_plain (Puts byte) t u limits s plain = refl
 effect_plain (Sets k value) t u limits s plain = refl
 
 -- once the registers and the ticks are put, the effect is as plain
-pub plain_still : (n p t ticks : ℕ) (after : Processor) (effect : QuietEffect) (old mid : Kept) → AreParts n old → p < n → mid ≡ put_part p (with_locks (with_thread t (computed ticks after)) (part_at p old)) old
-    → IsPlainEffect effect (limits_at p old) (part_at p old) → IsPlainEffect effect (limits_at p mid) (part_at p mid)
-plain_still n p t ticks after effect old mid parts lt first plain =
-    let u : Part = with_locks (with_thread t (computed ticks after)) (part_at p old) in
-    let is : part_at p mid ≡ u = ap (part_at p) first ∙ part_at-put n p u old parts lt in
-    let limits : limits_at p mid ≡ limits_at p old = ap (limits_at p) first in
-    subst (λ (q : Part). IsPlainEffect effect (limits_at p mid) q) (sym is) (subst (λ (l : Limits). IsPlainEffect effect l u) (sym limits) (same effect plain))
+pub plain_still : (t ticks : ℕ) (after : Processor) (effect : QuietEffect) (old mid : Held) → mid ≡ record old { here = with_locks (with_thread t (computed ticks after)) old.here }
+    → IsPlainEffect effect (limits_here old) old.here → IsPlainEffect effect (limits_here mid) mid.here
+plain_still t ticks after effect old mid first plain = subst (λ (k : Held). IsPlainEffect effect (limits_here k) k.here) (sym first) (same effect plain)
   where
-    same : (e : QuietEffect) → IsPlainEffect e (limits_at p old) (part_at p old) → IsPlainEffect e (limits_at p old) (with_locks (with_thread t (computed ticks after)) (part_at p old))
+    same : (e : QuietEffect) → IsPlainEffect e (limits_here old) old.here → IsPlainEffect e (limits_here old) (with_locks (with_thread t (computed ticks after)) old.here)
     same Keeps h = h
     same (Takes m) h = h
     same (Releases m) h = h
@@ -105,27 +84,32 @@ effect_left (Puts byte) t ticks after s = refl
 effect_left (Sets k value) t ticks after s = refl
 
 -- the registers and the ticks put, the effect made, and then the last step
-pub made : (n p tick t ticks : ℕ) (thread : Thread) (cpu after : Processor) (effect : QuietEffect) (entry : Entry) (old mid left new : Kept) → AreParts n old → p < n
-    → word_fetched (part_at p old).memory thread.cpu.pc ≡ ECALL → cpu ≡ with_next_pc thread.cpu
-    → IsPut (limits_at p old) ticks t cpu after effect (part_at p old)
-    → mid ≡ put_part p (with_locks (with_thread t (computed ticks after)) (part_at p old)) old
-    → left ≡ put_part p (after_quiet_effect effect t (part_at p mid)) mid
+pub made : (tick t ticks : ℕ) (thread : Thread) (cpu after : Processor) (effect : QuietEffect) (entry : Entry) (old mid left new : Held)
+    → word_fetched old.here.memory thread.cpu.pc ≡ ECALL → cpu ≡ with_next_pc thread.cpu
+    → IsPut (limits_here old) ticks t cpu after effect old.here
+    → mid ≡ record old { here = with_locks (with_thread t (computed ticks after)) old.here }
+    → left ≡ record mid { here = after_quiet_effect effect t mid.here }
     → entry ≡ reply_entry tick t thread after
-    → new ≡ put_part p (record (part_at p left) { last = Some entry }) left
-    → IsMade p tick t ticks thread old new
-made n p tick t ticks thread cpu after effect entry old mid left new parts lt word past put first next_is is second =
-    let s : Part = part_at p old in
-    let next : IsPut (limits_at p old) ticks t (with_next_pc thread.cpu) after effect s = subst (λ (c : Processor). IsPut (limits_at p old) ticks t c after effect s) past put in
+    → new ≡ record left { here = record left.here { last = Some entry } }
+    → IsMadeHere tick t ticks thread old new
+made tick t ticks thread cpu after effect entry old mid left new word past put first next_is is second =
+    let s : Part = old.here in
+    let next : IsPut (limits_here old) ticks t (with_next_pc thread.cpu) after effect s = subst (λ (c : Processor). IsPut (limits_here old) ticks t c after effect s) past put in
     let o : Outcome = outcome_of (after_quiet_effect effect t s) in
-    let u : Part = with_locks (with_thread t (computed ticks after)) s in
     let v : Part = with_locks (with_thread t (computed ticks after)) (with_outcome o s) in
-    let both : left ≡ put_part p v old = put_twice n p (after_quiet_effect effect t) u old mid left parts lt first next_is ∙ ap (λ (q : Part). put_part p q old) (effect_left effect t ticks after s) in (
+    let both : left ≡ record old { here = v } =
+    next_is ∙ (ap (λ (k : Held). record k { here = after_quiet_effect effect t k.here }) first ∙ ap (λ (q : Part). record old { here = q }) (effect_left effect t ticks after s)) in (
       after,
       o,
-      record { word = word; cost = next.cost; values = next.values; replies = next.replies; left = next.left; priorities = λ w. effect_plain effect t w (limits_at p old) s next.plain },
-      put_twice n p (λ q. record q { last = Some entry }) v old left new parts lt both second
-          ∙ ap (λ (e : Entry). put_part p (record v { last = Some e }) old) is,
+      record { word = word; cost = next.cost; values = next.values; replies = next.replies; left = next.left; priorities = λ w. effect_plain effect t w (limits_here old) s next.plain },
+      second ∙ (ap (λ (k : Held). record k { here = record k.here { last = Some entry } }) both ∙ ap (λ (e : Entry). record old { here = record v { last = Some e } }) is),
     )
+
+-- what was made of the partition in hand is made of it in the tables
+pub made_in_tables : (p tick t ticks : ℕ) (thread : Thread) (kept : Kept) (taken new : Held) → taken ≡ held p kept → IsMadeHere tick t ticks thread taken new → IsMade p tick t ticks thread kept (all_of new)
+made_in_tables p tick t ticks thread kept taken new e here =
+    let is : IsMadeHere tick t ticks thread (held p kept) new = subst (λ (pools : Held). IsMadeHere tick t ticks thread pools new) e here in
+    (is.0, is.1, is.2, ap all_of is.3 ∙ all-done p (after_reply tick t ticks thread is.0 is.1 (part_at p kept)) kept)
 
 pub ruleset effects = (put_open)
 

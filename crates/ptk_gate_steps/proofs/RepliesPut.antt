@@ -1,4 +1,4 @@
--- What quiet calls come to, and how a reply is put.
+-- What quiet calls do, and how a reply is put.
 use Rattle.std.proofs.Common.{◌≡◌, ℕ, ◌%◌, Bool, true, false, not, ◌&&◌, [], ◌∷◌, refl, sym, ap, ◌∙◌}
 use Rattle.std.specs.Prelude.{Option, Some, None, option_map, unwrap_or, if◌then◌else◌}
 use Rattle.std.proofs.Math.Bool.{and-false}
@@ -162,7 +162,7 @@ goes_on i u rest none =
     ap (λ (b : Bool). if is_normal (phase_of (thread_at u.locks i.caller)) && b then cancellation_answer i u else rest) none
     ∙ ap (λ (b : Bool). if b then cancellation_answer i u else rest) (and-false (is_normal (phase_of (thread_at u.locks i.caller))))
 
--- what it comes to then
+-- its answer then
 abbrev put_answer : Invocation → Part → Bool → Answer
 put_answer i u full = if full then refusal EAGAIN i u else success [] i (with_console (with_output (i.a0 % 256)) u)
 
@@ -214,7 +214,7 @@ value_put limits t value before after s e is left = record {
   plain = tt;
 }
 
--- what pthread_setspecific comes to
+-- the answer of pthread_setspecific
 abbrev set_answer : Invocation → Part → Bool → Answer
 set_answer i u known = if not known then refusal EINVAL i u else success [] i (with_keys (with_values i.caller (λ values. pool_set values i.a0 i.a1)) u)
 

@@ -2,10 +2,11 @@
 //! step is and costs, what the trace keeps of it, an instruction's effect on the registers and the memory, and up to
 //! which tick nothing but the thread's steps can come (`quiet_until`, which misses no partition that only computes), or
 //! nothing at all (`idle_until`, which misses no partition that has nothing to do), and the calls that are made beside
-//! rows of steps (`make_reply`). Each function that changes the pools
-//! is one equation: they are the old ones with partition p's part replaced by what the model makes of it, so that every
-//! other partition's part stays. Below stand the pools and the instructions; above, the gate's tables and the kernel.
-//! Dear to prove is `instruct`, which brings what is seen of a step and its effect together.
+//! rows of steps (`make_reply`). Each function that changes the pools is one equation: they are the old ones with the
+//! part in hand replaced by what the model makes of it; every other partition's part stays. What the gate's tables ask
+//! without a change takes a `Look` at one partition, whichever is in hand, and its clauses speak of that partition's
+//! numbers and part alone. Below stand the pools and the instructions; above, the gate's tables and the kernel. Costly
+//! to prove is `instruct`, which brings what is seen of a step and its effect together.
 #![tactic(auto)]
 
 mod idle_stops;

@@ -3,7 +3,7 @@
 //! console_put, pthread_setspecific and pthread_getspecific. None of them changes anything here but the registers: its
 //! effect is told.
 
-ghost use Rattle.std.specs.Prelude.{◌≡◌, ℕ, ◌<◌, ◌≤◌, true, length, Some, IfSome};
+ghost use Rattle.std.specs.Prelude.{◌≡◌, ℕ, ◌<◌, ◌≤◌, true, Some, IfSome};
 ghost use Rattle.ptk_words.specs.Calls.{call_of};
 ghost use Rattle.ptk_words.specs.Faults.{errno_number};
 ghost use Rattle.ptk_words.specs.Processor.{register, with_register};
@@ -11,13 +11,13 @@ ghost use Rattle.ptk_words.specs.declared.TheConstants.{A0, A1, A7};
 ghost use Rattle.ptk_words.specs.Words.{word_at};
 ghost use Rattle.ptk_words.specs.declared.calls.Call.TheVariants.{ConsolePut, PthreadDetach, PthreadGetschedparam, PthreadGetspecific, PthreadSetspecific, MutexLock, MutexUnlock};
 ghost use Rattle.ptk_words_model.specs.Calls.{is_pointer};
-ghost use Rattle.ptk_gate_moves.specs.Kept.{part_at, limits_at};
+ghost use Rattle.ptk_gate_moves.specs.Held.{limits_here};
 ghost use Rattle.ptk_gate_steps.specs.Replies.{IsPut};
 ghost use Rattle.ptk_gate_steps.specs.declared.quiet_calls.QuietEffect.TheVariants.{Keeps};
 
 use ptk_gate_moves::{Pools, is_pointer, is_taken, named_thread, policy_number};
 use ptk_keys::KeyNo;
-use ptk_words::{A0, A1, A2, A7, Call, Cpu, Errno, MutexNo, PartId, ThreadNo, read_word};
+use ptk_words::{A0, A1, A2, A7, Call, Cpu, Errno, MutexNo, ThreadNo, read_word};
 
 /// What a quiet call makes of its partition beside its caller's registers.
 #[derive(Clone, Copy)]
@@ -45,10 +45,9 @@ pub(crate) struct QuietCall {
 /// effect. 0 ticks of any other call.
 #[inline(always)]
 #[tactic(auto, using(crate::proofs::RepliesPut::replies))]
-pub(crate) fn put_reply(pools: &Pools, p: PartId, t: ThreadNo, cpu: &mut Cpu) -> QuietCall
-    requires partition { p < length pools.now.limits }
+pub(crate) fn put_reply(pools: &Pools, t: ThreadNo, cpu: &mut Cpu) -> QuietCall
     ensures short { result.ticks ≤ 16 }
-    ensures put { 0 < result.ticks → IsPut (limits_at p pools.now) result.ticks t cpu.old cpu.new result.effect (part_at p pools.now) }
+    ensures put { 0 < result.ticks → IsPut (limits_here pools.now) result.ticks t cpu.old cpu.new result.effect pools.now.here }
 {
     let known = Call::of_number(cpu.register(A7));
     match known {
@@ -61,29 +60,29 @@ pub(crate) fn put_reply(pools: &Pools, p: PartId, t: ThreadNo, cpu: &mut Cpu) ->
             replied(2)
         }
         Some(Call::PthreadGetschedparam) => {
-            tell_scheduling(pools, p, cpu);
+            tell_scheduling(pools, cpu);
             replied(4)
         }
         Some(Call::PthreadDetach) => {
-            if refuse_detachment(pools, p, cpu) {
+            if refuse_detachment(pools, cpu) {
                 replied(6)
             } else {
                 replied(0)
             }
         }
-        Some(Call::ConsolePut) => put_out(pools, p, t, cpu),
-        Some(Call::MutexLock) => lock(pools, p, cpu),
-        Some(Call::MutexUnlock) => unlock(pools, p, t, cpu),
-        Some(Call::PthreadSetspecific) => set_specific(pools, p, cpu),
+        Some(Call::ConsolePut) => put_out(pools, t, cpu),
+        Some(Call::MutexLock) => lock(pools, cpu),
+        Some(Call::MutexUnlock) => unlock(pools, t, cpu),
+        Some(Call::PthreadSetspecific) => set_specific(pools, cpu),
         Some(Call::PthreadGetspecific) => {
-            tell_specific(pools, p, t, cpu);
+            tell_specific(pools, t, cpu);
             replied(2)
         }
         Some(_) => replied(0),
     }
 }
 
-/// A call of so many ticks that changes nothing but registers.
+/// A call of this number of ticks that changes nothing but registers.
 #[inline]
 fn replied(ticks: u32) -> QuietCall
     ensures { result ≡ record { ticks = ticks; effect = Keeps } }
@@ -98,14 +97,13 @@ fn replied(ticks: u32) -> QuietCall
 /// registers stay.
 #[inline]
 #[tactic(auto, using(crate::proofs::LocksMade::locks))]
-fn lock(pools: &Pools, p: PartId, cpu: &mut Cpu) -> QuietCall
-    requires partition { p < length pools.now.limits }
+fn lock(pools: &Pools, cpu: &mut Cpu) -> QuietCall
     ensures short { result.ticks ≤ 16 }
-    ensures put { (t : ℕ) → call_of (register cpu.old A7) ≡ Some MutexLock → 0 < result.ticks → IsPut (limits_at p pools.now) result.ticks t cpu.old cpu.new result.effect (part_at p pools.now) }
+    ensures put { (t : ℕ) → call_of (register cpu.old A7) ≡ Some MutexLock → 0 < result.ticks → IsPut (limits_here pools.now) result.ticks t cpu.old cpu.new result.effect pools.now.here }
 {
-    match mutex_numbered(pools, p, cpu.register(A0)) {
+    match mutex_numbered(pools, cpu.register(A0)) {
         Some(m) => {
-            if !pools.is_takeable(p, m) {
+            if !pools.is_takeable(m) {
                 return replied(0);
             }
             cpu.set_register(A0, 0);
@@ -122,14 +120,13 @@ fn lock(pools: &Pools, p: PartId, cpu: &mut Cpu) -> QuietCall
 /// any other, and the registers stay.
 #[inline]
 #[tactic(auto, using(crate::proofs::LocksMade::locks))]
-fn unlock(pools: &Pools, p: PartId, t: ThreadNo, cpu: &mut Cpu) -> QuietCall
-    requires partition { p < length pools.now.limits }
+fn unlock(pools: &Pools, t: ThreadNo, cpu: &mut Cpu) -> QuietCall
     ensures short { result.ticks ≤ 16 }
-    ensures put { call_of (register cpu.old A7) ≡ Some MutexUnlock → 0 < result.ticks → IsPut (limits_at p pools.now) result.ticks t cpu.old cpu.new result.effect (part_at p pools.now) }
+    ensures put { call_of (register cpu.old A7) ≡ Some MutexUnlock → 0 < result.ticks → IsPut (limits_here pools.now) result.ticks t cpu.old cpu.new result.effect pools.now.here }
 {
-    match mutex_numbered(pools, p, cpu.register(A0)) {
+    match mutex_numbered(pools, cpu.register(A0)) {
         Some(m) => {
-            if !pools.is_releasable(p, t, m) {
+            if !pools.is_releasable(t, m) {
                 return replied(0);
             }
             cpu.set_register(A0, 0);
@@ -146,15 +143,13 @@ fn unlock(pools: &Pools, p: PartId, t: ThreadNo, cpu: &mut Cpu) -> QuietCall
 /// and of a word above 64.
 #[inline]
 #[tactic(auto, using(ptk_gate_moves::proofs::Pointers::pointers))]
-fn mutex_numbered(pools: &Pools, p: PartId, pointer: u32) -> Option<MutexNo>
-    requires partition { p < length pools.now.limits }
-    ensures { IfSome result (λ m. (is_pointer (part_at p pools.now) pointer 4 ≡ true) × (word_at (part_at p pools.now).memory pointer ≡ m) × (0 < m)) }
+fn mutex_numbered(pools: &Pools, pointer: u32) -> Option<MutexNo>
+    ensures { IfSome result (λ m. (is_pointer pools.now.here pointer 4 ≡ true) × (word_at pools.now.here.memory pointer ≡ m) × (0 < m)) }
 {
-    let _parts = pools.parts();
-    if !is_pointer(pools, p, pointer, 4) {
+    if !is_pointer(pools, pointer, 4) {
         return None;
     }
-    let word = read_word(pools.regions().part(p), pointer as usize);
+    let word = read_word(pools.memory(), pointer as usize);
     if word == 0 || 64 < word {
         return None;
     }
@@ -165,16 +160,14 @@ fn mutex_numbered(pools: &Pools, p: PartId, pointer: u32) -> Option<MutexNo>
 /// EAGAIN where the output is full. 0 ticks of one that may be cancelled, and the registers stay.
 #[inline]
 #[tactic(auto, using(crate::proofs::RepliesPut::outputs))]
-fn put_out(pools: &Pools, p: PartId, t: ThreadNo, cpu: &mut Cpu) -> QuietCall
-    requires partition { p < length pools.now.limits }
+fn put_out(pools: &Pools, t: ThreadNo, cpu: &mut Cpu) -> QuietCall
     ensures short { result.ticks ≤ 16 }
-    ensures put { call_of (register cpu.old A7) ≡ Some ConsolePut → 0 < result.ticks → IsPut (limits_at p pools.now) result.ticks t cpu.old cpu.new result.effect (part_at p pools.now) }
+    ensures put { call_of (register cpu.old A7) ≡ Some ConsolePut → 0 < result.ticks → IsPut (limits_here pools.now) result.ticks t cpu.old cpu.new result.effect pools.now.here }
 {
-    let _parts = pools.parts();
-    if pools.cancellations().is_point_acting(p, t) {
+    if pools.is_point_acting(t) {
         return replied(0);
     }
-    if pools.is_output_full(p) {
+    if pools.is_output_full() {
         refuse(cpu, Errno::EAGAIN);
         return replied(4);
     }
@@ -190,14 +183,12 @@ fn put_out(pools: &Pools, p: PartId, t: ThreadNo, cpu: &mut Cpu) -> QuietCall
 /// key.
 #[inline]
 #[tactic(auto, using(crate::proofs::RepliesPut::values))]
-fn set_specific(pools: &Pools, p: PartId, cpu: &mut Cpu) -> QuietCall
-    requires partition { p < length pools.now.limits }
+fn set_specific(pools: &Pools, cpu: &mut Cpu) -> QuietCall
     ensures short { result.ticks ≤ 16 }
-    ensures put { (t : ℕ) → call_of (register cpu.old A7) ≡ Some PthreadSetspecific → IsPut (limits_at p pools.now) result.ticks t cpu.old cpu.new result.effect (part_at p pools.now) }
+    ensures put { (t : ℕ) → call_of (register cpu.old A7) ≡ Some PthreadSetspecific → IsPut (limits_here pools.now) result.ticks t cpu.old cpu.new result.effect pools.now.here }
 {
-    let _parts = pools.parts();
     let key = KeyNo::new(cpu.register(A0));
-    if !pools.keys().is_key(p, key) {
+    if !pools.is_key(key) {
         refuse(cpu, Errno::EINVAL);
         return replied(2);
     }
@@ -212,12 +203,10 @@ fn set_specific(pools: &Pools, p: PartId, cpu: &mut Cpu) -> QuietCall
 /// The reply of pthread_getspecific: the caller's value of the key of a0, 0 of an unknown key.
 #[inline]
 #[tactic(auto, using(crate::proofs::RepliesPut::values))]
-fn tell_specific(pools: &Pools, p: PartId, t: ThreadNo, cpu: &mut Cpu)
-    requires partition { p < length pools.now.limits }
-    ensures { call_of (register cpu.old A7) ≡ Some PthreadGetspecific → IsPut (limits_at p pools.now) 2 t cpu.old cpu.new Keeps (part_at p pools.now) }
+fn tell_specific(pools: &Pools, t: ThreadNo, cpu: &mut Cpu)
+    ensures { call_of (register cpu.old A7) ≡ Some PthreadGetspecific → IsPut (limits_here pools.now) 2 t cpu.old cpu.new Keeps pools.now.here }
 {
-    let _parts = pools.parts();
-    let value = pools.keys().get(p, t, KeyNo::new(cpu.register(A0)));
+    let value = pools.value(t, KeyNo::new(cpu.register(A0)));
     tell(cpu, value);
 }
 
@@ -239,11 +228,10 @@ fn tell(cpu: &mut Cpu, value: u32)
 
 /// The reply of pthread_getschedparam: the policy and the assigned priority of the thread of a0, or ESRCH.
 #[tactic(auto, using(crate::proofs::RepliesPut::replies))]
-fn tell_scheduling(pools: &Pools, p: PartId, cpu: &mut Cpu)
-    requires partition { p < length pools.now.limits }
-    ensures { (t : ℕ) → call_of (register cpu.old A7) ≡ Some PthreadGetschedparam → IsPut (limits_at p pools.now) 4 t cpu.old cpu.new Keeps (part_at p pools.now) }
+fn tell_scheduling(pools: &Pools, cpu: &mut Cpu)
+    ensures { (t : ℕ) → call_of (register cpu.old A7) ≡ Some PthreadGetschedparam → IsPut (limits_here pools.now) 4 t cpu.old cpu.new Keeps pools.now.here }
 {
-    match named_thread(pools, p, cpu.register(A0)) {
+    match named_thread(pools, cpu.register(A0)) {
         Some(target) => {
             let priority = target.priority;
             tell(cpu, policy_number(target.policy));
@@ -256,11 +244,10 @@ fn tell_scheduling(pools: &Pools, p: PartId, cpu: &mut Cpu)
 /// The reply of a pthread_detach that is refused: ESRCH of a number that is not in use, EINVAL of a thread that is
 /// detached or has a joiner. False of one that detaches, and the registers stay.
 #[tactic(auto, using(crate::proofs::RepliesPut::replies))]
-fn refuse_detachment(pools: &Pools, p: PartId, cpu: &mut Cpu) -> bool
-    requires partition { p < length pools.now.limits }
-    ensures { (t : ℕ) → result ≡ true → call_of (register cpu.old A7) ≡ Some PthreadDetach → IsPut (limits_at p pools.now) 6 t cpu.old cpu.new Keeps (part_at p pools.now) }
+fn refuse_detachment(pools: &Pools, cpu: &mut Cpu) -> bool
+    ensures { (t : ℕ) → result ≡ true → call_of (register cpu.old A7) ≡ Some PthreadDetach → IsPut (limits_here pools.now) 6 t cpu.old cpu.new Keeps pools.now.here }
 {
-    let Some(target) = named_thread(pools, p, cpu.register(A0)) else {
+    let Some(target) = named_thread(pools, cpu.register(A0)) else {
         refuse(cpu, Errno::ESRCH);
         return true;
     };

@@ -1,14 +1,13 @@
 //! What a decision reads of the running thread. Its next step is read where the thread lies: nothing of it is copied.
 
-ghost use Rattle.std.specs.Prelude.{◌≡◌, ◌<◌, length};
+ghost use Rattle.std.specs.Prelude.{◌≡◌};
 ghost use Rattle.ptk_words_model.specs.Decision.{runner_of};
 ghost use Rattle.ptk_words_model.specs.Priority.{thread_at};
-ghost use Rattle.ptk_gate_moves.specs.Kept.{part_at};
 ghost use Rattle.ptk_gate_steps.specs.NextSteps.{a0_kept, next_step_in, next_step_of};
 
 use crate::kinds::word_fetched;
-use ptk_gate_moves::{Pools, is_ended, is_to_unwind};
-use ptk_words::{A0, A7, ECALL, PartId, RETURN_GATE, Thread, ThreadNo};
+use ptk_gate_moves::{Look, is_ended, is_to_unwind};
+use ptk_words::{A0, A7, ECALL, RETURN_GATE, Thread, ThreadNo};
 use ptk_words_model::{Runner, StepKind};
 
 /// The next step of the running thread.
@@ -27,14 +26,12 @@ pub struct NextStep {
 }
 
 /// The next step of the running thread; None where none runs.
-pub fn next_step(pools: &Pools, p: PartId) -> Option<NextStep>
-    requires partition { p < length pools.now.limits }
-    ensures { result ≡ next_step_in (part_at p pools.now) }
+pub fn next_step(look: &Look<'_>) -> Option<NextStep>
+    ensures { result ≡ next_step_in look.now.part }
 {
-    let _parts = pools.parts();
-    match pools.running(p) {
-        Some(number) => match pools.threads().thread_ref(p, number) {
-            Some(thread) => Some(step_of(pools, p, number, thread)),
+    match look.running() {
+        Some(number) => match look.thread_ref(number) {
+            Some(thread) => Some(step_of(look, number, thread)),
             None => None,
         },
         None => None,
@@ -42,13 +39,11 @@ pub fn next_step(pools: &Pools, p: PartId) -> Option<NextStep>
 }
 
 /// The thread that runs, if one does.
-pub fn runner(pools: &Pools, p: PartId) -> Option<Runner>
-    requires partition { p < length pools.now.limits }
-    ensures { result ≡ runner_of (part_at p pools.now) }
+pub fn runner(look: &Look<'_>) -> Option<Runner>
+    ensures { result ≡ runner_of look.now.part }
 {
-    let _parts = pools.parts();
-    match pools.running(p) {
-        Some(number) => match pools.threads().thread(p, number) {
+    match look.running() {
+        Some(number) => match look.thread(number) {
             Some(thread) => Some(Runner { number, thread }),
             None => None,
         },
@@ -57,21 +52,19 @@ pub fn runner(pools: &Pools, p: PartId) -> Option<Runner>
 }
 
 /// The next step of a thread, by its pc and the word there.
-fn step_of(pools: &Pools, p: PartId, t: ThreadNo, thread: &Thread) -> NextStep
-    requires partition { p < length pools.now.limits }
-    ensures { result ≡ next_step_of (part_at p pools.now) (record { number = t; thread = thread.now }) }
+fn step_of(look: &Look<'_>, t: ThreadNo, thread: &Thread) -> NextStep
+    ensures { result ≡ next_step_of look.now.part (record { number = t; thread = thread.now }) }
 {
-    let _parts = pools.parts();
     let cpu = &thread.cpu;
     let pc = cpu.pc();
     let a0 = cpu.register(A0);
-    if is_to_unwind(pools, p, t, thread) {
+    if is_to_unwind(look, t, thread) {
         return fetchless(t, StepKind::UnwindingStart, pc, a0);
     }
     if pc == RETURN_GATE {
         return fetchless(t, StepKind::GateStep, pc, a0);
     }
-    let word = word_fetched(pools.regions().part(p), pc);
+    let word = word_fetched(look.memory(), pc);
     let kind = if word == ECALL {
         StepKind::CallStep(cpu.register(A7))
     } else {
@@ -100,12 +93,10 @@ fn fetchless(thread: ThreadNo, kind: StepKind, pc: u32, a0: u32) -> NextStep
 }
 
 /// The thread's a0 now, after a step; what it was before where the thread ended.
-pub fn a0_after(pools: &Pools, p: PartId, t: ThreadNo, before: u32) -> u32
-    requires partition { p < length pools.now.limits }
-    ensures { result ≡ a0_kept before (thread_at (part_at p pools.now).locks t) }
+pub fn a0_after(look: &Look<'_>, t: ThreadNo, before: u32) -> u32
+    ensures { result ≡ a0_kept before (thread_at look.now.part.locks t) }
 {
-    let _parts = pools.parts();
-    match pools.threads().thread_ref(p, t) {
+    match look.thread_ref(t) {
         Some(thread) if !is_ended(thread.phase) => {
             let cpu = &thread.cpu;
             cpu.register(A0)

@@ -6,11 +6,10 @@ ghost use Rattle.ptk_words_model.specs.Mutex.{new_mutex};
 ghost use Rattle.ptk_words_model.specs.Calls.{with_stored, with_pool_mutex};
 ghost use Rattle.ptk_words_model.specs.Steps.{valid, change, succeed};
 ghost use Rattle.ptk_words_model.specs.MutexCalls.{mutex_init};
-ghost use Rattle.ptk_gate_moves.specs.Kept.{part_at, put_part};
 
 use crate::attributes::{is_robust_type, kind_of, protocol_of};
 use ptk_gate_moves::{Pools, is_pointer, refuse, succeed};
-use ptk_words::{Errno, MutexKind, MutexNo, PartId, Protocol};
+use ptk_words::{Errno, MutexKind, MutexNo, Protocol};
 use ptk_words_model::{Invocation, Reply};
 
 /// A mutex to be made, and its number.
@@ -26,30 +25,25 @@ pub(crate) struct NewMutex {
 /// least free number, which the word at the pointer of a0 then holds; the old word is not looked at. Refusals in this
 /// order (own choice), which change nothing but a0: EFAULT where the pointer is no multiple of 4 or the word lies
 /// outside memory; EINVAL of a type, of a protocol or of PROTECT's ceiling; ENOMEM where no number is free.
-#[tactic(auto, using(ptk_gate_moves::proofs::Parted::parted))]
-pub fn mutex_init(pools: &mut Pools, p: PartId, i: Invocation) -> Reply
-    requires partition { p < length pools.old.limits }
-    ensures told { result ≡ (mutex_init i (part_at p pools.old)).reply }
-    ensures moved { pools.new ≡ put_part p (mutex_init i (part_at p pools.old)).part pools.old }
+pub fn mutex_init(pools: &mut Pools, i: Invocation) -> Reply
+    ensures told { result ≡ (mutex_init i pools.old.here).reply }
+    ensures moved { pools.new ≡ record pools.old { here = (mutex_init i pools.old.here).part } }
 {
-    let _parts = pools.parts();
-    let new = match asked_mutex(pools, p, &i) {
+    let new = match asked_mutex(pools, &i) {
         Ok(new) => new,
-        Err(errno) => return refuse(pools, p, i, errno),
+        Err(errno) => return refuse(pools, i, errno),
     };
-    make(pools, p, i.a0, new);
-    succeed(pools, p, i)
+    make(pools, i.a0, new);
+    succeed(pools, i)
 }
 
 /// The mutex that the call makes at the least free number, or the error that refuses the call.
-fn asked_mutex(pools: &Pools, p: PartId, i: &Invocation) -> Result<NewMutex, Errno>
-    requires partition { p < length pools.now.limits }
-    ensures call { mutex_init i.now (part_at p pools.now) ≡ valid result (λ new. change (with_pool_mutex new.number (Some (new_mutex new.kind new.protocol new.is_robust))) (change (with_stored i.now.a0 new.number) succeed)) i.now (part_at p pools.now) }
-    ensures free { IfOk result (λ new. least_free (part_at p pools.now).mutexes ≡ Some new.number) }
-    ensures word { IfOk result (λ _. i.now.a0 + 4 ≤ length (part_at p pools.now).memory) }
+fn asked_mutex(pools: &Pools, i: &Invocation) -> Result<NewMutex, Errno>
+    ensures call { mutex_init i.now pools.now.here ≡ valid result (λ new. change (with_pool_mutex new.number (Some (new_mutex new.kind new.protocol new.is_robust))) (change (with_stored i.now.a0 new.number) succeed)) i.now pools.now.here }
+    ensures free { IfOk result (λ new. least_free pools.now.here.mutexes ≡ Some new.number) }
+    ensures word { IfOk result (λ _. i.now.a0 + 4 ≤ length pools.now.here.memory) }
 {
-    let _parts = pools.parts();
-    if !is_pointer(pools, p, i.a0, 4) {
+    if !is_pointer(pools, i.a0, 4) {
         return Err(Errno::EFAULT);
     }
     let Some(kind) = kind_of(i.a1) else {
@@ -58,7 +52,7 @@ fn asked_mutex(pools: &Pools, p: PartId, i: &Invocation) -> Result<NewMutex, Err
     let Some(protocol) = protocol_of(i.a2, i.a3) else {
         return Err(Errno::EINVAL);
     };
-    let Some(number) = pools.first_free_mutex(p) else {
+    let Some(number) = pools.first_free_mutex() else {
         return Err(Errno::ENOMEM);
     };
     Ok(NewMutex {
@@ -70,15 +64,12 @@ fn asked_mutex(pools: &Pools, p: PartId, i: &Invocation) -> Result<NewMutex, Err
 }
 
 /// The mutex is made at the least free number, and the word at the pointer holds that (pthread_mutex_init).
-#[tactic(auto, using(ptk_gate_moves::proofs::Parted::parted))]
-pub(crate) fn make(pools: &mut Pools, p: PartId, pointer: u32, new: NewMutex)
-    requires partition { p < length pools.old.limits }
-    requires free { least_free (part_at p pools.old).mutexes ≡ Some new.number }
-    requires word { pointer + 4 ≤ length (part_at p pools.old).memory }
-    ensures { pools.new ≡ put_part p (with_stored pointer new.number (with_pool_mutex new.number (Some (new_mutex new.kind new.protocol new.is_robust)) (part_at p pools.old))) pools.old }
+pub(crate) fn make(pools: &mut Pools, pointer: u32, new: NewMutex)
+    requires free { least_free pools.old.here.mutexes ≡ Some new.number }
+    requires word { pointer + 4 ≤ length pools.old.here.memory }
+    ensures { pools.new ≡ record pools.old { here = with_stored pointer new.number (with_pool_mutex new.number (Some (new_mutex new.kind new.protocol new.is_robust)) pools.old.here) } }
 {
-    let _parts = pools.parts();
-    pools.init_mutex(p, new.number, new.kind, new.protocol, new.is_robust);
+    pools.init_mutex(new.number, new.kind, new.protocol, new.is_robust);
     let number = new.number.number();
-    pools.store_word(p, pointer, number as u32);
+    pools.store_word(pointer, number as u32);
 }

@@ -5,12 +5,12 @@ ghost use Rattle.ptk_words.specs.Pools.{pool_get};
 ghost use Rattle.ptk_words.specs.declared.faults.Errno.TheVariants.{EINVAL};
 ghost use Rattle.ptk_words_model.specs.Calls.{is_pointer};
 ghost use Rattle.ptk_words_well.specs.Well.{IsWell};
-ghost use Rattle.ptk_gate_moves.specs.Kept.{part_at, put_part, limits_at};
+ghost use Rattle.ptk_gate_moves.specs.Held.{limits_here};
 ghost use Rattle.ptk_gate_sync.specs.Named.{IsNamed, IsMutexOfWord};
 
 use crate::creation::{NewMutex, make};
 use ptk_gate_moves::{Pools, is_pointer};
-use ptk_words::{Errno, MutexKind, MutexNo, PartId, Protocol, read_word};
+use ptk_words::{Errno, MutexKind, MutexNo, Protocol, read_word};
 use ptk_words_model::Invocation;
 
 /// The mutex that the word at the pointer of a0 names. A word of 0 (PTHREAD_MUTEX_INITIALIZER) sets up a mutex of
@@ -19,15 +19,13 @@ use ptk_words_model::Invocation;
 /// set up and no number is free, EINVAL of a word that is neither 0 nor the number of a mutex in use (own choice):
 /// nothing changes then.
 #[tactic(auto, using(crate::proofs::Namings::naming))]
-pub(crate) fn named_mutex(pools: &mut Pools, p: PartId, i: &Invocation) -> Result<MutexNo, Errno>
-    requires partition { p < length pools.old.limits }
-    requires well { IsWell (limits_at p pools.old) (part_at p pools.old) }
-    ensures named { IsNamed (limits_at p pools.old) i.now (part_at p pools.old) result (part_at p pools.new) }
-    ensures moved { pools.new ≡ put_part p (part_at p pools.new) pools.old }
+pub(crate) fn named_mutex(pools: &mut Pools, i: &Invocation) -> Result<MutexNo, Errno>
+    requires well { IsWell (limits_here pools.old) pools.old.here }
+    ensures named { IsNamed (limits_here pools.old) i.now pools.old.here result pools.new.here }
+    ensures moved { pools.new ≡ record pools.old { here = pools.new.here } }
 {
-    let _parts = pools.parts();
-    if is_pointer(pools, p, i.a0, 4) {
-        mutex_of_word(pools, p, i.a0)
+    if is_pointer(pools, i.a0, 4) {
+        mutex_of_word(pools, i.a0)
     } else {
         Err(Errno::EFAULT)
     }
@@ -36,19 +34,17 @@ pub(crate) fn named_mutex(pools: &mut Pools, p: PartId, i: &Invocation) -> Resul
 /// The mutex that the word at a pointer names; a word of 0 sets it up, as for `named_mutex`. ENOMEM and EINVAL as
 /// there.
 #[tactic(auto, using(crate::proofs::Namings::naming))]
-pub(crate) fn mutex_of_word(pools: &mut Pools, p: PartId, pointer: u32) -> Result<MutexNo, Errno>
-    requires partition { p < length pools.old.limits }
-    requires well { IsWell (limits_at p pools.old) (part_at p pools.old) }
-    requires word { is_pointer (part_at p pools.old) pointer 4 ≡ true }
-    ensures named { IsMutexOfWord (limits_at p pools.old) pointer (part_at p pools.old) result (part_at p pools.new) }
-    ensures moved { pools.new ≡ put_part p (part_at p pools.new) pools.old }
+pub(crate) fn mutex_of_word(pools: &mut Pools, pointer: u32) -> Result<MutexNo, Errno>
+    requires well { IsWell (limits_here pools.old) pools.old.here }
+    requires word { is_pointer pools.old.here pointer 4 ≡ true }
+    ensures named { IsMutexOfWord (limits_here pools.old) pointer pools.old.here result pools.new.here }
+    ensures moved { pools.new ≡ record pools.old { here = pools.new.here } }
 {
-    let _parts = pools.parts();
-    let word = read_word(pools.regions().part(p), pointer as usize);
+    let word = read_word(pools.memory(), pointer as usize);
     if word != 0 {
-        return known_mutex(pools, p, word);
+        return known_mutex(pools, word);
     }
-    let Some(number) = pools.first_free_mutex(p) else {
+    let Some(number) = pools.first_free_mutex() else {
         return Err(Errno::ENOMEM);
     };
     let new = NewMutex {
@@ -57,16 +53,15 @@ pub(crate) fn mutex_of_word(pools: &mut Pools, p: PartId, pointer: u32) -> Resul
         protocol: Protocol::NoProtocol,
         is_robust: false,
     };
-    make(pools, p, pointer, new);
+    make(pools, pointer, new);
     Ok(number)
 }
 
 /// The mutex of a word that is the number of one in use; else EINVAL (own choice).
-fn known_mutex(pools: &Pools, p: PartId, word: u32) -> Result<MutexNo, Errno>
-    requires partition { p < length pools.now.limits }
-    ensures { result ≡ (if is_some (pool_get (part_at p pools.now).mutexes word) then Ok word else Err EINVAL) }
+fn known_mutex(pools: &Pools, word: u32) -> Result<MutexNo, Errno>
+    ensures { result ≡ (if is_some (pool_get pools.now.here.mutexes word) then Ok word else Err EINVAL) }
 {
-    match pools.mutex_numbered(p, word) {
+    match pools.mutex_numbered(word) {
         Some(m) => Ok(m),
         None => Err(Errno::EINVAL),
     }

@@ -5,44 +5,41 @@ ghost use Rattle.ptk_words_model.specs.Mutex.{mutex_at};
 ghost use Rattle.ptk_words_model.specs.MutexCalls.{mutex_unlock, is_inconsistent, is_repairable, mutex_consistent, unlock_named, consistent_named};
 ghost use Rattle.ptk_words_well.specs.Well.{IsWell};
 ghost use Rattle.ptk_mutex_slots.specs.Slots.{mutex_with};
-ghost use Rattle.ptk_gate_moves.specs.Kept.{part_at, put_part, limits_at};
+ghost use Rattle.ptk_gate_moves.specs.Held.{limits_here};
 
 use crate::naming::named_mutex;
 use ptk_gate_moves::{Pools, refuse, succeed};
 use ptk_mutex_slots::MutexState;
-use ptk_words::{Errno, MutexNo, PartId, Soundness};
+use ptk_words::{Errno, MutexNo, Soundness};
 use ptk_words_model::{Invocation, Reply};
 
 /// pthread_mutex_unlock: the caller's mutex that the word at the pointer of a0 names counts down, or goes to the waiter
 /// of greatest effective priority, the earliest among equals, or is free; an inconsistent one is lost, and its waiters
 /// are refused with ENOTRECOVERABLE. EFAULT, EINVAL or ENOMEM of the word, then EPERM of a mutex that the caller does not
 /// own (own choice for NORMAL); a refusal changes nothing but a0 and what a static initialiser set up.
-pub fn mutex_unlock(pools: &mut Pools, p: PartId, i: Invocation) -> Reply
-    requires partition { p < length pools.old.limits }
-    requires well { IsWell (limits_at p pools.old) (part_at p pools.old) }
-    ensures told { result ≡ (mutex_unlock i (part_at p pools.old)).reply }
-    ensures moved { pools.new ≡ put_part p (mutex_unlock i (part_at p pools.old)).part pools.old }
+pub fn mutex_unlock(pools: &mut Pools, i: Invocation) -> Reply
+    requires well { IsWell (limits_here pools.old) pools.old.here }
+    ensures told { result ≡ (mutex_unlock i pools.old.here).reply }
+    ensures moved { pools.new ≡ record pools.old { here = (mutex_unlock i pools.old.here).part } }
 {
-    match named_mutex(pools, p, &i) {
-        Ok(m) => unlock_named(pools, p, i, m),
-        Err(errno) => refuse(pools, p, i, errno),
+    match named_mutex(pools, &i) {
+        Ok(m) => unlock_named(pools, i, m),
+        Err(errno) => refuse(pools, i, errno),
     }
 }
 
 /// The caller's unlock of the mutex named, or EPERM.
-#[tactic(auto, using(ptk_gate_moves::proofs::Parted::parted, ptk_gate_moves::proofs::Locked::locked))]
-fn unlock_named(pools: &mut Pools, p: PartId, i: Invocation, m: MutexNo) -> Reply
-    requires partition { p < length pools.old.limits }
-    requires well { IsWell (limits_at p pools.old) (part_at p pools.old) }
-    ensures told { result ≡ (unlock_named m i (part_at p pools.old)).reply }
-    ensures moved { pools.new ≡ put_part p (unlock_named m i (part_at p pools.old)).part pools.old }
+#[tactic(auto, using(ptk_gate_moves::proofs::Locked::locked))]
+fn unlock_named(pools: &mut Pools, i: Invocation, m: MutexNo) -> Reply
+    requires well { IsWell (limits_here pools.old) pools.old.here }
+    ensures told { result ≡ (unlock_named m i pools.old.here).reply }
+    ensures moved { pools.new ≡ record pools.old { here = (unlock_named m i pools.old.here).part } }
 {
-    let _parts = pools.parts();
-    if pools.owns(p, i.caller, m) {
-        pools.unlock(p, m);
-        succeed(pools, p, i)
+    if pools.owns(i.caller, m) {
+        pools.unlock(m);
+        succeed(pools, i)
     } else {
-        refuse(pools, p, i, Errno::EPERM)
+        refuse(pools, i, Errno::EPERM)
     }
 }
 
@@ -50,44 +47,39 @@ fn unlock_named(pools: &mut Pools, p: PartId, i: Invocation, m: MutexNo) -> Repl
 /// again after an owner's end. EFAULT, EINVAL or ENOMEM of the word, then EINVAL of a mutex that is not robust and
 /// inconsistent, EPERM of one that the caller does not own (own choice); a refusal changes nothing but a0 and what a
 /// static initialiser set up.
-pub fn mutex_consistent(pools: &mut Pools, p: PartId, i: Invocation) -> Reply
-    requires partition { p < length pools.old.limits }
-    requires well { IsWell (limits_at p pools.old) (part_at p pools.old) }
-    ensures told { result ≡ (mutex_consistent i (part_at p pools.old)).reply }
-    ensures moved { pools.new ≡ put_part p (mutex_consistent i (part_at p pools.old)).part pools.old }
+pub fn mutex_consistent(pools: &mut Pools, i: Invocation) -> Reply
+    requires well { IsWell (limits_here pools.old) pools.old.here }
+    ensures told { result ≡ (mutex_consistent i pools.old.here).reply }
+    ensures moved { pools.new ≡ record pools.old { here = (mutex_consistent i pools.old.here).part } }
 {
-    match named_mutex(pools, p, &i) {
-        Ok(m) => repair_named(pools, p, i, m),
-        Err(errno) => refuse(pools, p, i, errno),
+    match named_mutex(pools, &i) {
+        Ok(m) => repair_named(pools, i, m),
+        Err(errno) => refuse(pools, i, errno),
     }
 }
 
 /// The mutex named is made consistent, or EINVAL, or EPERM.
-#[tactic(auto, using(ptk_gate_moves::proofs::Parted::parted, ptk_gate_moves::proofs::Locked::locked))]
-fn repair_named(pools: &mut Pools, p: PartId, i: Invocation, m: MutexNo) -> Reply
-    requires partition { p < length pools.old.limits }
-    requires well { IsWell (limits_at p pools.old) (part_at p pools.old) }
-    ensures told { result ≡ (consistent_named m i (part_at p pools.old)).reply }
-    ensures moved { pools.new ≡ put_part p (consistent_named m i (part_at p pools.old)).part pools.old }
+#[tactic(auto, using(ptk_gate_moves::proofs::Locked::locked))]
+fn repair_named(pools: &mut Pools, i: Invocation, m: MutexNo) -> Reply
+    requires well { IsWell (limits_here pools.old) pools.old.here }
+    ensures told { result ≡ (consistent_named m i pools.old.here).reply }
+    ensures moved { pools.new ≡ record pools.old { here = (consistent_named m i pools.old.here).part } }
 {
-    let _parts = pools.parts();
-    if !is_repairable(pools, p, m) {
-        return refuse(pools, p, i, Errno::EINVAL);
+    if !is_repairable(pools, m) {
+        return refuse(pools, i, Errno::EINVAL);
     }
-    if !pools.owns(p, i.caller, m) {
-        return refuse(pools, p, i, Errno::EPERM);
+    if !pools.owns(i.caller, m) {
+        return refuse(pools, i, Errno::EPERM);
     }
-    pools.make_consistent(p, m);
-    succeed(pools, p, i)
+    pools.make_consistent(m);
+    succeed(pools, i)
 }
 
 /// Whether the mutex is robust and inconsistent.
-fn is_repairable(pools: &Pools, p: PartId, m: MutexNo) -> bool
-    requires partition { p < length pools.now.limits }
-    ensures { result ≡ is_repairable (mutex_at (part_at p pools.now).locks m) }
+fn is_repairable(pools: &Pools, m: MutexNo) -> bool
+    ensures { result ≡ is_repairable (mutex_at pools.now.here.locks m) }
 {
-    let _parts = pools.parts();
-    is_state_repairable(pools.mutex(p, m))
+    is_state_repairable(pools.mutex(m))
 }
 
 /// Whether a mutex of this state is there, robust and inconsistent.

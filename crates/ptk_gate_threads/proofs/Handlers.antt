@@ -1,14 +1,13 @@
 -- The next move of an unwinding thread: with a handler left, and without one.
 use Rattle.std.proofs.Common.{◌≡◌, ℕ, zero, suc, List, [], ◌∷◌, refl, sym, ◌∙◌, ap, subst}
 use Rattle.std.specs.Prelude.{Option, Some, None, option_map, unwrap_or, slice_get, slice_set, drop}
-use Rattle.ptk_words.specs.Pools.{numbered, pool_set, pool_update}
+use Rattle.ptk_words.specs.Pools.{numbered, pool_set}
+use Rattle.ptk_words.specs.declared.sections.Limits.{Limits}
 use Rattle.ptk_words.specs.declared.threads.Cleanup.{Cleanup}
 use Rattle.ptk_words_model.specs.State.{Part, with_cleanups}
 use Rattle.ptk_words_model.specs.Keys.{next_destructor}
 use Rattle.ptk_words_model.specs.Unwinding.{cleanups_of, after_routine_call, after_destructor_or_end, after_unwinding_move}
 use Rattle.ptk_words_well.specs.Well.{IsWell}
-use Rattle.ptk_gate_moves.specs.Kept.{Kept, part_at, put_part, limits_at}
-use Rattle.ptk_gate_moves.proofs.Ranks.{put_same}
 
 -- ---- with a handler left
 
@@ -53,21 +52,19 @@ emptied_at t cleanups (Some own) e none =
     ap (λ (own : List Cleanup). pool_set cleanups t (drop 1 own)) none ∙ pool_set_to_own cleanups t [] (e ∙ ap Some none)
 
 -- taking one off changes nothing
-none_taken : (p t : ℕ) (kept mid : Kept) → slice_get (cleanups_of (part_at p kept) t) 0 ≡ None → mid ≡ put_part p (with_cleanups t (drop 1) (part_at p kept)) kept → mid ≡ kept
-none_taken p t kept mid none first =
-    let s : Part = part_at p kept in
-    let same : pool_update s.cleanups t (drop 1) ≡ s.cleanups = emptied_at t s.cleanups (numbered s.cleanups t) refl (no_first (cleanups_of s t) none) in
-    first ∙ ap (λ (cleanups : List (List Cleanup)). put_part p (record s { cleanups = cleanups }) kept) same ∙ sym (put_same p kept)
+none_taken : (t : ℕ) (s : Part) → slice_get (cleanups_of s t) 0 ≡ None → with_cleanups t (drop 1) s ≡ s
+none_taken t s none =
+    ap (λ (cleanups : List (List Cleanup)). record s { cleanups = cleanups }) (emptied_at t s.cleanups (numbered s.cleanups t) refl (no_first (cleanups_of s t) none))
 
 -- so a whole state stays whole
-pub none_well : (p t : ℕ) (kept mid : Kept) → slice_get (cleanups_of (part_at p kept) t) 0 ≡ None → mid ≡ put_part p (with_cleanups t (drop 1) (part_at p kept)) kept
-    → IsWell (limits_at p kept) (part_at p kept) → IsWell (limits_at p mid) (part_at p mid)
-none_well p t kept mid none first well = subst (λ (k : Kept). IsWell (limits_at p k) (part_at p k)) (sym (none_taken p t kept mid none first)) well
+pub none_well : (limits : Limits) (t : ℕ) (s : Part) → slice_get (cleanups_of s t) 0 ≡ None → IsWell limits s → IsWell limits (with_cleanups t (drop 1) s)
+none_well limits t s none well = subst (IsWell limits) (sym (none_taken t s none)) well
 
 -- and the next destructor is called, or the thread ends
-pub none_called : (p t : ℕ) (kept mid new : Kept) → slice_get (cleanups_of (part_at p kept) t) 0 ≡ None → mid ≡ put_part p (with_cleanups t (drop 1) (part_at p kept)) kept
-    → new ≡ put_part p (after_destructor_or_end t (next_destructor (part_at p mid).keys t) (part_at p mid)) mid → new ≡ put_part p (after_unwinding_move t (cleanups_of (part_at p kept) t) (part_at p kept)) kept
-none_called p t kept mid new none first second =
-    second
-    ∙ ap (λ (k : Kept). put_part p (after_destructor_or_end t (next_destructor (part_at p k).keys t) (part_at p k)) k) (none_taken p t kept mid none first)
-    ∙ ap (λ (cleanups : List Cleanup). put_part p (after_unwinding_move t cleanups (part_at p kept)) kept) (sym (no_first (cleanups_of (part_at p kept) t) none))
+pub none_called : (t : ℕ) (s : Part) → slice_get (cleanups_of s t) 0 ≡ None
+    → after_destructor_or_end t (next_destructor s.keys t) (with_cleanups t (drop 1) s) ≡ after_unwinding_move t (cleanups_of s t) s
+none_called t s none =
+    ap (after_destructor_or_end t (next_destructor s.keys t)) (none_taken t s none)
+    ∙ ap (λ (cleanups : List Cleanup). after_unwinding_move t cleanups s) (sym (no_first (cleanups_of s t) none))
+
+pub ruleset unwound = (handler_called, none_called)

@@ -1,5 +1,5 @@
 -- What a thread's end and its detachment leave at its number.
-use Rattle.std.proofs.Common.{◌≡◌, ℕ, ◌<◌, Bool, true, false, ◌||◌, List, [], ◌∷◌, refl, sym, ◌∙◌, ap, inl, inr}
+use Rattle.std.proofs.Common.{◌≡◌, ℕ, Bool, true, false, ◌||◌, List, [], ◌∷◌, refl, sym, ◌∙◌, ap, inl, inr}
 use Rattle.std.specs.Prelude.{Option, Some, None, option_and_then, if◌then◌else◌}
 use Rattle.std.proofs.lemmas.Bool.{cases_eq}
 use Rattle.ptk_words.specs.Pools.{pool_get, pool_set, pool_changed}
@@ -16,9 +16,7 @@ use Rattle.ptk_words_model.specs.Calls.{success}
 use Rattle.ptk_words_model.specs.ThreadCalls.{detach}
 use Rattle.ptk_words_model.specs.Unwinding.{after_join_by, after_release, without_thread}
 use Rattle.ptk_words_locks.proofs.Pools.{changed_own, changed_other}
-use Rattle.ptk_gate_moves.specs.Kept.{Kept, part_at, put_part, AreParts}
 use Rattle.ptk_gate_moves.specs.Moves.{with_left}
-use Rattle.ptk_gate_moves.proofs.Parted.{part_at-put, put_part-put}
 
 if_over : {A B : Type 0} (b : Bool) (x y : A) (f : A → B) → f (if b then x else y) ≡ (if b then f x else f y)
 if_over true x y f = refl
@@ -27,16 +25,6 @@ if_over false x y f = refl
 or_true : (b : Bool) → (b || true) ≡ true
 or_true true = refl
 or_true false = refl
-
--- a partition's part moved twice
-pub moved_twice : (n p : ℕ) (u v : Part) (f : Part → Part) (kept next new : Kept) → AreParts n kept → p < n
-    → next ≡ put_part p u kept → new ≡ put_part p (f (part_at p next)) next → f u ≡ v → new ≡ put_part p v kept
-moved_twice n p u v f kept next new parts lt first second e =
-    second
-    ∙ ap (λ (k : Kept). put_part p (f (part_at p k)) k) first
-    ∙ ap (λ (s : Part). put_part p (f s) (put_part p u kept)) (part_at-put n p u kept parts lt)
-    ∙ put_part-put p (f u) u kept
-    ∙ ap (λ (s : Part). put_part p s kept) e
 
 -- ---- a thread's end
 

@@ -1,11 +1,10 @@
 //! What call 10 asks for: the words of its attributes object, decoded.
 
-ghost use Rattle.std.specs.Prelude.{◌≡◌, ◌<◌, length};
+ghost use Rattle.std.specs.Prelude.{◌≡◌};
 ghost use Rattle.ptk_words_model.specs.ThreadCreation.{policy_of, readable_attributes, asked_scheduling, given_stack_top, asked_creation, creation_at};
-ghost use Rattle.ptk_gate_moves.specs.Kept.{part_at};
 
 use ptk_gate_moves::{Pools, is_pointer, named_priority};
-use ptk_words::{Errno, PartId, Policy, read_word};
+use ptk_words::{Errno, Policy, read_word};
 use ptk_words_model::{Creation, Scheduling};
 use std::marker::Model;
 
@@ -31,21 +30,17 @@ impl Model for ThreadAttributes {
 
 /// What the attributes object at the pointer asks for; pointer 0 stands for words that are all 0. EFAULT where the
 /// object can't be read, and the faults of `decode`.
-pub(crate) fn requested(pools: &Pools, p: PartId, pointer: u32) -> Result<Creation, Errno>
-    requires partition { p < length pools.now.limits }
-    ensures { result ≡ creation_at (part_at p pools.now) pointer }
+pub(crate) fn requested(pools: &Pools, pointer: u32) -> Result<Creation, Errno>
+    ensures { result ≡ creation_at pools.now.here pointer }
 {
-    let _parts = pools.parts();
-    let attributes = read_attributes(pools, p, pointer)?;
-    decode(&attributes, pools.regions().part(p).len())
+    let attributes = read_attributes(pools, pointer)?;
+    decode(&attributes, pools.memory().len())
 }
 
 /// The attributes object at the pointer, all 0 at pointer 0. EFAULT where it can't be read.
-fn read_attributes(pools: &Pools, p: PartId, pointer: u32) -> Result<ThreadAttributes, Errno>
-    requires partition { p < length pools.now.limits }
-    ensures { result ≡ readable_attributes (part_at p pools.now) pointer }
+fn read_attributes(pools: &Pools, pointer: u32) -> Result<ThreadAttributes, Errno>
+    ensures { result ≡ readable_attributes pools.now.here pointer }
 {
-    let _parts = pools.parts();
     if pointer == 0 {
         return Ok(ThreadAttributes {
             detach: 0,
@@ -55,10 +50,10 @@ fn read_attributes(pools: &Pools, p: PartId, pointer: u32) -> Result<ThreadAttri
             stack_top: 0,
         });
     }
-    if !is_pointer(pools, p, pointer, 20) {
+    if !is_pointer(pools, pointer, 20) {
         return Err(Errno::EFAULT);
     }
-    let memory = pools.regions().part(p);
+    let memory = pools.memory();
     let at = pointer as usize;
     Ok(ThreadAttributes {
         detach: read_word(memory, at),

@@ -1,13 +1,13 @@
 //! Call 10: a new thread.
 
-ghost use Rattle.std.specs.Prelude.{◌≡◌, ◌<◌, length, unwrap_or, Some, IfOk};
+ghost use Rattle.std.specs.Prelude.{◌≡◌, unwrap_or, Some, IfOk};
 ghost use Rattle.ptk_words.specs.Pools.{least_free};
 ghost use Rattle.ptk_words_model.specs.Steps.{valid, change, succeed_with};
 ghost use Rattle.ptk_words_model.specs.ThreadCalls.{create};
 ghost use Rattle.ptk_words_model.specs.ThreadCreation.{default_stack_top, start_cpu, created_thread, with_new_thread};
 ghost use Rattle.ptk_words_model.specs.ThreadCreation as creation;
 ghost use Rattle.ptk_words_well.specs.Well.{IsWell};
-ghost use Rattle.ptk_gate_moves.specs.Kept.{part_at, put_part, limits_at};
+ghost use Rattle.ptk_gate_moves.specs.Held.{limits_here};
 
 use crate::attributes::requested;
 use ptk_gate_moves::{Pools, begin, refuse, succeed_with};
@@ -28,38 +28,33 @@ struct NewThread {
 /// EFAULT where the attributes can't be read; EINVAL where their detach or inherit is neither 0 nor 1; of explicit
 /// scheduling ENOTSUP where the policy is unknown and EINVAL where the priority is not 1 to 32; EINVAL where the stack
 /// top is no multiple of 16 or lies past the memory; EAGAIN where no number is free.
-#[tactic(auto, using(ptk_gate_moves::proofs::Parted::parted))]
-pub fn create(pools: &mut Pools, p: PartId, i: Invocation) -> Reply
-    requires partition { p < length pools.old.limits }
-    requires limits { i.limits ≡ limits_at p pools.old }
-    requires well { IsWell (limits_at p pools.old) (part_at p pools.old) }
-    ensures told { result ≡ (create i (part_at p pools.old)).reply }
-    ensures moved { pools.new ≡ put_part p (create i (part_at p pools.old)).part pools.old }
+pub fn create(pools: &mut Pools, i: Invocation) -> Reply
+    requires limits { i.limits ≡ limits_here pools.old }
+    requires well { IsWell (limits_here pools.old) pools.old.here }
+    ensures told { result ≡ (create i pools.old.here).reply }
+    ensures moved { pools.new ≡ record pools.old { here = (create i pools.old.here).part } }
 {
-    let _parts = pools.parts();
-    let new = match asked_thread(pools, p, &i) {
+    let new = match asked_thread(pools, &i) {
         Ok(new) => new,
-        Err(errno) => return refuse(pools, p, i, errno),
+        Err(errno) => return refuse(pools, i, errno),
     };
-    begin(pools, p, new.number, new.thread);
-    succeed_with(pools, p, i, new.number.number() as u32)
+    begin(pools, new.number, new.thread);
+    succeed_with(pools, i, new.number.number() as u32)
 }
 
 /// The thread that the call makes at the least free number, or the error that refuses the call.
-fn asked_thread(pools: &Pools, p: PartId, i: &Invocation) -> Result<NewThread, Errno>
-    requires partition { p < length pools.now.limits }
-    ensures call { create i.now (part_at p pools.now) ≡ valid result (λ new. change (with_new_thread i.now.limits new.number new.thread) (succeed_with new.number)) i.now (part_at p pools.now) }
-    ensures free { IfOk result (λ new. least_free (part_at p pools.now).threads ≡ Some new.number) }
+fn asked_thread(pools: &Pools, i: &Invocation) -> Result<NewThread, Errno>
+    ensures call { create i.now pools.now.here ≡ valid result (λ new. change (with_new_thread i.now.limits new.number new.thread) (succeed_with new.number)) i.now pools.now.here }
+    ensures free { IfOk result (λ new. least_free pools.now.here.threads ≡ Some new.number) }
 {
-    let _parts = pools.parts();
-    let creation = match requested(pools, p, i.a0) {
+    let creation = match requested(pools, i.a0) {
         Ok(creation) => creation,
         Err(errno) => return Err(errno),
     };
-    let Some(number) = pools.threads().first_free(p) else {
+    let Some(number) = pools.first_free_thread() else {
         return Err(Errno::EAGAIN);
     };
-    let Some(creator) = pools.threads().thread(p, i.caller) else {
+    let Some(creator) = pools.thread(i.caller) else {
         // never met at the gate: the caller runs, so it is in use
         return Err(Errno::ESRCH);
     };

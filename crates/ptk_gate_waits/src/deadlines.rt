@@ -1,12 +1,12 @@
-//! How the kept deadline of a thread is made that of its wait, or ends (clock_nanosleep, pthread_mutex_timedlock,
+//! How the kept deadline of a thread is made that of its wait (clock_nanosleep, pthread_mutex_timedlock,
 //! pthread_cond_timedwait).
 
-ghost use Rattle.std.specs.Prelude.{◌≡◌, ◌<◌, length, slice_set, option_to_list};
+ghost use Rattle.std.specs.Prelude.{◌≡◌, ◌<◌, length, slice_set};
 ghost use Rattle.ptk_words.specs.Pools.{pool_set};
 ghost use Rattle.ptk_words_parted.specs.Parts.{part_of};
 ghost use Rattle.ptk_words_model.specs.Mutex.{wait_of};
 ghost use Rattle.ptk_words_model.specs.Withdrawal.{deadline_of_wait};
-ghost use Rattle.ptk_words_locks.specs.Deadlines.{deadlines_after_move, without_deadlines};
+ghost use Rattle.ptk_words_locks.specs.Deadlines.{deadlines_after_move};
 ghost use Rattle.ptk_threads.specs.Table.{thread_in};
 
 use crate::kinds::deadline_of;
@@ -38,15 +38,5 @@ pub fn follow_move(
     match made {
         LockMove::Waits => deadlines.set(p, t, deadline_of(Some(wait))),
         LockMove::Takes | LockMove::Recovers | LockMove::Counts | LockMove::Refuses(_) => {}
-    }
-}
-
-/// The thread, if there is one, has no deadline.
-pub fn end_one(deadlines: &mut ThreadDeadlines, p: PartId, woken: Option<ThreadNo>)
-    requires { p < length deadlines.old }
-    ensures { deadlines.new ≡ slice_set deadlines.old p (without_deadlines (option_to_list woken) (part_of deadlines.old p)) }
-{
-    if let Some(t) = woken {
-        deadlines.set(p, t, None);
     }
 }

@@ -1,4 +1,4 @@
-use Rattle.std.proofs.Common.{◌≡◌, ℕ, ◌≤◌, List, length, sym, ◌∙◌, ap, refl, subst}
+use Rattle.std.proofs.Common.{arith, ◌≡◌, ℕ, ◌≤◌, List, length, sym, ◌∙◌, ap, refl, subst}
 use Rattle.std.proofs.lemmas.List.{length-map, length-replicate}
 use Rattle.ptk_words.specs.declared.sections.Limits.{Limits}
 use Rattle.ptk_threads.specs.Table.{ThreadTable}
@@ -33,11 +33,13 @@ invariant_of-result c =
       lasts = ap length c.requires.lasts ∙ length-replicate (length limits) _ ∙ back;
       stored = stored_made c.args.threads.0.0.table c.args.threads.0.0.mutexes limits c.requires.mutexes c.requires.table;
       timed = timed_made c.args.threads.0.0.table c.args.threads.1 limits c.requires.deadlines c.requires.table;
+      in_hand = omega (arith, c.new-2.ensures, c.requires.some, back);
     }
 
 pub returns : goal.returns
 returns c =
     rw (
+      c.new-2.ensures,
       c.requires.memory,
       c.requires.consoles,
       c.requires.table,

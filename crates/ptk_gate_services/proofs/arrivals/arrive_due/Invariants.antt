@@ -1,10 +1,9 @@
 use Rattle.std.proofs.Common.{length}
-use Rattle.ptk_gate_moves.specs.Kept.{part_at}
 use Rattle.ptk_gate_services.proofs.ArrivalLoop.{AreArriving}
 use Rattle.ptk_gate_services.proofs.arrivals.arrive_due.Given as goal
 
 abbrev pub invariant-due : goal.invariant-due
-invariant-due l = AreArriving l.tick l.p l.initial.pools l.pools
+invariant-due l = AreArriving l.tick l.initial.pools l.pools
 
 abbrev pub decreases-due : goal.decreases-due
-decreases-due l = length (part_at l.p l.pools).console.coming
+decreases-due l = length l.pools.here.console.coming

@@ -3,15 +3,10 @@ use Rattle.ptk_gate_services.proofs.ExpiryLoop.{expiring_more, expiring_end}
 use Rattle.ptk_gate_services.proofs.expiries.expire_due.Goals as goal
 
 pub due-preserved : goal.due-preserved
-due-preserved c =
-    let turn = expiring_more c.args.tick c.args.p c.args.pools.now c.due.pools c.expire_next.new.pools c.due.invariant c.expire_next.ensures.parts c.requires.partition (sym c.expire_next.ensures.told ∙ c.due-test.true) c.expire_next.ensures.moved in
-    turn.0
+due-preserved c = (expiring_more c.args.tick c.args.pools.now c.due.pools c.expire_next.new.pools c.due.invariant (sym c.expire_next.ensures.told ∙ c.due-test.true) c.expire_next.ensures.moved).0
 
 pub returns : goal.returns
-returns c =
-    expiring_end c.args.tick c.args.p c.args.pools.now c.due.pools c.expire_next.new.pools c.due.invariant (sym c.expire_next.ensures.told ∙ c.due-test.false) c.expire_next.ensures.moved
+returns c = expiring_end c.args.tick c.args.pools.now c.due.pools c.expire_next.new.pools c.due.invariant (sym c.expire_next.ensures.told ∙ c.due-test.false) c.expire_next.ensures.moved
 
 pub due-smaller : goal.due-smaller
-due-smaller c =
-    let turn = expiring_more c.args.tick c.args.p c.args.pools.now c.due.pools c.expire_next.new.pools c.due.invariant c.expire_next.ensures.parts c.requires.partition (sym c.expire_next.ensures.told ∙ c.due-test.true) c.expire_next.ensures.moved in
-    turn.1
+due-smaller c = (expiring_more c.args.tick c.args.pools.now c.due.pools c.expire_next.new.pools c.due.invariant (sym c.expire_next.ensures.told ∙ c.due-test.true) c.expire_next.ensures.moved).1

@@ -1,15 +1,14 @@
 use Rattle.std.proofs.Common.{ℕ, ◌≤◌, refl, sym, ◌∙◌, subst, arith}
 use Rattle.ptk_words.specs.declared.sections.Limits.{Limits}
 use Rattle.ptk_words_model.specs.State.{Part}
-use Rattle.ptk_gate_moves.specs.Kept.{part_at, limits_at}
 use Rattle.ptk_gate_steps.specs.QuietStops.{quiet_stop}
 use Rattle.ptk_gate_steps.proofs.QuietStops.{stop_le, quiet_up, quiet_no_later}
 use Rattle.ptk_gate_steps.proofs.quiet_stops.quiet_thread.Goals as goal
 
 pub returns-then-ticks-clause-quiet : goal.returns-then-ticks-clause-quiet
 returns-then-ticks-clause-quiet c =
-    let limits : Limits = limits_at c.args.p c.args.pools.now in
-    let s : Part = part_at c.args.p c.args.pools.now in
+    let limits : Limits = c.args.look.now.limits in
+    let s : Part = c.args.look.now.part in
     let up : quiet_stop limits c.args.tick c.args.thread.now s c.args.stop ≤ c.args.stop = stop_le limits c.args.tick c.args.stop c.args.thread.now s in (
       refl,
       omega (arith, c.if-ticks.true, c.ticks.ensures, c.ticks-2.ensures),
@@ -21,12 +20,12 @@ returns-then-ticks-clause-quiet c =
 pub returns-then-ticks-clause-full : goal.returns-then-ticks-clause-full
 returns-then-ticks-clause-full c = λ k after le quiet.
     subst (λ (n : ℕ). k ≤ n) (sym c.stop_of-stop.ensures)
-    (quiet_no_later (limits_at c.args.p c.args.pools.now) c.args.tick c.args.stop k c.args.t c.args.thread.now (part_at c.args.p c.args.pools.now) quiet le)
+    (quiet_no_later c.args.look.now.limits c.args.tick c.args.stop k c.args.t c.args.thread.now c.args.look.now.part quiet le)
 
 pub returns-else-ticks-clause-full : goal.returns-else-ticks-clause-full
 returns-else-ticks-clause-full c = λ k after le quiet.
     let up : k ≤ c.stop_of-stop.result =
     subst (λ (n : ℕ). k ≤ n) (sym c.stop_of-stop.ensures)
-    (quiet_no_later (limits_at c.args.p c.args.pools.now) c.args.tick c.args.stop k c.args.t c.args.thread.now (part_at c.args.p c.args.pools.now) quiet le)
+    (quiet_no_later c.args.look.now.limits c.args.tick c.args.stop k c.args.t c.args.thread.now c.args.look.now.part quiet le)
     in
     omega (arith, up, after, c.if-ticks.false, c.ticks.ensures, c.ticks-2.ensures)

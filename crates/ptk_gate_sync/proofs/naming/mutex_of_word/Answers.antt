@@ -6,15 +6,15 @@ use Rattle.ptk_words.specs.declared.mutexes.Protocol.TheVariants.{NoProtocol}
 use Rattle.ptk_words_model.specs.State.{Part}
 use Rattle.ptk_words_model.specs.Mutex.{new_mutex}
 use Rattle.ptk_words_model.specs.Calls.{with_stored, with_pool_mutex}
-use Rattle.ptk_gate_moves.specs.Kept.{part_at, limits_at}
+use Rattle.ptk_gate_moves.specs.Held.{limits_here}
 use Rattle.ptk_gate_sync.proofs.Carried.{part_moved}
 use Rattle.ptk_gate_sync.proofs.Namings.{mutex_made}
 use Rattle.ptk_gate_sync.proofs.naming.mutex_of_word.Goals as goal
 
 pub returns-clause-named : goal.returns-clause-named
 returns-clause-named c =
-    let s : Part = part_at c.args.p c.args.pools.now in
+    let s : Part = c.args.pools.now.here in
     let is : c.read_word-word.result ≡ word_at s.memory c.args.pointer = cc in
     let zero : word_at s.memory c.args.pointer ≡ 0 = sym is ∙ c.if-word-ne0.false in
-    mutex_made (limits_at c.args.p c.args.pools.now) c.args.pointer s (part_at c.args.p c.make.new.pools) c.in-Some.number c.requires.well c.requires.word zero (sym c.first_free_mutex.ensures ∙ c.in-Some.is)
-    (part_moved (length c.args.pools.now.limits) c.args.p (with_stored c.args.pointer c.in-Some.number (with_pool_mutex c.in-Some.number (Some (new_mutex Normal NoProtocol false)) s)) c.args.pools.now c.make.new.pools c.parts-parts.ensures.entries c.requires.partition c.make.ensures)
+    mutex_made (limits_here c.args.pools.now) c.args.pointer s c.make.new.pools.here c.in-Some.number c.requires.well c.requires.word zero (sym c.first_free_mutex.ensures ∙ c.in-Some.is)
+    (part_moved (with_stored c.args.pointer c.in-Some.number (with_pool_mutex c.in-Some.number (Some (new_mutex Normal NoProtocol false)) s)) c.args.pools.now c.make.new.pools c.make.ensures)

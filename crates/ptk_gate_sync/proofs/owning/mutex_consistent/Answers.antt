@@ -1,4 +1,3 @@
-use Rattle.ptk_gate_moves.specs.Kept.{part_at}
 use Rattle.ptk_gate_sync.proofs.Carried.{told_on, moved_on}
 use Rattle.ptk_words_model.specs.MutexCalls.{consistent_named}
 use Rattle.ptk_gate_sync.proofs.owning.mutex_consistent.Goals as goal
@@ -8,11 +7,11 @@ returns-in-Ok-clause-told c = told_on _ _ c.repair_named.result (c.in-Ok.ensures
 
 pub returns-in-Ok-clause-moved : goal.returns-in-Ok-clause-moved
 returns-in-Ok-clause-moved c =
-    moved_on c.args.p (part_at c.args.p c.named_mutex.new.pools) _ _ c.args.pools.now c.named_mutex.new.pools c.repair_named.new.pools (c.in-Ok.ensures.named.call consistent_named) c.in-Ok.ensures.moved c.repair_named.ensures.moved
+    moved_on c.named_mutex.new.pools.here _ _ c.args.pools.now c.named_mutex.new.pools c.repair_named.new.pools (c.in-Ok.ensures.named.call consistent_named) c.in-Ok.ensures.moved c.repair_named.ensures.moved
 
 pub returns-in-Err-clause-told : goal.returns-in-Err-clause-told
 returns-in-Err-clause-told c = told_on _ _ c.refuse.result (c.in-Err.ensures.named.call consistent_named) c.refuse.ensures.told
 
 pub returns-in-Err-clause-moved : goal.returns-in-Err-clause-moved
 returns-in-Err-clause-moved c =
-    moved_on c.args.p (part_at c.args.p c.named_mutex.new.pools) _ _ c.args.pools.now c.named_mutex.new.pools c.refuse.new.pools (c.in-Err.ensures.named.call consistent_named) c.in-Err.ensures.moved c.refuse.ensures.moved
+    moved_on c.named_mutex.new.pools.here _ _ c.args.pools.now c.named_mutex.new.pools c.refuse.new.pools (c.in-Err.ensures.named.call consistent_named) c.in-Err.ensures.moved c.refuse.ensures.moved

@@ -1,6 +1,5 @@
 use Rattle.std.proofs.Common.{◌∙◌}
 use Rattle.ptk_words_model.specs.Steps.{mutex_named}
-use Rattle.ptk_gate_moves.specs.Kept.{part_at}
 use Rattle.ptk_gate_sync.proofs.Carried.{moved_twice}
 use Rattle.ptk_gate_sync.proofs.waiting.named_both.Goals as goal
 
@@ -10,7 +9,7 @@ returns-in-Ok-mutex_of_word-clause-call c =
 
 pub returns-in-Ok-mutex_of_word-clause-moved : goal.returns-in-Ok-mutex_of_word-clause-moved
 returns-in-Ok-mutex_of_word-clause-moved c =
-    moved_twice c.args.p (part_at c.args.p c.condition_of_word.new.pools) (part_at c.args.p c.mutex_of_word.new.pools) c.args.pools.now c.condition_of_word.new.pools c.mutex_of_word.new.pools c.in-Ok.ensures.moved c.in-Ok-mutex_of_word.ensures.moved
+    moved_twice c.condition_of_word.new.pools.here c.mutex_of_word.new.pools.here c.args.pools.now c.condition_of_word.new.pools c.mutex_of_word.new.pools c.in-Ok.ensures.moved c.in-Ok-mutex_of_word.ensures.moved
 
 pub returns-in-Err-mutex_of_word-clause-call : goal.returns-in-Err-mutex_of_word-clause-call
 returns-in-Err-mutex_of_word-clause-call c =
@@ -18,4 +17,4 @@ returns-in-Err-mutex_of_word-clause-call c =
 
 pub returns-in-Err-mutex_of_word-clause-moved : goal.returns-in-Err-mutex_of_word-clause-moved
 returns-in-Err-mutex_of_word-clause-moved c =
-    moved_twice c.args.p (part_at c.args.p c.condition_of_word.new.pools) (part_at c.args.p c.mutex_of_word.new.pools) c.args.pools.now c.condition_of_word.new.pools c.mutex_of_word.new.pools c.in-Ok.ensures.moved c.in-Err-mutex_of_word.ensures.moved
+    moved_twice c.condition_of_word.new.pools.here c.mutex_of_word.new.pools.here c.args.pools.now c.condition_of_word.new.pools c.mutex_of_word.new.pools c.in-Ok.ensures.moved c.in-Err-mutex_of_word.ensures.moved
