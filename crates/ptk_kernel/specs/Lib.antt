@@ -2,3 +2,4 @@ pub mod Spending
 pub mod StepParts
 pub mod Rows
 pub use Rattle.ptk_gate.specs.Kept
+pub mod Events

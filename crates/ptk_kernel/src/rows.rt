@@ -74,7 +74,7 @@ pub fn reply(tables: &mut Tables, p: PartId, quiet: Quiet, tick: Tick) -> u32
 /// The tick up to which the partition has nothing to do, at most `stop`: no thread runs or is ready, and no input comes
 /// and no deadline is due before it, so that each decision at a tick of its own before it is Idle and changes nothing.
 /// None where the partition is halted, or a thread runs or is ready. No tick at which it has nothing to do is missed.
-pub fn idle_until(tables: &Tables, p: PartId, stop: Tick) -> Option<Tick>
+pub fn stays_idle_until(tables: &Tables, p: PartId, stop: Tick) -> Option<Tick>
     requires partition { p < length tables.now.limits }
     ensures idle { IfSome result (λ u. (u ≤ stop) × IsIdle (limits_at p tables.now) u (part_at p tables.now)) }
     ensures full { (k : ℕ) → k ≤ stop → IsIdle (limits_at p tables.now) k (part_at p tables.now) → IsSomeAnd result (λ u. k ≤ u) }

@@ -11,10 +11,11 @@ use Rattle.ptk_words.specs.declared.sections.Limits.{Limits}
 use Rattle.ptk_words.specs.declared.faults.Status.TheVariants.{Refused}
 use Rattle.ptk_words_model.specs.Run.{empty_part, fits, main_thread, memory_of, start_part, with_image}
 use Rattle.ptk_words_model.specs.ThreadCreation.{with_new_thread}
-use Rattle.ptk_words_model.specs.State.{Part}
+use Rattle.ptk_words_model.specs.State.{Part, State}
 use Rattle.ptk_system.specs.Missing.{image_in}
 use Rattle.ptk_system.specs.Told.{activity_of, is_busy, status_in}
-use Rattle.ptk_system.specs.World.{World, alone_in, no_section, section_at, state_of}
+use Rattle.ptk_system.specs.World.{World, alone_in, no_section, section_at, state_of, world_at}
+use Rattle.ptk_system.proofs.Keeping.{state_alone}
 use Rattle.ptk_main_answers.specs.Images.{bytes_refusal, first_refused, image_refusal, is_refused, parts_refusal, refusal_in}
 
 active_is_no_refusal : (busy : Bool) → refusal_in (activity_of busy) ≡ None
@@ -38,10 +39,11 @@ refusal-bytes limits None input = refl
 refusal-bytes limits (Some bytes) input = refusal-parts limits (image_of bytes) input
 
 -- at tick 0 a partition's status says whether its image was refused
-pub refusal_in-start : (w : World) (p : ℕ) → w.tick ≡ 0 → refusal_in (status_in (state_of w p).part) ≡ image_refusal w.files (section_at w.config p)
-refusal_in-start w p e =
-    ap (λ (n : ℕ). refusal_in (status_in (alone_in w.config w.files p n).part)) e
-    ∙ refusal-bytes (section_at w.config p).limits (image_in w.files (section_at w.config p).image) (section_at w.config p).input
+pub refusal_in-start : (w : World) (p : ℕ) → w ≡ world_at w.config w.files w.tick → w.tick ≡ 0 → p < length w.config.sections → refusal_in (status_in (state_of w p).part) ≡ image_refusal w.files (section_at w.config p)
+refusal_in-start w p alone e lt =
+    ap (λ (s : State). refusal_in (status_in s.part)) (state_alone w p alone lt)
+    ∙ (ap (λ (n : ℕ). refusal_in (status_in (alone_in w.config w.files p n).part)) e
+    ∙ refusal-bytes (section_at w.config p).limits (image_in w.files (section_at w.config p).image) (section_at w.config p).input)
 
 -- ---- the first place
 
@@ -66,27 +68,27 @@ position-none p xs n d e before =
 
 -- ---- a partition's status at tick 0, by what it says of the image
 
-refused-status : (w : World) (p : ℕ) (o : Option ImageFault) → w.tick ≡ 0 → o ≡ refusal_in (status_in (state_of w p).part) → image_refusal w.files (section_at w.config p) ≡ o
-refused-status w p o start e = sym (refusal_in-start w p start) ∙ sym e
+refused-status : (w : World) (p : ℕ) (o : Option ImageFault) → w ≡ world_at w.config w.files w.tick → w.tick ≡ 0 → p < length w.config.sections → o ≡ refusal_in (status_in (state_of w p).part) → image_refusal w.files (section_at w.config p) ≡ o
+refused-status w p o alone start lt e = sym (refusal_in-start w p alone start lt) ∙ sym e
 
-pub refused_image_is : (w : World) (p : ℕ) (fault : ImageFault) → w.tick ≡ 0 → Some fault ≡ refusal_in (status_in (state_of w p).part)
+pub refused_image_is : (w : World) (p : ℕ) (fault : ImageFault) → w ≡ world_at w.config w.files w.tick → w.tick ≡ 0 → p < length w.config.sections → Some fault ≡ refusal_in (status_in (state_of w p).part)
     → image_refusal w.files (section_at w.config p) ≡ Some fault
-refused_image_is w p fault start e = refused-status w p (Some fault) start e
+refused_image_is w p fault alone start lt e = refused-status w p (Some fault) alone start lt e
 
 -- the first refused so far is the first of all
-pub first_refused_is : (w : World) (i p : ℕ) (fault : ImageFault) → w.tick ≡ 0 → i < length w.config.sections → p ≡ i
+pub first_refused_is : (w : World) (i p : ℕ) (fault : ImageFault) → w ≡ world_at w.config w.files w.tick → w.tick ≡ 0 → i < length w.config.sections → p ≡ i
     → ((q : ℕ) → q < i → is_refused w.files (section_at w.config q) ≡ false) → Some fault ≡ refusal_in (status_in (state_of w p).part)
     → Some p ≡ first_refused w.files w.config.sections
-first_refused_is w i p fault start within same before e =
-    let here : is_refused w.files (section_at w.config p) ≡ true = ap (λ (o : Option ImageFault). is_some o) (refused_image_is w p fault start e) in
+first_refused_is w i p fault alone start within same before e =
+    let here : is_refused w.files (section_at w.config p) ≡ true = ap (λ (o : Option ImageFault). is_some o) (refused_image_is w p fault alone start (omega (arith, within, same)) e) in
     let at : is_refused w.files (section_at w.config i) ≡ true = ap (λ (n : ℕ). is_refused w.files (section_at w.config n)) (sym same) ∙ here in
     ap Some same ∙ sym (position-at (is_refused w.files) w.config.sections i no_section within before at)
 
 -- one more partition is not refused
-pub none_refused_to : (w : World) (i p : ℕ) → w.tick ≡ 0 → p ≡ i → ((q : ℕ) → q < i → is_refused w.files (section_at w.config q) ≡ false)
+pub none_refused_to : (w : World) (i p : ℕ) → w ≡ world_at w.config w.files w.tick → w.tick ≡ 0 → i < length w.config.sections → p ≡ i → ((q : ℕ) → q < i → is_refused w.files (section_at w.config q) ≡ false)
     → None ≡ refusal_in (status_in (state_of w p).part) → (q : ℕ) → q < i + 1 → is_refused w.files (section_at w.config q) ≡ false
-none_refused_to w i p start same before e q lt =
-    let here : is_refused w.files (section_at w.config p) ≡ false = ap (λ (o : Option ImageFault). is_some o) (refused-status w p None start e) in
+none_refused_to w i p alone start within same before e q lt =
+    let here : is_refused w.files (section_at w.config p) ≡ false = ap (λ (o : Option ImageFault). is_some o) (refused-status w p None alone start (omega (arith, within, same)) e) in
     elim (cases_order q i) [
       | inl last ↦ ap (λ (n : ℕ). is_refused w.files (section_at w.config n)) (last ∙ sym same) ∙ here
       | inr order ↦ elim order [ inl earlier ↦ before q earlier | inr later ↦ absurd (omega (arith, lt, later)) ]

@@ -4,14 +4,10 @@ use Rattle.ptk_words_model.specs.Text.{newline, trace_text}
 use Rattle.ptk_config.specs.Configuration.{Configuration}
 use Rattle.ptk_system_files.specs.NamedFiles.{NamedFile}
 use Rattle.ptk_system.specs.Shown.{report_of}
-use Rattle.ptk_system.specs.World.{World, state_of}
+use Rattle.ptk_system.specs.World.{World, state_of, world_at}
 use Rattle.ptk_main_line.specs.declared.line.Request.{Request}
 use Rattle.ptk_main_line.specs.declared.line.Request.TheVariants.{Run, Trace, Timeline, Asm, Check}
 use Rattle.ptk_main_runs.specs.Parts.{part_named}
-
--- the system after so many ticks (own)
-abbrev pub world_at : Configuration → List NamedFile → ℕ → World
-world_at config files tick = record { config = config; files = files; tick = tick }
 
 -- the trace of a partition, if there is one (own)
 abbrev pub trace_of : Option ℕ → World → List ℕ

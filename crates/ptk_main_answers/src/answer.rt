@@ -4,8 +4,9 @@ ghost use Rattle.std.specs.Prelude.{◌≡◌, ◌≤◌, None, IfSome, OnOk, Ma
 ghost use Rattle.std.specs.Io.KnownBytes.{Appends};
 ghost use Rattle.ptk_words.specs.declared.TheConstants.{LAST_TICK};
 ghost use Rattle.ptk_system.specs.Shown.{report_of};
+ghost use Rattle.ptk_system.specs.World.{world_at};
 ghost use Rattle.ptk_main_runs.specs.Parts.{part_named};
-ghost use Rattle.ptk_main_answers.specs.Answers.{answer_of, trace_of, world_at};
+ghost use Rattle.ptk_main_answers.specs.Answers.{answer_of, trace_of};
 ghost use Rattle.ptk_main_answers.specs.Refusals.{IsFaultOf, lack_of, missing_image, refusal_of, refused_trace};
 ghost use Rattle.ptk_main_answers.specs.Requests.{IsOfConfiguration};
 

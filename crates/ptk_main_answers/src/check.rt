@@ -67,6 +67,7 @@ fn first_refused(system: &System<'_>) -> Option<(PartId, ImageFault)>
     ensures place { option_map (λ r. r.0) result ≡ first_refused system.now.files system.now.config.sections }
     ensures fault { IfSome result (λ r. image_refusal system.now.files (section_at system.now.config r.0) ≡ Some r.1) }
 {
+    system.states_are_alone();
     for i in 0..system.parts() {
         let p = PartId::new(i as u8);
         if let Some(fault) = refusal_in(system.status(p)) {

@@ -1,7 +1,11 @@
 pub mod Bounds
+pub mod Keeping
 pub mod Runs
 pub mod Loading
 pub mod Reports
 pub mod NextTicks
 pub mod Views
+pub mod OwnDecisions
+pub mod Changes
+pub mod Latest
 pub mod Stays

@@ -20,11 +20,12 @@ use Rattle.ptk_config.specs.Sections.{Section}
 use Rattle.ptk_config.specs.Configuration.{Configuration, IsConfiguration}
 use Rattle.ptk_system_files.specs.NamedFiles.{NamedFile}
 use Rattle.ptk_system_machine.specs.Accounts.{KeptAccount, first_account}
-use Rattle.ptk_system_machine.specs.Whole.{Whole, account_at, first_account_of}
+use Rattle.ptk_system_machine.specs.Whole.{Whole, account_at, first_account_of, state_at}
 use Rattle.ptk_system.specs.Missing.{image_in}
-use Rattle.ptk_system.specs.World.{IsRun, no_section, section_at}
+use Rattle.ptk_system.specs.World.{IsRun, alone_in, no_section, section_at}
 use Rattle.ptk_system.specs.Loaded.{AreLoaded}
 use Rattle.ptk_gate_pools.proofs.Built.{parts_blank}
+use Rattle.ptk_system.proofs.Keeping.{states_alone}
 
 -- ---- before any image
 
@@ -122,19 +123,21 @@ pub machine_starts : (config : Configuration) (files : List NamedFile) (limits :
     → ((p : ℕ) → p < length limits → account_at p machine ≡ first_account_of config.plan tables p) → IsRun config files machine 0
 machine_starts config files limits tables machine is same are kept count accounts =
     let sections : length limits ≡ length config.sections = ap length same ∙ length-map config.sections (λ (s : Section). s.limits) in
+    let each : (p : ℕ) → p < length config.sections → state_at p machine ≡ alone_in config files p 0 = λ p lt. (
+    let within : p < length limits = subst (λ (n : ℕ). p < n) (sym sections) lt in
+    let loaded : part_at p tables ≡ start_part (section_at config p).limits (image_in files (section_at config p).image) (section_at config p).input = are.loaded p lt lt in
+    let part : part_at p machine.kept ≡ start_part (section_at config p).limits (image_in files (section_at config p).image) (section_at config p).input = ap (part_at p) kept ∙ loaded in
+    let account : (account_at p machine).account ≡ (start (own_ticks config.plan p) (section_at config p).limits (image_in files (section_at config p).image) (section_at config p).input).account =
+    ap (λ (a : KeptAccount). a.account) (accounts p within) ∙ ap (λ (s : Part). first_account (next_from (own_ticks config.plan p) s.status 0)) loaded in
+    started part account) in
     record {
       configured = is;
       parts = count ∙ sections;
       sections = ap (λ (k : Kept). length k.limits) kept ∙ loaded_sections config files (length config.sections) tables are;
       early = omega arith;
       limits = λ p lt. ap (limits_at p) kept ∙ limits_section config tables p are.limits lt;
-      each = λ p lt. (
-          let within : p < length limits = subst (λ (n : ℕ). p < n) (sym sections) lt in
-          let loaded : part_at p tables ≡ start_part (section_at config p).limits (image_in files (section_at config p).image) (section_at config p).input = are.loaded p lt lt in
-          let part : part_at p machine.kept ≡ start_part (section_at config p).limits (image_in files (section_at config p).image) (section_at config p).input = ap (part_at p) kept ∙ loaded in
-          let account : (account_at p machine).account ≡ (start (own_ticks config.plan p) (section_at config p).limits (image_in files (section_at config p).image) (section_at config p).input).account =
-          ap (λ (a : KeptAccount). a.account) (accounts p within) ∙ ap (λ (s : Part). first_account (next_from (own_ticks config.plan p) s.status 0)) loaded in
-          started part account);
+      each = each;
+      states = states_alone config files machine 0 (count ∙ sections) each;
     }
 
 pub ruleset blanks = (limits_ranges, length-map)

@@ -1,19 +1,20 @@
 //! What each thread does, its priorities, and the partition's next decision and last step: what a picture of a run is
 //! made from.
 
-ghost use Rattle.std.specs.Prelude.{◌≡◌, ◌<◌, ◌≤◌, ℕ, length, option_map};
+ghost use Rattle.std.specs.Prelude.{◌≡◌, ◌<◌, ◌≤◌, ℕ, None, Some, length, option_map};
 ghost use Rattle.ptk_words.specs.declared.threads.Thread.{Thread};
+ghost use Rattle.ptk_words_windows.specs.Windows.{own_ticks};
 ghost use Rattle.ptk_words_model.specs.State.{Mutex};
 ghost use Rattle.ptk_words_model.specs.Priority.{effective_priority, thread_at};
 ghost use Rattle.ptk_words_model.specs.Mutex.{mutex_at};
 ghost use Rattle.ptk_words_model.specs.Run.{is_active};
 ghost use Rattle.ptk_system.specs.Activities.{activity_in, activity_of_thread, activity_of_wait, is_runner};
-ghost use Rattle.ptk_system.specs.World.{at_tick, state_of};
+ghost use Rattle.ptk_system.specs.World.{at_tick, but_next, state_of};
 
 use crate::system::System;
-use ptk_system_machine::idle_until;
+use ptk_system_machine::idle_from;
 use ptk_words::{
-    Entry, MutexNo, Owner, PartId, Phase, Priority, Status, Thread, ThreadNo, Tick, Wait,
+    Entry, LAST_TICK, MutexNo, Owner, PartId, Phase, Priority, Status, Thread, ThreadNo, Tick, Wait,
 };
 
 /// What a thread does: it is running, ready, blocked or ended (XSH 2.8.4), its partition is halted, or its number is free.
@@ -39,7 +40,7 @@ impl<'a> System<'a> {
         requires { p < length self.now.config.sections }
         ensures { result ≡ (state_of self.now p).part.running }
     {
-        self.machine.tables().running(p)
+        self.kept().tables().running(p)
     }
 
     /// What a thread does.
@@ -60,7 +61,7 @@ impl<'a> System<'a> {
         requires { p < length self.now.config.sections }
         ensures { result ≡ thread_at (state_of self.now p).part.locks t }
     {
-        self.machine.tables().threads().thread(p, t)
+        self.kept().tables().threads().thread(p, t)
     }
 
     /// Whether the partition is not halted.
@@ -68,7 +69,7 @@ impl<'a> System<'a> {
         requires { p < length self.now.config.sections }
         ensures { result ≡ is_active (state_of self.now p).part.status }
     {
-        is_active(self.machine.tables().status(p))
+        is_active(self.kept().tables().status(p))
     }
 
     /// The assigned priority of a thread, None of a free number.
@@ -76,7 +77,7 @@ impl<'a> System<'a> {
         requires { p < length self.now.config.sections }
         ensures { result ≡ option_map (λ (thread : Thread). thread.priority) (thread_at (state_of self.now p).part.locks t) }
     {
-        self.machine.tables().threads().assigned_priority(p, t)
+        self.kept().tables().threads().assigned_priority(p, t)
     }
 
     /// The effective priority of a thread, None of a free number (pthread_mutexattr_getprotocol).
@@ -93,7 +94,7 @@ impl<'a> System<'a> {
         requires { p < length self.now.config.sections }
         ensures { result ≡ option_map (λ (mutex : Mutex). mutex.owner) (mutex_at (state_of self.now p).part.locks m) }
     {
-        self.machine.tables().owner(p, m)
+        self.kept().tables().owner(p, m)
     }
 
     /// The tick of the partition's next decision, None where there is none: it is halted, or has no window.
@@ -101,7 +102,7 @@ impl<'a> System<'a> {
         requires { p < length self.now.config.sections }
         ensures { result ≡ (state_of self.now p).account.next }
     {
-        self.machine.account(p).next()
+        self.kept().account(p).next()
     }
 
     /// The partition's last step, None before the first: its tick, its thread, and what the trace keeps of it.
@@ -109,26 +110,53 @@ impl<'a> System<'a> {
         requires { p < length self.now.config.sections }
         ensures { result ≡ (state_of self.now p).part.last }
     {
-        self.machine.tables().last_step(p)
+        self.kept().tables().last_step(p)
     }
 
-    /// The tick up to which nothing of the partition changes but the tick of its next decision, at most `stop`: that of
-    /// its next decision, of a halted one `stop`, of one that has nothing to do the next input's or deadline's, where
-    /// that is later.
+    /// The latest tick, at most `stop`, up to which nothing of the partition changes but the tick of its next decision: no
+    /// register, no byte, no count of steps or lost ticks, and no entry of the trace. It is that of its next decision, of
+    /// a halted one `stop`, and of one that has nothing to do its first own tick from the next input's or deadline's on,
+    /// where that is later.
     pub fn stays_until(&self, p: PartId, stop: Tick) -> Tick
         requires { p < length self.now.config.sections }
         ensures within { result ≤ stop }
         ensures stays { (k : ℕ) → self.now.tick ≤ k → k ≤ result →
-            (state_of (at_tick k self.now) p).part ≡ (state_of self.now p).part }
+            but_next (state_of (at_tick k self.now) p) ≡ but_next (state_of self.now p) }
+        ensures latest { stop ≤ LAST_TICK → (k : ℕ) → k ≤ stop →
+            ((j : ℕ) → self.now.tick ≤ j → j ≤ k → but_next (state_of (at_tick j self.now) p) ≡ but_next (state_of self.now p)) → k ≤ result }
     {
-        let _parts = self.parts();
+        self.states_are_alone();
         match self.next(p) {
-            Some(next) => match idle_until(self.tables(), p, stop) {
-                Some(until) if next.ticks() < until.ticks() => until,
-                _ if next.ticks() < stop.ticks() => next,
-                _ => stop,
-            },
+            Some(next) => {
+                let until = idle_from(self.tables(), p, next, stop);
+                if next.ticks() < until.ticks() {
+                    self.first_own(p, until, stop)
+                } else if next.ticks() < stop.ticks() {
+                    next
+                } else {
+                    stop
+                }
+            }
             None => stop,
+        }
+    }
+
+    /// The partition's first own tick from this one on, where that is before `stop`, else `stop`. A tick above 2^40, to
+    /// which no system goes, is told as it is.
+    fn first_own(&self, p: PartId, tick: Tick, stop: Tick) -> Tick
+        requires { tick ≤ stop }
+        ensures from { tick ≤ result }
+        ensures within { result ≤ stop }
+        ensures others { (k : ℕ) → tick ≤ k → k < result → (own_ticks self.now.config.plan p).end_at k ≡ None }
+        ensures own { stop ≤ LAST_TICK → result < stop → (own_ticks self.now.config.plan p).next_of tick ≡ Some result }
+    {
+        if tick.ticks() > LAST_TICK {
+            return tick;
+        }
+        let config = self.config;
+        match config.plan().next_of(p, tick) {
+            Some(own) if own.ticks() < stop.ticks() => own,
+            _ => stop,
         }
     }
 }

@@ -1,6 +1,7 @@
 //! The machine of a configuration before its first decision.
 
-ghost use Rattle.std.specs.Prelude.{◌≡◌, ◌<◌, List, IfOk, IfErr, IfSome, OnOk, length, map, option_map};
+ghost use Rattle.std.specs.Prelude.{◌≡◌, ◌<◌, List, IfOk, IfErr, IfSome, IsOk, OnOk, length, map, option_map};
+ghost use Rattle.std.specs.Option.{IsSomeAnd};
 ghost use Rattle.ptk_system_files.specs.NamedFiles.{NamedFile};
 ghost use Rattle.ptk_words.specs.Image.{image_of};
 ghost use Rattle.ptk_words_model.specs.Run.{empty_part, with_image, with_image_bytes};
@@ -133,7 +134,8 @@ fn blank_tables(alloc: Global, config: &Config, limits: &[Limits]) -> Result<Tab
     Tables::new(alloc, limits, &inputs)
 }
 
-/// Loads the section's image, if it names one, into a partition that has none yet. Memory is its only fault.
+/// Loads the section's image, if it names one, into a partition that has none yet. Memory is its only fault, and never
+/// the answer to an image that has one: that halts the partition as refused.
 #[tactic(auto, using(ptk_system_machine::proofs::States::same_part))]
 fn load_section(
     alloc: Global,
@@ -147,6 +149,7 @@ fn load_section(
     ensures loaded { OnOk result (tables.new ≡ put_part p
         (with_image_bytes (limits_at p tables.old) (image_in files.now section.now.image) (part_at p tables.old)) tables.old) }
     ensures refused { IfErr result (λ fault. fault ≡ BootFault.Memory) }
+    ensures sound { IfErr result (λ _. IsSomeAnd (image_in files.now section.now.image) (λ bytes. IsOk (image_of bytes))) }
 {
     match image_bytes(section, files) {
         Some(bytes) => load_image(alloc, tables, p, bytes),
@@ -154,13 +157,15 @@ fn load_section(
     }
 }
 
-/// Loads these bytes as an image, or halts the partition as refused where they have a fault. Memory is its only fault.
+/// Loads these bytes as an image, or halts the partition as refused where they have a fault. Memory is its only fault,
+/// and comes only of bytes that have none.
 fn load_image(alloc: Global, tables: &mut Tables, p: PartId, bytes: &[u8]) -> Result<(), BootFault>
     requires partition { p < length tables.old.limits }
     requires blank { part_at p tables.old ≡ empty_part (limits_at p tables.old) (part_at p tables.old).console.coming }
     ensures loaded { OnOk result (tables.new ≡ put_part p
         (with_image (limits_at p tables.old) (image_of bytes.now) (part_at p tables.old)) tables.old) }
     ensures refused { IfErr result (λ fault. fault ≡ BootFault.Memory) }
+    ensures sound { IfErr result (λ _. IsOk (image_of bytes.now)) }
 {
     match read_image(alloc, bytes) {
         Ok(image) => {

@@ -1,9 +1,10 @@
 //! Laws of systems, each the contract of a function without code of its own.
 
-ghost use Rattle.std.specs.Prelude.{◌≡◌, ◌≤◌, max};
+ghost use Rattle.std.specs.Prelude.{◌≡◌, ◌≢◌, ◌+◌, ◌<◌, ◌≤◌, length, max};
 ghost use Rattle.ptk_words.specs.declared.TheConstants.{LAST_TICK};
 ghost use Rattle.ptk_words_windows.specs.OwnTicksLaws.{OwnTicksAreApart};
-ghost use Rattle.ptk_system.specs.Laws.{IsIdleBut, SameView, StepStaysInWindow};
+ghost use Rattle.ptk_words_windows.specs.Windows.{own_ticks};
+ghost use Rattle.ptk_system.specs.Laws.{IsByDecision, IsIdleBut, SameView, StepStaysInWindow, StepsAreApart};
 ghost use Rattle.ptk_system.specs.Shown.{part_report};
 ghost use Rattle.ptk_system.specs.World.{at_tick, section_at, state_of};
 
@@ -20,8 +21,8 @@ pub fn two_worlds(a: &System, b: &System, p: PartId, q: PartId)
     ensures states { state_of a.now p ≡ state_of b.now q }
     ensures reports { (section_at a.now.config p).name ≡ (section_at b.now.config q).name → part_report a.now p ≡ part_report b.now q }
 {
-    let _parts_of_a = a.parts();
-    let _parts_of_b = b.parts();
+    a.states_are_alone();
+    b.states_are_alone();
 }
 
 /// Two systems that reached the same tick, and a partition of each as in `two_worlds`, where the second system's other
@@ -43,6 +44,24 @@ pub fn one_processor()
     ensures within { StepStaysInWindow }
     ensures apart { OwnTicksAreApart }
 {}
+
+/// With a tick a partition's state changes by a decision alone, which takes place at a tick of its own, with the rest of the
+/// window as its room; with any other tick it stays.
+#[tactic(auto, using(crate::proofs::OwnDecisions::decisions))]
+pub fn decisions_are_own(system: &System, p: PartId, tick: Tick)
+    requires { p < length system.now.config.sections }
+    ensures { IsByDecision (own_ticks system.now.config.plan p) (section_at system.now.config p).limits tick
+        (state_of (at_tick tick system.now) p) (state_of (at_tick (tick + 1) system.now) p) }
+{}
+
+/// No two partitions' steps share a tick: all ticks of a step lie in the window in which its decision took place.
+#[tactic(auto, using(crate::proofs::OwnDecisions::decisions))]
+pub fn steps_are_apart(system: &System, p: PartId, q: PartId)
+    requires { p ≢ q }
+    ensures { StepsAreApart system.now p q }
+{
+    system.states_are_alone();
+}
 
 /// Running to m and then to n, m at most n, is running to n.
 pub fn stop_on_the_way(system: &mut System, m: Tick, n: Tick)

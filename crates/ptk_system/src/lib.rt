@@ -1,7 +1,8 @@
 //! A system of partitions: `System::boot` from a configuration and files, `System::run_to`, what is told of each
-//! partition, and `System::report`. The headline is the invariant of `System`: after any ticks each partition's state is
-//! the one that the definition gives it alone, of its own ticks, its section, its image and its input; so every getter and
-//! the report answer functions of that. `two_worlds`, `idle_world` and `one_processor` are its laws. Below stand all
+//! partition, and `System::report`. A system's value has the state that each partition is in, which every getter, the
+//! tables and the report answer functions of. The headline is the invariant of `System`, told by `states_are_alone`: after
+//! any ticks each partition's state is the one that the definition gives it alone, of its own ticks, its section, its image
+//! and its input. `two_worlds`, `idle_world`, `one_processor`, `decisions_are_own` and `steps_are_apart` are its laws. Below stand all
 //! partitions over the ticks (`ptk_system_machine`), the files (`ptk_system_files`), the kernel, images, the
 //! configuration, windows and traces; the program stands above. Dear to prove: that loading one image leaves every other
 //! partition (`proofs/Loading`).
@@ -18,7 +19,9 @@ mod telling;
 
 pub use activity::Activity;
 pub use fault::BootFault;
-pub use laws::{idle_world, one_processor, stop_on_the_way, two_worlds};
+pub use laws::{
+    decisions_are_own, idle_world, one_processor, steps_are_apart, stop_on_the_way, two_worlds,
+};
 pub use ptk_system_files::Files;
 pub use status::PartStatus;
 pub use system::System;

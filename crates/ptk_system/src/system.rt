@@ -1,9 +1,10 @@
 //! The system and its runs.
 
-ghost use Rattle.std.specs.Prelude.{◌≡◌, ◌<◌, ◌≤◌, None, IfOk, MatchResult, max};
+ghost use Rattle.std.specs.Prelude.{◌≡◌, ◌<◌, ◌≤◌, ℕ, None, Some, IfOk, MatchResult, length, max};
 ghost use Rattle.ptk_words.specs.declared.TheConstants.{LAST_TICK};
 ghost use Rattle.ptk_system.specs.Missing.{first_missing, missing_in};
-ghost use Rattle.ptk_system.specs.World.{at_tick};
+ghost use Rattle.ptk_system_machine.specs.Turns.{IsPlainAt};
+ghost use Rattle.ptk_system.specs.World.{at_tick, section_at, state_of, world_at};
 
 use crate::booting::{first_machine, first_missing};
 use crate::fault::BootFault;
@@ -14,7 +15,8 @@ use ptk_words::Tick;
 use std::alloc::Global;
 use std::marker::Model;
 
-/// The partitions of a configuration after some ticks. Each of them is what it would be alone: that is its invariant.
+/// The partitions of a configuration after some ticks, each with its state. Each of them is what it would be alone: that is
+/// its invariant (`IsRun`), and `states_are_alone` tells it.
 #[derive(Drop)]
 pub struct System<'a> {
     pub(crate) config: &'a Config,
@@ -24,11 +26,11 @@ pub struct System<'a> {
 }
 
 impl<'a> Model for System<'a> {
-    ghost use Rattle.ptk_system.specs.World.{IsRun, World};
+    ghost use Rattle.ptk_system.specs.World.{IsRun, World, world_of};
 
     ghost Value = { World };
 
-    ghost view = { λ a. record { config = a.config.now; files = a.files.now; tick = a.tick } };
+    ghost view = { λ a. world_of a.config.now a.files.now a.machine a.tick };
 
     ghost invariant = { λ a. IsRun a.config.now a.files.now a.machine a.tick };
 }
@@ -44,7 +46,7 @@ impl<'a> System<'a> {
         config: &'a Config,
         files: &'a Files,
     ) -> Result<System<'a>, BootFault>
-        ensures booted { IfOk result (λ system. system ≡ record { config = config.now; files = files.now; tick = 0 }) }
+        ensures booted { IfOk result (λ system. system ≡ world_at config.now files.now 0) }
         ensures missing { MatchResult result
             (λ _. first_missing files.now config.now.sections ≡ None)
             (λ fault. first_missing files.now config.now.sections ≡ missing_in fault) }
@@ -85,11 +87,15 @@ impl<'a> System<'a> {
     }
 
     /// Goes on over plain steps and quiet calls of the partition that decides next, to a tick of at most 2^40
-    /// that is not after `n`, and before any other decision. Does nothing where `n` was already reached.
+    /// that is not after `n`, and before any other decision. It stands still only where `n` was already reached, or where a
+    /// decision at the tick reached is no plain step of a quiet partition.
     pub fn compute_to(&mut self, n: Tick)
         requires { n ≤ LAST_TICK }
         ensures from { self.old.tick ≤ self.new.tick }
         ensures within { self.new.tick ≤ max self.old.tick n }
+        ensures on { self.old.tick < n → ((p : ℕ) → p < length self.old.config.sections →
+            (state_of self.old p).account.next ≡ Some self.old.tick →
+            IsPlainAt (section_at self.old.config p).limits self.old.tick (state_of self.old p).part) → self.old.tick < self.new.tick }
         ensures run { self.new ≡ at_tick self.new.tick self.old }
     {
         if n.ticks() <= self.tick.ticks() {

@@ -4,12 +4,13 @@ ghost use Rattle.std.specs.Prelude.{◌≡◌, ◌<◌, ◌≤◌, ℕ, length, 
 ghost use Rattle.ptk_words_model.specs.Priority.{thread_at};
 ghost use Rattle.ptk_gate_pools.specs.Kept.{AreParts, limits_at, part_at};
 ghost use Rattle.ptk_config.specs.Configuration.{IsConfiguration};
+ghost use Rattle.ptk_system_machine.specs.Whole.{state_at};
 ghost use Rattle.ptk_system.specs.Told.{live_cpu, pc_in, register_in, status_in};
-ghost use Rattle.ptk_system.specs.World.{section_at, state_of};
+ghost use Rattle.ptk_system.specs.World.{alone_in, section_at, state_of, world_at};
 
 use crate::status::PartStatus;
 use crate::system::System;
-use ptk_system_machine::Tables;
+use ptk_system_machine::{Machine, Tables};
 use ptk_trace::Trace;
 use ptk_words::{Cpu, PartId, Phase, ThreadNo};
 
@@ -25,6 +26,28 @@ impl<'a> System<'a> {
         config.parts()
     }
 
+    /// Each partition's state is the one that the definition gives it alone, of its own ticks, its section's numbers, its
+    /// image and its input, after the ticks that were reached. It opens the invariant, and does nothing.
+    pub fn states_are_alone(&self)
+        ensures configured { IsConfiguration self.now.config }
+        ensures count { length self.now.states ≡ length self.now.config.sections }
+        ensures alone { (p : ℕ) → p < length self.now.config.sections →
+            state_of self.now p ≡ alone_in self.now.config self.now.files p self.now.tick }
+        ensures all { self.now ≡ world_at self.now.config self.now.files self.now.tick }
+    {
+        let _ = &self.machine;
+    }
+
+    /// The tables and accounts of all partitions, which are their states.
+    pub(crate) fn kept(&self) -> &Machine
+        ensures count { length result.now.accounts ≡ length self.now.config.sections }
+        ensures sections { length result.now.kept.limits ≡ length self.now.config.sections }
+        ensures limits { (p : ℕ) → p < length self.now.config.sections → limits_at p result.now.kept ≡ (section_at self.now.config p).limits }
+        ensures states { (p : ℕ) → p < length self.now.config.sections → state_at p result.now ≡ state_of self.now p }
+    {
+        &self.machine
+    }
+
     /// The tables of all partitions: of each section's, and of no other.
     pub fn tables(&self) -> &Tables
         ensures count { length result.now.limits ≡ length self.now.config.sections }
@@ -32,7 +55,7 @@ impl<'a> System<'a> {
         ensures limits { (p : ℕ) → p < length self.now.config.sections → limits_at p result.now ≡ (section_at self.now.config p).limits }
         ensures states { (p : ℕ) → p < length self.now.config.sections → part_at p result.now ≡ (state_of self.now p).part }
     {
-        self.machine.tables()
+        self.kept().tables()
     }
 
     /// A register of a thread. None where there is no such thread, it has ended, or `i` is above 31.
@@ -62,7 +85,7 @@ impl<'a> System<'a> {
         requires { p < length self.now.config.sections }
         ensures { result ≡ live_cpu (thread_at (state_of self.now p).part.locks thread) }
     {
-        match self.machine.tables().threads().thread(p, thread) {
+        match self.kept().tables().threads().thread(p, thread) {
             Some(thread) => match thread.phase {
                 Phase::Ended => None,
                 Phase::Normal | Phase::Unwinding => Some(thread.cpu),
@@ -76,7 +99,7 @@ impl<'a> System<'a> {
         requires { p < length self.now.config.sections }
         ensures { result ≡ slice_get (state_of self.now p).part.memory address }
     {
-        self.machine.tables().regions().read(p, address)
+        self.kept().tables().regions().read(p, address)
     }
 
     /// The output so far.
@@ -84,7 +107,7 @@ impl<'a> System<'a> {
         requires { p < length self.now.config.sections }
         ensures { result.now ≡ (state_of self.now p).part.console.output }
     {
-        self.machine.tables().output(p)
+        self.kept().tables().output(p)
     }
 
     /// How many input bytes were lost, the ring being full.
@@ -92,7 +115,7 @@ impl<'a> System<'a> {
         requires { p < length self.now.config.sections }
         ensures { result ≡ (state_of self.now p).part.console.dropped }
     {
-        self.machine.tables().dropped(p)
+        self.kept().tables().dropped(p)
     }
 
     /// What the partition does, or why it is halted.
@@ -100,7 +123,7 @@ impl<'a> System<'a> {
         requires { p < length self.now.config.sections }
         ensures { result ≡ status_in (state_of self.now p).part }
     {
-        let tables = self.machine.tables();
+        let tables = self.kept().tables();
         let busy = tables.running(p).is_some() || tables.has_ready(p);
         PartStatus::of(tables.status(p), busy)
     }
@@ -110,7 +133,7 @@ impl<'a> System<'a> {
         requires { p < length self.now.config.sections }
         ensures { result ≡ (state_of self.now p).account.steps }
     {
-        self.machine.account(p).steps()
+        self.kept().account(p).steps()
     }
 
     /// How many ticks it lost, at ends of windows for which a step cost too much.
@@ -118,7 +141,7 @@ impl<'a> System<'a> {
         requires { p < length self.now.config.sections }
         ensures { result ≡ (state_of self.now p).account.lost }
     {
-        self.machine.account(p).lost()
+        self.kept().account(p).lost()
     }
 
     /// Its last steps, as many as its section keeps.
@@ -127,6 +150,6 @@ impl<'a> System<'a> {
         requires { p < length self.now.config.sections }
         ensures { result.now ≡ record { kept = (section_at self.now.config p).limits.trace; entries = (state_of self.now p).account.trace } }
     {
-        self.machine.account(p).trace()
+        self.kept().account(p).trace()
     }
 }

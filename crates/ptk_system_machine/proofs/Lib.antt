@@ -6,3 +6,4 @@ pub mod Ticks
 pub mod Coming
 pub mod Costs
 pub mod StillQuiet
+pub mod Progress

@@ -1,11 +1,13 @@
 -- How a run goes on: each partition by its turns, in which it is at a tick of its own.
-use Rattle.std.specs.Prelude.{◌≡◌, ℕ, ◌+◌, ◌-◌, ◌<◌, ◌≤◌, List, Option, Some, IfSome, slice_index_or}
+use Rattle.std.specs.Prelude.{◌≡◌, ℕ, ◌+◌, ◌-◌, ◌<◌, ◌≤◌, true, List, Option, Some, IfSome, slice_index_or}
 use Rattle.ptk_words.specs.declared.sections.Limits.{Limits}
+use Rattle.ptk_words.specs.declared.threads.Thread.{Thread}
+use Rattle.ptk_words_instructions.specs.PlainSteps.{is_plain}
 use Rattle.ptk_words_windows.specs.Windows.{WindowPlan, OwnTicks}
 use Rattle.ptk_words_model.specs.declared.Spent.{Spent}
 use Rattle.ptk_words_model.specs.declared.Spent.TheVariants.{Idle}
 use Rattle.ptk_words_model.specs.State.{Part, State}
-use Rattle.ptk_words_quiet.specs.Quiet.{AreOwn, after_ticks}
+use Rattle.ptk_words_quiet.specs.Quiet.{AreOwn, IsQuiet, after_ticks, core_of}
 use Rattle.ptk_words_quiet.specs.Idle.{IsIdle}
 use Rattle.ptk_window.specs.Walks.{Way}
 use Rattle.ptk_window.specs.declared.near.Turn.{Turn}
@@ -44,6 +46,13 @@ pub record IsUpTo (ticks : OwnTicks) (limits : Limits) (tick to : ℕ) (turn : T
 -- in a run from a tick nothing happens to a partition in this state before another tick (own)
 abbrev pub IsStillUntil : OwnTicks → Limits → ℕ → ℕ → State → Type 0
 IsStillUntil ticks limits tick until s = (k : ℕ) → tick ≤ k → k ≤ until → after_ticks ticks limits tick (k - tick) s ≡ s
+
+-- at the tick the partition is quiet, and its running thread's next step is plain (own)
+pub record IsPlainAt (limits : Limits) (tick : ℕ) (s : Part) : Type 0 where
+  pub t : ℕ
+  pub thread : Thread
+  pub quiet : IsQuiet limits tick (tick + 1) t thread s
+  pub plain : is_plain (core_of thread s) ≡ true
 
 -- the turn past the last partition's
 abbrev pub no_turn : Turn

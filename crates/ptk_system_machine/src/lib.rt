@@ -13,4 +13,5 @@ mod turns;
 
 pub use account::Account;
 pub use machine::Machine;
-pub use ptk_kernel::{Tables, idle_until};
+pub use ptk_kernel::Tables;
+pub use turns::idle_from;

@@ -10,12 +10,12 @@ ghost use Rattle.ptk_kernel.specs.Kept.{limits_at, part_at};
 ghost use Rattle.ptk_kernel.specs.Rows.{IsStill, IsStillTo};
 ghost use Rattle.ptk_kernel.specs.Spending.{cost_in};
 ghost use Rattle.ptk_system_machine.specs.Accounts.{IsBehind};
-ghost use Rattle.ptk_system_machine.specs.Turns.{IsAt, IsComing, IsFreeFrom, IsInWindow, IsStillUntil, IsUpTo, turn_at};
+ghost use Rattle.ptk_system_machine.specs.Turns.{IsAt, IsComing, IsFreeFrom, IsInWindow, IsPlainAt, IsStillUntil, IsUpTo, turn_at};
 ghost use Rattle.ptk_system_machine.specs.Whole.{AreWindowsOf, account_at, gone_on, state_at};
 
 use crate::account::duration;
 use crate::machine::{Machine, is_active};
-use ptk_kernel::{Quiet, Tables, compute, decide, idle_until, last_step, quiet_until, reply};
+use ptk_kernel::{Quiet, Tables, compute, decide, last_step, quiet_until, reply, stays_idle_until};
 use ptk_window::{Near, Turn, Walk, WindowPlan};
 use ptk_words::{PartId, Status, Tick};
 use ptk_words_model::Spent;
@@ -61,8 +61,9 @@ impl Machine {
     }
 
     /// Goes on from a tick by plain steps and quiet calls of the partition that decides next, up to `to` at most,
-    /// and before any other decision. Answers the tick that it came to. To each partition it does what so many ticks would
-    /// do to that partition alone.
+    /// and before any other decision. Answers the tick that it came to, which is the first one only where a decision at
+    /// that tick is no plain step of a quiet partition. To each partition it does what so many ticks would do to that
+    /// partition alone.
     pub fn run_row(&mut self, plan: &WindowPlan, tick: Tick, to: Tick) -> Tick
         requires windows { AreWindowsOf (length self.old.accounts) plan.now }
         requires order { tick ≤ to }
@@ -70,6 +71,8 @@ impl Machine {
         requires behind { (p : ℕ) → p < length self.old.accounts → IsBehind tick (state_at p self.old) }
         ensures from { tick ≤ result }
         ensures within { result ≤ to }
+        ensures on { tick < to → ((q : ℕ) → q < length self.old.accounts → (account_at q self.old).account.next ≡ Some tick →
+            IsPlainAt (limits_at q self.old.kept) tick (part_at q self.old.kept)) → tick < result }
         ensures parts { length self.new.accounts ≡ length self.old.accounts }
         ensures limits { self.new.kept.limits ≡ self.old.kept.limits }
         ensures each { (q : ℕ) → q < length self.old.accounts →
@@ -86,9 +89,6 @@ impl Machine {
             p,
             Tick::new(to.ticks().min(first.end.ticks())),
         );
-        if stop.ticks() <= first.start.ticks() {
-            return first.start;
-        }
         self.rows(plan, p, first, stop).start
     }
 
@@ -183,7 +183,7 @@ impl Machine {
     /// Plain steps of the partition and quiet calls, the first at its next decision, with which the turn
     /// begins, each in place of a decision and counted as one: as many as come before `to`, over any number of windows. What
     /// else may come is asked once, before the first. Answers the next turn, which is the same, and nothing changes, where
-    /// the next decision is no such step of a quiet partition.
+    /// the next decision is no such step of a quiet partition, and a later one where it is a plain step of one.
     fn rows(&mut self, plan: &WindowPlan, p: PartId, turn: Turn, to: Tick) -> Turn
         requires partition { p < length self.old.accounts }
         requires windows { AreWindowsOf (length self.old.accounts) plan.now }
@@ -192,6 +192,7 @@ impl Machine {
         requires coming { IsComing (own_ticks plan.now p) to (account_at p self.old).account.next turn }
         requires behind { IsBehind turn.start (state_at p self.old) }
         ensures from { turn.start ≤ result.start }
+        ensures plain { IsPlainAt (limits_at p self.old.kept) turn.start (part_at p self.old.kept) → turn.start < result.start }
         ensures coming { IsComing (own_ticks plan.now p) to (account_at p self.new).account.next result }
         ensures gone { self.new ≡ gone_on (own_ticks plan.now p) p turn.start (result.start - turn.start) self.old }
     {
@@ -214,6 +215,7 @@ impl Machine {
         requires coming { IsComing (own_ticks plan.now p) to (account_at p self.old).account.next turn }
         requires behind { IsBehind turn.start (state_at p self.old) }
         ensures from { turn.start ≤ result.start }
+        ensures plain { IsPlainAt (limits_at p self.old.kept) turn.start (part_at p self.old.kept) → turn.start < result.start }
         ensures coming { IsComing (own_ticks plan.now p) to (account_at p self.new).account.next result }
         ensures gone { self.new ≡ gone_on (own_ticks plan.now p) p turn.start (result.start - turn.start) self.old }
     {
@@ -264,6 +266,7 @@ impl Machine {
         requires walk { IsAt plan.now p turn.end walk.old }
         ensures from { turn.start ≤ result.0.start }
         ensures on { IsTrue result.1 → turn.start < result.0.start }
+        ensures plain { IsPlainAt (limits_at p self.old.kept) turn.start (part_at p self.old.kept) → turn.start < result.0.start }
         ensures coming { IsComing (own_ticks plan.now p) to (account_at p self.new).account.next result.0 }
         ensures gone { self.new ≡ gone_on (own_ticks plan.now p) p turn.start (result.0.start - turn.start) self.old }
         ensures still { IsStill p result.0.start quiet.now self.new.kept }
@@ -308,6 +311,7 @@ impl Machine {
         requires behind { IsBehind turn.start (state_at p self.old) }
         requires walk { IsAt plan.now p turn.end walk.old }
         ensures from { turn.start ≤ result.start }
+        ensures plain { IsPlainAt (limits_at p self.old.kept) turn.start (part_at p self.old.kept) → turn.start < result.start }
         ensures coming { IsComing (own_ticks plan.now p) to (account_at p self.new).account.next result }
         ensures gone { self.new ≡ gone_on (own_ticks plan.now p) p turn.start (result.start - turn.start) self.old }
         ensures still { (stop : ℕ) → quiet.now.stop ≤ stop → IsStillTo p turn.start stop quiet.now.thread self.old.kept → IsStillTo p result.start stop quiet.now.thread self.new.kept }
@@ -425,13 +429,13 @@ fn free_from(tables: &Tables, p: PartId, tick: Tick, room: u32, spent: Spent, to
 }
 
 /// Up to which tick the partition has nothing to do, at most `to`, where that is after the tick, else the tick.
-fn idle_from(tables: &Tables, p: PartId, tick: Tick, to: Tick) -> Tick
+pub fn idle_from(tables: &Tables, p: PartId, tick: Tick, to: Tick) -> Tick
     requires partition { p < length tables.now.limits }
     ensures from { tick ≤ result }
     ensures idle { tick < result → (result ≤ to) × IsIdle (limits_at p tables.now) result (part_at p tables.now) }
     ensures full { (k : ℕ) → k ≤ to → IsIdle (limits_at p tables.now) k (part_at p tables.now) → k ≤ result }
 {
-    match idle_until(tables, p, to) {
+    match stays_idle_until(tables, p, to) {
         Some(until) if tick.ticks() < until.ticks() => until,
         _ => tick,
     }
@@ -460,6 +464,7 @@ fn next_due(turns: &[Turn], to: Tick) -> Option<PartId>
 fn first_other(turns: &[Turn], p: PartId, stop: Tick) -> Tick
     ensures within { result ≤ stop }
     ensures each { (q : ℕ) → q < length turns.now → q ≢ p → result ≤ (turn_at q turns.now).start }
+    ensures latest { (k : ℕ) → k ≤ stop → ((q : ℕ) → q < length turns.now → q ≢ p → k ≤ (turn_at q turns.now).start) → k ≤ result }
 {
     let mut first = stop;
     for (place, turn) in turns.iter().enumerate() {

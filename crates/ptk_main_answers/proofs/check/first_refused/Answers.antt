@@ -5,16 +5,16 @@ use Rattle.ptk_main_answers.proofs.check.first_refused.Goals as goal
 
 pub returns-in-Some-clause-place : goal.returns-in-Some-clause-place
 returns-in-Some-clause-place c =
-    first_refused_is c.args.system.now c.loop-i.i c.new-p.result c.in-Some.fault c.requires (omega (arith, c.loop-i-test.true, c.parts-i-end.ensures.count))
+    first_refused_is c.args.system.now c.loop-i.i c.new-p.result c.in-Some.fault c.states_are_alone.ensures.all c.requires (omega (arith, c.loop-i-test.true, c.parts-i-end.ensures.count))
     c.new-p.ensures c.loop-i.invariant (sym c.in-Some.is ∙ c.refusal_in.ensures ∙ ap refusal_in c.status.ensures)
 
 pub returns-in-Some-clause-fault : goal.returns-in-Some-clause-fault
 returns-in-Some-clause-fault c =
-    refused_image_is c.args.system.now c.new-p.result c.in-Some.fault c.requires (sym c.in-Some.is ∙ c.refusal_in.ensures ∙ ap refusal_in c.status.ensures)
+    refused_image_is c.args.system.now c.new-p.result c.in-Some.fault c.states_are_alone.ensures.all c.requires (omega (arith, c.new-p.ensures, c.loop-i-test.true, c.parts-i-end.ensures.count)) (sym c.in-Some.is ∙ c.refusal_in.ensures ∙ ap refusal_in c.status.ensures)
 
 pub loop-i-preserved : goal.loop-i-preserved
 loop-i-preserved c =
-    none_refused_to c.args.system.now c.loop-i.i c.new-p.result c.requires c.new-p.ensures c.loop-i.invariant
+    none_refused_to c.args.system.now c.loop-i.i c.new-p.result c.states_are_alone.ensures.all c.requires (omega (arith, c.loop-i-test.true, c.parts-i-end.ensures.count)) c.new-p.ensures c.loop-i.invariant
     (sym c.in_default.is ∙ c.refusal_in.ensures ∙ ap refusal_in c.status.ensures)
 
 pub returns-clause-place : goal.returns-clause-place

@@ -1,7 +1,8 @@
-use Rattle.std.proofs.Common.{◌≡◌, length, subst, sym, arith}
+use Rattle.std.proofs.Common.{◌≡◌, ◌<◌, length, subst, sym, ap, arith}
 use Rattle.ptk_words_windows.specs.Windows.{WindowPlan}
 use Rattle.ptk_system_machine.specs.Whole.{AreWindowsOf}
-use Rattle.ptk_system.proofs.Runs.{run_behind, run_on, windows_known}
+use Rattle.ptk_system.specs.World.{World}
+use Rattle.ptk_system.proofs.Runs.{plain_told, run_behind, run_on, run_seen, windows_known}
 use Rattle.ptk_system.proofs.system.System.compute_to.Goals as goal
 
 pub run_row-self-inside-requires-clause-windows : goal.run_row-self-inside-requires-clause-windows
@@ -17,3 +18,18 @@ invariant_of-self c =
     run_on c.self.inside.config.now c.self.inside.files.now c.self.inside.machine c.run_row-self-inside.new.self c.self.inside.tick c.run_row-self-inside.result c.plan-plan.result.now c.self.invariant
     c.run_row-self-inside.ensures.from (omega (arith, c.run_row-self-inside.ensures.within, c.requires)) c.plan-plan.ensures.value
     c.run_row-self-inside.ensures.parts c.run_row-self-inside.ensures.limits c.run_row-self-inside.ensures.each
+
+pub returns-clause-run : goal.returns-clause-run
+returns-clause-run c =
+    run_seen c.args.self.now c.self.inside.config.now c.self.inside.files.now c.self.inside.machine c.run_row-self-inside.new.self c.self.inside.tick c.run_row-self-inside.result
+    (run_on c.self.inside.config.now c.self.inside.files.now c.self.inside.machine c.run_row-self-inside.new.self c.self.inside.tick c.run_row-self-inside.result c.plan-plan.result.now c.self.invariant
+    c.run_row-self-inside.ensures.from (omega (arith, c.run_row-self-inside.ensures.within, c.requires)) c.plan-plan.ensures.value
+    c.run_row-self-inside.ensures.parts c.run_row-self-inside.ensures.limits c.run_row-self-inside.ensures.each)
+    c.self.view_is
+
+pub returns-clause-on : goal.returns-clause-on
+returns-clause-on c = λ before plain.
+    let at : c.self.inside.tick ≡ c.args.self.now.tick = ap (λ (w : World). w.tick) c.self.view_is in
+    let on : c.self.inside.tick < c.run_row-self-inside.result =
+    c.run_row-self-inside.ensures.on (omega (arith, at, before)) (plain_told c.self.inside.config.now c.self.inside.files.now c.self.inside.machine c.self.inside.tick c.args.self.now c.self.invariant c.self.view_is plain) in
+    omega (arith, at, on)

@@ -1,20 +1,56 @@
-use Rattle.std.proofs.Common.{◌≡◌, arith}
-use Rattle.ptk_system.proofs.Stays.{stays_idle, stays_next}
+use Rattle.std.proofs.Common.{◌≡◌, ◌+◌, ◌<◌, ◌≤◌, Some, inl, inr, arith}
+use Rattle.std.proofs.lemmas.Bool.{cases_lt}
+use Rattle.ptk_words_quiet.specs.Idle.{IsIdle}
+use Rattle.ptk_system.specs.World.{section_at, state_of}
+use Rattle.ptk_system.proofs.Stays.{idle_in, jump_unseen, next_unseen, stays_jump, stays_next}
 use Rattle.ptk_system.proofs.system.System.stays_until.Goals as goal
 
-pub returns-in-Some-idle_until-clause-stays : goal.returns-in-Some-idle_until-clause-stays
-returns-in-Some-idle_until-clause-stays c = λ k from le.
-    stays_idle c.args.self.now c.args.p k c.in-Some-idle_until.until _ _ c.parts-parts.ensures.configured
-    (c.tables.ensures.limits c.args.p c.requires) (c.tables.ensures.states c.args.p c.requires) c.in-Some-idle_until.ensures.idle.1 from le
+pub returns-then-ticks-clause-stays : goal.returns-then-ticks-clause-stays
+returns-then-ticks-clause-stays c = λ k from le.
+    let due : (state_of c.args.self.now c.args.p).account.next ≡ Some c.in-Some.next = cc in
+    let before : c.in-Some.next < c.idle_from-until.result = omega arith in
+    let idle = c.idle_from-until.ensures.idle before in
+    stays_jump c.args.self.now c.args.p c.in-Some.next c.idle_from-until.result k _ _ c.states_are_alone.ensures.configured c.states_are_alone.ensures.all c.requires
+    due (c.tables.ensures.limits c.args.p c.requires) (c.tables.ensures.states c.args.p c.requires) idle.1 before (λ j at below. c.first_own.ensures.others j at (omega (arith, below, le))) from
 
-pub returns-in_default-clause-stays : goal.returns-in_default-clause-stays
-returns-in_default-clause-stays c = λ k from le.
-    stays_next c.args.self.now c.args.p k (λ j e. let same : c.in-Some.next ≡ j = cc in omega (arith, same, le)) from
+pub returns-then-ticks-clause-latest : goal.returns-then-ticks-clause-latest
+returns-then-ticks-clause-latest c = λ early k le unchanged.
+    let due : (state_of c.args.self.now c.args.p).account.next ≡ Some c.in-Some.next = cc in
+    let before : c.in-Some.next < c.idle_from-until.result = omega arith in
+    let idle = c.idle_from-until.ensures.idle before in
+    elim (cases_lt c.first_own.result k) [
+      | inl beyond ↦
+          let own = c.first_own.ensures.own early (omega (arith, beyond, le)) in
+          let found : IsIdle (section_at c.args.self.now.config c.args.p).limits (c.first_own.result + 1) (state_of c.args.self.now c.args.p).part =
+          jump_unseen c.args.self.now c.args.p c.in-Some.next c.idle_from-until.result c.first_own.result k _ _ c.states_are_alone.ensures.configured c.states_are_alone.ensures.all c.requires
+          due (c.tables.ensures.limits c.args.p c.requires) (c.tables.ensures.states c.args.p c.requires) idle.1 before c.first_own.ensures.from c.first_own.ensures.others own beyond unchanged in
+          let again : c.first_own.result + 1 ≤ c.idle_from-until.result =
+          c.idle_from-until.ensures.full (c.first_own.result + 1) (omega (arith, beyond, le)) (idle_in _ _ _ _ (c.first_own.result + 1) (c.tables.ensures.limits c.args.p c.requires) (c.tables.ensures.states c.args.p c.requires) found) in
+          absurd (omega (arith, again, c.first_own.ensures.from))
+      | inr within ↦ within
+    ]
 
-pub returns-in_default-2-clause-stays : goal.returns-in_default-2-clause-stays
-returns-in_default-2-clause-stays c = λ k from le.
-    stays_next c.args.self.now c.args.p k (λ j e. let same : c.in-Some.next ≡ j = cc in omega (arith, same, le, c.if-ticks-2.false)) from
+pub returns-then-ticks-2-clause-stays : goal.returns-then-ticks-2-clause-stays
+returns-then-ticks-2-clause-stays c = λ k from le.
+    stays_next c.args.self.now c.args.p k c.states_are_alone.ensures.all c.requires (λ j e. let same : c.in-Some.next ≡ j = cc in omega (arith, same, le)) from
+
+pub returns-then-ticks-2-clause-latest : goal.returns-then-ticks-2-clause-latest
+returns-then-ticks-2-clause-latest c = λ early k le unchanged.
+    let due : (state_of c.args.self.now c.args.p).account.next ≡ Some c.in-Some.next = cc in
+    elim (cases_lt c.in-Some.next k) [
+      | inl beyond ↦
+          let found : IsIdle (section_at c.args.self.now.config c.args.p).limits (c.in-Some.next + 1) (state_of c.args.self.now c.args.p).part =
+          next_unseen c.args.self.now c.args.p c.in-Some.next k c.states_are_alone.ensures.configured c.states_are_alone.ensures.all c.requires due beyond unchanged in
+          let again : c.in-Some.next + 1 ≤ c.idle_from-until.result =
+          c.idle_from-until.ensures.full (c.in-Some.next + 1) (omega (arith, beyond, le)) (idle_in _ _ _ _ (c.in-Some.next + 1) (c.tables.ensures.limits c.args.p c.requires) (c.tables.ensures.states c.args.p c.requires) found) in
+          absurd (omega (arith, again, c.if-ticks.false))
+      | inr within ↦ within
+    ]
+
+pub returns-else-ticks-2-clause-stays : goal.returns-else-ticks-2-clause-stays
+returns-else-ticks-2-clause-stays c = λ k from le.
+    stays_next c.args.self.now c.args.p k c.states_are_alone.ensures.all c.requires (λ j e. let same : c.in-Some.next ≡ j = cc in omega (arith, same, le, c.if-ticks-2.false)) from
 
 pub returns-in-None-clause-stays : goal.returns-in-None-clause-stays
 returns-in-None-clause-stays c = λ k from le.
-    stays_next c.args.self.now c.args.p k (λ j e. absurd cc) from
+    stays_next c.args.self.now c.args.p k c.states_are_alone.ensures.all c.requires (λ j e. absurd cc) from

@@ -1,13 +1,15 @@
 use Rattle.std.proofs.Common.{◌≡◌, ◌+◌, ◌<◌, ◌≤◌, Some, length, get_or, subst, sym, ap, ◌∙◌, arith}
 use Rattle.std.proofs.Math.ListN.{set}
 use Rattle.ptk_words_windows.specs.Windows.{own_ticks}
+use Rattle.ptk_kernel.specs.Kept.{limits_at, part_at}
 use Rattle.ptk_kernel.specs.Rows.{IsStillTo}
 use Rattle.ptk_system_machine.specs.Accounts.{KeptAccount, kept_account_of}
-use Rattle.ptk_system_machine.specs.Turns.{IsInWindow}
+use Rattle.ptk_system_machine.specs.Turns.{IsInWindow, IsPlainAt}
 use Rattle.ptk_system_machine.specs.Whole.{Whole, IsWhole, no_account, account_at, gone_on}
 use Rattle.ptk_system_machine.proofs.States.{account_put, account_read}
 use Rattle.ptk_system_machine.proofs.Coming.{at_coming, begins_from}
 use Rattle.ptk_system_machine.proofs.CountedRows.{row_counted, row_whole}
+use Rattle.ptk_system_machine.proofs.Progress.{plain_on}
 use Rattle.ptk_system_machine.proofs.StillQuiet.{still_later}
 use Rattle.ptk_system_machine.proofs.Ticks.{gone_up, own_within}
 use Rattle.ptk_system_machine.proofs.machine.Machine.row.Goals as goal
@@ -57,3 +59,17 @@ pub returns-clause-walk : goal.returns-clause-walk
 returns-clause-walk c =
     let next = c.next.ensures ∙ ap (λ (a : KeptAccount). a.account.next) c.count_row.ensures in
     at_coming c.args.plan.now c.args.p c.args.to c.turn_on-next.result.1 c.turn_on-next.result.0 c.turn_on-next.new.walk c.coming.result c.turn_on-next.ensures.walk (λ less. sym next ∙ c.coming.ensures.due less) c.coming.ensures.end
+
+pub returns-clause-plain : goal.returns-clause-plain
+returns-clause-plain c = λ at.
+    let reached : c.new-reached.result ≡ c.args.turn.start + c.compute-steps.result = cc in
+    let next = c.next.ensures ∙ ap (λ (a : KeptAccount). a.account.next) c.count_row.ensures in
+    let later : c.args.turn.start + c.compute-steps.result ≤ c.coming.result.start =
+    begins_from (c.args.turn.start + c.compute-steps.result) c.new-reached.result c.args.to _ c.coming.result (omega arith) (omega (arith, c.compute-steps.ensures.within)) c.turn_on-next.ensures.from (λ lt. sym next ∙ c.coming.ensures.due lt) in
+    let plain : IsPlainAt (limits_at c.args.p c.self.inside.tables) c.args.turn.start (part_at c.args.p c.self.inside.tables) =
+    subst (λ (w : Whole). IsPlainAt (limits_at c.args.p w.kept) c.args.turn.start (part_at c.args.p w.kept)) (sym c.self.view_is) at in
+    let still : IsStillTo c.args.p c.args.turn.start c.args.quiet.now.stop c.args.quiet.now.thread c.self.inside.tables =
+    subst (λ (w : Whole). IsStillTo c.args.p c.args.turn.start c.args.quiet.now.stop c.args.quiet.now.thread w.kept) (sym c.self.view_is) c.requires.quiet in
+    let some : 0 < c.compute-steps.result =
+    plain_on (limits_at c.args.p c.self.inside.tables) c.args.turn.start c.args.quiet.now.stop c.compute-steps.result c.args.quiet.now.thread (part_at c.args.p c.self.inside.tables) plain still.1.running c.compute-steps.ensures.ended c.requires.order in
+    omega (arith, later, some)

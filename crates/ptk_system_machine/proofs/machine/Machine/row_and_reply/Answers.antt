@@ -2,7 +2,7 @@ use Rattle.std.proofs.Common.{◌<◌, ◌≤◌, arith}
 use Rattle.ptk_words_windows.specs.Windows.{own_ticks}
 use Rattle.ptk_kernel.specs.Rows.{IsStill}
 use Rattle.ptk_system_machine.specs.Turns.{IsInWindow}
-use Rattle.ptk_system_machine.proofs.StillQuiet.{still_beyond, stop_within}
+use Rattle.ptk_system_machine.proofs.StillQuiet.{still_beyond, still_within, stop_within}
 use Rattle.ptk_system_machine.proofs.Ticks.{gone_behind, gone_further}
 use Rattle.ptk_system_machine.proofs.machine.Machine.row_and_reply.Goals as goal
 
@@ -20,6 +20,13 @@ reply-after-requires-clause-end c = λ less.
     let first : IsInWindow (own_ticks c.args.plan.now c.args.p) c.args.turn.start c.args.turn.end = c.requires.coming.window begun in
     let second : IsInWindow (own_ticks c.args.plan.now c.args.p) c.row-next.result.start c.row-next.result.end = c.row-next.ensures.coming.window in_run in
     stop_within (own_ticks c.args.plan.now c.args.p) c.args.turn.start c.row-next.result.start c.args.turn.end c.row-next.result.end c.quiet_within-within.result.stop first second c.row-next.ensures.from less stop
+
+pub reply-after-requires-clause-quiet : goal.reply-after-requires-clause-quiet
+reply-after-requires-clause-quiet c = λ less.
+    let sooner : c.quiet_within-within.result.stop ≤ c.args.quiet.now.stop = omega (arith, c.quiet_within-within.ensures.stop) in
+    c.row-next.ensures.still c.quiet_within-within.result.stop (omega arith)
+    (still_within c.args.p c.args.turn.start c.args.quiet.now.stop c.quiet_within-within.result.stop c.args.quiet.now.thread c.quiet_within-within.result.thread c.args.self.now.kept
+    sooner c.quiet_within-within.ensures.thread c.requires.quiet)
 
 pub reply-after-requires-clause-behind : goal.reply-after-requires-clause-behind
 reply-after-requires-clause-behind c =

@@ -2,6 +2,7 @@ use Rattle.std.proofs.Common.{◌-◌, ◌<◌, ◌≤◌, sym, ◌∙◌, arith
 use Rattle.std.proofs.lemmas.Bool.{false≢true, ltb-true}
 use Rattle.ptk_words_windows.specs.Windows.{own_ticks}
 use Rattle.ptk_system_machine.proofs.Coming.{at_none}
+use Rattle.ptk_system_machine.proofs.Progress.{plain_later}
 use Rattle.ptk_system_machine.proofs.Ticks.{gone_behind, gone_further, gone_start}
 use Rattle.ptk_system_machine.proofs.machine.Machine.rows_on.Goals as goal
 
@@ -10,6 +11,7 @@ loop-is_going-init c = record {
   from = omega arith;
   coming = c.requires.coming;
   gone = gone_start (own_ticks c.args.plan.now c.args.p) c.args.p c.args.turn.start (c.args.turn.start - c.args.turn.start) c.args.self.now (omega arith);
+  plain = λ stopped. absurd (false≢true (sym stopped));
   before = λ going. c.requires.order;
   still = λ going. c.requires.quiet;
   walk = λ within. at_none c.args.plan.now c.args.p c.args.turn.end c.walk-walk.result c.walk-walk.ensures;
@@ -30,6 +32,8 @@ loop-is_going-preserved-then-goes_on c =
       gone =
           gone_further (own_ticks c.args.plan.now c.args.p) c.args.p c.args.turn.start c.loop-is_going.now.start c.row_and_reply-goes_on.result.0.start c.args.self.now c.loop-is_going.self c.row_and_reply-goes_on.new.self c.parts-parts.ensures.whole c.requires.partition
           from on c.loop-is_going.invariant.gone c.row_and_reply-goes_on.ensures.gone;
+      plain = λ stopped at.
+          plain_later (own_ticks c.args.plan.now c.args.p) c.args.p c.args.turn.start c.loop-is_going.now.start c.row_and_reply-goes_on.result.0.start c.args.self.now c.loop-is_going.self from on c.loop-is_going.invariant.gone at c.row_and_reply-goes_on.ensures.plain;
       before = λ e. let lt : c.ticks.result < c.ticks-stop.result = ltb-true c.ticks.result c.ticks-stop.result e in omega (arith, lt);
       still = λ e. c.row_and_reply-goes_on.ensures.still;
       walk = c.row_and_reply-goes_on.ensures.walk;
@@ -45,6 +49,8 @@ loop-is_going-preserved c =
       gone =
           gone_further (own_ticks c.args.plan.now c.args.p) c.args.p c.args.turn.start c.loop-is_going.now.start c.row_and_reply-goes_on.result.0.start c.args.self.now c.loop-is_going.self c.row_and_reply-goes_on.new.self c.parts-parts.ensures.whole c.requires.partition
           from on c.loop-is_going.invariant.gone c.row_and_reply-goes_on.ensures.gone;
+      plain = λ stopped at.
+          plain_later (own_ticks c.args.plan.now c.args.p) c.args.p c.args.turn.start c.loop-is_going.now.start c.row_and_reply-goes_on.result.0.start c.args.self.now c.loop-is_going.self from on c.loop-is_going.invariant.gone at c.row_and_reply-goes_on.ensures.plain;
       before = λ e. absurd (false≢true (sym c.if-goes_on.false ∙ e));
       still = λ e. c.row_and_reply-goes_on.ensures.still;
       walk = c.row_and_reply-goes_on.ensures.walk;
