@@ -20,13 +20,13 @@ second-more known ps i p inside is_p none =
     rw (add-one, drop-cons ps i p inside, ← is_p, none) refl
 
 second-fault : (known : Layout) (ps : List code.Placed) (i : ℕ) (p : code.Placed) (k : FaultKind) → i < length ps → p ≡ get_or ps i p → reference_fault known (shown_placed p) ≡ Some k
-    → second_pass known (map shown_placed (drop i ps)) ≡ Some (record { span = p.span; kind = k })
+    → second_pass known (map shown_placed (drop i ps)) ≡ Some (record { span = p.span; place = p.last; kind = k })
 second-fault known ps i p k inside is_p found =
     rw (drop-cons ps i p inside, ← is_p, found) refl
 
 -- the first fault is that of this statement
 pub second-at : (known : Layout) (ps : List code.Placed) (i : ℕ) (p : code.Placed) (e : AsmFault) (k : FaultKind) → i < length ps → p ≡ get_or ps i p
-    → IsAt k e p.span (reference_fault known (shown_placed p)) → second_pass known (map shown_placed (drop i ps)) ≡ second_pass known (map shown_placed ps)
+    → IsAt k e p.span p.last (reference_fault known (shown_placed p)) → second_pass known (map shown_placed (drop i ps)) ≡ second_pass known (map shown_placed ps)
     → IsSecond k e (second_pass known (map shown_placed ps))
 second-at known ps i p e fault.Memory inside is_p h same = tt
 second-at known ps i p e fault.Token inside is_p h same = (_, (h.1, sym same ∙ second-fault known ps i p _ inside is_p h.0))

@@ -4,6 +4,7 @@ use Rattle.std.specs.Prelude.{Ok, Err}
 use Rattle.ptk_asm_model.specs.declared.statement.Form.{Form}
 use Rattle.ptk_asm_model.specs.declared.place.Place.{Place}
 use Rattle.ptk_asm_model.specs.declared.place.Span.{Span}
+use Rattle.ptk_asm_model.specs.declared.place.Extent.{Extent}
 use Rattle.ptk_asm_model.specs.declared.fault.FaultKind.{FaultKind}
 use Rattle.ptk_asm_model.specs.declared.fault.FaultKind.TheVariants as fault
 use Rattle.ptk_asm_model.specs.declared.token.Spanned.{Spanned}
@@ -89,18 +90,18 @@ fault-statement m ts e = ap (λ (o : Option FaultKind). first_of (o ∷ statemen
 pub fault-none : (m : State) (ts : List Token) → label_fault m.labels (label_in ts) ≡ None → statement_in ts ≡ [] → fault_at m (Some ts) ≡ None
 fault-none m ts e s = fault-statement m ts e ∙ ap (statement_fault (place_of m)) s
 
-pub behind-none : (m : State) (span : Span) (ts : List Token) → statement_in ts ≡ [] → behind m span ts ≡ labelled m (label_in ts)
-behind-none m span ts s = ap (λ (us : List Token). stepped (labelled m (label_in ts)) span (stated us)) s
+pub behind-none : (m : State) (span : Span) (last : Extent) (ts : List Token) → statement_in ts ≡ [] → behind m span last ts ≡ labelled m (label_in ts)
+behind-none m span last ts s = ap (λ (us : List Token). stepped (labelled m (label_in ts)) span last (stated us)) s
 
-pub behind-statement : (m : State) (span : Span) (ts : List Token) (s : Statement) → stated (statement_in ts) ≡ Some s → behind m span ts ≡ with_statement (labelled m (label_in ts)) span s
-behind-statement m span ts s e = ap (stepped (labelled m (label_in ts)) span) e
+pub behind-statement : (m : State) (span : Span) (last : Extent) (ts : List Token) (s : Statement) → stated (statement_in ts) ≡ Some s → behind m span last ts ≡ with_statement (labelled m (label_in ts)) span last s
+behind-statement m span last ts s e = ap (stepped (labelled m (label_in ts)) span last) e
 
 -- the layout behind a line with a statement
-pub shows_statement : (l : code.Layout) (m : State) (span : Span) (ts us : List Token) (n : Option (List ℕ)) (s : Statement) → n ≡ label_in ts → us ≡ statement_in ts → stated us ≡ Some s
-    → Shows l (with_statement (labelled m n) span s) → Shows l (behind m span ts)
-shows_statement l m span ts us n s e f g h =
+pub shows_statement : (l : code.Layout) (m : State) (span : Span) (last : Extent) (ts us : List Token) (n : Option (List ℕ)) (s : Statement) → n ≡ label_in ts → us ≡ statement_in ts → stated us ≡ Some s
+    → Shows l (with_statement (labelled m n) span last s) → Shows l (behind m span last ts)
+shows_statement l m span last ts us n s e f g h =
     let a : stated (statement_in ts) ≡ Some s = rw (← f) g in
-    subst (λ (x : State). Shows l x) (ap (λ (x : Option (List ℕ)). with_statement (labelled m x) span s) e ∙ sym (behind-statement m span ts s a)) h
+    subst (λ (x : State). Shows l x) (ap (λ (x : Option (List ℕ)). with_statement (labelled m x) span last s) e ∙ sym (behind-statement m span last ts s a)) h
 
 pub views_none : (ts : List Spanned) → length ts ≡ 0 → views ts ≡ []
 views_none [] e = refl

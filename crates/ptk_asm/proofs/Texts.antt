@@ -4,14 +4,17 @@ use Rattle.std.specs.Prelude.{sum_by, unwrap_or, Result, Ok, Err, OnOk}
 use Rattle.std.proofs.lemmas.List.{append-nil}
 use Rattle.std.proofs.lemmas.List.Sums.{sum_by-cons}
 use Rattle.ptk_asm_model.specs.declared.place.Span.{Span}
+use Rattle.ptk_asm_model.specs.declared.place.Extent.{Extent}
 use Rattle.ptk_asm_model.specs.declared.fault.FaultKind.{FaultKind}
 use Rattle.ptk_asm_model.specs.declared.fault.FaultKind.TheVariants as fault
 use Rattle.ptk_asm_model.specs.Lines.{raw_lines, without_ending, without_comment, code_of}
-use Rattle.ptk_asm_model.specs.Reading.{Refuses, token_fault, fault_unless}
+use Rattle.ptk_asm_model.specs.declared.fault.LineFault.{LineFault}
+use Rattle.ptk_asm_model.specs.Places.{places_of, place_at, last_place, wrong_place}
+use Rattle.ptk_asm_model.specs.Reading.{Refuses, IsPlaced, token_fault, fault_unless}
 use Rattle.ptk_asm_model.specs.Tokens.{Token, tokens_of}
-use Rattle.ptk_asm_model.specs.Source.{Statement, Placed, placed_at, stated, line_fault, at_line, first_pass, label_in, statement_in, span_after, placed_after, grown_by, turned_to, with_label, section_after, lengths_after, labels_after, place_after}
+use Rattle.ptk_asm_model.specs.Source.{Statement, Placed, placed_at, stated, line_fault, line_place, tokens_place, last_of, at_line, first_pass, label_in, statement_in, span_after, placed_after, grown_by, turned_to, with_label, section_after, lengths_after, labels_after, place_after}
 use Rattle.ptk_asm_laws.proofs.Whole.{whole-none}
-use Rattle.ptk_asm.specs.Passing.{IsBehind, State, state_after, behind, stepped, labelled, fault_at}
+use Rattle.ptk_asm.specs.Passing.{IsBehind, State, state_after, behind, stepped, labelled, fault_at, index_at}
 
 -- the state behind lines and a line with this statement and this label
 abbrev made : List (List ℕ) → List ℕ → Option Statement → Option (List ℕ) → State
@@ -19,17 +22,17 @@ made before line o n = record {
   section = turned_to (section_after before) o;
   lengths = grown_by (lengths_after before) (section_after before) o;
   labels = with_label n (place_after before) (labels_after before);
-  placed = placed_after before ++ placed_at (span_after before line) (place_after before) o;
+  placed = placed_after before ++ placed_at (span_after before line) (place_after before) (last_of line) o;
 }
 
-stepped-made : (before : List (List ℕ)) (line : List ℕ) (o : Option Statement) (n : Option (List ℕ)) → stepped (labelled (state_after before) n) (span_after before line) o ≡ made before line o n
+stepped-made : (before : List (List ℕ)) (line : List ℕ) (o : Option Statement) (n : Option (List ℕ)) → stepped (labelled (state_after before) n) (span_after before line) (last_of line) o ≡ made before line o n
 stepped-made before line None n = ap (λ (ps : List Placed). with_placed (labelled (state_after before) n) ps) (sym (append-nil (placed_after before)))
   where
     with_placed : State → List Placed → State
     with_placed m ps = record m { placed = ps }
 stepped-made before line (Some s) n = refl
 
-pub state-behind : (before : List (List ℕ)) (line : List ℕ) (ts : List Token) → tokens_of (code_of line) ≡ Some ts → behind (state_after before) (span_after before line) ts ≡ state_after (line ∷ before)
+pub state-behind : (before : List (List ℕ)) (line : List ℕ) (ts : List Token) → tokens_of (code_of line) ≡ Some ts → behind (state_after before) (span_after before line) (last_of line) ts ≡ state_after (line ∷ before)
 state-behind before line ts e =
     stepped-made before line (stated (statement_in ts)) (label_in ts)
     ∙ sym (ap (λ (o : Option (List Token)). made before line (stated (statement_in (unwrap_or o []))) (label_in (unwrap_or o []))) e)
@@ -57,11 +60,11 @@ refuses-tokens k before line h = by_tokens k (tokens_of (code_of line)) h
     by_tokens fault.DoubledLabel (Some ts) h = cc
 
 -- the same of the code's tokens
-pub state_line : (before : List (List ℕ)) (line bare parts : List ℕ) (span : Span) (ts : List Token) → bare ≡ without_ending line → parts ≡ without_comment bare → tokens_of parts ≡ Some ts → span ≡ span_after before line
-    → behind (state_after before) span ts ≡ state_after (line ∷ before)
-state_line before line bare parts span ts e f g i =
+pub state_line : (before : List (List ℕ)) (line bare parts : List ℕ) (span : Span) (last : Extent) (ts : List Token) → bare ≡ without_ending line → parts ≡ without_comment bare → tokens_of parts ≡ Some ts → span ≡ span_after before line → last ≡ last_of line
+    → behind (state_after before) span last ts ≡ state_after (line ∷ before)
+state_line before line bare parts span last ts e f g i j =
     let t : tokens_of (code_of line) ≡ Some ts = rw (← e, ← f) g in
-    ap (λ (x : Span). behind (state_after before) x ts) i ∙ state-behind before line ts t
+    ap (λ (x : Span). behind (state_after before) x last ts) i ∙ ap (λ (x : Extent). behind (state_after before) (span_after before line) x ts) j ∙ state-behind before line ts t
 
 pub fault_line : (before : List (List ℕ)) (line bare parts : List ℕ) (ts : List Token) → bare ≡ without_ending line → parts ≡ without_comment bare → tokens_of parts ≡ Some ts
     → fault_at (state_after before) (Some ts) ≡ line_fault before line
@@ -73,6 +76,38 @@ pub refuses_tokens : (k : FaultKind) (before : List (List ℕ)) (line bare parts
 refuses_tokens k before line bare parts e f h =
     let p : code_of line ≡ parts = sym (f ∙ ap without_comment e) in
     refuses-tokens k before line (subst (λ (x : List ℕ). Refuses k (token_fault x)) (sym p) h)
+
+-- the bytes of a piece that is no token are those at fault in its line
+pub placed_tokens : (k : FaultKind) (e : LineFault) (before : List (List ℕ)) (line bare parts : List ℕ) → bare ≡ without_ending line → parts ≡ without_comment bare → Refuses k (token_fault parts)
+    → IsPlaced k e (wrong_place parts) → IsPlaced k e (line_place before line)
+placed_tokens k e before line bare parts f g h i =
+    let p : code_of line ≡ parts = sym (g ∙ ap without_comment f) in
+    by_tokens k (tokens_of (code_of line)) (subst (λ (x : List ℕ). Refuses k (token_fault x)) (sym p) h) (subst (λ (x : List ℕ). IsPlaced k e (wrong_place x)) (sym p) i)
+  where
+    by_tokens : (k : FaultKind) (o : Option (List Token)) → Refuses k (fault_unless o) → IsPlaced k e (wrong_place (code_of line)) → IsPlaced k e (tokens_place (labels_after before) (place_after before) (code_of line) o)
+    by_tokens k None h i = i
+    by_tokens fault.Memory (Some ts) h i = tt
+    by_tokens fault.Token (Some ts) h i = absurd (cc)
+    by_tokens fault.Mnemonic (Some ts) h i = absurd (cc)
+    by_tokens fault.Register (Some ts) h i = absurd (cc)
+    by_tokens fault.Range (Some ts) h i = absurd (cc)
+    by_tokens fault.UnknownLabel (Some ts) h i = absurd (cc)
+    by_tokens fault.DoubledLabel (Some ts) h i = absurd (cc)
+
+-- the bytes of a token at fault are those at fault in its line
+pub place_line : (before : List (List ℕ)) (line bare parts : List ℕ) (ts : List Token) (xs : List Extent) (end : ℕ) → bare ≡ without_ending line → parts ≡ without_comment bare → tokens_of parts ≡ Some ts
+    → xs ≡ places_of parts → end ≡ length parts → place_at xs (index_at (state_after before) ts) end ≡ line_place before line
+place_line before line bare parts ts xs end e f g h i =
+    let p : code_of line ≡ parts = sym (f ∙ ap without_comment e) in
+    let t : tokens_of (code_of line) ≡ Some ts = rw p g in
+    ap (λ (ys : List Extent). place_at ys (index_at (state_after before) ts) end) h
+    ∙ ap (λ (n : ℕ). place_at (places_of parts) (index_at (state_after before) ts) n) i
+    ∙ ap (λ (code : List ℕ). place_at (places_of code) (index_at (state_after before) ts) (length code)) (sym p)
+    ∙ sym (ap (tokens_place (labels_after before) (place_after before) (code_of line)) t)
+
+-- the last of the code's tokens is the last of the line's
+pub last_line : (line bare parts : List ℕ) (xs : List Extent) → bare ≡ without_ending line → parts ≡ without_comment bare → xs ≡ places_of parts → last_place xs ≡ last_of line
+last_line line bare parts xs e f h = ap last_place (h ∙ ap places_of (f ∙ ap without_comment e))
 
 -- a line of this number that begins here
 abbrev spanned : List ℕ → ℕ → ℕ → Span
@@ -95,7 +130,7 @@ behind_more text rest after line number before h e l f = record {
       let m : sum_by length (line ∷ before) ≡ length line + sum_by length before = sum_by-cons length line before in
       omega arith;
   same =
-      sym (ap (λ (o : Option FaultKind). at_line (span_after before line) o (first_pass (line ∷ before) (raw_lines after))) f)
+      sym (ap (λ (o : Option FaultKind). at_line (span_after before line) (line_place before line) o (first_pass (line ∷ before) (raw_lines after))) f)
       ∙ sym (ap (first_pass before) e) ∙ h.same;
 }
 

@@ -11,13 +11,15 @@ use Rattle.ptk_asm.specs.declared.fault.AsmFault.{AsmFault}
 use Rattle.ptk_asm_model.specs.declared.statement.Section.{Section}
 use Rattle.ptk_asm_model.specs.declared.place.Span.{Span}
 use Rattle.ptk_asm_model.specs.declared.place.Place.{Place}
+use Rattle.ptk_asm_model.specs.declared.place.Extent.{Extent}
 use Rattle.ptk_asm_model.specs.declared.place.Lengths.{Lengths}
 use Rattle.ptk_asm_model.specs.declared.fault.FaultKind.{FaultKind}
 use Rattle.ptk_asm_model.specs.declared.fault.FaultKind.TheVariants as fault
 use Rattle.ptk_asm_model.specs.Lines.{raw_lines}
 use Rattle.ptk_asm_model.specs.Tokens.{Token}
+use Rattle.ptk_asm_model.specs.Places.{nowhere}
 use Rattle.ptk_asm_model.specs.Statements.{named}
-use Rattle.ptk_asm_model.specs.Source.{Statement, Placed, Layout, Fault, place_in, taken, grown, turned_by, with_label, entry_of, label_in, statement_in, stated, section_after, lengths_after, labels_after, placed_after, tokens_fault, layout_of, first_pass}
+use Rattle.ptk_asm_model.specs.Source.{Statement, Placed, Layout, Fault, place_in, taken, grown, turned_by, with_label, entry_of, label_in, statement_in, stated, section_after, lengths_after, labels_after, placed_after, tokens_fault, fault_index, layout_of, first_pass}
 use Rattle.ptk_asm_forms.specs.Operating.{shown}
 use Rattle.ptk_asm_laws.specs.Whole.{IsWhole}
 
@@ -31,13 +33,22 @@ place_named labels q = get_by (λ k. bytes_eq q k.now) labels
 abbrev pub label_name : Option code_label.Label → Option (List ℕ)
 label_name label = option_map (λ (l : code_label.Label). l.name.now) label
 
+-- the bytes of a label in its line
+abbrev pub label_spot : code_label.Label → Extent
+label_spot l = record { from = l.from; to = l.to }
+
+-- the bytes of an optional label in its line
+abbrev pub label_place : Option code_label.Label → Extent
+label_place None = nowhere
+label_place (Some l) = label_spot l
+
 -- a statement of the code
 abbrev pub shown_statement : code_statement.Statement → Statement
 shown_statement s = record { form = s.form; operands = shown s.operands }
 
 -- a statement of the code where it stands
 abbrev pub shown_placed : code_placed.Placed → Placed
-shown_placed p = record { span = p.span; place = p.place; statement = shown_statement p.statement }
+shown_placed p = record { span = p.span; place = p.place; last = p.last; statement = shown_statement p.statement }
 
 -- ---- the state of the first pass
 
@@ -66,26 +77,30 @@ abbrev pub labelled : State → Option (List ℕ) → State
 labelled m label = record m { labels = with_label label (place_of m) m.labels }
 
 -- the state with a statement at its place
-abbrev pub with_statement : State → Span → Statement → State
-with_statement m span s = record {
+abbrev pub with_statement : State → Span → Extent → Statement → State
+with_statement m span last s = record {
   section = turned_by m.section s.form;
   lengths = grown m.lengths m.section (taken s);
   labels = m.labels;
-  placed = m.placed ++ (record { span = span; place = place_of m; statement = s } ∷ []);
+  placed = m.placed ++ (record { span = span; place = place_of m; last = last; statement = s } ∷ []);
 }
 
 -- the state with an optional statement at its place
-abbrev pub stepped : State → Span → Option Statement → State
-stepped m span None = m
-stepped m span (Some s) = with_statement m span s
+abbrev pub stepped : State → Span → Extent → Option Statement → State
+stepped m span last None = m
+stepped m span last (Some s) = with_statement m span last s
 
--- the state behind a line with these tokens
-abbrev pub behind : State → Span → List Token → State
-behind m span ts = stepped (labelled m (label_in ts)) span (stated (statement_in ts))
+-- the state behind a line with these tokens, whose last one has these bytes
+abbrev pub behind : State → Span → Extent → List Token → State
+behind m span last ts = stepped (labelled m (label_in ts)) span last (stated (statement_in ts))
 
 -- the first fault of a line with these tokens
 abbrev pub fault_at : State → Option (List Token) → Option FaultKind
 fault_at m ts = tokens_fault m.labels (place_of m) ts
+
+-- which token of a line with these tokens is at fault
+abbrev pub index_at : State → List Token → ℕ
+index_at m ts = fault_index m.labels (place_of m) ts
 
 -- the code's layout is this state
 pub record Shows (l : code.Layout) (m : State) : Type 0 where
@@ -102,11 +117,12 @@ pub record Reaches (l : code.Layout) (before : List (List ℕ)) : Type 0 where
 
 -- ---- faults
 
--- the code's fault tells this one
+-- the code's fault tells this one: its kind, its line, and the bytes of the source at fault, which lie within the line
 pub record Tells (e : AsmFault) (f : Fault) : Type 0 where
   pub kind : e.kind ≡ f.kind
   pub line : e.line ≡ f.span.line
-  pub after_start : f.span.start ≤ e.from
+  pub first : e.from ≡ f.span.start + f.place.from
+  pub last : e.to ≡ f.span.start + f.place.to
   pub ordered : e.from ≤ e.to
   pub before_end : e.to ≤ f.span.end
 
@@ -143,7 +159,7 @@ abbrev pub IsSecond : FaultKind → AsmFault → Option Fault → Type 0
 IsSecond fault.Memory e found = Unit {0}
 IsSecond k e found = (f : Fault) × (Tells e f × (found ≡ Some f))
 
--- want of memory, or the fault found in this line
-abbrev pub IsAt : FaultKind → AsmFault → Span → Option FaultKind → Type 0
-IsAt fault.Memory e span found = Unit {0}
-IsAt k e span found = (found ≡ Some k) × Tells e (record { span = span; kind = k })
+-- want of memory, or the fault found in this line, at these bytes
+abbrev pub IsAt : FaultKind → AsmFault → Span → Extent → Option FaultKind → Type 0
+IsAt fault.Memory e span place found = Unit {0}
+IsAt k e span place found = (found ≡ Some k) × Tells e (record { span = span; place = place; kind = k })

@@ -1,6 +1,6 @@
 //! Why a source is refused.
 
-ghost use Rattle.std.specs.Prelude.{◌≡◌, ◌≤◌};
+ghost use Rattle.std.specs.Prelude.{◌≡◌, ◌+◌, ◌≤◌};
 
 use ptk_asm_model::{FaultKind, LineFault, Span};
 use thiserror::Error;
@@ -19,7 +19,8 @@ pub struct AsmFault {
     pub kind: FaultKind,
 }
 
-/// The fault of a line in the source, its place cut to that line.
+/// The fault of a line in the source: its bytes are those in the line, counted from where the line begins. Those of a
+/// fault that is not within the line are cut to it.
 pub(crate) fn located(span: &Span, fault: LineFault) -> AsmFault
     requires { span.now.start ≤ span.now.end }
     ensures kind { result.kind ≡ fault.kind }
@@ -27,6 +28,8 @@ pub(crate) fn located(span: &Span, fault: LineFault) -> AsmFault
     ensures after_start { span.now.start ≤ result.from }
     ensures ordered { result.from ≤ result.to }
     ensures before_end { result.to ≤ span.now.end }
+    ensures first { fault.from ≤ fault.to → span.now.start + fault.to ≤ span.now.end → result.from ≡ span.now.start + fault.from }
+    ensures last { span.now.start + fault.to ≤ span.now.end → result.to ≡ span.now.start + fault.to }
 {
     let to = fault.to.min(span.end - span.start);
     let from = fault.from.min(to);

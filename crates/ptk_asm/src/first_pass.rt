@@ -2,7 +2,8 @@
 
 ghost use Rattle.std.specs.Prelude.{◌≡◌, ℕ, ◌+◌, ◌<◌, ◌≤◌, length, List, ◌∷◌, None, OnOk, IfOk, IfErr};
 ghost use Rattle.ptk_asm_model.specs.Source as definition;
-ghost use Rattle.ptk_asm_model.specs.Reading.{Refuses};
+ghost use Rattle.ptk_asm_model.specs.Lines as lines;
+ghost use Rattle.ptk_asm_model.specs.Reading.{Refuses, IsPlaced};
 ghost use Rattle.ptk_asm.specs.Passing.{IsBehind, IsFirstFault, IsLaidOut, Reaches};
 
 use crate::fault::{AsmFault, located};
@@ -15,10 +16,11 @@ impl<'a> Layout<'a> {
     /// Takes a line more. The first fault of the line with its place in it, or want of memory.
     #[tactic(auto, using(crate::proofs::Texts::refuses_tokens))]
     fn take_line(&mut self, alloc: Global, span: Span, line: &'a [u8]) -> Result<(), LineFault>
-        requires { span.start ≤ span.end }
+        requires { span.end ≡ span.start + length (lines.without_ending line.now) }
         ensures ok { (before : List (List ℕ)) → Reaches self.old before → OnOk result (definition.line_fault before line.entry.now ≡ None) }
         ensures next { (before : List (List ℕ)) → span ≡ definition.span_after before line.entry.now → Reaches self.old before → OnOk result (Reaches self.new (line.entry.now ∷ before)) }
         ensures err { (before : List (List ℕ)) → Reaches self.old before → IfErr result (λ e. Refuses e.kind (definition.line_fault before line.entry.now)) }
+        ensures placed { (before : List (List ℕ)) → Reaches self.old before → IfErr result (λ e. IsPlaced e.kind e (definition.line_place before line.entry.now)) }
     {
         let code = without_comment(without_ending(line));
         let tokens = tokens_of(alloc, code)?;
@@ -33,7 +35,7 @@ fn span_of(source: &[u8], rest: &[u8], number: usize, line: &[u8]) -> Span
     requires filled { 0 < length rest.now }
     requires front { length line.now ≤ length rest.now }
     ensures value { (before : List (List ℕ)) → IsBehind source.now rest.now number before → result ≡ definition.span_after before line.now }
-    ensures ordered { result.start ≤ result.end }
+    ensures ends { result.end ≡ result.start + length (lines.without_ending line.now) }
 {
     let start = source.len() - rest.len();
     Span {

@@ -2,14 +2,15 @@
 
 ghost use Rattle.std.specs.Prelude.{◌≡◌, ◌+◌, ◌≤◌, ◌<◌, ◌^◌, [], Some, None, OnOk, IfErr};
 ghost use Rattle.ptk_asm_model.specs.Source as source;
-ghost use Rattle.ptk_asm_model.specs.Reading.{Refuses, views};
-ghost use Rattle.ptk_asm.specs.Passing.{State, Reaches, Shows, behind, fault_at, label_name, labelled, shown_statement, with_statement};
+ghost use Rattle.ptk_asm_model.specs.Places.{last_place, place_at};
+ghost use Rattle.ptk_asm_model.specs.Reading.{Refuses, IsPlaced, spots, views};
+ghost use Rattle.ptk_asm.specs.Passing.{State, Reaches, Shows, behind, fault_at, index_at, label_name, label_place, label_spot, labelled, shown_statement, with_statement};
 
 use crate::labels::{define, entry_with, place_of};
 use crate::placed::Placed;
-use crate::statements::{Label, Statement, parts_of, statement_of};
+use crate::statements::{Label, Statement, last_of, parts_of, statement_of};
 use ptk_asm_forms::size_of;
-use ptk_asm_model::{FaultKind, Form, Lengths, LineFault, Place, Section, Span, Spanned};
+use ptk_asm_model::{Extent, FaultKind, Form, Lengths, LineFault, Place, Section, Span, Spanned};
 use std::alloc::Global;
 use std::collections::HashMap;
 
@@ -108,6 +109,7 @@ impl<'a> Layout<'a> {
         ensures ok { (m : State) → Shows self.old m → OnOk result (source.label_fault m.labels (label_name label.entry) ≡ None) }
         ensures next { (m : State) → Shows self.old m → OnOk result (Shows self.new (labelled m (label_name label.entry))) }
         ensures err { (m : State) → Shows self.old m → IfErr result (λ e. Refuses e.kind (source.label_fault m.labels (label_name label.entry))) }
+        ensures placed { IfErr result (λ e. IsPlaced e.kind e (label_place label.entry)) }
     {
         match label {
             Some(label) => self.add_label(label),
@@ -121,6 +123,7 @@ impl<'a> Layout<'a> {
         ensures ok { (m : State) → Shows self.old m → OnOk result (source.label_fault m.labels (Some label.entry.name.now) ≡ None) }
         ensures next { (m : State) → Shows self.old m → OnOk result (Shows self.new (labelled m (Some label.entry.name.now))) }
         ensures err { (m : State) → Shows self.old m → IfErr result (λ e. Refuses e.kind (source.label_fault m.labels (Some label.entry.name.now))) }
+        ensures placed { IfErr result (λ e. IsPlaced e.kind e (label_spot label.entry)) }
     {
         if place_of(&self.labels, label.name).is_some() {
             return Err(LineFault {
@@ -135,15 +138,17 @@ impl<'a> Layout<'a> {
         Ok(())
     }
 
-    /// Adds a statement at its place.
+    /// Adds a statement at its place; `last` are the bytes of its last token in its line.
     pub(crate) fn add_statement(
         &mut self,
         span: Span,
+        last: Extent,
         statement: Statement<'a>,
     ) -> Result<(), LineFault>
-        requires ordered { span.start ≤ span.end }
+        requires forward { last.from ≤ last.to }
+        requires inside { span.start + last.to ≤ span.end }
         requires fits { source.length_in self.old.lengths self.old.section + source.taken (shown_statement statement) ≤ source.longest }
-        ensures next { (m : State) → Shows self.old m → OnOk result (Shows self.new (with_statement m span (shown_statement statement.entry))) }
+        ensures next { (m : State) → Shows self.old m → OnOk result (Shows self.new (with_statement m span last (shown_statement statement.entry))) }
         ensures err { IfErr result (λ e. e.kind ≡ FaultKind.Memory) }
     {
         let place = self.place();
@@ -152,6 +157,7 @@ impl<'a> Layout<'a> {
         self.placed.push(Placed {
             span,
             place,
+            last,
             statement,
         })?;
         self.lengths = grown(self.lengths, self.section, size);
@@ -161,7 +167,7 @@ impl<'a> Layout<'a> {
 
     /// Adds the label and the statement of a line's tokens; `end` is where the line's code ends. The first fault of the
     /// line with the place of its token in it, or want of memory.
-    #[tactic(auto, using(crate::proofs::States::line_rules))]
+    #[tactic(auto, using(crate::proofs::States::line_rules, crate::proofs::Spots::line_places))]
     pub(crate) fn take_tokens(
         &mut self,
         alloc: Global,
@@ -169,10 +175,12 @@ impl<'a> Layout<'a> {
         tokens: &[Spanned<'a>],
         end: usize,
     ) -> Result<(), LineFault>
-        requires { span.start ≤ span.end }
+        requires forward { (last_place (spots tokens.now)).from ≤ (last_place (spots tokens.now)).to }
+        requires inside { span.start + (last_place (spots tokens.now)).to ≤ span.end }
         ensures ok { (m : State) → Shows self.old m → OnOk result (fault_at m (Some (views tokens.now)) ≡ None) }
-        ensures next { (m : State) → Shows self.old m → OnOk result (Shows self.new (behind m span (views tokens.now))) }
+        ensures next { (m : State) → Shows self.old m → OnOk result (Shows self.new (behind m span (last_place (spots tokens.now)) (views tokens.now))) }
         ensures err { (m : State) → Shows self.old m → IfErr result (λ e. Refuses e.kind (fault_at m (Some (views tokens.now)))) }
+        ensures placed { (m : State) → Shows self.old m → IfErr result (λ e. IsPlaced e.kind e (place_at (spots tokens.now) (index_at m (views tokens.now)) end)) }
     {
         let parts = parts_of(tokens);
         self.take_label(parts.label)?;
@@ -180,7 +188,7 @@ impl<'a> Layout<'a> {
             return Ok(());
         }
         let statement = statement_of(alloc, self.place(), parts.statement, end)?;
-        self.add_statement(span, statement)?;
+        self.add_statement(span, last_of(tokens), statement)?;
         Ok(())
     }
 }

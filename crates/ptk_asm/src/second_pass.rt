@@ -12,7 +12,7 @@ use crate::fault::{AsmFault, located};
 use crate::layout::Layout;
 use crate::placed::Placed;
 use ptk_asm_emission::{push_statement, words_decode};
-use ptk_asm_model::{FaultKind, LineFault, Section};
+use ptk_asm_model::{Extent, FaultKind, LineFault, Section};
 use std::alloc::{AllocError, Global};
 
 /// The bytes of text and data.
@@ -44,7 +44,7 @@ impl Contents {
         ensures text { (known : source.Layout) → Names layout.now known → OnOk result (self.new.text.items ≡ self.old.text.items ++ source.bytes_in known part.Text (shown_placed placed.now)) }
         ensures contents { (known : source.Layout) → Names layout.now known → OnOk result (self.new.«data».items ≡ self.old.«data».items ++ source.bytes_in known part.Data (shown_placed placed.now)) }
         ensures words { (known : source.Layout) → Names layout.now known → OnOk result (IsDecoded known (shown_placed placed.now)) }
-        ensures err { (known : source.Layout) → Names layout.now known → IfErr result (λ e. IsAt e.kind e placed.now.span (source.reference_fault known (shown_placed placed.now))) }
+        ensures err { (known : source.Layout) → Names layout.now known → IfErr result (λ e. IsAt e.kind e placed.now.span placed.now.last (source.reference_fault known (shown_placed placed.now))) }
     {
         match layout.number_of(placed) {
             Ok(number) => {
@@ -65,11 +65,11 @@ impl Contents {
     }
 }
 
-/// The fault of a statement's label in the source.
+/// The fault of a statement's label in the source, which is its last token.
 fn fault_of(placed: &Placed<'_>, kind: FaultKind) -> AsmFault
-    ensures { Tells result (record { span = placed.now.span; kind = kind }) }
+    ensures { Tells result (record { span = placed.now.span; place = placed.now.last; kind = kind }) }
 {
-    let (from, to) = (placed.statement.from, placed.statement.to);
+    let Extent { from, to } = placed.last;
     located(&placed.span, LineFault { from, to, kind })
 }
 

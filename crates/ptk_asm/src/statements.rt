@@ -1,15 +1,16 @@
 //! One statement: its mnemonic, its operands and its place.
 
-ghost use Rattle.std.specs.Prelude.{◌≡◌, ◌+◌, ◌≤◌, ◌<◌, ◌%◌, ◌∷◌, ◌||◌, ◌&&◌, not, ◌==◌, nat_lt, if◌then◌else◌, is_some, List, Some, None, option_map, true, length, IfOk, IfErr};
+ghost use Rattle.std.specs.Prelude.{◌≡◌, ℕ, ◌+◌, ◌≤◌, ◌<◌, ◌%◌, ◌∷◌, ◌||◌, ◌&&◌, not, ◌==◌, nat_lt, if◌then◌else◌, is_some, List, Some, None, option_map, true, length, drop, IfSome, IfOk, IfErr};
 ghost use Rattle.ptk_asm_model.specs.Tokens as token;
 ghost use Rattle.ptk_asm_model.specs.Statements as is;
 ghost use Rattle.ptk_asm_model.specs.Source as source;
-ghost use Rattle.ptk_asm_model.specs.Reading.{view, views, Refuses};
+ghost use Rattle.ptk_asm_model.specs.Places.{place_at, last_place};
+ghost use Rattle.ptk_asm_model.specs.Reading.{view, views, spot, spots, fault_spot, Refuses, IsPlaced};
 ghost use Rattle.ptk_asm_forms.specs.Operating.{shown_value};
-ghost use Rattle.ptk_asm.specs.Passing.{label_name, shown_statement};
+ghost use Rattle.ptk_asm.specs.Passing.{label_name, label_spot, shown_statement};
 
 use ptk_asm_forms::{Operands, form_named, operands_of, size_of, slots_of, stands_in};
-use ptk_asm_model::{FaultKind, Form, LineFault, Place, Section, Spanned, Token};
+use ptk_asm_model::{Extent, FaultKind, Form, LineFault, Place, Section, Spanned, Token};
 use std::alloc::Global;
 
 /// How many bytes a section may have.
@@ -30,13 +31,11 @@ pub(crate) struct Parts<'t, 'a> {
     pub(crate) statement: &'t [Spanned<'a>],
 }
 
-/// A form, its operands, and the place of its last token, which is its label where it has one.
+/// A form and its operands.
 #[derive(Drop)]
 pub(crate) struct Statement<'a> {
     pub(crate) form: Form,
     pub(crate) operands: Operands<'a>,
-    pub(crate) from: usize,
-    pub(crate) to: usize,
 }
 
 /// The name of a token before a colon.
@@ -54,6 +53,8 @@ fn name_before_colon<'a>(first: Token<'a>, second: Token<'a>) -> Option<&'a [u8]
 pub(crate) fn parts_of<'t, 'a>(tokens: &'t [Spanned<'a>]) -> Parts<'t, 'a>
     ensures label { label_name result.label ≡ source.label_in (views tokens.now) }
     ensures statement { views result.statement.now ≡ source.statement_in (views tokens.now) }
+    ensures first { IfSome result.label (λ l. (end : ℕ) → label_spot l ≡ place_at (spots tokens.now) 0 end) }
+    ensures behind { spots result.statement.now ≡ drop (source.label_length (views tokens.now)) (spots tokens.now) }
 {
     if tokens.len() < 2 {
         return Parts {
@@ -78,10 +79,24 @@ pub(crate) fn parts_of<'t, 'a>(tokens: &'t [Spanned<'a>]) -> Parts<'t, 'a>
     }
 }
 
+/// The bytes of the last of a line's tokens, none at its beginning where it has no token.
+pub(crate) fn last_of(tokens: &[Spanned<'_>]) -> Extent
+    ensures { result ≡ last_place (spots tokens.now) }
+{
+    match tokens.last() {
+        Some(last) => Extent {
+            from: last.from,
+            to: last.to,
+        },
+        None => Extent { from: 0, to: 0 },
+    }
+}
+
 /// The form that the first token names; `Mnemonic` where it is no mnemonic of this section.
 fn form_at(section: Section, first: Spanned<'_>) -> Result<Form, LineFault>
     ensures ok { IfOk result (λ f. (rest : List token.Token) → (source.form_in (view first.entry.token ∷ rest) ≡ Some f) × (is.stands_in f section ≡ true)) }
     ensures err { IfErr result (λ e. (rest : List token.Token) → Refuses e.kind (source.mnemonic_fault section (view first.entry.token ∷ rest) (source.form_in (view first.entry.token ∷ rest)))) }
+    ensures placed { IfErr result (λ e. fault_spot e ≡ spot first.entry) }
 {
     let fault = LineFault {
         from: first.from,
@@ -119,7 +134,7 @@ fn is_misplaced(place: Place, form: Form, size: u64) -> bool
 }
 
 /// The statement of a mnemonic and the tokens behind it, which stands at this place; `end` is where the line's code ends.
-#[tactic(auto, using(crate::proofs::States::statement_rules))]
+#[tactic(auto, using(crate::proofs::States::statement_rules, crate::proofs::Spots::statement_places))]
 fn statement_with<'a>(
     alloc: Global,
     place: Place,
@@ -131,6 +146,7 @@ fn statement_with<'a>(
     ensures value { IfOk result (λ s. source.stated (view first.entry.token ∷ views rest.now) ≡ Some (shown_statement s)) }
     ensures fits { IfOk result (λ s. place.offset + source.taken (shown_statement s) ≤ source.longest) }
     ensures err { IfErr result (λ e. Refuses e.kind (source.statement_fault place (view first.entry.token ∷ views rest.now))) }
+    ensures placed { IfErr result (λ e. IsPlaced e.kind e (place_at (spot first.entry ∷ spots rest.now) (source.statement_index place (view first.entry.token ∷ views rest.now)) end)) }
 {
     let form = form_at(place.section, first)?;
     let operands = operands_of(alloc, slots_of(form), rest, end)?;
@@ -141,21 +157,12 @@ fn statement_with<'a>(
             kind: FaultKind::Range,
         });
     }
-    let last = match rest.last() {
-        Some(last) => *last,
-        None => first,
-    };
-    Ok(Statement {
-        form,
-        operands,
-        from: last.from,
-        to: last.to,
-    })
+    Ok(Statement { form, operands })
 }
 
 /// The statement that tokens are, which stands at this place; `end` is where the line's code ends. The error is the first
 /// fault with the place of its token in the line, or want of memory.
-#[tactic(auto, using(crate::proofs::States::views_front))]
+#[tactic(auto, using(crate::proofs::States::views_front, crate::proofs::Spots::spots_front))]
 pub(crate) fn statement_of<'a>(
     alloc: Global,
     place: Place,
@@ -167,6 +174,7 @@ pub(crate) fn statement_of<'a>(
     ensures value { IfOk result (λ s. source.stated (views tokens.now) ≡ Some (shown_statement s)) }
     ensures fits { IfOk result (λ s. place.offset + source.taken (shown_statement s) ≤ source.longest) }
     ensures err { IfErr result (λ e. Refuses e.kind (source.statement_fault place (views tokens.now))) }
+    ensures placed { IfErr result (λ e. IsPlaced e.kind e (place_at (spots tokens.now) (source.statement_index place (views tokens.now)) end)) }
 {
     statement_with(alloc, place, tokens[0], &tokens[1..], end)
 }

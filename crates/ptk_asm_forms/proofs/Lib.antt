@@ -1,2 +1,3 @@
 pub mod OperandList
+pub mod OperandPlaces
 pub mod RegisterNames

@@ -2,7 +2,8 @@
 
 ghost use Rattle.std.specs.Prelude.{◌≡◌, ◌&&◌, Ok, OnOk, IfOk, IfErr};
 ghost use Rattle.ptk_asm_model.specs.Statements as is;
-ghost use Rattle.ptk_asm_model.specs.Reading.{view, views, value_of, Answers};
+ghost use Rattle.ptk_asm_model.specs.Places as places;
+ghost use Rattle.ptk_asm_model.specs.Reading.{view, views, value_of, spots, Answers, IsPlaced};
 ghost use Rattle.ptk_asm_forms.specs.Operating.{shown, number_if};
 
 use crate::registers::register_named;
@@ -93,7 +94,7 @@ fn add_operand<'a>(
 
 /// The operands that tokens give in the places of a form. The first fault from the left with the place of its token,
 /// or with `end`, where the line's code ends, for a missing one; Memory where memory is refused.
-#[tactic(auto, using(crate::proofs::OperandList::operands_more, crate::proofs::OperandList::operands_fault, crate::proofs::OperandList::operands_missing, crate::proofs::OperandList::operands_extra, crate::proofs::OperandList::operands_end))]
+#[tactic(auto, using(crate::proofs::OperandList::operands_more, crate::proofs::OperandList::operands_fault, crate::proofs::OperandList::operands_missing, crate::proofs::OperandList::operands_extra, crate::proofs::OperandList::operands_end, crate::proofs::OperandPlaces::place_rules))]
 pub fn operands_of<'a>(
     alloc: Global,
     slots: &[Slot],
@@ -102,6 +103,7 @@ pub fn operands_of<'a>(
 ) -> Result<Operands<'a>, LineFault>
     ensures ok { IfOk result (λ o. is.operands_of slots.now (views tokens.now) ≡ Ok (shown o)) }
     ensures err { IfErr result (λ e. Answers e.kind (is.operands_of slots.now (views tokens.now))) }
+    ensures placed { IfErr result (λ e. IsPlaced e.kind e (places.place_at (spots tokens.now) (places.operand_index is.no_operands slots.now (views tokens.now)) end)) }
 {
     let mut operands = Operands {
         registers: Vec::new(alloc),

@@ -8,7 +8,8 @@ use Rattle.ptk_asm_model.specs.declared.statement.Form.{Form}
 use Rattle.ptk_asm_model.specs.declared.place.Span.{Span}
 use Rattle.ptk_asm_model.specs.declared.place.Lengths.{Lengths}
 use Rattle.ptk_asm_model.specs.Statements.{Value, Nothing, Given, Labelled, bytes_of, size_of}
-use Rattle.ptk_asm_model.specs.Source.{Statement, Placed, Layout, statement_in, statement_of, line_tokens, no_lengths, grown_by, taken, length_in, place_in, place_after, section_after, lengths_after, placed_at, placed_after, span_after, number_of, placed_bytes, bytes_in, contents_of}
+use Rattle.ptk_asm_model.specs.declared.place.Extent.{Extent}
+use Rattle.ptk_asm_model.specs.Source.{last_of, Statement, Placed, Layout, statement_in, statement_of, line_tokens, no_lengths, grown_by, taken, length_in, place_in, place_after, section_after, lengths_after, placed_at, placed_after, span_after, number_of, placed_bytes, bytes_in, contents_of}
 use Rattle.ptk_asm_emission.proofs.FormBytes.{is_sized, bytes-length_given, bytes-length_any}
 use Rattle.ptk_asm_laws.proofs.Statements.{stated-number}
 
@@ -39,22 +40,22 @@ none_added n m e = omega arith
 some_added : (n : ℕ) (bytes : List ℕ) (m : ℕ) → length bytes ≡ m → n + length (bytes ++ []) ≡ n + m
 some_added n bytes m e = ap (λ (k : ℕ). n + k) (ap length (append-nil bytes) ∙ e)
 
-added-length : (l : Layout) (at here : Section) (span : Span) (lens : Lengths) (found : Option Statement)
+added-length : (l : Layout) (at here : Section) (span : Span) (last : Extent) (lens : Lengths) (found : Option Statement)
     → ((s : Statement) → found ≡ Some s → is_sized s.form ≡ true → (n : ℤ) × (s.operands.value ≡ Given n))
-    → length_in lens at + length (contents_of l at (placed_at span (place_in lens here) found)) ≡ length_in (grown_by lens here found) at
-added-length l at here span lens None sized = none_added (length_in lens at) 0 refl
-added-length l section.Text section.Text span lens (Some s) sized =
-    let p : Placed = record { span = span; place = place_in lens section.Text; statement = s } in some_added lens.text (placed_bytes l p) (taken s) (placed-length l p (sized s refl))
-added-length l section.Data section.Data span lens (Some s) sized =
-    let p : Placed = record { span = span; place = place_in lens section.Data; statement = s } in some_added lens.«data» (placed_bytes l p) (taken s) (placed-length l p (sized s refl))
-added-length l section.Bss section.Bss span lens (Some s) sized =
-    let p : Placed = record { span = span; place = place_in lens section.Bss; statement = s } in some_added lens.bss (placed_bytes l p) (taken s) (placed-length l p (sized s refl))
-added-length l section.Text section.Data span lens (Some s) sized = none_added lens.text 0 refl
-added-length l section.Text section.Bss span lens (Some s) sized = none_added lens.text 0 refl
-added-length l section.Data section.Text span lens (Some s) sized = none_added lens.«data» 0 refl
-added-length l section.Data section.Bss span lens (Some s) sized = none_added lens.«data» 0 refl
-added-length l section.Bss section.Text span lens (Some s) sized = none_added lens.bss 0 refl
-added-length l section.Bss section.Data span lens (Some s) sized = none_added lens.bss 0 refl
+    → length_in lens at + length (contents_of l at (placed_at span (place_in lens here) last found)) ≡ length_in (grown_by lens here found) at
+added-length l at here span last lens None sized = none_added (length_in lens at) 0 refl
+added-length l section.Text section.Text span last lens (Some s) sized =
+    let p : Placed = record { span = span; place = place_in lens section.Text; last = last; statement = s } in some_added lens.text (placed_bytes l p) (taken s) (placed-length l p (sized s refl))
+added-length l section.Data section.Data span last lens (Some s) sized =
+    let p : Placed = record { span = span; place = place_in lens section.Data; last = last; statement = s } in some_added lens.«data» (placed_bytes l p) (taken s) (placed-length l p (sized s refl))
+added-length l section.Bss section.Bss span last lens (Some s) sized =
+    let p : Placed = record { span = span; place = place_in lens section.Bss; last = last; statement = s } in some_added lens.bss (placed_bytes l p) (taken s) (placed-length l p (sized s refl))
+added-length l section.Text section.Data span last lens (Some s) sized = none_added lens.text 0 refl
+added-length l section.Text section.Bss span last lens (Some s) sized = none_added lens.text 0 refl
+added-length l section.Data section.Text span last lens (Some s) sized = none_added lens.«data» 0 refl
+added-length l section.Data section.Bss span last lens (Some s) sized = none_added lens.«data» 0 refl
+added-length l section.Bss section.Text span last lens (Some s) sized = none_added lens.bss 0 refl
+added-length l section.Bss section.Data span last lens (Some s) sized = none_added lens.bss 0 refl
 
 none-length : (at : Section) → 0 ≡ length_in no_lengths at
 none-length section.Text = refl
@@ -67,10 +68,10 @@ none-length section.Bss = refl
 pub section-length : (l : Layout) (at : Section) (before : List (List ℕ)) → length (contents_of l at (placed_after before)) ≡ length_in (lengths_after before) at
 section-length l at [] = none-length at
 section-length l at (line ∷ before) =
-    ap length (flat_map-append (bytes_in l at) (placed_after before) (placed_at (span_after before line) (place_after before) (statement_of line)))
-    ∙ length-append (contents_of l at (placed_after before)) (contents_of l at (placed_at (span_after before line) (place_after before) (statement_of line)))
-    ∙ ap (λ (n : ℕ). n + length (contents_of l at (placed_at (span_after before line) (place_after before) (statement_of line)))) (section-length l at before)
-    ∙ added-length l at (section_after before) (span_after before line) (lengths_after before) (statement_of line) (stated_number line)
+    ap length (flat_map-append (bytes_in l at) (placed_after before) (placed_at (span_after before line) (place_after before) (last_of line) (statement_of line)))
+    ∙ length-append (contents_of l at (placed_after before)) (contents_of l at (placed_at (span_after before line) (place_after before) (last_of line) (statement_of line)))
+    ∙ ap (λ (n : ℕ). n + length (contents_of l at (placed_at (span_after before line) (place_after before) (last_of line) (statement_of line)))) (section-length l at before)
+    ∙ added-length l at (section_after before) (span_after before line) (last_of line) (lengths_after before) (statement_of line) (stated_number line)
   where
     stated_number : (line : List ℕ) (s : Statement) → statement_of line ≡ Some s → is_sized s.form ≡ true → (n : ℤ) × (s.operands.value ≡ Given n)
     stated_number line s e sized = stated-number (statement_in (line_tokens line)) s sized e

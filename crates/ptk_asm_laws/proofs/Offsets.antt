@@ -8,7 +8,8 @@ use Rattle.std.proofs.lemmas.List.Elements.{All-nil, All-cons, All-append, All-w
 use Rattle.ptk_asm_model.specs.declared.statement.Section.{Section}
 use Rattle.ptk_asm_model.specs.declared.statement.Section.TheVariants as section
 use Rattle.ptk_asm_model.specs.declared.place.Span.{Span}
-use Rattle.ptk_asm_model.specs.Source.{Statement, Placed, Layout, statement_of, section_after, place_after, placed_at, placed_after, span_after, placed_bytes, bytes_in, contents_of}
+use Rattle.ptk_asm_model.specs.declared.place.Extent.{Extent}
+use Rattle.ptk_asm_model.specs.Source.{last_of, Statement, Placed, Layout, statement_of, section_after, place_after, placed_at, placed_after, span_after, placed_bytes, bytes_in, contents_of}
 use Rattle.ptk_asm_laws.specs.Laws.{StandsAt}
 use Rattle.ptk_asm_laws.proofs.Lengths.{section-length}
 
@@ -56,11 +57,11 @@ stands_last l ps p e =
     subst (λ (bytes : List ℕ). take (length (placed_bytes l p)) (drop p.place.offset bytes) ≡ placed_bytes l p) (sym parts)
     (at_end (placed_bytes l p) (contents_of l p.place.section ps) p.place.offset e)
 
-stands_added : (l : Layout) (before : List (List ℕ)) (span : Span) (found : Option Statement)
-    → All (StandsAt l (placed_after before ++ placed_at span (place_after before) found)) (placed_at span (place_after before) found)
-stands_added l before span None = All-nil (StandsAt l (placed_after before ++ []))
-stands_added l before span (Some s) =
-    let p : Placed = record { span = span; place = place_after before; statement = s } in
+stands_added : (l : Layout) (before : List (List ℕ)) (span : Span) (last : Extent) (found : Option Statement)
+    → All (StandsAt l (placed_after before ++ placed_at span (place_after before) last found)) (placed_at span (place_after before) last found)
+stands_added l before span last None = All-nil (StandsAt l (placed_after before ++ []))
+stands_added l before span last (Some s) =
+    let p : Placed = record { span = span; place = place_after before; last = last; statement = s } in
     All-cons (StandsAt l (placed_after before ++ p ∷ [])) p [] (stands_last l (placed_after before) p (sym (section-length l (section_after before) before)))
     (All-nil (StandsAt l (placed_after before ++ p ∷ [])))
 
@@ -68,7 +69,7 @@ stands_added l before span (Some s) =
 pub stands-all : (l : Layout) (before : List (List ℕ)) → All (StandsAt l (placed_after before)) (placed_after before)
 stands-all l [] = All-nil (StandsAt l [])
 stands-all l (line ∷ before) =
-    let added = placed_at (span_after before line) (place_after before) (statement_of line) in
+    let added = placed_at (span_after before line) (place_after before) (last_of line) (statement_of line) in
     All-append (StandsAt l (placed_after before ++ added)) (placed_after before) added
     (All-weaker (StandsAt l (placed_after before)) (StandsAt l (placed_after before ++ added)) (λ (p : Placed). stands_more l (placed_after before) added p) (placed_after before) (stands-all l before))
-    (stands_added l before (span_after before line) (statement_of line))
+    (stands_added l before (span_after before line) (last_of line) (statement_of line))

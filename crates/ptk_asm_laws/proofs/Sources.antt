@@ -6,7 +6,7 @@ use Rattle.ptk_words.specs.Image.{ImageParts}
 use Rattle.ptk_asm_model.specs.declared.statement.Section.TheVariants as section
 use Rattle.ptk_asm_model.specs.declared.fault.FaultKind.{FaultKind}
 use Rattle.ptk_asm_model.specs.Lines.{raw_lines}
-use Rattle.ptk_asm_model.specs.Source.{Layout, Fault, Placed, layout_of, line_fault, at_line, first_pass, second_pass, span_after, lengths_after, length_in, labels_after, placed_after, contents_of, entry_of, image_of, unless, linked, source}
+use Rattle.ptk_asm_model.specs.Source.{Layout, Fault, Placed, layout_of, line_fault, line_place, at_line, first_pass, second_pass, span_after, lengths_after, length_in, labels_after, placed_after, contents_of, entry_of, image_of, unless, linked, source}
 use Rattle.ptk_rv32i_code.specs.Coding.{decoded}
 use Rattle.ptk_asm_emission.specs.Emitting.{words_in}
 use Rattle.ptk_asm_laws.specs.Whole.{IsWhole}
@@ -33,10 +33,10 @@ passed (line ∷ lines) before l e whole = by_fault (passed lines (line ∷ befo
   where
     by_fault : (first_pass (line ∷ before) lines ≡ Ok l → IsWhole (line ∷ before) → FromWhole l) → (found : Option FaultKind) → line_fault before line ≡ found → FromWhole l
     by_fault later None is =
-        later (sym (ap (λ (o : Option FaultKind). at_line (span_after before line) o (first_pass (line ∷ before) lines)) is) ∙ e) (whole-line before line is whole)
+        later (sym (ap (λ (o : Option FaultKind). at_line (span_after before line) (line_place before line) o (first_pass (line ∷ before) lines)) is) ∙ e) (whole-line before line is whole)
     by_fault later (Some k) is =
-        let never : ◌≡◌ {A = Result Layout Fault} (Err (record { span = span_after before line; kind = k })) (Ok l) =
-        sym (ap (λ (o : Option FaultKind). at_line (span_after before line) o (first_pass (line ∷ before) lines)) is) ∙ e in
+        let never : ◌≡◌ {A = Result Layout Fault} (Err (record { span = span_after before line; place = line_place before line; kind = k })) (Ok l) =
+        sym (ap (λ (o : Option FaultKind). at_line (span_after before line) (line_place before line) o (first_pass (line ∷ before) lines)) is) ∙ e in
         absurd (cc)
 
 passed-all : (text : List ℕ) (l : Layout) → first_pass [] (raw_lines text) ≡ Ok l → FromWhole l

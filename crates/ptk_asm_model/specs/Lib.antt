@@ -1,6 +1,7 @@
 pub mod Lines
 pub mod Tokens
 pub mod Statements
+pub mod Places
 pub mod Source
 pub mod Reading
 pub mod Rows

@@ -3,6 +3,8 @@ use Rattle.std.specs.Prelude.{ℕ, ◌≡◌, ◌^◌, List, Option, Some, None,
 use Rattle.ptk_asm_model.specs.declared.token.Token as written
 use Rattle.ptk_asm_model.specs.declared.token.Token.TheVariants as code
 use Rattle.ptk_asm_model.specs.declared.token.Spanned.{Spanned}
+use Rattle.ptk_asm_model.specs.declared.place.Extent.{Extent}
+use Rattle.ptk_asm_model.specs.declared.fault.LineFault.{LineFault}
 use Rattle.ptk_asm_model.specs.declared.fault.FaultKind.{FaultKind}
 use Rattle.ptk_asm_model.specs.declared.fault.FaultKind.TheVariants as fault
 use Rattle.ptk_asm_model.specs.Tokens.{Token, Name, Number, Mark, number, tokens_of}
@@ -20,6 +22,18 @@ view (code.Mark m) = Mark m
 -- each token of a line as the definitions see it
 abbrev pub views : List Spanned → List Token
 views tokens = map (λ (s : Spanned). view s.token) tokens
+
+-- the bytes of a token of the code
+abbrev pub spot : Spanned → Extent
+spot s = record { from = s.from; to = s.to }
+
+-- the bytes of each token of a line
+abbrev pub spots : List Spanned → List Extent
+spots tokens = map spot tokens
+
+-- the bytes that a fault of the code names
+abbrev pub fault_spot : LineFault → Extent
+fault_spot e = record { from = e.from; to = e.to }
 
 -- a fault of tokens, where they are none
 abbrev pub fault_unless : Option (List Token) → Option FaultKind
@@ -39,6 +53,11 @@ Refuses k found = found ≡ Some k
 abbrev pub Answers : {A : Type 0} → FaultKind → Result A FaultKind → Type 0
 Answers fault.Memory found = Unit {0}
 Answers k found = found ≡ Err k
+
+-- want of memory, or a fault at these bytes
+abbrev pub IsPlaced : FaultKind → LineFault → Extent → Type 0
+IsPlaced fault.Memory e place = Unit {0}
+IsPlaced k e place = fault_spot e ≡ place
 
 -- a number that the code keeps: numbers above 2 ^ 40 are out of every range
 unfoldable pub capped : ℕ → ℕ

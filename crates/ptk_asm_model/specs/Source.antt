@@ -1,5 +1,5 @@
 -- A source: where its statements stand, what its labels name, its faults in their order, and its image.
-use Rattle.std.specs.Prelude.{ℕ, ◌+◌, ◌-◌, ◌%◌, Bool, true, false, not, ◌&&◌, ◌||◌, List, [], ◌∷◌, ◌++◌, length, sum_by, flat_map, ◌==◌, nat_lt, if◌then◌else◌, Option, Some, None, option_map, unwrap_or, is_some, Result, Ok, Err, ℤ, pos, ◌-ℤ◌, codes}
+use Rattle.std.specs.Prelude.{ℕ, suc, ◌+◌, ◌-◌, ◌%◌, Bool, true, false, not, ◌&&◌, ◌||◌, List, [], ◌∷◌, ◌++◌, length, sum_by, flat_map, ◌==◌, nat_lt, if◌then◌else◌, Option, Some, None, option_map, unwrap_or, is_some, Result, Ok, Err, ℤ, pos, ◌-ℤ◌, codes}
 use Rattle.ptk_words.specs.Image.{ImageParts}
 use Rattle.ptk_asm_model.specs.declared.statement.Section.{Section}
 use Rattle.ptk_asm_model.specs.declared.statement.Section.TheVariants as section
@@ -9,10 +9,12 @@ use Rattle.ptk_asm_model.specs.declared.fault.FaultKind.{FaultKind}
 use Rattle.ptk_asm_model.specs.declared.fault.FaultKind.TheVariants as fault
 use Rattle.ptk_asm_model.specs.declared.place.Span.{Span}
 use Rattle.ptk_asm_model.specs.declared.place.Place.{Place}
+use Rattle.ptk_asm_model.specs.declared.place.Extent.{Extent}
 use Rattle.ptk_asm_model.specs.declared.place.Lengths.{Lengths}
 use Rattle.ptk_asm_model.specs.Lines.{raw_lines, without_ending, code_of}
 use Rattle.ptk_asm_model.specs.Tokens.{Token, Name, Mark, tokens_of}
-use Rattle.ptk_asm_model.specs.Statements.{Value, Nothing, Given, Labelled, Operands, named, form_named, stands_in, slots_of, operands_of, bytes_of, size_of, distances, is_within, is_even}
+use Rattle.ptk_asm_model.specs.Statements.{Value, Nothing, Given, Labelled, Operands, named, form_named, stands_in, slots_of, no_operands, operands_of, bytes_of, size_of, distances, is_within, is_even}
+use Rattle.ptk_asm_model.specs.Places.{operand_index, places_of, place_at, last_place, wrong_place}
 
 -- the numbers of the kinds of faults (own)
 abbrev pub fault_number : FaultKind → ℕ
@@ -154,28 +156,34 @@ span_after before line = record {
   end = sum_by length before + length (without_ending line);
 }
 
--- a statement where it stands (own)
+-- a statement where it stands, and the bytes of its last token in its line, which is its label where it has one (own)
 pub record Placed : Type 0 where
   pub span : Span
   pub place : Place
+  pub last : Extent
   pub statement : Statement
 
 -- the statement of a line, if there is one, where it stands (own)
-abbrev pub placed_at : Span → Place → Option Statement → List Placed
-placed_at span at None = []
-placed_at span at (Some s) = record { span = span; place = at; statement = s } ∷ []
+abbrev pub placed_at : Span → Place → Extent → Option Statement → List Placed
+placed_at span at last None = []
+placed_at span at last (Some s) = record { span = span; place = at; last = last; statement = s } ∷ []
+
+-- the bytes of the last token of a line (own)
+abbrev pub last_of : List ℕ → Extent
+last_of line = last_place (places_of (code_of line))
 
 -- the statements of these lines, in their order (own)
 abbrev pub placed_after : List (List ℕ) → List Placed
 placed_after [] = []
 placed_after (line ∷ before) =
-    placed_after before ++ placed_at (span_after before line) (place_after before) (statement_of line)
+    placed_after before ++ placed_at (span_after before line) (place_after before) (last_of line) (statement_of line)
 
 -- ---- faults
 
--- a fault, with the line in which it stands (own)
+-- a fault, with the line in which it stands and the bytes at fault, counted from the line's beginning (own)
 pub record Fault : Type 0 where
   pub span : Span
+  pub place : Extent
   pub kind : FaultKind
 
 -- the fault, where the test passes (own)
@@ -249,6 +257,37 @@ tokens_fault labels at (Some ts) = first_of (label_fault labels (label_in ts) �
 abbrev pub line_fault : List (List ℕ) → List ℕ → Option FaultKind
 line_fault before line = tokens_fault (labels_after before) (place_after before) (tokens_of (code_of line))
 
+-- how many tokens a label and its colon are (own)
+abbrev pub label_length : List Token → ℕ
+label_length ts = if is_some (label_in ts) then 2 else 0
+
+-- the number of the operand at fault, where there is one, else that of the mnemonic (own)
+abbrev pub index_of : Result Operands FaultKind → ℕ → ℕ
+index_of (Ok o) n = 0
+index_of (Err k) n = suc n
+
+-- the number of the token at fault in a statement of a form that may stand there (own)
+abbrev pub index_with : List Token → Option Form → ℕ
+index_with (t ∷ ts) (Some f) = index_of (operands_of (slots_of f) ts) (operand_index no_operands (slots_of f) ts)
+index_with ts f = 0
+
+-- which token of a statement is at fault: the mnemonic, counted 0, or one of the tokens behind it, one more than there are tokens where an operand is missing (own)
+abbrev pub statement_index : Place → List Token → ℕ
+statement_index at ts = if is_some (mnemonic_fault at.section ts (form_in ts)) then 0 else index_with ts (form_in ts)
+
+-- which token of a line is at fault: the label, or one of the statement (own)
+abbrev pub fault_index : List (List ℕ × Place) → Place → List Token → ℕ
+fault_index labels at ts = if is_named labels (label_in ts) then 0 else label_length ts + statement_index at (statement_in ts)
+
+-- the bytes at fault in a line: a piece that is no token, or a token; the end of the line's code where an operand is missing (own)
+abbrev pub tokens_place : List (List ℕ × Place) → Place → List ℕ → Option (List Token) → Extent
+tokens_place labels at code None = wrong_place code
+tokens_place labels at code (Some ts) = place_at (places_of code) (fault_index labels at ts) (length code)
+
+-- the bytes at fault in a line behind these lines, where it has a fault (own)
+abbrev pub line_place : List (List ℕ) → List ℕ → Extent
+line_place before line = tokens_place (labels_after before) (place_after before) (code_of line) (tokens_of (code_of line))
+
 -- what a source holds where its lines have no fault (own)
 pub record Layout : Type 0 where
   pub labels : List (List ℕ × Place)
@@ -260,14 +299,14 @@ abbrev pub layout_of : List (List ℕ) → Layout
 layout_of before = record { labels = labels_after before; lengths = lengths_after before; placed = placed_after before }
 
 -- the fault of a line, if there is one, or what the lines behind it come to (own)
-abbrev pub at_line : Span → Option FaultKind → Result Layout Fault → Result Layout Fault
-at_line span (Some k) rest = Err (record { span = span; kind = k })
-at_line span None rest = rest
+abbrev pub at_line : Span → Extent → Option FaultKind → Result Layout Fault → Result Layout Fault
+at_line span place (Some k) rest = Err (record { span = span; place = place; kind = k })
+at_line span place None rest = rest
 
 -- the first fault of the lines, behind the lines before, or the layout of all (own)
 abbrev pub first_pass : List (List ℕ) → List (List ℕ) → Result Layout Fault
 first_pass before [] = Ok (layout_of before)
-first_pass before (line ∷ lines) = at_line (span_after before line) (line_fault before line) (first_pass (line ∷ before) lines)
+first_pass before (line ∷ lines) = at_line (span_after before line) (line_place before line) (line_fault before line) (first_pass (line ∷ before) lines)
 
 -- ---- labels
 
@@ -316,14 +355,14 @@ abbrev pub reference_fault : Layout → Placed → Option FaultKind
 reference_fault l p = value_fault l p p.statement.operands.value
 
 -- the fault of a statement, if there is one, or that of those behind it (own)
-abbrev pub at_span : Span → Option FaultKind → Option Fault → Option Fault
-at_span span (Some k) rest = Some (record { span = span; kind = k })
-at_span span None rest = rest
+abbrev pub at_span : Span → Extent → Option FaultKind → Option Fault → Option Fault
+at_span span place (Some k) rest = Some (record { span = span; place = place; kind = k })
+at_span span place None rest = rest
 
 -- the first fault of statements when all labels are known (own)
 abbrev pub second_pass : Layout → List Placed → Option Fault
 second_pass l [] = None
-second_pass l (p ∷ ps) = at_span p.span (reference_fault l p) (second_pass l ps)
+second_pass l (p ∷ ps) = at_span p.span p.last (reference_fault l p) (second_pass l ps)
 
 -- ---- the image
 

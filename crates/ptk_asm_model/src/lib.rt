@@ -13,7 +13,7 @@ mod statement;
 mod token;
 
 pub use fault::{FaultKind, LineFault};
-pub use place::{Lengths, Place, Span};
+pub use place::{Extent, Lengths, Place, Span};
 pub use rows::{
     doubled_label, hello_source, li_4095, load_address, lone_dash, misplaced_word, missing_operand,
     operand_out_of_range, unknown_label, unknown_label_after,

@@ -13,6 +13,15 @@ pub struct Span {
     pub end: usize,
 }
 
+/// Bytes of a line.
+#[derive(Clone, Copy, Debug, PartialEq, Eq)]
+pub struct Extent {
+    /// The first one, counted from the line's beginning.
+    pub from: usize,
+    /// The one after the last.
+    pub to: usize,
+}
+
 /// A place in the image.
 #[derive(Clone, Copy, Debug, PartialEq, Eq)]
 pub struct Place {

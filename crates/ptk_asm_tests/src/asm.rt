@@ -189,10 +189,12 @@ fn line_endings(rt: HostRuntime) -> Result<(), Fail> {
 }
 
 /// Sources, and the line, the bytes and the number of their fault: of tokens, of statements, of labels.
-const FAULTS: [(&str, usize, usize, usize, u8); 25] = [
+const FAULTS: [(&str, usize, usize, usize, u8); 27] = [
     ("nop\n  addi a0, a0, 0x", 2, 19, 21, 1),
     ("foo - 1", 1, 4, 5, 1),
     ("nop \u{20ac} # \u{20ac}", 1, 4, 7, 1),
+    ("nop \u{fffd}", 1, 4, 7, 1),
+    ("li a0, 1\u{7ff}", 1, 8, 10, 1),
     ("mv a0 a1", 1, 6, 8, 1),
     ("mv a0,  # b", 1, 8, 8, 1),
     ("mv a0\r\n", 1, 5, 5, 1),
@@ -233,6 +235,7 @@ fn sections_of_the_greatest_size(rt: HostRuntime) -> Result<(), Fail> {
     )?;
     assert_eq!(rt; image.data().len(), 1_048_576);
     assert_eq!(rt; image.bss(), 1_048_576);
+    assert_eq!(rt; write_image(alloc, &image)?.len(), 24 + 1_048_576);
     check_fault(&rt, alloc, ".data\n.space 1048576\n.byte 1", 3, 21, 26, 4);
     check_fault(&rt, alloc, ".bss\n.space 1048575\n.space 2", 3, 20, 26, 4);
     Ok(())

@@ -2,6 +2,7 @@
 
 ghost use Rattle.std.specs.Prelude.{◌≡◌};
 ghost use Rattle.ptk_asm_model.specs.Tokens as is;
+ghost use Rattle.ptk_asm_model.specs.Places as places;
 
 /// A blank or a tab.
 #[tactic(auto, unfolding(ptk_asm_model::specs::Tokens::is_blank))]
@@ -33,4 +34,12 @@ pub(crate) fn is_mark(c: u8) -> bool
     ensures { result ≡ is.is_mark c }
 {
     c == b',' || c == b'(' || c == b')' || c == b':'
+}
+
+/// A byte of a character that is not its first, by UTF-8.
+#[tactic(auto, unfolding(ptk_asm_model::specs::Places::is_continuation))]
+pub(crate) fn is_continuation(c: u8) -> bool
+    ensures { result ≡ places.is_continuation c }
+{
+    0x80 <= c && c <= 0xbf
 }

@@ -3,20 +3,23 @@
 ghost use Rattle.std.specs.Prelude.{◌||◌, ◌==◌, ◌≡◌, ◌<◌, ◌≤◌, ◌+◌, [], ◌∷◌, length, Some, option_map, IfSome, IfNone, IfOk, IfErr};
 ghost use Rattle.std.specs.List.{list_all};
 ghost use Rattle.ptk_asm_model.specs.Tokens as is;
-ghost use Rattle.ptk_asm_model.specs.Reading.{view, views, token_fault, Refuses};
+ghost use Rattle.ptk_asm_model.specs.Places as places;
+ghost use Rattle.ptk_asm_model.specs.Reading.{view, views, spots, token_fault, Refuses, IsPlaced};
 ghost use Rattle.ptk_asm_text.specs.Scanning.{after_blanks, run_len};
 
-use crate::characters::{is_blank, is_first, is_mark, is_run};
+use crate::characters::{is_blank, is_continuation, is_first, is_mark, is_run};
 use ptk_asm_model::{FaultKind, LineFault, Spanned, Token};
 use ptk_asm_numbers::is_number;
 use std::alloc::Global;
 
-/// The tokens of a line without its ending and its comment, each with its place. The error is the first piece that is no
-/// token of the language, a character outside it whole (`Token`), or want of memory.
-#[tactic(auto, using(crate::proofs::TokenList::joined_none, crate::proofs::TokenList::spanned_push, crate::proofs::TokenList::spanned_stop, crate::proofs::TokenList::token_end))]
+/// The tokens of a line without its ending and its comment, each with its bytes in the line. The error is the first piece
+/// that is no token of the language (`Token`), with its bytes, those of a character outside it whole, or out of memory.
+#[tactic(auto, using(crate::proofs::TokenList::joined_none, crate::proofs::TokenList::spanned_push, crate::proofs::TokenList::spanned_stop, crate::proofs::TokenList::token_end, crate::proofs::PlaceList::place_rules))]
 pub fn tokens_of(alloc: Global, line: &[u8]) -> Result<Vec<Spanned<'_>>, LineFault>
     ensures ok { IfOk result (λ v. is.tokens_of line.now ≡ Some (views v.items)) }
+    ensures spots { IfOk result (λ v. spots v.items ≡ places.places_of line.now) }
     ensures err { IfErr result (λ e. Refuses e.kind (token_fault line.now)) }
+    ensures placed { IfErr result (λ e. IsPlaced e.kind e (places.wrong_place line.now)) }
 {
     let mut tokens = Vec::new(alloc);
     let mut rest = line;
@@ -26,7 +29,7 @@ pub fn tokens_of(alloc: Global, line: &[u8]) -> Result<Vec<Spanned<'_>>, LineFau
         let Some(token) = token_of(piece) else {
             return Err(LineFault {
                 from,
-                to: to + character_rest(after),
+                to: line.len() - skip_character(after).len(),
                 kind: FaultKind::Token,
             });
         };
@@ -36,13 +39,18 @@ pub fn tokens_of(alloc: Global, line: &[u8]) -> Result<Vec<Spanned<'_>>, LineFau
     Ok(tokens)
 }
 
-/// How many bytes at the front belong to a character that began before them, by UTF-8.
-fn character_rest(line: &[u8]) -> usize
-    ensures { result ≤ length line.now }
+/// The line without the bytes at its front that belong to a character that began before them, by UTF-8.
+fn skip_character(line: &[u8]) -> &[u8]
+    ensures value { result.now ≡ places.behind_character line.now }
+    ensures shorter { length result.now ≤ length line.now }
 {
-    line.iter()
-        .take_while(|c| **c >= 0x80 && **c < 0xc0)
-        .count()
+    let mut rest = line;
+    while let [c, after @ ..] = rest
+        && is_continuation(*c)
+    {
+        rest = after;
+    }
+    rest
 }
 
 /// A character of names and numbers, or `-`.
@@ -84,6 +92,7 @@ fn run_length(line: &[u8]) -> usize
 fn next_piece(line: &[u8]) -> Option<(&[u8], &[u8])>
     ensures none { IfNone result (is.pieces line.now ≡ []) }
     ensures some { IfSome result (λ x. is.pieces line.now ≡ x.0.now ∷ is.pieces x.1.now) }
+    ensures behind { IfSome result (λ x. places.behind_pieces line.now ≡ x.1.now ∷ places.behind_pieces x.1.now) }
     ensures shorter { IfSome result (λ x. length x.0.now + length x.1.now ≤ length line.now) }
     ensures filled { IfSome result (λ x. 0 < length x.0.now) }
 {
