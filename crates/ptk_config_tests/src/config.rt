@@ -87,6 +87,22 @@ fn reads_the_document(rt: HostRuntime) -> Result<(), Fail> {
     Ok(())
 }
 
+/// A comment of 64 bytes.
+const COMMENT: &str = "# a line that says nothing of any section and of no window ....\n";
+
+#[test]
+fn reads_a_long_document(rt: HostRuntime) -> Result<(), Fail> {
+    let alloc = rt.alloc();
+    let mut text = good(alloc)?;
+    for _ in 0..400u32 {
+        text.push_str(COMMENT)?;
+    }
+    assert!(rt; text.len() > 25_600);
+    let config = read_config(alloc, text.as_str())?;
+    assert!(rt; is_document(&config));
+    Ok(())
+}
+
 #[test]
 fn reads_input(rt: HostRuntime) -> Result<(), Fail> {
     let alloc = rt.alloc();

@@ -315,7 +315,12 @@ fn too_many_bytes(rt: HostRuntime) -> Result<(), Fail> {
 }
 
 /// Texts of the good document, what stands for them, and the line then.
-const WINDOW_LINES: [(&str, &str, &str); 9] = [
+const WINDOW_LINES: [(&str, &str, &str); 10] = [
+    (
+        "length = 18\npartition = \"q\"\n",
+        "length = 18\npartition = \"q\"\n[[window]]\nstart = 8\nlength = 16\npartition = \"p\"\n",
+        "window 1: has a tick in common with window 3\n",
+    ),
     (
         "start = 16",
         "start = -1",

@@ -17,7 +17,7 @@ fn told(alloc: Global, fault: &Fault) -> Result<(u8, Vec<u8>), Fail> {
 /// Faults with their line and status.
 const LINES: [(Fault<'static>, &str, u8); 10] = [
     (Fault::Config(4), "ptk: config fault 4\n", 1),
-    (Fault::ConfigWindow(5), "ptk: config fault 7 window 5\n", 1),
+    (Fault::ConfigWindow(2), "ptk: config fault 7 window 2\n", 1),
     (Fault::Asm(2, 4), "ptk: asm line 2 fault 4\n", 1),
     (Fault::Image("p.img", 3), "ptk: image p.img fault 3\n", 1),
     (

@@ -278,3 +278,15 @@ pub const GET_TWO: [u32; 39] = [
     0x00000513, // li a0, 0
     0x00000073, // ecall
 ];
+
+/// Puts `x` 8192 times and exits with 0.
+pub const PUTS_8192: [u32; 14] = [
+    0x494b5450, 0x00000001, 0x00000000, 0x00000020, 0x00000000, 0x00000000, 0x000022b7, // lui t0, 2
+    0x00100893, // li a7, 1
+    0x07800513, // li a0, 120
+    0x00000073, // ecall
+    0xfff28293, // addi t0, t0, -1
+    0xfe029ae3, // bne t0, zero, -12
+    0x00000893, // li a7, 0
+    0x00000073, // ecall
+];

@@ -564,6 +564,39 @@ fn each_row_is_reported(rt: HostRuntime) {
     assert_eq!(rt; first_wrong_report(rt.alloc(), &REPORTS), None);
 }
 
+// A section with room for 8192 bytes of output, alone in a frame that its run does not end.
+const LONG_OUTPUT: [&str; 4] = [
+    "frame = 100000\n",
+    P,
+    "memory = 4096\nthreads = 4\nstack = 256\nmutexes = 4\nconds = 4\nkeys = 4\ninterval = 100\nring = 16\noutput = 8192\ntrace = 16\n",
+    "[[window]]\nstart = 0\nlength = 100000\npartition = \"p\"\n",
+];
+
+// The report of the guest that puts 8192 bytes: its steps are 2, 4 for each byte, and 2.
+fn long_report(alloc: Global) -> Result<String, AllocError> {
+    let mut text = String::from_str(
+        alloc,
+        "partition p exit 0 steps 32772 lost 0\noutput 8192\n",
+    )?;
+    for _ in 0..8192u32 {
+        text.push_str("x")?;
+    }
+    text.push_str("\n")?;
+    Ok(text)
+}
+
+// Whether the guest that puts 8192 bytes has its report once it has exited, at tick 57351.
+fn is_long_report(alloc: Global) -> Result<bool, AllocError> {
+    let want = long_report(alloc)?;
+    let got = report(alloc, &LONG_OUTPUT, &rows::PUTS_8192, &[], 60_000);
+    Ok(is_some_text(got, want.as_str()))
+}
+
+#[test]
+fn a_long_output_is_reported_whole(rt: HostRuntime) {
+    assert_eq!(rt; is_long_report(rt.alloc()), Ok(true));
+}
+
 #[test]
 fn traces_are_the_last_steps(rt: HostRuntime) {
     assert_eq!(rt; first_wrong_trace(rt.alloc(), &TRACES), None);

@@ -7,7 +7,7 @@ ghost use Rattle.ptk_words.specs.declared.TheConstants.{LAST_TICK};
 ghost use Rattle.ptk_words_model.specs.Text.{trace_text};
 ghost use Rattle.ptk_system.specs.Missing.{first_missing};
 ghost use Rattle.ptk_system.specs.Shown.{report_of};
-ghost use Rattle.ptk_system.specs.World.{state_of};
+ghost use Rattle.ptk_system.specs.World.{state_of, world_at};
 ghost use Rattle.ptk_main_runs.specs.declared.runs.RunFault.TheVariants.{NoPartition};
 ghost use Rattle.ptk_main_runs.specs.RunFaults.{missing_in_run};
 ghost use Rattle.ptk_main_runs.specs.Parts.{part_named};
@@ -34,7 +34,7 @@ pub enum RunFault {
 }
 
 /// Boots the system of a configuration, runs it for so many ticks, at most 2^40, and writes its report. A fault where
-/// the system does not boot or the writer fails.
+/// the system does not boot, with the writer as it was, or where the writer fails.
 pub fn run_with<W: Write>(
     alloc: Global,
     config: &Config,
@@ -44,11 +44,12 @@ pub fn run_with<W: Write>(
 ) -> Result<(), RunFault>
     requires { ticks ≤ LAST_TICK }
     ensures report { OnOk result (Appends (W.contents out.old) (W.contents out.new)
-        (report_of (record { config = config.now; files = files.now; tick = ticks }))) }
+        (report_of (world_at config.now files.now ticks))) }
     ensures missing { MatchResult result
         (λ _. first_missing files.now config.now.sections ≡ None)
         (λ fault. first_missing files.now config.now.sections ≡ missing_in_run fault) }
     ensures no_name { IfErr result (λ fault. fault ≢ NoPartition) }
+    ensures silent { IfErr result (λ fault. fault ≢ RunFault.Write → out.new ≡ out.old) }
 {
     match system_at(alloc, config, files, ticks) {
         Ok(system) => match system.report(out) {
@@ -60,7 +61,7 @@ pub fn run_with<W: Write>(
 }
 
 /// The same, with the trace of the partition of this name in place of the report. That there is such a partition is tested
-/// before the system is booted.
+/// before the system is booted; where there is none the writer is as it was.
 pub fn trace_with<W: Write>(
     alloc: Global,
     config: &Config,
@@ -71,13 +72,14 @@ pub fn trace_with<W: Write>(
 ) -> Result<(), RunFault>
     requires { ticks ≤ LAST_TICK }
     ensures trace { OnOk result ((p : ℕ) → part_named config.now name.now ≡ Some p → Appends (W.contents out.old) (W.contents out.new)
-        (trace_text (state_of (record { config = config.now; files = files.now; tick = ticks }) p).account.trace)) }
+        (trace_text (state_of (world_at config.now files.now ticks) p).account.trace)) }
     ensures known { OnOk result (IsSome (part_named config.now name.now)) }
     ensures unknown { IfErr result (λ fault. fault ≡ NoPartition → part_named config.now name.now ≡ None) }
     ensures first { IfErr result (λ fault. part_named config.now name.now ≡ None → fault ≡ NoPartition) }
     ensures missing { MatchResult result
         (λ _. first_missing files.now config.now.sections ≡ None)
         (λ fault. fault ≢ NoPartition → first_missing files.now config.now.sections ≡ missing_in_run fault) }
+    ensures silent { IfErr result (λ fault. fault ≢ RunFault.Write → out.new ≡ out.old) }
 {
     match part_named(config, name) {
         Some(p) => traced(alloc, config, files, ticks, p, out),
@@ -116,11 +118,12 @@ fn traced<W: Write>(
     requires ticks { ticks ≤ LAST_TICK }
     requires partition { p < length config.now.sections }
     ensures trace { OnOk result (Appends (W.contents out.old) (W.contents out.new)
-        (trace_text (state_of (record { config = config.now; files = files.now; tick = ticks }) p).account.trace)) }
+        (trace_text (state_of (world_at config.now files.now ticks) p).account.trace)) }
     ensures known { IfErr result (λ fault. fault ≢ NoPartition) }
     ensures missing { MatchResult result
         (λ _. first_missing files.now config.now.sections ≡ None)
         (λ fault. first_missing files.now config.now.sections ≡ missing_in_run fault) }
+    ensures silent { IfErr result (λ fault. fault ≢ RunFault.Write → out.new ≡ out.old) }
 {
     match system_at(alloc, config, files, ticks) {
         Ok(system) => match system.trace(p).lines(out) {
@@ -139,7 +142,7 @@ fn system_at<'a>(
     ticks: Tick,
 ) -> Result<System<'a>, RunFault>
     requires { ticks ≤ LAST_TICK }
-    ensures reached { IfOk result (λ system. system ≡ record { config = config.now; files = files.now; tick = ticks }) }
+    ensures reached { IfOk result (λ system. system ≡ world_at config.now files.now ticks) }
     ensures known { IfErr result (λ fault. fault ≢ NoPartition) }
     ensures missing { MatchResult result
         (λ _. first_missing files.now config.now.sections ≡ None)
