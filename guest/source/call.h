@@ -2,6 +2,8 @@
 #ifndef CALL_H
 #define CALL_H
 
+#include "numbers.h"
+
 enum call_number {
     CALL_EXIT = 0,
     CALL_CONSOLE_PUT = 1,
@@ -42,9 +44,9 @@ enum call_number {
     CALL_GETSPECIFIC = 53,
 };
 
-/* What a call answers. */
+/* What a call returns. */
 struct reply {
-    int error;           /* 0, or the number of an error */
+    int error;           /* 0, or the number of an error, as <errno.h> of the library at hand has it */
     unsigned int first;  /* the values, where there is no error; else as they were */
     unsigned int second;
 };
@@ -59,7 +61,18 @@ static inline struct reply call(enum call_number number, unsigned int a0, unsign
     register unsigned int in_a3 __asm__("a3") = a3;
     register unsigned int in_a7 __asm__("a7") = number;
     __asm__ volatile("ecall" : "+r"(in_a0), "+r"(in_a1), "+r"(in_a2) : "r"(in_a3), "r"(in_a7) : "memory");
-    return (struct reply){(int)in_a0, in_a1, in_a2};
+    return (struct reply){in_a0 == 0 ? 0 : error_number(in_a0), in_a1, in_a2};
+}
+
+/* Makes a call that names no argument but a0. */
+static inline struct reply call_with(enum call_number number, unsigned int a0)
+{
+    register unsigned int in_a0 __asm__("a0") = a0;
+    register unsigned int out_a1 __asm__("a1");
+    register unsigned int out_a2 __asm__("a2");
+    register unsigned int in_a7 __asm__("a7") = number;
+    __asm__ volatile("ecall" : "+r"(in_a0), "=r"(out_a1), "=r"(out_a2) : "r"(in_a7) : "memory");
+    return (struct reply){in_a0 == 0 ? 0 : error_number(in_a0), out_a1, out_a2};
 }
 
 #endif

@@ -6,13 +6,13 @@
 
 int pthread_cancel(pthread_t thread)
 {
-    return call(CALL_CANCEL, thread, 0, 0, 0).error;
+    return call_with(CALL_CANCEL, thread).error;
 }
 
 /* Makes a call whose value is the old setting, and stores that at *old where it is not NULL. */
 static int change(enum call_number number, int setting, int *old)
 {
-    struct reply reply = call(number, (unsigned int)setting, 0, 0, 0);
+    struct reply reply = call_with(number, (unsigned int)setting);
     if (reply.error == 0 && old != NULL) {
         *old = (int)reply.first;
     }
@@ -31,7 +31,7 @@ int pthread_setcanceltype(int type, int *old)
 
 void pthread_testcancel(void)
 {
-    call(CALL_TESTCANCEL, 0, 0, 0, 0);
+    call_with(CALL_TESTCANCEL, 0);
 }
 
 void push_cleanup_handler(void (*routine)(void *), void *argument)
@@ -43,7 +43,7 @@ void push_cleanup_handler(void (*routine)(void *), void *argument)
 
 void pop_cleanup_handler(int execute)
 {
-    struct reply reply = call(CALL_CLEANUP_POP, 0, 0, 0, 0);
+    struct reply reply = call_with(CALL_CLEANUP_POP, 0);
     if (reply.error != 0) {
         abort();
     }

@@ -6,7 +6,7 @@
 
 int clock_gettime(clockid_t clock, struct timespec *time)
 {
-    int error = call(CALL_CLOCK_GETTIME, (unsigned int)clock, (uintptr_t)time, 0, 0).error;
+    int error = call(CALL_CLOCK_GETTIME, clock_number(clock), (uintptr_t)time, 0, 0).error;
     if (error != 0) {
         errno = error;
         return -1;
@@ -20,5 +20,5 @@ int clock_nanosleep(clockid_t clock, int flags, const struct timespec *time, str
     if (flags != TIMER_ABSTIME) {
         return ENOTSUP;
     }
-    return call(CALL_CLOCK_NANOSLEEP, (unsigned int)clock, (uintptr_t)time, 0, 0).error;
+    return call(CALL_CLOCK_NANOSLEEP, clock_number(clock), (uintptr_t)time, 0, 0).error;
 }

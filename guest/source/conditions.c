@@ -6,12 +6,12 @@
 int pthread_cond_init(pthread_cond_t *restrict condition, const pthread_condattr_t *restrict attributes)
 {
     (void)attributes;
-    return call(CALL_COND_INIT, (uintptr_t)condition, 0, 0, 0).error;
+    return call_with(CALL_COND_INIT, (uintptr_t)condition).error;
 }
 
 int pthread_cond_destroy(pthread_cond_t *condition)
 {
-    return call(CALL_COND_DESTROY, (uintptr_t)condition, 0, 0, 0).error;
+    return call_with(CALL_COND_DESTROY, (uintptr_t)condition).error;
 }
 
 int pthread_cond_wait(pthread_cond_t *restrict condition, pthread_mutex_t *restrict mutex)
@@ -27,12 +27,12 @@ int pthread_cond_timedwait(pthread_cond_t *restrict condition, pthread_mutex_t *
 
 int pthread_cond_signal(pthread_cond_t *condition)
 {
-    return call(CALL_COND_SIGNAL, (uintptr_t)condition, 0, 0, 0).error;
+    return call_with(CALL_COND_SIGNAL, (uintptr_t)condition).error;
 }
 
 int pthread_cond_broadcast(pthread_cond_t *condition)
 {
-    return call(CALL_COND_BROADCAST, (uintptr_t)condition, 0, 0, 0).error;
+    return call_with(CALL_COND_BROADCAST, (uintptr_t)condition).error;
 }
 
 int pthread_condattr_init(pthread_condattr_t *attributes)

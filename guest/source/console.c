@@ -6,12 +6,12 @@
 
 int console_put(int byte)
 {
-    return call(CALL_CONSOLE_PUT, (unsigned int)byte, 0, 0, 0).error;
+    return call_with(CALL_CONSOLE_PUT, (unsigned int)byte).error;
 }
 
 int console_get(unsigned char *byte)
 {
-    struct reply reply = call(CALL_CONSOLE_GET, 0, 0, 0, 0);
+    struct reply reply = call_with(CALL_CONSOLE_GET, 0);
     if (reply.error == 0) {
         *byte = (unsigned char)reply.first;
     }

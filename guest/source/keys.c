@@ -5,7 +5,7 @@
 
 int pthread_key_create(pthread_key_t *key, void (*destructor)(void *))
 {
-    struct reply reply = call(CALL_KEY_CREATE, (uintptr_t)destructor, 0, 0, 0);
+    struct reply reply = call_with(CALL_KEY_CREATE, (uintptr_t)destructor);
     if (reply.error == 0) {
         *key = reply.first;
     }
@@ -14,7 +14,7 @@ int pthread_key_create(pthread_key_t *key, void (*destructor)(void *))
 
 int pthread_key_delete(pthread_key_t key)
 {
-    return call(CALL_KEY_DELETE, key, 0, 0, 0).error;
+    return call_with(CALL_KEY_DELETE, key).error;
 }
 
 int pthread_setspecific(pthread_key_t key, const void *value)
@@ -24,5 +24,5 @@ int pthread_setspecific(pthread_key_t key, const void *value)
 
 void *pthread_getspecific(pthread_key_t key)
 {
-    return (void *)call(CALL_GETSPECIFIC, key, 0, 0, 0).first;
+    return (void *)call_with(CALL_GETSPECIFIC, key).first;
 }

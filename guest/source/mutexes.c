@@ -21,17 +21,17 @@ int pthread_mutex_init(pthread_mutex_t *restrict mutex, const pthread_mutexattr_
 
 int pthread_mutex_destroy(pthread_mutex_t *mutex)
 {
-    return call(CALL_MUTEX_DESTROY, (uintptr_t)mutex, 0, 0, 0).error;
+    return call_with(CALL_MUTEX_DESTROY, (uintptr_t)mutex).error;
 }
 
 int pthread_mutex_lock(pthread_mutex_t *mutex)
 {
-    return call(CALL_MUTEX_LOCK, (uintptr_t)mutex, 0, 0, 0).error;
+    return call_with(CALL_MUTEX_LOCK, (uintptr_t)mutex).error;
 }
 
 int pthread_mutex_trylock(pthread_mutex_t *mutex)
 {
-    return call(CALL_MUTEX_TRYLOCK, (uintptr_t)mutex, 0, 0, 0).error;
+    return call_with(CALL_MUTEX_TRYLOCK, (uintptr_t)mutex).error;
 }
 
 int pthread_mutex_timedlock(pthread_mutex_t *restrict mutex, const struct timespec *restrict deadline)
@@ -41,10 +41,10 @@ int pthread_mutex_timedlock(pthread_mutex_t *restrict mutex, const struct timesp
 
 int pthread_mutex_unlock(pthread_mutex_t *mutex)
 {
-    return call(CALL_MUTEX_UNLOCK, (uintptr_t)mutex, 0, 0, 0).error;
+    return call_with(CALL_MUTEX_UNLOCK, (uintptr_t)mutex).error;
 }
 
 int pthread_mutex_consistent(pthread_mutex_t *mutex)
 {
-    return call(CALL_MUTEX_CONSISTENT, (uintptr_t)mutex, 0, 0, 0).error;
+    return call_with(CALL_MUTEX_CONSISTENT, (uintptr_t)mutex).error;
 }

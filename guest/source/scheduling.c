@@ -7,7 +7,7 @@
 
 int sched_yield(void)
 {
-    return call(CALL_YIELD, 0, 0, 0, 0).error;
+    return call_with(CALL_YIELD, 0).error;
 }
 
 int pthread_setschedparam(pthread_t thread, int policy, const struct sched_param *parameters)
@@ -17,7 +17,7 @@ int pthread_setschedparam(pthread_t thread, int policy, const struct sched_param
 
 int pthread_getschedparam(pthread_t thread, int *restrict policy, struct sched_param *restrict parameters)
 {
-    struct reply reply = call(CALL_GETSCHEDPARAM, thread, 0, 0, 0);
+    struct reply reply = call_with(CALL_GETSCHEDPARAM, thread);
     if (reply.error == 0) {
         *policy = (int)reply.first;
         parameters->sched_priority = (int)reply.second;
@@ -30,7 +30,7 @@ int pthread_setschedprio(pthread_t thread, int priority)
     return call(CALL_SETSCHEDPRIO, thread, (unsigned int)priority, 0, 0).error;
 }
 
-/* Answers a bound of priorities where there is such a policy; -1 and errno else. */
+/* Returns a bound of priorities where there is such a policy; -1 and errno else. */
 static int bound_of(int policy, int bound)
 {
     if (!is_policy(policy)) {

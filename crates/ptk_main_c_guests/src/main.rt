@@ -1,8 +1,8 @@
-//! The guests in C of `guest/tests`, run from their stored images, so that no compiler is needed: of each a heading with
-//! its name, and its report. `data/` has for each its configuration, `NAME.toml`, and its image, `NAME.img`; the gate
-//! compares what is printed with `stdout`, the stored reports. Nothing is promised here: that a report is the one of the
-//! booted configuration `run_with` of `ptk_main_runs` promises, which stands below with the configuration
-//! (`ptk_config`); nothing stands above.
+//! The guests in C and C++ of `guest/tests`, run from their stored images, so that no compiler is needed: of each a
+//! heading with its name, and its report. `data/` has for each its configuration, `NAME.toml`, and its image,
+//! `NAME.img`; the gate compares what is printed with `stdout`, the stored reports. Nothing is promised here: that a
+//! report is the one of the booted configuration `run_with` of `ptk_main_runs` promises, which stands below with the
+//! configuration (`ptk_config`); nothing stands above.
 #![tactic(auto)]
 
 ghost use Rattle.std.specs.Prelude.{◌≤◌};
@@ -15,26 +15,52 @@ use ptk_words::{LAST_TICK, Tick};
 use std::fs;
 
 /// The guests, by the names of their files.
-const GUESTS: [&str; 15] = [
+const GUESTS: [&str; 41] = [
     "abort",
     "arithmetic",
+    "assertion",
+    "atomics-own",
+    "atomics-picolibc",
     "attributes",
+    "beginning-own",
+    "beginning-picolibc",
     "cancellation",
     "cleanup",
     "clocks",
     "conditions",
     "console",
+    "cplusplus-own",
+    "cplusplus-picolibc",
+    "floats",
+    "formats",
+    "heap",
+    "heap_threads-own",
+    "heap_threads-picolibc",
+    "interpreter",
+    "jumps",
     "keys",
+    "lines-own",
+    "lines-picolibc",
+    "locks",
     "mutexes",
+    "no_mutexes-own",
+    "no_mutexes-picolibc",
+    "numbers",
     "protocols",
     "robust",
     "scheduling",
+    "stack_needs-own",
+    "stack_needs-picolibc",
+    "streams",
+    "strings",
     "text",
+    "thread_local-own",
+    "thread_local-picolibc",
     "threads",
 ];
 
 /// Each guest ends before this tick.
-const TICKS: u64 = 1_000_000;
+const TICKS: u64 = 10_000_000;
 
 fn main(rt: HostRuntime) -> Result<()> {
     for name in GUESTS {
