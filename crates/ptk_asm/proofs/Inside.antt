@@ -8,7 +8,7 @@ use Rattle.ptk_asm_model.specs.Tokens.{Token, pieces, token, tokens_of}
 use Rattle.ptk_asm_model.specs.Places.{behind_pieces, extent_of, extents_of, places_of, is_continuation, behind_character, whole_extent, first_wrong, wrong_place, nowhere, end_at, place_at, last_place}
 use Rattle.ptk_asm_model.specs.Source.{tokens_place, line_place, last_of, labels_after, place_after, fault_index}
 
--- the bytes lie among so many
+-- the bytes lie within a length
 pub record IsInside (x : Extent) (n : ℕ) : Type 0 where
   pub ordered : x.from ≤ x.to
   pub within : x.to ≤ n

@@ -78,5 +78,5 @@ pub wrong_stop : (line rest after piece : List ℕ) → pieces rest ≡ piece �
     → first_wrong line (pieces rest) (behind_pieces rest) ≡ whole_extent line piece after
 wrong_stop line rest after piece e f g = rw (e, f, ← g) refl
 
--- what a piece more comes to
+-- what one more piece gives
 pub ruleset place_rules = (places_push, places_end, wrong_pass, wrong_stop)
