@@ -7,9 +7,9 @@
 //! next expiry, as the model orders them. `ThreadDeadlines` stands on that vector: the deadlines of all partitions'
 //! threads by partition and thread number, and each partition's least one kept beside. All have room for all slots from
 //! the start, so that no call but a constructor takes memory. That room, that a place found is the pair's place in the
-//! order, and that one partition's change leaves the others' deadlines, are dear to prove (`proofs/Rooms`,
-//! `proofs/Places`, `proofs/ByThread`). Below stand `ptk_words`, `ptk_words_parted`, the order of expiries of
-//! `ptk_words_model` and `ptk_words_locks`, and `ThreadSet` of `ptk_mutex_slots`; above, the gate's tables.
+//! order, and that one partition's change leaves the others' deadlines, are costly to prove (`proofs/Rooms`,
+//! `proofs/Places`, `proofs/ByThread`). Below stand `ptk_words`, `ptk_words_parted`, and the order of expiries of
+//! `ptk_words_model` and `ptk_words_locks`; above, the gate's tables.
 #![tactic(auto)]
 
 mod deadlines;

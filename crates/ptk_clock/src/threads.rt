@@ -5,14 +5,14 @@ ghost use Rattle.ptk_words.specs.Pools.{pool_set};
 ghost use Rattle.ptk_words_parted.specs.Parts.{part_of, filled};
 ghost use Rattle.ptk_words_locks.specs.Deadlines.{without_deadlines};
 ghost use Rattle.ptk_words_locks.specs.Expiries.{next_expiry, without_expiry};
-ghost use Rattle.ptk_mutex_slots.specs.Sets.{IsSetOf};
+ghost use Rattle.ptk_words_parted.specs.Sets.{IsSetOf};
 ghost use Rattle.ptk_clock.specs.BySlot.{deadlines_from};
 ghost use Rattle.ptk_clock.specs.ByThread.{least_deadline, is_reached, first_slot, laid_from, end_from, AreLaid, IsElsewhereSame, with_least};
 
 use crate::deadlines::Deadlines;
 use crate::shared::SharedDeadlines;
-use ptk_mutex_slots::ThreadSet;
 use ptk_words::{PartId, SlotNo, ThreadNo, Tick};
+use ptk_words_parted::ThreadSet;
 use std::alloc::{AllocError, Global};
 use std::marker::Model;
 

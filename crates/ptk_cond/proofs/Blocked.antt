@@ -10,7 +10,7 @@ use Rattle.ptk_words_model.specs.Mutex.{mutex_at, wait_of, waiters_of}
 use Rattle.ptk_words_model.specs.Condition.{condition_waiters}
 use Rattle.ptk_words_locks.specs.Conditions.{condition_of_wait}
 use Rattle.ptk_roster.specs.Rosters.{Rostered}
-use Rattle.ptk_mutex_slots.specs.Sets.{has, IsSetOf}
+use Rattle.ptk_words_parted.specs.Sets.{has, IsSetOf}
 use Rattle.ptk_mutex.specs.Sound.{syncs_at}
 use Rattle.ptk_cond.specs.Timeouts.{IsBlocked, is_out, is_queued, is_listed, is_blocked_in}
 use Rattle.ptk_cond.proofs.TimedOut.{awaits_by_wait}

@@ -18,7 +18,7 @@ use Rattle.ptk_words_locks.specs.Conditions.{waiters_on, HasRoom, IsNoWaiter}
 use Rattle.ptk_words_locks.proofs.Gathered.{waiter_used}
 use Rattle.ptk_threads.specs.Table.{ThreadTable, stored_of, with_changed, with_wait}
 use Rattle.ptk_threads.proofs.Pools.{pool_get-changed, pool_changed-changed, part_of-set}
-use Rattle.ptk_mutex_slots.specs.Sets.{IsSetOf}
+use Rattle.ptk_words_parted.specs.Sets.{IsSetOf}
 use Rattle.ptk_roster.specs.Rosters.{Rostered}
 use Rattle.ptk_roster.specs.Waiters.{condition_of}
 use Rattle.ptk_mutex.specs.Tables.{locks_at, with_threads, HasPart, MayWait, AreLocked, AreReady}

@@ -17,9 +17,9 @@ ghost use Rattle.ptk_cond.specs.Timeouts.{after_sync_timeout, mutex_locked, is_o
 use crate::kinds::{condition_awaited, is_sleep, mutex_awaited, mutex_locked};
 use crate::signals::withdraw;
 use ptk_mutex::Mutexes;
-use ptk_mutex_slots::ThreadSet;
 use ptk_roster::Roster;
 use ptk_words::{ConditionNo, Errno, MutexNo, PartId, ThreadNo, Wait};
+use ptk_words_parted::ThreadSet;
 
 /// The deadline of the thread's wait comes; a thread that is in no timed wait stays.
 #[tactic(auto, using(crate::proofs::Waits::waits))]

@@ -6,7 +6,7 @@ ghost use Rattle.ptk_words_parted.specs.Parts.{part_of};
 ghost use Rattle.ptk_words_model.specs.Mutex.{wait_of};
 ghost use Rattle.ptk_words_model.specs.Priority.{thread_at};
 ghost use Rattle.ptk_words_model.specs.Condition.{condition_waiters, mutex_named, after_unblock, after_unblock_for, after_signal, after_signal_to, after_broadcast};
-ghost use Rattle.ptk_mutex_slots.specs.Sets.{IsSetOf};
+ghost use Rattle.ptk_words_parted.specs.Sets.{IsSetOf};
 ghost use Rattle.ptk_mutex_rise.specs.Visits.{IsVisited};
 ghost use Rattle.ptk_mutex.specs.Sound.{IsSound};
 ghost use Rattle.ptk_mutex.specs.Tables.{with_threads};
@@ -15,9 +15,9 @@ ghost use Rattle.ptk_cond.specs.Visits.{IsVisitedBySignal};
 
 use crate::naming::mutex_named;
 use ptk_mutex::Mutexes;
-use ptk_mutex_slots::ThreadSet;
 use ptk_roster::Roster;
 use ptk_words::{ConditionNo, MutexNo, PartId, ThreadNo};
+use ptk_words_parted::ThreadSet;
 
 /// The waiter of greatest effective priority, the earliest among equals, is unblocked: it re-locks the mutex that it
 /// named, with reply 0 (pthread_cond_signal). Nothing changes without waiters. Returns the set of threads whose condition

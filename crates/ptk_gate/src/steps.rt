@@ -11,7 +11,7 @@ ghost use Rattle.ptk_words_model.specs.Decision.{after_arrivals, runner_of};
 ghost use Rattle.ptk_words_model.specs.Run.{is_active};
 ghost use Rattle.ptk_gate_pools.specs.Kept.{part_at, put_part, limits_at};
 ghost use Rattle.ptk_gate_steps.specs.Instructions.{after_instruction};
-ghost use Rattle.ptk_gate_steps.specs.NextSteps.{a0_kept, next_step_in};
+ghost use Rattle.ptk_gate_steps.specs.NextSteps.{a0_kept, cpu_of, next_step_in};
 ghost use Rattle.ptk_threads.specs.Registers.{with_pc};
 ghost use Rattle.ptk_words.specs.Words.{word_of};
 ghost use Rattle.ptk_words_model.specs.State.{with_locks};
@@ -19,7 +19,7 @@ ghost use Rattle.ptk_words_model.specs.State.{with_locks};
 use crate::tables::Tables;
 use ptk_gate_moves::{count_interval, start_unwinding};
 use ptk_gate_services::{arrive_due, expire_due};
-use ptk_gate_steps::{NextStep, a0_after, instruct, next_step, runner};
+use ptk_gate_steps::{NextStep, a0_after, instruct, next_step, registers, runner};
 use ptk_gate_threads::{choose, step_at_gate};
 use ptk_words::{CANCELED, Cpu, Entry, PartId, Thread, ThreadNo, Tick};
 use ptk_words_model::Runner;
@@ -73,6 +73,14 @@ impl Tables {
         ensures { result ≡ next_step_in (part_at p self.now) }
     {
         next_step(&self.pools.look(p))
+    }
+
+    /// The registers and pc of the thread of a number; 0 in all of them where the number is free.
+    pub fn registers(&self, p: PartId, t: ThreadNo) -> Cpu
+        requires partition { p < length self.now.limits }
+        ensures { result ≡ cpu_of (thread_at (part_at p self.now).locks t) }
+    {
+        registers(&self.pools.look(p), t)
     }
 
     /// The thread's a0 now, after a step; what it was before where the thread ended.

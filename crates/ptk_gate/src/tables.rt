@@ -1,6 +1,7 @@
 //! The tables.
 
-ghost use Rattle.std.specs.Prelude.{◌≡◌, ℕ, ◌<◌, ◌≤◌, length, map, nat_lt, All, IfOk};
+ghost use Rattle.std.specs.Prelude.{◌≡◌, ℕ, ◌+◌, ◌<◌, ◌≤◌, length, map, nat_lt, All, IfOk};
+ghost use Rattle.ptk_words.specs.declared.TheConstants.{THREAD_LIMIT};
 ghost use Rattle.ptk_words.specs.Ranges.{IsWithinLimits};
 ghost use Rattle.ptk_console.specs.ConsoleTable.{fresh_console};
 ghost use Rattle.ptk_gate_pools.specs.Blank.{blank};
@@ -75,8 +76,11 @@ impl Tables {
         self.pools.threads()
     }
 
-    /// How many stored priorities the last call on mutexes read as it raised some, of whatever partition.
-    pub fn visited(&self) -> u32 {
+    /// How many stored priorities the last call on mutexes read as it raised some, of whatever partition: at most one more
+    /// than a partition has threads.
+    pub fn visited(&self) -> u32
+        ensures { result ≤ THREAD_LIMIT + 1 }
+    {
         self.pools.visited()
     }
 

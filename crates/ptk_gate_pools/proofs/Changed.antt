@@ -12,7 +12,7 @@ use Rattle.ptk_words_locks.proofs.Deadlines.{deadline_at}
 use Rattle.ptk_words_parted.specs.Parts.{part_of}
 use Rattle.ptk_threads.specs.Table.{ThreadTable, thread_in, with_changed, with_slot, with_left}
 use Rattle.ptk_roster.specs.Rosters.{Rostered}
-use Rattle.ptk_mutex_slots.specs.Sets.{IsSetOf}
+use Rattle.ptk_words_parted.specs.Sets.{IsSetOf}
 use Rattle.ptk_mutex.specs.Tables.{with_threads}
 use Rattle.ptk_mutex.specs.declared.mutexes.Mutexes.{Mutexes}
 use Rattle.ptk_gate_pools.specs.declared.pools.Pools.TheInside.{Inside}

@@ -20,7 +20,7 @@ use Rattle.ptk_words_locks.proofs.DeadlineMoves.{deadlines-unblock, deadlines-si
 use Rattle.ptk_words_well.specs.Well.{IsWell}
 use Rattle.ptk_threads.specs.Table.{ThreadTable, thread_in}
 use Rattle.ptk_threads.proofs.Pools.{part_of-set}
-use Rattle.ptk_mutex_slots.specs.Sets.{IsSetOf}
+use Rattle.ptk_words_parted.specs.Sets.{IsSetOf}
 use Rattle.ptk_mutex.specs.Tables.{locks_at, with_threads}
 use Rattle.ptk_roster.specs.Waiters.{condition_of}
 use Rattle.ptk_cond.specs.Pool.{with_new_condition}

@@ -18,7 +18,7 @@ use Rattle.ptk_words_locks.specs.Deadlines.{without_deadlines, deadlines_after_m
 use Rattle.ptk_words_locks.proofs.Threads.{in_wait}
 use Rattle.ptk_words_locks.proofs.Deadlines.{deadline_at, changed_deadline, deadlines-kept, deadlines-unlock, deadlines-owner_end}
 use Rattle.ptk_threads.specs.Table.{ThreadTable, with_priority}
-use Rattle.ptk_mutex_slots.specs.Sets.{IsSetOf}
+use Rattle.ptk_words_parted.specs.Sets.{IsSetOf}
 use Rattle.ptk_mutex.specs.Tables.{locks_at, with_threads, MayWait}
 use Rattle.ptk_mutex.specs.Moves.{after_assignment}
 use Rattle.ptk_gate_pools.specs.Kept.{AreTimed}

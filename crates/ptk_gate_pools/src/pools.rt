@@ -1,6 +1,7 @@
 //! The tables.
 
-ghost use Rattle.std.specs.Prelude.{◌≡◌, ◌<◌, length};
+ghost use Rattle.std.specs.Prelude.{◌≡◌, ◌+◌, ◌<◌, ◌≤◌, length};
+ghost use Rattle.ptk_words.specs.declared.TheConstants.{THREAD_LIMIT};
 ghost use Rattle.ptk_gate_pools.specs.Kept.{AreStored, AreQueued};
 ghost use Rattle.ptk_gate_pools.specs.Held.{held, all_of};
 
@@ -89,8 +90,11 @@ impl Pools {
         self.roster.threads()
     }
 
-    /// How many stored priorities the last call on mutexes read as it raised some, of whatever partition.
-    pub fn visited(&self) -> u32 {
+    /// How many stored priorities the last call on mutexes read as it raised some, of whatever partition: at most one more
+    /// than a partition has threads.
+    pub fn visited(&self) -> u32
+        ensures { result ≤ THREAD_LIMIT + 1 }
+    {
         self.mutexes.visited()
     }
 

@@ -22,4 +22,4 @@ pub use instructions::instruct;
 pub use kinds::step_cost;
 pub use quiet_stops::{Quiet, quiet_until};
 pub use replies::make_reply;
-pub use turns::{NextStep, a0_after, next_step, runner};
+pub use turns::{NextStep, a0_after, next_step, registers, runner};

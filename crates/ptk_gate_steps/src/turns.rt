@@ -3,11 +3,11 @@
 ghost use Rattle.std.specs.Prelude.{◌≡◌};
 ghost use Rattle.ptk_words_model.specs.Decision.{runner_of};
 ghost use Rattle.ptk_words_model.specs.Priority.{thread_at};
-ghost use Rattle.ptk_gate_steps.specs.NextSteps.{a0_kept, next_step_in, next_step_of};
+ghost use Rattle.ptk_gate_steps.specs.NextSteps.{a0_kept, cpu_of, next_step_in, next_step_of};
 
 use crate::kinds::word_fetched;
 use ptk_gate_moves::{Look, is_ended, is_to_unwind};
-use ptk_words::{A0, A7, ECALL, RETURN_GATE, Thread, ThreadNo};
+use ptk_words::{A0, A7, Cpu, ECALL, RETURN_GATE, Thread, ThreadNo};
 use ptk_words_model::{Runner, StepKind};
 
 /// The next step of the running thread.
@@ -89,6 +89,16 @@ fn fetchless(thread: ThreadNo, kind: StepKind, pc: u32, a0: u32) -> NextStep
         pc,
         word: 0,
         a0,
+    }
+}
+
+/// The registers and pc of the thread of a number; 0 in all of them where the number is free.
+pub fn registers(look: &Look<'_>, t: ThreadNo) -> Cpu
+    ensures { result ≡ cpu_of (thread_at look.now.part.locks t) }
+{
+    match look.thread_ref(t) {
+        Some(thread) => thread.cpu,
+        None => Cpu::at(0),
     }
 }
 

@@ -22,7 +22,7 @@ use Rattle.ptk_gate.specs.Kept.{Kept, part_at, put_part, limits_at}
 use Rattle.ptk_gate.proofs.Ranks.{put_same}
 use Rattle.ptk_gate_steps.specs.declared.turns.NextStep.{NextStep}
 use Rattle.ptk_gate_steps.specs.Instructions.{after_instruction}
-use Rattle.ptk_gate_steps.specs.NextSteps.{a0_kept, next_step_in, next_step_of}
+use Rattle.ptk_gate_steps.specs.NextSteps.{a0_kept, cpu_of, next_step_in, next_step_of}
 use Rattle.ptk_gate.specs.Answers.{call_answer}
 use Rattle.ptk_gate.proofs.Passing.{passed_as}
 use Rattle.ptk_kernel.specs.StepParts.{counted, passed, stepped}
@@ -197,16 +197,20 @@ instruction_stepped limits tick next r s e runs kind word =
     effect_alone limits tick r.number cpu.pc (effect_at cpu s.memory) s (no_call_at cpu s.memory (subst (λ (n : ℕ). n < 2 ^ 32) fetched word) other)
     ∙ ap (λ (k : StepKind). after_step limits tick r k s) (sym kind)
 
--- the thread's number and registers are the runner's, and what its instruction leaves that is no ECALL is its step
-pub instruction_made : (p tick : ℕ) (next : NextStep) (x r : Runner) (old new : Kept) → next_step_in (part_at p old) ≡ Some next → next.kind ≡ InstructionStep → next.word < 2 ^ 32
-    → runner_of (part_at p old) ≡ Some x → runner_of (part_at p old) ≡ Some r
-    → new ≡ put_part p (after_instruction x.number x.thread.cpu.pc (effect_at x.thread.cpu (part_at p old).memory) (part_at p old)) old
+-- the registers that were read are the runner's, and what its instruction leaves that is no ECALL is its step
+pub instruction_made : (p tick : ℕ) (next : NextStep) (cpu : Processor) (r : Runner) (old new : Kept) → next_step_in (part_at p old) ≡ Some next → next.kind ≡ InstructionStep → next.word < 2 ^ 32
+    → cpu ≡ cpu_of (thread_at (part_at p old).locks next.thread) → runner_of (part_at p old) ≡ Some r
+    → new ≡ put_part p (after_instruction next.thread cpu.pc (effect_at cpu (part_at p old).memory) (part_at p old)) old
     → new ≡ put_part p (after_step (limits_at p old) tick r next.kind (part_at p old)) old
-instruction_made p tick next x r old new e kind word found runs moved =
+instruction_made p tick next cpu r old new e kind word read runs moved =
     let s : Part = part_at p old in
-    let same : x ≡ r = ap (λ (o : Option Runner). unwrap_or o x) (sym found ∙ runs) in
+    let number : next.thread ≡ r.number = ap (λ (n : NextStep). n.thread) (next_is s next r e runs) in
+    let found : thread_at s.locks r.number ≡ Some r.thread = runner_found s.running s r (runner_runs s r runs) runs in
+    let there : thread_at s.locks next.thread ≡ Some r.thread = ap (thread_at s.locks) number ∙ found in
+    let same : cpu ≡ r.thread.cpu = read ∙ ap cpu_of there in
     moved
-    ∙ ap (λ (y : Runner). put_part p (after_instruction y.number y.thread.cpu.pc (effect_at y.thread.cpu s.memory) s) old) same
+    ∙ ap (λ (t : ℕ). put_part p (after_instruction t cpu.pc (effect_at cpu s.memory) s) old) number
+    ∙ ap (λ (c : Processor). put_part p (after_instruction r.number c.pc (effect_at c s.memory) s) old) same
     ∙ ap (λ (q : Part). put_part p q old) (instruction_stepped (limits_at p old) tick next r s e runs kind word)
 
 -- the unwinding that begins is the step of its kind

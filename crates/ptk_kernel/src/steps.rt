@@ -87,10 +87,8 @@ fn instruct(tables: &mut Tables, p: PartId, next: NextStep)
     ensures { (r : Runner) → (tick : ℕ) → runner_of (part_at p tables.old) ≡ Some r →
         tables.new ≡ put_part p (after_step (limits_at p tables.old) tick r next.kind (part_at p tables.old)) tables.old }
 {
-    let runner = tables.runner(p);
-    if let Some(runner) = runner {
-        tables.instruct(p, runner.number, runner.thread.cpu);
-    }
+    let cpu = tables.registers(p, next.thread);
+    tables.instruct(p, next.thread, cpu);
 }
 
 /// The step is the last one, with what the thread is after it.

@@ -6,7 +6,7 @@ ghost use Rattle.ptk_words.specs.declared.mutexes.Soundness.TheVariants.{Inconsi
 ghost use Rattle.ptk_words_parted.specs.Parts.{part_of};
 ghost use Rattle.ptk_words_model.specs.Mutex.{heir, with_soundness, after_bequest, after_mutex_end, after_owner_end};
 ghost use Rattle.ptk_words_locks.specs.Deadlines.{woken_by_mutex_end, woken_by_owner_end};
-ghost use Rattle.ptk_mutex_slots.specs.Sets.{IsSetOf};
+ghost use Rattle.ptk_words_parted.specs.Sets.{IsSetOf};
 ghost use Rattle.ptk_mutex_slots.specs.Slots.{is_robust_at};
 ghost use Rattle.ptk_mutex.specs.Sound.{IsSound};
 ghost use Rattle.ptk_mutex.specs.Tables.{locks_at, with_threads, AreReady};
@@ -14,9 +14,10 @@ ghost use Rattle.ptk_mutex.specs.Tables.{locks_at, with_threads, AreReady};
 use crate::locking::is_owner;
 use crate::mutexes::Mutexes;
 use crate::unlocking::{alter, hand_over};
-use ptk_mutex_slots::{Change, ThreadSet, slot_in};
+use ptk_mutex_slots::{Change, slot_in};
 use ptk_roster::Roster;
 use ptk_words::{MutexNo, PartId, Soundness, ThreadNo};
+use ptk_words_parted::ThreadSet;
 
 impl Mutexes {
     /// Does to a thread's mutexes what the thread's end does, in ascending number: a robust one goes, inconsistent, to

@@ -27,5 +27,6 @@ mod unlocking;
 mod waking;
 
 pub use mutexes::Mutexes;
-pub use ptk_mutex_slots::{MutexSlot, MutexState, ThreadSet, effective, reply_of};
+pub use ptk_mutex_slots::{MutexSlot, MutexState, effective, reply_of};
+pub use ptk_words_parted::ThreadSet;
 pub use starting::build;

@@ -1,12 +1,13 @@
 //! The calls after which nobody is woken: lock, trylock, a running thread's re-lock, a change of a mutex, and a changed
 //! assigned priority.
 
-ghost use Rattle.std.specs.Prelude.{◌≡◌, ◌<◌, ◌≤◌, [], Some, None, length, slice_set};
+ghost use Rattle.std.specs.Prelude.{◌≡◌, ◌+◌, ◌<◌, ◌≤◌, [], Some, None, length, slice_set};
 ghost use Rattle.std.specs.List.{list_any};
 ghost use Rattle.ptk_words.specs.Pools.{pool_get};
 ghost use Rattle.ptk_words.specs.declared.TheConstants.{COUNT_LIMIT};
 ghost use Rattle.ptk_words.specs.declared.threads.Wait.TheVariants.{RelockWait};
 ghost use Rattle.ptk_words.specs.declared.mutexes.Soundness.TheVariants.{Consistent};
+ghost use Rattle.ptk_words.specs.declared.TheConstants.{THREAD_LIMIT};
 ghost use Rattle.ptk_words_parted.specs.Parts.{part_of};
 ghost use Rattle.ptk_words_model.specs.declared.LockMove.TheVariants.{Counts};
 ghost use Rattle.ptk_words_model.specs.State.{locks_of};
@@ -187,6 +188,7 @@ fn reassign(roster: &mut Roster, p: PartId, t: ThreadNo, priority: Priority) -> 
     ensures conditions { roster.new.conditions ≡ roster.old.conditions }
     ensures visited { assigned_of (part_of roster.old.table.threads p) t ≤ priority → IsVisited result (part_of roster.old.table.stored p) (part_of roster.new.table.stored p) }
     ensures fallen { priority < assigned_of (part_of roster.old.table.threads p) t → result ≡ 0 }
+    ensures few { result ≤ THREAD_LIMIT + 1 }
 {
     let before = assigned(roster.threads().part(p), t);
     roster.set_assigned_priority(p, t, priority);

@@ -1,7 +1,8 @@
 //! The state of the mutex calls, the life of numbers, and priorities that are all computed again.
 
-ghost use Rattle.std.specs.Prelude.{◌≡◌, ◌<◌, false, [], None, length, option_map, slice_set};
+ghost use Rattle.std.specs.Prelude.{◌≡◌, ◌+◌, ◌<◌, ◌≤◌, false, [], None, length, option_map, slice_set};
 ghost use Rattle.ptk_words.specs.Pools.{least_free, pool_get, pool_set};
+ghost use Rattle.ptk_words.specs.declared.TheConstants.{THREAD_LIMIT};
 ghost use Rattle.ptk_words_model.specs.Mutex.{new_mutex, waiters_of};
 ghost use Rattle.ptk_words_model.specs.MutexCalls.{is_locked};
 ghost use Rattle.ptk_words_model.specs.Priority.{effective_priorities};
@@ -20,6 +21,7 @@ use ptk_words::{MutexKind, MutexNo, PartId, Protocol, THREAD_LIMIT};
 pub struct Mutexes {
     /// How many stored priorities the walk of the last call read; 0 after one without a walk.
     pub(crate) visited: u32,
+    ghost few: { visited ≤ THREAD_LIMIT + 1 },
 }
 
 impl Mutexes {
@@ -33,7 +35,8 @@ impl Mutexes {
     /// How many stored priorities the walk of the last call read, of whatever partition: as many as rose, or one more; 0
     /// after one that computed all again or changed none.
     pub fn visited(&self) -> u32
-        ensures { result ≡ self.now.visited }
+        ensures value { result ≡ self.now.visited }
+        ensures few { result ≤ THREAD_LIMIT + 1 }
     {
         self.visited
     }

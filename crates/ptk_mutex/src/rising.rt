@@ -1,8 +1,9 @@
 //! The moves after which priorities only rise: each stores what its walk along the chain raises, and returns how many
 //! stored priorities that read.
 
-ghost use Rattle.std.specs.Prelude.{◌≡◌, ◌<◌, false, None, Some, length, IsSome, slice_set};
+ghost use Rattle.std.specs.Prelude.{◌≡◌, ◌≤◌, ◌+◌, ◌<◌, false, None, Some, length, IsSome, slice_set};
 ghost use Rattle.ptk_words.specs.Pools.{pool_get, is_in};
+ghost use Rattle.ptk_words.specs.declared.TheConstants.{THREAD_LIMIT};
 ghost use Rattle.ptk_words_parted.specs.Parts.{part_of};
 ghost use Rattle.ptk_words_model.specs.Priority.{awaited, mutex_of_wait};
 ghost use Rattle.ptk_words_model.specs.Mutex.{after_take, after_count, after_wait, after_move};
@@ -39,6 +40,7 @@ pub(crate) fn make(
     ensures mutexes { roster.new.mutexes ≡ slice_set roster.old.mutexes p (after_move made t m wait (locks_at p roster.old.table roster.old.lines roster.old.mutexes)).mutexes }
     ensures conditions { roster.new.conditions ≡ roster.old.conditions }
     ensures visited { IsVisited result (part_of roster.old.table.stored p) (part_of roster.new.table.stored p) }
+    ensures few { result ≤ THREAD_LIMIT + 1 }
 {
     match made {
         LockMove::Takes | LockMove::Recovers => take(roster, p, t, m),
@@ -59,6 +61,7 @@ fn take(roster: &mut Roster, p: PartId, t: ThreadNo, m: MutexNo) -> u32
     ensures mutexes { roster.new.mutexes ≡ slice_set roster.old.mutexes p (after_take t m (locks_at p roster.old.table roster.old.lines roster.old.mutexes)).mutexes }
     ensures conditions { roster.new.conditions ≡ roster.old.conditions }
     ensures visited { IsVisited result (part_of roster.old.table.stored p) (part_of roster.new.table.stored p) }
+    ensures few { result ≤ THREAD_LIMIT + 1 }
 {
     roster.change_mutex(p, m, Change::Take(t));
     raise(roster, p, Rise::Take(t, m))
@@ -73,6 +76,7 @@ fn count_up(roster: &mut Roster, p: PartId, m: MutexNo) -> u32
     ensures mutexes { roster.new.mutexes ≡ slice_set roster.old.mutexes p (after_count m (locks_at p roster.old.table roster.old.lines roster.old.mutexes)).mutexes }
     ensures conditions { roster.new.conditions ≡ roster.old.conditions }
     ensures visited { IsVisited result (part_of roster.old.table.stored p) (part_of roster.new.table.stored p) }
+    ensures few { result ≤ THREAD_LIMIT + 1 }
 {
     roster.change_mutex(p, m, Change::CountUp);
     0
@@ -89,6 +93,7 @@ fn block(roster: &mut Roster, p: PartId, t: ThreadNo, m: MutexNo, wait: Wait) ->
     ensures mutexes { roster.new.mutexes ≡ slice_set roster.old.mutexes p (after_wait t m wait (locks_at p roster.old.table roster.old.lines roster.old.mutexes)).mutexes }
     ensures conditions { roster.new.conditions ≡ roster.old.conditions }
     ensures visited { IsVisited result (part_of roster.old.table.stored p) (part_of roster.new.table.stored p) }
+    ensures few { result ≤ THREAD_LIMIT + 1 }
 {
     roster.await_mutex(p, m, t);
     roster.set_wait(p, t, Some(wait));

@@ -5,7 +5,7 @@ ghost use Rattle.ptk_words.specs.Pools.{pool_get};
 ghost use Rattle.ptk_words_parted.specs.Parts.{part_of};
 ghost use Rattle.ptk_words_model.specs.Mutex.{heir, waiters_of, soundness_of, count_of, after_hand_over, after_hand_over_to, after_refusal, after_refusal_to, after_refusals, after_loss, after_last_unlock, after_unlock};
 ghost use Rattle.ptk_words_locks.specs.Deadlines.{woken_by_last_unlock, woken_by_unlock};
-ghost use Rattle.ptk_mutex_slots.specs.Sets.{IsSetOf};
+ghost use Rattle.ptk_words_parted.specs.Sets.{IsSetOf};
 ghost use Rattle.ptk_mutex_slots.specs.Changes.{SlotMayChange, IsQuiet};
 ghost use Rattle.ptk_mutex.specs.Sound.{IsSound};
 ghost use Rattle.ptk_mutex.specs.Tables.{locks_at, with_threads, with_threads_alone, HasPart, MayGet, AreReady};
@@ -13,10 +13,11 @@ ghost use Rattle.ptk_mutex.specs.Moves.{after_change};
 
 use crate::mutexes::{Mutexes, refresh_priorities};
 use crate::waking::leave;
-use ptk_mutex_slots::{Change, ThreadSet, free_move, slot_in};
+use ptk_mutex_slots::{Change, free_move, slot_in};
 use ptk_roster::Roster;
 use ptk_words::{Errno, MutexNo, PartId, Soundness, ThreadNo};
 use ptk_words_model::LockMove;
+use ptk_words_parted::ThreadSet;
 
 impl Mutexes {
     /// An owner unlocks its mutex once; who owns it is the caller's to test (`owns`). The last unlock hands it over to

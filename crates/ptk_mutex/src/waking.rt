@@ -1,9 +1,10 @@
 //! The calls after which a waiter is ready: what a thread that leaves a mutex's waiters is told, and the end of a
 //! condition wait.
 
-ghost use Rattle.std.specs.Prelude.{◌≡◌, ◌<◌, false, None, [], ◌∷◌, ◌++◌, length, IsSome, slice_set, option_to_list};
+ghost use Rattle.std.specs.Prelude.{◌≡◌, ◌≤◌, ◌+◌, ◌<◌, false, None, [], ◌∷◌, ◌++◌, length, IsSome, slice_set, option_to_list};
 ghost use Rattle.ptk_words.specs.Pools.{pool_get, is_in};
 ghost use Rattle.ptk_words.specs.declared.TheConstants.{COUNT_LIMIT};
+ghost use Rattle.ptk_words.specs.declared.TheConstants.{THREAD_LIMIT};
 ghost use Rattle.ptk_words_parted.specs.Parts.{part_of};
 ghost use Rattle.ptk_words_model.specs.Schedule.{woken_with};
 ghost use Rattle.ptk_words_model.specs.declared.LockMove.TheVariants.{Counts};
@@ -100,6 +101,7 @@ fn make_relock(
     ensures mutexes { roster.new.mutexes ≡ slice_set roster.old.mutexes p (after_relock_move made t m reply (locks_at p roster.old.table roster.old.lines roster.old.mutexes)).mutexes }
     ensures conditions { roster.new.conditions ≡ roster.old.conditions }
     ensures visited { IsVisited result (part_of roster.old.table.stored p) (part_of roster.new.table.stored p) }
+    ensures few { result ≤ THREAD_LIMIT + 1 }
 {
     let visited = make(roster, p, t, m, Wait::RelockWait(m, reply), made);
     if is_wait(made) {

@@ -1,9 +1,10 @@
 //! A rise of the stored priorities, by what raised a thread.
 
-ghost use Rattle.std.specs.Prelude.{◌≡◌, ◌<◌, ◌≤◌, true, Some, None, length, slice_set, IsSome, if◌then◌else◌};
+ghost use Rattle.std.specs.Prelude.{◌≡◌, ◌+◌, ◌<◌, ◌≤◌, true, Some, None, length, slice_set, IsSome, if◌then◌else◌};
 ghost use Rattle.ptk_words.specs.Pools.{pool_get, greatest};
 ghost use Rattle.ptk_words_model.specs.Priority.{awaited, effective_priorities};
 ghost use Rattle.ptk_words_model.specs.Mutex.{owns};
+ghost use Rattle.ptk_words.specs.declared.TheConstants.{THREAD_LIMIT};
 ghost use Rattle.ptk_words_parted.specs.Parts.{part_of};
 ghost use Rattle.ptk_threads.specs.Table.{thread_in, stored_of};
 ghost use Rattle.ptk_mutex_rise.specs.Risings.{IsBefore};
@@ -38,6 +39,7 @@ pub fn raise(roster: &mut Roster, p: PartId, rise: Rise) -> u32
     ensures mutexes { roster.new.mutexes ≡ roster.old.mutexes }
     ensures conditions { roster.new.conditions ≡ roster.old.conditions }
     ensures visited { IsVisited result (part_of roster.old.table.stored p) (part_of roster.new.table.stored p) }
+    ensures few { result ≤ THREAD_LIMIT + 1 }
 {
     match rise {
         Rise::Wait(t) => rise_after_wait(roster, p, t),
@@ -53,6 +55,7 @@ fn rise_after_wait(roster: &mut Roster, p: PartId, t: ThreadNo) -> u32
     requires before { IsBeforeWait t (part_of roster.old.table.threads p) (part_of roster.old.mutexes p) (part_of roster.old.table.stored p) }
     ensures stored { roster.new ≡ with_priorities p (effective_priorities (part_of roster.old.table.threads p) (part_of roster.old.mutexes p)) roster.old }
     ensures visited { IsVisited result (part_of roster.old.table.stored p) (part_of roster.new.table.stored p) }
+    ensures few { result ≤ THREAD_LIMIT + 1 }
 {
     match next_in(roster, p, t) {
         Some(owner) => {
@@ -73,6 +76,7 @@ fn rise_after_take(roster: &mut Roster, p: PartId, t: ThreadNo, m: MutexNo) -> u
     requires before { IsBeforeTake m (part_of roster.old.table.threads p) (part_of roster.old.mutexes p) (part_of roster.old.table.stored p) }
     ensures stored { roster.new ≡ with_priorities p (effective_priorities (part_of roster.old.table.threads p) (part_of roster.old.mutexes p)) roster.old }
     ensures visited { IsVisited result (part_of roster.old.table.stored p) (part_of roster.new.table.stored p) }
+    ensures few { result ≤ THREAD_LIMIT + 1 }
 {
     let gained = gained_of(roster, roster.mutex_slots(p), p, m);
     if gained == 0 {
@@ -88,6 +92,7 @@ fn rise_after_assignment(roster: &mut Roster, p: PartId, t: ThreadNo) -> u32
     requires before { IsBeforeAssignment t (part_of roster.old.table.threads p) (part_of roster.old.mutexes p) (part_of roster.old.table.stored p) }
     ensures stored { roster.new ≡ with_priorities p (effective_priorities (part_of roster.old.table.threads p) (part_of roster.old.mutexes p)) roster.old }
     ensures visited { IsVisited result (part_of roster.old.table.stored p) (part_of roster.new.table.stored p) }
+    ensures few { result ≤ THREAD_LIMIT + 1 }
 {
     let priority = assigned(slots_of(roster, p), t);
     rise(roster, p, t, priority)

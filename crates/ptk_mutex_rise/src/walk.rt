@@ -1,6 +1,7 @@
 //! The walk along a chain that stops at the first thread that is at least as high.
 
 ghost use Rattle.std.specs.Prelude.{◌≡◌, ◌+◌, ◌<◌, ◌≤◌, length};
+ghost use Rattle.ptk_words.specs.declared.TheConstants.{THREAD_LIMIT};
 ghost use Rattle.ptk_words_parted.specs.Parts.{part_of};
 ghost use Rattle.ptk_threads_slots.specs.Links.{threads_of};
 ghost use Rattle.ptk_threads.specs.Table.{stored_of};
@@ -36,6 +37,7 @@ pub(crate) fn rise(roster: &mut Roster, p: PartId, u: ThreadNo, priority: u8) ->
     requires in_range { priority ≤ 32 }
     ensures stored { roster.new ≡ with_priorities p (risen (next_at p roster.old) priority (length (part_of roster.old.table.threads p)) u (part_of roster.old.table.stored p)) roster.old }
     ensures visited { result ≡ reads (next_at p roster.old) priority (length (part_of roster.old.table.threads p)) u (part_of roster.old.table.stored p) }
+    ensures few { result ≤ THREAD_LIMIT + 1 }
 {
     let steps = slots_of(roster, p).len();
     let mut visited = 0;
@@ -57,6 +59,7 @@ fn raise_until(
     requires room { visited.old + fuel < 100 }
     ensures stored { roster.new ≡ with_priorities p (risen (next_at p roster.old) priority fuel u (part_of roster.old.table.stored p)) roster.old }
     ensures visited { visited.new ≡ visited.old + reads (next_at p roster.old) priority fuel u (part_of roster.old.table.stored p) }
+    ensures few { visited.new ≤ visited.old + fuel + 1 }
 {
     if visit(roster, p, u, visited) >= priority {
         return;

@@ -1,5 +1,4 @@
 pub mod Slots
 pub mod Plain
-pub mod Sets
 pub mod Levels
 pub mod Bare

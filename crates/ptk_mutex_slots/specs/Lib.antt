@@ -1,5 +1,4 @@
 pub mod Slots
-pub mod Sets
 pub mod Changes
 pub mod Plain
 pub mod Raised

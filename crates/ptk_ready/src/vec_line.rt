@@ -8,9 +8,9 @@ ghost use Rattle.ptk_ready.specs.Queues.{AreUnused};
 
 use crate::choice::first_of_greatest;
 use crate::line::Line;
-use crate::queue::Queue;
 use ptk_threads::Threads;
 use ptk_words::{PartId, Priority, ThreadNo};
+use ptk_words_parted::Queue;
 use std::alloc::{AllocError, Global};
 use std::marker::Model;
 

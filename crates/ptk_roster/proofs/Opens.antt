@@ -14,8 +14,8 @@ use Rattle.ptk_words_locks.specs.Conditions.{waiters_on}
 use Rattle.ptk_threads.specs.Table.{ThreadTable, free_table}
 use Rattle.ptk_threads.specs.Queues.{no_queues}
 use Rattle.ptk_threads.proofs.Slots.{length-pool_set}
-use Rattle.ptk_ready_slots.specs.declared.entries.LinkedEntries.{LinkedEntries}
-use Rattle.ptk_ready_lines.specs.Lines.{lines_by}
+use Rattle.ptk_ready.specs.declared.entries.LinkedEntries.{LinkedEntries}
+use Rattle.ptk_ready.specs.Partitions.{lines_by}
 use Rattle.ptk_mutex_slots.specs.Slots.{with_waiters, bare}
 use Rattle.ptk_mutex_slots.specs.Changes.{mutex_changed, SlotMayChange}
 use Rattle.ptk_mutex_slots.specs.declared.slot.Change.{Change}

@@ -16,10 +16,10 @@ use Rattle.ptk_threads.specs.Table.{ThreadTable, with_changed, with_new, with_ne
 use Rattle.ptk_threads.specs.Queues.{IsUnqueued}
 use Rattle.ptk_threads_slots.proofs.Along.{le_or_gt}
 use Rattle.ptk_ready.specs.Queues as ready
-use Rattle.ptk_ready_slots.specs.Entries.{of_priority}
-use Rattle.ptk_ready_slots.specs.declared.entries.LinkedEntries.{LinkedEntries}
-use Rattle.ptk_ready_lines.specs.Lines.{lines_by}
-use Rattle.ptk_ready_lines.specs.Laws.{lines_at, lines_long, lines_same, filed_same, filed_apart}
+use Rattle.ptk_ready.specs.Entries.{of_priority}
+use Rattle.ptk_ready.specs.declared.entries.LinkedEntries.{LinkedEntries}
+use Rattle.ptk_ready.specs.Partitions.{lines_by}
+use Rattle.ptk_ready.specs.Laws.{lines_at, lines_long, lines_same, filed_same, filed_apart}
 use Rattle.ptk_mutex_slots.specs.Slots.{with_waiters, bare}
 use Rattle.ptk_roster.specs.Waiters.{condition_if, mutexes_in, conditions_in, mutexes_by, conditions_by}
 use Rattle.ptk_roster.specs.Rosters.{Rostered, AreQueuesOf, ArePools, IsLined, IsRoster, is_marked, seen}

@@ -14,12 +14,12 @@ use Rattle.ptk_words_parted.specs.Parts.{part_of, filled}
 use Rattle.ptk_threads.specs.Table.{ThreadTable, AreLevelsOf, free_table, thread_in, stored_of, with_changed, with_slot, with_new, with_new_at, with_left, with_rest, with_free, with_stored}
 use Rattle.ptk_threads.proofs.Pools.{pool_get-changed, pool_get-changed_other, pool_get-set_other, part_of-set, part_of-set_other}
 use Rattle.ptk_threads_slots.proofs.Along.{le_or_gt, not_true, in_front, in_here, in_later}
-use Rattle.ptk_ready_slots.specs.declared.entries.LinkedEntries.{LinkedEntries}
-use Rattle.ptk_ready_slots.proofs.Kept.{in_without, member_apart}
-use Rattle.ptk_ready_slots.proofs.Moves.{stored_other}
-use Rattle.ptk_ready_lines.specs.Lines.{lines_by, AreFiled}
-use Rattle.ptk_ready_lines.proofs.Calls.{priority_out, stored_here}
-use Rattle.ptk_ready_lines.specs.Laws.{lines_long, filed_same}
+use Rattle.ptk_ready.specs.declared.entries.LinkedEntries.{LinkedEntries}
+use Rattle.ptk_ready.proofs.Kept.{in_without, member_apart}
+use Rattle.ptk_ready.proofs.Moves.{stored_other}
+use Rattle.ptk_ready.specs.Partitions.{lines_by, AreFiled}
+use Rattle.ptk_ready.proofs.Partitions.{priority_out, stored_here}
+use Rattle.ptk_ready.specs.Laws.{lines_long, filed_same}
 use Rattle.ptk_roster.specs.Rosters.{IsLined}
 
 -- ---- numbers in use

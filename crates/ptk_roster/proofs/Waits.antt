@@ -11,9 +11,9 @@ use Rattle.ptk_words_locks.specs.Conditions.{waiters_on, IsNoWaiter}
 use Rattle.ptk_threads.specs.Table.{ThreadTable}
 use Rattle.ptk_threads.specs.Queues.{IsUnqueued, AreListed}
 use Rattle.ptk_threads.proofs.Pools.{pool_changed-free}
-use Rattle.ptk_ready_slots.specs.declared.entries.LinkedEntries.{LinkedEntries}
-use Rattle.ptk_ready_lines.specs.Lines.{lines_by}
-use Rattle.ptk_ready_lines.specs.Laws.{lines_same}
+use Rattle.ptk_ready.specs.declared.entries.LinkedEntries.{LinkedEntries}
+use Rattle.ptk_ready.specs.Partitions.{lines_by}
+use Rattle.ptk_ready.specs.Laws.{lines_same}
 use Rattle.ptk_mutex_slots.specs.Slots.{with_waiters}
 use Rattle.ptk_roster.specs.Waiters.{condition_of, condition_if, mutexes_by, conditions_by, waited_by, left_by}
 use Rattle.ptk_roster.specs.Rosters.{Rostered, ArePools, IsRoster, is_marked, seen}

@@ -7,9 +7,9 @@ use Rattle.ptk_words_model.specs.Mutex.{waiters_of}
 use Rattle.ptk_words_locks.specs.Conditions.{waiters_on}
 use Rattle.ptk_threads.specs.Table.{ThreadTable, thread_in, AreLevels}
 use Rattle.ptk_mutex_slots.specs.Slots.{bare}
-use Rattle.ptk_ready_slots.specs.Entries.{of_priority}
-use Rattle.ptk_ready_slots.specs.declared.entries.LinkedEntries.{LinkedEntries}
-use Rattle.ptk_ready_lines.specs.Lines.{lines_by, AreFiled}
+use Rattle.ptk_ready.specs.Entries.{of_priority}
+use Rattle.ptk_ready.specs.declared.entries.LinkedEntries.{LinkedEntries}
+use Rattle.ptk_ready.specs.Partitions.{lines_by, AreFiled}
 
 -- what is seen: the slot table without its queues, and by partition the line, and the mutexes and condition variables by number
 pub record Rostered : Type 0 where

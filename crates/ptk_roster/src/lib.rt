@@ -4,7 +4,7 @@
 //! partition, and its mutexes and condition variables by number, each with its waiters in order of arrival. What a mutex
 //! is but for its waiters lies in its slot; of a condition variable there is a mark alone. Each call changes one of the
 //! four in what is seen; `set_priority` and `store` change stored priorities alone, and leave each thread's place in its
-//! list. Below stand `ptk_threads`, the slot table, `ptk_ready_lines`, the line, and `ptk_mutex_slots`; above, every crate
+//! list. Below stand `ptk_threads`, the slot table, `ptk_ready`, the line, and `ptk_mutex_slots`; above, every crate
 //! that makes threads wait or run. Dear to prove is that one queue's change is one list's (`proofs/Seen`).
 #![tactic(auto)]
 

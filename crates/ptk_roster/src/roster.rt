@@ -11,8 +11,7 @@ ghost use Rattle.ptk_words_locks.specs.Conditions.{IsNoWaiter};
 ghost use Rattle.ptk_roster.specs.Rosters.{seen, AreQueuesOf};
 
 use ptk_mutex_slots::MutexSlot;
-use ptk_ready::{Line, first_of_greatest};
-use ptk_ready_lines::LinkedLine;
+use ptk_ready::{Line, LinkedLine, first_of_greatest};
 use ptk_threads::Threads;
 use ptk_words::{PartId, Priority, Thread, ThreadNo};
 use ptk_words_parted::Parted;
@@ -34,7 +33,7 @@ pub struct Roster {
 
 impl Model for Roster {
     ghost use Rattle.std.specs.Prelude.{◌^◌};
-    ghost use Rattle.ptk_ready_lines.specs.Lines.{lines_by};
+    ghost use Rattle.ptk_ready.specs.Partitions.{lines_by};
     ghost use Rattle.ptk_roster.specs.Rosters.{Rostered, IsRoster, seen};
     ghost use Rattle.ptk_roster.specs.Waiters.{mutexes_by, conditions_by};
 

@@ -97,7 +97,10 @@ impl Threads {
         requires { p < length self.now.threads }
         ensures { result ≡ thread_in self.now p k }
     {
-        self.slot(p, k).thread()
+        match self.thread_ref(p, k) {
+            Some(thread) => Some(*thread),
+            None => None,
+        }
     }
 
     /// The least free number of a partition; None where no number is free.

@@ -75,35 +75,30 @@ impl SlotLink {
         }
     }
 
-    /// A link that is given in numbers of the partition, for a slot of the same partition.
-    pub(crate) fn with(&self, link: &Link) -> SlotLink
-        ensures shared { result ≡ shared_link self.now.first link.now }
-        ensures own { own_link result ≡ link.now }
+    /// Becomes a link that is given in numbers of the partition.
+    pub(crate) fn set(&mut self, link: &Link)
+        ensures shared { self.new ≡ shared_link self.old.first link.now }
+        ensures own { own_link self.new ≡ link.now }
     {
-        SlotLink {
-            first: self.first,
-            previous: slot_at(self.first, &link.previous),
-            next: slot_at(self.first, &link.next),
-            queue: link.queue,
-        }
+        self.previous = slot_at(self.first, &link.previous);
+        self.next = slot_at(self.first, &link.next);
+        self.queue = link.queue;
     }
 
-    /// The same link with this thread after it.
-    pub(crate) fn with_next(self, next: &Option<ThreadNo>) -> SlotLink
-        ensures shared { result ≡ record self { next = option_map (slot_at self.first) next.now } }
-        ensures own { own_link result ≡ record (own_link self) { next = next.now } }
+    /// This thread comes after it.
+    pub(crate) fn set_next(&mut self, next: &Option<ThreadNo>)
+        ensures shared { self.new ≡ record self.old { next = option_map (slot_at self.old.first) next.now } }
+        ensures own { own_link self.new ≡ record (own_link self.old) { next = next.now } }
     {
-        let next = slot_at(self.first, next);
-        SlotLink { next, ..self }
+        self.next = slot_at(self.first, next);
     }
 
-    /// The same link with this thread before it.
-    pub(crate) fn with_previous(self, previous: &Option<ThreadNo>) -> SlotLink
-        ensures shared { result ≡ record self { previous = option_map (slot_at self.first) previous.now } }
-        ensures own { own_link result ≡ record (own_link self) { previous = previous.now } }
+    /// This thread comes before it.
+    pub(crate) fn set_previous(&mut self, previous: &Option<ThreadNo>)
+        ensures shared { self.new ≡ record self.old { previous = option_map (slot_at self.old.first) previous.now } }
+        ensures own { own_link self.new ≡ record (own_link self.old) { previous = previous.now } }
     {
-        let previous = slot_at(self.first, previous);
-        SlotLink { previous, ..self }
+        self.previous = slot_at(self.first, previous);
     }
 }
 

@@ -199,7 +199,7 @@ pub(crate) fn set_link(slots: &mut [Slot], k: ThreadNo, link: Link)
     let i = k.place();
     if i < slots.len() {
         let slot = &mut slots[i];
-        slot.link = slot.link.with(&link);
+        slot.link.set(&link);
     }
 }
 
@@ -224,7 +224,7 @@ fn set_next_of(slots: &mut [Slot], k: ThreadNo, next: &Option<ThreadNo>)
     let i = k.place();
     if i < slots.len() {
         let slot = &mut slots[i];
-        slot.link = slot.link.with_next(next);
+        slot.link.set_next(next);
     }
 }
 
@@ -253,6 +253,6 @@ fn set_previous_of(slots: &mut [Slot], k: ThreadNo, previous: &Option<ThreadNo>)
     let i = k.place();
     if i < slots.len() {
         let slot = &mut slots[i];
-        slot.link = slot.link.with_previous(previous);
+        slot.link.set_previous(previous);
     }
 }

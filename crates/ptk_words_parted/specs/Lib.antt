@@ -1,3 +1,5 @@
 pub mod Parts
 pub mod Cuts
 pub mod Lending
+pub mod Lists
+pub mod Sets

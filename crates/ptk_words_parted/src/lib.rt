@@ -3,9 +3,14 @@
 //! consoles are vectors with an entry for each partition. A contract sees a `Parted` as a list of lists: `get`, `part`
 //! and `whole` read it, `set` changes one item of one list, and `lend` lends one list for writing and leaves every
 //! other as it was. Beside the calls stand lemmas for the crates above: the ruleset `loans` of `proofs/Cuts` (a loan
-//! that keeps its length is a `slice_set`). The clause that is dear to prove is `writes_back` of `lend`. Below stands
-//! `ptk_words`; above, the crates that keep such lists.
+//! that keeps its length is a `slice_set`). The clause that is costly to prove is `writes_back` of `lend`.
+//! Of one partition's threads there are two collections: `Queue`, an order of threads, none twice, with room for all 32
+//! from the start (`proofs/Lists`), and `ThreadSet`, a set of them in the bits of a number.
+//! Below stands `ptk_words`; above, the crates that keep such lists.
 #![tactic(auto)]
+
+mod queue;
+mod thread_set;
 
 ghost use Rattle.std.specs.Prelude.{◌≡◌, ℕ, ◌<◌, ◌≤◌, List, [], ◌∷◌, ◌++◌, length, slice_get, slice_set, IfOk, OnOk, OnErr, slice_index, slice_range, map};
 ghost use Rattle.std.specs.Borrow.{sem};
@@ -14,8 +19,10 @@ ghost use Rattle.ptk_words_parted.specs.Cuts.{sums_from, last_end, ends_in, AreI
 ghost use Rattle.ptk_words_parted.specs.Lending.{LendsPart};
 
 use ptk_words::PartId;
+pub use queue::Queue;
 use std::alloc::{AllocError, Global};
 use std::marker::Model;
+pub use thread_set::ThreadSet;
 
 /// A list for each partition, in the order of the partitions.
 #[derive(Drop)]

@@ -1,5 +1,5 @@
 use Rattle.std.proofs.Common.{◌≡◌, ◌+◌, ◌∙◌, sym, ap, arith, true, false}
-use Rattle.ptk_mutex_slots.specs.Sets.{has}
+use Rattle.ptk_words_parted.specs.Sets.{has}
 use Rattle.ptk_clock.specs.Pairs.{DeadlineTable}
 use Rattle.ptk_clock.specs.BySlot.{deadlines_from}
 use Rattle.ptk_clock.specs.ByThread.{without_first}

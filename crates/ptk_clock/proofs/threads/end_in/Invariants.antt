@@ -1,4 +1,4 @@
-use Rattle.ptk_mutex_slots.specs.Sets.{has}
+use Rattle.ptk_words_parted.specs.Sets.{has}
 use Rattle.ptk_clock.specs.ByThread.{AreEnded}
 use Rattle.ptk_clock.proofs.threads.end_in.Given as goal
 

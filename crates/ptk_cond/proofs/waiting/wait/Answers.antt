@@ -7,7 +7,7 @@ use Rattle.ptk_words_model.specs.Condition.{after_condition_wait}
 use Rattle.ptk_words_locks.specs.Conditions.{waiters_on}
 use Rattle.ptk_words_locks.specs.Deadlines.{woken_by_unlock}
 use Rattle.ptk_roster.specs.Rosters.{Rostered}
-use Rattle.ptk_mutex_slots.specs.Sets.{IsSetOf}
+use Rattle.ptk_words_parted.specs.Sets.{IsSetOf}
 use Rattle.ptk_mutex.specs.Tables.{locks_at}
 use Rattle.ptk_mutex.proofs.Steps.{AreMoved}
 use Rattle.ptk_cond.proofs.Waiters.{waiting_wait}

@@ -1,7 +1,7 @@
 use Rattle.std.proofs.Common.{◌≡◌}
 use Rattle.ptk_words.specs.Pools.{numbers_to}
 use Rattle.ptk_words_locks.specs.Deadlines.{woken_by_ends}
-use Rattle.ptk_mutex_slots.specs.Sets.{IsSetOf}
+use Rattle.ptk_words_parted.specs.Sets.{IsSetOf}
 use Rattle.ptk_mutex.specs.Tables.{locks_at}
 use Rattle.ptk_mutex.proofs.Steps.{AreEnded}
 use Rattle.ptk_mutex.proofs.ends.end_all.Given as goal

@@ -1,6 +1,6 @@
 use Rattle.std.proofs.Common.{lit<, ◌∷◌}
 use Rattle.ptk_words_parted.specs.Parts.{part_of}
-use Rattle.ptk_ready_lines.specs.Lines.{lines_by}
+use Rattle.ptk_ready.specs.Partitions.{lines_by}
 use Rattle.ptk_roster.proofs.Rosters.{moved_roster, first_used}
 use Rattle.ptk_roster.proofs.Pools.{pushed, moved_whole, mutexes_seen}
 use Rattle.ptk_roster.proofs.roster.Roster.push_head.Goals as goal

@@ -1,7 +1,7 @@
 use Rattle.std.proofs.Common.{lit<}
 use Rattle.ptk_words.specs.Pools.{without}
 use Rattle.ptk_words_parted.specs.Parts.{part_of}
-use Rattle.ptk_ready_lines.specs.Lines.{lines_by}
+use Rattle.ptk_ready.specs.Partitions.{lines_by}
 use Rattle.ptk_roster.proofs.Rosters.{moved_roster, without_used}
 use Rattle.ptk_roster.proofs.Pools.{line_parts, moved_whole, mutexes_seen}
 use Rattle.ptk_roster.proofs.roster.Roster.remove.Goals as goal

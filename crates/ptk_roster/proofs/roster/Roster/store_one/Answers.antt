@@ -4,8 +4,8 @@ use Rattle.ptk_words.specs.Pools.{is_in}
 use Rattle.ptk_words_parted.specs.Parts.{part_of}
 use Rattle.ptk_threads.specs.Table.{thread_in}
 use Rattle.ptk_threads_slots.proofs.Along.{not_true}
-use Rattle.ptk_ready_lines.specs.Lines.{lines_by}
-use Rattle.ptk_ready_lines.proofs.Calls.{priority_out}
+use Rattle.ptk_ready.specs.Partitions.{lines_by}
+use Rattle.ptk_ready.proofs.Partitions.{priority_out}
 use Rattle.ptk_roster.specs.Rosters.{Rostered}
 use Rattle.ptk_roster.proofs.Rosters.{stored_roster}
 use Rattle.ptk_roster.proofs.Pools.{line_parts, moved_whole, mutexes_seen}

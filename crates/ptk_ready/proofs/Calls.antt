@@ -1,0 +1,304 @@
+-- What each call makes of the line, told by the queues' lists.
+use Rattle.std.proofs.Common.{◌≡◌, ℕ, zero, suc, ◌-◌, ◌<◌, ◌≤◌, List, [], ◌∷◌, ◌++◌, length, drop, true, false, refl, sym, ◌∙◌, ap, subst, arith, inl, inr}
+use Rattle.std.specs.Prelude.{ℤ, pos, neg_ℤ, ◌<ℤ◌, ◌≤ℤ◌, int_lt, ◌==◌, ◌||◌, Bool, find, is_some, option_map, Option, Some, None}
+use Rattle.std.proofs.Math.ListN.{set, get_or-map}
+use Rattle.std.proofs.lemmas.Bool.{cases_eq}
+use Rattle.std.proofs.lemmas.List.{get_or-set_same, length-map, length-set}
+use Rattle.ptk_words.specs.Pools.{is_in, without, pool_set}
+use Rattle.ptk_words_parted.specs.Parts.{part_of}
+use Rattle.ptk_threads.specs.Table.{stored_of}
+use Rattle.ptk_threads.specs.Queues.{IsUnqueued, with_last, with_first, with_before, with_none}
+use Rattle.ptk_threads.proofs.Linked.{unqueued_mark, inserted_all, taken_all}
+use Rattle.ptk_threads_slots.specs.declared.link.Link.{Link}
+use Rattle.ptk_threads_slots.specs.declared.link.Ends.{Ends}
+use Rattle.ptk_threads_slots.specs.declared.link.QueueName.{QueueName}
+use Rattle.ptk_threads_slots.specs.declared.link.QueueName.TheVariants.{Ready}
+use Rattle.ptk_threads_slots.specs.Links.{place_of, mark_of, link_in, no_ends, no_link, ends_at, first_after, queue_from, queue_at, queues, with_next, with_previous, AreQueues}
+use Rattle.ptk_threads_slots.specs.Changes.{put_before, linked_between, end_between, unlinked, end_without}
+use Rattle.ptk_threads_slots.proofs.Along.{not_true, length_next, length_previous, along_marked, marked_within}
+use Rattle.ptk_threads_slots.proofs.Lists.{AreTurned, list_at, appended, prepended, inserted}
+use Rattle.ptk_threads_slots.proofs.Lists.{went as left_links}
+use Rattle.ptk_ready.specs.Bits.{has_bit, IsBitChanged}
+use Rattle.ptk_ready.specs.Orders.{placed}
+use Rattle.ptk_ready.specs.Entries.{is_ready, stamp_of, entries, has_any, AreStamps, IsSound}
+use Rattle.ptk_ready.specs.Lines.{line_of, with_refiled, IsFiled}
+use Rattle.ptk_ready.proofs.Orders.{no_less, less_test, true_or_false}
+use Rattle.ptk_ready.proofs.Ready.{in_entries, ready_mark}
+use Rattle.ptk_ready.proofs.Kept.{sound_kept, is_priority, no_priority, went}
+use Rattle.ptk_ready.proofs.Firsts.{any_member}
+use Rattle.ptk_ready.proofs.Filed.{found_passes, placed_end, placed_before}
+use Rattle.ptk_ready.proofs.Lists.{line_same, filed_line, sound_line}
+use Rattle.ptk_ready.proofs.Moves.{IsDone, done, any_first, pushed_tail, pushed_head, refiled, taken_free}
+
+-- the queues with these lists are filed, the line is this list, and those of waiters are as before
+pub record IsListed (limit : ℕ) (was lists : List (List ℕ)) (stored : List ℕ) (stamps : List ℤ) (bitmap : ℕ) (xs : List ℕ) : Type 0 where
+  pub sound : IsFiled limit lists stored stamps bitmap
+  pub line : line_of lists stamps ≡ xs
+  pub waiters : drop 32 lists ≡ drop 32 was
+
+drop_agree : (n : ℕ) (xs ys : List (List ℕ)) → length xs ≡ length ys → ((i : ℕ) → n ≤ i → part_of xs i ≡ part_of ys i) → drop n xs ≡ drop n ys
+drop_agree n [] [] long h = refl
+drop_agree n [] (y ∷ ys) long h = absurd (omega (arith, long))
+drop_agree n (x ∷ xs) [] long h = absurd (omega (arith, long))
+drop_agree zero (x ∷ xs) (y ∷ ys) long h =
+    ap (λ l. l ∷ xs) (h 0 (omega arith)) ∙ ap (λ l. y ∷ l) (drop_agree zero xs ys (omega (arith, long)) (λ i le. h (suc i) (omega arith)))
+drop_agree (suc n) (x ∷ xs) (y ∷ ys) long h = drop_agree n xs ys (omega (arith, long)) (λ i le. h (suc i) (omega (arith, le)))
+
+as_lists : (limit : ℕ) (links new : List Link) (ends late : List Ends) (stored : List ℕ) (stamps : List ℤ) (bitmap : ℕ) (xs ys : List ℕ) (lists : List (List ℕ)) → length new ≤ 32 → length late ≡ length ends → queues new late ≡ lists → xs ≡ ys
+    → IsDone limit links new ends late stored stamps bitmap xs → IsListed limit (queues links ends) lists stored stamps bitmap ys
+as_lists limit links new ends late stored stamps bitmap xs ys lists few wide e same is =
+    subst (λ l. IsListed limit (queues links ends) l stored stamps bitmap ys) e (record {
+      sound = filed_line limit new late stored stamps bitmap few is.sound;
+      line = sym (line_same new late stamps is.sound.queues few) ∙ (is.line ∙ same);
+      waiters = drop_agree 32 (queues new late) (queues links ends) (length-map late (queue_from new) ∙ (wide ∙ sym (length-map ends (queue_from links))))
+          (λ i far. list_at new late i ∙ (is.waiters i far ∙ sym (list_at links ends i)));
+    })
+
+-- ---- as many links as before
+
+pool_long : (links : List Link) (k : ℕ) (link : Link) → length (pool_set links k link) ≡ length links
+pool_long links zero link = refl
+pool_long links (suc i) link = length-set links i link
+
+both_long : (links : List Link) (o u v w : Option ℕ) (k : ℕ) (link : Link) → length (pool_set (with_previous u w (with_next o v links)) k link) ≡ length links
+both_long links o u v w k link = pool_long (with_previous u w (with_next o v links)) k link ∙ (length_previous (with_next o v links) u w ∙ length_next links o v)
+
+-- ---- a thread is pushed
+
+pub pushed_last : (limit : ℕ) (links : List Link) (ends : List Ends) (stored : List ℕ) (stamps mid anew : List ℤ) (bitmap bits k i : ℕ) (stamp : ℤ) (name : QueueName)
+    → AreQueues links ends → length links ≤ 32 → IsFiled limit (queues links ends) stored stamps bitmap → AreStamps limit links mid → entries links mid ≡ entries links stamps
+    → IsUnqueued k (queues links ends) → 0 < k → k ≤ length links → length mid ≡ 32 → anew ≡ set mid (k - 1) stamp → stored_of stored k ≡ suc i → i < 32 → place_of name ≡ i
+    → ((j : ℕ) → is_ready links j ≡ true → stamp_of mid j <ℤ stamp) → (neg_ℤ (pos limit) ≤ℤ stamp) × (stamp ≤ℤ pos limit) → length ends ≡ 128 → IsBitChanged bitmap bits i true
+    → IsListed limit (queues links ends) (with_last name k (queues links ends)) stored anew bits (line_of (queues links ends) stamps ++ k ∷ [])
+pushed_last limit links ends stored stamps mid anew bitmap bits k i stamp name queued few filed are line free some within long made level low place last bounds wide bit =
+    let end = ends_at ends i in
+    let link : Link = record { previous = end.last; next = None; queue = Some name } in
+    let new = linked_between k link links in
+    let late = set ends i (end_between end.last k None end) in
+    let none = unqueued_mark links ends k queued free in
+    let turned : AreTurned links new ends late i (part_of (queues links ends) i ++ k ∷ []) =
+    appended links new ends late i k name end queued (omega (arith, low, wide)) some within none place refl refl refl in
+    as_lists limit links new ends late stored anew bits (entries links stamps ++ k ∷ []) (line_of (queues links ends) stamps ++ k ∷ []) (with_last name k (queues links ends))
+    (omega (arith, few, both_long links end.last None (Some k) (Some k) k link))
+    (length-set ends i _) (turned.lists ∙ ap (λ j. set (queues links ends) j (part_of (queues links ends) j ++ k ∷ [])) (sym place))
+    (ap (λ l. l ++ k ∷ []) (line_same links ends stamps queued few))
+    (pushed_tail limit links new ends late stored stamps mid anew bitmap bits k i stamp (sound_line limit links ends stored stamps bitmap queued few filed) are line
+    none some (omega (arith, few, within)) long made level low last bounds wide turned.sound turned.lists bit)
+
+pub pushed_first : (limit : ℕ) (links : List Link) (ends : List Ends) (stored : List ℕ) (stamps mid anew : List ℤ) (bitmap bits k i : ℕ) (stamp : ℤ) (name : QueueName)
+    → AreQueues links ends → length links ≤ 32 → IsFiled limit (queues links ends) stored stamps bitmap → AreStamps limit links mid → entries links mid ≡ entries links stamps
+    → IsUnqueued k (queues links ends) → 0 < k → k ≤ length links → length mid ≡ 32 → anew ≡ set mid (k - 1) stamp → stored_of stored k ≡ suc i → i < 32 → place_of name ≡ i
+    → ((j : ℕ) → is_ready links j ≡ true → stamp <ℤ stamp_of mid j) → (neg_ℤ (pos limit) ≤ℤ stamp) × (stamp ≤ℤ pos limit) → length ends ≡ 128 → IsBitChanged bitmap bits i true
+    → IsListed limit (queues links ends) (with_first name k (queues links ends)) stored anew bits (k ∷ line_of (queues links ends) stamps)
+pushed_first limit links ends stored stamps mid anew bitmap bits k i stamp name queued few filed are line free some within long made level low place first bounds wide bit =
+    let end = ends_at ends i in
+    let link : Link = record { previous = None; next = end.first; queue = Some name } in
+    let new = linked_between k link links in
+    let late = set ends i (end_between None k end.first end) in
+    let none = unqueued_mark links ends k queued free in
+    let turned : AreTurned links new ends late i (k ∷ part_of (queues links ends) i) =
+    prepended links new ends late i k name end queued (omega (arith, low, wide)) some within none place refl refl refl in
+    as_lists limit links new ends late stored anew bits (k ∷ entries links stamps) (k ∷ line_of (queues links ends) stamps) (with_first name k (queues links ends))
+    (omega (arith, few, both_long links None end.first (Some k) (Some k) k link))
+    (length-set ends i _) (turned.lists ∙ ap (λ j. set (queues links ends) j (k ∷ part_of (queues links ends) j)) (sym place))
+    (ap (λ l. k ∷ l) (line_same links ends stamps queued few))
+    (pushed_head limit links new ends late stored stamps mid anew bitmap bits k i stamp (sound_line limit links ends stored stamps bitmap queued few filed) are line
+    none some (omega (arith, few, within)) long made level low first bounds wide turned.sound turned.lists bit)
+
+-- ---- a thread leaves
+
+record IsNamed (o : Option QueueName) (i : ℕ) : Type 0 where
+  name : QueueName
+  is : o ≡ Some name
+  place : place_of name ≡ i
+
+named : (o : Option QueueName) (i : ℕ) → option_map place_of o ≡ Some i → IsNamed o i
+named None i h = absurd (cc)
+named (Some name) i h = record { name = name; is = refl; place = cc }
+
+some_left : (p n f : Option ℕ) → is_some f ≡ true → is_some (first_after p n f) ≡ (is_some p || is_some n)
+some_left None n f h = refl
+some_left (Some p) n f h = h
+
+-- the links once k is gone, which lies in queue i
+record IsGone (limit : ℕ) (links new : List Link) (ends late : List Ends) (stored : List ℕ) (stamps : List ℤ) (bits k : ℕ) : Type 0 where
+  done : IsDone limit links new ends late stored stamps bits (without k (entries links stamps))
+  lists : queues new late ≡ with_none k (queues links ends)
+  few : length new ≡ length links
+  wide : length late ≡ length ends
+
+abbrev gone_links : ℕ → List Link → List Link
+gone_links k links = unlinked k (link_in links k) links
+
+abbrev gone_ends : ℕ → ℕ → List Link → List Ends → List Ends
+gone_ends k i links ends = set ends i (end_without (link_in links k).previous (link_in links k).next (ends_at ends i))
+
+gone : (limit : ℕ) (links : List Link) (ends : List Ends) (stored : List ℕ) (stamps : List ℤ) (bitmap bits k i : ℕ) → IsSound limit links ends stored stamps bitmap → length ends ≡ 128
+    → i < 32 → mark_of links k ≡ Some i → IsBitChanged bitmap bits i (is_some (link_in links k).previous || is_some (link_in links k).next)
+    → IsGone limit links (gone_links k links) ends (gone_ends k i links ends) stored stamps bits k
+gone limit links ends stored stamps bitmap bits k i sound wide low mark bit =
+    let are = sound.queues in
+    let lt : i < length ends = omega (arith, low, wide) in
+    let link = link_in links k in
+    let at = named link.queue i mark in
+    let end = end_without link.previous link.next (ends_at ends i) in
+    let new = unlinked k link links in
+    let late = set ends i end in
+    let turned : AreTurned links new ends late i (without k (part_of (queues links ends) i)) = left_links links new ends late i k at.name link are lt at.place refl at.is refl refl in
+    let was : is_some (ends_at ends i).first ≡ true =
+    ap is_some (are.each i).first ∙ (any_first (queue_at links ends i) ∙ any_member k (queue_at links ends i) (are.marked k i mark)) in
+    let any : (is_some link.previous || is_some link.next) ≡ has_any (queue_at new late i) =
+    sym (some_left link.previous link.next (ends_at ends i).first was)
+    ∙ (ap (λ (e : Ends). is_some e.first) (sym (get_or-set_same ends i end no_ends lt)) ∙ (ap is_some (turned.sound.each i).first ∙ any_first (queue_at new late i))) in
+    record {
+      done = done limit links new ends late stored stamps bits (without k (entries links stamps)) i (without k (part_of (queues links ends) i)) low turned.lists
+          (went limit links new ends late stored stamps bitmap bits (entries links stamps) k i (sound_kept limit links ends stored stamps bitmap sound) low wide mark turned.sound turned.lists
+          (subst (IsBitChanged bitmap bits i) any bit));
+      lists = turned.lists ∙ (rw mark at (taken_all links ends k are));
+      few = both_long links link.previous link.next link.next link.previous k no_link;
+      wide = length-set ends i end;
+    }
+
+pub member_ready : (links : List Link) (ends : List Ends) (stamps : List ℤ) (k : ℕ) → AreQueues links ends → length links ≤ 32 → is_in k (line_of (queues links ends) stamps) ≡ true → is_ready links k ≡ true
+member_ready links ends stamps k are few inside = sym (in_entries links stamps k) ∙ (ap (is_in k) (line_same links ends stamps are few) ∙ inside)
+
+-- what a removal does to the bitmap
+abbrev pub IsCleared : List Link → ℕ → ℕ → ℕ → Type 0
+IsCleared links bitmap bits k = (i : ℕ) → mark_of links k ≡ Some i → has_bit bitmap i ≡ true → IsBitChanged bitmap bits i (is_some (link_in links k).previous || is_some (link_in links k).next)
+
+record IsLeft (limit : ℕ) (links : List Link) (ends : List Ends) (stored : List ℕ) (stamps : List ℤ) (bits k : ℕ) : Type 0 where
+  new : List Link
+  late : List Ends
+  is : IsGone limit links new ends late stored stamps bits k
+
+left : (limit : ℕ) (links : List Link) (ends : List Ends) (stored : List ℕ) (stamps : List ℤ) (bitmap bits k : ℕ) → IsSound limit links ends stored stamps bitmap → length ends ≡ 128
+    → is_ready links k ≡ true → IsCleared links bitmap bits k → IsLeft limit links ends stored stamps bits k
+left limit links ends stored stamps bitmap bits k sound wide ready cleared =
+    let at = ready_mark links k ready in
+    let set : has_bit bitmap at.place ≡ true = sound.bits at.place at.low ∙ any_member k (queue_at links ends at.place) (sound.queues.marked k at.place at.mark) in
+    record {
+      new = gone_links k links;
+      late = gone_ends k at.place links ends;
+      is = gone limit links ends stored stamps bitmap bits k at.place sound wide at.low at.mark (cleared at.place at.mark set);
+    }
+
+pub removed_lists : (limit : ℕ) (links : List Link) (ends : List Ends) (stored : List ℕ) (stamps : List ℤ) (bitmap bits k : ℕ) → AreQueues links ends → length links ≤ 32 → IsFiled limit (queues links ends) stored stamps bitmap → length ends ≡ 128
+    → is_in k (line_of (queues links ends) stamps) ≡ true → IsCleared links bitmap bits k
+    → IsListed limit (queues links ends) (with_none k (queues links ends)) stored stamps bits (without k (line_of (queues links ends) stamps))
+removed_lists limit links ends stored stamps bitmap bits k are few filed wide inside cleared =
+    let at = left limit links ends stored stamps bitmap bits k (sound_line limit links ends stored stamps bitmap are few filed) wide (member_ready links ends stamps k are few inside) cleared in
+    as_lists limit links at.new ends at.late stored stamps bits (without k (entries links stamps)) (without k (line_of (queues links ends) stamps)) (with_none k (queues links ends))
+    (omega (arith, few, at.is.few)) at.is.wide at.is.lists (ap (without k) (line_same links ends stamps are few)) at.is.done
+
+-- ---- a thread is filed anew
+
+find_without : (p : ℕ → Bool) (k : ℕ) (ks : List ℕ) → p k ≡ false → find p (without k ks) ≡ find p ks
+find_without p k [] fails = refl
+find_without p k (x ∷ xs) fails = elim (cases_eq x k) as (λ _. find p (without k (x ∷ xs)) ≡ find p (x ∷ xs)) [
+  | inl e ↦ (let gone : (x == k) ≡ true = is_priority x k e in
+      let out : p x ≡ false = ap p e ∙ fails in
+      rw (gone, out) (find_without p k xs fails))
+  | inr ne ↦ (let stays : (x == k) ≡ false = no_priority x k ne in
+      elim (true_or_false (p x)) as (λ _. find p (without k (x ∷ xs)) ≡ find p (x ∷ xs)) [
+        | inl does ↦ rw (stays, does) refl
+        | inr out ↦ rw (stays, out) (find_without p k xs fails)
+      ])
+]
+
+-- a thread of no queue goes to its place by stamp in queue i
+record IsBack (links new : List Link) (ends late : List Ends) (stamps : List ℤ) (k i : ℕ) (to : List (List ℕ)) : Type 0 where
+  sound : AreQueues new late
+  placed : queues new late ≡ set (queues links ends) i (placed (stamp_of stamps) k (part_of (queues links ends) i))
+  lists : queues new late ≡ to
+  few : length new ≡ length links
+  wide : length late ≡ length ends
+
+record IsSomewhere (links : List Link) (ends : List Ends) (stamps : List ℤ) (k i : ℕ) (lists : List (List ℕ)) : Type 0 where
+  new : List Link
+  late : List Ends
+  is : IsBack links new ends late stamps k i lists
+
+back_last : (links : List Link) (ends : List Ends) (stamps : List ℤ) (k i priority : ℕ) (was : List (List ℕ)) → queues links ends ≡ with_none k was → AreQueues links ends → i < length ends → 0 < k → k ≤ length links → mark_of links k ≡ None → priority ≡ suc i
+    → find (λ j. int_lt (stamp_of stamps k) (stamp_of stamps j)) (part_of (queues links ends) i) ≡ None
+    → IsSomewhere links ends stamps k i (with_last (Ready priority) k (with_none k was))
+back_last links ends stamps k i priority was e are lt some within free level none =
+    let end = ends_at ends i in
+    let link : Link = record { previous = end.last; next = None; queue = Some (Ready priority) } in
+    let new = linked_between k link links in
+    let late = set ends i (end_between end.last k None end) in
+    let place : place_of (Ready priority) ≡ i = omega (arith, level) in
+    let turned : AreTurned links new ends late i (part_of (queues links ends) i ++ k ∷ []) =
+    appended links new ends late i k (Ready priority) end are lt some within free place refl refl refl in
+    record {
+      new = new;
+      late = late;
+      is = record {
+        sound = turned.sound;
+        placed = turned.lists ∙ ap (set (queues links ends) i) (sym (placed_end (stamp_of stamps) k (part_of (queues links ends) i) none));
+        lists = turned.lists ∙ (ap (λ j. set (queues links ends) j (part_of (queues links ends) j ++ k ∷ [])) (sym place) ∙ ap (with_last (Ready priority) k) e);
+        few = both_long links end.last None (Some k) (Some k) k link;
+        wide = length-set ends i _;
+      };
+    }
+
+back_before : (links : List Link) (ends : List Ends) (stamps : List ℤ) (k i b : ℕ) (was : List (List ℕ)) → queues links ends ≡ with_none k was → AreQueues links ends → i < length ends → 0 < k → k ≤ length links → mark_of links k ≡ None
+    → find (λ j. int_lt (stamp_of stamps k) (stamp_of stamps j)) (part_of (queues links ends) i) ≡ Some b
+    → IsSomewhere links ends stamps k i (with_before k b (with_none k was))
+back_before links ends stamps k i b was e are lt some within free found =
+    let inside : is_in b (queue_at links ends i) ≡ true =
+    subst (λ l. is_in b l ≡ true) (list_at links ends i) (found_passes (λ j. int_lt (stamp_of stamps k) (stamp_of stamps j)) b (part_of (queues links ends) i) found).1 in
+    let mark : mark_of links b ≡ Some i = along_marked links i None None (queue_at links ends i) b (are.each i).along inside in
+    let link_b = link_in links b in
+    let at = named link_b.queue i mark in
+    let link : Link = record link_b { next = Some b } in
+    let new = linked_between k link links in
+    let late = set ends i (end_between link_b.previous k (Some b) (ends_at ends i)) in
+    let turned : AreTurned links new ends late i (put_before k b (part_of (queues links ends) i)) =
+    inserted links new ends late i k b at.name link_b are lt some within free at.place refl at.is refl refl in
+    record {
+      new = new;
+      late = late;
+      is = record {
+        sound = turned.sound;
+        placed = turned.lists ∙ ap (set (queues links ends) i) (placed_before (stamp_of stamps) k b (part_of (queues links ends) i) found);
+        lists = turned.lists ∙ ((rw mark at (inserted_all links ends k b are)) ∙ ap (with_before k b) e);
+        few = both_long links link_b.previous (Some b) (Some k) (Some k) k link;
+        wide = length-set ends i _;
+      };
+    }
+
+back : (links : List Link) (ends : List Ends) (stamps : List ℤ) (k i priority : ℕ) (found : Option ℕ) (was : List (List ℕ)) → queues links ends ≡ with_none k was → AreQueues links ends → i < length ends → 0 < k → k ≤ length links → mark_of links k ≡ None → priority ≡ suc i
+    → find (λ j. int_lt (stamp_of stamps k) (stamp_of stamps j)) (part_of (queues links ends) i) ≡ found
+    → IsSomewhere links ends stamps k i (with_refiled found priority k was)
+back links ends stamps k i priority None was e are lt some within free level found = back_last links ends stamps k i priority was e are lt some within free level found
+back links ends stamps k i priority (Some b) was e are lt some within free level found = back_before links ends stamps k i b was e are lt some within free found
+
+never_less : (a : ℤ) → int_lt a a ≡ false
+never_less a = not_true (int_lt a a) (λ e. no_less a (less_test a a e))
+
+pub refiled_lists : (limit : ℕ) (links : List Link) (ends : List Ends) (stored : List ℕ) (stamps : List ℤ) (bitmap bits after k i priority : ℕ) (found : Option ℕ) → AreQueues links ends → length links ≤ 32 → IsFiled limit (queues links ends) stored stamps bitmap → length ends ≡ 128
+    → is_in k (line_of (queues links ends) stamps) ≡ true → IsCleared links bitmap bits k → priority ≡ suc i → i < 32 → IsBitChanged bits after i true
+    → find (λ j. int_lt (stamp_of stamps k) (stamp_of stamps j)) (queue_at links ends i) ≡ found
+    → IsListed limit (queues links ends) (with_refiled found priority k (queues links ends)) (pool_set stored k priority) stamps after (line_of (queues links ends) stamps)
+refiled_lists limit links ends stored stamps bitmap bits after k i priority found are few filed wide inside cleared level low bit is =
+    let sound = sound_line limit links ends stored stamps bitmap are few filed in
+    let ready = member_ready links ends stamps k are few inside in
+    let at = ready_mark links k ready in
+    let within = marked_within links k at.place at.mark in
+    let mid = left limit links ends stored stamps bitmap bits k sound wide ready cleared in
+    let then = mid.is in
+    let free : mark_of mid.new k ≡ None = taken_free links mid.new ends mid.late stamps k are then.done.sound.queues ready then.done.waiters then.done.line in
+    let own : part_of (queues mid.new mid.late) i ≡ without k (queue_at links ends i) =
+    ap (λ l. part_of l i) then.lists ∙ (get_or-map (without k) (queues links ends) i [] ∙ ap (without k) (list_at links ends i)) in
+    let first : find (λ j. int_lt (stamp_of stamps k) (stamp_of stamps j)) (part_of (queues mid.new mid.late) i) ≡ found =
+    ap (find (λ j. int_lt (stamp_of stamps k) (stamp_of stamps j))) own ∙ (find_without (λ j. int_lt (stamp_of stamps k) (stamp_of stamps j)) k (queue_at links ends i) (never_less (stamp_of stamps k)) ∙ is) in
+    let there = back mid.new mid.late stamps k i priority found (queues links ends) then.lists then.done.sound.queues (omega (arith, low, then.wide, wide)) within.0 (omega (arith, within.1, then.few)) free level first in
+    let whole = refiled limit links mid.new there.new ends mid.late there.late stored stamps bitmap bits after k i priority sound (in_entries links stamps k ∙ ready) then.done.sound then.done.line then.done.waiters low level
+    (omega (arith, then.wide, wide)) there.is.sound there.is.placed bit in
+    as_lists limit links there.new ends there.late (pool_set stored k priority) stamps after (entries links stamps) (line_of (queues links ends) stamps) (with_refiled found priority k (queues links ends))
+    (omega (arith, few, there.is.few, then.few)) (omega (arith, there.is.wide, then.wide))
+    there.is.lists (line_same links ends stamps are few) whole
+
+-- a thread of the line has a slot
+pub member_within : (links : List Link) (ends : List Ends) (stamps : List ℤ) (k : ℕ) → AreQueues links ends → length links ≤ 32 → is_in k (line_of (queues links ends) stamps) ≡ true → k ≤ length links
+member_within links ends stamps k are few inside = let at = ready_mark links k (member_ready links ends stamps k are few inside) in (marked_within links k at.place at.mark).1

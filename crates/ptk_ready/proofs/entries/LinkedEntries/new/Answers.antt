@@ -1,0 +1,5 @@
+use Rattle.ptk_ready.proofs.Lists.{none_filed}
+use Rattle.ptk_ready.proofs.entries.LinkedEntries.new.Goals as goal
+
+pub returns : goal.returns
+returns g c = λ lists stored none. none_filed g.row.LIMIT lists stored _ none

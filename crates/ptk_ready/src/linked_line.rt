@@ -1,0 +1,139 @@
+//! The form with queues that are linked through the slot table.
+
+ghost use Rattle.std.specs.Prelude.{◌≡◌, ◌<◌, ◌≤◌, ◌^◌, [], length, IfOk, replicate};
+ghost use Rattle.ptk_words_parted.specs.Parts.{part_of};
+ghost use Rattle.ptk_threads.specs.Table.{ThreadTable, with_queues};
+ghost use Rattle.ptk_ready.specs.Queues.{AreUnused};
+ghost use Rattle.ptk_ready.specs.Lines.{with_refiled};
+ghost use Rattle.ptk_ready.specs.Partitions.{lines_by, AreFiled};
+
+use crate::entries::LinkedEntries;
+use crate::line::Line;
+use ptk_threads::{QueueName, Threads};
+use ptk_words::{PartId, Priority, ThreadNo};
+use std::alloc::{AllocError, Global};
+use std::marker::Model;
+
+/// For each partition 32 queues by effective priority, linked through its slots, with stamps of magnitude `LIMIT` at
+/// most; where one would pass it, the partition's ready threads are numbered anew from 0 in the line's order.
+#[derive(Drop)]
+pub struct LinkedLine<const LIMIT: u64> {
+    entries: Vec<LinkedEntries<LIMIT>>,
+}
+
+impl<const LIMIT: u64> Model for LinkedLine<LIMIT> {
+    ghost use Rattle.std.specs.Prelude.{◌≤◌, ◌^◌, List};
+    ghost use Rattle.ptk_ready.specs.declared.entries.LinkedEntries.{LinkedEntries as Entries};
+
+    ghost Value = { List (Entries LIMIT) };
+
+    ghost view = { λ a. a.entries.items };
+
+    ghost invariant = { λ a. (64 ≤ LIMIT) × (LIMIT ≤ 2 ^ 62) };
+}
+
+impl<const LIMIT: u64> LinkedLine<LIMIT> {
+    /// An empty line for each of so many partitions, sound over a slot table in whose queues no thread is ready. An error
+    /// where memory ran out.
+    pub fn build(alloc: Global, parts: usize) -> Result<LinkedLine<LIMIT>, AllocError>
+        requires limit { (64 ≤ LIMIT) × (LIMIT ≤ 2 ^ 62) }
+        ensures empty { IfOk result (λ line. (table : ThreadTable) → length table.queues ≡ parts → AreUnused table.queues
+            → lines_by line table.queues ≡ replicate parts []) }
+        ensures sound { IfOk result (λ line. (table : ThreadTable) → length table.queues ≡ parts → AreUnused table.queues
+            → AreFiled LIMIT line table) }
+    {
+        let entries = vec![in alloc; LinkedEntries::new(); parts]?;
+        Ok(LinkedLine { entries })
+    }
+
+    /// How many partitions there are.
+    pub fn parts(&self) -> usize
+        ensures { result ≡ length self.now }
+    {
+        self.entries.len()
+    }
+}
+
+impl<const LIMIT: u64> Line for LinkedLine<LIMIT> {
+    ghost use Rattle.ptk_ready.specs.Partitions.{lines_by, AreFiled};
+    ghost use Rattle.ptk_ready.specs.Laws.{lines_same, filed_same, filed_apart};
+
+    ghost entries = { λ line table. lines_by line table.queues };
+
+    ghost is_sound = { λ line table. AreFiled LIMIT line table };
+
+    ghost entries_same = { λ line a b same. lines_same line a.queues b.queues same };
+
+    ghost sound_same = { λ line a b stored same sound. filed_same LIMIT line a b stored same sound };
+
+    ghost apart = { λ line a p k i sound out lt. filed_apart LIMIT line a p k i sound out lt };
+
+    fn push_tail(&mut self, threads: &mut Threads, p: PartId, k: ThreadNo) {
+        let part = threads.linked(p);
+        let entries = &mut self.entries[p.index()];
+        let name = entries.push_tail(part.slots, part.ends, threads.stored(p), k);
+        threads.append(p, name, k);
+    }
+
+    fn push_head(&mut self, threads: &mut Threads, p: PartId, k: ThreadNo) {
+        let part = threads.linked(p);
+        let entries = &mut self.entries[p.index()];
+        let name = entries.push_head(part.slots, part.ends, threads.stored(p), k);
+        threads.prepend(p, name, k);
+    }
+
+    fn remove(&mut self, threads: &mut Threads, p: PartId, k: ThreadNo) {
+        let part = threads.linked(p);
+        let entries = &mut self.entries[p.index()];
+        if !entries.contains(part.slots, part.ends, k) {
+            return;
+        }
+        entries.remove(part.slots, part.ends, threads.stored(p), k);
+        threads.take(p, k);
+    }
+
+    fn first_of_greatest(&self, threads: &Threads, p: PartId) -> Option<ThreadNo> {
+        let part = threads.linked(p);
+        let entries = &self.entries[p.index()];
+        entries.first_of_greatest(part.slots, part.ends, threads.stored(p))
+    }
+
+    fn contains(&self, threads: &Threads, p: PartId, k: ThreadNo) -> bool {
+        let part = threads.linked(p);
+        let entries = &self.entries[p.index()];
+        entries.contains(part.slots, part.ends, k)
+    }
+
+    #[inline(always)]
+    fn set_priority(&mut self, threads: &mut Threads, p: PartId, k: ThreadNo, priority: Priority) {
+        let part = threads.linked(p);
+        let entries = &mut self.entries[p.index()];
+        if !entries.contains(part.slots, part.ends, k) {
+            threads.set_stored_priority(p, k, priority.level());
+            return;
+        }
+        let before = entries.refile(part.slots, part.ends, threads.stored(p), k, priority);
+        threads.set_stored_priority(p, k, priority.level());
+        refile(threads, p, k, before, priority);
+    }
+}
+
+/// Takes a thread out of its queue and puts it before another one, or last into that of a priority's ready threads.
+#[inline(never)]
+fn refile(
+    threads: &mut Threads,
+    p: PartId,
+    k: ThreadNo,
+    before: Option<ThreadNo>,
+    priority: Priority,
+)
+    requires partition { (p < length threads.old.threads) × (p < length threads.old.queues) }
+    requires slot { k ≤ length (part_of threads.old.threads p) }
+    ensures { threads.new ≡ with_queues p (with_refiled before priority k) threads.old }
+{
+    threads.take(p, k);
+    match before {
+        Some(before) => threads.insert(p, k, before),
+        None => threads.append(p, QueueName::Ready(priority), k),
+    }
+}

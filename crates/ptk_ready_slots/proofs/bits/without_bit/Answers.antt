@@ -1,5 +1,0 @@
-use Rattle.ptk_ready_slots.proofs.Masks.{clear_bit, cleared_less}
-use Rattle.ptk_ready_slots.proofs.bits.without_bit.Goals as goal
-
-pub returns : goal.returns
-returns c = record { changed = clear_bit c.args.bits c.args.i c.requires; fewer = cleared_less c.args.bits c.args.i c.requires }

@@ -1,5 +1,0 @@
-use Rattle.ptk_ready_slots.proofs.Lists.{none_filed}
-use Rattle.ptk_ready_slots.proofs.entries.LinkedEntries.new.Goals as goal
-
-pub returns : goal.returns
-returns g c = λ lists stored none. none_filed g.row.LIMIT lists stored _ none
