@@ -109,7 +109,7 @@ module _ (frame : ℕ) (tables : List Table) (are : ArePlanned frame tables) whe
 
   -- ---- the next window
   -- the tick lies in the window
-  pub inside : (p tick : ℕ) (near : Near) (w : Window) → near.frame ≡ frame → tick ≤ 2199023255552 → HasTick frame tables near.stage near.frame_start → near.place < length (groups_at tables near.stage) → get_or (groups_at tables near.stage) near.place w ≡ w → w.partition ≡ p
+  pub inside : (p tick : ℕ) (near : Near) (w : Window) → near.frame ≡ frame → tick ≤ 144115188075855872 → HasTick frame tables near.stage near.frame_start → near.place < length (groups_at tables near.stage) → get_or (groups_at tables near.stage) near.place w ≡ w → w.partition ≡ p
       → near.frame_start + w.start ≤ tick → tick < near.frame_start + (w.start + w.length) → IsNextFrom frame tables p tick near
   inside p tick near w of_frame time has below is same begun after =
       let ws = groups_at tables near.stage in
@@ -131,7 +131,7 @@ module _ (frame : ℕ) (tables : List Table) (are : ArePlanned frame tables) whe
       }
 
   -- the window stands after one that has ended
-  pub following : (p tick : ℕ) (near : Near) (i : ℕ) (w : Window) → near.frame ≡ frame → tick ≤ 2199023255552 → HasTick frame tables near.stage near.frame_start → near.frame_start ≤ tick
+  pub following : (p tick : ℕ) (near : Near) (i : ℕ) (w : Window) → near.frame ≡ frame → tick ≤ 144115188075855872 → HasTick frame tables near.stage near.frame_start → near.frame_start ≤ tick
       → near.place ≡ i + 1 → near.place < length (groups_at tables near.stage) → get_or (groups_at tables near.stage) near.place w ≡ w → w.partition ≡ p → tick < near.frame_start + (w.start + w.length)
       → ((d : Window) → (get_or (groups_at tables near.stage) i d).partition ≡ p)
       → ((d : Window) → near.frame_start + ((get_or (groups_at tables near.stage) i d).start + (get_or (groups_at tables near.stage) i d).length) ≤ tick)
@@ -168,7 +168,7 @@ module _ (frame : ℕ) (tables : List Table) (are : ArePlanned frame tables) whe
       omega (arith, past, held.4.1.1, place, from, low)
 
   -- the first window of the next frame, where all in this one ended
-  pub anew : (p tick start i : ℕ) (near : Near) (w : Window) → near.frame ≡ frame → tick ≤ 2199023255552 → start ≤ tick → start % frame ≡ 0 → HasTick frame tables i start
+  pub anew : (p tick start i : ℕ) (near : Near) (w : Window) → near.frame ≡ frame → tick ≤ 144115188075855872 → start ≤ tick → start % frame ≡ 0 → HasTick frame tables i start
       → All (λ v. v.partition ≡ p → start + (v.start + v.length) ≤ tick) (groups_at tables i) → near.frame_start ≡ start + frame → HasTick frame tables near.stage near.frame_start
       → IsFirst (groups_at tables near.stage) p near.place → get_or (groups_at tables near.stage) near.place w ≡ w → tick < near.frame_start + (w.start + w.length) → IsNextFrom frame tables p tick near
   anew p tick start i near w of_frame time begun aligned has ended starts has_next first is after =
@@ -186,7 +186,7 @@ module _ (frame : ℕ) (tables : List Table) (are : ArePlanned frame tables) whe
       }
 
   -- the first window that ends after the tick in its frame
-  pub found : (p tick : ℕ) (near : Near) → near.frame ≡ frame → tick ≤ 2199023255552 → near.frame_start ≡ tick - tick % frame → HasTick frame tables near.stage tick
+  pub found : (p tick : ℕ) (near : Near) → near.frame ≡ frame → tick ≤ 144115188075855872 → near.frame_start ≡ tick - tick % frame → HasTick frame tables near.stage tick
       → IsFirstAfter (groups_at tables near.stage) p (tick % frame) near.place → IsNextFrom frame tables p tick near
   found p tick near of_frame time starts has first =
       let positive = are.plan.frame in
@@ -251,7 +251,7 @@ module _ (frame : ℕ) (tables : List Table) (are : ArePlanned frame tables) whe
       omega (arith, past, held.4.1.1)
 
   -- the partition's first window in the frame at which the look-up came to the stage
-  pub later_found : (p from : ℕ) (near : Near) → near.frame ≡ frame → from ≤ 4398046511104 → from_at tables near.stage ≤ 68719476736 → near.frame_start ≡ max from (from_at tables near.stage * frame) → HasTick frame tables near.stage near.frame_start
+  pub later_found : (p from : ℕ) (near : Near) → near.frame ≡ frame → from ≤ 288230376151711744 → from_at tables near.stage ≤ 68719476736 → near.frame_start ≡ max from (from_at tables near.stage * frame) → HasTick frame tables near.stage near.frame_start
       → NoneBefore p from near.stage → IsFirstAfter (groups_at tables near.stage) p 0 near.place → IsNextFrom frame tables p from near
   later_found p from near of_frame time early starts has none first =
       record {

@@ -34,7 +34,7 @@ stage_is [] i t e below is = absurd (omega arith)
 stage_is (u ∷ tables) zero t e below is = ap stage_of is
 stage_is (u ∷ tables) (suc i) t e below is = stage_is tables i t e (omega (arith, below)) is
 
-number_is : (tables : List Table) (i : ℕ) (e : Stage) → i < length tables → (get_or (map stage_of tables) i e).from ≡ from_at tables i
+pub number_is : (tables : List Table) (i : ℕ) (e : Stage) → i < length tables → (get_or (map stage_of tables) i e).from ≡ from_at tables i
 number_is [] i e below = absurd (omega arith)
 number_is (u ∷ tables) zero e below = refl
 number_is (u ∷ tables) (suc i) e below = number_is tables i e (omega (arith, below))

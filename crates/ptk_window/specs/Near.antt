@@ -11,7 +11,7 @@ use Rattle.ptk_window.specs.Stages.{HasTick, groups_at, plan_of}
 pub record IsNextFrom (frame : ℕ) (tables : List Table) (p tick : ℕ) (near : Near) : Type 0 where
   pub of_frame : near.frame ≡ frame
   pub has : HasTick frame tables near.stage near.frame_start
-  pub room : near.frame_start ≤ 72057594037927936
+  pub room : near.frame_start ≤ 288230376151711744
   -- the window is the partition's and ends after the tick
   pub window : Window
   pub within : near.place < length (groups_at tables near.stage)

@@ -36,7 +36,7 @@ way_of frame tables p near stay =
 pub record IsHere (frame : ℕ) (tables : List Table) (p : ℕ) (near : Near) (stay : Stay) : Type 0 where
   pub of_frame : near.frame ≡ frame
   pub has : HasTick frame tables near.stage near.frame_start
-  pub room : near.frame_start ≤ 72057594037927936
+  pub room : near.frame_start ≤ 288230376151711744
   pub within : near.place < length (groups_at tables near.stage)
   pub own : (d : Window) → (slice_index_or (groups_at tables near.stage) near.place d).partition ≡ p
   pub first : IsFirst (groups_at tables near.stage) p stay.first

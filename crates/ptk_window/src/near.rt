@@ -60,7 +60,7 @@ impl Near {
         tick: Tick,
     ) -> bool
         requires planned { ArePlanned frame tables.now }
-        requires time { tick ≤ 2 ^ 41 }
+        requires time { tick ≤ 2 ^ 57 }
         ensures { MatchBool result
             (IsNextFrom frame tables.now partition tick self.new)
             ((k : ℕ) → tick ≤ k → ¬ IsOwn (plan_of frame tables.now) partition k) }
@@ -76,7 +76,7 @@ impl Near {
     #[inline(always)]
     fn goes_on(&mut self, tables: &[Table], frame: u32, partition: PartId, tick: Tick) -> bool
         requires planned { ArePlanned frame tables.now }
-        requires time { tick ≤ 2 ^ 41 }
+        requires time { tick ≤ 2 ^ 57 }
         ensures { IsTrue result → IsNextFrom frame tables.now partition tick self.new }
     {
         if self.frame != frame || tick.ticks() < self.frame_start || !self.is_in_stage(tables) {
@@ -111,7 +111,7 @@ impl Near {
     /// first in the next frame. False where that one ended by the tick too.
     fn moves_on(&mut self, tables: &[Table], partition: PartId, tick: Tick) -> bool
         requires planned { ArePlanned self.old.frame tables.now }
-        requires time { tick ≤ 2 ^ 41 }
+        requires time { tick ≤ 2 ^ 57 }
         requires begun { self.old.frame_start ≤ tick }
         requires has { HasTick self.old.frame tables.now self.old.stage self.old.frame_start }
         requires place { self.old.place < length (groups_at tables.now self.old.stage) }
@@ -134,7 +134,7 @@ impl Near {
     /// that one ended by the tick too, or no such window is known.
     fn begins_anew(&mut self, tables: &[Table], partition: PartId, tick: Tick) -> bool
         requires planned { ArePlanned self.old.frame tables.now }
-        requires time { tick ≤ 2 ^ 41 }
+        requires time { tick ≤ 2 ^ 57 }
         requires begun { self.old.frame_start ≤ tick }
         requires has { HasTick self.old.frame tables.now self.old.stage self.old.frame_start }
         requires ended { All (λ w. w.partition ≡ partition → self.old.frame_start + (w.start + w.length) ≤ tick)
@@ -168,12 +168,12 @@ impl Near {
     ) -> bool
         requires planned { ArePlanned self.old.frame tables.now }
         requires has { HasTick self.old.frame tables.now self.old.stage self.old.frame_start }
-        requires room { self.old.frame_start ≤ 72057594037927936 }
+        requires room { self.old.frame_start ≤ 288230376151711744 }
         requires place { self.old.place < length (groups_at tables.now self.old.stage) }
         requires own { (d : Window) → (slice_index_or (groups_at tables.now self.old.stage) self.old.place d).partition ≡ partition }
         requires first { IsFirst (groups_at tables.now self.old.stage) partition first }
         requires stage_end { self.old.stage + 1 < length tables.now → stage_end ≡ from_at tables.now (self.old.stage + 1) * self.old.frame }
-        ensures next { IsTrue result → (tick : ℕ) → tick ≤ 2 ^ 41 → ((d : Window) → IsEndAt tables.now self.old d tick) → IsNextFrom self.old.frame tables.now partition tick self.new }
+        ensures next { IsTrue result → (tick : ℕ) → tick ≤ 2 ^ 57 → ((d : Window) → IsEndAt tables.now self.old d tick) → IsNextFrom self.old.frame tables.now partition tick self.new }
         ensures stage { self.new.stage ≡ self.old.stage }
         ensures stays { result ≡ false → self.new ≡ self.old }
     {
@@ -231,7 +231,7 @@ impl Near {
         tick: Tick,
     ) -> bool
         requires planned { ArePlanned frame tables.now }
-        requires time { tick ≤ 2 ^ 41 }
+        requires time { tick ≤ 2 ^ 57 }
         ensures { MatchBool result
             (IsNextFrom frame tables.now partition tick self.new)
             ((k : ℕ) → tick ≤ k → ¬ IsOwn (plan_of frame tables.now) partition k) }
@@ -268,7 +268,7 @@ impl Near {
         from: u64,
     ) -> bool
         requires planned { ArePlanned frame tables.now }
-        requires time { from ≤ 2 ^ 42 }
+        requires time { from ≤ 2 ^ 58 }
         requires aligned { from % frame ≡ 0 }
         requires stage { stage < length tables.now }
         requires begun { from_at tables.now stage * frame ≤ from }

@@ -31,10 +31,10 @@ impl Model for WindowPlan {
     ghost invariant = { λ a. ArePlanned a.frame a.tables.items };
 }
 
-ghost use Rattle.std.specs.Prelude.{◌≡◌, ◌≢◌, ℕ, ◌+◌, ◌^◌, ◌<◌, ◌≤◌, None, Some, IfSome, IfOk, IfErr, MatchOption, All, map};
+ghost use Rattle.std.specs.Prelude.{◌≡◌, ◌≢◌, ℕ, ◌+◌, ◌*◌, ◌^◌, ◌<◌, ◌≤◌, None, Some, IfSome, IfOk, IfErr, MatchOption, All, length, map, slice_index_or};
 ghost use Rattle.ptk_words_windows.specs.WindowFaults.{plan_fault, window_fault};
 ghost use Rattle.ptk_window.specs.Stages.{stage_of};
-ghost use Rattle.ptk_words_windows.specs.Windows.{IsOwn, IsFirstOwn, IsOwnUntil, IsPlan, own_ticks, windows_at};
+ghost use Rattle.ptk_words_windows.specs.Windows.{IsOwn, IsFirstOwn, IsOwnUntil, IsPlan, Stage, own_ticks, windows_at};
 ghost use Rattle.ptk_window.specs.Order.{IsKept, end_of};
 ghost use Rattle.ptk_window.specs.Turn.{IsTurn, IsShort, IsSoon};
 
@@ -74,6 +74,23 @@ impl WindowPlan {
         self.frame
     }
 
+    /// How many stages it has, at least one.
+    pub fn stages(&self) -> usize
+        ensures { result ≡ length self.now.stages }
+    {
+        self.tables.len()
+    }
+
+    /// The tick at which a stage begins, that is the first one of the frame of its number, which comes before 2^56.
+    pub fn begin_of(&self, stage: usize) -> Tick
+        requires { stage < length self.now.stages }
+        ensures begin { (d : Stage) → result ≡ (slice_index_or self.now.stages stage d).from * self.now.frame }
+        ensures early { result ≤ 2 ^ 56 }
+    {
+        let tables = self.tables.as_slice();
+        Tick::new(tables[stage].begin())
+    }
+
     /// The windows in the frame that holds the tick, as they were given.
     pub fn windows_at(&self, tick: Tick) -> &[Window]
         ensures { result.now ≡ windows_at self.now tick }
@@ -91,10 +108,10 @@ impl WindowPlan {
         let _ = &self.frame;
     }
 
-    /// The partition whose window holds the tick, which is at most 2^41, and the first tick after that window,
+    /// The partition whose window holds the tick, which is at most 2^57, and the first tick after that window,
     /// which comes at most a frame later. None where the tick lies in no window.
     pub fn at(&self, tick: Tick) -> Option<(PartId, Tick)>
-        requires { tick ≤ 2 ^ 41 }
+        requires { tick ≤ 2 ^ 57 }
         ensures own { MatchOption result
             ((p : ℕ) → ¬ IsOwn self.now p tick)
             (λ found. IsOwnUntil self.now found.0 tick found.1) }
@@ -109,11 +126,11 @@ impl WindowPlan {
         Some((window.partition, Tick::new(end)))
     }
 
-    /// The partition's first own tick that is not before the tick, which is at most 2^41. It comes less than a
+    /// The partition's first own tick that is not before the tick, which is at most 2^57. It comes less than a
     /// frame later, or less than a frame after the last stage begins. None where the partition has no tick from this
     /// one on.
     pub fn next_of(&self, partition: PartId, tick: Tick) -> Option<Tick>
-        requires { tick ≤ 2 ^ 41 }
+        requires { tick ≤ 2 ^ 57 }
         ensures first { MatchOption result
             ((n : ℕ) → tick ≤ n → ¬ IsOwn self.now partition n)
             (IsFirstOwn self.now partition tick) }
@@ -137,14 +154,14 @@ impl WindowPlan {
         Walk::new(self.tables.as_slice(), self.frame, partition, near)
     }
 
-    /// The partition's first own tick that is not before the tick, which is at most 2^41, and the end of the window
+    /// The partition's first own tick that is not before the tick, which is at most 2^57, and the end of the window
     /// that holds it. None where the partition has no tick from this one on.
     ///
     /// Whatever `near` is, the answer is the same. Where the window that it was left at holds the tick, or the
     /// partition's next one comes next, in this frame or the next one, there is no search and no division.
     #[inline(always)]
     pub fn turn_from(&self, partition: PartId, tick: Tick, near: &mut Near) -> Option<Turn>
-        requires { tick ≤ 2 ^ 41 }
+        requires { tick ≤ 2 ^ 57 }
         ensures turn { MatchOption result
             ((own_ticks self.now partition).next_of tick ≡ None)
             (IsTurn self.now partition tick) }

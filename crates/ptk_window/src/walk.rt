@@ -63,12 +63,12 @@ impl<'a> Walk<'a> {
         self.near
     }
 
-    /// The partition's first own tick that is not before this one, which is at most 2^41, and the end of the window that
+    /// The partition's first own tick that is not before this one, which is at most 2^57, and the end of the window that
     /// holds it. Where it is known at which window the way is, that one ends at this tick. None where the partition has
     /// no tick from this one on.
     #[inline(always)]
     pub fn turn_after(&mut self, end: Tick) -> Option<Turn>
-        requires time { end ≤ 2 ^ 41 }
+        requires time { end ≤ 2 ^ 57 }
         requires at { IfSome self.old.end (λ at. at ≡ end) }
         ensures same { (self.new.plan ≡ self.old.plan) × (self.new.partition ≡ self.old.partition) }
         ensures turn { MatchOption result
@@ -93,7 +93,7 @@ impl<'a> Walk<'a> {
     #[cold]
     #[inline(never)]
     fn look_up(&mut self, tick: Tick) -> Option<Turn>
-        requires { tick ≤ 2 ^ 41 }
+        requires { tick ≤ 2 ^ 57 }
         ensures same { (self.new.plan ≡ self.old.plan) × (self.new.partition ≡ self.old.partition) }
         ensures turn { MatchOption result
             ((own_ticks self.old.plan self.old.partition).next_of tick ≡ None)

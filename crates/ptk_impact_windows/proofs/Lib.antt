@@ -1,0 +1,4 @@
+pub mod Repeats
+pub mod Spreads
+pub mod Turns
+pub mod Joined
