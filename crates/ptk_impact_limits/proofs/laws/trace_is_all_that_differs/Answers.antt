@@ -1,0 +1,8 @@
+use Rattle.ptk_words_model.specs.Run.{alone}
+use Rattle.ptk_impact_limits.specs.Deeper.{with_trace}
+use Rattle.ptk_impact_limits.proofs.Runs.{runs_same, all_but}
+use Rattle.ptk_impact_limits.proofs.laws.trace_is_all_that_differs.Goals as goal
+
+pub returns : goal.returns
+returns c ticks limits image input kept n =
+    all_but limits kept (alone ticks (with_trace kept limits) image input n) (alone ticks limits image input n) (runs_same ticks limits image input kept n)
