@@ -2,3 +2,7 @@ pub mod Placed
 pub mod Walks
 pub mod Windows
 pub mod Refusals
+pub mod Lookup
+pub mod Words
+pub mod Reasons
+pub mod Explained

@@ -1,9 +1,9 @@
-//! Where a configuration is refused: the place of its first fault. `first_refusal` promises that a place is told
-//! exactly where the text is refused, that the fault is the one that `read_config` answers, and that its place is that
-//! of `text_walk` of `specs/`: the checks in their order, each with its place. `explain_refusal` writes it in words,
-//! with a reason that is looked up in the document; that nothing is written of an accepted text is promised, the words
-//! are tested. Below stands `ptk_config`, whose definitions and functions of each check these are; above stand
-//! `ptk_config_table` and the program. Dear to prove is `walk_table`, over a whole document; the law that places leave
+//! Where a configuration is refused: the place of its first fault. `first_refusal` promises that there is a place if and
+//! only if the text is refused, that the fault is the one that `read_config` answers, and that its place is that of
+//! `text_walk` of `specs/`: the checks in their order, each with its place. `explain_refusal` writes it in words, with a
+//! reason that is looked up in the document; the bytes written are those of `refusal_line` of `specs/Reasons`, and none
+//! for an accepted text. Below stands `ptk_config`, whose definitions and functions of each check these are; above stand
+//! `ptk_config_table` and the program. Costly to prove is `walk_table`, over a whole document; the law that places leave
 //! each fault as it is stands in `proofs/Forgotten`.
 #![tactic(auto)]
 

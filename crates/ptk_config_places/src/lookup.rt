@@ -1,24 +1,27 @@
 //! What stands at a place of a document.
 
+ghost use Rattle.std.specs.Prelude.{◌≡◌, ◌<◌, ◌^◌, IfSome, option_map};
+ghost use Rattle.toml.specs.View.{view, table_view};
+ghost use Rattle.ptk_config_places.specs.Lookup as found;
+
 use crate::place::{Key, Place, TablePlace};
+use ptk_config::parts::value_at as value_at_key;
 use toml::{Table, Value};
 
 /// The item of this number, from 1, of the array at a key.
-fn item_at<'a>(table: &'a Table, key: Key, number: usize) -> Option<&'a Value> {
-    if number == 0 {
-        return None;
-    }
-    match table.get(key.name()) {
-        Some(value) => match value.as_array() {
-            Some(items) => items.get(number - 1),
-            None => None,
-        },
-        None => None,
+fn item_at<'a>(table: &'a Table, key: Key, number: usize) -> Option<&'a Value>
+    ensures { option_map (λ v. view v.now) result ≡ found.item_at (table_view table.now) key number }
+{
+    match value_at_key(table, key.name()) {
+        Some(value) if number > 0 => value.get(number - 1),
+        _ => None,
     }
 }
 
 /// The table that is an item of the array at a key.
-fn table_in<'a>(table: &'a Table, key: Key, number: usize) -> Option<&'a Table> {
+fn table_in<'a>(table: &'a Table, key: Key, number: usize) -> Option<&'a Table>
+    ensures { option_map (λ t. table_view t.now) result ≡ found.table_in (table_view table.now) key number }
+{
     match item_at(table, key, number) {
         Some(value) => value.as_table(),
         None => None,
@@ -26,7 +29,9 @@ fn table_in<'a>(table: &'a Table, key: Key, number: usize) -> Option<&'a Table> 
 }
 
 /// What stands where a table should, None for the document's own.
-pub(crate) fn value_of(document: &Table, place: TablePlace) -> Option<&Value> {
+pub(crate) fn value_of(document: &Table, place: TablePlace) -> Option<&Value>
+    ensures { option_map (λ v. view v.now) result ≡ found.data_of (table_view document.now) place }
+{
     match place {
         TablePlace::Top => None,
         TablePlace::Section(section) => item_at(document, Key::Partition, section),
@@ -44,7 +49,9 @@ pub(crate) fn value_of(document: &Table, place: TablePlace) -> Option<&Value> {
 }
 
 /// The table of a place.
-pub(crate) fn table_of(document: &Table, place: TablePlace) -> Option<&Table> {
+pub(crate) fn table_of(document: &Table, place: TablePlace) -> Option<&Table>
+    ensures { option_map (λ t. table_view t.now) result ≡ found.table_of (table_view document.now) place }
+{
     match place {
         TablePlace::Top => Some(document),
         TablePlace::Section(_)
@@ -58,18 +65,34 @@ pub(crate) fn table_of(document: &Table, place: TablePlace) -> Option<&Table> {
 }
 
 /// The value at a key of a table.
-pub(crate) fn value_at(document: &Table, place: TablePlace, key: Key) -> Option<&Value> {
+pub(crate) fn value_at(document: &Table, place: TablePlace, key: Key) -> Option<&Value>
+    ensures { option_map (λ v. view v.now) result ≡ found.value_at (table_view document.now) place key }
+{
     match table_of(document, place) {
-        Some(table) => table.get(key.name()),
+        Some(table) => value_at_key(table, key.name()),
         None => None,
     }
 }
 
+/// The number, where it is not negative.
+fn natural(number: i64) -> Option<u64>
+    ensures value { result ≡ found.natural number }
+    ensures small { IfSome result (λ n. n < 2 ^ 63) }
+{
+    match u64::try_from(number) {
+        Ok(number) => Some(number),
+        Err(_) => None,
+    }
+}
+
 /// The number at a key of a table that is not negative.
-pub(crate) fn number_at(document: &Table, place: TablePlace, key: Key) -> Option<u64> {
+pub(crate) fn number_at(document: &Table, place: TablePlace, key: Key) -> Option<u64>
+    ensures value { result ≡ found.number_at (table_view document.now) place key }
+    ensures small { IfSome result (λ n. n < 2 ^ 63) }
+{
     match value_at(document, place, key) {
         Some(value) => match value.as_integer() {
-            Some(number) => u64::try_from(number).ok(),
+            Some(number) => natural(number),
             None => None,
         },
         None => None,
@@ -77,7 +100,9 @@ pub(crate) fn number_at(document: &Table, place: TablePlace, key: Key) -> Option
 }
 
 /// The text at a key of a table.
-pub(crate) fn text_at(document: &Table, place: TablePlace, key: Key) -> Option<&str> {
+pub(crate) fn text_at(document: &Table, place: TablePlace, key: Key) -> Option<&str>
+    ensures { option_map (λ s. s.now) result ≡ found.text_at (table_view document.now) place key }
+{
     match value_at(document, place, key) {
         Some(value) => value.as_str(),
         None => None,
@@ -85,7 +110,10 @@ pub(crate) fn text_at(document: &Table, place: TablePlace, key: Key) -> Option<&
 }
 
 /// How many items the array at a key of a table has.
-pub(crate) fn count_at(document: &Table, place: TablePlace, key: Key) -> Option<usize> {
+#[tactic(auto, using(ptk_config::proofs::Walks::counts))]
+pub(crate) fn count_at(document: &Table, place: TablePlace, key: Key) -> Option<usize>
+    ensures { result ≡ found.count_at (table_view document.now) place key }
+{
     match value_at(document, place, key) {
         Some(value) => match value.as_array() {
             Some(items) => Some(items.len()),
@@ -96,7 +124,9 @@ pub(crate) fn count_at(document: &Table, place: TablePlace, key: Key) -> Option<
 }
 
 /// What stands at a place.
-pub(crate) fn value_there(document: &Table, place: Place) -> Option<&Value> {
+pub(crate) fn value_there(document: &Table, place: Place) -> Option<&Value>
+    ensures { option_map (λ v. view v.now) result ≡ found.value_there (table_view document.now) place }
+{
     match place {
         Place::Text => None,
         Place::Table(table) => value_of(document, table),
@@ -109,7 +139,9 @@ pub(crate) fn value_there(document: &Table, place: Place) -> Option<&Value> {
 }
 
 /// The section that a place is in.
-pub(crate) fn section_of(place: Place) -> Option<usize> {
+pub(crate) fn section_of(place: Place) -> Option<usize>
+    ensures { result ≡ found.section_of place }
+{
     match place {
         Place::Text => None,
         Place::Table(table) | Place::Key(table, _) | Place::Item(table, _, _) => match table {

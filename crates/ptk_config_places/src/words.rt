@@ -1,9 +1,85 @@
 //! A place and a reason in words.
 
-use crate::place::{Key, Place, TablePlace};
+ghost use Rattle.std.specs.Prelude.{◌≡◌, Some};
+ghost use Rattle.ptk_config_places.specs.Words as words;
+
+use crate::place::{Place, TablePlace};
 use std::fmt;
 
-/// What the words of a place say besides it: the name of its section, where it has one.
+/// A section in words: its number, and its name where it is shown.
+#[derive(Clone, Copy)]
+struct SectionWords<'a> {
+    section: usize,
+    name: Option<&'a str>,
+}
+
+impl fmt::Display for SectionWords<'_> {
+    ghost output = { λ s. Some (words.section_words s.section (words.read s.name)) };
+
+    fn fmt<W: fmt::Write>(&self, f: &mut fmt::Formatter<W>) -> fmt::Result {
+        let section = self.section;
+        match self.name {
+            Some(name) => write!(f, "section {section} \"{name}\""),
+            None => write!(f, "section {section}"),
+        }
+    }
+}
+
+/// A table in words, in the section of this name.
+#[derive(Clone, Copy)]
+struct TableWords<'a> {
+    table: TablePlace,
+    name: Option<&'a str>,
+}
+
+impl fmt::Display for TableWords<'_> {
+    ghost output = { λ t. Some (words.table_words t.table (words.read t.name)) };
+
+    fn fmt<W: fmt::Write>(&self, f: &mut fmt::Formatter<W>) -> fmt::Result {
+        let name = self.name;
+        match self.table {
+            TablePlace::Top => f.write_str("the document"),
+            TablePlace::Section(section) => {
+                let words = SectionWords { section, name };
+                write!(f, "{words}")
+            }
+            TablePlace::Input(section, input) => {
+                let words = SectionWords { section, name };
+                write!(f, "{words}, input {input}")
+            }
+            TablePlace::Plan(plan) => write!(f, "plan {plan}"),
+            TablePlace::Window(0, window) => write!(f, "window {window}"),
+            TablePlace::Window(plan, window) => write!(f, "plan {plan}, window {window}"),
+        }
+    }
+}
+
+/// What stands before a key: its table, unless that is the document's own.
+#[derive(Clone, Copy)]
+struct WithinWords<'a> {
+    table: TablePlace,
+    name: Option<&'a str>,
+}
+
+impl fmt::Display for WithinWords<'_> {
+    ghost output = { λ t. Some (words.within_words t.table (words.read t.name)) };
+
+    fn fmt<W: fmt::Write>(&self, f: &mut fmt::Formatter<W>) -> fmt::Result {
+        let (table, name) = (self.table, self.name);
+        match table {
+            TablePlace::Top => f.write_str(""),
+            TablePlace::Section(_)
+            | TablePlace::Input(..)
+            | TablePlace::Plan(_)
+            | TablePlace::Window(..) => {
+                let words = TableWords { table, name };
+                write!(f, "{words}, ")
+            }
+        }
+    }
+}
+
+/// A place in words, in the section of this name.
 #[derive(Clone, Copy)]
 pub(crate) struct Located<'a> {
     place: Place,
@@ -12,61 +88,31 @@ pub(crate) struct Located<'a> {
 
 impl<'a> Located<'a> {
     /// The place, in the section of this name.
-    pub(crate) fn new(place: Place, name: Option<&'a str>) -> Located<'a> {
+    pub(crate) fn new(place: Place, name: Option<&'a str>) -> Located<'a>
+        ensures { result ≡ record { place = place; name = name.entry } }
+    {
         Located { place, name }
-    }
-
-    // The words of a table, for a place within it with a comma behind them.
-    fn write_table<W: fmt::Write>(
-        &self,
-        f: &mut fmt::Formatter<W>,
-        table: TablePlace,
-        within: bool,
-    ) -> fmt::Result {
-        let end = if within { ", " } else { "" };
-        match table {
-            TablePlace::Top => f.write_str(if within { "" } else { "the document" }),
-            TablePlace::Section(section) => {
-                self.write_section(f, section)?;
-                f.write_str(end)
-            }
-            TablePlace::Input(section, input) => {
-                self.write_section(f, section)?;
-                write!(f, ", input {input}{end}")
-            }
-            TablePlace::Plan(plan) => write!(f, "plan {plan}{end}"),
-            TablePlace::Window(0, window) => write!(f, "window {window}{end}"),
-            TablePlace::Window(plan, window) => write!(f, "plan {plan}, window {window}{end}"),
-        }
-    }
-
-    // The number of a section and its name.
-    fn write_section<W: fmt::Write>(
-        &self,
-        f: &mut fmt::Formatter<W>,
-        section: usize,
-    ) -> fmt::Result {
-        match self.name {
-            Some(name) => write!(f, "section {section} \"{name}\""),
-            None => write!(f, "section {section}"),
-        }
     }
 }
 
 impl fmt::Display for Located<'_> {
+    ghost output = { λ l. Some (words.place_words l.place (words.read l.name)) };
+
     fn fmt<W: fmt::Write>(&self, f: &mut fmt::Formatter<W>) -> fmt::Result {
+        let name = self.name;
         match self.place {
             Place::Text => f.write_str("the text"),
-            Place::Table(table) => self.write_table(f, table, false),
+            Place::Table(table) => {
+                let words = TableWords { table, name };
+                write!(f, "{words}")
+            }
             Place::Key(table, key) => {
-                self.write_table(f, table, true)?;
-                let key = key.name();
-                write!(f, "key {key}")
+                let (words, key) = (WithinWords { table, name }, key.name());
+                write!(f, "{words}key {key}")
             }
             Place::Item(table, key, item) => {
-                self.write_table(f, table, true)?;
-                let key = key.name();
-                write!(f, "key {key}, item {item}")
+                let (words, key) = (WithinWords { table, name }, key.name());
+                write!(f, "{words}key {key}, item {item}")
             }
         }
     }
@@ -110,6 +156,8 @@ pub(crate) enum Reason<'a> {
 }
 
 impl fmt::Display for Reason<'_> {
+    ghost output = { λ r. Some (words.reason_words r) };
+
     fn fmt<W: fmt::Write>(&self, f: &mut fmt::Formatter<W>) -> fmt::Result {
         match *self {
             Reason::Missing => f.write_str("missing"),

@@ -1,7 +1,12 @@
-//! What a text comes to.
+//! What a text amounts to.
 
-ghost use Rattle.std.specs.Prelude.{◌≡◌, IfOk};
+ghost use Rattle.std.specs.Prelude.{◌≡◌, ◌≢◌, ◌+◌, Ok, None, IfOk, IfErr, OnOk, map};
+ghost use Rattle.std.specs.Io.KnownBytes.{Appends};
+ghost use Rattle.toml.specs.View.{table_view};
+ghost use Rattle.ptk_config.specs.Configuration.{configuration, configuration_in};
 ghost use Rattle.ptk_config_places.specs.Refusals.{text_walk, refusal_of};
+ghost use Rattle.ptk_config_table.specs.Images.{outcome_in};
+ghost use Rattle.ptk_config_table.specs.Explained.{IsAccepted, IsExplained, accepted_text, refused_line};
 
 use crate::images::{Outcome, first_refused, outcomes_of, put_image};
 use crate::table::put_table;
@@ -18,13 +23,16 @@ fn put_refused<W: Write>(
     section: &Section,
     outcome: Outcome,
     out: &mut W,
-) -> Result<(), ExplainFault> {
+) -> Result<(), ExplainFault>
+    ensures written { OnOk result (Appends (W.contents out.old) (W.contents out.new) (refused_line number section.now outcome)) }
+    ensures failed { IfErr result (λ fault. fault ≡ ExplainFault.Write) }
+{
     let name = section.name();
     write!(out, "section {number} \"{name}\", ")?;
     put_image(section, outcome, out)
 }
 
-/// Writes what a configuration comes to with these files: one line of the first image that is refused, if one is; else
+/// Writes what a configuration amounts to with these files: one line of the first image that is refused, if one is; else
 /// of each partition its numbers, its image and what that leaves of the memory below the stacks, and its windows with
 /// their share of the frame, stage by stage. The document is the one that states the configuration.
 fn explain_config<W: Write>(
@@ -33,7 +41,11 @@ fn explain_config<W: Write>(
     document: &Table,
     files: &Files,
     out: &mut W,
-) -> Result<(), ExplainFault> {
+) -> Result<(), ExplainFault>
+    requires { configuration (table_view document.now) ≡ Ok config.now }
+    ensures written { OnOk result (Appends (W.contents out.old) (W.contents out.new) (accepted_text files.now config.now)) }
+    ensures silent { IfErr result (λ fault. fault ≢ ExplainFault.Write → out.new ≡ out.old) }
+{
     let sections = config.sections();
     let outcomes = outcomes_of(alloc, sections, files)?;
     match first_refused(&outcomes) {
@@ -42,23 +54,27 @@ fn explain_config<W: Write>(
     }
 }
 
-/// Writes what an accepted text comes to with these files.
+/// Writes what an accepted text amounts to with these files.
 fn explain_accepted<W: Write>(
     alloc: Global,
     text: &str,
     files: &Files,
     out: &mut W,
-) -> Result<(), ExplainFault> {
+) -> Result<(), ExplainFault>
+    ensures written { OnOk result (IsAccepted files.now (configuration_in text.now) (W.contents out.old) (W.contents out.new)) }
+    ensures silent { IfErr result (λ fault. fault ≢ ExplainFault.Write → out.new ≡ out.old) }
+{
     match (read_config(alloc, text), toml::table_from_str(alloc, text)) {
         (Ok(config), Ok(document)) => explain_config(alloc, &config, &document, files, out),
         _ => Err(ExplainFault::Memory),
     }
 }
 
-/// Writes what a text comes to with these files: of a configuration that is refused one line that says where and why;
+/// Writes what a text amounts to with these files: of a configuration that is refused one line that says where and why;
 /// of one that is accepted one line that says which image is refused first and why, and where none is, what each
-/// partition has. Answers the first fault of the text with its place, None where the text is accepted; the files play
-/// no part in that. An error where memory was refused or the writer fails.
+/// partition has. Returns the first fault of the text with its place, None where the text is accepted; the files play
+/// no part in that. An error where memory was refused, with the writer as it was, or where the writer fails; how much of
+/// the text it then has is not said.
 pub fn explain<W: Write>(
     alloc: Global,
     text: &str,
@@ -66,6 +82,8 @@ pub fn explain<W: Write>(
     out: &mut W,
 ) -> Result<Option<Refusal>, ExplainFault>
     ensures place { IfOk result (λ found. found ≡ refusal_of (text_walk text.now)) }
+    ensures written { IfOk result (λ found. IsExplained files.now text.now found (W.contents out.old) (W.contents out.new)) }
+    ensures silent { IfErr result (λ fault. fault ≢ ExplainFault.Write → out.new ≡ out.old) }
 {
     let found = explain_refusal(alloc, text, out)?;
     if found.is_none() {

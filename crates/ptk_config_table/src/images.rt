@@ -1,6 +1,9 @@
-//! What the images of an accepted configuration come to, and the first that is refused.
+//! What the images of an accepted configuration amount to, and the first that is refused.
 
-ghost use Rattle.std.specs.Prelude.{◌≡◌, ◌<◌, IfOk, IfSome, length};
+ghost use Rattle.std.specs.Prelude.{◌≡◌, ◌<◌, Some, IfOk, IfErr, IfSome, OnOk, length, map, position};
+ghost use Rattle.std.specs.Io.KnownBytes.{Appends};
+ghost use Rattle.ptk_words.specs.Ranges.{IsWithinLimits};
+ghost use Rattle.ptk_config_table.specs.Images as images;
 
 use ptk_config::Section;
 use ptk_config_places::ExplainFault;
@@ -11,10 +14,10 @@ use std::alloc::{AllocError, Global};
 use std::fmt;
 use std::io::Write;
 
-/// What the image of a section comes to.
+/// What the image of a section amounts to.
 #[derive(Clone, Copy)]
 pub(crate) enum Outcome {
-    /// The section names none; so many bytes are free below the stacks.
+    /// The section names none; this many bytes are free below the stacks.
     Unnamed {
         free: u64,
     },
@@ -22,7 +25,7 @@ pub(crate) enum Outcome {
     Missing,
     /// The bytes of its file are no image.
     Refused(ImageFault),
-    /// It fills so many bytes where there is room for so many below the stacks.
+    /// It fills more bytes than there is room for below the stacks.
     Unfit {
         filled: u64,
         room: u64,
@@ -38,7 +41,9 @@ pub(crate) enum Outcome {
 
 impl Outcome {
     // Whether the image's file is not there.
-    fn is_missing(self) -> bool {
+    fn is_missing(self) -> bool
+        ensures { result ≡ images.is_missing self }
+    {
         match self {
             Outcome::Missing => true,
             Outcome::Unnamed { .. }
@@ -49,7 +54,9 @@ impl Outcome {
     }
 
     // Whether the file is there, and is no image or one that does not fit.
-    fn is_refused(self) -> bool {
+    fn is_refused(self) -> bool
+        ensures { result ≡ images.is_refused self }
+    {
         match self {
             Outcome::Refused(_) | Outcome::Unfit { .. } => true,
             Outcome::Unnamed { .. } | Outcome::Missing | Outcome::Accepted { .. } => false,
@@ -57,12 +64,29 @@ impl Outcome {
     }
 }
 
+/// Why bytes are no image, in words.
+fn words_of(fault: ImageFault) -> &'static str
+    ensures { result.now ≡ images.fault_words fault }
+{
+    match fault {
+        ImageFault::Short => "the image is shorter than its header",
+        ImageFault::Magic => "the image does not begin with PTKI",
+        ImageFault::Version => "the image has an unknown version",
+        ImageFault::Length => "the image has other lengths than its header says",
+        ImageFault::Entry => "the entry of the image is misplaced",
+        ImageFault::Memory => "out of memory",
+        ImageFault::Unfit => "the image does not fit into its partition",
+    }
+}
+
 impl fmt::Display for Outcome {
+    ghost output = { λ outcome. Some (images.outcome_words outcome) };
+
     fn fmt<W: fmt::Write>(&self, f: &mut fmt::Formatter<W>) -> fmt::Result {
         match *self {
             Outcome::Unnamed { free } => write!(f, "{free} bytes free below the stacks"),
             Outcome::Missing => f.write_str("no such file"),
-            Outcome::Refused(fault) => write!(f, "{fault}"),
+            Outcome::Refused(fault) => f.write_str(words_of(fault)),
             Outcome::Unfit { filled, room } => {
                 write!(f, "{filled} bytes where {room} are below the stacks")
             }
@@ -72,25 +96,27 @@ impl fmt::Display for Outcome {
                 bss,
                 free,
             } => {
-                write!(f, "text {text}, data {data}, bss {bss}; ")?;
-                write!(f, "{free} bytes free below the stacks")
+                write!(
+                    f,
+                    "text {text}, data {data}, bss {bss}; {free} bytes free below the stacks"
+                )
             }
         }
     }
 }
 
-/// What an image comes to where there is room for so many bytes below the stacks.
-fn outcome_of(image: &Image, room: u64) -> Outcome {
+/// What an image amounts to where there is room for this many bytes below the stacks.
+fn outcome_of(image: &Image, room: u64) -> Outcome
+    ensures { result ≡ images.outcome_of image.now room }
+{
     let (text, data, bss) = (image.text().len(), image.data().len(), image.bss());
-    let filled = (text as u64)
-        .saturating_add(data as u64)
-        .saturating_add(u64::from(bss));
+    let filled = text as u64 + data as u64 + u64::from(bss);
     if filled <= room {
         Outcome::Accepted {
             text,
             data,
             bss,
-            free: room.saturating_sub(filled),
+            free: room - filled,
         }
     } else {
         Outcome::Unfit { filled, room }
@@ -98,13 +124,18 @@ fn outcome_of(image: &Image, room: u64) -> Outcome {
 }
 
 /// How many bytes of memory lie below the stacks.
-fn room_below_stacks(limits: &Limits) -> u64 {
-    let stacks = u64::from(limits.threads).saturating_mul(u64::from(limits.stack));
-    u64::from(limits.memory).saturating_sub(stacks)
+fn room_below_stacks(limits: &Limits) -> u64
+    requires { IsWithinLimits limits.now }
+    ensures { result ≡ images.room_below_stacks limits.now }
+{
+    let stacks = u64::from(limits.threads) * u64::from(limits.stack);
+    u64::from(limits.memory) - stacks
 }
 
-/// What the image of a section comes to with these files. An error where memory was refused.
-fn outcome_in(alloc: Global, section: &Section, files: &Files) -> Result<Outcome, AllocError> {
+/// What the image of a section amounts to with these files. An error where memory was refused.
+fn outcome_in(alloc: Global, section: &Section, files: &Files) -> Result<Outcome, AllocError>
+    ensures { IfOk result (λ outcome. outcome ≡ images.outcome_in files.now section.now) }
+{
     let room = room_below_stacks(&section.limits());
     let Some(name) = section.image() else {
         return Ok(Outcome::Unnamed { free: room });
@@ -119,13 +150,13 @@ fn outcome_in(alloc: Global, section: &Section, files: &Files) -> Result<Outcome
     }
 }
 
-/// What the image of each section comes to with these files. An error where memory was refused.
+/// What the image of each section amounts to with these files. An error where memory was refused.
 pub(crate) fn outcomes_of(
     alloc: Global,
     sections: &[Section],
     files: &Files,
 ) -> Result<Vec<Outcome>, AllocError>
-    ensures { IfOk result (λ outcomes. length outcomes.items ≡ length sections.now) }
+    ensures { IfOk result (λ outcomes. outcomes.items ≡ map (images.outcome_in files.now) sections.now) }
 {
     let mut outcomes = Vec::new(alloc);
     for section in sections {
@@ -134,23 +165,43 @@ pub(crate) fn outcomes_of(
     Ok(outcomes)
 }
 
+/// The place, from 0, of the first image whose file is not there.
+fn first_missing(outcomes: &[Outcome]) -> Option<usize>
+    ensures place { result ≡ position images.is_missing outcomes.now }
+    ensures within { IfSome result (λ place. place < length outcomes.now) }
+{
+    outcomes.iter().position(|outcome| outcome.is_missing())
+}
+
+/// The place, from 0, of the first image whose file is there and is no image or one that does not fit.
+fn first_unfit(outcomes: &[Outcome]) -> Option<usize>
+    ensures place { result ≡ position images.is_refused outcomes.now }
+    ensures within { IfSome result (λ place. place < length outcomes.now) }
+{
+    outcomes.iter().position(|outcome| outcome.is_refused())
+}
+
 /// The place, from 0, of the image that is refused first, in the order in which `ptk check` tells it: the first whose
 /// file is not there, and where every file is there, the first that is refused. None where every image is accepted.
 pub(crate) fn first_refused(outcomes: &[Outcome]) -> Option<usize>
-    ensures { IfSome result (λ place. place < length outcomes.now) }
+    ensures place { result ≡ images.first_refused outcomes.now }
+    ensures within { IfSome result (λ place. place < length outcomes.now) }
 {
-    match outcomes.iter().position(|outcome| outcome.is_missing()) {
+    match first_missing(outcomes) {
         Some(place) => Some(place),
-        None => outcomes.iter().position(|outcome| outcome.is_refused()),
+        None => first_unfit(outcomes),
     }
 }
 
-/// Writes what the image of a section comes to, with its name, and ends the line.
+/// Writes what the image of a section amounts to, with its name, and ends the line.
 pub(crate) fn put_image<W: Write>(
     section: &Section,
     outcome: Outcome,
     out: &mut W,
-) -> Result<(), ExplainFault> {
+) -> Result<(), ExplainFault>
+    ensures written { OnOk result (Appends (W.contents out.old) (W.contents out.new) (images.image_line section.now.image outcome)) }
+    ensures failed { IfErr result (λ fault. fault ≡ ExplainFault.Write) }
+{
     match section.image() {
         Some(name) => writeln!(out, "image {name}: {outcome}")?,
         None => writeln!(out, "no image; {outcome}")?,

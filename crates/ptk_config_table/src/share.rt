@@ -1,44 +1,49 @@
-//! A part of the frame in percent.
+//! A partition's part of the frame in percent.
+
+ghost use Rattle.std.specs.Prelude.{◌≡◌, ◌*◌, ◌<◌, ◌≤◌, Some, length};
+ghost use Rattle.ptk_config_table.specs.Table as table;
 
 use ptk_words::PartId;
 use ptk_words_windows::Window;
 use std::fmt;
 
-/// So many ticks of a frame, shown in percent and cut after the first decimal.
+/// A part of a frame in thousandths, shown in percent with one decimal.
 #[derive(Clone, Copy)]
 pub(crate) struct Share {
-    ticks: u64,
-    frame: u64,
+    thousandths: u128,
 }
 
 impl Share {
-    /// So many ticks of a frame of so many.
-    pub(crate) fn new(ticks: u64, frame: u32) -> Share {
+    /// This many ticks of a frame of that many, cut after the thousandth.
+    pub(crate) fn new(ticks: u128, frame: u32) -> Share
+        requires frame { 0 < frame }
+        requires ticks { ticks ≤ 4294967295 * 18446744073709551615 }
+        ensures { result ≡ record { thousandths = table.thousandths ticks frame } }
+    {
         Share {
-            ticks,
-            frame: u64::from(frame),
+            thousandths: ticks * 1000 / u128::from(frame),
         }
     }
 }
 
 impl fmt::Display for Share {
+    ghost output = { λ share. Some (table.percent share.thousandths) };
+
     fn fmt<W: fmt::Write>(&self, f: &mut fmt::Formatter<W>) -> fmt::Result {
-        let thousandths = if self.frame == 0 {
-            0
-        } else {
-            self.ticks.saturating_mul(1000) / self.frame
-        };
-        let (whole, tenths) = (thousandths / 10, thousandths % 10);
-        write!(f, "{whole}.{tenths}")
+        let (whole, tenth) = (self.thousandths / 10, self.thousandths % 10);
+        write!(f, "{whole}.{tenth}")
     }
 }
 
 /// How many ticks of a frame these windows give a partition.
-pub(crate) fn ticks_of(windows: &[Window], partition: PartId) -> u64 {
-    let mut ticks: u64 = 0;
+pub(crate) fn ticks_of(windows: &[Window], partition: PartId) -> u128
+    ensures value { result ≡ table.ticks_of (table.own_windows partition windows.now) }
+    ensures bound { result ≤ 4294967295 * length windows.now }
+{
+    let mut ticks: u128 = 0;
     for window in windows {
         if window.partition == partition {
-            ticks = ticks.saturating_add(u64::from(window.length));
+            ticks += u128::from(window.length);
         }
     }
     ticks

@@ -1,0 +1,4 @@
+pub mod Stated
+pub mod Own
+pub mod Lines
+pub mod Parts
