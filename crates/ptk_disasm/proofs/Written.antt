@@ -1,0 +1,66 @@
+-- What is written so far, a line at a time.
+use Rattle.std.proofs.Common.{◌≡◌, ℕ, ◌<◌, ◌≤◌, ◌+◌, ◌-◌, ◌*◌, pos, take, drop, length-drop, List, [], ◌∷◌, ◌++◌, length, replicate, refl, sym, ap, subst, Option, Some, ◌∙◌, append_assoc, arith, true, false, suc, ◌^◌}
+use Rattle.std.proofs.Math.ListN.{get_or}
+use Rattle.std.specs.List.{list_all}
+use Rattle.std.proofs.lemmas.Bool.Decides.{nat_tests}
+use Rattle.std.specs.Prelude.{option_map}
+use Rattle.std.specs.Int.{w32, from_le_bytes}
+use Rattle.std.proofs.lemmas.List.{take_rest}
+use Rattle.ptk_asm_model.specs.declared.statement.Form.TheVariants as form
+use Rattle.ptk_disasm.specs.WordStatements.{given}
+use Rattle.std.specs.Fmt.{digits, padded_integral, format_spec, char_count, AppendsText}
+use Rattle.std.proofs.lemmas.Grind.{flat_map-append}
+use Rattle.std.proofs.lemmas.List.{append-nil}
+use Rattle.ptk_disasm.specs.Spelling.{Line, line_text}
+use Rattle.ptk_disasm.specs.Disassembly.{hex_word, addressed, text_for, data_lines, is_byte}
+
+-- the first of the lines that are left
+pub line-more : (out : List ℕ) (l : Line) (later : List Line) → (out ++ text_for (l ∷ [])) ++ text_for later ≡ out ++ text_for (l ∷ later)
+line-more out l later =
+    append_assoc out (text_for (l ∷ [])) (text_for later)
+    ∙ ap (λ (t : List ℕ). out ++ t) (sym (flat_map-append (λ (x : Line). line_text x ++ 10 ∷ []) (l ∷ []) later))
+
+-- the first word of data, before those that are left
+pub data-more : (out : List ℕ) (at : ℕ) (rest : List ℕ) (word : ℕ) → 4 ≤ length rest → word ≡ get_or rest 0 0 + get_or rest 1 0 * 256 + get_or rest 2 0 * 65536 + get_or rest 3 0 * 16777216
+    → (out ++ text_for (addressed at (given form.Word [] (pos word)) ∷ [])) ++ text_for (data_lines (at + 4) (take (length rest - 4) (drop 4 rest))) ≡ out ++ text_for (data_lines at rest)
+data-more out at [] word h e = absurd (omega (arith, h))
+data-more out at (a ∷ []) word h e = absurd (omega (arith, h))
+data-more out at (a ∷ b ∷ []) word h e = absurd (omega (arith, h))
+data-more out at (a ∷ b ∷ c ∷ []) word h e = absurd (omega (arith, h))
+data-more out at (a ∷ b ∷ c ∷ d ∷ more) word h e =
+    let first : ℕ → Line = λ w. addressed at (given form.Word [] (pos w)) in
+    let bytes : List ℕ = a ∷ b ∷ c ∷ d ∷ more in
+    ap (λ (w : ℕ). (out ++ text_for (first w ∷ [])) ++ text_for (data_lines (at + 4) (take (length bytes - 4) (drop 4 bytes)))) e
+    ∙ ap (λ (ys : List ℕ). (out ++ text_for (first (from_le_bytes w32 (a ∷ b ∷ c ∷ d ∷ [])) ∷ [])) ++ text_for (data_lines (at + 4) ys)) (take_rest bytes 4)
+    ∙ line-more out (first (from_le_bytes w32 (a ∷ b ∷ c ∷ d ∷ []))) (data_lines (at + 4) more)
+
+-- the bytes behind the first word
+pub data-length : (at total : ℕ) (rest : List ℕ) → 4 ≤ length rest → at + length rest ≡ total → at + 4 + length (take (length rest - 4) (drop 4 rest)) ≡ total
+data-length at total rest h e =
+    let same : length (take (length rest - 4) (drop 4 rest)) ≡ length rest - 4 = ap length (take_rest rest 4) ∙ length-drop 4 rest in
+    omega (arith, same, h, e)
+
+-- what `{:08x}` writes
+pub hex-eight : (n : ℕ) → padded_integral (format_spec 32 0 4 8 (2 ^ 64 - 1)) false [] (digits 16 false n) ≡ hex_word n
+unfolding padded_integral char_count
+hex-eight n =
+    let same : 8 - length (digits 16 false n) - 0 - 0 ≡ 8 - length (digits 16 false n) = omega arith in
+    ap (λ (k : ℕ). replicate k 48 ++ (digits 16 false n ++ [])) same
+    ∙ ap (λ (t : List ℕ). replicate (8 - length (digits 16 false n)) 48 ++ t) (append-nil (digits 16 false n))
+
+-- a text that gained what a shape makes of digits
+pub shape-appended : {S : Type 0} (s t : S) (shape : S → List ℕ → List ℕ) (o : Option (List ℕ)) (ds shown old new : List ℕ) → s ≡ t → o ≡ Some ds → shape t ds ≡ shown
+    → AppendsText old new (option_map (shape s) o) → new ≡ old ++ shown
+shape-appended s t shape o ds shown old new e f g h =
+    let same : option_map (shape s) o ≡ Some shown = ap (λ x. option_map (shape x) o) e ∙ ap (option_map (shape t)) f ∙ ap (λ (x : List ℕ). Some x) g in
+    subst (AppendsText old new) same h
+
+-- ---- bytes
+
+byte_test : (b : ℕ) → b < 256 → is_byte b ≡ true
+byte_test b h = grind (arith, nat_tests)
+
+-- numbers below 256 are bytes
+pub bytes-fit : (xs : List ℕ) → ((k : ℕ) → get_or xs k 0 < 256) → list_all is_byte xs ≡ true
+bytes-fit [] h = refl
+bytes-fit (x ∷ xs) h = rw (byte_test x (h 0)) (bytes-fit xs (λ k. h (suc k)))

@@ -1,0 +1,110 @@
+-- The source that an image is read back to.
+use Rattle.std.specs.Prelude.{ℕ, ◌+◌, ◌-◌, ◌≤◌, ◌≡◌, Bool, true, false, List, [], ◌∷◌, ◌++◌, length, replicate, flat_map, ◌==◌, if◌then◌else◌, Option, Some, None, pos, Ok, codes, nat_lt}
+use Rattle.std.specs.Int.{w32, from_le_bytes}
+use Rattle.std.specs.Fmt.{digits}
+use Rattle.std.specs.List.{list_all}
+use Rattle.ptk_words.specs.Words.{word_of, sign_extension}
+use Rattle.ptk_words.specs.Image.{ImageParts}
+use Rattle.ptk_rv32i_code.specs.declared.instr.Instr.{Instr}
+use Rattle.ptk_rv32i_code.specs.declared.instr.Instr.TheVariants as instr
+use Rattle.ptk_rv32i_code.specs.Coding.{decoded}
+use Rattle.ptk_image.specs.Images.{IsImage}
+use Rattle.ptk_asm_model.specs.declared.statement.Section.TheVariants as section
+use Rattle.ptk_asm_model.specs.declared.statement.Form.TheVariants as form
+use Rattle.ptk_asm_model.specs.Source.{Statement, longest, source}
+use Rattle.ptk_asm_emission.specs.Emitting.{words_in}
+use Rattle.ptk_disasm.specs.Spelling.{Line, Entry, Stated, line_text}
+use Rattle.ptk_disasm.specs.WordStatements.{bare, given, statement_for}
+
+-- ---- comments
+
+-- a number with at least eight hexadecimal digits (own)
+abbrev pub hex_word : ℕ → List ℕ
+hex_word n = let shown : List ℕ = digits 16 false n in replicate (8 - length shown) 48 ++ shown
+
+-- a statement with its address (own)
+abbrev pub addressed : ℕ → Statement → Line
+addressed at s = Stated s (hex_word at)
+
+-- ---- the text
+
+-- the label of the entry, where it is here (own)
+abbrev pub entry_line : ℕ → ℕ → List Line
+entry_line entry at = if at == entry then Entry ∷ [] else []
+
+-- the address that a branch or a jump which stands at an address goes to, by the distance in its word (RISC-V 2.5)
+abbrev pub target_of : ℕ → Option Instr → Option ℕ
+target_of at (Some (instr.Branch t rs1 rs2 bits)) = Some (word_of (at + sign_extension 13 bits))
+target_of at (Some (instr.Jal rd bits)) = Some (word_of (at + sign_extension 21 bits))
+target_of at i = None
+
+-- an address behind an arrow, where there is one (own)
+abbrev pub target_text : Option ℕ → List ℕ
+target_text None = []
+target_text (Some target) = codes " -> " ++ hex_word target
+
+-- the address of a word, its value, and the target of a branch or a jump (own)
+abbrev pub word_comment : ℕ → ℕ → List ℕ
+word_comment at word = hex_word at ++ (codes " " ++ (hex_word word ++ target_text (target_of at (decoded word))))
+
+-- a word of the text with its comment (own)
+abbrev pub word_line : ℕ → ℕ → Line
+word_line at word = Stated (statement_for word) (word_comment at word)
+
+-- the words of the text from an address on, with the label of the entry before its word or at the end (own)
+abbrev pub text_lines : ℕ → ℕ → List ℕ → List Line
+text_lines entry at [] = entry_line entry at
+text_lines entry at (word ∷ words) = entry_line entry at ++ (word_line at word ∷ text_lines entry (at + 4) words)
+
+-- ---- the data and the zeros behind it
+
+-- bytes from an address on, one by one (own)
+abbrev pub byte_lines : ℕ → List ℕ → List Line
+byte_lines at [] = []
+byte_lines at (b ∷ bytes) = addressed at (given form.Byte [] (pos b)) ∷ byte_lines (at + 1) bytes
+
+-- bytes from an address on, as words and then what is left (own)
+abbrev pub data_lines : ℕ → List ℕ → List Line
+data_lines at (a ∷ b ∷ c ∷ d ∷ bytes) = addressed at (given form.Word [] (pos (from_le_bytes w32 (a ∷ b ∷ c ∷ d ∷ [])))) ∷ data_lines (at + 4) bytes
+data_lines at bytes = byte_lines at bytes
+
+-- the zeros, where there are some (own)
+abbrev pub zero_lines : ℕ → ℕ → List Line
+zero_lines at n = if n == 0 then [] else addressed at (given form.Space [] (pos n)) ∷ []
+
+-- ---- the image
+
+-- the lines of an image (own)
+abbrev pub lines_for : ImageParts → List Line
+lines_for image =
+    text_lines image.entry 0 (words_in image.text)
+    ++ (addressed (length image.text) (bare (form.Within section.Data) [])
+    ∷ data_lines (length image.text) image.«data»
+    ++ (addressed (length image.text + length image.«data») (bare (form.Within section.Bss) [])
+    ∷ zero_lines (length image.text + length image.«data») image.bss))
+
+-- lines as a text, each with its LF (own)
+abbrev pub text_for : List Line → List ℕ
+text_for lines = flat_map (λ l. line_text l ++ 10 ∷ []) lines
+
+-- the source of an image (own)
+abbrev pub disassembled : ImageParts → List ℕ
+disassembled image = text_for (lines_for image)
+
+-- ---- the law
+
+-- a number of 8 bits
+abbrev pub is_byte : ℕ → Bool
+is_byte b = nat_lt b 256
+
+-- the sections are bytes, and no more than the language allows (own)
+pub record FitsSource (image : ImageParts) : Type 0 where
+  pub text_bytes : list_all is_byte image.text ≡ true
+  pub data_bytes : list_all is_byte image.«data» ≡ true
+  pub text : length image.text ≤ longest
+  pub «data» : length image.«data» ≤ longest
+  pub bss : image.bss ≤ longest
+
+-- an image that fits is read back from its source
+abbrev pub ReadsBack : ImageParts → Type 0
+ReadsBack image = IsImage image → FitsSource image → source (disassembled image) ≡ Ok image

@@ -1,0 +1,4 @@
+pub mod Spelling
+pub mod WordStatements
+pub mod Disassembly
+pub mod Writing
