@@ -23,7 +23,7 @@ fn recording_of(
     let mut system = System::boot(alloc, config, files).ok()?;
     let to = to.min(LAST_TICK);
     let scale = Scale::new(Tick::new(from.min(to)), Tick::new(to), most);
-    Recording::of_run(alloc, &mut system, config, scale).ok()
+    Recording::of_run(alloc, &mut system, scale).ok()
 }
 
 /// The recording of a guest's run.

@@ -106,6 +106,13 @@ impl<'a> System<'a> {
         self.tick = self.machine.run_row(plan, self.tick, n);
     }
 
+    /// The configuration of its boot.
+    pub fn config(&self) -> &'a Config
+        ensures { result.now ≡ self.now.config }
+    {
+        self.config
+    }
+
     /// The tick that was reached.
     pub fn tick(&self) -> Tick
         ensures { result ≡ self.now.tick }

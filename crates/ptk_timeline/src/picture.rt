@@ -65,7 +65,7 @@ impl From<AllocError> for PictureFault {
     }
 }
 
-/// Runs the system of a configuration, which stands at no tick after `from`, to a tick of at most 2^40, and writes the
+/// Runs the system of a configuration, which stands at no tick after `from` or `to`, to a tick of at most 2^40, and writes the
 /// picture of its ticks from `from` on. A fault where memory is refused or the writer fails.
 pub fn picture_with<W: Write>(
     alloc: Global,
@@ -75,10 +75,12 @@ pub fn picture_with<W: Write>(
     to: Tick,
     out: &mut W,
 ) -> Result<(), PictureFault>
-    requires { to ≤ LAST_TICK }
+    requires last { to ≤ LAST_TICK }
+    requires begun { system.old.tick ≤ from }
+    requires order { system.old.tick ≤ to }
 {
     let scale = Scale::new(from, to, MOST_COLUMNS);
-    let recording = Recording::of_run(alloc, system, config, scale)?;
+    let recording = Recording::of_run(alloc, system, scale)?;
     match write_timeline(out, config, system, &recording) {
         Ok(()) => Ok(()),
         Err(_) => Err(PictureFault::Write),

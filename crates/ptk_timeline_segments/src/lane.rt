@@ -1,60 +1,34 @@
 //! A partition's rows, and the marks of its columns.
 
-ghost use Rattle.std.specs.Prelude.{◌<◌, ◌≤◌, length};
+ghost use Rattle.std.specs.Prelude.{◌≡◌, ℕ, ◌+◌, ◌<◌, ◌≤◌, IfOk, length, slice_index_or};
 ghost use Rattle.ptk_words.specs.declared.TheConstants.{LAST_TICK};
+ghost use Rattle.ptk_words_windows.specs.Windows.{own_ticks};
+ghost use Rattle.ptk_system.specs.World.{state_of};
+ghost use Rattle.ptk_timeline_segments.specs.declared.row.Row.{Row as AnyRow};
+ghost use Rattle.ptk_timeline_segments.specs.Histories.{history, look_in};
+ghost use Rattle.ptk_timeline_segments.specs.Lanes.{GoesOn, IsDue, IsLaneOf, IsShown, StartsAs};
 
 use crate::look::Look;
+use crate::marks::{Marked, Marks};
 use crate::row::Row;
 use crate::scale::Scale;
-use ptk_system::{PartStatus, System};
+use crate::step::{Busy, step_at};
+use ptk_system::System;
 use ptk_words::{PartId, ThreadNo, Tick};
 use std::alloc::{AllocError, Global};
 
 /// How many threads a partition has at most.
 const THREADS: u32 = 32;
 
-/// What came in a column.
-#[derive(Clone, Copy, Debug, PartialEq, Eq)]
-pub struct Marks {
-    /// A step began; told where a column is one tick.
-    pub is_stepped: bool,
-    /// Ticks were lost at a window's end.
-    pub is_lost: bool,
-    /// Input bytes were lost, the ring being full.
-    pub is_dropped: bool,
-    /// The partition halted: it exited, or stopped at a fault or a break.
-    pub is_halted: bool,
-}
-
-impl Marks {
-    /// Nothing came.
-    fn none() -> Marks {
-        Marks {
-            is_stepped: false,
-            is_lost: false,
-            is_dropped: false,
-            is_halted: false,
-        }
-    }
-}
-
-/// A step that takes up its ticks: its thread, and the tick behind its last.
-#[derive(Clone, Copy)]
-struct Busy {
-    thread: ThreadNo,
-    until: u64,
-}
-
-/// A partition: a row for each thread number, and what came in each column.
+/// A partition: a row for each thread number, and what came in each column. All is told up to the tick at which something
+/// of the partition can change next.
 #[derive(Drop)]
 pub struct Lane {
     scale: Scale,
     rows: Vec<Row>,
-    marks: Vec<Marks>,
+    marked: Marked,
     due: u64,
-    lost: u64,
-    dropped: u64,
-    is_halted: bool,
+    steps: u64,
 }
 
 impl Lane {
@@ -67,157 +41,139 @@ impl Lane {
         p: PartId,
         threads: u32,
     ) -> Result<Lane, AllocError>
-        requires { p < length system.now.config.sections }
+        requires partition { p < length system.now.config.sections }
+        requires begun { system.now.tick ≡ scale.from }
+        ensures scale { IfOk result (λ lane. lane.scale ≡ scale) }
+        ensures right { IfOk result (λ lane. IsLaneOf (own_ticks system.now.config.plan p) (history system.now p) lane) }
     {
+        let due = due(system, p, scale);
         Ok(Lane {
             scale,
-            rows: first_rows(alloc, scale, system, p, threads)?,
-            marks: vec![in alloc; Marks::none(); scale.columns()]?,
-            due: due(system, p, scale),
-            lost: system.lost(p),
-            dropped: system.dropped(p),
-            is_halted: is_halted(system.status(p)),
+            rows: first_rows(alloc, scale, system, p, threads, due)?,
+            marked: Marked::new(alloc, scale, system, p)?,
+            due,
+            steps: system.steps(p),
         })
     }
 
     /// The rows, by thread number from 1.
-    pub fn rows(&self) -> &[Row] {
+    pub fn rows(&self) -> &[Row]
+        ensures { result.now ≡ self.now.rows.items }
+    {
         self.rows.as_slice()
     }
 
     /// What came in each column.
     pub fn marks(&self) -> &[Marks] {
-        self.marks.as_slice()
+        self.marked.columns()
     }
 
-    /// The tick at which something of the partition changes next, as far as it is known.
-    pub(crate) fn next_change(&self) -> u64 {
+    /// The tick at which something of the partition can change next, up to which all is told.
+    pub(crate) fn next_change(&self) -> u64
+        ensures { result ≡ self.now.due }
+    {
         self.due
     }
 
     /// The system went on over plain steps, with which nothing changes that is shown.
     pub(crate) fn go_on(&mut self, system: &System<'_>, p: PartId)
         requires { p < length system.now.config.sections }
+        ensures { self.new.scale ≡ self.old.scale }
     {
-        self.due = due(system, p, self.scale);
+        if self.due < system.tick().ticks() {
+            self.tell(system, p, &None);
+        }
     }
 
-    /// What the system, which has made the decisions at the tick, shows from that tick on; those of the partition end
-    /// before `windows_end`.
-    pub(crate) fn show(&mut self, system: &System<'_>, p: PartId, windows_end: u64, tick: u64)
-        requires { p < length system.now.config.sections }
+    /// What the system, which has made the decisions at the tick, shows from that tick on.
+    pub(crate) fn show(&mut self, system: &System<'_>, p: PartId, tick: u64)
+        requires partition { p < length system.now.config.sections }
+        requires early { tick ≤ LAST_TICK }
+        ensures { IsShown system.now p tick self.old self.new }
     {
         if tick < self.due {
             return;
         }
-        let busy = step_at(system, p, windows_end, tick);
-        let is_step = busy.is_some();
-        self.mark(system, p, is_step, tick);
-        self.due = due(system, p, self.scale);
-        for i in 0..THREADS {
-            if let Some(row) = self.rows.get_mut(i as usize) {
-                let t = ThreadNo::new(i as u8 + 1);
-                turn(row, &Look::of(system, p, t), t, &busy, tick);
-            }
-        }
+        let busy = step_at(system, p, tick, self.steps);
+        self.marked.mark(system, p, busy.is_some(), tick);
+        self.tell(system, p, &busy);
     }
 
-    /// Marks what the decision at the tick brought, a step or none.
-    fn mark(&mut self, system: &System<'_>, p: PartId, is_step: bool, tick: u64)
+    /// Tells of the ticks up to the next change, at the first of which a step may begin.
+    fn tell(&mut self, system: &System<'_>, p: PartId, busy: &Option<Busy>)
         requires { p < length system.now.config.sections }
+        ensures scale { self.new.scale ≡ self.old.scale }
+        ensures count { length self.new.rows.items ≡ length self.old.rows.items }
+        ensures steps { self.new.steps ≡ (state_of system.now p).account.steps }
+        ensures due { IsDue system.now p self.old.scale self.new.due }
+        ensures rows { (place : ℕ) (default : AnyRow) → place < length self.old.rows.items → place < 32
+            → GoesOn (look_in (place + 1) (state_of system.now p).part) busy.now (place + 1) self.new.due
+            (slice_index_or self.old.rows.items place default) (slice_index_or self.new.rows.items place default) }
     {
-        let (lost, dropped) = (system.lost(p), system.dropped(p));
-        let halted = is_halted(system.status(p));
-        if let Some(marks) = self.marks.get_mut(self.scale.column_of(tick)) {
-            marks.is_stepped = marks.is_stepped || is_step;
-            marks.is_dropped = marks.is_dropped || self.dropped < dropped;
-            marks.is_halted = marks.is_halted || halted && !self.is_halted;
-        }
-        if self.lost < lost {
-            self.mark_lost(tick, tick.saturating_add(lost.saturating_sub(self.lost)));
-        }
-        self.lost = lost;
-        self.dropped = dropped;
-        self.is_halted = halted;
-    }
-
-    /// Marks the columns of the ticks from one on and before another, which were lost.
-    fn mark_lost(&mut self, from: u64, to: u64) {
-        let first = self.scale.column_of(from);
-        let last = self.scale.column_of(to.saturating_sub(1));
-        let end = last.saturating_add(1).min(self.marks.len());
-        for column in first..end {
-            self.marks[column].is_lost = true;
-        }
-    }
-
-    /// Counts every row to its last tick.
-    pub(crate) fn finish(&mut self) {
-        let to = self.scale.to();
-        for row in self.rows.iter_mut() {
-            row.count_to(to);
-        }
+        let until = due(system, p, self.scale);
+        go_on_all(self.rows.as_mut_slice(), system, p, busy, until);
+        self.due = until;
+        self.steps = system.steps(p);
     }
 }
 
-/// A thread's row turns to its look at the tick. The thread of a step that takes up its ticks runs for so long before.
-fn turn(row: &mut Row, look: &Look, t: ThreadNo, busy: &Option<Busy>, tick: u64) {
-    match busy {
-        Some(busy) if busy.thread == t => {
-            row.turn_to(&look.stepping(), tick);
-            row.turn_to(look, busy.until);
-        }
-        _ => row.turn_to(look, tick),
-    }
-}
-
-/// The step of the partition that began at the tick, if one did.
-fn step_at(system: &System<'_>, p: PartId, windows_end: u64, tick: u64) -> Option<Busy>
+/// The rows of a partition's threads go on to a tick.
+fn go_on_all(rows: &mut [Row], system: &System<'_>, p: PartId, busy: &Option<Busy>, until: u64)
     requires { p < length system.now.config.sections }
+    ensures { (place : ℕ) (default : AnyRow) → place < length rows.old → place < 32
+        → GoesOn (look_in (place + 1) (state_of system.now p).part) busy.now (place + 1) until (slice_index_or rows.old place default) (slice_index_or rows.new place default) }
 {
-    let step = system.last_step(p)?;
-    if step.tick.ticks() != tick {
-        return None;
+    for i in 0..rows.len().min(THREADS as usize) {
+        let t = ThreadNo::new(i as u8 + 1);
+        go_on(&mut rows[i], &Look::of(system, p, t), t, busy, until);
     }
-    let until = match system.next(p) {
-        Some(next) => next.ticks().min(windows_end),
-        None => tick.saturating_add(1),
-    };
-    Some(Busy {
-        thread: step.thread,
-        until,
-    })
 }
 
-/// The tick at which something of the partition changes next, as far as it is known, the scale's last where it is later.
+/// A thread's row goes on to a tick. The thread of a step that takes up its ticks runs for so long before.
+fn go_on(row: &mut Row, look: &Look, t: ThreadNo, busy: &Option<Busy>, until: u64)
+    ensures { GoesOn look.now busy.now t until row.old row.new }
+{
+    let stepped = Busy::until_for(busy, t).min(until);
+    row.hold(&look.stepping(), stepped);
+    row.hold(look, until);
+}
+
+/// The tick at which something of the partition can change next, the scale's last where it is later.
 fn due(system: &System<'_>, p: PartId, scale: Scale) -> u64
     requires { p < length system.now.config.sections }
+    ensures { IsDue system.now p scale result }
 {
+    system.states_are_alone();
     system.stays_until(p, Tick::new(scale.to())).ticks()
 }
 
-/// The rows of a partition's threads, which begin as the system shows them.
+/// The rows of a partition's threads, which begin as the system shows them, up to a tick.
 fn first_rows(
     alloc: Global,
     scale: Scale,
     system: &System<'_>,
     p: PartId,
     threads: u32,
+    until: u64,
 ) -> Result<Vec<Row>, AllocError>
     requires { p < length system.now.config.sections }
+    ensures few { IfOk result (λ rows. length rows.items ≤ 32) }
+    ensures rows { IfOk result (λ rows. (place : ℕ) (default : AnyRow) → place < length rows.items
+        → StartsAs scale (look_in (place + 1) (state_of system.now p).part) until (slice_index_or rows.items place default)) }
 {
     let mut rows = Vec::new(alloc);
     for i in 0..threads.min(THREADS) {
         let look = Look::of(system, p, ThreadNo::new(i as u8 + 1));
-        rows.push(Row::new(alloc, scale, look)?)?;
+        rows.push(first_row(alloc, scale, &look, until)?)?;
     }
     Ok(rows)
 }
 
-/// Whether the partition is halted.
-fn is_halted(status: PartStatus) -> bool {
-    match status {
-        PartStatus::Idle | PartStatus::Running => false,
-        PartStatus::Exited(_) | PartStatus::Stopped(_, _) | PartStatus::Refused(_) => true,
-    }
+/// A row that begins with a look, up to a tick.
+fn first_row(alloc: Global, scale: Scale, look: &Look, until: u64) -> Result<Row, AllocError>
+    ensures { IfOk result (StartsAs scale look.now until) }
+{
+    let mut row = Row::new(alloc, scale)?;
+    row.hold(look, until);
+    Ok(row)
 }

@@ -14,13 +14,18 @@
 
 mod lane;
 mod look;
+mod marks;
 mod recording;
 mod row;
 mod scale;
+mod step;
+mod tally;
 
-pub use lane::{Lane, Marks};
+pub use lane::Lane;
 pub use look::{Look, Shade};
+pub use marks::Marks;
 pub use ptk_system::{Activity, Files, PartStatus, System};
 pub use recording::Recording;
-pub use row::{Cell, Row};
+pub use row::Row;
 pub use scale::Scale;
+pub use tally::Cell;

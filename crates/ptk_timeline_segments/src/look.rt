@@ -1,7 +1,11 @@
 //! What a thread looks like at a tick.
 
-ghost use Rattle.std.specs.Prelude.{◌<◌, length};
+ghost use Rattle.std.specs.Prelude.{◌≡◌, ◌<◌, length};
 ghost use Rattle.ptk_timeline_segments.specs.declared.look.TheConstants.{SHADES};
+ghost use Rattle.ptk_words_model.specs.Priority.{thread_at};
+ghost use Rattle.ptk_system.specs.World.{state_of};
+ghost use Rattle.ptk_timeline_segments.specs.Histories.{look_in, owner_for, raised_of, stepping};
+ghost use Rattle.ptk_timeline_segments.specs.Shades.{place_in, place_of, shade_of, shade_of_wait};
 
 use ptk_system::{Activity, System};
 use ptk_words::{Owner, PartId, ThreadNo, Wait};
@@ -39,7 +43,8 @@ pub enum Shade {
 impl Shade {
     /// Its place among the shades, from 0.
     pub(crate) fn place(self) -> usize
-        ensures { result < SHADES }
+        ensures value { result ≡ place_of self }
+        ensures within { result < SHADES }
     {
         match self {
             Shade::Free => 0,
@@ -81,6 +86,7 @@ impl Look {
     /// The look of a thread of a system now.
     pub(crate) fn of(system: &System<'_>, p: PartId, t: ThreadNo) -> Look
         requires { p < length system.now.config.sections }
+        ensures { result ≡ look_in t (state_of system.now p).part }
     {
         let activity = system.activity(p, t);
         let owner = owner_for(system, p, &activity);
@@ -93,7 +99,9 @@ impl Look {
     }
 
     /// The same look of a thread that a step keeps running.
-    pub(crate) fn stepping(&self) -> Look {
+    pub(crate) fn stepping(&self) -> Look
+        ensures { result ≡ stepping self.now }
+    {
         Look {
             activity: Activity::Running,
             owner: None,
@@ -102,12 +110,14 @@ impl Look {
     }
 
     /// Its shade.
-    pub fn shade(&self) -> Shade {
+    pub fn shade(&self) -> Shade
+        ensures { result ≡ shade_of self.now.activity }
+    {
         match &self.activity {
             Activity::Free => Shade::Free,
             Activity::Running => Shade::Running,
             Activity::Ready => Shade::Ready,
-            Activity::Blocked(wait) => shade_of(wait),
+            Activity::Blocked(wait) => shade_of_wait(wait),
             Activity::Ended => Shade::Ended,
             Activity::Halted => Shade::Halted,
         }
@@ -115,7 +125,9 @@ impl Look {
 }
 
 /// The shade of a wait.
-fn shade_of(wait: &Wait) -> Shade {
+fn shade_of_wait(wait: &Wait) -> Shade
+    ensures { result ≡ shade_of_wait wait.now }
+{
     match wait {
         Wait::InputWait => Shade::Input,
         Wait::SleepWait(_) => Shade::Sleep,
@@ -129,6 +141,7 @@ fn shade_of(wait: &Wait) -> Shade {
 /// The owner of the mutex that a blocked thread waits for.
 fn owner_for(system: &System<'_>, p: PartId, activity: &Activity) -> Option<Owner>
     requires { p < length system.now.config.sections }
+    ensures { result ≡ owner_for activity.now (state_of system.now p).part }
 {
     match activity {
         Activity::Blocked(Wait::MutexWait(m, _)) | Activity::Blocked(Wait::RelockWait(m, _)) => {
@@ -141,6 +154,7 @@ fn owner_for(system: &System<'_>, p: PartId, activity: &Activity) -> Option<Owne
 /// The effective priority of a thread, where it is above the assigned one.
 fn raised(system: &System<'_>, p: PartId, t: ThreadNo) -> Option<u8>
     requires { p < length system.now.config.sections }
+    ensures { result ≡ raised_of (state_of system.now p).part.locks t (thread_at (state_of system.now p).part.locks t) }
 {
     match (
         system.effective_priority(p, t),

@@ -1,11 +1,14 @@
 //! The lanes of all partitions.
 
-ghost use Rattle.std.specs.Prelude.{◌≡◌, ◌<◌, ◌≤◌};
+ghost use Rattle.std.specs.Prelude.{◌≡◌, ℕ, ◌+◌, ◌<◌, ◌≤◌, IfOk, length, max, slice_index_or};
 ghost use Rattle.ptk_words.specs.declared.TheConstants.{LAST_TICK};
+ghost use Rattle.ptk_system.specs.World.{at_tick};
+ghost use Rattle.ptk_timeline_segments.specs.declared.lane.Lane.{Lane as AnyLane};
+ghost use Rattle.ptk_timeline_segments.specs.Lanes.{IsShown};
+ghost use Rattle.ptk_timeline_segments.specs.Recordings.{AreLanesOf, TellsOf};
 
 use crate::lane::Lane;
 use crate::scale::Scale;
-use ptk_config::Config;
 use ptk_system::System;
 use ptk_words::{PartId, Tick};
 use std::alloc::{AllocError, Global};
@@ -18,54 +21,72 @@ pub struct Recording {
 }
 
 impl Recording {
-    /// Runs a system on to the end of a scale, and records what it shows from the scale's first tick on, or from the
-    /// tick that it had reached where that is later. The run is that of `run_to`. An error where memory ran out: the
-    /// system may then have gone on to the first tick.
+    /// Runs a system, which stands at no tick after the scale's first, on to the scale's end, and records what it shows
+    /// from the scale's first tick on. The run is that of `run_to`. An error where memory ran out: the system has then
+    /// gone on to the first tick.
     pub fn of_run(
         alloc: Global,
         system: &mut System<'_>,
-        config: &Config,
         scale: Scale,
-    ) -> Result<Recording, AllocError> {
+    ) -> Result<Recording, AllocError>
+        requires { system.old.tick ≤ scale.from }
+        ensures run { IfOk result (λ _. system.new ≡ at_tick scale.to system.old) }
+        ensures scale { IfOk result (λ recording. recording.scale ≡ scale) }
+        ensures tells { IfOk result (λ recording. scale.each ≡ 1 → TellsOf system.old recording) }
+    {
         system.run_to(Tick::new(scale.from()));
-        let lanes = first_lanes(alloc, system, config, scale)?;
+        let lanes = first_lanes(alloc, system, scale)?;
         let mut recording = Recording { scale, lanes };
-        recording.run(system, config);
+        recording.run(system);
         system.run_to(Tick::new(scale.to()));
-        for lane in recording.lanes.iter_mut() {
-            lane.finish();
-        }
         Ok(recording)
     }
 
     /// Which ticks these are.
-    pub fn scale(&self) -> Scale {
+    pub fn scale(&self) -> Scale
+        ensures { result ≡ self.now.scale }
+    {
         self.scale
     }
 
     /// The lanes, in the order of the partitions.
-    pub fn lanes(&self) -> &[Lane] {
+    pub fn lanes(&self) -> &[Lane]
+        ensures { result.now ≡ self.now.lanes.items }
+    {
         self.lanes.as_slice()
     }
 
     /// Goes on from change to change, before the scale's end.
-    fn run(&mut self, system: &mut System<'_>, config: &Config) {
+    fn run(&mut self, system: &mut System<'_>)
+        ensures scale { self.new.scale ≡ self.old.scale }
+        ensures run { system.new ≡ at_tick system.new.tick system.old }
+        ensures within { system.new.tick ≤ max system.old.tick self.old.scale.to }
+        ensures right { self.old.scale.each ≡ 1 → system.old.tick ≤ self.old.scale.to → AreLanesOf system.old self.old.scale system.old.tick self.old.lanes.items
+            → AreLanesOf system.old self.old.scale self.old.scale.to self.new.lanes.items }
+    {
+        system.states_are_alone();
         let to = self.scale.to();
         let is_wide = self.scale.each() > 1;
-        let mut tick = self.next_change();
+        let first = self.next_change();
+        let mut tick = first.max(system.tick().ticks());
         while tick < to {
             system.run_to(Tick::new(tick + 1));
-            self.show(system, windows_end(config, tick), tick);
+            self.show(system, tick);
             if is_wide {
                 system.compute_to(Tick::new(to));
                 self.go_on(system);
             }
-            tick = self.next_change().max(tick + 1);
+            let next = self.next_change();
+            let after = next.max(tick + 1);
+            tick = after;
         }
     }
 
-    /// The tick at which something changes next, as far as it is known, at most the scale's last.
-    fn next_change(&self) -> u64 {
+    /// The tick at which something can change next, at most the scale's last.
+    fn next_change(&self) -> u64
+        ensures within { result ≤ self.now.scale.to }
+        ensures least { (p : ℕ) (default : AnyLane) → p < length self.now.lanes.items → result ≤ (slice_index_or self.now.lanes.items p default).due }
+    {
         let mut next = self.scale.to();
         for lane in self.lanes.iter() {
             next = next.min(lane.next_change());
@@ -74,48 +95,53 @@ impl Recording {
     }
 
     /// What the system, which has made the decisions at the tick, shows from that tick on.
-    fn show(&mut self, system: &System<'_>, windows_end: u64, tick: u64) {
-        for i in 0..system.parts() {
-            if let Some(lane) = self.lanes.get_mut(i) {
-                lane.show(system, PartId::new(i as u8), windows_end, tick);
-            }
-        }
+    fn show(&mut self, system: &System<'_>, tick: u64)
+        requires { tick ≤ LAST_TICK }
+        ensures scale { self.new.scale ≡ self.old.scale }
+        ensures right { system.now.tick ≡ tick + 1 → tick < self.old.scale.to → AreLanesOf system.now self.old.scale tick self.old.lanes.items
+            → AreLanesOf system.now self.old.scale (tick + 1) self.new.lanes.items }
+    {
+        show_all(self.lanes.as_mut_slice(), system, tick);
     }
 
     /// The system went on over plain steps.
-    fn go_on(&mut self, system: &System<'_>) {
-        for i in 0..system.parts() {
-            if let Some(lane) = self.lanes.get_mut(i) {
-                lane.go_on(system, PartId::new(i as u8));
-            }
-        }
+    fn go_on(&mut self, system: &System<'_>)
+        ensures { self.new.scale ≡ self.old.scale }
+    {
+        go_on_all(self.lanes.as_mut_slice(), system);
+    }
+}
+
+/// What the system, which has made the decisions at the tick, shows from that tick on.
+fn show_all(lanes: &mut [Lane], system: &System<'_>, tick: u64)
+    requires { tick ≤ LAST_TICK }
+    ensures { (p : ℕ) (default : AnyLane) → p < length lanes.old → p < length system.now.config.sections
+        → IsShown system.now p tick (slice_index_or lanes.old p default) (slice_index_or lanes.new p default) }
+{
+    for i in 0..lanes.len().min(system.parts()) {
+        lanes[i].show(system, PartId::new(i as u8), tick);
+    }
+}
+
+/// The system went on over plain steps.
+fn go_on_all(lanes: &mut [Lane], system: &System<'_>) {
+    for i in 0..lanes.len().min(system.parts()) {
+        lanes[i].go_on(system, PartId::new(i as u8));
     }
 }
 
 /// The lanes of a system's partitions, which begin as it shows them.
-fn first_lanes(
-    alloc: Global,
-    system: &System<'_>,
-    config: &Config,
-    scale: Scale,
-) -> Result<Vec<Lane>, AllocError> {
+fn first_lanes(alloc: Global, system: &System<'_>, scale: Scale) -> Result<Vec<Lane>, AllocError>
+    requires { system.now.tick ≡ scale.from }
+    ensures { IfOk result (λ lanes. AreLanesOf system.now scale system.now.tick lanes.items) }
+{
     let mut lanes = Vec::new(alloc);
     for i in 0..system.parts() {
-        let threads = match config.sections().get(i) {
+        let threads = match system.config().sections().get(i) {
             Some(section) => section.limits().threads,
             None => 0,
         };
         lanes.push(Lane::new(alloc, scale, system, PartId::new(i as u8), threads)?)?;
     }
     Ok(lanes)
-}
-
-/// The end of the window that holds the tick, of one in no window the next tick.
-fn windows_end(config: &Config, tick: u64) -> u64
-    requires { tick ≤ LAST_TICK }
-{
-    match config.plan().at(Tick::new(tick)) {
-        Some((_, end)) => end.ticks(),
-        None => tick + 1,
-    }
 }

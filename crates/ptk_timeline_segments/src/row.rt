@@ -1,128 +1,84 @@
 //! A thread's looks over the ticks, by columns.
 
-use crate::look::{Look, SHADES};
+ghost use Rattle.std.specs.Prelude.{◌≡◌, ℕ, ◌+◌, ◌<◌, ◌≤◌, IfOk, length, max, min};
+ghost use Rattle.ptk_timeline_segments.specs.declared.look.Look.{Look as AnyLook};
+ghost use Rattle.ptk_timeline_segments.specs.Columns.{start_of};
+
+use crate::look::Look;
 use crate::scale::Scale;
+use crate::tally::{Cell, Tally};
 use std::alloc::{AllocError, Global};
 
-/// A column of a row.
-#[derive(Clone, Copy, Debug, PartialEq, Eq)]
-pub struct Cell {
-    /// The last look of the shade that held longest.
-    pub look: Look,
-    /// Whether there was a look of another shade too.
-    pub is_mixed: bool,
-}
-
-impl Cell {
-    /// The cell of a column without ticks.
-    fn empty() -> Cell {
-        Cell {
-            look: Look::free(),
-            is_mixed: false,
-        }
-    }
-}
-
-/// How long each shade held in a column, and its last look.
-#[derive(Clone, Copy)]
-struct Tally {
-    ticks: [u64; SHADES],
-    looks: [Look; SHADES],
-}
-
-impl Tally {
-    /// The tally of no ticks.
-    fn new() -> Tally {
-        Tally {
-            ticks: [0; SHADES],
-            looks: [Look::free(); SHADES],
-        }
-    }
-
-    /// So many more ticks of a look.
-    fn add(&mut self, look: &Look, ticks: u64) {
-        if ticks == 0 {
-            return;
-        }
-        let place = look.shade().place();
-        self.ticks[place] = self.ticks[place].saturating_add(ticks);
-        self.looks[place] = *look;
-    }
-
-    /// The cell of these ticks: the first of the shades that held longest.
-    fn cell(&self) -> Cell {
-        let mut cell = Cell::empty();
-        let mut longest = 0;
-        for place in 0..SHADES {
-            if longest < self.ticks[place] {
-                cell.look = self.looks[place];
-                longest = self.ticks[place];
-            }
-        }
-        cell.is_mixed = self.shades() > 1;
-        cell
-    }
-
-    /// How many shades there are in these ticks.
-    fn shades(&self) -> usize {
-        self.ticks.iter().filter(|ticks| **ticks > 0).count()
-    }
-}
-
 /// A thread's looks from the first tick on: its columns, those before a place with all their ticks, what is known of the
-/// one at that place, and the look that holds since the tick up to which all is counted.
+/// one at that place, and the tick up to which all is counted.
 #[derive(Drop)]
 pub struct Row {
     scale: Scale,
     cells: Vec<Cell>,
     filled: usize,
     tally: Tally,
-    look: Look,
     counted: u64,
+    ghost covers: { start_of scale (length cells.items) ≡ scale.to },
+    ghost within: { counted ≤ scale.to },
+    ghost begun: { start_of scale filled ≤ counted },
+    ghost open: { counted < scale.to → counted < start_of scale (filled + 1) },
+    ghost closed: { scale.to ≤ counted → start_of scale filled ≡ scale.to },
 }
 
 impl Row {
-    /// A row of no ticks yet, which begins with this look, with room for all columns. An error where memory ran out. No
-    /// other call takes memory.
-    pub(crate) fn new(alloc: Global, scale: Scale, look: Look) -> Result<Row, AllocError> {
+    ghost use Rattle.ptk_timeline_segments.specs.Rows.{HoldsOver, IsRowOf};
+
+    /// A row of no ticks yet, with room for all columns. An error where memory ran out. No other call takes memory.
+    pub(crate) fn new(alloc: Global, scale: Scale) -> Result<Row, AllocError>
+        ensures scale { IfOk result (λ row. row.scale ≡ scale) }
+        ensures counted { IfOk result (λ row. row.counted ≡ scale.from) }
+        ensures right { IfOk result (λ row. (look : ℕ → AnyLook) → IsRowOf look row) }
+    {
         Ok(Row {
             scale,
             cells: vec![in alloc; Cell::empty(); scale.columns()]?,
             filled: 0,
             tally: Tally::new(),
-            look,
             counted: scale.from(),
         })
     }
 
-    /// From this tick on the thread has this look; up to it, it had the one before.
-    pub(crate) fn turn_to(&mut self, look: &Look, tick: u64) {
-        if self.look != *look {
-            self.count_to(tick);
-            self.look = *look;
+    /// The look holds at each tick that is not counted yet up to this one, at most up to the last.
+    pub(crate) fn hold(&mut self, look: &Look, tick: u64)
+        ensures scale { self.new.scale ≡ self.old.scale }
+        ensures counted { self.new.counted ≡ max self.old.counted (min tick self.old.scale.to) }
+        ensures right { (f : ℕ → AnyLook) → IsRowOf f self.old → HoldsOver f look.now self.old.counted self.new.counted → IsRowOf f self.new }
+    {
+        let stop = tick.min(self.scale.to());
+        while self.counted < stop {
+            self.hold_in_column(look, stop);
         }
     }
 
-    /// Counts the look that holds up to a tick, at most the tick behind the last.
-    pub(crate) fn count_to(&mut self, tick: u64) {
-        let tick = tick.min(self.scale.to());
-        for column in self.filled..self.cells.len() {
-            let end = self.scale.start_of(column.saturating_add(1));
-            let reached = end.min(tick);
-            self.tally
-                .add(&self.look, reached.saturating_sub(self.counted));
-            self.counted = self.counted.max(reached);
-            if reached < end {
-                return;
-            }
-            self.cells[column] = self.tally.cell();
-            self.filled = column + 1;
+    /// The look holds up to a tick, of which those in the column at hand are counted.
+    fn hold_in_column(&mut self, look: &Look, tick: u64)
+        requires later { self.old.counted < tick }
+        requires within { tick ≤ self.old.scale.to }
+        ensures scale { self.new.scale ≡ self.old.scale }
+        ensures on { self.old.counted < self.new.counted }
+        ensures up_to { self.new.counted ≤ tick }
+        ensures right { (f : ℕ → AnyLook) → IsRowOf f self.old → HoldsOver f look.now self.old.counted self.new.counted → IsRowOf f self.new }
+    {
+        let end = self.scale.start_of(self.filled + 1);
+        let reached = end.min(tick);
+        self.tally.add(look, self.counted, reached);
+        self.counted = reached;
+        if reached == end {
+            self.cells[self.filled] = self.tally.cell();
+            self.filled += 1;
             self.tally = Tally::new();
         }
     }
 
     /// The columns.
-    pub fn cells(&self) -> &[Cell] {
+    pub fn cells(&self) -> &[Cell]
+        ensures { result.now ≡ self.now.cells.items }
+    {
         self.cells.as_slice()
     }
 }

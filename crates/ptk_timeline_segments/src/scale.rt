@@ -1,6 +1,6 @@
 //! Which ticks are shown, and in how many columns.
 
-ghost use Rattle.std.specs.Prelude.{◌<◌, ◌≤◌};
+ghost use Rattle.std.specs.Prelude.{◌≡◌, ℕ, ◌+◌, ◌<◌, ◌≤◌, min, max};
 ghost use Rattle.ptk_words.specs.declared.TheConstants.{LAST_TICK};
 
 use ptk_words::Tick;
@@ -17,10 +17,15 @@ pub struct Scale {
 }
 
 impl Scale {
+    ghost use Rattle.ptk_timeline_segments.specs.Columns.{start_of};
+
     /// The ticks from `from` on and before `to`, none where `to` is not after `from`, in at most so many columns, with as
-    /// few ticks in each as that allows.
+    /// few ticks in each as that allows: one where there are no more ticks than columns.
     pub fn new(from: Tick, to: Tick, most: u32) -> Scale
         requires { to ≤ LAST_TICK }
+        ensures from { result.from ≡ min from to }
+        ensures to { result.to ≡ to }
+        ensures single { to ≤ from + max most 1 → result.each ≡ 1 }
     {
         let to = to.ticks();
         let from = from.ticks().min(to);
@@ -32,29 +37,40 @@ impl Scale {
 
     /// The first tick.
     pub fn from(self) -> u64
-        ensures { result ≤ LAST_TICK }
+        ensures value { result ≡ self.from }
+        ensures early { result ≤ self.to }
     {
         self.from
     }
 
     /// The tick behind the last.
     pub fn to(self) -> u64
-        ensures { result ≤ LAST_TICK }
+        ensures value { result ≡ self.to }
+        ensures early { result ≤ LAST_TICK }
     {
         self.to
     }
 
     /// How many ticks a column stands for.
     pub fn each(self) -> u64
-        ensures { 0 < result }
+        ensures value { result ≡ self.each }
+        ensures some { 0 < result }
     {
         self.each
     }
 
-    /// How many columns there are.
-    pub fn columns(self) -> usize {
+    /// How many columns there are: as many as have ticks.
+    pub fn columns(self) -> usize
+        ensures all { start_of self result ≡ self.to }
+        ensures some { (column : ℕ) → column < result → start_of self column < self.to }
+    {
         let ticks = self.to - self.from;
-        (ticks / self.each + u64::from(ticks % self.each != 0)) as usize
+        let whole = ticks / self.each;
+        if ticks % self.each == 0 {
+            whole as usize
+        } else {
+            whole as usize + 1
+        }
     }
 
     /// The column of a tick from the first on.
@@ -64,7 +80,7 @@ impl Scale {
 
     /// The first tick of a column; of one past the last, the tick behind the last.
     pub fn start_of(self, column: usize) -> u64
-        ensures { result ≤ LAST_TICK }
+        ensures { result ≡ start_of self column }
     {
         let before = (column as u64).saturating_mul(self.each);
         self.from.saturating_add(before).min(self.to)

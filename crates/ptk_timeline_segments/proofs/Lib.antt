@@ -1,0 +1,5 @@
+pub mod Counting
+pub mod Lists
+pub mod Telling
+pub mod Lanes
+pub mod Recordings

@@ -1,0 +1,124 @@
+-- What all lanes tell, from one change to the next, and in the end.
+use Rattle.std.proofs.Common.{◌≡◌, ℕ, ◌+◌, ◌*◌, ◌<◌, ◌≤◌, List, ◌++◌, length, take, drop, get_or, ◌⊎◌, inl, inr, sym, ap, subst, ◌∙◌, arith}
+use Rattle.std.proofs.Math.Nat.{mul-le-mul_right}
+use Rattle.std.proofs.lemmas.Bool.{cases_lt}
+use Rattle.std.proofs.lemmas.List.{take-append-le, take_all}
+use Rattle.ptk_words_windows.specs.Windows.{own_ticks}
+use Rattle.ptk_system.specs.World.{World, at_tick}
+use Rattle.ptk_timeline_segments.specs.declared.lane.Lane.{Lane}
+use Rattle.ptk_timeline_segments.specs.declared.look.Look.{Look}
+use Rattle.ptk_timeline_segments.specs.declared.recording.Recording.{Recording}
+use Rattle.ptk_timeline_segments.specs.declared.row.Row.{Row}
+use Rattle.ptk_timeline_segments.specs.declared.scale.Scale.{Scale}
+use Rattle.ptk_timeline_segments.specs.declared.tally.Cell.{Cell}
+use Rattle.ptk_timeline_segments.specs.Cells.{IsCellOf}
+use Rattle.ptk_timeline_segments.specs.Columns.{start_of}
+use Rattle.ptk_timeline_segments.specs.Histories.{history, look_at}
+use Rattle.ptk_timeline_segments.specs.Lanes.{IsLaneOf, IsShown, IsThreadsRow}
+use Rattle.ptk_timeline_segments.specs.Recordings.{AreLanesOf, TellsLooks, TellsOf}
+use Rattle.ptk_timeline_segments.specs.Rows.{IsRowOf}
+
+-- ---- one system at two ticks
+
+pub at_again : (first now later : World) (n : ℕ) → now ≡ at_tick now.tick first → later ≡ at_tick n now → later ≡ at_tick later.tick first
+at_again first now later n is goes =
+    let same : later ≡ at_tick n first = goes ∙ ap (at_tick n) is in
+    same ∙ ap (λ (k : ℕ). at_tick k first) (sym (ap (λ (w : World). w.tick) same))
+
+lanes_at : (first now : World) (n tick : ℕ) (scale : Scale) (lanes : List Lane) → now ≡ at_tick n first → AreLanesOf first scale tick lanes → AreLanesOf now scale tick lanes
+lanes_at first now n tick scale lanes goes are =
+    let there : AreLanesOf (at_tick n first) scale tick lanes = record { count = are.count; scales = are.scales; due = are.due; tells = are.tells } in
+    subst (λ (w : World). AreLanesOf w scale tick lanes) (sym goes) there
+
+pub lanes_back : (first now : World) (n tick : ℕ) (scale : Scale) (lanes : List Lane) → now ≡ at_tick n first → AreLanesOf now scale tick lanes → AreLanesOf first scale tick lanes
+lanes_back first now n tick scale lanes goes are =
+    let there : AreLanesOf (at_tick n first) scale tick lanes = subst (λ (w : World). AreLanesOf w scale tick lanes) goes are in
+    record { count = there.count; scales = there.scales; due = there.due; tells = there.tells }
+
+-- ---- from one change to the next
+
+pub lanes_later : (world : World) (scale : Scale) (n m : ℕ) (lanes : List Lane) → AreLanesOf world scale n lanes → ((p : ℕ) (default : Lane) → p < length lanes → m ≤ (get_or lanes p default).due) → AreLanesOf world scale m lanes
+lanes_later world scale n m lanes are due = record { count = are.count; scales = are.scales; due = due; tells = are.tells }
+
+-- what a slice of a vector's items is once it is written back
+pub written : (new items : List Lane) (n : ℕ) → n ≡ length new → take n (new ++ drop (length new) items) ≡ new
+written new items n all =
+    ap (λ (k : ℕ). take k (new ++ drop (length new) items)) all
+    ∙ (take-append-le (length new) new (drop (length new) items) (omega arith) ∙ take_all (length new) new (omega arith))
+
+pub show_told : (world : World) (scale : Scale) (tick : ℕ) (lanes given new : List Lane) → given ≡ lanes → length new ≡ length given → world.tick ≡ tick + 1 → tick < scale.to → AreLanesOf world scale tick lanes
+    → ((p : ℕ) (default : Lane) → p < length given → p < length world.config.sections → IsShown world p tick (get_or given p default) (get_or new p default))
+    → AreLanesOf world scale (tick + 1) new
+show_told world scale tick lanes given new same length_same at before are shown = record {
+  count = length_same ∙ (ap length same ∙ are.count);
+  scales = λ p default lt. (shown p default (inside p lt) (known p lt)).scale ∙ was p default lt;
+  due = λ p default lt. (told p default lt).0;
+  tells = λ p default lt. (told p default lt).1;
+}
+  where
+    inside : (p : ℕ) → p < length new → p < length given
+    inside p lt = omega (arith, lt, length_same)
+
+    known : (p : ℕ) → p < length new → p < length world.config.sections
+    known p lt = omega (arith, lt, length_same, ap length same, are.count)
+
+    among : (p : ℕ) → p < length new → p < length lanes
+    among p lt = omega (arith, lt, length_same, ap length same)
+
+    was : (p : ℕ) (default : Lane) → p < length new → (get_or given p default).scale ≡ scale
+    was p default lt = ap (λ (xs : List Lane). (get_or xs p default).scale) same ∙ are.scales p default (among p lt)
+
+    told : (p : ℕ) (default : Lane) → p < length new
+        → (tick + 1 ≤ (get_or new p default).due) × IsLaneOf (own_ticks world.config.plan p) (history world p) (get_or new p default)
+    told p default lt =
+        let to : (get_or given p default).scale.to ≡ scale.to = ap (λ (s : Scale). s.to) (was p default lt) in
+        let due : (get_or given p default).due ≡ (get_or lanes p default).due = ap (λ (xs : List Lane). (get_or xs p default).due) same in
+        (shown p default (inside p lt) (known p lt)).right
+        (subst (λ (xs : List Lane). IsLaneOf (own_ticks world.config.plan p) (history world p) (get_or xs p default)) (sym same) (are.tells p default (among p lt)))
+        at (omega (arith, are.due p default (among p lt), due)) (omega (arith, before, to))
+
+pub step_told : (first now : World) (scale own : Scale) (tick : ℕ) (lanes new : List Lane) → own ≡ scale → now ≡ at_tick (tick + 1) first → tick < scale.to → AreLanesOf first scale tick lanes
+    → (now.tick ≡ tick + 1 → tick < own.to → AreLanesOf now own tick lanes → AreLanesOf now own (tick + 1) new) → AreLanesOf first scale (tick + 1) new
+step_told first now scale own tick lanes new same goes before are shows =
+    let at : now.tick ≡ tick + 1 = ap (λ (w : World). w.tick) goes in
+    let to : own.to ≡ scale.to = ap (λ (s : Scale). s.to) same in
+    lanes_back first now (tick + 1) (tick + 1) scale new goes
+    (subst (λ (s : Scale). AreLanesOf now s (tick + 1) new) same
+    (shows at (omega (arith, before, to)) (subst (λ (s : Scale). AreLanesOf now s tick lanes) (sym same) (lanes_at first now (tick + 1) tick scale lanes goes are))))
+
+-- ---- in the end
+
+-- a row that has counted to the end has filled its columns
+filled_all : (row : Row) (column : ℕ) → row.counted ≡ row.scale.to → start_of row.scale column < row.scale.to → column < row.filled
+filled_all row column counted some = by (cases_lt column row.filled)
+  where
+    by : (column < row.filled) ⊎ (row.filled ≤ column) → column < row.filled
+    by (inl within) = within
+    by (inr past) =
+        let all : start_of row.scale row.filled ≡ row.scale.to = row.closed (omega (arith, counted)) in
+        absurd (omega (arith, mul-le-mul_right row.scale.each past, all, some))
+
+row_tells : (look : ℕ → Look) (scale : Scale) (row : Row) → row.scale ≡ scale → row.counted ≡ scale.to → IsRowOf look row → TellsLooks look scale row
+row_tells look scale row same counted is = record {
+  columns = λ column default some.
+      subst (λ (s : Scale). IsCellOf look (start_of s column) (start_of s (column + 1)) (get_or row.cells.items column default)) same
+      (is.cells column default (filled_all row column (counted ∙ sym (ap (λ (s : Scale). s.to) same)) (subst (λ (s : Scale). start_of s column < s.to) (sym same) some)));
+}
+
+pub tells_of : (world : World) (recording : Recording) → AreLanesOf world recording.scale recording.scale.to recording.lanes.items → TellsOf world recording
+tells_of world recording are = record {
+  parts = are.count;
+  rows = λ p place lane default part lt.
+      row p place lane default part (are.tells p lane part) ((are.tells p lane part).rows place default lt);
+}
+  where
+    row : (p place : ℕ) (lane : Lane) (default : Row) → p < length recording.lanes.items → IsLaneOf (own_ticks world.config.plan p) (history world p) (get_or recording.lanes.items p lane)
+        → IsThreadsRow (own_ticks world.config.plan p) (history world p) (get_or recording.lanes.items p lane) (place + 1) (get_or (get_or recording.lanes.items p lane).rows.items place default)
+        → TellsLooks (look_at (own_ticks world.config.plan p) (history world p) recording.scale.from (place + 1)) recording.scale (get_or (get_or recording.lanes.items p lane).rows.items place default)
+    row p place lane default part is told =
+        let scale : (get_or recording.lanes.items p lane).scale ≡ recording.scale = are.scales p lane part in
+        let to : (get_or recording.lanes.items p lane).scale.to ≡ recording.scale.to = ap (λ (s : Scale). s.to) scale in
+        let done : (get_or recording.lanes.items p lane).due ≡ recording.scale.to = omega (arith, are.due p lane part, is.to, to) in
+        row_tells (look_at (own_ticks world.config.plan p) (history world p) recording.scale.from (place + 1)) recording.scale (get_or (get_or recording.lanes.items p lane).rows.items place default)
+        (told.scale ∙ scale) (told.counted ∙ done)
+        (subst (λ (s : Scale). IsRowOf (look_at (own_ticks world.config.plan p) (history world p) s.from (place + 1)) (get_or (get_or recording.lanes.items p lane).rows.items place default)) scale told.right)

@@ -1,0 +1,6 @@
+use Rattle.ptk_timeline_segments.proofs.Telling.{lane_begins}
+use Rattle.ptk_timeline_segments.proofs.lane.Lane.new.Goals as goal
+
+pub returns-clause-right : goal.returns-clause-right
+returns-clause-right c =
+    lane_begins c.args.system.now c.args.p _ c.requires.begun c.in_ok-first_rows.ensures.few c.steps.ensures c.due-due.ensures c.in_ok-first_rows.ensures.rows

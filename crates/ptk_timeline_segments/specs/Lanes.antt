@@ -1,0 +1,78 @@
+-- What a lane tells of a partition.
+use Rattle.std.specs.Prelude.{◌≡◌, ℕ, ◌+◌, ◌-◌, ◌<◌, ◌≤◌, ◌==◌, nat_lt, min, max, Bool, true, false, ◌&&◌, if◌then◌else◌, Option, Some, None, length, slice_index_or}
+use Rattle.ptk_words.specs.declared.sections.Entry.{Entry}
+use Rattle.ptk_words_windows.specs.Windows.{OwnTicks, own_ticks}
+use Rattle.ptk_words_model.specs.State.{State}
+use Rattle.ptk_system.specs.declared.status.PartStatus.{PartStatus}
+use Rattle.ptk_system.specs.World.{World, but_next, state_of}
+use Rattle.ptk_system.specs.declared.status.PartStatus.TheVariants.{Idle, Running, Exited, Stopped, Refused}
+use Rattle.ptk_timeline_segments.specs.declared.look.Look.{Look}
+use Rattle.ptk_timeline_segments.specs.declared.row.Row.{Row}
+use Rattle.ptk_timeline_segments.specs.declared.scale.Scale.{Scale}
+use Rattle.ptk_timeline_segments.specs.declared.step.Busy.{Busy}
+use Rattle.ptk_timeline_segments.specs.declared.lane.Lane.{Lane}
+use Rattle.ptk_timeline_segments.specs.Histories.{history, last_begun, look_at, step_end, stepping}
+use Rattle.ptk_timeline_segments.specs.Rows.{HoldsOver, IsRowOf}
+
+-- the partition is halted: it exited, was stopped or has a refused image
+abbrev pub is_halted : PartStatus → Bool
+is_halted Idle = false
+is_halted Running = false
+is_halted (Exited code) = true
+is_halted (Stopped cause pc) = true
+is_halted (Refused fault) = true
+
+-- the thread of the last step, with the tick behind it
+abbrev pub busy_by : ℕ → Option Entry → Option Busy
+busy_by until None = None
+busy_by until (Some entry) = Some (record { thread = entry.thread; until = until })
+
+-- the step that begins at the tick and leaves this state, of a partition that had made so many before
+abbrev pub busy_of : OwnTicks → ℕ → ℕ → State → Option Busy
+busy_of ticks tick steps after = if nat_lt steps after.account.steps then busy_by (step_end ticks tick after) after.part.last else None
+
+-- the step keeps the thread running at the tick
+abbrev pub is_busy : Option Busy → ℕ → ℕ → Bool
+is_busy None t tick = false
+is_busy (Some busy) t tick = (busy.thread == t) && nat_lt tick busy.until
+
+-- a thread's row goes on to a tick: it runs while the step keeps it running, and has this look at the other ticks
+pub record GoesOn (look : Look) (busy : Option Busy) (t until : ℕ) (old new : Row) : Type 0 where
+  pub scale : new.scale ≡ old.scale
+  pub counted : new.counted ≡ max old.counted (min until old.scale.to)
+  pub right : (f : ℕ → Look) → IsRowOf f old → ((k : ℕ) → old.counted ≤ k → k < new.counted → f k ≡ (if is_busy busy t k then stepping look else look)) → IsRowOf f new
+
+-- a new row has counted to a tick, and tells of looks that are this one at each tick up to there
+pub record StartsAs (scale : Scale) (look : Look) (until : ℕ) (row : Row) : Type 0 where
+  pub same : row.scale ≡ scale
+  pub counted : row.counted ≡ max scale.from (min until scale.to)
+  pub right : (f : ℕ → Look) → HoldsOver f look scale.from row.counted → IsRowOf f row
+
+-- up to the tick nothing of the partition changes but the tick of its next decision, and each such tick up to the scale's end is one up to it
+pub record IsDue (world : World) (p : ℕ) (scale : Scale) (due : ℕ) : Type 0 where
+  pub now : state_of world p ≡ history world p world.tick
+  pub within : due ≤ scale.to
+  pub stays : (k : ℕ) → world.tick ≤ k → k ≤ due → but_next (history world p k) ≡ but_next (state_of world p)
+  pub from : world.tick ≤ scale.to → world.tick ≤ due
+  pub next : (k : ℕ) → world.tick ≤ k → k ≤ scale.to → ((j : ℕ) → (state_of world p).account.next ≡ Some j → k ≤ j) → k ≤ due
+
+-- the row tells of the looks of a thread up to the lane's tick
+pub record IsThreadsRow (ticks : OwnTicks) (states : ℕ → State) (lane : Lane) (t : ℕ) (row : Row) : Type 0 where
+  pub scale : row.scale ≡ lane.scale
+  pub counted : row.counted ≡ lane.due
+  pub right : IsRowOf (look_at ticks states lane.scale.from t) row
+
+-- the lane tells of a partition with these own ticks and states up to the tick at which something of it can change next
+pub record IsLaneOf (ticks : OwnTicks) (states : ℕ → State) (lane : Lane) : Type 0 where
+  pub from : lane.scale.from ≤ lane.due
+  pub to : lane.due ≤ lane.scale.to
+  pub few : length lane.rows.items ≤ 32
+  pub rows : (place : ℕ) (default : Row) → place < length lane.rows.items → IsThreadsRow ticks states lane (place + 1) (slice_index_or lane.rows.items place default)
+  pub ended : (begun : ℕ) → last_begun states lane.scale.from (lane.due - lane.scale.from) ≡ Some begun → lane.due < lane.scale.to → step_end ticks begun (states (begun + 1)) ≤ lane.due
+  pub steps : lane.steps ≡ (states lane.due).account.steps
+
+-- a lane goes on from one change of its partition to the next
+pub record IsShown (world : World) (p tick : ℕ) (old new : Lane) : Type 0 where
+  pub scale : new.scale ≡ old.scale
+  pub right : IsLaneOf (own_ticks world.config.plan p) (history world p) old → world.tick ≡ tick + 1 → tick ≤ old.due → tick < old.scale.to
+      → (tick + 1 ≤ new.due) × IsLaneOf (own_ticks world.config.plan p) (history world p) new

@@ -1,0 +1,34 @@
+-- What a recording tells of a run.
+use Rattle.std.specs.Prelude.{◌≡◌, ℕ, ◌+◌, ◌<◌, ◌≤◌, List, length, slice_index_or}
+use Rattle.ptk_words_windows.specs.Windows.{own_ticks}
+use Rattle.ptk_system.specs.World.{World}
+use Rattle.ptk_timeline_segments.specs.declared.lane.Lane.{Lane}
+use Rattle.ptk_timeline_segments.specs.declared.look.Look.{Look}
+use Rattle.ptk_timeline_segments.specs.declared.recording.Recording.{Recording}
+use Rattle.ptk_timeline_segments.specs.declared.row.Row.{Row}
+use Rattle.ptk_timeline_segments.specs.declared.scale.Scale.{Scale}
+use Rattle.ptk_timeline_segments.specs.declared.tally.Cell.{Cell}
+use Rattle.ptk_timeline_segments.specs.Cells.{IsCellOf}
+use Rattle.ptk_timeline_segments.specs.Columns.{start_of}
+use Rattle.ptk_timeline_segments.specs.Histories.{history, look_at}
+use Rattle.ptk_timeline_segments.specs.Lanes.{IsLaneOf}
+
+-- each lane tells of its partition, up to this tick or a later one
+pub record AreLanesOf (world : World) (scale : Scale) (tick : ℕ) (lanes : List Lane) : Type 0 where
+  pub count : length lanes ≡ length world.config.sections
+  pub scales : (p : ℕ) (default : Lane) → p < length lanes → (slice_index_or lanes p default).scale ≡ scale
+  pub due : (p : ℕ) (default : Lane) → p < length lanes → tick ≤ (slice_index_or lanes p default).due
+  pub tells : (p : ℕ) (default : Lane) → p < length lanes → IsLaneOf (own_ticks world.config.plan p) (history world p) (slice_index_or lanes p default)
+
+-- each column of the row has the look of a thread at the column's ticks: that of one tick this tick's, that of many the one that held longest (own)
+pub record TellsLooks (look : ℕ → Look) (scale : Scale) (row : Row) : Type 0 where
+  pub columns : (column : ℕ) (default : Cell) → start_of scale column < scale.to
+      → IsCellOf look (start_of scale column) (start_of scale (column + 1)) (slice_index_or row.cells.items column default)
+
+-- each row of each lane tells of its thread, by partition and thread number
+pub record TellsOf (world : World) (recording : Recording) : Type 0 where
+  pub parts : length recording.lanes.items ≡ length world.config.sections
+  pub rows : (p place : ℕ) (lane : Lane) (default : Row) → p < length recording.lanes.items
+      → place < length (slice_index_or recording.lanes.items p lane).rows.items
+      → TellsLooks (look_at (own_ticks world.config.plan p) (history world p) recording.scale.from (place + 1)) recording.scale
+      (slice_index_or (slice_index_or recording.lanes.items p lane).rows.items place default)
