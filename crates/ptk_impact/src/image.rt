@@ -1,0 +1,43 @@
+//! How the images of two partitions differ.
+
+ghost use Rattle.std.specs.Prelude.{◌≡◌, MatchOption, option_map};
+ghost use Rattle.ptk_impact.specs.Changes.{IsFirstOther, IsImageChange};
+
+/// How the bytes of the images differ.
+#[derive(Clone, Copy, Debug, PartialEq, Eq)]
+pub enum ImageChange {
+    /// The new partition has an image, and the old one has none.
+    Added,
+    /// The old partition has an image, and the new one has none.
+    Removed,
+    /// Both have one, and this is the first offset at which their bytes differ: the length of one that is the beginning of the other.
+    Bytes(usize),
+}
+
+impl ImageChange {
+    /// How the bytes differ. None where they are the same, or neither partition has any.
+    pub(crate) fn between(old: Option<&[u8]>, new: Option<&[u8]>) -> Option<ImageChange>
+        ensures { let before = option_map (λ bytes. bytes.now) old.entry in
+            let after = option_map (λ bytes. bytes.now) new.entry in
+            MatchOption result (before ≡ after) (IsImageChange before after) }
+    {
+        match (old, new) {
+            (None, None) => None,
+            (None, Some(_)) => Some(ImageChange::Added),
+            (Some(_), None) => Some(ImageChange::Removed),
+            (Some(old), Some(new)) => first_other(old, new).map(ImageChange::Bytes),
+        }
+    }
+}
+
+/// The first offset at which the bytes differ, one of which may end there. None where they are the same.
+fn first_other(old: &[u8], new: &[u8]) -> Option<usize>
+    ensures { MatchOption result (old.now ≡ new.now) (IsFirstOther old.now new.now) }
+{
+    for offset in 0..old.len().max(new.len()) {
+        if old.get(offset).copied() != new.get(offset).copied() {
+            return Some(offset);
+        }
+    }
+    None
+}

@@ -1,0 +1,4 @@
+pub mod Counts
+pub mod Matching
+pub mod Refused
+pub mod SameRuns

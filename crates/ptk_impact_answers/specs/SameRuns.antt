@@ -1,0 +1,39 @@
+-- What counts without a changed, a new or a gone partition promise.
+use Rattle.std.specs.Prelude.{◌≡◌, ℕ, ◌<◌, true, List, length, Option, Some, IsSome}
+use Rattle.std.specs.Borrow.{Bor}
+use Rattle.ptk_system.specs.World.{section_at}
+use Rattle.ptk_impact.specs.declared.subject.Subject.{Subject}
+use Rattle.ptk_impact.specs.Views.{SeenAlikeButTrace}
+use Rattle.ptk_impact_answers.specs.declared.release.Release.{Release}
+use Rattle.ptk_impact_answers.specs.Matching.{Renamed, is_asked, place_after, place_before}
+
+-- the partitions at these places are seen alike by boot, but for the trace's length (own)
+pub record AreSeenAlike (old : Release) (before : ℕ) (new : Release) (place : ℕ) : Type 0 where
+  pub was : Subject
+  pub is : Subject
+  pub was_of : (was.config.now ≡ old.config.now) × (was.files.now ≡ old.files.now) × (was.partition ≡ before)
+  pub is_of : (is.config.now ≡ new.config.now) × (is.files.now ≡ new.files.now) × (is.partition ≡ place)
+  pub alike : SeenAlikeButTrace was is
+
+-- the new partition at this place was one of the old configuration, seen alike by boot (own)
+pub record WasSeenAlike (renames : List Renamed) (old new : Release) (place : ℕ) : Type 0 where
+  pub before : ℕ
+  pub matched : place_before renames old.config.now (section_at new.config.now place).name ≡ Some before
+  pub alike : AreSeenAlike old before new place
+
+-- so was each new partition that is asked for, of those before this place (own)
+abbrev pub WereSeenAlike : List Renamed → Option (Bor (List ℕ)) → Release → Release → ℕ → Type 0
+WereSeenAlike renames asked old new places =
+    (place : ℕ) → place < places → place < length new.config.now.sections → is_asked asked (section_at new.config.now place).name ≡ true
+    → WasSeenAlike renames old new place
+
+-- each old partition that is asked for is still there, of those before this place (own)
+abbrev pub AreStillThere : List Renamed → Option (Bor (List ℕ)) → Release → Release → ℕ → Type 0
+AreStillThere renames asked old new places =
+    (place : ℕ) → place < places → place < length old.config.now.sections → is_asked asked (section_at old.config.now place).name ≡ true
+    → IsSome (place_after renames new.config.now (section_at old.config.now place).name)
+
+-- each partition that is asked for was and is there, seen alike by boot but for the trace's length (own)
+abbrev pub AreSameRuns : List Renamed → Option (Bor (List ℕ)) → Release → Release → Type 0
+AreSameRuns renames asked old new =
+    WereSeenAlike renames asked old new (length new.config.now.sections) × AreStillThere renames asked old new (length old.config.now.sections)

@@ -1,0 +1,66 @@
+//! A configuration with its files.
+
+ghost use Rattle.std.specs.Prelude.{◌≡◌, ◌<◌, ◌≤◌, None, IfSome, length};
+ghost use Rattle.ptk_impact_answers.specs.Matching.{place_named};
+
+use ptk_config::{Config, Section};
+use ptk_impact::Subject;
+use ptk_system_files::Files;
+use ptk_words::PartId;
+
+/// A configuration, and the files that have its images.
+#[derive(Clone, Copy)]
+pub struct Release<'a, 'f> {
+    /// The configuration.
+    pub config: &'a Config,
+    /// The files that have its images.
+    pub files: &'f Files,
+}
+
+impl<'a, 'f> Release<'a, 'f> {
+    /// Its sections, in their order, 8 at most.
+    pub(crate) fn sections(&self) -> &'a [Section]
+        ensures value { result.now ≡ self.now.config.now.sections }
+        ensures few { length result.now ≤ 8 }
+    {
+        let config = self.config;
+        config.sections()
+    }
+
+    /// The place of the section of this name, None where no section has it.
+    pub(crate) fn place_of(&self, name: &str) -> Option<usize>
+        ensures place { result ≡ place_named self.now.config.now name.now }
+        ensures within { IfSome result (λ place. place < length self.now.config.now.sections) }
+    {
+        let sections = self.sections();
+        sections.iter().position(|section| section.has_name(name))
+    }
+
+    /// The partition at this place.
+    pub(crate) fn subject(&self, place: usize) -> Subject<'_>
+        requires { place < length self.now.config.now.sections }
+        ensures config { result.config.now ≡ self.now.config.now }
+        ensures files { result.files.now ≡ self.now.files.now }
+        ensures partition { result.partition ≡ place }
+    {
+        let _sections = self.sections();
+        Subject {
+            config: self.config,
+            files: self.files,
+            partition: PartId::new(place as u8),
+        }
+    }
+
+    /// The name of the first image, in the order of the sections, that no file has, None where each has its file.
+    pub(crate) fn missing_image(&self) -> Option<&'a str> {
+        let files = self.files;
+        for section in self.sections() {
+            if let Some(name) = section.image() {
+                if files.get(name).is_none() {
+                    return Some(name);
+                }
+            }
+        }
+        None
+    }
+}

@@ -1,0 +1,170 @@
+//! The partitions that have another name in the new configuration.
+
+ghost use Rattle.std.specs.Prelude.{◌≡◌, ◌<◌, None, [], IfOk, IfSome, length, option_map};
+ghost use Rattle.std.specs.Str.{bytes_eq};
+ghost use Rattle.ptk_impact_answers.specs.Matching.{new_name, old_name, place_from, place_to};
+
+use ptk_main_faults::Fault;
+use std::alloc::{AllocError, Global};
+use std::marker::Model;
+
+/// The greatest number of renames: each configuration has at most this many partitions.
+const MOST_RENAMES: usize = 8;
+
+/// A partition that has another name.
+#[derive(Drop)]
+pub(crate) struct Rename<'a> {
+    old: &'a str,
+    new: &'a str,
+}
+
+impl<'a> Model for Rename<'a> {
+    ghost use Rattle.ptk_impact_answers.specs.Matching.{Renamed};
+
+    ghost Value = { Renamed };
+
+    ghost view = { λ a. record { old = a.old.now; new = a.new.now } };
+}
+
+/// The partitions that have another name.
+#[derive(Drop)]
+pub(crate) struct Renames<'a> {
+    items: Vec<Rename<'a>>,
+}
+
+impl<'a> Model for Renames<'a> {
+    ghost use Rattle.std.specs.Prelude.{List};
+    ghost use Rattle.ptk_impact_answers.specs.Matching.{Renamed};
+
+    ghost Value = { List Renamed };
+
+    ghost view = { λ a. a.items.items };
+}
+
+impl<'a> Renames<'a> {
+    /// The renames that a text states, `OLD=NEW` with commas between them; none where there is no text. A fault where one
+    /// is no such pair or there are more than eight, which tells it as the name of no partition, or where memory ran out.
+    pub(crate) fn read(alloc: Global, text: Option<&'a str>) -> Result<Renames<'a>, Fault<'a>>
+        ensures { text.entry ≡ None → IfOk result (λ renames. renames ≡ []) }
+    {
+        let mut renames = Renames {
+            items: Vec::new(alloc),
+        };
+        let Some(text) = text else {
+            return Ok(renames);
+        };
+        let mut rest = text;
+        for _ in 0..MOST_RENAMES {
+            match rest.split_once(',') {
+                Some((first, later)) => {
+                    renames.add(Rename::read(first)?)?;
+                    rest = later;
+                }
+                None => {
+                    renames.add(Rename::read(rest)?)?;
+                    return Ok(renames);
+                }
+            }
+        }
+        Err(Fault::NoPartition(rest))
+    }
+
+    /// Adds a rename. An error where memory ran out.
+    fn add(&mut self, rename: Rename<'a>) -> Result<(), AllocError> {
+        self.items.push(rename)?;
+        Ok(())
+    }
+
+    /// The renames, in the order written.
+    pub(crate) fn as_slice(&self) -> &[Rename<'a>] {
+        self.items.as_slice()
+    }
+
+    /// The place of the first rename to this name.
+    fn place_to(&self, name: &str) -> Option<usize>
+        ensures place { result ≡ place_to self.now name.now }
+        ensures within { IfSome result (λ place. place < length self.now) }
+    {
+        self.items.iter().position(|rename| rename.is_now(name))
+    }
+
+    /// The place of the first rename from this name.
+    fn place_from(&self, name: &str) -> Option<usize>
+        ensures place { result ≡ place_from self.now name.now }
+        ensures within { IfSome result (λ place. place < length self.now) }
+    {
+        self.items.iter().position(|rename| rename.was(name))
+    }
+
+    /// The name that the new partition of this name had. None where the partition that had it has another name now.
+    #[tactic(auto, using(crate::proofs::Names::names))]
+    pub(crate) fn old_name<'b>(&'b self, name: &'b str) -> Option<&'b str>
+        ensures { option_map (λ n. n.now) result ≡ old_name self.now name.now }
+    {
+        match self.place_to(name) {
+            Some(place) => Some(self.items[place].old()),
+            None => {
+                if self.place_from(name).is_some() {
+                    None
+                } else {
+                    Some(name)
+                }
+            }
+        }
+    }
+
+    /// The name that the old partition of this name has now. None where another partition has it now.
+    #[tactic(auto, using(crate::proofs::Names::names))]
+    pub(crate) fn new_name<'b>(&'b self, name: &'b str) -> Option<&'b str>
+        ensures { option_map (λ n. n.now) result ≡ new_name self.now name.now }
+    {
+        match self.place_from(name) {
+            Some(place) => Some(self.items[place].new()),
+            None => {
+                if self.place_to(name).is_some() {
+                    None
+                } else {
+                    Some(name)
+                }
+            }
+        }
+    }
+}
+
+impl<'a> Rename<'a> {
+    /// The rename that a text `OLD=NEW` states.
+    fn read(text: &'a str) -> Result<Rename<'a>, Fault<'a>> {
+        match text.split_once('=') {
+            Some((old, new)) => Ok(Rename { old, new }),
+            None => Err(Fault::NoPartition(text)),
+        }
+    }
+
+    /// The old name.
+    pub(crate) fn old(&self) -> &'a str
+        ensures { result.now ≡ self.now.old }
+    {
+        self.old
+    }
+
+    /// The new name.
+    pub(crate) fn new(&self) -> &'a str
+        ensures { result.now ≡ self.now.new }
+    {
+        self.new
+    }
+
+    /// Whether this is the old name.
+    fn was(&self, name: &str) -> bool
+        ensures { result ≡ bytes_eq self.now.old name.now }
+    {
+        self.old == name
+    }
+
+    /// Whether this is the new name.
+    fn is_now(&self, name: &str) -> bool
+        ensures { result ≡ bytes_eq self.now.new name.now }
+    {
+        self.new == name
+    }
+}
