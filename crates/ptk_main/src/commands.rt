@@ -5,13 +5,15 @@ ghost use Rattle.ptk_main_answers.specs.Requests.{IsInTime, IsOfConfiguration};
 #[cfg(test)]
 mod tests;
 
+use crate::disassembling::disasm;
 use crate::reading::{config_in, config_of, image_in, images_of, text_in};
 use crate::telling::{end, tell};
 use ptk_config::Config;
 use ptk_image::write_image;
+use ptk_impact_answers::{Question, Release, Tally, impact_json_with, impact_with};
 use ptk_main_answers::{Files, answer_with, check_with, explain_with};
-use ptk_main_faults::Fault;
-use ptk_main_line::Request;
+use ptk_main_faults::{ExitStatus, Fault};
+use ptk_main_line::{Format, Request};
 use std::fs;
 
 /// Does what is asked for, and gives the number of its status. The line of a fault goes to standard error.
@@ -31,6 +33,14 @@ pub(crate) fn obey(rt: &HostRuntime, request: Request<'_>) -> u8
             explain: true,
         } => explain_over(rt, file),
         Request::Asm { source, image } => end(rt, asm(rt, source, image)),
+        Request::Disasm { image, target } => end(rt, disasm(rt, image, target)),
+        Request::Impact {
+            old,
+            new,
+            partition,
+            rename,
+            format,
+        } => impact_over(rt, old, new, Question { partition, rename }, format),
     }
 }
 
@@ -85,6 +95,71 @@ fn refusal_explained(rt: &HostRuntime, text: &str, fault: Fault<'static>) -> Fau
     match explain_with(rt.alloc(), text, &files, &mut rt.stdout()) {
         Ok(_) => fault,
         Err(failure) => failure,
+    }
+}
+
+// `impact`: what stands between the configurations in two files.
+fn impact_over(
+    rt: &HostRuntime,
+    old: &str,
+    new: &str,
+    question: Question<'_>,
+    format: Format,
+) -> u8 {
+    match config_in(rt, old) {
+        Ok(config) => impact_from(rt, &config, new, question, format),
+        Err(fault) => tell(rt, &fault),
+    }
+}
+
+// What stands between a configuration and the one in a file.
+fn impact_from(
+    rt: &HostRuntime,
+    old: &Config,
+    new: &str,
+    question: Question<'_>,
+    format: Format,
+) -> u8 {
+    match config_in(rt, new) {
+        Ok(config) => match impact(rt, old, &config, question, format) {
+            Ok(tally) => status_of_tally(&tally).number(),
+            Err(fault) => tell(rt, &fault),
+        },
+        Err(fault) => tell(rt, &fault),
+    }
+}
+
+// What stands between two configurations, on standard output, with the images read from their files.
+fn impact<'a>(
+    rt: &HostRuntime,
+    old: &'a Config,
+    new: &'a Config,
+    question: Question<'a>,
+    format: Format,
+) -> Result<Tally, Fault<'a>> {
+    let old_files = images_of(rt, old)?;
+    let new_files = images_of(rt, new)?;
+    let before = Release {
+        config: old,
+        files: &old_files,
+    };
+    let after = Release {
+        config: new,
+        files: &new_files,
+    };
+    let out = &mut rt.stdout();
+    match format {
+        Format::Text => impact_with(rt.alloc(), before, after, question, out),
+        Format::Json => impact_json_with(rt.alloc(), before, after, question, out),
+    }
+}
+
+// The status of what was counted.
+fn status_of_tally(tally: &Tally) -> ExitStatus {
+    if tally.is_same_run() {
+        ExitStatus::Done
+    } else {
+        ExitStatus::Different
     }
 }
 

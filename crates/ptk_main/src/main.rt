@@ -1,8 +1,8 @@
 //! The program `ptk`: it reads the words of its command line, does what they ask for, and ends with the status of the
 //! outcome. Below stand the command line (`ptk_main_line`), the lines of faults (`ptk_main_faults`), the answers to
 //! requests over files already read (`ptk_main_answers`, whose `answer_with` promises what is written and which fault
-//! comes, and whose `explain_with` writes what a configuration comes to), the configuration (`ptk_config`) and the
-//! assembler (`ptk_asm`); nothing stands above. Proved here is that each request goes to no tick after the last, and
+//! comes, and whose `explain_with` writes what a configuration comes to), the configuration (`ptk_config`), the
+//! assembler (`ptk_asm`) and the way back (`ptk_disasm`); nothing stands above. Proved here is that each request goes to no tick after the last, and
 //! that an outcome has its status. What no contract can say of real files and streams is tested in `commands/tests.rt`:
 //! the status of each request and of words that are refused, the fault behind a status that several share, and the
 //! files that `asm` writes. Which stream a text goes to no test sees; the gate compares the standard output of the
@@ -10,6 +10,7 @@
 #![tactic(auto)]
 
 mod commands;
+mod disassembling;
 mod reading;
 mod telling;
 

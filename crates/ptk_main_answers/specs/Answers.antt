@@ -6,7 +6,7 @@ use Rattle.ptk_system_files.specs.NamedFiles.{NamedFile}
 use Rattle.ptk_system.specs.Shown.{report_of}
 use Rattle.ptk_system.specs.World.{World, state_of, world_at}
 use Rattle.ptk_main_line.specs.declared.line.Request.{Request}
-use Rattle.ptk_main_line.specs.declared.line.Request.TheVariants.{Run, Trace, Timeline, Asm, Check}
+use Rattle.ptk_main_line.specs.declared.line.Request.TheVariants.{Run, Trace, Timeline, Asm, Check, Disasm, Impact}
 use Rattle.ptk_main_runs.specs.Parts.{part_named}
 
 -- the trace of a partition, if there is one (own)
@@ -25,3 +25,5 @@ answer_of config files (Trace file ticks partition) = Some (trace_of (part_named
 answer_of config files (Timeline file ticks from) = None
 answer_of config files (Asm source image) = None
 answer_of config files (Check file explain) = Some ok_line
+answer_of config files (Disasm image target) = None
+answer_of config files (Impact old new partition rename format) = None

@@ -7,7 +7,7 @@ use Rattle.ptk_system.specs.Missing.{first_missing}
 use Rattle.ptk_system.specs.declared.fault.BootFault.{BootFault}
 use Rattle.ptk_system.specs.declared.fault.BootFault.TheVariants as boot
 use Rattle.ptk_main_line.specs.declared.line.Request.{Request}
-use Rattle.ptk_main_line.specs.declared.line.Request.TheVariants.{Run, Trace, Timeline, Asm, Check}
+use Rattle.ptk_main_line.specs.declared.line.Request.TheVariants.{Run, Trace, Timeline, Asm, Check, Disasm, Impact}
 use Rattle.ptk_main_faults.specs.declared.fault.Fault.{Fault}
 use Rattle.ptk_main_faults.specs.declared.fault.Fault.TheVariants.{MissingFile, NoPartition, WriteFailed, NoMemory}
 use Rattle.ptk_main_faults.specs.Lines.{image_fault}
@@ -57,6 +57,8 @@ lack_of config files (Trace file ticks partition) = refused_trace (part_named co
 lack_of config files (Timeline file ticks from) = missing_image config files
 lack_of config files (Asm source image) = None
 lack_of config files (Check file explain) = missing_image config files
+lack_of config files (Disasm image target) = None
+lack_of config files (Impact old new partition rename format) = None
 
 -- why a request is refused: what is lacking, and for a check the first image that is refused after all are there (own)
 abbrev pub refusal_of : Configuration → List NamedFile → Request → Option Fault
@@ -64,7 +66,9 @@ refusal_of config files (Run file ticks) = lack_of config files (Run file ticks)
 refusal_of config files (Trace file ticks partition) = lack_of config files (Trace file ticks partition)
 refusal_of config files (Timeline file ticks from) = lack_of config files (Timeline file ticks from)
 refusal_of config files (Asm source image) = None
+refusal_of config files (Impact old new partition rename format) = None
 refusal_of config files (Check file explain) = option_or (missing_image config files) (refused_image config files)
+refusal_of config files (Disasm image target) = None
 
 -- a fault by what is lacking and by the refusal: want of memory comes only where nothing is lacking, a failed write only where nothing is refused, and any other fault is told as the refusal (own)
 pub record IsFaultOf (lack refusal : Option Fault) (fault : Fault) : Type 0 where

@@ -49,7 +49,7 @@ pub fn answer_with<'a, W: Write>(
             timeline(alloc, config, files, Tick::new(from), Tick::new(ticks), out)
         }
         Request::Check { .. } => check_with(alloc, config, files, out),
-        Request::Asm { .. } => unreachable!(),
+        Request::Asm { .. } | Request::Disasm { .. } | Request::Impact { .. } => unreachable!(),
     }
 }
 

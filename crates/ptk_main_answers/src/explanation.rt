@@ -1,6 +1,7 @@
-//! What a configuration's text comes to, in words.
+//! What a configuration's text amounts to, in words.
 
-ghost use Rattle.std.specs.Prelude.{◌≡◌, ◌⊎◌, IfErr, IfOk};
+ghost use Rattle.std.specs.Prelude.{◌≡◌, ◌≢◌, ◌⊎◌, IfErr, IfOk};
+ghost use Rattle.ptk_config_table.specs.Explained.{IsExplained};
 ghost use Rattle.ptk_config_places.specs.Refusals.{refusal_of, text_walk};
 
 use ptk_config_places::{ExplainFault, Refusal};
@@ -10,10 +11,11 @@ use ptk_system::Files;
 use std::alloc::Global;
 use std::io::Write;
 
-/// Writes what a text comes to with these files: of a configuration that is refused one line that says where and why;
+/// Writes what a text amounts to with these files: of a configuration that is refused one line that says where and why;
 /// of one that is accepted one line that says which image is refused first and why, and where none is, what each
-/// partition has. Answers the first fault of the text with its place, None where the text is accepted. A fault where
-/// memory was refused or the writer fails, and of no other kind.
+/// partition has. Returns the first fault of the text with its place, None where the text is accepted. A fault where
+/// memory was refused, with the writer as it was, or where the writer fails, and of no other kind; how much of the text
+/// a failed writer has is not said.
 pub fn explain_with<W: Write>(
     alloc: Global,
     text: &str,
@@ -21,7 +23,9 @@ pub fn explain_with<W: Write>(
     out: &mut W,
 ) -> Result<Option<Refusal>, Fault<'static>>
     ensures place { IfOk result (λ found. found ≡ refusal_of (text_walk text.now)) }
+    ensures written { IfOk result (λ found. IsExplained files.now text.now found (W.contents out.old) (W.contents out.new)) }
     ensures failed { IfErr result (λ fault. (fault ≡ Fault.NoMemory) ⊎ (fault ≡ Fault.WriteFailed)) }
+    ensures silent { IfErr result (λ fault. fault ≢ Fault.WriteFailed → out.new ≡ out.old) }
 {
     match explain(alloc, text, files, out) {
         Ok(found) => Ok(found),

@@ -10,8 +10,10 @@ use Rattle.ptk_words_windows.specs.declared.fault.WindowFault.TheVariants as win
 use Rattle.ptk_config.specs.FaultNumbers.{config_fault_number}
 use Rattle.ptk_config.specs.declared.fault.ConfigFault.{ConfigFault}
 use Rattle.ptk_config.specs.declared.fault.ConfigFault.TheVariants as config
+use Rattle.ptk_asm_model.specs.declared.statement.Section.{Section}
+use Rattle.ptk_asm_model.specs.declared.statement.Section.TheVariants as section
 use Rattle.ptk_main_faults.specs.declared.fault.Fault.{Fault}
-use Rattle.ptk_main_faults.specs.declared.fault.Fault.TheVariants.{Config, ConfigWindow, Asm, Image, MissingFile, NotText, NoPartition, ReadFailed, WriteFailed, NoMemory}
+use Rattle.ptk_main_faults.specs.declared.fault.Fault.TheVariants.{Config, ConfigWindow, Asm, Image, TooLong, MissingFile, NotText, NoPartition, ReadFailed, WriteFailed, NoMemory}
 use Rattle.ptk_main_faults.specs.declared.status.ExitStatus.{ExitStatus}
 use Rattle.ptk_main_faults.specs.declared.status.ExitStatus.TheVariants.{Refused, HostFailure}
 
@@ -19,12 +21,19 @@ use Rattle.ptk_main_faults.specs.declared.status.ExitStatus.TheVariants.{Refused
 abbrev pub newline : List ℕ
 newline = 10 ∷ []
 
+-- the name of a section (own)
+abbrev pub name_of : Section → List ℕ
+name_of section.Text = codes "text"
+name_of section.Data = codes "data"
+name_of section.Bss = codes "bss"
+
 -- the line of a fault, without its end (own)
 abbrev pub line_of : Fault → List ℕ
 line_of (Config number) = codes "ptk: config fault " ++ decimal number
 line_of (ConfigWindow number) = codes "ptk: config fault 7 window " ++ decimal number
 line_of (Asm line kind) = codes "ptk: asm line " ++ (decimal line ++ (codes " fault " ++ decimal kind))
 line_of (Image name number) = codes "ptk: image " ++ (name.now ++ (codes " fault " ++ decimal number))
+line_of (TooLong name section) = codes "ptk: image " ++ (name.now ++ (codes " too long " ++ name_of section))
 line_of (MissingFile name) = codes "ptk: missing file " ++ name.now
 line_of (NotText name) = codes "ptk: not text " ++ name.now
 line_of (NoPartition name) = codes "ptk: no partition " ++ name.now
@@ -38,6 +47,7 @@ status_of (Config number) = Refused
 status_of (ConfigWindow number) = Refused
 status_of (Asm line kind) = Refused
 status_of (Image name number) = Refused
+status_of (TooLong name section) = Refused
 status_of (MissingFile name) = Refused
 status_of (NotText name) = Refused
 status_of (NoPartition name) = Refused

@@ -2,7 +2,7 @@
 use Rattle.std.specs.Prelude.{ℕ, List}
 use Rattle.std.specs.Borrow.{Bor}
 use Rattle.ptk_main_faults.specs.declared.fault.Fault.{Fault}
-use Rattle.ptk_main_faults.specs.declared.fault.Fault.TheVariants.{Config, ConfigWindow, Asm, Image, MissingFile, NotText, NoPartition, ReadFailed, WriteFailed, NoMemory}
+use Rattle.ptk_main_faults.specs.declared.fault.Fault.TheVariants.{Config, ConfigWindow, Asm, Image, TooLong, MissingFile, NotText, NoPartition, ReadFailed, WriteFailed, NoMemory}
 
 -- a name as its text alone, wherever it stands
 abbrev pub text : List ℕ → Bor (List ℕ)
@@ -14,6 +14,7 @@ told (Config number) = Config number
 told (ConfigWindow number) = ConfigWindow number
 told (Asm line kind) = Asm line kind
 told (Image name number) = Image (text name.now) number
+told (TooLong name section) = TooLong (text name.now) section
 told (MissingFile name) = MissingFile (text name.now)
 told (NotText name) = NotText (text name.now)
 told (NoPartition name) = NoPartition (text name.now)

@@ -3,10 +3,11 @@
 ghost use Rattle.std.specs.Prelude.{◌≡◌, ◌++◌, Some, IfOk};
 ghost use Rattle.std.specs.Io.KnownBytes.{Appends};
 ghost use Rattle.ptk_main_faults.specs.declared.fault.Fault.TheVariants.{NoMemory};
-ghost use Rattle.ptk_main_faults.specs.Lines.{asm_fault, config_fault, image_fault, line_of, newline, status_of};
+ghost use Rattle.ptk_main_faults.specs.Lines.{asm_fault, config_fault, image_fault, line_of, name_of, newline, status_of};
 ghost use Rattle.ptk_main_faults.specs.Statuses.{status_number};
 
 use crate::status::ExitStatus;
+use ptk_asm_model::Section;
 use ptk_config::ConfigFault;
 use ptk_words::ImageFault;
 use ptk_words_windows::WindowFault;
@@ -25,6 +26,8 @@ pub enum Fault<'a> {
     Asm(u64, u8),
     /// `ptk: image NAME fault N`: an image is refused.
     Image(&'a str, u8),
+    /// `ptk: image NAME too long SECTION`: a section of an image is longer than a source may have it.
+    TooLong(&'a str, Section),
     /// `ptk: missing file NAME`: there is no such file.
     MissingFile(&'a str),
     /// `ptk: not text NAME`: the file is not UTF-8.
@@ -39,6 +42,17 @@ pub enum Fault<'a> {
     NoMemory,
 }
 
+/// The name of a section in a line.
+fn section_name(section: Section) -> &'static str
+    ensures { result.now ≡ name_of section }
+{
+    match section {
+        Section::Text => "text",
+        Section::Data => "data",
+        Section::Bss => "bss",
+    }
+}
+
 impl fmt::Display for Fault<'_> {
     ghost output = { λ f. Some (line_of f) };
 
@@ -48,6 +62,10 @@ impl fmt::Display for Fault<'_> {
             Fault::ConfigWindow(number) => write!(f, "ptk: config fault 7 window {number}"),
             Fault::Asm(line, kind) => write!(f, "ptk: asm line {line} fault {kind}"),
             Fault::Image(name, number) => write!(f, "ptk: image {name} fault {number}"),
+            Fault::TooLong(name, section) => {
+                let section = section_name(section);
+                write!(f, "ptk: image {name} too long {section}")
+            }
             Fault::MissingFile(name) => write!(f, "ptk: missing file {name}"),
             Fault::NotText(name) => write!(f, "ptk: not text {name}"),
             Fault::NoPartition(name) => write!(f, "ptk: no partition {name}"),
@@ -100,9 +118,8 @@ impl<'a> Fault<'a> {
             Fault::Config(_) | Fault::ConfigWindow(_) | Fault::Asm(..) | Fault::Image(..) => {
                 ExitStatus::Refused
             }
-            Fault::MissingFile(_) | Fault::NotText(_) | Fault::NoPartition(_) => {
-                ExitStatus::Refused
-            }
+            Fault::TooLong(..) | Fault::MissingFile(_) => ExitStatus::Refused,
+            Fault::NotText(_) | Fault::NoPartition(_) => ExitStatus::Refused,
             Fault::ReadFailed(_) | Fault::WriteFailed | Fault::NoMemory => ExitStatus::HostFailure,
         }
     }

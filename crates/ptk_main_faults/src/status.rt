@@ -10,6 +10,8 @@ pub enum ExitStatus {
     Done,
     /// What it was given is refused.
     Refused,
+    /// What it compared is not the same.
+    Different,
     /// The words of the command line ask for nothing.
     Usage,
     /// The host failed: reading, writing or memory.
@@ -23,7 +25,7 @@ impl ExitStatus {
     {
         match self {
             ExitStatus::Done => 0,
-            ExitStatus::Refused => 1,
+            ExitStatus::Refused | ExitStatus::Different => 1,
             ExitStatus::Usage => 2,
             ExitStatus::HostFailure => 3,
         }

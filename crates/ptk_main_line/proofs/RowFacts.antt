@@ -1,6 +1,7 @@
 -- What the getters of a subcommand's matches say of its rows.
 use Rattle.std.proofs.Common.{◌≡◌, ◌≢◌, ◌∙◌, ℕ, ◌<◌, ◌≤◌, ◌^◌, List, Option, Some, None, Result, Ok, Err, refl, sym, ap, subst, codes, arith, slice_index, ◌==◌, inl, inr, true, false}
-use Rattle.std.specs.Prelude.{find, option_and_then, option_map, slice_get, unwrap_or}
+use Rattle.std.specs.Prelude.{IfErr, find, option_and_then, option_map, slice_get, unwrap_or}
+use Rattle.std.specs.Result.{IsErrAnd}
 use Rattle.std.specs.Str.{bytes_eq}
 use Rattle.std.specs.Str.Parse.{IsNumeral, ParsesUnsigned, digits_value, without_leading_plus}
 use Rattle.clap.specs.Words.{Row, Text, first_of, first_value, one_of, rows_of}
@@ -10,10 +11,11 @@ use Rattle.clap.specs.Values.{read_as}
 use Rattle.clap.specs.Matches.{ReadsOne, matched_of}
 use Rattle.clap.specs.declared.parser.matches.Found.{Found}
 use Rattle.clap.proofs.WalkLemmas.{find_row, first_value-rows}
+use Rattle.ptk_main_line.specs.declared.line.Format.{Format}
 use Rattle.ptk_main_line.specs.declared.line.Request.{Request}
-use Rattle.ptk_main_line.specs.declared.line.Request.TheVariants.{Run, Trace, Timeline, Asm, Check}
+use Rattle.ptk_main_line.specs.declared.line.Request.TheVariants.{Run, Trace, Timeline, Asm, Check, Disasm, Impact}
 use Rattle.ptk_main_line.specs.CommandLine.{FindsFrom, FindsRequest, FindsTicks, Gives}
-use Rattle.ptk_main_line.specs.CommandLine.{HasFrom, HasText, HasTicks, source_of}
+use Rattle.ptk_main_line.specs.CommandLine.{HasFormat, HasFrom, HasText, HasTicks, format_of, source_of}
 
 pub some_is : {X : Type 0} (x y : X) → Some x ≡ Some y → x ≡ y
 some_is x y e = ap (λ o. unwrap_or o x) e
@@ -25,6 +27,10 @@ pub no_text : (f : Found) (id t : Text) → None ≡ first_value f id → HasTex
 no_text f id t e h =
     let bad : None ≡ Some t = e ∙ first_value-rows f id ∙ h in
     cc
+
+-- a word that names no form
+pub no_format : (o : Option Text) (format : Format) → None ≡ format_of o → format_of o ≡ Some format → ⊥
+no_format o format e h = let bad : None ≡ Some format = e ∙ h in cc
 
 -- a number that was read is that of a decimal numeral
 pub number_read : (E : Type 0) (G : List ℕ → Result ℕ E → Type 0) (o : Option (List ℕ)) (r : Option ℕ) (n : ℕ) → r ≡ Some n
@@ -108,6 +114,8 @@ no_run rows h (Trace file n partition) g = let bad : true ≡ false = ap (λ (t 
 no_run rows h (Timeline file n from) g = let bad : true ≡ false = ap (λ (t : Text). slice_index t 0 == 114) g.0 in cc
 no_run rows h (Asm source image) g = let bad : true ≡ false = ap (λ (t : Text). slice_index t 0 == 114) g.0 in cc
 no_run rows h (Check file explain) g = let bad : true ≡ false = ap (λ (t : Text). slice_index t 0 == 114) g.0 in cc
+no_run rows h (Disasm image target) g = let bad : true ≡ false = ap (λ (t : Text). slice_index t 0 == 114) g.0 in cc
+no_run rows h (Impact old new partition rename format) g = let bad : true ≡ false = ap (λ (t : Text). slice_index t 0 == 114) g.0 in cc
 
 pub no_trace : (rows : List Row)
     → ((file : Text) (n : ℕ) (name : Text) → HasText (codes "FILE") file rows → HasTicks (codes "ticks") n rows → HasText (codes "partition") name rows → ⊥)
@@ -117,6 +125,8 @@ no_trace rows h (Trace file n partition) g = h file.now n partition.now g.1 g.2 
 no_trace rows h (Timeline file n from) g = let bad : true ≡ false = ap (λ (t : Text). slice_index t 1 == 114) g.0 in cc
 no_trace rows h (Asm source image) g = let bad : true ≡ false = ap (λ (t : Text). slice_index t 0 == 116) g.0 in cc
 no_trace rows h (Check file explain) g = let bad : true ≡ false = ap (λ (t : Text). slice_index t 0 == 116) g.0 in cc
+no_trace rows h (Disasm image target) g = let bad : true ≡ false = ap (λ (t : Text). slice_index t 0 == 116) g.0 in cc
+no_trace rows h (Impact old new partition rename format) g = let bad : true ≡ false = ap (λ (t : Text). slice_index t 0 == 116) g.0 in cc
 
 pub no_timeline : (rows : List Row)
     → ((file : Text) (n from : ℕ) → HasText (codes "FILE") file rows → HasTicks (codes "ticks") n rows → HasFrom from rows → ⊥)
@@ -126,6 +136,8 @@ no_timeline rows h (Trace file n partition) g = let bad : true ≡ false = ap (�
 no_timeline rows h (Timeline file n from) g = h file.now n from g.1 g.2 g.3
 no_timeline rows h (Asm source image) g = let bad : true ≡ false = ap (λ (t : Text). slice_index t 1 == 105) g.0 in cc
 no_timeline rows h (Check file explain) g = let bad : true ≡ false = ap (λ (t : Text). slice_index t 1 == 105) g.0 in cc
+no_timeline rows h (Disasm image target) g = let bad : true ≡ false = ap (λ (t : Text). slice_index t 0 == 116) g.0 in cc
+no_timeline rows h (Impact old new partition rename format) g = let bad : true ≡ false = ap (λ (t : Text). slice_index t 0 == 116) g.0 in cc
 
 pub no_asm : (rows : List Row) → ((source image : Text) → HasText (codes "IN") source rows → HasText (codes "OUT") image rows → ⊥)
     → (request : Request) → ¬ Gives (codes "asm") rows request
@@ -134,6 +146,8 @@ no_asm rows h (Trace file n partition) g = let bad : true ≡ false = ap (λ (t 
 no_asm rows h (Timeline file n from) g = let bad : true ≡ false = ap (λ (t : Text). slice_index t 0 == 97) g.0 in cc
 no_asm rows h (Asm source image) g = h source.now image.now g.1 g.2
 no_asm rows h (Check file explain) g = let bad : true ≡ false = ap (λ (t : Text). slice_index t 0 == 97) g.0 in cc
+no_asm rows h (Disasm image target) g = let bad : true ≡ false = ap (λ (t : Text). slice_index t 0 == 97) g.0 in cc
+no_asm rows h (Impact old new partition rename format) g = let bad : true ≡ false = ap (λ (t : Text). slice_index t 0 == 97) g.0 in cc
 
 pub no_check : (rows : List Row) → ((file : Text) → HasText (codes "FILE") file rows → ⊥)
     → (request : Request) → ¬ Gives (codes "check") rows request
@@ -142,3 +156,31 @@ no_check rows h (Trace file n partition) g = let bad : true ≡ false = ap (λ (
 no_check rows h (Timeline file n from) g = let bad : true ≡ false = ap (λ (t : Text). slice_index t 0 == 99) g.0 in cc
 no_check rows h (Asm source image) g = let bad : true ≡ false = ap (λ (t : Text). slice_index t 0 == 99) g.0 in cc
 no_check rows h (Check file explain) g = h file.now g.1
+no_check rows h (Disasm image target) g = let bad : true ≡ false = ap (λ (t : Text). slice_index t 0 == 99) g.0 in cc
+no_check rows h (Impact old new partition rename format) g = let bad : true ≡ false = ap (λ (t : Text). slice_index t 0 == 99) g.0 in cc
+
+pub no_disasm : (rows : List Row) → ((image : Text) → HasText (codes "IMAGE") image rows → ⊥)
+    → (request : Request) → ¬ Gives (codes "disasm") rows request
+no_disasm rows h (Run file n) g = let bad : true ≡ false = ap (λ (t : Text). slice_index t 0 == 100) g.0 in cc
+no_disasm rows h (Trace file n partition) g = let bad : true ≡ false = ap (λ (t : Text). slice_index t 0 == 100) g.0 in cc
+no_disasm rows h (Timeline file n from) g = let bad : true ≡ false = ap (λ (t : Text). slice_index t 0 == 100) g.0 in cc
+no_disasm rows h (Asm source image) g = let bad : true ≡ false = ap (λ (t : Text). slice_index t 0 == 100) g.0 in cc
+no_disasm rows h (Check file explain) g = let bad : true ≡ false = ap (λ (t : Text). slice_index t 0 == 100) g.0 in cc
+no_disasm rows h (Disasm image target) g = h image.now g.1
+no_disasm rows h (Impact old new partition rename format) g = let bad : true ≡ false = ap (λ (t : Text). slice_index t 0 == 100) g.0 in cc
+
+pub no_impact : (rows : List Row)
+    → ((old new : Text) (format : Format) → HasText (codes "OLD") old rows → HasText (codes "NEW") new rows → HasFormat format rows → ⊥)
+    → (request : Request) → ¬ Gives (codes "impact") rows request
+no_impact rows h (Run file n) g = let bad : true ≡ false = ap (λ (t : Text). slice_index t 0 == 105) g.0 in cc
+no_impact rows h (Trace file n partition) g = let bad : true ≡ false = ap (λ (t : Text). slice_index t 0 == 105) g.0 in cc
+no_impact rows h (Timeline file n from) g = let bad : true ≡ false = ap (λ (t : Text). slice_index t 0 == 105) g.0 in cc
+no_impact rows h (Asm source image) g = let bad : true ≡ false = ap (λ (t : Text). slice_index t 0 == 105) g.0 in cc
+no_impact rows h (Check file explain) g = let bad : true ≡ false = ap (λ (t : Text). slice_index t 0 == 105) g.0 in cc
+no_impact rows h (Disasm image target) g = let bad : true ≡ false = ap (λ (t : Text). slice_index t 0 == 105) g.0 in cc
+no_impact rows h (Impact old new partition rename format) g = h old.now new.now format g.1 g.2 g.5
+
+-- what holds of the error that a result is one with
+pub err_is : {T E : Type 0} (r : Result T E) (P : E → Type 0) (e : E) → IsErrAnd r (λ f. f ≡ e) → P e → IfErr r P
+err_is (Ok t) P e is h = tt
+err_is (Err f) P e is h = subst P (sym is) h

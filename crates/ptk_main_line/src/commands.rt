@@ -1,15 +1,15 @@
 //! The command `ptk` and its subcommands, as `clap` builds them.
 ghost use Rattle.std.specs.Prelude.{◌≡◌, codes, false, IfOk};
-ghost use Rattle.clap.specs.Words.{app_of, rule_of, with_rule, with_subcommand};
+ghost use Rattle.clap.specs.Words.{app_of, new_rule, rule_of, with_rule, with_subcommand};
 ghost use Rattle.clap.specs.declared.builder.command.Command.TheViews.{out-Command};
-ghost use Rattle.ptk_main_line.specs.CommandLine.{asm, check, ptk, run, timeline, trace};
-ghost use Rattle.ptk_main_line.specs.CommandLine.{explain, from, number_option, partition, required_word, ticks};
+ghost use Rattle.ptk_main_line.specs.CommandLine.{asm, check, disasm, impact, ptk, run, timeline, trace};
+ghost use Rattle.ptk_main_line.specs.CommandLine.{explain, from, number_option, partition, required_word, text_option, ticks};
 
 use crate::help;
 use clap::{Arg, ArgAction, Command, value_parser};
 use std::alloc::{AllocError, Global};
 
-/// The command with its five subcommands, of which one has to be there.
+/// The command with its seven subcommands, of which one has to be there.
 pub(crate) fn ptk_command<'a>(alloc: Global) -> Result<Command<'a>, AllocError>
     ensures { IfOk result (λ c. app_of c ≡ ptk) }
 {
@@ -19,7 +19,9 @@ pub(crate) fn ptk_command<'a>(alloc: Global) -> Result<Command<'a>, AllocError>
         .subcommand_required(true);
     with_runs(alloc, command)?
         .subcommand(asm_command(alloc)?)?
-        .subcommand(check_command(alloc)?)
+        .subcommand(check_command(alloc)?)?
+        .subcommand(disasm_command(alloc)?)?
+        .subcommand(impact_command(alloc)?)
 }
 
 /// The command with the three subcommands that run a configuration behind those that it has.
@@ -73,6 +75,17 @@ fn asm_command<'a>(alloc: Global) -> Result<Command<'a>, AllocError>
         .arg(word_argument(alloc, "OUT", help::IMAGE))
 }
 
+/// `disasm IMAGE [OUT]`.
+fn disasm_command<'a>(alloc: Global) -> Result<Command<'a>, AllocError>
+    ensures { IfOk result (λ c. (app_of c ≡ disasm) × ((out-Command c).has_globals ≡ false)) }
+{
+    Command::new(alloc, "disasm")
+        .about(help::DISASM)
+        .after_help(help::DISASM_AFTER)
+        .arg(word_argument(alloc, "IMAGE", help::IMAGE_READ))?
+        .arg(free_word_argument(alloc, "OUT", help::TEXT))
+}
+
 /// `check FILE [--explain]`.
 fn check_command<'a>(alloc: Global) -> Result<Command<'a>, AllocError>
     ensures { IfOk result (λ c. (app_of c ≡ check) × ((out-Command c).has_globals ≡ false)) }
@@ -82,6 +95,20 @@ fn check_command<'a>(alloc: Global) -> Result<Command<'a>, AllocError>
         .after_help(help::CHECK_AFTER)
         .arg(word_argument(alloc, "FILE", help::CONFIGURATION))?
         .arg(explain_argument(alloc))
+}
+
+/// `impact OLD NEW [--partition NAME] [--rename OLD=NEW[,OLD=NEW]...] [--format FORMAT]`.
+fn impact_command<'a>(alloc: Global) -> Result<Command<'a>, AllocError>
+    ensures { IfOk result (λ c. (app_of c ≡ impact) × ((out-Command c).has_globals ≡ false)) }
+{
+    let command = Command::new(alloc, "impact")
+        .about(help::IMPACT)
+        .after_help(help::IMPACT_AFTER);
+    with_choice_of_partitions(alloc, with_old_and_new(alloc, command)?)?.arg(text_argument(
+        alloc,
+        "format",
+        help::FORMAT,
+    ))
 }
 
 /// The command with the arguments FILE and `--ticks N` behind those that it has.
@@ -94,12 +121,51 @@ fn with_file_and_ticks<'a>(alloc: Global, command: Command<'a>) -> Result<Comman
         .arg(ticks_argument(alloc))
 }
 
+/// The command with the arguments OLD and NEW behind those that it has.
+fn with_old_and_new<'a>(alloc: Global, command: Command<'a>) -> Result<Command<'a>, AllocError>
+    ensures { IfOk result (λ c. (app_of c ≡ with_rule (with_rule (app_of command.entry) (required_word (codes "OLD"))) (required_word (codes "NEW")))
+        × ((out-Command c).has_globals ≡ (out-Command command.entry).has_globals)) }
+{
+    command
+        .arg(word_argument(alloc, "OLD", help::OLD))?
+        .arg(word_argument(alloc, "NEW", help::NEW))
+}
+
+/// The command with the options `--partition NAME` and `--rename` behind the arguments that it has.
+fn with_choice_of_partitions<'a>(
+    alloc: Global,
+    command: Command<'a>,
+) -> Result<Command<'a>, AllocError>
+    ensures { IfOk result (λ c. (app_of c ≡ with_rule (with_rule (app_of command.entry) (text_option (codes "partition"))) (text_option (codes "rename")))
+        × ((out-Command c).has_globals ≡ (out-Command command.entry).has_globals)) }
+{
+    command
+        .arg(text_argument(alloc, "partition", help::ONE_PARTITION))?
+        .arg(text_argument(alloc, "rename", help::RENAME))
+}
+
 /// A word that has to be there, with what help says of it.
 fn word_argument<'a>(alloc: Global, id: &'a str, help: &'a str) -> Arg<'a>
     ensures rule { rule_of result ≡ required_word id.entry.now }
     ensures own { result.global ≡ false }
 {
     Arg::new(alloc, id).help(help).required(true)
+}
+
+/// A word that may be left out, with what help says of it.
+fn free_word_argument<'a>(alloc: Global, id: &'a str, help: &'a str) -> Arg<'a>
+    ensures rule { rule_of result ≡ new_rule id.entry.now }
+    ensures own { result.global ≡ false }
+{
+    Arg::new(alloc, id).help(help)
+}
+
+/// An option of this name whose value is a text, with what help says of it.
+fn text_argument<'a>(alloc: Global, name: &'a str, help: &'a str) -> Arg<'a>
+    ensures rule { rule_of result ≡ text_option name.entry.now }
+    ensures own { result.global ≡ false }
+{
+    Arg::new(alloc, name).long(name).help(help)
 }
 
 /// `--ticks N`.

@@ -90,6 +90,25 @@ pub(crate) const ASM_AFTER: &str = "Exit status:
 Example:
   ptk asm hello.s hello.img";
 
+/// What `disasm` does.
+pub(crate) const DISASM: &str = "Prints the assembly source of an image, a line for each word";
+
+/// What a line of the source has, the refusals of `disasm`, and an example.
+pub(crate) const DISASM_AFTER: &str =
+    "'ptk asm' makes the same image of that source. The comment of a line has its address and its word, and behind -> \
+    the address
+that a branch or a jump goes to. A word that is no instruction is written as .word.
+
+Exit status:
+  0  the source is written
+  1  ptk: image IMAGE fault N (see 'ptk check --help'), ptk: image IMAGE too long SECTION: its text, data or
+     bss is longer than the 1048576 bytes that a source may have, ptk: missing file IMAGE
+  2  usage
+  3  ptk: read failed IMAGE, ptk: write failed, ptk: no memory
+
+Example:
+  ptk disasm hello.img";
+
 /// What `check` does.
 pub(crate) const CHECK: &str =
     "Reads a configuration and its images, and prints ok where all of them are accepted";
@@ -124,6 +143,31 @@ Example:
   ptk check hello.toml
   ptk check hello.toml --explain";
 
+/// What `impact` does.
+pub(crate) const IMPACT: &str =
+    "Compares two configurations, and prints of each partition what may differ in its runs";
+
+/// What the lines of `impact` say, and an example.
+pub(crate) const IMPACT_AFTER: &str =
+    "A line for each partition of NEW, by name, and then for each of OLD that is gone:
+  control: unchanged                         the same run, whatever the others do
+  control: unchanged but for the trace kept  the same run; the trace keeps another number of entries
+  control: changed                           beneath it what differs, as OLD -> NEW
+  plugin: new
+  logger: gone
+The last line counts. With --format json the same stands in one JSON object. Nothing is run.
+
+Exit status:
+  0  every partition is unchanged
+  1  one is changed, new or gone; or ptk: config fault N (see 'ptk check --help'), ptk: no partition NAME,
+     ptk: missing file NAME, ptk: not text NAME
+  2  usage
+  3  ptk: read failed NAME, ptk: write failed, ptk: no memory
+
+Example:
+  ptk impact old.toml new.toml
+  ptk impact old.toml new.toml --partition control --rename pilot=control";
+
 /// A configuration's file.
 pub(crate) const CONFIGURATION: &str = "The configuration, a TOML document";
 
@@ -141,8 +185,32 @@ pub(crate) const EXPLAIN: &str =
 /// The partition that is traced.
 pub(crate) const PARTITION: &str = "The name of a section of the configuration";
 
+/// The configuration that a new one is compared with.
+pub(crate) const OLD: &str = "The configuration as it was, a TOML document";
+
+/// The configuration that is compared.
+pub(crate) const NEW: &str = "The configuration as it is to be, a TOML document";
+
+/// The one partition that is compared.
+pub(crate) const ONE_PARTITION: &str =
+    "The name of the one partition to compare; all are where it is left out";
+
+/// The partitions that have another name.
+pub(crate) const RENAME: &str =
+    "OLD=NEW: the partition NEW is the one that was OLD; several with commas between them";
+
+/// The form of an answer.
+pub(crate) const FORMAT: &str = "text or json; text where it is left out";
+
 /// A source's file.
 pub(crate) const SOURCE: &str = "The source, assembly in UTF-8";
 
 /// An image's file.
 pub(crate) const IMAGE: &str = "The image, made anew or written over";
+
+/// The file of an image that is read.
+pub(crate) const IMAGE_READ: &str = "The image";
+
+/// The file of a source that is written.
+pub(crate) const TEXT: &str =
+    "The source, made anew or written over; standard output where it is left out";

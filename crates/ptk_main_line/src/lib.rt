@@ -10,4 +10,4 @@ mod commands;
 mod help;
 mod line;
 
-pub use line::{MOST_TICKS, Request, not_text, read_line};
+pub use line::{Format, MOST_TICKS, Request, not_text, read_line};

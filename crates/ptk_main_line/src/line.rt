@@ -1,10 +1,10 @@
 //! The words of a command line and the request in them.
 ghost use Rattle.std.specs.Prelude.{◌≡◌, [], codes, map, IfErr, IfOk, OnOk};
 ghost use Rattle.clap.specs.Values.{kind_of};
-ghost use Rattle.clap.specs.Words.{fault_of, found_of, rows_of, subcommand_rows_of};
-ghost use Rattle.clap.specs.declared.error.kind.ErrorKind.TheVariants.{MissingSubcommand, ValueValidation};
+ghost use Rattle.clap.specs.Words.{fault_of, first_of, found_of, rows_of, subcommand_rows_of};
+ghost use Rattle.clap.specs.declared.error.kind.ErrorKind.TheVariants.{InvalidValue, ValueValidation};
 ghost use Rattle.ptk_main_line.specs.CommandLine.{Asks, IsRefusal, MeansAny, ptk};
-ghost use Rattle.ptk_main_line.specs.CommandLine.{FindsFrom, FindsRequest, FindsTicks, HasFlag};
+ghost use Rattle.ptk_main_line.specs.CommandLine.{FindsFrom, FindsRequest, FindsTicks, HasFlag, format_named, format_of};
 
 use crate::commands::ptk_command;
 use clap::error::ErrorKind;
@@ -50,6 +50,13 @@ pub enum Request<'a> {
         /// The file that the image is written to.
         image: &'a str,
     },
+    /// `disasm IMAGE [OUT]`: the assembler text of an image.
+    Disasm {
+        /// The file of the image.
+        image: &'a str,
+        /// The file that the text is written to; standard output where it is not given.
+        target: Option<&'a str>,
+    },
     /// `check FILE [--explain]`: whether the configuration and the images that it names are in order.
     Check {
         /// The configuration's file.
@@ -57,13 +64,49 @@ pub enum Request<'a> {
         /// Whether what it comes to, or where and why it is refused, is to be told besides.
         explain: bool,
     },
+    /// `impact OLD NEW [--partition NAME] [--rename OLD=NEW[,OLD=NEW]...] [--format FORMAT]`: what a new configuration
+    /// can change.
+    Impact {
+        /// The old configuration's file.
+        old: &'a str,
+        /// The new configuration's file.
+        new: &'a str,
+        /// The name of the one partition that is asked for, None where all are.
+        partition: Option<&'a str>,
+        /// The partitions that have another name, as they were written; None where none has.
+        rename: Option<&'a str>,
+        /// The form of the answer.
+        format: Format,
+    },
+}
+
+/// The form of an answer.
+#[derive(Clone, Copy, Debug, PartialEq, Eq)]
+pub enum Format {
+    /// Lines of text.
+    Text,
+    /// One JSON object.
+    Json,
+}
+
+impl Format {
+    /// The form that a word names, None where it names none.
+    fn named(word: &str) -> Option<Format>
+        ensures { result ≡ format_named word.now }
+    {
+        match word {
+            "text" => Some(Format::Text),
+            "json" => Some(Format::Json),
+            _other => None,
+        }
+    }
 }
 
 /// Reads the words of a command line, of which the first is the program's name.
 ///
 /// An error has one of the kinds that `clap` gives the words: `DisplayHelp` where they ask for help, and otherwise what is
-/// wrong with them. Its kind is `MissingSubcommand` where `clap` takes the words and they ask for nothing, and
-/// `OutOfMemory` where memory runs out. An argument and its values are read as `clap` reads them, so options may stand
+/// wrong with them. Its kind is `InvalidValue` where `clap` takes the words and they ask for nothing: the value of
+/// `--format` is another word. It is `OutOfMemory` where memory runs out. An argument and its values are read as `clap` reads them, so options may stand
 /// before or after FILE, and `--ticks=N` is `--ticks N`.
 pub fn read_line<'a>(alloc: Global, words: &'a [&'a str]) -> Result<Request<'a>, Error>
     ensures asked { IfOk result (λ r. Asks (map (λ w. w.now) words.entry.now) r) }
@@ -78,12 +121,15 @@ pub fn read_line<'a>(alloc: Global, words: &'a [&'a str]) -> Result<Request<'a>,
     }
 }
 
-/// The error of words that are taken and ask for nothing.
+/// The error of words that are taken and ask for nothing: the value of `--format` names no form.
 fn no_request(alloc: Global) -> Result<Error, AllocError>
-    ensures { IfOk result (λ e. kind_of e ≡ MissingSubcommand) }
+    ensures { IfOk result (λ e. kind_of e ≡ InvalidValue) }
 {
     let mut command = ptk_command(alloc)?;
-    command.error(ErrorKind::MissingSubcommand, "a subcommand is wanted")
+    command.error(
+        ErrorKind::InvalidValue,
+        "the value of --format is text or json",
+    )
 }
 
 /// The error of a command line with a word that is not UTF-8, which `read_line` can't be given: a usage error with the
@@ -107,6 +153,8 @@ fn request_in<'a>(matches: &ArgMatches<'a>) -> Option<Request<'a>>
         "timeline" => timeline_in(found),
         "asm" => asm_in(found),
         "check" => check_in(found),
+        "disasm" => disasm_in(found),
+        "impact" => impact_in(found),
         _other => None,
     }
 }
@@ -153,6 +201,15 @@ fn asm_in<'a>(found: &ArgMatches<'a>) -> Option<Request<'a>>
     Some(Request::Asm { source, image })
 }
 
+/// The request in the matches of `disasm`.
+fn disasm_in<'a>(found: &ArgMatches<'a>) -> Option<Request<'a>>
+    ensures { FindsRequest result (codes "disasm") (rows_of (found_of found.now)) }
+{
+    let image = found.get_str("IMAGE")?;
+    let target = found.get_str("OUT");
+    Some(Request::Disasm { image, target })
+}
+
 /// The request in the matches of `check`.
 fn check_in<'a>(found: &ArgMatches<'a>) -> Option<Request<'a>>
     ensures { FindsRequest result (codes "check") (rows_of (found_of found.now)) }
@@ -160,6 +217,34 @@ fn check_in<'a>(found: &ArgMatches<'a>) -> Option<Request<'a>>
     let file = found.get_str("FILE")?;
     let explain = explain_in(found);
     Some(Request::Check { file, explain })
+}
+
+/// The request in the matches of `impact`.
+fn impact_in<'a>(found: &ArgMatches<'a>) -> Option<Request<'a>>
+    ensures { FindsRequest result (codes "impact") (rows_of (found_of found.now)) }
+{
+    let old = found.get_str("OLD")?;
+    let new = found.get_str("NEW")?;
+    let partition = found.get_str("partition");
+    let rename = found.get_str("rename");
+    let format = format_in(found)?;
+    Some(Request::Impact {
+        old,
+        new,
+        partition,
+        rename,
+        format,
+    })
+}
+
+/// The form that `--format` names, `Format::Text` where it is not given. None where its value names none.
+fn format_in(found: &ArgMatches) -> Option<Format>
+    ensures { result ≡ format_of (first_of (codes "format") (rows_of (found_of found.now))) }
+{
+    match found.get_str("format") {
+        Some(word) => Format::named(word),
+        None => Some(Format::Text),
+    }
 }
 
 /// Whether the words have `--explain`.

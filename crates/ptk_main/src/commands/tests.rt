@@ -4,11 +4,13 @@
 //! nothing stands between each row and the calls that it tests.
 
 use super::{answer, asm, check_explained, obey, refusal_explained};
+use crate::disassembling::disasm;
 use crate::reading::{bytes_in, config_in, text_in};
 use crate::telling::usage;
 use crate::{answer_words, unread};
+use ptk_asm_model::Section;
 use ptk_main_faults::Fault;
-use ptk_main_line::Request;
+use ptk_main_line::{Format, Request};
 use std::alloc::AllocError;
 use std::{env, fs, io};
 
@@ -33,6 +35,9 @@ const HELLO_SOURCE: &str =
 
 const HELLO_IMAGE: &[u8] =
     b"PTKI\x01\0\0\0\0\0\0\0\x24\0\0\0\0\0\0\0\0\0\0\0\x93\x08\x10\x00\x13\x05\x80\x06\x73\0\0\0\x93\x08\x10\x00\x13\x05\x90\x06\x73\0\0\0\x93\x08\0\0\x13\x05\0\0\x73\0\0\0";
+
+// An image of 1,048,577 zeros, one more than a source may have.
+const LONG_BSS: &[u8] = b"PTKI\x01\0\0\0\0\0\0\0\0\0\0\0\0\0\0\0\x01\0\x10\0";
 
 // Whether the test is now in an empty folder of this name, below the one it was in.
 fn has_entered(rt: &HostRuntime, folder: &str) -> bool {
@@ -117,9 +122,50 @@ fn explain_status(rt: &HostRuntime, file: &str) -> u8 {
     )
 }
 
+// The status of `impact` in lines of text, of one partition or of all.
+fn impact_status<'a>(
+    rt: &HostRuntime,
+    old: &'a str,
+    new: &'a str,
+    partition: Option<&'a str>,
+) -> u8 {
+    impact_status_in(rt, old, new, partition, Format::Text)
+}
+
+// The status of `impact` in a form, of one partition or of all.
+fn impact_status_in<'a>(
+    rt: &HostRuntime,
+    old: &'a str,
+    new: &'a str,
+    partition: Option<&'a str>,
+    format: Format,
+) -> u8 {
+    obey(
+        rt,
+        Request::Impact {
+            old,
+            new,
+            partition,
+            rename: None,
+            format,
+        },
+    )
+}
+
 // The status of `asm`.
 fn asm_status(rt: &HostRuntime, source: &str, image: &str) -> u8 {
     obey(rt, Request::Asm { source, image })
+}
+
+// The status of `disasm` into a file.
+fn disasm_status(rt: &HostRuntime, image: &str, target: &str) -> u8 {
+    obey(
+        rt,
+        Request::Disasm {
+            image,
+            target: Some(target),
+        },
+    )
 }
 
 // The fault of a file that can't be read.
@@ -253,6 +299,31 @@ fn a_sound_configuration_is_done(rt: HostRuntime) {
 }
 
 #[test]
+fn an_impact_has_its_statuses(rt: HostRuntime) {
+    assert!(rt; has_entered(&rt, "an-impact-has-its-statuses"));
+    assert!(rt; is_text_written(&rt, "alone.toml", &ALONE));
+    assert!(rt; is_text_written(&rt, "two.toml", &TWO));
+    assert_eq!(rt; impact_status(&rt, "alone.toml", "alone.toml", None), 1);
+    assert!(rt; is_written(&rt, "p.img", HELLO_IMAGE));
+    assert!(rt; is_written(&rt, "q.img", HELLO_IMAGE));
+    assert_eq!(rt; impact_status(&rt, "alone.toml", "alone.toml", None), 0);
+    assert_eq!(rt; impact_status(&rt, "alone.toml", "two.toml", None), 1);
+    assert_eq!(rt; impact_status(&rt, "two.toml", "two.toml", Some("q")), 0);
+    assert_eq!(rt; impact_status(&rt, "two.toml", "two.toml", Some("z")), 1);
+    assert_eq!(rt;
+        impact_status_in(&rt, "alone.toml", "alone.toml", None, Format::Json),
+        0
+    );
+    assert_eq!(rt;
+        impact_status_in(&rt, "alone.toml", "two.toml", None, Format::Json),
+        1
+    );
+    assert_eq!(rt; impact_status(&rt, "none.toml", "two.toml", None), 1);
+    assert_eq!(rt; impact_status(&rt, "two.toml", ".", None), 3);
+    assert!(rt; has_left(&rt, "an-impact-has-its-statuses"));
+}
+
+#[test]
 fn an_image_is_made_of_a_sound_source(rt: HostRuntime) {
     assert!(rt; has_entered(&rt, "an-image-is-made-of-a-sound-source"));
     assert!(rt; is_written(&rt, "hello.s", HELLO_SOURCE.as_bytes()));
@@ -282,6 +353,28 @@ fn no_image_is_made_of_another_source(rt: HostRuntime) {
     );
     assert!(rt; has_bytes(&rt, "kept.img", b"kept"));
     assert!(rt; has_left(&rt, "no-image-is-made-of-another-source"));
+}
+
+#[test]
+fn a_text_is_made_of_an_image(rt: HostRuntime) {
+    assert!(rt; has_entered(&rt, "a-text-is-made-of-an-image"));
+    assert!(rt; is_written(&rt, "hello.img", HELLO_IMAGE));
+    assert_eq!(rt; disasm_status(&rt, "hello.img", "hello.s"), 0);
+    assert_eq!(rt; asm_status(&rt, "hello.s", "again.img"), 0);
+    assert!(rt; has_bytes(&rt, "again.img", HELLO_IMAGE));
+    assert!(rt; is_written(&rt, "short.img", b"PTKI"));
+    assert_eq!(rt;
+        disasm(&rt, "short.img", Some("none.s")),
+        Err(Fault::Image("short.img", 1))
+    );
+    assert!(rt; is_written(&rt, "long.img", LONG_BSS));
+    assert_eq!(rt;
+        disasm(&rt, "long.img", Some("none.s")),
+        Err(Fault::TooLong("long.img", Section::Bss))
+    );
+    assert_eq!(rt; fault_in(&rt, "none.s"), Some(Fault::MissingFile("none.s")));
+    assert_eq!(rt; disasm_status(&rt, "hello.img", "none/hello.s"), 3);
+    assert!(rt; has_left(&rt, "a-text-is-made-of-an-image"));
 }
 
 #[test]

@@ -21,6 +21,8 @@ returns c =
     ∙ ap (on_top wants_subcommand) (ap app_of_fields c.after_help.ensures ∙ ap app_of_fields c.about.ensures ∙ c.new.ensures.app) in
     let runs = c.in_ok-with_runs.ensures ∙ ap with_all_runs start in
     let asm = c.in_ok-subcommand.ensures.shape c.in_ok-asm_command.ensures.1 ∙ ap₂ with_subcommand runs (ap top_of c.in_ok-asm_command.ensures.0) in
-    IfOk-weaker c.subcommand-2.result _ _
-    (λ r h. h.shape c.in_ok-check_command.ensures.1 ∙ ap₂ with_subcommand asm (ap top_of c.in_ok-check_command.ensures.0))
-    c.subcommand-2.ensures
+    let check = c.in_ok-subcommand-2.ensures.shape c.in_ok-check_command.ensures.1 ∙ ap₂ with_subcommand asm (ap top_of c.in_ok-check_command.ensures.0) in
+    let disasm = c.in_ok-subcommand-3.ensures.shape c.in_ok-disasm_command.ensures.1 ∙ ap₂ with_subcommand check (ap top_of c.in_ok-disasm_command.ensures.0) in
+    IfOk-weaker c.subcommand-4.result _ _
+    (λ r h. h.shape c.in_ok-impact_command.ensures.1 ∙ ap₂ with_subcommand disasm (ap top_of c.in_ok-impact_command.ensures.0))
+    c.subcommand-4.ensures
