@@ -19,6 +19,6 @@ pub use rows::{
     BY_RETURN, CANCELLED_WAITER, EXPIRED_WAIT, INHERIT_BASIC, OWNER_DIED, SET_AGAIN, TIMES,
 };
 pub use sights::{
-    CutRow, Row, Sight, TraceRow, booted, check_row, first_wrong_cuts, first_wrong_row,
+    CutRow, Queue, Row, Sight, TraceRow, booted, check_row, first_wrong_cuts, first_wrong_row,
     first_wrong_trace, report_now, run_on_to, trace_now,
 };

@@ -4,8 +4,20 @@ use crate::guests::{guest_of, is_report, is_text, is_trace, tick_of};
 use ptk_config::Config;
 use ptk_main_runs::{Files, System};
 use ptk_mutex::effective;
-use ptk_words::{MutexNo, PartId, ThreadNo, Wait};
+use ptk_threads::{QueueName, Slot};
+use ptk_words::{ConditionNo, MutexNo, PartId, Priority, SlotNo, ThreadNo, Wait};
 use std::alloc::Global;
+
+/// A queue of the first partition, by the number of what its threads are ready at or wait for.
+#[derive(Clone, Copy)]
+pub enum Queue {
+    /// The ready threads of a stored priority, 1 to 32.
+    Ready(u8),
+    /// The threads that wait for a mutex, 1 to 64.
+    Mutex(u8),
+    /// The threads that wait on a condition variable, 1 to 32.
+    Condition(u8),
+}
 
 /// What is seen of the first partition.
 #[derive(Clone, Copy)]
@@ -16,6 +28,9 @@ pub enum Sight {
     Level(u8),
     /// The number of the mutex that a thread waits for.
     Awaited(u8),
+    /// How many threads lie in a queue, where the links of the slot table lead along these threads, in this order and no
+    /// others.
+    Linked(Queue, &'static [u8]),
     /// How many stored priorities the last call on mutexes read as it raised some, of whatever partition.
     Visited,
     /// The byte at an address.
@@ -31,6 +46,71 @@ fn thread_of(number: u8) -> Option<ThreadNo> {
     } else {
         None
     }
+}
+
+// The name of a queue in the slot table, None where there is no such priority, mutex or condition variable.
+fn name_of(queue: Queue) -> Option<QueueName> {
+    match queue {
+        Queue::Ready(level) if 0 < level && level <= 32 => {
+            Some(QueueName::Ready(Priority::new(level)))
+        }
+        Queue::Mutex(number) if 0 < number && number <= 64 => {
+            Some(QueueName::MutexWaiters(MutexNo::new(number)))
+        }
+        Queue::Condition(number) if 0 < number && number <= 32 => {
+            Some(QueueName::ConditionWaiters(ConditionNo::new(number)))
+        }
+        Queue::Ready(_) | Queue::Mutex(_) | Queue::Condition(_) => None,
+    }
+}
+
+// Whether a slot's thread lies in a queue of this name.
+fn lies_in(slot: &Slot, name: &QueueName) -> bool {
+    match slot.queue() {
+        Some(queue) => queue == *name,
+        None => false,
+    }
+}
+
+// Whether the links of these slots lead along these threads of the first partition, from the first to the last.
+fn is_along(slots: &[Slot], name: &QueueName, threads: &[u8]) -> Option<bool> {
+    let mut before = None;
+    let mut promised = None;
+    for number in threads.iter() {
+        let here = SlotNo::new(u16::from(number.checked_sub(1)?));
+        let slot = slots.get(here.index())?;
+        let is_next = before.is_none() || promised == Some(here);
+        if !is_next || slot.previous() != before {
+            return Some(false);
+        }
+        if !lies_in(slot, name) {
+            return Some(false);
+        }
+        before = Some(here);
+        promised = slot.next();
+    }
+    Some(promised.is_none())
+}
+
+// How many slots lie in a queue of the first partition, whose first slot is the table's first.
+fn count_in(slots: &[Slot], name: &QueueName) -> usize {
+    let mut count: usize = 0;
+    for slot in slots.iter() {
+        if lies_in(slot, name) {
+            count = count.saturating_add(usize::from(slot.link.first == 0));
+        }
+    }
+    count
+}
+
+// How many threads lie in a queue, None where the links do not lead along these threads and no others.
+fn linked(slots: &[Slot], queue: Queue, threads: &[u8]) -> Option<u32> {
+    let name = name_of(queue)?;
+    let count = count_in(slots, &name);
+    if count != threads.len() || !is_along(slots, &name, threads)? {
+        return None;
+    }
+    u32::try_from(count).ok()
 }
 
 // The number of the mutex that a wait is for.
@@ -52,6 +132,7 @@ fn seen(system: &System<'_>, sight: Sight) -> Option<u32> {
         Sight::Register(t, i) => system.register(p, thread_of(t)?, i),
         Sight::Level(t) => Some(u32::from(effective(threads, p, thread_of(t)?)?)),
         Sight::Awaited(t) => Some(u32::from(mutex_of(threads.wait(p, thread_of(t)?))?.number())),
+        Sight::Linked(queue, along) => linked(threads.slots(), queue, along),
         Sight::Visited => Some(system.tables().visited()),
         Sight::Byte(address) => Some(u32::from(system.byte(p, address)?)),
         Sight::Steps => u32::try_from(system.steps(p)).ok(),

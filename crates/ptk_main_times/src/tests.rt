@@ -3,6 +3,7 @@
 
 mod conditions;
 mod deadlines;
+mod inputs;
 mod plans;
 mod sleeps;
 
@@ -17,6 +18,11 @@ fn rows_of_conditions(rt: HostRuntime) {
 #[test]
 fn rows_of_deadlines(rt: HostRuntime) {
     assert_eq!(rt; first_wrong_row(rt.alloc(), &deadlines::ROWS), None);
+}
+
+#[test]
+fn rows_of_inputs(rt: HostRuntime) {
+    assert_eq!(rt; first_wrong_row(rt.alloc(), &inputs::ROWS), None);
 }
 
 #[test]

@@ -1,6 +1,6 @@
 //! Rows of types, words, pointers and pools, and of a lock at a window's end.
 
-use ptk_main_guests::{ALONE, LIBRARY, NUMBERS, P, Row, Sight, TraceRow};
+use ptk_main_guests::{ALONE, LIBRARY, NUMBERS, P, Queue, Row, Sight, TraceRow};
 
 // Row lock-over-window-end: the instructions are at 0 to 17; the lock, of 8 ticks, does not fit the 2 that are left,
 // and begins at 40.
@@ -272,6 +272,7 @@ pub(super) const ROWS: [Row<'static>; 8] = [
             (50, Sight::Register(1, 9), 16),
             (50, Sight::Register(1, 10), 1024),
             (50, Sight::Awaited(1), 2),
+            (50, Sight::Linked(Queue::Mutex(2), &[1]), 1),
             (50, Sight::Level(1), 16),
         ],
         ticks: 100,

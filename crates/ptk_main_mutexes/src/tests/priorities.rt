@@ -1,6 +1,6 @@
 //! Rows of priorities: inheritance over chains and a cycle, a raised thread's place, hand overs, and ceilings.
 
-use ptk_main_guests::{ALONE, INHERIT_BASIC, LIBRARY, NUMBERS, P, Row, Sight};
+use ptk_main_guests::{ALONE, INHERIT_BASIC, LIBRARY, NUMBERS, P, Queue, Row, Sight};
 
 // Two partitions in windows of 200 ticks, both with the image of p.
 const SIDE_BY_SIDE: [&str; 6] = [
@@ -370,12 +370,20 @@ pub(super) const ROWS: [Row<'static>; 10] = [
         source: &[INHERIT_BASIC, LIBRARY],
         sights: &[
             (97, Sight::Level(1), 5),
+            (97, Sight::Linked(Queue::Ready(5), &[1, 4]), 2),
             (98, Sight::Level(1), 20),
             (98, Sight::Awaited(2), 1),
+            (98, Sight::Linked(Queue::Mutex(1), &[2]), 1),
+            (98, Sight::Linked(Queue::Ready(20), &[1]), 1),
+            (98, Sight::Linked(Queue::Ready(10), &[3]), 1),
+            (98, Sight::Linked(Queue::Ready(5), &[4]), 1),
             (114, Sight::Level(1), 20),
             (114, Sight::Register(2, 10), 1024),
             (115, Sight::Level(1), 5),
             (115, Sight::Register(2, 10), 0),
+            (115, Sight::Linked(Queue::Mutex(1), &[]), 0),
+            (115, Sight::Linked(Queue::Ready(20), &[2]), 1),
+            (125, Sight::Linked(Queue::Ready(5), &[1, 4]), 2),
             (194, Sight::Steps, 77),
         ],
         ticks: 195,
@@ -396,8 +404,13 @@ pub(super) const ROWS: [Row<'static>; 10] = [
         source: &[RAISED_IN_PLACE, LIBRARY],
         sights: &[
             (75, Sight::Level(1), 5),
+            (75, Sight::Linked(Queue::Ready(5), &[1]), 1),
+            (75, Sight::Linked(Queue::Ready(10), &[3]), 1),
             (76, Sight::Level(1), 10),
             (76, Sight::Awaited(2), 1),
+            (76, Sight::Linked(Queue::Mutex(1), &[2]), 1),
+            (76, Sight::Linked(Queue::Ready(5), &[]), 0),
+            (76, Sight::Linked(Queue::Ready(10), &[1, 3]), 2),
             (92, Sight::Level(1), 10),
             (93, Sight::Level(1), 5),
             (123, Sight::Steps, 51),

@@ -1,6 +1,6 @@
 //! Rows of locks and condition waits that end at a time.
 
-use ptk_main_guests::{ALONE, EXPIRED_WAIT, LIBRARY, Row, Sight, TIMES};
+use ptk_main_guests::{ALONE, EXPIRED_WAIT, LIBRARY, Queue, Row, Sight, TIMES};
 
 // Row inherit-cycle, whole. A, 2, at 2 owns mutex 1 and waits for mutex 2; B, 3, at 3 owns mutex 2 and waits for mutex 1;
 // H, 4, at 10 waits for mutex 1 until tick 200. Main, at 1, loops meanwhile.
@@ -218,8 +218,10 @@ pub(super) const ROWS: [Row<'static>; 5] = [
         parts: &ALONE,
         source: &[EXPIRED_TIMEDLOCK, LIBRARY, TIMES],
         sights: &[
+            (65, Sight::Linked(Queue::Mutex(1), &[2]), 1),
             (66, Sight::Register(3, 10), 110),
             (66, Sight::Awaited(2), 1),
+            (66, Sight::Linked(Queue::Mutex(1), &[2]), 1),
             (91, Sight::Register(2, 10), 0),
         ],
         ticks: 122,

@@ -1,6 +1,6 @@
 //! Rows of clocks and sleeps.
 
-use ptk_main_guests::{ALONE, CutRow, LIBRARY, NUMBERS, P, Row, Sight, TIMES};
+use ptk_main_guests::{ALONE, CutRow, LIBRARY, NUMBERS, P, Queue, Row, Sight, TIMES};
 
 // Row tick-conversion: main sleeps until one second, and reads the clock a tick later.
 const CLOCK: &str = "
@@ -121,6 +121,7 @@ pub(super) const ROWS: [Row<'static>; 2] = [
         sights: &[
             (100, Sight::Steps, 42),
             (101, Sight::Register(2, 10), 50),
+            (101, Sight::Linked(Queue::Ready(20), &[3]), 1),
             (116, Sight::Register(3, 10), 51),
         ],
         ticks: 132,

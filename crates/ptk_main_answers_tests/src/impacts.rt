@@ -1,0 +1,481 @@
+//! What is written of pairs of configurations. What is wanted was worked out by hand. A helper that promises nothing stands
+//! between each row and the calls that it tests.
+
+use ptk_config::read_config;
+use ptk_impact_answers::{Question, Release, impact_json_with, impact_with};
+use ptk_main_faults::Fault;
+use ptk_main_line::Format;
+use ptk_system_files::Files;
+use std::alloc::Global;
+use std::test::Fail;
+
+// The table of partition p or q, whose image has two steps.
+const P: &str = "[[partition]]\nname = \"p\"\nimage = \"p.img\"\n";
+
+const Q: &str = "[[partition]]\nname = \"q\"\nimage = \"p.img\"\n";
+
+const NUMBERS: &str =
+    "memory = 4096\nthreads = 4\nstack = 256\nmutexes = 4\nconds = 4\nkeys = 4\ninterval = 100\nring = 16\noutput = 64\ntrace = 16\n";
+
+// Half of the frame of 40 ticks.
+const P_FIRST: &str = "[[window]]\nstart = 0\nlength = 20\npartition = \"p\"\n";
+
+const Q_SECOND: &str = "[[window]]\nstart = 20\nlength = 20\npartition = \"q\"\n";
+
+/// Both partitions in a frame of 40 ticks.
+const BOTH: [&str; 7] = ["frame = 40\n", P, NUMBERS, Q, NUMBERS, P_FIRST, Q_SECOND];
+
+/// p alone, in the same window.
+const ALONE: [&str; 4] = ["frame = 40\n", P, NUMBERS, P_FIRST];
+
+// An image of two words, and the same with one bit other.
+const IMAGE: &[u8] = b"PTKI\x01\0\0\0\0\0\0\0\x08\0\0\0\0\0\0\0\0\0\0\0\x93\x08\0\0\x73\0\0\0";
+
+const OTHER_IMAGE: &[u8] =
+    b"PTKI\x01\0\0\0\0\0\0\0\x08\0\0\0\0\0\0\0\0\0\0\0\x93\x08\0\0\x73\0\0\x01";
+
+/// Two configurations, and what is written of the way from one to the other.
+struct Case<'a> {
+    old: &'a [&'a str],
+    new: &'a [&'a str],
+    partition: Option<&'a str>,
+    rename: Option<&'a str>,
+    told: &'a str,
+}
+
+// The images p.img, other.img, which has one other bit, the same under a name with a quotation mark, and bad.img, which is
+// none.
+fn files(alloc: Global) -> Result<Files, Fail> {
+    let mut files = Files::new(alloc);
+    files.add("p.img", IMAGE)?;
+    files.add("other.img", OTHER_IMAGE)?;
+    files.add("a\".img", OTHER_IMAGE)?;
+    files.add("bad.img", b"no image")?;
+    Ok(files)
+}
+
+// Whether this is written of the case in a form, and whether it is called the same run if and only if that is so.
+fn is_told(
+    alloc: Global,
+    case: &Case<'_>,
+    format: Format,
+    is_same_run: bool,
+) -> Result<bool, Fail> {
+    let files = files(alloc)?;
+    let (old, new) = (case.old.concat(alloc)?, case.new.concat(alloc)?);
+    let (old, new) = match (
+        read_config(alloc, old.as_str()),
+        read_config(alloc, new.as_str()),
+    ) {
+        (Ok(old), Ok(new)) => (old, new),
+        _ => return Ok(false),
+    };
+    let mut out = Vec::new(alloc);
+    let question = Question {
+        partition: case.partition,
+        rename: case.rename,
+    };
+    let before = Release {
+        config: &old,
+        files: &files,
+    };
+    let after = Release {
+        config: &new,
+        files: &files,
+    };
+    let told = match format {
+        Format::Text => impact_with(alloc, before, after, question, &mut out),
+        Format::Json => impact_json_with(alloc, before, after, question, &mut out),
+    };
+    match told {
+        Ok(tally) => Ok(
+            tally.is_same_run() == is_same_run && out.as_slice() == case.told.as_bytes(),
+        ),
+        Err(_) => Ok(false),
+    }
+}
+
+/// Pairs of configurations in which each partition is the same run.
+const SAME: [Case<'static>; 6] = [
+    // a frame twice as long, with its windows twice
+    Case {
+        old: &BOTH,
+        new: &[
+            "frame = 80\n",
+            P,
+            NUMBERS,
+            Q,
+            NUMBERS,
+            P_FIRST,
+            Q_SECOND,
+            "[[window]]\nstart = 40\nlength = 20\npartition = \"p\"\n[[window]]\nstart = 60\nlength = 20\npartition = \"q\"\n",
+        ],
+        partition: None,
+        rename: None,
+        told: "p: unchanged\nq: unchanged\n2 unchanged, 0 unchanged but for the trace kept, 0 changed, 0 new, 0 gone\n",
+    },
+    // a stage that repeats the table before it, in another order
+    Case {
+        old: &BOTH,
+        new: &[
+            "frame = 40\n",
+            P,
+            NUMBERS,
+            Q,
+            NUMBERS,
+            P_FIRST,
+            Q_SECOND,
+            "[[plan]]\nfrom = 3\n[[plan.window]]\nstart = 20\nlength = 20\npartition = \"q\"\n[[plan.window]]\nstart = 0\nlength = 20\npartition = \"p\"\n",
+        ],
+        partition: None,
+        rename: None,
+        told: "p: unchanged\nq: unchanged\n2 unchanged, 0 unchanged but for the trace kept, 0 changed, 0 new, 0 gone\n",
+    },
+    // the sections in another order
+    Case {
+        old: &BOTH,
+        new: &["frame = 40\n", Q, NUMBERS, P, NUMBERS, P_FIRST, Q_SECOND],
+        partition: None,
+        rename: None,
+        told: "q: unchanged\n  place: 1 -> 0 (no change of behaviour)\np: unchanged\n  place: 0 -> 1 (no change of behaviour)\n2 unchanged, 0 unchanged but for the trace kept, 0 changed, 0 new, 0 gone\n",
+    },
+    // a longer trace
+    Case {
+        old: &ALONE,
+        new: &[
+            "frame = 40\n",
+            P,
+            "trace = 64\n",
+            "memory = 4096\nthreads = 4\nstack = 256\nmutexes = 4\nconds = 4\nkeys = 4\ninterval = 100\nring = 16\noutput = 64\n",
+            P_FIRST,
+        ],
+        partition: None,
+        rename: None,
+        told: "p: unchanged but for the trace kept\n  trace: 16 -> 64\n0 unchanged, 1 unchanged but for the trace kept, 0 changed, 0 new, 0 gone\n",
+    },
+    // another name
+    Case {
+        old: &ALONE,
+        new: &[
+            "frame = 40\n",
+            "[[partition]]\nname = \"pilot\"\nimage = \"p.img\"\n",
+            NUMBERS,
+            "[[window]]\nstart = 0\nlength = 20\npartition = \"pilot\"\n",
+        ],
+        partition: None,
+        rename: Some("p=pilot"),
+        told: "pilot: unchanged\n  name: p -> pilot (no change of behaviour)\n1 unchanged, 0 unchanged but for the trace kept, 0 changed, 0 new, 0 gone\n",
+    },
+    // one partition alone, whose neighbour is removed
+    Case {
+        old: &BOTH,
+        new: &ALONE,
+        partition: Some("p"),
+        rename: None,
+        told: "p: unchanged\n1 unchanged, 0 unchanged but for the trace kept, 0 changed, 0 new, 0 gone\n",
+    },
+];
+
+/// Pairs of configurations in which a partition is changed, new or gone.
+const OTHER: [Case<'static>; 10] = [
+    // the windows swapped from frame 2 on, which begins at tick 80
+    Case {
+        old: &BOTH,
+        new: &[
+            "frame = 40\n",
+            P,
+            NUMBERS,
+            Q,
+            NUMBERS,
+            P_FIRST,
+            Q_SECOND,
+            "[[plan]]\nfrom = 2\n[[plan.window]]\nstart = 0\nlength = 20\npartition = \"q\"\n[[plan.window]]\nstart = 20\nlength = 20\npartition = \"p\"\n",
+        ],
+        partition: None,
+        rename: None,
+        told: "p: changed\n  windows: tick 80: its own until 100 -> not its own\nq: changed\n  windows: tick 80: not its own -> its own until 100\n0 unchanged, 0 unchanged but for the trace kept, 2 changed, 0 new, 0 gone\n",
+    },
+    // p's window moved to the second half from frame 1 on
+    Case {
+        old: &BOTH,
+        new: &[
+            "frame = 40\n",
+            P,
+            NUMBERS,
+            Q,
+            NUMBERS,
+            P_FIRST,
+            Q_SECOND,
+            "[[plan]]\nfrom = 1\n[[plan.window]]\nstart = 20\nlength = 20\npartition = \"p\"\n",
+        ],
+        partition: None,
+        rename: None,
+        told: "p: changed\n  windows: tick 40: its own until 60 -> not its own\nq: changed\n  windows: tick 60: its own until 80 -> not its own\n0 unchanged, 0 unchanged but for the trace kept, 2 changed, 0 new, 0 gone\n",
+    },
+    // adjacent windows joined: the same ticks, other ends
+    Case {
+        old: &[
+            "frame = 40\n",
+            P,
+            NUMBERS,
+            P_FIRST,
+            "[[window]]\nstart = 20\nlength = 20\npartition = \"p\"\n",
+        ],
+        new: &[
+            "frame = 40\n",
+            P,
+            NUMBERS,
+            "[[window]]\nstart = 0\nlength = 40\npartition = \"p\"\n",
+        ],
+        partition: None,
+        rename: None,
+        told: "p: changed\n  windows: tick 0: its own until 20 -> its own until 40\n0 unchanged, 0 unchanged but for the trace kept, 1 changed, 0 new, 0 gone\n",
+    },
+    // one bit of an image, the highest of its last byte
+    Case {
+        old: &ALONE,
+        new: &[
+            "frame = 40\n",
+            "[[partition]]\nname = \"p\"\nimage = \"other.img\"\n",
+            NUMBERS,
+            P_FIRST,
+        ],
+        partition: None,
+        rename: None,
+        told: "p: changed\n  image: other bytes from offset 31\n  file: p.img -> other.img (no change of behaviour)\n0 unchanged, 0 unchanged but for the trace kept, 1 changed, 0 new, 0 gone\n",
+    },
+    // an image that is none
+    Case {
+        old: &ALONE,
+        new: &[
+            "frame = 40\n",
+            "[[partition]]\nname = \"p\"\nimage = \"bad.img\"\n",
+            NUMBERS,
+            P_FIRST,
+        ],
+        partition: None,
+        rename: None,
+        told: "p: changed\n  image: other bytes from offset 0\n  image: not refused -> refused, fault 1\n  file: p.img -> bad.img (no change of behaviour)\n0 unchanged, 0 unchanged but for the trace kept, 1 changed, 0 new, 0 gone\n",
+    },
+    // an input byte one tick later
+    Case {
+        old: &[
+            "frame = 40\n",
+            P,
+            NUMBERS,
+            "input = [{ at = 5, bytes = [65] }]\n",
+            P_FIRST,
+        ],
+        new: &[
+            "frame = 40\n",
+            P,
+            NUMBERS,
+            "input = [{ at = 6, bytes = [65] }]\n",
+            P_FIRST,
+        ],
+        partition: None,
+        rename: None,
+        told: "p: changed\n  input: arrival 0: byte 65 at tick 5 -> byte 65 at tick 6\n0 unchanged, 0 unchanged but for the trace kept, 1 changed, 0 new, 0 gone\n",
+    },
+    // an input byte more, and less room
+    Case {
+        old: &[
+            "frame = 40\n",
+            P,
+            NUMBERS,
+            "input = [{ at = 5, bytes = [65] }]\n",
+            P_FIRST,
+        ],
+        new: &[
+            "frame = 40\n",
+            P,
+            "memory = 8192\nthreads = 4\nstack = 256\nmutexes = 4\nconds = 4\nkeys = 3\ninterval = 100\nring = 16\noutput = 64\ntrace = 16\n",
+            "input = [{ at = 5, bytes = [65, 66] }]\n",
+            P_FIRST,
+        ],
+        partition: None,
+        rename: None,
+        told: "p: changed\n  memory: 4096 -> 8192\n  keys: 4 -> 3\n  input: arrival 1: none -> byte 66 at tick 5\n0 unchanged, 0 unchanged but for the trace kept, 1 changed, 0 new, 0 gone\n",
+    },
+    // a neighbour removed
+    Case {
+        old: &BOTH,
+        new: &ALONE,
+        partition: None,
+        rename: None,
+        told: "p: unchanged\nq: gone\n1 unchanged, 0 unchanged but for the trace kept, 0 changed, 0 new, 1 gone\n",
+    },
+    // a neighbour added
+    Case {
+        old: &ALONE,
+        new: &BOTH,
+        partition: None,
+        rename: None,
+        told: "p: unchanged\nq: new\n1 unchanged, 0 unchanged but for the trace kept, 0 changed, 1 new, 0 gone\n",
+    },
+    // a neighbour replaced by one that has no image
+    Case {
+        old: &BOTH,
+        new: &[
+            "frame = 40\n",
+            P,
+            NUMBERS,
+            "[[partition]]\nname = \"q\"\n",
+            NUMBERS,
+            P_FIRST,
+            Q_SECOND,
+        ],
+        partition: None,
+        rename: None,
+        told: "p: unchanged\nq: changed\n  image: one -> none\n1 unchanged, 0 unchanged but for the trace kept, 1 changed, 0 new, 0 gone\n",
+    },
+];
+
+#[test]
+fn the_same_run_is_told_as_such(rt: HostRuntime) -> Result<(), Fail> {
+    for (place, case) in SAME.iter().enumerate() {
+        assert!(rt; is_told(rt.alloc(), case, Format::Text, true)?, "{place}");
+    }
+    Ok(())
+}
+
+#[test]
+fn what_differs_is_told(rt: HostRuntime) -> Result<(), Fail> {
+    for (place, case) in OTHER.iter().enumerate() {
+        assert!(rt; is_told(rt.alloc(), case, Format::Text, false)?, "{place}");
+    }
+    Ok(())
+}
+
+/// A pair in which the answers and the differences are of each kind. Windows: old p 0..20, q 20..40, s 40..56, t 56..72;
+/// new pilot 0..16, q 20..40, r 40..56, t 56..72.
+const EACH_KIND: Case<'static> = Case {
+    old: &[
+        "frame = 80\n",
+        P,
+        NUMBERS,
+        "input = [{ at = 5, bytes = [65] }]\n",
+        Q,
+        NUMBERS,
+        "[[partition]]\nname = \"s\"\n",
+        NUMBERS,
+        "[[partition]]\nname = \"t\"\n",
+        NUMBERS,
+        P_FIRST,
+        "[[window]]\nstart = 20\nlength = 20\npartition = \"q\"\n",
+        "[[window]]\nstart = 40\nlength = 16\npartition = \"s\"\n",
+        "[[window]]\nstart = 56\nlength = 16\npartition = \"t\"\n",
+    ],
+    new: &[
+        "frame = 80\n",
+        "[[partition]]\nname = \"r\"\n",
+        NUMBERS,
+        "[[partition]]\nname = \"pilot\"\nimage = 'a\".img'\n",
+        "memory = 8192\nthreads = 4\nstack = 256\nmutexes = 4\nconds = 4\nkeys = 3\ninterval = 100\nring = 16\noutput = 64\ntrace = 16\n",
+        "input = [{ at = 5, bytes = [65, 66] }]\n",
+        "[[partition]]\nname = \"q\"\nimage = \"bad.img\"\n",
+        NUMBERS,
+        "[[partition]]\nname = \"t\"\n",
+        "memory = 4096\nthreads = 4\nstack = 256\nmutexes = 4\nconds = 4\nkeys = 4\ninterval = 100\nring = 16\noutput = 64\ntrace = 64\n",
+        "[[window]]\nstart = 0\nlength = 16\npartition = \"pilot\"\n",
+        "[[window]]\nstart = 20\nlength = 20\npartition = \"q\"\n",
+        "[[window]]\nstart = 40\nlength = 16\npartition = \"r\"\n",
+        "[[window]]\nstart = 56\nlength = 16\npartition = \"t\"\n",
+    ],
+    partition: None,
+    rename: Some("p=pilot"),
+    told: "{\"format\":\"ptk impact 1\",\"partitions\":[{\"name\":\"r\",\"answer\":\"new\"},{\"name\":\"pilot\",\"answer\":\"changed\",\"old_name\":\"p\",\"place\":{\"old\":0,\"new\":1},\"file\":{\"old\":\"p.img\",\"new\":\"a\\\".img\"},\"differences\":{\"windows\":{\"tick\":0,\"old_end\":20,\"new_end\":16},\"limits\":{\"memory\":{\"old\":4096,\"new\":8192},\"keys\":{\"old\":4,\"new\":3}},\"image\":{\"offset\":31},\"input\":{\"index\":1,\"old\":null,\"new\":{\"tick\":5,\"byte\":66}}}},{\"name\":\"q\",\"answer\":\"changed\",\"place\":{\"old\":1,\"new\":2},\"file\":{\"old\":\"p.img\",\"new\":\"bad.img\"},\"differences\":{\"image\":{\"offset\":0,\"fault\":{\"old\":null,\"new\":1}}}},{\"name\":\"t\",\"answer\":\"unchanged but for the trace kept\",\"differences\":{\"limits\":{\"trace\":{\"old\":16,\"new\":64}}}},{\"name\":\"s\",\"answer\":\"gone\"}],\"unchanged\":0,\"unchanged_but_for_trace\":1,\"changed\":2,\"new\":1,\"gone\":1}\n",
+};
+
+#[test]
+fn json_tells_the_same(rt: HostRuntime) -> Result<(), Fail> {
+    assert!(rt; is_told(rt.alloc(), &EACH_KIND, Format::Json, false)?);
+    Ok(())
+}
+
+// The fault with which a case is refused, None where it is not; nothing is written then.
+fn refusal<'a>(alloc: Global, case: &Case<'_>, wanted: Fault<'a>) -> Result<bool, Fail> {
+    let files = files(alloc)?;
+    let (old, new) = (case.old.concat(alloc)?, case.new.concat(alloc)?);
+    let (old, new) = match (
+        read_config(alloc, old.as_str()),
+        read_config(alloc, new.as_str()),
+    ) {
+        (Ok(old), Ok(new)) => (old, new),
+        _ => return Ok(false),
+    };
+    let mut out = Vec::<u8>::new(alloc);
+    let question = Question {
+        partition: case.partition,
+        rename: case.rename,
+    };
+    let before = Release {
+        config: &old,
+        files: &files,
+    };
+    let after = Release {
+        config: &new,
+        files: &files,
+    };
+    match impact_with(alloc, before, after, question, &mut out) {
+        Ok(_) => Ok(false),
+        Err(fault) => Ok(fault == wanted && out.is_empty()),
+    }
+}
+
+/// Questions that are refused, with their fault.
+const REFUSED: [(Case<'static>, Fault<'static>); 4] = [
+    (
+        Case {
+            old: &ALONE,
+            new: &[
+                "frame = 40\n",
+                "[[partition]]\nname = \"p\"\nimage = \"none.img\"\n",
+                NUMBERS,
+                P_FIRST,
+            ],
+            partition: None,
+            rename: None,
+            told: "",
+        },
+        Fault::MissingFile("none.img"),
+    ),
+    (
+        Case {
+            old: &ALONE,
+            new: &BOTH,
+            partition: Some("z"),
+            rename: None,
+            told: "",
+        },
+        Fault::NoPartition("z"),
+    ),
+    (
+        Case {
+            old: &ALONE,
+            new: &BOTH,
+            partition: None,
+            rename: Some("z=q"),
+            told: "",
+        },
+        Fault::NoPartition("z"),
+    ),
+    (
+        Case {
+            old: &ALONE,
+            new: &BOTH,
+            partition: None,
+            rename: Some("p=q,p"),
+            told: "",
+        },
+        Fault::NoPartition("p"),
+    ),
+];
+
+#[test]
+fn a_question_that_cannot_be_answered_is_refused(rt: HostRuntime) -> Result<(), Fail> {
+    for (case, fault) in &REFUSED {
+        assert!(rt; refusal(rt.alloc(), case, *fault)?);
+    }
+    Ok(())
+}

@@ -1,0 +1,140 @@
+//! Each line of the table with its status, and the line of each refusal.
+
+use ptk_config::{ConfigFault, read_config};
+use ptk_main_faults::{Fault, fault_line};
+use ptk_words::ImageFault;
+use ptk_words_windows::WindowFault;
+use std::alloc::{AllocError, Global};
+use std::test::Fail;
+
+// The line that a fault writes, with its status.
+fn told(alloc: Global, fault: &Fault) -> Result<(u8, Vec<u8>), Fail> {
+    let mut out = Vec::new(alloc);
+    let status = fault_line(fault, &mut out)?;
+    Ok((status, out))
+}
+
+/// Faults with their line and status.
+const LINES: [(Fault<'static>, &str, u8); 10] = [
+    (Fault::Config(4), "ptk: config fault 4\n", 1),
+    (Fault::ConfigWindow(2), "ptk: config fault 7 window 2\n", 1),
+    (Fault::Asm(2, 4), "ptk: asm line 2 fault 4\n", 1),
+    (Fault::Image("p.img", 3), "ptk: image p.img fault 3\n", 1),
+    (
+        Fault::MissingFile("a.toml"),
+        "ptk: missing file a.toml\n",
+        1,
+    ),
+    (Fault::NotText("a.toml"), "ptk: not text a.toml\n", 1),
+    (Fault::NoPartition("z"), "ptk: no partition z\n", 1),
+    (Fault::ReadFailed("p.img"), "ptk: read failed p.img\n", 3),
+    (Fault::WriteFailed, "ptk: write failed\n", 3),
+    (Fault::NoMemory, "ptk: no memory\n", 3),
+];
+
+/// Whether a fault writes this line and has this status.
+fn is_told(alloc: Global, fault: &Fault, line: &str, status: u8) -> Result<bool, Fail> {
+    let (answer, written) = told(alloc, fault)?;
+    Ok(answer == status && written.as_slice() == line.as_bytes())
+}
+
+#[test]
+fn each_line_has_its_status(rt: HostRuntime) -> Result<(), Fail> {
+    for (fault, line, status) in LINES {
+        assert!(rt; is_told(rt.alloc(), &fault, line, status)?, "{line}");
+    }
+    Ok(())
+}
+
+/// A configuration with a window of 15 ticks.
+const FIFTEEN: &str =
+    "frame = 16\n[[partition]]\nname = \"p\"\nmemory = 4096\nthreads = 4\nstack = 256\nmutexes = 4\nconds = 4\nkeys = 4\ninterval = 100\nring = 16\noutput = 64\ntrace = 16\n[[window]]\nstart = 0\nlength = 15\npartition = \"p\"\n";
+
+#[test]
+fn a_window_of_fifteen_ticks_is_refused(rt: HostRuntime) -> Result<(), Fail> {
+    // Row broadcast-needs-sixteen.
+    let alloc = rt.alloc();
+    match read_config(alloc, FIFTEEN) {
+        Ok(_) => assert!(rt; false, "accepted"),
+        Err(fault) => {
+            let (status, line) = told(alloc, &Fault::of_config(fault))?;
+            assert_eq!(rt;
+                line.as_slice(),
+                b"ptk: config fault 7 window 2\n".as_slice()
+            );
+            assert_eq!(rt; status, 1);
+        }
+    }
+    Ok(())
+}
+
+#[test]
+fn want_of_memory_is_one_line(rt: HostRuntime) {
+    assert_eq!(rt; Fault::of_config(ConfigFault::Memory), Fault::NoMemory);
+    let window = ConfigFault::Window(WindowFault::Memory);
+    assert_eq!(rt; Fault::of_config(window), Fault::NoMemory);
+    assert_eq!(rt;
+        Fault::of_image("p.img", ImageFault::Memory),
+        Fault::NoMemory
+    );
+    assert_eq!(rt; Fault::of_asm(2, 7), Fault::NoMemory);
+    assert_eq!(rt; Fault::from(AllocError), Fault::NoMemory);
+}
+
+/// Refusals of a configuration, and their faults.
+const REFUSALS: [(ConfigFault, Fault<'static>); 11] = [
+    (ConfigFault::Text, Fault::Config(1)),
+    (ConfigFault::MissingKey, Fault::Config(2)),
+    (ConfigFault::WrongType, Fault::Config(3)),
+    (ConfigFault::OutOfRange, Fault::Config(4)),
+    (ConfigFault::UnknownKey, Fault::Config(5)),
+    (ConfigFault::DoubledName, Fault::Config(6)),
+    (
+        ConfigFault::Window(WindowFault::Empty),
+        Fault::ConfigWindow(1),
+    ),
+    (
+        ConfigFault::Window(WindowFault::Short),
+        Fault::ConfigWindow(2),
+    ),
+    (
+        ConfigFault::Window(WindowFault::Overlap),
+        Fault::ConfigWindow(3),
+    ),
+    (
+        ConfigFault::Window(WindowFault::PastFrame),
+        Fault::ConfigWindow(4),
+    ),
+    (
+        ConfigFault::Window(WindowFault::UnknownPartition),
+        Fault::ConfigWindow(5),
+    ),
+];
+
+#[test]
+fn refusals_have_their_numbers(rt: HostRuntime) {
+    for (refusal, fault) in REFUSALS {
+        assert_eq!(rt; Fault::of_config(refusal), fault);
+    }
+    assert_eq!(rt;
+        Fault::of_image("q", ImageFault::Length),
+        Fault::Image("q", 4)
+    );
+    assert_eq!(rt;
+        Fault::of_image("q", ImageFault::Unfit),
+        Fault::Image("q", 7)
+    );
+}
+
+#[test]
+fn a_writer_that_fails_is_an_error(rt: HostRuntime) {
+    let line = b"ptk: no memory\n";
+    for most in 0..line.len() {
+        let mut bytes = [0u8; 15];
+        let mut room = &mut bytes[..most];
+        assert!(rt;
+            fault_line(&Fault::NoMemory, &mut room).is_err(),
+            "at {most}"
+        );
+    }
+}
