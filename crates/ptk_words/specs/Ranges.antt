@@ -4,7 +4,8 @@ use Rattle.ptk_words.specs.declared.TheConstants.{LAST_TICK}
 use Rattle.ptk_words.specs.declared.sections.Limits.{Limits}
 use Rattle.ptk_words.specs.declared.sections.Arrival.{Arrival}
 
--- the numbers of a section are in their ranges, and all default stacks together fit into the memory (own)
+-- the numbers of a section are in their ranges, and all default stacks together fit into the memory (own); a run may keep a
+-- longer trace than the 1,024 entries that a configuration may ask for (own)
 pub record IsWithinLimits (limits : Limits) : Type 0 where
   pub memory_from : 4096 ≤ limits.memory
   pub memory_to : limits.memory ≤ 1048576
@@ -23,7 +24,7 @@ pub record IsWithinLimits (limits : Limits) : Type 0 where
   pub ring_from : 1 ≤ limits.ring
   pub ring_to : limits.ring ≤ 256
   pub output_to : limits.output ≤ 65536
-  pub trace_to : limits.trace ≤ 1024
+  pub trace_to : limits.trace ≤ 1048576
 
 -- the ticks of the input never fall, none is above 2^40, and there are at most 65536 bytes (own)
 pub record IsInput (arrivals : List Arrival) : Type 0 where

@@ -67,4 +67,12 @@ impl Cpu {
         self.registers[number as usize] = value;
         self.registers[0] = 0;
     }
+
+    /// Writes a register other than x0; the others and the pc stay (RISC-V 2.1).
+    pub fn set_writable_register(&mut self, number: u32, value: u32)
+        requires { (0 < number) × (number < 32) }
+        ensures { self.new ≡ with_register self.old number value }
+    {
+        self.registers[number as usize] = value;
+    }
 }
