@@ -10,6 +10,7 @@ use Rattle.ptk_words_well.specs.Well.{IsWell}
 use Rattle.ptk_words_well.proofs.Starts.{well_empty}
 use Rattle.ptk_console.specs.ConsoleTable.{fresh_console, no_limits}
 use Rattle.ptk_gate_pools.specs.Blank.{blank}
+use Rattle.ptk_gate_pools.specs.Kept.{IsOfWords}
 use Rattle.ptk_gate_pools.proofs.Blanks.{part_at-blank}
 use Rattle.ptk_gate.specs.Whole.{AreWhole}
 use Rattle.ptk_gate_pools.proofs.Built.{parts_blank}
@@ -54,5 +55,13 @@ conditions_few limits ranges = counts_few (λ l. l.conditions) 32 limits (λ l a
 -- and at most 32 keys
 pub keys_few : (limits : List Limits) → All IsWithinLimits limits → All (λ count. count ≤ 32) (map (λ l. l.keys) limits)
 keys_few limits ranges = counts_few (λ l. l.keys) 32 limits (λ l at. at.keys_to) ranges
+
+-- and a memory of whole words, far below 2^32 bytes
+pub memory_of_words : (limits : List Limits) → All IsWithinLimits limits → All IsOfWords (map (λ l. l.memory) limits)
+memory_of_words limits ranges k d lt =
+    let within : k < length limits = omega (arith, lt, length-map limits (λ l. l.memory)) in
+    let at : IsWithinLimits (slice_index_or limits k no_limits) = ranges k no_limits within in
+    let P : ℕ → Type 0 = λ n. IsOfWords n in
+    subst P (sym (get_or-map (λ l. l.memory) limits k no_limits d within)) (record { whole = omega (arith, at.memory_by); few = omega (arith, at.memory_to) })
 
 pub ruleset blanks = (whole_blank, threads_few, mutexes_few, conditions_few, keys_few)

@@ -17,7 +17,6 @@ pub mod Built
 pub mod Ranks
 pub mod Opened
 pub mod NoWaiters
-pub mod Filled
 pub mod LineLaws
 pub mod PlainRows
 pub mod Blanks

@@ -8,8 +8,6 @@ use Rattle.ptk_words.specs.Processor.{Processor}
 use Rattle.ptk_words.specs.declared.sections.Entry.{Entry}
 use Rattle.ptk_words.specs.declared.threads.Thread.{Thread}
 use Rattle.ptk_words_parted.specs.Parts.{part_of}
-use Rattle.ptk_words_parted.specs.Cuts.{lent}
-use Rattle.ptk_words_parted.proofs.Cuts.{lent-same}
 use Rattle.ptk_words_instructions.specs.PlainSteps.{Core, core, plain_steps}
 use Rattle.ptk_words_quiet.specs.Quiet.{computed, last_after, after_row}
 use Rattle.ptk_threads.specs.Table.{ThreadTable, with_changed}
@@ -35,63 +33,55 @@ pub last_noted : (tick t n : ℕ) (c : Core) (last : Option Entry) → option_or
 last_noted tick t zero c last = refl
 last_noted tick t (suc n) c last = refl
 
--- what a row left of one partition's memory, of the slot table, and of the last step
-pub record IsRow (p t tick n : ℕ) (thread : Thread) (a : Inside) (memory : List ℕ) (roster : Rostered) (last : Option Entry) : Type 0 where
+-- what a row left of the memories, of the slot table, and of the last step
+pub record IsRow (p t tick n : ℕ) (thread : Thread) (a : Inside) (memories : List (List ℕ)) (roster : Rostered) (last : Option Entry) : Type 0 where
   pub within : p < length a.limits.items
   pub pooled : ArePooled a
-  pub of_memory : memory ≡ (plain_steps n (core thread.cpu (part_of a.regions p))).memory
-  pub as_long : length memory ≡ length (part_of a.regions p)
-  pub of_table : roster.table ≡ with_changed p t (computed n (plain_steps n (core thread.cpu (part_of a.regions p))).cpu) a.roster.table
+  pub of_memory : memories ≡ slice_set a.memories p (plain_steps n (core thread.cpu (part_of a.memories p))).memory
+  pub of_table : roster.table ≡ with_changed p t (computed n (plain_steps n (core thread.cpu (part_of a.memories p))).cpu) a.roster.table
   pub of_lines : roster.lines ≡ a.roster.lines
   pub of_mutexes : roster.mutexes ≡ a.roster.mutexes
   pub of_conditions : roster.conditions ≡ a.roster.conditions
-  pub of_last : last ≡ last_after tick t n (core thread.cpu (part_of a.regions p)) (slice_index_or a.lasts.items p None)
+  pub of_last : last ≡ last_after tick t n (core thread.cpu (part_of a.memories p)) (slice_index_or a.lasts.items p None)
 
--- what was lent, and what was told of it, make a row
-pub row_is : (p i t tick n : ℕ) (thread : Thread) (a : Inside) (kept : Kept) (lent_memory memory : List ℕ) (roster : Rostered) (old last : Option Entry) → kept_of a ≡ kept → ArePooled a → p < length kept.limits
-    → lent_memory ≡ part_of a.regions p → length memory ≡ length lent_memory → memory ≡ (plain_steps n (core thread.cpu lent_memory)).memory
-    → roster.table ≡ with_changed p t (computed n (plain_steps n (core thread.cpu lent_memory)).cpu) a.roster.table → roster.lines ≡ a.roster.lines → roster.mutexes ≡ a.roster.mutexes → roster.conditions ≡ a.roster.conditions
-    → last ≡ option_or (last_entry tick t n (core thread.cpu lent_memory)) old → i ≡ p → old ≡ get_or a.lasts.items i old
-    → IsRow p t tick n thread a memory roster last
-row_is p i t tick n thread a kept lent_memory memory roster old last view pooled lt bytes long moved changed lines mutexes conditions told place before =
+-- what the row's clauses say of the slot table, the memories and the last step makes a row
+pub row_is : (p i t tick n : ℕ) (thread : Thread) (a : Inside) (kept : Kept) (memories : List (List ℕ)) (roster : Rostered) (old last : Option Entry) → kept_of a ≡ kept → ArePooled a → p < length kept.limits
+    → memories ≡ slice_set a.memories p (plain_steps n (core thread.cpu (part_of a.memories p))).memory
+    → roster.table ≡ with_changed p t (computed n (plain_steps n (core thread.cpu (part_of a.memories p))).cpu) a.roster.table → roster.lines ≡ a.roster.lines → roster.mutexes ≡ a.roster.mutexes → roster.conditions ≡ a.roster.conditions
+    → last ≡ option_or (last_entry tick t n (core thread.cpu (part_of a.memories p))) old → i ≡ p → old ≡ get_or a.lasts.items i old
+    → IsRow p t tick n thread a memories roster last
+row_is p i t tick n thread a kept memories roster old last view pooled lt moved changed lines mutexes conditions noted place before =
     let within : p < length a.limits.items = subst (λ (k : Kept). p < length k.limits) (sym view) lt in
     let in_lasts : p < length a.lasts.items = omega (arith, within, pooled.lasts) in
     let older : old ≡ slice_index_or a.lasts.items p None = before ∙ ap (λ (j : ℕ). get_or a.lasts.items j old) place ∙ get_or_default a.lasts.items p old None in_lasts in
     record {
       within = within;
       pooled = pooled;
-      of_memory = moved ∙ ap (λ (m : List ℕ). (plain_steps n (core thread.cpu m)).memory) bytes;
-      as_long = long ∙ ap length bytes;
-      of_table = changed ∙ ap (λ (m : List ℕ). with_changed p t (computed n (plain_steps n (core thread.cpu m)).cpu) a.roster.table) bytes;
+      of_memory = moved;
+      of_table = changed;
       of_lines = lines;
       of_mutexes = mutexes;
       of_conditions = conditions;
-      of_last = told ∙ ap (λ (m : List ℕ). option_or (last_entry tick t n (core thread.cpu m)) old) bytes
-          ∙ last_noted tick t n (core thread.cpu (part_of a.regions p)) old ∙ ap (last_after tick t n (core thread.cpu (part_of a.regions p))) older;
+      of_last = noted ∙ last_noted tick t n (core thread.cpu (part_of a.memories p)) old ∙ ap (last_after tick t n (core thread.cpu (part_of a.memories p))) older;
     }
 
--- the pools with these in place of what was lent, and of the slot table
-abbrev pub with_loans : ℕ → ℕ → Inside → List ℕ → Rostered → Option Entry → Inside
-with_loans p i a memory roster last =
+-- the pools with these in place of the memories, the slot table and what was lent
+abbrev pub with_loans : ℕ → ℕ → Inside → List (List ℕ) → Rostered → Option Entry → Inside
+with_loans p i a memories roster last =
     record a {
-      regions = lent a.regions p memory;
+      memories = memories;
       roster = roster;
       lasts = with_item a.lasts i last;
     }
 
-memory_put : (p t tick n : ℕ) (thread : Thread) (a : Inside) (memory : List ℕ) (roster : Rostered) (last : Option Entry) → IsRow p t tick n thread a memory roster last → lent a.regions p memory ≡ slice_set a.regions p memory
-memory_put p t tick n thread a memory roster last row =
-    let lt : p < length a.regions = omega (arith, row.within, row.pooled.memory) in
-    lent-same a.regions p memory lt row.as_long
-
 -- a row leaves pools: plain steps change no effective priority
-pub row_pooled : (p i t tick n : ℕ) (thread : Thread) (a : Inside) (memory : List ℕ) (roster : Rostered) (last : Option Entry) → IsRow p t tick n thread a memory roster last → ArePooled (with_loans p i a memory roster last)
-row_pooled p i t tick n thread a memory roster last row =
+pub row_pooled : (p i t tick n : ℕ) (thread : Thread) (a : Inside) (memories : List (List ℕ)) (roster : Rostered) (last : Option Entry) → IsRow p t tick n thread a memories roster last → ArePooled (with_loans p i a memories roster last)
+row_pooled p i t tick n thread a memories roster last row =
     let old = row.pooled in
-    let cpu : Processor = (plain_steps n (core thread.cpu (part_of a.regions p))).cpu in
+    let cpu : Processor = (plain_steps n (core thread.cpu (part_of a.memories p))).cpu in
     record {
       few = old.few;
-      memory = ap length (memory_put p t tick n thread a memory roster last row) ∙ length-set a.regions p memory ∙ old.memory;
+      memory = ap length row.of_memory ∙ length-set a.memories p _ ∙ old.memory;
       threads = ap (λ (z : ThreadTable). length z.threads) row.of_table ∙ length-set a.roster.table.threads p _ ∙ old.threads;
       priorities = ap (λ (z : ThreadTable). length z.stored) row.of_table ∙ old.priorities;
       lines = ap length row.of_lines ∙ old.lines;
@@ -114,6 +104,6 @@ row_pooled p i t tick n thread a memory roster last row =
     }
 
 -- a row is the model's
-pub row_put : (p i t tick n : ℕ) (thread : Thread) (a : Inside) (memory : List ℕ) (roster : Rostered) (last : Option Entry) → i ≡ p → IsRow p t tick n thread a memory roster last
-    → kept_of (with_loans p i a memory roster last) ≡ put_part p (after_row tick t n thread (part_at p (kept_of a))) (kept_of a)
-row_put p i t tick n thread a memory roster last e row = rw (e, memory_put p t tick n thread a memory roster last row, row.of_table, row.of_lines, row.of_mutexes, row.of_conditions, row.of_memory, row.of_last) (simp set-get_or)
+pub row_put : (p i t tick n : ℕ) (thread : Thread) (a : Inside) (memories : List (List ℕ)) (roster : Rostered) (last : Option Entry) → i ≡ p → IsRow p t tick n thread a memories roster last
+    → kept_of (with_loans p i a memories roster last) ≡ put_part p (after_row tick t n thread (part_at p (kept_of a))) (kept_of a)
+row_put p i t tick n thread a memories roster last e row = rw (e, row.of_table, row.of_lines, row.of_mutexes, row.of_conditions, row.of_memory, row.of_last) (simp set-get_or)

@@ -19,6 +19,7 @@ use Rattle.ptk_words_well.specs.Well.{IsWell}
 use Rattle.ptk_roster.specs.Rosters.{AreQueuesIn}
 use Rattle.ptk_console.specs.ConsoleTable.{fresh_console, no_limits}
 pub use Rattle.ptk_gate_parts.specs.Sections.{per_section}
+pub use Rattle.ptk_gate_parts.specs.AllDecoded.{IsOfWords}
 
 -- each component as a list with an entry for each partition
 pub record Kept : Type 0 where

@@ -7,7 +7,7 @@ use Rattle.ptk_gate_pools.specs.Kept.{Kept, AreStored, AreTimed}
 abbrev pub kept_of : Inside → Kept
 kept_of a =
     record {
-      memory = a.regions;
+      memory = a.memories;
       threads = a.roster.table.threads;
       lines = a.roster.lines;
       mutexes = a.roster.mutexes;
@@ -27,7 +27,7 @@ kept_of a =
 -- every pool has an entry for each of at most 8 partitions, the consoles have the sections' numbers, the stored priorities are the effective ones and the kept deadlines are those of the threads' waits
 pub record ArePooled (a : Inside) : Type 0 where
   pub few : length a.limits.items ≤ 8
-  pub memory : length a.regions ≡ length a.limits.items
+  pub memory : length a.memories ≡ length a.limits.items
   pub threads : length a.roster.table.threads ≡ length a.limits.items
   pub priorities : length a.roster.table.stored ≡ length a.limits.items
   pub lines : length a.roster.lines ≡ length a.limits.items

@@ -5,6 +5,7 @@ ghost use Rattle.ptk_words.specs.declared.faults.Status.TheVariants.{Active};
 ghost use Rattle.ptk_cancel.specs.KeptCancellations.{fresh_cancellations};
 ghost use Rattle.ptk_keys.specs.KeptKeys.{fresh_keys};
 ghost use Rattle.ptk_console.specs.ConsoleTable.{fresh_console};
+ghost use Rattle.ptk_gate_parts.specs.AllDecoded.{IsOfWords};
 ghost use Rattle.ptk_gate_pools.specs.Blank.{blank};
 ghost use Rattle.ptk_gate_pools.specs.Kept.{per_section};
 ghost use Rattle.ptk_gate_pools.specs.Held.{held};
@@ -26,6 +27,7 @@ impl Pools {
         requires some { 1 ≤ length limits.now }
         requires sections { length limits.now ≤ 8 }
         requires inputs { length inputs.now ≡ length limits.now }
+        requires memory { All IsOfWords (map (λ l. l.memory) limits.now) }
         requires threads { All (λ count. count ≤ 32) (map (λ l. l.threads) limits.now) }
         requires mutexes { All (λ count. count ≤ 64) (map (λ l. l.mutexes) limits.now) }
         requires conditions { All (λ count. count ≤ 32) (map (λ l. l.conditions) limits.now) }
@@ -67,10 +69,10 @@ fn joined(
     ensures { result ≡ held 0 (blank limits.now (map (λ input. fresh_console input.now) inputs.now)) }
 {
     let (statuses, lasts, limits) = records;
-    let (regions, consoles) = stores;
+    let (memories, consoles) = stores;
     let ((roster, running), deadlines, (cancellations, keys)) = threads;
     Pools {
-        regions,
+        memories,
         roster,
         mutexes: Mutexes::new(),
         deadlines,

@@ -115,7 +115,7 @@ impl Look<'_> {
         ensures { result.now ≡ self.now.part.memory }
     {
         let pools = self.pools;
-        pools.regions.part(self.p)
+        pools.memories.regions().part(self.p)
     }
 
     /// Whether the thread's next step begins its unwinding, if it is normal (XSH 2.9.5.2).

@@ -8,6 +8,7 @@ ghost use Rattle.ptk_gate_pools.specs.Held.{held, all_of};
 use ptk_cancel::Cancellations;
 use ptk_clock::ThreadDeadlines;
 use ptk_console::Consoles;
+use ptk_gate_parts::Memories;
 use ptk_keys::KeyTable;
 use ptk_mutex::Mutexes;
 use ptk_regions::Regions;
@@ -18,7 +19,7 @@ use std::marker::Model;
 
 /// What the kernel keeps of all partitions: one slot table, one memory vector, and a pool of each other kind.
 pub struct Pools {
-    pub(crate) regions: Regions,
+    pub(crate) memories: Memories,
     pub(crate) roster: Roster,
     pub(crate) mutexes: Mutexes,
     pub(crate) deadlines: ThreadDeadlines,
@@ -36,7 +37,7 @@ pub struct Pools {
 impl Drop for Pools {
     fn drop(self) {
         let Pools {
-            regions,
+            memories,
             roster,
             mutexes,
             deadlines,
@@ -103,6 +104,6 @@ impl Pools {
     pub fn regions(&self) -> &Regions
         ensures { result.now ≡ (all_of self.now).memory }
     {
-        &self.regions
+        self.memories.regions()
     }
 }

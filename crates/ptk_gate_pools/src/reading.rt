@@ -49,7 +49,7 @@ impl Pools {
     pub fn memory(&self) -> &[u8]
         ensures { result.now ≡ self.now.here.memory }
     {
-        self.regions.part(self.hand)
+        self.memories.regions().part(self.hand)
     }
 
     /// Whether a cancellation point acts on the thread's request (XSH 2.9.5.2).

@@ -1,8 +1,9 @@
 //! Plain steps of a thread in a row, on its registers where they lie in the slot table.
 
-ghost use Rattle.std.specs.Prelude.{◌≡◌, false, ◌+◌, ◌^◌, ◌<◌, ◌≤◌, length, Option, Some, IsSome};
+ghost use Rattle.std.specs.Prelude.{◌≡◌, false, ◌+◌, ◌^◌, ◌<◌, ◌≤◌, length, slice_set, Option, Some, IsSome};
 ghost use Rattle.std.specs.Option.{option_or};
 ghost use Rattle.ptk_words.specs.declared.threads.Thread.{Thread};
+ghost use Rattle.ptk_words_parted.specs.Parts.{part_of};
 ghost use Rattle.ptk_words_instructions.specs.PlainSteps.{core, is_plain, plain_steps};
 ghost use Rattle.ptk_words_model.specs.Priority.{thread_at};
 ghost use Rattle.ptk_threads.specs.Table.{thread_in, with_changed};
@@ -10,6 +11,7 @@ ghost use Rattle.ptk_words_quiet.specs.Quiet.{ArePlain, core_of, computed, after
 ghost use Rattle.ptk_trace.specs.TracedRows.{last_entry, traced};
 
 use crate::pools::Pools;
+use ptk_gate_parts::Memories;
 use ptk_roster::Roster;
 use ptk_threads::Work;
 use ptk_trace::Trace;
@@ -32,7 +34,7 @@ impl Pools {
         let p = self.hand;
         run_at(
             &mut self.roster,
-            self.regions.lend(p),
+            &mut self.memories,
             p,
             t,
             tick,
@@ -43,12 +45,12 @@ impl Pools {
     }
 }
 
-/// A row of the thread of a number on its registers and this memory.
+/// A row of the thread of a number on its registers and its partition's memory.
 #[inline(always)]
 #[tactic(auto, using(ptk_mutex::proofs::Moved::wakes))]
 fn run_at(
     roster: &mut Roster,
-    memory: &mut [u8],
+    memories: &mut Memories,
     p: PartId,
     t: ThreadNo,
     tick: Tick,
@@ -57,39 +59,42 @@ fn run_at(
     last: &mut Option<Entry>,
 ) -> u32
     requires partition { p < length roster.old.table.threads }
+    requires memory { p < length memories.old }
     requires time { tick < 2 ^ 63 }
     requires in_use { IsSome (thread_in roster.old.table p t) }
     requires room { (thread : Thread) → thread_in roster.old.table p t ≡ Some thread → thread.used + most < 2 ^ 32 }
     ensures few { result ≤ most }
-    ensures plain { (thread : Thread) → thread_in roster.old.table p t ≡ Some thread → ArePlain result (core thread.cpu memory.old) }
-    ensures threads { (thread : Thread) → thread_in roster.old.table p t ≡ Some thread → roster.new.table ≡ with_changed p t (computed result (plain_steps result (core thread.cpu memory.old)).cpu) roster.old.table }
+    ensures plain { (thread : Thread) → thread_in roster.old.table p t ≡ Some thread → ArePlain result (core thread.cpu (part_of memories.old p)) }
+    ensures threads { (thread : Thread) → thread_in roster.old.table p t ≡ Some thread → roster.new.table ≡ with_changed p t (computed result (plain_steps result (core thread.cpu (part_of memories.old p))).cpu) roster.old.table }
     ensures lines { roster.new.lines ≡ roster.old.lines }
     ensures mutexes { roster.new.mutexes ≡ roster.old.mutexes }
     ensures conditions { roster.new.conditions ≡ roster.old.conditions }
-    ensures memory { (thread : Thread) → thread_in roster.old.table p t ≡ Some thread → memory.new ≡ (plain_steps result (core thread.cpu memory.old)).memory }
-    ensures traced { (thread : Thread) → thread_in roster.old.table p t ≡ Some thread → trace.new ≡ traced tick t result (core thread.cpu memory.old) trace.old }
-    ensures last { (thread : Thread) → thread_in roster.old.table p t ≡ Some thread → last.new ≡ option_or (last_entry tick t result (core thread.cpu memory.old)) last.old }
-    ensures ended { (thread : Thread) → thread_in roster.old.table p t ≡ Some thread → result < most → is_plain (plain_steps result (core thread.cpu memory.old)) ≡ false }
+    ensures memory { (thread : Thread) → thread_in roster.old.table p t ≡ Some thread → memories.new ≡ slice_set memories.old p (plain_steps result (core thread.cpu (part_of memories.old p))).memory }
+    ensures traced { (thread : Thread) → thread_in roster.old.table p t ≡ Some thread → trace.new ≡ traced tick t result (core thread.cpu (part_of memories.old p)) trace.old }
+    ensures last { (thread : Thread) → thread_in roster.old.table p t ≡ Some thread → last.new ≡ option_or (last_entry tick t result (core thread.cpu (part_of memories.old p))) last.old }
+    ensures ended { (thread : Thread) → thread_in roster.old.table p t ≡ Some thread → result < most → is_plain (plain_steps result (core thread.cpu (part_of memories.old p))) ≡ false }
 {
     let mut row = Row {
+        p,
         t,
         tick,
         most,
-        memory,
+        memories,
         trace,
         last,
     };
     roster.work_on(p, t, &mut row)
 }
 
-/// Plain steps of a thread in a row, as work on it: whose they are, from when on and at most how many, and what they
+/// Plain steps of a thread in a row, as work on it: whose they are, of which partition, from when on and at most how many, and what they
 /// write beside its registers.
 #[derive(Drop)]
 struct Row<'a> {
+    p: PartId,
     t: ThreadNo,
     tick: Tick,
     most: u32,
-    memory: &'a mut [u8],
+    memories: &'a mut Memories,
     trace: &'a mut Trace,
     last: &'a mut Option<Entry>,
 }
@@ -106,10 +111,12 @@ impl Work for Row<'_> {
     /// Runs the row; told is how many steps.
     #[inline(always)]
     fn run(&mut self, thread: &mut Thread) -> u32 {
-        let memory = &mut *self.memory;
+        let memories = &mut *self.memories;
         let trace = &mut *self.trace;
         let last = &mut *self.last;
-        run_thread(thread, memory, self.t, self.tick, self.most, trace, last)
+        run_thread(
+            thread, memories, self.p, self.t, self.tick, self.most, trace, last,
+        )
     }
 }
 
@@ -117,24 +124,26 @@ impl Work for Row<'_> {
 #[inline(always)]
 fn run_thread(
     thread: &mut Thread,
-    memory: &mut [u8],
+    memories: &mut Memories,
+    p: PartId,
     t: ThreadNo,
     tick: Tick,
     most: u32,
     trace: &mut Trace,
     last: &mut Option<Entry>,
 ) -> u32
+    requires partition { p < length memories.old }
     requires time { tick < 2 ^ 63 }
     requires room { thread.old.used + most < 2 ^ 32 }
     ensures few { result ≤ most }
-    ensures plain { ArePlain result (core thread.old.cpu memory.old) }
-    ensures thread { thread.new ≡ computed result (plain_steps result (core thread.old.cpu memory.old)).cpu thread.old }
-    ensures memory { memory.new ≡ (plain_steps result (core thread.old.cpu memory.old)).memory }
-    ensures traced { trace.new ≡ traced tick t result (core thread.old.cpu memory.old) trace.old }
-    ensures last { last.new ≡ option_or (last_entry tick t result (core thread.old.cpu memory.old)) last.old }
-    ensures ended { result < most → is_plain (plain_steps result (core thread.old.cpu memory.old)) ≡ false }
+    ensures plain { ArePlain result (core thread.old.cpu (part_of memories.old p)) }
+    ensures thread { thread.new ≡ computed result (plain_steps result (core thread.old.cpu (part_of memories.old p))).cpu thread.old }
+    ensures memory { memories.new ≡ slice_set memories.old p (plain_steps result (core thread.old.cpu (part_of memories.old p))).memory }
+    ensures traced { trace.new ≡ traced tick t result (core thread.old.cpu (part_of memories.old p)) trace.old }
+    ensures last { last.new ≡ option_or (last_entry tick t result (core thread.old.cpu (part_of memories.old p))) last.old }
+    ensures ended { result < most → is_plain (plain_steps result (core thread.old.cpu (part_of memories.old p))) ≡ false }
 {
-    let steps = trace.run_row(&mut thread.cpu, memory, tick, t, most, last);
+    let steps = memories.run_row(p, &mut thread.cpu, tick, t, most, trace, last);
     match thread.policy {
         Policy::Fifo => {}
         Policy::RoundRobin => thread.used += steps,

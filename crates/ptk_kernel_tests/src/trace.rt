@@ -1,5 +1,6 @@
 //! What traces write after a boot with ample memory, and what they answer where the writer fails.
 
+use ptk_rv32i_rows::{UNKNOWN, forget_all};
 use ptk_trace::Trace;
 use ptk_words::{A0, Cpu, Entry, ThreadNo, Tick};
 use std::alloc::{AllocError, Global};
@@ -81,17 +82,31 @@ fn the_last_two_of_three_are_written(rt: HostRuntime) -> Result<(), Fail> {
     Ok(())
 }
 
-#[test]
-fn a_row_is_kept_as_its_steps_one_by_one(rt: HostRuntime) -> Result<(), Fail> {
-    let mut trace = Trace::new(rt.alloc(), 2)?;
-    let mut memory = ADD_AND_JUMP_BACK;
+// Runs 600 steps from address 0 of this memory, each kept; how many they were, and a0 after them.
+fn row_on(trace: &mut Trace, mut memory: [u8; 8]) -> (u32, u32) {
+    let mut decoded = [UNKNOWN; 3];
+    forget_all(&mut decoded);
     let mut cpu = Cpu::at(0);
     let mut last = None;
     let thread = ThreadNo::new(1);
-    let most = 600;
-    let steps = trace.run_row(&mut cpu, &mut memory, Tick::new(0), thread, most, &mut last);
+    let steps = trace.run_row(
+        &mut cpu,
+        &mut memory,
+        &mut decoded,
+        Tick::new(0),
+        thread,
+        600,
+        &mut last,
+    );
+    (steps, cpu.register(A0))
+}
+
+#[test]
+fn a_row_is_kept_as_its_steps_one_by_one(rt: HostRuntime) -> Result<(), Fail> {
+    let mut trace = Trace::new(rt.alloc(), 2)?;
+    let (steps, a0) = row_on(&mut trace, ADD_AND_JUMP_BACK);
     assert_eq!(rt; steps, 600);
-    assert_eq!(rt; cpu.register(A0), 300);
+    assert_eq!(rt; a0, 300);
     let mut out = Broken::new(128);
     assert!(rt; trace.lines(&mut out).is_ok());
     assert_eq!(rt; &out.bytes[..78], ROW_KEPT.as_bytes());

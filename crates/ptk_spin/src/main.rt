@@ -5,9 +5,10 @@
 #![tactic(auto)]
 
 ghost use Rattle.std.specs.Prelude.{◌≤◌};
+ghost use Rattle.ptk_rv32i_rows.specs.Entries.{AreDecoded};
 
 use ptk_rv32i::{Outcome, step};
-use ptk_rv32i_rows::run_plain;
+use ptk_rv32i_rows::{Decoded, UNKNOWN, forget_all, run_plain};
 use ptk_words::Cpu;
 use std::time::Instant;
 use std::{env, io};
@@ -47,13 +48,14 @@ fn run(cpu: &mut Cpu, memory: &mut [u8], count: u64) -> u64
 }
 
 /// The same in rows of at most 100,000 steps.
-fn run_rows(cpu: &mut Cpu, memory: &mut [u8], count: u64) -> u64
+fn run_rows(cpu: &mut Cpu, memory: &mut [u8], decoded: &mut [Decoded], count: u64) -> u64
+    requires { AreDecoded memory.old decoded.old }
     ensures { result ≤ count }
 {
     let mut done = 0;
     while done < count {
         let most = (count - done).min(100_000) as u32;
-        let steps = run_plain(cpu, memory, most).steps;
+        let steps = run_plain(cpu, memory, decoded, most).steps;
         done += u64::from(steps);
         if steps < most {
             return done;
@@ -84,10 +86,12 @@ fn main(rt: HostRuntime) -> io::Result<()> {
     let timed = words.next().is_some();
     let in_rows = words.next().is_some();
     let mut memory = loaded();
+    let mut decoded = [UNKNOWN; 1025];
+    forget_all(&mut decoded);
     let mut cpu = Cpu::at(0);
     let start = Instant::now(&rt)?;
     let steps = if in_rows {
-        run_rows(&mut cpu, &mut memory, count)
+        run_rows(&mut cpu, &mut memory, &mut decoded, count)
     } else {
         run(&mut cpu, &mut memory, count)
     };
