@@ -24,7 +24,7 @@ fn base_of(lengths: Lengths, section: Section) -> u64
 }
 
 /// The address of a place.
-fn address_at(lengths: Lengths, place: Place) -> u64
+pub(crate) fn address_at(lengths: Lengths, place: Place) -> u64
     ensures value { result ≡ source.address_at lengths place }
     ensures small { result < 2 ^ 40 }
 {

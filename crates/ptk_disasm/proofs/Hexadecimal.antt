@@ -5,7 +5,7 @@ use Rattle.std.specs.List.{list_all}
 use Rattle.std.specs.Fmt.{digits, digits_onto, digit_glyph}
 use Rattle.std.proofs.lemmas.Bool.Decides.{nat_tests}
 use Rattle.ptk_rv32i_code.specs.Coding.{decoded}
-use Rattle.ptk_disasm.specs.Disassembly.{hex_word, target_of, target_text, word_comment}
+use Rattle.ptk_disasm.specs.Disassembly.{Names, AreWithinLine, hex_word, target_of, target_text, word_comment}
 use Rattle.ptk_disasm.proofs.Quiet.{is_within_line}
 
 glyph_within : (d : ℕ) → is_within_line (digit_glyph false d) ≡ true
@@ -23,30 +23,32 @@ onto_within (suc k) n acc h = by_test (onto_within k (n / 16) (digit_glyph false
     by_test later true e = rw e (cons_within (digit_glyph false (n % 16)) acc (glyph_within (n % 16)) h)
     by_test later false e = rw e (later (cons_within (digit_glyph false (n % 16)) acc (glyph_within (n % 16)) h))
 
-digits_within : (n : ℕ) → list_all is_within_line (digits 16 false n) ≡ true
+pub digits-within : (n : ℕ) → list_all is_within_line (digits 16 false n) ≡ true
 unfolding digits
-digits_within n = onto_within 64 n [] refl
+digits-within n = onto_within 64 n [] refl
 
 zeros_within : (k : ℕ) (cs : List ℕ) → list_all is_within_line cs ≡ true → list_all is_within_line (replicate k 48 ++ cs) ≡ true
 zeros_within zero cs h = h
 zeros_within (suc k) cs h = zeros_within k cs h
 
-both_within : (xs ys : List ℕ) → list_all is_within_line xs ≡ true → list_all is_within_line ys ≡ true → list_all is_within_line (xs ++ ys) ≡ true
-both_within [] ys h k = k
-both_within (x ∷ xs) ys h k = by_test (is_within_line x) refl (both_within xs ys) h
+pub both-within : (xs ys : List ℕ) → list_all is_within_line xs ≡ true → list_all is_within_line ys ≡ true → list_all is_within_line (xs ++ ys) ≡ true
+both-within [] ys h k = k
+both-within (x ∷ xs) ys h k = by_test (is_within_line x) refl (both-within xs ys) h
   where
     by_test : (b : Bool) → is_within_line x ≡ b → (list_all is_within_line xs ≡ true → list_all is_within_line ys ≡ true → list_all is_within_line (xs ++ ys) ≡ true) → (is_within_line x && list_all is_within_line xs) ≡ true → list_all is_within_line (x ∷ xs ++ ys) ≡ true
     by_test true e later all = rw e (later (rw e at all) k)
     by_test false e later all = let never : false ≡ true = rw e at all in absurd (cc)
 
 pub hex-within : (n : ℕ) → list_all is_within_line (hex_word n) ≡ true
-hex-within n = zeros_within (8 - length (digits 16 false n)) (digits 16 false n) (digits_within n)
+hex-within n = zeros_within (8 - length (digits 16 false n)) (digits 16 false n) (digits-within n)
 
-target_within : (target : Option ℕ) → list_all is_within_line (target_text target) ≡ true
-target_within None = refl
-target_within (Some target) = both_within (codes " -> ") (hex_word target) refl (hex-within target)
+target_within : (names : Names) → AreWithinLine names → (target : Option ℕ) → list_all is_within_line (target_text names target) ≡ true
+target_within names within None = refl
+target_within names within (Some target) = both-within (codes " -> ") (hex_word target ++ names.there target) refl (both-within (hex_word target) (names.there target) (hex-within target) (within.there target))
 
-pub word-comment : (at word : ℕ) → list_all is_within_line (word_comment at word) ≡ true
-word-comment at word =
-    both_within (hex_word at) (codes " " ++ (hex_word word ++ target_text (target_of at (decoded word)))) (hex-within at)
-    (both_within (hex_word word) (target_text (target_of at (decoded word))) (hex-within word) (target_within (target_of at (decoded word))))
+pub word-comment : (names : Names) → AreWithinLine names → (at word : ℕ) → list_all is_within_line (word_comment names at word) ≡ true
+word-comment names within at word =
+    let target : List ℕ = target_text names (target_of at (decoded word)) in
+    both-within (hex_word at) (names.here at ++ (codes " " ++ (hex_word word ++ target))) (hex-within at)
+    (both-within (names.here at) (codes " " ++ (hex_word word ++ target)) (within.here at)
+    (both-within (hex_word word) target (hex-within word) (target_within names within (target_of at (decoded word)))))

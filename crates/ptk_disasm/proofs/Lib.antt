@@ -18,3 +18,4 @@ pub mod Datas
 pub mod Hexadecimal
 pub mod ReadBack
 pub mod Written
+pub mod Named

@@ -6,6 +6,7 @@ use Rattle.std.proofs.lemmas.Bool.Decides.{nat_tests}
 use Rattle.ptk_asm_model.specs.Tokens.{is_run, is_first, is_letter, is_digit}
 use Rattle.ptk_asm_model.specs.Lines.{raw_lines, onto_first, without_ending, without_comment, code_of}
 use Rattle.ptk_disasm.proofs.Tests.{both}
+pub use Rattle.ptk_disasm.specs.Disassembly.{is_within_line}
 
 -- no LF and no #
 abbrev pub is_quiet : ℕ → Bool
@@ -32,10 +33,6 @@ no_comment : (c : ℕ) → is_quiet c ≡ true → (c == 35) ≡ false
 no_comment c h = grind (arith, nat_tests)
 
 -- ---- lines
-
--- no LF
-abbrev pub is_within_line : ℕ → Bool
-is_within_line c = not (c == 10)
 
 within_lf : (c : ℕ) → is_within_line c ≡ true → (c == 10) ≡ false
 within_lf c h = grind (arith, nat_tests)

@@ -15,7 +15,7 @@ use Rattle.ptk_asm_model.specs.Source.{Layout, Fault, longest, layout_of, first_
 use Rattle.ptk_asm_emission.specs.Emitting.{words_in}
 use Rattle.ptk_disasm.specs.Spelling.{Line, line_text}
 use Rattle.ptk_disasm.specs.WordStatements.{bare}
-use Rattle.ptk_disasm.specs.Disassembly.{addressed, text_lines, data_lines, zero_lines, lines_for, text_for, is_byte, FitsSource, ReadsBack}
+use Rattle.ptk_disasm.specs.Disassembly.{Names, AreWithinLine, addressed, text_lines, data_lines, zero_lines, lines_for, text_for, is_byte, FitsSource, ReadsBack}
 use Rattle.ptk_disasm.proofs.Quiet.{raw_lines-first}
 use Rattle.ptk_disasm.proofs.Tests.{both}
 use Rattle.ptk_disasm.proofs.Bytes.{small, four_bytes, four_below}
@@ -105,18 +105,18 @@ same_text words t section.Bss e = refl
 none_before : (n : ℕ) → 0 + n ≡ n
 none_before n = omega arith
 
-all_lines : (image : ImageParts) → IsImage image → FitsSource image
-    → Reaches (lines_for image) [] section.Bss (lens (length image.text) (length image.«data») image.bss) (start image.entry) (parts image.text image.«data» (replicate image.bss 0))
-all_lines image is fits =
+all_lines : (names : Names) (within : AreWithinLine names) (image : ImageParts) → IsImage image → FitsSource image
+    → Reaches (lines_for names image) [] section.Bss (lens (length image.text) (length image.«data») image.bss) (start image.entry) (parts image.text image.«data» (replicate image.bss 0))
+all_lines names within image is fits =
     let t : ℕ = length image.text in
     let d : ℕ = length image.«data» in
     let words = words_whole image.text fits.text_bytes is.whole in
     let long : 4 * length (words_in image.text) ≡ length image.text = words.long in
     let inside : image.entry ≤ length image.text = is.inside in
     let room : length image.text ≤ longest = fits.text in
-    let texts = reaches-same (text_lines image.entry 0 (words_in image.text)) [] section.Text section.Text (lens (0 + 4 * length (words_in image.text)) 0 0) (lens t 0 0) (start image.entry)
+    let texts = reaches-same (text_lines names image.entry 0 (words_in image.text)) [] section.Text section.Text (lens (0 + 4 * length (words_in image.text)) 0 0) (lens t 0 0) (start image.entry)
     (parts ([] ++ bytes_for (words_in image.text)) [] []) (parts image.text [] []) refl (ap (λ (k : ℕ). lens k 0 0) (omega (arith, long))) (λ s. same_text (words_in image.text) image.text s words.bytes_same)
-    (text-reached image.entry 0 [] (words_in image.text) [] (omega arith) (omega (arith, long, inside)) refl is.aligned words.words (omega (arith, long, room)) none_stand) in
+    (text-reached names within image.entry 0 [] (words_in image.text) [] (omega arith) (omega (arith, long, inside)) refl is.aligned words.words (omega (arith, long, room)) none_stand) in
     let turned = data-begun t t image.text texts.after (start image.entry) room texts.stands in
     let more : length image.«data» ≤ longest = fits.«data» in
     let datas = reaches-same (data_lines t image.«data») turned.after section.Data section.Data (lens t (0 + d) 0) (lens t d 0) (start image.entry)
@@ -124,10 +124,10 @@ all_lines image is fits =
     (data-reached t t 0 image.text [] image.«data» turned.after (start image.entry) fits.data_bytes refl (omega (arith, more)) turned.stands) in
     let last = zeros-begun (t + d) t d image.text image.«data» datas.after (start image.entry) fits.«data» datas.stands in
     let zeros = zeros-reached (t + d) t d image.bss image.text image.«data» last.after (start image.entry) fits.bss last.stands in
-    reaches-more (text_lines image.entry 0 (words_in image.text)) _ [] section.Text section.Bss (lens t 0 0) (lens t d image.bss) (start image.entry) (start image.entry) (parts image.text [] []) (parts image.text image.«data» (replicate image.bss 0)) texts
+    reaches-more (text_lines names image.entry 0 (words_in image.text)) _ [] section.Text section.Bss (lens t 0 0) (lens t d image.bss) (start image.entry) (start image.entry) (parts image.text [] []) (parts image.text image.«data» (replicate image.bss 0)) texts
     (reaches-more (addressed t (bare (form.Within section.Data) []) ∷ []) _ texts.after section.Data section.Bss (lens t 0 0) (lens t d image.bss) (start image.entry) (start image.entry) (parts image.text [] []) (parts image.text image.«data» (replicate image.bss 0)) turned
     (reaches-more (data_lines t image.«data») _ turned.after section.Data section.Bss (lens t d 0) (lens t d image.bss) (start image.entry) (start image.entry) (parts image.text image.«data» []) (parts image.text image.«data» (replicate image.bss 0)) datas
     (reaches-more (addressed (t + d) (bare (form.Within section.Bss) []) ∷ []) (zero_lines (t + d) image.bss) datas.after section.Bss section.Bss (lens t d 0) (lens t d image.bss) (start image.entry) (start image.entry) (parts image.text image.«data» []) (parts image.text image.«data» (replicate image.bss 0)) last zeros)))
 
-pub read-back : (image : ImageParts) → ReadsBack image
-read-back image is fits = source_same (lines_for image) section.Bss image (replicate image.bss 0) (all_lines image is fits)
+pub read-back : (names : Names) (image : ImageParts) → ReadsBack names image
+read-back names image within is fits = source_same (lines_for names image) section.Bss image (replicate image.bss 0) (all_lines names within image is fits)

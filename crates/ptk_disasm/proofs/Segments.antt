@@ -19,7 +19,7 @@ use Rattle.ptk_asm_model.specs.Source.{Statement, longest, label_of, statement_o
 use Rattle.ptk_disasm.specs.Spelling.{Line, Entry}
 use Rattle.ptk_disasm.specs.WordStatements.{statement_for}
 use Rattle.ptk_disasm.proofs.Hexadecimal.{word-comment}
-use Rattle.ptk_disasm.specs.Disassembly.{word_comment, word_line, text_lines}
+use Rattle.ptk_disasm.specs.Disassembly.{Names, AreWithinLine, word_comment, word_line, text_lines}
 use Rattle.ptk_disasm.proofs.WordsWritten.{Writes, word-written}
 use Rattle.ptk_disasm.proofs.Steps.{raw, Stands, added}
 use Rattle.ptk_disasm.proofs.Passes.{Reaches, held-same, reaches-none, reaches-more, reaches-stated}
@@ -58,15 +58,15 @@ word_held t s word writes section.Bss = refl
 grown_text : (n m : ℕ) → m ≡ 4 → grown (lens n 0 0) section.Text m ≡ lens (n + 4) 0 0
 grown_text n m e = ap (λ (k : ℕ). lens (n + k) 0 0) e
 
-pub word-reached : (at n word : ℕ) (t : List ℕ) (before : List (List ℕ)) (labels : List (List ℕ × Place)) → word < 2 ^ 32 → n + 4 ≤ longest
-    → Stands before section.Text (lens n 0 0) labels (parts t [] []) → Reaches (word_line at word ∷ []) before section.Text (lens (n + 4) 0 0) labels (parts (t ++ to_le_bytes w32 word) [] [])
-word-reached at n word t before labels h room stands =
+pub word-reached : (names : Names) (within : AreWithinLine names) (at n word : ℕ) (t : List ℕ) (before : List (List ℕ)) (labels : List (List ℕ × Place)) → word < 2 ^ 32 → n + 4 ≤ longest
+    → Stands before section.Text (lens n 0 0) labels (parts t [] []) → Reaches (word_line names at word ∷ []) before section.Text (lens (n + 4) 0 0) labels (parts (t ++ to_le_bytes w32 word) [] [])
+word-reached names within at n word t before labels h room stands =
     let s : Statement = statement_for word in
     let writes : Writes s word = word-written word h in
-    reaches-same (word_line at word ∷ []) before (turned_by section.Text s.form) section.Text (grown (lens n 0 0) section.Text (taken s)) (lens (n + 4) 0 0) labels
+    reaches-same (word_line names at word ∷ []) before (turned_by section.Text s.form) section.Text (grown (lens n 0 0) section.Text (taken s)) (lens (n + 4) 0 0) labels
     (λ here. parts t [] [] here ++ added section.Text s here) (parts (t ++ to_le_bytes w32 word) [] [])
     (stays s.form s.operands.value section.Text writes.size) (grown_text n (taken s) writes.size) (word_held t s word writes)
-    (reaches-stated before section.Text (lens n 0 0) labels (parts t [] []) stands s writes.spelled (word_comment at word) (word-comment at word) writes.no_label writes.stands (has_room n (taken s) longest writes.size room))
+    (reaches-stated before section.Text (lens n 0 0) labels (parts t [] []) stands s writes.spelled (word_comment names at word) (word-comment names within at word) writes.no_label writes.stands (has_room n (taken s) longest writes.size room))
 
 -- ---- the label of the entry
 
@@ -125,10 +125,10 @@ abbrev pub bytes_for : List ℕ → List ℕ
 bytes_for words = flat_map (to_le_bytes w32) words
 
 -- behind the entry
-pub words-behind : (entry at n : ℕ) (t words : List ℕ) (before : List (List ℕ)) (labels : List (List ℕ × Place)) → entry < at → list_all is_word words ≡ true → n + 4 * length words ≤ longest
+pub words-behind : (names : Names) (within : AreWithinLine names) (entry at n : ℕ) (t words : List ℕ) (before : List (List ℕ)) (labels : List (List ℕ × Place)) → entry < at → list_all is_word words ≡ true → n + 4 * length words ≤ longest
     → Stands before section.Text (lens n 0 0) labels (parts t [] [])
-    → Reaches (text_lines entry at words) before section.Text (lens (n + 4 * length words) 0 0) labels (parts (t ++ bytes_for words) [] [])
-words-behind entry at n t [] before labels past all room stands =
+    → Reaches (text_lines names entry at words) before section.Text (lens (n + 4 * length words) 0 0) labels (parts (t ++ bytes_for words) [] [])
+words-behind names within entry at n t [] before labels past all room stands =
     rw (other at entry past)
     (reaches-none before section.Text (lens (n + 0) 0 0) labels (parts (t ++ []) [] [])
     (held-same before section.Text (lens n 0 0) (lens (n + 0) 0 0) labels (parts t [] []) (parts (t ++ []) [] []) (ap (λ (k : ℕ). lens k 0 0) (omega arith)) (ended t) stands))
@@ -137,14 +137,14 @@ words-behind entry at n t [] before labels past all room stands =
     ended t section.Text = sym (append-nil t)
     ended t section.Data = refl
     ended t section.Bss = refl
-words-behind entry at n t (w ∷ ws) before labels past all room stands =
+words-behind names within entry at n t (w ∷ ws) before labels past all room stands =
     let facts = both (is_word w) (list_all is_word ws) all in
-    let first = word-reached at n w t before labels (below w facts.0) (omega (arith, room)) stands in
-    let later = words-behind entry (at + 4) (n + 4) (t ++ to_le_bytes w32 w) ws first.after labels (omega (arith, past)) facts.1 (omega (arith, room)) first.stands in
+    let first = word-reached names within at n w t before labels (below w facts.0) (omega (arith, room)) stands in
+    let later = words-behind names within entry (at + 4) (n + 4) (t ++ to_le_bytes w32 w) ws first.after labels (omega (arith, past)) facts.1 (omega (arith, room)) first.stands in
     rw (other at entry past)
-    (reaches-same (word_line at w ∷ text_lines entry (at + 4) ws) before section.Text section.Text (lens ((n + 4) + 4 * length ws) 0 0) (lens (n + 4 * length (w ∷ ws)) 0 0) labels
+    (reaches-same (word_line names at w ∷ text_lines names entry (at + 4) ws) before section.Text section.Text (lens ((n + 4) + 4 * length ws) 0 0) (lens (n + 4 * length (w ∷ ws)) 0 0) labels
     (parts ((t ++ to_le_bytes w32 w) ++ bytes_for ws) [] []) (parts (t ++ bytes_for (w ∷ ws)) [] []) refl (ap (λ (k : ℕ). lens k 0 0) (omega arith)) (joined t w ws)
-    (reaches-more (word_line at w ∷ []) (text_lines entry (at + 4) ws) before section.Text section.Text (lens (n + 4) 0 0) (lens ((n + 4) + 4 * length ws) 0 0) labels labels
+    (reaches-more (word_line names at w ∷ []) (text_lines names entry (at + 4) ws) before section.Text section.Text (lens (n + 4) 0 0) (lens ((n + 4) + 4 * length ws) 0 0) labels labels
     (parts (t ++ to_le_bytes w32 w) [] []) (parts ((t ++ to_le_bytes w32 w) ++ bytes_for ws) [] []) first later))
   where
     joined : (t : List ℕ) (w : ℕ) (ws : List ℕ) (s : Section) → parts ((t ++ to_le_bytes w32 w) ++ bytes_for ws) [] [] s ≡ parts (t ++ bytes_for (w ∷ ws)) [] [] s

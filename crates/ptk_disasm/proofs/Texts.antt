@@ -9,7 +9,7 @@ use Rattle.ptk_asm_model.specs.declared.statement.Section.TheVariants as section
 use Rattle.ptk_asm_model.specs.declared.place.Place.{Place}
 use Rattle.ptk_asm_model.specs.Source.{longest}
 use Rattle.ptk_disasm.specs.Spelling.{Line, Entry}
-use Rattle.ptk_disasm.specs.Disassembly.{word_line, text_lines}
+use Rattle.ptk_disasm.specs.Disassembly.{Names, AreWithinLine, word_line, text_lines}
 use Rattle.ptk_disasm.proofs.Steps.{Stands}
 use Rattle.ptk_disasm.proofs.Passes.{Reaches, reaches-more}
 use Rattle.ptk_disasm.proofs.Segments.{lens, parts, reaches-same, word-reached, start, entry-reached, is_word, bytes_for, words-behind}
@@ -33,16 +33,16 @@ joined t w ws section.Data = refl
 joined t w ws section.Bss = refl
 
 -- a word, and lines behind it
-word_more : (at n w : ℕ) (t ws : List ℕ) (before : List (List ℕ)) (labels others : List (List ℕ × Place)) (tail : List Line) → w < 2 ^ 32 → n + 4 ≤ longest
+word_more : (names : Names) (within : AreWithinLine names) (at n w : ℕ) (t ws : List ℕ) (before : List (List ℕ)) (labels others : List (List ℕ × Place)) (tail : List Line) → w < 2 ^ 32 → n + 4 ≤ longest
     → Stands before section.Text (lens n 0 0) labels (parts t [] [])
     → ((b : List (List ℕ)) → Stands b section.Text (lens (n + 4) 0 0) labels (parts (t ++ to_le_bytes w32 w) [] [])
     → Reaches tail b section.Text (lens ((n + 4) + 4 * length ws) 0 0) others (parts ((t ++ to_le_bytes w32 w) ++ bytes_for ws) [] []))
-    → Reaches (word_line at w ∷ tail) before section.Text (lens (n + 4 * length (w ∷ ws)) 0 0) others (parts (t ++ bytes_for (w ∷ ws)) [] [])
-word_more at n w t ws before labels others tail h room stands later =
-    let first = word-reached at n w t before labels h room stands in
-    reaches-same (word_line at w ∷ tail) before section.Text section.Text (lens ((n + 4) + 4 * length ws) 0 0) (lens (n + 4 * length (w ∷ ws)) 0 0) others
+    → Reaches (word_line names at w ∷ tail) before section.Text (lens (n + 4 * length (w ∷ ws)) 0 0) others (parts (t ++ bytes_for (w ∷ ws)) [] [])
+word_more names within at n w t ws before labels others tail h room stands later =
+    let first = word-reached names within at n w t before labels h room stands in
+    reaches-same (word_line names at w ∷ tail) before section.Text section.Text (lens ((n + 4) + 4 * length ws) 0 0) (lens (n + 4 * length (w ∷ ws)) 0 0) others
     (parts ((t ++ to_le_bytes w32 w) ++ bytes_for ws) [] []) (parts (t ++ bytes_for (w ∷ ws)) [] []) refl (ap (λ (k : ℕ). lens k 0 0) (omega arith)) (joined t w ws)
-    (reaches-more (word_line at w ∷ []) tail before section.Text section.Text (lens (n + 4) 0 0) (lens ((n + 4) + 4 * length ws) 0 0) labels others
+    (reaches-more (word_line names at w ∷ []) tail before section.Text section.Text (lens (n + 4) 0 0) (lens ((n + 4) + 4 * length ws) 0 0) labels others
     (parts (t ++ to_le_bytes w32 w) [] []) (parts ((t ++ to_le_bytes w32 w) ++ bytes_for ws) [] []) first (later first.after first.stands))
 
 -- the label of the entry, which is here
@@ -54,30 +54,30 @@ ended t section.Text = sym (append-nil t)
 ended t section.Data = refl
 ended t section.Bss = refl
 
-pub text-reached : (entry at : ℕ) (t words : List ℕ) (before : List (List ℕ)) → at ≤ entry → entry ≤ at + 4 * length words → at % 4 ≡ 0 → entry % 4 ≡ 0 → list_all is_word words ≡ true → at + 4 * length words ≤ longest
+pub text-reached : (names : Names) (within : AreWithinLine names) (entry at : ℕ) (t words : List ℕ) (before : List (List ℕ)) → at ≤ entry → entry ≤ at + 4 * length words → at % 4 ≡ 0 → entry % 4 ≡ 0 → list_all is_word words ≡ true → at + 4 * length words ≤ longest
     → Stands before section.Text (lens at 0 0) [] (parts t [] [])
-    → Reaches (text_lines entry at words) before section.Text (lens (at + 4 * length words) 0 0) (start entry) (parts (t ++ bytes_for words) [] [])
-text-reached entry at t [] before low high whole aligned all room stands =
+    → Reaches (text_lines names entry at words) before section.Text (lens (at + 4 * length words) 0 0) (start entry) (parts (t ++ bytes_for words) [] [])
+text-reached names within entry at t [] before low high whole aligned all room stands =
     let e : at ≡ entry = omega (arith, low, high) in
     rw (the_same at entry e)
     (reaches-same (Entry ∷ []) before section.Text section.Text (lens at 0 0) (lens (at + 0) 0 0) (start entry) (parts t [] []) (parts (t ++ []) [] []) refl (ap (λ (k : ℕ). lens k 0 0) (omega arith)) (ended t)
     (entry_here entry at before (parts t [] []) e stands))
-text-reached entry at t (w ∷ ws) before low high whole aligned all room stands =
-    by_test (λ b l s. text-reached entry (at + 4) (t ++ to_le_bytes w32 w) ws b l (omega (arith, high)) (omega (arith, whole)) aligned ((both (is_word w) (list_all is_word ws) all).1) (omega (arith, room)) s) (at == entry) refl
+text-reached names within entry at t (w ∷ ws) before low high whole aligned all room stands =
+    by_test (λ b l s. text-reached names within entry (at + 4) (t ++ to_le_bytes w32 w) ws b l (omega (arith, high)) (omega (arith, whole)) aligned ((both (is_word w) (list_all is_word ws) all).1) (omega (arith, room)) s) (at == entry) refl
   where
     by_test : ((b : List (List ℕ)) → at + 4 ≤ entry → Stands b section.Text (lens (at + 4) 0 0) [] (parts (t ++ to_le_bytes w32 w) [] [])
-        → Reaches (text_lines entry (at + 4) ws) b section.Text (lens ((at + 4) + 4 * length ws) 0 0) (start entry) (parts ((t ++ to_le_bytes w32 w) ++ bytes_for ws) [] []))
-        → (b : Bool) → (at == entry) ≡ b → Reaches (text_lines entry at (w ∷ ws)) before section.Text (lens (at + 4 * length (w ∷ ws)) 0 0) (start entry) (parts (t ++ bytes_for (w ∷ ws)) [] [])
+        → Reaches (text_lines names entry (at + 4) ws) b section.Text (lens ((at + 4) + 4 * length ws) 0 0) (start entry) (parts ((t ++ to_le_bytes w32 w) ++ bytes_for ws) [] []))
+        → (b : Bool) → (at == entry) ≡ b → Reaches (text_lines names entry at (w ∷ ws)) before section.Text (lens (at + 4 * length (w ∷ ws)) 0 0) (start entry) (parts (t ++ bytes_for (w ∷ ws)) [] [])
     by_test later true test =
         let facts = both (is_word w) (list_all is_word ws) all in
         let e : at ≡ entry = equal at entry test in
         let first = entry_here entry at before (parts t [] []) e stands in
         rw test
-        (reaches-more (Entry ∷ []) (word_line at w ∷ text_lines entry (at + 4) ws) before section.Text section.Text (lens at 0 0) (lens (at + 4 * length (w ∷ ws)) 0 0) (start entry) (start entry) (parts t [] []) (parts (t ++ bytes_for (w ∷ ws)) [] [])
-        first (word_more at at w t ws first.after (start entry) (start entry) (text_lines entry (at + 4) ws) (below w facts.0) (omega (arith, room)) first.stands
-        (λ b s. words-behind entry (at + 4) (at + 4) (t ++ to_le_bytes w32 w) ws b (start entry) (omega (arith, e)) facts.1 (omega (arith, room)) s)))
+        (reaches-more (Entry ∷ []) (word_line names at w ∷ text_lines names entry (at + 4) ws) before section.Text section.Text (lens at 0 0) (lens (at + 4 * length (w ∷ ws)) 0 0) (start entry) (start entry) (parts t [] []) (parts (t ++ bytes_for (w ∷ ws)) [] [])
+        first (word_more names within at at w t ws first.after (start entry) (start entry) (text_lines names entry (at + 4) ws) (below w facts.0) (omega (arith, room)) first.stands
+        (λ b s. words-behind names within entry (at + 4) (at + 4) (t ++ to_le_bytes w32 w) ws b (start entry) (omega (arith, e)) facts.1 (omega (arith, room)) s)))
     by_test later false test =
         let facts = both (is_word w) (list_all is_word ws) all in
         let apart : at ≡ entry → ⊥ = unequal at entry test in
         let past : at + 4 ≤ entry = grind (arith, low, whole, aligned, apart) in
-        rw test (word_more at at w t ws before [] (start entry) (text_lines entry (at + 4) ws) (below w facts.0) (omega (arith, room)) stands (λ b s. later b past s))
+        rw test (word_more names within at at w t ws before [] (start entry) (text_lines names entry (at + 4) ws) (below w facts.0) (omega (arith, room)) stands (λ b s. later b past s))

@@ -1,8 +1,9 @@
 -- The source that an image is read back to.
-use Rattle.std.specs.Prelude.{ℕ, ◌+◌, ◌-◌, ◌≤◌, ◌≡◌, Bool, true, false, List, [], ◌∷◌, ◌++◌, length, replicate, flat_map, ◌==◌, if◌then◌else◌, Option, Some, None, pos, Ok, codes, nat_lt}
+use Rattle.std.specs.Prelude.{ℕ, ◌+◌, ◌-◌, ◌≤◌, ◌≡◌, Bool, true, false, not, List, [], ◌∷◌, ◌++◌, length, replicate, flat_map, ◌==◌, if◌then◌else◌, Option, Some, None, pos, Ok, codes, nat_lt}
 use Rattle.std.specs.Int.{w32, from_le_bytes}
 use Rattle.std.specs.Fmt.{digits}
 use Rattle.std.specs.List.{list_all}
+use Rattle.ptk_symbols.specs.Tables.{name_text, place_text}
 use Rattle.ptk_words.specs.Words.{word_of, sign_extension}
 use Rattle.ptk_words.specs.Image.{ImageParts}
 use Rattle.ptk_rv32i_code.specs.declared.instr.Instr.{Instr}
@@ -38,23 +39,36 @@ target_of at (Some (instr.Branch t rs1 rs2 bits)) = Some (word_of (at + sign_ext
 target_of at (Some (instr.Jal rd bits)) = Some (word_of (at + sign_extension 21 bits))
 target_of at i = None
 
+-- what stands behind an address in a comment: behind that of a line, and behind a target (own)
+pub record Names : Type 0 where
+  pub here : ℕ → List ℕ
+  pub there : ℕ → List ℕ
+
+-- nothing (own)
+abbrev pub no_names : Names
+no_names = record { here = λ a. []; there = λ a. [] }
+
+-- by symbols: the name of the symbol that begins at a line, and the symbol that is nearest to a target (own)
+abbrev pub names_of : List (ℕ × List ℕ) → Names
+names_of symbols = record { here = name_text symbols; there = place_text symbols }
+
 -- an address behind an arrow, where there is one (own)
-abbrev pub target_text : Option ℕ → List ℕ
-target_text None = []
-target_text (Some target) = codes " -> " ++ hex_word target
+abbrev pub target_text : Names → Option ℕ → List ℕ
+target_text names None = []
+target_text names (Some target) = codes " -> " ++ (hex_word target ++ names.there target)
 
 -- the address of a word, its value, and the target of a branch or a jump (own)
-abbrev pub word_comment : ℕ → ℕ → List ℕ
-word_comment at word = hex_word at ++ (codes " " ++ (hex_word word ++ target_text (target_of at (decoded word))))
+abbrev pub word_comment : Names → ℕ → ℕ → List ℕ
+word_comment names at word = hex_word at ++ (names.here at ++ (codes " " ++ (hex_word word ++ target_text names (target_of at (decoded word)))))
 
 -- a word of the text with its comment (own)
-abbrev pub word_line : ℕ → ℕ → Line
-word_line at word = Stated (statement_for word) (word_comment at word)
+abbrev pub word_line : Names → ℕ → ℕ → Line
+word_line names at word = Stated (statement_for word) (word_comment names at word)
 
 -- the words of the text from an address on, with the label of the entry before its word or at the end (own)
-abbrev pub text_lines : ℕ → ℕ → List ℕ → List Line
-text_lines entry at [] = entry_line entry at
-text_lines entry at (word ∷ words) = entry_line entry at ++ (word_line at word ∷ text_lines entry (at + 4) words)
+abbrev pub text_lines : Names → ℕ → ℕ → List ℕ → List Line
+text_lines names entry at [] = entry_line entry at
+text_lines names entry at (word ∷ words) = entry_line entry at ++ (word_line names at word ∷ text_lines names entry (at + 4) words)
 
 -- ---- the data and the zeros behind it
 
@@ -75,9 +89,9 @@ zero_lines at n = if n == 0 then [] else addressed at (given form.Space [] (pos 
 -- ---- the image
 
 -- the lines of an image (own)
-abbrev pub lines_for : ImageParts → List Line
-lines_for image =
-    text_lines image.entry 0 (words_in image.text)
+abbrev pub lines_for : Names → ImageParts → List Line
+lines_for names image =
+    text_lines names image.entry 0 (words_in image.text)
     ++ (addressed (length image.text) (bare (form.Within section.Data) [])
     ∷ data_lines (length image.text) image.«data»
     ++ (addressed (length image.text + length image.«data») (bare (form.Within section.Bss) [])
@@ -87,9 +101,13 @@ lines_for image =
 abbrev pub text_for : List Line → List ℕ
 text_for lines = flat_map (λ l. line_text l ++ 10 ∷ []) lines
 
+-- the source of an image, with names in its comments (own)
+abbrev pub disassembled_with : Names → ImageParts → List ℕ
+disassembled_with names image = text_for (lines_for names image)
+
 -- the source of an image (own)
 abbrev pub disassembled : ImageParts → List ℕ
-disassembled image = text_for (lines_for image)
+disassembled image = disassembled_with no_names image
 
 -- ---- the law
 
@@ -105,6 +123,15 @@ pub record FitsSource (image : ImageParts) : Type 0 where
   pub «data» : length image.«data» ≤ longest
   pub bss : image.bss ≤ longest
 
--- an image that fits is read back from its source
-abbrev pub ReadsBack : ImageParts → Type 0
-ReadsBack image = IsImage image → FitsSource image → source (disassembled image) ≡ Ok image
+-- a character that ends no line
+abbrev pub is_within_line : ℕ → Bool
+is_within_line c = not (c == 10)
+
+-- no name ends a line
+pub record AreWithinLine (names : Names) : Type 0 where
+  pub here : (a : ℕ) → list_all is_within_line (names.here a) ≡ true
+  pub there : (a : ℕ) → list_all is_within_line (names.there a) ≡ true
+
+-- an image that fits is read back from its source, whatever the comments call its addresses
+abbrev pub ReadsBack : Names → ImageParts → Type 0
+ReadsBack names image = AreWithinLine names → IsImage image → FitsSource image → source (disassembled_with names image) ≡ Ok image

@@ -4,29 +4,30 @@ ghost use Rattle.std.specs.Prelude.{◌≡◌, ◌<◌, ◌↔◌, true, IfErr, 
 ghost use Rattle.std.specs.List.{list_all};
 ghost use Rattle.ptk_image.specs.Images.{IsImage};
 ghost use Rattle.ptk_asm_model.specs.Source.{longest, source};
-ghost use Rattle.ptk_disasm.specs.Disassembly.{FitsSource, disassembled, is_byte};
+ghost use Rattle.ptk_disasm.specs.Disassembly.{FitsSource, disassembled, disassembled_with, names_of, is_byte};
 ghost use Rattle.ptk_disasm.specs.Writing.{IsRefused};
 
 use crate::fault::DisasmFault;
 use crate::lines::{push_addressed, push_data, push_text, push_zeros};
 use ptk_asm_model::{Form, Section};
 use ptk_image::Image;
+use ptk_symbols::Symbols;
 use std::alloc::{AllocError, Global};
 
 /// Greatest length of a section that the assembly language allows.
 const LONGEST: usize = 1_048_576;
 
 /// The lines of an image, whose parts fit together as those of every image.
-fn written(alloc: Global, image: &Image) -> Result<String, AllocError>
+fn written(alloc: Global, image: &Image, symbols: &Symbols) -> Result<String, AllocError>
     requires { FitsSource image.now }
-    ensures text { IfOk result (λ text. string_bytes text ≡ disassembled image.now) }
+    ensures text { IfOk result (λ text. string_bytes text ≡ disassembled_with (names_of symbols.now) image.now) }
     ensures whole { IfOk result (λ _. IsImage image.now) }
 {
     let (text, data) = (image.text(), image.data());
     let data_at = text.len() as u32;
     let bss_at = data_at + data.len() as u32;
     let mut out = String::new(alloc);
-    push_text(&mut out, image.entry(), text)?;
+    push_text(&mut out, symbols, image.entry(), text)?;
     push_addressed(&mut out, data_at, Form::Within(Section::Data), None)?;
     push_data(&mut out, data_at, data)?;
     push_addressed(&mut out, bss_at, Form::Within(Section::Bss), None)?;
@@ -71,6 +72,22 @@ pub fn disassemble(alloc: Global, image: &Image) -> Result<String, DisasmFault>
     ensures fits { OnOk result (FitsSource image.now) }
     ensures refused { IfErr result (λ fault. IsRefused image.now fault) }
 {
+    disassemble_with(alloc, image, &Symbols::new(alloc))
+}
+
+/// The source of an image as `disassemble` returns it, with names in the comments of the text's words: behind the address
+/// of a line the first symbol that begins there, behind the target of a branch or a jump the symbol that is nearest to it,
+/// with the distance from it. Nothing stands there where the symbols have none.
+pub fn disassemble_with(
+    alloc: Global,
+    image: &Image,
+    symbols: &Symbols,
+) -> Result<String, DisasmFault>
+    ensures same { IfOk result (λ text. source (string_bytes text) ≡ Ok image.now) }
+    ensures text { IfOk result (λ text. string_bytes text ≡ disassembled_with (names_of symbols.now) image.now) }
+    ensures fits { OnOk result (FitsSource image.now) }
+    ensures refused { IfErr result (λ fault. IsRefused image.now fault) }
+{
     sections_fit(image)?;
-    Ok(written(alloc, image)?)
+    Ok(written(alloc, image, symbols)?)
 }

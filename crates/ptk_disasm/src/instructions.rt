@@ -206,7 +206,7 @@ fn push_instruction(out: &mut String, word: u32, instruction: Instr) -> Result<(
 }
 
 /// Appends the statement of a word of the text; the word by its value where it is no instruction.
-pub(crate) fn push_word_statement(out: &mut String, word: u32) -> Result<(), AllocError>
+pub fn push_word_statement(out: &mut String, word: u32) -> Result<(), AllocError>
     ensures { OnOk result (string_bytes out.new ≡ string_bytes out.old ++ statement_text (is.statement_for word)) }
 {
     match decode(word) {

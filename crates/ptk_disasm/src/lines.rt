@@ -10,6 +10,7 @@ use crate::instructions::push_word_statement;
 use crate::statements::push_statement;
 use crate::targets::target_of;
 use ptk_asm_model::Form;
+use ptk_symbols::Symbols;
 use std::alloc::AllocError;
 use std::fmt::Write;
 
@@ -38,28 +39,47 @@ fn push_comment(out: &mut String, at: u32) -> Result<(), AllocError>
     push_hexadecimal(out, at)
 }
 
-/// Appends an address behind an arrow, where there is one.
-fn push_target(out: &mut String, target: Option<u32>) -> Result<(), AllocError>
-    ensures { OnOk result (string_bytes out.new ≡ string_bytes out.old ++ is.target_text target) }
+/// Appends the address that a branch or a jump goes to behind an arrow, with the symbol that is nearest to it; nothing
+/// where there is none. The error is that of the allocator.
+pub fn push_target(
+    out: &mut String,
+    symbols: &Symbols,
+    target: Option<u32>,
+) -> Result<(), AllocError>
+    ensures { OnOk result (string_bytes out.new ≡ string_bytes out.old ++ is.target_text (is.names_of symbols.now) target) }
 {
     match target {
         Some(target) => {
             out.push_str(" -> ")?;
-            push_hexadecimal(out, target)
+            push_hexadecimal(out, target)?;
+            symbols.push_place(out, target)
         }
         None => Ok(()),
     }
 }
 
-/// Appends the line of a word of the text, with its address, its value and the target of a branch or a jump.
-fn push_word_line(out: &mut String, at: u32, word: u32) -> Result<(), AllocError>
-    ensures { OnOk result (string_bytes out.new ≡ string_bytes out.old ++ is.text_for (is.word_line at word ∷ [])) }
+/// Appends the comment of a word of the text: its address, its value and the target of a branch or a jump.
+fn push_word_comment(
+    out: &mut String,
+    symbols: &Symbols,
+    at: u32,
+    word: u32,
+) -> Result<(), AllocError>
+    ensures { OnOk result (string_bytes out.new ≡ string_bytes out.old ++ (codes " # " ++ is.word_comment (is.names_of symbols.now) at word)) }
 {
-    push_word_statement(out, word)?;
     push_comment(out, at)?;
+    symbols.push_name(out, at)?;
     out.push_str(" ")?;
     push_hexadecimal(out, word)?;
-    push_target(out, target_of(at, word))?;
+    push_target(out, symbols, target_of(at, word))
+}
+
+/// Appends the line of a word of the text, with its comment.
+fn push_word_line(out: &mut String, symbols: &Symbols, at: u32, word: u32) -> Result<(), AllocError>
+    ensures { OnOk result (string_bytes out.new ≡ string_bytes out.old ++ is.text_for (is.word_line (is.names_of symbols.now) at word ∷ [])) }
+{
+    push_word_statement(out, word)?;
+    push_word_comment(out, symbols, at, word)?;
     out.push_str("\n")
 }
 
@@ -78,17 +98,22 @@ pub(crate) fn push_addressed(
 }
 
 /// Appends the words of the text, with the label of the entry before its word or at the end.
-pub(crate) fn push_text(out: &mut String, entry: u32, text: &[u8]) -> Result<(), AllocError>
+pub(crate) fn push_text(
+    out: &mut String,
+    symbols: &Symbols,
+    entry: u32,
+    text: &[u8],
+) -> Result<(), AllocError>
     requires whole { length text.now % 4 ≡ 0 }
     requires fits { length text.now < 2 ^ 32 }
-    ensures { OnOk result (string_bytes out.new ≡ string_bytes out.old ++ is.text_for (is.text_lines entry 0 (words_in text.now))) }
+    ensures { OnOk result (string_bytes out.new ≡ string_bytes out.old ++ is.text_for (is.text_lines (is.names_of symbols.now) entry 0 (words_in text.now))) }
 {
     let mut at = 0u32;
     let mut rest = text;
     while let [a, b, c, d, behind @ ..] = rest {
         let word = u32::from_le_bytes([*a, *b, *c, *d]);
         push_entry(out, entry, at)?;
-        push_word_line(out, at, word)?;
+        push_word_line(out, symbols, at, word)?;
         at += 4;
         rest = behind;
     }

@@ -36,7 +36,7 @@ fn target_for(at: u32, instruction: Instr) -> Option<u32>
 }
 
 /// The address that a branch or a jump goes to whose word stands at an address; `None` for every other word.
-pub(crate) fn target_of(at: u32, word: u32) -> Option<u32>
+pub fn target_of(at: u32, word: u32) -> Option<u32>
     ensures { result ≡ is.target_of at (decoded word) }
 {
     match decode(word) {

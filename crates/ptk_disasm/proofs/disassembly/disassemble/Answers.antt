@@ -1,7 +1,4 @@
-use Rattle.std.proofs.Common.{ap, ◌∙◌}
-use Rattle.ptk_asm_model.specs.Source.{source}
-use Rattle.ptk_disasm.proofs.ReadBack.{read-back}
 use Rattle.ptk_disasm.proofs.disassembly.disassemble.Goals as goal
 
-pub returns-clause-same : goal.returns-clause-same
-returns-clause-same c = ap source c.in_ok-written.ensures.text ∙ read-back c.args.image.now c.in_ok-written.ensures.whole c.in_ok-sections_fit.ensures.ok
+pub returns-clause-text : goal.returns-clause-text
+returns-clause-text c = rw c.new.ensures at c.disassemble_with-2.ensures.text
