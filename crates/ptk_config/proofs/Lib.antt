@@ -4,3 +4,4 @@ pub mod Stages
 pub mod Order
 pub mod Sections
 pub mod Faults
+pub mod Deeper

@@ -1,5 +1,5 @@
 -- What a partition's table states.
-use Rattle.std.specs.Prelude.{ℕ, ◌*◌, ◌%◌, ◌==◌, nat_le, nat_lt, ◌&&◌, ◌||◌, List, [], ◌∷◌, codes, length, Bool, Option, Some, None, Ok, All}
+use Rattle.std.specs.Prelude.{ℕ, ◌*◌, ◌%◌, ◌==◌, nat_le, nat_lt, ◌&&◌, ◌||◌, List, [], ◌∷◌, codes, length, slice_set, slice_index_or, Bool, Option, Some, None, Ok, All}
 use Rattle.std.specs.List.{list_all}
 use Rattle.toml.specs.Data.{Data, Items, Members, get_member}
 use Rattle.ptk_words.specs.declared.sections.Limits.{Limits}
@@ -15,6 +15,23 @@ pub record Section : Type 0 where
   pub image : Option (List ℕ)
   pub limits : Limits
   pub input : List Arrival
+
+-- no section
+abbrev pub no_section : Section
+no_section = record {
+  name = [];
+  image = None;
+  limits = record { memory = 0; threads = 0; stack = 0; mutexes = 0; conditions = 0; keys = 0; interval = 0; ring = 0; output = 0; trace = 0 };
+  input = [];
+}
+
+-- a section with another number of entries that its trace keeps (own)
+abbrev pub with_trace : ℕ → Section → Section
+with_trace entries s = record s { limits = record (s.limits) { trace = entries } }
+
+-- the sections with another number of entries that the trace of one of them keeps (own)
+abbrev pub with_trace_at : ℕ → ℕ → List Section → List Section
+with_trace_at entries p sections = slice_set sections p (with_trace entries (slice_index_or sections p no_section))
 
 -- each section lies within its ranges (own)
 pub record AreInRange (sections : List Section) : Type 0 where

@@ -6,6 +6,7 @@ use crate::section::{Section, read_section};
 use crate::stage::{Stage, read_later_stages};
 use crate::window::read_windows;
 use ptk_window::WindowPlan;
+use ptk_words::PartId;
 use ptk_words_windows::{Window, WindowFault};
 use std::alloc::{AllocError, Global};
 use std::marker::Model;
@@ -35,13 +36,13 @@ impl Model for Config {
     ghost invariant = { λ a. IsConfiguration (record { sections = a.sections.items; plan = a.plan }) };
 }
 
-ghost use Rattle.std.specs.Prelude.{◌≡◌, ◌≤◌, ◌≢◌, Ok, Err, None, IfOk, IfErr, All, ◌∷◌, ◌^◌, length, map, vec_len};
+ghost use Rattle.std.specs.Prelude.{◌≡◌, ◌≤◌, ◌<◌, ◌≢◌, Ok, Err, None, IfOk, IfErr, All, ◌∷◌, ◌^◌, length, map, vec_len};
 ghost use Rattle.std.specs.List.{list_any};
 ghost use Rattle.std.specs.Str.{bytes_eq};
 ghost use Rattle.toml.specs.Parse.{parse_document};
 ghost use Rattle.toml.specs.View.{table_view, items_view};
 ghost use Rattle.ptk_config.specs.Reading.{MemoryAside};
-ghost use Rattle.ptk_config.specs.Sections.{AreInRange, sections_in};
+ghost use Rattle.ptk_config.specs.Sections.{AreInRange, sections_in, with_trace_at};
 ghost use Rattle.ptk_config.specs.Windows.{AreLater};
 ghost use Rattle.ptk_config.specs.Configuration.{IsConfiguration, any_doubled, configuration, configuration_in};
 
@@ -81,6 +82,17 @@ impl Config {
         ensures whole { IsConfiguration self.now }
     {
         &self.plan
+    }
+
+    /// Makes the trace of a partition keep its last so many entries, at most 1048576; the key `trace` of a document is 0 to
+    /// 1024. All else stays: it is the same run, and its trace has the last entries of that run (`deeper_trace_is_same_run`
+    /// of `ptk_impact`).
+    pub fn keep_trace(&mut self, p: PartId, entries: u32)
+        requires place { p < length self.old.sections }
+        requires few { entries ≤ 1048576 }
+        ensures { self.new ≡ record self.old { sections = with_trace_at entries p self.old.sections } }
+    {
+        self.sections[p.index()].keep_trace(entries);
     }
 }
 

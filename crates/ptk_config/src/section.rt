@@ -7,7 +7,7 @@ ghost use Rattle.toml.specs.Data.{get_member};
 ghost use Rattle.toml.specs.View.{view, table_view};
 ghost use Rattle.ptk_config.specs.Reading.{seen, MemoryAside};
 ghost use Rattle.ptk_words.specs.Ranges.{IsWithinLimits, IsInput};
-ghost use Rattle.ptk_config.specs.Sections.{is_name, is_name_byte, name, image_of, sixteens, stack, limits, section};
+ghost use Rattle.ptk_config.specs.Sections.{is_name, is_name_byte, name, image_of, sixteens, stack, limits, section, with_trace};
 
 use crate::fault::ConfigFault;
 use crate::input::read_arrivals;
@@ -87,6 +87,14 @@ impl Section {
         ensures ranges { IsInput result.now }
     {
         &self.input
+    }
+
+    /// Makes its trace keep the last so many entries, at most 1048576; all else stays.
+    pub(crate) fn keep_trace(&mut self, entries: u32)
+        requires { entries ≤ 1048576 }
+        ensures { self.new ≡ with_trace entries self.old }
+    {
+        self.limits.trace = entries;
     }
 
     /// Whether this is the name.
