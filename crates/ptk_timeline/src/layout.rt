@@ -2,7 +2,9 @@
 
 ghost use Rattle.std.specs.Prelude.{◌<◌, ◌≤◌};
 
+use ptk_config::Config;
 use ptk_timeline_segments::{Lane, Recording, Row, Scale, Shade};
+use ptk_words::PartId;
 
 /// How many columns a picture has at most.
 pub const MOST_COLUMNS: u32 = 1000;
@@ -26,19 +28,40 @@ pub(crate) const BAR: u32 = 14;
 pub(crate) const GAP: u32 = 16;
 
 /// The room for the legend at the bottom.
-pub(crate) const LEGEND: u32 = 136;
+pub(crate) const LEGEND: u32 = 190;
 
-/// A column's width: of one tick wide enough for its steps to be told apart.
+/// Where a lane stands: of the partition of a number, from the top so many pixels below the picture's, so high.
+#[derive(Clone, Copy)]
+pub(crate) struct Place {
+    pub(crate) number: usize,
+    pub(crate) top: u32,
+    pub(crate) height: u32,
+    ghost few: { number < 8 },
+}
+
+impl Place {
+    /// The partition.
+    pub(crate) fn part(self) -> PartId {
+        PartId::new(self.number as u8)
+    }
+}
+
+/// A column's width: as wide as the picture fits 1,200 pixels, but two at least, so that none is wider than 2,000.
 pub(crate) fn column_width(scale: Scale) -> u64
     ensures positive { 0 < result }
     ensures narrow { result ≤ 24 }
 {
     let columns = (scale.columns() as u64).max(1);
     if scale.each() == 1 {
-        (1200 / columns).max(8).min(24)
+        (1200 / columns).max(2).min(24)
     } else {
         2
     }
+}
+
+/// Whether a column is a tick, and wide enough for its steps to be told apart.
+pub(crate) fn are_steps_wide(scale: Scale) -> bool {
+    scale.each() == 1 && column_width(scale) >= 4
 }
 
 /// The width of all columns.
@@ -56,6 +79,11 @@ pub(crate) fn place_of(scale: Scale, tick: u64) -> u64 {
     let ticks = tick.min(scale.to()).saturating_sub(scale.from());
     let place = ticks.saturating_mul(column_width(scale)) / scale.each();
     place.saturating_add(LEFT)
+}
+
+/// Whether windows are drawn: where a frame is two columns wide or wider.
+pub(crate) fn are_windows_wide(config: &Config, scale: Scale) -> bool {
+    u64::from(config.frame()).saturating_mul(column_width(scale)) / scale.each() >= 4
 }
 
 /// Where a column begins, from the left.

@@ -1,13 +1,14 @@
 //! The legend.
 
-use crate::layout::LEFT;
+use crate::layout::{LEFT, are_windows_wide};
+use ptk_config::Config;
 use ptk_timeline_segments::Scale;
 use std::io;
 use std::io::Write;
 
 /// The shades, each with its words.
 const SHADES: [(&str, &str); 10] = [
-    ("running", "running"),
+    ("running", "running, in a window of its partition"),
     ("ready", "ready"),
     ("mutex", "blocked: mutex"),
     ("condition", "blocked: condition variable"),
@@ -20,26 +21,44 @@ const SHADES: [(&str, &str); 10] = [
 ];
 
 /// The marks, each with its words.
-const MARKS: [(&str, &str); 6] = [
+const MARKS: [(&str, &str); 9] = [
     (
         "raised",
         "effective priority above the assigned one (with the number, where there is room)",
     ),
     ("mixed", "something else too, for less long"),
     ("window", "the partition's own window"),
+    ("others", "no window of it: its threads stand still"),
     ("arrived", "input comes"),
     ("dropped", "input lost"),
-    (
-        "lost",
-        "ticks lost, or (a bar across the head) the partition halts: fault or exit",
-    ),
+    ("lost", "ticks lost at a window's end"),
+    ("halted", "the partition halts: fault or exit"),
+    ("plan", "the plan's next windows begin"),
 ];
 
 /// Writes the legend below `top`.
-pub(crate) fn write_legend<W: Write>(out: &mut W, scale: Scale, top: u32) -> io::Result<()> {
+pub(crate) fn write_legend<W: Write>(
+    out: &mut W,
+    config: &Config,
+    scale: Scale,
+    top: u32,
+) -> io::Result<()> {
     write_entries(out, &SHADES, 3, 300, top)?;
-    write_entries(out, &MARKS, 2, 540, top.saturating_add(72))?;
-    let (y, each) = (top.saturating_add(11), scale.each());
+    write_entries(out, &MARKS, 2, 540, top.saturating_add(80))?;
+    write_columns(out, scale, top.saturating_add(11))?;
+    if are_windows_wide(config, scale) {
+        return Ok(());
+    }
+    let y = top.saturating_add(29);
+    writeln!(
+        out,
+        "<text x=\"8\" y=\"{y}\">windows are too narrow to draw</text>"
+    )
+}
+
+/// Writes how many ticks a column stands for.
+fn write_columns<W: Write>(out: &mut W, scale: Scale, y: u32) -> io::Result<()> {
+    let each = scale.each();
     if each == 1 {
         return writeln!(out, "<text x=\"8\" y=\"{y}\">a column is a tick</text>");
     }

@@ -1,23 +1,22 @@
 //! The marks of a lane: arrivals of input, input lost, ticks lost, and the end of the partition.
 
-use crate::layout::{column_place, column_width, place_of};
+use crate::layout::{Place, column_place, column_width, place_of};
 use ptk_config::Config;
 use ptk_timeline_segments::{Lane, Marks, Scale};
 use std::io;
 use std::io::Write;
 
-/// Writes the marks of a lane whose head begins at `top`, of the partition at a place.
+/// Writes the marks of a lane in its head.
 pub(crate) fn write_marks<W: Write>(
     out: &mut W,
     config: &Config,
     scale: Scale,
     lane: &Lane,
-    place: usize,
-    top: u32,
+    place: Place,
 ) -> io::Result<()> {
-    write_arrivals(out, config, scale, place, top)?;
+    write_arrivals(out, config, scale, place)?;
     for (column, marks) in lane.marks().iter().enumerate() {
-        write_column(out, scale, column_place(scale, column), *marks, top)?;
+        write_column(out, scale, column_place(scale, column), *marks, place.top)?;
     }
     Ok(())
 }
@@ -60,12 +59,11 @@ fn write_arrivals<W: Write>(
     out: &mut W,
     config: &Config,
     scale: Scale,
-    place: usize,
-    top: u32,
+    place: Place,
 ) -> io::Result<()> {
-    let y = top.saturating_add(10);
+    let y = place.top.saturating_add(10);
     let mut behind = 0;
-    let Some(section) = config.sections().get(place) else {
+    let Some(section) = config.sections().get(place.number) else {
         return Ok(());
     };
     for arrival in section.input().iter() {

@@ -1,20 +1,23 @@
 //! The picture.
 
-ghost use Rattle.std.specs.Prelude.{◌≤◌};
+ghost use Rattle.std.specs.Prelude.{◌≡◌, ◌≤◌, ◌<◌, IfErr, IfOk, length};
 ghost use Rattle.ptk_words.specs.declared.TheConstants.{LAST_TICK};
+ghost use Rattle.ptk_system.specs.World.{at_tick};
 
 use crate::axis::write_axis;
 use crate::layout::{
-    GAP, HEAD, LEFT, MOST_COLUMNS, TOP, lane_height, lanes_end, picture_height, picture_width,
+    GAP, HEAD, LEFT, MOST_COLUMNS, Place, TOP, lane_height, lanes_end, picture_height,
+    picture_width,
 };
 use crate::legend::write_legend;
 use crate::marks::write_marks;
+use crate::plans::write_plans;
 use crate::rows::write_rows;
-use crate::windows::write_windows;
+use crate::windows::{write_others, write_windows};
 use ptk_config::Config;
-use ptk_timeline_segments::{PartStatus, Recording, Scale, System};
+use ptk_timeline_segments::{Lane, PartStatus, Recording, Scale, System};
 use ptk_words::{PartId, Tick};
-use std::alloc::{AllocError, Global};
+use std::alloc::Global;
 use std::io;
 use std::io::Write;
 use thiserror::Error;
@@ -26,7 +29,9 @@ text{font:11px sans-serif;fill:#212529}
 .small{font-size:9px;fill:#495057}
 .lane{fill:#f1f3f5}
 .window{fill:#d0ebff}
+.others{fill:#f8f9fa;stroke:#ced4da;stroke-width:.5;opacity:.8}
 .grid{stroke:#868e96;stroke-width:1;opacity:.35}
+.plan{stroke:#495057;stroke-width:2;stroke-dasharray:6 3;fill:none}
 .running{fill:#2f9e44}
 .ready{fill:#ffd43b}
 .input{fill:#1c7ed6}
@@ -41,10 +46,10 @@ text{font:11px sans-serif;fill:#212529}
 .mixed{fill:#000000}
 .raised{fill:#fd7e14}
 .steps{stroke:#ffffff;stroke-width:1;fill:none;opacity:.8}
-.lost{fill:#000000}
-.dropped{fill:#e03131}
-.arrived{fill:#1c7ed6}
-.halted{fill:#000000}
+.lost{fill:#862e9c}
+.dropped{fill:#0b7285}
+.arrived{fill:#22b8cf}
+.halted{fill:#7f4f24}
 </style>
 ";
 
@@ -57,16 +62,14 @@ pub enum PictureFault {
     /// The writer failed.
     #[error("the writer failed")]
     Write,
-}
-
-impl From<AllocError> for PictureFault {
-    fn from(_error: AllocError) -> PictureFault {
-        PictureFault::Memory
-    }
+    /// There is no tick to show: the first one is not before the end.
+    #[error("no tick to show")]
+    NoTicks,
 }
 
 /// Runs the system of a configuration, which stands at no tick after `from` or `to`, to a tick of at most 2^40, and writes the
-/// picture of its ticks from `from` on. A fault where memory is refused or the writer fails.
+/// picture of its ticks from `from` on. A fault where there is none of them, memory is refused or the writer fails. Of the
+/// picture's bytes no clause speaks; stored pictures are compared.
 pub fn picture_with<W: Write>(
     alloc: Global,
     config: &Config,
@@ -78,9 +81,18 @@ pub fn picture_with<W: Write>(
     requires last { to ≤ LAST_TICK }
     requires begun { system.old.tick ≤ from }
     requires order { system.old.tick ≤ to }
+    ensures some { IfOk result (λ _. from < to) }
+    ensures none { IfErr result (λ fault. fault ≡ PictureFault.NoTicks → to ≤ from) }
+    ensures ran { IfOk result (λ _. system.new ≡ at_tick to system.old) }
 {
+    if to.ticks() <= from.ticks() {
+        return Err(PictureFault::NoTicks);
+    }
     let scale = Scale::new(from, to, MOST_COLUMNS);
-    let recording = Recording::of_run(alloc, system, scale)?;
+    let recording = match Recording::of_run(alloc, system, scale) {
+        Ok(recording) => recording,
+        Err(_) => return Err(PictureFault::Memory),
+    };
     match write_timeline(out, config, system, &recording) {
         Ok(()) => Ok(()),
         Err(_) => Err(PictureFault::Write),
@@ -99,7 +111,7 @@ pub fn write_timeline<W: Write>(
     let (width, height) = (picture_width(scale), picture_height(recording));
     writeln!(
         out,
-        "<svg xmlns=\"http://www.w3.org/2000/svg\" width=\"{width}\" height=\"{height}\" viewBox=\"0 0 {width} {height}\">"
+        "<svg xmlns=\"http://www.w3.org/2000/svg\" width=\"100%\" viewBox=\"0 0 {width} {height}\">"
     )?;
     let (from, to) = (scale.from(), scale.to());
     writeln!(out, "<title>ticks {from} to {to}</title>")?;
@@ -109,30 +121,65 @@ pub fn write_timeline<W: Write>(
         "<rect width=\"{width}\" height=\"{height}\" fill=\"#ffffff\"/>"
     )?;
     write_lanes(out, config, system, recording)?;
-    write_axis(out, scale, lanes_end(recording))?;
-    write_legend(out, scale, lanes_end(recording))?;
+    write_legend(out, config, scale, lanes_end(recording))?;
     out.write_all(b"</svg>\n")
 }
 
-/// Writes the lanes, one below the other.
-fn write_lanes<W: Write>(
+/// Writes the lanes, one below the other, with the axis and the lines of the plan, and without the style and the legend. An
+/// error where the writer fails.
+pub fn write_lanes<W: Write>(
     out: &mut W,
     config: &Config,
     system: &System<'_>,
     recording: &Recording,
 ) -> io::Result<()> {
     let mut top = TOP;
-    for i in 0..system.parts() {
-        if let (Some(lane), Some(section)) = (recording.lanes().get(i), config.sections().get(i)) {
-            let (p, height) = (PartId::new(i as u8), lane_height(lane));
-            write_windows(out, config, recording.scale(), p, top, height)?;
-            write_head(out, section.name(), system.status(p), top)?;
-            write_marks(out, config, recording.scale(), lane, i, top)?;
-            write_rows(out, recording.scale(), lane, top.saturating_add(HEAD))?;
+    for number in 0..system.parts() {
+        if let (Some(lane), Some(section)) = (
+            recording.lanes().get(number),
+            config.sections().get(number),
+        ) {
+            let height = lane_height(lane);
+            let place = Place {
+                number,
+                top,
+                height,
+            };
+            write_lane(
+                out,
+                config,
+                system,
+                recording.scale(),
+                lane,
+                section.name(),
+                place,
+            )?;
             top = top.saturating_add(height).saturating_add(GAP);
         }
     }
-    Ok(())
+    write_axis(out, recording.scale(), lanes_end(recording))?;
+    write_plans(out, config.plan(), recording.scale(), lanes_end(recording))
+}
+
+/// Writes the lane of a partition of a name: its windows, its name, its marks and its rows, and over these the others'
+/// windows.
+fn write_lane<W: Write>(
+    out: &mut W,
+    config: &Config,
+    system: &System<'_>,
+    scale: Scale,
+    lane: &Lane,
+    name: &str,
+    place: Place,
+) -> io::Result<()>
+    requires { place.number < length system.now.config.sections }
+{
+    write_windows(out, config, scale, place)?;
+    let status = system.status(PartId::new(place.number as u8));
+    write_head(out, name, status, place.top)?;
+    write_marks(out, config, scale, lane, place)?;
+    write_rows(out, scale, lane, name, place.top.saturating_add(HEAD))?;
+    write_others(out, config, scale, name, place)
 }
 
 /// Writes a lane's name, which has no markup character, and what its partition is at the end.

@@ -1,10 +1,19 @@
 //! The rows of a lane's threads.
 
-use crate::layout::{BAR, LEFT, ROW, column_place, is_shown};
+ghost use Rattle.ptk_timeline_segments.specs.Bars.{IsBar};
+
+use crate::layout::{BAR, LEFT, ROW, are_steps_wide, column_place, is_shown};
 use crate::names::{Words, class_of};
-use ptk_timeline_segments::{Cell, Lane, Look, Marks, Row, Scale, Shade};
+use ptk_timeline_segments::{Cell, Lane, Marks, Row, Scale, Shade};
 use std::io;
 use std::io::Write;
+
+/// A thread of a partition of a name.
+#[derive(Clone, Copy)]
+struct Named<'a> {
+    name: &'a str,
+    number: usize,
+}
 
 /// Columns of a row that are drawn as one, from one on and before another.
 #[derive(Clone, Copy)]
@@ -26,80 +35,82 @@ impl Stretch {
     }
 }
 
-/// Writes the rows of a lane, one below the other from `top` on.
+/// Writes the rows of the lane of a partition of a name, one below the other from `top` on.
 pub(crate) fn write_rows<W: Write>(
     out: &mut W,
     scale: Scale,
     lane: &Lane,
+    name: &str,
     top: u32,
 ) -> io::Result<()> {
     let mut y = top;
     for (place, row) in lane.rows().iter().enumerate() {
         if is_shown(row) {
-            write_row(out, scale, place + 1, row, lane.marks(), y)?;
+            let thread = Named {
+                name,
+                number: place + 1,
+            };
+            write_row(out, scale, thread, row, lane.marks(), y)?;
             y = y.saturating_add(ROW);
         }
     }
     Ok(())
 }
 
-/// Writes the row of the thread of a number, with its name.
+/// Writes the row of a thread, with its number.
 fn write_row<W: Write>(
     out: &mut W,
     scale: Scale,
-    number: usize,
+    thread: Named<'_>,
     row: &Row,
     marks: &[Marks],
     y: u32,
 ) -> io::Result<()> {
-    let (x, base) = (LEFT - 8, y.saturating_add(11));
+    let (x, base, number) = (LEFT - 8, y.saturating_add(11), thread.number);
     writeln!(
         out,
         "<text x=\"{x}\" y=\"{base}\" text-anchor=\"end\">thread {number}</text>"
     )?;
-    write_bars(out, scale, number, row.cells(), y)?;
+    write_bars(out, scale, thread, row, y)?;
     write_mixed(out, scale, row.cells(), y)?;
     write_raised(out, scale, row.cells(), y)?;
     write_steps(out, scale, row.cells(), marks, y)
 }
 
-/// Writes a bar for each stretch of columns of one look.
+/// Writes the bars: each all columns of one look, its owner and raised priority included, and as many as there are.
 fn write_bars<W: Write>(
     out: &mut W,
     scale: Scale,
-    number: usize,
-    cells: &[Cell],
+    thread: Named<'_>,
+    row: &Row,
     y: u32,
 ) -> io::Result<()> {
     let mut first = 0;
-    for (column, cell) in cells.iter().enumerate() {
-        let behind = column + 1;
-        if !matches!(cells.get(behind), Some(next) if next.look == cell.look) {
-            write_bar(
-                out,
-                number,
-                cell.look,
-                Stretch {
-                    scale,
-                    first,
-                    behind,
-                },
-                y,
-            )?;
-            first = behind;
-        }
+    while first < row.cells().len() {
+        let behind = row.bar_from(first);
+        let stretch = Stretch {
+            scale,
+            first,
+            behind,
+        };
+        write_bar(out, thread, row.cells(), stretch, y)?;
+        first = behind;
     }
     Ok(())
 }
 
-/// Writes the bar of a stretch of a look, none where there is no thread.
+/// Writes a bar of these columns, none where there is no thread.
 fn write_bar<W: Write>(
     out: &mut W,
-    number: usize,
-    look: Look,
+    thread: Named<'_>,
+    cells: &[Cell],
     stretch: Stretch,
     y: u32,
-) -> io::Result<()> {
+) -> io::Result<()>
+    requires { IsBar cells.now stretch.first stretch.behind }
+{
+    let look = cells[stretch.first].look;
+    let Named { name, number } = thread;
     if look.shade() == Shade::Free {
         return Ok(());
     }
@@ -109,7 +120,7 @@ fn write_bar<W: Write>(
     let behind = stretch.scale.start_of(stretch.behind);
     writeln!(
         out,
-        "<rect class=\"{class}\" x=\"{x}\" y=\"{y}\" width=\"{width}\" height=\"{BAR}\"><title>thread {number}: {words}, ticks {first} to {behind}</title></rect>"
+        "<rect class=\"{class}\" x=\"{x}\" y=\"{y}\" width=\"{width}\" height=\"{BAR}\"><title>{name}, thread {number}: {words}, ticks {first} to {behind}</title></rect>"
     )
 }
 
@@ -184,7 +195,7 @@ fn write_level<W: Write>(out: &mut W, level: u8, stretch: Stretch, y: u32) -> io
     writeln!(out, "<text x=\"{x}\" y=\"{base}\">{level}</text>")
 }
 
-/// Writes a line where each step of the row's thread begins, in columns of one tick each.
+/// Writes a line where each step of the row's thread begins, where these can be told apart.
 fn write_steps<W: Write>(
     out: &mut W,
     scale: Scale,
@@ -192,7 +203,7 @@ fn write_steps<W: Write>(
     marks: &[Marks],
     y: u32,
 ) -> io::Result<()> {
-    if scale.each() > 1 {
+    if !are_steps_wide(scale) {
         return Ok(());
     }
     out.write_all(b"<path class=\"steps\" d=\"")?;

@@ -1,59 +1,91 @@
-//! A partition's windows.
+//! A partition's windows, and those of the others.
 
-use crate::layout::{LEFT, column_width, place_of, plot_width};
+ghost use Rattle.std.specs.Prelude.{◌≤◌};
+ghost use Rattle.ptk_words.specs.declared.TheConstants.{LAST_TICK};
+
+use crate::layout::{HEAD, LEFT, Place, are_windows_wide, place_of, plot_width};
 use ptk_config::Config;
-use ptk_timeline_segments::Scale;
-use ptk_words::{PartId, Tick};
+use ptk_timeline_segments::{Scale, Span, next_window};
 use std::io;
 use std::io::Write;
 
-/// Writes a lane's ground, with the partition's windows shaded over each frame, or as a whole where a frame is narrower
-/// than two columns.
+/// Writes a lane's ground, with each of the partition's windows shaded, none where they are too narrow to draw.
 pub(crate) fn write_windows<W: Write>(
     out: &mut W,
     config: &Config,
     scale: Scale,
-    p: PartId,
-    top: u32,
-    height: u32,
+    place: Place,
 ) -> io::Result<()> {
-    let width = plot_width(scale);
+    let (top, height, width) = (place.top, place.height, plot_width(scale));
     writeln!(
         out,
         "<rect class=\"lane\" x=\"{LEFT}\" y=\"{top}\" width=\"{width}\" height=\"{height}\"/>"
     )?;
-    let frame = u64::from(config.frame());
-    if frame.saturating_mul(column_width(scale)) / scale.each() < 4 {
+    if !are_windows_wide(config, scale) {
         return Ok(());
     }
-    for k in scale.from() / frame..(scale.to() / frame).saturating_add(1) {
-        write_frame(out, config, scale, p, k.saturating_mul(frame), top, height)?;
+    let mut tick = scale.from();
+    while let Some(window) = next_window(config.plan(), place.part(), tick, scale.to()) {
+        write_window(out, scale, window, place)?;
+        tick = window.to;
     }
     Ok(())
 }
 
-/// Writes the partition's windows in the frame that begins at a tick: those of the stage of the plan that holds there.
-fn write_frame<W: Write>(
+/// Writes a window.
+fn write_window<W: Write>(out: &mut W, scale: Scale, window: Span, place: Place) -> io::Result<()> {
+    let left = place_of(scale, window.from);
+    let width = place_of(scale, window.to).saturating_sub(left);
+    if width == 0 {
+        return Ok(());
+    }
+    let (top, height) = (place.top, place.height);
+    writeln!(
+        out,
+        "<rect class=\"window\" x=\"{left}\" y=\"{top}\" width=\"{width}\" height=\"{height}\"/>"
+    )
+}
+
+/// Writes over the rows of a lane the ticks that are not the partition's, at which its threads stand still, none where
+/// the windows are too narrow to draw.
+pub(crate) fn write_others<W: Write>(
     out: &mut W,
     config: &Config,
     scale: Scale,
-    p: PartId,
-    frame: u64,
-    top: u32,
-    height: u32,
+    name: &str,
+    place: Place,
 ) -> io::Result<()> {
-    for window in config.plan().windows_at(Tick::new(frame)).iter() {
-        if window.partition == p {
-            let left = place_of(scale, frame.saturating_add(u64::from(window.start)));
-            let right = place_of(scale, frame.saturating_add(window.end()));
-            let width = right.saturating_sub(left);
-            if width > 0 {
-                writeln!(
-                    out,
-                    "<rect class=\"window\" x=\"{left}\" y=\"{top}\" width=\"{width}\" height=\"{height}\"/>"
-                )?;
-            }
-        }
+    if !are_windows_wide(config, scale) {
+        return Ok(());
     }
-    Ok(())
+    let mut tick = scale.from();
+    while let Some(window) = next_window(config.plan(), place.part(), tick, scale.to()) {
+        write_other(out, scale, name, tick, window.from, place)?;
+        tick = window.to;
+    }
+    write_other(out, scale, name, tick, scale.to(), place)
+}
+
+/// Writes the ticks from one on and before another, which are not the partition's.
+fn write_other<W: Write>(
+    out: &mut W,
+    scale: Scale,
+    name: &str,
+    from: u64,
+    to: u64,
+    place: Place,
+) -> io::Result<()> {
+    let left = place_of(scale, from);
+    let width = place_of(scale, to).saturating_sub(left);
+    if width == 0 {
+        return Ok(());
+    }
+    let (top, height) = (
+        place.top.saturating_add(HEAD - 4),
+        place.height.saturating_sub(HEAD - 4),
+    );
+    writeln!(
+        out,
+        "<rect class=\"others\" x=\"{left}\" y=\"{top}\" width=\"{width}\" height=\"{height}\"><title>no window of {name}, ticks {from} to {to}</title></rect>"
+    )
 }

@@ -1,5 +1,9 @@
+pub mod LookBack
 pub mod Counting
 pub mod Lists
+pub mod Marking
+pub mod Bars
+pub mod OwnWindows
 pub mod Telling
 pub mod Lanes
 pub mod Recordings

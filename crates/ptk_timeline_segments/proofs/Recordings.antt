@@ -15,8 +15,9 @@ use Rattle.ptk_timeline_segments.specs.Cells.{IsCellOf}
 use Rattle.ptk_timeline_segments.specs.Columns.{start_of}
 use Rattle.ptk_timeline_segments.specs.Histories.{history, look_at}
 use Rattle.ptk_timeline_segments.specs.Lanes.{IsLaneOf, IsShown, IsThreadsRow}
-use Rattle.ptk_timeline_segments.specs.Recordings.{AreLanesOf, TellsLooks, TellsOf}
+use Rattle.ptk_timeline_segments.specs.Recordings.{AreLanesOf, TellsLooks, TellsMarks, TellsOf}
 use Rattle.ptk_timeline_segments.specs.Rows.{IsRowOf}
+use Rattle.ptk_timeline_segments.proofs.Marking.{marks_told}
 
 -- ---- one system at two ticks
 
@@ -105,13 +106,27 @@ row_tells look scale row same counted is = record {
       (is.cells column default (filled_all row column (counted ∙ sym (ap (λ (s : Scale). s.to) same)) (subst (λ (s : Scale). start_of s column < s.to) (sym same) some)));
 }
 
-pub tells_of : (world : World) (recording : Recording) → AreLanesOf world recording.scale recording.scale.to recording.lanes.items → TellsOf world recording
-tells_of world recording are = record {
+pub tells_of : (world : World) (recording : Recording) → recording.scale.each ≡ 1 → AreLanesOf world recording.scale recording.scale.to recording.lanes.items → TellsOf world recording
+tells_of world recording one are = record {
   parts = are.count;
   rows = λ p place lane default part lt.
       row p place lane default part (are.tells p lane part) ((are.tells p lane part).rows place default lt);
+  marks = λ p lane part. marks p lane part (are.tells p lane part);
 }
   where
+    done : (p : ℕ) (lane : Lane) → p < length recording.lanes.items → IsLaneOf (own_ticks world.config.plan p) (history world p) (get_or recording.lanes.items p lane)
+        → (get_or recording.lanes.items p lane).due ≡ recording.scale.to
+    done p lane part is =
+        let to : (get_or recording.lanes.items p lane).scale.to ≡ recording.scale.to = ap (λ (s : Scale). s.to) (are.scales p lane part) in
+        omega (arith, are.due p lane part, is.to, to)
+
+    marks : (p : ℕ) (lane : Lane) → p < length recording.lanes.items → IsLaneOf (own_ticks world.config.plan p) (history world p) (get_or recording.lanes.items p lane)
+        → TellsMarks (history world p) recording.scale (get_or recording.lanes.items p lane)
+    marks p lane part is =
+        let scale : (get_or recording.lanes.items p lane).scale ≡ recording.scale = are.scales p lane part in
+        marks_told (history world p) recording.scale (get_or recording.lanes.items p lane) one scale is.scaled (done p lane part is)
+        (is.marks (ap (λ (s : Scale). s.each) scale ∙ one))
+
     row : (p place : ℕ) (lane : Lane) (default : Row) → p < length recording.lanes.items → IsLaneOf (own_ticks world.config.plan p) (history world p) (get_or recording.lanes.items p lane)
         → IsThreadsRow (own_ticks world.config.plan p) (history world p) (get_or recording.lanes.items p lane) (place + 1) (get_or (get_or recording.lanes.items p lane).rows.items place default)
         → TellsLooks (look_at (own_ticks world.config.plan p) (history world p) recording.scale.from (place + 1)) recording.scale (get_or (get_or recording.lanes.items p lane).rows.items place default)

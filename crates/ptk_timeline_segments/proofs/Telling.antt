@@ -13,13 +13,11 @@ use Rattle.ptk_timeline_segments.specs.declared.scale.Scale.{Scale}
 use Rattle.ptk_timeline_segments.specs.declared.step.Busy.{Busy}
 use Rattle.ptk_timeline_segments.specs.Histories.{history, is_begun, is_step_of, is_stepping, last_begun, look_at, look_in, sooner_of, step_end, stepping}
 use Rattle.ptk_timeline_segments.specs.Lanes.{GoesOn, IsDue, IsLaneOf, IsThreadsRow, StartsAs, busy_by, busy_of, is_busy}
+use Rattle.ptk_timeline_segments.specs.Marked.{BeginsAs, IsMarkedBy, IsMarkedTo}
 use Rattle.ptk_timeline_segments.specs.Rows.{IsRowOf}
+use Rattle.ptk_timeline_segments.proofs.Marking.{Stays, marked_begins, marked_on}
 
 -- ---- ticks with which a partition stays
-
--- from one tick count to another the states are this one, but for the tick of the next decision
-pub record Stays (states : ℕ → State) (s : State) (from to : ℕ) : Type 0 where
-  pub same : (k : ℕ) → from ≤ k → k ≤ to → but_next (states k) ≡ but_next s
 
 look_same : (t : ℕ) (a b : State) → but_next a ≡ but_next b → look_in t a.part ≡ look_in t b.part
 look_same t a b e = ap (λ (s : State). look_in t s.part) e
@@ -131,13 +129,16 @@ pub lane_on : (world : World) (p tick : ℕ) (old new : Lane) → IsLaneOf (own_
     → ((place : ℕ) (default : Row) → place < length old.rows.items → place < 32
     → GoesOn (look_in (place + 1) (state_of world p).part) (busy_of (own_ticks world.config.plan p) tick old.steps (state_of world p)) (place + 1) new.due
     (get_or old.rows.items place default) (get_or new.rows.items place default))
+    → (is_step : Bool) → is_step ≡ nat_lt old.steps (state_of world p).account.steps → IsMarkedBy tick is_step (state_of world p) old.marked new.marked
     → (tick + 1 ≤ new.due) × IsLaneOf (own_ticks world.config.plan p) (history world p) new
-lane_on world p tick old new is at here before scale count steps due goes = (
+lane_on world p tick old new is at here before scale count steps due goes is_step stepped marked = (
   later,
   record {
     from = omega (arith, from_same, is.from, here, later);
     to = omega (arith, to_same, due.within);
     few = omega (arith, count, is.few);
+    scaled = marked.scale ∙ (is.scaled ∙ sym scale);
+    marks = λ one. marks (ap (λ (s : Scale). s.each) (sym scale) ∙ one);
     rows = rows;
     ended = λ begun last sooner. ended begun (ap (λ (k : ℕ). last_begun states k (new.due - k)) (sym from_same) ∙ last) (omega (arith, sooner, to_same));
     steps = steps ∙ (ap (λ (s : State). s.account.steps) due.now ∙ (ap (λ (k : ℕ). (states k).account.steps) at ∙ sym (steps_same (states new.due) (states (tick + 1)) (stays.same new.due later (omega arith)))));
@@ -194,6 +195,14 @@ lane_on world p tick old new is at here before scale count steps due goes = (
     counted : old.steps ≡ (states tick).account.steps
     counted = is.steps ∙ ap (λ (k : ℕ). (states k).account.steps) (sym here)
 
+    marks : old.scale.each ≡ 1 → IsMarkedTo states new.due new.marked
+    marks one =
+        let from : old.marked.scale.from ≡ old.scale.from = ap (λ (s : Scale). s.from) is.scaled in
+        marked_on states tick new.due is_step old.marked new.marked (ap (λ (s : Scale). s.each) is.scaled ∙ one) (omega (arith, from, is.from, here)) later stays
+        (stepped ∙ (ap (λ (n : ℕ). nat_lt n (state_of world p).account.steps) counted ∙ ap (λ (s : State). nat_lt (states tick).account.steps s.account.steps) now))
+        (subst (λ (k : ℕ). IsMarkedTo states k old.marked) (sym here) (is.marks one))
+        (subst (λ (s : State). IsMarkedBy tick is_step s old.marked new.marked) now marked)
+
     rows : (place : ℕ) (default : Row) → place < length new.rows.items → IsThreadsRow ticks states new (place + 1) (get_or new.rows.items place default)
     rows place default lt = row (is.rows place default within) (goes place default within (omega (arith, within, is.few)))
       where
@@ -218,11 +227,16 @@ lane_on world p tick old new is at here before scale count steps due goes = (
 -- from the first tick to that of the first change
 pub lane_begins : (world : World) (p : ℕ) (lane : Lane) → world.tick ≡ lane.scale.from → length lane.rows.items ≤ 32 → lane.steps ≡ (state_of world p).account.steps → IsDue world p lane.scale lane.due
     → ((place : ℕ) (default : Row) → place < length lane.rows.items → StartsAs lane.scale (look_in (place + 1) (state_of world p).part) lane.due (get_or lane.rows.items place default))
+    → BeginsAs lane.scale (state_of world p) lane.marked
     → IsLaneOf (own_ticks world.config.plan p) (history world p) lane
-lane_begins world p lane at few steps due starts = record {
+lane_begins world p lane at few steps due starts begins = record {
   from = omega (arith, later, at);
   to = due.within;
   few = few;
+  scaled = begins.scaled;
+  marks = λ one.
+      marked_begins states (state_of world p) lane.scale lane.due lane.marked (omega (arith, later, at))
+      (record { same = λ k low high. due.stays k (omega (arith, low, at)) high }) begins;
   rows = λ place default lt. row place (get_or lane.rows.items place default) (starts place default lt);
   ended = λ begun last sooner. let never : last_begun states lane.scale.from (lane.due - lane.scale.from) ≡ None = none_so_far lane.due (omega arith) in absurd cc;
   steps = steps ∙ (ap (λ (s : State). s.account.steps) due.now ∙ sym (steps_same (states lane.due) (states world.tick) (stays.same lane.due later (omega arith))));

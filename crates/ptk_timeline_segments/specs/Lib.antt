@@ -1,8 +1,13 @@
 pub mod Columns
 pub mod Shades
+pub mod LookNumbers
 pub mod Cells
 pub mod Tallies
 pub mod Rows
+pub mod Bars
 pub mod Histories
+pub mod Marking
+pub mod Marked
+pub mod OwnWindows
 pub mod Lanes
 pub mod Recordings

@@ -1,9 +1,11 @@
 -- What a recording tells of a run.
-use Rattle.std.specs.Prelude.{◌≡◌, ℕ, ◌+◌, ◌<◌, ◌≤◌, List, length, slice_index_or}
+use Rattle.std.specs.Prelude.{◌≡◌, ℕ, ◌+◌, ◌-◌, ◌<◌, ◌≤◌, List, length, slice_index_or}
 use Rattle.ptk_words_windows.specs.Windows.{own_ticks}
+use Rattle.ptk_words_model.specs.State.{State}
 use Rattle.ptk_system.specs.World.{World}
 use Rattle.ptk_timeline_segments.specs.declared.lane.Lane.{Lane}
 use Rattle.ptk_timeline_segments.specs.declared.look.Look.{Look}
+use Rattle.ptk_timeline_segments.specs.declared.marks.Marks.{Marks}
 use Rattle.ptk_timeline_segments.specs.declared.recording.Recording.{Recording}
 use Rattle.ptk_timeline_segments.specs.declared.row.Row.{Row}
 use Rattle.ptk_timeline_segments.specs.declared.scale.Scale.{Scale}
@@ -12,6 +14,7 @@ use Rattle.ptk_timeline_segments.specs.Cells.{IsCellOf}
 use Rattle.ptk_timeline_segments.specs.Columns.{start_of}
 use Rattle.ptk_timeline_segments.specs.Histories.{history, look_at}
 use Rattle.ptk_timeline_segments.specs.Lanes.{IsLaneOf}
+use Rattle.ptk_timeline_segments.specs.Marking.{marks_at}
 
 -- each lane tells of its partition, up to this tick or a later one
 pub record AreLanesOf (world : World) (scale : Scale) (tick : ℕ) (lanes : List Lane) : Type 0 where
@@ -25,10 +28,16 @@ pub record TellsLooks (look : ℕ → Look) (scale : Scale) (row : Row) : Type 0
   pub columns : (column : ℕ) (default : Cell) → start_of scale column < scale.to
       → IsCellOf look (start_of scale column) (start_of scale (column + 1)) (slice_index_or row.cells.items column default)
 
--- each row of each lane tells of its thread, by partition and thread number
+-- each column of a lane, which is a tick, has the marks that the decisions of the picture make there
+pub record TellsMarks (states : ℕ → State) (scale : Scale) (lane : Lane) : Type 0 where
+  pub columns : (column : ℕ) (default : Marks) → scale.from + column < scale.to
+      → slice_index_or lane.marked.columns.items column default ≡ marks_at states scale.from (scale.to - scale.from) (scale.from + column)
+
+-- each row of each lane tells of its thread, by partition and thread number, and each lane of what came
 pub record TellsOf (world : World) (recording : Recording) : Type 0 where
   pub parts : length recording.lanes.items ≡ length world.config.sections
   pub rows : (p place : ℕ) (lane : Lane) (default : Row) → p < length recording.lanes.items
       → place < length (slice_index_or recording.lanes.items p lane).rows.items
       → TellsLooks (look_at (own_ticks world.config.plan p) (history world p) recording.scale.from (place + 1)) recording.scale
       (slice_index_or (slice_index_or recording.lanes.items p lane).rows.items place default)
+  pub marks : (p : ℕ) (lane : Lane) → p < length recording.lanes.items → TellsMarks (history world p) recording.scale (slice_index_or recording.lanes.items p lane)

@@ -64,7 +64,9 @@ impl Lane {
     }
 
     /// What came in each column.
-    pub fn marks(&self) -> &[Marks] {
+    pub fn marks(&self) -> &[Marks]
+        ensures { result.now ≡ self.now.marked.columns.items }
+    {
         self.marked.columns()
     }
 
@@ -94,8 +96,9 @@ impl Lane {
         if tick < self.due {
             return;
         }
+        let is_step = self.steps < system.steps(p);
         let busy = step_at(system, p, tick, self.steps);
-        self.marked.mark(system, p, busy.is_some(), tick);
+        self.marked.mark(system, p, is_step, tick);
         self.tell(system, p, &busy);
     }
 
@@ -103,6 +106,7 @@ impl Lane {
     fn tell(&mut self, system: &System<'_>, p: PartId, busy: &Option<Busy>)
         requires { p < length system.now.config.sections }
         ensures scale { self.new.scale ≡ self.old.scale }
+        ensures marked { self.new.marked ≡ self.old.marked }
         ensures count { length self.new.rows.items ≡ length self.old.rows.items }
         ensures steps { self.new.steps ≡ (state_of system.now p).account.steps }
         ensures due { IsDue system.now p self.old.scale self.new.due }

@@ -8,18 +8,22 @@
 //!
 //! A step's ticks are its thread's: from the tick at which it begins, for as many as it costs, that thread is running,
 //! and what the step made of it begins behind them. All else begins at the tick of the decision that brought it.
-//! Every function is safe, and what it tells is tested; what it is made from, the getters of `System`, is proved. Below
-//! stand the system and the configuration; the drawing, `ptk_timeline`, stands above.
+//! Where a column is one tick, it has the look of its thread at its tick and the marks of that tick, by the states of the
+//! partition (`Recording::of_run`). A bar is all columns of one look, as many as there are (`Row::bar_from`), and
+//! `next_window` goes over a partition's windows as the plan has them at these ticks. What columns of many ticks show is
+//! tested. Below stand the system, its window plan and the configuration; the drawing, `ptk_timeline`, stands above.
 #![tactic(auto)]
 
 mod lane;
 mod look;
 mod marks;
+mod numbers;
 mod recording;
 mod row;
 mod scale;
 mod step;
 mod tally;
+mod windows;
 
 pub use lane::Lane;
 pub use look::{Look, Shade};
@@ -29,3 +33,4 @@ pub use recording::Recording;
 pub use row::Row;
 pub use scale::Scale;
 pub use tally::Cell;
+pub use windows::{Span, next_window};

@@ -1,12 +1,13 @@
 //! What a thread looks like at a tick.
 
-ghost use Rattle.std.specs.Prelude.{◌≡◌, ◌<◌, length};
+ghost use Rattle.std.specs.Prelude.{◌≡◌, ◌<◌, ◌↔◌, IsTrue, length};
 ghost use Rattle.ptk_timeline_segments.specs.declared.look.TheConstants.{SHADES};
 ghost use Rattle.ptk_words_model.specs.Priority.{thread_at};
 ghost use Rattle.ptk_system.specs.World.{state_of};
 ghost use Rattle.ptk_timeline_segments.specs.Histories.{look_in, owner_for, raised_of, stepping};
 ghost use Rattle.ptk_timeline_segments.specs.Shades.{place_in, place_of, shade_of, shade_of_wait};
 
+use crate::numbers::numbers_of;
 use ptk_system::{Activity, System};
 use ptk_words::{Owner, PartId, ThreadNo, Wait};
 
@@ -107,6 +108,14 @@ impl Look {
             owner: None,
             raised: self.raised,
         }
+    }
+
+    /// Whether another look is the same, owner and raised priority included.
+    pub fn is_same(&self, other: &Look) -> bool
+        ensures { IsTrue result ↔ (self.now ≡ other.now) }
+    {
+        let (own, others) = (numbers_of(self), numbers_of(other));
+        own == others
     }
 
     /// Its shade.

@@ -1,6 +1,10 @@
 //! What came in the columns of a lane.
 
-ghost use Rattle.std.specs.Prelude.{◌<◌, length};
+ghost use Rattle.std.specs.Prelude.{◌≡◌, ℕ, ◌<◌, ◌≤◌, ◌&&◌, ◌||◌, IfOk, length};
+ghost use Rattle.ptk_words.specs.declared.TheConstants.{LAST_TICK};
+ghost use Rattle.ptk_system.specs.World.{state_of};
+ghost use Rattle.ptk_timeline_segments.specs.Columns.{start_of};
+ghost use Rattle.ptk_timeline_segments.specs.Marking.{both, marks_there, no_marks};
 
 use crate::scale::Scale;
 use crate::step::is_halted_now;
@@ -11,7 +15,7 @@ use std::alloc::{AllocError, Global};
 /// What came in a column.
 #[derive(Clone, Copy, Debug, PartialEq, Eq)]
 pub struct Marks {
-    /// A step began; told where a column is one tick.
+    /// A step began; not known where a column is many ticks.
     pub is_stepped: bool,
     /// Ticks were lost at a window's end.
     pub is_lost: bool,
@@ -23,7 +27,9 @@ pub struct Marks {
 
 impl Marks {
     /// Nothing came.
-    fn none() -> Marks {
+    fn none() -> Marks
+        ensures { result ≡ no_marks }
+    {
         Marks {
             is_stepped: false,
             is_lost: false,
@@ -31,19 +37,71 @@ impl Marks {
             is_halted: false,
         }
     }
+
+    /// What these and others tell together.
+    fn and(&self, others: &Marks) -> Marks
+        ensures { result ≡ both self.now others.now }
+    {
+        Marks {
+            is_stepped: either(self.is_stepped, others.is_stepped),
+            is_lost: either(self.is_lost, others.is_lost),
+            is_dropped: either(self.is_dropped, others.is_dropped),
+            is_halted: either(self.is_halted, others.is_halted),
+        }
+    }
 }
 
-/// The marks of a partition's columns, and what it had lost and whether it was halted when they were last made.
+/// Whether one of the two holds.
+fn either(a: bool, b: bool) -> bool
+    ensures { result ≡ (a || b) }
+{
+    a || b
+}
+
+/// Whether the two hold.
+fn together(a: bool, b: bool) -> bool
+    ensures { result ≡ (a && b) }
+{
+    a && b
+}
+
+/// What a decision brought: whether it was a step, lost input or halted the partition, and how many ticks it lost.
+#[derive(Clone, Copy)]
+pub(crate) struct Brought {
+    pub(crate) is_stepped: bool,
+    pub(crate) is_dropped: bool,
+    pub(crate) is_halted: bool,
+    pub(crate) lost: u64,
+}
+
+impl Brought {
+    /// The marks of a column that it reaches, which is the decision's own or one of the ticks that were lost with it.
+    fn marks_there(&self, is_own: bool) -> Marks
+        ensures { result ≡ marks_there self.now is_own }
+    {
+        Marks {
+            is_stepped: together(is_own, self.is_stepped),
+            is_lost: 0 < self.lost,
+            is_dropped: together(is_own, self.is_dropped),
+            is_halted: together(is_own, self.is_halted),
+        }
+    }
+}
+
+/// The marks of a partition's columns, and what it had lost and whether it was active when they were last made.
 #[derive(Drop)]
 pub(crate) struct Marked {
     scale: Scale,
     columns: Vec<Marks>,
     lost: u64,
     dropped: u64,
-    is_halted: bool,
+    was_active: bool,
+    ghost covers: { start_of scale (length columns.items) ≡ scale.to },
 }
 
 impl Marked {
+    ghost use Rattle.ptk_timeline_segments.specs.Marked.{AreMarked, BeginsAs, IsMarkedBy};
+
     /// No marks yet, with room for all columns. An error where memory ran out. No other call takes memory.
     pub(crate) fn new(
         alloc: Global,
@@ -52,47 +110,58 @@ impl Marked {
         p: PartId,
     ) -> Result<Marked, AllocError>
         requires { p < length system.now.config.sections }
+        ensures { IfOk result (BeginsAs scale (state_of system.now p)) }
     {
         Ok(Marked {
             scale,
             columns: vec![in alloc; Marks::none(); scale.columns()]?,
             lost: system.lost(p),
             dropped: system.dropped(p),
-            is_halted: is_halted_now(system, p),
+            was_active: !is_halted_now(system, p),
         })
     }
 
     /// The columns.
-    pub(crate) fn columns(&self) -> &[Marks] {
+    pub(crate) fn columns(&self) -> &[Marks]
+        ensures { result.now ≡ self.now.columns.items }
+    {
         self.columns.as_slice()
     }
 
     /// Marks what the decision at the tick brought, a step or none.
     pub(crate) fn mark(&mut self, system: &System<'_>, p: PartId, is_step: bool, tick: u64)
-        requires { p < length system.now.config.sections }
+        requires partition { p < length system.now.config.sections }
+        requires early { tick ≤ LAST_TICK }
+        ensures { IsMarkedBy tick is_step (state_of system.now p) self.old self.new }
     {
         let (lost, dropped) = (system.lost(p), system.dropped(p));
-        let halted = is_halted_now(system, p);
-        if let Some(marks) = self.columns.get_mut(self.scale.column_of(tick)) {
-            marks.is_stepped = marks.is_stepped || is_step;
-            marks.is_dropped = marks.is_dropped || self.dropped < dropped;
-            marks.is_halted = marks.is_halted || halted && !self.is_halted;
-        }
-        if self.lost < lost {
-            self.mark_lost(tick, tick.saturating_add(lost.saturating_sub(self.lost)));
-        }
+        let is_active = !is_halted_now(system, p);
+        let brought = Brought {
+            is_stepped: is_step,
+            is_dropped: self.dropped < dropped,
+            is_halted: together(self.was_active, !is_active),
+            lost: lost.saturating_sub(self.lost),
+        };
+        self.add(&brought, tick);
         self.lost = lost;
         self.dropped = dropped;
-        self.is_halted = halted;
+        self.was_active = is_active;
     }
 
-    /// Marks the columns of the ticks from one on and before another, which were lost.
-    fn mark_lost(&mut self, from: u64, to: u64) {
-        let first = self.scale.column_of(from);
-        let last = self.scale.column_of(to.saturating_sub(1));
+    /// Marks the column of the tick, and those of the ticks that were lost.
+    fn add(&mut self, brought: &Brought, tick: u64)
+        requires { tick ≤ LAST_TICK }
+        ensures scale { self.new.scale ≡ self.old.scale }
+        ensures columns { self.old.scale.each ≡ 1 → self.old.scale.from ≤ tick →
+            AreMarked brought.now tick self.old.scale self.old.columns.items self.new.columns.items }
+    {
+        let first = self.scale.column_of(tick);
+        let more = brought.lost.max(1) - 1;
+        let last = self.scale.column_of(tick.saturating_add(more));
         let end = last.saturating_add(1).min(self.columns.len());
         for column in first..end {
-            self.columns[column].is_lost = true;
+            let marks = brought.marks_there(column == first);
+            self.columns[column] = self.columns[column].and(&marks);
         }
     }
 }

@@ -26,6 +26,7 @@ pub struct Row {
 }
 
 impl Row {
+    ghost use Rattle.ptk_timeline_segments.specs.Bars.{IsBar, IsBegun};
     ghost use Rattle.ptk_timeline_segments.specs.Rows.{HoldsOver, IsRowOf};
 
     /// A row of no ticks yet, with room for all columns. An error where memory ran out. No other call takes memory.
@@ -73,6 +74,23 @@ impl Row {
             self.filled += 1;
             self.tally = Tally::new();
         }
+    }
+
+    /// The column behind the bar that begins with this one: the columns of one look, owner and raised priority included,
+    /// as many as there are.
+    pub fn bar_from(&self, first: usize) -> usize
+        requires within { first < length self.now.cells.items }
+        requires begun { IsBegun self.now.cells.items first }
+        ensures bar { IsBar self.now.cells.items first result }
+        ensures next { result < length self.now.cells.items → IsBegun self.now.cells.items result }
+    {
+        let look = self.cells[first].look;
+        for behind in first + 1..self.cells.len() {
+            if !self.cells[behind].look.is_same(&look) {
+                return behind;
+            }
+        }
+        self.cells.len()
     }
 
     /// The columns.

@@ -1,6 +1,6 @@
 //! Which ticks are shown, and in how many columns.
 
-ghost use Rattle.std.specs.Prelude.{◌≡◌, ℕ, ◌+◌, ◌<◌, ◌≤◌, min, max};
+ghost use Rattle.std.specs.Prelude.{◌≡◌, ℕ, ◌+◌, ◌-◌, ◌/◌, ◌<◌, ◌≤◌, min, max};
 ghost use Rattle.ptk_words.specs.declared.TheConstants.{LAST_TICK};
 
 use ptk_words::Tick;
@@ -74,7 +74,9 @@ impl Scale {
     }
 
     /// The column of a tick from the first on.
-    pub fn column_of(self, tick: u64) -> usize {
+    pub fn column_of(self, tick: u64) -> usize
+        ensures { result ≡ (tick - self.from) / self.each }
+    {
         (tick.saturating_sub(self.from) / self.each) as usize
     }
 

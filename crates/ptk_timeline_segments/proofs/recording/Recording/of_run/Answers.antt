@@ -1,4 +1,4 @@
-use Rattle.std.proofs.Common.{◌≡◌, ◌≤◌, subst, sym, ap, arith}
+use Rattle.std.proofs.Common.{◌≡◌, ◌≤◌, subst, sym, ap, ◌∙◌, arith}
 use Rattle.ptk_system.specs.World.{World}
 use Rattle.ptk_timeline_segments.specs.declared.scale.Scale.{Scale}
 use Rattle.ptk_timeline_segments.specs.Recordings.{AreLanesOf}
@@ -10,6 +10,6 @@ returns-clause-tells c = λ one.
     let at : c.run_to.new.self.tick ≡ c.args.scale.from = omega (arith, ap (λ (w : World). w.tick) c.run_to.ensures, c.new.ensures, c.from.ensures.value, c.requires) in
     let order : c.args.scale.from ≤ c.args.scale.to = c.args.scale.order in
     let begun : c.run_to.new.self.tick ≤ c.args.scale.to = omega (arith, at, order) in
-    tells_of c.args.system.now c.run.new.self
+    tells_of c.args.system.now c.run.new.self (ap (λ (s : Scale). s.each) c.run.ensures.scale ∙ one)
     (subst (λ (s : Scale). AreLanesOf c.args.system.now s s.to c.run.new.self.lanes.items) (sym c.run.ensures.scale)
     (lanes_back c.args.system.now c.run_to.new.self _ c.args.scale.to c.args.scale c.run.new.self.lanes.items c.run_to.ensures (c.run.ensures.right one begun c.in_ok-lanes.ensures)))

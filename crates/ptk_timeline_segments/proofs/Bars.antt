@@ -1,0 +1,42 @@
+-- A bar that ends, and the next one's beginning.
+use Rattle.std.proofs.Common.{◌≡◌, ◌≢◌, ℕ, ◌+◌, ◌<◌, ◌≤◌, List, length, get_or, ◌⊎◌, inl, inr, sym, ap, ◌∙◌, arith}
+use Rattle.std.proofs.lemmas.Bool.{cases_lt}
+use Rattle.std.proofs.lemmas.List.{get_or_default}
+use Rattle.ptk_timeline_segments.specs.declared.look.Look.{Look}
+use Rattle.ptk_timeline_segments.specs.declared.tally.Cell.{Cell}
+use Rattle.ptk_timeline_segments.specs.Bars.{IsBar, IsBegun}
+
+-- the columns from one on and before another have this look
+abbrev pub AreAlike : List Cell → Look → ℕ → ℕ → Type 0
+AreAlike cells look first behind = (column : ℕ) (default : Cell) → first ≤ column → column < behind → (get_or cells column default).look ≡ look
+
+-- the look of a column, whatever stands past the last
+pub look_any : (cells : List Cell) (column : ℕ) (a b : Cell) → column < length cells → (get_or cells column a).look ≡ (get_or cells column b).look
+look_any cells column a b lt = ap (λ (c : Cell). c.look) (get_or_default cells column a b lt)
+
+-- one more column has it
+pub alike_more : (cells : List Cell) (look : Look) (first behind : ℕ) (item : Cell) → behind < length cells → item ≡ get_or cells behind item → item.look ≡ look
+    → AreAlike cells look first behind → AreAlike cells look first (behind + 1)
+alike_more cells look first behind item lt is same alike column default low high = by (cases_lt column behind)
+  where
+    by : (column < behind) ⊎ (behind ≤ column) → (get_or cells column default).look ≡ look
+    by (inl sooner) = alike column default low sooner
+    by (inr later) =
+        let at : column ≡ behind = omega (arith, later, high) in
+        ap (λ (k : ℕ). (get_or cells k default).look) at ∙ (look_any cells behind default item lt ∙ (ap (λ (c : Cell). c.look) (sym is) ∙ same))
+
+pub bar_ended : (cells : List Cell) (look : Look) (first behind : ℕ) → first < length cells → first < behind → behind ≤ length cells → IsBegun cells first
+    → ((default : Cell) → (get_or cells first default).look ≡ look) → AreAlike cells look first behind → ((default : Cell) → behind < length cells → (get_or cells behind default).look ≢ look) → IsBar cells first behind
+bar_ended cells look first behind here some within begun is alike ended = record {
+  some = some;
+  within = within;
+  begun = begun;
+  same = λ column default low high. alike column default low high ∙ sym (is default);
+  ended = λ default lt same. ended default lt (same ∙ is default);
+}
+
+-- the column behind a bar begins the next one
+pub next_begun : (cells : List Cell) (first behind : ℕ) → IsBar cells first behind → behind < length cells → IsBegun cells behind
+next_begun cells first behind is lt before default at same =
+    let low : first ≤ before = omega (arith, at, is.some) in
+    is.ended default lt (sym same ∙ is.same before default low (omega (arith, at)))

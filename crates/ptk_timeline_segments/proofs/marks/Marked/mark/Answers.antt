@@ -1,0 +1,25 @@
+use Rattle.std.proofs.Common.{◌≡◌, ℕ, ◌-◌, nat_lt, Bool, not, ◌&&◌, refl, ap, subst, ◌∙◌}
+use Rattle.ptk_words_model.specs.State.{State}
+use Rattle.ptk_words_model.specs.Run.{is_active}
+use Rattle.ptk_system.specs.World.{state_of}
+use Rattle.ptk_timeline_segments.specs.declared.marks.Brought.{Brought}
+use Rattle.ptk_timeline_segments.specs.Marked.{AreMarked}
+use Rattle.ptk_timeline_segments.proofs.Marking.{brought_are, not_not}
+use Rattle.ptk_timeline_segments.proofs.marks.Marked.mark.Goals as goal
+
+pub returns : goal.returns
+returns c =
+    let state : State = state_of c.args.system.now c.args.p in
+    record {
+      scale = c.add.ensures.scale;
+      columns = λ one from.
+          subst (λ (b : Brought). AreMarked b c.args.tick c.args.self.now.scale c.args.self.now.columns.items c.add.new.self.columns.items)
+          (brought_are c.args.is_step c.args.is_step (nat_lt c.args.self.now.dropped c.dropped-dropped.result) (nat_lt c.args.self.now.dropped state.part.console.dropped)
+          c.together.result (c.args.self.now.was_active && not (is_active state.part.status)) c.saturating_sub.result (state.account.lost - c.args.self.now.lost)
+          refl
+          (ap (λ (n : ℕ). nat_lt c.args.self.now.dropped n) c.dropped-dropped.ensures)
+          (c.together.ensures ∙ ap (λ (b : Bool). c.args.self.now.was_active && b) (not_not c.is_halted_now-is_active.result ∙ c.is_halted_now-is_active.ensures))
+          (c.saturating_sub.ensures ∙ ap (λ (n : ℕ). n - c.args.self.now.lost) c.lost-lost.ensures))
+          (c.add.ensures.columns one from);
+      known = record { lost = c.lost-lost.ensures; dropped = c.dropped-dropped.ensures; active = ap not c.is_halted_now-is_active.ensures ∙ not_not (is_active state.part.status) };
+    }
