@@ -1,0 +1,221 @@
+//! What is shown of all partitions.
+
+ghost use Rattle.std.specs.Prelude.{◌≡◌, ◌+◌, ◌<◌, ◌≤◌, IfOk, OnOk, length};
+ghost use Rattle.ptk_words.specs.declared.TheConstants.{LAST_TICK};
+ghost use Rattle.ptk_system.specs.World.{state_of};
+
+use crate::change::Change;
+use crate::fault::PutFault;
+use crate::part::Part;
+use crate::sheet::Sheet;
+use ptk_config::Config;
+use ptk_system::System;
+use ptk_words::{PartId, Tick};
+use std::alloc::{AllocError, Global};
+use std::io::Write;
+
+/// The partition whose window it is, since a tick.
+#[derive(Clone, Copy)]
+struct Holder {
+    partition: PartId,
+    since: u64,
+}
+
+/// What is shown of all partitions, and whose window it is.
+#[derive(Drop)]
+pub(crate) struct Board {
+    parts: Vec<Part>,
+    holder: Option<Holder>,
+}
+
+impl Board {
+    /// What is shown of the partitions of a system from its tick on. An error where memory ran out.
+    pub(crate) fn new(alloc: Global, system: &System<'_>) -> Result<Board, AllocError> {
+        let mut parts = Vec::new(alloc);
+        for i in 0..system.parts() {
+            let threads = match system.config().sections().get(i) {
+                Some(section) => section.limits().threads,
+                None => 0,
+            };
+            parts.push(Part::new(alloc, system, PartId::new(i as u8), threads)?)?;
+        }
+        Ok(Board {
+            parts,
+            holder: None,
+        })
+    }
+
+    /// Writes all that is shown at the first tick.
+    pub(crate) fn put_all<W: Write>(
+        &self,
+        system: &System<'_>,
+        sheet: &mut Sheet<'_>,
+        out: &mut W,
+    ) -> Result<(), PutFault>
+        requires within { sheet.old.at ≤ sheet.old.to }
+        ensures within { sheet.new.at ≤ sheet.old.at }
+        ensures to { sheet.new.to ≡ sheet.old.to }
+    {
+        for i in 0..self.parts.len().min(system.parts()) {
+            self.parts[i].put_all(system, PartId::new(i as u8), sheet, out)?;
+        }
+        Ok(())
+    }
+
+    /// Writes what is shown up to the last tick.
+    pub(crate) fn put_rest<W: Write>(
+        &mut self,
+        sheet: &mut Sheet<'_>,
+        out: &mut W,
+    ) -> Result<(), PutFault>
+        requires within { sheet.old.at ≤ sheet.old.to }
+        ensures within { sheet.new.at ≤ sheet.old.to }
+        ensures to { sheet.new.to ≡ sheet.old.to }
+    {
+        let to = sheet.to();
+        self.close_window(to, sheet, out)?;
+        for i in 0..self.parts.len().min(PARTS) {
+            self.parts[i].put_rest(PartId::new(i as u8), sheet, out)?;
+        }
+        Ok(())
+    }
+
+    /// Runs a system from the tick at which it stands to the last that is written, and writes what changes.
+    pub(crate) fn run<W: Write>(
+        &mut self,
+        config: &Config,
+        system: &mut System<'_>,
+        sheet: &mut Sheet<'_>,
+        out: &mut W,
+    ) -> Result<(), PutFault>
+        requires within { sheet.old.at ≤ sheet.old.to }
+        ensures within { sheet.new.at ≤ sheet.old.to }
+        ensures to { sheet.new.to ≡ sheet.old.to }
+    {
+        let to = sheet.to();
+        let mut tick = sheet.at();
+        while tick < to {
+            tick = self.go_on(config, system, tick, sheet, out)?;
+        }
+        Ok(())
+    }
+
+    /// Goes on over the window that holds a tick, or up to the next window. Gives the tick behind.
+    fn go_on<W: Write>(
+        &mut self,
+        config: &Config,
+        system: &mut System<'_>,
+        tick: u64,
+        sheet: &mut Sheet<'_>,
+        out: &mut W,
+    ) -> Result<u64, PutFault>
+        requires at { sheet.old.at ≤ tick }
+        requires order { tick < sheet.old.to }
+        ensures on { IfOk result (λ next. (tick < next) × (next ≤ sheet.old.to) × (sheet.new.at ≤ next)) }
+        ensures within { sheet.new.at ≤ sheet.old.to }
+        ensures to { sheet.new.to ≡ sheet.old.to }
+    {
+        let to = sheet.to();
+        match config.plan().at(Tick::new(tick)) {
+            Some((p, end)) => {
+                let end = end.ticks().min(to);
+                self.open_window(p, tick, sheet, out)?;
+                self.run_window(system, p, tick, end, sheet, out)?;
+                Ok(end)
+            }
+            None => {
+                self.close_window(tick, sheet, out)?;
+                Ok(next_start(config, tick, to))
+            }
+        }
+    }
+
+    /// Goes on over a window of a partition, or the part of one.
+    fn run_window<W: Write>(
+        &mut self,
+        system: &mut System<'_>,
+        p: PartId,
+        from: u64,
+        end: u64,
+        sheet: &mut Sheet<'_>,
+        out: &mut W,
+    ) -> Result<(), PutFault>
+        requires at { sheet.old.at ≤ from }
+        requires order { from ≤ end }
+        requires early { end ≤ LAST_TICK }
+        requires to { end ≤ sheet.old.to }
+        ensures within { sheet.new.at ≤ end }
+        ensures to { sheet.new.to ≡ sheet.old.to }
+    {
+        let place = p.index();
+        if place < self.parts.len() && place < system.parts() {
+            return self.parts[place].run(system, p, from, end, sheet, out);
+        }
+        Ok(())
+    }
+
+    /// From a tick on it is this partition's window.
+    fn open_window<W: Write>(
+        &mut self,
+        p: PartId,
+        tick: u64,
+        sheet: &mut Sheet<'_>,
+        out: &mut W,
+    ) -> Result<(), PutFault>
+        requires at { sheet.old.at ≤ tick }
+        requires to { tick ≤ sheet.old.to }
+        ensures within { sheet.new.at ≤ tick }
+        ensures to { sheet.new.to ≡ sheet.old.to }
+    {
+        if let Some(holder) = &self.holder {
+            if holder.partition.index() == p.index() {
+                return Ok(());
+            }
+        }
+        self.close_window(tick, sheet, out)?;
+        self.holder = Some(Holder {
+            partition: p,
+            since: tick,
+        });
+        sheet.put(p, tick, &Change::WindowBegins, out)
+    }
+
+    /// From a tick on it is nobody's window.
+    fn close_window<W: Write>(
+        &mut self,
+        tick: u64,
+        sheet: &mut Sheet<'_>,
+        out: &mut W,
+    ) -> Result<(), PutFault>
+        requires at { sheet.old.at ≤ tick }
+        requires to { tick ≤ sheet.old.to }
+        ensures within { sheet.new.at ≤ tick }
+        ensures to { sheet.new.to ≡ sheet.old.to }
+    {
+        let Some(holder) = self.holder else {
+            return Ok(());
+        };
+        self.holder = None;
+        let change = Change::WindowEnds(holder.since);
+        sheet.put(holder.partition, tick, &change, out)
+    }
+}
+
+/// How many partitions a system has at most.
+const PARTS: usize = 8;
+
+/// The first tick of the next window after a tick in none, the last tick where that is later.
+fn next_start(config: &Config, tick: u64, to: u64) -> u64
+    requires order { tick < to }
+    requires early { to ≤ LAST_TICK }
+    ensures from { tick < result }
+    ensures to { result ≤ to }
+{
+    let mut next = to;
+    for i in 0..config.parts() {
+        if let Some(start) = config.plan().next_of(PartId::new(i as u8), Tick::new(tick)) {
+            next = next.min(start.ticks());
+        }
+    }
+    next.max(tick + 1)
+}

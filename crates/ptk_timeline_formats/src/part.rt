@@ -1,0 +1,332 @@
+//! What is shown of a partition.
+
+ghost use Rattle.std.specs.Prelude.{◌≡◌, ◌+◌, ◌<◌, ◌≤◌, IfOk, IfSome, OnOk, length};
+ghost use Rattle.ptk_words.specs.declared.TheConstants.{LAST_TICK};
+ghost use Rattle.ptk_system.specs.World.{state_of};
+ghost use Rattle.ptk_timeline_formats.specs.Shown.{AreShown};
+
+use crate::change::{Change, Kept};
+use crate::fault::PutFault;
+use crate::sheet::Sheet;
+use crate::shown::Shown;
+use crate::step::Step;
+use crate::threads::{first_threads, show_threads};
+use ptk_system::{PartStatus, System};
+use ptk_words::{PartId, ThreadNo, Tick};
+use std::alloc::{AllocError, Global};
+use std::io::Write;
+
+/// How many threads a partition has at most.
+const THREADS: usize = 32;
+
+/// What is shown of a partition: its status, the number of its running thread, 0 where none runs, its threads, and the
+/// step that takes up its ticks; and what it had lost and how many steps it had made at the last look.
+#[derive(Drop)]
+pub(crate) struct Part {
+    status: PartStatus,
+    runner: u8,
+    threads: Vec<Kept>,
+    step: Option<Step>,
+    steps: u64,
+    lost: u64,
+    dropped: u64,
+}
+
+impl Part {
+    /// What is shown of a partition with so many threads from the system's tick on. An error where memory ran out. No other
+    /// call takes memory for what is kept.
+    pub(crate) fn new(
+        alloc: Global,
+        system: &System<'_>,
+        p: PartId,
+        threads: u32,
+    ) -> Result<Part, AllocError>
+        requires { p < length system.now.config.sections }
+    {
+        Ok(Part {
+            status: system.status(p),
+            runner: runner_of(system, p, &None),
+            threads: first_threads(alloc, system, p, threads)?,
+            step: None,
+            steps: system.steps(p),
+            lost: system.lost(p),
+            dropped: system.dropped(p),
+        })
+    }
+
+    /// Writes all that is shown at the first tick.
+    pub(crate) fn put_all<W: Write>(
+        &self,
+        system: &System<'_>,
+        p: PartId,
+        sheet: &mut Sheet<'_>,
+        out: &mut W,
+    ) -> Result<(), PutFault>
+        requires partition { p < length system.now.config.sections }
+        requires within { sheet.old.at ≤ sheet.old.to }
+        ensures within { sheet.new.at ≤ sheet.old.at }
+        ensures to { sheet.new.to ≡ sheet.old.to }
+    {
+        let tick = sheet.at();
+        sheet.put(p, tick, &Change::WindowEnds(tick), out)?;
+        sheet.put(p, tick, &Change::Status(self.status), out)?;
+        sheet.put(p, tick, &Change::Runner(self.runner), out)?;
+        for i in 0..self.threads.len().min(THREADS) {
+            let t = ThreadNo::new(i as u8 + 1);
+            let start = start_of(system, p, t, tick);
+            let shown = &self.threads[i].shown;
+            sheet.put(p, tick, &Change::First(t, shown, start), out)?;
+        }
+        Ok(())
+    }
+
+    /// Writes what is shown up to the last tick.
+    pub(crate) fn put_rest<W: Write>(
+        &self,
+        p: PartId,
+        sheet: &mut Sheet<'_>,
+        out: &mut W,
+    ) -> Result<(), PutFault>
+        requires within { sheet.old.at ≤ sheet.old.to }
+        ensures within { sheet.new.at ≤ sheet.old.to }
+        ensures to { sheet.new.to ≡ sheet.old.to }
+    {
+        let to = sheet.to();
+        for i in 0..self.threads.len().min(THREADS) {
+            let t = ThreadNo::new(i as u8 + 1);
+            let kept = &self.threads[i];
+            sheet.put(p, to, &Change::Next(t, kept, &kept.shown), out)?;
+        }
+        Ok(())
+    }
+
+    /// Goes on over a window, or the part of one, from a tick up to a later one, and writes what changes.
+    pub(crate) fn run<W: Write>(
+        &mut self,
+        system: &mut System<'_>,
+        p: PartId,
+        from: u64,
+        end: u64,
+        sheet: &mut Sheet<'_>,
+        out: &mut W,
+    ) -> Result<(), PutFault>
+        requires partition { p < length system.old.config.sections }
+        requires at { sheet.old.at ≤ from }
+        requires order { from ≤ end }
+        requires early { end ≤ LAST_TICK }
+        requires to { end ≤ sheet.old.to }
+        ensures within { sheet.new.at ≤ end }
+        ensures to { sheet.new.to ≡ sheet.old.to }
+        ensures config { system.new.config ≡ system.old.config }
+    {
+        let mut tick = from;
+        self.step = None;
+        while tick < end {
+            let due = due(system, p, tick, end);
+            self.settle(system, p, due, end, sheet, out)?;
+            if due >= end {
+                return Ok(());
+            }
+            system.run_to(Tick::new(due + 1));
+            self.decide(system, p, due, end, sheet, out)?;
+            system.compute_to(Tick::new(end));
+            let begin = self.go_on(system, p, due, end, sheet, out)?;
+            tick = system.tick().ticks().max(begin);
+        }
+        self.settle(system, p, end, end, sheet, out)
+    }
+
+    /// Nothing of the partition changes before the tick `due`: where the step ends before that tick, or none comes in the
+    /// window, what the step has made of its thread is shown from its end on.
+    fn settle<W: Write>(
+        &mut self,
+        system: &System<'_>,
+        p: PartId,
+        due: u64,
+        end: u64,
+        sheet: &mut Sheet<'_>,
+        out: &mut W,
+    ) -> Result<(), PutFault>
+        requires partition { p < length system.now.config.sections }
+        requires at { sheet.old.at ≤ due }
+        requires due { due ≤ end }
+        requires to { end ≤ sheet.old.to }
+        requires step { IfSome self.old.step (λ step. (sheet.old.at ≤ step.until) × (step.until ≤ end)) }
+        ensures within { sheet.new.at ≤ due }
+        ensures to { sheet.new.to ≡ sheet.old.to }
+        ensures step { self.new.step ≡ self.old.step }
+    {
+        let Some(step) = &self.step else {
+            return Ok(());
+        };
+        let until = step.until;
+        if until < due || due == end {
+            return self.show(system, p, &None, until, sheet, out);
+        }
+        Ok(())
+    }
+
+    /// The system has made the decision at a tick: from there on the step that may have begun there takes up its ticks.
+    fn decide<W: Write>(
+        &mut self,
+        system: &System<'_>,
+        p: PartId,
+        tick: u64,
+        end: u64,
+        sheet: &mut Sheet<'_>,
+        out: &mut W,
+    ) -> Result<(), PutFault>
+        requires partition { p < length system.now.config.sections }
+        requires at { sheet.old.at ≤ tick }
+        requires tick { tick < end }
+        requires to { end ≤ sheet.old.to }
+        ensures within { sheet.new.at ≤ tick }
+        ensures to { sheet.new.to ≡ sheet.old.to }
+        ensures step { OnOk result (IfSome self.new.step (λ step. (tick < step.until) × (step.until ≤ end))) }
+    {
+        let step = Step::since(system, p, self.steps, tick, end);
+        self.show(system, p, &step, tick, sheet, out)?;
+        self.mark(system, p, tick, sheet, out)?;
+        self.steps = system.steps(p);
+        self.step = step;
+        Ok(())
+    }
+
+    /// The system went on over plain steps after the decision at a tick. Gives the first tick at which no step of the decision
+    /// goes on.
+    fn go_on<W: Write>(
+        &mut self,
+        system: &System<'_>,
+        p: PartId,
+        tick: u64,
+        end: u64,
+        sheet: &mut Sheet<'_>,
+        out: &mut W,
+    ) -> Result<u64, PutFault>
+        requires partition { p < length system.now.config.sections }
+        requires at { sheet.old.at ≤ tick }
+        requires tick { tick < end }
+        requires to { end ≤ sheet.old.to }
+        requires step { IfSome self.old.step (λ step. (tick < step.until) × (step.until ≤ end)) }
+        ensures begin { IfOk result (λ begin. (tick < begin) × (begin ≤ end) × (sheet.new.at ≤ begin)) }
+        ensures step { OnOk result (IfSome self.new.step (λ step. (sheet.new.at ≤ step.until) × (step.until ≤ end))) }
+        ensures within { sheet.new.at ≤ end }
+        ensures to { sheet.new.to ≡ sheet.old.to }
+    {
+        let begin = Step::end_of(&self.step, tick, end);
+        if begin == end {
+            return Ok(begin);
+        }
+        let step = Step::since(system, p, self.steps, begin, end);
+        if step.is_some() {
+            self.show(system, p, &step, begin, sheet, out)?;
+            self.steps = system.steps(p);
+            self.step = step;
+        }
+        Ok(begin)
+    }
+
+    /// Shows what the system tells of the partition from a tick on, while a step takes up its ticks, and writes what of
+    /// it is new.
+    fn show<W: Write>(
+        &mut self,
+        system: &System<'_>,
+        p: PartId,
+        step: &Option<Step>,
+        tick: u64,
+        sheet: &mut Sheet<'_>,
+        out: &mut W,
+    ) -> Result<(), PutFault>
+        requires partition { p < length system.now.config.sections }
+        requires at { sheet.old.at ≤ tick }
+        requires to { tick ≤ sheet.old.to }
+        ensures within { sheet.new.at ≤ tick }
+        ensures to { sheet.new.to ≡ sheet.old.to }
+        ensures step { self.new.step ≡ self.old.step }
+        ensures shown { OnOk result (AreShown step.now (state_of system.now p).part self.new.threads.items) }
+    {
+        let status = status_of(system, p, step);
+        if status != self.status {
+            self.status = status;
+            sheet.put(p, tick, &Change::Status(status), out)?;
+        }
+        let runner = runner_of(system, p, step);
+        if runner != self.runner {
+            self.runner = runner;
+            sheet.put(p, tick, &Change::Runner(runner), out)?;
+        }
+        let threads = self.threads.as_mut_slice();
+        show_threads(threads, system, p, step, tick, sheet, out)
+    }
+
+    /// Writes the ticks and the input that the decision at a tick lost.
+    fn mark<W: Write>(
+        &mut self,
+        system: &System<'_>,
+        p: PartId,
+        tick: u64,
+        sheet: &mut Sheet<'_>,
+        out: &mut W,
+    ) -> Result<(), PutFault>
+        requires partition { p < length system.now.config.sections }
+        requires at { sheet.old.at ≤ tick }
+        requires to { tick ≤ sheet.old.to }
+        ensures within { sheet.new.at ≤ tick }
+        ensures to { sheet.new.to ≡ sheet.old.to }
+        ensures step { self.new.step ≡ self.old.step }
+    {
+        let (lost, dropped) = (system.lost(p), system.dropped(p));
+        if self.lost < lost {
+            let ticks = lost - self.lost;
+            self.lost = lost;
+            sheet.put(p, tick, &Change::Lost(ticks), out)?;
+        }
+        if self.dropped < dropped {
+            let bytes = dropped - self.dropped;
+            self.dropped = dropped;
+            sheet.put(p, tick, &Change::Dropped(bytes), out)?;
+        }
+        Ok(())
+    }
+}
+
+/// The first tick from this one on, up to the end of the partition's window, at which something of it can change.
+fn due(system: &System<'_>, p: PartId, tick: u64, end: u64) -> u64
+    requires partition { p < length system.now.config.sections }
+    requires order { tick ≤ end }
+    ensures from { tick ≤ result }
+    ensures to { result ≤ end }
+{
+    system.stays_until(p, Tick::new(end)).ticks().max(tick)
+}
+
+/// The pc of a thread at tick 0, at which it has not begun; None at another tick.
+fn start_of(system: &System<'_>, p: PartId, t: ThreadNo, tick: u64) -> Option<u32>
+    requires { p < length system.now.config.sections }
+{
+    if tick == 0 { system.pc(p, t) } else { None }
+}
+
+/// The status of a partition, which runs while a step takes up its ticks.
+fn status_of(system: &System<'_>, p: PartId, step: &Option<Step>) -> PartStatus
+    requires { p < length system.now.config.sections }
+{
+    if step.is_some() {
+        PartStatus::Running
+    } else {
+        system.status(p)
+    }
+}
+
+/// The number of the running thread, which is that of the step that takes up its ticks; 0 where none runs.
+fn runner_of(system: &System<'_>, p: PartId, step: &Option<Step>) -> u8
+    requires { p < length system.now.config.sections }
+{
+    match step {
+        Some(step) => step.thread.number(),
+        None => match system.running(p) {
+            Some(thread) => thread.number(),
+            None => 0,
+        },
+    }
+}

@@ -1,0 +1,161 @@
+//! Runs, written.
+
+ghost use Rattle.std.specs.Prelude.{◌≡◌, ◌≢◌, ◌<◌, ◌≤◌, None, IfErr, MatchResult, OnOk};
+ghost use Rattle.ptk_words.specs.declared.TheConstants.{LAST_TICK};
+ghost use Rattle.ptk_system.specs.Missing.{first_missing};
+ghost use Rattle.ptk_timeline_formats.specs.declared.fault.FormatFault.TheVariants.{FromPastEnd};
+ghost use Rattle.ptk_timeline_formats.specs.Faults.{missing_in_format};
+
+use crate::board::Board;
+use crate::change::Routine;
+use crate::events::{put_events_end, put_events_head};
+use crate::fault::{FormatFault, PutFault};
+use crate::sheet::{Form, Sheet};
+use crate::vcd::{put_vcd_head, put_vcd_start};
+use ptk_config::Config;
+use ptk_system::{Files, System};
+use ptk_words::Tick;
+use std::alloc::Global;
+use std::io::Write;
+
+/// Boots the system of a configuration, runs it to a tick of at most 2^40, and writes its ticks from `from` on as a Value
+/// Change Dump (IEEE 1364-2005, section 18).
+///
+/// `FormatFault::FromPastEnd` comes where `from` is not before `ticks`, and before the boot; `FormatFault::Boot` where the
+/// system does not boot. Nothing is written before either. Any other fault is one of memory or of the writer, which may
+/// have got a part.
+pub fn vcd_with<W: Write>(
+    alloc: Global,
+    config: &Config,
+    files: &Files,
+    from: Tick,
+    ticks: Tick,
+    out: &mut W,
+) -> Result<(), FormatFault>
+    requires { ticks ≤ LAST_TICK }
+    ensures order { OnOk result (from < ticks) }
+    ensures past { IfErr result (λ fault. fault ≡ FromPastEnd → ticks ≤ from) }
+    ensures first { ticks ≤ from → IfErr result (λ fault. fault ≡ FromPastEnd) }
+    ensures missing { MatchResult result
+        (λ _. first_missing files.now config.now.sections ≡ None)
+        (λ fault. fault ≢ FromPastEnd → first_missing files.now config.now.sections ≡ missing_in_format fault) }
+    ensures silent { IfErr result (λ fault. fault ≢ FormatFault.Write → fault ≢ FormatFault.Memory → out.new ≡ out.old) }
+{
+    write_run(Form::Vcd, alloc, config, files, &[], from, ticks, out)
+}
+
+/// Writes the same ticks in the Trace Event Format. A thread that starts in these ticks has the name of the routine of its
+/// partition that begins at its first pc, where there is one. The same faults come.
+pub fn trace_events_with<'r, W: Write>(
+    alloc: Global,
+    config: &Config,
+    files: &Files,
+    routines: &'r [Routine<'r>],
+    from: Tick,
+    ticks: Tick,
+    out: &mut W,
+) -> Result<(), FormatFault>
+    requires { ticks ≤ LAST_TICK }
+    ensures order { OnOk result (from < ticks) }
+    ensures past { IfErr result (λ fault. fault ≡ FromPastEnd → ticks ≤ from) }
+    ensures first { ticks ≤ from → IfErr result (λ fault. fault ≡ FromPastEnd) }
+    ensures missing { MatchResult result
+        (λ _. first_missing files.now config.now.sections ≡ None)
+        (λ fault. fault ≢ FromPastEnd → first_missing files.now config.now.sections ≡ missing_in_format fault) }
+    ensures silent { IfErr result (λ fault. fault ≢ FormatFault.Write → fault ≢ FormatFault.Memory → out.new ≡ out.old) }
+{
+    write_run(
+        Form::Events,
+        alloc,
+        config,
+        files,
+        routines,
+        from,
+        ticks,
+        out,
+    )
+}
+
+/// Boots the system of a configuration, runs it, and writes its ticks from `from` on in a format.
+fn write_run<'r, W: Write>(
+    form: Form,
+    alloc: Global,
+    config: &Config,
+    files: &Files,
+    routines: &'r [Routine<'r>],
+    from: Tick,
+    ticks: Tick,
+    out: &mut W,
+) -> Result<(), FormatFault>
+    requires { ticks ≤ LAST_TICK }
+    ensures order { OnOk result (from < ticks) }
+    ensures past { IfErr result (λ fault. fault ≡ FromPastEnd → ticks ≤ from) }
+    ensures first { ticks ≤ from → IfErr result (λ fault. fault ≡ FromPastEnd) }
+    ensures missing { MatchResult result
+        (λ _. first_missing files.now config.now.sections ≡ None)
+        (λ fault. fault ≢ FromPastEnd → first_missing files.now config.now.sections ≡ missing_in_format fault) }
+    ensures silent { IfErr result (λ fault. fault ≢ FormatFault.Write → fault ≢ FormatFault.Memory → out.new ≡ out.old) }
+{
+    if ticks.ticks() <= from.ticks() {
+        return Err(FormatFault::FromPastEnd);
+    }
+    let mut system = system_at(alloc, config, files, from)?;
+    let mut sheet = Sheet::new(form, alloc, routines, from.ticks(), ticks.ticks());
+    match put_run(alloc, config, &mut system, &mut sheet, out) {
+        Ok(()) => Ok(()),
+        Err(PutFault::Memory) => Err(FormatFault::Memory),
+        Err(PutFault::Write) => Err(FormatFault::Write),
+    }
+}
+
+/// The system of a configuration at a tick of at most 2^40.
+fn system_at<'a>(
+    alloc: Global,
+    config: &'a Config,
+    files: &'a Files,
+    tick: Tick,
+) -> Result<System<'a>, FormatFault>
+    requires { tick ≤ LAST_TICK }
+    ensures known { IfErr result (λ fault. (fault ≢ FromPastEnd) × (fault ≢ FormatFault.Write) × (fault ≢ FormatFault.Memory)) }
+    ensures missing { MatchResult result
+        (λ _. first_missing files.now config.now.sections ≡ None)
+        (λ fault. first_missing files.now config.now.sections ≡ missing_in_format fault) }
+{
+    match System::boot(alloc, config, files) {
+        Ok(mut system) => {
+            system.run_to(tick);
+            Ok(system)
+        }
+        Err(fault) => Err(FormatFault::Boot(fault)),
+    }
+}
+
+/// Runs a system from the tick at which it stands to the last, and writes what it shows.
+fn put_run<W: Write>(
+    alloc: Global,
+    config: &Config,
+    system: &mut System<'_>,
+    sheet: &mut Sheet<'_>,
+    out: &mut W,
+) -> Result<(), PutFault>
+    requires within { sheet.old.at ≤ sheet.old.to }
+{
+    let mut board = Board::new(alloc, system)?;
+    match sheet.form() {
+        Form::Vcd => {
+            put_vcd_head(config, sheet.at(), out)?;
+            board.put_all(system, sheet, out)?;
+            put_vcd_start(out)?;
+            board.run(config, system, sheet, out)?;
+            sheet.reach(sheet.to(), out)
+        }
+        Form::Events => {
+            put_events_head(alloc, config, sheet.at(), sheet.to(), out)?;
+            board.put_all(system, sheet, out)?;
+            board.run(config, system, sheet, out)?;
+            board.put_rest(sheet, out)?;
+            put_events_end(out)?;
+            Ok(())
+        }
+    }
+}

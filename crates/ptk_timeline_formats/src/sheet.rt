@@ -1,0 +1,119 @@
+//! What is written, up to a tick.
+
+use crate::change::{Change, Routine};
+use crate::events::put_event;
+use crate::fault::PutFault;
+use crate::vcd::{is_signal, put_value};
+use ptk_words::PartId;
+use std::alloc::Global;
+use std::io::Write;
+
+/// The formats.
+#[derive(Clone, Copy)]
+pub(crate) enum Form {
+    /// The Value Change Dump.
+    Vcd,
+    /// The Trace Event Format.
+    Events,
+}
+
+/// What is written in a format: the latest tick of which something is, and the last that may be.
+#[derive(Drop)]
+pub(crate) struct Sheet<'a> {
+    form: Form,
+    alloc: Global,
+    routines: &'a [Routine<'a>],
+    at: u64,
+    to: u64,
+    ghost last: { to ≤ LAST_TICK },
+}
+
+ghost use Rattle.std.specs.Prelude.{◌≡◌, ◌<◌, ◌≤◌};
+ghost use Rattle.ptk_words.specs.declared.TheConstants.{LAST_TICK};
+
+impl<'a> Sheet<'a> {
+    /// Nothing is written yet; what will be is of the ticks from one up to another.
+    pub(crate) fn new(
+        form: Form,
+        alloc: Global,
+        routines: &'a [Routine<'a>],
+        from: u64,
+        to: u64,
+    ) -> Sheet<'a>
+        requires { to ≤ LAST_TICK }
+        ensures at { result.at ≡ from }
+        ensures to { result.to ≡ to }
+    {
+        Sheet {
+            form,
+            alloc,
+            routines,
+            at: from,
+            to,
+        }
+    }
+
+    /// The last tick.
+    pub(crate) fn to(&self) -> u64
+        ensures value { result ≡ self.now.to }
+        ensures early { result ≤ LAST_TICK }
+    {
+        self.to
+    }
+
+    /// The tick of which was written last.
+    pub(crate) fn at(&self) -> u64
+        ensures { result ≡ self.now.at }
+    {
+        self.at
+    }
+
+    /// The format.
+    pub(crate) fn form(&self) -> Form {
+        self.form
+    }
+
+    /// Writes what changes of a partition at a tick. A format that has no form for the change writes nothing.
+    pub(crate) fn put<W: Write>(
+        &mut self,
+        p: PartId,
+        tick: u64,
+        change: &Change<'_>,
+        out: &mut W,
+    ) -> Result<(), PutFault>
+        requires from { self.old.at ≤ tick }
+        requires to { tick ≤ self.old.to }
+        ensures from { self.old.at ≤ self.new.at }
+        ensures within { self.new.at ≤ tick }
+        ensures to { self.new.to ≡ self.old.to }
+    {
+        match self.form {
+            Form::Vcd => {
+                if is_signal(change) {
+                    self.reach(tick, out)?;
+                    put_value(p, change, out)?;
+                }
+                Ok(())
+            }
+            Form::Events => {
+                self.at = tick;
+                put_event(self.alloc, self.routines, p, tick, change, out)
+            }
+        }
+    }
+
+    /// Writes that what follows is of a tick: none where the last was of it too (IEEE 1364-2005, 18.2.1).
+    pub(crate) fn reach<W: Write>(&mut self, tick: u64, out: &mut W) -> Result<(), PutFault>
+        requires from { self.old.at ≤ tick }
+        requires to { tick ≤ self.old.to }
+        ensures at { self.new.at ≡ tick }
+        ensures to { self.new.to ≡ self.old.to }
+    {
+        let is_later = self.at < tick;
+        self.at = tick;
+        if is_later {
+            writeln!(out, "#{tick}")?;
+        }
+        Ok(())
+    }
+}

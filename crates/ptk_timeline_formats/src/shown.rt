@@ -1,0 +1,110 @@
+//! What a thread is shown as.
+
+ghost use Rattle.std.specs.Prelude.{◌≡◌, ◌<◌, length};
+ghost use Rattle.ptk_system.specs.World.{state_of};
+ghost use Rattle.ptk_timeline_formats.specs.Shown.{doing_of, is_step_of, shown_in};
+
+use crate::step::Step;
+use ptk_system::{Activity, System};
+use ptk_words::{PartId, ThreadNo, Tick, Wait};
+
+/// What a thread does.
+#[derive(Clone, Copy, PartialEq, Eq)]
+pub(crate) enum Doing {
+    /// No thread has the number.
+    Free,
+    /// A step of it takes up the tick.
+    Running,
+    /// It is the partition's running thread, and the tick is not a step's: the window is another's or nobody's, or what
+    /// is left of it is lost.
+    Suspended,
+    /// It is ready.
+    Ready,
+    /// It waits for this.
+    Blocked(Wait),
+    /// It has ended, and nobody has joined or detached it yet.
+    Ended,
+    /// It has not ended, and its partition is halted.
+    Halted,
+}
+
+/// The word and the number of what a thread does.
+#[derive(Clone, Copy)]
+pub(crate) struct Label {
+    pub(crate) number: u8,
+    pub(crate) word: &'static str,
+}
+
+impl Doing {
+    /// Its word and number.
+    pub(crate) fn label(&self) -> Label {
+        let (number, word) = match self {
+            Doing::Free => (0, "free"),
+            Doing::Running => (1, "running"),
+            Doing::Suspended => (2, "suspended"),
+            Doing::Ready => (3, "ready"),
+            Doing::Blocked(wait) => wait_label(wait),
+            Doing::Ended => (10, "ended"),
+            Doing::Halted => (11, "halted"),
+        };
+        Label { number, word }
+    }
+}
+
+/// The number and the word of a wait.
+fn wait_label(wait: &Wait) -> (u8, &'static str) {
+    match wait {
+        Wait::InputWait => (4, "console"),
+        Wait::SleepWait(_) => (5, "sleep"),
+        Wait::JoinWait(_) => (6, "join"),
+        Wait::MutexWait(_, _) => (7, "mutex"),
+        Wait::ConditionWait(_, _, _) => (8, "condition"),
+        Wait::RelockWait(_, _) => (9, "relock"),
+    }
+}
+
+/// The tick at which a wait ends by itself, None where it does not.
+pub(crate) fn deadline_of(wait: &Wait) -> Option<Tick> {
+    match wait {
+        Wait::SleepWait(tick) => Some(*tick),
+        Wait::MutexWait(_, deadline) | Wait::ConditionWait(_, _, deadline) => *deadline,
+        Wait::InputWait | Wait::JoinWait(_) | Wait::RelockWait(_, _) => None,
+    }
+}
+
+/// What a thread is shown as: what it does, and its effective priority, None of a free number.
+#[derive(Clone, Copy, PartialEq, Eq)]
+pub(crate) struct Shown {
+    pub(crate) doing: Doing,
+    pub(crate) priority: Option<u8>,
+}
+
+impl Shown {
+    /// What a thread of a system is shown as while this step takes up its ticks.
+    pub(crate) fn of(system: &System<'_>, p: PartId, t: ThreadNo, step: &Option<Step>) -> Shown
+        requires { p < length system.now.config.sections }
+        ensures { result ≡ shown_in (is_step_of step.now t) t (state_of system.now p).part }
+    {
+        let doing = if Step::is_of(step, t) {
+            Doing::Running
+        } else {
+            doing_of(system.activity(p, t))
+        };
+        let priority = system.effective_priority(p, t);
+        Shown { doing, priority }
+    }
+}
+
+/// What a thread does that makes no step.
+fn doing_of(activity: Activity) -> Doing
+    ensures { result ≡ doing_of activity }
+{
+    match activity {
+        Activity::Free => Doing::Free,
+        Activity::Running => Doing::Suspended,
+        Activity::Ready => Doing::Ready,
+        Activity::Blocked(wait) => Doing::Blocked(wait),
+        Activity::Ended => Doing::Ended,
+        Activity::Halted => Doing::Halted,
+    }
+}

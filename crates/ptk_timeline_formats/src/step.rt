@@ -1,0 +1,89 @@
+//! The step of a partition that takes up its ticks.
+
+ghost use Rattle.std.specs.Prelude.{◌≡◌, ◌+◌, ◌<◌, ◌≤◌, IfSome, length, nat_lt, None};
+ghost use Rattle.ptk_words.specs.declared.TheConstants.{LAST_TICK};
+ghost use Rattle.ptk_system.specs.World.{state_of};
+ghost use Rattle.ptk_timeline_formats.specs.Shown.{is_step_of};
+
+use ptk_system::{PartStatus, System};
+use ptk_words::{PartId, ThreadNo};
+
+/// A step that takes up its ticks: its thread, and the tick behind its last.
+#[derive(Clone, Copy)]
+pub(crate) struct Step {
+    pub(crate) thread: ThreadNo,
+    pub(crate) until: u64,
+}
+
+impl Step {
+    /// Whether it is a step of the thread.
+    pub(crate) fn is_of(step: &Option<Step>, t: ThreadNo) -> bool
+        ensures { result ≡ is_step_of step.now t }
+    {
+        match step {
+            Some(step) => step.thread.number() == t.number(),
+            None => false,
+        }
+    }
+
+    /// The tick behind it; behind this one where there is no step.
+    pub(crate) fn end_of(step: &Option<Step>, tick: u64, end: u64) -> u64
+        requires step { IfSome step.now (λ step. (tick < step.until) × (step.until ≤ end)) }
+        requires within { tick < end }
+        ensures from { tick < result }
+        ensures to { result ≤ end }
+    {
+        match step {
+            Some(step) => step.until,
+            None => tick + 1,
+        }
+    }
+
+    /// The last step of a partition that has made one since it had made so many, None where it has made none: it goes on
+    /// from this tick up to the next decision, within the window that ends at `end`; a step with which the partition halts
+    /// is shown for a tick.
+    pub(crate) fn since(
+        system: &System<'_>,
+        p: PartId,
+        steps: u64,
+        tick: u64,
+        end: u64,
+    ) -> Option<Step>
+        requires partition { p < length system.now.config.sections }
+        requires within { tick < end }
+        ensures none { (state_of system.now p).account.steps ≤ steps → result ≡ None }
+        ensures from { IfSome result (λ step. tick < step.until) }
+        ensures to { IfSome result (λ step. step.until ≤ end) }
+    {
+        if system.steps(p) <= steps {
+            return None;
+        }
+        let thread = system.last_step(p)?.thread;
+        let until = step_end(system, p, tick, end);
+        Some(Step { thread, until })
+    }
+}
+
+/// The tick behind a step that began at this one or before.
+fn step_end(system: &System<'_>, p: PartId, tick: u64, end: u64) -> u64
+    requires partition { p < length system.now.config.sections }
+    requires within { tick < end }
+    ensures from { tick < result }
+    ensures to { result ≤ end }
+{
+    if is_halted(system.status(p)) {
+        return tick + 1;
+    }
+    match system.next(p) {
+        Some(next) => next.ticks().max(tick + 1).min(end),
+        None => end,
+    }
+}
+
+/// Whether this is the status of a halted partition.
+pub(crate) fn is_halted(status: PartStatus) -> bool {
+    match status {
+        PartStatus::Idle | PartStatus::Running => false,
+        PartStatus::Exited(_) | PartStatus::Stopped(_, _) | PartStatus::Refused(_) => true,
+    }
+}

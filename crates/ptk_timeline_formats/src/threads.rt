@@ -1,0 +1,152 @@
+//! What is shown of a partition's threads.
+
+ghost use Rattle.std.specs.Prelude.{◌≡◌, ◌+◌, ◌<◌, ◌≤◌, IfOk, OnOk, length};
+ghost use Rattle.ptk_words.specs.declared.TheConstants.{LAST_TICK};
+ghost use Rattle.ptk_system.specs.World.{state_of};
+ghost use Rattle.ptk_timeline_formats.specs.Shown.{AreShown, is_step_of, shown_in};
+
+use crate::change::{Change, Kept};
+use crate::fault::PutFault;
+use crate::sheet::Sheet;
+use crate::shown::{Doing, Shown, deadline_of};
+use crate::step::Step;
+use ptk_system::System;
+use ptk_words::{PartId, ThreadNo, Wait};
+use std::alloc::{AllocError, Global};
+use std::io::Write;
+
+/// How many threads a partition has at most.
+const THREADS: usize = 32;
+
+/// What the threads of a partition are shown as, from the system's tick on. An error where memory ran out.
+pub(crate) fn first_threads(
+    alloc: Global,
+    system: &System<'_>,
+    p: PartId,
+    threads: u32,
+) -> Result<Vec<Kept>, AllocError>
+    requires { p < length system.now.config.sections }
+{
+    let since = system.tick().ticks();
+    let mut kept = Vec::new(alloc);
+    for i in 0..threads.min(THREADS as u32) {
+        let t = ThreadNo::new(i as u8 + 1);
+        let shown = Shown::of(system, p, t, &None);
+        kept.push(Kept { shown, since })?;
+    }
+    Ok(kept)
+}
+
+/// Shows what the system tells of the threads of a partition from a tick on, while a step takes up its ticks, and writes
+/// what of it is new.
+pub(crate) fn show_threads<W: Write>(
+    threads: &mut [Kept],
+    system: &System<'_>,
+    p: PartId,
+    step: &Option<Step>,
+    tick: u64,
+    sheet: &mut Sheet<'_>,
+    out: &mut W,
+) -> Result<(), PutFault>
+    requires partition { p < length system.now.config.sections }
+    requires at { sheet.old.at ≤ tick }
+    requires to { tick ≤ sheet.old.to }
+    ensures within { sheet.new.at ≤ tick }
+    ensures to { sheet.new.to ≡ sheet.old.to }
+    ensures shown { OnOk result (AreShown step.now (state_of system.now p).part threads.new) }
+{
+    for i in 0..threads.len().min(THREADS) {
+        let t = ThreadNo::new(i as u8 + 1);
+        threads[i] = show_thread(&threads[i], system, p, t, step, tick, sheet, out)?;
+    }
+    Ok(())
+}
+
+/// What is shown of a thread of which this was shown, and writes it where it is new.
+fn show_thread<W: Write>(
+    kept: &Kept,
+    system: &System<'_>,
+    p: PartId,
+    t: ThreadNo,
+    step: &Option<Step>,
+    tick: u64,
+    sheet: &mut Sheet<'_>,
+    out: &mut W,
+) -> Result<Kept, PutFault>
+    requires partition { p < length system.now.config.sections }
+    requires at { sheet.old.at ≤ tick }
+    requires to { tick ≤ sheet.old.to }
+    ensures within { sheet.new.at ≤ tick }
+    ensures to { sheet.new.to ≡ sheet.old.to }
+    ensures shown { IfOk result (λ kept. kept.shown ≡ shown_in (is_step_of step.now t) t (state_of system.now p).part) }
+{
+    let shown = Shown::of(system, p, t, step);
+    if shown == kept.shown {
+        let since = kept.since;
+        return Ok(Kept { shown, since });
+    }
+    if matches!(kept.shown.doing, Doing::Free) {
+        let start = system.pc(p, t);
+        sheet.put(p, tick, &Change::First(t, &shown, start), out)?;
+    } else {
+        sheet.put(p, tick, &Change::Next(t, kept, &shown), out)?;
+    }
+    if let Some(step) = step {
+        put_woken(
+            &kept.shown.doing,
+            &shown.doing,
+            p,
+            t,
+            step,
+            tick,
+            sheet,
+            out,
+        )?;
+    }
+    Ok(Kept { shown, since: tick })
+}
+
+/// Writes that a step has ended a thread's wait, where the wait has ended and neither came its deadline nor was it for
+/// input, which comes by itself.
+fn put_woken<W: Write>(
+    before: &Doing,
+    after: &Doing,
+    p: PartId,
+    t: ThreadNo,
+    step: &Step,
+    tick: u64,
+    sheet: &mut Sheet<'_>,
+    out: &mut W,
+) -> Result<(), PutFault>
+    requires at { sheet.old.at ≤ tick }
+    requires to { tick ≤ sheet.old.to }
+    ensures within { sheet.new.at ≤ tick }
+    ensures to { sheet.new.to ≡ sheet.old.to }
+{
+    if step.thread.number() == t.number() || !is_woken(before, after, tick) {
+        return Ok(());
+    }
+    sheet.put(p, tick, &Change::Woken(step.thread, t), out)
+}
+
+/// Whether a wait has ended at a tick that does not end by itself there.
+fn is_woken(before: &Doing, after: &Doing, tick: u64) -> bool {
+    match before {
+        Doing::Blocked(Wait::InputWait) => false,
+        Doing::Blocked(wait) => *before != *after && !is_over(wait, tick),
+        Doing::Free
+        | Doing::Running
+        | Doing::Suspended
+        | Doing::Ready
+        | Doing::Ended
+        | Doing::Halted => false,
+    }
+}
+
+/// Whether a wait's deadline has come by a tick.
+fn is_over(wait: &Wait, tick: u64) -> bool {
+    match deadline_of(wait) {
+        Some(deadline) => deadline.ticks() <= tick,
+        None => false,
+    }
+}
