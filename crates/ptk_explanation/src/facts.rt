@@ -1,0 +1,155 @@
+//! What is read of a system for an explanation.
+
+ghost use Rattle.std.specs.Prelude.{◌<◌, ◌≤◌, length};
+
+use crate::history::History;
+use ptk_disasm::push_word_statement;
+use ptk_standing::refused_address;
+use ptk_system::{Activity, System};
+use ptk_words::{
+    Cause, Cpu, Entry, FaultKind, MutexNo, Owner, PartId, Phase, Thread, ThreadNo, Wait,
+};
+use std::alloc::{AllocError, Global};
+
+/// How many numbers of threads a partition has, at most 32.
+pub(crate) fn thread_count(system: &System<'_>, p: PartId) -> usize
+    requires { p < length system.now.config.sections }
+    ensures { result ≤ 32 }
+{
+    system.tables().threads().part(p).len()
+}
+
+/// A mutex that a thread waits for, and who owns it.
+#[derive(Clone, Copy)]
+pub(crate) struct Awaited {
+    pub(crate) mutex: MutexNo,
+    pub(crate) owner: Option<Owner>,
+}
+
+/// A thread: what it does, and what is kept of it.
+#[derive(Clone, Copy)]
+pub(crate) struct ThreadFacts {
+    pub(crate) number: ThreadNo,
+    pub(crate) thread: Thread,
+    pub(crate) activity: Activity,
+    pub(crate) effective: u8,
+    pub(crate) awaited: Option<Awaited>,
+    pub(crate) history: History,
+}
+
+impl ThreadFacts {
+    /// Of the thread of a number, None of a free one.
+    pub(crate) fn of(
+        system: &System<'_>,
+        p: PartId,
+        number: ThreadNo,
+        history: &History,
+    ) -> Option<ThreadFacts>
+        requires { p < length system.now.config.sections }
+    {
+        let thread = system.tables().threads().thread(p, number)?;
+        let effective = system.effective_priority(p, number)?;
+        let activity = system.activity(p, number);
+        let awaited = awaited_in(system, p, &activity);
+        Some(ThreadFacts {
+            number,
+            thread,
+            activity,
+            effective,
+            awaited,
+            history: *history,
+        })
+    }
+
+    /// Its pc, None where it has ended.
+    pub(crate) fn pc(&self) -> Option<u32> {
+        match self.thread.phase {
+            Phase::Ended => None,
+            Phase::Normal | Phase::Unwinding => Some(self.thread.cpu.pc()),
+        }
+    }
+}
+
+/// The mutex that a thread waits for, None where it waits for none.
+pub(crate) fn awaited_in(system: &System<'_>, p: PartId, activity: &Activity) -> Option<Awaited>
+    requires { p < length system.now.config.sections }
+{
+    match activity {
+        Activity::Blocked(Wait::MutexWait(m, _)) | Activity::Blocked(Wait::RelockWait(m, _)) => {
+            Some(Awaited {
+                mutex: *m,
+                owner: system.owner(p, *m),
+            })
+        }
+        _ => None,
+    }
+}
+
+/// What stopped a partition at an instruction.
+#[derive(Drop)]
+pub(crate) struct Stop {
+    /// The cause.
+    pub(crate) cause: Cause,
+    /// The step: its tick, its thread, the pc and the word there.
+    pub(crate) step: Entry,
+    /// The registers of the thread, as the step left them.
+    pub(crate) cpu: Cpu,
+    /// The instruction, None where none was fetched.
+    pub(crate) statement: Option<String>,
+    /// The address for which it was not carried out.
+    pub(crate) address: Option<u32>,
+}
+
+impl Stop {
+    /// What stopped a partition, for this cause. None where no step is kept. An error where memory ran out.
+    pub(crate) fn of(
+        alloc: Global,
+        system: &System<'_>,
+        p: PartId,
+        cause: Cause,
+    ) -> Result<Option<Stop>, AllocError>
+        requires { p < length system.now.config.sections }
+    {
+        let Some(step) = system.last_step(p) else {
+            return Ok(None);
+        };
+        let Some(thread) = system.tables().threads().thread(p, step.thread) else {
+            return Ok(None);
+        };
+        let statement = if is_fetched(cause, step.pc) {
+            Some(statement_of(alloc, step.word)?)
+        } else {
+            None
+        };
+        Ok(Some(Stop {
+            cause,
+            step,
+            cpu: thread.cpu,
+            statement,
+            address: address_of(cause, &thread.cpu, step.word),
+        }))
+    }
+}
+
+/// The address for which the instruction was not carried out, None of a break.
+fn address_of(cause: Cause, cpu: &Cpu, word: u32) -> Option<u32> {
+    match cause {
+        Cause::Break => None,
+        Cause::Fault(kind) => refused_address(kind, cpu, word),
+    }
+}
+
+/// Whether a word was fetched at a pc where this was the cause.
+fn is_fetched(cause: Cause, pc: u32) -> bool {
+    match cause {
+        Cause::Fault(FaultKind::Fetch) => false,
+        Cause::Break | Cause::Fault(_) => pc % 4 == 0,
+    }
+}
+
+/// The statement of a word. An error where memory ran out.
+fn statement_of(alloc: Global, word: u32) -> Result<String, AllocError> {
+    let mut statement = String::new(alloc);
+    push_word_statement(&mut statement, word)?;
+    Ok(statement)
+}

@@ -1,0 +1,157 @@
+//! The words of an explanation.
+
+use crate::facts::Awaited;
+use ptk_system::{Activity, PartStatus};
+use ptk_words::{Cause, FaultKind, LAST_TICK, Owner, Policy, Tick, Wait};
+use std::fmt;
+
+/// Who owns a mutex, None of a number that is no mutex.
+#[derive(Clone, Copy)]
+pub(crate) struct OwnedBy(pub(crate) Option<Owner>);
+
+impl fmt::Display for OwnedBy {
+    fn fmt<W: fmt::Write>(&self, f: &mut fmt::Formatter<W>) -> fmt::Result {
+        match &self.0 {
+            Some(Owner::OwnedBy(t)) => {
+                let number = t.number();
+                write!(f, ", which thread {number} owns")
+            }
+            Some(Owner::Abandoned) => {
+                f.write_str(", which nobody owns, since its owner ended with it locked")
+            }
+            Some(Owner::Free) | None => f.write_str(", which nobody owns"),
+        }
+    }
+}
+
+/// The deadline of a wait, None where it has none. No run reaches one above 2^40.
+#[derive(Clone, Copy)]
+pub(crate) struct Until(pub(crate) Option<Tick>);
+
+impl fmt::Display for Until {
+    fn fmt<W: fmt::Write>(&self, f: &mut fmt::Formatter<W>) -> fmt::Result {
+        match self.0 {
+            Some(deadline) => {
+                let tick = deadline.ticks();
+                if tick > LAST_TICK {
+                    f.write_str(", until a deadline that never comes")
+                } else {
+                    write!(f, ", until tick {tick}")
+                }
+            }
+            None => Ok(()),
+        }
+    }
+}
+
+/// What a thread does, and the mutex that it waits for.
+#[derive(Clone, Copy)]
+pub(crate) struct Doing {
+    pub(crate) activity: Activity,
+    pub(crate) awaited: Option<Awaited>,
+}
+
+impl Doing {
+    /// Who owns the mutex that the thread waits for.
+    fn owner(&self) -> OwnedBy {
+        match &self.awaited {
+            Some(awaited) => OwnedBy(awaited.owner),
+            None => OwnedBy(None),
+        }
+    }
+}
+
+impl fmt::Display for Doing {
+    fn fmt<W: fmt::Write>(&self, f: &mut fmt::Formatter<W>) -> fmt::Result {
+        match &self.activity {
+            Activity::Free => f.write_str("free"),
+            Activity::Running => f.write_str("running"),
+            Activity::Ready => f.write_str("ready"),
+            Activity::Blocked(wait) => fmt_wait(wait, self.owner(), f),
+            Activity::Ended => f.write_str("ended, not joined"),
+            Activity::Halted => f.write_str("halted"),
+        }
+    }
+}
+
+/// Writes what a thread waits for.
+fn fmt_wait<W: fmt::Write>(wait: &Wait, owner: OwnedBy, f: &mut fmt::Formatter<W>) -> fmt::Result {
+    match wait {
+        Wait::InputWait => f.write_str("waits for input"),
+        Wait::SleepWait(deadline) => {
+            let until = Until(Some(*deadline));
+            write!(f, "sleeps{until}")
+        }
+        Wait::JoinWait(u) => {
+            let number = u.number();
+            write!(f, "waits for the end of thread {number}")
+        }
+        Wait::MutexWait(m, deadline) => {
+            let (mutex, until) = (m.number(), Until(*deadline));
+            write!(f, "waits for mutex {mutex}{owner}{until}")
+        }
+        Wait::ConditionWait(c, m, deadline) => {
+            let (condition, mutex, until) = (c.number(), m.number(), Until(*deadline));
+            write!(
+                f,
+                "waits on condition variable {condition}, to have mutex {mutex} again{until}"
+            )
+        }
+        Wait::RelockWait(m, _) => {
+            let mutex = m.number();
+            write!(f, "waits to have mutex {mutex} again{owner}")
+        }
+    }
+}
+
+/// The name of a policy (XSH 2.8.4).
+pub(crate) fn policy_name(policy: Policy) -> &'static str {
+    match policy {
+        Policy::Fifo => "SCHED_FIFO",
+        Policy::RoundRobin => "SCHED_RR",
+    }
+}
+
+/// The word of a cause, as the report spells it.
+pub(crate) fn cause_word(cause: Cause) -> &'static str {
+    match cause {
+        Cause::Break => "break",
+        Cause::Fault(FaultKind::Illegal) => "illegal",
+        Cause::Fault(FaultKind::Fetch) => "fetch",
+        Cause::Fault(FaultKind::Load) => "load",
+        Cause::Fault(FaultKind::Store) => "store",
+        Cause::Fault(FaultKind::Misaligned) => "misaligned",
+    }
+}
+
+/// Why an address was refused.
+pub(crate) fn refusal_words(cause: Cause) -> &'static str {
+    match cause {
+        Cause::Fault(FaultKind::Misaligned) => "misaligned",
+        Cause::Break | Cause::Fault(_) => "at or past the end of memory",
+    }
+}
+
+/// The status of a partition, None where it has no image.
+#[derive(Clone, Copy)]
+pub(crate) struct Headline(pub(crate) Option<PartStatus>);
+
+impl fmt::Display for Headline {
+    fn fmt<W: fmt::Write>(&self, f: &mut fmt::Formatter<W>) -> fmt::Result {
+        match self.0 {
+            None => f.write_str("no image"),
+            Some(PartStatus::Idle) => f.write_str("idle, no thread is running or ready"),
+            Some(PartStatus::Running) => f.write_str("running"),
+            Some(PartStatus::Exited(code)) => write!(f, "exited with {code}"),
+            Some(PartStatus::Stopped(Cause::Break, _)) => f.write_str("stopped by an ebreak"),
+            Some(PartStatus::Stopped(cause, _)) => {
+                let kind = cause_word(cause);
+                write!(f, "stopped by the fault {kind}")
+            }
+            Some(PartStatus::Refused(fault)) => {
+                let number = fault.number();
+                write!(f, "image refused, fault {number}: {fault}")
+            }
+        }
+    }
+}

@@ -1,0 +1,3 @@
+pub mod Deadlocks
+pub mod Refusals
+pub mod Standing

@@ -1,0 +1,36 @@
+-- The address for which an instruction is not carried out.
+use Rattle.std.specs.Prelude.{ℕ, ◌+◌, ◌-◌, ◌%◌, ◌==◌, if◌then◌else◌, Option, Some, None}
+use Rattle.ptk_words.specs.Words.{sign_extension, word_of}
+use Rattle.ptk_words.specs.Names.{Pointer, Word}
+use Rattle.ptk_words.specs.Processor.{Processor, register}
+use Rattle.ptk_words.specs.declared.faults.FaultKind.{FaultKind}
+use Rattle.ptk_words.specs.declared.faults.FaultKind.TheVariants.{Illegal, Fetch, Load, Store, Misaligned}
+use Rattle.ptk_rv32i_code.specs.declared.instr.Instr.{Instr}
+use Rattle.ptk_rv32i_code.specs.declared.instr.Instr.TheVariants as instr
+use Rattle.ptk_rv32i_code.specs.Coding.{decoded}
+
+-- rs1 + immediate (RISC-V 2.5, 2.6)
+abbrev pub sum_of : Processor → ℕ → ℕ → Pointer
+sum_of cpu rs1 offset = word_of (register cpu rs1 + sign_extension 12 offset)
+
+-- the address that an instruction loads from, stores to or goes to (RISC-V 2.5, 2.6)
+abbrev pub address_of : Processor → Instr → Option Pointer
+address_of cpu (instr.Load kind rd rs1 offset) = Some (sum_of cpu rs1 offset)
+address_of cpu (instr.Store kind rs1 rs2 offset) = Some (sum_of cpu rs1 offset)
+address_of cpu (instr.Jalr rd rs1 offset) = Some (sum_of cpu rs1 offset - sum_of cpu rs1 offset % 2)
+address_of cpu (instr.Jal rd offset) = Some (word_of (cpu.pc + sign_extension 21 offset))
+address_of cpu (instr.Branch test rs1 rs2 offset) = Some (word_of (cpu.pc + sign_extension 13 offset))
+address_of cpu _ = None
+
+-- the same of a word's instruction, if it has one
+abbrev pub address_in : Processor → Option Instr → Option Pointer
+address_in cpu None = None
+address_in cpu (Some i) = address_of cpu i
+
+-- the address for which an instruction is not carried out: of a load or a store its own, of one that is not fetched the pc, of a jump the target (RISC-V 1.5, 2.5, 2.6)
+abbrev pub refused_address : FaultKind → Processor → Word → Option Pointer
+refused_address Illegal cpu word = None
+refused_address Fetch cpu word = Some cpu.pc
+refused_address Load cpu word = address_in cpu (decoded word)
+refused_address Store cpu word = address_in cpu (decoded word)
+refused_address Misaligned cpu word = if cpu.pc % 4 == 0 then address_in cpu (decoded word) else Some cpu.pc
