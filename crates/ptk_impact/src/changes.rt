@@ -12,7 +12,7 @@ use crate::subject::Subject;
 use ptk_impact_windows::{Difference, first_difference};
 
 /// What differs between what boot sees of the old partition and of the new one.
-#[derive(Clone, Copy, Debug, PartialEq, Eq)]
+#[derive(Clone, Copy)]
 pub struct Changes {
     /// The least tick at which the windows differ, with both ends there. None where the own ticks and the ends of the
     /// windows are the same at all ticks.

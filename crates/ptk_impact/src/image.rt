@@ -4,13 +4,14 @@ ghost use Rattle.std.specs.Prelude.{◌≡◌, MatchOption, option_map};
 ghost use Rattle.ptk_impact.specs.Changes.{IsFirstOther, IsImageChange};
 
 /// How the bytes of the images differ.
-#[derive(Clone, Copy, Debug, PartialEq, Eq)]
+#[derive(Clone, Copy)]
 pub enum ImageChange {
     /// The new partition has an image, and the old one has none.
     Added,
     /// The old partition has an image, and the new one has none.
     Removed,
-    /// Both have one, and this is the first offset at which their bytes differ: the length of one that is the beginning of the other.
+    /// Both have one, and this is the first offset at which their bytes differ: the length of one that is the beginning of
+    /// the other.
     Bytes(usize),
 }
 

@@ -14,7 +14,7 @@ use crate::subject::Subject;
 use ptk_words::Limits;
 
 /// What a new configuration can change for a partition.
-#[derive(Clone, Copy, Debug, PartialEq, Eq)]
+#[derive(Clone, Copy)]
 pub enum Impact {
     /// Nothing: it is in the same state at every tick.
     Unchanged,

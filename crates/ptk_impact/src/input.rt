@@ -6,7 +6,7 @@ ghost use Rattle.ptk_impact.specs.Changes.{IsFirstOther, IsInputChange};
 use ptk_words::Arrival;
 
 /// The first place in the input at which the arrivals differ, with both, None past the last.
-#[derive(Clone, Copy, Debug, PartialEq, Eq)]
+#[derive(Clone, Copy)]
 pub struct InputChange {
     /// The place, from 0.
     pub place: usize,

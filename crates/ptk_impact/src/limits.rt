@@ -6,7 +6,7 @@ ghost use Rattle.ptk_impact.specs.Changes.{AreLimitChanges, IsNumberChange};
 use ptk_words::Limits;
 
 /// A limit that differs.
-#[derive(Clone, Copy, Debug, PartialEq, Eq)]
+#[derive(Clone, Copy)]
 pub struct LimitChange {
     /// The old number.
     pub old: u32,
@@ -28,7 +28,7 @@ impl LimitChange {
 }
 
 /// Of each limit the two numbers, None where they are the same.
-#[derive(Clone, Copy, Debug, PartialEq, Eq)]
+#[derive(Clone, Copy)]
 pub struct LimitChanges {
     /// Bytes of memory.
     pub memory: Option<LimitChange>,

@@ -228,10 +228,14 @@ impl<'a, 'f> Releases<'a, 'f> {
         let old = self.old.subject(places.old);
         let new = self.new.subject(places.new);
         let impact = Impact::between(&old, &new);
+        let limits = Pair {
+            old: old.section().limits(),
+            new: new.section().limits(),
+        };
         let refusals = match impact {
             Impact::Changed(_) => Pair {
-                old: refusal_of(alloc, old.section().limits(), old.image())?,
-                new: refusal_of(alloc, new.section().limits(), new.image())?,
+                old: refusal_of(alloc, limits.old, old.image())?,
+                new: refusal_of(alloc, limits.new, new.image())?,
             },
             _ => Pair {
                 old: None,
@@ -244,6 +248,7 @@ impl<'a, 'f> Releases<'a, 'f> {
             old_file: file_of(old.section()),
             new_file: file_of(new.section()),
             places,
+            limits,
             impact,
             refusals,
         };

@@ -2,11 +2,10 @@
 
 use ptk_config::Section;
 use ptk_impact::Impact;
-use ptk_words::ImageFault;
-use serde::Serialize;
+use ptk_words::{ImageFault, Limits};
 
 /// Two things of a partition, the old one and the new one.
-#[derive(Clone, Copy, Serialize)]
+#[derive(Clone, Copy)]
 pub(crate) struct Pair<T> {
     pub(crate) old: T,
     pub(crate) new: T,
@@ -25,6 +24,8 @@ pub(crate) struct Comparison<'a> {
     pub(crate) new_file: &'a str,
     /// The places among the sections.
     pub(crate) places: Pair<usize>,
+    /// The limits.
+    pub(crate) limits: Pair<Limits>,
     /// What the new configuration can change.
     pub(crate) impact: Impact,
     /// Why boot refuses the images, None where it does not or the partition is not changed.
@@ -40,6 +41,19 @@ impl<'a> Comparison<'a> {
     /// Whether both images have a file, and these have other names.
     pub(crate) fn has_other_file(&self) -> bool {
         !self.old_file.is_empty() && !self.new_file.is_empty() && self.old_file != self.new_file
+    }
+
+    /// The names of the files of the images, empty where there is none.
+    pub(crate) fn files(&self) -> Pair<&'a str> {
+        Pair {
+            old: self.old_file,
+            new: self.new_file,
+        }
+    }
+
+    /// Whether a limit differs.
+    pub(crate) fn has_other_limits(&self) -> bool {
+        self.limits.old != self.limits.new
     }
 
     /// Whether the places differ.

@@ -1,104 +1,25 @@
-//! The JSON objects of partitions.
+//! The JSON objects of partitions, each written member by member.
 
 ghost use Rattle.std.specs.Prelude.{◌≡◌, IfOk, string_bytes};
 ghost use Rattle.json.specs.Lex.{tokens};
 ghost use Rattle.json.specs.Print.{print};
 
 use crate::comparison::{Comparison, Pair, impact_words};
-use ptk_impact::{Difference, ImageChange, Impact, InputChange, LimitChange, LimitChanges};
+use ptk_impact::{
+    Changes, Difference, ImageChange, Impact, InputChange, LimitChange, LimitChanges,
+};
 use ptk_words::{Arrival, ImageFault, Tick};
-use serde::Serialize;
+use serde::{Described, Serialize, Serializer};
 use serde_json::Error;
 use std::alloc::Global;
 
-/// What stands between two configurations for a partition. What does not differ is left out.
-#[derive(Clone, Copy, Serialize)]
-struct Partition<'a> {
+/// A partition that one configuration has.
+#[derive(Clone, Copy)]
+struct Alone<'a> {
+    /// Its name.
     name: &'a str,
+    /// The word of the answer.
     answer: &'static str,
-    #[serde(skip_serializing_if = "Option::is_none")]
-    old_name: Option<&'a str>,
-    #[serde(skip_serializing_if = "Option::is_none")]
-    place: Option<Pair<usize>>,
-    #[serde(skip_serializing_if = "Option::is_none")]
-    file: Option<Pair<&'a str>>,
-    #[serde(skip_serializing_if = "Option::is_none")]
-    differences: Option<Differences>,
-}
-
-/// What differs and plays a part in a run.
-#[derive(Clone, Copy, Serialize)]
-struct Differences {
-    #[serde(skip_serializing_if = "Option::is_none")]
-    windows: Option<Windows>,
-    #[serde(skip_serializing_if = "Limits::is_empty")]
-    limits: Limits,
-    #[serde(skip_serializing_if = "Option::is_none")]
-    image: Option<Image>,
-    #[serde(skip_serializing_if = "Option::is_none")]
-    input: Option<Input>,
-}
-
-/// The first tick at which the windows differ, and the end of the window that holds it, null where the tick is not its own.
-#[derive(Clone, Copy, Serialize)]
-struct Windows {
-    tick: u64,
-    old_end: Option<u64>,
-    new_end: Option<u64>,
-}
-
-/// The limits that differ, each by its key in the configuration.
-#[derive(Clone, Copy, Serialize)]
-struct Limits {
-    #[serde(skip_serializing_if = "Option::is_none")]
-    memory: Option<Pair<u32>>,
-    #[serde(skip_serializing_if = "Option::is_none")]
-    threads: Option<Pair<u32>>,
-    #[serde(skip_serializing_if = "Option::is_none")]
-    stack: Option<Pair<u32>>,
-    #[serde(skip_serializing_if = "Option::is_none")]
-    mutexes: Option<Pair<u32>>,
-    #[serde(skip_serializing_if = "Option::is_none")]
-    conds: Option<Pair<u32>>,
-    #[serde(skip_serializing_if = "Option::is_none")]
-    keys: Option<Pair<u32>>,
-    #[serde(skip_serializing_if = "Option::is_none")]
-    interval: Option<Pair<u32>>,
-    #[serde(skip_serializing_if = "Option::is_none")]
-    ring: Option<Pair<u32>>,
-    #[serde(skip_serializing_if = "Option::is_none")]
-    output: Option<Pair<u32>>,
-    #[serde(skip_serializing_if = "Option::is_none")]
-    trace: Option<Pair<u32>>,
-}
-
-/// How the images differ: whether there is one, the first offset at which the bytes differ, and the numbers of the faults
-/// for which boot refuses them, null where it does not.
-#[derive(Clone, Copy, Serialize)]
-struct Image {
-    #[serde(skip_serializing_if = "Option::is_none")]
-    old: Option<&'static str>,
-    #[serde(skip_serializing_if = "Option::is_none")]
-    new: Option<&'static str>,
-    #[serde(skip_serializing_if = "Option::is_none")]
-    offset: Option<usize>,
-    #[serde(skip_serializing_if = "Option::is_none")]
-    fault: Option<Pair<Option<u8>>>,
-}
-
-/// The first place in the input at which the arrivals differ, with both, null past the last.
-#[derive(Clone, Copy, Serialize)]
-struct Input {
-    index: usize,
-    old: Option<Coming>,
-    new: Option<Coming>,
-}
-
-/// An arrival.
-#[derive(Clone, Copy, Serialize)]
-struct Coming {
-    tick: u64,
-    byte: u8,
 }
 
 /// The JSON text of a partition that both configurations have: an object in the compact form of its tokens, with no
@@ -106,19 +27,7 @@ struct Coming {
 pub(crate) fn json_of(alloc: Global, comparison: &Comparison<'_>) -> Result<String, Error>
     ensures { IfOk result (λ text. string_bytes text ≡ print (tokens (string_bytes text))) }
 {
-    let files = Pair {
-        old: comparison.old_file,
-        new: comparison.new_file,
-    };
-    let partition = Partition {
-        name: comparison.new_name,
-        answer: impact_words(&comparison.impact),
-        old_name: comparison.has_other_name().then_some(comparison.old_name),
-        place: comparison.has_other_place().then_some(comparison.places),
-        file: comparison.has_other_file().then_some(files),
-        differences: differences_of(comparison),
-    };
-    serde_json::to_string(alloc, &partition)
+    serde_json::to_string(alloc, comparison)
 }
 
 /// The JSON text of a partition that one configuration has, with the word of its answer, in the same form. An error where
@@ -130,127 +39,201 @@ pub(crate) fn json_of_alone(
 ) -> Result<String, Error>
     ensures { IfOk result (λ text. string_bytes text ≡ print (tokens (string_bytes text))) }
 {
-    let partition = Partition {
-        name,
-        answer,
-        old_name: None,
-        place: None,
-        file: None,
-        differences: None,
-    };
-    serde_json::to_string(alloc, &partition)
+    let alone = Alone { name, answer };
+    serde_json::to_string(alloc, &alone)
 }
 
-/// What differs, None where nothing does.
-fn differences_of(comparison: &Comparison<'_>) -> Option<Differences> {
+impl Described for Alone<'_> {}
+
+impl Serialize for Alone<'_> {
+    fn serialize<S: Serializer>(&self, out: &mut S) -> Result<(), S::Error> {
+        out.begin_map(None)?;
+        put_answer(self.name, self.answer, out)?;
+        out.end_map()
+    }
+}
+
+impl Described for Comparison<'_> {}
+
+/// What does not differ is left out.
+impl Serialize for Comparison<'_> {
+    fn serialize<S: Serializer>(&self, out: &mut S) -> Result<(), S::Error> {
+        out.begin_map(None)?;
+        put_answer(self.new_name, impact_words(&self.impact), out)?;
+        put_notes(self, out)?;
+        put_differences(self, out)?;
+        out.end_map()
+    }
+}
+
+/// Puts the name and the word of the answer.
+fn put_answer<S: Serializer>(name: &str, answer: &str, out: &mut S) -> Result<(), S::Error> {
+    out.key("name")?;
+    out.str(name)?;
+    out.key("answer")?;
+    out.str(answer)
+}
+
+/// Puts what differs and plays no part in a run: the name, the place among the sections, the name of the image's file.
+fn put_notes<S: Serializer>(comparison: &Comparison<'_>, out: &mut S) -> Result<(), S::Error> {
+    if comparison.has_other_name() {
+        out.key("old_name")?;
+        out.str(comparison.old_name)?;
+    }
+    if comparison.has_other_place() {
+        put_pair("place", &comparison.places, out)?;
+    }
+    if comparison.has_other_file() {
+        put_pair("file", &comparison.files(), out)?;
+    }
+    Ok(())
+}
+
+/// Puts two values under a key, as an object.
+fn put_pair<T: Serialize, S: Serializer>(
+    key: &str,
+    pair: &Pair<T>,
+    out: &mut S,
+) -> Result<(), S::Error> {
+    out.key(key)?;
+    out.begin_map(None)?;
+    out.key("old")?;
+    pair.old.serialize(out)?;
+    out.key("new")?;
+    pair.new.serialize(out)?;
+    out.end_map()
+}
+
+/// Puts what differs and plays a part in a run, nothing where nothing does.
+fn put_differences<S: Serializer>(
+    comparison: &Comparison<'_>,
+    out: &mut S,
+) -> Result<(), S::Error> {
     match &comparison.impact {
-        Impact::Unchanged => None,
-        Impact::UnchangedButForTrace(trace) => Some(Differences {
-            windows: None,
-            limits: Limits::of_trace(*trace),
-            image: None,
-            input: None,
-        }),
-        Impact::Changed(changes) => Some(Differences {
-            windows: Windows::of(changes.windows),
-            limits: Limits::of(&changes.limits),
-            image: Image::of(changes.image, comparison),
-            input: Input::of(changes.input),
-        }),
+        Impact::Unchanged => Ok(()),
+        Impact::UnchangedButForTrace(trace) => put_trace(*trace, out),
+        Impact::Changed(changes) => put_changes(changes, comparison, out),
     }
 }
 
-impl Windows {
-    /// Where the windows first differ, None where they do not.
-    fn of(windows: Option<Difference>) -> Option<Windows> {
-        let Some(difference) = windows else {
-            return None;
-        };
-        Some(Windows {
-            tick: difference.tick.ticks(),
-            old_end: difference.end.map(Tick::ticks),
-            new_end: difference.other_end.map(Tick::ticks),
-        })
+/// Puts that the trace's length alone differs.
+fn put_trace<S: Serializer>(trace: LimitChange, out: &mut S) -> Result<(), S::Error> {
+    out.key("differences")?;
+    out.begin_map(None)?;
+    out.key("limits")?;
+    out.begin_map(None)?;
+    put_limit("trace", Some(trace), out)?;
+    out.end_map()?;
+    out.end_map()
+}
+
+/// Puts what differs of a changed partition.
+fn put_changes<S: Serializer>(
+    changes: &Changes,
+    comparison: &Comparison<'_>,
+    out: &mut S,
+) -> Result<(), S::Error> {
+    out.key("differences")?;
+    out.begin_map(None)?;
+    put_windows(changes.windows, out)?;
+    if comparison.has_other_limits() {
+        put_limits(&changes.limits, out)?;
+    }
+    if changes.image.is_some() || comparison.is_refused() {
+        put_image(changes.image, comparison, out)?;
+    }
+    put_input(changes.input, out)?;
+    out.end_map()
+}
+
+/// Puts the first tick at which the windows differ, and the end of the window that holds it, null where the tick is not its
+/// own.
+fn put_windows<S: Serializer>(windows: Option<Difference>, out: &mut S) -> Result<(), S::Error> {
+    let Some(difference) = windows else {
+        return Ok(());
+    };
+    out.key("windows")?;
+    out.begin_map(None)?;
+    out.key("tick")?;
+    out.u64(difference.tick.ticks())?;
+    put_end("old_end", difference.end, out)?;
+    put_end("new_end", difference.other_end, out)?;
+    out.end_map()
+}
+
+/// Puts the end of a window under a key.
+fn put_end<S: Serializer>(key: &str, end: Option<Tick>, out: &mut S) -> Result<(), S::Error> {
+    out.key(key)?;
+    end.map(Tick::ticks).serialize(out)
+}
+
+/// Puts the limits that differ, each by its key in the configuration.
+fn put_limits<S: Serializer>(limits: &LimitChanges, out: &mut S) -> Result<(), S::Error> {
+    out.key("limits")?;
+    out.begin_map(None)?;
+    put_limit("memory", limits.memory, out)?;
+    put_limit("threads", limits.threads, out)?;
+    put_limit("stack", limits.stack, out)?;
+    put_limit("mutexes", limits.mutexes, out)?;
+    put_limit("conds", limits.conditions, out)?;
+    put_limit("keys", limits.keys, out)?;
+    put_limit("interval", limits.interval, out)?;
+    put_limit("ring", limits.ring, out)?;
+    put_limit("output", limits.output, out)?;
+    put_limit("trace", limits.trace, out)?;
+    out.end_map()
+}
+
+/// Puts a limit that differs, by its key.
+fn put_limit<S: Serializer>(
+    key: &str,
+    limit: Option<LimitChange>,
+    out: &mut S,
+) -> Result<(), S::Error> {
+    match limit {
+        Some(LimitChange { old, new }) => put_pair(key, &Pair { old, new }, out),
+        None => Ok(()),
     }
 }
 
-impl Limits {
-    /// The limits that differ.
-    fn of(changes: &LimitChanges) -> Limits {
-        Limits {
-            memory: changes.memory.map(pair_of),
-            threads: changes.threads.map(pair_of),
-            stack: changes.stack.map(pair_of),
-            mutexes: changes.mutexes.map(pair_of),
-            conds: changes.conditions.map(pair_of),
-            keys: changes.keys.map(pair_of),
-            interval: changes.interval.map(pair_of),
-            ring: changes.ring.map(pair_of),
-            output: changes.output.map(pair_of),
-            trace: changes.trace.map(pair_of),
+/// Puts how the images differ: whether there is one, the first offset at which the bytes differ, and the numbers of the
+/// faults for which boot refuses them, null where it does not.
+fn put_image<S: Serializer>(
+    image: Option<ImageChange>,
+    comparison: &Comparison<'_>,
+    out: &mut S,
+) -> Result<(), S::Error> {
+    out.key("image")?;
+    out.begin_map(None)?;
+    put_image_change(image, out)?;
+    if comparison.is_refused() {
+        put_pair("fault", &fault_numbers(comparison.refusals), out)?;
+    }
+    out.end_map()
+}
+
+/// Puts how the bytes of the images differ.
+fn put_image_change<S: Serializer>(
+    image: Option<ImageChange>,
+    out: &mut S,
+) -> Result<(), S::Error> {
+    match image {
+        Some(ImageChange::Added) => put_presence("none", "one", out),
+        Some(ImageChange::Removed) => put_presence("one", "none", out),
+        Some(ImageChange::Bytes(offset)) => {
+            out.key("offset")?;
+            offset.serialize(out)
         }
-    }
-
-    /// The trace's length alone.
-    fn of_trace(trace: LimitChange) -> Limits {
-        Limits {
-            memory: None,
-            threads: None,
-            stack: None,
-            mutexes: None,
-            conds: None,
-            keys: None,
-            interval: None,
-            ring: None,
-            output: None,
-            trace: Some(pair_of(trace)),
-        }
-    }
-
-    /// Whether none differs.
-    fn is_empty(&self) -> bool {
-        self.memory.is_none()
-            && self.threads.is_none()
-            && self.stack.is_none()
-            && self.mutexes.is_none()
-            && self.conds.is_none()
-            && self.keys.is_none()
-            && self.interval.is_none()
-            && self.ring.is_none()
-            && self.output.is_none()
-            && self.trace.is_none()
+        None => Ok(()),
     }
 }
 
-/// The two numbers of a limit.
-fn pair_of(change: LimitChange) -> Pair<u32> {
-    Pair {
-        old: change.old,
-        new: change.new,
-    }
-}
-
-impl Image {
-    /// How the images differ, None where they do not.
-    fn of(change: Option<ImageChange>, comparison: &Comparison<'_>) -> Option<Image> {
-        if change.is_none() && !comparison.is_refused() {
-            return None;
-        }
-        let (old, new, offset) = match change {
-            Some(ImageChange::Added) => (Some("none"), Some("one"), None),
-            Some(ImageChange::Removed) => (Some("one"), Some("none"), None),
-            Some(ImageChange::Bytes(offset)) => (None, None, Some(offset)),
-            None => (None, None, None),
-        };
-        Some(Image {
-            old,
-            new,
-            offset,
-            fault: comparison
-                .is_refused()
-                .then_some(fault_numbers(comparison.refusals)),
-        })
-    }
+/// Puts the words for whether there is an image.
+fn put_presence<S: Serializer>(old: &str, new: &str, out: &mut S) -> Result<(), S::Error> {
+    out.key("old")?;
+    out.str(old)?;
+    out.key("new")?;
+    out.str(new)
 }
 
 /// The numbers of the faults.
@@ -261,26 +244,34 @@ fn fault_numbers(refused: Pair<Option<ImageFault>>) -> Pair<Option<u8>> {
     }
 }
 
-impl Input {
-    /// Where the arrivals first differ, None where they do not.
-    fn of(input: Option<InputChange>) -> Option<Input> {
-        let Some(change) = input else {
-            return None;
-        };
-        Some(Input {
-            index: change.place,
-            old: change.old.map(Coming::of),
-            new: change.new.map(Coming::of),
-        })
-    }
+/// Puts the first place in the input at which the arrivals differ, with both, null past the last.
+fn put_input<S: Serializer>(input: Option<InputChange>, out: &mut S) -> Result<(), S::Error> {
+    let Some(change) = input else {
+        return Ok(());
+    };
+    out.key("input")?;
+    out.begin_map(None)?;
+    out.key("index")?;
+    change.place.serialize(out)?;
+    put_arrival("old", change.old, out)?;
+    put_arrival("new", change.new, out)?;
+    out.end_map()
 }
 
-impl Coming {
-    /// An arrival.
-    fn of(arrival: Arrival) -> Coming {
-        Coming {
-            tick: arrival.tick.ticks(),
-            byte: arrival.byte,
-        }
-    }
+/// Puts an arrival under a key.
+fn put_arrival<S: Serializer>(
+    key: &str,
+    arrival: Option<Arrival>,
+    out: &mut S,
+) -> Result<(), S::Error> {
+    out.key(key)?;
+    let Some(arrival) = arrival else {
+        return out.unit();
+    };
+    out.begin_map(None)?;
+    out.key("tick")?;
+    out.u64(arrival.tick.ticks())?;
+    out.key("byte")?;
+    arrival.byte.serialize(out)?;
+    out.end_map()
 }

@@ -2,16 +2,13 @@
 
 use std::alloc::AllocError;
 use std::io;
-use thiserror::Error;
 
 /// Why the lines were not all written.
-#[derive(Clone, Copy, Debug, PartialEq, Eq, Error)]
+#[derive(Clone, Copy)]
 pub(crate) enum PutFault {
     /// Memory was refused.
-    #[error("out of memory")]
     Memory,
     /// The writer failed.
-    #[error("write failed")]
     Write,
 }
 

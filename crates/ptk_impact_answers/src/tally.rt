@@ -7,7 +7,7 @@ use ptk_impact::Impact;
 use std::fmt;
 
 /// How many partitions have which impact.
-#[derive(Clone, Copy, Debug, PartialEq, Eq)]
+#[derive(Clone, Copy)]
 pub struct Tally {
     /// Those that are unchanged.
     pub unchanged: usize,

@@ -10,7 +10,7 @@ use ptk_window::Turn;
 use ptk_words::Tick;
 
 /// What the next turns of two partitions from a tick on say of their ticks from there on.
-#[derive(Clone, Copy, Debug)]
+#[derive(Clone, Copy)]
 pub(crate) enum Comparison {
     /// They agree at all of them.
     Agree,

@@ -3,7 +3,7 @@
 use ptk_words::Tick;
 
 /// A tick at which two partitions' windows differ, with the ends of the windows that hold it.
-#[derive(Clone, Copy, Debug, PartialEq, Eq)]
+#[derive(Clone, Copy)]
 pub struct Difference {
     /// The tick.
     pub tick: Tick,

@@ -1,5 +1,6 @@
-use Rattle.std.proofs.Common.{◌≡◌, ℕ, ◌*◌, get_or, inl, inr, subst, arith}
+use Rattle.std.proofs.Common.{◌≡◌, ℕ, ◌*◌, get_or, inl, inr, subst, rules, arith}
 use Rattle.std.proofs.lemmas.Bool.{cases_lt}
+use Rattle.std.proofs.lemmas.Grind.{common_steps}
 use Rattle.ptk_impact_windows.specs.Agreement.{IsDifference}
 use Rattle.ptk_impact_windows.proofs.Joined.{chosen_is, found_before, found_is}
 use Rattle.ptk_impact_windows.proofs.search.difference_near_stages.Goals as goal
@@ -25,3 +26,6 @@ loop-stage-preserved c =
                 found_before a p b q begin found c.difference_from-found.ensures k (omega (arith, at, from)) (omega (arith, at, close)) befores.1
           ];
     }
+
+pub returns-clause-agree : goal.returns-clause-agree
+returns-clause-agree c = first_of (search rules, grind (arith, common_steps))
