@@ -1,1 +1,1 @@
-pub mod InTime
+pub mod InRange

@@ -1,18 +1,27 @@
 //! The program `ptk`: it reads the words of its command line, does what they ask for, and ends with the status of the
 //! outcome. Below stand the command line (`ptk_main_line`), the lines of faults (`ptk_main_faults`), the answers to
-//! requests over files already read (`ptk_main_answers`, whose `answer_with` promises what is written and which fault
-//! comes, and whose `explain_with` writes what a configuration comes to), the configuration (`ptk_config`), the
-//! assembler (`ptk_asm`) and the way back (`ptk_disasm`); nothing stands above. Proved here is that each request goes to no tick after the last, and
-//! that an outcome has its status. What no contract can say of real files and streams is tested in `commands/tests.rt`:
-//! the status of each request and of words that are refused, the fault behind a status that several share, and the
-//! files that `asm` writes. Which stream a text goes to no test sees; the gate compares the standard output of the
-//! stored run. No clause is dear to prove.
+//! requests over files already read (`ptk_main_answers`, whose `run_answer`, `trace_answer` and `check_with` promise what
+//! is written and which fault comes, and whose `explain_with` writes what a configuration comes to), the configuration
+//! (`ptk_config`), the assembler (`ptk_asm`), the way back (`ptk_disasm`) and tables of symbols (`ptk_symbols`); nothing stands
+//! above. Proved here is that the numbers of each request are within their ranges, that an outcome has its status, and what
+//! `--last` changes of a configuration. What no contract can say of real files
+//! and streams is tested in `commands/tests.rt`: the status of each request and of words that are refused, the fault behind
+//! a status that several share, and the files that `asm` writes. Which stream a text goes to no test sees; the gate
+//! compares the standard output of the stored run. No clause is costly to prove.
 #![tactic(auto)]
 
+mod assembling;
+mod checking;
 mod commands;
+mod comparing;
 mod disassembling;
+mod explaining;
+mod progress;
 mod reading;
+mod running;
+mod standing;
 mod telling;
+mod tracing;
 
 use commands::obey;
 pub use ptk_main_answers::{RunFault, run_with, trace_with};
@@ -65,7 +74,7 @@ fn borrowed<'a>(rt: &HostRuntime, owned: &'a [String]) -> Result<Vec<&'a str>, A
     Ok(words)
 }
 
-#[tactic(auto, using(crate::proofs::InTime::asks_in_time))]
+#[tactic(auto, using(crate::proofs::InRange::asks_in_range))]
 fn answer_words(rt: &HostRuntime, words: &[&str]) -> u8 {
     match read_line(rt.alloc(), words) {
         Ok(request) => obey(rt, request),

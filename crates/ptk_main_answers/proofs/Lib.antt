@@ -1,2 +1,4 @@
 pub mod Images
+pub mod Lists
 pub mod Refusals
+pub mod Runs

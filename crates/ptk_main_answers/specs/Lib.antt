@@ -1,4 +1,4 @@
-pub mod Requests
 pub mod Images
 pub mod Refusals
 pub mod Answers
+pub mod Expectations

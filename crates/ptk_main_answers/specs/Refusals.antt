@@ -1,18 +1,14 @@
 -- Why a request over a configuration and files is refused, as a fault is told.
-use Rattle.std.specs.Prelude.{◌≡◌, ◌≢◌, ℕ, List, Option, Some, None, option_map, option_and_then}
-use Rattle.std.specs.Option.{option_or}
+use Rattle.std.specs.Prelude.{◌≡◌, ◌≢◌, ℕ, List, Option, Some, None, option_map, option_and_then, if◌then◌else◌, nat_le}
 use Rattle.ptk_config.specs.Configuration.{Configuration}
 use Rattle.ptk_system_files.specs.NamedFiles.{NamedFile}
 use Rattle.ptk_system.specs.Missing.{first_missing}
 use Rattle.ptk_system.specs.declared.fault.BootFault.{BootFault}
 use Rattle.ptk_system.specs.declared.fault.BootFault.TheVariants as boot
-use Rattle.ptk_main_line.specs.declared.line.Request.{Request}
-use Rattle.ptk_main_line.specs.declared.line.Request.TheVariants.{Run, Trace, Timeline, Asm, Check, Disasm, Impact}
 use Rattle.ptk_main_faults.specs.declared.fault.Fault.{Fault}
-use Rattle.ptk_main_faults.specs.declared.fault.Fault.TheVariants.{MissingFile, NoPartition, WriteFailed, NoMemory}
+use Rattle.ptk_main_faults.specs.declared.fault.Fault.TheVariants.{MissingFile, NoPartition, NothingFrom, WriteFailed, NoMemory}
 use Rattle.ptk_main_faults.specs.Lines.{image_fault}
 use Rattle.ptk_main_faults.specs.Told.{text, told}
-use Rattle.ptk_main_runs.specs.Parts.{part_named}
 use Rattle.ptk_main_runs.specs.declared.runs.RunFault.{RunFault}
 use Rattle.ptk_main_runs.specs.declared.runs.RunFault.TheVariants as run
 use Rattle.ptk_main_answers.specs.Images.{first_refused, image_name, image_refusal}
@@ -50,25 +46,9 @@ abbrev pub refused_trace : Option ℕ → Configuration → List NamedFile → L
 refused_trace None config files name = Some (NoPartition (text name))
 refused_trace (Some p) config files name = missing_image config files
 
--- what is lacking before the system can boot (own)
-abbrev pub lack_of : Configuration → List NamedFile → Request → Option Fault
-lack_of config files (Run file ticks) = missing_image config files
-lack_of config files (Trace file ticks partition) = refused_trace (part_named config partition.now) config files partition.now
-lack_of config files (Timeline file ticks from) = missing_image config files
-lack_of config files (Asm source image) = None
-lack_of config files (Check file explain) = missing_image config files
-lack_of config files (Disasm image target) = None
-lack_of config files (Impact old new partition rename format) = None
-
--- why a request is refused: what is lacking, and for a check the first image that is refused after all are there (own)
-abbrev pub refusal_of : Configuration → List NamedFile → Request → Option Fault
-refusal_of config files (Run file ticks) = lack_of config files (Run file ticks)
-refusal_of config files (Trace file ticks partition) = lack_of config files (Trace file ticks partition)
-refusal_of config files (Timeline file ticks from) = lack_of config files (Timeline file ticks from)
-refusal_of config files (Asm source image) = None
-refusal_of config files (Impact old new partition rename format) = None
-refusal_of config files (Check file explain) = option_or (missing_image config files) (refused_image config files)
-refusal_of config files (Disasm image target) = None
+-- there is no tick to show; else the first image whose file is missing (own)
+abbrev pub refused_picture : Configuration → List NamedFile → ℕ → ℕ → Option Fault
+refused_picture config files from to = if nat_le to from then Some (NothingFrom from) else missing_image config files
 
 -- a fault by what is lacking and by the refusal: want of memory comes only where nothing is lacking, a failed write only where nothing is refused, and any other fault is told as the refusal (own)
 pub record IsFaultOf (lack refusal : Option Fault) (fault : Fault) : Type 0 where

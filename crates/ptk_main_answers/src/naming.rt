@@ -21,6 +21,14 @@ pub(crate) fn image_name(config: &Config, p: PartId) -> &str
     }
 }
 
+/// The name of a partition, empty where there is none of this number.
+pub(crate) fn part_name(config: &Config, p: PartId) -> &str {
+    match config.sections().get(p.index()) {
+        Some(section) => section.name(),
+        None => "",
+    }
+}
+
 /// The program's fault for a boot's.
 pub(crate) fn boot_fault(config: &Config, fault: BootFault) -> Fault<'_>
     ensures { told result ≡ boot_fault config.now fault }

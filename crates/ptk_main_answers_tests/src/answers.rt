@@ -3,9 +3,13 @@
 //! worked out by hand. A helper that promises nothing stands between each row and the calls that it tests.
 
 use ptk_config::{Config, read_config};
-use ptk_main_answers::{Files, answer_with, explain_with};
-use ptk_main_faults::Fault;
-use ptk_main_line::Request;
+use ptk_main_answers::{
+    Files, RunQuestion, Watch, check_document, check_with, explain_with, run_answer,
+    timeline_answer, trace_answer,
+};
+use ptk_main_faults::{FailureKind, Fault};
+use ptk_main_line::{FailOn, Format, PictureFormat};
+use ptk_words::Tick;
 use std::alloc::Global;
 use std::io::Write;
 use std::process::Abort;
@@ -18,6 +22,8 @@ const HELLO_IMAGE: &[u8] =
 
 const HELLO_REPORT: &str = "partition p exit 0 steps 9 lost 0\noutput 2\nhi\n";
 
+const OTHER_REPORT: &str = "partition p exit 0 steps 9 lost 0\noutput 2\nho\n";
+
 const CUT_REPORT: &str = "partition p running steps 3 lost 0\noutput 1\nh\n";
 
 const SHORT_TRACE: &str =
@@ -29,16 +35,39 @@ const HELLO_WORDS: &str =
     image p.img: text 36, data 0, bss 0; 3036 bytes free below the stacks\n  \
     from frame 0: 100.0 percent of the frame: 20 ticks at 0\n";
 
-// What a run to a tick answers.
+// Nobody, who watches a run.
+struct Nobody;
+
+impl Watch for Nobody {
+    fn reached(&mut self, _tick: Tick, _last: Tick) {}
+}
+
+// A run to a tick, of whose report nothing is expected.
+fn run_to(ticks: u64) -> RunQuestion<'static> {
+    RunQuestion {
+        ticks: Tick::new(ticks),
+        until_halted: false,
+        format: Format::Text,
+        expected: None,
+        fail_on: FailOn::NONE,
+    }
+}
+
+// What a run answers.
 fn run<'a, W: Write>(
     alloc: Global,
     config: &'a Config,
     files: &Files,
-    ticks: u16,
+    question: &RunQuestion<'_>,
     out: &mut W,
 ) -> Result<(), Fault<'a>> {
-    let ticks = u64::from(ticks);
-    answer_with(alloc, config, files, Request::Run { file: "", ticks }, out)
+    if question.ticks.ticks() > 1000 {
+        return Ok(());
+    }
+    let mut nobody = Nobody;
+    let outcome = run_answer(alloc, config, files, question, &mut nobody, out);
+    let Nobody = nobody;
+    outcome
 }
 
 // What a trace of p at tick 20 answers.
@@ -48,26 +77,7 @@ fn trace<'a, W: Write>(
     files: &Files,
     out: &mut W,
 ) -> Result<(), Fault<'a>> {
-    let request = Request::Trace {
-        file: "",
-        ticks: 20,
-        partition: "p",
-    };
-    answer_with(alloc, config, files, request, out)
-}
-
-// What a check answers.
-fn check<'a, W: Write>(
-    alloc: Global,
-    config: &'a Config,
-    files: &Files,
-    out: &mut W,
-) -> Result<(), Fault<'a>> {
-    let request = Request::Check {
-        file: "",
-        explain: false,
-    };
-    answer_with(alloc, config, files, request, out)
+    trace_answer(alloc, config, files, Tick::new(20), "p", out)
 }
 
 // What a check answers with a writer of so much room, of at most 3 bytes.
@@ -79,7 +89,7 @@ fn check_into<'a>(
 ) -> Result<(), Fault<'a>> {
     let mut bytes = [0u8; 3];
     match bytes.get_mut(..most) {
-        Some(mut room) => check(alloc, config, files, &mut room),
+        Some(mut room) => check_with(alloc, config, files, &mut room),
         None => Ok(()),
     }
 }
@@ -89,38 +99,46 @@ fn is_text(got: &[u8], want: &str) -> bool {
     got == want.as_bytes()
 }
 
+// The picture of the ticks from this one to tick 20, as SVG.
+fn picture<'a, W: Write>(
+    alloc: Global,
+    config: &'a Config,
+    files: &Files,
+    from: u16,
+    out: &mut W,
+) -> Result<(), Fault<'a>> {
+    let (from, to) = (Tick::new(u64::from(from)), Tick::new(20));
+    timeline_answer(alloc, config, files, PictureFormat::Svg, from, to, out)
+}
+
 // Asserts what each request writes.
 fn check_answers(rt: &impl Abort, alloc: Global, config: &Config, files: &Files) {
     let mut out = Vec::new(alloc);
-    assert_eq!(rt; run(alloc, config, files, 20, &mut out), Ok(()));
+    assert_eq!(rt; run(alloc, config, files, &run_to(20), &mut out), Ok(()));
     assert!(rt; is_text(&out, HELLO_REPORT));
     let mut out = Vec::new(alloc);
     // Row cut-run.
-    assert_eq!(rt; run(alloc, config, files, 3, &mut out), Ok(()));
+    assert_eq!(rt; run(alloc, config, files, &run_to(3), &mut out), Ok(()));
     assert!(rt; is_text(&out, CUT_REPORT));
     let mut out = Vec::new(alloc);
     // Row short-trace.
     assert_eq!(rt; trace(alloc, config, files, &mut out), Ok(()));
     assert!(rt; is_text(&out, SHORT_TRACE));
     let mut out = Vec::new(alloc);
-    assert_eq!(rt; check(alloc, config, files, &mut out), Ok(()));
+    assert_eq!(rt; check_with(alloc, config, files, &mut out), Ok(()));
     assert!(rt; is_text(&out, "ok\n"));
-    let request = Request::Timeline {
-        file: "",
-        ticks: 20,
-        from: 0,
-    };
     let mut out = Vec::new(alloc);
-    assert_eq!(rt;
-        answer_with(alloc, config, files, request, &mut out),
-        Ok(())
-    );
+    assert_eq!(rt; picture(alloc, config, files, 0, &mut out), Ok(()));
     assert!(rt; out.starts_with(b"<svg ") && out.ends_with(b"</svg>\n"));
     let mut bytes = [0u8; 200];
     let mut room = bytes.as_mut_slice();
     assert_eq!(rt;
-        answer_with(alloc, config, files, request, &mut room),
+        picture(alloc, config, files, 0, &mut room),
         Err(Fault::WriteFailed)
+    );
+    assert_eq!(rt;
+        picture(alloc, config, files, 20, &mut room),
+        Err(Fault::NothingFrom(20))
     );
     for most in 0..3 {
         assert_eq!(rt;
@@ -130,6 +148,41 @@ fn check_answers(rt: &impl Abort, alloc: Global, config: &Config, files: &Files)
         );
     }
     assert_eq!(rt; check_into(alloc, config, files, 3), Ok(()));
+}
+
+const HELLO_JSON: &str =
+    "{\"format\":\"ptk run 1\",\"ticks\":20,\"partitions\":[{\"name\":\"p\",\"status\":\"exit\",\"code\":0,\"steps\":9,\"lost\":0,\"output\":\"aGk=\"}]}\n";
+
+const REFUSED_JSON: &str =
+    "{\"format\":\"ptk check 1\",\"answer\":\"refused\",\"fault\":\"ptk: config fault 2\",\"explanation\":\"key frame: missing\\n\"}\n";
+
+// Asserts what a run is that has a form, is expected to be something, or ends early.
+fn check_expectations(rt: &impl Abort, alloc: Global, config: &Config, files: &Files) {
+    let json = RunQuestion {
+        format: Format::Json,
+        ..run_to(20)
+    };
+    let mut out = Vec::new(alloc);
+    assert_eq!(rt; run(alloc, config, files, &json, &mut out), Ok(()));
+    assert!(rt; is_text(&out, HELLO_JSON));
+    let same = RunQuestion {
+        expected: Some(HELLO_REPORT.as_bytes()),
+        until_halted: true,
+        ..run_to(1000)
+    };
+    let mut out = Vec::new(alloc);
+    assert_eq!(rt; run(alloc, config, files, &same, &mut out), Ok(()));
+    assert!(rt; is_text(&out, HELLO_REPORT));
+    let other = RunQuestion {
+        expected: Some(OTHER_REPORT.as_bytes()),
+        ..run_to(20)
+    };
+    let mut out = Vec::new(alloc);
+    assert_eq!(rt;
+        run(alloc, config, files, &other, &mut out),
+        Err(Fault::Differs(44, 3, Some(105), Some(111)))
+    );
+    assert!(rt; is_text(&out, HELLO_REPORT));
 }
 
 // The file of row hello's image, None where memory ran out.
@@ -145,7 +198,10 @@ fn hello(alloc: Global) -> Option<Files> {
 fn each_request_has_its_answer(rt: HostRuntime) {
     let alloc = rt.alloc();
     match (read_config(alloc, HELLO_TEXT).ok(), hello(alloc)) {
-        (Some(config), Some(files)) => check_answers(&rt, alloc, &config, &files),
+        (Some(config), Some(files)) => {
+            check_answers(&rt, alloc, &config, &files);
+            check_expectations(&rt, alloc, &config, &files);
+        }
         _ => assert!(rt; false, "no memory"),
     }
 }
@@ -189,4 +245,40 @@ fn a_text_is_explained(rt: HostRuntime) {
         }
         None => assert!(rt; false, "no memory"),
     }
+}
+
+#[test]
+fn a_run_fails_on_its_kinds(rt: HostRuntime) {
+    let alloc = rt.alloc();
+    let mut files = Files::new(alloc);
+    assert!(rt; files.add("p.img", b"PTKI").is_ok());
+    match read_config(alloc, HELLO_TEXT) {
+        Ok(config) => {
+            let kinds = RunQuestion {
+                fail_on: FailOn {
+                    fault: false,
+                    refused: true,
+                    idle: false,
+                },
+                ..run_to(20)
+            };
+            let mut out = Vec::new(alloc);
+            assert_eq!(rt;
+                run(alloc, &config, &files, &kinds, &mut out),
+                Err(Fault::FailedOn("p", FailureKind::Refused))
+            );
+        }
+        Err(_) => assert!(rt; false, "no memory"),
+    }
+}
+
+#[test]
+fn a_refused_check_is_one_object(rt: HostRuntime) {
+    let mut out = Vec::new(rt.alloc());
+    let fault = Fault::Config(2);
+    assert_eq!(rt;
+        check_document(rt.alloc(), Some(&fault), "key frame: missing\n", &mut out),
+        Ok(())
+    );
+    assert!(rt; is_text(&out, REFUSED_JSON));
 }

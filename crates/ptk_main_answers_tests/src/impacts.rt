@@ -3,9 +3,11 @@
 
 use ptk_config::read_config;
 use ptk_impact_answers::{Question, Release, impact_json_with, impact_with};
+use ptk_main_answers::{run_with, trace_with};
 use ptk_main_faults::Fault;
 use ptk_main_line::Format;
 use ptk_system_files::Files;
+use ptk_words::Tick;
 use std::alloc::Global;
 use std::test::Fail;
 
@@ -344,6 +346,64 @@ fn what_differs_is_told(rt: HostRuntime) -> Result<(), Fail> {
     for (place, case) in OTHER.iter().enumerate() {
         assert!(rt; is_told(rt.alloc(), case, Format::Text, false)?, "{place}");
     }
+    Ok(())
+}
+
+// An image that counts on without end: addi a0, a0, 1, and a jump back to it (RISC-V Unprivileged ISA, RV32I).
+const COUNTING_IMAGE: &[u8] =
+    b"PTKI\x01\0\0\0\0\0\0\0\x08\0\0\0\0\0\0\0\0\0\0\0\x13\x05\x15\0\x6f\xf0\xdf\xff";
+
+// Ticks in windows of p and of q, in the first frame and in later ones: frame 3 begins at tick 120.
+const TICKS: [u32; 4] = [30, 50, 130, 155];
+
+// The report at a tick and the traces of p and q there, one after the other, where p.img counts. None where the text is
+// refused.
+fn run_of(alloc: Global, text: &[&str], tick: u32) -> Result<Option<Vec<u8>>, Fail> {
+    let mut files = Files::new(alloc);
+    files.add("p.img", COUNTING_IMAGE)?;
+    let text = text.concat(alloc)?;
+    let Ok(config) = read_config(alloc, text.as_str()) else {
+        return Ok(None);
+    };
+    let tick = Tick::new(u64::from(tick));
+    let mut out = Vec::new(alloc);
+    let is_run = run_with(alloc, &config, &files, tick, &mut out).is_ok();
+    let is_p = trace_with(alloc, &config, &files, tick, "p", &mut out).is_ok();
+    let is_q = trace_with(alloc, &config, &files, tick, "q", &mut out).is_ok();
+    if is_run && is_p && is_q {
+        Ok(Some(out))
+    } else {
+        Ok(None)
+    }
+}
+
+// Whether both configurations of the case have the same report and traces at a tick, None where a text is refused.
+fn is_same_run(alloc: Global, case: &Case<'_>, tick: u32) -> Result<Option<bool>, Fail> {
+    match (
+        run_of(alloc, case.old, tick)?,
+        run_of(alloc, case.new, tick)?,
+    ) {
+        (Some(old), Some(new)) => Ok(Some(old == new)),
+        _ => Ok(None),
+    }
+}
+
+// The tables written otherwise (SAME) leave each report and trace as it is; the windows swapped (OTHER) do not.
+#[test]
+fn an_unchanged_partition_runs_alike(rt: HostRuntime) -> Result<(), Fail> {
+    for tick in TICKS {
+        assert_eq!(rt;
+            is_same_run(rt.alloc(), &SAME[0], tick)?,
+            Some(true),
+            "{tick}"
+        );
+        assert_eq!(rt;
+            is_same_run(rt.alloc(), &SAME[1], tick)?,
+            Some(true),
+            "{tick}"
+        );
+    }
+    assert_eq!(rt; is_same_run(rt.alloc(), &OTHER[0], 130)?, Some(false));
     Ok(())
 }
 

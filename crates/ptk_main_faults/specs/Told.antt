@@ -2,7 +2,7 @@
 use Rattle.std.specs.Prelude.{ℕ, List}
 use Rattle.std.specs.Borrow.{Bor}
 use Rattle.ptk_main_faults.specs.declared.fault.Fault.{Fault}
-use Rattle.ptk_main_faults.specs.declared.fault.Fault.TheVariants.{Config, ConfigWindow, Asm, Image, TooLong, MissingFile, NotText, NoPartition, ReadFailed, WriteFailed, NoMemory}
+use Rattle.ptk_main_faults.specs.declared.fault.Fault.TheVariants.{Config, ConfigWindow, Asm, Image, TooLong, MissingFile, NotText, NoPartition, Symbols, NothingFrom, Differs, FailedOn, ReadFailed, WriteFailed, NoMemory}
 
 -- a name as its text alone, wherever it stands
 abbrev pub text : List ℕ → Bor (List ℕ)
@@ -18,6 +18,10 @@ told (TooLong name section) = TooLong (text name.now) section
 told (MissingFile name) = MissingFile (text name.now)
 told (NotText name) = NotText (text name.now)
 told (NoPartition name) = NoPartition (text name.now)
+told (Symbols name line) = Symbols (text name.now) line
+told (NothingFrom tick) = NothingFrom tick
+told (Differs offset line got expected) = Differs offset line got expected
+told (FailedOn name kind) = FailedOn (text name.now) kind
 told (ReadFailed name) = ReadFailed (text name.now)
 told WriteFailed = WriteFailed
 told NoMemory = NoMemory

@@ -3,7 +3,7 @@
 ghost use Rattle.std.specs.Prelude.{◌≡◌, ◌++◌, Some, IfOk};
 ghost use Rattle.std.specs.Io.KnownBytes.{Appends};
 ghost use Rattle.ptk_main_faults.specs.declared.fault.Fault.TheVariants.{NoMemory};
-ghost use Rattle.ptk_main_faults.specs.Lines.{asm_fault, config_fault, image_fault, line_of, name_of, newline, status_of};
+ghost use Rattle.ptk_main_faults.specs.Lines.{asm_fault, byte_text, config_fault, image_fault, kind_word, line_of, name_of, newline, status_of, unlike_text};
 ghost use Rattle.ptk_main_faults.specs.Statuses.{status_number};
 
 use crate::status::ExitStatus;
@@ -34,12 +34,73 @@ pub enum Fault<'a> {
     NotText(&'a str),
     /// `ptk: no partition NAME`: the configuration has no such partition.
     NoPartition(&'a str),
+    /// `ptk: symbols NAME line L`: a file of symbols is refused at this line, counted from 1.
+    Symbols(&'a str, u64),
+    /// `ptk: nothing to show from tick M`: the run ends before this tick.
+    NothingFrom(u64),
+    /// `ptk: report differs at byte B line L: got X, expected Y`: the first byte of a report, counted from 0, that is not the
+    /// expected one, its line, counted from 1, and both bytes as numbers, `end` where there is none.
+    Differs(u64, u64, Option<u8>, Option<u8>),
+    /// `ptk: partition NAME is KIND`: a partition is of a kind to fail on.
+    FailedOn(&'a str, FailureKind),
     /// `ptk: read failed NAME`: the file is there and can't be read.
     ReadFailed(&'a str),
     /// `ptk: write failed`.
     WriteFailed,
     /// `ptk: no memory`: memory was refused, whatever asked for it.
     NoMemory,
+}
+
+/// A kind of a partition's status at which a run may fail.
+#[derive(Clone, Copy, Debug, PartialEq, Eq)]
+pub enum FailureKind {
+    /// An instruction stopped it: a fault or a break.
+    Fault,
+    /// Its image was refused.
+    Refused,
+    /// It is not halted, and no thread is running or ready.
+    Idle,
+}
+
+impl FailureKind {
+    /// The word of the kind, as the report begins it.
+    pub fn word(self) -> &'static str
+        ensures { result.now ≡ kind_word self }
+    {
+        match self {
+            FailureKind::Fault => "fault",
+            FailureKind::Refused => "refused",
+            FailureKind::Idle => "idle",
+        }
+    }
+}
+
+/// A byte in a line, as a number; `end` where there is none.
+#[derive(Drop)]
+struct Shown(Option<u8>);
+
+impl fmt::Display for Shown {
+    ghost output = { λ b. Some (byte_text b.0) };
+
+    fn fmt<W: fmt::Write>(&self, f: &mut fmt::Formatter<W>) -> fmt::Result {
+        match self.0 {
+            Some(byte) => write!(f, "{byte}"),
+            None => f.write_str("end"),
+        }
+    }
+}
+
+/// The byte of a report and the expected one.
+#[derive(Drop)]
+struct Unlike(Option<u8>, Option<u8>);
+
+impl fmt::Display for Unlike {
+    ghost output = { λ u. Some (unlike_text u.0 u.1) };
+
+    fn fmt<W: fmt::Write>(&self, f: &mut fmt::Formatter<W>) -> fmt::Result {
+        let (got, expected) = (Shown(self.0), Shown(self.1));
+        write!(f, "got {got}, expected {expected}")
+    }
 }
 
 /// The name of a section in a line.
@@ -69,6 +130,19 @@ impl fmt::Display for Fault<'_> {
             Fault::MissingFile(name) => write!(f, "ptk: missing file {name}"),
             Fault::NotText(name) => write!(f, "ptk: not text {name}"),
             Fault::NoPartition(name) => write!(f, "ptk: no partition {name}"),
+            Fault::Symbols(name, line) => write!(f, "ptk: symbols {name} line {line}"),
+            Fault::NothingFrom(tick) => write!(f, "ptk: nothing to show from tick {tick}"),
+            Fault::Differs(offset, line, got, expected) => {
+                let bytes = Unlike(got, expected);
+                write!(
+                    f,
+                    "ptk: report differs at byte {offset} line {line}: {bytes}"
+                )
+            }
+            Fault::FailedOn(name, kind) => {
+                let word = kind.word();
+                write!(f, "ptk: partition {name} is {word}")
+            }
             Fault::ReadFailed(name) => write!(f, "ptk: read failed {name}"),
             Fault::WriteFailed => f.write_str("ptk: write failed"),
             Fault::NoMemory => f.write_str("ptk: no memory"),
@@ -120,6 +194,8 @@ impl<'a> Fault<'a> {
             }
             Fault::TooLong(..) | Fault::MissingFile(_) => ExitStatus::Refused,
             Fault::NotText(_) | Fault::NoPartition(_) => ExitStatus::Refused,
+            Fault::Symbols(..) | Fault::NothingFrom(_) => ExitStatus::Refused,
+            Fault::Differs(..) | Fault::FailedOn(..) => ExitStatus::Unexpected,
             Fault::ReadFailed(_) | Fault::WriteFailed | Fault::NoMemory => ExitStatus::HostFailure,
         }
     }

@@ -9,5 +9,5 @@
 mod fault;
 mod status;
 
-pub use fault::{Fault, fault_line};
+pub use fault::{FailureKind, Fault, fault_line};
 pub use status::ExitStatus;

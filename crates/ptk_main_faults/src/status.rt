@@ -16,10 +16,12 @@ pub enum ExitStatus {
     Usage,
     /// The host failed: reading, writing or memory.
     HostFailure,
+    /// A run is not as it is expected to be.
+    Unexpected,
 }
 
 impl ExitStatus {
-    /// The number of the status, 0 to 3.
+    /// The number of the status, 0 to 4.
     pub fn number(self) -> u8
         ensures { result ≡ status_number self }
     {
@@ -28,6 +30,7 @@ impl ExitStatus {
             ExitStatus::Refused | ExitStatus::Different => 1,
             ExitStatus::Usage => 2,
             ExitStatus::HostFailure => 3,
+            ExitStatus::Unexpected => 4,
         }
     }
 }

@@ -1,15 +1,15 @@
 //! The command `ptk` and its subcommands, as `clap` builds them.
-ghost use Rattle.std.specs.Prelude.{◌≡◌, codes, false, IfOk};
-ghost use Rattle.clap.specs.Words.{app_of, new_rule, rule_of, with_rule, with_subcommand};
+ghost use Rattle.std.specs.Prelude.{◌≡◌, [], ◌∷◌, codes, false, IfOk};
+ghost use Rattle.clap.specs.Words.{app_of, new_app, new_rule, rule_of, with_rule, with_subcommand};
 ghost use Rattle.clap.specs.declared.builder.command.Command.TheViews.{out-Command};
-ghost use Rattle.ptk_main_line.specs.CommandLine.{asm, check, disasm, impact, ptk, run, timeline, trace};
-ghost use Rattle.ptk_main_line.specs.CommandLine.{explain, from, number_option, partition, required_word, text_option, ticks};
+ghost use Rattle.ptk_main_line.specs.CommandLine.{asm, check, disasm, explain, impact, ptk, run, timeline, trace};
+ghost use Rattle.ptk_main_line.specs.CommandLine.{flag, number_option, required_option, required_word, run_rules, text_option, ticks, ticks_option, with_subcommands};
 
 use crate::help;
 use clap::{Arg, ArgAction, Command, value_parser};
 use std::alloc::{AllocError, Global};
 
-/// The command with its seven subcommands, of which one has to be there.
+/// The command with its eight subcommands, of which one has to be there.
 pub(crate) fn ptk_command<'a>(alloc: Global) -> Result<Command<'a>, AllocError>
     ensures { IfOk result (λ c. app_of c ≡ ptk) }
 {
@@ -17,16 +17,14 @@ pub(crate) fn ptk_command<'a>(alloc: Global) -> Result<Command<'a>, AllocError>
         .about(help::PTK)
         .after_help(help::PTK_AFTER)
         .subcommand_required(true);
-    with_runs(alloc, command)?
-        .subcommand(asm_command(alloc)?)?
-        .subcommand(check_command(alloc)?)?
-        .subcommand(disasm_command(alloc)?)?
-        .subcommand(impact_command(alloc)?)
+    let command = with_runs(alloc, command)?;
+    let command = with_files(alloc, command)?;
+    command.subcommand(explain_command(alloc)?)
 }
 
-/// The command with the three subcommands that run a configuration behind those that it has.
+/// The command with the three subcommands that show a run behind those that it has.
 fn with_runs<'a>(alloc: Global, command: Command<'a>) -> Result<Command<'a>, AllocError>
-    ensures { IfOk result (λ c. app_of c ≡ with_subcommand (with_subcommand (with_subcommand (app_of command.entry) run.top) trace.top) timeline.top) }
+    ensures { IfOk result (λ c. app_of c ≡ with_subcommands (app_of command.entry) (run.top ∷ trace.top ∷ timeline.top ∷ [])) }
 {
     command
         .subcommand(run_command(alloc)?)?
@@ -34,114 +32,195 @@ fn with_runs<'a>(alloc: Global, command: Command<'a>) -> Result<Command<'a>, All
         .subcommand(timeline_command(alloc)?)
 }
 
-/// `run FILE --ticks N`.
+/// The command with the four subcommands that read files and run nothing behind those that it has.
+fn with_files<'a>(alloc: Global, command: Command<'a>) -> Result<Command<'a>, AllocError>
+    ensures { IfOk result (λ c. app_of c ≡ with_subcommands (app_of command.entry) (asm.top ∷ check.top ∷ disasm.top ∷ impact.top ∷ [])) }
+{
+    command
+        .subcommand(asm_command(alloc)?)?
+        .subcommand(check_command(alloc)?)?
+        .subcommand(disasm_command(alloc)?)?
+        .subcommand(impact_command(alloc)?)
+}
+
+/// `run`, with its arguments.
 fn run_command<'a>(alloc: Global) -> Result<Command<'a>, AllocError>
     ensures { IfOk result (λ c. (app_of c ≡ run) × ((out-Command c).has_globals ≡ false)) }
 {
     let command = Command::new(alloc, "run")
         .about(help::RUN)
         .after_help(help::RUN_AFTER);
-    with_file_and_ticks(alloc, command)
+    let command = with_run(alloc, command)?;
+    let expect = text_argument(alloc, "expect", help::EXPECT);
+    let command = with_argument(command, expect)?;
+    let fail_on = text_argument(alloc, "fail-on", help::FAIL_ON);
+    let command = with_argument(command, fail_on)?;
+    let until_halted = flag_argument(alloc, "until-halted", help::UNTIL_HALTED);
+    let command = with_argument(command, until_halted)?;
+    let quiet = flag_argument(alloc, "quiet", help::QUIET);
+    let command = with_argument(command, quiet)?;
+    let format = text_argument(alloc, "format", help::FORMAT);
+    let command = with_argument(command, format)?;
+    let explain = flag_argument(alloc, "explain", help::EXPLAIN_FAULT);
+    let command = with_argument(command, explain)?;
+    Ok(command)
 }
 
-/// `trace FILE --ticks N --partition NAME`.
+/// `trace`, with its arguments.
 fn trace_command<'a>(alloc: Global) -> Result<Command<'a>, AllocError>
     ensures { IfOk result (λ c. (app_of c ≡ trace) × ((out-Command c).has_globals ≡ false)) }
 {
     let command = Command::new(alloc, "trace")
         .about(help::TRACE)
         .after_help(help::TRACE_AFTER);
-    with_file_and_ticks(alloc, command)?.arg(partition_argument(alloc))
+    let command = with_run(alloc, command)?;
+    let partition = required_argument(alloc, "partition", help::PARTITION);
+    let command = with_argument(command, partition)?;
+    let decode = flag_argument(alloc, "decode", help::DECODE);
+    let command = with_argument(command, decode)?;
+    let symbols = text_argument(alloc, "symbols", help::SYMBOLS);
+    let command = with_argument(command, symbols)?;
+    let thread = thread_argument(alloc);
+    let command = with_argument(command, thread)?;
+    let calls = flag_argument(alloc, "calls", help::CALLS);
+    let command = with_argument(command, calls)?;
+    let from = ticks_argument(alloc, "from", help::FROM_TICK);
+    let command = with_argument(command, from)?;
+    let to = ticks_argument(alloc, "to", help::TO_TICK);
+    let command = with_argument(command, to)?;
+    let last = last_argument(alloc);
+    let command = with_argument(command, last)?;
+    let explain = flag_argument(alloc, "explain", help::EXPLAIN_FAULT);
+    let command = with_argument(command, explain)?;
+    Ok(command)
 }
 
-/// `timeline FILE --ticks N [--from M]`.
+/// `timeline`, with its arguments.
 fn timeline_command<'a>(alloc: Global) -> Result<Command<'a>, AllocError>
     ensures { IfOk result (λ c. (app_of c ≡ timeline) × ((out-Command c).has_globals ≡ false)) }
 {
     let command = Command::new(alloc, "timeline")
         .about(help::TIMELINE)
         .after_help(help::TIMELINE_AFTER);
-    with_file_and_ticks(alloc, command)?.arg(from_argument(alloc))
+    let command = with_run(alloc, command)?;
+    let from = ticks_argument(alloc, "from", help::FROM);
+    let command = with_argument(command, from)?;
+    let format = text_argument(alloc, "format", help::PICTURE_FORMAT);
+    let command = with_argument(command, format)?;
+    Ok(command)
 }
 
-/// `asm IN OUT`.
+/// `asm`, with its arguments.
 fn asm_command<'a>(alloc: Global) -> Result<Command<'a>, AllocError>
     ensures { IfOk result (λ c. (app_of c ≡ asm) × ((out-Command c).has_globals ≡ false)) }
 {
-    Command::new(alloc, "asm")
+    let command = Command::new(alloc, "asm")
         .about(help::ASM)
-        .after_help(help::ASM_AFTER)
-        .arg(word_argument(alloc, "IN", help::SOURCE))?
-        .arg(word_argument(alloc, "OUT", help::IMAGE))
+        .after_help(help::ASM_AFTER);
+    let source = word_argument(alloc, "IN", help::SOURCE);
+    let command = with_argument(command, source)?;
+    let image = word_argument(alloc, "OUT", help::IMAGE);
+    let command = with_argument(command, image)?;
+    let symbols = text_argument(alloc, "symbols", help::LABELS);
+    let command = with_argument(command, symbols)?;
+    let explain = flag_argument(alloc, "explain", help::EXPLAIN_SOURCE);
+    let command = with_argument(command, explain)?;
+    Ok(command)
 }
 
-/// `disasm IMAGE [OUT]`.
-fn disasm_command<'a>(alloc: Global) -> Result<Command<'a>, AllocError>
-    ensures { IfOk result (λ c. (app_of c ≡ disasm) × ((out-Command c).has_globals ≡ false)) }
-{
-    Command::new(alloc, "disasm")
-        .about(help::DISASM)
-        .after_help(help::DISASM_AFTER)
-        .arg(word_argument(alloc, "IMAGE", help::IMAGE_READ))?
-        .arg(free_word_argument(alloc, "OUT", help::TEXT))
-}
-
-/// `check FILE [--explain]`.
+/// `check`, with its arguments.
 fn check_command<'a>(alloc: Global) -> Result<Command<'a>, AllocError>
     ensures { IfOk result (λ c. (app_of c ≡ check) × ((out-Command c).has_globals ≡ false)) }
 {
-    Command::new(alloc, "check")
+    let command = Command::new(alloc, "check")
         .about(help::CHECK)
-        .after_help(help::CHECK_AFTER)
-        .arg(word_argument(alloc, "FILE", help::CONFIGURATION))?
-        .arg(explain_argument(alloc))
+        .after_help(help::CHECK_AFTER);
+    let file = word_argument(alloc, "FILE", help::CONFIGURATION);
+    let command = with_argument(command, file)?;
+    let explain = flag_argument(alloc, "explain", help::EXPLAIN);
+    let command = with_argument(command, explain)?;
+    let format = text_argument(alloc, "format", help::FORMAT);
+    let command = with_argument(command, format)?;
+    let root = text_argument(alloc, "root", help::ROOT);
+    let command = with_argument(command, root)?;
+    Ok(command)
 }
 
-/// `impact OLD NEW [--partition NAME] [--rename OLD=NEW[,OLD=NEW]...] [--format FORMAT]`.
+/// `disasm`, with its arguments.
+fn disasm_command<'a>(alloc: Global) -> Result<Command<'a>, AllocError>
+    ensures { IfOk result (λ c. (app_of c ≡ disasm) × ((out-Command c).has_globals ≡ false)) }
+{
+    let command = Command::new(alloc, "disasm")
+        .about(help::DISASM)
+        .after_help(help::DISASM_AFTER);
+    let image = word_argument(alloc, "IMAGE", help::IMAGE_READ);
+    let command = with_argument(command, image)?;
+    let out = free_word_argument(alloc, "OUT", help::TEXT);
+    let command = with_argument(command, out)?;
+    let symbols = text_argument(alloc, "symbols", help::SYMBOLS);
+    let command = with_argument(command, symbols)?;
+    Ok(command)
+}
+
+/// `impact`, with its arguments.
 fn impact_command<'a>(alloc: Global) -> Result<Command<'a>, AllocError>
     ensures { IfOk result (λ c. (app_of c ≡ impact) × ((out-Command c).has_globals ≡ false)) }
 {
     let command = Command::new(alloc, "impact")
         .about(help::IMPACT)
         .after_help(help::IMPACT_AFTER);
-    with_choice_of_partitions(alloc, with_old_and_new(alloc, command)?)?.arg(text_argument(
-        alloc,
-        "format",
-        help::FORMAT,
-    ))
+    let old = word_argument(alloc, "OLD", help::OLD);
+    let command = with_argument(command, old)?;
+    let new = word_argument(alloc, "NEW", help::NEW);
+    let command = with_argument(command, new)?;
+    let partition = text_argument(alloc, "partition", help::ONE_PARTITION);
+    let command = with_argument(command, partition)?;
+    let rename = text_argument(alloc, "rename", help::RENAME);
+    let command = with_argument(command, rename)?;
+    let format = text_argument(alloc, "format", help::FORMAT);
+    let command = with_argument(command, format)?;
+    let root = text_argument(alloc, "root", help::ROOT);
+    let command = with_argument(command, root)?;
+    Ok(command)
 }
 
-/// The command with the arguments FILE and `--ticks N` behind those that it has.
-fn with_file_and_ticks<'a>(alloc: Global, command: Command<'a>) -> Result<Command<'a>, AllocError>
-    ensures { IfOk result (λ c. (app_of c ≡ with_rule (with_rule (app_of command.entry) (required_word (codes "FILE"))) ticks)
-        × ((out-Command c).has_globals ≡ (out-Command command.entry).has_globals)) }
+/// `explain`, with its arguments.
+fn explain_command<'a>(alloc: Global) -> Result<Command<'a>, AllocError>
+    ensures { IfOk result (λ c. (app_of c ≡ explain) × ((out-Command c).has_globals ≡ false)) }
 {
-    command
-        .arg(word_argument(alloc, "FILE", help::CONFIGURATION))?
-        .arg(ticks_argument(alloc))
+    let command = Command::new(alloc, "explain")
+        .about(help::EXPLAIN_RUN)
+        .after_help(help::EXPLAIN_RUN_AFTER);
+    let command = with_run(alloc, command)?;
+    let partition = required_argument(alloc, "partition", help::PARTITION);
+    let command = with_argument(command, partition)?;
+    let symbols = text_argument(alloc, "symbols", help::SYMBOLS);
+    let command = with_argument(command, symbols)?;
+    let format = text_argument(alloc, "format", help::FORMAT);
+    let command = with_argument(command, format)?;
+    Ok(command)
 }
 
-/// The command with the arguments OLD and NEW behind those that it has.
-fn with_old_and_new<'a>(alloc: Global, command: Command<'a>) -> Result<Command<'a>, AllocError>
-    ensures { IfOk result (λ c. (app_of c ≡ with_rule (with_rule (app_of command.entry) (required_word (codes "OLD"))) (required_word (codes "NEW")))
+/// The command with FILE, `--ticks N` and `--root DIR` behind the arguments that it has.
+fn with_run<'a>(alloc: Global, command: Command<'a>) -> Result<Command<'a>, AllocError>
+    ensures { IfOk result (λ c. (app_of c ≡ run_rules (app_of command.entry))
         × ((out-Command c).has_globals ≡ (out-Command command.entry).has_globals)) }
 {
-    command
-        .arg(word_argument(alloc, "OLD", help::OLD))?
-        .arg(word_argument(alloc, "NEW", help::NEW))
+    let file = word_argument(alloc, "FILE", help::CONFIGURATION);
+    let command = with_argument(command, file)?;
+    let ticks = ticks_argument(alloc, "ticks", help::TICKS).required(true);
+    let command = with_argument(command, ticks)?;
+    let root = text_argument(alloc, "root", help::ROOT);
+    with_argument(command, root)
 }
 
-/// The command with the options `--partition NAME` and `--rename` behind the arguments that it has.
-fn with_choice_of_partitions<'a>(
-    alloc: Global,
-    command: Command<'a>,
-) -> Result<Command<'a>, AllocError>
-    ensures { IfOk result (λ c. (app_of c ≡ with_rule (with_rule (app_of command.entry) (text_option (codes "partition"))) (text_option (codes "rename")))
+/// The command with one more argument, which is not global.
+fn with_argument<'a>(command: Command<'a>, argument: Arg<'a>) -> Result<Command<'a>, AllocError>
+    requires { argument.global ≡ false }
+    ensures { IfOk result (λ c. (app_of c ≡ with_rule (app_of command.entry) (rule_of argument.entry))
         × ((out-Command c).has_globals ≡ (out-Command command.entry).has_globals)) }
 {
-    command
-        .arg(text_argument(alloc, "partition", help::ONE_PARTITION))?
-        .arg(text_argument(alloc, "rename", help::RENAME))
+    command.arg(argument)
 }
 
 /// A word that has to be there, with what help says of it.
@@ -168,25 +247,28 @@ fn text_argument<'a>(alloc: Global, name: &'a str, help: &'a str) -> Arg<'a>
     Arg::new(alloc, name).long(name).help(help)
 }
 
-/// `--ticks N`.
-fn ticks_argument<'a>(alloc: Global) -> Arg<'a>
-    ensures rule { rule_of result ≡ ticks }
+/// An option of this name whose value is a text and has to be there, with what help says of it.
+fn required_argument<'a>(alloc: Global, name: &'a str, help: &'a str) -> Arg<'a>
+    ensures rule { rule_of result ≡ required_option name.entry.now }
     ensures own { result.global ≡ false }
 {
-    number_argument(alloc, "ticks", help::TICKS).required(true)
+    Arg::new(alloc, name).long(name).help(help).required(true)
 }
 
-/// `--from M`, which may be left out.
-fn from_argument<'a>(alloc: Global) -> Arg<'a>
-    ensures rule { rule_of result ≡ from }
+/// A flag of this name, with what help says of it.
+fn flag_argument<'a>(alloc: Global, name: &'a str, help: &'a str) -> Arg<'a>
+    ensures rule { rule_of result ≡ flag name.entry.now }
     ensures own { result.global ≡ false }
 {
-    number_argument(alloc, "from", help::FROM)
+    Arg::new(alloc, name)
+        .long(name)
+        .help(help)
+        .action(ArgAction::SetTrue)
 }
 
 /// An option of this name whose value is a number of ticks, with what help says of it.
-fn number_argument<'a>(alloc: Global, name: &'a str, help: &'a str) -> Arg<'a>
-    ensures rule { rule_of result ≡ number_option name.entry.now }
+fn ticks_argument<'a>(alloc: Global, name: &'a str, help: &'a str) -> Arg<'a>
+    ensures rule { rule_of result ≡ ticks_option name.entry.now }
     ensures own { result.global ≡ false }
 {
     Arg::new(alloc, name)
@@ -195,24 +277,24 @@ fn number_argument<'a>(alloc: Global, name: &'a str, help: &'a str) -> Arg<'a>
         .value_parser(value_parser!(u64).range(0..=1_099_511_627_776))
 }
 
-/// `--partition NAME`.
-fn partition_argument<'a>(alloc: Global) -> Arg<'a>
-    ensures rule { rule_of result ≡ partition }
+/// `--thread K`.
+fn thread_argument<'a>(alloc: Global) -> Arg<'a>
+    ensures rule { rule_of result ≡ number_option (codes "thread") 1 32 }
     ensures own { result.global ≡ false }
 {
-    Arg::new(alloc, "partition")
-        .long("partition")
-        .help(help::PARTITION)
-        .required(true)
+    Arg::new(alloc, "thread")
+        .long("thread")
+        .help(help::THREAD)
+        .value_parser(value_parser!(u64).range(1..=32))
 }
 
-/// `--explain`, a flag.
-fn explain_argument<'a>(alloc: Global) -> Arg<'a>
-    ensures rule { rule_of result ≡ explain }
+/// `--last K`.
+fn last_argument<'a>(alloc: Global) -> Arg<'a>
+    ensures rule { rule_of result ≡ number_option (codes "last") 1 1048576 }
     ensures own { result.global ≡ false }
 {
-    Arg::new(alloc, "explain")
-        .long("explain")
-        .help(help::EXPLAIN)
-        .action(ArgAction::SetTrue)
+    Arg::new(alloc, "last")
+        .long("last")
+        .help(help::LAST)
+        .value_parser(value_parser!(u64).range(1..=1_048_576))
 }

@@ -12,6 +12,7 @@ pub(crate) const PTK_AFTER: &str = "Exit status:
   1  what was given is refused; a line on standard error says what
   2  the words ask for nothing that the program does
   3  the host failed: ptk: read failed NAME, ptk: write failed, ptk: no memory
+  4  a run is not as --expect or --fail-on wants it
 
 Example:
   ptk run hello.toml --ticks 20
@@ -33,9 +34,11 @@ Exit status:
   1  ptk: config fault N (see 'ptk check --help'), ptk: missing file NAME, ptk: not text NAME
   2  usage
   3  ptk: read failed NAME, ptk: write failed, ptk: no memory
+  4  the report is not the one expected, or a partition is of a kind to fail on; it is printed all the same
 
 Example:
-  ptk run hello.toml --ticks 20";
+  ptk run hello.toml --ticks 20
+  ptk run hello.toml --ticks 20 --expect hello.report --fail-on fault,refused";
 
 /// What `trace` does.
 pub(crate) const TRACE: &str =
@@ -45,50 +48,65 @@ pub(crate) const TRACE: &str =
 pub(crate) const TRACE_AFTER: &str =
     "A line is TICK THREAD PC WORD A0: the tick at which the step began, its thread, \
     the address and the word of
-its instruction, and a0 after it. There are at most as many lines as the section's key trace says.
+its instruction, and a0 after it. There are at most as many lines as the section's key trace says,
+or as --last says: the run is the same. --symbols, --thread, --calls, --from and --to are options of --decode.
 
 Exit status:
   0  the trace is printed
   1  ptk: config fault N (see 'ptk check --help'), ptk: no partition NAME, ptk: missing file NAME,
-     ptk: not text NAME
-  2  usage
+     ptk: not text NAME, ptk: symbols NAME line L
+  2  usage; one of those options without --decode
   3  ptk: read failed NAME, ptk: write failed, ptk: no memory
 
 Example:
-  ptk trace hello.toml --ticks 20 --partition p";
+  ptk trace hello.toml --ticks 20 --partition p
+  ptk trace hello.toml --ticks 20 --partition p --decode --symbols hello.sym --last 100000";
 
 /// What `timeline` does.
 pub(crate) const TIMELINE: &str =
-    "Runs a system and prints a picture of what each thread was, as SVG for any browser";
+    "Runs a system and prints a picture of what each thread was, for a browser or another viewer";
 
 /// What the picture has, the refusals of `timeline`, and an example.
 pub(crate) const TIMELINE_AFTER: &str =
     "A lane for each partition, its windows shaded, in it a row for each thread: running, ready, \
     blocked on what, ended. Up to
-1000 ticks a column is a tick; of more, what held longest in the column, with a mark where there was something else.
+1000 ticks a column is a tick; of more, what held longest in the column, with a mark where there was something else. With
+--format vcd a Value Change Dump, for GTKWave; with --format json trace events, for Perfetto.
 
 Exit status:
   0  the picture is printed
-  1  ptk: config fault N (see 'ptk check --help'), ptk: missing file NAME, ptk: not text NAME
+  1  ptk: config fault N (see 'ptk check --help'), ptk: missing file NAME, ptk: not text NAME,
+     ptk: nothing to show from tick M: M is at the run's end or behind it
   2  usage
   3  ptk: read failed NAME, ptk: write failed, ptk: no memory
 
 Example:
-  ptk timeline hello.toml --ticks 20 > hello.svg";
+  ptk timeline hello.toml --ticks 20 > hello.svg
+  ptk timeline hello.toml --ticks 20 --format vcd > hello.vcd";
 
 /// What `asm` does.
 pub(crate) const ASM: &str = "Makes an image of a source in assembly";
 
 /// The kinds of an assembler's faults, and an example.
-pub(crate) const ASM_AFTER: &str = "Exit status:
-  0  the image is written
+pub(crate) const ASM_AFTER: &str = "The kinds K of a source's faults:
+  1  a wrong token: missing or extra punctuation or operand, no number in its place
+  2  an unknown mnemonic, no name in its place, or a mnemonic of another section
+  3  an unknown register
+  4  a number, distance, offset or section out of range
+  5  an unknown label
+  6  a doubled label
+  7  out of memory, which is printed as ptk: no memory
+
+Exit status:
+  0  the image is written, and the labels
   1  ptk: asm line L fault K: the source is refused at line L, counted from 1; nothing is written. ptk: missing
      file NAME, ptk: not text NAME
-  2  usage
+  2  usage; two of IN, OUT and the file of --symbols are one file
   3  ptk: read failed NAME, ptk: write failed, ptk: no memory
 
 Example:
-  ptk asm hello.s hello.img";
+  ptk asm hello.s hello.img
+  ptk asm hello.s hello.img --symbols hello.sym";
 
 /// What `disasm` does.
 pub(crate) const DISASM: &str = "Prints the assembly source of an image, a line for each word";
@@ -97,17 +115,20 @@ pub(crate) const DISASM: &str = "Prints the assembly source of an image, a line 
 pub(crate) const DISASM_AFTER: &str =
     "'ptk asm' makes the same image of that source. The comment of a line has its address and its word, and behind -> \
     the address
-that a branch or a jump goes to. A word that is no instruction is written as .word.
+that a branch or a jump goes to. A word that is no instruction is written as .word. With
+--symbols the names of both addresses stand in the comment too.
 
 Exit status:
   0  the source is written
   1  ptk: image IMAGE fault N (see 'ptk check --help'), ptk: image IMAGE too long SECTION: its text, data or
-     bss is longer than the 1048576 bytes that a source may have, ptk: missing file IMAGE
+     bss is longer than the 1048576 bytes that a source may have, ptk: missing file NAME, ptk: not text NAME,
+     ptk: symbols NAME line L
   2  usage
-  3  ptk: read failed IMAGE, ptk: write failed, ptk: no memory
+  3  ptk: read failed NAME, ptk: write failed, ptk: no memory
 
 Example:
-  ptk disasm hello.img";
+  ptk disasm hello.img
+  ptk disasm hello.img --symbols hello.sym";
 
 /// What `check` does.
 pub(crate) const CHECK: &str =
@@ -214,3 +235,72 @@ pub(crate) const IMAGE_READ: &str = "The image";
 /// The file of a source that is written.
 pub(crate) const TEXT: &str =
     "The source, made anew or written over; standard output where it is left out";
+
+/// The file that a report is compared with.
+pub(crate) const EXPECT: &str =
+    "Compare the report with this file; where a byte differs, say where, and end with status 4";
+
+/// The kinds at which a run fails.
+pub(crate) const FAIL_ON: &str =
+    "End with status 4 where a partition is one of these: fault, refused, idle, with commas between them";
+
+/// Whether a run ends early.
+pub(crate) const UNTIL_HALTED: &str = "Stop at the first tick at which every partition has halted";
+
+/// Whether progress is shown.
+pub(crate) const QUIET: &str = "Show no progress";
+
+/// Whether a refusal is explained.
+pub(crate) const EXPLAIN_FAULT: &str = "Also print where and why the configuration is refused";
+
+/// Whether a trace has the instructions in words.
+pub(crate) const DECODE: &str =
+    "Behind each step its instruction in words, and of a call its name and its reply";
+
+/// The file of an image's symbols.
+pub(crate) const SYMBOLS: &str = "The image's symbols, a line for each: ADDRESS LETTER NAME";
+
+/// The file that an image's symbols are written to.
+pub(crate) const LABELS: &str =
+    "Write the labels to this file, as --symbols of the other commands reads them";
+
+/// The one thread of a trace.
+pub(crate) const THREAD: &str = "Show the steps of this thread alone: 1 to 32";
+
+/// Whether a trace has calls alone.
+pub(crate) const CALLS: &str = "Show the steps that are calls alone";
+
+/// The first tick of a trace.
+pub(crate) const FROM_TICK: &str = "Show the steps that began at this tick or later";
+
+/// The last tick of a trace.
+pub(crate) const TO_TICK: &str = "Show the steps that began at this tick or before";
+
+/// The length of a trace.
+pub(crate) const LAST: &str =
+    "Keep this number of steps in place of the configuration's: 1 to 1048576";
+
+/// The form of a picture.
+pub(crate) const PICTURE_FORMAT: &str = "svg, vcd or json; svg where it is left out";
+
+/// Whether a source's refusal is explained.
+pub(crate) const EXPLAIN_SOURCE: &str = "Also print where and why the source is refused, in words";
+
+/// The folder of the images.
+pub(crate) const ROOT: &str =
+    "Look up images from this folder; from the working directory where it is left out";
+
+/// What `explain` does.
+pub(crate) const EXPLAIN_RUN: &str =
+    "Runs a system and says in words what one partition does then, and what its threads wait for";
+
+/// The refusals of `explain`, and an example.
+pub(crate) const EXPLAIN_RUN_AFTER: &str = "Exit status:
+  0  it is printed
+  1  ptk: config fault N (see 'ptk check --help'), ptk: no partition NAME, ptk: missing file NAME,
+     ptk: not text NAME, ptk: symbols NAME line L
+  2  usage
+  3  ptk: read failed NAME, ptk: write failed, ptk: no memory
+
+Example:
+  ptk explain hello.toml --ticks 20 --partition p";

@@ -1,113 +1,39 @@
 //! The words of a command line and the request in them.
 ghost use Rattle.std.specs.Prelude.{◌≡◌, [], codes, map, IfErr, IfOk, OnOk};
 ghost use Rattle.clap.specs.Values.{kind_of};
-ghost use Rattle.clap.specs.Words.{fault_of, first_of, found_of, rows_of, subcommand_rows_of};
-ghost use Rattle.clap.specs.declared.error.kind.ErrorKind.TheVariants.{InvalidValue, ValueValidation};
+ghost use Rattle.clap.specs.Words.{fault_of, found_of, rows_of, subcommand_rows_of};
+ghost use Rattle.clap.specs.declared.error.kind.ErrorKind.TheVariants.{ArgumentConflict, InvalidValue, MissingRequiredArgument, ValueValidation};
 ghost use Rattle.ptk_main_line.specs.CommandLine.{Asks, IsRefusal, MeansAny, ptk};
-ghost use Rattle.ptk_main_line.specs.CommandLine.{FindsFrom, FindsRequest, FindsTicks, HasFlag, format_named, format_of};
+ghost use Rattle.ptk_main_line.specs.Requests.{FindsRequest, FindsRunTo};
 
 use crate::commands::ptk_command;
+use crate::requests::{
+    AsmOptions, CheckOptions, DisasmOptions, ExplainOptions, ImpactOptions, Request, RunOptions,
+    RunTo, TimelineOptions, TraceOptions,
+};
+use crate::values::{
+    format_in, has_flag, kinds_in, number_in, option_in, optional_number_in, picture_format_in,
+    text_in,
+};
 use clap::error::ErrorKind;
-use clap::parser::ValueSource;
 use clap::{ArgMatches, Error};
 use std::alloc::{AllocError, Global};
 
 /// The last tick that a run may go to.
 pub const MOST_TICKS: u64 = 1_099_511_627_776;
 
-/// What a command line asks for. A file is named by its path from the working directory.
-#[derive(Clone, Copy, Debug, PartialEq, Eq)]
-pub enum Request<'a> {
-    /// `run FILE --ticks N`: the report after a run of so many ticks.
-    Run {
-        /// The configuration's file.
-        file: &'a str,
-        /// The number of ticks, at most `MOST_TICKS`.
-        ticks: u64,
-    },
-    /// `trace FILE --ticks N --partition NAME`: the trace of one partition after such a run.
-    Trace {
-        /// The configuration's file.
-        file: &'a str,
-        /// The number of ticks, at most `MOST_TICKS`.
-        ticks: u64,
-        /// The partition's name.
-        partition: &'a str,
-    },
-    /// `timeline FILE --ticks N [--from M]`: the picture of such a run from a tick on.
-    Timeline {
-        /// The configuration's file.
-        file: &'a str,
-        /// The number of ticks, at most `MOST_TICKS`.
-        ticks: u64,
-        /// The first tick that is shown, at most `MOST_TICKS`; 0 where it is not given.
-        from: u64,
-    },
-    /// `asm IN OUT`: the image of an assembler text.
-    Asm {
-        /// The file of the text.
-        source: &'a str,
-        /// The file that the image is written to.
-        image: &'a str,
-    },
-    /// `disasm IMAGE [OUT]`: the assembler text of an image.
-    Disasm {
-        /// The file of the image.
-        image: &'a str,
-        /// The file that the text is written to; standard output where it is not given.
-        target: Option<&'a str>,
-    },
-    /// `check FILE [--explain]`: whether the configuration and the images that it names are in order.
-    Check {
-        /// The configuration's file.
-        file: &'a str,
-        /// Whether what it comes to, or where and why it is refused, is to be told besides.
-        explain: bool,
-    },
-    /// `impact OLD NEW [--partition NAME] [--rename OLD=NEW[,OLD=NEW]...] [--format FORMAT]`: what a new configuration
-    /// can change.
-    Impact {
-        /// The old configuration's file.
-        old: &'a str,
-        /// The new configuration's file.
-        new: &'a str,
-        /// The name of the one partition that is asked for, None where all are.
-        partition: Option<&'a str>,
-        /// The partitions that have another name, as they were written; None where none has.
-        rename: Option<&'a str>,
-        /// The form of the answer.
-        format: Format,
-    },
-}
+/// The greatest number of a thread.
+pub const MOST_THREADS: u64 = 32;
 
-/// The form of an answer.
-#[derive(Clone, Copy, Debug, PartialEq, Eq)]
-pub enum Format {
-    /// Lines of text.
-    Text,
-    /// One JSON object.
-    Json,
-}
-
-impl Format {
-    /// The form that a word names, None where it names none.
-    fn named(word: &str) -> Option<Format>
-        ensures { result ≡ format_named word.now }
-    {
-        match word {
-            "text" => Some(Format::Text),
-            "json" => Some(Format::Json),
-            _other => None,
-        }
-    }
-}
+/// The greatest number of steps that a trace may keep on request.
+pub const MOST_STEPS: u64 = 1_048_576;
 
 /// Reads the words of a command line, of which the first is the program's name.
 ///
 /// An error has one of the kinds that `clap` gives the words: `DisplayHelp` where they ask for help, and otherwise what is
 /// wrong with them. Its kind is `InvalidValue` where `clap` takes the words and they ask for nothing: the value of
-/// `--format` is another word. It is `OutOfMemory` where memory runs out. An argument and its values are read as `clap` reads them, so options may stand
-/// before or after FILE, and `--ticks=N` is `--ticks N`.
+/// `--format` or `--fail-on` is another word. It is `OutOfMemory` where memory runs out. An argument and its values are read
+/// as `clap` reads them, so options may stand before or after FILE, and `--ticks=N` is `--ticks N`.
 pub fn read_line<'a>(alloc: Global, words: &'a [&'a str]) -> Result<Request<'a>, Error>
     ensures asked { IfOk result (λ r. Asks (map (λ w. w.now) words.entry.now) r) }
     ensures taken { OnOk result (fault_of ptk (map (λ w. w.now) words.entry.now) ≡ []) }
@@ -121,14 +47,14 @@ pub fn read_line<'a>(alloc: Global, words: &'a [&'a str]) -> Result<Request<'a>,
     }
 }
 
-/// The error of words that are taken and ask for nothing: the value of `--format` names no form.
+/// The error of words that are taken and ask for nothing: a value is none of the words that its option takes.
 fn no_request(alloc: Global) -> Result<Error, AllocError>
     ensures { IfOk result (λ e. kind_of e ≡ InvalidValue) }
 {
     let mut command = ptk_command(alloc)?;
     command.error(
         ErrorKind::InvalidValue,
-        "the value of --format is text or json",
+        "the value of --format or --fail-on is none of the words that --help names",
     )
 }
 
@@ -140,6 +66,30 @@ pub fn not_text(alloc: Global) -> Result<Error, AllocError>
 {
     let mut command = ptk_command(alloc)?;
     command.error(ErrorKind::ValueValidation, "a word is not UTF-8")
+}
+
+/// The error of `asm` where two of its files are one, of which one would be written over: a usage error. An error where
+/// memory runs out.
+pub fn one_file(alloc: Global) -> Result<Error, AllocError>
+    ensures { IfOk result (λ e. kind_of e ≡ ArgumentConflict) }
+{
+    let mut command = ptk_command(alloc)?;
+    command.error(
+        ErrorKind::ArgumentConflict,
+        "two of IN, OUT and the file of --symbols are one file",
+    )
+}
+
+/// The error of `trace` where an option chooses what is shown and `--decode` is not given: a usage error. An error where
+/// memory runs out.
+pub fn undecoded(alloc: Global) -> Result<Error, AllocError>
+    ensures { IfOk result (λ e. kind_of e ≡ MissingRequiredArgument) }
+{
+    let mut command = ptk_command(alloc)?;
+    command.error(
+        ErrorKind::MissingRequiredArgument,
+        "--symbols, --thread, --calls, --from and --to are options of --decode",
+    )
 }
 
 /// The request in the matches, if they have one.
@@ -155,127 +105,141 @@ fn request_in<'a>(matches: &ArgMatches<'a>) -> Option<Request<'a>>
         "check" => check_in(found),
         "disasm" => disasm_in(found),
         "impact" => impact_in(found),
+        "explain" => explain_in(found),
         _other => None,
     }
+}
+
+/// The run in the matches of a command that looks at one.
+fn run_to_in<'a>(found: &ArgMatches<'a>) -> Option<RunTo<'a>>
+    ensures { FindsRunTo result (rows_of (found_of found.now)) }
+{
+    let file = text_in(found, "FILE")?;
+    let ticks = number_in(found, "ticks", 0, MOST_TICKS)?;
+    let root = option_in(found, "root");
+    Some(RunTo { file, ticks, root })
 }
 
 /// The request in the matches of `run`.
 fn run_in<'a>(found: &ArgMatches<'a>) -> Option<Request<'a>>
     ensures { FindsRequest result (codes "run") (rows_of (found_of found.now)) }
 {
-    let file = found.get_str("FILE")?;
-    let ticks = ticks_in(found, "ticks")?;
-    Some(Request::Run { file, ticks })
+    let run = run_to_in(found)?;
+    let fail_on = kinds_in(found)?;
+    let format = format_in(found)?;
+    Some(Request::Run(RunOptions {
+        run,
+        expect: option_in(found, "expect"),
+        fail_on,
+        until_halted: has_flag(found, "until-halted"),
+        quiet: has_flag(found, "quiet"),
+        format,
+        explain: has_flag(found, "explain"),
+    }))
 }
 
 /// The request in the matches of `trace`.
 fn trace_in<'a>(found: &ArgMatches<'a>) -> Option<Request<'a>>
     ensures { FindsRequest result (codes "trace") (rows_of (found_of found.now)) }
 {
-    let file = found.get_str("FILE")?;
-    let ticks = ticks_in(found, "ticks")?;
-    let partition = found.get_str("partition")?;
-    Some(Request::Trace {
-        file,
-        ticks,
+    let run = run_to_in(found)?;
+    let partition = text_in(found, "partition")?;
+    let thread = optional_number_in(found, "thread", 1, MOST_THREADS)?;
+    let from = optional_number_in(found, "from", 0, MOST_TICKS)?;
+    let to = optional_number_in(found, "to", 0, MOST_TICKS)?;
+    let last = optional_number_in(found, "last", 1, MOST_STEPS)?;
+    Some(Request::Trace(TraceOptions {
+        run,
         partition,
-    })
+        decode: has_flag(found, "decode"),
+        symbols: option_in(found, "symbols"),
+        thread,
+        calls: has_flag(found, "calls"),
+        from,
+        to,
+        last,
+        explain: has_flag(found, "explain"),
+    }))
 }
 
 /// The request in the matches of `timeline`.
 fn timeline_in<'a>(found: &ArgMatches<'a>) -> Option<Request<'a>>
     ensures { FindsRequest result (codes "timeline") (rows_of (found_of found.now)) }
 {
-    let file = found.get_str("FILE")?;
-    let ticks = ticks_in(found, "ticks")?;
-    let from = from_in(found)?;
-    Some(Request::Timeline { file, ticks, from })
+    let run = run_to_in(found)?;
+    let from = optional_number_in(found, "from", 0, MOST_TICKS)?;
+    let format = picture_format_in(found)?;
+    Some(Request::Timeline(TimelineOptions { run, from, format }))
 }
 
 /// The request in the matches of `asm`.
 fn asm_in<'a>(found: &ArgMatches<'a>) -> Option<Request<'a>>
     ensures { FindsRequest result (codes "asm") (rows_of (found_of found.now)) }
 {
-    let source = found.get_str("IN")?;
-    let image = found.get_str("OUT")?;
-    Some(Request::Asm { source, image })
+    let source = text_in(found, "IN")?;
+    let image = text_in(found, "OUT")?;
+    Some(Request::Asm(AsmOptions {
+        source,
+        image,
+        symbols: option_in(found, "symbols"),
+        explain: has_flag(found, "explain"),
+    }))
 }
 
 /// The request in the matches of `disasm`.
 fn disasm_in<'a>(found: &ArgMatches<'a>) -> Option<Request<'a>>
     ensures { FindsRequest result (codes "disasm") (rows_of (found_of found.now)) }
 {
-    let image = found.get_str("IMAGE")?;
-    let target = found.get_str("OUT");
-    Some(Request::Disasm { image, target })
+    let image = text_in(found, "IMAGE")?;
+    Some(Request::Disasm(DisasmOptions {
+        image,
+        target: option_in(found, "OUT"),
+        symbols: option_in(found, "symbols"),
+    }))
 }
 
 /// The request in the matches of `check`.
 fn check_in<'a>(found: &ArgMatches<'a>) -> Option<Request<'a>>
     ensures { FindsRequest result (codes "check") (rows_of (found_of found.now)) }
 {
-    let file = found.get_str("FILE")?;
-    let explain = explain_in(found);
-    Some(Request::Check { file, explain })
+    let file = text_in(found, "FILE")?;
+    let format = format_in(found)?;
+    Some(Request::Check(CheckOptions {
+        file,
+        root: option_in(found, "root"),
+        explain: has_flag(found, "explain"),
+        format,
+    }))
 }
 
 /// The request in the matches of `impact`.
 fn impact_in<'a>(found: &ArgMatches<'a>) -> Option<Request<'a>>
     ensures { FindsRequest result (codes "impact") (rows_of (found_of found.now)) }
 {
-    let old = found.get_str("OLD")?;
-    let new = found.get_str("NEW")?;
-    let partition = found.get_str("partition");
-    let rename = found.get_str("rename");
+    let old = text_in(found, "OLD")?;
+    let new = text_in(found, "NEW")?;
     let format = format_in(found)?;
-    Some(Request::Impact {
+    Some(Request::Impact(ImpactOptions {
         old,
         new,
-        partition,
-        rename,
+        partition: option_in(found, "partition"),
+        rename: option_in(found, "rename"),
         format,
-    })
+        root: option_in(found, "root"),
+    }))
 }
 
-/// The form that `--format` names, `Format::Text` where it is not given. None where its value names none.
-fn format_in(found: &ArgMatches) -> Option<Format>
-    ensures { result ≡ format_of (first_of (codes "format") (rows_of (found_of found.now))) }
+/// The request in the matches of `explain`.
+fn explain_in<'a>(found: &ArgMatches<'a>) -> Option<Request<'a>>
+    ensures { FindsRequest result (codes "explain") (rows_of (found_of found.now)) }
 {
-    match found.get_str("format") {
-        Some(word) => Format::named(word),
-        None => Some(Format::Text),
-    }
-}
-
-/// Whether the words have `--explain`.
-#[tactic(auto, using(crate::proofs::RowFacts::source_is))]
-fn explain_in(found: &ArgMatches) -> bool
-    ensures { HasFlag (codes "explain") result (rows_of (found_of found.now)) }
-{
-    matches!(
-        found.value_source("explain"),
-        Some(ValueSource::CommandLine)
-    )
-}
-
-/// The value of an argument, where it is a number of at most `MOST_TICKS`.
-fn ticks_in(found: &ArgMatches, id: &str) -> Option<u64>
-    ensures { FindsTicks id.now result (rows_of (found_of found.now)) }
-{
-    let ticks = found.get_one::<u64>(id)?;
-    if ticks <= MOST_TICKS {
-        Some(ticks)
-    } else {
-        None
-    }
-}
-
-/// The value of `--from`, where it is a number of at most `MOST_TICKS`; 0 where it is not given.
-fn from_in(found: &ArgMatches) -> Option<u64>
-    ensures { FindsFrom result (rows_of (found_of found.now)) }
-{
-    match found.get_str("from") {
-        Some(_) => ticks_in(found, "from"),
-        None => Some(0),
-    }
+    let run = run_to_in(found)?;
+    let partition = text_in(found, "partition")?;
+    let format = format_in(found)?;
+    Some(Request::Explain(ExplainOptions {
+        run,
+        partition,
+        symbols: option_in(found, "symbols"),
+        format,
+    }))
 }

@@ -1,7 +1,7 @@
-//! Tests of the texts that the program reads and of the lines that it writes of faults: the public calls of `ptk_config`,
-//! `ptk_config_places`, `ptk_config_table`, `ptk_main_line` and `ptk_main_faults`, a file for each. They use public names alone and
-//! stand apart, so that those crates are proved once and not a second time with their tests. There is no other code here, and
-//! nothing stands above.
+//! Tests of the texts that the program reads and of the lines that it writes of faults: the public calls of
+//! `ptk_config`, `ptk_config_places`, `ptk_config_table`, `ptk_main_line`, `ptk_main_faults` and `ptk_symbols`, a file
+//! for each. They use public names alone and stand apart, so that those crates are proved once and not a second time
+//! with their tests. There is no other code here, and nothing stands above.
 #![tactic(auto)]
 
 #[cfg(test)]
@@ -14,3 +14,5 @@ mod config_table;
 mod main_faults;
 #[cfg(test)]
 mod main_line;
+#[cfg(test)]
+mod symbols;

@@ -1,7 +1,7 @@
 //! Each line of the table with its status, and the line of each refusal.
 
 use ptk_config::{ConfigFault, read_config};
-use ptk_main_faults::{Fault, fault_line};
+use ptk_main_faults::{FailureKind, Fault, fault_line};
 use ptk_words::ImageFault;
 use ptk_words_windows::WindowFault;
 use std::alloc::{AllocError, Global};
@@ -15,7 +15,7 @@ fn told(alloc: Global, fault: &Fault) -> Result<(u8, Vec<u8>), Fail> {
 }
 
 /// Faults with their line and status.
-const LINES: [(Fault<'static>, &str, u8); 10] = [
+const LINES: [(Fault<'static>, &str, u8); 14] = [
     (Fault::Config(4), "ptk: config fault 4\n", 1),
     (Fault::ConfigWindow(2), "ptk: config fault 7 window 2\n", 1),
     (Fault::Asm(2, 4), "ptk: asm line 2 fault 4\n", 1),
@@ -28,6 +28,22 @@ const LINES: [(Fault<'static>, &str, u8); 10] = [
     (Fault::NotText("a.toml"), "ptk: not text a.toml\n", 1),
     (Fault::NoPartition("z"), "ptk: no partition z\n", 1),
     (Fault::ReadFailed("p.img"), "ptk: read failed p.img\n", 3),
+    (Fault::Symbols("p.sym", 3), "ptk: symbols p.sym line 3\n", 1),
+    (
+        Fault::NothingFrom(20),
+        "ptk: nothing to show from tick 20\n",
+        1,
+    ),
+    (
+        Fault::Differs(12, 2, Some(65), None),
+        "ptk: report differs at byte 12 line 2: got 65, expected end\n",
+        4,
+    ),
+    (
+        Fault::FailedOn("p", FailureKind::Idle),
+        "ptk: partition p is idle\n",
+        4,
+    ),
     (Fault::WriteFailed, "ptk: write failed\n", 3),
     (Fault::NoMemory, "ptk: no memory\n", 3),
 ];

@@ -1,8 +1,10 @@
 //! Each subcommand once with its values, the bounds of N, and the kinds of the errors.
 
+use clap::Error;
 use clap::error::ErrorKind;
-use ptk_main_line::{Format, Request, not_text, read_line};
+use ptk_main_line::{FailOn, Format, PictureFormat, Request, not_text, read_line, undecoded};
 use std::alloc::{AllocError, Global};
+use std::process::Abort;
 
 /// The kind of the error that the words have and whether it goes to stderr, `None` where they are taken.
 fn refusal(alloc: Global, words: &[&str]) -> Option<(ErrorKind, bool)> {
@@ -12,145 +14,113 @@ fn refusal(alloc: Global, words: &[&str]) -> Option<(ErrorKind, bool)> {
     }
 }
 
-/// Words, and what they ask for.
-const REQUESTS: [(&[&str], Request<'static>); 14] = [
-    (
-        &["ptk", "run", "a.toml", "--ticks", "20"],
-        Request::Run {
-            file: "a.toml",
-            ticks: 20,
-        },
-    ),
-    (
-        &["ptk", "run", "a.toml", "--ticks", "0"],
-        Request::Run {
-            file: "a.toml",
-            ticks: 0,
-        },
-    ),
-    (
-        &["ptk", "run", "a.toml", "--ticks", "1099511627776"],
-        Request::Run {
-            file: "a.toml",
-            ticks: 1_099_511_627_776,
-        },
-    ),
-    (
-        &[
-            "ptk",
-            "trace",
-            "a.toml",
-            "--ticks",
-            "20",
-            "--partition",
-            "p",
-        ],
-        Request::Trace {
-            file: "a.toml",
-            ticks: 20,
-            partition: "p",
-        },
-    ),
-    (
-        &["ptk", "timeline", "a.toml", "--ticks", "20"],
-        Request::Timeline {
-            file: "a.toml",
-            ticks: 20,
-            from: 0,
-        },
-    ),
-    (
-        &["ptk", "timeline", "a.toml", "--ticks", "20", "--from", "7"],
-        Request::Timeline {
-            file: "a.toml",
-            ticks: 20,
-            from: 7,
-        },
-    ),
-    (
-        &["ptk", "asm", "a.s", "a.img"],
-        Request::Asm {
-            source: "a.s",
-            image: "a.img",
-        },
-    ),
-    (
-        &["ptk", "disasm", "a.img", "a.s"],
-        Request::Disasm {
-            image: "a.img",
-            target: Some("a.s"),
-        },
-    ),
-    (
-        &["ptk", "disasm", "a.img"],
-        Request::Disasm {
-            image: "a.img",
-            target: None,
-        },
-    ),
-    (
-        &["ptk", "check", "a.toml"],
-        Request::Check {
-            file: "a.toml",
-            explain: false,
-        },
-    ),
-    (
-        &["ptk", "check", "a.toml", "--explain"],
-        Request::Check {
-            file: "a.toml",
-            explain: true,
-        },
-    ),
-    (
-        &["ptk", "check", "--explain", "a.toml"],
-        Request::Check {
-            file: "a.toml",
-            explain: true,
-        },
-    ),
-    (
-        &["ptk", "impact", "a.toml", "b.toml"],
-        Request::Impact {
-            old: "a.toml",
-            new: "b.toml",
-            partition: None,
-            rename: None,
-            format: Format::Text,
-        },
-    ),
-    (
-        &[
-            "ptk",
-            "impact",
-            "--rename",
-            "p=q,r=s",
-            "a.toml",
-            "b.toml",
-            "--partition",
-            "q",
-            "--format",
-            "json",
-        ],
-        Request::Impact {
-            old: "a.toml",
-            new: "b.toml",
-            partition: Some("q"),
-            rename: Some("p=q,r=s"),
-            format: Format::Json,
-        },
-    ),
+/// What the words ask for, `None` where they are refused.
+fn request<'a>(alloc: Global, words: &'a [&'a str]) -> Option<Request<'a>> {
+    read_line(alloc, words).ok()
+}
+
+/// Words of `run` with each of its options, and what they ask for.
+const RUN: &[&str] = &[
+    "ptk",
+    "run",
+    "--root",
+    "d",
+    "a.toml",
+    "--ticks",
+    "1099511627776",
+    "--expect",
+    "a.report",
+    "--fail-on",
+    "idle,fault",
+    "--until-halted",
+    "--quiet",
+    "--format",
+    "json",
+    "--explain",
 ];
 
 #[test]
-fn reads_each_request(rt: HostRuntime) {
-    for (words, request) in REQUESTS {
-        assert_eq!(rt; read_line(rt.alloc(), words).ok(), Some(request));
-    }
+fn reads_run(rt: HostRuntime) {
+    let Some(Request::Run(options)) = request(rt.alloc(), RUN) else {
+        rt.abort()
+    };
+    assert_eq!(rt; options.run.file, "a.toml");
+    assert_eq!(rt; options.run.ticks, 1_099_511_627_776);
+    assert_eq!(rt; options.run.root, Some("d"));
+    assert_eq!(rt; options.expect, Some("a.report"));
+    let kinds = FailOn {
+        fault: true,
+        refused: false,
+        idle: true,
+    };
+    assert_eq!(rt; options.fail_on, kinds);
+    assert!(rt; options.until_halted && options.quiet && options.explain);
+    assert_eq!(rt; options.format, Format::Json);
+}
+
+/// Words of `trace` with each of its options, words of it with none, and words of `timeline`.
+const TRACE: &[&str] = &[
+    "ptk",
+    "trace",
+    "a.toml",
+    "--ticks",
+    "20",
+    "--partition",
+    "p",
+    "--decode",
+    "--symbols",
+    "a.sym",
+    "--thread",
+    "32",
+    "--calls",
+    "--from",
+    "3",
+    "--to",
+    "5",
+    "--last",
+    "1048576",
+];
+
+const PLAIN_TRACE: &[&str] = &[
+    "ptk",
+    "trace",
+    "a.toml",
+    "--ticks",
+    "20",
+    "--partition",
+    "p",
+    "--last",
+    "1",
+];
+
+const TIMELINE: &[&str] = &[
+    "ptk", "timeline", "a.toml", "--ticks", "20", "--from", "7", "--format", "vcd",
+];
+
+#[test]
+fn reads_trace_and_timeline(rt: HostRuntime) {
+    let Some(Request::Trace(options)) = request(rt.alloc(), TRACE) else {
+        rt.abort()
+    };
+    assert_eq!(rt; options.run.root, None);
+    assert_eq!(rt; options.partition, "p");
+    assert!(rt; options.decode && options.calls && options.wants_words() && !options.explain);
+    assert_eq!(rt; options.symbols, Some("a.sym"));
+    assert_eq!(rt; (options.thread, options.last), (Some(32), Some(1_048_576)));
+    assert_eq!(rt; (options.from, options.to), (Some(3), Some(5)));
+    let Some(Request::Trace(options)) = request(rt.alloc(), PLAIN_TRACE) else {
+        rt.abort()
+    };
+    assert!(rt; !options.decode && !options.wants_words());
+    let Some(Request::Timeline(options)) = request(rt.alloc(), TIMELINE) else {
+        rt.abort()
+    };
+    assert_eq!(rt; options.from, Some(7));
+    assert_eq!(rt; options.format, PictureFormat::Vcd);
 }
 
 /// Words, and the kind of their error. Help alone does not go to stderr.
-const REFUSALS: [(&[&str], ErrorKind); 20] = [
+const REFUSALS: [(&[&str], ErrorKind); 21] = [
     (
         &["ptk", "run", "a.toml", "--ticks", "1099511627777"],
         ErrorKind::ValueValidation,
@@ -172,8 +142,8 @@ const REFUSALS: [(&[&str], ErrorKind); 20] = [
         ErrorKind::UnknownArgument,
     ),
     (
-        &["ptk", "run", "a.toml", "--ticks", "20", "--explain"],
-        ErrorKind::UnknownArgument,
+        &["ptk", "run", "a.toml", "--ticks", "20", "--fail-on", "halt"],
+        ErrorKind::InvalidValue,
     ),
     (
         &["ptk", "check", "a.toml", "b.toml"],
@@ -210,6 +180,12 @@ const REFUSALS: [(&[&str], ErrorKind); 20] = [
     (
         &["ptk", "trace", "a.toml", "--ticks", "20"],
         ErrorKind::MissingRequiredArgument,
+    ),
+    (
+        &[
+            "ptk", "timeline", "a.toml", "--ticks", "20", "--format", "png",
+        ],
+        ErrorKind::InvalidValue,
     ),
     (&["ptk", "asm", "a.s"], ErrorKind::MissingRequiredArgument),
     (&["ptk", "stop"], ErrorKind::InvalidSubcommand),
@@ -272,7 +248,7 @@ const STATUS: &str = "Exit status:\n  0  ";
 
 const FAULT: &str = "\n  1  ";
 
-const USAGE: &str = "\n  2  usage\n  3  ";
+const USAGE: &str = "\n  2  usage";
 
 /// Whether help says all these parts for the words.
 fn says_all(alloc: Global, words: &[&str], parts: &[&str]) -> Result<bool, AllocError> {
@@ -293,18 +269,22 @@ fn help_says_the_statuses_and_an_example(rt: HostRuntime) -> Result<(), AllocErr
     Ok(())
 }
 
-/// The kind of the error of words that are no text and whether it goes to stderr, `None` where memory ran out.
-fn refusal_of_no_text(alloc: Global) -> Option<(ErrorKind, bool)> {
-    match not_text(alloc) {
+/// The kind of an error and whether it goes to stderr, `None` where memory ran out.
+fn kind_of(error: Result<Error, AllocError>) -> Option<(ErrorKind, bool)> {
+    match error {
         Ok(error) => Some((error.kind(), error.use_stderr())),
         Err(_) => None,
     }
 }
 
 #[test]
-fn words_that_are_no_text_are_a_usage_error(rt: HostRuntime) {
+fn words_that_are_no_text_or_choose_without_decode_are_a_usage_error(rt: HostRuntime) {
     assert_eq!(rt;
-        refusal_of_no_text(rt.alloc()),
+        kind_of(not_text(rt.alloc())),
         Some((ErrorKind::ValueValidation, true))
+    );
+    assert_eq!(rt;
+        kind_of(undecoded(rt.alloc())),
+        Some((ErrorKind::MissingRequiredArgument, true))
     );
 }

@@ -3,14 +3,22 @@
 //! test that has files is a process of its own, and works in a folder of its own, which it removes. A helper that promises
 //! nothing stands between each row and the calls that it tests.
 
-use super::{answer, asm, check_explained, obey, refusal_explained};
+ghost use Rattle.std.specs.Prelude.{◌≡◌, None};
+
+use super::obey;
+use crate::assembling::put_place;
+use crate::checking::{check_config, refusal_explained};
 use crate::disassembling::disasm;
 use crate::reading::{bytes_in, config_in, text_in};
 use crate::telling::usage;
 use crate::{answer_words, unread};
+use ptk_asm::assemble;
 use ptk_asm_model::Section;
 use ptk_main_faults::Fault;
-use ptk_main_line::{Format, Request};
+use ptk_main_line::{
+    AsmOptions, CheckOptions, DisasmOptions, ExplainOptions, FailOn, Format, ImpactOptions,
+    PictureFormat, Request, RunOptions, RunTo, TimelineOptions, TraceOptions,
+};
 use std::alloc::AllocError;
 use std::{env, fs, io};
 
@@ -71,55 +79,160 @@ fn has_bytes(rt: &HostRuntime, name: &str, want: &[u8]) -> bool {
     }
 }
 
-// The status of `run` to 20 ticks.
+// A run of 20 ticks.
+fn run_of(file: &str) -> RunTo<'_>
+    ensures { result.ticks ≡ 20 }
+{
+    RunTo {
+        file,
+        ticks: 20,
+        root: None,
+    }
+}
+
+// A run of 20 ticks with no other option.
+fn plain_run(file: &str) -> RunOptions<'_>
+    ensures { result.run.ticks ≡ 20 }
+{
+    RunOptions {
+        run: run_of(file),
+        expect: None,
+        fail_on: FailOn::NONE,
+        until_halted: false,
+        quiet: true,
+        format: Format::Text,
+        explain: true,
+    }
+}
+
+// The status of `run`.
 fn run_status(rt: &HostRuntime, file: &str) -> u8 {
-    obey(rt, Request::Run { file, ticks: 20 })
+    obey(rt, Request::Run(plain_run(file)))
+}
+
+// The status of `run` whose report is compared with a file.
+fn expect_status<'a>(rt: &HostRuntime, file: &'a str, expected: &'a str) -> u8 {
+    let options = RunOptions {
+        expect: Some(expected),
+        ..plain_run(file)
+    };
+    obey(rt, Request::Run(options))
+}
+
+// The status of `run` with images below a folder.
+fn run_below_status<'a>(rt: &HostRuntime, file: &'a str, root: &'a str) -> u8 {
+    let run = RunTo {
+        root: Some(root),
+        ..run_of(file)
+    };
+    let options = RunOptions {
+        run,
+        ..plain_run(file)
+    };
+    obey(rt, Request::Run(options))
+}
+
+// A trace at 20 ticks with no other option.
+fn plain_trace<'a>(file: &'a str, partition: &'a str) -> TraceOptions<'a>
+    ensures ticks { result.run.ticks ≡ 20 }
+    ensures thread { result.thread ≡ None }
+    ensures last { result.last ≡ None }
+{
+    TraceOptions {
+        run: run_of(file),
+        partition,
+        decode: false,
+        symbols: None,
+        thread: None,
+        calls: false,
+        from: None,
+        to: None,
+        last: None,
+        explain: false,
+    }
 }
 
 // The status of `trace` at 20 ticks.
-fn trace_status(rt: &HostRuntime, file: &str, partition: &str) -> u8 {
-    obey(
-        rt,
-        Request::Trace {
-            file,
-            ticks: 20,
-            partition,
-        },
-    )
+fn trace_status<'a>(rt: &HostRuntime, file: &'a str, partition: &'a str) -> u8 {
+    obey(rt, Request::Trace(plain_trace(file, partition)))
 }
 
-// The status of `timeline` of ticks 5 to 20.
-fn timeline_status(rt: &HostRuntime, file: &str) -> u8 {
-    obey(
-        rt,
-        Request::Timeline {
-            file,
-            ticks: 20,
-            from: 5,
-        },
-    )
+// The status of `trace` in words, where it is asked for, of the last calls of thread 1 in ticks 1 to 5.
+fn calls_status(rt: &HostRuntime, decode: bool, symbols: Option<&str>) -> u8 {
+    let options = TraceOptions {
+        decode,
+        symbols,
+        thread: Some(1),
+        calls: true,
+        from: Some(1),
+        to: Some(5),
+        last: Some(1000),
+        ..plain_trace("hello.toml", "p")
+    };
+    obey(rt, Request::Trace(options))
+}
+
+// The status of `explain` with the symbols in a file.
+fn explanation_status<'a>(
+    rt: &HostRuntime,
+    partition: &'a str,
+    symbols: &'a str,
+    format: Format,
+) -> u8 {
+    let options = ExplainOptions {
+        run: run_of("hello.toml"),
+        partition,
+        symbols: Some(symbols),
+        format,
+    };
+    obey(rt, Request::Explain(options))
+}
+
+// The status of `timeline` from a tick to tick 20.
+fn timeline_status(rt: &HostRuntime, file: &str, from: u64, format: PictureFormat) -> u8 {
+    let options = TimelineOptions {
+        run: run_of(file),
+        from: Some(from),
+        format,
+    };
+    obey(rt, Request::Timeline(options))
+}
+
+// A check with no other option.
+fn plain_check(file: &str) -> CheckOptions<'_> {
+    CheckOptions {
+        file,
+        root: None,
+        explain: false,
+        format: Format::Text,
+    }
+}
+
+// The same with the words of `--explain`.
+fn explained_check(file: &str) -> CheckOptions<'_> {
+    CheckOptions {
+        explain: true,
+        ..plain_check(file)
+    }
 }
 
 // The status of `check`.
 fn check_status(rt: &HostRuntime, file: &str) -> u8 {
-    obey(
-        rt,
-        Request::Check {
-            file,
-            explain: false,
-        },
-    )
+    obey(rt, Request::Check(plain_check(file)))
 }
 
 // The status of `check --explain`.
 fn explain_status(rt: &HostRuntime, file: &str) -> u8 {
-    obey(
-        rt,
-        Request::Check {
-            file,
-            explain: true,
-        },
-    )
+    obey(rt, Request::Check(explained_check(file)))
+}
+
+// The status of `check --format json`.
+fn check_json_status(rt: &HostRuntime, file: &str) -> u8 {
+    let options = CheckOptions {
+        format: Format::Json,
+        ..plain_check(file)
+    };
+    obey(rt, Request::Check(options))
 }
 
 // The status of `impact` in lines of text, of one partition or of all.
@@ -140,32 +253,45 @@ fn impact_status_in<'a>(
     partition: Option<&'a str>,
     format: Format,
 ) -> u8 {
-    obey(
-        rt,
-        Request::Impact {
-            old,
-            new,
-            partition,
-            rename: None,
-            format,
-        },
-    )
+    let options = ImpactOptions {
+        old,
+        new,
+        partition,
+        rename: None,
+        format,
+        root: None,
+    };
+    obey(rt, Request::Impact(options))
 }
 
 // The status of `asm`.
 fn asm_status(rt: &HostRuntime, source: &str, image: &str) -> u8 {
-    obey(rt, Request::Asm { source, image })
+    labels_status(rt, source, image, None)
+}
+
+// The status of `asm` whose labels go into a file.
+fn labels_status(rt: &HostRuntime, source: &str, image: &str, symbols: Option<&str>) -> u8 {
+    let options = AsmOptions {
+        source,
+        image,
+        symbols,
+        explain: true,
+    };
+    obey(rt, Request::Asm(options))
+}
+
+// What `disasm` is asked for.
+fn disasm_into<'a>(image: &'a str, target: &'a str, symbols: Option<&'a str>) -> DisasmOptions<'a> {
+    DisasmOptions {
+        image,
+        target: Some(target),
+        symbols,
+    }
 }
 
 // The status of `disasm` into a file.
-fn disasm_status(rt: &HostRuntime, image: &str, target: &str) -> u8 {
-    obey(
-        rt,
-        Request::Disasm {
-            image,
-            target: Some(target),
-        },
-    )
+fn disasm_status<'a>(rt: &HostRuntime, image: &'a str, target: &'a str) -> u8 {
+    obey(rt, Request::Disasm(disasm_into(image, target, None)))
 }
 
 // The fault of a file that can't be read.
@@ -179,23 +305,9 @@ fn config_fault_in<'a>(rt: &HostRuntime, name: &'a str) -> Option<Fault<'a>> {
 }
 
 // Whether `check` answers this for the configuration in a file.
-fn is_checked(rt: &HostRuntime, file: &str, want: Result<(), Fault<'_>>) -> bool {
-    match config_in(rt, file) {
-        Ok(config) => {
-            let request = Request::Check {
-                file,
-                explain: false,
-            };
-            answer(rt, &config, request) == want
-        }
-        Err(_) => false,
-    }
-}
-
-// Whether `check --explain` answers this for the configuration in a file.
-fn is_explained(rt: &HostRuntime, file: &str, want: Result<(), Fault<'_>>) -> bool {
-    match (text_in(rt, file), config_in(rt, file)) {
-        (Ok(text), Ok(config)) => check_explained(rt, text.as_str(), &config) == want,
+fn is_checked(rt: &HostRuntime, options: CheckOptions<'_>, want: Result<(), Fault<'_>>) -> bool {
+    match (text_in(rt, options.file), config_in(rt, options.file)) {
+        (Ok(text), Ok(config)) => check_config(rt, text.as_str(), &config, options) == want,
         _ => false,
     }
 }
@@ -209,7 +321,7 @@ fn a_file_that_is_not_there_is_refused(rt: HostRuntime) {
     );
     assert_eq!(rt; run_status(&rt, "none.toml"), 1);
     assert_eq!(rt; trace_status(&rt, "none.toml", "p"), 1);
-    assert_eq!(rt; timeline_status(&rt, "none.toml"), 1);
+    assert_eq!(rt; timeline_status(&rt, "none.toml", 5, PictureFormat::Svg), 1);
     assert_eq!(rt; check_status(&rt, "none.toml"), 1);
     assert_eq!(rt; explain_status(&rt, "none.toml"), 1);
     assert_eq!(rt; asm_status(&rt, "none.s", "none.img"), 1);
@@ -228,8 +340,20 @@ fn a_folder_is_a_failed_read(rt: HostRuntime) {
     assert_eq!(rt; run_status(&rt, "."), 3);
     assert!(rt; is_text_written(&rt, "hello.toml", &ALONE));
     assert!(rt; fs::create_dir(&rt, "p.img").is_ok());
-    assert!(rt; is_checked(&rt, "hello.toml", Err(Fault::ReadFailed("p.img"))));
-    assert!(rt; is_explained(&rt, "hello.toml", Err(Fault::ReadFailed("p.img"))));
+    assert!(rt;
+        is_checked(
+            &rt,
+            plain_check("hello.toml"),
+            Err(Fault::ReadFailed("p.img"))
+        )
+    );
+    assert!(rt;
+        is_checked(
+            &rt,
+            explained_check("hello.toml"),
+            Err(Fault::ReadFailed("p.img"))
+        )
+    );
     assert_eq!(rt; run_status(&rt, "hello.toml"), 3);
     assert!(rt; has_left(&rt, "a-folder-is-a-failed-read"));
 }
@@ -248,6 +372,7 @@ fn a_configuration_is_refused_by_its_text(rt: HostRuntime) {
     assert_eq!(rt; run_status(&rt, "empty.toml"), 1);
     assert_eq!(rt; check_status(&rt, "empty.toml"), 1);
     assert_eq!(rt; explain_status(&rt, "empty.toml"), 1);
+    assert_eq!(rt; check_json_status(&rt, "empty.toml"), 1);
     assert_eq!(rt; explain_status(&rt, "bytes.toml"), 1);
     for fault in [Fault::Config(2), Fault::NoMemory] {
         assert_eq!(rt; refusal_explained(&rt, "", fault), fault);
@@ -262,10 +387,28 @@ fn a_missing_image_is_refused(rt: HostRuntime) {
     assert_eq!(rt; run_status(&rt, "two.toml"), 1);
     assert_eq!(rt; check_status(&rt, "two.toml"), 1);
     assert_eq!(rt; explain_status(&rt, "two.toml"), 1);
-    assert!(rt; is_checked(&rt, "two.toml", Err(Fault::MissingFile("p.img"))));
-    assert!(rt; is_explained(&rt, "two.toml", Err(Fault::MissingFile("p.img"))));
+    assert!(rt;
+        is_checked(
+            &rt,
+            plain_check("two.toml"),
+            Err(Fault::MissingFile("p.img"))
+        )
+    );
+    assert!(rt;
+        is_checked(
+            &rt,
+            explained_check("two.toml"),
+            Err(Fault::MissingFile("p.img"))
+        )
+    );
     assert!(rt; is_written(&rt, "p.img", HELLO_IMAGE));
-    assert!(rt; is_checked(&rt, "two.toml", Err(Fault::MissingFile("q.img"))));
+    assert!(rt;
+        is_checked(
+            &rt,
+            plain_check("two.toml"),
+            Err(Fault::MissingFile("q.img"))
+        )
+    );
     assert!(rt; has_left(&rt, "a-missing-image-is-refused"));
 }
 
@@ -275,8 +418,14 @@ fn a_bad_image_is_refused_by_check(rt: HostRuntime) {
     assert!(rt; is_text_written(&rt, "two.toml", &TWO));
     assert!(rt; is_written(&rt, "p.img", HELLO_IMAGE));
     assert!(rt; is_written(&rt, "q.img", b"PTKI"));
-    assert!(rt; is_checked(&rt, "two.toml", Err(Fault::Image("q.img", 1))));
-    assert!(rt; is_explained(&rt, "two.toml", Err(Fault::Image("q.img", 1))));
+    assert!(rt; is_checked(&rt, plain_check("two.toml"), Err(Fault::Image("q.img", 1))));
+    assert!(rt;
+        is_checked(
+            &rt,
+            explained_check("two.toml"),
+            Err(Fault::Image("q.img", 1))
+        )
+    );
     assert_eq!(rt; check_status(&rt, "two.toml"), 1);
     assert_eq!(rt; explain_status(&rt, "two.toml"), 1);
     assert_eq!(rt; run_status(&rt, "two.toml"), 0);
@@ -288,13 +437,36 @@ fn a_sound_configuration_is_done(rt: HostRuntime) {
     assert!(rt; has_entered(&rt, "a-sound-configuration-is-done"));
     assert!(rt; is_text_written(&rt, "hello.toml", &ALONE));
     assert!(rt; is_written(&rt, "p.img", HELLO_IMAGE));
-    assert!(rt; is_checked(&rt, "hello.toml", Ok(())));
+    assert!(rt; is_checked(&rt, plain_check("hello.toml"), Ok(())));
     assert_eq!(rt; check_status(&rt, "hello.toml"), 0);
     assert_eq!(rt; explain_status(&rt, "hello.toml"), 0);
     assert_eq!(rt; run_status(&rt, "hello.toml"), 0);
+    assert!(rt;
+        is_written(
+            &rt,
+            "right",
+            b"partition p exit 0 steps 9 lost 0\noutput 2\nhi\n"
+        )
+    );
+    assert!(rt;
+        is_written(
+            &rt,
+            "wrong",
+            b"partition p exit 0 steps 9 lost 0\noutput 2\nh\n"
+        )
+    );
+    assert_eq!(rt; expect_status(&rt, "hello.toml", "right"), 0);
+    assert_eq!(rt; expect_status(&rt, "hello.toml", "wrong"), 4);
+    assert_eq!(rt; expect_status(&rt, "hello.toml", "none"), 1);
+    assert_eq!(rt; run_below_status(&rt, "hello.toml", "."), 0);
+    assert_eq!(rt; run_below_status(&rt, "hello.toml", "none"), 1);
+    assert_eq!(rt; check_json_status(&rt, "hello.toml"), 0);
     assert_eq!(rt; trace_status(&rt, "hello.toml", "p"), 0);
     assert_eq!(rt; trace_status(&rt, "hello.toml", "z"), 1);
-    assert_eq!(rt; timeline_status(&rt, "hello.toml"), 0);
+    for format in [PictureFormat::Svg, PictureFormat::Vcd, PictureFormat::Json] {
+        assert_eq!(rt; timeline_status(&rt, "hello.toml", 5, format), 0);
+        assert_eq!(rt; timeline_status(&rt, "hello.toml", 20, format), 1);
+    }
     assert!(rt; has_left(&rt, "a-sound-configuration-is-done"));
 }
 
@@ -330,12 +502,48 @@ fn an_image_is_made_of_a_sound_source(rt: HostRuntime) {
     assert_eq!(rt; asm_status(&rt, "hello.s", "hello.img"), 0);
     // Row hello-source.
     assert!(rt; has_bytes(&rt, "hello.img", HELLO_IMAGE));
-    assert_eq!(rt;
-        asm(&rt, "hello.s", "none/hello.img"),
-        Err(Fault::WriteFailed)
-    );
     assert_eq!(rt; asm_status(&rt, "hello.s", "none/hello.img"), 3);
+    assert_eq!(rt; asm_status(&rt, "hello.s", "hello.s"), 2);
+    assert_eq!(rt; asm_status(&rt, "hello.s", "./hello.s"), 2);
+    assert!(rt; has_bytes(&rt, "hello.s", HELLO_SOURCE.as_bytes()));
     assert!(rt; has_left(&rt, "an-image-is-made-of-a-sound-source"));
+}
+
+#[test]
+fn labels_go_to_and_from_a_file(rt: HostRuntime) {
+    assert!(rt; has_entered(&rt, "labels-go-to-and-from-a-file"));
+    assert!(rt; is_text_written(&rt, "hello.toml", &ALONE));
+    assert!(rt; is_text_written(&rt, "hello.s", &["_start:\n", HELLO_SOURCE, "end:\nnop\n"]));
+    assert_eq!(rt; labels_status(&rt, "hello.s", "p.img", Some("p.img")), 2);
+    assert_eq!(rt; labels_status(&rt, "hello.s", "p.img", Some("hello.s")), 2);
+    assert_eq!(rt; fault_in(&rt, "p.img"), Some(Fault::MissingFile("p.img")));
+    assert_eq!(rt;
+        labels_status(&rt, "hello.s", "p.img", Some("none/p.sym")),
+        3
+    );
+    assert_eq!(rt; fault_in(&rt, "p.img"), Some(Fault::MissingFile("p.img")));
+    assert_eq!(rt; labels_status(&rt, "hello.s", "p.img", Some("p.sym")), 0);
+    assert!(rt; has_bytes(&rt, "p.sym", b"00000000 t _start\n00000024 t end\n"));
+    assert_eq!(rt; calls_status(&rt, true, Some("p.sym")), 0);
+    assert_eq!(rt; calls_status(&rt, true, None), 0);
+    assert_eq!(rt; calls_status(&rt, false, None), 2);
+    assert_eq!(rt; calls_status(&rt, true, Some("none.sym")), 1);
+    assert!(rt; is_written(&rt, "bad.sym", b"00000000 t _start\nend\n"));
+    assert_eq!(rt; calls_status(&rt, true, Some("bad.sym")), 1);
+    assert_eq!(rt; explanation_status(&rt, "p", "p.sym", Format::Text), 0);
+    assert_eq!(rt; explanation_status(&rt, "p", "p.sym", Format::Json), 0);
+    assert_eq!(rt; explanation_status(&rt, "p", "bad.sym", Format::Text), 1);
+    assert_eq!(rt; explanation_status(&rt, "q", "p.sym", Format::Text), 1);
+    assert_eq!(rt;
+        disasm(&rt, disasm_into("p.img", "p.s", Some("bad.sym"))),
+        Err(Fault::Symbols("bad.sym", 2))
+    );
+    assert_eq!(rt;
+        disasm(&rt, disasm_into("p.img", "p.s", Some("p.sym"))),
+        Ok(())
+    );
+    assert_eq!(rt; asm_status(&rt, "p.s", "again.img"), 0);
+    assert!(rt; has_left(&rt, "labels-go-to-and-from-a-file"));
 }
 
 #[test]
@@ -344,12 +552,13 @@ fn no_image_is_made_of_another_source(rt: HostRuntime) {
     assert!(rt; is_written(&rt, "bad.s", b"nop\naddi a0, a0, 2048\n"));
     assert!(rt; is_written(&rt, "kept.img", b"kept"));
     // Row operand-out-of-range.
-    assert_eq!(rt; asm(&rt, "bad.s", "kept.img"), Err(Fault::Asm(2, 4)));
     assert_eq!(rt; asm_status(&rt, "bad.s", "kept.img"), 1);
     assert!(rt; is_written(&rt, "bytes.s", b"\xff"));
+    assert_eq!(rt; asm_status(&rt, "bytes.s", "kept.img"), 1);
+    assert_eq!(rt; labels_status(&rt, "bad.s", "kept.img", Some("bad.sym")), 1);
     assert_eq!(rt;
-        asm(&rt, "bytes.s", "kept.img"),
-        Err(Fault::NotText("bytes.s"))
+        fault_in(&rt, "bad.sym"),
+        Some(Fault::MissingFile("bad.sym"))
     );
     assert!(rt; has_bytes(&rt, "kept.img", b"kept"));
     assert!(rt; has_left(&rt, "no-image-is-made-of-another-source"));
@@ -364,12 +573,12 @@ fn a_text_is_made_of_an_image(rt: HostRuntime) {
     assert!(rt; has_bytes(&rt, "again.img", HELLO_IMAGE));
     assert!(rt; is_written(&rt, "short.img", b"PTKI"));
     assert_eq!(rt;
-        disasm(&rt, "short.img", Some("none.s")),
+        disasm(&rt, disasm_into("short.img", "none.s", None)),
         Err(Fault::Image("short.img", 1))
     );
     assert!(rt; is_written(&rt, "long.img", LONG_BSS));
     assert_eq!(rt;
-        disasm(&rt, "long.img", Some("none.s")),
+        disasm(&rt, disasm_into("long.img", "none.s", None)),
         Err(Fault::TooLong("long.img", Section::Bss))
     );
     assert_eq!(rt; fault_in(&rt, "none.s"), Some(Fault::MissingFile("none.s")));
@@ -393,4 +602,27 @@ fn words_have_their_statuses(rt: HostRuntime) {
     assert_eq!(rt; unread(&rt, io::ErrorKind::InvalidData), 2);
     assert_eq!(rt; unread(&rt, io::ErrorKind::OutOfMemory), 3);
     assert_eq!(rt; usage(&rt, &clap::Error::from(AllocError)), 3);
+}
+
+// Whether the place of a source's fault is written as these words.
+fn is_place(rt: &HostRuntime, source: &str, want: &str) -> bool {
+    let mut out = Vec::new(rt.alloc());
+    match assemble(rt.alloc(), source) {
+        Ok(_) => false,
+        Err(fault) => {
+            put_place(source.as_bytes(), &fault, &mut out).is_ok()
+                && out.as_slice() == want.as_bytes()
+        }
+    }
+}
+
+#[test]
+fn a_refused_source_has_a_place(rt: HostRuntime) {
+    assert!(rt;
+        is_place(
+            &rt,
+            "nop\naddi a0, a0, 2048\n",
+            "line 2, column 14: 2048: number, distance, offset or section out of range\n"
+        )
+    );
 }

@@ -1,16 +1,20 @@
-use Rattle.std.proofs.Common.{codes, refl}
+use Rattle.std.proofs.Common.{codes}
 use Rattle.clap.specs.Words.{found_of, rows_of}
-use Rattle.ptk_main_line.proofs.RowFacts.{no_run, no_text, none_found, text_at}
+use Rattle.ptk_main_line.specs.Requests.{Gives}
+use Rattle.ptk_main_line.proofs.RowFacts.{no_run, no_word, none_found}
 use Rattle.ptk_main_line.proofs.line.run_in.Goals as goal
 
-pub returns-in_err-file : goal.returns-in_err-file
-returns-in_err-file c =
-    let found = found_of c.args.found.now in
-    none_found _ _ (rows_of (found_of c.args.found.now)) c.from_residual.ensures (no_run (rows_of found) (λ file n f t. no_text found (codes "FILE") file c.in_err-file.ensures f))
+pub returns-in_err-run : goal.returns-in_err-run
+returns-in_err-run c =
+    let rows = rows_of (found_of c.args.found.now) in
+    none_found _ (Gives (codes "run") rows) c.from_residual.ensures (no_run rows (λ o h. c.in_err-run.ensures o.run h.0))
 
-pub returns-in_err-ticks : goal.returns-in_err-ticks
-returns-in_err-ticks c =
-    none_found _ _ (rows_of (found_of c.args.found.now)) c.from_residual-in_err-ticks.ensures (no_run (rows_of (found_of c.args.found.now)) (λ file n f t. c.in_err-ticks.ensures n t))
+pub returns-in_err-fail_on : goal.returns-in_err-fail_on
+returns-in_err-fail_on c =
+    let rows = rows_of (found_of c.args.found.now) in
+    none_found _ (Gives (codes "run") rows) c.from_residual-in_err-fail_on.ensures (no_run rows (λ o h. no_word _ o.fail_on c.in_err-fail_on.ensures h.1))
 
-pub returns : goal.returns
-returns c = (refl, text_at (found_of c.args.found.now) (codes "FILE") _ c.in_ok-file.ensures, c.in_ok-ticks.ensures)
+pub returns-in_err-format : goal.returns-in_err-format
+returns-in_err-format c =
+    let rows = rows_of (found_of c.args.found.now) in
+    none_found _ (Gives (codes "run") rows) c.from_residual-in_err-format.ensures (no_run rows (λ o h. no_word _ o.format c.in_err-format.ensures h.2))

@@ -1,0 +1,64 @@
+//! `impact`: what a new configuration can change.
+
+use crate::reading::{config_in, images_of};
+use crate::telling::tell;
+use ptk_config::Config;
+use ptk_impact_answers::{Question, Release, Tally, impact_json_with, impact_with};
+use ptk_main_faults::{ExitStatus, Fault};
+use ptk_main_line::{Format, ImpactOptions};
+
+/// What stands between the configurations in two files, on standard output, and the number of the status.
+pub(crate) fn impact(rt: &HostRuntime, options: ImpactOptions<'_>) -> u8 {
+    match config_in(rt, options.old) {
+        Ok(config) => impact_from(rt, &config, options),
+        Err(fault) => tell(rt, &fault),
+    }
+}
+
+// What stands between a configuration and the one in a file.
+fn impact_from(rt: &HostRuntime, old: &Config, options: ImpactOptions<'_>) -> u8 {
+    match config_in(rt, options.new) {
+        Ok(config) => match put_impact(rt, old, &config, options) {
+            Ok(tally) => status_of_tally(&tally).number(),
+            Err(fault) => tell(rt, &fault),
+        },
+        Err(fault) => tell(rt, &fault),
+    }
+}
+
+// What stands between two configurations, with the images read from their files.
+fn put_impact<'a>(
+    rt: &HostRuntime,
+    old: &'a Config,
+    new: &'a Config,
+    options: ImpactOptions<'a>,
+) -> Result<Tally, Fault<'a>> {
+    let old_files = images_of(rt, old, options.root)?;
+    let new_files = images_of(rt, new, options.root)?;
+    let before = Release {
+        config: old,
+        files: &old_files,
+    };
+    let after = Release {
+        config: new,
+        files: &new_files,
+    };
+    let question = Question {
+        partition: options.partition,
+        rename: options.rename,
+    };
+    let out = &mut rt.stdout();
+    match options.format {
+        Format::Text => impact_with(rt.alloc(), before, after, question, out),
+        Format::Json => impact_json_with(rt.alloc(), before, after, question, out),
+    }
+}
+
+// The status of what was counted.
+fn status_of_tally(tally: &Tally) -> ExitStatus {
+    if tally.is_same_run() {
+        ExitStatus::Done
+    } else {
+        ExitStatus::Different
+    }
+}

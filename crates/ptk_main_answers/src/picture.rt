@@ -1,0 +1,100 @@
+//! The answer to a picture of a run.
+
+ghost use Rattle.std.specs.Prelude.{◌≡◌, ◌≢◌, ◌<◌, ◌≤◌, None, IfErr, MatchResult, OnOk};
+ghost use Rattle.ptk_words.specs.declared.TheConstants.{LAST_TICK};
+ghost use Rattle.ptk_system.specs.Missing.{first_missing};
+ghost use Rattle.ptk_timeline_formats.specs.declared.fault.FormatFault.TheVariants.{FromPastEnd};
+ghost use Rattle.ptk_timeline_formats.specs.Faults.{missing_in_format};
+ghost use Rattle.ptk_main_answers.specs.Refusals.{IsFaultOf, refused_picture};
+
+use crate::naming::boot_fault;
+use ptk_config::Config;
+use ptk_main_faults::Fault;
+use ptk_main_line::PictureFormat;
+use ptk_system::{Files, System};
+use ptk_timeline::{PictureFault, picture_with};
+use ptk_timeline_formats::{FormatFault, trace_events_with, vcd_with};
+use ptk_words::Tick;
+use std::alloc::Global;
+use std::io::Write;
+
+/// The picture of a run from a tick on, of whose bytes nothing is promised. `Fault::NothingFrom` where the run ends at that
+/// tick or before it, which is looked at first.
+pub fn timeline_answer<'a, W: Write>(
+    alloc: Global,
+    config: &'a Config,
+    files: &Files,
+    format: PictureFormat,
+    from: Tick,
+    to: Tick,
+    out: &mut W,
+) -> Result<(), Fault<'a>>
+    requires { to ≤ LAST_TICK }
+    ensures refused { let refusal = refused_picture config.now files.now from to in
+        MatchResult result (λ _. refusal ≡ None) (IsFaultOf refusal refusal) }
+{
+    match put_picture(alloc, config, files, format, from, to, out) {
+        Ok(()) => Ok(()),
+        Err(FormatFault::Boot(fault)) => Err(boot_fault(config, fault)),
+        Err(FormatFault::FromPastEnd) => Err(Fault::NothingFrom(from.ticks())),
+        Err(FormatFault::Memory) => Err(Fault::NoMemory),
+        Err(FormatFault::Write) => Err(Fault::WriteFailed),
+    }
+}
+
+/// Writes the picture of a run in a form.
+fn put_picture<W: Write>(
+    alloc: Global,
+    config: &Config,
+    files: &Files,
+    format: PictureFormat,
+    from: Tick,
+    to: Tick,
+    out: &mut W,
+) -> Result<(), FormatFault>
+    requires { to ≤ LAST_TICK }
+    ensures order { OnOk result (from < to) }
+    ensures past { IfErr result (λ fault. fault ≡ FromPastEnd → to ≤ from) }
+    ensures first { to ≤ from → IfErr result (λ fault. fault ≡ FromPastEnd) }
+    ensures missing { MatchResult result
+        (λ _. first_missing files.now config.now.sections ≡ None)
+        (λ fault. fault ≢ FromPastEnd → first_missing files.now config.now.sections ≡ missing_in_format fault) }
+{
+    match format {
+        PictureFormat::Svg => put_svg(alloc, config, files, from, to, out),
+        PictureFormat::Vcd => vcd_with(alloc, config, files, from, to, out),
+        PictureFormat::Json => trace_events_with(alloc, config, files, &[], from, to, out),
+    }
+}
+
+/// Writes the picture of a run as SVG.
+fn put_svg<W: Write>(
+    alloc: Global,
+    config: &Config,
+    files: &Files,
+    from: Tick,
+    to: Tick,
+    out: &mut W,
+) -> Result<(), FormatFault>
+    requires { to ≤ LAST_TICK }
+    ensures order { OnOk result (from < to) }
+    ensures past { IfErr result (λ fault. fault ≡ FromPastEnd → to ≤ from) }
+    ensures first { to ≤ from → IfErr result (λ fault. fault ≡ FromPastEnd) }
+    ensures missing { MatchResult result
+        (λ _. first_missing files.now config.now.sections ≡ None)
+        (λ fault. fault ≢ FromPastEnd → first_missing files.now config.now.sections ≡ missing_in_format fault) }
+{
+    if to.ticks() <= from.ticks() {
+        return Err(FormatFault::FromPastEnd);
+    }
+    let mut system = match System::boot(alloc, config, files) {
+        Ok(system) => system,
+        Err(fault) => return Err(FormatFault::Boot(fault)),
+    };
+    match picture_with(alloc, config, &mut system, from, to, out) {
+        Ok(()) => Ok(()),
+        Err(PictureFault::Memory) => Err(FormatFault::Memory),
+        Err(PictureFault::Write) => Err(FormatFault::Write),
+        Err(PictureFault::NoTicks) => Err(FormatFault::FromPastEnd),
+    }
+}

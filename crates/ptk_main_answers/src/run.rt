@@ -1,0 +1,178 @@
+//! The answer to a run.
+
+ghost use Rattle.std.specs.Prelude.{◌≡◌, ◌≤◌, ◌<◌, ◌↔◌, ◌⊎◌, None, OnOk, MatchResult, IsTrue, false, length};
+ghost use Rattle.std.specs.Io.KnownBytes.{Appends};
+ghost use Rattle.ptk_words.specs.declared.TheConstants.{LAST_TICK};
+ghost use Rattle.ptk_system.specs.Shown.{report_of};
+ghost use Rattle.ptk_system.specs.Told.{status_in};
+ghost use Rattle.ptk_system.specs.World.{at_tick, state_of, world_at};
+ghost use Rattle.ptk_main_answers.specs.Expectations.{AreHalted, is_halted};
+ghost use Rattle.ptk_main_answers.specs.Refusals.{IsFaultOf, missing_image};
+
+use crate::document::put_document;
+use crate::expectation::{difference, first_failure};
+use crate::naming::{boot_fault, part_name};
+use ptk_config::Config;
+use ptk_main_faults::Fault;
+use ptk_main_line::{FailOn, Format};
+use ptk_system::{Files, PartStatus, System};
+use ptk_words::{PartId, Tick};
+use std::alloc::Global;
+use std::io::Write;
+
+/// The number of ticks between two looks at whether every partition has halted.
+const HALT_STRIDE: u64 = 1024;
+
+/// The number of ticks between two reports of progress.
+const WATCH_STRIDE: u64 = 1 << 20;
+
+/// Who watches a run on its way.
+pub trait Watch {
+    /// The run has reached a tick, and goes on to the last one.
+    fn reached(&mut self, tick: Tick, last: Tick);
+}
+
+/// What is asked of a run.
+#[derive(Clone, Copy)]
+pub struct RunQuestion<'q> {
+    /// The tick that it goes to, at most 2^40.
+    pub ticks: Tick,
+    /// Whether it ends where every partition has halted.
+    pub until_halted: bool,
+    /// The form of the report.
+    pub format: Format,
+    /// The bytes that the report is expected to be.
+    pub expected: Option<&'q [u8]>,
+    /// The kinds of a partition's status at which it fails.
+    pub fail_on: FailOn,
+}
+
+/// Runs a configuration and writes its report. A fault where an image's file is missing, memory was refused or the writer
+/// failed; and where the report is written, but is not the expected one, or a partition is of a kind to fail on.
+pub fn run_answer<'a, V: Watch, W: Write>(
+    alloc: Global,
+    config: &'a Config,
+    files: &Files,
+    question: &RunQuestion<'_>,
+    watch: &mut V,
+    out: &mut W,
+) -> Result<(), Fault<'a>>
+    requires { question.now.ticks ≤ LAST_TICK }
+    ensures written { OnOk result (question.now.until_halted ≡ false → question.now.format ≡ Format.Text →
+        Appends (W.contents out.old) (W.contents out.new) (report_of (world_at config.now files.now question.now.ticks))) }
+    ensures refused { let refusal = missing_image config.now files.now in
+        MatchResult result (λ _. refusal ≡ None) (λ fault. (refusal ≡ None) ⊎ IsFaultOf refusal refusal fault) }
+{
+    let mut system = match System::boot(alloc, config, files) {
+        Ok(system) => system,
+        Err(fault) => return Err(boot_fault(config, fault)),
+    };
+    run_watched(&mut system, question.ticks, question.until_halted, watch);
+    put_answer(alloc, &system, question, out)?;
+    match first_failure(&system, question.fail_on) {
+        Some((p, kind)) => Err(Fault::FailedOn(part_name(config, p), kind)),
+        None => Ok(()),
+    }
+}
+
+/// Runs a booted system to a tick, or where it is asked for to one at which every partition has halted: that is looked at
+/// each `HALT_STRIDE` ticks.
+fn run_watched<V: Watch>(system: &mut System<'_>, last: Tick, until_halted: bool, watch: &mut V)
+    requires small { last ≤ LAST_TICK }
+    requires start { system.old.tick ≤ last }
+    ensures run { system.new ≡ at_tick system.new.tick system.old }
+    ensures end { (system.new.tick ≡ last) ⊎ (IsTrue until_halted × AreHalted system.new) }
+{
+    system.states_are_alone();
+    let stride = if until_halted {
+        HALT_STRIDE
+    } else {
+        WATCH_STRIDE
+    };
+    let mut tick = system.tick();
+    while tick.ticks() < last.ticks() {
+        if until_halted && all_halted(system) {
+            return;
+        }
+        go_on(system, last, stride);
+        tick = system.tick();
+        watch.reached(tick, last);
+    }
+}
+
+/// Goes on by a stride, and not past the last tick.
+fn go_on(system: &mut System<'_>, last: Tick, stride: u64)
+    requires small { last ≤ LAST_TICK }
+    requires before { system.old.tick < last }
+    requires some { 0 < stride }
+    requires few { stride ≤ LAST_TICK }
+    ensures run { system.new ≡ at_tick system.new.tick system.old }
+    ensures later { system.old.tick < system.new.tick }
+    ensures within { system.new.tick ≤ last }
+{
+    let next = system.tick().ticks() + stride;
+    let end = next.min(last.ticks());
+    system.run_to(Tick::new(end));
+}
+
+/// Whether every partition has halted.
+fn all_halted(system: &System<'_>) -> bool
+    ensures { IsTrue result → AreHalted system.now }
+{
+    for i in 0..system.parts() {
+        if !is_halted(system.status(PartId::new(i as u8))) {
+            return false;
+        }
+    }
+    true
+}
+
+/// Whether a status is that of a halted partition.
+fn is_halted(status: PartStatus) -> bool
+    ensures { result ≡ is_halted status }
+{
+    match status {
+        PartStatus::Idle | PartStatus::Running => false,
+        PartStatus::Exited(_) | PartStatus::Stopped(..) | PartStatus::Refused(_) => true,
+    }
+}
+
+/// Writes the report of a system, and compares it where one is expected.
+fn put_answer<W: Write>(
+    alloc: Global,
+    system: &System<'_>,
+    question: &RunQuestion<'_>,
+    out: &mut W,
+) -> Result<(), Fault<'static>>
+    ensures written { OnOk result (question.now.format ≡ Format.Text → Appends (W.contents out.old) (W.contents out.new) (report_of system.now)) }
+{
+    let Some(expected) = question.expected else {
+        return put_report(alloc, system, question.format, out);
+    };
+    let mut report = Vec::new(alloc);
+    put_report(alloc, system, question.format, &mut report)?;
+    let written = out.write_all(report.as_slice());
+    match (written, difference(report.as_slice(), expected)) {
+        (Err(_), _) => Err(Fault::WriteFailed),
+        (Ok(()), Some(fault)) => Err(fault),
+        (Ok(()), None) => Ok(()),
+    }
+}
+
+/// Writes the report of a system in a form.
+fn put_report<W: Write>(
+    alloc: Global,
+    system: &System<'_>,
+    format: Format,
+    out: &mut W,
+) -> Result<(), Fault<'static>>
+    ensures written { OnOk result (format ≡ Format.Text → Appends (W.contents out.old) (W.contents out.new) (report_of system.now)) }
+{
+    match format {
+        Format::Json => put_document(alloc, system, out),
+        Format::Text => match system.report(out) {
+            Ok(()) => Ok(()),
+            Err(_) => Err(Fault::WriteFailed),
+        },
+    }
+}

@@ -1,0 +1,26 @@
+use Rattle.std.proofs.Common.{◌≡◌, ◌∙◌, ap, ap₂, codes, false}
+use Rattle.clap.specs.Words.{app_of, new_app, with_rule}
+use Rattle.clap.specs.Simple.{app_of_fields}
+use Rattle.clap.specs.declared.builder.command.Command.{Command}
+use Rattle.clap.specs.declared.builder.command.Command.TheOpen.{Command-F}
+use Rattle.clap.specs.declared.builder.command.Command.TheViews.{out-Command}
+use Rattle.ptk_main_line.specs.CommandLine.{run_rules}
+use Rattle.ptk_main_line.proofs.commands.trace_command.Goals as goal
+
+pub returns : goal.returns
+returns c =
+    let begun : app_of c.after_help-command.result ≡ new_app (codes "trace") =
+    ap app_of_fields c.after_help-command.ensures ∙ ap app_of_fields c.about.ensures ∙ c.new.ensures.app in
+    let free : (out-Command c.after_help-command.result).has_globals ≡ false =
+    ap (λ (f : Command-F Command). f.has_globals) c.after_help-command.ensures ∙ ap (λ (f : Command-F Command). f.has_globals) c.about.ensures ∙ c.new.ensures.local in
+    let app = c.in_ok-command.ensures.0 ∙ ap run_rules begun in
+    let app1 = c.in_ok-command-2.ensures.0 ∙ ap₂ with_rule app c.required_argument-partition.ensures.rule in
+    let app2 = c.in_ok-command-3.ensures.0 ∙ ap₂ with_rule app1 c.flag_argument-decode.ensures.rule in
+    let app3 = c.in_ok-command-4.ensures.0 ∙ ap₂ with_rule app2 c.text_argument-symbols.ensures.rule in
+    let app4 = c.in_ok-command-5.ensures.0 ∙ ap₂ with_rule app3 c.thread_argument-thread.ensures.rule in
+    let app5 = c.in_ok-command-6.ensures.0 ∙ ap₂ with_rule app4 c.flag_argument-calls.ensures.rule in
+    let app6 = c.in_ok-command-7.ensures.0 ∙ ap₂ with_rule app5 c.ticks_argument-from.ensures.rule in
+    let app7 = c.in_ok-command-8.ensures.0 ∙ ap₂ with_rule app6 c.ticks_argument-to.ensures.rule in
+    let app8 = c.in_ok-command-9.ensures.0 ∙ ap₂ with_rule app7 c.last_argument-last.ensures.rule in
+    let app9 = c.in_ok-command-10.ensures.0 ∙ ap₂ with_rule app8 c.flag_argument-explain.ensures.rule in
+    (app9, c.in_ok-command-10.ensures.1 ∙ (c.in_ok-command-9.ensures.1 ∙ (c.in_ok-command-8.ensures.1 ∙ (c.in_ok-command-7.ensures.1 ∙ (c.in_ok-command-6.ensures.1 ∙ (c.in_ok-command-5.ensures.1 ∙ (c.in_ok-command-4.ensures.1 ∙ (c.in_ok-command-3.ensures.1 ∙ (c.in_ok-command-2.ensures.1 ∙ (c.in_ok-command.ensures.1 ∙ free))))))))))

@@ -1,0 +1,20 @@
+use Rattle.std.proofs.Common.{codes}
+use Rattle.clap.specs.Words.{found_of, rows_of}
+use Rattle.ptk_main_line.specs.Requests.{Gives}
+use Rattle.ptk_main_line.proofs.RowFacts.{no_explain, no_word, none_found}
+use Rattle.ptk_main_line.proofs.line.explain_in.Goals as goal
+
+pub returns-in_err-run : goal.returns-in_err-run
+returns-in_err-run c =
+    let rows = rows_of (found_of c.args.found.now) in
+    none_found _ (Gives (codes "explain") rows) c.from_residual.ensures (no_explain rows (λ o h. c.in_err-run.ensures o.run h.0))
+
+pub returns-in_err-partition : goal.returns-in_err-partition
+returns-in_err-partition c =
+    let rows = rows_of (found_of c.args.found.now) in
+    none_found _ (Gives (codes "explain") rows) c.from_residual-in_err-partition.ensures (no_explain rows (λ o h. c.in_err-partition.ensures o.partition.now h.1))
+
+pub returns-in_err-format : goal.returns-in_err-format
+returns-in_err-format c =
+    let rows = rows_of (found_of c.args.found.now) in
+    none_found _ (Gives (codes "explain") rows) c.from_residual-in_err-format.ensures (no_explain rows (λ o h. no_word _ o.format c.in_err-format.ensures h.2))
