@@ -1,21 +1,20 @@
 -- The least of deadlines by thread number: of the slots it is found among, what it says of expiries, and of none.
-use Rattle.std.proofs.Common.{◌≡◌, ◌≢◌, ℕ, zero, suc, ◌+◌, ◌-◌, ◌<◌, ◌≤◌, List, [], ◌∷◌, length, min, Bool, true, false, cond, ◌||◌, not, refl, sym, ◌∙◌, ap, subst, arith, Option, Some, None, ◌⊎◌, inl, inr}
-use Rattle.std.specs.Prelude.{nat_eq, nat_le, ◌==◌, find, option_map, slice_get, slice_set, if◌then◌else◌, IfSome}
+use Rattle.std.proofs.Common.{◌≡◌, ◌≢◌, ℕ, zero, suc, ◌+◌, ◌-◌, ◌<◌, ◌≤◌, List, [], ◌∷◌, length, min, Bool, true, false, cond, ◌||◌, not, refl, sym, ◌∙◌, ap, subst, arith, Option, Some, None, inl, inr}
+use Rattle.std.specs.Prelude.{nat_eq, ◌==◌, option_map, slice_get, if◌then◌else◌, IfSome}
 use Rattle.std.specs.Option.{option_flatten, is_some}
-use Rattle.std.proofs.lemmas.Bool.{cases_eq, cases_lt, eq-eqb, ne_eqb}
+use Rattle.std.proofs.lemmas.Bool.{cases_eq, eq-eqb, ne_eqb}
 use Rattle.std.proofs.lemmas.Bool.Decides.{nat_tests}
-use Rattle.std.proofs.lemmas.List.{length-set}
-use Rattle.std.proofs.lemmas.Option.{none-some, same_Some}
+use Rattle.std.proofs.lemmas.Option.{none-some}
 use Rattle.ptk_words.specs.Names.{Tick}
 use Rattle.ptk_words.specs.Pools.{pool_get, pool_set, is_in}
-use Rattle.ptk_words_locks.specs.Expiries.{next_expiry, without_expiry, IsNoneDue}
+use Rattle.ptk_words_locks.specs.Expiries.{next_expiry, without_expiry}
 use Rattle.ptk_words_locks.specs.Deadlines.{without_deadlines}
 use Rattle.ptk_words_locks.proofs.Expiries.{next_only}
 use Rattle.ptk_words_locks.proofs.Pools.{free_own, get-set_other, length-pool_set}
 use Rattle.ptk_words_locks.proofs.DeadlineLists.{free_again}
 use Rattle.ptk_clock.specs.Pairs.{Pair, DeadlineTable, is_before, IsLeast, is_among, is_due, least_among, least_due, without_slot, without_taken}
 use Rattle.ptk_clock.specs.BySlot.{deadline_at, deadlines_from, expiry_from}
-use Rattle.ptk_clock.specs.ByThread.{earlier, least_deadline, is_reached, without_first, IsElsewhereSame, AreEnded}
+use Rattle.ptk_clock.specs.ByThread.{earlier, least_deadline, is_reached, IsElsewhereSame}
 use Rattle.ptk_clock.proofs.BySlot.{deadline_at-cons, own_slot, decided}
 use Rattle.ptk_clock.proofs.SlotMoves.{set_none, elsewhere_none}
 use Rattle.ptk_clock.proofs.Expiries.{none_passes, not_before_least, found_passes, found_at, IsDue, due_parts, without-due, without-due_other}
@@ -213,6 +212,17 @@ set_when t k false ds ne = refl
 end_when : (k : ℕ) (b : Bool) (ds : List (Option Tick)) (o : Option Tick) → pool_get ds k ≡ o → pool_get (cond b (pool_set ds k None) ds) k ≡ cond b None o
 end_when k true ds o e = free_own k ds
 end_when k false ds o e = e
+
+-- the deadlines without those of the first k threads that pass the test (own)
+abbrev pub without_first : (ℕ → Bool) → ℕ → List (Option Tick) → List (Option Tick)
+without_first test zero deadlines = deadlines
+without_first test (suc k) deadlines = if test (suc k) then pool_set (without_first test k deadlines) (suc k) None else without_first test k deadlines
+
+-- the deadlines of the first k threads that pass the test are ended, and no other's (own)
+pub record AreEnded (test : ℕ → Bool) (first n k : ℕ) (old new : DeadlineTable) : Type 0 where
+  pub own : deadlines_from first n new.pairs ≡ without_first test k (deadlines_from first n old.pairs)
+  pub elsewhere : IsElsewhereSame first n old.pairs new.pairs
+  pub slots : new.slots ≡ old.slots
 
 get-first_later : (test : ℕ → Bool) (k t : ℕ) (ds : List (Option Tick)) → k < t → pool_get (without_first test k ds) t ≡ pool_get ds t
 get-first_later test zero t ds lt = refl

@@ -1,8 +1,7 @@
 -- Deadlines by partition and thread number, kept by slot: each partition's slots lie behind those of the one before.
-use Rattle.std.specs.Prelude.{◌≡◌, ℕ, zero, suc, ◌+◌, ◌≤◌, ◌⊎◌, Bool, false, true, nat_le, List, [], ◌∷◌, length, min, if◌then◌else◌, Option, Some, None}
+use Rattle.std.specs.Prelude.{◌≡◌, ℕ, zero, suc, ◌+◌, ◌≤◌, ◌⊎◌, Bool, false, nat_le, List, [], ◌∷◌, length, min, Option, Some, None}
 use Rattle.ptk_words.specs.Names.{Tick}
-use Rattle.ptk_words.specs.Pools.{pool_set}
-use Rattle.ptk_clock.specs.Pairs.{Pair, DeadlineTable}
+use Rattle.ptk_clock.specs.Pairs.{Pair}
 use Rattle.ptk_clock.specs.BySlot.{deadlines_from}
 use Rattle.ptk_clock.specs.declared.threads.PartitionSlots.{PartitionSlots}
 
@@ -74,14 +73,3 @@ abbrev pub with_least : ℕ → List Pair → List PartitionSlots → List Parti
 with_least p pairs [] = []
 with_least zero pairs (s ∷ ss) = record s { next = least_deadline (deadlines_from s.first s.count pairs) } ∷ ss
 with_least (suc p) pairs (s ∷ ss) = s ∷ with_least p pairs ss
-
--- the deadlines without those of the first k threads that pass the test (own)
-abbrev pub without_first : (ℕ → Bool) → ℕ → List (Option Tick) → List (Option Tick)
-without_first test zero deadlines = deadlines
-without_first test (suc k) deadlines = if test (suc k) then pool_set (without_first test k deadlines) (suc k) None else without_first test k deadlines
-
--- the deadlines of the first k threads that pass the test are ended, and no other's (own)
-pub record AreEnded (test : ℕ → Bool) (first n k : ℕ) (old new : DeadlineTable) : Type 0 where
-  pub own : deadlines_from first n new.pairs ≡ without_first test k (deadlines_from first n old.pairs)
-  pub elsewhere : IsElsewhereSame first n old.pairs new.pairs
-  pub slots : new.slots ≡ old.slots

@@ -1,6 +1,7 @@
 -- Deadlines of slots as pairs, in order.
-use Rattle.std.specs.Prelude.{◌≡◌, ⊤, ℕ, Bool, true, false, not, ◌&&◌, ◌||◌, ◌==◌, nat_lt, nat_le, List, [], ◌∷◌, filter, find, map, Option, None, Some, if◌then◌else◌}
+use Rattle.std.specs.Prelude.{◌≡◌, ⊤, ℕ, Bool, true, false, not, ◌&&◌, ◌||◌, ◌==◌, nat_lt, nat_le, List, [], ◌∷◌, filter, find, map, Option, None, Some}
 use Rattle.ptk_words.specs.Names.{Tick}
+use Rattle.ptk_words_model.specs.Withdrawal.{in_order_with}
 
 -- a deadline, and the slot of the thread that waits until then
 abbrev pub Pair : Type 0
@@ -35,8 +36,7 @@ AreInOrder (a ∷ bs) = IsBeforeAll a bs × AreInOrder bs
 
 -- pairs in order with one more
 abbrev pub with_pair : Pair → List Pair → List Pair
-with_pair a [] = a ∷ []
-with_pair a (b ∷ bs) = if is_before a b then a ∷ b ∷ bs else b ∷ with_pair a bs
+with_pair a pairs = in_order_with is_before a pairs
 
 -- the pairs without that of a slot
 abbrev pub without_slot : ℕ → List Pair → List Pair

@@ -1,15 +1,23 @@
-//! Times and deadlines. `to_tick` gives the least tick of 1,000 ns that is not before a time, `from_tick` the time of a
-//! tick. `Deadlines` is a list of pairs of deadline and slot in order, by deadline and then slot; each call tells the whole
-//! list that it leaves in one equation. `PlainDeadlines` looks its pairs through; `SharedDeadlines` is one vector for all
-//! partitions, in which places are found by binary search, and a removal goes through it once. `listed_by_slot`,
-//! `added_by_slot`, `removed_by_slot` and `taken_by_slot` say what a partition sees of that vector: its own slots'
-//! deadlines by thread number, which no other partition's pair changes, and that the least due pair of its slots is its
-//! next expiry, as the model orders them. `ThreadDeadlines` stands on that vector: the deadlines of all partitions'
-//! threads by partition and thread number, and each partition's least one kept beside. All have room for all slots from
-//! the start, so that no call but a constructor takes memory. That room, that a place found is the pair's place in the
-//! order, and that one partition's change leaves the others' deadlines, are costly to prove (`proofs/Rooms`,
-//! `proofs/Places`, `proofs/ByThread`). Below stand `ptk_words`, `ptk_words_parted`, and the order of expiries of
-//! `ptk_words_model` and `ptk_words_locks`; above, the gate's tables.
+//! Ticks of times, and the deadlines of all partitions' slots in one order, of which the least due one is the model's
+//! next expiry; and the same by partition and thread (`ThreadDeadlines`).
+//!
+//! - `to_tick` is the least tick not before the time, `from_tick` the time of a tick.
+//! - `Deadlines`, in a plain and in a shared form, is a list of pairs of deadline and slot in order, each call one
+//!   equation on it.
+//! - `take_due` takes the least due pair among the slots given, which is the model's next expiry of their partition
+//!   (`taken_by_slot`).
+//! - `SharedDeadlines::pairs` lends one vector for all partitions, and `added_by_slot`, `removed_by_slot` say that a
+//!   pair changes its own partition's deadlines alone.
+//! - `ThreadDeadlines` is that vector seen as a list by partition and thread, each call of which changes one
+//!   partition's alone, with each partition's least deadline beside it.
+//!
+//! A tick is 1,000 ns. Pairs are ordered by deadline and then slot. `PlainDeadlines` looks its pairs through;
+//! `SharedDeadlines` is one vector for all partitions, in which places are found by binary search, and a removal goes
+//! through it once. All have room for all slots from the start, so that no call but a constructor takes memory. Costly
+//! to prove are that room, that a place found is the pair's place in the order, and that one partition's change leaves
+//! the others' deadlines (`proofs/Rooms`, `proofs/Places`, `proofs/ByThread`). Below are `ptk_words`,
+//! `ptk_words_parted`, and the order of expiries of `ptk_words_model` and `ptk_words_locks`; above are the gate's
+//! tables.
 #![tactic(auto)]
 
 mod deadlines;

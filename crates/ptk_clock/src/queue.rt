@@ -29,7 +29,7 @@ impl Model for Queue {
 }
 
 impl Queue {
-    /// No pair, and room for one of each of so many slots. An error where memory ran out.
+    /// No pair, and room for one of each of this many slots. An error where memory ran out.
     pub fn new(alloc: Global, slots: usize) -> Result<Queue, AllocError>
         ensures { IfOk result (λ queue. queue ≡ record { slots = slots; pairs = [] }) }
     {

@@ -26,7 +26,7 @@ impl Model for SharedDeadlines {
 }
 
 impl SharedDeadlines {
-    /// No pair, and room for one of each of so many slots. An error where memory ran out.
+    /// No pair, and room for one of each of this many slots. An error where memory ran out.
     pub fn new(alloc: Global, slots: usize) -> Result<SharedDeadlines, AllocError>
         ensures { IfOk result (λ deadlines. deadlines ≡ record { slots = slots; pairs = [] }) }
     {

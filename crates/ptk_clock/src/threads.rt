@@ -48,7 +48,7 @@ impl Model for ThreadDeadlines {
 }
 
 impl ThreadDeadlines {
-    /// So many threads of each partition, none with a deadline. An error where memory ran out; no other call takes
+    /// This many threads of each partition, none with a deadline. An error where memory ran out; no other call takes
     /// memory.
     pub fn build(alloc: Global, counts: &[u32]) -> Result<ThreadDeadlines, AllocError>
         requires partitions { length counts.now ≤ 8 }
@@ -107,7 +107,7 @@ impl ThreadDeadlines {
         slots.next
     }
 
-    /// Ends the first deadline that is at most now, by deadline and then thread number, and tells whose it was. None,
+    /// Ends the first deadline that is at most now, by deadline and then thread number, and returns whose it was. None,
     /// and nothing changes, where none is due; then no deadline but the least is looked at.
     pub fn take_due(&mut self, p: PartId, now: Tick) -> Option<ThreadNo>
         requires { p < length self.old }
@@ -124,7 +124,7 @@ impl ThreadDeadlines {
     }
 }
 
-/// Slots for so many threads of each partition, one partition's behind the other's, and how many slots there are. An
+/// Slots for this many threads of each partition, one partition's behind the other's, and how many slots there are. An
 /// error where memory ran out.
 fn laid(alloc: Global, counts: &[u32]) -> Result<(Vec<PartitionSlots>, usize), AllocError>
     requires partitions { length counts.now ≤ 8 }
@@ -210,7 +210,7 @@ fn end_in(queue: &mut SharedDeadlines, slots: PartitionSlots, threads: ThreadSet
     }
 }
 
-/// Ends the first due deadline of a partition's slots, and tells whose it was; None, and nothing changes, where none is
+/// Ends the first due deadline of a partition's slots, and returns whose it was; None, and nothing changes, where none is
 /// due.
 fn take_in(queue: &mut SharedDeadlines, slots: PartitionSlots, now: Tick) -> Option<ThreadNo>
     requires within { slots.first + slots.count ≤ 256 }

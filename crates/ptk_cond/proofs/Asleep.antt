@@ -7,7 +7,7 @@ use Rattle.ptk_words.specs.declared.threads.Thread.{Thread}
 use Rattle.ptk_words.specs.declared.threads.Wait.{Wait}
 use Rattle.ptk_words_model.specs.State.{Locks, Mutex}
 use Rattle.ptk_words_model.specs.Chain.{greatest_leading}
-use Rattle.ptk_words_model.specs.Priority.{awaited, mutex_of_wait, thread_at, ceiling_for, held_of, inheritor_of, next_of, effective_priorities}
+use Rattle.ptk_words_model.specs.Priority.{awaited, mutex_of_wait, thread_at, ceiling_for, held_of, inheritor_of, next_in_chain, effective_priorities}
 use Rattle.ptk_words_model.specs.Schedule.{with_thread}
 use Rattle.ptk_threads.specs.Table.{ThreadTable, with_changed, with_wait}
 use Rattle.ptk_threads.proofs.Pools.{part_of-set}
@@ -25,7 +25,7 @@ assigned_entry : (wait : Option Wait) (x : Option Thread) → unwrap_or (option_
 assigned_entry wait None = refl
 assigned_entry wait (Some thread) = refl
 
-next_asleep : (t k : ℕ) (wait : Option Wait) (threads : List (Option Thread)) (mutexes : List (Option Mutex)) → mutex_of_wait wait ≡ None → awaited (pool_get threads t) ≡ None → next_of (pool_changed t (with_wait wait) threads) mutexes k ≡ next_of threads mutexes k
+next_asleep : (t k : ℕ) (wait : Option Wait) (threads : List (Option Thread)) (mutexes : List (Option Mutex)) → mutex_of_wait wait ≡ None → awaited (pool_get threads t) ≡ None → next_in_chain (pool_changed t (with_wait wait) threads) mutexes k ≡ next_in_chain threads mutexes k
 next_asleep t k wait threads mutexes e none =
     ap (option_and_then (λ (m : ℕ). inheritor_of (pool_get mutexes m))) (pool_set_same awaited threads t k (option_map (with_wait wait) (pool_get threads t)) (unawaited_entry wait (pool_get threads t) e none))
 
@@ -37,11 +37,11 @@ held_asleep t k wait threads mutexes =
 effective_asleep : (t : ℕ) (wait : Option Wait) (threads : List (Option Thread)) (mutexes : List (Option Mutex)) → mutex_of_wait wait ≡ None → awaited (pool_get threads t) ≡ None → effective_priorities (pool_changed t (with_wait wait) threads) mutexes ≡ effective_priorities threads mutexes
 effective_asleep t wait threads mutexes e none =
     let now : List (Option Thread) = pool_changed t (with_wait wait) threads in
-    let next : next_of now mutexes ≡ next_of threads mutexes = λ i k. next_asleep t k wait threads mutexes e none i in
+    let next : next_in_chain now mutexes ≡ next_in_chain threads mutexes = λ i k. next_asleep t k wait threads mutexes e none i in
     let held : held_of now mutexes ≡ held_of threads mutexes = λ i k. held_asleep t k wait threads mutexes i in
-    ap (λ (n : ℕ). map (greatest_leading n (next_of now mutexes) (held_of now mutexes)) (numbers_to n)) (length-pool_changed t (with_wait wait) threads)
+    ap (λ (n : ℕ). map (greatest_leading n (next_in_chain now mutexes) (held_of now mutexes)) (numbers_to n)) (length-pool_changed t (with_wait wait) threads)
     ∙ ap (λ (f : ℕ → Option ℕ). map (greatest_leading (length threads) f (held_of now mutexes)) (numbers_of threads)) next
-    ∙ ap (λ (f : ℕ → ℕ). map (greatest_leading (length threads) (next_of threads mutexes) f) (numbers_of threads)) held
+    ∙ ap (λ (f : ℕ → ℕ). map (greatest_leading (length threads) (next_in_chain threads mutexes) f) (numbers_of threads)) held
 
 -- the slot table after such a wait began
 pub asleep-is : (p t : ℕ) (wait : Option Wait) (locks : Locks) (table : ThreadTable) → p < length table.threads → mutex_of_wait wait ≡ None → awaited (thread_at locks t) ≡ None

@@ -8,7 +8,7 @@ use Rattle.ptk_words.specs.Pools.{pool_get, pool_set, is_in, least_free}
 use Rattle.ptk_words_parted.specs.Parts.{part_of, filled}
 use Rattle.ptk_words_parted.proofs.Cuts.{set_part-same}
 use Rattle.ptk_words_model.specs.State.{Condition, Locks, Mutex}
-use Rattle.ptk_words_locks.specs.Conditions.{waiters_on}
+use Rattle.ptk_words_model.specs.Condition.{waiters_on}
 use Rattle.ptk_threads.specs.Table.{ThreadTable}
 use Rattle.ptk_threads.proofs.Pools.{part_of-set}
 use Rattle.ptk_roster.specs.Rosters.{Rostered}

@@ -6,18 +6,18 @@ use Rattle.ptk_words.specs.Pools.{pool_get, pool_changed, numbers_to}
 use Rattle.ptk_words.specs.declared.threads.Thread.{Thread}
 use Rattle.ptk_words_model.specs.State.{Mutex}
 use Rattle.ptk_words_model.specs.Chain.{greatest_leading}
-use Rattle.ptk_words_model.specs.Priority.{ceiling_for, held_of, mutex_of_wait, awaited, inheritor_of, next_of, effective_priorities}
+use Rattle.ptk_words_model.specs.Priority.{ceiling_for, held_of, mutex_of_wait, awaited, inheritor_of, next_in_chain, effective_priorities}
 use Rattle.ptk_words_model.specs.Schedule.{woken_with}
 use Rattle.ptk_threads.proofs.Slots.{length-pool_changed}
 use Rattle.ptk_threads.proofs.Pools.{pool_get-changed, pool_get-changed_other}
 
 -- as many threads, the same chains and the same held priorities make the same effective priorities
-same_priorities : (threads after : List (Option Thread)) (mutexes others : List (Option Mutex)) → length after ≡ length threads → next_of after others ≡ next_of threads mutexes → held_of after others ≡ held_of threads mutexes
+same_priorities : (threads after : List (Option Thread)) (mutexes others : List (Option Mutex)) → length after ≡ length threads → next_in_chain after others ≡ next_in_chain threads mutexes → held_of after others ≡ held_of threads mutexes
     → effective_priorities after others ≡ effective_priorities threads mutexes
 same_priorities threads after mutexes others long next held =
-    ap (λ (n : ℕ). map (greatest_leading n (next_of after others) (held_of after others)) (numbers_to n)) long
+    ap (λ (n : ℕ). map (greatest_leading n (next_in_chain after others) (held_of after others)) (numbers_to n)) long
     ∙ ap (λ (f : ℕ → Option ℕ). map (greatest_leading (length threads) f (held_of after others)) (numbers_to (length threads))) next
-    ∙ ap (λ (f : ℕ → ℕ). map (greatest_leading (length threads) (next_of threads mutexes) f) (numbers_to (length threads))) held
+    ∙ ap (λ (f : ℕ → ℕ). map (greatest_leading (length threads) (next_in_chain threads mutexes) f) (numbers_to (length threads))) held
 
 -- the assigned priority of an entry, 0 of a free number
 abbrev pub level : Option Thread → ℕ

@@ -13,8 +13,8 @@ use Rattle.ptk_words.specs.declared.threads.Wait.TheVariants.{ConditionWait}
 use Rattle.ptk_words_model.specs.Priority.{awaited, mutex_of_wait, thread_at}
 use Rattle.ptk_words_model.specs.Schedule.{with_thread}
 use Rattle.ptk_words_model.specs.Mutex.{wait_of, after_unlock, after_relock}
-use Rattle.ptk_words_model.specs.Condition.{condition_waiters, mutex_named, after_condition_wait, after_unblock_for, after_signal}
-use Rattle.ptk_words_locks.specs.Conditions.{waiters_on, HasRoom, IsNoWaiter}
+use Rattle.ptk_words_model.specs.Condition.{condition_waiters, mutex_of_condition_wait, after_condition_wait, after_unblock_for, after_signal, waiters_on}
+use Rattle.ptk_words_locks.specs.Conditions.{HasRoom, IsNoWaiter}
 use Rattle.ptk_words_locks.proofs.Gathered.{waiter_used}
 use Rattle.ptk_threads.specs.Table.{ThreadTable, stored_of, with_changed, with_wait}
 use Rattle.ptk_threads.proofs.Pools.{pool_get-changed, pool_changed-changed, part_of-set}
@@ -52,7 +52,7 @@ waiter_may p t c table lines mutexes conditions synced there = may_relock c t (l
 
 -- and has room at the one that it named
 pub waiter_room : (p t c m : ℕ) (table : ThreadTable) (lines : List (List ℕ)) (mutexes : List (List (Option Mutex))) (conditions : List (List (Option Condition))) → AreSynced p table lines mutexes conditions → is_in t (condition_waiters (syncs_at p table lines mutexes conditions) c) ≡ true
-    → Some m ≡ mutex_named (wait_of (thread_at (locks_at p table lines mutexes) t)) → HasRoom t (pool_get (part_of mutexes p) m)
+    → Some m ≡ mutex_of_condition_wait (wait_of (thread_at (locks_at p table lines mutexes) t)) → HasRoom t (pool_get (part_of mutexes p) m)
 waiter_room p t c m table lines mutexes conditions synced there named = (synced.waiting.waiters c t there).room m (sym named)
 
 -- who waits for nothing is among no waiters

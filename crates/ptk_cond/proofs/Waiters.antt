@@ -12,8 +12,8 @@ use Rattle.ptk_words_model.specs.State.{Condition, Locks, Syncs}
 use Rattle.ptk_words_model.specs.Priority.{awaited, mutex_of_wait, thread_at, effective_priority, effective_priorities}
 use Rattle.ptk_words_model.specs.Schedule.{with_thread}
 use Rattle.ptk_words_model.specs.Mutex.{mutex_at, wait_of, waiters_of, after_unlock, after_relock}
-use Rattle.ptk_words_model.specs.Condition.{condition_waiters, mutex_named, after_condition_wait, after_unblock_for}
-use Rattle.ptk_words_locks.specs.Conditions.{condition_of_wait, HasRoom, IsNoWaiter, waiters_on}
+use Rattle.ptk_words_model.specs.Condition.{condition_waiters, mutex_of_condition_wait, after_condition_wait, after_unblock_for, waiters_on}
+use Rattle.ptk_words_locks.specs.Conditions.{condition_of_wait, HasRoom, IsNoWaiter}
 use Rattle.ptk_words_locks.proofs.Lines.{in_push, in_without, first_in}
 use Rattle.ptk_words_locks.proofs.Threads.{idle_awaits, none_awaits}
 use Rattle.ptk_words_locks.proofs.Conditions.{condition_wait}
@@ -76,8 +76,8 @@ asleep_at : (c m : ℕ) (deadline : Option ℕ) (x : Option Thread) → IsSome x
 asleep_at c m deadline None used = let no : ⊥ = cc in absurd no
 asleep_at c m deadline (Some thread) used = refl
 
-named_same : (n m : ℕ) (wait : Option Wait) (c : ℕ) (deadline : Option ℕ) → wait ≡ Some (ConditionWait c m deadline) → mutex_named wait ≡ Some n → n ≡ m
-named_same n m wait c deadline e named = some_same n m (sym named ∙ ap mutex_named e)
+named_same : (n m : ℕ) (wait : Option Wait) (c : ℕ) (deadline : Option ℕ) → wait ≡ Some (ConditionWait c m deadline) → mutex_of_condition_wait wait ≡ Some n → n ≡ m
+named_same n m wait c deadline e named = some_same n m (sym named ∙ ap mutex_of_condition_wait e)
 
 -- the thread itself
 sleeper_waits : (t c m : ℕ) (deadline : Option ℕ) (locks : Locks) → IsAwake locks t → AreLocked locks → IsOnCondition (with_thread t (λ thread. record thread { wait = Some (ConditionWait c m deadline) }) (after_unlock m locks)) c t

@@ -4,7 +4,7 @@ ghost use Rattle.std.specs.Prelude.{◌≡◌, ◌<◌, [], Some, None, length, 
 ghost use Rattle.std.specs.Option.{is_some};
 ghost use Rattle.ptk_words.specs.Pools.{least_free, pool_get, pool_set};
 ghost use Rattle.ptk_words_parted.specs.Parts.{part_of};
-ghost use Rattle.ptk_words_locks.specs.Conditions.{waiters_on};
+ghost use Rattle.ptk_words_model.specs.Condition.{waiters_on};
 ghost use Rattle.ptk_mutex.specs.Sound.{AreSynced, IsSound};
 ghost use Rattle.ptk_cond.specs.Pool.{with_new_condition};
 

@@ -6,7 +6,7 @@ ghost use Rattle.ptk_words.specs.Pools.{pool_get};
 ghost use Rattle.ptk_words_parted.specs.Parts.{part_of};
 ghost use Rattle.ptk_words_model.specs.State.{locks_of};
 ghost use Rattle.ptk_words_model.specs.Mutex.{wait_of};
-ghost use Rattle.ptk_words_model.specs.Condition.{mutex_named, is_named, names_mutex, names_another};
+ghost use Rattle.ptk_words_model.specs.Condition.{mutex_of_condition_wait, is_named, names_mutex, names_another};
 ghost use Rattle.ptk_threads_slots.specs.Links.{threads_of};
 ghost use Rattle.ptk_cond.specs.Tables.{syncs_of};
 
@@ -34,21 +34,21 @@ pub fn names_another(roster: &Roster, p: PartId, c: ConditionNo, m: MutexNo) -> 
 
 /// Whether one of these threads names the mutex.
 fn is_any_naming(threads: &[Slot], m: MutexNo) -> bool
-    ensures { result ≡ list_any (λ thread. is_named m (mutex_named (wait_of thread))) (threads_of threads.now) }
+    ensures { result ≡ list_any (λ thread. is_named m (mutex_of_condition_wait (wait_of thread))) (threads_of threads.now) }
 {
     threads.iter().any(|slot| is_naming(slot, m))
 }
 
 /// Whether one of these waiters names another mutex.
 fn is_any_naming_another(threads: &[Slot], waiters: &[ThreadNo], m: MutexNo) -> bool
-    ensures { result ≡ list_any (λ t. not (is_named m (mutex_named (wait_of (pool_get (threads_of threads.now) t))))) waiters.now }
+    ensures { result ≡ list_any (λ t. not (is_named m (mutex_of_condition_wait (wait_of (pool_get (threads_of threads.now) t))))) waiters.now }
 {
     waiters.iter().any(|t| !is_naming_at(threads, *t, m))
 }
 
 /// Whether the thread of a number names the mutex.
 fn is_naming_at(threads: &[Slot], t: ThreadNo, m: MutexNo) -> bool
-    ensures { result ≡ is_named m (mutex_named (wait_of (pool_get (threads_of threads.now) t))) }
+    ensures { result ≡ is_named m (mutex_of_condition_wait (wait_of (pool_get (threads_of threads.now) t))) }
 {
     match thread_slot(threads, t) {
         Some(slot) => is_naming(slot, m),
@@ -59,9 +59,9 @@ fn is_naming_at(threads: &[Slot], t: ThreadNo, m: MutexNo) -> bool
 /// Whether the thread of a slot names the mutex.
 #[tactic(auto, using(crate::proofs::Waits::waits))]
 fn is_naming(slot: &Slot, m: MutexNo) -> bool
-    ensures { result ≡ is_named m (mutex_named (wait_of slot.now.thread)) }
+    ensures { result ≡ is_named m (mutex_of_condition_wait (wait_of slot.now.thread)) }
 {
-    is_named(m, mutex_named(slot.wait()))
+    is_named(m, mutex_of_condition_wait(slot.wait()))
 }
 
 /// Whether the mutex named is this one.
@@ -75,8 +75,8 @@ fn is_named(m: MutexNo, named: Option<MutexNo>) -> bool
 }
 
 /// The mutex that a condition wait names; None of any other wait.
-pub(crate) fn mutex_named(wait: Option<Wait>) -> Option<MutexNo>
-    ensures { result ≡ mutex_named wait }
+pub(crate) fn mutex_of_condition_wait(wait: Option<Wait>) -> Option<MutexNo>
+    ensures { result ≡ mutex_of_condition_wait wait }
 {
     match wait? {
         Wait::ConditionWait(_, m, _) => Some(m),

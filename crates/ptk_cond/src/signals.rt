@@ -5,7 +5,7 @@ ghost use Rattle.ptk_words.specs.Pools.{is_in};
 ghost use Rattle.ptk_words_parted.specs.Parts.{part_of};
 ghost use Rattle.ptk_words_model.specs.Mutex.{wait_of};
 ghost use Rattle.ptk_words_model.specs.Priority.{thread_at};
-ghost use Rattle.ptk_words_model.specs.Condition.{condition_waiters, mutex_named, after_unblock, after_unblock_for, after_signal, after_signal_to, after_broadcast};
+ghost use Rattle.ptk_words_model.specs.Condition.{condition_waiters, mutex_of_condition_wait, after_unblock, after_unblock_for, after_signal, after_signal_to, after_broadcast};
 ghost use Rattle.ptk_words_parted.specs.Sets.{IsSetOf};
 ghost use Rattle.ptk_mutex_rise.specs.Visits.{IsVisited};
 ghost use Rattle.ptk_mutex.specs.Sound.{IsSound};
@@ -13,7 +13,7 @@ ghost use Rattle.ptk_mutex.specs.Tables.{with_threads};
 ghost use Rattle.ptk_cond.specs.Tables.{syncs_at, AreSynced, MayLeave, next_waiter};
 ghost use Rattle.ptk_cond.specs.Visits.{IsVisitedBySignal};
 
-use crate::naming::mutex_named;
+use crate::naming::mutex_of_condition_wait;
 use ptk_mutex::Mutexes;
 use ptk_roster::Roster;
 use ptk_words::{ConditionNo, MutexNo, PartId, ThreadNo};
@@ -83,7 +83,7 @@ pub fn withdraw(
     ensures ready { AreSynced p roster.new.table roster.new.lines roster.new.mutexes roster.new.conditions }
     ensures sound { IsSound roster.old → IsSound roster.new }
 {
-    let named = mutex_named(roster.threads().wait(p, t));
+    let named = mutex_of_condition_wait(roster.threads().wait(p, t));
     unblock(roster, mutexes, p, t, c, reply, named);
 }
 
@@ -100,7 +100,7 @@ fn unblock(
 )
     requires ready { AreSynced p roster.old.table roster.old.lines roster.old.mutexes roster.old.conditions }
     requires waiter { is_in t (condition_waiters (syncs_at p roster.old.table roster.old.lines roster.old.mutexes roster.old.conditions) c) ≡ true }
-    requires named { named ≡ mutex_named (wait_of (thread_at (syncs_at p roster.old.table roster.old.lines roster.old.mutexes roster.old.conditions).locks t)) }
+    requires named { named ≡ mutex_of_condition_wait (wait_of (thread_at (syncs_at p roster.old.table roster.old.lines roster.old.mutexes roster.old.conditions).locks t)) }
     ensures threads { roster.new.table ≡ with_threads p (after_unblock_for t c reply named (syncs_at p roster.old.table roster.old.lines roster.old.mutexes roster.old.conditions)).locks roster.old.table }
     ensures line { roster.new.lines ≡ slice_set roster.old.lines p (after_unblock_for t c reply named (syncs_at p roster.old.table roster.old.lines roster.old.mutexes roster.old.conditions)).line }
     ensures mutexes { roster.new.mutexes ≡ slice_set roster.old.mutexes p (after_unblock_for t c reply named (syncs_at p roster.old.table roster.old.lines roster.old.mutexes roster.old.conditions)).mutexes }

@@ -26,8 +26,8 @@ abbrev pub console_at : ConsoleTable → ℕ → Console
 console_at table p = slice_index_or table.consoles p (fresh_console [])
 
 -- the numbers of a partition's section
-abbrev pub limits_at : ConsoleTable → ℕ → Limits
-limits_at table p = slice_index_or table.limits p no_limits
+abbrev pub console_limits_at : ConsoleTable → ℕ → Limits
+console_limits_at table p = slice_index_or table.limits p no_limits
 
 -- the table with another console of one partition
 abbrev pub put_console : ℕ → Console → ConsoleTable → ConsoleTable

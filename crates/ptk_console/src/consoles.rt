@@ -2,7 +2,7 @@
 
 ghost use Rattle.std.specs.Prelude.{◌≡◌, ◌<◌, not, length, map, is_some, option_map, slice_get, IfOk};
 ghost use Rattle.ptk_words_model.specs.Console.{is_full, with_waiter, without_waiter};
-ghost use Rattle.ptk_console.specs.ConsoleTable.{IsNotWaiting, after_next, after_put, console_at, first_byte, fresh_console, limits_at, next_byte, put_console, without_first, without_next};
+ghost use Rattle.ptk_console.specs.ConsoleTable.{IsNotWaiting, after_next, after_put, console_at, first_byte, fresh_console, console_limits_at, next_byte, put_console, without_first, without_next};
 
 use crate::console::PartitionConsole;
 use ptk_words::{Arrival, Limits, PartId, ThreadNo, Tick};
@@ -87,7 +87,7 @@ impl Consoles {
     pub fn arrive(&mut self, p: PartId, tick: Tick) -> bool
         requires { p < length self.old.consoles }
         ensures told { result ≡ is_some (next_byte tick (console_at self.old p)) }
-        ensures moved { self.new ≡ put_console p (after_next (limits_at self.old p).ring tick (console_at self.old p)) self.old }
+        ensures moved { self.new ≡ put_console p (after_next (console_limits_at self.old p).ring tick (console_at self.old p)) self.old }
     {
         let console = &mut self.items[p.index()];
         console.arrive(tick)
@@ -106,7 +106,7 @@ impl Consoles {
     /// Whether the partition's output has all the bytes that it may have.
     pub fn is_full(&self, p: PartId) -> bool
         requires { p < length self.now.consoles }
-        ensures { result ≡ is_full (limits_at self.now p).output (console_at self.now p) }
+        ensures { result ≡ is_full (console_limits_at self.now p).output (console_at self.now p) }
     {
         self.items[p.index()].is_full()
     }
@@ -114,8 +114,8 @@ impl Consoles {
     /// Appends a byte to the partition's output; false, and nothing changes, where the output is full.
     pub fn put(&mut self, p: PartId, byte: u8) -> bool
         requires { p < length self.old.consoles }
-        ensures told { result ≡ not (is_full (limits_at self.old p).output (console_at self.old p)) }
-        ensures moved { self.new ≡ put_console p (after_put (limits_at self.old p).output byte (console_at self.old p)) self.old }
+        ensures told { result ≡ not (is_full (console_limits_at self.old p).output (console_at self.old p)) }
+        ensures moved { self.new ≡ put_console p (after_put (console_limits_at self.old p).output byte (console_at self.old p)) self.old }
     {
         let console = &mut self.items[p.index()];
         console.put(byte)

@@ -10,7 +10,7 @@ use crate::places::end_turn;
 use ptk_gate_pools::Pools;
 use ptk_words::{Policy, ThreadNo};
 
-/// A thread of SCHED_RR that still runs after a step of so many ticks has used them; at the interval it goes to the
+/// A thread of SCHED_RR that still runs after a step of this many ticks has used them; at the interval it goes to the
 /// tail, and no thread runs.
 #[tactic(auto, using(ptk_gate_pools::proofs::Ranks::put_same, crate::proofs::Ready::ready))]
 pub fn count_interval(pools: &mut Pools, interval: u32, cost: u32, t: ThreadNo)

@@ -1,12 +1,15 @@
-//! The moves of one partition that are composed of several of `ptk_gate_pools`, as functions over `&mut Pools` with that
-//! partition in hand: a reply in the caller's registers, a refusal, a success, blocking, waking, halting, the places of
-//! the running thread, its round-robin interval, the beginning of a thread and of an unwinding, the call of a routine
-//! that an unwinding calls, cancellation points, and the calls that are no more than one of these. Each is one equation:
-//! the pools are the old ones with the part in hand replaced by the model's move; every other partition's part stays.
-//! Besides there is what a word of a guest means: a thread, a priority, a deadline, a place in memory. Below stands
+//! The moves composed of several: reply, refuse, block, wake, halt, the end of a turn, a round-robin interval, the
+//! beginning of a thread and of an unwinding, and cancellation points.
+//!
+//! - The model's moves that write several components, each one equation over the pools: `reply`, `refuse`, `succeed`,
+//!   `block`, `wake`, `halt`, `push_tail`, `end_turn`, `step_back`, `count_interval`, `begin` (a thread),
+//!   `start_unwinding`, `call_routine`, `cancel` (at a cancellation point).
+//! - Calls 0, 11 and 14: `exit`, `leave`, `own_number`.
+//!
+//! Besides there is what a word of a guest means: a thread, a priority, a deadline, a place in memory. Below is
 //! `ptk_gate_pools`, whose `Pools`, `Look` and specs are passed on to the crates above: `ptk_gate_services`,
-//! `ptk_gate_steps`, `ptk_gate_threads`, `ptk_gate_sync` and the gate's tables, which make calls and decisions of these
-//! moves. Costly to prove is `begin`, four moves in a row.
+//! `ptk_gate_steps`, `ptk_gate_threads`, `ptk_gate_sync` and the gate's tables. Costly to prove is `begin`, four moves
+//! in a row.
 #![tactic(auto)]
 
 mod blocking;

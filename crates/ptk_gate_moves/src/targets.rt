@@ -1,4 +1,4 @@
-//! The thread that a guest names, and what is told of it.
+//! The thread that a guest names, and what is shown of it.
 
 ghost use Rattle.std.specs.Prelude.{◌≡◌, ◌<◌, ◌≤◌, length, IfSome};
 ghost use Rattle.std.specs.Option.{option_copied};

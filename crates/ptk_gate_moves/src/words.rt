@@ -28,7 +28,7 @@ pub fn policy_number(policy: Policy) -> u32
     }
 }
 
-/// Whether the word is a multiple of 4 at which so many bytes lie in memory (own choice).
+/// Whether the word is a multiple of 4 at which this many bytes lie in memory (own choice).
 pub fn is_pointer(pools: &Pools, word: u32, count: u32) -> bool
     ensures { result ≡ is_pointer pools.now.here word count }
 {

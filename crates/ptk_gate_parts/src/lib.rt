@@ -1,11 +1,16 @@
-//! The parts of the gate's pools as they are before any image is loaded, each made from the sections' numbers: memory
-//! and consoles, threads with their line, mutexes and condition variables, until when they wait, what their ends are made
-//! of, and what is kept of each partition as a whole. Each function takes all the memory that its part ever needs, and
-//! answers an error where memory ran out. Its contract is what a reader then sees of it, a list for each section
-//! (`per_section`). The memory has a type of its own here, `Memories`: beside the bytes of all partitions it keeps an
-//! entry for each word, by which rows of plain steps go; that each entry is unknown or the decoding of its word is its
-//! invariant, and whoever writes a byte writes it by this type. Below stand the pools of each kind, `ptk_rv32i_rows` and
-//! `ptk_trace`; above, `ptk_gate_pools`, which joins the parts to one structure.
+//! The pools of each kind made at boot from the sections' numbers, and `Memories`, the memory of all partitions with
+//! its decoded words.
+//!
+//! - `stores_of`, `schedules_of`, `deadlines_of`, `endings_of` and `records_of` make the pools of each kind as they are
+//!   at boot, an entry for each section.
+//! - `Memories` is the memory of all partitions: `fill`, `step`, `store_word` and `run_row` each change one partition's
+//!   bytes by one equation.
+//! - That its decoded words are those of the bytes is its invariant (`AreAllDecoded`).
+//!
+//! Each function takes all the memory that its part ever needs, and returns an error where memory ran out. Its contract
+//! is what a reader then sees of it, a list for each section (`per_section`). Whoever writes a byte of memory writes it
+//! by `Memories`. Below are the pools of each kind, `ptk_rv32i_rows` and `ptk_trace`; above, `ptk_gate_pools` joins the
+//! parts to one structure.
 #![tactic(auto)]
 
 mod counts;

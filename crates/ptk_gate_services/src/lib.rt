@@ -1,13 +1,19 @@
-//! What is composed of the moves of `ptk_gate_pools` for a partition's console, clocks, cancellation and keys: calls 1
-//! and 2 (a byte put out, a byte taken or waited for) and the input that arrives, to the first waiter, or into the
-//! ring, or lost; calls 3 and 4 (the clocks read and slept by) and the deadlines that have come at a tick; calls 40 to
-//! 45 (a request to end another thread, the caller's cancelability state and type, a cancellation point of its own, its
-//! cleanup handlers); and calls 50 to 53 (keys and thread-specific data; a word that is no key in use is unknown: it can
-//! be neither deleted nor set, and its value is 0). Each public function acts on the partition in hand and is one
-//! equation: the pools are the old ones with the part in hand replaced by what the model makes of it, so that every
-//! other partition's part stays. Below stand the pools and their moves; above, the gate's tables. Costly to prove are
-//! `arrive_due` and `expire_due`, whose loops take one by one what the model takes at once, and `cancel`: a thread that
-//! is taken out of its wait is in use and not in the line, as in every whole state.
+//! The calls on the console, on clocks, on cancellation and cleanup handlers, and on keys and their values, with the
+//! input that arrives and the deadlines that expire, composed of moves.
+//!
+//! - One equation over the pools each: calls 1 and 2 (`put`, `get`), and the input that arrives by a tick
+//!   (`arrive_due`).
+//! - Calls 3 and 4 (`clock_gettime`, `clock_nanosleep`), and the deadlines that have come by a tick, in their order,
+//!   each in the state that the one before left (`expire_due`).
+//! - Calls 40 to 45 (`cancel`, `setcancelstate`, `setcanceltype`, `testcancel`, `cleanup_push`, `cleanup_pop`): a
+//!   request that acts takes a thread out of its wait at a cancellation point with no reply, and a waiter of a
+//!   condition variable locks its mutex again first.
+//! - Calls 50 to 53 (`key_create`, `key_delete`, `setspecific`, `getspecific`).
+//!
+//! A byte that arrives goes to the first waiter, or into the ring, or is lost. A word that is no key in use can be
+//! neither deleted nor set, and its value is 0. Costly to prove are `arrive_due` and `expire_due`, whose loops take one
+//! by one what the model takes at once, and `cancel`: a thread that is taken out of its wait is in use and not in the
+//! line. Below are the pools and their moves; above are the gate's tables.
 #![tactic(auto)]
 
 mod arrivals;

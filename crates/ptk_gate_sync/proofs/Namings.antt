@@ -1,19 +1,19 @@
 -- The mutex and the condition variable of a word.
-use Rattle.std.proofs.Common.{◌≡◌, ◌≢◌, ℕ, ◌+◌, ◌≤◌, Bool, true, false, List, [], length, refl, sym, ◌∙◌, ap, subst}
-use Rattle.std.specs.Prelude.{◌==◌, not, Option, Some, None, IsSome, is_some, Result, Ok, Err, IfOk, if◌then◌else◌}
+use Rattle.std.proofs.Common.{◌≡◌, ◌≢◌, ℕ, ◌+◌, ◌≤◌, Bool, true, false, [], length, refl, ◌∙◌, ap}
+use Rattle.std.specs.Prelude.{◌==◌, not, Some, None, is_some, option_map, unwrap_or, Result, Ok, Err, IfOk, if◌then◌else◌}
 use Rattle.std.proofs.lemmas.Bool.{eq-eqb, ne_eqb}
 use Rattle.ptk_words.specs.Names.{MutexNumber, ConditionNumber}
 use Rattle.ptk_words.specs.Words.{word_at}
-use Rattle.ptk_words.specs.Pools.{pool_get, pool_set, least_free}
+use Rattle.ptk_words.specs.Pools.{pool_get, least_free}
 use Rattle.ptk_words.specs.declared.faults.Errno.{Errno}
 use Rattle.ptk_words.specs.declared.faults.Errno.TheVariants.{EFAULT, ENOMEM, EINVAL}
 use Rattle.ptk_words.specs.declared.mutexes.MutexKind.TheVariants.{Normal}
 use Rattle.ptk_words.specs.declared.mutexes.Protocol.TheVariants.{NoProtocol}
 use Rattle.ptk_words.specs.declared.sections.Limits.{Limits}
 use Rattle.ptk_words_model.specs.declared.Invocation.{Invocation}
-use Rattle.ptk_words_model.specs.State.{Condition, Part}
+use Rattle.ptk_words_model.specs.State.{Part}
 use Rattle.ptk_words_model.specs.Mutex.{mutex_at, new_mutex}
-use Rattle.ptk_words_model.specs.Calls.{Answer, refusal, is_pointer, is_cancelled, with_stored, with_pool_mutex, with_pool_condition, set_up_mutex, set_up_condition}
+use Rattle.ptk_words_model.specs.Calls.{Answer, refusal, is_pointer, is_cancelled, with_stored, with_pool_mutex, with_pool_condition}
 use Rattle.ptk_words_model.specs.Steps.{Row, readable, cancellation_point, mutex_named, condition_named}
 use Rattle.ptk_words_locks.proofs.Pools.{get-set_own}
 use Rattle.ptk_words_well.specs.Well.{IsWell}
@@ -82,7 +82,7 @@ pub mutex_made : (limits : Limits) (pointer : ℕ) (s u : Part) (m : ℕ) → Is
 mutex_made limits pointer s u m well within zero found e =
     rw e
     (record {
-      call = λ i rest. by_zero (word_at s.memory pointer) _ _ zero ∙ ap (λ o. set_up_mutex o pointer i s (λ m u. rest m i u)) found;
+      call = λ i rest. by_zero (word_at s.memory pointer) _ _ zero ∙ ap (λ o. unwrap_or (option_map (λ m. rest m i (with_stored pointer m (with_pool_mutex m (Some (new_mutex Normal NoProtocol false)) s))) o) (refusal ENOMEM i s)) found;
       well = well_set_up limits m pointer s found within well;
       running = refl;
       memory = length-stored s pointer m within;
@@ -92,7 +92,7 @@ mutex_made limits pointer s u m well within zero found e =
 -- no number is free for it
 pub mutex_unmade : (limits : Limits) (pointer : ℕ) (s : Part) → IsWell limits s → word_at s.memory pointer ≡ 0 → least_free s.mutexes ≡ None → IsMutexOfWord limits pointer s (Err ENOMEM) s
 mutex_unmade limits pointer s well zero none = record {
-  call = λ i rest. by_zero (word_at s.memory pointer) _ _ zero ∙ ap (λ o. set_up_mutex o pointer i s (λ m u. rest m i u)) none;
+  call = λ i rest. by_zero (word_at s.memory pointer) _ _ zero ∙ ap (λ o. unwrap_or (option_map (λ m. rest m i (with_stored pointer m (with_pool_mutex m (Some (new_mutex Normal NoProtocol false)) s))) o) (refusal ENOMEM i s)) none;
   well = well;
   running = refl;
   memory = refl;
@@ -100,7 +100,7 @@ mutex_unmade limits pointer s well zero none = record {
 }
 
 known_call : (b : Bool) (m pointer : ℕ) (i : Invocation) (s : Part) (rest : MutexNumber → Row) → is_some (mutex_at s.locks m) ≡ b → word_at s.memory pointer ≡ m → m ≢ 0
-    → mutex_named pointer rest i s ≡ (if b then rest m i s else refusal EINVAL i s)
+    → mutex_named pointer rest i s ≡ (if not b then refusal EINVAL i s else rest m i s)
 known_call b m pointer i s rest used e ne = rw (e, ne_eqb m 0 ne, used) refl
 
 known_at : (limits : Limits) (b : Bool) (m pointer : ℕ) (s : Part) → IsWell limits s → is_some (mutex_at s.locks m) ≡ b → word_at s.memory pointer ≡ m → m ≢ 0 → IsMutexOfWord limits pointer s (if b then Ok m else Err EINVAL) s
@@ -142,7 +142,7 @@ condition_made limits pointer s u c well within zero found e =
     let made : Part = with_pool_condition c (Some (record { waiters = [] })) s in
     rw e
     (record {
-      call = λ i rest. by_zero (word_at s.memory pointer) _ _ zero ∙ ap (λ o. set_up_condition o pointer i s (λ c u. rest c i u)) found;
+      call = λ i rest. by_zero (word_at s.memory pointer) _ _ zero ∙ ap (λ o. unwrap_or (option_map (λ c. rest c i (with_stored pointer c (with_pool_condition c (Some (record { waiters = [] })) s))) o) (refusal ENOMEM i s)) found;
       well = well_stored limits pointer c made within (well_new_condition limits c s found well);
       running = refl;
       memory = length-stored s pointer c within;
@@ -152,7 +152,7 @@ condition_made limits pointer s u c well within zero found e =
 -- no number is free for it
 pub condition_unmade : (limits : Limits) (pointer : ℕ) (s : Part) → IsWell limits s → word_at s.memory pointer ≡ 0 → least_free s.conditions ≡ None → IsConditionOfWord limits pointer s (Err ENOMEM) s
 condition_unmade limits pointer s well zero none = record {
-  call = λ i rest. by_zero (word_at s.memory pointer) _ _ zero ∙ ap (λ o. set_up_condition o pointer i s (λ c u. rest c i u)) none;
+  call = λ i rest. by_zero (word_at s.memory pointer) _ _ zero ∙ ap (λ o. unwrap_or (option_map (λ c. rest c i (with_stored pointer c (with_pool_condition c (Some (record { waiters = [] })) s))) o) (refusal ENOMEM i s)) none;
   well = well;
   running = refl;
   memory = refl;
@@ -160,7 +160,7 @@ condition_unmade limits pointer s well zero none = record {
 }
 
 known_condition_call : (b : Bool) (c pointer : ℕ) (i : Invocation) (s : Part) (rest : ConditionNumber → Row) → is_some (pool_get s.conditions c) ≡ b → word_at s.memory pointer ≡ c → c ≢ 0
-    → condition_named pointer rest i s ≡ (if b then rest c i s else refusal EINVAL i s)
+    → condition_named pointer rest i s ≡ (if not b then refusal EINVAL i s else rest c i s)
 known_condition_call b c pointer i s rest used e ne = rw (e, ne_eqb c 0 ne, used) refl
 
 known_condition_at : (limits : Limits) (b : Bool) (c pointer : ℕ) (s : Part) → IsWell limits s → is_some (pool_get s.conditions c) ≡ b → word_at s.memory pointer ≡ c → c ≢ 0 → IsConditionOfWord limits pointer s (if b then Ok c else Err EINVAL) s

@@ -10,7 +10,7 @@ use Rattle.ptk_words_model.specs.declared.LockMove.{LockMove}
 use Rattle.ptk_words_model.specs.declared.LockMove.TheVariants.{Takes, Recovers, Counts, Waits, Refuses}
 use Rattle.ptk_words_model.specs.State.{Mutex, Part, with_locks}
 use Rattle.ptk_words_model.specs.Mutex.{mutex_at, owns, count_of, lock_move, relock_move, after_unlock}
-use Rattle.ptk_words_model.specs.MutexCalls.{make_move, timed_move, timed_wait_move}
+use Rattle.ptk_words_model.specs.MutexCalls.{make_move, timed_move}
 use Rattle.ptk_words_model.specs.Time.{Timespec, timespec_at, is_timespec, deadline_of}
 use Rattle.ptk_words_model.specs.Calls.{refusal}
 use Rattle.ptk_words_locks.proofs.ConditionWaits.{room_unlock}
@@ -22,7 +22,8 @@ use Rattle.ptk_words_locks.specs.Conditions.{IsNoWaiter}
 use Rattle.ptk_gate_moves.proofs.NoWaiters.{runner_apart}
 use Rattle.ptk_gate_moves.specs.Moves.{deadline_asked}
 use Rattle.ptk_gate_moves.proofs.Locked.{locked_of, may_wait}
-use Rattle.ptk_gate_sync.specs.Waits.{lock_by, is_waiting, timedlock_named, timed_wait_named, wait_until, wait_until_asked}
+use Rattle.ptk_mutex.specs.Rises.{is_waiting}
+use Rattle.ptk_words_well.specs.Rests.{lock_by, timedlock_named, timed_wait_named, wait_until, wait_until_asked}
 
 -- ---- destruction
 

@@ -2,12 +2,13 @@
 
 ghost use Rattle.std.specs.Prelude.{◌≡◌, ◌<◌, ◌≤◌, ◌+◌, length, Some};
 ghost use Rattle.ptk_words_model.specs.Calls.{told};
-ghost use Rattle.ptk_words_model.specs.MutexCalls.{mutex_lock, mutex_trylock, mutex_timedlock, trylock_named};
+ghost use Rattle.ptk_words_model.specs.MutexCalls.{mutex_lock, mutex_trylock, mutex_timedlock};
 ghost use Rattle.ptk_words_model.specs.declared.LockMove.TheVariants.{Waits};
 ghost use Rattle.ptk_words_model.specs.Mutex.{mutex_at, lock_move};
 ghost use Rattle.ptk_words_well.specs.Well.{IsWell};
+ghost use Rattle.ptk_mutex.specs.Rises.{is_waiting};
 ghost use Rattle.ptk_gate_moves.specs.Held.{limits_here};
-ghost use Rattle.ptk_gate_sync.specs.Waits.{lock_by, is_waiting, timedlock_named, timed_wait_named};
+ghost use Rattle.ptk_words_well.specs.Rests.{lock_by, trylock_named, timedlock_named, timed_wait_named};
 
 use crate::naming::named_mutex;
 use ptk_gate_moves::{Pools, asked_deadline, is_pointer, refuse, reply};

@@ -2,7 +2,8 @@
 
 ghost use Rattle.std.specs.Prelude.{◌≡◌, ◌<◌, [], length, option_map};
 ghost use Rattle.ptk_words_model.specs.Mutex.{mutex_at};
-ghost use Rattle.ptk_words_model.specs.MutexCalls.{mutex_unlock, is_inconsistent, is_repairable, mutex_consistent, unlock_named, consistent_named};
+ghost use Rattle.ptk_words_model.specs.MutexCalls.{mutex_unlock, is_inconsistent, is_repairable, mutex_consistent};
+ghost use Rattle.ptk_words_well.specs.Rests.{unlock_named, consistent_named};
 ghost use Rattle.ptk_words_well.specs.Well.{IsWell};
 ghost use Rattle.ptk_mutex_slots.specs.Slots.{mutex_with};
 ghost use Rattle.ptk_gate_moves.specs.Held.{limits_here};

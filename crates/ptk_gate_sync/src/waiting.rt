@@ -8,7 +8,7 @@ ghost use Rattle.ptk_words_model.specs.Steps.{Row, condition_named, mutex_named,
 ghost use Rattle.ptk_words_model.specs.ConditionCalls.{cond_wait, cond_timedwait, late_wait_answer};
 ghost use Rattle.ptk_words_well.specs.Well.{IsWell};
 ghost use Rattle.ptk_gate_moves.specs.Held.{limits_here};
-ghost use Rattle.ptk_gate_sync.specs.Waits.{block_on, wait_named, wait_until, wait_until_asked, timedwait_named};
+ghost use Rattle.ptk_words_well.specs.Rests.{block_on, wait_named, wait_until, wait_until_asked, timedwait_named};
 
 use crate::condition_naming::condition_of_word;
 use crate::locking::tell;

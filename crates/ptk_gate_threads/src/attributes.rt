@@ -64,7 +64,7 @@ fn read_attributes(pools: &Pools, pointer: u32) -> Result<ThreadAttributes, Errn
     })
 }
 
-/// What these attributes ask for, in a memory of so many bytes. In this order (own choice): EINVAL where detach or
+/// What these attributes ask for, in a memory of this many bytes. In this order (own choice): EINVAL where detach or
 /// inherit is neither 0 nor 1, the faults of `decode_scheduling`, EINVAL where the stack top is no multiple of 16 or
 /// lies past the memory.
 fn decode(attributes: &ThreadAttributes, memory: usize) -> Result<Creation, Errno>

@@ -1,7 +1,10 @@
-//! Deadlines of waits: what kind a wait is, and whose deadline the queue keeps. These functions act on the parts of the
-//! gate's pools that this is about, the roster and the deadlines, of one partition, and not on the pools as a whole.
-//! `follow_wait` and `follow_move` make a thread's kept deadline that of its wait. Below stand `ptk_roster` and
-//! `ptk_clock`; above, `ptk_gate_pools`. Nothing here is costly to prove.
+//! What kind a wait is, and the deadline that is kept of it.
+//!
+//! - `follow_wait` and `follow_move` make the kept deadline of a thread that of its wait.
+//! - `is_for_mutex` returns whether a wait is for a mutex.
+//!
+//! These functions act on the roster and the deadlines of one partition, and not on the pools as a whole. Below are
+//! `ptk_roster` and `ptk_clock`; above is `ptk_gate_pools`. Nothing here is costly to prove.
 #![tactic(auto)]
 
 mod deadlines;

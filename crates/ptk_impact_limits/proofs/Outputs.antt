@@ -5,16 +5,13 @@ use Rattle.ptk_words.specs.declared.calls.Call.{Call}
 use Rattle.ptk_words.specs.declared.calls.Call.TheVariants as call
 use Rattle.ptk_words.specs.declared.faults.Errno.{Errno}
 use Rattle.ptk_words.specs.declared.faults.Errno.TheVariants.{EAGAIN}
-use Rattle.ptk_words.specs.declared.mutexes.MutexKind.TheVariants.{Normal}
-use Rattle.ptk_words.specs.declared.mutexes.Protocol.TheVariants.{NoProtocol}
 use Rattle.ptk_words.specs.declared.threads.Cleanup.{Cleanup}
 use Rattle.ptk_words.specs.declared.threads.Wait.{Wait}
 use Rattle.ptk_words.specs.declared.threads.Wait.TheVariants.{InputWait, SleepWait, JoinWait, MutexWait, ConditionWait, RelockWait}
 use Rattle.ptk_words_model.specs.declared.Invocation.{Invocation}
 use Rattle.ptk_words_model.specs.State.{Locks, Part, with_console}
-use Rattle.ptk_words_model.specs.Mutex.{new_mutex}
 use Rattle.ptk_words_model.specs.Console.{is_full, with_output}
-use Rattle.ptk_words_model.specs.Calls.{Answer, refusal, success, told, is_cancelled, cancellation_answer, with_stored, with_pool_mutex, with_pool_condition, set_up_mutex, set_up_condition}
+use Rattle.ptk_words_model.specs.Calls.{Answer, refusal, success, told, is_cancelled, cancellation_answer}
 use Rattle.ptk_words_model.specs.Steps.{Row, valid}
 use Rattle.ptk_words_model.specs.ThreadCalls.{after_placing, after_placing_at_tail, after_priority_change}
 use Rattle.ptk_words_model.specs.Withdrawal.{after_cancelled_wait}
@@ -66,16 +63,6 @@ valid_kept : {A : Type 0} (found : Result A Errno) (rest : A → Row) (i : Invoc
 valid_kept (Ok a) rest i s kept = kept a
 valid_kept (Err e) rest i s kept = refl
 
-mutex_kept : (m : Option ℕ) (pointer : ℕ) (i : Invocation) (s : Part) (next : ℕ → Part → Answer) → ((n : ℕ) (u : Part) → (next n u).part.console.output ≡ u.console.output)
-    → (set_up_mutex m pointer i s next).part.console.output ≡ s.console.output
-mutex_kept None pointer i s next kept = refl
-mutex_kept (Some m) pointer i s next kept = kept m (with_stored pointer m (with_pool_mutex m (Some (new_mutex Normal NoProtocol false)) s))
-
-condition_kept : (c : Option ℕ) (pointer : ℕ) (i : Invocation) (s : Part) (next : ℕ → Part → Answer) → ((n : ℕ) (u : Part) → (next n u).part.console.output ≡ u.console.output)
-    → (set_up_condition c pointer i s next).part.console.output ≡ s.console.output
-condition_kept None pointer i s next kept = refl
-condition_kept (Some c) pointer i s next kept = kept c (with_stored pointer c (with_pool_condition c (Some (record { waiters = [] })) s))
-
 told_kept : (reply : Option ℕ) → IsKeptBy (told reply)
 told_kept None i s = refl
 told_kept (Some word) i s = refl
@@ -90,7 +77,7 @@ pop_kept (cleanup ∷ cleanups) i s = refl
 
 ruleset changes = (placing_kept, placing_at_tail_kept, priority_kept, cancelled_kept)
 
-ruleset steps = (either_kept, given_kept, valid_kept, mutex_kept, condition_kept, told_kept, take_kept, pop_kept)
+ruleset steps = (either_kept, given_kept, valid_kept, told_kept, take_kept, pop_kept)
 
 -- ---- the table
 

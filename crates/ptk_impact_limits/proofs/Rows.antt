@@ -2,20 +2,17 @@
 use Rattle.std.proofs.Common.{◌≡◌, ℕ, ◌≤◌, Bool, true, false, ◌⊎◌, inl, inr, List, [], ◌∷◌, length, Option, Some, None, refl, ap, cond, arith}
 use Rattle.std.proofs.lemmas.Bool.{leb-true, le-leb, lt-leb}
 use Rattle.std.proofs.lemmas.List.{length_push}
-use Rattle.std.specs.Prelude.{Result, Ok, Err, ◌%◌, nat_le}
+use Rattle.std.specs.Prelude.{Result, Ok, Err, ◌%◌, nat_le, option_map, unwrap_or}
 use Rattle.ptk_words.specs.declared.calls.Call.{Call}
 use Rattle.ptk_words.specs.declared.calls.Call.TheVariants as call
 use Rattle.ptk_words.specs.declared.faults.Errno.{Errno}
 use Rattle.ptk_words.specs.declared.faults.Errno.TheVariants.{EAGAIN}
-use Rattle.ptk_words.specs.declared.mutexes.MutexKind.TheVariants.{Normal}
-use Rattle.ptk_words.specs.declared.mutexes.Protocol.TheVariants.{NoProtocol}
 use Rattle.ptk_words.specs.declared.threads.Cleanup.{Cleanup}
 use Rattle.ptk_words.specs.declared.sections.Limits.{Limits}
 use Rattle.ptk_words_model.specs.declared.Invocation.{Invocation}
 use Rattle.ptk_words_model.specs.State.{Part, with_console}
-use Rattle.ptk_words_model.specs.Mutex.{new_mutex}
 use Rattle.ptk_words_model.specs.Console.{is_full, with_output}
-use Rattle.ptk_words_model.specs.Calls.{Answer, refusal, success, told, is_cancelled, cancellation_answer, with_stored, with_pool_mutex, with_pool_condition, set_up_mutex, set_up_condition}
+use Rattle.ptk_words_model.specs.Calls.{Answer, refusal, success, told, is_cancelled, cancellation_answer}
 use Rattle.ptk_words_model.specs.Steps.{Row, valid}
 use Rattle.ptk_words_model.specs.ConsoleCalls.{take_input, console_put}
 use Rattle.ptk_words_model.specs.CancellationCalls.{cleanup_pop_answer}
@@ -56,17 +53,12 @@ valid_same : {A : Type 0} (found : Result A Errno) (rest rest' : A → Row) (out
 valid_same (Ok a) rest rest' output kept i s same = same a
 valid_same (Err e) rest rest' output kept i s same = refl
 
-mutex_same : (m : Option ℕ) (pointer output kept : ℕ) (i : Invocation) (s : Part) (next next' : ℕ → Part → Answer) → ((n : ℕ) (u : Part) → next n u ≡ next' n u)
-    → set_up_mutex m pointer (under output kept i) s next ≡ set_up_mutex m pointer i s next'
-mutex_same None pointer output kept i s next next' same = refl
-mutex_same (Some m) pointer output kept i s next next' same = same m (with_stored pointer m (with_pool_mutex m (Some (new_mutex Normal NoProtocol false)) s))
+given_same : {A : Type 0} (o : Option A) (next next' : A → Answer) (none none' : Answer) → none ≡ none' → ((a : A) → next a ≡ next' a)
+    → unwrap_or (option_map next o) none ≡ unwrap_or (option_map next' o) none'
+given_same None next next' none none' one other = one
+given_same (Some a) next next' none none' one other = other a
 
-condition_same : (c : Option ℕ) (pointer output kept : ℕ) (i : Invocation) (s : Part) (next next' : ℕ → Part → Answer) → ((n : ℕ) (u : Part) → next n u ≡ next' n u)
-    → set_up_condition c pointer (under output kept i) s next ≡ set_up_condition c pointer i s next'
-condition_same None pointer output kept i s next next' same = refl
-condition_same (Some c) pointer output kept i s next next' same = same c (with_stored pointer c (with_pool_condition c (Some (record { waiters = [] })) s))
-
-ruleset steps = (told_same, take_same, pop_same, either_same, valid_same, mutex_same, condition_same)
+ruleset steps = (told_same, take_same, pop_same, either_same, valid_same, given_same)
 
 -- ---- the table
 

@@ -1,10 +1,15 @@
-//! Whether two partitions, each of a window plan of its own, have the same own ticks and window ends at all ticks, and
-//! the first tick at which they do not.
+//! The first tick at which the windows of two partitions, each of a plan of its own, differ, or that they are the same
+//! at all ticks.
 //!
-//! In a stage a partition's windows repeat with the frame. So two partitions that agree for one frame of each plan from the
-//! beginning of each stage of either plan agree at all ticks (`agreement_spreads`), whatever the frames are, and
-//! `first_difference` looks no further. The weight lies in `proofs/Repeats`: two functions that repeat, each with a
-//! period of its own, and agree for the sum of the two periods, agree.
+//! - `first_difference` returns None if and only if two partitions, each of any window plan, have the same `end_at` at
+//!   every tick, and else the least tick at which the two differ with both ends there.
+//! - `agreement_spreads`: two partitions that agree from the beginning of each stage of either plan for one frame of
+//!   each agree at all ticks.
+//!
+//! In a stage a partition's windows repeat with the frame, so `first_difference` looks no further than one frame of
+//! each plan from the beginning of each stage. The weight of the proofs is in `proofs/Repeats`: two functions that
+//! repeat, each with a period of its own, and agree for the sum of the two periods, agree everywhere. Below is
+//! `ptk_window`; above is `ptk_impact`.
 #![tactic(auto)]
 
 mod comparison;

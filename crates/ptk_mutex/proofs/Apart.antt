@@ -21,8 +21,8 @@ use Rattle.ptk_words_model.specs.declared.LockMove.TheVariants.{Takes, Recovers,
 use Rattle.ptk_words_model.specs.Priority.{assigned_priority, awaited, is_owner, mutex_of_wait, thread_at}
 use Rattle.ptk_words_model.specs.Schedule.{with_thread, at_tail_with, woken_with}
 use Rattle.ptk_words_model.specs.Mutex.{mutex_at, with_mutex, waiters_of, wait_of, count_of, soundness_of, with_soundness, new_mutex, owns, owner_move, own_lock_move, own_trylock_move, is_above_ceiling, lock_move, trylock_move, free_move, handed, heir, move_reply, relock_move, without_mutex_waiter, after_take, after_count, after_free, after_move, after_hand_over_to, after_hand_over, after_refusal_to, after_refusal, after_loss, after_last_unlock, after_unlock, after_relock, after_relock_move, after_bequest, after_abandonment, after_mutex_end}
-use Rattle.ptk_words_model.specs.Condition.{mutex_named}
-use Rattle.ptk_words_locks.specs.Conditions.{condition_of_wait, HasRoom, IsNoWaiter, waiters_on}
+use Rattle.ptk_words_model.specs.Condition.{mutex_of_condition_wait, waiters_on}
+use Rattle.ptk_words_locks.specs.Conditions.{condition_of_wait, HasRoom, IsNoWaiter}
 use Rattle.ptk_words_locks.proofs.Lines.{out_push}
 use Rattle.ptk_words_locks.proofs.Conditions.{condition_wait, room_map}
 use Rattle.ptk_words_locks.proofs.MutexPlaces.{pool_set_same}
@@ -442,7 +442,7 @@ pub kept_waiter : (c k : ℕ) (before after : Locks) → IsApart before after k 
 kept_waiter c k before after apart waiter = record {
   waits = ap (λ (x : Option Thread). condition_of_wait (wait_of x)) apart.thread ∙ waiter.waits;
   out = apart.out waiter.out;
-  room = λ m named. apart.room m (waiter.room m (sym (ap (λ (x : Option Thread). mutex_named (wait_of x)) apart.thread) ∙ named));
+  room = λ m named. apart.room m (waiter.room m (sym (ap (λ (x : Option Thread). mutex_of_condition_wait (wait_of x)) apart.thread) ∙ named));
 }
 
 -- so waiters still wait after a call that leaves each of them alone
@@ -472,5 +472,5 @@ waiting_assigned t priority locks conditions waiting = record {
       let was : IsOnCondition locks c k = waiting.waiters c k h in
       let same : wait_of (thread_at (after_assignment t priority locks) k) ≡ wait_of (thread_at locks k) =
       pool_set_same wait_of locks.threads t k (option_map (λ (thread : Thread). record thread { priority = priority }) (pool_get locks.threads t)) (wait_kept priority (pool_get locks.threads t)) in
-      record { waits = ap condition_of_wait same ∙ was.waits; out = was.out; room = λ m named. was.room m (sym (ap mutex_named same) ∙ named) };
+      record { waits = ap condition_of_wait same ∙ was.waits; out = was.out; room = λ m named. was.room m (sym (ap mutex_of_condition_wait same) ∙ named) };
 }

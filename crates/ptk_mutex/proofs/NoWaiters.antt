@@ -17,7 +17,7 @@ use Rattle.ptk_threads.proofs.Pools.{part_of-set}
 use Rattle.ptk_mutex_slots.specs.declared.slot.Change.TheVariants.{Take, CountUp}
 use Rattle.ptk_mutex_slots.specs.Changes.{mutex_changed}
 use Rattle.ptk_mutex.specs.Tables.{locks_at, HasPart}
-use Rattle.ptk_mutex.specs.Rises.{is_wait}
+use Rattle.ptk_mutex.specs.Rises.{is_waiting}
 
 -- ---- a mutex changed
 
@@ -43,7 +43,7 @@ no_waiter-changed t m f mutexes conditions keeps none = record {
 -- ---- a move
 
 -- that begins no wait
-no_waiter-move : (made : LockMove) (t m : ℕ) (wait : Wait) (locks : Locks) (conditions : List (Option Condition)) → is_wait made ≡ false → IsNoWaiter t locks.mutexes conditions → IsNoWaiter t (after_move made t m wait locks).mutexes conditions
+no_waiter-move : (made : LockMove) (t m : ℕ) (wait : Wait) (locks : Locks) (conditions : List (Option Condition)) → is_waiting made ≡ false → IsNoWaiter t locks.mutexes conditions → IsNoWaiter t (after_move made t m wait locks).mutexes conditions
 no_waiter-move Takes t m wait locks conditions e none = no_waiter-changed t m (mutex_changed (Take t)) locks.mutexes conditions (λ y. refl) none
 no_waiter-move Recovers t m wait locks conditions e none = no_waiter-changed t m (mutex_changed (Take t)) locks.mutexes conditions (λ y. refl) none
 no_waiter-move Counts t m wait locks conditions e none = no_waiter-changed t m (mutex_changed CountUp) locks.mutexes conditions (λ y. refl) none
@@ -51,7 +51,7 @@ no_waiter-move Waits t m wait locks conditions e none = cc
 no_waiter-move (Refuses error) t m wait locks conditions e none = none
 
 -- a thread that made it is still no waiter
-pub made_free : (made : LockMove) (p t m : ℕ) (wait : Wait) (table : ThreadTable) (lines : List (List ℕ)) (mutexes mutexes' : List (List (Option Mutex))) (conditions conditions' : List (List (Option Condition))) → HasPart p table lines mutexes → is_wait made ≡ false
+pub made_free : (made : LockMove) (p t m : ℕ) (wait : Wait) (table : ThreadTable) (lines : List (List ℕ)) (mutexes mutexes' : List (List (Option Mutex))) (conditions conditions' : List (List (Option Condition))) → HasPart p table lines mutexes → is_waiting made ≡ false
     → mutexes' ≡ set mutexes p (after_move made t m wait (locks_at p table lines mutexes)).mutexes → conditions' ≡ conditions → IsNoWaiter t (part_of mutexes p) (part_of conditions p) → IsNoWaiter t (part_of mutexes' p) (part_of conditions' p)
 made_free made p t m wait table lines mutexes mutexes' conditions conditions' has e moved same none =
     let row : List (Option Mutex) = (after_move made t m wait (locks_at p table lines mutexes)).mutexes in

@@ -36,7 +36,7 @@ use Rattle.ptk_mutex_rise.specs.Visits.{IsVisited}
 use Rattle.ptk_mutex_rise.proofs.Changes.{effective_mutex, effective_thread}
 use Rattle.ptk_mutex_rise.proofs.Visits.{unvisited}
 use Rattle.ptk_mutex.specs.Tables.{locks_at, with_threads, AreReady}
-use Rattle.ptk_mutex.specs.Rises.{IsFree, MayTake, is_wait}
+use Rattle.ptk_mutex.specs.Rises.{IsFree, MayTake, is_waiting}
 use Rattle.ptk_mutex.proofs.Moved.{stays}
 
 -- ---- a free mutex taken
@@ -214,14 +214,14 @@ relock_takes t (Some m) = owner_takes m.owner t (free_move m.soundness) Counts W
 
 -- ---- a re-lock is the move, and then the thread is woken unless it waits
 
-pub relock_waits : (made : LockMove) (t m : ℕ) (reply : Option ℕ) (locks : Locks) → is_wait made ≡ true → after_relock_move made t m reply locks ≡ after_move made t m (RelockWait m reply) locks
+pub relock_waits : (made : LockMove) (t m : ℕ) (reply : Option ℕ) (locks : Locks) → is_waiting made ≡ true → after_relock_move made t m reply locks ≡ after_move made t m (RelockWait m reply) locks
 relock_waits Takes t m reply locks e = cc
 relock_waits Recovers t m reply locks e = cc
 relock_waits Counts t m reply locks e = cc
 relock_waits Waits t m reply locks e = refl
 relock_waits (Refuses error) t m reply locks e = cc
 
-pub relock_wakes : (made : LockMove) (t m : ℕ) (reply : Option ℕ) (locks : Locks) → is_wait made ≡ false → after_relock_move made t m reply locks ≡ after_wake t (option_to_list (move_reply made reply)) (after_move made t m (RelockWait m reply) locks)
+pub relock_wakes : (made : LockMove) (t m : ℕ) (reply : Option ℕ) (locks : Locks) → is_waiting made ≡ false → after_relock_move made t m reply locks ≡ after_wake t (option_to_list (move_reply made reply)) (after_move made t m (RelockWait m reply) locks)
 relock_wakes Takes t m reply locks e = refl
 relock_wakes Recovers t m reply locks e = refl
 relock_wakes Counts t m reply locks e = refl
@@ -229,7 +229,7 @@ relock_wakes Waits t m reply locks e = cc
 relock_wakes (Refuses error) t m reply locks e = refl
 
 -- a move that is no wait leaves the threads
-pub move_threads : (made : LockMove) (t m : ℕ) (wait : Wait) (locks : Locks) → is_wait made ≡ false → (after_move made t m wait locks).threads ≡ locks.threads
+pub move_threads : (made : LockMove) (t m : ℕ) (wait : Wait) (locks : Locks) → is_waiting made ≡ false → (after_move made t m wait locks).threads ≡ locks.threads
 move_threads Takes t m wait locks e = refl
 move_threads Recovers t m wait locks e = refl
 move_threads Counts t m wait locks e = refl

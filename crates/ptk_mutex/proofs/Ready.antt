@@ -16,7 +16,7 @@ use Rattle.ptk_words_parted.specs.Parts.{part_of, filled}
 use Rattle.ptk_words_parted.proofs.Cuts.{set_part-same}
 use Rattle.ptk_words_model.specs.State.{Mutex, Locks}
 use Rattle.ptk_words_model.specs.Chain.{leads_to, greatest_leading}
-use Rattle.ptk_words_model.specs.Priority.{is_owner, ceiling_of, ceiling_for, inheritor, inheritor_of, assigned_of, held_of, next_of, effective_of, effective_priorities}
+use Rattle.ptk_words_model.specs.Priority.{is_owner, ceiling_of, ceiling_for, inheritor, inheritor_of, assigned_of, held_of, next_in_chain, effective_of, effective_priorities}
 use Rattle.ptk_words_model.specs.Mutex.{mutex_at, new_mutex, is_free, waiters_of, count_of}
 use Rattle.ptk_words_model.specs.MutexCalls.{is_locked}
 use Rattle.ptk_words_locks.proofs.MutexPlaces.{pool_set_same, effective-set}
@@ -162,7 +162,7 @@ map_zero f (k ∷ ks) h = rw (h k, map_zero f ks h) refl
 
 pub effective_blank : (n k : ℕ) → effective_priorities (replicate n None) (replicate k None) ≡ replicate n 0
 effective_blank n k =
-    map_zero (effective_of (replicate n None) (replicate k None)) (numbers_of (replicate {A = Option Thread} n None)) (λ t. leading_zero (length (replicate {A = Option Thread} n None)) (next_of (replicate n None) (replicate k None)) (held_of (replicate n None) (replicate k None)) t (held_blank n k))
+    map_zero (effective_of (replicate n None) (replicate k None)) (numbers_of (replicate {A = Option Thread} n None)) (λ t. leading_zero (length (replicate {A = Option Thread} n None)) (next_in_chain (replicate n None) (replicate k None)) (held_of (replicate n None) (replicate k None)) t (held_blank n k))
     ∙ ap (λ (j : ℕ). replicate j 0) (length-numbers_to (length (replicate {A = Option Thread} n None)) ∙ length-replicate n None)
 
 pub row_blank : {A : Type 0} (x : A) (counts : List ℕ) (p : ℕ) → p < length counts → part_of (map (filled x) counts) p ≡ replicate (get_or counts p 0) x

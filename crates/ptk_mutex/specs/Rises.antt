@@ -2,7 +2,7 @@
 use Rattle.std.specs.Prelude.{◌≡◌, Bool, true, false, Option, Some, None}
 use Rattle.ptk_words.specs.declared.mutexes.Owner.TheVariants.{Free}
 use Rattle.ptk_words_model.specs.declared.LockMove.{LockMove}
-use Rattle.ptk_words_model.specs.declared.LockMove.TheVariants.{Takes, Recovers, Counts, Waits, Refuses}
+use Rattle.ptk_words_model.specs.declared.LockMove.TheVariants.{Takes, Recovers, Waits}
 use Rattle.ptk_words_model.specs.State.{Mutex}
 
 -- the number is of a mutex that is not locked (pthread_mutex_lock)
@@ -14,14 +14,9 @@ IsFree (Some m) = m.owner ≡ Free
 abbrev pub MayTake : LockMove → Option Mutex → Type 0
 MayTake Takes mutex = IsFree mutex
 MayTake Recovers mutex = IsFree mutex
-MayTake Counts mutex = Unit {0}
-MayTake Waits mutex = Unit {0}
-MayTake (Refuses e) mutex = Unit {0}
+MayTake move mutex = Unit {0}
 
 -- the move begins a wait (pthread_mutex_lock)
-abbrev pub is_wait : LockMove → Bool
-is_wait Takes = false
-is_wait Recovers = false
-is_wait Counts = false
-is_wait Waits = true
-is_wait (Refuses e) = false
+abbrev pub is_waiting : LockMove → Bool
+is_waiting Waits = true
+is_waiting move = false

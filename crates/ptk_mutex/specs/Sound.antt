@@ -7,7 +7,7 @@ use Rattle.ptk_words_parted.specs.Parts.{part_of}
 use Rattle.ptk_words_model.specs.State.{Condition, Locks, Mutex, Syncs}
 use Rattle.ptk_words_model.specs.Priority.{thread_at}
 use Rattle.ptk_words_model.specs.Mutex.{mutex_at, wait_of}
-use Rattle.ptk_words_model.specs.Condition.{condition_waiters, mutex_named}
+use Rattle.ptk_words_model.specs.Condition.{condition_waiters, mutex_of_condition_wait}
 use Rattle.ptk_words_locks.specs.Conditions.{condition_of_wait, HasRoom}
 use Rattle.ptk_threads.specs.Table.{ThreadTable}
 use Rattle.ptk_roster.specs.Rosters.{Rostered}
@@ -22,7 +22,7 @@ pub record IsOnCondition (locks : Locks) (c k : ℕ) : Type 0 where
   pub waits : condition_of_wait (wait_of (thread_at locks k)) ≡ Some c
   pub out : is_in k locks.line ≡ false
   -- since its wait unlocked the mutex once
-  pub room : (m : ℕ) → mutex_named (wait_of (thread_at locks k)) ≡ Some m → HasRoom k (mutex_at locks m)
+  pub room : (m : ℕ) → mutex_of_condition_wait (wait_of (thread_at locks k)) ≡ Some m → HasRoom k (mutex_at locks m)
 
 -- every waiter waits on its condition variable (own)
 pub record AreWaiting (syncs : Syncs) : Type 0 where

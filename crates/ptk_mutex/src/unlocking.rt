@@ -22,7 +22,7 @@ use ptk_words_parted::ThreadSet;
 impl Mutexes {
     /// An owner unlocks its mutex once; who owns it is the caller's to test (`owns`). The last unlock hands it over to
     /// the waiter of greatest effective priority, the earliest among equals, who is woken; but a mutex that was not made
-    /// consistent is lost, and every waiter is woken and told ENOTRECOVERABLE (pthread_mutex_unlock,
+    /// consistent is lost, and every waiter is woken with the reply ENOTRECOVERABLE (pthread_mutex_unlock,
     /// pthread_mutex_consistent). Returns the set of threads woken.
     pub fn unlock(&mut self, roster: &mut Roster, p: PartId, m: MutexNo) -> ThreadSet
         requires ready { AreReady p roster.old.table roster.old.lines roster.old.mutexes }
@@ -129,7 +129,7 @@ pub(crate) fn hand_over(roster: &mut Roster, p: PartId, m: MutexNo) -> Option<Th
     heir
 }
 
-/// The mutex goes to a waiter, who is told so (EOWNERDEAD after a dead owner), or to nobody; the stored priorities
+/// The mutex goes to a waiter, with its reply (EOWNERDEAD after a dead owner), or to nobody; the stored priorities
 /// stay. Returns that waiter.
 #[tactic(auto, using(crate::proofs::Moved::moves))]
 fn hand_to(roster: &mut Roster, p: PartId, m: MutexNo, next: Option<ThreadNo>) -> Option<ThreadNo>

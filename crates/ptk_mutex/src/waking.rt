@@ -1,4 +1,4 @@
-//! The calls after which a waiter is ready: what a thread that leaves a mutex's waiters is told, and the end of a
+//! The calls after which a waiter is ready: the reply to a thread that leaves a mutex's waiters, and the end of a
 //! condition wait.
 
 ghost use Rattle.std.specs.Prelude.{◌≡◌, ◌≤◌, ◌+◌, ◌<◌, false, None, [], ◌∷◌, ◌++◌, length, IsSome, slice_set, option_to_list};
@@ -15,7 +15,7 @@ ghost use Rattle.ptk_mutex_rise.specs.Visits.{IsVisited};
 ghost use Rattle.ptk_mutex.specs.Sound.{IsSound};
 ghost use Rattle.ptk_mutex.specs.Tables.{locks_at, with_threads, with_threads_alone, HasPart, IsWaiter, MayWait, AreReady};
 ghost use Rattle.ptk_mutex.specs.Moves.{after_withdrawal};
-ghost use Rattle.ptk_mutex.specs.Rises.{MayTake, is_wait};
+ghost use Rattle.ptk_mutex.specs.Rises.{MayTake, is_waiting};
 
 use crate::mutexes::{Mutexes, refresh_priorities};
 use crate::rising::make;
@@ -104,14 +104,15 @@ fn make_relock(
     ensures few { result ≤ THREAD_LIMIT + 1 }
 {
     let visited = make(roster, p, t, m, Wait::RelockWait(m, reply), made);
-    if is_wait(made) {
+    if is_waiting(made) {
         return visited;
     }
     wake(roster, p, t, reply_of(made, reply));
     visited
 }
 
-/// A waiter leaves and is woken, told of this move what its wait kept; the stored priorities stay.
+/// A waiter leaves and is woken, with the reply that this move makes of the one that its wait kept; the stored
+/// priorities stay.
 #[tactic(auto, using(crate::proofs::Moved::wakes))]
 pub(crate) fn leave(roster: &mut Roster, p: PartId, t: ThreadNo, m: MutexNo, made: LockMove)
     requires part { HasPart p roster.old.table roster.old.lines roster.old.mutexes }
@@ -152,8 +153,8 @@ pub(crate) fn relock_move(roster: &Roster, p: PartId, t: ThreadNo, m: MutexNo) -
 }
 
 /// Whether the move begins a wait.
-fn is_wait(made: LockMove) -> bool
-    ensures { result ≡ is_wait made }
+fn is_waiting(made: LockMove) -> bool
+    ensures { result ≡ is_waiting made }
 {
     match made {
         LockMove::Waits => true,
@@ -161,7 +162,7 @@ fn is_wait(made: LockMove) -> bool
     }
 }
 
-/// A blocked thread is ready, at the tail, told this if anything.
+/// A blocked thread is ready, at the tail, with this reply if any.
 #[tactic(auto, using(crate::proofs::Moved::wakes))]
 fn wake(roster: &mut Roster, p: PartId, t: ThreadNo, reply: Option<u32>)
     requires partition { p < length roster.old.table.threads }
@@ -177,7 +178,7 @@ fn wake(roster: &mut Roster, p: PartId, t: ThreadNo, reply: Option<u32>)
     rouse(roster, p, t, reply);
 }
 
-/// A thread waits for nothing any more, told this if anything.
+/// A thread waits for nothing any more, with this reply if any.
 #[tactic(auto, using(crate::proofs::Moved::wakes))]
 fn rouse(roster: &mut Roster, p: PartId, t: ThreadNo, reply: Option<u32>)
     requires { p < length roster.old.table.threads }
@@ -191,7 +192,7 @@ fn rouse(roster: &mut Roster, p: PartId, t: ThreadNo, reply: Option<u32>)
     }
 }
 
-/// The thread that waits for nothing any more and has used no tick, told this if anything.
+/// The thread that waits for nothing any more and has used no tick, with this reply if any.
 fn woken(thread: Thread, reply: Option<u32>) -> Thread
     ensures { result ≡ woken_with (option_to_list reply) thread }
 {

@@ -6,23 +6,23 @@ use Rattle.ptk_words.specs.Pools.{pool_get, pool_changed, numbers_to}
 use Rattle.ptk_words.specs.declared.threads.Thread.{Thread}
 use Rattle.ptk_words_model.specs.State.{Mutex}
 use Rattle.ptk_words_model.specs.Chain.{greatest_leading}
-use Rattle.ptk_words_model.specs.Priority.{awaited, inheritor_of, ceiling_for, assigned_of, next_of, held_of, effective_of, effective_priorities}
+use Rattle.ptk_words_model.specs.Priority.{awaited, inheritor_of, ceiling_for, assigned_of, next_in_chain, held_of, effective_of, effective_priorities}
 use Rattle.ptk_words_locks.proofs.Pools.{changed_own, changed_other, length-changed, get_beyond}
 use Rattle.ptk_words_locks.proofs.Raising.{level_of, effective-changed}
 use Rattle.ptk_mutex_rise.proofs.ChainLaws.{none_some, IsNumber, IsBounded}
 
 -- ---- only threads of the pool lead on
 
-next_free : (w : ℕ) (threads : List (Option Thread)) (mutexes : List (Option Mutex)) → pool_get threads w ≡ None → next_of threads mutexes w ≡ None
+next_free : (w : ℕ) (threads : List (Option Thread)) (mutexes : List (Option Mutex)) → pool_get threads w ≡ None → next_in_chain threads mutexes w ≡ None
 next_free w threads mutexes e = ap (λ x. option_and_then (λ m. inheritor_of (pool_get mutexes m)) (awaited x)) e
 
-number_cases : (w v : ℕ) (threads : List (Option Thread)) (mutexes : List (Option Mutex)) → next_of threads mutexes w ≡ Some v → (0 < w) ⊎ (w ≤ 0) → (length threads < w) ⊎ (w ≤ length threads) → IsNumber (length threads) w
+number_cases : (w v : ℕ) (threads : List (Option Thread)) (mutexes : List (Option Mutex)) → next_in_chain threads mutexes w ≡ Some v → (0 < w) ⊎ (w ≤ 0) → (length threads < w) ⊎ (w ≤ length threads) → IsNumber (length threads) w
 number_cases w v threads mutexes e (inr le) at =
-    let z : w ≡ 0 = omega (arith, le) in none_some (next_of threads mutexes w) v (next_free w threads mutexes (ap (pool_get threads) z)) e
-number_cases w v threads mutexes e (inl h) (inl past) = none_some (next_of threads mutexes w) v (next_free w threads mutexes (get_beyond w threads past)) e
+    let z : w ≡ 0 = omega (arith, le) in none_some (next_in_chain threads mutexes w) v (next_free w threads mutexes (ap (pool_get threads) z)) e
+number_cases w v threads mutexes e (inl h) (inl past) = none_some (next_in_chain threads mutexes w) v (next_free w threads mutexes (get_beyond w threads past)) e
 number_cases w v threads mutexes e (inl h) (inr le) = (h, omega (arith, le))
 
-pub bounded : (threads : List (Option Thread)) (mutexes : List (Option Mutex)) → IsBounded (length threads) (next_of threads mutexes)
+pub bounded : (threads : List (Option Thread)) (mutexes : List (Option Mutex)) → IsBounded (length threads) (next_in_chain threads mutexes)
 bounded threads mutexes = record { each = λ w v e. number_cases w v threads mutexes e (cases_lt 0 w) (cases_lt (length threads) w) }
 
 used_cases : (t : ℕ) (threads : List (Option Thread)) → IsSome (pool_get threads t) → (0 < t) ⊎ (t ≤ 0) → (length threads < t) ⊎ (t ≤ length threads) → IsNumber (length threads) t
@@ -50,7 +50,7 @@ led_same m f mutexes e (Some j) = inheritor_cases m j f mutexes e (cases_eq j m)
 
 -- the chains, where whom it makes inherit stays
 pub next_mutex : (m w : ℕ) (f : Mutex → Mutex) (threads : List (Option Thread)) (mutexes : List (Option Mutex)) → inheritor_of (option_map f (pool_get mutexes m)) ≡ inheritor_of (pool_get mutexes m)
-    → next_of threads (pool_changed m f mutexes) w ≡ next_of threads mutexes w
+    → next_in_chain threads (pool_changed m f mutexes) w ≡ next_in_chain threads mutexes w
 next_mutex m w f threads mutexes e = led_same m f mutexes e (awaited (pool_get threads w))
 
 abbrev pub ceilings : ℕ → ℕ → List (Option Mutex) → ℕ
@@ -74,7 +74,7 @@ held_mutex m u f threads mutexes e = ceilings_mutex u (assigned_of threads u) m 
 pub effective_mutex : (m : ℕ) (f : Mutex → Mutex) (threads : List (Option Thread)) (mutexes : List (Option Mutex)) → inheritor_of (option_map f (pool_get mutexes m)) ≡ inheritor_of (pool_get mutexes m)
     → ((u : ℕ) → ceiling_for u (option_map f (pool_get mutexes m)) ≡ ceiling_for u (pool_get mutexes m)) → effective_priorities threads (pool_changed m f mutexes) ≡ effective_priorities threads mutexes
 effective_mutex m f threads mutexes e h =
-    let next : next_of threads (pool_changed m f mutexes) ≡ next_of threads mutexes = λ i w. next_mutex m w f threads mutexes e i in
+    let next : next_in_chain threads (pool_changed m f mutexes) ≡ next_in_chain threads mutexes = λ i w. next_mutex m w f threads mutexes e i in
     let held : held_of threads (pool_changed m f mutexes) ≡ held_of threads mutexes = λ i u. held_mutex m u f threads mutexes (h u) i in
     λ i. map (greatest_leading (length threads) (next i) (held i)) (numbers_to (length threads))
 

@@ -12,7 +12,7 @@ use Rattle.ptk_words.specs.declared.mutexes.Owner.{Owner}
 use Rattle.ptk_words.specs.declared.mutexes.Owner.TheVariants.{Free, Abandoned, OwnedBy}
 use Rattle.ptk_words_model.specs.State.{Mutex}
 use Rattle.ptk_words_model.specs.Chain.{greatest_leading}
-use Rattle.ptk_words_model.specs.Priority.{is_owner, ceiling_of, ceiling_for, inheritor, inheritor_of, awaited, assigned_of, next_of, held_of, effective_priorities}
+use Rattle.ptk_words_model.specs.Priority.{is_owner, ceiling_of, ceiling_for, inheritor, inheritor_of, awaited, assigned_of, next_in_chain, held_of, effective_priorities}
 use Rattle.ptk_words_model.specs.Mutex.{owns}
 use Rattle.ptk_words_locks.proofs.Pools.{changed_own, changed_other, length-changed}
 use Rattle.ptk_words_locks.proofs.Threads.{changed_same}
@@ -76,7 +76,7 @@ none_stays m x threads mutexes at kind =
 
 -- ---- INHERIT
 
-next_is : (m w : ℕ) (threads : List (Option Thread)) (mutexes : List (Option Mutex)) → awaited (pool_get threads w) ≡ Some m → next_of threads mutexes w ≡ inheritor_of (pool_get mutexes m)
+next_is : (m w : ℕ) (threads : List (Option Thread)) (mutexes : List (Option Mutex)) → awaited (pool_get threads w) ≡ Some m → next_in_chain threads mutexes w ≡ inheritor_of (pool_get mutexes m)
 next_is m w threads mutexes e = ap (option_and_then (λ j. inheritor_of (pool_get mutexes j))) e
 
 for_is : (m : ℕ) (o : Option ℕ) → is_for m o ≡ true → o ≡ Some m
@@ -88,7 +88,7 @@ next_apart m mutexes None e = refl
 next_apart m mutexes (Some n) e = ap inheritor_of (changed_other m n freed mutexes (λ same. false_true (sym e ∙ eq-eqb n m same)))
 
 joins : (t m : ℕ) (x : Mutex) (threads : List (Option Thread)) (mutexes : List (Option Mutex)) → pool_get mutexes m ≡ Some x → x.protocol ≡ Inherit → x.owner ≡ OwnedBy t
-    → IsJoin (next_of threads (pool_changed m freed mutexes)) (next_of threads mutexes) (λ w. is_for m (awaited (pool_get threads w))) t
+    → IsJoin (next_in_chain threads (pool_changed m freed mutexes)) (next_in_chain threads mutexes) (λ w. is_for m (awaited (pool_get threads w))) t
 joins t m x threads mutexes at kind own = record {
   free = λ w j.
       next_is m w threads (pool_changed m freed mutexes) (for_is m (awaited (pool_get threads w)) j)
@@ -131,16 +131,16 @@ passes m h threads stored before tells e = record {
 }
 
 inherit_rises : (t m h : ℕ) (x : Mutex) (threads : List (Option Thread)) (mutexes : List (Option Mutex)) (stored : List ℕ) → pool_get mutexes m ≡ Some x → x.protocol ≡ Inherit → x.owner ≡ OwnedBy t → IsBeforeTake m threads mutexes stored
-    → h ≡ greatest (stored_of stored) (awaiting m threads) → risen (next_of threads mutexes) h (length threads) t stored ≡ effective_priorities threads mutexes
+    → h ≡ greatest (stored_of stored) (awaiting m threads) → risen (next_in_chain threads mutexes) h (length threads) t stored ≡ effective_priorities threads mutexes
 inherit_rises t m h x threads mutexes stored at kind own before e =
     let size : ℕ = length threads in
-    let next : ℕ → Option ℕ = next_of threads (pool_changed m freed mutexes) in
+    let next : ℕ → Option ℕ = next_in_chain threads (pool_changed m freed mutexes) in
     let rank : ℕ → ℕ = held_of threads mutexes in
     let held : held_of threads (pool_changed m freed mutexes) ≡ rank =
     λ i u. held_mutex m u freed threads mutexes (ap (λ y. ceiling_for u (option_map freed y)) at ∙ no_ceiling u x (ap ceiling_of kind) ∙ sym (ap (ceiling_for u) at)) i in
     let was : stored ≡ priorities size next rank = before ∙ ap (λ r. priorities size next r) held in
-    ap (λ s. risen (next_of threads mutexes) h size t s) was
-    ∙ join-is size next (next_of threads mutexes) rank (λ w. is_for m (awaited (pool_get threads w))) t h (bounded threads (pool_changed m freed mutexes)) (bounded threads mutexes) (joins t m x threads mutexes at kind own)
+    ap (λ s. risen (next_in_chain threads mutexes) h size t s) was
+    ∙ join-is size next (next_in_chain threads mutexes) rank (λ w. is_for m (awaited (pool_get threads w))) t h (bounded threads (pool_changed m freed mutexes)) (bounded threads mutexes) (joins t m x threads mutexes at kind own)
     (passes m h threads stored (greatest_leading size next rank) (λ w n. ap (λ s. stored_of s w) was ∙ stored_as size next rank w n) e)
 
 -- ---- PROTECT
@@ -149,13 +149,13 @@ own_ceiling : (t c : ℕ) (owner : Owner) → owner ≡ OwnedBy t → (if is_own
 own_ceiling t c owner e = let own : is_owner t owner ≡ true = ap (is_owner t) e ∙ eq-eqb t t refl in rw own refl
 
 protect_rises : (t m h : ℕ) (x : Mutex) (threads : List (Option Thread)) (mutexes : List (Option Mutex)) (stored : List ℕ) → pool_get mutexes m ≡ Some x → x.protocol ≡ Protect h → x.owner ≡ OwnedBy t → IsNumber (length threads) t → IsBeforeTake m threads mutexes stored
-    → risen (next_of threads mutexes) h (length threads) t stored ≡ effective_priorities threads mutexes
+    → risen (next_in_chain threads mutexes) h (length threads) t stored ≡ effective_priorities threads mutexes
 protect_rises t m h x threads mutexes stored at kind own n before =
     let size : ℕ = length threads in
     let rank : ℕ → ℕ = held_of threads (pool_changed m freed mutexes) in
     let heirs : inheritor_of (option_map freed (pool_get mutexes m)) ≡ inheritor_of (pool_get mutexes m) =
     ap (λ y. inheritor_of (option_map freed y)) at ∙ ap (λ p. inheritor p Free) kind ∙ sym (ap inheritor_of at ∙ ap (λ p. inheritor p x.owner) kind) in
-    let next : next_of threads (pool_changed m freed mutexes) ≡ next_of threads mutexes = λ i w. next_mutex m w freed threads mutexes heirs i in
+    let next : next_in_chain threads (pool_changed m freed mutexes) ≡ next_in_chain threads mutexes = λ i w. next_mutex m w freed threads mutexes heirs i in
     let lost : (u : ℕ) → ceiling_for u (option_map freed (pool_get mutexes m)) ≡ 0 = λ u. ap (λ y. ceiling_for u (option_map freed y)) at in
     let here : (u : ℕ) → ceiling_for u (pool_get mutexes m) ≡ (if is_owner u x.owner then h else 0) = λ u. ap (ceiling_for u) at ∙ ap (λ p. if is_owner u x.owner then ceiling_of p else 0) kind in
     let gain : IsGain rank (held_of threads mutexes) t h =
@@ -163,8 +163,8 @@ protect_rises t m h x threads mutexes stored at kind own n before =
       own = held_gain t h m freed threads mutexes (lost t) (here t ∙ own_ceiling t h x.owner own);
       others = λ w ne. sym (held_mutex m w freed threads mutexes (lost w ∙ sym (here w ∙ not_own w t x.owner h own ne)));
     } in
-    let was : stored ≡ priorities size (next_of threads mutexes) rank = before ∙ ap (λ f. priorities size f rank) next in
-    ap (λ s. risen (next_of threads mutexes) h size t s) was ∙ gain-is size (next_of threads mutexes) rank (held_of threads mutexes) t h (bounded threads mutexes) n gain
+    let was : stored ≡ priorities size (next_in_chain threads mutexes) rank = before ∙ ap (λ f. priorities size f rank) next in
+    ap (λ s. risen (next_in_chain threads mutexes) h size t s) was ∙ gain-is size (next_in_chain threads mutexes) rank (held_of threads mutexes) t h (bounded threads mutexes) n gain
 
 -- ---- the take
 
@@ -172,31 +172,31 @@ risen_none : (next : ℕ → Option ℕ) (fuel u : ℕ) (stored : List ℕ) → 
 risen_none next fuel u stored = sym (risen_stop next 0 fuel u stored (omega arith))
 
 protocol_rises : (t m h : ℕ) (x : Mutex) (protocol : Protocol) (threads : List (Option Thread)) (mutexes : List (Option Mutex)) (stored : List ℕ) → pool_get mutexes m ≡ Some x → x.protocol ≡ protocol → x.owner ≡ OwnedBy t → IsNumber (length threads) t
-    → IsBeforeTake m threads mutexes stored → h ≡ gained_by threads stored m protocol → risen (next_of threads mutexes) h (length threads) t stored ≡ effective_priorities threads mutexes
+    → IsBeforeTake m threads mutexes stored → h ≡ gained_by threads stored m protocol → risen (next_in_chain threads mutexes) h (length threads) t stored ≡ effective_priorities threads mutexes
 protocol_rises t m h x NoProtocol threads mutexes stored at kind own n before e =
-    ap (λ p. risen (next_of threads mutexes) p (length threads) t stored) e ∙ risen_none (next_of threads mutexes) (length threads) t stored ∙ before ∙ none_stays m x threads mutexes at kind
+    ap (λ p. risen (next_in_chain threads mutexes) p (length threads) t stored) e ∙ risen_none (next_in_chain threads mutexes) (length threads) t stored ∙ before ∙ none_stays m x threads mutexes at kind
 protocol_rises t m h x Inherit threads mutexes stored at kind own n before e = inherit_rises t m h x threads mutexes stored at kind own before e
 protocol_rises t m h x (Protect c) threads mutexes stored at kind own n before e =
     protect_rises t m h x threads mutexes stored at (kind ∙ ap Protect (sym e)) own n before
 
 mutex_rises : (t m h : ℕ) (o : Option Mutex) (threads : List (Option Thread)) (mutexes : List (Option Mutex)) (stored : List ℕ) → pool_get mutexes m ≡ o → owns t o ≡ true → IsNumber (length threads) t
-    → IsBeforeTake m threads mutexes stored → h ≡ gained_of threads stored m o → risen (next_of threads mutexes) h (length threads) t stored ≡ effective_priorities threads mutexes
+    → IsBeforeTake m threads mutexes stored → h ≡ gained_of threads stored m o → risen (next_in_chain threads mutexes) h (length threads) t stored ≡ effective_priorities threads mutexes
 mutex_rises t m h None threads mutexes stored at own n before e = false_true own
 mutex_rises t m h (Some x) threads mutexes stored at own n before e = protocol_rises t m h x x.protocol threads mutexes stored at refl (owner-is t x.owner own) n before e
 
 pub take_rises : (t m h : ℕ) (threads : List (Option Thread)) (mutexes : List (Option Mutex)) (stored new : List ℕ) → IsSome (pool_get threads t) → owns t (pool_get mutexes m) ≡ true → IsBeforeTake m threads mutexes stored
-    → h ≡ gained_of threads stored m (pool_get mutexes m) → new ≡ risen (next_of threads mutexes) h (length threads) t stored → new ≡ effective_priorities threads mutexes
+    → h ≡ gained_of threads stored m (pool_get mutexes m) → new ≡ risen (next_in_chain threads mutexes) h (length threads) t stored → new ≡ effective_priorities threads mutexes
 take_rises t m h threads mutexes stored new used own before e r = r ∙ mutex_rises t m h (pool_get mutexes m) threads mutexes stored refl own (used_number t threads used) before e
 
 pub take_stays : (t m h : ℕ) (threads : List (Option Thread)) (mutexes : List (Option Mutex)) (stored : List ℕ) → IsSome (pool_get threads t) → owns t (pool_get mutexes m) ≡ true → IsBeforeTake m threads mutexes stored
     → h ≡ gained_of threads stored m (pool_get mutexes m) → h ≡ 0 → stored ≡ effective_priorities threads mutexes
 take_stays t m h threads mutexes stored used own before e z =
-    sym (risen_none (next_of threads mutexes) (length threads) t stored) ∙ mutex_rises t m 0 (pool_get mutexes m) threads mutexes stored refl own (used_number t threads used) before (sym z ∙ e)
+    sym (risen_none (next_in_chain threads mutexes) (length threads) t stored) ∙ mutex_rises t m 0 (pool_get mutexes m) threads mutexes stored refl own (used_number t threads used) before (sym z ∙ e)
 
 pub take_visited : (m u h visited : ℕ) (threads : List (Option Thread)) (mutexes : List (Option Mutex)) (stored new : List ℕ) → IsBeforeTake m threads mutexes stored
-    → new ≡ risen (next_of threads mutexes) h (length threads) u stored → visited ≡ reads (next_of threads mutexes) h (length threads) u stored → IsVisited visited stored new
+    → new ≡ risen (next_in_chain threads mutexes) h (length threads) u stored → visited ≡ reads (next_in_chain threads mutexes) h (length threads) u stored → IsVisited visited stored new
 take_visited m u h visited threads mutexes stored new before e r =
-    rise_visited threads mutexes u h visited stored new (ap length before ∙ length-priorities (length threads) (next_of threads (pool_changed m freed mutexes)) (held_of threads (pool_changed m freed mutexes))) e r
+    rise_visited threads mutexes u h visited stored new (ap length before ∙ length-priorities (length threads) (next_in_chain threads (pool_changed m freed mutexes)) (held_of threads (pool_changed m freed mutexes))) e r
 
 -- ---- a higher assigned priority
 
@@ -211,7 +211,7 @@ given_level : (priority : ℕ) (x : Option Thread) → IsSome x → level_of (op
 given_level priority None used = let no : ⊥ = cc in absurd no
 given_level priority (Some thread) used = refl
 
-next_given : (t priority : ℕ) (threads : List (Option Thread)) (mutexes : List (Option Mutex)) → next_of (given t priority threads) mutexes ≡ next_of threads mutexes
+next_given : (t priority : ℕ) (threads : List (Option Thread)) (mutexes : List (Option Mutex)) → next_in_chain (given t priority threads) mutexes ≡ next_in_chain threads mutexes
 next_given t priority threads mutexes =
     let waits : (u : ℕ) → awaited (pool_get (given t priority threads) u) ≡ awaited (pool_get threads u) = changed_same awaited t (with_priority priority) threads (given_awaits priority (pool_get threads t)) in
     λ i u. option_and_then (λ m. inheritor_of (pool_get mutexes m)) (waits u i)
@@ -229,35 +229,35 @@ assigned_gain t before threads mutexes used le = record {
   others = λ w ne. ap (λ a. ceilings w a mutexes) (ap level_of (sym (changed_other t w (with_priority before) threads ne)));
 }
 
-given-is : (t before : ℕ) (threads : List (Option Thread)) (mutexes : List (Option Mutex)) → effective_priorities (given t before threads) mutexes ≡ priorities (length threads) (next_of threads mutexes) (held_of (given t before threads) mutexes)
+given-is : (t before : ℕ) (threads : List (Option Thread)) (mutexes : List (Option Mutex)) → effective_priorities (given t before threads) mutexes ≡ priorities (length threads) (next_in_chain threads mutexes) (held_of (given t before threads) mutexes)
 given-is t before threads mutexes =
     let long : length (given t before threads) ≡ length threads = length-changed t (with_priority before) threads in
-    let next : next_of (given t before threads) mutexes ≡ next_of threads mutexes = next_given t before threads mutexes in
+    let next : next_in_chain (given t before threads) mutexes ≡ next_in_chain threads mutexes = next_given t before threads mutexes in
     λ i. priorities (long i) (next i) (held_of (given t before threads) mutexes)
 
 free_given : (t before : ℕ) (threads : List (Option Thread)) → pool_get threads t ≡ None → given t before threads ≡ threads
 free_given t before threads e = pool_changed-free t (with_priority before) threads e
 
 assignment_cases : (t before : ℕ) (threads : List (Option Thread)) (mutexes : List (Option Mutex)) (stored : List ℕ) → before ≤ assigned_of threads t → stored ≡ effective_priorities (given t before threads) mutexes → (o : Option Thread) → pool_get threads t ≡ o
-    → risen (next_of threads mutexes) (assigned_of threads t) (length threads) t stored ≡ effective_priorities threads mutexes
+    → risen (next_in_chain threads mutexes) (assigned_of threads t) (length threads) t stored ≡ effective_priorities threads mutexes
 assignment_cases t before threads mutexes stored le e None at =
     let level : assigned_of threads t ≡ 0 = ap level_of at in
-    ap (λ h. risen (next_of threads mutexes) h (length threads) t stored) level ∙ risen_none (next_of threads mutexes) (length threads) t stored ∙ e
+    ap (λ h. risen (next_in_chain threads mutexes) h (length threads) t stored) level ∙ risen_none (next_in_chain threads mutexes) (length threads) t stored ∙ e
     ∙ ap (λ l. effective_priorities l mutexes) (free_given t before threads at)
 assignment_cases t before threads mutexes stored le e (Some thread) at =
     let used : IsSome (pool_get threads t) = rw at refl in
-    ap (λ s. risen (next_of threads mutexes) (assigned_of threads t) (length threads) t s) (e ∙ given-is t before threads mutexes)
-    ∙ gain-is (length threads) (next_of threads mutexes) (held_of (given t before threads) mutexes) (held_of threads mutexes) t (assigned_of threads t) (bounded threads mutexes) (used_number t threads used) (assigned_gain t before threads mutexes used le)
+    ap (λ s. risen (next_in_chain threads mutexes) (assigned_of threads t) (length threads) t s) (e ∙ given-is t before threads mutexes)
+    ∙ gain-is (length threads) (next_in_chain threads mutexes) (held_of (given t before threads) mutexes) (held_of threads mutexes) t (assigned_of threads t) (bounded threads mutexes) (used_number t threads used) (assigned_gain t before threads mutexes used le)
 
 pub assignment_rises : (t h : ℕ) (threads : List (Option Thread)) (mutexes : List (Option Mutex)) (stored new : List ℕ) → IsBeforeAssignment t threads mutexes stored → h ≡ assigned_of threads t
-    → new ≡ risen (next_of threads mutexes) h (length threads) t stored → new ≡ effective_priorities threads mutexes
+    → new ≡ risen (next_in_chain threads mutexes) h (length threads) t stored → new ≡ effective_priorities threads mutexes
 assignment_rises t h threads mutexes stored new (before, le, e) a r =
-    r ∙ ap (λ p. risen (next_of threads mutexes) p (length threads) t stored) a ∙ assignment_cases t before threads mutexes stored le e (pool_get threads t) refl
+    r ∙ ap (λ p. risen (next_in_chain threads mutexes) p (length threads) t stored) a ∙ assignment_cases t before threads mutexes stored le e (pool_get threads t) refl
 
 pub assignment_visited : (t h visited : ℕ) (threads : List (Option Thread)) (mutexes : List (Option Mutex)) (stored new : List ℕ) → IsBeforeAssignment t threads mutexes stored
-    → new ≡ risen (next_of threads mutexes) h (length threads) t stored → visited ≡ reads (next_of threads mutexes) h (length threads) t stored → IsVisited visited stored new
+    → new ≡ risen (next_in_chain threads mutexes) h (length threads) t stored → visited ≡ reads (next_in_chain threads mutexes) h (length threads) t stored → IsVisited visited stored new
 assignment_visited t h visited threads mutexes stored new (before, le, e) r c =
-    rise_visited threads mutexes t h visited stored new (ap length (e ∙ given-is t before threads mutexes) ∙ length-priorities (length threads) (next_of threads mutexes) (held_of (given t before threads) mutexes)) r c
+    rise_visited threads mutexes t h visited stored new (ap length (e ∙ given-is t before threads mutexes) ∙ length-priorities (length threads) (next_in_chain threads mutexes) (held_of (given t before threads) mutexes)) r c
 
 -- ---- the threads that wait for a mutex
 

@@ -1,7 +1,7 @@
 -- What is stored of one partition in the roster, and its chains.
 use Rattle.std.specs.Prelude.{ℕ, List, Option, slice_set}
 use Rattle.ptk_words.specs.Names.{Priority, ThreadNumber}
-use Rattle.ptk_words_model.specs.Priority.{next_of}
+use Rattle.ptk_words_model.specs.Priority.{next_in_chain}
 use Rattle.ptk_words_parted.specs.Parts.{part_of}
 use Rattle.ptk_roster.specs.Rosters.{Rostered}
 
@@ -11,4 +11,4 @@ with_priorities p priorities roster = record roster { table = record roster.tabl
 
 -- the next thread of a chain of a partition (pthread_mutexattr_getprotocol)
 abbrev pub next_at : ℕ → Rostered → ThreadNumber → Option ThreadNumber
-next_at p roster = next_of (part_of roster.table.threads p) (part_of roster.mutexes p)
+next_at p roster = next_in_chain (part_of roster.table.threads p) (part_of roster.mutexes p)

@@ -8,7 +8,7 @@ ghost use Rattle.ptk_threads.specs.Table.{stored_of};
 ghost use Rattle.ptk_mutex_rise.specs.Risen.{risen, reads};
 ghost use Rattle.ptk_mutex_rise.specs.Rosters.{with_priorities, next_at};
 
-use ptk_mutex_slots::next_of;
+use ptk_mutex_slots::next_in_chain;
 use ptk_roster::Roster;
 use ptk_threads::Slot;
 use ptk_words::{PartId, Priority, ThreadNo};
@@ -27,7 +27,7 @@ pub(crate) fn next_in(roster: &Roster, p: PartId, t: ThreadNo) -> Option<ThreadN
     requires { p < length roster.now.table.threads }
     ensures { result ≡ next_at p roster.now t }
 {
-    next_of(slots_of(roster, p), roster.mutex_slots(p), t)
+    next_in_chain(slots_of(roster, p), roster.mutex_slots(p), t)
 }
 
 /// Each thread of the chain, up to the first that is at least as high, has at least this priority. Returns how many

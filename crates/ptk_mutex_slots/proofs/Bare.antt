@@ -8,7 +8,7 @@ use Rattle.ptk_words.specs.Pools.{pool_get, least_free, numbers_of}
 use Rattle.ptk_words.specs.declared.threads.Thread.{Thread}
 use Rattle.ptk_words_model.specs.Chain.{greatest_leading}
 use Rattle.ptk_words_model.specs.State.{Mutex, Locks, locks_of}
-use Rattle.ptk_words_model.specs.Priority.{is_owner, awaited, assigned_of, inheritor_of, ceiling_for, held_of, next_of, effective_of, effective_priorities}
+use Rattle.ptk_words_model.specs.Priority.{is_owner, awaited, assigned_of, inheritor_of, ceiling_for, held_of, next_in_chain, effective_of, effective_priorities}
 use Rattle.ptk_words_model.specs.Mutex.{is_raising, lock_move, trylock_move, relock_move, owns, is_raising_for, soundness_of, count_of, waiters_of}
 use Rattle.ptk_mutex_slots.specs.declared.slot.Change.{Change}
 use Rattle.ptk_mutex_slots.specs.declared.slot.Change.TheVariants.{Take, CountUp, CountDown, Release, Abandon, Mark}
@@ -169,12 +169,12 @@ next_bare : (pool : List (Option Mutex)) (o : Option ℕ) → option_and_then (�
 next_bare pool None = refl
 next_bare pool (Some m) = ap inheritor_of (pool_get-bare pool m) ∙ inheritor_of-waiters [] (pool_get pool m)
 
-pub next_of-bare : (threads : List (Option Thread)) (pool : List (Option Mutex)) (t : ℕ) → next_of threads (map bare pool) t ≡ next_of threads pool t
-next_of-bare threads pool t = next_bare pool (awaited (pool_get threads t))
+pub next_in_chain-bare : (threads : List (Option Thread)) (pool : List (Option Mutex)) (t : ℕ) → next_in_chain threads (map bare pool) t ≡ next_in_chain threads pool t
+next_in_chain-bare threads pool t = next_bare pool (awaited (pool_get threads t))
 
 pub effective_of-bare : (threads : List (Option Thread)) (pool : List (Option Mutex)) → effective_of threads (map bare pool) ≡ effective_of threads pool
 effective_of-bare threads pool =
-    let next : next_of threads (map bare pool) ≡ next_of threads pool = λ i t. next_of-bare threads pool t i in
+    let next : next_in_chain threads (map bare pool) ≡ next_in_chain threads pool = λ i t. next_in_chain-bare threads pool t i in
     let held : held_of threads (map bare pool) ≡ held_of threads pool = λ i t. held_of-bare threads pool t i in
     λ i u. greatest_leading (length threads) (next i) (held i) u
 

@@ -1,11 +1,14 @@
-//! One mutex's place and one partition's priorities: what `ptk_roster` keeps of all partitions and `ptk_mutex` acts on.
-//! `MutexSlot` is the place of a number, and a contract sees it as the mutex at it without its waiters, which the slot
-//! table keeps; `Change` is all else that becomes of a mutex. What reads no waiters is the same of the mutex with them
-//! (`proofs/Bare`). The move that a lock comes to, and what it tells, are functions of the mutex and the thread, and each
-//! meets the definition of its name. `recompute` computes a partition's effective priorities from its threads and
-//! mutexes: each thread raises its chain, and that this leaves the greatest held priority is what is costly to prove
-//! (`proofs/Levels`); it says too that they lie in the range that `ptk_roster` asks of what it stores. No call takes
-//! memory. Below stands `ptk_threads`; above, `ptk_roster` and `ptk_mutex`.
+//! One mutex but for its waiters, the move that a lock of it makes, and one partition's effective priorities computed.
+//!
+//! - One mutex's place: each change of it is the definition's, whoever waits, and so are the moves of lock, trylock and
+//!   re-lock with their replies.
+//! - `recompute` gives a partition's effective priorities, on cycles too.
+//!
+//! `MutexSlot` is the place of a number: a contract sees it as the mutex at it without its waiters, which the slot
+//! table keeps. `Change` is all else that becomes of a mutex. What reads no waiters is the same of the mutex with them
+//! (`proofs/Bare`). In `recompute` each thread raises its chain; that this leaves the greatest held priority, within
+//! the range that `ptk_roster` asks of what it stores, is what is costly to prove (`proofs/Levels`). No call takes
+//! memory. Below is `ptk_threads`; above are `ptk_roster` and `ptk_mutex`.
 #![tactic(auto)]
 
 mod moves;
@@ -13,5 +16,5 @@ mod priorities;
 mod slot;
 
 pub use moves::{free_move, kept_reply, reply_of};
-pub use priorities::{assigned, awaited, effective, next_of, recompute, thread_slot};
+pub use priorities::{assigned, awaited, effective, next_in_chain, recompute, thread_slot};
 pub use slot::{Change, MutexSlot, MutexState, slot_in};

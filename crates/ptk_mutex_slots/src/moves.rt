@@ -1,4 +1,4 @@
-//! What a lock comes to, by what the mutex is, and what it tells.
+//! The move of a lock, by what the mutex is, and its reply.
 
 ghost use Rattle.std.specs.Prelude.{◌≡◌, option_map};
 ghost use Rattle.ptk_words.specs.Faults.{errno_number};
@@ -85,7 +85,8 @@ fn count_move(count: u32) -> LockMove
     }
 }
 
-/// What the move tells one that is to be told this (pthread_mutex_lock, EOWNERDEAD, ENOTRECOVERABLE).
+/// What the move makes of this reply: itself, an error in its place, or none yet (pthread_mutex_lock, EOWNERDEAD,
+/// ENOTRECOVERABLE).
 pub fn reply_of(made: LockMove, reply: Option<u32>) -> Option<u32>
     ensures { result ≡ move_reply made reply }
 {
@@ -107,7 +108,7 @@ fn in_place_of(reply: Option<u32>, e: Errno) -> Option<u32>
     }
 }
 
-/// What a mutex's waiter is to be told once it has the mutex: of a lock 0, of a re-lock what its wait keeps.
+/// The reply that a mutex's waiter is to have once it has the mutex: of a lock 0, of a re-lock what its wait keeps.
 pub fn kept_reply(wait: Option<Wait>) -> Option<u32>
     ensures { result ≡ kept_reply wait }
 {

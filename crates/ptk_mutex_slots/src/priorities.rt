@@ -3,7 +3,7 @@
 ghost use Rattle.std.specs.Prelude.{◌≡◌, ◌<◌, ◌≤◌, length, option_map, IsSome};
 ghost use Rattle.std.specs.Option.{option_flatten};
 ghost use Rattle.ptk_words.specs.Pools.{pool_get};
-ghost use Rattle.ptk_words_model.specs.Priority.{mutex_of_wait, awaited, assigned_of, next_of, held_of, inheritor_of, effective_priorities};
+ghost use Rattle.ptk_words_model.specs.Priority.{mutex_of_wait, awaited, assigned_of, next_in_chain, held_of, inheritor_of, effective_priorities};
 ghost use Rattle.ptk_words_parted.specs.Parts.{part_of};
 ghost use Rattle.ptk_threads_slots.specs.Links.{threads_of};
 ghost use Rattle.ptk_threads.specs.Table.{thread_in, stored_of, AreLevelsOf};
@@ -50,7 +50,7 @@ pub fn recompute(threads: &[Slot], mutexes: &[MutexSlot], stored: &mut [u8])
     }
 }
 
-/// Each thread of the chain has at least this priority; the chain has at most so many steps.
+/// Each thread of the chain has at least this priority; the chain has at most this many steps.
 #[tactic(auto, using(crate::proofs::Levels::walks))]
 fn raise_chain(
     threads: &[Slot],
@@ -60,13 +60,13 @@ fn raise_chain(
     priority: u8,
     fuel: usize,
 )
-    ensures { stored.new ≡ raised_along (next_of (threads_of threads.now) mutexes.now) priority fuel u stored.old }
+    ensures { stored.new ≡ raised_along (next_in_chain (threads_of threads.now) mutexes.now) priority fuel u stored.old }
 {
     raise(stored, u, priority);
     if fuel == 0 {
         return;
     }
-    match next_of(threads, mutexes, u) {
+    match next_in_chain(threads, mutexes, u) {
         Some(v) => raise_chain(threads, mutexes, stored, v, priority, fuel - 1),
         None => {}
     }
@@ -84,8 +84,8 @@ fn raise(stored: &mut [u8], t: ThreadNo, priority: u8)
 }
 
 /// The next thread of a chain: the owner of the INHERIT mutex that the thread waits for.
-pub fn next_of(threads: &[Slot], mutexes: &[MutexSlot], t: ThreadNo) -> Option<ThreadNo>
-    ensures { result ≡ next_of (threads_of threads.now) mutexes.now t }
+pub fn next_in_chain(threads: &[Slot], mutexes: &[MutexSlot], t: ThreadNo) -> Option<ThreadNo>
+    ensures { result ≡ next_in_chain (threads_of threads.now) mutexes.now t }
 {
     match awaited(threads, t) {
         Some(m) => inheritor_of(mutexes, m),

@@ -325,7 +325,7 @@ impl MutexSlot {
     }
 
     /// Whether an unlock by the thread frees its mutex, wakes nobody and changes no priority: the thread locked it once,
-    /// it is sound and neither INHERIT nor PROTECT, and nobody waits for it, as the caller tells (pthread_mutex_unlock).
+    /// it is sound and neither INHERIT nor PROTECT, and nobody waits for it, as the caller says (pthread_mutex_unlock).
     #[inline]
     pub fn is_releasable(&self, t: ThreadNo, has_waiters: bool) -> bool
         ensures { result ≡ (not has_waiters && is_releasable t self.now) }

@@ -10,7 +10,7 @@ use Rattle.ptk_words_parted.specs.Cuts.{lent}
 use Rattle.ptk_words_parted.proofs.Cuts.{lent-same}
 use Rattle.ptk_words_model.specs.State.{Mutex, Condition}
 use Rattle.ptk_words_model.specs.Mutex.{waiters_of}
-use Rattle.ptk_words_locks.specs.Conditions.{waiters_on}
+use Rattle.ptk_words_model.specs.Condition.{waiters_on}
 use Rattle.ptk_threads.specs.Table.{ThreadTable, free_table}
 use Rattle.ptk_threads.specs.Queues.{no_queues}
 use Rattle.ptk_threads.proofs.Slots.{length-pool_set}

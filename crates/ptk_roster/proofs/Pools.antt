@@ -9,7 +9,8 @@ use Rattle.ptk_words.specs.declared.threads.Thread.{Thread}
 use Rattle.ptk_words_parted.specs.Parts.{part_of}
 use Rattle.ptk_words_model.specs.State.{Mutex, Condition}
 use Rattle.ptk_words_model.specs.Mutex.{waiters_of}
-use Rattle.ptk_words_locks.specs.Conditions.{waiters_on, IsNoWaiter}
+use Rattle.ptk_words_model.specs.Condition.{waiters_on}
+use Rattle.ptk_words_locks.specs.Conditions.{IsNoWaiter}
 use Rattle.ptk_threads.proofs.Pools.{part_of-set_other, pool_get-set_other}
 use Rattle.ptk_threads.proofs.Slots.{length-pool_set}
 use Rattle.ptk_threads.specs.Table.{ThreadTable, with_changed, with_new, with_new_at, with_free, with_left, with_stored, thread_in, stored_of}

@@ -7,7 +7,8 @@ use Rattle.ptk_words.specs.Pools.{pool_get, pool_set, pool_changed, is_in, witho
 use Rattle.ptk_words_parted.specs.Parts.{part_of}
 use Rattle.ptk_words_model.specs.State.{Mutex, Condition}
 use Rattle.ptk_words_model.specs.Mutex.{waiters_of}
-use Rattle.ptk_words_locks.specs.Conditions.{waiters_on, IsNoWaiter}
+use Rattle.ptk_words_model.specs.Condition.{waiters_on}
+use Rattle.ptk_words_locks.specs.Conditions.{IsNoWaiter}
 use Rattle.ptk_threads.specs.Table.{ThreadTable}
 use Rattle.ptk_threads.specs.Queues.{IsUnqueued, AreListed}
 use Rattle.ptk_threads.proofs.Pools.{pool_changed-free}

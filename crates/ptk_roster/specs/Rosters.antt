@@ -4,7 +4,7 @@ use Rattle.ptk_words.specs.Pools.{pool_get, numbered, is_in}
 use Rattle.ptk_words_parted.specs.Parts.{part_of}
 use Rattle.ptk_words_model.specs.State.{Mutex, Condition}
 use Rattle.ptk_words_model.specs.Mutex.{waiters_of}
-use Rattle.ptk_words_locks.specs.Conditions.{waiters_on}
+use Rattle.ptk_words_model.specs.Condition.{waiters_on}
 use Rattle.ptk_threads.specs.Table.{ThreadTable, thread_in, AreLevels}
 use Rattle.ptk_mutex_slots.specs.Slots.{bare}
 use Rattle.ptk_ready.specs.Entries.{of_priority}

@@ -4,7 +4,8 @@ ghost use Rattle.std.specs.Prelude.{◌≡◌, ◌-◌, ◌<◌, ◌≤◌, true
 ghost use Rattle.std.specs.Option.{is_some};
 ghost use Rattle.ptk_words.specs.Pools.{pool_get, pool_set, least_free, without, is_in};
 ghost use Rattle.ptk_words_parted.specs.Parts.{part_of};
-ghost use Rattle.ptk_words_locks.specs.Conditions.{IsNoWaiter, waiters_on};
+ghost use Rattle.ptk_words_model.specs.Condition.{waiters_on};
+ghost use Rattle.ptk_words_locks.specs.Conditions.{IsNoWaiter};
 ghost use Rattle.ptk_threads.specs.Table.{thread_in};
 ghost use Rattle.ptk_roster.specs.Waiters.{condition_of};
 

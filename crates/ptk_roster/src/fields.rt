@@ -67,7 +67,7 @@ impl Roster {
         self.threads.set_assigned_priority(p, k, priority);
     }
 
-    /// Gives the thread so many used ticks (XSH 2.8.4, SCHED_RR).
+    /// Gives the thread this many used ticks (XSH 2.8.4, SCHED_RR).
     pub fn set_used(&mut self, p: PartId, k: ThreadNo, used: u32)
         requires { p < length self.old.table.threads }
         ensures table { self.new.table ≡ with_changed p k (with_used used) self.old.table }

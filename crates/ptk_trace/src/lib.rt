@@ -1,10 +1,14 @@
-//! The trace of a partition: its last steps, as many as its section keeps, and their lines. Keeping one more step takes
-//! no memory and cannot fail; the lines are written as the exact text of the steps that are kept, oldest first.
-//! `Trace::run_row` carries out plain steps in a row and keeps the entry of each: it promises that registers and memory
-//! are those after so many plain steps, that the trace is what so many pushes would leave, and the last step's entry.
-//! Below stand `ptk_words_model`, whose definitions of texts the contracts cite, `ptk_rv32i_rows`, whose loops the rows
-//! are, and the kit's ring and decimals; above, the crates that run a partition's thread, and the system, which puts the
-//! other steps in and asks for the lines.
+//! A partition's last steps: a ring of them with the newest in a batch, their lines, and plain steps in a row of which
+//! each is kept (`Trace::run_row`).
+//!
+//! - It has the last steps, oldest first, whichever lie in the ring and which in the batch.
+//! - `run_row` carries out plain steps as `run_plain` does, and the trace is as after a push of each, with the last
+//!   step's entry.
+//! - `lines` appends exactly their lines to a writer that accepts them.
+//!
+//! To keep one more step takes no memory and cannot fail. Below are `ptk_words_model`, whose definitions of texts the
+//! contracts cite, `ptk_rv32i_rows`, whose loops the rows are, and the kit's ring and decimals; above are the crates
+//! that run a partition's thread, and the system, which puts the other steps in and asks for the lines.
 #![tactic(auto)]
 
 mod rows;

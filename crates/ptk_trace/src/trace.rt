@@ -1,4 +1,4 @@
-//! The last steps, and the lines that tell them.
+//! The last steps, and their lines.
 
 ghost use Rattle.std.specs.Prelude.{◌≡◌, ◌≤◌, ◌++◌, ◌∷◌, [], length, take, drop, IfOk, OnOk};
 ghost use Rattle.std.specs.Io.KnownBytes.{Appends};
@@ -119,7 +119,7 @@ fn hand_over(ring: &mut HeapCircularBuffer<Entry>, newest: &[Entry])
     ring.extend_from_slice(newest);
 }
 
-// The steps after so many.
+// The steps after this many.
 fn after(entries: &[Entry], count: usize) -> &[Entry]
     ensures { result.now ≡ drop count entries.now }
 {

@@ -1,8 +1,9 @@
 -- A walk over a list from an index on.
 use Rattle.std.proofs.Common.{◌≡◌, ℕ, zero, suc, ◌+◌, ◌<◌, ◌≤◌, Bool, true, false, ◌||◌, List, [], ◌∷◌, length, drop, map, get_or, Option, Some, None, refl, sym, ap, ◌∙◌, arith, add-one}
+use Rattle.std.specs.Option.{option_or}
 use Rattle.std.specs.List.{list_any}
 use Rattle.std.proofs.lemmas.List.{drop_all}
-use Rattle.ptk_words_windows.specs.WindowFaults.{some_pair, first_fault, earlier}
+use Rattle.ptk_words_windows.specs.WindowFaults.{some_pair, first_fault}
 
 drop-at : {A : Type 0} (xs : List A) (i : ℕ) (x : A) → i < length xs → x ≡ get_or xs i x → drop i xs ≡ x ∷ drop (i + 1) xs
 drop-at [] i x within is = absurd (omega arith)
@@ -55,6 +56,6 @@ some_pair-map r f (x ∷ xs) =
 
 pub first_fault-map : {A B E : Type 0} (g : B → Option E) (f : A → B) (xs : List A) → first_fault g (map f xs) ≡ first_fault (λ x. g (f x)) xs
 first_fault-map g f [] = refl
-first_fault-map {E = E} g f (x ∷ xs) = ap (λ (o : Option E). earlier (g (f x)) o) (first_fault-map g f xs)
+first_fault-map {E = E} g f (x ∷ xs) = ap (λ (o : Option E). option_or (g (f x)) o) (first_fault-map g f xs)
 
 pub ruleset mapped = (some_pair-map, first_fault-map)

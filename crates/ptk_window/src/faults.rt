@@ -61,7 +61,7 @@ fn first_fault(frame: u32, parts: usize, windows: &[Window]) -> Option<WindowFau
     None
 }
 
-/// Why so many partitions can't have these windows in this frame.
+/// Why this many partitions can't have these windows in this frame.
 #[tactic(auto, unfolding(ptk_words_windows::specs::WindowFaults::window_fault))]
 pub fn window_fault(frame: u32, parts: usize, windows: &[Window]) -> Option<WindowFault>
     ensures { result ≡ window_fault frame parts windows.now }
@@ -127,7 +127,7 @@ fn first_table_fault(frame: u32, parts: usize, stages: &[(u64, &[Window])]) -> O
     None
 }
 
-/// Why so many partitions can't have these stages of this frame.
+/// Why this many partitions can't have these stages of this frame.
 #[tactic(auto, using(crate::proofs::Pairs::mapped), unfolding(ptk_words_windows::specs::WindowFaults::plan_fault))]
 pub fn plan_fault(frame: u32, parts: usize, stages: &[(u64, &[Window])]) -> Option<WindowFault>
     ensures { result ≡ plan_fault frame parts (map (λ stage. record { from = stage.0; windows = stage.1.now }) stages.now) }

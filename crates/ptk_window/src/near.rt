@@ -22,7 +22,7 @@ pub struct Turn {
 
 /// Where a partition was last found among its windows: at one of them, in one of the frames that repeat.
 ///
-/// It decides how fast the next look-up is and never what it answers, so nothing is promised of its value: a look-up
+/// It decides how fast the next look-up is and never what it returns, so nothing is promised of its value: a look-up
 /// tests whether it fits the plan and the partition.
 #[derive(Clone, Copy, Debug)]
 pub struct Near {

@@ -39,10 +39,10 @@ ghost use Rattle.ptk_window.specs.Order.{IsKept, end_of};
 ghost use Rattle.ptk_window.specs.Turn.{IsTurn, IsShort, IsSoon};
 
 impl WindowPlan {
-    /// The plan of these stages, for so many partitions: of each the number of the frame from which on the frame has
+    /// The plan of these stages, for this many partitions: of each the number of the frame from which on the frame has
     /// these windows. The frame is at most 1,000,000 and each number at most 2^36.
     ///
-    /// Answers the first fault: no stage, a first number that is not 0, or numbers that do not strictly rise (7). Then,
+    /// Returns the first fault: no stage, a first number that is not 0, or numbers that do not strictly rise (7). Then,
     /// stage by stage, no window (1); of the first faulty window a length below 16 (2), an end after the frame (4) or a
     /// partition that is not below `parts` (5); then two windows with a common tick (3). Refused memory is fault 6.
     pub fn new(

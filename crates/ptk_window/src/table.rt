@@ -23,8 +23,8 @@ pub(crate) struct Table {
     pub(crate) by_start: Vec<Window>,
     /// The windows by partition, each partition's by their starts.
     pub(crate) by_partition: Vec<Window>,
-    /// By partition, where its first window stands by partition. It decides how fast a look-up is and never what it
-    /// answers, so nothing is promised of it: a look-up tests it.
+    /// By partition, where its first window is by partition. It decides how fast a look-up is and never what it
+    /// returns, so nothing is promised of it: a look-up tests it.
     firsts: Vec<usize>,
     ghost short: { frame ≤ 1000000 },
     ghost early: { from ≤ 68719476736 },
@@ -84,7 +84,7 @@ impl Table {
     }
 }
 
-/// Of each of so many partitions where its first window stands among these, or how many there are.
+/// Of each of this many partitions where its first window is among these, or how many there are.
 fn firsts(alloc: Global, parts: usize, by_partition: &[Window]) -> Result<Vec<usize>, AllocError> {
     let mut firsts = vec![in alloc; by_partition.len(); parts]?;
     for (place, window) in by_partition.iter().enumerate() {

@@ -32,11 +32,11 @@ not_after_trans a b c h k = (omega (arith, h.0, k.0), λ same. omega (arith, h.1
 
 -- ---- one more
 
-with_same_step : (t : Bool) (a b : Expiry) (bs : List Expiry) → is_before a b ≡ t → IsPermutation (a ∷ bs) (in_order_with a bs) → IsPermutation (a ∷ b ∷ bs) (in_order_with a (b ∷ bs))
+with_same_step : (t : Bool) (a b : Expiry) (bs : List Expiry) → is_before a b ≡ t → IsPermutation (a ∷ bs) (in_order_with is_before a bs) → IsPermutation (a ∷ b ∷ bs) (in_order_with is_before a (b ∷ bs))
 with_same_step true a b bs e ih = rw e (IsPermutation-refl (a ∷ b ∷ bs))
 with_same_step false a b bs e ih = rw e (IsPermutation-trans _ _ _ (IsPermutation-middle (a ∷ []) b bs) (IsPermutation-cons b _ _ ih))
 
-with_same : (a : Expiry) (bs : List Expiry) → IsPermutation (a ∷ bs) (in_order_with a bs)
+with_same : (a : Expiry) (bs : List Expiry) → IsPermutation (a ∷ bs) (in_order_with is_before a bs)
 with_same a [] = IsPermutation-refl (a ∷ [])
 with_same a (b ∷ bs) = with_same_step (is_before a b) a b bs refl (with_same a bs)
 
@@ -49,16 +49,16 @@ after_head b bs h k d within = h 0 (suc k) d (omega arith) (omega arith)
 after_tail : (b : Expiry) (bs : List Expiry) → Ordered (b ∷ bs) → Ordered bs
 after_tail b bs h i j d before within = h (suc i) (suc j) d (omega arith) (omega arith)
 
-with_ordered_step : (t : Bool) (a b : Expiry) (bs : List Expiry) → is_before a b ≡ t → Ordered (b ∷ bs) → Ordered (in_order_with a bs) → Ordered (in_order_with a (b ∷ bs))
+with_ordered_step : (t : Bool) (a b : Expiry) (bs : List Expiry) → is_before a b ≡ t → Ordered (b ∷ bs) → Ordered (in_order_with is_before a bs) → Ordered (in_order_with is_before a (b ∷ bs))
 with_ordered_step true a b bs e h ih =
     let first = before_not_after a b e in
     let rest : All (IsNotAfter a) bs = λ k d within. not_after_trans a b _ first (after_head b bs h k d within) in
     rw e (AllPairs-cons IsNotAfter a (b ∷ bs) (All-cons (IsNotAfter a) b bs first rest) h)
 with_ordered_step false a b bs e h ih =
-    let rest = All-permutation (IsNotAfter b) (a ∷ bs) (in_order_with a bs) (with_same a bs) (All-cons (IsNotAfter b) a bs (else_not_after a b e) (after_head b bs h)) in
-    rw e (AllPairs-cons IsNotAfter b (in_order_with a bs) rest ih)
+    let rest = All-permutation (IsNotAfter b) (a ∷ bs) (in_order_with is_before a bs) (with_same a bs) (All-cons (IsNotAfter b) a bs (else_not_after a b e) (after_head b bs h)) in
+    rw e (AllPairs-cons IsNotAfter b (in_order_with is_before a bs) rest ih)
 
-with_ordered : (a : Expiry) (bs : List Expiry) → Ordered bs → Ordered (in_order_with a bs)
+with_ordered : (a : Expiry) (bs : List Expiry) → Ordered bs → Ordered (in_order_with is_before a bs)
 with_ordered a [] h = AllPairs-cons IsNotAfter a [] (All-nil (IsNotAfter a)) h
 with_ordered a (b ∷ bs) h = with_ordered_step (is_before a b) a b bs refl h (with_ordered a bs (after_tail b bs h))
 

@@ -8,7 +8,7 @@ use Rattle.ptk_words.specs.declared.threads.Thread.{Thread}
 use Rattle.ptk_words_model.specs.State.{Mutex, Console}
 use Rattle.ptk_words_model.specs.CallTable.{answer_of, answer_to}
 use Rattle.ptk_words_model.specs.Chain.{Leads, leads_to}
-use Rattle.ptk_words_model.specs.Priority.{next_of, effective_of, IsEffectivePriority}
+use Rattle.ptk_words_model.specs.Priority.{next_in_chain, effective_of, IsEffectivePriority}
 use Rattle.ptk_words_model.specs.Console.{is_due_at, arriving, without_arriving}
 use Rattle.ptk_words_model.specs.Withdrawal.{Expiry, in_order}
 
@@ -32,7 +32,7 @@ pub record CallsAreNumbered : Type 0 where
 -- as many steps as there are numbers of threads decide whether a chain leads from one thread to another, on a cycle too (pthread_mutexattr_getprotocol)
 abbrev pub ChainIsDecided : List (Option Thread) → List (Option Mutex) → Type 0
 ChainIsDecided threads mutexes =
-    (u t : ℕ) → IsTrue (leads_to (next_of threads mutexes) t (length threads) u) ↔ Leads (next_of threads mutexes) u t
+    (u t : ℕ) → IsTrue (leads_to (next_in_chain threads mutexes) t (length threads) u) ↔ Leads (next_in_chain threads mutexes) u t
 
 -- effective_of computes the effective priority as it is defined: of a thread in use it is the greatest held priority of all threads in use whose chain leads to the thread (pthread_mutexattr_getprotocol)
 abbrev pub PriorityIsGreatest : List (Option Thread) → List (Option Mutex) → Type 0

@@ -1,8 +1,16 @@
-//! Laws of the definitions and worked rows, as the contracts of functions without code: what stands here holds of the
-//! machine of one partition as it is defined, whatever code carries it. `rows` computes small guests and built
-//! states; `laws` tells what holds of every state and every run. The weight lies in `sizes_stay`, with one lemma for
-//! each move, and in `chain_is_decided`, which shortens chains that go round. Below stand `ptk_words`,
-//! `ptk_words_instructions`, `ptk_words_windows` and `ptk_words_model`; crates that need a law stand above.
+//! Laws of the definitions, and worked rows that they compute, as the contracts of functions without code.
+//!
+//! - `costs_are_small`, `calls_are_numbered` (each call is the call of its own number and of no other),
+//!   `chain_is_decided` (cycles too), `priority_is_greatest`, `sizes_stay` (each part of a state keeps its size over
+//!   whole runs), `arrivals_are_due` (what arrives by a tick is what is due), `expiries_are_in_order`.
+//! - 64 worked rows that the definitions compute, refused calls and the order of their checks, and robust mutexes at
+//!   their owners' ends, among them.
+//!
+//! They hold of the machine of one partition as it is defined, whatever code carries it. `rows` computes small guests
+//! and built states; `laws` says what holds of every state and every run. The weight of the proofs is in `sizes_stay`,
+//! with one lemma for each move, and in `chain_is_decided`, which shortens chains that go round. Below are `ptk_words`,
+//! `ptk_words_instructions`, `ptk_words_windows`, `ptk_words_model` and `ptk_words_well`; above are crates that need a
+//! law.
 #![tactic(auto)]
 
 pub mod laws;

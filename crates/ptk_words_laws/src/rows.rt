@@ -279,7 +279,7 @@ pub fn thread_refused()
     ensures { ThreadRefused }
 {}
 
-/// What self and getschedparam tell, and what the numbers of calls and other numbers are answered.
+/// What self and getschedparam return, and the replies to the numbers of calls and to other numbers.
 pub fn small_calls()
     ensures { SmallCalls }
 {}

@@ -13,8 +13,8 @@ use Rattle.ptk_words.specs.declared.mutexes.Owner.TheVariants.{Free, Abandoned, 
 use Rattle.ptk_words_model.specs.State.{Mutex, Condition, Locks}
 use Rattle.ptk_words_model.specs.Priority.{mutex_of_wait, is_owner, thread_at}
 use Rattle.ptk_words_model.specs.Mutex.{wait_of, owns}
-use Rattle.ptk_words_model.specs.Condition.{mutex_named, is_named, names_mutex}
-use Rattle.ptk_words_locks.specs.Conditions.{condition_of_wait, HasRoom, waiters_on}
+use Rattle.ptk_words_model.specs.Condition.{mutex_of_condition_wait, is_named, names_mutex, waiters_on}
+use Rattle.ptk_words_locks.specs.Conditions.{condition_of_wait, HasRoom}
 pub use Rattle.ptk_words_locks.specs.Conditions.{AreConditions}
 use Rattle.ptk_words_locks.proofs.Pools.{each_changed, get-set_other}
 use Rattle.ptk_words_locks.proofs.Held.{IsRoomy}
@@ -29,10 +29,10 @@ waits_on o = condition_of_wait (wait_of o)
 
 -- the mutex that a waiter names (own)
 abbrev pub names : Option Thread → Option ℕ
-names o = mutex_named (wait_of o)
+names o = mutex_of_condition_wait (wait_of o)
 
 -- who waits on none names no mutex
-pub off_names : (wait : Option Wait) → condition_of_wait wait ≡ None → mutex_named wait ≡ None
+pub off_names : (wait : Option Wait) → condition_of_wait wait ≡ None → mutex_of_condition_wait wait ≡ None
 off_names None e = refl
 off_names (Some InputWait) e = refl
 off_names (Some (SleepWait deadline)) e = refl
@@ -112,7 +112,7 @@ conditions_same before after mutexes conditions same are = record {
 
 -- every thread has the wait that it had
 pub same_on_waits : (before after : List (Option Thread)) → ((t : ℕ) → wait_of (pool_get after t) ≡ wait_of (pool_get before t)) → AreSameOn before after
-same_on_waits before after waits = record { on = λ t. ap condition_of_wait (waits t); named = λ t. ap mutex_named (waits t) }
+same_on_waits before after waits = record { on = λ t. ap condition_of_wait (waits t); named = λ t. ap mutex_of_condition_wait (waits t) }
 
 -- every thread but one has the wait that it had (own)
 abbrev pub AreOtherWaits : ℕ → List (Option Thread) → List (Option Thread) → Type 0
@@ -124,7 +124,7 @@ same_on_off t before after others was now = record {
   on = λ u. elim (cases_eq u t) [ inl same ↦ (rw same (now ∙ sym was)) | inr ne ↦ ap condition_of_wait (others u ne) ];
   named = λ u. elim (cases_eq u t) [
     | inl same ↦ (rw same (off_names (wait_of (pool_get after t)) now ∙ sym (off_names (wait_of (pool_get before t)) was)))
-    | inr ne ↦ ap mutex_named (others u ne)
+    | inr ne ↦ ap mutex_of_condition_wait (others u ne)
   ];
 }
 
@@ -198,12 +198,12 @@ named_test : (m : ℕ) (o : Option ℕ) → o ≡ Some m → is_named m o ≡ tr
 named_test m None e = absurd (let no : ⊥ = cc in no)
 named_test m (Some n) e = eq-eqb n m (let same : n ≡ m = cc in same)
 
-none_names : (m i : ℕ) (threads : List (Option Thread)) → list_any (λ thread. is_named m (mutex_named (wait_of thread))) threads ≡ false → names (option_flatten (slice_get threads i)) ≢ Some m
+none_names : (m i : ℕ) (threads : List (Option Thread)) → list_any (λ thread. is_named m (mutex_of_condition_wait (wait_of thread))) threads ≡ false → names (option_flatten (slice_get threads i)) ≢ Some m
 none_names m i [] none e = let no : ⊥ = cc in no
 none_names m zero (thread ∷ threads) none e =
-    false≢true (sym (or_parts (is_named m (names thread)) (list_any (λ thread. is_named m (mutex_named (wait_of thread))) threads) none).0 ∙ named_test m (names thread) e)
+    false≢true (sym (or_parts (is_named m (names thread)) (list_any (λ thread. is_named m (mutex_of_condition_wait (wait_of thread))) threads) none).0 ∙ named_test m (names thread) e)
 none_names m (suc i) (thread ∷ threads) none e =
-    none_names m i threads (or_parts (is_named m (names thread)) (list_any (λ thread. is_named m (mutex_named (wait_of thread))) threads) none).1 e
+    none_names m i threads (or_parts (is_named m (names thread)) (list_any (λ thread. is_named m (mutex_of_condition_wait (wait_of thread))) threads) none).1 e
 
 -- a mutex that no waiter names, as pthread_mutex_destroy tests it
 pub unnamed : (m : ℕ) (locks : Locks) → names_mutex locks m ≡ false → (t : ℕ) → names (thread_at locks t) ≢ Some m

@@ -13,7 +13,8 @@ use Rattle.ptk_words_model.specs.Schedule.{with_thread, woken_with, after_wake}
 use Rattle.ptk_words_model.specs.Mutex.{wait_of, after_owner_end}
 use Rattle.ptk_words_model.specs.Unwinding.{after_join_by, without_thread, after_release}
 use Rattle.ptk_words_locks.specs.Locks.{is_ready, joiner_of}
-use Rattle.ptk_words_locks.specs.Conditions.{condition_of_wait, waiters_on, AreListed, AreConditions, AreSyncs}
+use Rattle.ptk_words_model.specs.Condition.{waiters_on}
+use Rattle.ptk_words_locks.specs.Conditions.{condition_of_wait, AreListed, AreConditions, AreSyncs}
 use Rattle.ptk_words_locks.proofs.Pools.{each_set, changed_other}
 use Rattle.ptk_words_locks.proofs.Lined.{AreLined, ready_waits, not_ready_out}
 use Rattle.ptk_words_locks.proofs.Threads.{IsWaking, waking_woken, changed_same, idle_awaits, in_wait}

@@ -95,9 +95,9 @@ in_order_either : (b : Bool) (a x : Expiry) (xs rest : List Expiry) (deadlines :
 in_order_either true a x xs rest deadlines more = refl
 in_order_either false a x xs rest deadlines more = more ∙ ap (without_deadlines (threads_of xs)) (free_swap x.thread a.thread deadlines)
 
-without_in_order_with : (a : Expiry) (xs : List Expiry) (deadlines : List (Option ℕ)) → without_deadlines (threads_of (in_order_with a xs)) deadlines ≡ without_deadlines (threads_of (a ∷ xs)) deadlines
+without_in_order_with : (a : Expiry) (xs : List Expiry) (deadlines : List (Option ℕ)) → without_deadlines (threads_of (in_order_with is_before a xs)) deadlines ≡ without_deadlines (threads_of (a ∷ xs)) deadlines
 without_in_order_with a [] deadlines = refl
-without_in_order_with a (x ∷ xs) deadlines = in_order_either (is_before a x) a x xs (in_order_with a xs) deadlines (without_in_order_with a xs (pool_set deadlines x.thread None))
+without_in_order_with a (x ∷ xs) deadlines = in_order_either (is_before a x) a x xs (in_order_with is_before a xs) deadlines (without_in_order_with a xs (pool_set deadlines x.thread None))
 
 -- the order of expiries does not matter for the deadlines that are left
 pub without_in_order : (xs : List Expiry) (deadlines : List (Option ℕ)) → without_deadlines (threads_of (in_order xs)) deadlines ≡ without_deadlines (threads_of xs) deadlines

@@ -16,7 +16,7 @@ use Rattle.ptk_words_model.specs.State.{Locks, Syncs, Part}
 use Rattle.ptk_words_model.specs.Priority.{thread_at, effective_priority}
 use Rattle.ptk_words_model.specs.Schedule.{with_thread, at_tail_with, woken_with}
 use Rattle.ptk_words_model.specs.Mutex.{mutex_at, wait_of, move_reply, relock_move, after_move, after_unlock, after_relock_move, after_relock}
-use Rattle.ptk_words_model.specs.Condition.{condition_waiters, mutex_named, after_condition_wait, after_unblock_for, after_unblock, after_signal_to, after_signal, after_broadcast}
+use Rattle.ptk_words_model.specs.Condition.{condition_waiters, mutex_of_condition_wait, after_condition_wait, after_unblock_for, after_unblock, after_signal_to, after_signal, after_broadcast}
 use Rattle.ptk_words_model.specs.Unwinding.{is_alive, after_join_by, without_thread, after_release}
 use Rattle.ptk_words_model.specs.Withdrawal.{deadline_of_wait, deadlines_of, Expiry, in_order, due, after_timeout, after_expiries}
 use Rattle.ptk_words_locks.specs.Locks.{joiner_of}
@@ -106,7 +106,7 @@ deadlines-relock t m reply locks = relock_by (relock_move t (mutex_at locks m)) 
 pub deadlines-unblock : (t c : ℕ) (reply : Option ℕ) (syncs : Syncs) → waits_on (thread_at syncs.locks t) ≡ Some c → deadlines_of (after_unblock t c reply syncs).locks ≡ pool_set (deadlines_of syncs.locks) t None
 deadlines-unblock t c reply syncs on =
     let is : IsConditionWait c (wait_of (thread_at syncs.locks t)) = condition_wait c (wait_of (thread_at syncs.locks t)) on in
-    ap (λ (o : Option ℕ). deadlines_of (after_unblock_for t c reply o syncs).locks) (ap mutex_named is.waits) ∙ deadlines-relock t is.mutex reply syncs.locks
+    ap (λ (o : Option ℕ). deadlines_of (after_unblock_for t c reply o syncs).locks) (ap mutex_of_condition_wait is.waits) ∙ deadlines-relock t is.mutex reply syncs.locks
 
 -- the waiter of the condition variable that a signal unblocks (pthread_cond_signal)
 abbrev pub signalled : ℕ → Syncs → Option ℕ
@@ -126,7 +126,7 @@ pub unblocked_left : (t c : ℕ) (reply : Option ℕ) (syncs : Syncs) → waits_
     → condition_waiters (after_unblock t c reply syncs) c ≡ without t (condition_waiters syncs c)
 unblocked_left t c reply syncs on are =
     let is : IsConditionWait c (wait_of (thread_at syncs.locks t)) = condition_wait c (wait_of (thread_at syncs.locks t)) on in
-    ap (λ (o : Option ℕ). condition_waiters (after_unblock_for t c reply o syncs) c) (ap mutex_named is.waits)
+    ap (λ (o : Option ℕ). condition_waiters (after_unblock_for t c reply o syncs) c) (ap mutex_of_condition_wait is.waits)
     ∙ gathered_own (without t) c syncs.conditions (waiter_used t (pool_get syncs.conditions c) (are.waits_listed c t on))
 
 -- as many signals as there are waiters, or more, end the deadlines of all waiters (own)

@@ -113,26 +113,26 @@ least_later tick k d deadlines a not_before least zero deadline e is_due =
 least_later tick k d deadlines a not_before least (suc i) deadline e is_due = renumbered k i deadline a (least i deadline e is_due)
 
 head_later : (tick k d : ℕ) (deadlines : List (Option ℕ)) (a : Expiry) (rest : List Expiry) → nat_le d tick ≡ true → is_before (record { thread = k; deadline = d }) a ≡ false → IsHead tick (k + 1) deadlines a rest
-    → IsHead tick k (Some d ∷ deadlines) a (in_order_with (record { thread = k; deadline = d }) rest)
+    → IsHead tick k (Some d ∷ deadlines) a (in_order_with is_before (record { thread = k; deadline = d }) rest)
 head_later tick k d deadlines a rest is_due not_before is = record {
   index = suc is.index;
   number = (let n : a.thread ≡ (k + 1) + is.index = is.number in omega (arith, n));
   own = is.own;
   due = is.due;
   least = least_later tick k d deadlines a not_before is.least;
-  tail = ap in_order (due-take tick k d (slice_set deadlines is.index None) is_due) ∙ ap (in_order_with (record { thread = k; deadline = d })) is.tail;
+  tail = ap in_order (due-take tick k d (slice_set deadlines is.index None) is_due) ∙ ap (in_order_with is_before (record { thread = k; deadline = d })) is.tail;
 }
 
 placed : (b : Bool) (tick k d : ℕ) (deadlines : List (Option ℕ)) (a : Expiry) (rest : List Expiry) → nat_le d tick ≡ true → is_before (record { thread = k; deadline = d }) a ≡ b
     → in_order (due_of tick (k + 1) deadlines) ≡ a ∷ rest → IsHead tick (k + 1) deadlines a rest
-    → AreDueFrom tick k (Some d ∷ deadlines) (if b then record { thread = k; deadline = d } ∷ a ∷ rest else a ∷ in_order_with (record { thread = k; deadline = d }) rest)
+    → AreDueFrom tick k (Some d ∷ deadlines) (if b then record { thread = k; deadline = d } ∷ a ∷ rest else a ∷ in_order_with is_before (record { thread = k; deadline = d }) rest)
 placed true tick k d deadlines a rest is_due before e is =
     subst (IsHead tick k (Some d ∷ deadlines) (record { thread = k; deadline = d })) e
     (head_first tick k d deadlines is_due (λ i deadline at now. not_before_first (record { thread = k; deadline = d }) a (record { thread = (k + 1) + i; deadline = deadline }) before (is.least i deadline at now)))
 placed false tick k d deadlines a rest is_due before e is = head_later tick k d deadlines a rest is_due before is
 
 taken : (tick k d : ℕ) (deadlines : List (Option ℕ)) (xs : List Expiry) → nat_le d tick ≡ true → in_order (due_of tick (k + 1) deadlines) ≡ xs → AreDueFrom tick (k + 1) deadlines xs
-    → AreDueFrom tick k (Some d ∷ deadlines) (in_order_with (record { thread = k; deadline = d }) xs)
+    → AreDueFrom tick k (Some d ∷ deadlines) (in_order_with is_before (record { thread = k; deadline = d }) xs)
 taken tick k d deadlines [] is_due e are =
     subst (IsHead tick k (Some d ∷ deadlines) (record { thread = k; deadline = d })) e
     (head_first tick k d deadlines is_due (λ i deadline at now. absurd (false≢true (sym (are i deadline at) ∙ now))))

@@ -8,8 +8,8 @@ use Rattle.ptk_words.specs.declared.threads.Thread.{Thread}
 use Rattle.ptk_words.specs.declared.threads.Wait.TheVariants.{ConditionWait}
 use Rattle.ptk_words_model.specs.State.{Mutex, Condition}
 use Rattle.ptk_words_model.specs.Mutex.{wait_of}
-use Rattle.ptk_words_model.specs.Condition.{mutex_named}
-use Rattle.ptk_words_locks.specs.Conditions.{condition_of_wait, HasRoom, waiters_on, AreConditions}
+use Rattle.ptk_words_model.specs.Condition.{mutex_of_condition_wait, waiters_on}
+use Rattle.ptk_words_locks.specs.Conditions.{condition_of_wait, HasRoom, AreConditions}
 use Rattle.ptk_words_locks.proofs.Pools.{each_set, each_changed, changed_own}
 use Rattle.ptk_words_locks.proofs.Lines.{in_push, own_push, still_push, without_other, in_without, distinct_push, distinct_without}
 use Rattle.ptk_words_locks.proofs.Conditions.{waits_on, names, off_names, IsGathered, AreReturnable, gathered_at, returnable_of, conditions_from, AreOtherWaits}
@@ -87,8 +87,8 @@ returnable_off : (t : ℕ) (before after : List (Option Thread)) (mutexes : List
 returnable_off t before after mutexes others now are =
     let ne : (u m : ℕ) → names (pool_get after u) ≡ Some m → u ≢ t = λ u m e same. none_on m (names (pool_get after t)) (off_names (wait_of (pool_get after t)) now) (ap (λ v. names (pool_get after v)) (sym same) ∙ e) in
     record {
-      used = λ u m e. are.used u m (sym (ap mutex_named (others u (ne u m e))) ∙ e);
-      room = λ u m e. are.room u m (sym (ap mutex_named (others u (ne u m e))) ∙ e);
+      used = λ u m e. are.used u m (sym (ap mutex_of_condition_wait (others u (ne u m e))) ∙ e);
+      room = λ u m e. are.room u m (sym (ap mutex_of_condition_wait (others u (ne u m e))) ∙ e);
     }
 
 one_on : (c d : ℕ) (o : Option ℕ) → o ≡ Some c → o ≡ Some d → d ≡ c
@@ -128,7 +128,7 @@ pub conditions_joined : (t c m : ℕ) (deadline : Option ℕ) (before after : Li
     → AreConditions before mutexes conditions → AreConditions after mutexes (pool_set conditions c (Some (record { waiters = waiters_on (pool_get conditions c) ++ t ∷ [] })))
 conditions_joined t c m deadline before after mutexes conditions others was waits used named room are =
     let now : waits_on (pool_get after t) ≡ Some c = ap condition_of_wait waits in
-    let own : (n : ℕ) → names (pool_get after t) ≡ Some n → n ≡ m = λ n e. one_on m n (names (pool_get after t)) (ap mutex_named waits) e in
+    let own : (n : ℕ) → names (pool_get after t) ≡ Some n → n ≡ m = λ n e. one_on m n (names (pool_get after t)) (ap mutex_of_condition_wait waits) e in
     conditions_from after mutexes (pool_set conditions c (Some (record { waiters = waiters_on (pool_get conditions c) ++ t ∷ [] })))
     (gathered_each (λ ts. ts ++ t ∷ []) c after conditions used
     (gathered_joined t c before after (waiters_on (pool_get conditions c)) others was now (gathered_any before c (pool_get conditions c) (gathered_at before mutexes conditions are c)))
@@ -136,11 +136,11 @@ conditions_joined t c m deadline before after mutexes conditions others was wait
     (record {
       used = λ u n e. elim (cases_eq u t) [
         | inl same ↦ subst (λ (j : ℕ). IsSome (pool_get mutexes j)) (sym (own n (ap (λ v. names (pool_get after v)) (sym same) ∙ e))) named
-        | inr ne ↦ are.named_used u n (sym (ap mutex_named (others u ne)) ∙ e)
+        | inr ne ↦ are.named_used u n (sym (ap mutex_of_condition_wait (others u ne)) ∙ e)
       ];
       room = λ u n e. elim (cases_eq u t) [
         | inl same ↦ subst (λ (v : ℕ). HasRoom v (pool_get mutexes n)) (sym same) (subst (λ (j : ℕ). HasRoom t (pool_get mutexes j)) (sym (own n (ap (λ v. names (pool_get after v)) (sym same) ∙ e))) room)
-        | inr ne ↦ are.room u n (sym (ap mutex_named (others u ne)) ∙ e)
+        | inr ne ↦ are.room u n (sym (ap mutex_of_condition_wait (others u ne)) ∙ e)
       ];
     })
 

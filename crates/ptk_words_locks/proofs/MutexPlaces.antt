@@ -7,7 +7,7 @@ use Rattle.ptk_words.specs.Pools.{pool_get, pool_set}
 use Rattle.ptk_words.specs.declared.threads.Thread.{Thread}
 use Rattle.ptk_words_model.specs.State.{Mutex}
 use Rattle.ptk_words_model.specs.Chain.{greatest_leading}
-use Rattle.ptk_words_model.specs.Priority.{awaited, ceiling_for, inheritor_of, assigned_of, held_of, next_of, effective_of}
+use Rattle.ptk_words_model.specs.Priority.{awaited, ceiling_for, inheritor_of, assigned_of, held_of, next_in_chain, effective_of}
 
 -- ---- one entry set
 
@@ -40,7 +40,7 @@ next_same : (f g : ℕ → Option ℕ) (o : Option ℕ) → ((n : ℕ) → f n �
 next_same f g None h = refl
 next_same f g (Some n) h = h n
 
-next_set : (threads : List (Option Thread)) (mutexes : List (Option Mutex)) (m t : ℕ) (x : Option Mutex) → inheritor_of x ≡ inheritor_of (pool_get mutexes m) → next_of threads (pool_set mutexes m x) t ≡ next_of threads mutexes t
+next_set : (threads : List (Option Thread)) (mutexes : List (Option Mutex)) (m t : ℕ) (x : Option Mutex) → inheritor_of x ≡ inheritor_of (pool_get mutexes m) → next_in_chain threads (pool_set mutexes m x) t ≡ next_in_chain threads mutexes t
 next_set threads mutexes m t x e =
     next_same (λ n. inheritor_of (pool_get (pool_set mutexes m x) n)) (λ n. inheritor_of (pool_get mutexes n)) (awaited (pool_get threads t)) (λ n. pool_set_same inheritor_of mutexes m n x e)
 
@@ -48,6 +48,6 @@ next_set threads mutexes m t x e =
 pub effective-set : (m : ℕ) (x : Option Mutex) (threads : List (Option Thread)) (mutexes : List (Option Mutex)) → inheritor_of x ≡ inheritor_of (pool_get mutexes m) → ((u : ℕ) → ceiling_for u x ≡ ceiling_for u (pool_get mutexes m))
     → effective_of threads (pool_set mutexes m x) ≡ effective_of threads mutexes
 effective-set m x threads mutexes inherits ceilings =
-    let next : next_of threads (pool_set mutexes m x) ≡ next_of threads mutexes = λ i t. next_set threads mutexes m t x inherits i in
+    let next : next_in_chain threads (pool_set mutexes m x) ≡ next_in_chain threads mutexes = λ i t. next_set threads mutexes m t x inherits i in
     let held : held_of threads (pool_set mutexes m x) ≡ held_of threads mutexes = λ i t. held_set threads mutexes m t x (ceilings t) i in
     λ i u. greatest_leading (length threads) (next i) (held i) u

@@ -7,7 +7,7 @@ use Rattle.ptk_words.specs.declared.threads.Wait.{Wait}
 use Rattle.ptk_words.specs.declared.threads.Wait.TheVariants.{SleepWait}
 use Rattle.ptk_words_model.specs.State.{Mutex, Locks}
 use Rattle.ptk_words_model.specs.Chain.{leads_to, greatest_leading}
-use Rattle.ptk_words_model.specs.Priority.{mutex_of_wait, awaited, inheritor_of, ceiling_for, next_of, held_of, effective_of, effective_priority, thread_at}
+use Rattle.ptk_words_model.specs.Priority.{mutex_of_wait, awaited, inheritor_of, ceiling_for, next_in_chain, held_of, effective_of, effective_priority, thread_at}
 use Rattle.ptk_words_model.specs.Schedule.{with_thread, after_wake, woken_with}
 use Rattle.ptk_words_model.specs.Mutex.{wait_of}
 use Rattle.ptk_words_locks.proofs.Pools.{length-changed}
@@ -25,7 +25,7 @@ pub on_awaits : (c : ℕ) (o : Option Thread) → waits_on o ≡ Some c → awai
 on_awaits c o e = awaits_by o ∙ ap mutex_of_wait (condition_wait c (wait_of o) e).waits
 
 -- a thread that waits for no mutex leads to none (pthread_mutexattr_getprotocol)
-pub next-none : (t : ℕ) (threads : List (Option Thread)) (mutexes : List (Option Mutex)) → awaited (pool_get threads t) ≡ None → next_of threads mutexes t ≡ None
+pub next-none : (t : ℕ) (threads : List (Option Thread)) (mutexes : List (Option Mutex)) → awaited (pool_get threads t) ≡ None → next_in_chain threads mutexes t ≡ None
 next-none t threads mutexes e = ap (option_and_then (λ m. inheritor_of (pool_get mutexes m))) e
 
 or_none : (b : Bool) → (b || false) ≡ b
@@ -37,8 +37,8 @@ leads_alone zero t u next e = refl
 leads_alone (suc n) t u next e = ap (λ o. t == u || unwrap_or (option_map (leads_to next u n) o) false) e ∙ or_none (t == u)
 
 -- so its chain holds itself alone: it raises no other thread
-pub raises_nobody : (n t u : ℕ) (threads : List (Option Thread)) (mutexes : List (Option Mutex)) → awaited (pool_get threads t) ≡ None → leads_to (next_of threads mutexes) u n t ≡ (t == u)
-raises_nobody n t u threads mutexes e = leads_alone n t u (next_of threads mutexes) (next-none t threads mutexes e)
+pub raises_nobody : (n t u : ℕ) (threads : List (Option Thread)) (mutexes : List (Option Mutex)) → awaited (pool_get threads t) ≡ None → leads_to (next_in_chain threads mutexes) u n t ≡ (t == u)
+raises_nobody n t u threads mutexes e = leads_alone n t u (next_in_chain threads mutexes) (next-none t threads mutexes e)
 
 -- ---- what changes no priority
 
@@ -53,7 +53,7 @@ effective-changed t f threads mutexes level waits =
     let after : List (Option Thread) = pool_changed t f threads in
     let waits_all : (u : ℕ) → awaited (pool_get after u) ≡ awaited (pool_get threads u) = changed_same awaited t f threads waits in
     let levels : (u : ℕ) → level_of (pool_get after u) ≡ level_of (pool_get threads u) = changed_same level_of t f threads level in
-    let next : next_of after mutexes ≡ next_of threads mutexes = λ i u. option_and_then (λ m. inheritor_of (pool_get mutexes m)) (waits_all u i) in
+    let next : next_in_chain after mutexes ≡ next_in_chain threads mutexes = λ i u. option_and_then (λ m. inheritor_of (pool_get mutexes m)) (waits_all u i) in
     let held : held_of after mutexes ≡ held_of threads mutexes = λ i u. fold (λ most m. max most (ceiling_for u m)) (levels u i) mutexes in
     λ i u. greatest_leading (length-changed t f threads i) (next i) (held i) u
 

@@ -13,10 +13,10 @@ use Rattle.ptk_words_model.specs.State.{Condition, Locks, Syncs}
 use Rattle.ptk_words_model.specs.Priority.{mutex_of_wait, awaited, thread_at, effective_priority}
 use Rattle.ptk_words_model.specs.Schedule.{at_tail_with, woken_with}
 use Rattle.ptk_words_model.specs.Mutex.{mutex_at, wait_of, move_reply, relock_move, after_wait, after_take, after_count, after_relock_move, after_relock}
-use Rattle.ptk_words_model.specs.Condition.{condition_waiters, mutex_named, after_unblock_for, after_unblock, after_signal_to, after_signal, after_broadcast}
+use Rattle.ptk_words_model.specs.Condition.{condition_waiters, mutex_of_condition_wait, after_unblock_for, after_unblock, after_signal_to, after_signal, after_broadcast, waiters_on}
 use Rattle.ptk_words_model.specs.Unwinding.{is_alive}
 use Rattle.ptk_words_locks.specs.Locks.{is_ready}
-use Rattle.ptk_words_locks.specs.Conditions.{condition_of_wait, waiters_on, AreConditions, AreSyncs}
+use Rattle.ptk_words_locks.specs.Conditions.{condition_of_wait, AreConditions, AreSyncs}
 use Rattle.ptk_words_locks.proofs.Pools.{changed_own, changed_other}
 use Rattle.ptk_words_locks.proofs.Lines.{first_in}
 use Rattle.ptk_words_locks.proofs.Lined.{not_ready_out, not_ready_stopped, lined_others}
@@ -130,7 +130,7 @@ pub syncs_relock : (interval t c m : ℕ) (deadline reply : Option ℕ) (running
     → AreSyncs interval running waiters (syncs_with (after_relock t m reply syncs.locks) (without_waiter_of t c syncs.conditions))
 syncs_relock interval t c m deadline reply running waiters syncs waits are =
     relock_move_of interval (relock_move t (mutex_at syncs.locks m)) t c m deadline reply running waiters syncs waits
-    (may_relock t (mutex_at syncs.locks m) (are.conditions.named_used t m (ap mutex_named waits)) (are.conditions.room t m (ap mutex_named waits))) are
+    (may_relock t (mutex_at syncs.locks m) (are.conditions.named_used t m (ap mutex_of_condition_wait waits)) (are.conditions.room t m (ap mutex_of_condition_wait waits))) are
 
 -- ---- unblock, signal and broadcast
 
@@ -139,7 +139,7 @@ pub syncs_unblock : (interval t c : ℕ) (reply : Option ℕ) (running : Option 
     → AreSyncs interval running waiters (after_unblock t c reply syncs)
 syncs_unblock interval t c reply running waiters syncs on are =
     let is : IsConditionWait c (wait_of (thread_at syncs.locks t)) = condition_wait c (wait_of (thread_at syncs.locks t)) on in
-    subst (λ (o : Option ℕ). AreSyncs interval running waiters (after_unblock_for t c reply o syncs)) (sym (ap mutex_named is.waits))
+    subst (λ (o : Option ℕ). AreSyncs interval running waiters (after_unblock_for t c reply o syncs)) (sym (ap mutex_of_condition_wait is.waits))
     (syncs_relock interval t c is.mutex is.deadline reply running waiters syncs is.waits are)
 
 pub syncs_signal_to : (interval c : ℕ) (next : Option ℕ) (running : Option ℕ) (waiters : List ℕ) (syncs : Syncs) → first_of_greatest (effective_priority syncs.locks) (condition_waiters syncs c) ≡ next → AreSyncs interval running waiters syncs

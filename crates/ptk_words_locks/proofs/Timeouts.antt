@@ -11,9 +11,9 @@ use Rattle.ptk_words_model.specs.State.{Syncs, Part}
 use Rattle.ptk_words_model.specs.Priority.{mutex_of_wait, thread_at}
 use Rattle.ptk_words_model.specs.Schedule.{woken_with, after_wake}
 use Rattle.ptk_words_model.specs.Mutex.{wait_of, without_mutex_waiter}
-use Rattle.ptk_words_model.specs.Condition.{condition_waiters}
+use Rattle.ptk_words_model.specs.Condition.{condition_waiters, waiters_on}
 use Rattle.ptk_words_model.specs.Withdrawal.{Expiry, in_order, due, after_timeout, after_expiries}
-use Rattle.ptk_words_locks.specs.Conditions.{condition_of_wait, waiters_on, AreSyncs}
+use Rattle.ptk_words_locks.specs.Conditions.{condition_of_wait, AreSyncs}
 use Rattle.ptk_words_locks.proofs.Threads.{waking_woken, awaits_by}
 use Rattle.ptk_words_locks.proofs.Handovers.{woken_out, held_leave}
 use Rattle.ptk_words_locks.proofs.Gathered.{conditions_empty}

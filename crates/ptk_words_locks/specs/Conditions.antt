@@ -1,37 +1,28 @@
 -- What holds of a partition's threads, mutexes and condition variables between moves, where waits may have deadlines.
-use Rattle.std.specs.Prelude.{IsSome, ◌≡◌, ℕ, ◌<◌, true, false, List, [], nat_eq, Option, Some, None, option_map, unwrap_or}
+use Rattle.std.specs.Prelude.{IsSome, ◌≡◌, ℕ, ◌<◌, true, false, List, nat_eq, Option, Some, None}
 use Rattle.std.specs.List.{IsDistinct}
 use Rattle.ptk_words.specs.Names.{ConditionNumber, ThreadNumber}
 use Rattle.ptk_words.specs.Pools.{pool_get, is_in}
 use Rattle.ptk_words.specs.declared.TheConstants.{COUNT_LIMIT}
 use Rattle.ptk_words.specs.declared.threads.Thread.{Thread}
 use Rattle.ptk_words.specs.declared.threads.Wait.{Wait}
-use Rattle.ptk_words.specs.declared.threads.Wait.TheVariants.{InputWait, SleepWait, JoinWait, MutexWait, ConditionWait, RelockWait}
+use Rattle.ptk_words.specs.declared.threads.Wait.TheVariants.{InputWait, JoinWait, ConditionWait}
 use Rattle.ptk_words_model.specs.declared.LockMove.TheVariants.{Counts}
 use Rattle.ptk_words_model.specs.State.{Mutex, Condition, Syncs}
 use Rattle.ptk_words_model.specs.Priority.{thread_at}
 use Rattle.ptk_words_model.specs.Mutex.{wait_of, waiters_of, count_of, relock_move}
-use Rattle.ptk_words_model.specs.Condition.{mutex_named}
+use Rattle.ptk_words_model.specs.Condition.{mutex_of_condition_wait, waiters_on}
 use Rattle.ptk_words_model.specs.Unwinding.{is_alive}
 use Rattle.ptk_words_locks.specs.Locks.{joiner_of, used_of, AreMutexes, AreLined}
 
 -- the condition variable that a wait is on (pthread_cond_wait)
 abbrev pub condition_of_wait : Option Wait → Option ConditionNumber
-condition_of_wait None = None
-condition_of_wait (Some InputWait) = None
-condition_of_wait (Some (SleepWait deadline)) = None
-condition_of_wait (Some (JoinWait u)) = None
-condition_of_wait (Some (MutexWait m deadline)) = None
 condition_of_wait (Some (ConditionWait c m deadline)) = Some c
-condition_of_wait (Some (RelockWait m reply)) = None
+condition_of_wait wait = None
 
 -- where a re-lock of the thread counts up, the count is below the limit (pthread_cond_wait, PTHREAD_MUTEX_RECURSIVE)
 abbrev pub HasRoom : ThreadNumber → Option Mutex → Type 0
 HasRoom t x = relock_move t x ≡ Counts → count_of x < COUNT_LIMIT
-
--- the waiters of a condition variable, none of a free number (pthread_cond_wait)
-abbrev pub waiters_on : Option Condition → List ThreadNumber
-waiters_on x = unwrap_or (option_map (λ condition. condition.waiters) x) []
 
 -- the thread is in no list of waiters (own)
 pub record IsNoWaiter (t : ℕ) (mutexes : List (Option Mutex)) (conditions : List (Option Condition)) : Type 0 where
@@ -43,8 +34,8 @@ pub record AreConditions (threads : List (Option Thread)) (mutexes : List (Optio
   pub waiters_wait : (c t : ℕ) → is_in t (waiters_on (pool_get conditions c)) ≡ true → condition_of_wait (wait_of (pool_get threads t)) ≡ Some c
   pub waits_listed : (c t : ℕ) → condition_of_wait (wait_of (pool_get threads t)) ≡ Some c → is_in t (waiters_on (pool_get conditions c)) ≡ true
   pub waiters_distinct : (c : ℕ) → IsDistinct nat_eq (waiters_on (pool_get conditions c))
-  pub named_used : (t m : ℕ) → mutex_named (wait_of (pool_get threads t)) ≡ Some m → IsSome (pool_get mutexes m)
-  pub room : (t m : ℕ) → mutex_named (wait_of (pool_get threads t)) ≡ Some m → HasRoom t (pool_get mutexes m)
+  pub named_used : (t m : ℕ) → mutex_of_condition_wait (wait_of (pool_get threads t)) ≡ Some m → IsSome (pool_get mutexes m)
+  pub room : (t m : ℕ) → mutex_of_condition_wait (wait_of (pool_get threads t)) ≡ Some m → HasRoom t (pool_get mutexes m)
 
 -- the console's waiters wait for input, a thread's joiner waits for its end, and each such wait is listed so; an ended thread waits for nothing (pthread_join, pthread_exit)
 pub record AreListed (threads : List (Option Thread)) (waiters : List ℕ) : Type 0 where

@@ -1,12 +1,18 @@
-//! What holds of a partition's threads, line, waits, mutexes and condition variables between moves, as laws over plain
-//! lists: of pools and of lines, of the threads in the line, of those that wait, of the mutexes with their waiters and
-//! owners, and of the condition variables with theirs. `specs/Locks` says it of the line and the mutexes,
-//! `specs/Conditions` of the other waits and of the condition variables, and of all together (`AreSyncs`);
-//! `specs/Deadlines` says whose deadlines a move ends, and `specs/Expiries` which deadline is next. The functions
-//! promise that locks, waits, wakings, the end of an owner and the expiries of a tick keep it, and that those expiries
-//! come one at a time; `proofs/` has the same for each move of the mutexes and of the condition variables, those of the
-//! mutexes with whatever else holds of threads and mutexes (`Rest` in `proofs/Held`). Below stands `ptk_words_model`;
-//! above, `ptk_words_well` composes them to what holds of a whole partition.
+//! What holds of a partition's threads, line, waits, mutexes and condition variables between moves; that the moves keep
+//! it; and whose deadlines each move begins and ends.
+//!
+//! - `mutex_moves_keep_syncs`, `owner_end_keeps_syncs`: lock, trylock, unlock and an owner's end leave a partition's
+//!   threads, line, waits, mutexes and condition variables whole, and an ended owner owns no mutex.
+//! - `waits_keep_syncs`, `wakings_keep_syncs`, `expiries_keep_syncs` (sleeps, timed locks, waits on condition
+//!   variables, signals, broadcasts and deadlines leave these and condition variables whole, and whose deadlines each
+//!   begins and ends), `expiries_one_at_a_time` (the expiries of a tick are the least due one and then those of the
+//!   state after it).
+//!
+//! `specs/Locks` says it of the line and the mutexes, `specs/Conditions` of the other waits and of the condition
+//! variables, and of all together (`AreSyncs`); `specs/Deadlines` says whose deadlines a move ends, and
+//! `specs/Expiries` which deadline is next. `proofs/` has the same for each move of the mutexes and of the condition
+//! variables, those of the mutexes with whatever else holds of threads and mutexes (`Rest` in `proofs/Held`). Below is
+//! `ptk_words_model`; above, `ptk_words_well` composes them to what holds of a whole partition.
 #![tactic(auto)]
 
 ghost use Rattle.std.specs.Prelude.{◌≡◌, ℕ, List, Option, Some};

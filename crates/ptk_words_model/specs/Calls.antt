@@ -1,15 +1,12 @@
 -- Calls: what a call is given, what it comes to, and the checks that several calls make.
-use Rattle.std.specs.Prelude.{ℕ, ◌+◌, ◌%◌, Bool, false, ◌&&◌, List, [], ◌∷◌, length, ◌==◌, nat_le, if◌then◌else◌, Option, Some, None, option_map, unwrap_or, is_some}
+use Rattle.std.specs.Prelude.{ℕ, ◌+◌, ◌%◌, Bool, false, ◌&&◌, List, [], ◌∷◌, length, ◌==◌, nat_le, Option, Some, None, option_map, unwrap_or}
 use Rattle.ptk_words.specs.Names.{ConditionNumber, MutexNumber, Pointer, ThreadNumber, Word}
-use Rattle.ptk_words.specs.Words.{word_at, with_word}
-use Rattle.ptk_words.specs.Pools.{pool_get, pool_set, numbered, least_free}
+use Rattle.ptk_words.specs.Words.{with_word}
+use Rattle.ptk_words.specs.Pools.{pool_set, numbered}
 use Rattle.ptk_words.specs.Faults.{errno_number}
 use Rattle.ptk_words.specs.declared.TheConstants.{CANCELED}
 use Rattle.ptk_words.specs.declared.faults.Errno.{Errno}
-use Rattle.ptk_words.specs.declared.faults.Errno.TheVariants.{ESRCH, ENOMEM, EINVAL, ENOSYS}
-use Rattle.ptk_words.specs.declared.mutexes.MutexKind.TheVariants.{Normal}
-use Rattle.ptk_words.specs.declared.mutexes.Protocol.TheVariants.{NoProtocol}
-use Rattle.ptk_words.specs.declared.threads.Thread.{Thread}
+use Rattle.ptk_words.specs.declared.faults.Errno.TheVariants.{ENOSYS}
 use Rattle.ptk_words.specs.declared.threads.Wait.{Wait}
 use Rattle.ptk_words_model.specs.declared.Invocation.{Invocation}
 use Rattle.ptk_words_model.specs.declared.Reply.{Reply}
@@ -17,7 +14,6 @@ use Rattle.ptk_words_model.specs.declared.Reply.TheVariants.{Done, Blocked, Unwi
 use Rattle.ptk_words_model.specs.State.{Mutex, Condition, Part, with_locks, with_syncs}
 use Rattle.ptk_words_model.specs.Priority.{thread_at}
 use Rattle.ptk_words_model.specs.Schedule.{with_thread, with_reply}
-use Rattle.ptk_words_model.specs.Mutex.{mutex_at, new_mutex}
 use Rattle.ptk_words_model.specs.Unwinding.{after_unwinding_start, phase_of}
 use Rattle.ptk_words.specs.Threads.{is_normal}
 
@@ -86,31 +82,3 @@ with_pool_condition c condition s = with_syncs (λ syncs. record syncs { conditi
 -- the word stored at the pointer
 abbrev pub with_stored : Pointer → Word → Part → Part
 with_stored pointer word s = record s { memory = with_word s.memory pointer word }
-
--- a mutex of default attributes at the least free number, which the word then holds (PTHREAD_MUTEX_INITIALIZER; own, ENOMEM)
-abbrev pub set_up_mutex : Option MutexNumber → Pointer → Invocation → Part → (MutexNumber → Part → Answer) → Answer
-set_up_mutex None pointer i s next = refusal ENOMEM i s
-set_up_mutex (Some m) pointer i s next = next m (with_stored pointer m (with_pool_mutex m (Some (new_mutex Normal NoProtocol false)) s))
-
--- the mutex of a word: 0 sets one up, the number of a mutex in use names it (pthread_mutex_init; own, EINVAL)
-abbrev pub using_mutex : Pointer → Invocation → Part → (MutexNumber → Part → Answer) → Answer
-using_mutex pointer i s next =
-    if word_at s.memory pointer == 0 then set_up_mutex (least_free s.mutexes) pointer i s next
-    else if is_some (mutex_at s.locks (word_at s.memory pointer)) then next (word_at s.memory pointer) s
-    else refusal EINVAL i s
-
--- a condition variable at the least free number, which the word then holds (PTHREAD_COND_INITIALIZER; own, ENOMEM)
-abbrev pub set_up_condition : Option ConditionNumber → Pointer → Invocation → Part → (ConditionNumber → Part → Answer) → Answer
-set_up_condition None pointer i s next = refusal ENOMEM i s
-set_up_condition (Some c) pointer i s next = next c (with_stored pointer c (with_pool_condition c (Some (record { waiters = [] })) s))
-
--- the condition variable of a word: 0 sets one up, the number of one in use names it (pthread_cond_init; own, EINVAL)
-abbrev pub using_condition : Pointer → Invocation → Part → (ConditionNumber → Part → Answer) → Answer
-using_condition pointer i s next =
-    if word_at s.memory pointer == 0 then set_up_condition (least_free s.conditions) pointer i s next
-    else if is_some (pool_get s.conditions (word_at s.memory pointer)) then next (word_at s.memory pointer) s
-    else refusal EINVAL i s
-
--- the thread of a number in use (XSH 2.9.2; own, ESRCH)
-abbrev pub using_thread : ThreadNumber → Invocation → Part → (Thread → Answer) → Answer
-using_thread t i s next = unwrap_or (option_map next (thread_at s.locks t)) (refusal ESRCH i s)

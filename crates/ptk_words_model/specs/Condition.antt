@@ -5,31 +5,30 @@ use Rattle.std.specs.List.{list_any}
 use Rattle.ptk_words.specs.Names.{ConditionNumber, MutexNumber, ThreadNumber, Tick, Word}
 use Rattle.ptk_words.specs.Pools.{pool_get, pool_set, without, first_of_greatest}
 use Rattle.ptk_words.specs.declared.threads.Wait.{Wait}
-use Rattle.ptk_words.specs.declared.threads.Wait.TheVariants.{InputWait, SleepWait, JoinWait, MutexWait, ConditionWait, RelockWait}
-use Rattle.ptk_words_model.specs.State.{Locks, Syncs}
+use Rattle.ptk_words.specs.declared.threads.Wait.TheVariants.{ConditionWait}
+use Rattle.ptk_words_model.specs.State.{Condition, Locks, Syncs}
 use Rattle.ptk_words_model.specs.Priority.{thread_at, effective_priority}
 use Rattle.ptk_words_model.specs.Schedule.{with_thread}
 use Rattle.ptk_words_model.specs.Mutex.{after_unlock, after_relock, wait_of}
 
 -- ---- parts
 
--- the waiters of a condition variable (pthread_cond_wait)
+-- the waiters of a condition variable, none of a free number (pthread_cond_wait)
+abbrev pub waiters_on : Option Condition → List ThreadNumber
+waiters_on x = unwrap_or (option_map (λ condition. condition.waiters) x) []
+
+-- the waiters of the condition variable of a number (pthread_cond_wait)
 abbrev pub condition_waiters : Syncs → ConditionNumber → List ThreadNumber
-condition_waiters syncs c = unwrap_or (option_map (λ condition. condition.waiters) (pool_get syncs.conditions c)) []
+condition_waiters syncs c = waiters_on (pool_get syncs.conditions c)
 
 -- the condition variable with these waiters
 abbrev pub with_condition_waiters : ConditionNumber → List ThreadNumber → Syncs → Syncs
 with_condition_waiters c waiters syncs = record syncs { conditions = pool_set syncs.conditions c (Some (record { waiters = waiters })) }
 
 -- the mutex that a condition wait names (pthread_cond_wait)
-abbrev pub mutex_named : Option Wait → Option MutexNumber
-mutex_named None = None
-mutex_named (Some InputWait) = None
-mutex_named (Some (SleepWait deadline)) = None
-mutex_named (Some (JoinWait u)) = None
-mutex_named (Some (MutexWait m deadline)) = None
-mutex_named (Some (ConditionWait c m deadline)) = Some m
-mutex_named (Some (RelockWait m reply)) = None
+abbrev pub mutex_of_condition_wait : Option Wait → Option MutexNumber
+mutex_of_condition_wait (Some (ConditionWait c m deadline)) = Some m
+mutex_of_condition_wait wait = None
 
 -- the mutex named is m
 abbrev pub is_named : MutexNumber → Option MutexNumber → Bool
@@ -38,12 +37,12 @@ is_named m (Some n) = n == m
 
 -- a thread waits on a condition variable and is to have the mutex again (pthread_mutex_destroy)
 abbrev pub names_mutex : Locks → MutexNumber → Bool
-names_mutex locks m = list_any (λ thread. is_named m (mutex_named (wait_of thread))) locks.threads
+names_mutex locks m = list_any (λ thread. is_named m (mutex_of_condition_wait (wait_of thread))) locks.threads
 
 -- a waiter of the condition variable names another mutex (pthread_cond_wait, EINVAL)
 abbrev pub names_another : Syncs → ConditionNumber → MutexNumber → Bool
 names_another syncs c m =
-    list_any (λ t. not (is_named m (mutex_named (wait_of (thread_at syncs.locks t))))) (condition_waiters syncs c)
+    list_any (λ t. not (is_named m (mutex_of_condition_wait (wait_of (thread_at syncs.locks t))))) (condition_waiters syncs c)
 
 -- ---- moves
 
@@ -61,7 +60,7 @@ after_unblock_for t c reply (Some m) syncs =
 
 -- the waiter has left the condition variable and re-locks its mutex, with this reply (pthread_cond_wait)
 abbrev pub after_unblock : ThreadNumber → ConditionNumber → Option Word → Syncs → Syncs
-after_unblock t c reply syncs = after_unblock_for t c reply (mutex_named (wait_of (thread_at syncs.locks t))) syncs
+after_unblock t c reply syncs = after_unblock_for t c reply (mutex_of_condition_wait (wait_of (thread_at syncs.locks t))) syncs
 
 -- the waiter, if there is one, is unblocked with 0 (pthread_cond_signal)
 abbrev pub after_signal_to : Option ThreadNumber → ConditionNumber → Syncs → Syncs

@@ -74,7 +74,7 @@ late_wait_answer m = do
   s ← state
   late_answer (relock_move i.caller (mutex_at s.locks m)) m
 
--- a wait with a deadline (pthread_cond_timedwait)
+-- a wait with a deadline; the time is read after both words' objects were set up, which may have written over it (pthread_cond_timedwait; own)
 abbrev pub cond_timedwait : Row
 cond_timedwait = do
   i ← registers

@@ -9,7 +9,7 @@ use Rattle.ptk_words.specs.Faults.{errno_number}
 use Rattle.ptk_words.specs.declared.faults.Errno.TheVariants.{EAGAIN, EBUSY, EDEADLK, EINVAL, EOWNERDEAD, ENOTRECOVERABLE}
 use Rattle.ptk_words.specs.declared.threads.Thread.{Thread}
 use Rattle.ptk_words.specs.declared.threads.Wait.{Wait}
-use Rattle.ptk_words.specs.declared.threads.Wait.TheVariants.{InputWait, SleepWait, JoinWait, MutexWait, ConditionWait, RelockWait}
+use Rattle.ptk_words.specs.declared.threads.Wait.TheVariants.{MutexWait, RelockWait}
 use Rattle.ptk_words.specs.declared.mutexes.MutexKind.{MutexKind}
 use Rattle.ptk_words.specs.declared.mutexes.MutexKind.TheVariants.{Normal, ErrorCheck, Recursive}
 use Rattle.ptk_words.specs.declared.mutexes.Protocol.{Protocol}
@@ -184,13 +184,9 @@ wait_of (Some thread) = thread.wait
 
 -- what a mutex's waiter is to be told: of a lock 0, of a re-lock its kept reply, none to a cancelled thread; no other wait is for a mutex (pthread_mutex_lock, pthread_cond_wait)
 abbrev pub kept_reply : Option Wait → Option Word
-kept_reply None = None
-kept_reply (Some InputWait) = None
-kept_reply (Some (SleepWait deadline)) = None
-kept_reply (Some (JoinWait u)) = None
 kept_reply (Some (MutexWait m deadline)) = Some 0
-kept_reply (Some (ConditionWait c m deadline)) = None
 kept_reply (Some (RelockWait m reply)) = reply
+kept_reply wait = None
 
 -- the waiter is woken, and told of this move what its wait kept (pthread_mutex_unlock)
 abbrev pub handed : LockMove → Thread → Thread
@@ -260,23 +256,15 @@ after_unlock m locks =
 
 -- ---- re-lock
 
--- the move after a condition wait: only a mutex that can't be locked any more refuses it (pthread_cond_wait, ENOTRECOVERABLE; own)
+-- the move after a condition wait: only a mutex that can't be locked any more refuses it. One's own mutex is counted up, and the wait's reply stays, also where the mutex is inconsistent: its owner had EOWNERDEAD when it locked it (pthread_cond_wait, ENOTRECOVERABLE; own)
 abbrev pub relock_move : ThreadNumber → Option Mutex → LockMove
 relock_move t None = Waits
 relock_move t (Some m) = owner_move m.owner t (record { of_free = free_move m.soundness; of_own = Counts; of_another = Waits })
 
--- the blocked thread has made the move and is woken, told of the move what it is to be told (pthread_cond_wait; own)
-abbrev pub after_relock_end : LockMove → ThreadNumber → MutexNumber → Option Word → Locks → Locks
-after_relock_end move t m reply locks =
-    after_wake t (option_to_list (move_reply move reply)) (after_move move t m (RelockWait m reply) locks)
-
--- the blocked thread waits for the mutex, or goes on with it, or without it where it can't be locked any more (pthread_cond_wait; own)
+-- the blocked thread waits for the mutex, or else makes the move and is woken, told of the move what it is to be told (pthread_cond_wait; own)
 abbrev pub after_relock_move : LockMove → ThreadNumber → MutexNumber → Option Word → Locks → Locks
-after_relock_move Takes t m reply locks = after_relock_end Takes t m reply locks
-after_relock_move Recovers t m reply locks = after_relock_end Recovers t m reply locks
-after_relock_move Counts t m reply locks = after_relock_end Counts t m reply locks
 after_relock_move Waits t m reply locks = after_wait t m (RelockWait m reply) locks
-after_relock_move (Refuses e) t m reply locks = after_relock_end (Refuses e) t m reply locks
+after_relock_move move t m reply locks = after_wake t (option_to_list (move_reply move reply)) (after_move move t m (RelockWait m reply) locks)
 
 -- the blocked thread re-locks the mutex (pthread_cond_wait; own)
 abbrev pub after_relock : ThreadNumber → MutexNumber → Option Word → Locks → Locks

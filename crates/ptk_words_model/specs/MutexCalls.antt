@@ -12,7 +12,7 @@ use Rattle.ptk_words.specs.declared.mutexes.Soundness.{Soundness}
 use Rattle.ptk_words.specs.declared.mutexes.Soundness.TheVariants.{Consistent, Inconsistent, Unrecoverable}
 use Rattle.ptk_words.specs.declared.threads.Wait.TheVariants.{MutexWait}
 use Rattle.ptk_words_model.specs.declared.LockMove.{LockMove}
-use Rattle.ptk_words_model.specs.declared.LockMove.TheVariants.{Takes, Recovers, Counts, Waits, Refuses}
+use Rattle.ptk_words_model.specs.declared.LockMove.TheVariants.{Waits, Refuses}
 use Rattle.ptk_words_model.specs.State.{Mutex}
 use Rattle.ptk_words_model.specs.Mutex.{mutex_at, new_mutex, is_free, owns, with_soundness, lock_move, trylock_move, after_move, move_reply, after_unlock}
 use Rattle.ptk_words_model.specs.Condition.{names_mutex}
@@ -59,23 +59,17 @@ abbrev pub is_locked : Option Mutex → Bool
 is_locked None = false
 is_locked (Some m) = not (is_free m.owner)
 
--- the number of a mutex that is neither locked nor named by a waiter is free, and the word names none (pthread_mutex_destroy, EBUSY)
-abbrev pub destroy_named : MutexNumber → Row
-destroy_named m = do
-  i ← registers
-  s ← state
-  refuse EBUSY when is_locked (mutex_at s.locks m) || names_mutex s.locks m
-  change (with_pool_mutex m None)
-  change (with_stored i.a0 DESTROYED)
-  succeed
-
 -- the mutex of a word is destroyed (pthread_mutex_destroy)
 abbrev pub mutex_destroy : Row
 mutex_destroy = do
   i ← registers
   readable i.a0 4
   m ← mutex_named i.a0
-  destroy_named m
+  s ← state
+  refuse EBUSY when is_locked (mutex_at s.locks m) || names_mutex s.locks m
+  change (with_pool_mutex m None)
+  change (with_stored i.a0 DESTROYED)
+  succeed
 
 -- the caller makes its move on the mutex; where it waits, until the deadline if there is one (pthread_mutex_lock, pthread_mutex_timedlock)
 abbrev pub make_move : LockMove → MutexNumber → Option Tick → Row
@@ -84,27 +78,14 @@ make_move move m deadline = do
   change_locks (after_move move i.caller m (MutexWait m deadline))
   reply_if_any (move_reply move (Some 0))
 
--- the caller's move of lock on the mutex (pthread_mutex_lock)
-abbrev pub lock_named : MutexNumber → Row
-lock_named m = do
-  i ← registers
-  s ← state
-  make_move (lock_move s.locks i.caller (mutex_at s.locks m)) m None
-
 -- the mutex of a word is locked (pthread_mutex_lock)
 abbrev pub mutex_lock : Row
 mutex_lock = do
   i ← registers
   readable i.a0 4
   m ← mutex_named i.a0
-  lock_named m
-
--- the caller's move of trylock on the mutex (pthread_mutex_trylock)
-abbrev pub trylock_named : MutexNumber → Row
-trylock_named m = do
-  i ← registers
   s ← state
-  make_move (trylock_move s.locks i.caller (mutex_at s.locks m)) m None
+  make_move (lock_move s.locks i.caller (mutex_at s.locks m)) m None
 
 -- the mutex of a word is locked without waiting (pthread_mutex_trylock)
 abbrev pub mutex_trylock : Row
@@ -112,7 +93,8 @@ mutex_trylock = do
   i ← registers
   readable i.a0 4
   m ← mutex_named i.a0
-  trylock_named m
+  s ← state
+  make_move (trylock_move s.locks i.caller (mutex_at s.locks m)) m None
 
 -- a wait until this time, begun at the tick: refused for a bad time or a deadline already reached (pthread_mutex_timedlock, EINVAL, ETIMEDOUT)
 abbrev pub timed_wait_move : Timespec → Tick → LockMove
@@ -123,13 +105,10 @@ timed_wait_move time tick =
 
 -- the move of a timed lock: the time is looked at only where the lock would block (pthread_mutex_timedlock)
 abbrev pub timed_move : LockMove → Timespec → Tick → LockMove
-timed_move Takes time tick = Takes
-timed_move Recovers time tick = Recovers
-timed_move Counts time tick = Counts
 timed_move Waits time tick = timed_wait_move time tick
-timed_move (Refuses e) time tick = Refuses e
+timed_move move time tick = move
 
--- the move of lock, with a deadline (pthread_mutex_timedlock)
+-- the move of lock, with a deadline; the time is read after the mutex of the word was set up, which may have written over it (pthread_mutex_timedlock; own)
 abbrev pub mutex_timedlock : Row
 mutex_timedlock = do
   i ← registers
@@ -140,22 +119,16 @@ mutex_timedlock = do
   let time = timespec_at s.memory i.a1
   make_move (timed_move (lock_move s.locks i.caller (mutex_at s.locks m)) time i.tick) m (Some (deadline_of time))
 
--- an owner's unlock of the mutex (pthread_mutex_unlock, EPERM; own for NORMAL)
-abbrev pub unlock_named : MutexNumber → Row
-unlock_named m = do
-  i ← registers
-  s ← state
-  refuse EPERM unless owns i.caller (mutex_at s.locks m)
-  change_locks (after_unlock m)
-  succeed
-
 -- the mutex of a word is unlocked (pthread_mutex_unlock)
 abbrev pub mutex_unlock : Row
 mutex_unlock = do
   i ← registers
   readable i.a0 4
   m ← mutex_named i.a0
-  unlock_named m
+  s ← state
+  refuse EPERM unless owns i.caller (mutex_at s.locks m)
+  change_locks (after_unlock m)
+  succeed
 
 -- an owner ended, and the mutex was not made consistent since (pthread_mutex_consistent)
 abbrev pub is_inconsistent : Soundness → Bool
@@ -168,20 +141,14 @@ abbrev pub is_repairable : Option Mutex → Bool
 is_repairable None = false
 is_repairable (Some m) = m.is_robust && is_inconsistent m.soundness
 
--- the owner has made sound again what the mutex guards (pthread_mutex_consistent, EINVAL; own, EPERM)
-abbrev pub consistent_named : MutexNumber → Row
-consistent_named m = do
-  i ← registers
-  s ← state
-  refuse EINVAL unless is_repairable (mutex_at s.locks m)
-  refuse EPERM unless owns i.caller (mutex_at s.locks m)
-  change_locks (with_soundness Consistent m)
-  succeed
-
 -- the mutex of a word is made consistent (pthread_mutex_consistent)
 abbrev pub mutex_consistent : Row
 mutex_consistent = do
   i ← registers
   readable i.a0 4
   m ← mutex_named i.a0
-  consistent_named m
+  s ← state
+  refuse EINVAL unless is_repairable (mutex_at s.locks m)
+  refuse EPERM unless owns i.caller (mutex_at s.locks m)
+  change_locks (with_soundness Consistent m)
+  succeed

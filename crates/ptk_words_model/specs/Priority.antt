@@ -4,7 +4,7 @@ use Rattle.ptk_words.specs.Names.{MutexNumber, Priority, ThreadNumber}
 use Rattle.ptk_words.specs.Pools.{pool_get, numbers_of}
 use Rattle.ptk_words.specs.declared.threads.Thread.{Thread}
 use Rattle.ptk_words.specs.declared.threads.Wait.{Wait}
-use Rattle.ptk_words.specs.declared.threads.Wait.TheVariants.{InputWait, SleepWait, JoinWait, MutexWait, ConditionWait, RelockWait}
+use Rattle.ptk_words.specs.declared.threads.Wait.TheVariants.{MutexWait, RelockWait}
 use Rattle.ptk_words.specs.declared.mutexes.Protocol.{Protocol}
 use Rattle.ptk_words.specs.declared.mutexes.Protocol.TheVariants.{NoProtocol, Inherit, Protect}
 use Rattle.ptk_words.specs.declared.mutexes.Owner.{Owner}
@@ -47,13 +47,9 @@ held_of threads mutexes t = fold (λ most m. max most (ceiling_for t m)) (assign
 
 -- the mutex that a wait is for; a condition wait is for none (pthread_mutex_lock, pthread_cond_wait)
 abbrev pub mutex_of_wait : Option Wait → Option MutexNumber
-mutex_of_wait None = None
-mutex_of_wait (Some InputWait) = None
-mutex_of_wait (Some (SleepWait deadline)) = None
-mutex_of_wait (Some (JoinWait u)) = None
 mutex_of_wait (Some (MutexWait m deadline)) = Some m
-mutex_of_wait (Some (ConditionWait c m deadline)) = None
 mutex_of_wait (Some (RelockWait m reply)) = Some m
+mutex_of_wait wait = None
 
 -- the mutex that a thread waits for (pthread_mutex_lock, pthread_cond_wait)
 abbrev pub awaited : Option Thread → Option MutexNumber
@@ -74,12 +70,12 @@ inheritor_of None = None
 inheritor_of (Some m) = inheritor m.protocol m.owner
 
 -- the next thread in a chain: the owner of the INHERIT mutex that the thread waits for (pthread_mutexattr_getprotocol)
-abbrev pub next_of : List (Option Thread) → List (Option Mutex) → ThreadNumber → Option ThreadNumber
-next_of threads mutexes t = option_and_then (λ m. inheritor_of (pool_get mutexes m)) (awaited (pool_get threads t))
+abbrev pub next_in_chain : List (Option Thread) → List (Option Mutex) → ThreadNumber → Option ThreadNumber
+next_in_chain threads mutexes t = option_and_then (λ m. inheritor_of (pool_get mutexes m)) (awaited (pool_get threads t))
 
 -- effective priority: the greatest held priority of any thread whose chain holds t (pthread_mutexattr_getprotocol)
 abbrev pub effective_of : List (Option Thread) → List (Option Mutex) → ThreadNumber → Priority
-effective_of threads mutexes t = greatest_leading (length threads) (next_of threads mutexes) (held_of threads mutexes) t
+effective_of threads mutexes t = greatest_leading (length threads) (next_in_chain threads mutexes) (held_of threads mutexes) t
 
 -- the effective priority of a thread of these locks (pthread_mutexattr_getprotocol)
 abbrev pub effective_priority : Locks → ThreadNumber → Priority
@@ -91,5 +87,5 @@ effective_priorities threads mutexes = map (effective_of threads mutexes) (numbe
 
 -- n is the greatest held priority of the threads whose chain holds t (pthread_mutexattr_getprotocol)
 pub record IsEffectivePriority (threads : List (Option Thread)) (mutexes : List (Option Mutex)) (t n : ℕ) : Type 0 where
-  pub greatest : (u : ℕ) → IsSome (pool_get threads u) → Leads (next_of threads mutexes) u t → held_of threads mutexes u ≤ n
-  pub reached : (u : ℕ) × IsSome (pool_get threads u) × Leads (next_of threads mutexes) u t × (held_of threads mutexes u ≡ n)
+  pub greatest : (u : ℕ) → IsSome (pool_get threads u) → Leads (next_in_chain threads mutexes) u t → held_of threads mutexes u ≤ n
+  pub reached : (u : ℕ) × IsSome (pool_get threads u) × Leads (next_in_chain threads mutexes) u t × (held_of threads mutexes u ≡ n)

@@ -64,7 +64,7 @@ pub record Console : Type 0 where
 
 -- ---- the partition
 
--- what the kernel keeps of a partition: every part of it is its own
+-- what the kernel keeps of a partition: every part of it is its own. Cancellation, cleanup handlers and key values are lists beside the threads, by thread number: a number that is freed keeps its entries, and a new thread of that number begins with new ones (own)
 pub record Part : Type 0 where
   pub memory : List Byte
   pub syncs : Syncs

@@ -1,18 +1,23 @@
 -- The steps of a call, from top to bottom: each refuses or goes on, and the last one answers.
-use Rattle.std.specs.Prelude.{ℕ, Bool, not, [], ◌∷◌, if◌then◌else◌, Option, option_map, unwrap_or, Result, Ok, Err}
+use Rattle.std.specs.Prelude.{ℕ, Bool, false, not, [], ◌∷◌, ◌==◌, if◌then◌else◌, Option, Some, option_map, unwrap_or, is_some, Result, Ok, Err}
 use Rattle.ptk_words.specs.Names.{ThreadNumber, MutexNumber, ConditionNumber, Pointer, Word}
+use Rattle.ptk_words.specs.Words.{word_at}
+use Rattle.ptk_words.specs.Pools.{pool_get, least_free}
 use Rattle.ptk_words.specs.declared.faults.Errno.{Errno}
-use Rattle.ptk_words.specs.declared.faults.Errno.TheVariants.{ESRCH, EFAULT}
+use Rattle.ptk_words.specs.declared.faults.Errno.TheVariants.{ESRCH, ENOMEM, EFAULT, EINVAL}
 use Rattle.ptk_words.specs.declared.faults.Status.{Status}
+use Rattle.ptk_words.specs.declared.mutexes.MutexKind.TheVariants.{Normal}
+use Rattle.ptk_words.specs.declared.mutexes.Protocol.TheVariants.{NoProtocol}
 use Rattle.ptk_words.specs.declared.threads.Thread.{Thread}
 use Rattle.ptk_words.specs.declared.threads.Wait.{Wait}
 use Rattle.ptk_words_model.specs.State.{Locks, Syncs, Part, with_locks, with_syncs, with_halt}
 use Rattle.ptk_words_model.specs.Priority.{thread_at}
 use Rattle.ptk_words_model.specs.Schedule.{with_thread}
+use Rattle.ptk_words_model.specs.Mutex.{mutex_at, new_mutex}
 use Rattle.ptk_words_model.specs.Unwinding.{after_unwinding_start, without_thread}
 use Rattle.ptk_words_model.specs.declared.Invocation.{Invocation}
 use Rattle.ptk_words_model.specs.declared.Reply.TheVariants.{Halted, Unwinding}
-use Rattle.ptk_words_model.specs.Calls.{Answer, answer, refusal, success, blocked, told, blocked_in, is_pointer, is_cancelled, cancellation_answer, using_mutex, using_condition}
+use Rattle.ptk_words_model.specs.Calls.{Answer, answer, refusal, success, blocked, told, blocked_in, is_pointer, is_cancelled, cancellation_answer, with_pool_mutex, with_pool_condition, with_stored}
 
 -- ---- calls and their steps
 
@@ -87,14 +92,6 @@ thread t rest i s = (thread_at s.locks t or_refuse ESRCH) rest i s
 abbrev pub readable : Pointer → ℕ → Step
 readable pointer count rest i s = (refuse EFAULT unless is_pointer s pointer count) rest i s
 
--- the mutex of a word, set up where the word is 0 (PTHREAD_MUTEX_INITIALIZER; own, EINVAL, ENOMEM)
-abbrev pub mutex_named : Pointer → Gives MutexNumber
-mutex_named pointer rest i s = using_mutex pointer i s (λ m u. rest m i u)
-
--- the condition variable of a word, set up where the word is 0 (PTHREAD_COND_INITIALIZER; own, EINVAL, ENOMEM)
-abbrev pub condition_named : Pointer → Gives ConditionNumber
-condition_named pointer rest i s = using_condition pointer i s (λ c u. rest c i u)
-
 -- ---- steps that change the state
 
 -- the state changed
@@ -116,6 +113,34 @@ change_thread t f rest i s = rest i (with_locks (with_thread t f) s)
 -- a thread's number is free (pthread_join, pthread_detach)
 abbrev pub free_number : ThreadNumber → Step
 free_number t rest i s = rest i (with_locks (without_thread t) s)
+
+-- ---- words that name a mutex or a condition variable
+
+-- the mutex of a word: 0 sets one up with default attributes, at the least free number, which the word then holds; the number of one in use names it. A refusal further down keeps what was set up (PTHREAD_MUTEX_INITIALIZER; own, EINVAL, ENOMEM)
+abbrev pub mutex_named : Pointer → Gives MutexNumber
+mutex_named pointer rest = do
+  s ← state
+  let word = word_at s.memory pointer
+  when word == 0 finish (do
+    m ← least_free s.mutexes or_refuse ENOMEM
+    change (with_pool_mutex m (Some (new_mutex Normal NoProtocol false)))
+    change (with_stored pointer m)
+    rest m)
+  refuse EINVAL unless is_some (mutex_at s.locks word)
+  rest word
+
+-- the condition variable of a word: 0 sets one up at the least free number, which the word then holds; the number of one in use names it. A refusal further down keeps what was set up (PTHREAD_COND_INITIALIZER; own, EINVAL, ENOMEM)
+abbrev pub condition_named : Pointer → Gives ConditionNumber
+condition_named pointer rest = do
+  s ← state
+  let word = word_at s.memory pointer
+  when word == 0 finish (do
+    c ← least_free s.conditions or_refuse ENOMEM
+    change (with_pool_condition c (Some (record { waiters = [] })))
+    change (with_stored pointer c)
+    rest c)
+  refuse EINVAL unless is_some (pool_get s.conditions word)
+  rest word
 
 -- ---- last steps
 

@@ -1,6 +1,7 @@
 -- The texts of a partition's report and of its trace, as bytes (own).
-use Rattle.std.specs.Prelude.{ℕ, zero, suc, ◌+◌, ◌/◌, ◌%◌, ◌^◌, List, [], ◌∷◌, ◌++◌, length, nat_lt, if◌then◌else◌, decimal, codes, flat_map, is_some, ◌||◌}
-use Rattle.ptk_words.specs.Names.{Byte, Word}
+use Rattle.std.specs.Prelude.{ℕ, Bool, zero, suc, ◌+◌, ◌/◌, ◌%◌, ◌^◌, List, [], ◌∷◌, ◌++◌, length, nat_lt, if◌then◌else◌, decimal, codes, flat_map, is_some, ◌||◌}
+use Rattle.std.specs.List.{concat}
+use Rattle.ptk_words.specs.Names.{Byte, Ticks, Word}
 use Rattle.ptk_words.specs.Faults.{image_fault_number}
 use Rattle.ptk_words.specs.declared.faults.FaultKind.{FaultKind}
 use Rattle.ptk_words.specs.declared.faults.FaultKind.TheVariants.{Illegal, Fetch, Load, Store, Misaligned}
@@ -41,26 +42,33 @@ abbrev pub cause_text : Cause → List Byte
 cause_text Break = codes "break"
 cause_text (Fault kind) = fault_text kind
 
+-- a thread is running or ready (own)
+abbrev pub has_runnable : Part → Bool
+has_runnable s = is_some s.running || nat_lt 0 (length s.line)
+
 -- running where a thread is running or ready, else idle (own)
 abbrev pub activity_text : Part → List Byte
-activity_text s = if is_some s.running || nat_lt 0 (length s.line) then codes "running" else codes "idle"
+activity_text s = if has_runnable s then codes "running" else codes "idle"
 
 -- the status of a partition (own)
 abbrev pub status_text : Status → Part → List Byte
 status_text Active s = activity_text s
 status_text (Exited code) s = codes "exit " ++ decimal code
-status_text (Stopped cause pc) s = codes "fault " ++ (cause_text cause ++ (codes " pc " ++ hex_word pc))
+status_text (Stopped cause pc) s = concat (codes "fault " ∷ cause_text cause ∷ codes " pc " ∷ hex_word pc ∷ [])
 status_text (Refused fault) s = codes "refused image " ++ decimal (image_fault_number fault)
 
--- the line with a partition's name, status, steps and lost ticks (own)
+-- the line with a partition's name, this text of its status, its steps and its lost ticks (own)
+abbrev pub head_line : List Byte → List Byte → ℕ → Ticks → List Byte
+head_line name status steps lost =
+    concat (codes "partition " ∷ name ∷ codes " " ∷ status ∷ codes " steps " ∷ decimal steps ∷ codes " lost " ∷ decimal lost ∷ newline ∷ [])
+
+-- the line of a partition's state (own)
 abbrev pub head_text : List Byte → State → List Byte
-head_text name s =
-    codes "partition " ++ (name ++ (codes " " ++ (status_text s.part.status s.part
-    ++ (codes " steps " ++ (decimal s.account.steps ++ (codes " lost " ++ (decimal s.account.lost ++ newline)))))))
+head_text name s = head_line name (status_text s.part.status s.part) s.account.steps s.account.lost
 
 -- the output, after a line with its length (own)
 abbrev pub output_text : List Byte → List Byte
-output_text output = codes "output " ++ (decimal (length output) ++ (newline ++ (output ++ newline)))
+output_text output = concat (codes "output " ∷ decimal (length output) ∷ newline ∷ output ∷ newline ∷ [])
 
 -- a partition's part of the report (own)
 abbrev pub report_text : List Byte → State → List Byte
@@ -69,8 +77,8 @@ report_text name s = head_text name s ++ output_text s.part.console.output
 -- the line of a step (own)
 abbrev pub trace_line : Entry → List Byte
 trace_line entry =
-    decimal entry.tick ++ (codes " " ++ (decimal entry.thread ++ (codes " " ++ (hex_word entry.pc ++ (codes " "
-    ++ (hex_word entry.word ++ (codes " " ++ (hex_word entry.a0 ++ newline))))))))
+    concat (decimal entry.tick ∷ codes " " ∷ decimal entry.thread ∷ codes " " ∷ hex_word entry.pc ∷ codes " " ∷
+    hex_word entry.word ∷ codes " " ∷ hex_word entry.a0 ∷ newline ∷ [])
 
 -- the lines of steps, in order (own)
 abbrev pub trace_text : List Entry → List Byte

@@ -1,12 +1,15 @@
-//! The machine of one partition as definitions: its state, priorities and places, mutexes, condition variables, the
-//! console, keys, unwinding, the calls, one decision, and the partition alone on its own ticks. The code declares
-//! the few plain types that these definitions tell. Below stand `ptk_words`,
-//! `ptk_words_instructions` and `ptk_words_windows`; every pool, the gate, the kernel and the system cite these words.
+//! The machine of one partition as definitions: state, priorities, places, mutexes, condition variables, console, keys,
+//! unwinding, calls, decision, the partition alone, and the texts of reports and traces.
+//!
+//! - No code: definitions that contracts cite.
+//!
+//! The code declares the few plain types that these definitions use. Below are `ptk_words`, `ptk_words_instructions`
+//! and `ptk_words_windows`; every pool, the gate, the kernel and the system cite these definitions.
 #![tactic(auto)]
 
 use ptk_words::{Errno, Limits, Policy, Priority, Thread, ThreadNo, Tick};
 
-/// What a call comes to.
+/// The outcome of a call.
 #[derive(Clone, Copy, Debug, PartialEq, Eq)]
 pub enum Reply {
     /// It returned with this in a0: an error number, or 0.
@@ -101,10 +104,10 @@ pub struct Rounds {
     pub passed: u32,
 }
 
-/// What a decision came to.
+/// The outcome of a decision.
 #[derive(Clone, Copy, Debug, PartialEq, Eq)]
 pub enum Spent {
-    /// A step of so many ticks.
+    /// A step of this many ticks.
     Step(u32),
     /// No thread was running.
     Idle,

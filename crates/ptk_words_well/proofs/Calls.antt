@@ -1,6 +1,6 @@
 -- Each call leaves the state whole.
 use Rattle.std.proofs.Common.{◌≡◌, ℕ, ◌%◌, Bool, true, false, not, List, [], ◌∷◌, refl, sym, ◌∙◌, ap}
-use Rattle.std.specs.Prelude.{Option, Some, None, unwrap_or, is_some, nat_lt, ◌==◌, if◌then◌else◌}
+use Rattle.std.specs.Prelude.{Option, Some, None, unwrap_or, is_some, nat_lt, ◌==◌, if◌then◌else◌, option_map}
 use Rattle.std.proofs.lemmas.Bool.{false≢true, or_parts}
 use Rattle.ptk_words.specs.Pools.{least_free}
 use Rattle.ptk_words.specs.Processor.{Processor}
@@ -19,7 +19,7 @@ use Rattle.ptk_words_model.specs.declared.Invocation.{Invocation}
 use Rattle.ptk_words_model.specs.declared.Creation.{Creation}
 use Rattle.ptk_words_model.specs.declared.Scheduling.{Scheduling}
 use Rattle.ptk_words_model.specs.declared.Scheduling.TheVariants.{Inherited, Explicit}
-use Rattle.ptk_words_model.specs.Calls.{Answer, refusal, success, blocked_in, is_cancelled, cancellation_answer, using_thread}
+use Rattle.ptk_words_model.specs.Calls.{Answer, refusal, success, blocked_in, is_cancelled, cancellation_answer}
 use Rattle.ptk_words_model.specs.ConsoleCalls.{exit_call, console_put, take_input, console_get}
 use Rattle.ptk_words_model.specs.ThreadCalls.{create, pthread_exit, join, detach, self, after_placing, yield, after_placing_at_tail, setschedparam, getschedparam, after_priority_change, setschedprio}
 use Rattle.ptk_words_model.specs.ThreadCreation.{policy_of, policy_number, is_priority, start_cpu, default_stack_top, creation_at, scheduled_thread, with_new_thread, created_thread}
@@ -112,7 +112,7 @@ well_join i s runs well =
     else if is_taken target then refusal EINVAL i s
     else if is_ended target.phase then success (target.result ∷ []) i (with_locks (without_thread i.a0) s)
     else blocked_in (JoinWait i.a0) i waits in
-    either_well i.limits (is_cancelled s i.caller) (cancellation_answer i s) (using_thread i.a0 i s next) (λ e. well_cancellation_answer i.limits i s runs well)
+    either_well i.limits (is_cancelled s i.caller) (cancellation_answer i s) (unwrap_or (option_map next (thread_at s.locks i.a0)) (refusal ESRCH i s)) (λ e. well_cancellation_answer i.limits i s runs well)
     (λ e. well_using i.limits i.a0 i s next well (λ target there.
     either_well i.limits (i.a0 == i.caller) (refusal EDEADLK i s)
     (if is_taken target then refusal EINVAL i s else if is_ended target.phase then success (target.result ∷ []) i (with_locks (without_thread i.a0) s) else blocked_in (JoinWait i.a0) i waits)

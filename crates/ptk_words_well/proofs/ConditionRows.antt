@@ -14,10 +14,12 @@ use Rattle.ptk_words_model.specs.Condition.{condition_waiters, names_another, af
 use Rattle.ptk_words_model.specs.Time.{Timespec, timespec_at, is_timespec, deadline_of}
 use Rattle.ptk_words_model.specs.Calls.{Answer, blocked, is_pointer, with_pool_condition, with_stored}
 use Rattle.ptk_words_model.specs.ConditionCalls.{cond_init, cond_destroy, may_wait, cond_wait, late_wait_answer, cond_timedwait, cond_signal, cond_broadcast}
+use Rattle.ptk_words_model.specs.Steps.{mutex_named}
 use Rattle.ptk_words_locks.proofs.Pools.{length-pool_set}
 use Rattle.ptk_words_locks.proofs.ConditionWaits.{syncs_condition_wait, syncs_late_wait}
 use Rattle.ptk_words_locks.proofs.Relocks.{syncs_signal, syncs_broadcast}
 use Rattle.ptk_words_locks.proofs.Timeouts.{syncs_condition_destroy}
+use Rattle.ptk_words_well.specs.Rests.{destroy_condition_named, signal_named, broadcast_named, wait_named, timedwait_named}
 use Rattle.ptk_words_well.specs.Well.{IsWell}
 use Rattle.ptk_words_well.proofs.Synced.{syncs_of_well, running_syncs, well_syncs_by, well_syncs_blocked}
 use Rattle.ptk_words_well.proofs.SyncSizes.{sized_signal, sized_broadcast, sized_condition_wait}
@@ -45,7 +47,7 @@ well_no_condition limits c s none well =
 pub well_cond_destroy : Keeps cond_destroy
 well_cond_destroy i s runs well =
     well_unless i.limits EFAULT (is_pointer s i.a0 4) _ i s well
-    (λ within. well_condition_named i.a0 i s _ runs within well
+    (λ within. well_condition_named i.a0 i s destroy_condition_named runs within well
     (λ c u kept used well. well_when i.limits EBUSY (nat_lt 0 (length (condition_waiters u.syncs c))) _ i u well
     (λ none. let without_it : Part = with_pool_condition c None u in
     well_success i.limits [] i (with_stored i.a0 DESTROYED without_it) (well_stored i.limits i.a0 DESTROYED without_it (still_pointer i s u i.a0 4 kept within) (well_no_condition i.limits c u none well)))))
@@ -69,8 +71,8 @@ well_cond_wait i s runs well =
     well_unless i.limits EFAULT (is_pointer s i.a0 4) _ i s well
     (λ condition. well_unless i.limits EFAULT (is_pointer s i.a1 4) _ i s well
     (λ mutex. well_uncancelled _ i s runs well
-    (well_condition_named i.a0 i s _ runs condition well
-    (λ c u named used well. well_mutex_named i.a1 i u _ named.runs (still_pointer i s u i.a1 4 named mutex) well
+    (well_condition_named i.a0 i s (λ c. mutex_named i.a1 (wait_named c)) runs condition well
+    (λ c u named used well. well_mutex_named i.a1 i u (wait_named c) named.runs (still_pointer i s u i.a1 4 named mutex) well
     (λ m v kept well. well_may_wait c m _ i v well
     (λ own. well_condition_wait c m None i v kept.runs own (kept.conditions c used) well))))))
 
@@ -89,8 +91,8 @@ well_cond_timedwait i s runs well =
     (λ condition. well_unless i.limits EFAULT (is_pointer s i.a1 4) _ i s well
     (λ mutex. well_unless i.limits EFAULT (is_pointer s i.a2 12) _ i s well
     (λ timed. well_uncancelled _ i s runs well
-    (well_condition_named i.a0 i s _ runs condition well
-    (λ c u named used well. well_mutex_named i.a1 i u _ named.runs (still_pointer i s u i.a1 4 named mutex) well
+    (well_condition_named i.a0 i s (λ c. mutex_named i.a1 (timedwait_named c)) runs condition well
+    (λ c u named used well. well_mutex_named i.a1 i u (timedwait_named c) named.runs (still_pointer i s u i.a1 4 named mutex) well
     (λ m v kept well. well_may_wait c m _ i v well
     (λ own. let time : Timespec = timespec_at v.memory i.a2 in
     well_unless i.limits EINVAL (is_timespec time) _ i v well
@@ -102,13 +104,13 @@ well_cond_timedwait i s runs well =
 pub well_cond_signal : Keeps cond_signal
 well_cond_signal i s runs well =
     well_unless i.limits EFAULT (is_pointer s i.a0 4) _ i s well
-    (λ within. well_condition_named i.a0 i s _ runs within well
+    (λ within. well_condition_named i.a0 i s signal_named runs within well
     (λ c u kept used well. well_success i.limits [] i (with_syncs (after_signal c) u)
     (well_syncs_by i.limits (after_signal c) u (sized_signal c u.syncs) (syncs_signal i.limits.interval c u.running u.console.waiters u.syncs (syncs_of_well i.limits u well)) well)))
 
 pub well_cond_broadcast : Keeps cond_broadcast
 well_cond_broadcast i s runs well =
     well_unless i.limits EFAULT (is_pointer s i.a0 4) _ i s well
-    (λ within. well_condition_named i.a0 i s _ runs within well
+    (λ within. well_condition_named i.a0 i s broadcast_named runs within well
     (λ c u kept used well. well_success i.limits [] i (with_syncs (after_broadcast c) u)
     (well_syncs_by i.limits (after_broadcast c) u (sized_broadcast c u.syncs) (syncs_broadcast i.limits.interval c u.running u.console.waiters u.syncs (syncs_of_well i.limits u well)) well)))

@@ -1,6 +1,6 @@
 -- Each call on a mutex leaves the state whole, and so does the set-up of a static initialiser.
 use Rattle.std.proofs.Common.{◌≡◌, ℕ, ◌+◌, ◌%◌, Bool, true, false, ◌&&◌, ◌||◌, [], ◌∷◌, length, refl, sym, ◌∙◌, ap, subst}
-use Rattle.std.specs.Prelude.{Option, Some, None, not, is_some, nat_le, ◌==◌, if◌then◌else◌}
+use Rattle.std.specs.Prelude.{Option, Some, None, is_some, option_map, unwrap_or, nat_le, ◌==◌}
 use Rattle.std.specs.Int.{w32, to_le_bytes}
 use Rattle.std.proofs.lemmas.Bool.{leb-true, and_parts, or_parts}
 use Rattle.ptk_words.specs.Faults.{errno_number}
@@ -21,8 +21,10 @@ use Rattle.ptk_words_model.specs.declared.LockMove.TheVariants.{Takes, Recovers,
 use Rattle.ptk_words_model.specs.State.{Locks, Syncs, Part, with_locks}
 use Rattle.ptk_words_model.specs.Mutex.{mutex_at, new_mutex, owns, with_soundness, lock_move, trylock_move, after_move, after_unlock}
 use Rattle.ptk_words_model.specs.Condition.{names_mutex}
-use Rattle.ptk_words_model.specs.Calls.{Answer, refusal, told, is_pointer, with_pool_mutex, with_stored, set_up_mutex, using_mutex}
+use Rattle.ptk_words_model.specs.Calls.{Answer, refusal, told, is_pointer, with_pool_mutex, with_stored}
 use Rattle.ptk_words_model.specs.MutexCalls.{kind_of, protocol_of, is_robust_type, is_locked, is_repairable, make_move, mutex_init, mutex_destroy, mutex_lock, mutex_trylock, mutex_unlock, mutex_consistent}
+use Rattle.ptk_words_model.specs.Steps.{mutex_named, Row, readable}
+use Rattle.ptk_words_well.specs.Rests.{destroy_named, lock_by, trylock_named, unlock_named, consistent_named}
 use Rattle.ptk_words_well.specs.Well.{IsWell}
 use Rattle.ptk_words_locks.proofs.Pools.{length-pool_set, length-changed}
 use Rattle.ptk_words_locks.specs.LockLaws.{running_after}
@@ -91,26 +93,22 @@ abbrev pub KeepsNamed : Invocation → (ℕ → Part → Answer) → Type 0
 KeepsNamed i next = (m : ℕ) (u : Part) → u.running ≡ Some i.caller → is_pointer u i.a0 4 ≡ true → IsWell i.limits u → IsWell i.limits (next m u).part
 
 set_up_at : (o : Option ℕ) (i : Invocation) (s : Part) (next : ℕ → Part → Answer) → least_free s.mutexes ≡ o → s.running ≡ Some i.caller → is_pointer s i.a0 4 ≡ true → IsWell i.limits s → KeepsNamed i next
-    → IsWell i.limits (set_up_mutex o i.a0 i s next).part
+    → IsWell i.limits (unwrap_or (option_map (λ m. next m (with_stored i.a0 m (with_pool_mutex m (Some (new_mutex Normal NoProtocol false)) s))) o) (refusal ENOMEM i s)).part
 set_up_at None i s next free runs within well each = well_refusal i.limits ENOMEM i s well
 set_up_at (Some m) i s next free runs within well each =
     each m (with_stored i.a0 m (with_pool_mutex m (Some (new_mutex Normal NoProtocol false)) s)) runs
     (ap (λ n. i.a0 % 4 == 0 && nat_le (i.a0 + 4) n) (length-stored s i.a0 m within) ∙ within) (well_set_up i.limits m i.a0 s free within well)
 
 -- the mutex that the word of a0 names, which is set up where the word is 0
-pub well_using_mutex : (i : Invocation) (s : Part) (next : ℕ → Part → Answer) → s.running ≡ Some i.caller → is_pointer s i.a0 4 ≡ true → IsWell i.limits s → KeepsNamed i next → IsWell i.limits (using_mutex i.a0 i s next).part
-well_using_mutex i s next runs within well each =
+pub well_using_mutex : (i : Invocation) (s : Part) (rest : ℕ → Row) → s.running ≡ Some i.caller → is_pointer s i.a0 4 ≡ true → IsWell i.limits s → KeepsNamed i (λ m. rest m i) → IsWell i.limits (mutex_named i.a0 rest i s).part
+well_using_mutex i s rest runs within well each =
     let named : ℕ = word_at s.memory i.a0 in
-    let in_use : Answer = if is_some (mutex_at s.locks (word_at s.memory i.a0)) then next (word_at s.memory i.a0) s else refusal EINVAL i s in
-    either_well i.limits (word_at s.memory i.a0 == 0) (set_up_mutex (least_free s.mutexes) i.a0 i s next) in_use
-    (λ zero. set_up_at (least_free s.mutexes) i s next refl runs within well each)
-    (λ number. either_well i.limits (is_some (mutex_at s.locks named)) (next named s) (refusal EINVAL i s)
-    (λ found. each named s runs within well) (λ none. well_refusal i.limits EINVAL i s well))
+    either_well i.limits (named == 0) _ _ (λ zero. set_up_at (least_free s.mutexes) i s (λ m. rest m i) refl runs within well each)
+    (λ number. well_unless i.limits EINVAL (is_some (mutex_at s.locks named)) (rest named i s) i s well (λ found. each named s runs within well))
 
 -- a call whose word of a0 lies in memory, on the mutex that it names
-well_named : (i : Invocation) (s : Part) (next : ℕ → Part → Answer) → s.running ≡ Some i.caller → IsWell i.limits s → KeepsNamed i next
-    → IsWell i.limits (if not (is_pointer s i.a0 4) then refusal EFAULT i s else using_mutex i.a0 i s next).part
-well_named i s next runs well each = well_unless i.limits EFAULT (is_pointer s i.a0 4) (using_mutex i.a0 i s next) i s well (λ within. well_using_mutex i s next runs within well each)
+well_named : (i : Invocation) (s : Part) (rest : ℕ → Row) → s.running ≡ Some i.caller → IsWell i.limits s → KeepsNamed i (λ m. rest m i) → IsWell i.limits (readable i.a0 4 (mutex_named i.a0 rest) i s).part
+well_named i s rest runs well each = well_unless i.limits EFAULT (is_pointer s i.a0 4) (mutex_named i.a0 rest i s) i s well (λ within. well_using_mutex i s rest runs within well each)
 
 -- ---- a move on a mutex
 
@@ -153,26 +151,26 @@ well_mutex_init i s runs well =
 
 pub well_mutex_destroy : Keeps mutex_destroy
 well_mutex_destroy i s runs well =
-    well_named i s _ runs well
+    well_named i s destroy_named runs well
     (λ m u runs within well. well_when i.limits EBUSY (is_locked (mutex_at u.locks m) || names_mutex u.locks m) _ i u well
     (λ idle. let free : (is_locked (mutex_at u.locks m) ≡ false) × (names_mutex u.locks m ≡ false) = or_parts (is_locked (mutex_at u.locks m)) (names_mutex u.locks m) idle in
     well_success i.limits [] i (with_stored i.a0 DESTROYED (with_pool_mutex m None u)) (well_stored i.limits i.a0 DESTROYED (with_pool_mutex m None u) within (well_no_mutex i.limits m u free.0 free.1 well))))
 
 pub well_mutex_lock : Keeps mutex_lock
-well_mutex_lock i s runs well = well_named i s _ runs well (λ m u runs within well. well_lock_move m i u runs well)
+well_mutex_lock i s runs well = well_named i s (lock_by None) runs well (λ m u runs within well. well_lock_move m i u runs well)
 
 pub well_mutex_trylock : Keeps mutex_trylock
-well_mutex_trylock i s runs well = well_named i s _ runs well (λ m u runs within well. well_trylock_move m i u runs well)
+well_mutex_trylock i s runs well = well_named i s trylock_named runs well (λ m u runs within well. well_trylock_move m i u runs well)
 
 pub well_mutex_unlock : Keeps mutex_unlock
 well_mutex_unlock i s runs well =
-    well_named i s _ runs well
+    well_named i s unlock_named runs well
     (λ m u runs within well. well_unless i.limits EPERM (owns i.caller (mutex_at u.locks m)) _ i u well
     (λ own. well_success i.limits [] i (with_locks (after_unlock m) u) (well_unlock i.limits m u well)))
 
 pub well_mutex_consistent : Keeps mutex_consistent
 well_mutex_consistent i s runs well =
-    well_named i s _ runs well
+    well_named i s consistent_named runs well
     (λ m u runs within well. well_unless i.limits EINVAL (is_repairable (mutex_at u.locks m)) _ i u well
     (λ repairable. well_unless i.limits EPERM (owns i.caller (mutex_at u.locks m)) _ i u well
     (λ own. well_success i.limits [] i (with_locks (with_soundness Consistent m) u) (well_consistent i.limits m u well))))

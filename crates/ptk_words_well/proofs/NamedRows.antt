@@ -1,6 +1,6 @@
 -- The words of mutexes and condition variables, and what a call does with what they name.
 use Rattle.std.proofs.Common.{◌≡◌, ℕ, true, false, [], length, refl, ap}
-use Rattle.std.specs.Prelude.{IsSome, Option, Some, None, ◌==◌, is_some, if◌then◌else◌}
+use Rattle.std.specs.Prelude.{IsSome, Option, Some, None, ◌==◌, is_some, option_map, unwrap_or}
 use Rattle.ptk_words.specs.Pools.{pool_get, pool_set, least_free}
 use Rattle.ptk_words.specs.Words.{word_at}
 use Rattle.ptk_words.specs.declared.faults.Errno.TheVariants.{ENOMEM, EINVAL}
@@ -10,13 +10,14 @@ use Rattle.ptk_words.specs.declared.sections.Limits.{Limits}
 use Rattle.ptk_words_model.specs.declared.Invocation.{Invocation}
 use Rattle.ptk_words_model.specs.State.{Condition, Syncs, Part}
 use Rattle.ptk_words_model.specs.Mutex.{mutex_at, new_mutex}
-use Rattle.ptk_words_model.specs.Calls.{Answer, refusal, is_pointer, with_pool_mutex, with_pool_condition, with_stored, set_up_mutex, using_mutex, set_up_condition, using_condition}
+use Rattle.ptk_words_model.specs.Calls.{Answer, refusal, is_pointer, with_pool_mutex, with_pool_condition, with_stored}
+use Rattle.ptk_words_model.specs.Steps.{mutex_named, condition_named, Row}
 use Rattle.ptk_words_locks.proofs.Pools.{length-pool_set, get-set_own, each_set}
 use Rattle.ptk_words_locks.proofs.Timeouts.{syncs_condition_init}
 use Rattle.ptk_words_well.specs.Well.{IsWell}
 use Rattle.ptk_words_well.proofs.Synced.{syncs_of_well, well_syncs_by}
 use Rattle.ptk_words_well.proofs.Starts.{IsFree, least_free_is}
-use Rattle.ptk_words_well.proofs.Steps.{well_refusal, either_well}
+use Rattle.ptk_words_well.proofs.Steps.{well_refusal, either_well, well_unless}
 use Rattle.ptk_words_well.proofs.MutexCalls.{length-stored, well_stored, well_new_mutex}
 
 -- ---- what the set-up of a static initialiser leaves
@@ -41,7 +42,7 @@ abbrev pub KeepsMutex : Invocation → Part → (ℕ → Part → Answer) → Ty
 KeepsMutex i s next = (m : ℕ) (u : Part) → IsNamed i s u → IsWell i.limits u → IsWell i.limits (next m u).part
 
 mutex_set_up : (o : Option ℕ) (pointer : ℕ) (i : Invocation) (s : Part) (next : ℕ → Part → Answer) → least_free s.mutexes ≡ o → s.running ≡ Some i.caller → is_pointer s pointer 4 ≡ true → IsWell i.limits s → KeepsMutex i s next
-    → IsWell i.limits (set_up_mutex o pointer i s next).part
+    → IsWell i.limits (unwrap_or (option_map (λ m. next m (with_stored pointer m (with_pool_mutex m (Some (new_mutex Normal NoProtocol false)) s))) o) (refusal ENOMEM i s)).part
 mutex_set_up None pointer i s next free runs within well each = well_refusal i.limits ENOMEM i s well
 mutex_set_up (Some m) pointer i s next free runs within well each =
     let made : Part = with_pool_mutex m (Some (new_mutex Normal NoProtocol false)) s in
@@ -49,14 +50,12 @@ mutex_set_up (Some m) pointer i s next free runs within well each =
     (well_stored i.limits pointer m made within (well_new_mutex i.limits m Normal NoProtocol false s free well))
 
 -- the mutex that a word names, set up where the word is 0
-pub well_mutex_named : (pointer : ℕ) (i : Invocation) (s : Part) (next : ℕ → Part → Answer) → s.running ≡ Some i.caller → is_pointer s pointer 4 ≡ true → IsWell i.limits s → KeepsMutex i s next
-    → IsWell i.limits (using_mutex pointer i s next).part
-well_mutex_named pointer i s next runs within well each =
+pub well_mutex_named : (pointer : ℕ) (i : Invocation) (s : Part) (rest : ℕ → Row) → s.running ≡ Some i.caller → is_pointer s pointer 4 ≡ true → IsWell i.limits s → KeepsMutex i s (λ m. rest m i)
+    → IsWell i.limits (mutex_named pointer rest i s).part
+well_mutex_named pointer i s rest runs within well each =
     let named : ℕ = word_at s.memory pointer in
-    either_well i.limits (named == 0) (set_up_mutex (least_free s.mutexes) pointer i s next) (if is_some (mutex_at s.locks named) then next named s else refusal EINVAL i s)
-    (λ zero. mutex_set_up (least_free s.mutexes) pointer i s next refl runs within well each)
-    (λ number. either_well i.limits (is_some (mutex_at s.locks named)) (next named s) (refusal EINVAL i s)
-    (λ found. each named s (named_same i s runs) well) (λ none. well_refusal i.limits EINVAL i s well))
+    either_well i.limits (named == 0) _ _ (λ zero. mutex_set_up (least_free s.mutexes) pointer i s (λ m. rest m i) refl runs within well each)
+    (λ number. well_unless i.limits EINVAL (is_some (mutex_at s.locks named)) (rest named i s) i s well (λ found. each named s (named_same i s runs) well))
 
 -- ---- condition variables
 
@@ -81,7 +80,7 @@ named_set_up c pointer i s runs within = record {
 }
 
 condition_set_up : (o : Option ℕ) (pointer : ℕ) (i : Invocation) (s : Part) (next : ℕ → Part → Answer) → least_free s.conditions ≡ o → s.running ≡ Some i.caller → is_pointer s pointer 4 ≡ true → IsWell i.limits s → KeepsCondition i s next
-    → IsWell i.limits (set_up_condition o pointer i s next).part
+    → IsWell i.limits (unwrap_or (option_map (λ c. next c (with_stored pointer c (with_pool_condition c (Some (record { waiters = [] })) s))) o) (refusal ENOMEM i s)).part
 condition_set_up None pointer i s next free runs within well each = well_refusal i.limits ENOMEM i s well
 condition_set_up (Some c) pointer i s next free runs within well each =
     let found : IsFree s.conditions c = least_free_is s.conditions c free in
@@ -90,11 +89,9 @@ condition_set_up (Some c) pointer i s next free runs within well each =
     (well_stored i.limits pointer c made within (well_new_condition i.limits c s free well))
 
 -- the condition variable that a word names, set up where the word is 0
-pub well_condition_named : (pointer : ℕ) (i : Invocation) (s : Part) (next : ℕ → Part → Answer) → s.running ≡ Some i.caller → is_pointer s pointer 4 ≡ true → IsWell i.limits s → KeepsCondition i s next
-    → IsWell i.limits (using_condition pointer i s next).part
-well_condition_named pointer i s next runs within well each =
+pub well_condition_named : (pointer : ℕ) (i : Invocation) (s : Part) (rest : ℕ → Row) → s.running ≡ Some i.caller → is_pointer s pointer 4 ≡ true → IsWell i.limits s → KeepsCondition i s (λ c. rest c i)
+    → IsWell i.limits (condition_named pointer rest i s).part
+well_condition_named pointer i s rest runs within well each =
     let named : ℕ = word_at s.memory pointer in
-    either_well i.limits (named == 0) (set_up_condition (least_free s.conditions) pointer i s next) (if is_some (pool_get s.conditions named) then next named s else refusal EINVAL i s)
-    (λ zero. condition_set_up (least_free s.conditions) pointer i s next refl runs within well each)
-    (λ number. either_well i.limits (is_some (pool_get s.conditions named)) (next named s) (refusal EINVAL i s)
-    (λ found. each named s (named_same i s runs) found well) (λ none. well_refusal i.limits EINVAL i s well))
+    either_well i.limits (named == 0) _ _ (λ zero. condition_set_up (least_free s.conditions) pointer i s (λ m. rest m i) refl runs within well each)
+    (λ number. well_unless i.limits EINVAL (is_some (pool_get s.conditions named)) (rest named i s) i s well (λ found. each named s (named_same i s runs) found well))

@@ -24,7 +24,8 @@ use Rattle.ptk_words.specs.Threads.{is_ended}
 use Rattle.ptk_words_model.specs.ThreadCreation.{new_cancellation, with_new_thread}
 use Rattle.ptk_words_model.specs.Run.{empty_part, main_thread, fits, memory_of, with_image, start_part}
 use Rattle.ptk_words_locks.specs.Locks.{is_ready, joiner_of, used_of, AreMutexes}
-use Rattle.ptk_words_locks.specs.Conditions.{condition_of_wait, waiters_on, AreConditions}
+use Rattle.ptk_words_model.specs.Condition.{waiters_on}
+use Rattle.ptk_words_locks.specs.Conditions.{condition_of_wait, AreConditions}
 use Rattle.ptk_words_well.specs.Well.{AreHandlers, AreValues, IsWell}
 use Rattle.ptk_words_locks.proofs.Pools.{get-set_own, get-set_other, length-pool_set, get-replicate, numbered-replicate}
 use Rattle.ptk_words_locks.proofs.Lined.{AreOthers, not_ready_out, not_ready_stopped, lined_others, lined_push}

@@ -1,6 +1,6 @@
 -- What a call answers, and its steps, leave the state whole.
 use Rattle.std.proofs.Common.{◌≡◌, ℕ, Bool, true, false, List, [], ◌∷◌, refl}
-use Rattle.std.specs.Prelude.{Option, Some, None, if◌then◌else◌, Result, Ok, Err}
+use Rattle.std.specs.Prelude.{Option, Some, None, if◌then◌else◌, Result, Ok, Err, unwrap_or, option_map}
 use Rattle.ptk_words.specs.Faults.{errno_number}
 use Rattle.ptk_words.specs.declared.TheConstants.{CANCELED}
 use Rattle.ptk_words.specs.declared.faults.Errno.{Errno}
@@ -10,7 +10,7 @@ use Rattle.ptk_words.specs.declared.threads.Thread.{Thread}
 use Rattle.ptk_words_model.specs.State.{Part}
 use Rattle.ptk_words_model.specs.Priority.{thread_at}
 use Rattle.ptk_words_model.specs.declared.Invocation.{Invocation}
-use Rattle.ptk_words_model.specs.Calls.{Answer, refusal, success, no_call, cancellation_answer, using_thread}
+use Rattle.ptk_words_model.specs.Calls.{Answer, refusal, success, no_call, cancellation_answer}
 use Rattle.ptk_words_model.specs.Steps.{Row, valid, refuse◌when◌, refuse◌unless◌, ◌or_refuse◌}
 use Rattle.ptk_words_well.specs.Well.{IsWell}
 use Rattle.ptk_words_locks.proofs.Lined.{ready_alive}
@@ -50,7 +50,7 @@ pub well_valid : {A : Type 0} (limits : Limits) (o : Result A Errno) (rest : A �
 well_valid limits (Ok a) rest i s well each = each a refl
 well_valid limits (Err e) rest i s well each = well_refusal limits e i s well
 
-pub well_using : (limits : Limits) (t : ℕ) (i : Invocation) (s : Part) (next : Thread → Answer) → IsWell limits s → ((target : Thread) → thread_at s.locks t ≡ Some target → IsWell limits (next target).part) → IsWell limits (using_thread t i s next).part
+pub well_using : (limits : Limits) (t : ℕ) (i : Invocation) (s : Part) (next : Thread → Answer) → IsWell limits s → ((target : Thread) → thread_at s.locks t ≡ Some target → IsWell limits (next target).part) → IsWell limits (unwrap_or (option_map next (thread_at s.locks t)) (refusal ESRCH i s)).part
 well_using limits t i s next well each = well_given limits (thread_at s.locks t) ESRCH next i s well each
 
 pub well_cancellation_answer : (limits : Limits) (i : Invocation) (s : Part) → s.running ≡ Some i.caller → IsWell limits s → IsWell limits (cancellation_answer i s).part

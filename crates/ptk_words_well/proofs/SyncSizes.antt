@@ -1,6 +1,6 @@
 -- No move of a mutex or of a condition variable changes how many numbers of threads, mutexes and condition variables there are.
 use Rattle.std.proofs.Common.{ℕ, zero, suc, length, refl, ◌∙◌}
-use Rattle.std.specs.Prelude.{Option, Some, None}
+use Rattle.std.specs.Prelude.{Option, Some, None, option_to_list}
 use Rattle.std.specs.Fn.{iterate}
 use Rattle.ptk_words.specs.Pools.{first_of_greatest}
 use Rattle.ptk_words.specs.declared.threads.Wait.{Wait}
@@ -9,8 +9,9 @@ use Rattle.ptk_words_model.specs.declared.LockMove.{LockMove}
 use Rattle.ptk_words_model.specs.declared.LockMove.TheVariants.{Takes, Recovers, Counts, Waits, Refuses}
 use Rattle.ptk_words_model.specs.State.{Locks, Syncs}
 use Rattle.ptk_words_model.specs.Priority.{thread_at, effective_priority}
-use Rattle.ptk_words_model.specs.Mutex.{mutex_at, wait_of, relock_move, after_move, after_relock_move, after_relock_end, after_relock, after_unlock, after_owner_end}
-use Rattle.ptk_words_model.specs.Condition.{mutex_named, condition_waiters, after_condition_wait, after_unblock_for, after_unblock, after_signal_to, after_signal, after_broadcast}
+use Rattle.ptk_words_model.specs.Schedule.{after_wake}
+use Rattle.ptk_words_model.specs.Mutex.{mutex_at, wait_of, relock_move, after_move, after_relock_move, move_reply, after_relock, after_unlock, after_owner_end}
+use Rattle.ptk_words_model.specs.Condition.{mutex_of_condition_wait, condition_waiters, after_condition_wait, after_unblock_for, after_unblock, after_signal_to, after_signal, after_broadcast}
 use Rattle.ptk_words_locks.proofs.Pools.{length-pool_set, length-changed}
 use Rattle.ptk_words_locks.proofs.Sizes.{length-move_threads, length-move_mutexes, length-unlock_threads, length-unlock_mutexes, length-owner_end_threads, length-owner_end_mutexes}
 use Rattle.ptk_words_well.proofs.Synced.{AreSized}
@@ -36,7 +37,7 @@ sized_owner_end t syncs = record { threads = length-owner_end_threads t syncs.lo
 -- ---- condition variables
 
 -- the thread has made the move and is woken
-sized_relock_end : (move : LockMove) (t m : ℕ) (reply : Option ℕ) (syncs : Syncs) → AreSized syncs (record syncs { locks = after_relock_end move t m reply syncs.locks })
+sized_relock_end : (move : LockMove) (t m : ℕ) (reply : Option ℕ) (syncs : Syncs) → AreSized syncs (record syncs { locks = after_wake t (option_to_list (move_reply move reply)) (after_move move t m (RelockWait m reply) syncs.locks) })
 sized_relock_end move t m reply syncs =
     let moved : Locks = after_move move t m (RelockWait m reply) syncs.locks in
     record { threads = length-changed t _ moved.threads ∙ length-move_threads move t m (RelockWait m reply) syncs.locks; mutexes = length-move_mutexes move t m (RelockWait m reply) syncs.locks; conditions = refl }
@@ -56,7 +57,7 @@ sized_unblock_for t c reply (Some m) syncs =
 
 -- a waiter is unblocked
 pub sized_unblock : (t c : ℕ) (reply : Option ℕ) (syncs : Syncs) → AreSized syncs (after_unblock t c reply syncs)
-sized_unblock t c reply syncs = sized_unblock_for t c reply (mutex_named (wait_of (thread_at syncs.locks t))) syncs
+sized_unblock t c reply syncs = sized_unblock_for t c reply (mutex_of_condition_wait (wait_of (thread_at syncs.locks t))) syncs
 
 sized_signal_to : (next : Option ℕ) (c : ℕ) (syncs : Syncs) → AreSized syncs (after_signal_to next c syncs)
 sized_signal_to None c syncs = sized_same syncs

@@ -22,6 +22,7 @@ use Rattle.ptk_words_locks.specs.Conditions.{AreSyncs}
 use Rattle.ptk_words_locks.proofs.Pools.{length-changed}
 use Rattle.ptk_words_locks.proofs.Timed.{syncs_timed_move}
 use Rattle.ptk_words_locks.proofs.ConditionWaits.{syncs_sleep}
+use Rattle.ptk_words_well.specs.Rests.{timedlock_named}
 use Rattle.ptk_words_well.specs.Well.{IsWell}
 use Rattle.ptk_words_well.proofs.Synced.{running_syncs, well_with_syncs, well_syncs_blocked}
 use Rattle.ptk_words_well.proofs.SyncSizes.{sized_move}
@@ -102,7 +103,7 @@ pub well_mutex_timedlock : Keeps mutex_timedlock
 well_mutex_timedlock i s runs well =
     well_unless i.limits EFAULT (is_pointer s i.a0 4) _ i s well
     (λ within. well_unless i.limits EFAULT (is_pointer s i.a1 12) _ i s well
-    (λ timed. well_mutex_named i.a0 i s _ runs within well
+    (λ timed. well_mutex_named i.a0 i s timedlock_named runs within well
     (λ m u kept well. let time : Timespec = timespec_at u.memory i.a1 in
     let deadline : Option ℕ = Some (deadline_of time) in
     well_move (timed_move (lock_move u.locks i.caller (mutex_at u.locks m)) time i.tick) m 0 (MutexWait m deadline) i u kept.runs

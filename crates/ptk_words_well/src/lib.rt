@@ -1,11 +1,15 @@
-//! What holds of a partition's state in every table (`specs/Well`): the running thread is ready and not in the line,
-//! the line has ready threads and none twice, waits agree with the console's waiters, the joiners, the mutexes and the
-//! condition variables, an ended thread waits for nothing and owns no mutex, each thread has what its end is made of
-//! (cancellation, handlers within their limit, a value for each key, its rounds), and all lists have their sizes. The
-//! functions promise that a partition starts so and that every call and every decision leaves it so; `proofs/` has the
-//! same for each move of the model, over plain variables. Below stand `ptk_words_model` and `ptk_words_locks`, which
-//! has the laws of pools, lines, mutexes, condition variables and deadlines (`proofs/Synced` takes a whole state apart
-//! for them, and puts it together again); above, the gate's tables have `IsWell` as their invariant.
+//! What holds of a partition's whole state between moves (`IsWell`), and that every call and every decision keeps it.
+//!
+//! - `start_is_well`, `calls_keep_well`, `decisions_keep_well`, `stays_well`: the running thread is ready and not in
+//!   the line, the line has ready threads and none twice, waits agree with waiters, joiners, mutexes and condition
+//!   variables, an owner of a mutex has not ended, at the start and after every decision, whatever deadlines come.
+//!
+//! `specs/Well` says it: besides the line, the waits and the owners, each thread has what its end is made of
+//! (cancellation, handlers within their limit, a value for each key, its rounds), and all lists have their sizes.
+//! `proofs/` has the same for each move of the model, over plain variables. Below are `ptk_words_model` and
+//! `ptk_words_locks`, which has the laws of pools, lines, mutexes, condition variables and deadlines (`proofs/Synced`
+//! takes a whole state apart for them, and puts it together again); above, the gate's tables have `IsWell` as their
+//! invariant.
 #![tactic(auto)]
 
 ghost use Rattle.std.specs.Prelude.{ℕ, List, Option};

@@ -1,5 +1,6 @@
 -- Windows without a fault are a table, and stages without one a plan.
 use Rattle.std.proofs.Common.{◌≡◌, ℕ, ◌+◌, ◌<◌, ◌≤◌, Bool, true, false, not, cond, ltb, leb, List, [], ◌∷◌, map, Option, Some, None, Any, All, AllPairs, get_or, inl, inr, refl, arith}
+use Rattle.std.specs.Option.{option_or}
 use Rattle.std.specs.List.{list_any}
 use Rattle.std.proofs.lemmas.Bool.{or_parts, and_parts, and_cases, ltb-false, leb-false, eqb-true, not-true}
 use Rattle.std.proofs.lemmas.List.Elements.{All-nil, All-cons, All-head, All-tail, All-weaker}
@@ -8,21 +9,21 @@ use Rattle.ptk_words_windows.specs.declared.fault.WindowFault.{WindowFault}
 use Rattle.ptk_words_windows.specs.declared.fault.WindowFault.TheVariants.{Short, Overlap, PastFrame, UnknownPartition, OutOfOrder}
 use Rattle.ptk_words_windows.specs.declared.window.Window.{Window}
 use Rattle.ptk_words_windows.specs.Windows.{Stage, Holds, IsTable, IsPlan}
-use Rattle.ptk_words_windows.specs.WindowFaults.{some_pair, earlier, first_fault, fault_of, are_overlapping, window_fault, begins_with_zero, is_not_later, is_ordered, plan_fault}
+use Rattle.ptk_words_windows.specs.WindowFaults.{some_pair, first_fault, fault_of, are_overlapping, window_fault, begins_with_zero, is_not_later, is_ordered, plan_fault}
 use Rattle.ptk_words_windows.proofs.Lists.{Any-here}
 
 cond-none : {E : Type 0} (b : Bool) (e : E) (o : Option E) → cond b (Some e) o ≡ None → (b ≡ false) × (o ≡ None)
 cond-none true e o h = absurd cc
 cond-none false e o h = (refl, h)
 
-earlier-none : {E : Type 0} (a b : Option E) → earlier a b ≡ None → (a ≡ None) × (b ≡ None)
-earlier-none None b h = (refl, h)
-earlier-none (Some e) b h = absurd cc
+option_or-none : {E : Type 0} (a b : Option E) → option_or a b ≡ None → (a ≡ None) × (b ≡ None)
+option_or-none None b h = (refl, h)
+option_or-none (Some e) b h = absurd cc
 
 first_fault-none : {A E : Type 0} (f : A → Option E) (xs : List A) → first_fault f xs ≡ None → All (λ x. f x ≡ None) xs
 first_fault-none f [] h = All-nil (λ x. f x ≡ None)
 first_fault-none f (x ∷ xs) h =
-    let both = earlier-none (f x) (first_fault f xs) h in
+    let both = option_or-none (f x) (first_fault f xs) h in
     All-cons (λ y. f y ≡ None) x xs both.0 (first_fault-none f xs both.1)
 
 list_any-none : {A : Type 0} (test : A → Bool) (xs : List A) → list_any test xs ≡ false → All (λ x. test x ≡ false) xs
@@ -64,7 +65,7 @@ pub accepted_table : (frame parts : ℕ) (windows : List Window) → window_faul
 unfolding window_fault
 accepted_table frame parts [] h = absurd cc
 accepted_table frame parts (w ∷ ws) h =
-    let both = earlier-none (first_fault (fault_of frame parts) (w ∷ ws)) (cond (some_pair are_overlapping (w ∷ ws)) (Some Overlap) None) h in
+    let both = option_or-none (first_fault (fault_of frame parts) (w ∷ ws)) (cond (some_pair are_overlapping (w ∷ ws)) (Some Overlap) None) h in
     let fines = All-weaker (λ v. fault_of frame parts v ≡ None) (IsFine frame parts) (fine frame parts) (w ∷ ws) (first_fault-none (fault_of frame parts) (w ∷ ws) both.0) in
     let first = All-head (IsFine frame parts) w ws fines in
     let pairs = some_pair-none are_overlapping (w ∷ ws) (overlap-none (some_pair are_overlapping (w ∷ ws)) both.1) in (

@@ -1,5 +1,6 @@
 -- The first fault of a window table, and of a plan.
 use Rattle.std.specs.Prelude.{ℕ, ◌+◌, not, ◌&&◌, ◌||◌, ◌==◌, nat_lt, nat_le, List, [], ◌∷◌, Bool, false, if◌then◌else◌, Option, Some, None}
+use Rattle.std.specs.Option.{option_or}
 use Rattle.std.specs.List.{list_any}
 use Rattle.ptk_words_windows.specs.declared.fault.WindowFault.{WindowFault}
 use Rattle.ptk_words_windows.specs.declared.fault.WindowFault.TheVariants.{Empty, Short, Overlap, PastFrame, UnknownPartition, OutOfOrder}
@@ -11,15 +12,10 @@ abbrev pub some_pair : {A : Type 0} → (A → A → Bool) → List A → Bool
 some_pair r [] = false
 some_pair r (x ∷ xs) = list_any (r x) xs || some_pair r xs
 
--- the first of the two
-abbrev pub earlier : {E : Type 0} → Option E → Option E → Option E
-earlier (Some e) o = Some e
-earlier None o = o
-
 -- the first fault that f finds
 abbrev pub first_fault : {A E : Type 0} → (A → Option E) → List A → Option E
 first_fault f [] = None
-first_fault f (x ∷ xs) = earlier (f x) (first_fault f xs)
+first_fault f (x ∷ xs) = option_or (f x) (first_fault f xs)
 
 -- the fault of one window: too short for the dearest step, past the frame, of no partition (own)
 abbrev pub fault_of : ℕ → ℕ → Window → Option WindowFault
@@ -37,7 +33,7 @@ are_overlapping v w = nat_lt v.start (w.start + w.length) && nat_lt w.start (v.s
 unfoldable pub window_fault : ℕ → ℕ → List Window → Option WindowFault
 window_fault frame parts [] = Some Empty
 window_fault frame parts (w ∷ ws) =
-    earlier (first_fault (fault_of frame parts) (w ∷ ws)) (if some_pair are_overlapping (w ∷ ws) then Some Overlap else None)
+    option_or (first_fault (fault_of frame parts) (w ∷ ws)) (if some_pair are_overlapping (w ∷ ws) then Some Overlap else None)
 
 -- there is a first stage, and it begins with frame 0 (own)
 abbrev pub begins_with_zero : List Stage → Bool

@@ -1,6 +1,6 @@
 -- The calls keep the sizes of a state.
 use Rattle.std.proofs.Common.{arith, ◌≡◌, ℕ, ◌+◌, ◌%◌, ◌≤◌, ◌<◌, Bool, true, false, List, [], ◌∷◌, ◌++◌, length, ◌∙◌, refl}
-use Rattle.std.specs.Prelude.{Option, Some, None, Result, Ok, Err, not, nat_lt, ◌==◌, if◌then◌else◌}
+use Rattle.std.specs.Prelude.{Option, Some, None, Result, Ok, Err, not, nat_lt, ◌==◌, if◌then◌else◌, unwrap_or, option_map}
 use Rattle.std.specs.List.{list_any}
 use Rattle.ptk_words.specs.Faults.{errno_number}
 use Rattle.ptk_words.specs.Pools.{pool_set, least_free, without}
@@ -22,7 +22,7 @@ use Rattle.ptk_words_model.specs.Unwinding.{without_thread}
 use Rattle.ptk_words.specs.Threads.{is_ended, is_taken}
 use Rattle.ptk_words_model.specs.declared.Creation.{Creation}
 use Rattle.ptk_words_model.specs.declared.Invocation.{Invocation}
-use Rattle.ptk_words_model.specs.Calls.{Answer, replied, refusal, success, blocked, told, blocked_in, no_call, is_cancelled, cancellation_answer, using_thread}
+use Rattle.ptk_words_model.specs.Calls.{Answer, replied, refusal, success, blocked, told, blocked_in, no_call, is_cancelled, cancellation_answer}
 use Rattle.ptk_words_model.specs.ConsoleCalls.{exit_call, console_put, take_input, console_get}
 use Rattle.ptk_words_model.specs.ThreadCalls.{create, pthread_exit, join, detach, self, after_placing, yield, after_placing_at_tail, setschedparam, getschedparam, after_priority_change, setschedprio}
 use Rattle.ptk_words_model.specs.ThreadCreation.{policy_of, is_priority, creation_at, new_cancellation, with_new_thread, created_thread}
@@ -84,7 +84,7 @@ valid_sized : {A : Type 0} (l : Limits) (r : Result A Errno) (i : Invocation) (s
 valid_sized l (Ok a) i s rest k h = k a
 valid_sized l (Err e) i s rest k h = refusal_sized l e i s h
 
-pub using_thread_sized : (l : Limits) (t : ℕ) (i : Invocation) (s : Part) (next : Thread → Answer) → ((thread : Thread) → AnswerSized l (next thread)) → Sized l s → AnswerSized l (using_thread t i s next)
+pub using_thread_sized : (l : Limits) (t : ℕ) (i : Invocation) (s : Part) (next : Thread → Answer) → ((thread : Thread) → AnswerSized l (next thread)) → Sized l s → AnswerSized l (unwrap_or (option_map next (thread_at s.locks t)) (refusal ESRCH i s))
 using_thread_sized l t i s next k h = given_sized l (thread_at s.locks t) ESRCH i s next k h
 
 -- ---- calls 0 to 2

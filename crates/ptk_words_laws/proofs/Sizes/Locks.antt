@@ -17,8 +17,8 @@ use Rattle.ptk_words_model.specs.declared.LockMove.TheVariants.{Takes, Recovers,
 use Rattle.ptk_words_model.specs.State.{Mutex, Locks, Syncs}
 use Rattle.ptk_words_model.specs.Priority.{thread_at, is_owner}
 use Rattle.ptk_words_model.specs.Schedule.{with_thread, at_tail_with, after_wake, woken_with}
-use Rattle.ptk_words_model.specs.Mutex.{mutex_at, with_mutex, with_soundness, soundness_of, waiters_of, free_move, move_reply, handed, after_wait, after_take, after_move, after_leave, after_free, after_hand_over_to, after_hand_over, after_refusal_to, after_refusal, after_loss, after_last_unlock, after_unlock, after_relock_end, after_relock_move, after_relock, relock_move, without_mutex_waiter, after_bequest, after_abandonment, after_mutex_end, after_owner_end, heir, count_of, wait_of}
-use Rattle.ptk_words_model.specs.Condition.{after_unblock_for, after_unblock, mutex_named}
+use Rattle.ptk_words_model.specs.Mutex.{mutex_at, with_mutex, with_soundness, soundness_of, waiters_of, free_move, move_reply, handed, after_wait, after_take, after_move, after_leave, after_free, after_hand_over_to, after_hand_over, after_refusal_to, after_refusal, after_loss, after_last_unlock, after_unlock, after_relock_move, after_relock, relock_move, without_mutex_waiter, after_bequest, after_abandonment, after_mutex_end, after_owner_end, heir, count_of, wait_of}
+use Rattle.ptk_words_model.specs.Condition.{after_unblock_for, after_unblock, mutex_of_condition_wait}
 use Rattle.ptk_words_model.specs.Unwinding.{after_join_by, without_thread, after_release}
 use Rattle.ptk_words_model.specs.Withdrawal.{without_joiner}
 use Rattle.ptk_words_laws.proofs.Sizes.Pools.{length-pool_set, length-pool_changed}
@@ -109,7 +109,7 @@ after_unlock_sized l m x h =
     locks_if l (nat_lt 1 (count_of (mutex_at x m))) (with_mutex m (λ mutex. record mutex { count = mutex.count - 1 }) x) (after_last_unlock (soundness_of (mutex_at x m)) m x)
     (with_mutex_sized l m (λ mutex. record mutex { count = mutex.count - 1 }) x h) (last_unlock_sized l (soundness_of (mutex_at x m)) m x h)
 
-relock_end_sized : (l : Limits) (move : LockMove) (t m : ℕ) (reply : Option ℕ) (x : Locks) → LocksSized l x → LocksSized l (after_relock_end move t m reply x)
+relock_end_sized : (l : Limits) (move : LockMove) (t m : ℕ) (reply : Option ℕ) (x : Locks) → LocksSized l x → LocksSized l (after_wake t (option_to_list (move_reply move reply)) (after_move move t m (RelockWait m reply) x))
 relock_end_sized l move t m reply x h =
     after_wake_sized l t (option_to_list (move_reply move reply)) (after_move move t m (RelockWait m reply) x) (after_move_sized l move t m (RelockWait m reply) x h)
 
@@ -174,4 +174,4 @@ unblock_for_sized l t c reply (Some m) x h =
     }
 
 pub after_unblock_sized : (l : Limits) (t c : ℕ) (reply : Option ℕ) (x : Syncs) → SyncsSized l x → SyncsSized l (after_unblock t c reply x)
-after_unblock_sized l t c reply x h = unblock_for_sized l t c reply (mutex_named (wait_of (thread_at x.locks t))) x h
+after_unblock_sized l t c reply x h = unblock_for_sized l t c reply (mutex_of_condition_wait (wait_of (thread_at x.locks t))) x h

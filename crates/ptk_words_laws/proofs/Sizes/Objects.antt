@@ -3,7 +3,7 @@ use Rattle.std.proofs.Common.{arith, ◌≡◌, ℕ, zero, suc, ◌+◌, ◌≤�
 use Rattle.std.proofs.lemmas.List.{length-map}
 use Rattle.std.proofs.lemmas.List.Elements.{All-map, All-weaker}
 use Rattle.std.specs.Fn.{iterate}
-use Rattle.std.specs.Prelude.{Option, Some, None, not, ◌&&◌, ◌||◌, nat_lt, nat_le, ◌==◌, ◌%◌, if◌then◌else◌, is_some}
+use Rattle.std.specs.Prelude.{Option, Some, None, not, ◌&&◌, ◌||◌, nat_lt, nat_le, ◌==◌, ◌%◌, if◌then◌else◌, is_some, option_map, unwrap_or}
 use Rattle.ptk_words.specs.Words.{word_at, with_bytes}
 use Rattle.std.specs.Int.{w32, to_le_bytes}
 use Rattle.ptk_words.specs.Faults.{errno_number}
@@ -30,12 +30,14 @@ use Rattle.ptk_words_model.specs.Withdrawal.{with_mark, without_joiner, after_ca
 use Rattle.ptk_words_model.specs.Unwinding.{cleanups_of}
 use Rattle.ptk_words.specs.Threads.{is_ended}
 use Rattle.ptk_words_model.specs.Time.{Timespec, timespec_at, time_bytes, is_timespec, deadline_of}
-use Rattle.ptk_words_model.specs.Calls.{Answer, refusal, success, is_pointer, is_cancelled, cancellation_answer, with_pool_mutex, with_pool_condition, with_stored, set_up_mutex, using_mutex, set_up_condition, using_condition}
+use Rattle.ptk_words_model.specs.Calls.{Answer, refusal, success, is_pointer, is_cancelled, cancellation_answer, with_pool_mutex, with_pool_condition, with_stored}
 use Rattle.ptk_words_model.specs.TimeCalls.{is_no_clock, clock_gettime, clock_nanosleep}
 use Rattle.ptk_words_model.specs.MutexCalls.{is_robust_type, kind_of, protocol_of, mutex_init, is_locked, mutex_destroy, make_move, mutex_lock, mutex_trylock, timed_move, mutex_timedlock, mutex_unlock, is_repairable, mutex_consistent}
 use Rattle.ptk_words_model.specs.ConditionCalls.{cond_init, cond_destroy, may_wait, cond_wait, late_answer, late_wait_answer, cond_timedwait, cond_signal, cond_broadcast}
 use Rattle.ptk_words_model.specs.CancellationCalls.{cancel, cancellation_of, setcancelstate, setcanceltype, testcancel, cleanup_push, cleanup_pop_answer, cleanup_pop}
 use Rattle.ptk_words_model.specs.KeyCalls.{key_create, key_delete, setspecific, getspecific}
+use Rattle.ptk_words_model.specs.Steps.{mutex_named, condition_named, Row}
+use Rattle.ptk_words_well.specs.Rests.{destroy_named, lock_by, trylock_named, timedlock_named, unlock_named, consistent_named, destroy_condition_named, signal_named, broadcast_named, block_on, wait_until_asked}
 use Rattle.ptk_words_laws.proofs.Sizes.Pools.{length-pool_set, most_from_test}
 use Rattle.ptk_words_laws.proofs.Sizes.Locks.{SyncsSized, with_thread_sized, after_wake_sized, with_soundness_sized, after_move_sized, after_unlock_sized, without_joiner_sized, after_unblock_sized}
 use Rattle.ptk_words_laws.proofs.Sizes.Parts.{KeysSized, Sized, with_locks_sized, with_syncs_sized, with_memory_sized, with_cancellation_sized, with_cleanups_sized, with_keys_sized, with_console_sized, woken_sized}
@@ -80,33 +82,29 @@ pool_condition_sized l c o s h =
     with_syncs_sized l (λ syncs. record syncs { conditions = pool_set syncs.conditions c o }) s
     (record { locks = h.sizes.syncs_sized.locks; conditions = length-pool_set s.conditions c o ∙ h.sizes.syncs_sized.conditions }) h
 
-set_up_mutex_sized : (l : Limits) (o : Option ℕ) (pointer : ℕ) (i : Invocation) (s : Part) (next : ℕ → Part → Answer) → pointer + 4 ≤ l.memory → ((m : ℕ) (u : Part) → Sized l u → AnswerSized l (next m u)) → Sized l s → AnswerSized l (set_up_mutex o pointer i s next)
+set_up_mutex_sized : (l : Limits) (o : Option ℕ) (pointer : ℕ) (i : Invocation) (s : Part) (next : ℕ → Part → Answer) → pointer + 4 ≤ l.memory → ((m : ℕ) (u : Part) → Sized l u → AnswerSized l (next m u)) → Sized l s → AnswerSized l (unwrap_or (option_map (λ m. next m (with_stored pointer m (with_pool_mutex m (Some (new_mutex Normal NoProtocol false)) s))) o) (refusal ENOMEM i s))
 set_up_mutex_sized l None pointer i s next le k h = refusal_sized l ENOMEM i s h
 set_up_mutex_sized l (Some m) pointer i s next le k h =
     k m (with_stored pointer m (with_pool_mutex m (Some (new_mutex Normal NoProtocol false)) s))
     (stored_sized l pointer m (with_pool_mutex m (Some (new_mutex Normal NoProtocol false)) s) le (pool_mutex_sized l m (Some (new_mutex Normal NoProtocol false)) s h))
 
-using_mutex_sized : (l : Limits) (pointer : ℕ) (i : Invocation) (s : Part) (next : ℕ → Part → Answer) → pointer + 4 ≤ l.memory → ((m : ℕ) (u : Part) → Sized l u → AnswerSized l (next m u)) → Sized l s → AnswerSized l (using_mutex pointer i s next)
-using_mutex_sized l pointer i s next le k h =
-    answer_either l (word_at s.memory pointer == 0) (set_up_mutex (least_free s.mutexes) pointer i s next)
-    (if is_some (mutex_at s.locks (word_at s.memory pointer)) then next (word_at s.memory pointer) s else refusal EINVAL i s)
-    (set_up_mutex_sized l (least_free s.mutexes) pointer i s next le k h)
-    (answer_either l (is_some (mutex_at s.locks (word_at s.memory pointer))) (next (word_at s.memory pointer) s) (refusal EINVAL i s)
-    (k (word_at s.memory pointer) s h) (refusal_sized l EINVAL i s h))
+named_mutex_sized : (l : Limits) (pointer : ℕ) (i : Invocation) (s : Part) (rest : ℕ → Row) → pointer + 4 ≤ l.memory → ((m : ℕ) (u : Part) → Sized l u → AnswerSized l (rest m i u)) → Sized l s → AnswerSized l (mutex_named pointer rest i s)
+named_mutex_sized l pointer i s rest le k h =
+    answer_either l (word_at s.memory pointer == 0) _ _ (set_up_mutex_sized l (least_free s.mutexes) pointer i s (λ m. rest m i) le k h)
+    (answer_either l (not (is_some (mutex_at s.locks (word_at s.memory pointer)))) (refusal EINVAL i s) (rest (word_at s.memory pointer) i s)
+    (refusal_sized l EINVAL i s h) (k (word_at s.memory pointer) s h))
 
-set_up_condition_sized : (l : Limits) (o : Option ℕ) (pointer : ℕ) (i : Invocation) (s : Part) (next : ℕ → Part → Answer) → pointer + 4 ≤ l.memory → ((c : ℕ) (u : Part) → Sized l u → AnswerSized l (next c u)) → Sized l s → AnswerSized l (set_up_condition o pointer i s next)
+set_up_condition_sized : (l : Limits) (o : Option ℕ) (pointer : ℕ) (i : Invocation) (s : Part) (next : ℕ → Part → Answer) → pointer + 4 ≤ l.memory → ((c : ℕ) (u : Part) → Sized l u → AnswerSized l (next c u)) → Sized l s → AnswerSized l (unwrap_or (option_map (λ c. next c (with_stored pointer c (with_pool_condition c (Some (record { waiters = [] })) s))) o) (refusal ENOMEM i s))
 set_up_condition_sized l None pointer i s next le k h = refusal_sized l ENOMEM i s h
 set_up_condition_sized l (Some c) pointer i s next le k h =
     k c (with_stored pointer c (with_pool_condition c (Some (record { waiters = [] })) s))
     (stored_sized l pointer c (with_pool_condition c (Some (record { waiters = [] })) s) le (pool_condition_sized l c (Some (record { waiters = [] })) s h))
 
-using_condition_sized : (l : Limits) (pointer : ℕ) (i : Invocation) (s : Part) (next : ℕ → Part → Answer) → pointer + 4 ≤ l.memory → ((c : ℕ) (u : Part) → Sized l u → AnswerSized l (next c u)) → Sized l s → AnswerSized l (using_condition pointer i s next)
-using_condition_sized l pointer i s next le k h =
-    answer_either l (word_at s.memory pointer == 0) (set_up_condition (least_free s.conditions) pointer i s next)
-    (if is_some (pool_get s.conditions (word_at s.memory pointer)) then next (word_at s.memory pointer) s else refusal EINVAL i s)
-    (set_up_condition_sized l (least_free s.conditions) pointer i s next le k h)
-    (answer_either l (is_some (pool_get s.conditions (word_at s.memory pointer))) (next (word_at s.memory pointer) s) (refusal EINVAL i s)
-    (k (word_at s.memory pointer) s h) (refusal_sized l EINVAL i s h))
+named_condition_sized : (l : Limits) (pointer : ℕ) (i : Invocation) (s : Part) (rest : ℕ → Row) → pointer + 4 ≤ l.memory → ((c : ℕ) (u : Part) → Sized l u → AnswerSized l (rest c i u)) → Sized l s → AnswerSized l (condition_named pointer rest i s)
+named_condition_sized l pointer i s rest le k h =
+    answer_either l (word_at s.memory pointer == 0) _ _ (set_up_condition_sized l (least_free s.conditions) pointer i s (λ c. rest c i) le k h)
+    (answer_either l (not (is_some (pool_get s.conditions (word_at s.memory pointer)))) (refusal EINVAL i s) (rest (word_at s.memory pointer) i s)
+    (refusal_sized l EINVAL i s h) (k (word_at s.memory pointer) s h))
 
 -- where a pointer to a word is tested first
 checked : (l : Limits) (i : Invocation) (s : Part) (pointer count : ℕ) (y : Answer) → (pointer + count ≤ l.memory → AnswerSized l y) → Sized l s → AnswerSized l (if not (is_pointer s pointer count) then refusal EFAULT i s else y)
@@ -146,7 +144,7 @@ mutex_init_sized i s h =
 pub mutex_destroy_sized : (i : Invocation) (s : Part) → Sized i.limits s → AnswerSized i.limits (mutex_destroy i s)
 mutex_destroy_sized i s h =
     checked i.limits i s i.a0 4 _
-    (λ le. using_mutex_sized i.limits i.a0 i s _ le
+    (λ le. named_mutex_sized i.limits i.a0 i s destroy_named le
     (λ m u k. answer_either i.limits (is_locked (mutex_at u.locks m) || names_mutex u.locks m) (refusal EBUSY i u) _ (refusal_sized i.limits EBUSY i u k)
     (success_sized i.limits [] i (with_stored i.a0 DESTROYED (with_pool_mutex m None u))
     (stored_sized i.limits i.a0 DESTROYED (with_pool_mutex m None u) le (pool_mutex_sized i.limits m None u k)))) h) h
@@ -161,20 +159,20 @@ move_made_sized l move m deadline i s h =
 pub mutex_lock_sized : (i : Invocation) (s : Part) → Sized i.limits s → AnswerSized i.limits (mutex_lock i s)
 mutex_lock_sized i s h =
     checked i.limits i s i.a0 4 _
-    (λ le. using_mutex_sized i.limits i.a0 i s _ le
+    (λ le. named_mutex_sized i.limits i.a0 i s (lock_by None) le
     (λ m u k. move_made_sized i.limits (lock_move u.locks i.caller (mutex_at u.locks m)) m None i u k) h) h
 
 pub mutex_trylock_sized : (i : Invocation) (s : Part) → Sized i.limits s → AnswerSized i.limits (mutex_trylock i s)
 mutex_trylock_sized i s h =
     checked i.limits i s i.a0 4 _
-    (λ le. using_mutex_sized i.limits i.a0 i s _ le
+    (λ le. named_mutex_sized i.limits i.a0 i s trylock_named le
     (λ m u k. move_made_sized i.limits (trylock_move u.locks i.caller (mutex_at u.locks m)) m None i u k) h) h
 
 pub mutex_timedlock_sized : (i : Invocation) (s : Part) → Sized i.limits s → AnswerSized i.limits (mutex_timedlock i s)
 mutex_timedlock_sized i s h =
     checked i.limits i s i.a0 4 _
     (λ le. checked i.limits i s i.a1 12 _
-    (λ _. using_mutex_sized i.limits i.a0 i s _ le
+    (λ _. named_mutex_sized i.limits i.a0 i s timedlock_named le
     (λ m u k. let time : Timespec = timespec_at u.memory i.a1 in
     move_made_sized i.limits (timed_move (lock_move u.locks i.caller (mutex_at u.locks m)) time i.tick) m (Some (deadline_of time)) i u k) h) h) h
 
@@ -184,7 +182,7 @@ unlocked_sized l m s h = with_locks_sized l (after_unlock m) s (after_unlock_siz
 pub mutex_unlock_sized : (i : Invocation) (s : Part) → Sized i.limits s → AnswerSized i.limits (mutex_unlock i s)
 mutex_unlock_sized i s h =
     checked i.limits i s i.a0 4 _
-    (λ le. using_mutex_sized i.limits i.a0 i s _ le
+    (λ le. named_mutex_sized i.limits i.a0 i s unlock_named le
     (λ m u k. answer_either i.limits (not (owns i.caller (mutex_at u.locks m))) (refusal EPERM i u) _ (refusal_sized i.limits EPERM i u k)
     (success_sized i.limits [] i (with_locks (after_unlock m) u) (unlocked_sized i.limits m u k))) h) h
 
@@ -194,7 +192,7 @@ repaired_sized l m s h = with_locks_sized l (with_soundness Consistent m) s (wit
 pub mutex_consistent_sized : (i : Invocation) (s : Part) → Sized i.limits s → AnswerSized i.limits (mutex_consistent i s)
 mutex_consistent_sized i s h =
     checked i.limits i s i.a0 4 _
-    (λ le. using_mutex_sized i.limits i.a0 i s _ le
+    (λ le. named_mutex_sized i.limits i.a0 i s consistent_named le
     (λ m u k. answer_either i.limits (not (is_repairable (mutex_at u.locks m))) (refusal EINVAL i u) _ (refusal_sized i.limits EINVAL i u k)
     (answer_either i.limits (not (owns i.caller (mutex_at u.locks m))) (refusal EPERM i u) _ (refusal_sized i.limits EPERM i u k)
     (success_sized i.limits [] i (with_locks (with_soundness Consistent m) u) (repaired_sized i.limits m u k)))) h) h
@@ -211,17 +209,17 @@ cond_init_sized i s h =
 pub cond_destroy_sized : (i : Invocation) (s : Part) → Sized i.limits s → AnswerSized i.limits (cond_destroy i s)
 cond_destroy_sized i s h =
     checked i.limits i s i.a0 4 _
-    (λ le. using_condition_sized i.limits i.a0 i s _ le
+    (λ le. named_condition_sized i.limits i.a0 i s destroy_condition_named le
     (λ c u k. answer_either i.limits (nat_lt 0 (length (condition_waiters u.syncs c))) (refusal EBUSY i u) _ (refusal_sized i.limits EBUSY i u k)
     (success_sized i.limits [] i (with_stored i.a0 DESTROYED (with_pool_condition c None u))
     (stored_sized i.limits i.a0 DESTROYED (with_pool_condition c None u) le (pool_condition_sized i.limits c None u k)))) h) h
 
 -- both objects named and their checks made
-both_named_sized : (l : Limits) (i : Invocation) (s : Part) (next : ℕ → ℕ → Part → Answer) → i.a0 + 4 ≤ l.memory → i.a1 + 4 ≤ l.memory → ((c m : ℕ) (u : Part) → Sized l u → AnswerSized l (next c m u)) → Sized l s
-    → AnswerSized l (using_condition i.a0 i s (λ c u. using_mutex i.a1 i u (λ m v. may_wait c m (λ _ w. next c m w) i v)))
-both_named_sized l i s next le me k h =
-    using_condition_sized l i.a0 i s _ le
-    (λ c u a. using_mutex_sized l i.a1 i u _ me
+both_named_sized : (l : Limits) (i : Invocation) (s : Part) (rest : ℕ → ℕ → Row) → i.a0 + 4 ≤ l.memory → i.a1 + 4 ≤ l.memory → ((c m : ℕ) (u : Part) → Sized l u → AnswerSized l (rest c m i u)) → Sized l s
+    → AnswerSized l (condition_named i.a0 (λ c. mutex_named i.a1 (λ m. may_wait c m (rest c m))) i s)
+both_named_sized l i s rest le me k h =
+    named_condition_sized l i.a0 i s (λ c. mutex_named i.a1 (λ m. may_wait c m (rest c m))) le
+    (λ c u a. named_mutex_sized l i.a1 i u (λ m. may_wait c m (rest c m)) me
     (λ m v b. answer_either l (not (owns i.caller (mutex_at v.locks m))) (refusal EPERM i v) _ (refusal_sized l EPERM i v b)
     (answer_either l (names_another v.syncs c m) (refusal EINVAL i v) _ (refusal_sized l EINVAL i v b) (k c m v b))) a) h
 
@@ -238,7 +236,7 @@ cond_wait_sized i s h =
     checked i.limits i s i.a0 4 _
     (λ le. checked i.limits i s i.a1 4 _
     (λ me. answer_either i.limits (is_cancelled s i.caller) (cancellation_answer i s) _ (cancellation_sized i.limits i s h)
-    (both_named_sized i.limits i s _ le me
+    (both_named_sized i.limits i s (block_on None) le me
     (λ c m u k. blocked_sized i.limits (with_syncs (after_condition_wait i.caller c m None) u) (condition_wait_sized i.limits i.caller c m None u k)) h)) h) h
 
 late_answer_sized : (l : Limits) (move : LockMove) (m : ℕ) (i : Invocation) (s : Part) → Sized l s → AnswerSized l (late_answer move m i s)
@@ -257,7 +255,7 @@ cond_timedwait_sized i s h =
     (λ le. checked i.limits i s i.a1 4 _
     (λ me. checked i.limits i s i.a2 12 _
     (λ _. answer_either i.limits (is_cancelled s i.caller) (cancellation_answer i s) _ (cancellation_sized i.limits i s h)
-    (both_named_sized i.limits i s _ le me
+    (both_named_sized i.limits i s wait_until_asked le me
     (λ c m u k. let deadline : ℕ = deadline_of (timespec_at u.memory i.a2) in
     answer_either i.limits (not (is_timespec (timespec_at u.memory i.a2))) (refusal EINVAL i u) _ (refusal_sized i.limits EINVAL i u k)
     (answer_either i.limits (nat_le deadline i.tick) (late_wait_answer m i u) _ (late_wait_sized i.limits m i u k)
@@ -277,13 +275,13 @@ signals_sized l (suc n) c x h = signals_sized l n c (after_signal c x) (signal_s
 pub cond_signal_sized : (i : Invocation) (s : Part) → Sized i.limits s → AnswerSized i.limits (cond_signal i s)
 cond_signal_sized i s h =
     checked i.limits i s i.a0 4 _
-    (λ le. using_condition_sized i.limits i.a0 i s _ le
+    (λ le. named_condition_sized i.limits i.a0 i s signal_named le
     (λ c u k. success_sized i.limits [] i (with_syncs (after_signal c) u) (with_syncs_sized i.limits (after_signal c) u (signal_sized i.limits c u.syncs k.sizes.syncs_sized) k)) h) h
 
 pub cond_broadcast_sized : (i : Invocation) (s : Part) → Sized i.limits s → AnswerSized i.limits (cond_broadcast i s)
 cond_broadcast_sized i s h =
     checked i.limits i s i.a0 4 _
-    (λ le. using_condition_sized i.limits i.a0 i s _ le
+    (λ le. named_condition_sized i.limits i.a0 i s broadcast_named le
     (λ c u k. success_sized i.limits [] i (with_syncs (after_broadcast c) u) (with_syncs_sized i.limits (after_broadcast c) u (signals_sized i.limits (length (condition_waiters u.syncs c)) c u.syncs k.sizes.syncs_sized) k)) h) h
 
 -- ---- calls 40 to 45

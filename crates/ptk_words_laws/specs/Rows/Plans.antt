@@ -1,5 +1,5 @@
 -- Runs over window plans: windows that move, go to another partition, or are lost for some frames.
-use Rattle.std.specs.Prelude.{◌≡◌, ℕ, List, [], ◌∷◌, codes, Some}
+use Rattle.std.specs.Prelude.{◌≡◌, [], ◌∷◌, codes, Some}
 use Rattle.ptk_words.specs.Names.{Ticks}
 use Rattle.ptk_words_windows.specs.Windows.{OwnTicks}
 use Rattle.ptk_words_model.specs.State.{State}

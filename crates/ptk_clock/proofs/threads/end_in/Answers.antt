@@ -2,9 +2,8 @@ use Rattle.std.proofs.Common.{◌≡◌, ◌+◌, ◌∙◌, sym, ap, arith, tru
 use Rattle.ptk_words_parted.specs.Sets.{has}
 use Rattle.ptk_clock.specs.Pairs.{DeadlineTable}
 use Rattle.ptk_clock.specs.BySlot.{deadlines_from}
-use Rattle.ptk_clock.specs.ByThread.{without_first}
 use Rattle.ptk_clock.proofs.Expiries.{length-deadlines_from}
-use Rattle.ptk_clock.proofs.LeastDeadlines.{ended_then, ended_else, first-all}
+use Rattle.ptk_clock.proofs.LeastDeadlines.{ended_then, ended_else, first-all, without_first}
 use Rattle.ptk_clock.proofs.threads.end_in.Goals as goal
 use Rattle.ptk_clock.proofs.threads.end_in.Goals.{then-has, else-has}
 

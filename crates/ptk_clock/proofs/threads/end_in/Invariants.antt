@@ -1,5 +1,5 @@
 use Rattle.ptk_words_parted.specs.Sets.{has}
-use Rattle.ptk_clock.specs.ByThread.{AreEnded}
+use Rattle.ptk_clock.proofs.LeastDeadlines.{AreEnded}
 use Rattle.ptk_clock.proofs.threads.end_in.Given as goal
 
 -- the deadlines of the first k threads that are in the set are ended

@@ -1,4 +1,4 @@
-use Rattle.std.proofs.Common.{◌≡◌, ◌+◌, ◌-◌, ◌<◌, ◌≤◌, ◌∙◌, ap, arith}
+use Rattle.std.proofs.Common.{◌∙◌, ap, arith}
 use Rattle.ptk_words.specs.Pools.{is_in}
 use Rattle.ptk_clock.specs.Pairs.{slots_of}
 use Rattle.ptk_clock.proofs.SlotMoves.{set_no_slot, out_without, some_own, some_elsewhere, none_own, none_elsewhere}

@@ -2,8 +2,8 @@ use Rattle.std.proofs.Common.{sym, ◌∙◌, subst}
 use Rattle.ptk_words.specs.Pools.{pool_get, without}
 use Rattle.ptk_words_parted.specs.Parts.{part_of}
 use Rattle.ptk_words_model.specs.State.{Locks}
-use Rattle.ptk_words_model.specs.Condition.{after_unblock_for}
-use Rattle.ptk_words_locks.specs.Conditions.{waiters_on, HasRoom}
+use Rattle.ptk_words_model.specs.Condition.{after_unblock_for, waiters_on}
+use Rattle.ptk_words_locks.specs.Conditions.{HasRoom}
 use Rattle.ptk_roster.specs.Rosters.{Rostered}
 use Rattle.ptk_mutex_rise.specs.Visits.{IsVisited}
 use Rattle.ptk_mutex.specs.Tables.{MayWait}

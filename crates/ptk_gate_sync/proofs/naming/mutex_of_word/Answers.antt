@@ -1,4 +1,4 @@
-use Rattle.std.proofs.Common.{◌≡◌, false, length, sym, ◌∙◌}
+use Rattle.std.proofs.Common.{◌≡◌, false, sym, ◌∙◌}
 use Rattle.std.specs.Prelude.{Some}
 use Rattle.ptk_words.specs.Words.{word_at}
 use Rattle.ptk_words.specs.declared.mutexes.MutexKind.TheVariants.{Normal}

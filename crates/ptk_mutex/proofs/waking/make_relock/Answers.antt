@@ -9,7 +9,7 @@ use Rattle.ptk_words_model.specs.Schedule.{woken_with}
 use Rattle.ptk_words_model.specs.Mutex.{after_move, move_reply}
 use Rattle.ptk_threads.specs.Table.{with_changed}
 use Rattle.ptk_mutex.specs.Tables.{locks_at, with_threads}
-use Rattle.ptk_mutex.specs.Rises.{is_wait}
+use Rattle.ptk_mutex.specs.Rises.{is_waiting}
 use Rattle.ptk_mutex.proofs.Raised.{move_threads, relock_wakes, wake_stored}
 use Rattle.ptk_mutex.proofs.NoWaiters.{made_free}
 use Rattle.ptk_mutex.proofs.waking.make_relock.Goals as goal
@@ -17,13 +17,13 @@ use Rattle.ptk_mutex.proofs.waking.make_relock.Goals as goal
 pub wake-requires-clause-free : goal.wake-requires-clause-free
 wake-requires-clause-free c =
     made_free c.args.made c.args.p c.args.t c.args.m (RelockWait c.args.m c.args.reply) c.args.roster.now.table c.args.roster.now.lines c.args.roster.now.mutexes c.make-visited.new.roster.mutexes c.args.roster.now.conditions c.make-visited.new.roster.conditions
-    c.requires.ready.part (sym c.is_wait.ensures ∙ c.if-is_wait.false) c.make-visited.ensures.mutexes c.make-visited.ensures.conditions c.requires.free
+    c.requires.ready.part (sym c.is_waiting.ensures ∙ c.if-is_waiting.false) c.make-visited.ensures.mutexes c.make-visited.ensures.conditions c.requires.free
 
 pub returns-clause-threads : goal.returns-clause-threads
 returns-clause-threads c =
     let locks : Locks = locks_at c.args.p c.args.roster.now.table c.args.roster.now.lines c.args.roster.now.mutexes in
     let moved : Locks = after_move c.args.made c.args.t c.args.m (RelockWait c.args.m c.args.reply) locks in
-    let goes_on : is_wait c.args.made ≡ false = sym c.is_wait.ensures ∙ c.if-is_wait.false in
+    let goes_on : is_waiting c.args.made ≡ false = sym c.is_waiting.ensures ∙ c.if-is_waiting.false in
     let awake : awaited (thread_at moved c.args.t) ≡ None =
     ap (λ (l : List (Option Thread)). awaited (pool_get l c.args.t)) (move_threads c.args.made c.args.t c.args.m (RelockWait c.args.m c.args.reply) locks goes_on) ∙ c.requires.caller.awake in
     c.wake.ensures.threads

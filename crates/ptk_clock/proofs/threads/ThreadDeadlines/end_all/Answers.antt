@@ -1,4 +1,4 @@
-use Rattle.std.proofs.Common.{◌≡◌, ◌+◌, ◌≤◌, ◌∙◌, sym, ap, arith, List, Option, None, option_map}
+use Rattle.std.proofs.Common.{◌≡◌, ◌∙◌, sym, ap, None}
 use Rattle.ptk_words_locks.specs.Deadlines.{without_deadlines}
 use Rattle.std.proofs.Common.{[]}
 use Rattle.std.specs.Prelude.{slice_set}
@@ -6,7 +6,7 @@ use Rattle.std.proofs.lemmas.List.{set-get_or}
 use Rattle.ptk_words_parted.specs.Parts.{part_of}
 use Rattle.ptk_clock.specs.ByThread.{least_deadline}
 use Rattle.ptk_clock.proofs.LeastDeadlines.{none_told, none_ended}
-use Rattle.ptk_clock.proofs.ByThread.{count_back, IsLaid, IsChange, within, laid_read, least_read, change, kept_back, view_back}
+use Rattle.ptk_clock.proofs.ByThread.{count_back, IsChange, within, laid_read, least_read, change, kept_back, view_back}
 use Rattle.ptk_clock.proofs.threads.ThreadDeadlines.end_all.Goals as goal
 
 pub slots_at-slots-requires : goal.slots_at-slots-requires

@@ -1,6 +1,5 @@
-use Rattle.std.proofs.Common.{◌≡◌, ◌+◌, ◌≤◌, ◌∙◌, sym, ap, arith, List, Option, None, option_map}
 use Rattle.ptk_words.specs.Pools.{pool_set}
-use Rattle.ptk_clock.proofs.ByThread.{IsLaid, IsChange, within, laid_read, least_read, change, kept_back, view_back}
+use Rattle.ptk_clock.proofs.ByThread.{IsChange, within, laid_read, change, kept_back, view_back}
 use Rattle.ptk_clock.proofs.threads.ThreadDeadlines.set.Goals as goal
 
 pub slots_at-slots-requires : goal.slots_at-slots-requires

@@ -2,7 +2,7 @@ use Rattle.std.proofs.Common.{◌∙◌, ap, arith, not, length, ℕ, List}
 use Rattle.std.specs.Prelude.{◌==◌}
 use Rattle.ptk_words.specs.Pools.{pool_get}
 use Rattle.ptk_words_parted.specs.Parts.{part_of}
-use Rattle.ptk_words_locks.specs.Conditions.{waiters_on}
+use Rattle.ptk_words_model.specs.Condition.{waiters_on}
 use Rattle.ptk_roster.specs.Rosters.{Rostered}
 use Rattle.ptk_roster.proofs.Pools.{sleepers_at}
 use Rattle.ptk_roster.proofs.roster.Roster.has_condition_waiters.Goals as goal
