@@ -23,11 +23,12 @@ use Rattle.ptk_words_model.specs.declared.LockMove.TheVariants as moves
 use Rattle.ptk_words_model.specs.State.{Mutex, Locks, Part, with_locks}
 use Rattle.ptk_words_model.specs.Priority.{is_owner, assigned_priority, effective_priority}
 use Rattle.ptk_words_model.specs.Mutex.{mutex_at, with_mutex, is_free, is_raising, is_above_ceiling, owner_move, free_move, own_lock_move, lock_move, owns, waiters_of, count_of, soundness_of, after_take, after_free, after_hand_over_to, after_last_unlock, after_unlock}
-use Rattle.ptk_words_model.specs.MutexCalls.{mutex_lock, mutex_unlock, make_move, lock_named, unlock_named}
-use Rattle.ptk_words_model.specs.Calls.{Answer, replied, refusal, success, is_pointer, set_up_mutex}
+use Rattle.ptk_words_model.specs.MutexCalls.{mutex_lock, mutex_unlock, make_move}
+use Rattle.ptk_words_model.specs.Calls.{Answer, replied, refusal, success, is_pointer}
 use Rattle.ptk_words_model.specs.CallTable.{answer_to}
 use Rattle.ptk_words_model.specs.Steps.{Row, readable, mutex_named}
 use Rattle.ptk_words_model.specs.Decision.{with_cpu, invocation}
+use Rattle.ptk_words_well.specs.Rests.{lock_by, unlock_named}
 use Rattle.ptk_mutex_slots.specs.Plain.{is_sound, is_takeable, is_releasable}
 use Rattle.ptk_mutex_slots.proofs.Plain.{takeable_plain, releasable_plain}
 use Rattle.ptk_gate_steps.specs.declared.quiet_calls.QuietEffect.TheVariants.{Takes, Releases}
@@ -100,18 +101,18 @@ record IsNamed (pointer m : ℕ) (s : Part) : Type 0 where
   some : 0 < m
   used : is_some (mutex_at s.locks m) ≡ true
 
-named_by : (pointer : ℕ) (word m : ℕ) (made other : Answer) (rest : ℕ → Part → Answer) (s : Part) → word ≡ m → 0 < m → is_some (mutex_at s.locks m) ≡ true
-    → (if word == 0 then made else if is_some (mutex_at s.locks word) then rest word s else other) ≡ rest m s
-named_by pointer word m made other rest s e lt used =
-    ap (λ (w : ℕ). if w == 0 then made else if is_some (mutex_at s.locks w) then rest w s else other) e
-    ∙ (ap (λ (b : Bool). if b then made else if is_some (mutex_at s.locks m) then rest m s else other) (ne_eqb m 0 (λ z. absurd (omega (arith, z, lt))))
-    ∙ ap (λ (b : Bool). if b then rest m s else other) used)
+named_by : (word m : ℕ) (made other : Answer) (rest : ℕ → Part → Answer) (s : Part) → word ≡ m → 0 < m → is_some (mutex_at s.locks m) ≡ true
+    → (if word == 0 then made else if not (is_some (mutex_at s.locks word)) then other else rest word s) ≡ rest m s
+named_by word m made other rest s e lt used =
+    ap (λ (w : ℕ). if w == 0 then made else if not (is_some (mutex_at s.locks w)) then other else rest w s) e
+    ∙ (ap (λ (b : Bool). if b then made else if not (is_some (mutex_at s.locks m)) then other else rest m s) (ne_eqb m 0 (λ z. absurd (omega (arith, z, lt))))
+    ∙ ap (λ (b : Bool). if not b then other else rest m s) used)
 
 -- so the call goes on with that mutex
 named_row : (m : ℕ) (rest : ℕ → Row) (i : Invocation) (s : Part) → IsNamed i.a0 m s → readable i.a0 4 (mutex_named i.a0 rest) i s ≡ rest m i s
 named_row m rest i s is =
     ap (λ (b : Bool). if not b then refusal EFAULT i s else mutex_named i.a0 rest i s) is.pointed
-    ∙ named_by i.a0 (word_at s.memory i.a0) m (set_up_mutex (least_free s.mutexes) i.a0 i s (λ k u. rest k i u)) (refusal EINVAL i s) (λ k u. rest k i u) s is.word is.some is.used
+    ∙ named_by (word_at s.memory i.a0) m _ (refusal EINVAL i s) (λ k u. rest k i u) s is.word is.some is.used
 
 -- ---- the calls
 
@@ -126,14 +127,14 @@ used_last t (Some m) e = refl
 -- a lock
 lock_row : (m : ℕ) (i : Invocation) (s : Part) → IsNamed i.a0 m s → is_takeable (mutex_at s.locks m) ≡ true → (mutex_lock i s).part ≡ replied i.caller (0 ∷ []) (with_locks (after_take i.caller m) s)
 lock_row m i s is free =
-    ap (λ (a : Answer). a.part) (named_row m (λ k. lock_named k) i s is)
+    ap (λ (a : Answer). a.part) (named_row m (lock_by None) i s is)
     ∙ ap (λ (move : LockMove). (make_move move m None i s).part) (takes s.locks i.caller (mutex_at s.locks m) free)
 
 -- an unlock
 unlock_row : (m : ℕ) (i : Invocation) (s : Part) → IsNamed i.a0 m s → is_releasable i.caller (mutex_at s.locks m) ≡ true → (mutex_unlock i s).part ≡ replied i.caller (0 ∷ []) (with_locks (after_free m) s)
 unlock_row m i s is free =
     let known : IsLast i.caller (mutex_at s.locks m) = last i.caller (mutex_at s.locks m) free in
-    ap (λ (a : Answer). a.part) (named_row m (λ k. unlock_named k) i s is)
+    ap (λ (a : Answer). a.part) (named_row m unlock_named i s is)
     ∙ (ap (λ (b : Bool). (if not b then refusal EPERM i s else success [] i (with_locks (after_unlock m) s)).part) known.owned
     ∙ ap (λ (locks : Locks). replied i.caller (0 ∷ []) (with_locks (λ _. locks) s)) (freed i.caller m s.locks known))
 

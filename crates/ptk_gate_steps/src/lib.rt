@@ -1,12 +1,17 @@
-//! What a step of the running thread is made of, over the moves of `ptk_gate_pools`: the thread that runs, what its next
-//! step is and costs, what the trace keeps of it, an instruction's effect on the registers and the memory, and up to
-//! which tick nothing but the thread's steps can come (`quiet_until`, which misses no partition that only computes), or
-//! nothing at all (`idle_until`, which misses no partition that has nothing to do), and the calls that are made beside
-//! rows of steps (`make_reply`). Each function that changes the pools is one equation: they are the old ones with the
-//! part in hand replaced by what the model makes of it; every other partition's part stays. What the gate's tables ask
-//! without a change takes a `Look` at one partition, whichever is in hand, and its clauses speak of that partition's
-//! numbers and part alone. Below stand the pools and the instructions; above, the gate's tables and the kernel. Costly
-//! to prove is `instruct`, which brings what is seen of a step and its effect together.
+//! The running thread's next step, its cost and what the trace keeps of it; up to which tick nothing but its steps can
+//! come, or that there is nothing to do; and quiet calls, made beside rows of steps.
+//!
+//! - The step of an instruction is one equation over the pools (`instruct`).
+//! - By a `Look` at one partition: what the next step is and costs, the registers that it starts from, and what the
+//!   trace keeps of it (`next_step`, `step_cost`, `registers`, `a0_after`).
+//! - The ticks up to which the partition only computes (`quiet_until`) or has nothing to do (`idle_until`); both are
+//!   the latest such tick.
+//! - `make_reply` makes a quiet call in its caller's registers, and its effect: a mutex taken or given, a byte put, or
+//!   a value of a key set.
+//!
+//! What the gate's tables ask without a change takes a `Look` at one partition, whichever is in hand, and its clauses
+//! speak of that partition's numbers and part alone. Below are the pools and the instructions; above are the gate's
+//! tables and the kernel. Costly to prove is `instruct`, which brings what is seen of a step and its effect together.
 #![tactic(auto)]
 
 mod idle_stops;

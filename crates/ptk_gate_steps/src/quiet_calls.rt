@@ -3,7 +3,7 @@
 //! console_put, pthread_setspecific and pthread_getspecific. None of them changes anything here but the registers: its
 //! effect is told.
 
-ghost use Rattle.std.specs.Prelude.{◌≡◌, ℕ, ◌<◌, ◌≤◌, true, Some, IfSome};
+ghost use Rattle.std.specs.Prelude.{◌≡◌, ℕ, ◌<◌, ◌≤◌, true, None, Some, IfSome};
 ghost use Rattle.ptk_words.specs.Calls.{call_of};
 ghost use Rattle.ptk_words.specs.Faults.{errno_number};
 ghost use Rattle.ptk_words.specs.Processor.{register, with_register};
@@ -17,7 +17,7 @@ ghost use Rattle.ptk_gate_steps.specs.declared.quiet_calls.QuietEffect.TheVarian
 
 use ptk_gate_moves::{Pools, is_pointer, is_taken, named_thread, policy_number};
 use ptk_keys::KeyNo;
-use ptk_words::{A0, A1, A2, A7, Call, Cpu, Errno, MutexNo, ThreadNo, read_word};
+use ptk_words::{A0, A1, A2, Call, Cpu, Errno, MutexNo, ThreadNo, read_word};
 
 /// What a quiet call makes of its partition beside its caller's registers.
 #[derive(Clone, Copy)]
@@ -41,15 +41,15 @@ pub(crate) struct QuietCall {
     pub(crate) effect: QuietEffect,
 }
 
-/// Puts the reply into the caller's registers, whose pc is past the ECALL, where the call is quiet; its ticks and its
-/// effect. 0 ticks of any other call.
+/// Puts the reply into the caller's registers, whose pc is past the ECALL, where the call that they state is quiet; its
+/// ticks and its effect. 0 ticks of any other call.
 #[inline(always)]
 #[tactic(auto, using(crate::proofs::RepliesPut::replies))]
-pub(crate) fn put_reply(pools: &Pools, t: ThreadNo, cpu: &mut Cpu) -> QuietCall
+pub(crate) fn put_reply(pools: &Pools, t: ThreadNo, known: Option<Call>, cpu: &mut Cpu) -> QuietCall
+    requires known { known ≡ call_of (register cpu.old A7) }
     ensures short { result.ticks ≤ 16 }
     ensures put { 0 < result.ticks → IsPut (limits_here pools.now) result.ticks t cpu.old cpu.new result.effect pools.now.here }
 {
-    let known = Call::of_number(cpu.register(A7));
     match known {
         None => {
             refuse(cpu, Errno::ENOSYS);
@@ -79,6 +79,27 @@ pub(crate) fn put_reply(pools: &Pools, t: ThreadNo, cpu: &mut Cpu) -> QuietCall
             replied(2)
         }
         Some(_) => replied(0),
+    }
+}
+
+/// Whether `put_reply` may make this call, or a number that is no call. It costs the registers' copy where it may.
+#[inline(always)]
+pub(crate) fn may_be_quiet(known: Option<Call>) -> bool
+    ensures { known ≡ None → result ≡ true }
+{
+    match known {
+        None
+        | Some(
+            Call::PthreadSelf
+            | Call::PthreadGetschedparam
+            | Call::PthreadDetach
+            | Call::ConsolePut
+            | Call::MutexLock
+            | Call::MutexUnlock
+            | Call::PthreadSetspecific
+            | Call::PthreadGetspecific,
+        ) => true,
+        Some(_) => false,
     }
 }
 

@@ -11,9 +11,9 @@ ghost use Rattle.ptk_gate_moves.specs.Held.{limits_here};
 ghost use Rattle.ptk_gate_steps.specs.Replies.{IsMadeHere, IsPlainEffect, after_quiet_effect};
 
 use crate::kinds::word_fetched;
-use crate::quiet_calls::{QuietEffect, put_reply};
+use crate::quiet_calls::{QuietEffect, may_be_quiet, put_reply};
 use ptk_gate_moves::Pools;
-use ptk_words::{A0, Cpu, ECALL, Entry, Policy, ThreadNo, Tick};
+use ptk_words::{A0, A7, Call, Cpu, ECALL, Entry, Policy, ThreadNo, Tick};
 
 /// Makes the next step of a thread of the partition in hand, where that is a quiet call that takes at most `room` ticks:
 /// the thread has the reply, its ticks are counted, the call's effect is made, and it is the last step. Returns its ticks;
@@ -28,15 +28,20 @@ pub fn make_reply(pools: &mut Pools, t: ThreadNo, tick: Tick, room: u64) -> u32
     let Some(thread) = pools.thread_ref(t) else {
         return 0;
     };
-    let mut cpu = thread.cpu;
-    let policy = thread.policy;
-    let used = thread.used;
-    let pc = cpu.pc();
+    let registers = &thread.cpu;
+    let pc = registers.pc();
     if word_fetched(pools.memory(), pc) != ECALL {
         return 0;
     }
+    let known = Call::of_number(registers.register(A7));
+    if !may_be_quiet(known) {
+        return 0;
+    }
+    let mut cpu = thread.cpu;
+    let policy = thread.policy;
+    let used = thread.used;
     cpu.set_pc(pc.wrapping_add(4));
-    let call = put_reply(pools, t, &mut cpu);
+    let call = put_reply(pools, t, known, &mut cpu);
     let ticks = call.ticks;
     if ticks == 0 || room < u64::from(ticks) {
         return 0;

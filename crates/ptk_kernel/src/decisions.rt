@@ -1,4 +1,4 @@
-//! A decision, and what it comes to.
+//! A decision in two halves, and what it spends.
 
 ghost use Rattle.std.specs.Prelude.{◌≡◌, ◌<◌, ◌≤◌, true, length, Some};
 ghost use Rattle.ptk_words_model.specs.Decision.{runner_of, ready_at, after_turn, spent_in_turn, after_decision, spent_by_decision};
@@ -13,10 +13,9 @@ use ptk_gate_steps::{NextStep, step_cost};
 use ptk_words::{Entry, PartId, Tick};
 use ptk_words_model::Spent;
 
-/// A decision of the partition, which has not halted, at a tick of its own with so many ticks to its window's end: what
-/// has come by that tick arrives, the running thread is chosen, and it makes a step if the whole cost fits. What it
-/// spent: the ticks of the step, Idle where no thread runs, Lost where the cost does not fit and no step was made. No
-/// other partition changes.
+/// A decision of the partition, which has not halted, at a tick of its own with this number of ticks to its window's end:
+/// `prepare`, and then `take_turn`. What it spent: the ticks of the step, Idle where no thread runs, Lost where the cost
+/// does not fit and no step was made. No other partition changes.
 pub fn decide(tables: &mut Tables, p: PartId, tick: Tick, room: u32) -> Spent
     requires partition { p < length tables.old.limits }
     requires active { is_active (part_at p tables.old).status ≡ true }
@@ -26,20 +25,14 @@ pub fn decide(tables: &mut Tables, p: PartId, tick: Tick, room: u32) -> Spent
     ensures short { cost_in result ≤ 16 }
 {
     let _parts = tables.parts();
-    make_ready(tables, p, tick);
+    prepare(tables, p, tick);
     take_turn(tables, p, tick, room)
 }
 
-/// The partition's last step, None before the first.
-pub fn last_step(tables: &Tables, p: PartId) -> Option<Entry>
-    requires partition { p < length tables.now.limits }
-    ensures { result ≡ (part_at p tables.now).last }
-{
-    tables.last_step(p)
-}
-
-/// The arrivals of the tick, its expiries, and the choice of the running thread.
-fn make_ready(tables: &mut Tables, p: PartId, tick: Tick)
+/// The first half of a decision of the partition, which has not halted, at the tick: what has come by that tick arrives, the
+/// deadlines that are due expire, and the running thread is chosen. The partition's part is `ready_at` of what it was; no
+/// tick is spent, and no other partition changes.
+pub fn prepare(tables: &mut Tables, p: PartId, tick: Tick)
     requires partition { p < length tables.old.limits }
     requires active { is_active (part_at p tables.old).status ≡ true }
     ensures { tables.new ≡ put_part p (ready_at (limits_at p tables.old) tick (part_at p tables.old)) tables.old }
@@ -50,9 +43,11 @@ fn make_ready(tables: &mut Tables, p: PartId, tick: Tick)
     tables.choose(p);
 }
 
-/// The next step of the thread that runs; Idle where none does, and nothing changes.
+/// The second half of a decision, of a partition that is prepared for it: the running thread makes its next step at the
+/// tick, if the whole cost fits into the room, the ticks to the window's end. What it spent: the ticks of the step; Idle
+/// where no thread runs and Lost where the cost does not fit, and nothing changes. No other partition changes.
 #[tactic(auto, using(crate::proofs::Turns::turns))]
-fn take_turn(tables: &mut Tables, p: PartId, tick: Tick, room: u32) -> Spent
+pub fn take_turn(tables: &mut Tables, p: PartId, tick: Tick, room: u32) -> Spent
     requires partition { p < length tables.old.limits }
     ensures told { result ≡ spent_in_turn room (runner_of (part_at p tables.old)) (part_at p tables.old) }
     ensures moved { tables.new ≡ put_part p (after_turn (limits_at p tables.old) tick room (runner_of (part_at p tables.old)) (part_at p tables.old)) tables.old }
@@ -80,4 +75,12 @@ fn begin_step(tables: &mut Tables, p: PartId, tick: Tick, room: u32, next: &Next
     }
     whole_step(tables, p, tick, next, cost);
     Spent::Step(cost)
+}
+
+/// The partition's last step, None before the first.
+pub fn last_step(tables: &Tables, p: PartId) -> Option<Entry>
+    requires partition { p < length tables.now.limits }
+    ensures { result ≡ (part_at p tables.now).last }
+{
+    tables.last_step(p)
 }

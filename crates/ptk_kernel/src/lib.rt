@@ -1,15 +1,25 @@
-//! One decision of a partition at a tick of its own: the arrivals of the tick, the choice of the running thread, and
-//! then nothing where no thread runs, a lost rest of the window where the next step's cost does not fit, or that step
-//! with its entry in the trace and its ticks in the round-robin interval. `decide` promises that the tables are the old
-//! ones with the partition's part after the model's decision, so that every other partition's part stays, and what the
-//! decision spent; `last_step` tells the entry. `compute` carries out plain steps of a quiet partition in a row, each
-//! in place of a decision: it tests once that nothing else can come, and its clause (`specs/Rows`) is in the words of
-//! `ptk_words_quiet`, whose laws make ticks of it. `stays_idle_until` returns up to which tick a partition has
-//! nothing to do, and `idle_until` when its next deadline or input comes.
-//! Below stand the gate's tables, which carry out each part of a decision, and the gate's `call`, through which every
-//! ECALL goes; above, the system. Dear to prove is that two moves one after another are the model's one:
-//! `tables.parts()` is read first there, for its clause that every component of the tables has an entry for each
-//! partition.
+//! One decision of one partition at a tick of its own (`decide`), its two halves (`prepare`, `take_turn`), and in place
+//! of decisions plain steps in a row (`compute`), quiet calls (`reply`) and the ticks over which a partition has
+//! nothing to do (`stays_idle_until`).
+//!
+//! - `decide` is the model's decision for p, spends what it says, at most 16 ticks a step, and leaves every other part.
+//! - It requires that p is not halted and room is at least 1.
+//! - `quiet_until` returns the tick up to which a partition is quiet.
+//! - `compute` makes plain steps of a quiet partition in a row in place of decisions, up to that tick, with the part
+//!   and the trace after these plain steps.
+//! - It ends early only before a step that is not plain, or after 2^31 steps.
+//! - `reply` makes the decision of a quiet partition whose next step is a quiet call.
+//! - Both leave it as quiet as it was.
+//! - `prepare` is its part up to the choice of the running thread (`ready_at`), and `take_turn` the rest (`after_turn`,
+//!   `spent_in_turn`), of whatever state p is in.
+//!
+//! `prepare` and `take_turn` are public, since between the two a caller may find that the partition is quiet.
+//! `last_step` returns the trace's entry. `compute` tests once that nothing else can come, and its clause
+//! (`specs/Rows`) is in the words of `ptk_words_quiet`, whose laws make ticks of it. `idle_until` returns when the
+//! partition's next deadline or input comes. Below are the gate's tables, which carry out each part of a decision, and
+//! the gate's `call`, through which every ECALL goes; above is the system. Costly to prove is that two moves one after
+//! another are the model's one: `tables.parts()` is read first there, for its clause that every component of the tables
+//! has an entry for each partition.
 #![tactic(auto)]
 
 mod decisions;
@@ -17,7 +27,7 @@ mod events;
 mod rows;
 mod steps;
 
-pub use decisions::{decide, last_step};
+pub use decisions::{decide, last_step, prepare, take_turn};
 pub use events::idle_until;
 pub use ptk_gate::Tables;
 pub use ptk_gate_steps::Quiet;

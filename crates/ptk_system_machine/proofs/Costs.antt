@@ -40,3 +40,7 @@ turn_costs room (Some r) s some = by (nat_lt room (step_cost (step_kind s r.numb
 pub decision_costs : (limits : Limits) (tick room : ℕ) (s : Part) (spent : Spent) → 1 ≤ room → spent ≡ spent_by_decision limits tick room s → 1 ≤ duration_of room spent
 decision_costs limits tick room s spent some told =
     subst (λ (spent : Spent). 1 ≤ duration_of room spent) (sym told) (turn_costs room (runner_of (ready_at limits tick s)) (ready_at limits tick s) some)
+
+-- what was told of a turn takes up a tick at least
+pub turn_told_costs : (room : ℕ) (s : Part) (spent : Spent) → 1 ≤ room → spent ≡ spent_in_turn room (runner_of s) s → 1 ≤ duration_of room spent
+turn_told_costs room s spent some told = subst (λ (spent : Spent). 1 ≤ duration_of room spent) (sym told) (turn_costs room (runner_of s) s some)

@@ -20,7 +20,8 @@ interval_last interval cost t (Some thread) s = by (is_running t s.running && is
     by true true = refl
     by true false = refl
 
-turn_entry : (limits : Limits) (tick room : ℕ) (r : Option Runner) (s : Part) → HasEntry (spent_in_turn room r s) (after_turn limits tick room r s).last
+-- a turn that is a step leaves its entry
+pub turn_entry : (limits : Limits) (tick room : ℕ) (r : Option Runner) (s : Part) → HasEntry (spent_in_turn room r s) (after_turn limits tick room r s).last
 turn_entry limits tick room None s = tt
 turn_entry limits tick room (Some r) s = by (nat_lt room (step_cost (step_kind s r.number r.thread)))
   where

@@ -7,3 +7,4 @@ pub mod Coming
 pub mod Costs
 pub mod StillQuiet
 pub mod Progress
+pub mod Prepared

@@ -1,5 +1,5 @@
 -- A run of rows goes on where the next decision is a plain step.
-use Rattle.std.proofs.Common.{All, ◌≡◌, ◌≢◌, ℕ, zero, suc, ◌+◌, ◌-◌, ◌<◌, ◌≤◌, ◌^◌, true, false, List, length, Option, Some, ◌⊎◌, inl, inr, sym, ap, subst, ◌∙◌, arith, lit<}
+use Rattle.std.proofs.Common.{All, ◌≡◌, ◌≢◌, ℕ, zero, suc, ◌+◌, ◌-◌, ◌<◌, ◌≤◌, ◌^◌, false, List, length, Option, Some, ◌⊎◌, inl, inr, sym, ap, subst, ◌∙◌, arith, lit<}
 use Rattle.std.specs.Prelude.{min}
 use Rattle.std.proofs.Math.ListN.{take}
 use Rattle.std.proofs.lemmas.Bool.{cases_lt, cases_order, false≢true}

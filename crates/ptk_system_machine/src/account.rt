@@ -13,7 +13,7 @@ use std::alloc::{AllocError, Global};
 use std::marker::Model;
 
 /// The tick of a partition's next decision, if there is one, its steps, its lost ticks and its last steps. Beside them
-/// stands where it was last found among its windows, of which nothing is told.
+/// stands where it was last found among its windows, of which nothing is said.
 #[derive(Drop)]
 pub struct Account {
     next: Option<Tick>,
@@ -32,7 +32,7 @@ impl Model for Account {
 }
 
 impl Account {
-    /// The account before the first decision, which is at this tick, with a trace of so many steps. An error where
+    /// The account before the first decision, which is at this tick, with a trace of this many steps. An error where
     /// memory ran out. No other call takes memory.
     pub(crate) fn new(alloc: Global, next: Option<Tick>, kept: u32) -> Result<Account, AllocError>
         ensures { IfOk result (λ account. account ≡ record { account = first_account next; kept = kept }) }
@@ -95,7 +95,7 @@ impl Account {
         }
     }
 
-    /// Counts so many steps of a row, whose entries are in the trace, each as a decision: the tick of the next one, and
+    /// Counts this many steps of a row, whose entries are in the trace, each as a decision: the tick of the next one, and
     /// the steps.
     pub(crate) fn count_row(&mut self, next: Option<Tick>, steps: u32)
         requires { self.old.account.steps ≤ LAST_TICK }

@@ -1,10 +1,17 @@
-//! All partitions over the ticks: the gate's tables, and beside them for each partition what the system counts. A run goes
-//! on with one partition after the other, each turn after turn, by rows of plain steps and by single decisions, and where a
-//! partition has nothing to do at once to the tick up to which that is so. It promises that it does to each partition what
-//! so many ticks of the definition do to that partition alone (`Machine::run`). Below stand the kernel and the window
-//! plan; the system stands above. Dear to prove: that a decision and the ticks up to the next one are so many ticks
-//! (`proofs/Ticks`), that a row is counted as so many decisions (`proofs/CountedRows`), and in pictures, where partitions
-//! go on side by side, that each may be at a tick of its own (`proofs/Coming`).
+//! All partitions over the ticks: the tables with each partition's account (next decision, steps, lost ticks, last
+//! steps), taken on by preparations of decisions, rows of plain steps, quiet calls, turns of single threads and idle
+//! ticks.
+//!
+//! - A run from a tick to another, one partition after the other and each turn after turn, by rows of plain steps and
+//!   quiet calls over any number of windows, turns of single threads and the ticks over which a partition has nothing
+//!   to do, does to each partition what these ticks do to it alone (`Machine::run`).
+//! - Each turn is prepared once: what is quiet is prepared, and from what is prepared and quiet ticks lead where they
+//!   lead from the state before (`quiet_is_prepared`, `prepared_goes_on` of `ptk_words_quiet`).
+//!
+//! Below are the kernel and the window plan; above is the system. Costly to prove are that a decision and the ticks up
+//! to the next one are as many ticks as the definition says (`proofs/Ticks`), that a row is counted as that many
+//! decisions (`proofs/CountedRows`), and, for pictures, where partitions go on side by side, that each may be at a tick
+//! of its own (`proofs/Coming`).
 #![tactic(auto)]
 
 mod account;

@@ -1,21 +1,29 @@
-//! How all partitions go on: one after the other, each from turn to turn, by rows of plain steps and by single decisions.
+//! How all partitions go on: one after the other, each from turn to turn, by rows of plain steps and quiet calls and by the
+//! turns of single threads.
 
-ghost use Rattle.std.specs.Prelude.{◌≡◌, ◌<◌, ◌≤◌, ◌≢◌, ◌^◌, ◌+◌, ◌-◌, ℕ, All, None, Some, IfSome, IsTrue, MatchOption, length, min};
+ghost use Rattle.std.specs.Prelude.{◌≡◌, ◌<◌, ◌≤◌, ◌≢◌, ◌^◌, ◌+◌, ◌-◌, ℕ, All, None, Some, IfSome, IsSome, IsTrue, MatchOption, length, min};
 ghost use Rattle.ptk_words.specs.declared.TheConstants.{LAST_TICK};
 ghost use Rattle.ptk_words_windows.specs.Windows.{own_ticks};
+ghost use Rattle.ptk_words_model.specs.Decision.{ready_at};
 ghost use Rattle.ptk_words_model.specs.Run.{next_from};
+ghost use Rattle.ptk_words_model.specs.State.{State};
 ghost use Rattle.ptk_words_quiet.specs.Quiet.{after_ticks};
+ghost use Rattle.ptk_words_quiet.specs.Prepared.{prepared};
 ghost use Rattle.ptk_words_quiet.specs.Idle.{IsIdle};
-ghost use Rattle.ptk_kernel.specs.Kept.{limits_at, part_at};
+ghost use Rattle.ptk_kernel.specs.Kept.{limits_at, part_at, put_part};
 ghost use Rattle.ptk_kernel.specs.Rows.{IsStill, IsStillTo};
 ghost use Rattle.ptk_kernel.specs.Spending.{cost_in};
 ghost use Rattle.ptk_system_machine.specs.Accounts.{IsBehind};
 ghost use Rattle.ptk_system_machine.specs.Turns.{IsAt, IsComing, IsFreeFrom, IsInWindow, IsPlainAt, IsStillUntil, IsUpTo, turn_at};
-ghost use Rattle.ptk_system_machine.specs.Whole.{AreWindowsOf, account_at, gone_on, state_at};
+ghost use Rattle.ptk_system_machine.specs.Whole.{AreWindowsOf, account_at, gone_on, put_state, state_at};
+
+mod plain;
 
 use crate::account::duration;
 use crate::machine::{Machine, is_active};
-use ptk_kernel::{Quiet, Tables, compute, decide, last_step, quiet_until, reply, stays_idle_until};
+use ptk_kernel::{
+    Quiet, Tables, compute, last_step, prepare, quiet_until, reply, stays_idle_until, take_turn,
+};
 use ptk_window::{Near, Turn, Walk, WindowPlan};
 use ptk_words::{PartId, Status, Tick};
 use ptk_words_model::Spent;
@@ -25,7 +33,7 @@ const PARTS: usize = 8;
 
 impl Machine {
     /// Goes on from a tick to `to`: with one partition after the other, in the order of sections, since none sees how far
-    /// another has come. To each partition it does what so many ticks would do to that partition alone.
+    /// another has come. To each partition it does what this many ticks would do to that partition alone.
     pub fn run(&mut self, plan: &WindowPlan, tick: Tick, to: Tick)
         requires windows { AreWindowsOf (length self.old.accounts) plan.now }
         requires order { tick ≤ to }
@@ -62,7 +70,7 @@ impl Machine {
 
     /// Goes on from a tick by plain steps and quiet calls of the partition that decides next, up to `to` at most,
     /// and before any other decision. Answers the tick that it came to, which is the first one only where a decision at
-    /// that tick is no plain step of a quiet partition. To each partition it does what so many ticks would do to that
+    /// that tick is no plain step of a quiet partition. To each partition it does what this many ticks would do to that
     /// partition alone.
     pub fn run_row(&mut self, plan: &WindowPlan, tick: Tick, to: Tick) -> Tick
         requires windows { AreWindowsOf (length self.old.accounts) plan.now }
@@ -157,8 +165,9 @@ impl Machine {
         Some(turn)
     }
 
-    /// Goes on from the partition's next decision, with which the turn begins: by plain steps in a row and quiet calls, and
-    /// by the decision after them where `to` still lies ahead. Answers its next turn.
+    /// Goes on from the partition's next decision, with which the turn begins: what comes at its tick arrives and expires,
+    /// a thread is chosen, and then, from that very tick on, come plain steps in a row and quiet calls while the partition
+    /// is quiet, or else the turn of that thread. Answers the partition's next turn.
     fn go_on(&mut self, plan: &WindowPlan, p: PartId, turn: Turn, to: Tick) -> Turn
         requires partition { p < length self.old.accounts }
         requires windows { AreWindowsOf (length self.old.accounts) plan.now }
@@ -172,12 +181,94 @@ impl Machine {
     {
         let _parts = self.parts();
         plan.is_plan();
-        let next = self.rows(plan, p, turn, to);
-        if next.start.ticks() < to.ticks() {
-            self.decide(plan, p, next, to)
+        self.prepare(p, turn.start);
+        match self.quiet_until(p, turn.start, to) {
+            Some(quiet) => self.go_quiet(plan, p, turn, quiet, to),
+            None => self.take_turn(plan, p, turn, to),
+        }
+    }
+
+    /// The first half of the partition's next decision, which is at the tick: arrivals, expiries and the choice of the
+    /// running thread. Its account stays, and so does every other partition.
+    fn prepare(&mut self, p: PartId, tick: Tick)
+        requires partition { p < length self.old.accounts }
+        requires due { (account_at p self.old).account.next ≡ Some tick }
+        requires behind { IsBehind tick (state_at p self.old) }
+        ensures tables { self.new.kept ≡ put_part p (ready_at (limits_at p self.old.kept) tick (part_at p self.old.kept)) self.old.kept }
+        ensures accounts { self.new.accounts ≡ self.old.accounts }
+        ensures behind { IsBehind tick (state_at p self.new) }
+    {
+        prepare(&mut self.tables, p, tick);
+    }
+
+    /// Whether the partition is quiet from its next decision on, which is at the tick, and up to which tick, at most `to`. It
+    /// is where its running thread's next step is a plain one, and none other comes before it.
+    fn quiet_until(&self, p: PartId, tick: Tick, to: Tick) -> Option<Quiet>
+        requires partition { p < length self.now.accounts }
+        requires order { tick < to }
+        requires time { to ≤ LAST_TICK }
+        requires due { (account_at p self.now).account.next ≡ Some tick }
+        requires behind { IsBehind tick (state_at p self.now) }
+        ensures quiet { IfSome result (λ q. (tick < q.stop) × (q.stop ≤ to) × IsStill p tick q self.now.kept) }
+        ensures full { IsPlainAt (limits_at p self.now.kept) tick (part_at p self.now.kept) → IsSome result }
+    {
+        let _parts = self.parts();
+        quiet_until(&self.tables, p, tick, to)
+    }
+
+    /// Goes on with a quiet partition, whose next decision begins the turn and needs no preparation: by plain steps in a row
+    /// and quiet calls, and by the turn of its thread where another step of it comes before the partition's stop. Answers
+    /// the next turn.
+    fn go_quiet(&mut self, plan: &WindowPlan, p: PartId, turn: Turn, quiet: Quiet, to: Tick) -> Turn
+        requires partition { p < length self.old.accounts }
+        requires windows { AreWindowsOf (length self.old.accounts) plan.now }
+        requires time { to ≤ LAST_TICK }
+        requires order { turn.start < quiet.stop }
+        requires within { quiet.stop ≤ to }
+        requires quiet { IsStill p turn.start quiet self.old.kept }
+        requires coming { IsComing (own_ticks plan.now p) to (account_at p self.old).account.next turn }
+        requires behind { IsBehind turn.start (state_at p self.old) }
+        ensures on { turn.start < result.start }
+        ensures coming { IsComing (own_ticks plan.now p) to (account_at p self.new).account.next result }
+        ensures gone { self.new ≡ gone_on (own_ticks plan.now p) p turn.start (result.start - turn.start) self.old }
+    {
+        let _parts = self.parts();
+        plan.is_plan();
+        let stop = quiet.stop.ticks();
+        let next = self.rows_on(plan, p, turn, quiet, to);
+        if next.start.ticks() < stop {
+            self.take_turn(plan, p, next, to)
         } else {
             next
         }
+    }
+
+    /// The second half of the partition's next decision, with which its turn begins: the turn of the thread that was chosen.
+    /// Answers its next turn. From every state that the first half leads to where the partition is, it leads to where the
+    /// ticks up to that turn lead.
+    #[tactic(auto, using(crate::proofs::States::states))]
+    fn take_turn(&mut self, plan: &WindowPlan, p: PartId, turn: Turn, to: Tick) -> Turn
+        requires partition { p < length self.old.accounts }
+        requires frame { plan.now.frame ≤ 1000000 }
+        requires time { to ≤ LAST_TICK }
+        requires due { turn.start < to }
+        requires coming { IsComing (own_ticks plan.now p) to (account_at p self.old).account.next turn }
+        requires behind { IsBehind turn.start (state_at p self.old) }
+        ensures on { turn.start < result.start }
+        ensures coming { IsComing (own_ticks plan.now p) to (account_at p self.new).account.next result }
+        ensures gone { (s : State) → state_at p self.old ≡ prepared (limits_at p self.old.kept) turn.start s →
+            self.new ≡ put_state p (after_ticks (own_ticks plan.now p) (limits_at p self.old.kept) turn.start (result.start - turn.start) s) self.old }
+    {
+        plan.is_plan();
+        let Turn { start, end } = turn;
+        let room = (end.ticks() - start.ticks()) as u32;
+        let spent = take_turn(&mut self.tables, p, start, room);
+        let from = free_from(&self.tables, p, start, room, spent, to);
+        let (status, last) = (self.tables.status(p), last_step(&self.tables, p));
+        let account = &mut self.accounts[p.index()];
+        let (next, end) = next_turn(plan, p, status, from, end, &mut account.near);
+        account.count(next, room, spent, last);
+        coming(account.next(), end, to)
     }
 
     /// Plain steps of the partition and quiet calls, the first at its next decision, with which the turn
@@ -198,13 +289,15 @@ impl Machine {
     {
         let _parts = self.parts();
         plan.is_plan();
-        match quiet_until(&self.tables, p, turn.start, to) {
+        match self.quiet_until(p, turn.start, to) {
             Some(quiet) => self.rows_on(plan, p, turn, quiet, to),
             None => turn,
         }
     }
 
-    /// Plain steps of a quiet partition and quiet calls, as `rows` tells of them, before its stop.
+    /// Plain steps of a quiet partition and quiet calls, as `rows` tells of them, before its stop. The partition is as
+    /// quiet as it was, up to that stop. It has two callers, so it is compiled as a function of its own; what it calls has
+    /// one, and so all of `rows_before` is compiled into it.
     fn rows_on(&mut self, plan: &WindowPlan, p: PartId, turn: Turn, quiet: Quiet, to: Tick) -> Turn
         requires partition { p < length self.old.accounts }
         requires windows { AreWindowsOf (length self.old.accounts) plan.now }
@@ -218,6 +311,33 @@ impl Machine {
         ensures plain { IsPlainAt (limits_at p self.old.kept) turn.start (part_at p self.old.kept) → turn.start < result.start }
         ensures coming { IsComing (own_ticks plan.now p) to (account_at p self.new).account.next result }
         ensures gone { self.new ≡ gone_on (own_ticks plan.now p) p turn.start (result.start - turn.start) self.old }
+        ensures still { IsStill p result.start quiet self.new.kept }
+    {
+        self.rows_before(plan, p, turn, quiet, to)
+    }
+
+    /// The rows and calls of `rows_on`.
+    fn rows_before(
+        &mut self,
+        plan: &WindowPlan,
+        p: PartId,
+        turn: Turn,
+        quiet: Quiet,
+        to: Tick,
+    ) -> Turn
+        requires partition { p < length self.old.accounts }
+        requires windows { AreWindowsOf (length self.old.accounts) plan.now }
+        requires time { to ≤ LAST_TICK }
+        requires order { turn.start < quiet.stop }
+        requires within { quiet.stop ≤ to }
+        requires quiet { IsStill p turn.start quiet self.old.kept }
+        requires coming { IsComing (own_ticks plan.now p) to (account_at p self.old).account.next turn }
+        requires behind { IsBehind turn.start (state_at p self.old) }
+        ensures from { turn.start ≤ result.start }
+        ensures plain { IsPlainAt (limits_at p self.old.kept) turn.start (part_at p self.old.kept) → turn.start < result.start }
+        ensures coming { IsComing (own_ticks plan.now p) to (account_at p self.new).account.next result }
+        ensures gone { self.new ≡ gone_on (own_ticks plan.now p) p turn.start (result.start - turn.start) self.old }
+        ensures still { IsStill p result.start quiet self.new.kept }
     {
         let _parts = self.parts();
         plan.is_plan();
@@ -369,31 +489,6 @@ impl Machine {
         let reached = Tick::new(start.ticks() + u64::from(ticks));
         let (next, end) = turn_on(plan, p, reached, end, walk);
         account.count(next, room, Spent::Step(ticks), last);
-        coming(account.next(), end, to)
-    }
-
-    /// The decision of a partition with which its turn begins. Answers its next turn.
-    #[tactic(auto, using(crate::proofs::States::states))]
-    fn decide(&mut self, plan: &WindowPlan, p: PartId, turn: Turn, to: Tick) -> Turn
-        requires partition { p < length self.old.accounts }
-        requires frame { plan.now.frame ≤ 1000000 }
-        requires time { to ≤ LAST_TICK }
-        requires due { turn.start < to }
-        requires coming { IsComing (own_ticks plan.now p) to (account_at p self.old).account.next turn }
-        requires behind { IsBehind turn.start (state_at p self.old) }
-        ensures on { turn.start < result.start }
-        ensures coming { IsComing (own_ticks plan.now p) to (account_at p self.new).account.next result }
-        ensures gone { self.new ≡ gone_on (own_ticks plan.now p) p turn.start (result.start - turn.start) self.old }
-    {
-        plan.is_plan();
-        let Turn { start, end } = turn;
-        let room = (end.ticks() - start.ticks()) as u32;
-        let spent = decide(&mut self.tables, p, start, room);
-        let from = free_from(&self.tables, p, start, room, spent, to);
-        let (status, last) = (self.tables.status(p), last_step(&self.tables, p));
-        let account = &mut self.accounts[p.index()];
-        let (next, end) = next_turn(plan, p, status, from, end, &mut account.near);
-        account.count(next, room, spent, last);
         coming(account.next(), end, to)
     }
 }

@@ -8,3 +8,4 @@ pub mod RowsKept
 pub mod Sooner
 pub mod IdleTicks
 pub mod ReplyDecisions
+pub mod PreparedTicks

@@ -3,3 +3,4 @@ pub mod QuietLaws
 pub mod Idle
 pub mod IdleLaws
 pub mod Replies
+pub mod Prepared

@@ -1,12 +1,25 @@
-//! Rows of plain steps and idle ticks: what happens to a partition while its running thread only computes, or while it
-//! has nothing to do. `specs/Quiet` says when a partition is quiet, so that nothing but plain steps can come before a
-//! given tick, and what so many plain steps leave; `specs/Replies` what a quiet call is, which replies at once and leaves
-//! it quiet; `specs/Idle` says when it is idle up to a tick. The functions without
-//! code are laws: a plain step of a quiet state is its whole decision and leaves it quiet, under SCHED_RR too; plain
-//! steps in a row are as many ticks, with steps, used ticks, the last step and the trace counted as by so many decisions;
-//! and ticks in a row change nothing of an idle partition but the tick of its next decision. Below stand the definitions
-//! and the laws of pools; above, the crates that carry out such rows and pass over such ticks. Dear to prove: that
-//! registers and used ticks change no effective priority and no deadline.
+//! Laws of quiet partitions: plain steps in a row are the same number of ticks, quiet calls leave a partition quiet,
+//! and the ticks of a partition that has nothing to do change nothing.
+//!
+//! - Where no input, deadline or end of an interval comes before a tick and the running thread goes on, a plain step is
+//!   the whole decision (`plain_is_decided`), leaves the partition so (`row_stays_quiet`) and whole (`row_keeps_well`),
+//!   changes no effective priority (`row_keeps_priorities`), and plain steps in a row are that number of ticks, each
+//!   counted as a decision (`row_is_ticks`), under SCHED_RR too.
+//! - Ticks in a row join, leave other partitions, and are those of the partition alone (`rows_join`, `others_stay`,
+//!   `alone_goes_on`, `window_is_own`).
+//! - A quiet call (pthread_self, pthread_getschedparam, a refused pthread_detach, a number that is no call, lock and
+//!   unlock of a mutex that nobody else wants, console_put, pthread_setspecific and pthread_getspecific) is the whole
+//!   decision of a quiet partition (`reply_is_decided`) and leaves it quiet (`reply_stays_quiet`).
+//! - Where no thread runs or is ready and no input or deadline comes before a tick, a decision changes nothing
+//!   (`idle_is_decided`), and ticks in a row change only the tick of the next decision (`idle_is_ticks`).
+//! - The arrivals, the expiries and the choice of a tick change nothing of a quiet partition (`quiet_is_prepared`), and
+//!   ticks that begin with a decision are the same from the state that is prepared for it (`prepared_goes_on`).
+//!
+//! `specs/Quiet` says when a partition is quiet, so that nothing but plain steps can come before a given tick, and what
+//! n plain steps leave; `specs/Replies` what a quiet call is, which replies at once and leaves it quiet; `specs/Idle`
+//! when it is idle up to a tick. Costly to prove is that registers and used ticks change no effective priority and no
+//! deadline. Below are the definitions and the laws of pools; above are the crates that carry out such rows and pass
+//! over such ticks.
 #![tactic(auto)]
 
 ghost use Rattle.std.specs.Prelude.{ℕ, List, Option};
@@ -18,6 +31,7 @@ ghost use Rattle.ptk_words_model.specs.State.{Console, Part, State};
 ghost use Rattle.ptk_words.specs.Processor.{Processor};
 ghost use Rattle.ptk_words_quiet.specs.IdleLaws.{IdleIsDecided, IdleIsTicks};
 ghost use Rattle.ptk_words_quiet.specs.QuietLaws.{PlainIsDecided, RowStaysQuiet, RowKeepsPriorities, RowKeepsWell, RowIsTicks, NoneComesBefore, RowsJoin, OthersStay, AloneGoesOn, WindowIsOwn};
+ghost use Rattle.ptk_words_quiet.specs.Prepared.{PreparedGoesOn, QuietIsPrepared};
 ghost use Rattle.ptk_words_quiet.specs.Replies.{Outcome, ReplyIsDecided, ReplyStaysQuiet};
 
 /// A plain step is the decision of a quiet state.
@@ -68,6 +82,16 @@ pub fn alone_goes_on()
 /// In a window of a partition each tick up to its end is the partition's own.
 pub fn window_is_own()
     ensures { (plan : WindowPlan) → (p tick end : ℕ) → WindowIsOwn plan p tick end }
+{}
+
+/// The arrivals, the expiries and the choice of a tick change nothing of a quiet partition.
+pub fn quiet_is_prepared()
+    ensures { (limits : Limits) → (tick stop t : ℕ) → (thread : Thread) → (s : Part) → QuietIsPrepared limits tick stop t thread s }
+{}
+
+/// Ticks that begin with a decision are the same from the state that is prepared for it.
+pub fn prepared_goes_on()
+    ensures { (ticks : OwnTicks) → (limits : Limits) → (tick end n : ℕ) → (s : State) → PreparedGoesOn ticks limits tick end n s }
 {}
 
 /// The decision of an idle partition changes nothing.

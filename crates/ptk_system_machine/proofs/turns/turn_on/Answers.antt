@@ -1,4 +1,4 @@
-use Rattle.std.proofs.Common.{◌≡◌, ℕ, Option, Some, None, sym, subst, ◌∙◌, arith}
+use Rattle.std.proofs.Common.{◌≡◌, ℕ, None, sym, subst, arith}
 use Rattle.std.specs.Prelude.{IfSome}
 use Rattle.ptk_words_windows.specs.Windows.{WindowPlan, own_ticks}
 use Rattle.ptk_window.specs.Turn.{IsTurn}

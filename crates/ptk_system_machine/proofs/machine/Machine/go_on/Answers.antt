@@ -1,14 +1,20 @@
-use Rattle.std.proofs.Common.{arith}
+use Rattle.std.proofs.Common.{◌-◌, ◌<◌, arith}
 use Rattle.ptk_words_windows.specs.Windows.{own_ticks}
-use Rattle.ptk_system_machine.proofs.Ticks.{gone_behind, gone_further}
+use Rattle.ptk_system_machine.specs.Turns.{IsInWindow}
+use Rattle.ptk_system_machine.specs.Whole.{state_at}
+use Rattle.ptk_system_machine.proofs.Prepared.{prepared_gone, prepared_state, turn_gone}
 use Rattle.ptk_system_machine.proofs.machine.Machine.go_on.Goals as goal
 
-pub decide-requires-clause-behind : goal.decide-requires-clause-behind
-decide-requires-clause-behind c =
-    gone_behind c.args.plan.now c.args.p c.args.turn.start c.rows-next.result.start c.args.self.now c.rows-next.new.self c.is_plan.ensures c.requires.windows.frame c.parts-parts.ensures.whole c.requires.partition
-    c.rows-next.ensures.from c.rows-next.ensures.gone c.requires.behind
+pub returns-in-Some-clause-gone : goal.returns-in-Some-clause-gone
+returns-in-Some-clause-gone c =
+    let window : IsInWindow (own_ticks c.args.plan.now c.args.p) c.args.turn.start c.args.turn.end = c.requires.coming.window c.requires.due in
+    let on : c.args.turn.start < c.go_quiet.result.start = c.go_quiet.ensures.on in
+    prepared_gone (own_ticks c.args.plan.now c.args.p) c.args.p c.args.turn.start c.args.turn.end (c.go_quiet.result.start - c.args.turn.start) c.in-Some.quiet.stop c.in-Some.quiet.thread
+    c.args.self.now c.prepare.new.self c.go_quiet.new.self c.parts-parts.ensures.whole c.requires.partition
+    (c.requires.coming.due c.requires.due) (window.ends c.args.turn.start (omega arith) window.before) (omega (arith, on)) c.prepare.ensures.tables c.prepare.ensures.accounts c.in-Some.ensures.quiet.2 c.in-Some.ensures.quiet.0 c.go_quiet.ensures.gone
 
-pub returns-then-ticks-clause-gone : goal.returns-then-ticks-clause-gone
-returns-then-ticks-clause-gone c =
-    gone_further (own_ticks c.args.plan.now c.args.p) c.args.p c.args.turn.start c.rows-next.result.start c.decide.result.start c.args.self.now c.rows-next.new.self c.decide.new.self c.parts-parts.ensures.whole c.requires.partition
-    c.rows-next.ensures.from (omega (arith, c.decide.ensures.on)) c.rows-next.ensures.gone c.decide.ensures.gone
+pub returns-in-None-clause-gone : goal.returns-in-None-clause-gone
+returns-in-None-clause-gone c =
+    turn_gone (own_ticks c.args.plan.now c.args.p) c.args.p c.args.turn.start (c.take_turn.result.start - c.args.turn.start) c.args.self.now c.prepare.new.self c.take_turn.new.self c.requires.partition
+    c.prepare.ensures.tables c.prepare.ensures.accounts
+    (c.take_turn.ensures.gone (state_at c.args.p c.args.self.now) (prepared_state c.args.p c.args.turn.start c.args.self.now c.prepare.new.self c.parts-parts.ensures.whole c.requires.partition c.prepare.ensures.tables c.prepare.ensures.accounts))

@@ -5,7 +5,7 @@ use Rattle.ptk_kernel.specs.Kept.{limits_at, part_at}
 use Rattle.ptk_kernel.specs.Rows.{IsStill}
 use Rattle.ptk_system_machine.specs.Turns.{IsAt, IsComing, IsPlainAt}
 use Rattle.ptk_system_machine.specs.Whole.{account_at, gone_on}
-use Rattle.ptk_system_machine.proofs.machine.Machine.rows_on.Given as goal
+use Rattle.ptk_system_machine.proofs.machine.Machine.rows_before.Given as goal
 
 abbrev pub invariant-loop-is_going : goal.invariant-loop-is_going
 invariant-loop-is_going l = record {
@@ -14,7 +14,7 @@ invariant-loop-is_going l = record {
   gone : l.self ≡ gone_on (own_ticks l.plan l.p) l.p l.fn.turn.start (l.now.start - l.fn.turn.start) l.fn.self;
   plain : l.is_going ≡ false → IsPlainAt (limits_at l.p l.fn.self.kept) l.fn.turn.start (part_at l.p l.fn.self.kept) → l.fn.turn.start < l.now.start;
   before : l.is_going ≡ true → l.now.start < l.quiet.stop;
-  still : l.is_going ≡ true → IsStill l.p l.now.start l.quiet l.self.kept;
+  still : IsStill l.p l.now.start l.quiet l.self.kept;
   walk : l.now.start < l.to → IsAt l.plan l.p l.now.end l.walk;
 }
 

@@ -1,6 +1,6 @@
 use Rattle.std.proofs.Common.{length}
 use Rattle.ptk_kernel.proofs.Moves.{made_ready, still_active}
-use Rattle.ptk_kernel.proofs.decisions.make_ready.Goals as goal
+use Rattle.ptk_kernel.proofs.decisions.prepare.Goals as goal
 
 pub choose-requires-clause-active : goal.choose-requires-clause-active
 choose-requires-clause-active c =

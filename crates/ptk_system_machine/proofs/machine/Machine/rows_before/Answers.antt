@@ -4,7 +4,7 @@ use Rattle.ptk_words_windows.specs.Windows.{own_ticks}
 use Rattle.ptk_system_machine.proofs.Coming.{at_none}
 use Rattle.ptk_system_machine.proofs.Progress.{plain_later}
 use Rattle.ptk_system_machine.proofs.Ticks.{gone_behind, gone_further, gone_start}
-use Rattle.ptk_system_machine.proofs.machine.Machine.rows_on.Goals as goal
+use Rattle.ptk_system_machine.proofs.machine.Machine.rows_before.Goals as goal
 
 pub loop-is_going-init : goal.loop-is_going-init
 loop-is_going-init c = record {
@@ -13,7 +13,7 @@ loop-is_going-init c = record {
   gone = gone_start (own_ticks c.args.plan.now c.args.p) c.args.p c.args.turn.start (c.args.turn.start - c.args.turn.start) c.args.self.now (omega arith);
   plain = λ stopped. absurd (false≢true (sym stopped));
   before = λ going. c.requires.order;
-  still = λ going. c.requires.quiet;
+  still = c.requires.quiet;
   walk = λ within. at_none c.args.plan.now c.args.p c.args.turn.end c.walk-walk.result c.walk-walk.ensures;
 }
 
@@ -35,7 +35,7 @@ loop-is_going-preserved-then-goes_on c =
       plain = λ stopped at.
           plain_later (own_ticks c.args.plan.now c.args.p) c.args.p c.args.turn.start c.loop-is_going.now.start c.row_and_reply-goes_on.result.0.start c.args.self.now c.loop-is_going.self from on c.loop-is_going.invariant.gone at c.row_and_reply-goes_on.ensures.plain;
       before = λ e. let lt : c.ticks.result < c.ticks-stop.result = ltb-true c.ticks.result c.ticks-stop.result e in omega (arith, lt);
-      still = λ e. c.row_and_reply-goes_on.ensures.still;
+      still = c.row_and_reply-goes_on.ensures.still;
       walk = c.row_and_reply-goes_on.ensures.walk;
     }
 
@@ -52,7 +52,7 @@ loop-is_going-preserved c =
       plain = λ stopped at.
           plain_later (own_ticks c.args.plan.now c.args.p) c.args.p c.args.turn.start c.loop-is_going.now.start c.row_and_reply-goes_on.result.0.start c.args.self.now c.loop-is_going.self from on c.loop-is_going.invariant.gone at c.row_and_reply-goes_on.ensures.plain;
       before = λ e. absurd (false≢true (sym c.if-goes_on.false ∙ e));
-      still = λ e. c.row_and_reply-goes_on.ensures.still;
+      still = c.row_and_reply-goes_on.ensures.still;
       walk = c.row_and_reply-goes_on.ensures.walk;
     }
 
