@@ -28,7 +28,7 @@ enum Form {
     Json,
 }
 
-/// Writes how the partition of a name stands after so many ticks, in words: its status; of a fault the instruction, its
+/// Writes how the partition of a name stands after this many ticks, in words: its status; of a fault the instruction, its
 /// address and the registers; of a partition that goes on each thread, and each deadlock.
 ///
 /// That there is such a partition is tested before the system boots. A fault where there is none, where the system does not
@@ -172,7 +172,7 @@ fn answer_of(
     }
 }
 
-/// The text of how a partition of a system stands after so many ticks. An error where memory ran out.
+/// The text of how a partition of a system stands after this many ticks. An error where memory ran out.
 fn text_of(
     form: Form,
     alloc: Global,

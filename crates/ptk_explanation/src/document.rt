@@ -3,9 +3,9 @@
 ghost use Rattle.std.specs.Prelude.{◌<◌, length};
 
 use crate::cycles::{begins_cycle, following};
-use crate::facts::{Stop, ThreadFacts, thread_count};
+use crate::facts::{Awaited, Stop, ThreadFacts, thread_count};
 use crate::history::{History, STACK_POINTER};
-use crate::words::{cause_word, policy_name};
+use crate::words::{cause_word, ceiling_of, policy_name, protocol_name, type_name};
 use ptk_standing::standing;
 use ptk_symbols::Symbols;
 use ptk_system::{Activity, PartStatus, System};
@@ -55,6 +55,12 @@ struct ThreadObject<'a> {
     #[serde(skip_serializing_if = "Option::is_none")]
     owner: Option<u8>,
     #[serde(skip_serializing_if = "Option::is_none")]
+    mutex_type: Option<&'static str>,
+    #[serde(skip_serializing_if = "Option::is_none")]
+    mutex_protocol: Option<&'static str>,
+    #[serde(skip_serializing_if = "Option::is_none")]
+    mutex_ceiling: Option<u8>,
+    #[serde(skip_serializing_if = "Option::is_none")]
     condition: Option<u8>,
     #[serde(skip_serializing_if = "Option::is_none")]
     joins: Option<u8>,
@@ -73,6 +79,8 @@ struct ThreadObject<'a> {
     stack_pointer: Option<u32>,
     #[serde(skip_serializing_if = "Option::is_none")]
     least_stack_pointer: Option<u32>,
+    #[serde(skip_serializing_if = "Option::is_none")]
+    cancel_pending: Option<bool>,
 }
 
 /// What stopped a partition at an instruction. What it does not have is left out.
@@ -170,11 +178,41 @@ fn ticks_of(deadline: &Option<Tick>) -> Option<u64> {
 /// The thread that owns the mutex for which a thread waits.
 fn owner_number(facts: &ThreadFacts) -> Option<u8> {
     match &facts.awaited {
-        Some(awaited) => match &awaited.owner {
+        Some(awaited) => match &awaited.owner() {
             Some(Owner::OwnedBy(u)) => Some(u.number()),
             Some(Owner::Free) | Some(Owner::Abandoned) | None => None,
         },
         None => None,
+    }
+}
+
+/// What a mutex is that a thread waits for. What it does not have is left out.
+#[derive(Clone, Copy)]
+struct MutexMembers {
+    kind: Option<&'static str>,
+    protocol: Option<&'static str>,
+    ceiling: Option<u8>,
+}
+
+impl MutexMembers {
+    /// Of the mutex that a thread waits for, if it waits for one.
+    fn of(awaited: &Option<Awaited>) -> MutexMembers {
+        let none = MutexMembers {
+            kind: None,
+            protocol: None,
+            ceiling: None,
+        };
+        let Some(awaited) = awaited else {
+            return none;
+        };
+        match &awaited.state {
+            Some(state) => MutexMembers {
+                kind: Some(type_name(state.kind)),
+                protocol: Some(protocol_name(state.protocol)),
+                ceiling: ceiling_of(state.protocol),
+            },
+            None => none,
+        }
     }
 }
 
@@ -332,12 +370,16 @@ fn push_thread(
         Some(_) => Some(facts.thread.cpu.register(STACK_POINTER)),
         None => None,
     };
+    let mutex = MutexMembers::of(&facts.awaited);
     let object = ThreadObject {
         thread: facts.number.number(),
         activity: target.activity,
         since: facts.history.since,
         mutex: target.mutex,
         owner: owner_number(facts),
+        mutex_type: mutex.kind,
+        mutex_protocol: mutex.protocol,
+        mutex_ceiling: mutex.ceiling,
         condition: target.condition,
         joins: target.joins,
         deadline: target.deadline,
@@ -349,6 +391,11 @@ fn push_thread(
         offset: place.offset,
         stack_pointer,
         least_stack_pointer: facts.history.least_stack,
+        cancel_pending: if facts.is_cancel_pending {
+            Some(true)
+        } else {
+            None
+        },
     };
     push_object(alloc, out, &object)
 }

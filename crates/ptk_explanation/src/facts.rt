@@ -4,6 +4,7 @@ ghost use Rattle.std.specs.Prelude.{◌<◌, ◌≤◌, length};
 
 use crate::history::History;
 use ptk_disasm::push_word_statement;
+use ptk_mutex_slots::MutexState;
 use ptk_standing::refused_address;
 use ptk_system::{Activity, System};
 use ptk_words::{
@@ -19,11 +20,21 @@ pub(crate) fn thread_count(system: &System<'_>, p: PartId) -> usize
     system.tables().threads().part(p).len()
 }
 
-/// A mutex that a thread waits for, and who owns it.
+/// A mutex that a thread waits for, and what it is; None of a number that is no mutex.
 #[derive(Clone, Copy)]
 pub(crate) struct Awaited {
     pub(crate) mutex: MutexNo,
-    pub(crate) owner: Option<Owner>,
+    pub(crate) state: Option<MutexState>,
+}
+
+impl Awaited {
+    /// Who owns the mutex.
+    pub(crate) fn owner(&self) -> Option<Owner> {
+        match &self.state {
+            Some(state) => Some(state.owner),
+            None => None,
+        }
+    }
 }
 
 /// A thread: what it does, and what is kept of it.
@@ -34,6 +45,7 @@ pub(crate) struct ThreadFacts {
     pub(crate) activity: Activity,
     pub(crate) effective: u8,
     pub(crate) awaited: Option<Awaited>,
+    pub(crate) is_cancel_pending: bool,
     pub(crate) history: History,
 }
 
@@ -48,6 +60,7 @@ impl ThreadFacts {
         requires { p < length system.now.config.sections }
     {
         let thread = system.tables().threads().thread(p, number)?;
+        let is_cancel_pending = is_cancel_pending(system, p, number, thread.phase);
         let effective = system.effective_priority(p, number)?;
         let activity = system.activity(p, number);
         let awaited = awaited_in(system, p, &activity);
@@ -57,6 +70,7 @@ impl ThreadFacts {
             activity,
             effective,
             awaited,
+            is_cancel_pending,
             history: *history,
         })
     }
@@ -70,6 +84,17 @@ impl ThreadFacts {
     }
 }
 
+/// Whether a request to cancel a thread in this phase is pending, on which it has not acted: one that unwinds keeps its
+/// request (XSH 2.9.5.2).
+fn is_cancel_pending(system: &System<'_>, p: PartId, t: ThreadNo, phase: Phase) -> bool
+    requires { p < length system.now.config.sections }
+{
+    match phase {
+        Phase::Normal => system.is_cancel_pending(p, t),
+        Phase::Unwinding | Phase::Ended => false,
+    }
+}
+
 /// The mutex that a thread waits for, None where it waits for none.
 pub(crate) fn awaited_in(system: &System<'_>, p: PartId, activity: &Activity) -> Option<Awaited>
     requires { p < length system.now.config.sections }
@@ -78,7 +103,7 @@ pub(crate) fn awaited_in(system: &System<'_>, p: PartId, activity: &Activity) ->
         Activity::Blocked(Wait::MutexWait(m, _)) | Activity::Blocked(Wait::RelockWait(m, _)) => {
             Some(Awaited {
                 mutex: *m,
-                owner: system.owner(p, *m),
+                state: system.mutex(p, *m),
             })
         }
         _ => None,

@@ -3,9 +3,11 @@
 ghost use Rattle.std.specs.Prelude.{◌<◌, ◌≤◌, length};
 
 use crate::cycles::{begins_cycle, following};
-use crate::facts::{Stop, ThreadFacts, awaited_in, thread_count};
+use crate::facts::{Awaited, Stop, ThreadFacts, awaited_in, thread_count};
 use crate::history::{History, STACK_POINTER};
-use crate::words::{Doing, Headline, policy_name, refusal_words};
+use crate::words::{
+    Doing, Headline, ceiling_of, policy_name, protocol_name, refusal_words, type_name,
+};
 use ptk_standing::standing;
 use ptk_symbols::Symbols;
 use ptk_system::{PartStatus, System};
@@ -141,7 +143,35 @@ fn push_thread(
         "  {policy}, priority {assigned}, effective {effective}"
     )?;
     push_place(out, facts, symbols)?;
+    out.push_str("\n")?;
+    push_mutex(out, &facts.awaited)?;
+    push_pending(out, facts.is_cancel_pending)
+}
+
+/// Appends the type and the protocol of the mutex that a thread waits for, where it waits for one.
+fn push_mutex(out: &mut String, awaited: &Option<Awaited>) -> Result<(), AllocError> {
+    let Some(awaited) = awaited else {
+        return Ok(());
+    };
+    let Some(state) = &awaited.state else {
+        return Ok(());
+    };
+    let (number, kind) = (awaited.mutex.number(), type_name(state.kind));
+    let protocol = protocol_name(state.protocol);
+    write!(out, "  mutex {number}: {kind}, {protocol}")?;
+    if let Some(ceiling) = ceiling_of(state.protocol) {
+        write!(out, ", ceiling {ceiling}")?;
+    }
     out.push_str("\n")
+}
+
+/// Appends that a request to cancel a thread is pending, where one is (pthread_cancel).
+fn push_pending(out: &mut String, is_pending: bool) -> Result<(), AllocError> {
+    if is_pending {
+        out.push_str("  a cancellation is pending\n")
+    } else {
+        Ok(())
+    }
 }
 
 /// Appends the pc and the stack pointer of a thread that has not ended.

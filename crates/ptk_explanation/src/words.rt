@@ -2,7 +2,7 @@
 
 use crate::facts::Awaited;
 use ptk_system::{Activity, PartStatus};
-use ptk_words::{Cause, FaultKind, LAST_TICK, Owner, Policy, Tick, Wait};
+use ptk_words::{Cause, FaultKind, LAST_TICK, MutexKind, Owner, Policy, Protocol, Tick, Wait};
 use std::fmt;
 
 /// Who owns a mutex, None of a number that is no mutex.
@@ -55,7 +55,7 @@ impl Doing {
     /// Who owns the mutex that the thread waits for.
     fn owner(&self) -> OwnedBy {
         match &self.awaited {
-            Some(awaited) => OwnedBy(awaited.owner),
+            Some(awaited) => OwnedBy(awaited.owner()),
             None => OwnedBy(None),
         }
     }
@@ -109,6 +109,32 @@ pub(crate) fn policy_name(policy: Policy) -> &'static str {
     match policy {
         Policy::Fifo => "SCHED_FIFO",
         Policy::RoundRobin => "SCHED_RR",
+    }
+}
+
+/// The name of a mutex's type (pthread_mutexattr_settype).
+pub(crate) fn type_name(kind: MutexKind) -> &'static str {
+    match kind {
+        MutexKind::Normal => "PTHREAD_MUTEX_NORMAL",
+        MutexKind::ErrorCheck => "PTHREAD_MUTEX_ERRORCHECK",
+        MutexKind::Recursive => "PTHREAD_MUTEX_RECURSIVE",
+    }
+}
+
+/// The name of a mutex's protocol (pthread_mutexattr_setprotocol).
+pub(crate) fn protocol_name(protocol: Protocol) -> &'static str {
+    match protocol {
+        Protocol::NoProtocol => "PTHREAD_PRIO_NONE",
+        Protocol::Inherit => "PTHREAD_PRIO_INHERIT",
+        Protocol::Protect(_) => "PTHREAD_PRIO_PROTECT",
+    }
+}
+
+/// The priority ceiling of a protocol that has one (pthread_mutexattr_setprioceiling).
+pub(crate) fn ceiling_of(protocol: Protocol) -> Option<u8> {
+    match protocol {
+        Protocol::NoProtocol | Protocol::Inherit => None,
+        Protocol::Protect(ceiling) => Some(ceiling.level()),
     }
 }
 

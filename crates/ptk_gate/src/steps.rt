@@ -138,7 +138,7 @@ impl Tables {
         instruct(&mut self.pools, t, cpu);
     }
 
-    /// A thread of SCHED_RR that still runs after a step of so many ticks has used them; at the interval it goes to the
+    /// A thread of SCHED_RR that still runs after a step of this many ticks has used them; at the interval it goes to the
     /// tail, and no thread runs (XSH 2.8.4).
     #[tactic(auto, using(crate::proofs::Wholes::intervals, ptk_gate_pools::proofs::Hands::lifting))]
     pub fn count_interval(&mut self, p: PartId, cost: u32, t: ThreadNo)

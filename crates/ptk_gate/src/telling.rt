@@ -1,15 +1,19 @@
-//! What is told of a partition's threads and mutexes beside the slot table.
+//! What is shown of a partition's threads and mutexes beside the slot table.
 
-ghost use Rattle.std.specs.Prelude.{◌≡◌, ◌<◌, length, option_map, slice_get};
+ghost use Rattle.std.specs.Prelude.{◌≡◌, ◌<◌, length, option_map, slice_get, unwrap_or};
+ghost use Rattle.ptk_words.specs.Pools.{numbered};
 ghost use Rattle.ptk_words.specs.declared.threads.Thread.{Thread};
 ghost use Rattle.ptk_words_model.specs.State.{Mutex};
 ghost use Rattle.ptk_words_model.specs.Priority.{effective_priority, thread_at};
 ghost use Rattle.ptk_words_model.specs.Mutex.{mutex_at};
+ghost use Rattle.ptk_words_model.specs.ThreadCreation.{new_cancellation};
 ghost use Rattle.ptk_words_model.specs.Withdrawal.{deadlines_of};
+ghost use Rattle.ptk_mutex_slots.specs.Slots.{state_of};
 ghost use Rattle.ptk_clock.specs.ByThread.{least_deadline};
 ghost use Rattle.ptk_gate_pools.specs.Kept.{part_at};
 
 use crate::tables::Tables;
+use ptk_mutex_slots::MutexState;
 use ptk_words::{MutexNo, Owner, PartId, ThreadNo, Tick};
 
 impl Tables {
@@ -35,6 +39,22 @@ impl Tables {
             Some(state) => Some(state.owner),
             None => None,
         }
+    }
+
+    /// What a mutex is, but for its waiters; None of a free number (pthread_mutex_init).
+    pub fn mutex(&self, p: PartId, m: MutexNo) -> Option<MutexState>
+        requires { p < length self.now.limits }
+        ensures { result ≡ option_map state_of (mutex_at (part_at p self.now).locks m) }
+    {
+        self.pools.look(p).mutex(m)
+    }
+
+    /// Whether a request to cancel a thread is pending, whatever its state and type (pthread_cancel).
+    pub fn is_cancel_pending(&self, p: PartId, t: ThreadNo) -> bool
+        requires { p < length self.now.limits }
+        ensures { result ≡ (unwrap_or (numbered (part_at p self.now).cancellations t) new_cancellation).is_pending }
+    {
+        self.pools.look(p).is_cancel_pending(t)
     }
 
     /// The tick of the partition's first input still to come; None where none is.

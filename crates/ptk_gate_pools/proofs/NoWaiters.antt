@@ -11,7 +11,8 @@ use Rattle.ptk_words_model.specs.State.{Mutex, Condition, Part}
 use Rattle.ptk_words_model.specs.Priority.{thread_at, mutex_of_wait}
 use Rattle.ptk_words_model.specs.Mutex.{wait_of, waiters_of}
 use Rattle.ptk_words_locks.specs.Locks.{AreMutexes}
-use Rattle.ptk_words_locks.specs.Conditions.{condition_of_wait, waiters_on, AreConditions}
+use Rattle.ptk_words_model.specs.Condition.{waiters_on}
+use Rattle.ptk_words_locks.specs.Conditions.{condition_of_wait, AreConditions}
 use Rattle.ptk_words_locks.proofs.Lined.{ready_waits}
 use Rattle.ptk_words_locks.proofs.Threads.{awaits_wait}
 use Rattle.ptk_words_well.specs.Well.{IsWell}

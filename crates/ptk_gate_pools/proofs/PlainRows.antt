@@ -1,7 +1,6 @@
 -- Plain steps of a thread in a row: what they leave of the pools, and that stored priorities stay the effective ones.
 use Rattle.std.proofs.Common.{arith, ◌≡◌, ℕ, zero, suc, ◌<◌, List, length, get_or, refl, sym, ◌∙◌, ap, subst}
 use Rattle.std.specs.Prelude.{Option, Some, None, IsSome, slice_set, slice_index_or}
-use Rattle.std.specs.Option.{option_or}
 use Rattle.std.specs.Vec.{with_item}
 use Rattle.std.proofs.lemmas.List.{length-set, set-get_or, get_or_default}
 use Rattle.ptk_words.specs.Processor.{Processor}
@@ -12,7 +11,6 @@ use Rattle.ptk_words_instructions.specs.PlainSteps.{Core, core, plain_steps}
 use Rattle.ptk_words_quiet.specs.Quiet.{computed, last_after, after_row}
 use Rattle.ptk_threads.specs.Table.{ThreadTable, with_changed}
 use Rattle.ptk_roster.specs.Rosters.{Rostered}
-use Rattle.ptk_trace.specs.TracedRows.{last_entry}
 use Rattle.ptk_gate_pools.specs.Kept.{Kept, AreStored, part_at, put_part}
 use Rattle.ptk_gate_pools.specs.Pooled.{kept_of, ArePooled}
 use Rattle.ptk_gate_pools.specs.declared.pools.Pools.TheInside.{Inside}
@@ -27,11 +25,6 @@ in_use None e = absurd (cc e)
 in_use (Some a) e = (a, refl)
 
 -- ---- the tables after a row
-
--- the last step of a row, or else the one before it
-pub last_noted : (tick t n : ℕ) (c : Core) (last : Option Entry) → option_or (last_entry tick t n c) last ≡ last_after tick t n c last
-last_noted tick t zero c last = refl
-last_noted tick t (suc n) c last = refl
 
 -- what a row left of the memories, of the slot table, and of the last step
 pub record IsRow (p t tick n : ℕ) (thread : Thread) (a : Inside) (memories : List (List ℕ)) (roster : Rostered) (last : Option Entry) : Type 0 where
@@ -48,7 +41,7 @@ pub record IsRow (p t tick n : ℕ) (thread : Thread) (a : Inside) (memories : L
 pub row_is : (p i t tick n : ℕ) (thread : Thread) (a : Inside) (kept : Kept) (memories : List (List ℕ)) (roster : Rostered) (old last : Option Entry) → kept_of a ≡ kept → ArePooled a → p < length kept.limits
     → memories ≡ slice_set a.memories p (plain_steps n (core thread.cpu (part_of a.memories p))).memory
     → roster.table ≡ with_changed p t (computed n (plain_steps n (core thread.cpu (part_of a.memories p))).cpu) a.roster.table → roster.lines ≡ a.roster.lines → roster.mutexes ≡ a.roster.mutexes → roster.conditions ≡ a.roster.conditions
-    → last ≡ option_or (last_entry tick t n (core thread.cpu (part_of a.memories p))) old → i ≡ p → old ≡ get_or a.lasts.items i old
+    → last ≡ last_after tick t n (core thread.cpu (part_of a.memories p)) old → i ≡ p → old ≡ get_or a.lasts.items i old
     → IsRow p t tick n thread a memories roster last
 row_is p i t tick n thread a kept memories roster old last view pooled lt moved changed lines mutexes conditions noted place before =
     let within : p < length a.limits.items = subst (λ (k : Kept). p < length k.limits) (sym view) lt in
@@ -62,7 +55,7 @@ row_is p i t tick n thread a kept memories roster old last view pooled lt moved 
       of_lines = lines;
       of_mutexes = mutexes;
       of_conditions = conditions;
-      of_last = noted ∙ last_noted tick t n (core thread.cpu (part_of a.memories p)) old ∙ ap (last_after tick t n (core thread.cpu (part_of a.memories p))) older;
+      of_last = noted ∙ ap (last_after tick t n (core thread.cpu (part_of a.memories p))) older;
     }
 
 -- the pools with these in place of the memories, the slot table and what was lent

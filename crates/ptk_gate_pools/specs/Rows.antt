@@ -1,11 +1,10 @@
 -- Plain steps in a row as work on their thread.
 use Rattle.std.specs.Prelude.{◌≡◌, ℕ, ◌+◌, ◌^◌, ◌<◌, ◌≤◌, length, slice_set, false}
-use Rattle.std.specs.Option.{option_or}
 use Rattle.ptk_words.specs.declared.threads.Thread.{Thread}
 use Rattle.ptk_words_parted.specs.Parts.{part_of}
 use Rattle.ptk_words_instructions.specs.PlainSteps.{core, is_plain, plain_steps}
-use Rattle.ptk_words_quiet.specs.Quiet.{ArePlain, computed}
-use Rattle.ptk_trace.specs.TracedRows.{last_entry, traced}
+use Rattle.ptk_words_quiet.specs.Quiet.{ArePlain, computed, last_after}
+use Rattle.ptk_trace.specs.TracedRows.{traced}
 use Rattle.ptk_gate_pools.specs.declared.rows.Row.{Row}
 
 -- the partition has a memory, the ticks of the row are numbers of 64 bits, and those that the thread used of its interval are of 32 (own)
@@ -21,7 +20,7 @@ pub record HasRun (row : Row) (thread : Thread) (steps : ℕ) (after : Row) (mad
   pub left : made ≡ computed steps (plain_steps steps (core thread.cpu (part_of row.memories.now row.p))).cpu thread
   pub memory : after.memories.now ≡ slice_set row.memories.now row.p (plain_steps steps (core thread.cpu (part_of row.memories.now row.p))).memory
   pub traced : after.trace.now ≡ traced row.tick row.t steps (core thread.cpu (part_of row.memories.now row.p)) row.trace.now
-  pub last : after.last.now ≡ option_or (last_entry row.tick row.t steps (core thread.cpu (part_of row.memories.now row.p))) row.last.now
+  pub last : after.last.now ≡ last_after row.tick row.t steps (core thread.cpu (part_of row.memories.now row.p)) row.last.now
   pub ended : steps < row.most → is_plain (plain_steps steps (core thread.cpu (part_of row.memories.now row.p))) ≡ false
   -- the row writes where it was given to write
   pub same_memory : after.memories.ghost_name ≡ row.memories.ghost_name

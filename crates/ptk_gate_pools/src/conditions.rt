@@ -1,4 +1,4 @@
-//! Condition variables: their numbers, what is told of them, and the moves of wait, signal, broadcast and
+//! Condition variables: their numbers, what is shown of them, and the moves of wait, signal, broadcast and
 //! withdrawal (pthread_cond_wait, pthread_cond_signal). Whoever is woken has no deadline any more.
 
 ghost use Rattle.std.specs.Prelude.{◌≡◌, ◌<◌, true, [], length, nat_lt, if◌then◌else◌, Some, None, IsSome, is_some};

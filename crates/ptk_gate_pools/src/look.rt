@@ -7,6 +7,7 @@ ghost use Rattle.ptk_words_model.specs.Mutex.{mutex_at};
 ghost use Rattle.ptk_words_model.specs.Priority.{thread_at, effective_priority};
 ghost use Rattle.ptk_words_model.specs.Schedule.{first_ready};
 ghost use Rattle.ptk_words_model.specs.Withdrawal.{deadlines_of};
+ghost use Rattle.ptk_words_model.specs.ThreadCreation.{new_cancellation};
 ghost use Rattle.ptk_cancel.specs.KeptCancellations.{is_acting};
 ghost use Rattle.ptk_clock.specs.ByThread.{least_deadline};
 ghost use Rattle.ptk_mutex_slots.specs.Slots.{state_of};
@@ -125,6 +126,15 @@ impl Look<'_> {
     {
         let pools = self.pools;
         pools.cancellations.is_acting(self.p, t)
+    }
+
+    /// Whether a request to cancel the thread is pending, whatever its state and type (pthread_cancel).
+    #[tactic(auto, using(crate::proofs::Hands::taken))]
+    pub fn is_cancel_pending(&self, t: ThreadNo) -> bool
+        ensures { result ≡ (unwrap_or (numbered self.now.part.cancellations t) new_cancellation).is_pending }
+    {
+        let pools = self.pools;
+        pools.cancellations.is_pending(self.p, t)
     }
 
     /// The first thread of the line's greatest effective priority, where all of them are in use; None of an empty line

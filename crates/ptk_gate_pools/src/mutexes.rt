@@ -1,4 +1,4 @@
-//! Mutexes: their numbers, what is told of them, and the moves of lock, unlock and an owner's end. After each move the
+//! Mutexes: their numbers, what is shown of them, and the moves of lock, unlock and an owner's end. After each move the
 //! partition's stored priorities are the effective ones (pthread_mutex_lock, pthread_mutexattr_getprotocol).
 
 ghost use Rattle.std.specs.Prelude.{◌≡◌, ◌<◌, ◌≤◌, false, None, Some, [], length, option_map, is_some, if◌then◌else◌};

@@ -1,14 +1,13 @@
 //! Plain steps of a thread in a row, on its registers where they lie in the slot table.
 
 ghost use Rattle.std.specs.Prelude.{◌≡◌, false, ◌+◌, ◌^◌, ◌<◌, ◌≤◌, length, slice_set, Option, Some, IsSome};
-ghost use Rattle.std.specs.Option.{option_or};
 ghost use Rattle.ptk_words.specs.declared.threads.Thread.{Thread};
 ghost use Rattle.ptk_words_parted.specs.Parts.{part_of};
 ghost use Rattle.ptk_words_instructions.specs.PlainSteps.{core, is_plain, plain_steps};
 ghost use Rattle.ptk_words_model.specs.Priority.{thread_at};
 ghost use Rattle.ptk_threads.specs.Table.{thread_in, with_changed};
-ghost use Rattle.ptk_words_quiet.specs.Quiet.{ArePlain, core_of, computed, after_row};
-ghost use Rattle.ptk_trace.specs.TracedRows.{last_entry, traced};
+ghost use Rattle.ptk_words_quiet.specs.Quiet.{ArePlain, core_of, computed, after_row, last_after};
+ghost use Rattle.ptk_trace.specs.TracedRows.{traced};
 
 use crate::pools::Pools;
 use ptk_gate_parts::Memories;
@@ -18,7 +17,7 @@ use ptk_trace::Trace;
 use ptk_words::{Entry, PartId, Policy, Thread, ThreadNo, Tick};
 
 impl Pools {
-    /// Plain steps of a thread in use in a row, the first of them at the tick, at most so many, until the next word is no
+    /// Plain steps of a thread in use in a row, the first of them at the tick, at most this many, until the next word is no
     /// plain step; how many. Each is counted as if it had been a decision: the registers, the memory, the used ticks of
     /// SCHED_RR, the last step, and the trace, which has them as the newest. Nothing else changes.
     pub fn run_row(&mut self, t: ThreadNo, tick: Tick, most: u32, trace: &mut Trace) -> u32
@@ -71,7 +70,7 @@ fn run_at(
     ensures conditions { roster.new.conditions ≡ roster.old.conditions }
     ensures memory { (thread : Thread) → thread_in roster.old.table p t ≡ Some thread → memories.new ≡ slice_set memories.old p (plain_steps result (core thread.cpu (part_of memories.old p))).memory }
     ensures traced { (thread : Thread) → thread_in roster.old.table p t ≡ Some thread → trace.new ≡ traced tick t result (core thread.cpu (part_of memories.old p)) trace.old }
-    ensures last { (thread : Thread) → thread_in roster.old.table p t ≡ Some thread → last.new ≡ option_or (last_entry tick t result (core thread.cpu (part_of memories.old p))) last.old }
+    ensures last { (thread : Thread) → thread_in roster.old.table p t ≡ Some thread → last.new ≡ last_after tick t result (core thread.cpu (part_of memories.old p)) last.old }
     ensures ended { (thread : Thread) → thread_in roster.old.table p t ≡ Some thread → result < most → is_plain (plain_steps result (core thread.cpu (part_of memories.old p))) ≡ false }
 {
     let mut row = Row {
@@ -140,7 +139,7 @@ fn run_thread(
     ensures thread { thread.new ≡ computed result (plain_steps result (core thread.old.cpu (part_of memories.old p))).cpu thread.old }
     ensures memory { memories.new ≡ slice_set memories.old p (plain_steps result (core thread.old.cpu (part_of memories.old p))).memory }
     ensures traced { trace.new ≡ traced tick t result (core thread.old.cpu (part_of memories.old p)) trace.old }
-    ensures last { last.new ≡ option_or (last_entry tick t result (core thread.old.cpu (part_of memories.old p))) last.old }
+    ensures last { last.new ≡ last_after tick t result (core thread.old.cpu (part_of memories.old p)) last.old }
     ensures ended { result < most → is_plain (plain_steps result (core thread.old.cpu (part_of memories.old p))) ≡ false }
 {
     let steps = memories.run_row(p, &mut thread.cpu, tick, t, most, trace, last);

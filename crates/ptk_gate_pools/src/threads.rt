@@ -71,7 +71,7 @@ impl Pools {
         self.mutexes.assign(&mut self.roster, p, t, priority);
     }
 
-    /// The thread has used so many ticks of its interval (XSH 2.8.4, SCHED_RR).
+    /// The thread has used this many ticks of its interval (XSH 2.8.4, SCHED_RR).
     #[tactic(auto, using(crate::proofs::Hands::handed, crate::proofs::Stored::stored, crate::proofs::Timed::kept))]
     pub fn give_used(&mut self, t: ThreadNo, used: u32)
         ensures { self.new ≡ record self.old { here = with_used t used self.old.here } }

@@ -8,12 +8,13 @@ use Rattle.ptk_words_model.specs.Run.{is_active}
 use Rattle.ptk_words_model.specs.Chain.{Leads, leads_to}
 use Rattle.ptk_words_laws.proofs.ChainLaws.{IsNumber, IsBounded, chain_at-next, chain_at-ended, chain_complete, false_true, none_some, reaches_sound}
 use Rattle.ptk_words_laws.proofs.PriorityLaws.{number_of}
-use Rattle.ptk_system.specs.Activities.{activity_of_number, is_runner}
+use Rattle.ptk_words_model.specs.Schedule.{is_running}
+use Rattle.ptk_system.specs.Activities.{activity_of_number}
 use Rattle.ptk_standing.specs.Deadlocks.{IsDeadlocked, blocker_in, blocker_of}
 
 -- a free number waits for nobody
 blocker-free : (s : Part) (q : ℕ) → pool_get s.locks.threads q ≡ None → blocker_in s q ≡ None
-blocker-free s q e = ap (λ thread. blocker_of s.locks (activity_of_number (is_active s.status) (is_runner q s.running) thread)) e
+blocker-free s q e = ap (λ thread. blocker_of s.locks (activity_of_number (is_active s.status) (is_running q s.running) thread)) e
 
 blocker_within : (s : Part) (q v : ℕ) (o : Option Thread) → pool_get s.locks.threads q ≡ o → blocker_in s q ≡ Some v → IsNumber (length s.locks.threads) q
 blocker_within s q v None e n = none_some (blocker_in s q) v (blocker-free s q e) n

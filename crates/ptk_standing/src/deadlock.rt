@@ -35,7 +35,7 @@ pub fn is_deadlocked(system: &System<'_>, p: PartId, t: ThreadNo) -> bool
     }
 }
 
-/// Whether at most so many waits lead from a thread to another.
+/// Whether at most this many waits lead from a thread to another.
 fn leads(system: &System<'_>, p: PartId, to: ThreadNo, most: usize, from: ThreadNo) -> bool
     requires { p < length system.now.config.sections }
     ensures { result ≡ leads_to (blocker_in (state_of system.now p).part) to most from }

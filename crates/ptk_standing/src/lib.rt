@@ -1,8 +1,12 @@
-//! How a partition of a system stands, as values: `standing` returns its status, or that it has no image;
-//! `refused_address` returns the address for which an instruction was not carried out; `is_deadlocked` returns whether a
-//! thread waits on a cycle of threads, each of which waits for the next one, and `blocker` the next one. The contracts are
-//! in both directions: `is_deadlocked` finds a cycle if and only if there is one, however long. Below stand the system
-//! (`ptk_system`) and the types of instructions (`ptk_rv32i_code`); above stands the text of an explanation.
+//! What `explain` says of a partition, as values: its status or that it has no image, the address for which an
+//! instruction was not carried out, and whether a thread waits on a cycle of threads.
+//!
+//! - `is_deadlocked` is true if and only if some number of waits, one at least, leads from a thread back to it, each
+//!   for the owner of a mutex or for the end of a thread, and without a deadline (`blocker`).
+//! - `refused_address` and `standing` return the address of a fault and the status as the state has them.
+//!
+//! Below are the system (`ptk_system`) and the types of instructions (`ptk_rv32i_code`); above is the text of an
+//! explanation.
 #![tactic(auto)]
 
 mod deadlock;

@@ -83,11 +83,11 @@ first_later tick (a ∷ coming) e = by (nat_le a.tick tick) refl e
 
 -- ---- the deadlines
 
-in_order_some : (a : Expiry) (xs : List Expiry) → in_order_with a xs ≡ [] → ⊥
+in_order_some : (a : Expiry) (xs : List Expiry) → in_order_with is_before a xs ≡ [] → ⊥
 in_order_some a [] e = cc
 in_order_some a (b ∷ bs) e = by (is_before a b) e
   where
-    by : (c : Bool) → (if c then a ∷ b ∷ bs else b ∷ in_order_with a bs) ≡ [] → ⊥
+    by : (c : Bool) → (if c then a ∷ b ∷ bs else b ∷ in_order_with is_before a bs) ≡ [] → ⊥
     by true e = cc
     by false e = cc
 

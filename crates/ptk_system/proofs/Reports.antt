@@ -6,8 +6,8 @@ use Rattle.std.proofs.KnownBytes.{Appends-trans}
 use Rattle.ptk_words.specs.declared.faults.Status.{Status}
 use Rattle.ptk_words.specs.declared.faults.Status.TheVariants.{Active, Exited, Stopped, Refused}
 use Rattle.ptk_words_model.specs.State.{Part, State}
-use Rattle.ptk_words_model.specs.Text.{newline, output_text, report_text, status_text}
-use Rattle.ptk_system.specs.Told.{activity_of, is_busy, status_in, told_status}
+use Rattle.ptk_words_model.specs.Text.{newline, output_text, report_text, status_text, has_runnable}
+use Rattle.ptk_system.specs.Told.{activity_of, status_in, told_status}
 use Rattle.ptk_system.specs.Shown.{shown_status, part_lines, part_report, reports_to}
 use Rattle.ptk_system.specs.World.{World}
 
@@ -15,8 +15,8 @@ activity_shown : (b : Bool) → shown_status (activity_of b) ≡ (if b then code
 activity_shown true = refl
 activity_shown false = refl
 
-status_shown_by : (status : Status) (s : Part) → shown_status (told_status status (is_busy s)) ≡ status_text status s
-status_shown_by Active s = activity_shown (is_busy s)
+status_shown_by : (status : Status) (s : Part) → shown_status (told_status status (has_runnable s)) ≡ status_text status s
+status_shown_by Active s = activity_shown (has_runnable s)
 status_shown_by (Exited code) s = refl
 status_shown_by (Stopped cause pc) s = refl
 status_shown_by (Refused fault) s = refl

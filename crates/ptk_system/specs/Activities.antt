@@ -1,18 +1,14 @@
 -- What a thread of a partition does (XSH 2.8.4).
-use Rattle.std.specs.Prelude.{ℕ, Bool, false, ◌==◌, Option, Some, None, if◌then◌else◌}
+use Rattle.std.specs.Prelude.{ℕ, Bool, Option, Some, None, if◌then◌else◌}
 use Rattle.ptk_words.specs.Threads.{is_ended}
 use Rattle.ptk_words.specs.declared.threads.Thread.{Thread}
 use Rattle.ptk_words.specs.declared.threads.Wait.{Wait}
 use Rattle.ptk_words_model.specs.State.{Part}
 use Rattle.ptk_words_model.specs.Priority.{thread_at}
+use Rattle.ptk_words_model.specs.Schedule.{is_running}
 use Rattle.ptk_words_model.specs.Run.{is_active}
 use Rattle.ptk_system.specs.declared.activity.Activity.{Activity}
 use Rattle.ptk_system.specs.declared.activity.Activity.TheVariants.{Free, Running, Ready, Blocked, Ended, Halted}
-
--- the thread is the running one
-abbrev pub is_runner : ℕ → Option ℕ → Bool
-is_runner t None = false
-is_runner t (Some u) = u == t
 
 -- of a thread that does not run and has not ended: blocked where it waits, else ready (XSH 2.8.4)
 abbrev pub activity_of_wait : Option Wait → Activity
@@ -31,4 +27,4 @@ activity_of_number is_active is_running (Some thread) = activity_of_thread is_ac
 
 -- what the thread of a number does
 abbrev pub activity_in : ℕ → Part → Activity
-activity_in t s = activity_of_number (is_active s.status) (is_runner t s.running) (thread_at s.locks t)
+activity_in t s = activity_of_number (is_active s.status) (is_running t s.running) (thread_at s.locks t)

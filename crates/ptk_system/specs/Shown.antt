@@ -1,7 +1,8 @@
 -- The bytes of the report.
-use Rattle.std.specs.Prelude.{ℕ, zero, suc, List, [], ◌++◌, length, codes, decimal}
+use Rattle.std.specs.Prelude.{ℕ, zero, suc, List, [], ◌∷◌, ◌++◌, length, codes, decimal}
+use Rattle.std.specs.List.{concat}
 use Rattle.ptk_words.specs.Faults.{image_fault_number}
-use Rattle.ptk_words_model.specs.Text.{cause_text, hex_word, newline, output_text, report_text}
+use Rattle.ptk_words_model.specs.Text.{cause_text, head_line, hex_word, output_text, report_text}
 use Rattle.ptk_system.specs.World.{World, section_at, state_of}
 use Rattle.ptk_system.specs.declared.status.PartStatus.{PartStatus}
 use Rattle.ptk_system.specs.declared.status.PartStatus.TheVariants.{Idle, Running, Exited, Stopped, Refused}
@@ -11,18 +12,12 @@ abbrev pub shown_status : PartStatus → List ℕ
 shown_status Idle = codes "idle"
 shown_status Running = codes "running"
 shown_status (Exited code) = codes "exit " ++ decimal code
-shown_status (Stopped cause pc) = codes "fault " ++ (cause_text cause ++ (codes " pc " ++ hex_word pc))
+shown_status (Stopped cause pc) = concat (codes "fault " ∷ cause_text cause ∷ codes " pc " ∷ hex_word pc ∷ [])
 shown_status (Refused fault) = codes "refused image " ++ decimal (image_fault_number fault)
-
--- the line of a partition of this name, with this status and these counts
-abbrev pub head_line : List ℕ → PartStatus → ℕ → ℕ → List ℕ
-head_line name status steps lost =
-    codes "partition " ++ (name ++ (codes " " ++ (shown_status status
-    ++ (codes " steps " ++ (decimal steps ++ (codes " lost " ++ (decimal lost ++ newline)))))))
 
 -- the line of a partition, and its output after it
 abbrev pub part_lines : List ℕ → PartStatus → ℕ → ℕ → List ℕ → List ℕ
-part_lines name status steps lost output = head_line name status steps lost ++ output_text output
+part_lines name status steps lost output = head_line name (shown_status status) steps lost ++ output_text output
 
 -- a partition's part of the report: the text of its state
 abbrev pub part_report : World → ℕ → List ℕ

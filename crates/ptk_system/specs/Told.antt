@@ -1,11 +1,12 @@
 -- What is told of a partition's state.
-use Rattle.std.specs.Prelude.{ℕ, Bool, true, false, ◌||◌, Option, Some, None, option_map, option_and_then, is_some, length, nat_lt, if◌then◌else◌}
+use Rattle.std.specs.Prelude.{ℕ, Bool, true, false, Option, Some, None, option_map, option_and_then, nat_lt, if◌then◌else◌}
 use Rattle.ptk_words.specs.Processor.{Processor, register}
 use Rattle.ptk_words.specs.declared.faults.Status.{Status}
 use Rattle.ptk_words.specs.declared.faults.Status.TheVariants.{Active, Exited, Stopped, Refused}
 use Rattle.ptk_words.specs.declared.threads.Thread.{Thread}
 use Rattle.ptk_words_model.specs.State.{Part}
 use Rattle.ptk_words_model.specs.Priority.{thread_at}
+use Rattle.ptk_words_model.specs.Text.{has_runnable}
 use Rattle.ptk_words.specs.Threads.{is_ended}
 use Rattle.ptk_system.specs.declared.status.PartStatus.{PartStatus}
 use Rattle.ptk_system.specs.declared.status.PartStatus.TheVariants as told
@@ -28,10 +29,6 @@ abbrev pub activity_of : Bool → PartStatus
 activity_of true = told.Running
 activity_of false = told.Idle
 
--- whether a thread is running or ready
-abbrev pub is_busy : Part → Bool
-is_busy s = is_some s.running || nat_lt 0 (length s.line)
-
 -- the status that is told, by the state's own and by whether a thread is running or ready
 abbrev pub told_status : Status → Bool → PartStatus
 told_status Active busy = activity_of busy
@@ -41,4 +38,4 @@ told_status (Refused fault) busy = told.Refused fault
 
 -- the status of a partition
 abbrev pub status_in : Part → PartStatus
-status_in s = told_status s.status (is_busy s)
+status_in s = told_status s.status (has_runnable s)

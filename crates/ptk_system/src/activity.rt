@@ -1,17 +1,22 @@
 //! What each thread does, its priorities, and the partition's next decision and last step: what a picture of a run is
 //! made from.
 
-ghost use Rattle.std.specs.Prelude.{◌≡◌, ◌<◌, ◌≤◌, ℕ, None, Some, length, option_map};
+ghost use Rattle.std.specs.Prelude.{◌≡◌, ◌<◌, ◌≤◌, ℕ, None, Some, length, option_map, unwrap_or};
+ghost use Rattle.ptk_words.specs.Pools.{numbered};
+ghost use Rattle.ptk_words_model.specs.ThreadCreation.{new_cancellation};
+ghost use Rattle.ptk_mutex_slots.specs.Slots.{state_of as mutex_state};
 ghost use Rattle.ptk_words.specs.declared.threads.Thread.{Thread};
 ghost use Rattle.ptk_words_windows.specs.Windows.{own_ticks};
 ghost use Rattle.ptk_words_model.specs.State.{Mutex};
 ghost use Rattle.ptk_words_model.specs.Priority.{effective_priority, thread_at};
 ghost use Rattle.ptk_words_model.specs.Mutex.{mutex_at};
 ghost use Rattle.ptk_words_model.specs.Run.{is_active};
-ghost use Rattle.ptk_system.specs.Activities.{activity_in, activity_of_thread, activity_of_wait, is_runner};
+ghost use Rattle.ptk_words_model.specs.Schedule.{is_running};
+ghost use Rattle.ptk_system.specs.Activities.{activity_in, activity_of_thread, activity_of_wait};
 ghost use Rattle.ptk_system.specs.World.{at_tick, but_next, state_of};
 
 use crate::system::System;
+use ptk_mutex_slots::MutexState;
 use ptk_system_machine::idle_from;
 use ptk_words::{
     Entry, LAST_TICK, MutexNo, Owner, PartId, Phase, Priority, Status, Thread, ThreadNo, Tick, Wait,
@@ -50,7 +55,7 @@ impl<'a> System<'a> {
     {
         match self.thread(p, t) {
             Some(thread) => {
-                activity_of(self.is_active(p), is_runner(t, self.running(p)), thread)
+                activity_of(self.is_active(p), is_running(t, self.running(p)), thread)
             }
             None => Activity::Free,
         }
@@ -95,6 +100,22 @@ impl<'a> System<'a> {
         ensures { result ≡ option_map (λ (mutex : Mutex). mutex.owner) (mutex_at (state_of self.now p).part.locks m) }
     {
         self.kept().tables().owner(p, m)
+    }
+
+    /// What a mutex is, but for its waiters; None of a free number (pthread_mutex_init).
+    pub fn mutex(&self, p: PartId, m: MutexNo) -> Option<MutexState>
+        requires { p < length self.now.config.sections }
+        ensures { result ≡ option_map mutex_state (mutex_at (state_of self.now p).part.locks m) }
+    {
+        self.kept().tables().mutex(p, m)
+    }
+
+    /// Whether a request to cancel a thread is pending, whatever its state and type (pthread_cancel).
+    pub fn is_cancel_pending(&self, p: PartId, t: ThreadNo) -> bool
+        requires { p < length self.now.config.sections }
+        ensures { result ≡ (unwrap_or (numbered (state_of self.now p).part.cancellations t) new_cancellation).is_pending }
+    {
+        self.kept().tables().is_cancel_pending(p, t)
     }
 
     /// The tick of the partition's next decision, None where there is none: it is halted, or has no window.
@@ -142,7 +163,7 @@ impl<'a> System<'a> {
     }
 
     /// The partition's first own tick from this one on, where that is before `stop`, else `stop`. A tick above 2^40, to
-    /// which no system goes, is told as it is.
+    /// which no system goes, is returned as it is.
     fn first_own(&self, p: PartId, tick: Tick, stop: Tick) -> Tick
         requires { tick ≤ stop }
         ensures from { tick ≤ result }
@@ -191,8 +212,8 @@ fn activity_of_wait(wait: Option<Wait>) -> Activity
 }
 
 /// Whether the thread is the running one.
-fn is_runner(t: ThreadNo, running: Option<ThreadNo>) -> bool
-    ensures { result ≡ is_runner t running }
+fn is_running(t: ThreadNo, running: Option<ThreadNo>) -> bool
+    ensures { result ≡ is_running t running }
 {
     match running {
         Some(u) => u.number() == t.number(),

@@ -1,11 +1,15 @@
-//! A system of partitions: `System::boot` from a configuration and files, `System::run_to`, what is told of each
-//! partition, and `System::report`. A system's value has the state that each partition is in, which every getter, the
-//! tables and the report answer functions of. The headline is the invariant of `System`, told by `states_are_alone`: after
-//! any ticks each partition's state is the one that the definition gives it alone, of its own ticks, its section, its image
-//! and its input. `two_worlds`, `idle_world`, `one_processor`, `decisions_are_own` and `steps_are_apart` are its laws. Below stand all
-//! partitions over the ticks (`ptk_system_machine`), the files (`ptk_system_files`), the kernel, images, the
-//! configuration, windows and traces; the program stands above. Dear to prove: that loading one image leaves every other
-//! partition (`proofs/Loading`).
+//! A system of partitions, `System`: boot from a configuration and files, run, getters (what each thread does among
+//! them), and report; and the laws of separation.
+//!
+//! - `states_are_alone`, `two_worlds`, `idle_world`, `one_processor`, `decisions_are_own` and `steps_are_apart`: the
+//!   promises of separation, each with its clause in docs/GUARANTEES.md.
+//!
+//! A system's value has the state that each partition is in, and every getter, the tables and the report are functions
+//! of it. The headline is the invariant of `System`, which `states_are_alone` states: after any ticks each partition's
+//! state is the one that the definition gives it alone, of its own ticks, its section, its image and its input. Below
+//! are all partitions over the ticks (`ptk_system_machine`), the files (`ptk_system_files`), the kernel, images, the
+//! configuration, windows and traces; above is the program. Costly to prove is that loading one image leaves every
+//! other partition (`proofs/Loading`).
 #![tactic(auto)]
 
 mod activity;

@@ -3,7 +3,8 @@
 ghost use Rattle.std.specs.Prelude.{◌<◌, OnOk, length};
 ghost use Rattle.std.specs.Io.KnownBytes.{Appends};
 ghost use Rattle.ptk_words_model.specs.Text.{output_text};
-ghost use Rattle.ptk_system.specs.Shown.{head_line, part_lines, part_report, report_of};
+ghost use Rattle.ptk_words_model.specs.Text.{head_line};
+ghost use Rattle.ptk_system.specs.Shown.{part_lines, part_report, report_of, shown_status};
 
 use crate::status::PartStatus;
 use crate::system::System;
@@ -14,7 +15,7 @@ use std::io::Write;
 
 impl<'a> System<'a> {
     /// Writes each section's part of the report, in their order, and takes no memory. An error where the writer fails;
-    /// the system stays as it was, and what the writer got before is not told.
+    /// the system stays as it was, and nothing is said of what the writer got before.
     #[tactic(auto, using(crate::proofs::Reports::reports))]
     pub fn report<W: Write>(&self, out: &mut W) -> io::Result<()>
         ensures { OnOk result (Appends (W.contents out.old) (W.contents out.new) (report_of self.now)) }
@@ -61,7 +62,7 @@ fn put_head<W: Write>(
     steps: u64,
     lost: u64,
 ) -> io::Result<()>
-    ensures { OnOk result (Appends (W.contents out.old) (W.contents out.new) (head_line name.now status steps lost)) }
+    ensures { OnOk result (Appends (W.contents out.old) (W.contents out.new) (head_line name.now (shown_status status) steps lost)) }
 {
     let (steps, lost) = (Decimal(steps), Decimal(lost));
     writeln!(out, "partition {name} {status} steps {steps} lost {lost}")

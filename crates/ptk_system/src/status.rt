@@ -1,4 +1,4 @@
-//! What a partition does, as the report tells it.
+//! What a partition does, as the report says it.
 
 ghost use Rattle.std.specs.Prelude.{◌≡◌, Some};
 ghost use Rattle.ptk_words_model.specs.Text.{cause_text, fault_text};
@@ -20,7 +20,7 @@ pub enum PartStatus {
     Exited(u8),
     /// An instruction at this pc stopped it.
     Stopped(Cause, u32),
-    /// Its image was refused, for fault 1 to 5 or 7; want of memory refuses the boot instead.
+    /// Its image was refused, for fault 1 to 5 or 7; where memory runs out the boot is refused instead.
     Refused(ImageFault),
 }
 

@@ -16,7 +16,7 @@ use std::alloc::Global;
 use std::marker::Model;
 
 /// The partitions of a configuration after some ticks, each with its state. Each of them is what it would be alone: that is
-/// its invariant (`IsRun`), and `states_are_alone` tells it.
+/// its invariant (`IsRun`), and `states_are_alone` states it.
 #[derive(Drop)]
 pub struct System<'a> {
     pub(crate) config: &'a Config,
@@ -104,6 +104,25 @@ impl<'a> System<'a> {
         let config = self.config;
         let plan = config.plan();
         self.tick = self.machine.run_row(plan, self.tick, n);
+    }
+
+    /// Goes on as `compute_to` does, but over plain steps alone, of one window at most: it stops before each call, whoever makes
+    /// it, and so whoever looks at the system sees each call by itself.
+    pub fn plain_to(&mut self, n: Tick)
+        requires { n ≤ LAST_TICK }
+        ensures from { self.old.tick ≤ self.new.tick }
+        ensures within { self.new.tick ≤ max self.old.tick n }
+        ensures on { self.old.tick < n → ((p : ℕ) → p < length self.old.config.sections →
+            (state_of self.old p).account.next ≡ Some self.old.tick →
+            IsPlainAt (section_at self.old.config p).limits self.old.tick (state_of self.old p).part) → self.old.tick < self.new.tick }
+        ensures run { self.new ≡ at_tick self.new.tick self.old }
+    {
+        if n.ticks() <= self.tick.ticks() {
+            return;
+        }
+        let config = self.config;
+        let plan = config.plan();
+        self.tick = self.machine.run_plain(plan, self.tick, n);
     }
 
     /// The configuration of its boot.

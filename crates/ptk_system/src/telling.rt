@@ -1,4 +1,4 @@
-//! What is told of each partition.
+//! What a system shows of each partition.
 
 ghost use Rattle.std.specs.Prelude.{◌≡◌, ◌<◌, ◌≤◌, ℕ, length, slice_get};
 ghost use Rattle.ptk_words_model.specs.Priority.{thread_at};
