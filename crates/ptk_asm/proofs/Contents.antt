@@ -4,11 +4,11 @@ use Rattle.std.proofs.lemmas.Grind.{flat_map-append}
 use Rattle.std.proofs.lemmas.List.{append-nil, map-append, take_more}
 use Rattle.std.proofs.lemmas.List.Elements.{All-nil, All-cons, All-same, All-append}
 use Rattle.std.specs.List.{All}
-use Rattle.ptk_asm_model.specs.declared.statement.Section.{Section}
-use Rattle.ptk_asm_model.specs.declared.fault.FaultKind.{FaultKind}
-use Rattle.ptk_asm_model.specs.declared.fault.FaultKind.TheVariants as fault
-use Rattle.ptk_asm_model.specs.Source.{Layout, second_pass, reference_fault, contents_of, bytes_in}
-use Rattle.ptk_asm_laws.specs.Laws.{IsDecoded}
+use Rattle.ptk_asm_language.specs.declared.statement.Section.{Section}
+use Rattle.ptk_asm_language.specs.declared.fault.FaultKind.{FaultKind}
+use Rattle.ptk_asm_language.specs.declared.fault.FaultKind.TheVariants as fault
+use Rattle.ptk_asm_language.specs.Source.{Layout, second_pass, reference_fault, contents_of, bytes_in}
+use Rattle.ptk_asm.specs.Laws.{IsDecoded}
 use Rattle.ptk_asm.specs.declared.placed.Placed as code
 use Rattle.ptk_asm.specs.declared.fault.AsmFault.{AsmFault}
 use Rattle.ptk_asm.specs.Passing.{shown_placed, IsAt, IsSecond}

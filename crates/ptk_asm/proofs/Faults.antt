@@ -1,14 +1,14 @@
 -- The fault of the code is the first one of the source.
 use Rattle.std.proofs.Common.{◌≡◌, ℕ, ◌+◌, ◌≤◌, length, arith, List, [], ◌∷◌, Some, Option, refl, sym, ap, subst, ◌∙◌}
 use Rattle.std.specs.Prelude.{Err}
-use Rattle.ptk_asm_model.specs.declared.place.Span.{Span}
-use Rattle.ptk_asm_model.specs.declared.place.Extent.{Extent}
-use Rattle.ptk_asm_model.specs.declared.fault.FaultKind.{FaultKind}
-use Rattle.ptk_asm_model.specs.declared.fault.FaultKind.TheVariants as fault
-use Rattle.ptk_asm_model.specs.declared.fault.LineFault.{LineFault}
-use Rattle.ptk_asm_model.specs.Lines.{raw_lines, without_ending}
-use Rattle.ptk_asm_model.specs.Reading.{Refuses, IsPlaced, fault_spot}
-use Rattle.ptk_asm_model.specs.Source.{line_fault, line_place, at_line, first_pass, span_after}
+use Rattle.ptk_asm_language.specs.declared.place.Span.{Span}
+use Rattle.ptk_asm_language.specs.declared.place.Extent.{Extent}
+use Rattle.ptk_asm_language.specs.declared.fault.FaultKind.{FaultKind}
+use Rattle.ptk_asm_language.specs.declared.fault.FaultKind.TheVariants as fault
+use Rattle.ptk_asm_language.specs.declared.fault.LineFault.{LineFault}
+use Rattle.ptk_asm_language.specs.Lines.{raw_lines, without_ending}
+use Rattle.ptk_asm_language.specs.Reading.{Refuses, IsPlaced, fault_spot}
+use Rattle.ptk_asm_language.specs.Source.{line_fault, line_place, at_line, first_pass, span_after}
 use Rattle.ptk_asm.specs.declared.fault.AsmFault.{AsmFault}
 use Rattle.ptk_asm.specs.Passing.{IsBehind, IsFirst, Tells}
 use Rattle.ptk_asm.proofs.Inside.{IsInside, line-inside}

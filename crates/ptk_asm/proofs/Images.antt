@@ -1,13 +1,13 @@
 -- The lengths of an image, and its words.
 use Rattle.std.proofs.Common.{◌≡◌, ℕ, List, map, length, sym, ap, subst, ◌∙◌}
-use Rattle.ptk_asm_model.specs.declared.statement.Section.TheVariants as part
-use Rattle.ptk_asm_model.specs.declared.place.Lengths.{Lengths}
-use Rattle.ptk_asm_model.specs.Source.{Layout, Placed, contents_of, layout_of}
+use Rattle.ptk_asm_language.specs.declared.statement.Section.TheVariants as part
+use Rattle.ptk_asm_language.specs.declared.place.Lengths.{Lengths}
+use Rattle.ptk_asm_language.specs.Source.{Layout, Placed, contents_of, layout_of}
 use Rattle.ptk_asm.specs.declared.layout.Layout as code
 use Rattle.ptk_asm.specs.Passing.{Shows, Names, IsLaidOut, state_after, shown_placed}
-use Rattle.ptk_asm_laws.specs.Laws.{IsDecoded, WordsDecode}
-use Rattle.ptk_asm_laws.proofs.Lengths.{text-length, data-length}
-use Rattle.ptk_asm_laws.proofs.Sources.{words-decode}
+use Rattle.ptk_asm.specs.Laws.{IsDecoded, WordsDecode}
+use Rattle.ptk_asm.proofs.Lengths.{text-length, data-length}
+use Rattle.ptk_asm.proofs.Sources.{words-decode}
 use Rattle.std.specs.List.{All}
 
 pub names-after : (l : code.Layout) (before : List (List ℕ)) → Shows l (state_after before) → Names l (layout_of before)

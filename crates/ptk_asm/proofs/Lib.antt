@@ -1,3 +1,10 @@
+pub mod Zeros
+pub mod FormBytes
+pub mod Faultless
+pub mod Whole
+pub mod Lengths
+pub mod Offsets
+pub mod Sources
 pub mod Contents
 pub mod Names
 pub mod States

@@ -2,9 +2,9 @@
 use Rattle.std.proofs.Common.{◌≡◌, ℕ, Bool, true, false, List, ◌∷◌, Some, Option, refl, ap, ◌∙◌, if◌then◌else◌}
 use Rattle.std.specs.Prelude.{codes}
 use Rattle.std.specs.Str.{bytes_eq}
-use Rattle.ptk_asm_model.specs.declared.place.Place.{Place}
-use Rattle.ptk_asm_model.specs.Statements.{named}
-use Rattle.ptk_asm_model.specs.Source.{entry_at, entry_of}
+use Rattle.ptk_asm_language.specs.declared.place.Place.{Place}
+use Rattle.ptk_asm_language.specs.Statements.{named}
+use Rattle.ptk_asm_language.specs.Source.{entry_at, entry_of}
 
 by_test : (b : Bool) (n q : List ℕ) (at : Place) (labels : List (List ℕ × Place)) → bytes_eq n q ≡ b → named ((n, at) ∷ labels) q ≡ (if b then Some at else named labels q)
 by_test true n q at labels e = rw e refl

@@ -3,18 +3,18 @@ use Rattle.std.proofs.Common.{◌≡◌, ℕ, ◌+◌, ◌-◌, ◌<◌, ◌≤�
 use Rattle.std.specs.Prelude.{Ok, Err, IfSome, is_some}
 use Rattle.std.proofs.lemmas.Grind.{common_steps}
 use Rattle.std.proofs.lemmas.List.{get_or-drop}
-use Rattle.ptk_asm_model.specs.declared.statement.Form.{Form}
-use Rattle.ptk_asm_model.specs.declared.place.Place.{Place}
-use Rattle.ptk_asm_model.specs.declared.place.Extent.{Extent}
-use Rattle.ptk_asm_model.specs.declared.fault.FaultKind.{FaultKind}
-use Rattle.ptk_asm_model.specs.declared.fault.FaultKind.TheVariants as fault
-use Rattle.ptk_asm_model.specs.declared.fault.LineFault.{LineFault}
-use Rattle.ptk_asm_model.specs.declared.token.Spanned.{Spanned}
-use Rattle.ptk_asm_model.specs.Places.{place_at, end_at, operand_index}
-use Rattle.ptk_asm_model.specs.Reading.{view, views, spot, spots, fault_spot, Refuses, Answers, IsPlaced}
-use Rattle.ptk_asm_model.specs.Tokens.{Token}
-use Rattle.ptk_asm_model.specs.Statements.{Operands, no_operands, operands_of, slots_of, stands_in}
-use Rattle.ptk_asm_model.specs.Source.{form_in, mnemonic_fault, statement_index, label_fault, label_in, label_length, statement_in, is_named, fault_if}
+use Rattle.ptk_asm_language.specs.declared.statement.Form.{Form}
+use Rattle.ptk_asm_language.specs.declared.place.Place.{Place}
+use Rattle.ptk_asm_language.specs.declared.place.Extent.{Extent}
+use Rattle.ptk_asm_language.specs.declared.fault.FaultKind.{FaultKind}
+use Rattle.ptk_asm_language.specs.declared.fault.FaultKind.TheVariants as fault
+use Rattle.ptk_asm_language.specs.declared.fault.LineFault.{LineFault}
+use Rattle.ptk_asm_language.specs.declared.token.Spanned.{Spanned}
+use Rattle.ptk_asm_language.specs.Places.{place_at, end_at, operand_index}
+use Rattle.ptk_asm_language.specs.Reading.{view, views, spot, spots, fault_spot, Refuses, Answers, IsPlaced}
+use Rattle.ptk_asm_language.specs.Tokens.{Token}
+use Rattle.ptk_asm_language.specs.Statements.{Operands, no_operands, operands_of, slots_of, stands_in}
+use Rattle.ptk_asm_language.specs.Source.{form_in, mnemonic_fault, statement_index, label_fault, label_in, label_length, statement_in, is_named, fault_if}
 use Rattle.ptk_asm.specs.declared.statements.Label as code_label
 use Rattle.ptk_asm.specs.Passing.{State, place_of, index_at, label_name, label_spot, label_place}
 

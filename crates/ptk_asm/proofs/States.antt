@@ -1,17 +1,17 @@
 -- The layout behind a line.
 use Rattle.std.proofs.Common.{◌≡◌, ℕ, ◌<◌, length, get_or, drop, arith, Bool, true, false, List, [], ◌∷◌, Some, None, Option, refl, sym, ap, subst, ◌∙◌}
 use Rattle.std.specs.Prelude.{Ok, Err}
-use Rattle.ptk_asm_model.specs.declared.statement.Form.{Form}
-use Rattle.ptk_asm_model.specs.declared.place.Place.{Place}
-use Rattle.ptk_asm_model.specs.declared.place.Span.{Span}
-use Rattle.ptk_asm_model.specs.declared.place.Extent.{Extent}
-use Rattle.ptk_asm_model.specs.declared.fault.FaultKind.{FaultKind}
-use Rattle.ptk_asm_model.specs.declared.fault.FaultKind.TheVariants as fault
-use Rattle.ptk_asm_model.specs.declared.token.Spanned.{Spanned}
-use Rattle.ptk_asm_model.specs.Reading.{view, views, Refuses, Answers}
-use Rattle.ptk_asm_model.specs.Tokens.{Token}
-use Rattle.ptk_asm_model.specs.Statements.{Operands, operands_of, slots_of, stands_in}
-use Rattle.ptk_asm_model.specs.Source.{Statement, form_in, stated, statement_fault, place_fault, mnemonic_fault, is_misplaced, first_of, label_fault, label_in, statement_in}
+use Rattle.ptk_asm_language.specs.declared.statement.Form.{Form}
+use Rattle.ptk_asm_language.specs.declared.place.Place.{Place}
+use Rattle.ptk_asm_language.specs.declared.place.Span.{Span}
+use Rattle.ptk_asm_language.specs.declared.place.Extent.{Extent}
+use Rattle.ptk_asm_language.specs.declared.fault.FaultKind.{FaultKind}
+use Rattle.ptk_asm_language.specs.declared.fault.FaultKind.TheVariants as fault
+use Rattle.ptk_asm_language.specs.declared.token.Spanned.{Spanned}
+use Rattle.ptk_asm_language.specs.Reading.{view, views, Refuses, Answers}
+use Rattle.ptk_asm_language.specs.Tokens.{Token}
+use Rattle.ptk_asm_language.specs.Statements.{Operands, operands_of, slots_of, stands_in}
+use Rattle.ptk_asm_language.specs.Source.{Statement, form_in, stated, statement_fault, place_fault, mnemonic_fault, is_misplaced, first_of, label_fault, label_in, statement_in}
 use Rattle.ptk_asm.specs.declared.layout.Layout as code
 use Rattle.ptk_asm.specs.Passing.{State, Shows, behind, stepped, labelled, with_statement, place_of, fault_at}
 

@@ -3,17 +3,17 @@ use Rattle.std.proofs.Common.{◌≡◌, ℕ, ◌+◌, ◌-◌, length, arith, L
 use Rattle.std.specs.Prelude.{sum_by, unwrap_or, Result, Ok, Err, OnOk}
 use Rattle.std.proofs.lemmas.List.{append-nil}
 use Rattle.std.proofs.lemmas.List.Sums.{sum_by-cons}
-use Rattle.ptk_asm_model.specs.declared.place.Span.{Span}
-use Rattle.ptk_asm_model.specs.declared.place.Extent.{Extent}
-use Rattle.ptk_asm_model.specs.declared.fault.FaultKind.{FaultKind}
-use Rattle.ptk_asm_model.specs.declared.fault.FaultKind.TheVariants as fault
-use Rattle.ptk_asm_model.specs.Lines.{raw_lines, without_ending, without_comment, code_of}
-use Rattle.ptk_asm_model.specs.declared.fault.LineFault.{LineFault}
-use Rattle.ptk_asm_model.specs.Places.{places_of, place_at, last_place, wrong_place}
-use Rattle.ptk_asm_model.specs.Reading.{Refuses, IsPlaced, token_fault, fault_unless}
-use Rattle.ptk_asm_model.specs.Tokens.{Token, tokens_of}
-use Rattle.ptk_asm_model.specs.Source.{Statement, Placed, placed_at, stated, line_fault, line_place, tokens_place, last_of, at_line, first_pass, label_in, statement_in, span_after, placed_after, grown_by, turned_to, with_label, section_after, lengths_after, labels_after, place_after}
-use Rattle.ptk_asm_laws.proofs.Whole.{whole-none}
+use Rattle.ptk_asm_language.specs.declared.place.Span.{Span}
+use Rattle.ptk_asm_language.specs.declared.place.Extent.{Extent}
+use Rattle.ptk_asm_language.specs.declared.fault.FaultKind.{FaultKind}
+use Rattle.ptk_asm_language.specs.declared.fault.FaultKind.TheVariants as fault
+use Rattle.ptk_asm_language.specs.Lines.{raw_lines, without_ending, without_comment, code_of}
+use Rattle.ptk_asm_language.specs.declared.fault.LineFault.{LineFault}
+use Rattle.ptk_asm_language.specs.Places.{places_of, place_at, last_place, wrong_place}
+use Rattle.ptk_asm_language.specs.Reading.{Refuses, IsPlaced, token_fault, fault_unless}
+use Rattle.ptk_asm_language.specs.Tokens.{Token, tokens_of}
+use Rattle.ptk_asm_language.specs.Source.{Statement, Placed, placed_at, stated, line_fault, line_place, tokens_place, last_of, at_line, first_pass, label_in, statement_in, span_after, placed_after, grown_by, turned_to, with_label, section_after, lengths_after, labels_after, place_after}
+use Rattle.ptk_asm.proofs.Whole.{whole-none}
 use Rattle.ptk_asm.specs.Passing.{IsBehind, State, state_after, behind, stepped, labelled, fault_at, index_at}
 
 -- the state behind lines and a line with this statement and this label

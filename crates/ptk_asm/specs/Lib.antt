@@ -1,1 +1,4 @@
+pub mod Emitting
+pub mod Whole
+pub mod Laws
 pub mod Passing

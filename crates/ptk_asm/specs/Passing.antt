@@ -8,20 +8,20 @@ use Rattle.ptk_asm.specs.declared.placed.Placed as code_placed
 use Rattle.ptk_asm.specs.declared.statements.Statement as code_statement
 use Rattle.ptk_asm.specs.declared.statements.Label as code_label
 use Rattle.ptk_asm.specs.declared.fault.AsmFault.{AsmFault}
-use Rattle.ptk_asm_model.specs.declared.statement.Section.{Section}
-use Rattle.ptk_asm_model.specs.declared.place.Span.{Span}
-use Rattle.ptk_asm_model.specs.declared.place.Place.{Place}
-use Rattle.ptk_asm_model.specs.declared.place.Extent.{Extent}
-use Rattle.ptk_asm_model.specs.declared.place.Lengths.{Lengths}
-use Rattle.ptk_asm_model.specs.declared.fault.FaultKind.{FaultKind}
-use Rattle.ptk_asm_model.specs.declared.fault.FaultKind.TheVariants as fault
-use Rattle.ptk_asm_model.specs.Lines.{raw_lines}
-use Rattle.ptk_asm_model.specs.Tokens.{Token}
-use Rattle.ptk_asm_model.specs.Places.{nowhere}
-use Rattle.ptk_asm_model.specs.Statements.{named}
-use Rattle.ptk_asm_model.specs.Source.{Statement, Placed, Layout, Fault, place_in, taken, grown, turned_by, with_label, entry_of, label_in, statement_in, stated, section_after, lengths_after, labels_after, placed_after, tokens_fault, fault_index, layout_of, first_pass}
-use Rattle.ptk_asm_forms.specs.Operating.{shown}
-use Rattle.ptk_asm_laws.specs.Whole.{IsWhole}
+use Rattle.ptk_asm_language.specs.declared.statement.Section.{Section}
+use Rattle.ptk_asm_language.specs.declared.place.Span.{Span}
+use Rattle.ptk_asm_language.specs.declared.place.Place.{Place}
+use Rattle.ptk_asm_language.specs.declared.place.Extent.{Extent}
+use Rattle.ptk_asm_language.specs.declared.place.Lengths.{Lengths}
+use Rattle.ptk_asm_language.specs.declared.fault.FaultKind.{FaultKind}
+use Rattle.ptk_asm_language.specs.declared.fault.FaultKind.TheVariants as fault
+use Rattle.ptk_asm_language.specs.Lines.{raw_lines}
+use Rattle.ptk_asm_language.specs.Tokens.{Token}
+use Rattle.ptk_asm_language.specs.Places.{nowhere}
+use Rattle.ptk_asm_language.specs.Statements.{named}
+use Rattle.ptk_asm_language.specs.Source.{Statement, Placed, Layout, Fault, place_in, taken, grown, turned_by, with_label, entry_of, label_in, statement_in, stated, section_after, lengths_after, labels_after, placed_after, tokens_fault, fault_index, layout_of, first_pass}
+use Rattle.ptk_asm_language.specs.Operating.{shown}
+use Rattle.ptk_asm.specs.Whole.{IsWhole}
 
 -- ---- the code's data as the definition's
 

@@ -1,8 +1,8 @@
 //! The image of a source.
 
 ghost use Rattle.std.specs.Prelude.{◌≡◌, Ok, IfOk, IfErr};
-ghost use Rattle.ptk_asm_model.specs.Source as definition;
-ghost use Rattle.ptk_asm_laws.specs.Laws.{WordsDecode};
+ghost use Rattle.ptk_asm_language.specs.Source as definition;
+ghost use Rattle.ptk_asm.specs.Laws.{WordsDecode};
 ghost use Rattle.ptk_asm.specs.Passing.{IsFirst};
 
 use crate::fault::AsmFault;

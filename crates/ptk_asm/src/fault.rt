@@ -2,7 +2,7 @@
 
 ghost use Rattle.std.specs.Prelude.{◌≡◌, ◌+◌, ◌≤◌};
 
-use ptk_asm_model::{FaultKind, LineFault, Span};
+use ptk_asm_language::{FaultKind, LineFault, Span};
 use thiserror::Error;
 
 /// Why a source is refused: the first fault, its line, and the bytes at fault.

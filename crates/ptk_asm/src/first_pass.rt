@@ -1,19 +1,18 @@
 //! The first pass: the lines of a source, one after the other.
 
 ghost use Rattle.std.specs.Prelude.{◌≡◌, ℕ, ◌+◌, ◌<◌, ◌≤◌, length, List, ◌∷◌, None, OnOk, IfOk, IfErr};
-ghost use Rattle.ptk_asm_model.specs.Source as definition;
-ghost use Rattle.ptk_asm_model.specs.Lines as lines;
-ghost use Rattle.ptk_asm_model.specs.Reading.{Refuses, IsPlaced};
+ghost use Rattle.ptk_asm_language.specs.Source as definition;
+ghost use Rattle.ptk_asm_language.specs.Lines as lines;
+ghost use Rattle.ptk_asm_language.specs.Reading.{Refuses, IsPlaced};
 ghost use Rattle.ptk_asm.specs.Passing.{IsBehind, IsFirstFault, IsLaidOut, Reaches};
 
 use crate::fault::{AsmFault, located};
 use crate::layout::Layout;
-use ptk_asm_model::{LineFault, Span};
-use ptk_asm_text::{split_line, tokens_of, without_comment, without_ending};
+use ptk_asm_language::{LineFault, Span, split_line, tokens_of, without_comment, without_ending};
 use std::alloc::Global;
 
 impl<'a> Layout<'a> {
-    /// Takes a line more. The first fault of the line with its place in it, or want of memory.
+    /// Takes a line more. The first fault of the line with its place in it, or out of memory.
     #[tactic(auto, using(crate::proofs::Texts::refuses_tokens))]
     fn take_line(&mut self, alloc: Global, span: Span, line: &'a [u8]) -> Result<(), LineFault>
         requires { span.end ≡ span.start + length (lines.without_ending line.now) }
@@ -28,7 +27,7 @@ impl<'a> Layout<'a> {
     }
 }
 
-/// The number and the place of a line, at the front of the rest of the source behind so many lines.
+/// The number and the place of a line, at the front of the rest of the source behind this many lines.
 #[tactic(auto, using(crate::proofs::Texts::span_behind))]
 fn span_of(source: &[u8], rest: &[u8], number: usize, line: &[u8]) -> Span
     requires inside { number + length rest.now ≤ length source.now }

@@ -2,10 +2,10 @@
 
 ghost use Rattle.std.specs.Prelude.{◌≡◌, ℕ, List, if◌then◌else◌, Some, OnOk, codes};
 ghost use Rattle.std.specs.Str.{bytes_eq};
-ghost use Rattle.ptk_asm_model.specs.Source.{entry_at};
+ghost use Rattle.ptk_asm_language.specs.Source.{entry_at};
 ghost use Rattle.ptk_asm.specs.Passing.{place_named};
 
-use ptk_asm_model::{Place, Section};
+use ptk_asm_language::{Place, Section};
 use std::alloc::AllocError;
 use std::collections::HashMap;
 

@@ -1,20 +1,21 @@
-//! What the lines so far come to.
+//! The lines so far in sum.
 
 ghost use Rattle.std.specs.Prelude.{◌≡◌, ◌+◌, ◌≤◌, ◌<◌, ◌^◌, [], Some, None, OnOk, IfErr};
-ghost use Rattle.ptk_asm_model.specs.Source as source;
-ghost use Rattle.ptk_asm_model.specs.Places.{last_place, place_at};
-ghost use Rattle.ptk_asm_model.specs.Reading.{Refuses, IsPlaced, spots, views};
+ghost use Rattle.ptk_asm_language.specs.Source as source;
+ghost use Rattle.ptk_asm_language.specs.Places.{last_place, place_at};
+ghost use Rattle.ptk_asm_language.specs.Reading.{Refuses, IsPlaced, spots, views};
 ghost use Rattle.ptk_asm.specs.Passing.{State, Reaches, Shows, behind, fault_at, index_at, label_name, label_place, label_spot, labelled, shown_statement, with_statement};
 
 use crate::labels::{define, entry_with, place_of};
 use crate::placed::Placed;
 use crate::statements::{Label, Statement, last_of, parts_of, statement_of};
-use ptk_asm_forms::size_of;
-use ptk_asm_model::{Extent, FaultKind, Form, Lengths, LineFault, Place, Section, Span, Spanned};
+use ptk_asm_language::{
+    Extent, FaultKind, Form, Lengths, LineFault, Place, Section, Span, Spanned, size_of,
+};
 use std::alloc::Global;
 use std::collections::HashMap;
 
-/// What the lines so far come to: the section of what follows, the lengths of the sections, the entry, the labels and
+/// The lines so far in sum: the section of what follows, the lengths of the sections, the entry, the labels and
 /// the statements.
 #[derive(Drop)]
 pub(crate) struct Layout<'a> {
@@ -44,7 +45,7 @@ pub(crate) fn lengths_fit(lengths: Lengths)
     let (_text, _data) = (lengths.text, lengths.data);
 }
 
-/// The lengths with a section that has so many bytes more.
+/// The lengths with a section that has this many bytes more.
 fn grown(lengths: Lengths, section: Section, size: u32) -> Lengths
     requires { source.length_in lengths section + size ≤ source.longest }
     ensures { result ≡ source.grown lengths section size }
@@ -166,7 +167,7 @@ impl<'a> Layout<'a> {
     }
 
     /// Adds the label and the statement of a line's tokens; `end` is where the line's code ends. The first fault of the
-    /// line with the place of its token in it, or want of memory.
+    /// line with the place of its token in it, or out of memory.
     #[tactic(auto, using(crate::proofs::States::line_rules, crate::proofs::Spots::line_places))]
     pub(crate) fn take_tokens(
         &mut self,

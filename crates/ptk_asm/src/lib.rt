@@ -1,19 +1,32 @@
-//! The assembler: `assemble` answers the image of a source, or its first fault with its line and the bytes at fault.
-//! Its clauses say this by the definition `source` of `ptk_asm_model`: an image only for a source without a fault, and
-//! then that very image (`image`), in which the words of each statement that is not a directive decode to the
-//! instructions written (`words`); a refusal for another cause than memory only with the source's first fault, its line
-//! and its bytes (`fault`). `label_table` returns the labels of a source as a symbol table; of its lines nothing is
-//! proved. The first pass goes over the text line by line and keeps a `Layout`, which the contracts see as the state
-//! that the definition reaches behind the same lines (`Shows`); the second pass resolves labels and writes the bytes.
-//! The weight of the proofs is in the tie of a line's step to that state (`States`, `Texts`) and to the token at fault
-//! (`Spots`). Below stand `ptk_asm_text`, `ptk_asm_forms`, `ptk_asm_emission`, `ptk_asm_laws` (why the parts are an
-//! image) and `ptk_image`; the program stands above.
+//! The assembler's two passes: `assemble` returns the image of a source, or its first fault with its line and the bytes
+//! at fault, and `label_table` the labels as a symbol table.
+//!
+//! - `assemble`: `Ok` is the definition's image (`image`), and the words of each statement of it that is not a
+//!   directive decode to the instructions written (`words`).
+//! - An error for another cause than memory is the source's first fault, with its line and its exact bytes (`fault`:
+//!   `Tells`).
+//! - Of `label_table` only this last is proved; its lines are tested.
+//! - `instructions_of` and `push_statement` are one equation each with the definitions, for any registers and any
+//!   number: `push_statement` appends exactly the bytes that a statement means.
+//! - `words_decode`: the words of a statement that is not a directive decode to its instructions.
+//! - Laws of every source: `texts_are_whole`, `lengths_are_counted`, `statements_stand` (each statement's bytes are at
+//!   its offset).
+//!
+//! The first pass goes over the text line by line and keeps a `Layout`, which the contracts see as the state that the
+//! definition reaches behind the same lines (`Shows`); the second pass resolves labels and writes the bytes. The weight
+//! of the proofs is in the tie of a line's step to that state (`States`, `Texts`), to the token at fault (`Spots`), in
+//! the fields of instructions (`fields`), and in two inductions over the lines before a line (`Whole`, `Lengths`).
+//! Below are `ptk_asm_language` and `ptk_image`; above is the program.
 #![tactic(auto)]
 
 mod assembling;
+mod emission;
 mod fault;
+mod fields;
 mod first_pass;
+mod instructions;
 mod labels;
+mod laws;
 mod layout;
 mod placed;
 mod references;
@@ -22,6 +35,9 @@ mod statements;
 mod symbols;
 
 pub use assembling::assemble;
+pub use emission::push_statement;
 pub use fault::AsmFault;
-pub use ptk_asm_model::FaultKind;
+pub use instructions::{Instructions, instructions_of};
+pub use laws::{lengths_are_counted, statements_stand, texts_are_whole, words_decode};
+pub use ptk_asm_language::FaultKind;
 pub use symbols::label_table;

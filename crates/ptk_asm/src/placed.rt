@@ -3,7 +3,7 @@
 ghost use Rattle.std.specs.Prelude.{◌+◌, ◌≤◌};
 
 use crate::statements::Statement;
-use ptk_asm_model::{Extent, Place, Span};
+use ptk_asm_language::{Extent, Place, Span};
 
 /// A statement where it stands, and the bytes of its last token in its line, which is its label where it has one.
 #[derive(Drop)]

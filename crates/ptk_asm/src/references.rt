@@ -1,16 +1,17 @@
 //! The numbers of statements once all labels are known.
 
 ghost use Rattle.std.specs.Prelude.{◌≡◌, ◌<◌, ◌^◌, Some, None, unwrap_or, IfSome, IfOk, IfErr};
-ghost use Rattle.ptk_asm_model.specs.Statements as is;
-ghost use Rattle.ptk_asm_model.specs.Source as source;
-ghost use Rattle.ptk_asm_forms.specs.Operating.{shown_value};
+ghost use Rattle.ptk_asm_language.specs.Statements as is;
+ghost use Rattle.ptk_asm_language.specs.Source as source;
+ghost use Rattle.ptk_asm_language.specs.Operating.{shown_value};
 ghost use Rattle.ptk_asm.specs.Passing.{Names, shown_placed};
 
 use crate::labels::place_of;
 use crate::layout::Layout;
 use crate::placed::Placed;
-use ptk_asm_forms::{Value, distances, is_even, is_within};
-use ptk_asm_model::{FaultKind, Form, Lengths, Place, Section};
+use ptk_asm_language::{
+    FaultKind, Form, Lengths, Place, Section, Value, distances, is_even, is_within,
+};
 
 /// Where a section begins in memory.
 fn base_of(lengths: Lengths, section: Section) -> u64

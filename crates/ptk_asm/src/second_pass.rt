@@ -2,17 +2,18 @@
 
 ghost use Rattle.std.specs.Prelude.{◌≡◌, ◌++◌, None, map, OnOk, IfOk, IfErr};
 ghost use Rattle.std.specs.List.{All};
-ghost use Rattle.ptk_asm_model.specs.declared.statement.Section.TheVariants as part;
-ghost use Rattle.ptk_asm_model.specs.Source as source;
-ghost use Rattle.ptk_asm_forms.specs.Operating.{shown_value};
-ghost use Rattle.ptk_asm_laws.specs.Laws.{IsDecoded};
+ghost use Rattle.ptk_asm_language.specs.declared.statement.Section.TheVariants as part;
+ghost use Rattle.ptk_asm_language.specs.Source as source;
+ghost use Rattle.ptk_asm_language.specs.Operating.{shown_value};
+ghost use Rattle.ptk_asm.specs.Laws.{IsDecoded};
 ghost use Rattle.ptk_asm.specs.Passing.{IsAt, IsSecond, Names, Tells, shown_placed};
 
+use crate::emission::push_statement;
 use crate::fault::{AsmFault, located};
+use crate::laws::words_decode;
 use crate::layout::Layout;
 use crate::placed::Placed;
-use ptk_asm_emission::{push_statement, words_decode};
-use ptk_asm_model::{Extent, FaultKind, LineFault, Section};
+use ptk_asm_language::{Extent, FaultKind, LineFault, Section};
 use std::alloc::{AllocError, Global};
 
 /// The bytes of text and data.
@@ -38,7 +39,7 @@ impl Contents {
         Ok(())
     }
 
-    /// Appends the bytes of a statement, with its labels' addresses; its fault in the source, or want of memory.
+    /// Appends the bytes of a statement, with its labels' addresses; its fault in the source, or out of memory.
     fn take(&mut self, layout: &Layout<'_>, placed: &Placed<'_>) -> Result<(), AsmFault>
         ensures ok { (known : source.Layout) → Names layout.now known → OnOk result (source.reference_fault known (shown_placed placed.now) ≡ None) }
         ensures text { (known : source.Layout) → Names layout.now known → OnOk result (self.new.text.items ≡ self.old.text.items ++ source.bytes_in known part.Text (shown_placed placed.now)) }

@@ -1,16 +1,18 @@
 //! One statement: its mnemonic, its operands and its place.
 
 ghost use Rattle.std.specs.Prelude.{◌≡◌, ℕ, ◌+◌, ◌≤◌, ◌<◌, ◌%◌, ◌∷◌, ◌||◌, ◌&&◌, not, ◌==◌, nat_lt, if◌then◌else◌, is_some, List, Some, None, option_map, true, length, drop, IfSome, IfOk, IfErr};
-ghost use Rattle.ptk_asm_model.specs.Tokens as token;
-ghost use Rattle.ptk_asm_model.specs.Statements as is;
-ghost use Rattle.ptk_asm_model.specs.Source as source;
-ghost use Rattle.ptk_asm_model.specs.Places.{place_at, last_place};
-ghost use Rattle.ptk_asm_model.specs.Reading.{view, views, spot, spots, fault_spot, Refuses, IsPlaced};
-ghost use Rattle.ptk_asm_forms.specs.Operating.{shown_value};
+ghost use Rattle.ptk_asm_language.specs.Tokens as token;
+ghost use Rattle.ptk_asm_language.specs.Statements as is;
+ghost use Rattle.ptk_asm_language.specs.Source as source;
+ghost use Rattle.ptk_asm_language.specs.Places.{place_at, last_place};
+ghost use Rattle.ptk_asm_language.specs.Reading.{view, views, spot, spots, fault_spot, Refuses, IsPlaced};
+ghost use Rattle.ptk_asm_language.specs.Operating.{shown_value};
 ghost use Rattle.ptk_asm.specs.Passing.{label_name, label_spot, shown_statement};
 
-use ptk_asm_forms::{Operands, form_named, operands_of, size_of, slots_of, stands_in};
-use ptk_asm_model::{Extent, FaultKind, Form, LineFault, Place, Section, Spanned, Token};
+use ptk_asm_language::{
+    Extent, FaultKind, Form, LineFault, Operands, Place, Section, Spanned, Token, form_named,
+    operands_of, size_of, slots_of, stands_in,
+};
 use std::alloc::Global;
 
 /// How many bytes a section may have.
@@ -161,7 +163,7 @@ fn statement_with<'a>(
 }
 
 /// The statement that tokens are, which stands at this place; `end` is where the line's code ends. The error is the first
-/// fault with the place of its token in the line, or want of memory.
+/// fault with the place of its token in the line, or out of memory.
 #[tactic(auto, using(crate::proofs::States::views_front, crate::proofs::Spots::spots_front))]
 pub(crate) fn statement_of<'a>(
     alloc: Global,

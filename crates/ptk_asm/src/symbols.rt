@@ -1,14 +1,14 @@
 //! The labels of a source, as a symbol table.
 
 ghost use Rattle.std.specs.Prelude.{◌≡◌, IfErr};
-ghost use Rattle.ptk_asm_model.specs.Source as definition;
+ghost use Rattle.ptk_asm_language.specs.Source as definition;
 ghost use Rattle.ptk_asm.specs.Passing.{IsFirst};
 
 use crate::fault::AsmFault;
 use crate::first_pass::first_pass;
 use crate::layout::Layout;
 use crate::references::address_at;
-use ptk_asm_model::{FaultKind, Section};
+use ptk_asm_language::{FaultKind, Section};
 use std::alloc::{AllocError, Global};
 use std::fmt::Write;
 

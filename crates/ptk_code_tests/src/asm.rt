@@ -1,4 +1,4 @@
-//! Sources and what they come to: worked images, each statement with its word, each fault with its token, and sizes.
+//! Sources and what is made of them: worked images, each statement with its word, each fault with its token, and sizes.
 
 ghost use Rattle.std.specs.Prelude.{◌≤◌, length};
 

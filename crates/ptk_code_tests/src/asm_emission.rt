@@ -1,7 +1,7 @@
 //! Statements with the bytes that LLVM's assembler gives them.
 
-use ptk_asm_emission::push_statement;
-use ptk_asm_model::Form;
+use ptk_asm::push_statement;
+use ptk_asm_language::Form;
 use ptk_rv32i_code::{BranchTest, LoadKind, Register, StoreKind};
 use std::alloc::{AllocError, Global};
 use std::test::Fail;

@@ -1,7 +1,8 @@
 //! The operands of a load, with each kind of fault among them.
 
-use ptk_asm_forms::{Operands, Value, operands_of, slots_of};
-use ptk_asm_model::{FaultKind, Form, LineFault, Spanned, Token};
+use ptk_asm_language::{
+    FaultKind, Form, LineFault, Operands, Spanned, Token, Value, operands_of, slots_of,
+};
 use ptk_rv32i_code::{LoadKind, Register};
 use std::alloc::Global;
 use std::process::Abort;

@@ -1,7 +1,7 @@
 //! An image and its text, which makes that image again, and a section that is too long for a text.
 
 use ptk_asm::assemble;
-use ptk_asm_model::Section;
+use ptk_asm_language::Section;
 use ptk_disasm::{DisasmFault, assembled_again, disassemble};
 use ptk_image::{Image, write_image};
 use std::test::Fail;

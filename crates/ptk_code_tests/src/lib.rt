@@ -1,7 +1,8 @@
-//! Tests of words as instructions and back, of steps, of the assembler's parts and of images as sources: the public calls of
-//! `ptk_rv32i_code`, `ptk_rv32i`, `ptk_asm_forms`, `ptk_asm_emission`, `ptk_asm` and `ptk_disasm`. They use public names alone and
-//! stand apart, so that those crates are proved once and not a second time with their tests. There is no other code here, and
-//! nothing stands above.
+//! Tests of instructions, of the assembler's parts, of the disassembler and of tables of symbols, by the public calls of
+//! `ptk_rv32i_code`, `ptk_rv32i`, `ptk_asm_language`, `ptk_asm`, `ptk_disasm` and `ptk_symbols`.
+//!
+//! They use public names alone and are apart, so that those crates are proved once and not a second time with their
+//! tests. There is no other code here, and nothing is above.
 #![tactic(auto)]
 
 #[cfg(test)]
@@ -16,3 +17,5 @@ mod code;
 mod disasm;
 #[cfg(test)]
 mod steps;
+#[cfg(test)]
+mod symbols;

@@ -2,12 +2,12 @@
 use Rattle.std.proofs.Common.{◌≡◌, ℕ, Bool, true, false, ◌&&◌, List, [], ◌∷◌, ◌++◌, map, Option, None, refl, ap, ◌∙◌, append_assoc}
 use Rattle.std.specs.List.{list_all}
 use Rattle.std.proofs.lemmas.List.{map-append}
-use Rattle.ptk_asm_model.specs.declared.statement.Section.{Section}
-use Rattle.ptk_asm_model.specs.declared.fault.FaultKind.{FaultKind}
-use Rattle.ptk_asm_model.specs.declared.place.Place.{Place}
-use Rattle.ptk_asm_model.specs.declared.place.Lengths.{Lengths}
-use Rattle.ptk_asm_model.specs.Statements.{stands_in}
-use Rattle.ptk_asm_model.specs.Source.{Statement, turned_by, grown, taken, lengths_after, place_after, place_in, is_misplaced, line_fault, line_place, at_line, span_after, first_pass}
+use Rattle.ptk_asm_language.specs.declared.statement.Section.{Section}
+use Rattle.ptk_asm_language.specs.declared.fault.FaultKind.{FaultKind}
+use Rattle.ptk_asm_language.specs.declared.place.Place.{Place}
+use Rattle.ptk_asm_language.specs.declared.place.Lengths.{Lengths}
+use Rattle.ptk_asm_language.specs.Statements.{stands_in}
+use Rattle.ptk_asm_language.specs.Source.{Statement, turned_by, grown, taken, lengths_after, place_after, place_in, is_misplaced, line_fault, line_place, at_line, span_after, first_pass}
 use Rattle.ptk_disasm.specs.Spelling.{Line, Stated, statement_text, line_text}
 use Rattle.ptk_disasm.proofs.Quiet.{is_quiet, is_within_line}
 use Rattle.ptk_disasm.proofs.Stated.{IsSpelled, statement-quiet}

@@ -3,8 +3,8 @@ use Rattle.std.proofs.Common.{◌≡◌, ℕ, Bool, true, false, ◌&&◌, List,
 use Rattle.std.specs.Prelude.{not}
 use Rattle.std.specs.List.{list_all}
 use Rattle.std.proofs.lemmas.Bool.Decides.{nat_tests}
-use Rattle.ptk_asm_model.specs.Tokens.{is_run, is_first, is_letter, is_digit}
-use Rattle.ptk_asm_model.specs.Lines.{raw_lines, onto_first, without_ending, without_comment, code_of}
+use Rattle.ptk_asm_language.specs.Tokens.{is_run, is_first, is_letter, is_digit}
+use Rattle.ptk_asm_language.specs.Lines.{raw_lines, onto_first, without_ending, without_comment, code_of}
 use Rattle.ptk_disasm.proofs.Tests.{both}
 pub use Rattle.ptk_disasm.specs.Disassembly.{is_within_line}
 

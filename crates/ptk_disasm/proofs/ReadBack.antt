@@ -6,13 +6,13 @@ use Rattle.std.proofs.lemmas.List.{append-nil}
 use Rattle.std.proofs.lemmas.Bool.Decides.{nat_tests}
 use Rattle.ptk_words.specs.Image.{ImageParts}
 use Rattle.ptk_image.specs.Images.{IsImage}
-use Rattle.ptk_asm_model.specs.declared.statement.Section.{Section}
-use Rattle.ptk_asm_model.specs.declared.statement.Section.TheVariants as section
-use Rattle.ptk_asm_model.specs.declared.statement.Form.TheVariants as form
-use Rattle.ptk_asm_model.specs.declared.place.Lengths.{Lengths}
-use Rattle.ptk_asm_model.specs.Lines.{raw_lines}
-use Rattle.ptk_asm_model.specs.Source.{Layout, Fault, longest, layout_of, first_pass, placed_after, lengths_after, contents_of, entry_of, image_of, unless, linked, source}
-use Rattle.ptk_asm_emission.specs.Emitting.{words_in}
+use Rattle.ptk_asm_language.specs.declared.statement.Section.{Section}
+use Rattle.ptk_asm_language.specs.declared.statement.Section.TheVariants as section
+use Rattle.ptk_asm_language.specs.declared.statement.Form.TheVariants as form
+use Rattle.ptk_asm_language.specs.declared.place.Lengths.{Lengths}
+use Rattle.ptk_asm_language.specs.Lines.{raw_lines}
+use Rattle.ptk_asm_language.specs.Source.{Layout, Fault, longest, layout_of, first_pass, placed_after, lengths_after, contents_of, entry_of, image_of, unless, linked, source}
+use Rattle.ptk_asm.specs.Emitting.{words_in}
 use Rattle.ptk_disasm.specs.Spelling.{Line, line_text}
 use Rattle.ptk_disasm.specs.WordStatements.{bare}
 use Rattle.ptk_disasm.specs.Disassembly.{Names, AreWithinLine, addressed, text_lines, data_lines, zero_lines, lines_for, text_for, is_byte, FitsSource, ReadsBack}

@@ -1,9 +1,9 @@
 -- A run, or a - and a run, is the first piece.
 use Rattle.std.proofs.Common.{◌≡◌, ℕ, ◌<◌, Bool, true, false, ◌||◌, List, [], ◌∷◌, ◌++◌, length, take, drop, suc, refl, ap, ◌∙◌, arith, ◌==◌}
 use Rattle.std.specs.List.{list_all}
-use Rattle.ptk_asm_model.specs.Tokens.{is_run, is_blank, starts_run, pieces}
-use Rattle.ptk_asm_text.specs.Scanning.{run_len}
-use Rattle.ptk_asm_text.proofs.Pieces.{blank_no_run, pieces-front}
+use Rattle.ptk_asm_language.specs.Tokens.{is_run, is_blank, starts_run, pieces}
+use Rattle.ptk_asm_language.specs.Scanning.{run_len}
+use Rattle.ptk_asm_language.proofs.Pieces.{blank_no_run, pieces-front}
 use Rattle.ptk_disasm.proofs.Tests.{both}
 
 none_len : (rest : List ℕ) → starts_run rest ≡ false → run_len rest ≡ 0

@@ -5,17 +5,17 @@ use Rattle.std.specs.List.{list_all}
 use Rattle.std.specs.Int.{w32, to_le_bytes}
 use Rattle.std.proofs.lemmas.List.{append-nil}
 use Rattle.std.proofs.lemmas.Bool.Decides.{nat_tests}
-use Rattle.ptk_asm_model.specs.declared.statement.Section.{Section}
-use Rattle.ptk_asm_model.specs.declared.statement.Section.TheVariants as section
-use Rattle.ptk_asm_model.specs.declared.statement.Form.{Form}
-use Rattle.ptk_asm_model.specs.declared.statement.Form.TheVariants as form
-use Rattle.ptk_asm_model.specs.declared.fault.FaultKind.{FaultKind}
-use Rattle.ptk_asm_model.specs.declared.place.Place.{Place}
-use Rattle.ptk_asm_model.specs.declared.place.Lengths.{Lengths}
-use Rattle.ptk_asm_model.specs.Tokens.{is_run, is_first, is_letter, is_digit, is_blank, is_mark, digit, tokens_of}
-use Rattle.ptk_asm_model.specs.Lines.{code_of}
-use Rattle.ptk_asm_model.specs.Statements.{Value, size_of}
-use Rattle.ptk_asm_model.specs.Source.{Statement, longest, label_of, statement_of, turned_by, turned_to, section_after, grown, grown_by, taken, lengths_after, place_after, place_in, with_label, labels_after, placed_at, placed_after, tokens_fault, line_fault, line_place, last_of, at_line, span_after, first_pass, second_pass, contents_of}
+use Rattle.ptk_asm_language.specs.declared.statement.Section.{Section}
+use Rattle.ptk_asm_language.specs.declared.statement.Section.TheVariants as section
+use Rattle.ptk_asm_language.specs.declared.statement.Form.{Form}
+use Rattle.ptk_asm_language.specs.declared.statement.Form.TheVariants as form
+use Rattle.ptk_asm_language.specs.declared.fault.FaultKind.{FaultKind}
+use Rattle.ptk_asm_language.specs.declared.place.Place.{Place}
+use Rattle.ptk_asm_language.specs.declared.place.Lengths.{Lengths}
+use Rattle.ptk_asm_language.specs.Tokens.{is_run, is_first, is_letter, is_digit, is_blank, is_mark, digit, tokens_of}
+use Rattle.ptk_asm_language.specs.Lines.{code_of}
+use Rattle.ptk_asm_language.specs.Statements.{Value, size_of}
+use Rattle.ptk_asm_language.specs.Source.{Statement, longest, label_of, statement_of, turned_by, turned_to, section_after, grown, grown_by, taken, lengths_after, place_after, place_in, with_label, labels_after, placed_at, placed_after, tokens_fault, line_fault, line_place, last_of, at_line, span_after, first_pass, second_pass, contents_of}
 use Rattle.ptk_disasm.specs.Spelling.{Line, Entry}
 use Rattle.ptk_disasm.specs.WordStatements.{statement_for}
 use Rattle.ptk_disasm.proofs.Hexadecimal.{word-comment}

@@ -2,7 +2,7 @@
 use Rattle.std.proofs.Common.{◌≡◌, ℕ, ◌-◌, ◌%◌, ◌^◌, ◌<◌, Bool, true, false, ◌&&◌, refl, arith, ℤ, nat_lt}
 use Rattle.std.specs.Prelude.{nat_abs}
 use Rattle.std.proofs.lemmas.Bool.Decides.{nat_tests}
-use Rattle.ptk_asm_model.specs.Statements.{is_within, is_even, field, distance_field}
+use Rattle.ptk_asm_language.specs.Statements.{is_within, is_even, field, distance_field}
 use Rattle.ptk_disasm.specs.WordStatements.{signed}
 
 -- an immediate of 12 bits

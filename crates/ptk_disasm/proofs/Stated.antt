@@ -2,14 +2,14 @@
 use Rattle.std.proofs.Common.{◌≡◌, ℕ, Bool, true, false, List, [], ◌∷◌, ◌++◌, Option, Some, None, Ok, refl, ap, ◌∙◌, append_assoc, ℤ}
 use Rattle.std.specs.Prelude.{unwrap_or}
 use Rattle.std.specs.List.{list_all}
-use Rattle.ptk_asm_model.specs.declared.statement.Slot.{Slot}
-use Rattle.ptk_asm_model.specs.declared.statement.Slot.TheVariants as slot
-use Rattle.ptk_asm_model.specs.declared.statement.Form.{Form}
-use Rattle.ptk_asm_model.specs.declared.statement.Form.TheVariants as form
-use Rattle.ptk_asm_model.specs.Lines.{code_of}
-use Rattle.ptk_asm_model.specs.Tokens.{Token, Name, is_run, is_first, is_letter, is_digit, is_blank, starts_run, pieces, tokens_of, all_tokens, with_front}
-use Rattle.ptk_asm_model.specs.Statements.{Value, Nothing, no_operands, slots_of}
-use Rattle.ptk_asm_model.specs.Source.{Statement, label_in, statement_in, statement_with, statement_by, stated, line_tokens, label_of, statement_of}
+use Rattle.ptk_asm_language.specs.declared.statement.Slot.{Slot}
+use Rattle.ptk_asm_language.specs.declared.statement.Slot.TheVariants as slot
+use Rattle.ptk_asm_language.specs.declared.statement.Form.{Form}
+use Rattle.ptk_asm_language.specs.declared.statement.Form.TheVariants as form
+use Rattle.ptk_asm_language.specs.Lines.{code_of}
+use Rattle.ptk_asm_language.specs.Tokens.{Token, Name, is_run, is_first, is_letter, is_digit, is_blank, starts_run, pieces, tokens_of, all_tokens, with_front}
+use Rattle.ptk_asm_language.specs.Statements.{Value, Nothing, no_operands, slots_of}
+use Rattle.ptk_asm_language.specs.Source.{Statement, label_in, statement_in, statement_with, statement_by, stated, line_tokens, label_of, statement_of}
 use Rattle.ptk_disasm.specs.Spelling.{Stated, mnemonic, value_text, operands_text, behind, statement_text, line_text}
 use Rattle.ptk_disasm.proofs.Names.{IsName, mnemonic-name, mnemonic-form}
 use Rattle.ptk_disasm.proofs.Quiet.{is_quiet, run-quiet, both-quiet, code-kept}

@@ -3,14 +3,14 @@ use Rattle.std.proofs.Common.{◌≡◌, ℕ, Bool, true, false, List, [], ◌�
 use Rattle.std.specs.Prelude.{not, if◌then◌else◌}
 use Rattle.std.proofs.lemmas.List.{append-nil}
 use Rattle.std.proofs.lemmas.List.Concat.{flat_map-append}
-use Rattle.ptk_asm_model.specs.declared.statement.Section.{Section}
-use Rattle.ptk_asm_model.specs.declared.fault.FaultKind.{FaultKind}
-use Rattle.ptk_asm_model.specs.declared.fault.FaultKind.TheVariants as fault
-use Rattle.ptk_asm_model.specs.declared.place.Place.{Place}
-use Rattle.ptk_asm_model.specs.declared.place.Lengths.{Lengths}
-use Rattle.ptk_asm_model.specs.Tokens.{Token, Name}
-use Rattle.ptk_asm_model.specs.Statements.{Value, Nothing, Given, Labelled, no_operands, slots_of, stands_in, bytes_of}
-use Rattle.ptk_asm_model.specs.Source.{Statement, Placed, Layout, Fault, last_of, turned_by, turned_to, section_after, grown, grown_by, taken, lengths_after, place_after, with_label, labels_after, span_after, placed_at, placed_after, same_section, first_of, fault_if, label_fault, mnemonic_fault, fault_in, operand_fault, is_misplaced, place_fault, statement_fault, tokens_fault, line_fault, reference_fault, second_pass, number_of, placed_bytes, bytes_in, contents_of}
+use Rattle.ptk_asm_language.specs.declared.statement.Section.{Section}
+use Rattle.ptk_asm_language.specs.declared.fault.FaultKind.{FaultKind}
+use Rattle.ptk_asm_language.specs.declared.fault.FaultKind.TheVariants as fault
+use Rattle.ptk_asm_language.specs.declared.place.Place.{Place}
+use Rattle.ptk_asm_language.specs.declared.place.Lengths.{Lengths}
+use Rattle.ptk_asm_language.specs.Tokens.{Token, Name}
+use Rattle.ptk_asm_language.specs.Statements.{Value, Nothing, Given, Labelled, no_operands, slots_of, stands_in, bytes_of}
+use Rattle.ptk_asm_language.specs.Source.{Statement, Placed, Layout, Fault, last_of, turned_by, turned_to, section_after, grown, grown_by, taken, lengths_after, place_after, with_label, labels_after, span_after, placed_at, placed_after, same_section, first_of, fault_if, label_fault, mnemonic_fault, fault_in, operand_fault, is_misplaced, place_fault, statement_fault, tokens_fault, line_fault, reference_fault, second_pass, number_of, placed_bytes, bytes_in, contents_of}
 use Rattle.ptk_disasm.specs.Spelling.{Line, Stated, mnemonic, value_text, line_text}
 use Rattle.ptk_disasm.proofs.Names.{mnemonic-form}
 use Rattle.ptk_disasm.proofs.Operands.{tokens_for, operands-read}

@@ -4,10 +4,10 @@ use Rattle.std.specs.List.{list_all}
 use Rattle.std.specs.Int.{w32, to_le_bytes}
 use Rattle.std.proofs.lemmas.List.{append-nil}
 use Rattle.std.proofs.lemmas.Bool.Decides.{nat_tests}
-use Rattle.ptk_asm_model.specs.declared.statement.Section.{Section}
-use Rattle.ptk_asm_model.specs.declared.statement.Section.TheVariants as section
-use Rattle.ptk_asm_model.specs.declared.place.Place.{Place}
-use Rattle.ptk_asm_model.specs.Source.{longest}
+use Rattle.ptk_asm_language.specs.declared.statement.Section.{Section}
+use Rattle.ptk_asm_language.specs.declared.statement.Section.TheVariants as section
+use Rattle.ptk_asm_language.specs.declared.place.Place.{Place}
+use Rattle.ptk_asm_language.specs.Source.{longest}
 use Rattle.ptk_disasm.specs.Spelling.{Line, Entry}
 use Rattle.ptk_disasm.specs.Disassembly.{Names, AreWithinLine, word_line, text_lines}
 use Rattle.ptk_disasm.proofs.Steps.{Stands}

@@ -16,11 +16,11 @@ use Rattle.ptk_rv32i_code.specs.declared.instr.StoreKind.{StoreKind}
 use Rattle.ptk_rv32i_code.specs.declared.instr.ShiftOp.{ShiftOp}
 use Rattle.ptk_rv32i_code.specs.declared.instr.RegisterOp.{RegisterOp}
 use Rattle.ptk_rv32i_code.specs.Coding.{decoded, encoded, instr_of, i_coded}
-use Rattle.ptk_asm_model.specs.declared.statement.Section.TheVariants as section
-use Rattle.ptk_asm_model.specs.declared.statement.Form.TheVariants as form
-use Rattle.ptk_asm_model.specs.declared.statement.Slot.TheVariants as slot
-use Rattle.ptk_asm_model.specs.Statements.{Value, Given, Labelled, is_within, is_even, given_if, field, distance_field, stands_in, size_of, bytes_of}
-use Rattle.ptk_asm_model.specs.Source.{Statement}
+use Rattle.ptk_asm_language.specs.declared.statement.Section.TheVariants as section
+use Rattle.ptk_asm_language.specs.declared.statement.Form.TheVariants as form
+use Rattle.ptk_asm_language.specs.declared.statement.Slot.TheVariants as slot
+use Rattle.ptk_asm_language.specs.Statements.{Value, Given, Labelled, is_within, is_even, given_if, field, distance_field, stands_in, size_of, bytes_of}
+use Rattle.ptk_asm_language.specs.Source.{Statement}
 use Rattle.ptk_disasm.specs.WordStatements.{bare, given, signed, add_statement, immediate_statement, jalr_statement, jal_statement, word_statement, fence_statement, instruction_statement, decoded_statement, statement_for}
 use Rattle.ptk_disasm.proofs.Signed.{IsShort, short, IsDistance, branch_distance, jump_distance}
 use Rattle.ptk_disasm.proofs.Operands.{Takes, comma-mark, open-mark, close-mark}

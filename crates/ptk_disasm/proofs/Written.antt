@@ -6,7 +6,7 @@ use Rattle.std.proofs.lemmas.Bool.Decides.{nat_tests}
 use Rattle.std.specs.Prelude.{option_map}
 use Rattle.std.specs.Int.{w32, from_le_bytes}
 use Rattle.std.proofs.lemmas.List.{take_rest}
-use Rattle.ptk_asm_model.specs.declared.statement.Form.TheVariants as form
+use Rattle.ptk_asm_language.specs.declared.statement.Form.TheVariants as form
 use Rattle.ptk_disasm.specs.WordStatements.{given}
 use Rattle.std.specs.Fmt.{digits, padded_integral, format_spec, char_count, AppendsText}
 use Rattle.std.proofs.lemmas.Grind.{flat_map-append}

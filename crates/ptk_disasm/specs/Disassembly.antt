@@ -10,10 +10,10 @@ use Rattle.ptk_rv32i_code.specs.declared.instr.Instr.{Instr}
 use Rattle.ptk_rv32i_code.specs.declared.instr.Instr.TheVariants as instr
 use Rattle.ptk_rv32i_code.specs.Coding.{decoded}
 use Rattle.ptk_image.specs.Images.{IsImage}
-use Rattle.ptk_asm_model.specs.declared.statement.Section.TheVariants as section
-use Rattle.ptk_asm_model.specs.declared.statement.Form.TheVariants as form
-use Rattle.ptk_asm_model.specs.Source.{Statement, longest, source}
-use Rattle.ptk_asm_emission.specs.Emitting.{words_in}
+use Rattle.ptk_asm_language.specs.declared.statement.Section.TheVariants as section
+use Rattle.ptk_asm_language.specs.declared.statement.Form.TheVariants as form
+use Rattle.ptk_asm_language.specs.Source.{Statement, longest, source}
+use Rattle.ptk_asm.specs.Emitting.{words_in}
 use Rattle.ptk_disasm.specs.Spelling.{Line, Entry, Stated, line_text}
 use Rattle.ptk_disasm.specs.WordStatements.{bare, given, statement_for}
 

@@ -7,14 +7,14 @@ use Rattle.ptk_rv32i_code.specs.declared.instr.StoreKind.TheVariants as store
 use Rattle.ptk_rv32i_code.specs.declared.instr.ImmediateOp.TheVariants as immediate
 use Rattle.ptk_rv32i_code.specs.declared.instr.ShiftOp.TheVariants as shift
 use Rattle.ptk_rv32i_code.specs.declared.instr.RegisterOp.TheVariants as register
-use Rattle.ptk_asm_model.specs.declared.statement.Section.TheVariants as section
-use Rattle.ptk_asm_model.specs.declared.statement.Form.{Form}
-use Rattle.ptk_asm_model.specs.declared.statement.Form.TheVariants as form
-use Rattle.ptk_asm_model.specs.declared.statement.Slot.{Slot}
-use Rattle.ptk_asm_model.specs.declared.statement.Slot.TheVariants as slot
-use Rattle.ptk_asm_model.specs.Tokens.{Number, starts_run, pieces, token}
-use Rattle.ptk_asm_model.specs.Statements.{Value, Nothing, Given, Labelled, called_names, slots_of}
-use Rattle.ptk_asm_model.specs.Source.{Statement}
+use Rattle.ptk_asm_language.specs.declared.statement.Section.TheVariants as section
+use Rattle.ptk_asm_language.specs.declared.statement.Form.{Form}
+use Rattle.ptk_asm_language.specs.declared.statement.Form.TheVariants as form
+use Rattle.ptk_asm_language.specs.declared.statement.Slot.{Slot}
+use Rattle.ptk_asm_language.specs.declared.statement.Slot.TheVariants as slot
+use Rattle.ptk_asm_language.specs.Tokens.{Number, starts_run, pieces, token}
+use Rattle.ptk_asm_language.specs.Statements.{Value, Nothing, Given, Labelled, called_names, slots_of}
+use Rattle.ptk_asm_language.specs.Source.{Statement}
 
 -- ---- mnemonics
 

@@ -5,10 +5,10 @@ use Rattle.ptk_rv32i_code.specs.declared.instr.Instr.TheVariants as instr
 use Rattle.ptk_rv32i_code.specs.declared.instr.ImmediateOp.{ImmediateOp}
 use Rattle.ptk_rv32i_code.specs.declared.instr.ImmediateOp.TheVariants as immediate
 use Rattle.ptk_rv32i_code.specs.Coding.{decoded}
-use Rattle.ptk_asm_model.specs.declared.statement.Form.{Form}
-use Rattle.ptk_asm_model.specs.declared.statement.Form.TheVariants as form
-use Rattle.ptk_asm_model.specs.Statements.{Nothing, Given}
-use Rattle.ptk_asm_model.specs.Source.{Statement}
+use Rattle.ptk_asm_language.specs.declared.statement.Form.{Form}
+use Rattle.ptk_asm_language.specs.declared.statement.Form.TheVariants as form
+use Rattle.ptk_asm_language.specs.Statements.{Nothing, Given}
+use Rattle.ptk_asm_language.specs.Source.{Statement}
 
 -- a form with registers alone (own)
 abbrev pub bare : Form → List ℕ → Statement

@@ -1,10 +1,10 @@
 -- What the code writes, as the definitions have it.
 use Rattle.std.specs.Prelude.{ℕ, ◌<◌, ◌≤◌, length, List, Option, Some, None, ℤ}
 use Rattle.ptk_words.specs.Image.{ImageParts}
-use Rattle.ptk_asm_model.specs.declared.statement.Form.{Form}
-use Rattle.ptk_asm_model.specs.declared.statement.Section.TheVariants as section
-use Rattle.ptk_asm_model.specs.Statements.{Value, Nothing, Given}
-use Rattle.ptk_asm_model.specs.Source.{Statement, longest}
+use Rattle.ptk_asm_language.specs.declared.statement.Form.{Form}
+use Rattle.ptk_asm_language.specs.declared.statement.Section.TheVariants as section
+use Rattle.ptk_asm_language.specs.Statements.{Value, Nothing, Given}
+use Rattle.ptk_asm_language.specs.Source.{Statement, longest}
 use Rattle.ptk_disasm.specs.declared.fault.DisasmFault.{DisasmFault}
 use Rattle.ptk_disasm.specs.declared.fault.DisasmFault.TheVariants as fault
 use Rattle.ptk_disasm.specs.Disassembly.{FitsSource}

@@ -3,13 +3,13 @@
 ghost use Rattle.std.specs.Prelude.{◌≡◌, ◌<◌, ◌↔◌, true, IfErr, IfOk, IsTrue, OnOk, length, string_bytes};
 ghost use Rattle.std.specs.List.{list_all};
 ghost use Rattle.ptk_image.specs.Images.{IsImage};
-ghost use Rattle.ptk_asm_model.specs.Source.{longest, source};
+ghost use Rattle.ptk_asm_language.specs.Source.{longest, source};
 ghost use Rattle.ptk_disasm.specs.Disassembly.{FitsSource, disassembled, disassembled_with, names_of, is_byte};
 ghost use Rattle.ptk_disasm.specs.Writing.{IsRefused};
 
 use crate::fault::DisasmFault;
 use crate::lines::{push_addressed, push_data, push_text, push_zeros};
-use ptk_asm_model::{Form, Section};
+use ptk_asm_language::{Form, Section};
 use ptk_image::Image;
 use ptk_symbols::Symbols;
 use std::alloc::{AllocError, Global};

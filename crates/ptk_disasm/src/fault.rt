@@ -1,6 +1,6 @@
 //! Why an image has no source.
 
-use ptk_asm_model::Section;
+use ptk_asm_language::Section;
 use std::alloc::AllocError;
 use thiserror::Error;
 

@@ -5,7 +5,7 @@ ghost use Rattle.ptk_disasm.specs.WordStatements as is;
 ghost use Rattle.ptk_disasm.specs.Spelling.{statement_text};
 
 use crate::statements::push_statement;
-use ptk_asm_model::Form;
+use ptk_asm_language::Form;
 use ptk_rv32i_code::{Immediate, ImmediateOp, Instr, JumpOffset, Register, decode};
 use std::alloc::AllocError;
 

@@ -1,9 +1,16 @@
-//! The disassembler: `disassemble` returns the source of an image, one line for each word, and promises that the
-//! assembler's own definition makes that image of it (`same`); `assembled_again` assembles it. The definition of the
-//! source is in `specs/Disassembly`; `disassemble_with` puts the names of symbols into the comments, which the law does
-//! not read. The law over all images is `images_read_back`, where the weight of the proofs is: a statement's text
-//! follows the slots that the assembler reads it by, so one induction over slots proves all forms. Below stand
-//! `ptk_image` and the assembler with its parts; the program stands above.
+//! The disassembler: `disassemble` returns the source of an image, `disassemble_with` the same with names in its
+//! comments.
+//!
+//! - `disassemble`, and with the names of symbols in comments `disassemble_with`: `Ok` is the definition's text
+//!   (`Disassembly`), which the assembler's definition `source` reads as the same image (`same`).
+//! - An error is the first section that is too long, or out of memory.
+//! - `assembled_again` assembles it: the same image.
+//! - `images_read_back` is the law over all images that fit, whatever the comments call an address, `numbers_read_back`
+//!   that of spelled numbers.
+//!
+//! The definition of the source is in `specs/Disassembly`. The weight of the proofs is in `images_read_back`: a
+//! statement's text follows the slots that the assembler reads it by, so one induction over slots proves all forms.
+//! Below are `ptk_image` and the assembler with its parts; above is the program.
 #![tactic(auto)]
 
 mod again;

@@ -1,7 +1,7 @@
 //! The lines of the sections.
 
 ghost use Rattle.std.specs.Prelude.{◌≡◌, ◌++◌, ◌<◌, ◌+◌, ◌%◌, ◌^◌, ◌∷◌, [], OnOk, string_bytes, length, codes, pos};
-ghost use Rattle.ptk_asm_emission.specs.Emitting.{words_in};
+ghost use Rattle.ptk_asm.specs.Emitting.{words_in};
 ghost use Rattle.ptk_disasm.specs.Disassembly as is;
 ghost use Rattle.ptk_disasm.specs.WordStatements.{given};
 ghost use Rattle.ptk_disasm.specs.Writing.{stated};
@@ -9,7 +9,7 @@ ghost use Rattle.ptk_disasm.specs.Writing.{stated};
 use crate::instructions::push_word_statement;
 use crate::statements::push_statement;
 use crate::targets::target_of;
-use ptk_asm_model::Form;
+use ptk_asm_language::Form;
 use ptk_symbols::Symbols;
 use std::alloc::AllocError;
 use std::fmt::Write;

@@ -3,7 +3,7 @@
 ghost use Rattle.std.specs.Prelude.{◌≡◌};
 ghost use Rattle.ptk_disasm.specs.Spelling as is;
 
-use ptk_asm_model::{Form, Section};
+use ptk_asm_language::{Form, Section};
 use ptk_rv32i_code::{BranchTest, ImmediateOp, LoadKind, Register, RegisterOp, ShiftOp, StoreKind};
 
 /// The mnemonic of an operation on a register and an immediate.

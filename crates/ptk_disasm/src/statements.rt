@@ -1,14 +1,13 @@
 //! The text of a statement.
 
 ghost use Rattle.std.specs.Prelude.{◌≡◌, ◌++◌, ◌∷◌, List, IfOk, OnOk, string_bytes};
-ghost use Rattle.ptk_asm_model.specs.declared.statement.Slot.{Slot};
-ghost use Rattle.ptk_asm_model.specs.Statements.{slots_of};
+ghost use Rattle.ptk_asm_language.specs.declared.statement.Slot.{Slot};
+ghost use Rattle.ptk_asm_language.specs.Statements.{slots_of};
 ghost use Rattle.ptk_disasm.specs.Spelling as is;
 ghost use Rattle.ptk_disasm.specs.Writing.{shown, stated};
 
 use crate::naming::{mnemonic, register_name};
-use ptk_asm_forms::slots_of;
-use ptk_asm_model::{Form, Slot};
+use ptk_asm_language::{Form, Slot, slots_of};
 use ptk_rv32i_code::Register;
 use std::alloc::AllocError;
 use std::fmt::Write;

@@ -1,8 +1,11 @@
-//! Symbol tables: names of addresses, in the text that `nm` prints. `read_symbols` reads the definition's table
-//! (`specs/Tables`), or returns the number of the first line that is no symbol; `Symbols::nearest` returns the symbol
-//! that begins last at or below an address and the distance from it, `push_name` and `push_place` append both as text.
-//! Each promises the exact answer of its definition. Below stand the lines of `ptk_asm_text`; the disassembler and
-//! decoded traces stand above.
+//! Symbol tables in the text that `nm` prints: `read_symbols`, and the symbol that is nearest to an address.
+//!
+//! - `read_symbols` reads the definition's table (`Tables`), or returns the number of the first line that is no symbol.
+//! - `nearest` is the symbol that begins last at or below an address, the first of the text among equals, with the
+//!   distance.
+//! - `push_name` and `push_place` append its text.
+//!
+//! Below are the lines of `ptk_asm_language`; above are the disassembler and decoded traces.
 #![tactic(auto)]
 
 mod fault;

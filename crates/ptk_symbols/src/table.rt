@@ -7,7 +7,7 @@ ghost use Rattle.ptk_symbols.specs.Reading.{IsWrongLine};
 use crate::fault::SymbolFault;
 use crate::lines::{Symbol, symbol_in};
 use crate::symbols::Symbols;
-use ptk_asm_text::{split_line, without_ending};
+use ptk_asm_language::{split_line, without_ending};
 use std::alloc::{AllocError, Global};
 
 /// The symbols in a text, a line each as `nm` prints it: the address in eight hexadecimal digits, a blank, a letter, a blank

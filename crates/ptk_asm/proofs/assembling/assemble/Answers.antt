@@ -1,5 +1,5 @@
 use Rattle.std.proofs.Common.{◌≡◌, length, subst}
-use Rattle.ptk_asm_laws.specs.Laws.{WordsDecode}
+use Rattle.ptk_asm.specs.Laws.{WordsDecode}
 use Rattle.ptk_asm.proofs.Images.{text_length, data_length, words_there}
 use Rattle.ptk_asm.proofs.assembling.assemble.Goals as goal
 

@@ -2,9 +2,9 @@ use Rattle.std.proofs.Common.{◌≡◌, ℕ, ◌<◌, ◌≤◌, ◌++◌, leng
 use Rattle.std.proofs.lemmas.List.{take_all}
 use Rattle.std.specs.List.{All}
 use Rattle.ptk_asm.specs.declared.placed.Placed as code
-use Rattle.ptk_asm_model.specs.declared.statement.Section.TheVariants as part
-use Rattle.ptk_asm_model.specs.Source.{bytes_in}
-use Rattle.ptk_asm_laws.specs.Laws.{IsDecoded}
+use Rattle.ptk_asm_language.specs.declared.statement.Section.TheVariants as part
+use Rattle.ptk_asm_language.specs.Source.{bytes_in}
+use Rattle.ptk_asm.specs.Laws.{IsDecoded}
 use Rattle.ptk_asm.specs.Passing.{shown_placed}
 use Rattle.ptk_asm.proofs.Contents.{second-more, contents-more, decoded-more}
 use Rattle.ptk_asm.proofs.second_pass.second_pass.Goals as goal

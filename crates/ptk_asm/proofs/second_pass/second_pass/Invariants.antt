@@ -1,8 +1,8 @@
 use Rattle.std.proofs.Common.{◌≡◌, drop, take, map}
 use Rattle.std.specs.List.{All}
-use Rattle.ptk_asm_model.specs.declared.statement.Section.TheVariants as part
-use Rattle.ptk_asm_model.specs.Source as source
-use Rattle.ptk_asm_laws.specs.Laws.{IsDecoded}
+use Rattle.ptk_asm_language.specs.declared.statement.Section.TheVariants as part
+use Rattle.ptk_asm_language.specs.Source as source
+use Rattle.ptk_asm.specs.Laws.{IsDecoded}
 use Rattle.ptk_asm.specs.Passing.{Names, shown_placed}
 use Rattle.ptk_asm.proofs.second_pass.second_pass.Given as goal
 

@@ -1,5 +1,5 @@
 use Rattle.std.proofs.Common.{ap, ◌∙◌}
-use Rattle.ptk_asm_model.specs.Source.{source}
+use Rattle.ptk_asm_language.specs.Source.{source}
 use Rattle.ptk_disasm.specs.Disassembly.{names_of}
 use Rattle.ptk_disasm.proofs.Named.{names-within}
 use Rattle.ptk_disasm.proofs.ReadBack.{read-back}

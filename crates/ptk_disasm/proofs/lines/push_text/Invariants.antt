@@ -1,6 +1,6 @@
 use Rattle.std.proofs.Common.{◌≡◌, ◌++◌, ◌+◌, ◌%◌, length}
 use Rattle.std.specs.Prelude.{string_bytes}
-use Rattle.ptk_asm_emission.specs.Emitting.{words_in}
+use Rattle.ptk_asm.specs.Emitting.{words_in}
 use Rattle.ptk_disasm.specs.Disassembly.{names_of, text_for, text_lines}
 use Rattle.ptk_disasm.proofs.lines.push_text.Given as goal
 

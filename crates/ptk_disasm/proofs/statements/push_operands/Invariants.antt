@@ -1,6 +1,6 @@
 use Rattle.std.proofs.Common.{◌≡◌, ◌++◌, drop}
 use Rattle.std.specs.Prelude.{string_bytes}
-use Rattle.ptk_asm_model.specs.Statements.{slots_of}
+use Rattle.ptk_asm_language.specs.Statements.{slots_of}
 use Rattle.ptk_disasm.specs.Spelling.{operands_text, value_text}
 use Rattle.ptk_disasm.specs.Writing.{shown}
 use Rattle.ptk_disasm.proofs.statements.push_operands.Given as goal

@@ -1,7 +1,7 @@
 use Rattle.std.proofs.Common.{◌≡◌, ◌+◌, ◌∷◌, ◌++◌, [], List, ℕ, Some, Option, ap, sym, ◌∙◌, arith}
 use Rattle.std.specs.Prelude.{map}
 use Rattle.std.proofs.lemmas.List.{map_push}
-use Rattle.ptk_asm_model.specs.Lines.{raw_lines, without_ending}
+use Rattle.ptk_asm_language.specs.Lines.{raw_lines, without_ending}
 use Rattle.ptk_symbols.specs.declared.lines.Symbol.{Symbol}
 use Rattle.ptk_symbols.specs.Tables.{with_symbol, symbol_in, table_from}
 use Rattle.ptk_symbols.proofs.Read.{before, before-more}

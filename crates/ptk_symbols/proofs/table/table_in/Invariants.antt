@@ -1,6 +1,6 @@
 use Rattle.std.proofs.Common.{◌≡◌, ◌++◌, ◌+◌, ◌≤◌, ℕ, List, length}
 use Rattle.std.specs.Prelude.{map}
-use Rattle.ptk_asm_model.specs.Lines.{raw_lines}
+use Rattle.ptk_asm_language.specs.Lines.{raw_lines}
 use Rattle.ptk_symbols.specs.Tables.{table_of, table_from}
 use Rattle.ptk_symbols.proofs.Read.{before}
 use Rattle.ptk_symbols.proofs.table.table_in.Given as goal

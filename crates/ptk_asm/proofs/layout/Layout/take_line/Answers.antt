@@ -1,14 +1,14 @@
 use Rattle.std.proofs.Common.{◌≡◌, ◌≤◌, length, Option, ◌∷◌, Some, None, subst, ap, refl, arith}
 use Rattle.std.specs.Prelude.{OnOk, IfErr}
-use Rattle.ptk_asm_model.specs.declared.fault.FaultKind.{FaultKind}
-use Rattle.ptk_asm_model.specs.Tokens.{tokens_of}
-use Rattle.ptk_asm_model.specs.declared.place.Extent.{Extent}
-use Rattle.ptk_asm_model.specs.Lines.{without_ending}
-use Rattle.ptk_asm_model.specs.Places.{places_of, last_place}
-use Rattle.ptk_asm_model.specs.Reading.{views, spots, Refuses, IsPlaced}
+use Rattle.ptk_asm_language.specs.declared.fault.FaultKind.{FaultKind}
+use Rattle.ptk_asm_language.specs.Tokens.{tokens_of}
+use Rattle.ptk_asm_language.specs.declared.place.Extent.{Extent}
+use Rattle.ptk_asm_language.specs.Lines.{without_ending}
+use Rattle.ptk_asm_language.specs.Places.{places_of, last_place}
+use Rattle.ptk_asm_language.specs.Reading.{views, spots, Refuses, IsPlaced}
 use Rattle.ptk_asm.specs.Passing.{State, Shows, Reaches, state_after}
-use Rattle.ptk_asm_model.specs.Source.{line_fault}
-use Rattle.ptk_asm_laws.proofs.Whole.{whole-line}
+use Rattle.ptk_asm_language.specs.Source.{line_fault}
+use Rattle.ptk_asm.proofs.Whole.{whole-line}
 use Rattle.ptk_asm.proofs.Texts.{last_line, place_line, state_line, fault_line, on_ok_map}
 use Rattle.ptk_asm.proofs.Inside.{last-inside}
 use Rattle.ptk_asm.proofs.layout.Layout.take_line.Goals as goal

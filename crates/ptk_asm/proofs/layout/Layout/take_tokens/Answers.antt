@@ -1,5 +1,5 @@
-use Rattle.ptk_asm_model.specs.Places.{last_place}
-use Rattle.ptk_asm_model.specs.Reading.{views, spots}
+use Rattle.ptk_asm_language.specs.Places.{last_place}
+use Rattle.ptk_asm_language.specs.Reading.{views, spots}
 use Rattle.ptk_asm.specs.Passing.{shown_statement}
 use Rattle.ptk_asm.proofs.States.{shows_statement}
 use Rattle.ptk_asm.proofs.layout.Layout.take_tokens.Goals as goal

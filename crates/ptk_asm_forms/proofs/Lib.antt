@@ -1,3 +1,0 @@
-pub mod OperandList
-pub mod OperandPlaces
-pub mod RegisterNames

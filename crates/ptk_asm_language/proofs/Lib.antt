@@ -1,0 +1,9 @@
+pub mod Magnitudes
+pub mod Pieces
+pub mod TokenList
+pub mod LineList
+pub mod Endings
+pub mod PlaceList
+pub mod OperandList
+pub mod OperandPlaces
+pub mod RegisterNames

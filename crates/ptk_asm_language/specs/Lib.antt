@@ -1,0 +1,10 @@
+pub mod Lines
+pub mod Tokens
+pub mod Statements
+pub mod Places
+pub mod Source
+pub mod Reading
+pub mod Rows
+pub mod Ranges
+pub mod Scanning
+pub mod Operating

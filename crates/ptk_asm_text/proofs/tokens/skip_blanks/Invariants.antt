@@ -1,9 +1,0 @@
-use Rattle.std.proofs.Common.{◌≡◌, ◌≤◌, length}
-use Rattle.ptk_asm_text.specs.Scanning.{after_blanks}
-use Rattle.ptk_asm_text.proofs.tokens.skip_blanks.Given as goal
-
-abbrev pub invariant-loop-rest : goal.invariant-loop-rest
-invariant-loop-rest l = (after_blanks l.rest ≡ after_blanks l.line) × (length l.rest ≤ length l.line)
-
-abbrev pub decreases-loop-rest : goal.decreases-loop-rest
-decreases-loop-rest l = length l.rest
