@@ -3,6 +3,3 @@ pub mod Walks
 pub mod Windows
 pub mod Refusals
 pub mod Lookup
-pub mod Words
-pub mod Reasons
-pub mod Explained

@@ -70,7 +70,7 @@ fn walk_stages(frame: u32, parts: usize, stages: &[(u64, &[Window])]) -> Result<
 }
 
 /// The first fault of a configuration with its place, None where the text is accepted. `fault` says that it is the
-/// fault that `read_config` answers. An error where memory was refused.
+/// fault that `read_config` returns. An error where memory was refused.
 #[tactic(auto, using(crate::proofs::Forgotten::forgotten))]
 pub fn first_refusal(alloc: Global, text: &str) -> Result<Option<Refusal>, AllocError>
     ensures place { IfOk result (λ found. found ≡ refusal_of (text_walk text.now)) }

@@ -29,7 +29,7 @@ fn table_in<'a>(table: &'a Table, key: Key, number: usize) -> Option<&'a Table>
 }
 
 /// What stands where a table should, None for the document's own.
-pub(crate) fn value_of(document: &Table, place: TablePlace) -> Option<&Value>
+fn value_of(document: &Table, place: TablePlace) -> Option<&Value>
     ensures { option_map (λ v. view v.now) result ≡ found.data_of (table_view document.now) place }
 {
     match place {
@@ -48,8 +48,8 @@ pub(crate) fn value_of(document: &Table, place: TablePlace) -> Option<&Value>
     }
 }
 
-/// The table of a place.
-pub(crate) fn table_of(document: &Table, place: TablePlace) -> Option<&Table>
+/// The table at a place of a document, None where no table stands there.
+pub fn table_of(document: &Table, place: TablePlace) -> Option<&Table>
     ensures { option_map (λ t. table_view t.now) result ≡ found.table_of (table_view document.now) place }
 {
     match place {
@@ -65,7 +65,7 @@ pub(crate) fn table_of(document: &Table, place: TablePlace) -> Option<&Table>
 }
 
 /// The value at a key of a table.
-pub(crate) fn value_at(document: &Table, place: TablePlace, key: Key) -> Option<&Value>
+fn value_at(document: &Table, place: TablePlace, key: Key) -> Option<&Value>
     ensures { option_map (λ v. view v.now) result ≡ found.value_at (table_view document.now) place key }
 {
     match table_of(document, place) {
@@ -85,8 +85,8 @@ fn natural(number: i64) -> Option<u64>
     }
 }
 
-/// The number at a key of a table that is not negative.
-pub(crate) fn number_at(document: &Table, place: TablePlace, key: Key) -> Option<u64>
+/// The number at a key of a table of a document; None where there is no such table or key, or no number from 0 on.
+pub fn number_at(document: &Table, place: TablePlace, key: Key) -> Option<u64>
     ensures value { result ≡ found.number_at (table_view document.now) place key }
     ensures small { IfSome result (λ n. n < 2 ^ 63) }
 {
@@ -99,8 +99,8 @@ pub(crate) fn number_at(document: &Table, place: TablePlace, key: Key) -> Option
     }
 }
 
-/// The text at a key of a table.
-pub(crate) fn text_at(document: &Table, place: TablePlace, key: Key) -> Option<&str>
+/// The text at a key of a table of a document; None where there is no such table or key, or no text.
+pub fn text_at(document: &Table, place: TablePlace, key: Key) -> Option<&str>
     ensures { option_map (λ s. s.now) result ≡ found.text_at (table_view document.now) place key }
 {
     match value_at(document, place, key) {
@@ -109,9 +109,10 @@ pub(crate) fn text_at(document: &Table, place: TablePlace, key: Key) -> Option<&
     }
 }
 
-/// How many items the array at a key of a table has.
+/// How many items the array at a key of a table of a document has; None where there is no such table or key, or no
+/// array.
 #[tactic(auto, using(ptk_config::proofs::Walks::counts))]
-pub(crate) fn count_at(document: &Table, place: TablePlace, key: Key) -> Option<usize>
+pub fn count_at(document: &Table, place: TablePlace, key: Key) -> Option<usize>
     ensures { result ≡ found.count_at (table_view document.now) place key }
 {
     match value_at(document, place, key) {
@@ -123,8 +124,8 @@ pub(crate) fn count_at(document: &Table, place: TablePlace, key: Key) -> Option<
     }
 }
 
-/// What stands at a place.
-pub(crate) fn value_there(document: &Table, place: Place) -> Option<&Value>
+/// What stands at a place of a document; None where nothing does, and for the document itself and its text.
+pub fn value_there(document: &Table, place: Place) -> Option<&Value>
     ensures { option_map (λ v. view v.now) result ≡ found.value_there (table_view document.now) place }
 {
     match place {
@@ -138,8 +139,8 @@ pub(crate) fn value_there(document: &Table, place: Place) -> Option<&Value>
     }
 }
 
-/// The section that a place is in.
-pub(crate) fn section_of(place: Place) -> Option<usize>
+/// The number, from 1, of the section that a place is in, None where it is in none.
+pub fn section_of(place: Place) -> Option<usize>
     ensures { result ≡ found.section_of place }
 {
     match place {

@@ -47,7 +47,7 @@ pub(crate) fn number_at(
     }
 }
 
-/// The array at a key of a table, of so many items.
+/// The array at a key of a table, of this many items.
 pub(crate) fn array_at(
     values: &Table,
     table: TablePlace,
@@ -95,7 +95,7 @@ fn walk_bytes(table: TablePlace, values: &[Value]) -> Result<(), Refusal>
     Ok(())
 }
 
-/// What the inputs so far come to: the tick of the last, 0 where there is none, and how many bytes they have.
+/// The inputs so far in sum: the tick of the last, 0 where there is none, and how many bytes they have.
 #[derive(Clone, Copy, Debug)]
 pub(crate) struct InputsBefore {
     last: u64,

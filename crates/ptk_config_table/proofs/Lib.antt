@@ -1,3 +1,5 @@
+pub mod Unknown
+pub mod Refused
 pub mod Stated
 pub mod Own
 pub mod Lines

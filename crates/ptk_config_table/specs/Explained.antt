@@ -7,7 +7,7 @@ use Rattle.ptk_config.specs.Reading.{Checked}
 use Rattle.ptk_config.specs.Sections.{Section}
 use Rattle.ptk_config.specs.Configuration.{Configuration, configuration_in}
 use Rattle.ptk_config_places.specs.declared.place.Refusal.{Refusal}
-use Rattle.ptk_config_places.specs.Explained.{IsLine}
+use Rattle.ptk_config_table.specs.Refused.{IsLine}
 use Rattle.ptk_config_table.specs.declared.images.Outcome.{Outcome}
 use Rattle.ptk_config_table.specs.Images.{first_refused, image_line, outcome_in}
 use Rattle.ptk_config_table.specs.Table.{table_text}

@@ -9,9 +9,10 @@ ghost use Rattle.ptk_config_table.specs.Images.{outcome_in};
 ghost use Rattle.ptk_config_table.specs.Explained.{IsAccepted, IsExplained, accepted_text, refused_line};
 
 use crate::images::{Outcome, first_refused, outcomes_of, put_image};
+use crate::refusal::{ExplainFault, explain_refusal};
 use crate::table::put_table;
 use ptk_config::{Config, Section, read_config};
-use ptk_config_places::{ExplainFault, Refusal, explain_refusal};
+use ptk_config_places::Refusal;
 use ptk_system_files::Files;
 use std::alloc::Global;
 use std::io::Write;

@@ -5,8 +5,8 @@ ghost use Rattle.std.specs.Io.KnownBytes.{Appends};
 ghost use Rattle.ptk_words.specs.Ranges.{IsWithinLimits};
 ghost use Rattle.ptk_config_table.specs.Images as images;
 
+use crate::refusal::ExplainFault;
 use ptk_config::Section;
-use ptk_config_places::ExplainFault;
 use ptk_image::{Image, read_image};
 use ptk_system_files::Files;
 use ptk_words::{ImageFault, Limits};
@@ -181,7 +181,7 @@ fn first_unfit(outcomes: &[Outcome]) -> Option<usize>
     outcomes.iter().position(|outcome| outcome.is_refused())
 }
 
-/// The place, from 0, of the image that is refused first, in the order in which `ptk check` tells it: the first whose
+/// The place, from 0, of the image that is refused first, in the order in which `ptk check` names it: the first whose
 /// file is not there, and where every file is there, the first that is refused. None where every image is accepted.
 pub(crate) fn first_refused(outcomes: &[Outcome]) -> Option<usize>
     ensures place { result ≡ images.first_refused outcomes.now }

@@ -10,10 +10,10 @@ ghost use Rattle.ptk_config_table.specs.Images.{outcome_in};
 ghost use Rattle.ptk_config_table.specs.Table as table;
 
 use crate::images::{Outcome, put_image};
+use crate::refusal::ExplainFault;
 use crate::share::{Share, ticks_of};
 use ptk_config::parts::{Stage, array, read_later_stages, read_windows};
 use ptk_config::{Config, ConfigFault, Section};
-use ptk_config_places::ExplainFault;
 use ptk_words::{Limits, PartId};
 use ptk_words_windows::Window;
 use std::alloc::Global;

@@ -13,7 +13,8 @@ const SECTION: &str =
 
 const WINDOW: &str = "[[window]]\nstart = 0\nlength = 20\npartition = \"p\"\n";
 
-fn joined(alloc: Global, parts: &[&str]) -> Result<String, AllocError> {
+/// The text of these parts, one after the other.
+pub(crate) fn joined(alloc: Global, parts: &[&str]) -> Result<String, AllocError> {
     let mut text = String::new(alloc);
     for part in parts {
         text.push_str(part)?;

@@ -1,7 +1,6 @@
 //! What is written of accepted and of refused texts, worked out by hand.
 
-use ptk_config_places::ExplainFault;
-use ptk_config_table::explain;
+use ptk_config_table::{ExplainFault, explain};
 use ptk_system_files::Files;
 use std::alloc::Global;
 use std::test::Fail;

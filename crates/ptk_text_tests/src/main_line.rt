@@ -94,7 +94,17 @@ const PLAIN_TRACE: &[&str] = &[
 ];
 
 const TIMELINE: &[&str] = &[
-    "ptk", "timeline", "a.toml", "--ticks", "20", "--from", "7", "--format", "vcd",
+    "ptk",
+    "timeline",
+    "a.toml",
+    "--ticks",
+    "20",
+    "--from",
+    "7",
+    "--format",
+    "vcd",
+    "--symbols",
+    "a.sym",
 ];
 
 #[test]
@@ -117,6 +127,7 @@ fn reads_trace_and_timeline(rt: HostRuntime) {
     };
     assert_eq!(rt; options.from, Some(7));
     assert_eq!(rt; options.format, PictureFormat::Vcd);
+    assert_eq!(rt; options.symbols, Some("a.sym"));
 }
 
 /// Words, and the kind of their error. Help alone does not go to stderr.

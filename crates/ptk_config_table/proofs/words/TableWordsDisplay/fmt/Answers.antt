@@ -1,8 +1,8 @@
 use Rattle.std.proofs.Common.{sym, subst}
 use Rattle.std.specs.Fmt.{HasWritten}
 use Rattle.ptk_config_places.specs.declared.place.TablePlace.{TablePlace}
-use Rattle.ptk_config_places.specs.Words as words
-use Rattle.ptk_config_places.proofs.words.TableWordsDisplay.fmt.Goals as goal
+use Rattle.ptk_config_table.specs.Words as words
+use Rattle.ptk_config_table.proofs.words.TableWordsDisplay.fmt.Goals as goal
 
 pub returns-in-Input-clause-writes : goal.returns-in-Input-clause-writes
 returns-in-Input-clause-writes g c = λ plain done.

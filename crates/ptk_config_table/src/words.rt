@@ -1,9 +1,9 @@
 //! A place and a reason in words.
 
 ghost use Rattle.std.specs.Prelude.{◌≡◌, Some};
-ghost use Rattle.ptk_config_places.specs.Words as words;
+ghost use Rattle.ptk_config_table.specs.Words as words;
 
-use crate::place::{Place, TablePlace};
+use ptk_config_places::{Place, TablePlace};
 use std::fmt;
 
 /// A section in words: its number, and its name where it is shown.
@@ -129,13 +129,13 @@ pub(crate) enum Reason<'a> {
     Outside(i64, u64, u64),
     /// The number is no multiple of 16.
     NoMultiple(i64),
-    /// So many threads with stacks of so many bytes do not lie in so many bytes of memory.
+    /// This many threads with stacks of this many bytes do not fit into this many bytes of memory.
     Stacks(u64, u64, u64),
     /// The text is no name.
     NoName,
     /// The text is empty.
     NoText,
-    /// There are so many items, and not from the second number to the third.
+    /// There are this many items, and not from the second number to the third.
     Count(usize, u64, u64),
     /// The table has this key, which it may not have; None where the key can't be shown.
     Unknown(Option<&'a str>),
@@ -145,7 +145,7 @@ pub(crate) enum Reason<'a> {
     NoWindow,
     /// The window has so few ticks.
     Short(u64),
-    /// The window ends at this tick, after a frame of so many.
+    /// The window ends at this tick, after a frame of this many.
     PastFrame(u64, u64),
     /// No section has the name; None where it can't be shown.
     NoSection(Option<&'a str>),

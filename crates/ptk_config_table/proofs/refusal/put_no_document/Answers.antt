@@ -2,8 +2,8 @@ use Rattle.std.proofs.Common.{◌≡◌, ◌∙◌, ◌+◌, ℕ, List, ap, subs
 use Rattle.std.specs.Prelude.{count_by, ◌==◌}
 use Rattle.std.specs.Io.KnownBytes.{Appends}
 use Rattle.toml.specs.Errors.{span_start}
-use Rattle.ptk_config_places.specs.Explained.{line_at, unread_line}
-use Rattle.ptk_config_places.proofs.explain.put_no_document.Goals as goal
+use Rattle.ptk_config_table.specs.Refused.{line_at, unread_line}
+use Rattle.ptk_config_table.proofs.refusal.put_no_document.Goals as goal
 
 pub returns-in_ok-writeln-in-Some-clause-written : goal.returns-in_ok-writeln-in-Some-clause-written
 returns-in_ok-writeln-in-Some-clause-written g c =

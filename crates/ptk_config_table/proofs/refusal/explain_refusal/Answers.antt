@@ -1,7 +1,7 @@
 use Rattle.std.proofs.Common.{◌≤◌, length, arith}
 use Rattle.toml.specs.Errors.{span_start}
-use Rattle.ptk_config_places.proofs.Lines.{line-unread}
-use Rattle.ptk_config_places.proofs.explain.explain_refusal.Goals as goal
+use Rattle.ptk_config_table.proofs.Refused.{line-unread}
+use Rattle.ptk_config_table.proofs.refusal.explain_refusal.Goals as goal
 
 pub returns-in_ok-put_no_document-in-Err-clause-written : goal.returns-in_ok-put_no_document-in-Err-clause-written
 returns-in_ok-put_no_document-in-Err-clause-written g c =

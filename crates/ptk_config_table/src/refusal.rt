@@ -5,14 +5,13 @@ ghost use Rattle.std.specs.Io.KnownBytes.{Appends};
 ghost use Rattle.toml.specs.View.{table_view};
 ghost use Rattle.toml.specs.Errors.{IsMemory, IsWithin, span_start};
 ghost use Rattle.ptk_config_places.specs.Refusals.{text_walk, refusal_of};
-ghost use Rattle.ptk_config_places.specs.Reasons.{refusal_line};
-ghost use Rattle.ptk_config_places.specs.Explained.{line_at, unread_line, IsExplained};
-ghost use Rattle.ptk_config_places.specs.declared.explain.ExplainFault.TheVariants as failure;
+ghost use Rattle.ptk_config_table.specs.Reasons.{refusal_line};
+ghost use Rattle.ptk_config_table.specs.Refused.{line_at, unread_line, IsExplained};
+ghost use Rattle.ptk_config_table.specs.declared.refusal.ExplainFault.TheVariants as failure;
 
-use crate::document::first_refusal;
-use crate::place::Refusal;
 use crate::reason::{name_of, reason_of};
 use crate::words::Located;
+use ptk_config_places::{Refusal, first_refusal};
 use std::alloc::{AllocError, Global};
 use std::io;
 use std::io::Write;
@@ -95,7 +94,7 @@ fn put_refusal<W: Write>(
 /// the place and the reason in words, of another text a line of it. Returns its first fault with the place, None where
 /// the text is accepted. An error where memory was refused, with the writer as it was, or where the writer fails; how
 /// much of the line it then has is not said.
-#[tactic(auto, using(crate::proofs::Lines::line_rules))]
+#[tactic(auto, using(crate::proofs::Refused::line_rules))]
 pub fn explain_refusal<W: Write>(
     alloc: Global,
     text: &str,

@@ -6,14 +6,16 @@ ghost use Rattle.std.specs.BTreeMap.{keys};
 ghost use Rattle.std.specs.Str.{bytes_eq};
 ghost use Rattle.toml.specs.View.{view, table_view};
 ghost use Rattle.ptk_config_places.specs.Lookup as found;
-ghost use Rattle.ptk_config_places.specs.Words as words;
-ghost use Rattle.ptk_config_places.specs.Reasons as why;
+ghost use Rattle.ptk_config_table.specs.Words as words;
+ghost use Rattle.ptk_config_table.specs.Reasons as why;
 
-use crate::lookup::{count_at, number_at, section_of, table_of, text_at, value_there};
-use crate::place::{Key, Place, Refusal, TablePlace};
 use crate::words::Reason;
 use ptk_config::ConfigFault;
 use ptk_config::parts::KEYS;
+use ptk_config_places::{
+    Key, Place, Refusal, TablePlace, count_at, number_at, section_of, table_of, text_at,
+    value_there,
+};
 use ptk_words::LAST_TICK;
 use ptk_words_windows::WindowFault;
 use toml::{Table, Value};

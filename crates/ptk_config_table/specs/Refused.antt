@@ -4,7 +4,7 @@ use Rattle.std.specs.Io.KnownBytes.{Appends}
 use Rattle.toml.specs.Data.{Members}
 use Rattle.toml.specs.Parse.{parse_document}
 use Rattle.ptk_config_places.specs.declared.place.Refusal.{Refusal}
-use Rattle.ptk_config_places.specs.Reasons.{refusal_line}
+use Rattle.ptk_config_table.specs.Reasons.{refusal_line}
 
 -- the line of the byte at this place, counted from 1: one more than the line feeds before it (own)
 abbrev pub line_at : List ℕ → ℕ → ℕ

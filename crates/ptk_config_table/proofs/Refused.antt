@@ -4,8 +4,8 @@ use Rattle.std.specs.Io.KnownBytes.{Appends}
 use Rattle.toml.specs.Data.{Members}
 use Rattle.toml.specs.Parse.{parse_document}
 use Rattle.ptk_config_places.specs.declared.place.Refusal.{Refusal}
-use Rattle.ptk_config_places.specs.Reasons.{refusal_line}
-use Rattle.ptk_config_places.specs.Explained.{IsLine, line_at, unread_line}
+use Rattle.ptk_config_table.specs.Reasons.{refusal_line}
+use Rattle.ptk_config_table.specs.Refused.{IsLine, line_at, unread_line}
 
 -- of a document
 pub line-of : (text : List ℕ) (document : Members) (r : Refusal) (before after : Option (List ℕ)) → parse_document text ≡ Some document → Appends before after (refusal_line document r)

@@ -1,6 +1,6 @@
 use Rattle.std.proofs.Common.{◌∙◌, Some, option_map, string_bytes, ap}
-use Rattle.ptk_config_places.proofs.Unknown.{unknown-key}
-use Rattle.ptk_config_places.proofs.reason.first_unknown.Goals as goal
+use Rattle.ptk_config_table.proofs.Unknown.{unknown-key}
+use Rattle.ptk_config_table.proofs.reason.first_unknown.Goals as goal
 
 pub returns-in-Some : goal.returns-in-Some
 returns-in-Some c =

@@ -5,7 +5,7 @@ use Rattle.std.specs.List.{list_any, find, range_with_len}
 use Rattle.std.specs.Str.{bytes_eq}
 use Rattle.toml.specs.View.{members_view}
 use Rattle.toml.specs.declared.value.Value.{Value}
-use Rattle.ptk_config_places.specs.Reasons.{first_unknown, first_above}
+use Rattle.ptk_config_table.specs.Reasons.{first_unknown, first_above}
 
 list_any-map : (p : List ℕ → Bool) (ks : List (Bor (List ℕ))) → list_any p (map (λ k. k.now) ks) ≡ list_any (λ k. p k.now) ks
 list_any-map p [] = refl

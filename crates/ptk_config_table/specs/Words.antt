@@ -6,8 +6,8 @@ use Rattle.ptk_config_places.specs.declared.place.TablePlace.{TablePlace}
 use Rattle.ptk_config_places.specs.declared.place.TablePlace.TheVariants as table
 use Rattle.ptk_config_places.specs.declared.place.Place.{Place}
 use Rattle.ptk_config_places.specs.declared.place.Place.TheVariants as place
-use Rattle.ptk_config_places.specs.declared.words.Reason.{Reason}
-use Rattle.ptk_config_places.specs.declared.words.Reason.TheVariants as reason
+use Rattle.ptk_config_table.specs.declared.words.Reason.{Reason}
+use Rattle.ptk_config_table.specs.declared.words.Reason.TheVariants as reason
 use Rattle.ptk_config_places.specs.Placed.{key_name}
 
 -- ---- places

@@ -4,9 +4,9 @@ use Rattle.toml.specs.Data.{Data, array}
 use Rattle.toml.proofs.Views.{view-Array}
 use Rattle.ptk_config.specs.Reading.{count_of}
 use Rattle.ptk_config.proofs.Walks.{count_of-items_view}
-use Rattle.ptk_config_places.specs.Words as words
-use Rattle.ptk_config_places.specs.Reasons as why
-use Rattle.ptk_config_places.proofs.reason.out_of_range_at.Goals as goal
+use Rattle.ptk_config_table.specs.Words as words
+use Rattle.ptk_config_table.specs.Reasons as why
+use Rattle.ptk_config_table.proofs.reason.out_of_range_at.Goals as goal
 
 pub returns-in-Array : goal.returns-in-Array
 returns-in-Array c =
