@@ -8,9 +8,9 @@ use std::alloc::Global;
 
 /// A thread of the first partition has a shade from a tick on and before another, and another one on either side.
 #[derive(Clone, Copy)]
-pub struct Segment(pub u8, pub u64, pub u64, pub Shade);
+pub(crate) struct Segment(pub u8, pub u64, pub u64, pub Shade);
 
-/// The recording of a configuration's run, from a tick on and before another, in at most so many columns. None where
+/// The recording of a configuration's run, from a tick on and before another, in at most this many columns. None where
 /// there is none.
 fn recording_of(
     alloc: Global,
@@ -27,7 +27,7 @@ fn recording_of(
 }
 
 /// The recording of a guest's run.
-pub fn recorded(
+pub(crate) fn recorded(
     alloc: Global,
     parts: &[&str],
     source: &[&str],
@@ -57,7 +57,7 @@ fn has_segment(row: &Row, scale: Scale, segment: Segment) -> bool {
 }
 
 /// The first of the segments that the first partition's rows don't have, in a recording whose columns are a tick each.
-pub fn first_wrong_segment(recording: &Recording, segments: &[Segment]) -> Option<usize> {
+pub(crate) fn first_wrong_segment(recording: &Recording, segments: &[Segment]) -> Option<usize> {
     let Some(lane) = recording.lanes().first() else {
         return Some(0);
     };
@@ -107,7 +107,7 @@ fn row_sums_up(wide: &Row, each: usize, narrow: &Row) -> bool {
 
 /// Whether the rows of a recording of the first partition, in columns of many ticks, tell of those of a recording of the
 /// same ticks whose columns are a tick each.
-pub fn does_sum_up(wide: &Recording, narrow: &Recording) -> bool {
+pub(crate) fn does_sum_up(wide: &Recording, narrow: &Recording) -> bool {
     let (Some(first), Some(second)) = (wide.lanes().first(), narrow.lanes().first()) else {
         return false;
     };

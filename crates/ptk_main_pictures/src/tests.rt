@@ -6,7 +6,7 @@ use ptk_main_guests::{ALONE, LIBRARY, NUMBERS, P};
 use ptk_timeline_segments::{Recording, Shade};
 use std::alloc::Global;
 
-// The first segment of a guest's run that is not as wanted, with a column for each tick; so many where there is no run.
+// The first segment of a guest's run that is not as wanted, with a column for each tick; this many where there is no run.
 fn wrong(
     alloc: Global,
     parts: &[&str],
@@ -301,7 +301,7 @@ fn a_long_sleep_is_one_jump(rt: HostRuntime) {
     );
 }
 
-// Whether the first so many ticks of a guest's run are told alike by columns of one tick and, taken together, by at most so
+// Whether the first this many ticks of a guest's run are told alike by columns of one tick and, taken together, by at most so
 // many columns.
 fn is_summed_up(alloc: Global, parts: &[&str], source: &[&str], ticks: u64, most: u32) -> bool {
     let wide = recorded(alloc, parts, source, 0, ticks, most);

@@ -30,7 +30,7 @@ pub(crate) const GAP: u32 = 16;
 /// The room for the legend at the bottom.
 pub(crate) const LEGEND: u32 = 190;
 
-/// Where a lane stands: of the partition of a number, from the top so many pixels below the picture's, so high.
+/// Where a lane stands: of the partition of a number, from the top this many pixels below the picture's, so high.
 #[derive(Clone, Copy)]
 pub(crate) struct Place {
     pub(crate) number: usize,
@@ -59,7 +59,7 @@ pub(crate) fn column_width(scale: Scale) -> u64
     }
 }
 
-/// Whether a column is a tick, and wide enough for its steps to be told apart.
+/// Whether a column is a tick, and wide enough for its steps to be seen apart.
 pub(crate) fn are_steps_wide(scale: Scale) -> bool {
     scale.each() == 1 && column_width(scale) >= 4
 }

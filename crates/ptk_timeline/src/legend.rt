@@ -65,7 +65,7 @@ fn write_columns<W: Write>(out: &mut W, scale: Scale, y: u32) -> io::Result<()> 
     writeln!(out, "<text x=\"8\" y=\"{y}\">a column: {each} ticks</text>")
 }
 
-/// Writes entries below `top`, so many in a line, each so wide.
+/// Writes entries below `top`, this many in a line, each so wide.
 fn write_entries<W: Write>(
     out: &mut W,
     entries: &[(&str, &str)],

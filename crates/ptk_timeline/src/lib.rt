@@ -1,9 +1,17 @@
-//! The picture of a run, as SVG: a lane for each partition with its windows shaded, in it a row for each thread with what
-//! it was, and the marks of what came. It opens in any browser, without script or network. It is written from the data
-//! of `ptk_timeline_segments`, which stands below: a column of the picture is a column there, a rectangle is a bar of a row,
-//! and the windows are those that the plan has at these ticks. So the text grows with what changes and with the width. The
-//! bytes are compared with stored pictures, and no clause speaks of them. It takes no memory. `ptk_main_answers` stands
-//! above.
+//! The picture of a run as SVG on any writer: a lane for each partition with its windows shaded, in it a row for each
+//! thread, and marks of what came; and where the threads of a run start, for their names (`Starts`).
+//!
+//! - Each bar is drawn over a whole bar of its row (`write_bar`, its `requires`, `IsBar`), and the windows are gone
+//!   over by `next_window`.
+//! - `picture_with` leaves the system at the picture's end (`ran`), and returns `NoTicks` only where `from` is not
+//!   before `to` (`none`), and a picture only where it is (`some`).
+//! - A lane's head is the partition's name with what it is at the end, byte for byte (`write_head`, `head_text`).
+//! - Which other bytes are written is tested: the gate compares four stored pictures (`ptk_main_pictures`).
+//!
+//! It opens in any browser, without script or network. A column of the picture is a column of `ptk_timeline_segments`,
+//! below, a rectangle is a bar of a row, and the windows are those that the plan has at these ticks, so the text grows
+//! with what changes and with the width. Drawing takes no memory; `Starts` has an entry for each thread's number. Above
+//! are `ptk_main_answers` and the program of pictures, `ptk_main_pictures`.
 #![tactic(auto)]
 
 mod axis;
@@ -14,7 +22,9 @@ mod names;
 mod picture;
 mod plans;
 mod rows;
+mod starts;
 mod windows;
 
 pub use layout::MOST_COLUMNS;
-pub use picture::{PictureFault, picture_with, write_lanes, write_timeline};
+pub use picture::{PictureFault, named_picture_with, picture_with, write_lanes, write_timeline};
+pub use starts::{Names, Starts};

@@ -1,8 +1,10 @@
 //! The picture.
 
-ghost use Rattle.std.specs.Prelude.{◌≡◌, ◌≤◌, ◌<◌, IfErr, IfOk, length};
+ghost use Rattle.std.specs.Prelude.{◌≡◌, ◌≤◌, ◌<◌, IfErr, IfOk, OnOk};
+ghost use Rattle.std.specs.Io.KnownBytes.{Appends};
 ghost use Rattle.ptk_words.specs.declared.TheConstants.{LAST_TICK};
 ghost use Rattle.ptk_system.specs.World.{at_tick};
+ghost use Rattle.ptk_timeline.specs.Heads.{head_text};
 
 use crate::axis::write_axis;
 use crate::layout::{
@@ -13,10 +15,11 @@ use crate::legend::write_legend;
 use crate::marks::write_marks;
 use crate::plans::write_plans;
 use crate::rows::write_rows;
+use crate::starts::Names;
 use crate::windows::{write_others, write_windows};
 use ptk_config::Config;
 use ptk_timeline_segments::{Lane, PartStatus, Recording, Scale, System};
-use ptk_words::{PartId, Tick};
+use ptk_words::Tick;
 use std::alloc::Global;
 use std::io;
 use std::io::Write;
@@ -85,6 +88,47 @@ pub fn picture_with<W: Write>(
     ensures none { IfErr result (λ fault. fault ≡ PictureFault.NoTicks → to ≤ from) }
     ensures ran { IfOk result (λ _. system.new ≡ at_tick to system.old) }
 {
+    put_picture(alloc, config, system, &None, from, to, out)
+}
+
+/// Writes the same picture with the names of its threads: that of the routine at which the last thread of a number started in
+/// the run of which the starts are, where a symbol begins there. The same faults come.
+pub fn named_picture_with<W: Write>(
+    alloc: Global,
+    config: &Config,
+    system: &mut System<'_>,
+    names: Names<'_, '_>,
+    from: Tick,
+    to: Tick,
+    out: &mut W,
+) -> Result<(), PictureFault>
+    requires last { to ≤ LAST_TICK }
+    requires begun { system.old.tick ≤ from }
+    requires order { system.old.tick ≤ to }
+    ensures some { IfOk result (λ _. from < to) }
+    ensures none { IfErr result (λ fault. fault ≡ PictureFault.NoTicks → to ≤ from) }
+    ensures ran { IfOk result (λ _. system.new ≡ at_tick to system.old) }
+{
+    put_picture(alloc, config, system, &Some(names), from, to, out)
+}
+
+/// Runs a system, and writes the picture of its ticks, with names where there are some.
+fn put_picture<W: Write>(
+    alloc: Global,
+    config: &Config,
+    system: &mut System<'_>,
+    names: &Option<Names<'_, '_>>,
+    from: Tick,
+    to: Tick,
+    out: &mut W,
+) -> Result<(), PictureFault>
+    requires last { to ≤ LAST_TICK }
+    requires begun { system.old.tick ≤ from }
+    requires order { system.old.tick ≤ to }
+    ensures some { IfOk result (λ _. from < to) }
+    ensures none { IfErr result (λ fault. fault ≡ PictureFault.NoTicks → to ≤ from) }
+    ensures ran { IfOk result (λ _. system.new ≡ at_tick to system.old) }
+{
     if to.ticks() <= from.ticks() {
         return Err(PictureFault::NoTicks);
     }
@@ -93,19 +137,28 @@ pub fn picture_with<W: Write>(
         Ok(recording) => recording,
         Err(_) => return Err(PictureFault::Memory),
     };
-    match write_timeline(out, config, system, &recording) {
+    match put_timeline(out, config, &recording, names) {
         Ok(()) => Ok(()),
         Err(_) => Err(PictureFault::Write),
     }
 }
 
-/// Writes the picture of a recording of a system, which stands at the recording's last tick. An error where the writer
-/// fails; nothing else changes, and what the writer got before is not told.
+/// Writes the picture of a recording of a system. An error where the writer fails; nothing else changes, and what the writer
+/// got before is not told.
 pub fn write_timeline<W: Write>(
     out: &mut W,
     config: &Config,
-    system: &System<'_>,
     recording: &Recording,
+) -> io::Result<()> {
+    put_timeline(out, config, recording, &None)
+}
+
+/// Writes the picture of a recording, with names where there are some.
+fn put_timeline<W: Write>(
+    out: &mut W,
+    config: &Config,
+    recording: &Recording,
+    names: &Option<Names<'_, '_>>,
 ) -> io::Result<()> {
     let scale = recording.scale();
     let (width, height) = (picture_width(scale), picture_height(recording));
@@ -120,7 +173,7 @@ pub fn write_timeline<W: Write>(
         out,
         "<rect width=\"{width}\" height=\"{height}\" fill=\"#ffffff\"/>"
     )?;
-    write_lanes(out, config, system, recording)?;
+    put_lanes(out, config, recording, names)?;
     write_legend(out, config, scale, lanes_end(recording))?;
     out.write_all(b"</svg>\n")
 }
@@ -130,14 +183,24 @@ pub fn write_timeline<W: Write>(
 pub fn write_lanes<W: Write>(
     out: &mut W,
     config: &Config,
-    system: &System<'_>,
     recording: &Recording,
 ) -> io::Result<()> {
+    put_lanes(out, config, recording, &None)
+}
+
+/// Writes the lanes with their axis, and with names where there are some.
+fn put_lanes<W: Write>(
+    out: &mut W,
+    config: &Config,
+    recording: &Recording,
+    names: &Option<Names<'_, '_>>,
+) -> io::Result<()> {
     let mut top = TOP;
-    for number in 0..system.parts() {
-        if let (Some(lane), Some(section)) = (
+    for number in 0..config.parts() {
+        if let (Some(lane), Some(section), Some(status)) = (
             recording.lanes().get(number),
             config.sections().get(number),
+            recording.statuses().get(number),
         ) {
             let height = lane_height(lane);
             let place = Place {
@@ -148,10 +211,11 @@ pub fn write_lanes<W: Write>(
             write_lane(
                 out,
                 config,
-                system,
                 recording.scale(),
                 lane,
                 section.name(),
+                *status,
+                names,
                 place,
             )?;
             top = top.saturating_add(height).saturating_add(GAP);
@@ -161,30 +225,36 @@ pub fn write_lanes<W: Write>(
     write_plans(out, config.plan(), recording.scale(), lanes_end(recording))
 }
 
-/// Writes the lane of a partition of a name: its windows, its name, its marks and its rows, and over these the others'
-/// windows.
+/// Writes the lane of a partition of a name and a status: its windows, its head, its marks and its rows, and over these the
+/// others' windows.
 fn write_lane<W: Write>(
     out: &mut W,
     config: &Config,
-    system: &System<'_>,
     scale: Scale,
     lane: &Lane,
     name: &str,
+    status: PartStatus,
+    names: &Option<Names<'_, '_>>,
     place: Place,
-) -> io::Result<()>
-    requires { place.number < length system.now.config.sections }
-{
+) -> io::Result<()> {
     write_windows(out, config, scale, place)?;
-    let status = system.status(PartId::new(place.number as u8));
-    write_head(out, name, status, place.top)?;
+    write_head(out, LEFT - 8, place.top.saturating_add(14), name, status)?;
     write_marks(out, config, scale, lane, place)?;
-    write_rows(out, scale, lane, name, place.top.saturating_add(HEAD))?;
+    let top = place.top.saturating_add(HEAD);
+    write_rows(out, scale, lane, name, names, place.part(), top)?;
     write_others(out, config, scale, name, place)
 }
 
-/// Writes a lane's name, which has no markup character, and what its partition is at the end.
-fn write_head<W: Write>(out: &mut W, name: &str, status: PartStatus, top: u32) -> io::Result<()> {
-    let (x, y) = (LEFT - 8, top.saturating_add(14));
+/// Writes a lane's name, which has no markup character, at a place, and what its partition is at the end.
+fn write_head<W: Write>(
+    out: &mut W,
+    x: u64,
+    y: u32,
+    name: &str,
+    status: PartStatus,
+) -> io::Result<()>
+    ensures { OnOk result (Appends (W.contents out.old) (W.contents out.new) (head_text x y name.now status)) }
+{
     writeln!(
         out,
         "<text class=\"name\" x=\"{x}\" y=\"{y}\" text-anchor=\"end\">{name}<title>{name}: {status}</title></text>"

@@ -4,9 +4,16 @@ ghost use Rattle.ptk_timeline_segments.specs.Bars.{IsBar};
 
 use crate::layout::{BAR, LEFT, ROW, are_steps_wide, column_place, is_shown};
 use crate::names::{Words, class_of};
+use crate::starts::Names;
 use ptk_timeline_segments::{Cell, Lane, Marks, Row, Scale, Shade};
+use ptk_words::PartId;
 use std::io;
 use std::io::Write;
+
+/// Where the names of threads begin, from the left, and the room for each.
+const NAME_LEFT: u32 = 4;
+
+const NAME_WIDTH: u32 = 106;
 
 /// A thread of a partition of a name.
 #[derive(Clone, Copy)]
@@ -35,12 +42,15 @@ impl Stretch {
     }
 }
 
-/// Writes the rows of the lane of a partition of a name, one below the other from `top` on.
+/// Writes the rows of the lane of a partition of a name, one below the other from `top` on, with the names of its threads
+/// where there are some.
 pub(crate) fn write_rows<W: Write>(
     out: &mut W,
     scale: Scale,
     lane: &Lane,
     name: &str,
+    names: &Option<Names<'_, '_>>,
+    part: PartId,
     top: u32,
 ) -> io::Result<()> {
     let mut y = top;
@@ -51,7 +61,45 @@ pub(crate) fn write_rows<W: Write>(
                 number: place + 1,
             };
             write_row(out, scale, thread, row, lane.marks(), y)?;
+            write_name(out, names, part, place + 1, y)?;
             y = y.saturating_add(ROW);
+        }
+    }
+    Ok(())
+}
+
+/// Writes the name of a row's thread at the left of its number, where it has one; what finds no room is in its title alone.
+fn write_name<W: Write>(
+    out: &mut W,
+    names: &Option<Names<'_, '_>>,
+    part: PartId,
+    number: usize,
+    y: u32,
+) -> io::Result<()> {
+    let Some(names) = names else {
+        return Ok(());
+    };
+    let Some(routine) = names.routine(part, number) else {
+        return Ok(());
+    };
+    write!(
+        out,
+        "<svg x=\"{NAME_LEFT}\" y=\"{y}\" width=\"{NAME_WIDTH}\" height=\"{BAR}\"><text x=\"0\" y=\"11\">"
+    )?;
+    write_escaped(out, routine.name)?;
+    write!(out, "<title>thread {number} starts at ")?;
+    write_escaped(out, routine.name)?;
+    out.write_all(b"</title></text></svg>\n")
+}
+
+/// Writes the characters of a name, those of markup as entities (XML 2.4).
+fn write_escaped<W: Write>(out: &mut W, name: &[u8]) -> io::Result<()> {
+    for byte in name {
+        match *byte {
+            b'&' => out.write_all(b"&amp;")?,
+            b'<' => out.write_all(b"&lt;")?,
+            b'>' => out.write_all(b"&gt;")?,
+            plain => out.write_all(&[plain])?,
         }
     }
     Ok(())
@@ -195,7 +243,7 @@ fn write_level<W: Write>(out: &mut W, level: u8, stretch: Stretch, y: u32) -> io
     writeln!(out, "<text x=\"{x}\" y=\"{base}\">{level}</text>")
 }
 
-/// Writes a line where each step of the row's thread begins, where these can be told apart.
+/// Writes a line where each step of the row's thread begins, where these can be seen apart.
 fn write_steps<W: Write>(
     out: &mut W,
     scale: Scale,

@@ -49,7 +49,7 @@ impl Board {
     pub(crate) fn put_all<W: Write>(
         &self,
         system: &System<'_>,
-        sheet: &mut Sheet<'_>,
+        sheet: &mut Sheet<'_, '_>,
         out: &mut W,
     ) -> Result<(), PutFault>
         requires within { sheet.old.at ≤ sheet.old.to }
@@ -65,7 +65,7 @@ impl Board {
     /// Writes what is shown up to the last tick.
     pub(crate) fn put_rest<W: Write>(
         &mut self,
-        sheet: &mut Sheet<'_>,
+        sheet: &mut Sheet<'_, '_>,
         out: &mut W,
     ) -> Result<(), PutFault>
         requires within { sheet.old.at ≤ sheet.old.to }
@@ -85,7 +85,7 @@ impl Board {
         &mut self,
         config: &Config,
         system: &mut System<'_>,
-        sheet: &mut Sheet<'_>,
+        sheet: &mut Sheet<'_, '_>,
         out: &mut W,
     ) -> Result<(), PutFault>
         requires within { sheet.old.at ≤ sheet.old.to }
@@ -106,7 +106,7 @@ impl Board {
         config: &Config,
         system: &mut System<'_>,
         tick: u64,
-        sheet: &mut Sheet<'_>,
+        sheet: &mut Sheet<'_, '_>,
         out: &mut W,
     ) -> Result<u64, PutFault>
         requires at { sheet.old.at ≤ tick }
@@ -137,7 +137,7 @@ impl Board {
         p: PartId,
         from: u64,
         end: u64,
-        sheet: &mut Sheet<'_>,
+        sheet: &mut Sheet<'_, '_>,
         out: &mut W,
     ) -> Result<(), PutFault>
         requires at { sheet.old.at ≤ from }
@@ -159,7 +159,7 @@ impl Board {
         &mut self,
         p: PartId,
         tick: u64,
-        sheet: &mut Sheet<'_>,
+        sheet: &mut Sheet<'_, '_>,
         out: &mut W,
     ) -> Result<(), PutFault>
         requires at { sheet.old.at ≤ tick }
@@ -184,7 +184,7 @@ impl Board {
     fn close_window<W: Write>(
         &mut self,
         tick: u64,
-        sheet: &mut Sheet<'_>,
+        sheet: &mut Sheet<'_, '_>,
         out: &mut W,
     ) -> Result<(), PutFault>
         requires at { sheet.old.at ≤ tick }

@@ -2,18 +2,7 @@
 
 use crate::shown::Shown;
 use ptk_system::PartStatus;
-use ptk_words::{PartId, ThreadNo};
-
-/// The name of the routine at an address of a partition's image.
-#[derive(Clone, Copy)]
-pub struct Routine<'a> {
-    /// The partition.
-    pub partition: PartId,
-    /// The address of the routine's first instruction.
-    pub address: u32,
-    /// Its name.
-    pub name: &'a str,
-}
+use ptk_words::ThreadNo;
 
 /// What is shown of a thread since a tick.
 #[derive(Clone, Copy)]
@@ -39,8 +28,8 @@ pub(crate) enum Change<'a> {
     Next(ThreadNo, &'a Kept, &'a Shown),
     /// The first thread's step has ended a wait of the second.
     Woken(ThreadNo, ThreadNo),
-    /// So many ticks at the end of its window are lost.
+    /// This many ticks at the end of its window are lost.
     Lost(u64),
-    /// So many input bytes are lost.
+    /// This many input bytes are lost.
     Dropped(u64),
 }

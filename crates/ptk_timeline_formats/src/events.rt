@@ -1,10 +1,11 @@
 //! The Trace Event Format.
 
-use crate::change::{Change, Kept, Routine};
+use crate::change::{Change, Kept};
 use crate::fault::PutFault;
 use crate::shown::{Doing, Shown, deadline_of};
 use crate::step::is_halted;
 use ptk_config::{Config, Section};
+use ptk_symbols::Symbols;
 use ptk_system::PartStatus;
 use ptk_words::{PartId, ThreadNo, Wait};
 use std::alloc::Global;
@@ -135,7 +136,7 @@ fn put_instant<W: Write>(
 /// Writes the events of what changes.
 pub(crate) fn put_event<W: Write>(
     alloc: Global,
-    routines: &[Routine<'_>],
+    symbols: &Symbols<'_>,
     p: PartId,
     tick: u64,
     change: &Change<'_>,
@@ -145,7 +146,7 @@ pub(crate) fn put_event<W: Write>(
         Change::WindowBegins | Change::Runner(_) => {}
         Change::WindowEnds(since) => put_window(p, *since, tick, out)?,
         Change::Status(status) => put_halt(p, tick, *status, out)?,
-        Change::First(t, shown, start) => put_start(alloc, routines, p, *t, shown, *start, out)?,
+        Change::First(t, shown, start) => put_start(alloc, symbols, p, *t, shown, *start, out)?,
         Change::Next(t, kept, _) => put_slice(Track::thread(p, *t), kept, tick, out)?,
         Change::Woken(by, t) => put_flow(p, *by, *t, tick, out)?,
         Change::Lost(ticks) => put_instant(p, tick, "ticks lost", "ticks", *ticks, out)?,
@@ -193,7 +194,7 @@ fn put_halt<W: Write>(p: PartId, tick: u64, status: PartStatus, out: &mut W) -> 
 /// Writes the name of a thread that is there: that of the routine at which it starts, or its number.
 fn put_start<W: Write>(
     alloc: Global,
-    routines: &[Routine<'_>],
+    symbols: &Symbols<'_>,
     p: PartId,
     t: ThreadNo,
     shown: &Shown,
@@ -204,7 +205,7 @@ fn put_start<W: Write>(
         return Ok(());
     }
     let number = t.number();
-    let name = match routine_at(routines, p, start) {
+    let name = match routine_at(symbols, start) {
         Some(routine) => serde_json::to_string(alloc, &routine)?,
         None => format!(in alloc; "\"thread {number}\"")?,
     };
@@ -212,15 +213,14 @@ fn put_start<W: Write>(
     Ok(())
 }
 
-/// The name of the routine of a partition that begins at an address.
-fn routine_at<'a>(routines: &[Routine<'a>], p: PartId, start: Option<u32>) -> Option<&'a str> {
-    let start = start?;
-    for routine in routines {
-        if routine.partition.index() == p.index() && routine.address == start {
-            return Some(routine.name);
-        }
+/// The name of the symbol that begins at an address, if there is one.
+fn routine_at<'a>(symbols: &Symbols<'a>, start: Option<u32>) -> Option<&'a str> {
+    let located = symbols.nearest(start?)?;
+    if located.distance == 0 {
+        str::from_utf8(located.name).ok()
+    } else {
+        None
     }
-    None
 }
 
 /// Writes the slice of what was shown of a thread up to a tick, none of no ticks or of a free number.

@@ -1,9 +1,13 @@
-//! A run in the formats that other tools read: `vcd_with` writes a Value Change Dump (IEEE 1364-2005, section 18), which
-//! GTKWave opens, and `trace_events_with` the Trace Event Format (JSON), which Perfetto and chrome://tracing open. Both go
-//! from change to change and keep of each thread what was shown of it last, so memory does not grow with the run. Promised
-//! are the refusals, that what is shown at a change is what `System` tells of each thread after the decision at that tick,
-//! and that the ticks written never fall and are at most the run's last; the bytes are only tested. Below stand the system
-//! (`ptk_system`) and the configuration; the program's answers stand above.
+//! A run as a Value Change Dump (`vcd_with`) and as trace events in JSON (`trace_events_with`), written while it goes
+//! on.
+//!
+//! - What is kept of each thread at a change is what the system shows of it (`shown` of `show_threads`: `AreShown`,
+//!   `shown_in`); ticks never fall (`from`, `within` of `Sheet::put`).
+//! - The refusals are the definition's (`order` to `silent` of `vcd_with`). The bytes are tested.
+//!
+//! GTKWave opens the first (IEEE 1364-2005, section 18), Perfetto and chrome://tracing the second. Both go from change
+//! to change and keep of each thread what was shown of it last, so memory does not grow with the run. Below are the
+//! system (`ptk_system`) and the configuration; the program's answers are above.
 #![tactic(auto)]
 
 mod board;
@@ -18,6 +22,5 @@ mod step;
 mod threads;
 mod vcd;
 
-pub use change::Routine;
 pub use fault::FormatFault;
 pub use run::{trace_events_with, vcd_with};

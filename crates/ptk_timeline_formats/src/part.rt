@@ -33,7 +33,7 @@ pub(crate) struct Part {
 }
 
 impl Part {
-    /// What is shown of a partition with so many threads from the system's tick on. An error where memory ran out. No other
+    /// What is shown of a partition with this many threads from the system's tick on. An error where memory ran out. No other
     /// call takes memory for what is kept.
     pub(crate) fn new(
         alloc: Global,
@@ -59,7 +59,7 @@ impl Part {
         &self,
         system: &System<'_>,
         p: PartId,
-        sheet: &mut Sheet<'_>,
+        sheet: &mut Sheet<'_, '_>,
         out: &mut W,
     ) -> Result<(), PutFault>
         requires partition { p < length system.now.config.sections }
@@ -84,7 +84,7 @@ impl Part {
     pub(crate) fn put_rest<W: Write>(
         &self,
         p: PartId,
-        sheet: &mut Sheet<'_>,
+        sheet: &mut Sheet<'_, '_>,
         out: &mut W,
     ) -> Result<(), PutFault>
         requires within { sheet.old.at ≤ sheet.old.to }
@@ -107,7 +107,7 @@ impl Part {
         p: PartId,
         from: u64,
         end: u64,
-        sheet: &mut Sheet<'_>,
+        sheet: &mut Sheet<'_, '_>,
         out: &mut W,
     ) -> Result<(), PutFault>
         requires partition { p < length system.old.config.sections }
@@ -144,7 +144,7 @@ impl Part {
         p: PartId,
         due: u64,
         end: u64,
-        sheet: &mut Sheet<'_>,
+        sheet: &mut Sheet<'_, '_>,
         out: &mut W,
     ) -> Result<(), PutFault>
         requires partition { p < length system.now.config.sections }
@@ -173,7 +173,7 @@ impl Part {
         p: PartId,
         tick: u64,
         end: u64,
-        sheet: &mut Sheet<'_>,
+        sheet: &mut Sheet<'_, '_>,
         out: &mut W,
     ) -> Result<(), PutFault>
         requires partition { p < length system.now.config.sections }
@@ -200,7 +200,7 @@ impl Part {
         p: PartId,
         tick: u64,
         end: u64,
-        sheet: &mut Sheet<'_>,
+        sheet: &mut Sheet<'_, '_>,
         out: &mut W,
     ) -> Result<u64, PutFault>
         requires partition { p < length system.now.config.sections }
@@ -226,7 +226,7 @@ impl Part {
         Ok(begin)
     }
 
-    /// Shows what the system tells of the partition from a tick on, while a step takes up its ticks, and writes what of
+    /// Shows what the system shows of the partition from a tick on, while a step takes up its ticks, and writes what of
     /// it is new.
     fn show<W: Write>(
         &mut self,
@@ -234,7 +234,7 @@ impl Part {
         p: PartId,
         step: &Option<Step>,
         tick: u64,
-        sheet: &mut Sheet<'_>,
+        sheet: &mut Sheet<'_, '_>,
         out: &mut W,
     ) -> Result<(), PutFault>
         requires partition { p < length system.now.config.sections }
@@ -265,7 +265,7 @@ impl Part {
         system: &System<'_>,
         p: PartId,
         tick: u64,
-        sheet: &mut Sheet<'_>,
+        sheet: &mut Sheet<'_, '_>,
         out: &mut W,
     ) -> Result<(), PutFault>
         requires partition { p < length system.now.config.sections }

@@ -7,12 +7,12 @@ ghost use Rattle.ptk_timeline_formats.specs.declared.fault.FormatFault.TheVarian
 ghost use Rattle.ptk_timeline_formats.specs.Faults.{missing_in_format};
 
 use crate::board::Board;
-use crate::change::Routine;
 use crate::events::{put_events_end, put_events_head};
 use crate::fault::{FormatFault, PutFault};
 use crate::sheet::{Form, Sheet};
 use crate::vcd::{put_vcd_head, put_vcd_start};
 use ptk_config::Config;
+use ptk_symbols::Symbols;
 use ptk_system::{Files, System};
 use ptk_words::Tick;
 use std::alloc::Global;
@@ -41,16 +41,17 @@ pub fn vcd_with<W: Write>(
         (λ fault. fault ≢ FromPastEnd → first_missing files.now config.now.sections ≡ missing_in_format fault) }
     ensures silent { IfErr result (λ fault. fault ≢ FormatFault.Write → fault ≢ FormatFault.Memory → out.new ≡ out.old) }
 {
-    write_run(Form::Vcd, alloc, config, files, &[], from, ticks, out)
+    let nameless = Symbols::new(alloc);
+    write_run(Form::Vcd, alloc, config, files, &nameless, from, ticks, out)
 }
 
-/// Writes the same ticks in the Trace Event Format. A thread that starts in these ticks has the name of the routine of its
-/// partition that begins at its first pc, where there is one. The same faults come.
-pub fn trace_events_with<'r, W: Write>(
+/// Writes the same ticks in the Trace Event Format. A thread that starts in these ticks has the name of the symbol that
+/// begins at its first pc, where one does. The same faults come.
+pub fn trace_events_with<W: Write>(
     alloc: Global,
     config: &Config,
     files: &Files,
-    routines: &'r [Routine<'r>],
+    symbols: &Symbols<'_>,
     from: Tick,
     ticks: Tick,
     out: &mut W,
@@ -69,7 +70,7 @@ pub fn trace_events_with<'r, W: Write>(
         alloc,
         config,
         files,
-        routines,
+        symbols,
         from,
         ticks,
         out,
@@ -77,12 +78,12 @@ pub fn trace_events_with<'r, W: Write>(
 }
 
 /// Boots the system of a configuration, runs it, and writes its ticks from `from` on in a format.
-fn write_run<'r, W: Write>(
+fn write_run<W: Write>(
     form: Form,
     alloc: Global,
     config: &Config,
     files: &Files,
-    routines: &'r [Routine<'r>],
+    symbols: &Symbols<'_>,
     from: Tick,
     ticks: Tick,
     out: &mut W,
@@ -100,7 +101,7 @@ fn write_run<'r, W: Write>(
         return Err(FormatFault::FromPastEnd);
     }
     let mut system = system_at(alloc, config, files, from)?;
-    let mut sheet = Sheet::new(form, alloc, routines, from.ticks(), ticks.ticks());
+    let mut sheet = Sheet::new(form, alloc, symbols, from.ticks(), ticks.ticks());
     match put_run(alloc, config, &mut system, &mut sheet, out) {
         Ok(()) => Ok(()),
         Err(PutFault::Memory) => Err(FormatFault::Memory),
@@ -135,7 +136,7 @@ fn put_run<W: Write>(
     alloc: Global,
     config: &Config,
     system: &mut System<'_>,
-    sheet: &mut Sheet<'_>,
+    sheet: &mut Sheet<'_, '_>,
     out: &mut W,
 ) -> Result<(), PutFault>
     requires within { sheet.old.at ≤ sheet.old.to }

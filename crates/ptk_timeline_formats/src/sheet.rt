@@ -1,9 +1,10 @@
 //! What is written, up to a tick.
 
-use crate::change::{Change, Routine};
+use crate::change::Change;
 use crate::events::put_event;
 use crate::fault::PutFault;
 use crate::vcd::{is_signal, put_value};
+use ptk_symbols::Symbols;
 use ptk_words::PartId;
 use std::alloc::Global;
 use std::io::Write;
@@ -19,10 +20,10 @@ pub(crate) enum Form {
 
 /// What is written in a format: the latest tick of which something is, and the last that may be.
 #[derive(Drop)]
-pub(crate) struct Sheet<'a> {
+pub(crate) struct Sheet<'a, 's> {
     form: Form,
     alloc: Global,
-    routines: &'a [Routine<'a>],
+    symbols: &'a Symbols<'s>,
     at: u64,
     to: u64,
     ghost last: { to ≤ LAST_TICK },
@@ -31,15 +32,15 @@ pub(crate) struct Sheet<'a> {
 ghost use Rattle.std.specs.Prelude.{◌≡◌, ◌<◌, ◌≤◌};
 ghost use Rattle.ptk_words.specs.declared.TheConstants.{LAST_TICK};
 
-impl<'a> Sheet<'a> {
+impl<'a, 's> Sheet<'a, 's> {
     /// Nothing is written yet; what will be is of the ticks from one up to another.
     pub(crate) fn new(
         form: Form,
         alloc: Global,
-        routines: &'a [Routine<'a>],
+        symbols: &'a Symbols<'s>,
         from: u64,
         to: u64,
-    ) -> Sheet<'a>
+    ) -> Sheet<'a, 's>
         requires { to ≤ LAST_TICK }
         ensures at { result.at ≡ from }
         ensures to { result.to ≡ to }
@@ -47,7 +48,7 @@ impl<'a> Sheet<'a> {
         Sheet {
             form,
             alloc,
-            routines,
+            symbols,
             at: from,
             to,
         }
@@ -97,7 +98,7 @@ impl<'a> Sheet<'a> {
             }
             Form::Events => {
                 self.at = tick;
-                put_event(self.alloc, self.routines, p, tick, change, out)
+                put_event(self.alloc, self.symbols, p, tick, change, out)
             }
         }
     }

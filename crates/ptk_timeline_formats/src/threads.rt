@@ -37,7 +37,7 @@ pub(crate) fn first_threads(
     Ok(kept)
 }
 
-/// Shows what the system tells of the threads of a partition from a tick on, while a step takes up its ticks, and writes
+/// Shows what the system shows of the threads of a partition from a tick on, while a step takes up its ticks, and writes
 /// what of it is new.
 pub(crate) fn show_threads<W: Write>(
     threads: &mut [Kept],
@@ -45,7 +45,7 @@ pub(crate) fn show_threads<W: Write>(
     p: PartId,
     step: &Option<Step>,
     tick: u64,
-    sheet: &mut Sheet<'_>,
+    sheet: &mut Sheet<'_, '_>,
     out: &mut W,
 ) -> Result<(), PutFault>
     requires partition { p < length system.now.config.sections }
@@ -70,7 +70,7 @@ fn show_thread<W: Write>(
     t: ThreadNo,
     step: &Option<Step>,
     tick: u64,
-    sheet: &mut Sheet<'_>,
+    sheet: &mut Sheet<'_, '_>,
     out: &mut W,
 ) -> Result<Kept, PutFault>
     requires partition { p < length system.now.config.sections }
@@ -115,7 +115,7 @@ fn put_woken<W: Write>(
     t: ThreadNo,
     step: &Step,
     tick: u64,
-    sheet: &mut Sheet<'_>,
+    sheet: &mut Sheet<'_, '_>,
     out: &mut W,
 ) -> Result<(), PutFault>
     requires at { sheet.old.at ≤ tick }

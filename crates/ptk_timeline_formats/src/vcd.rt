@@ -51,7 +51,7 @@ impl Signal {
         Signal::state(p, number).after(1)
     }
 
-    /// The signal so many after it.
+    /// The signal this many after it.
     fn after(self, places: usize) -> Signal {
         Signal(self.0.saturating_add(places))
     }
@@ -91,7 +91,7 @@ fn put_scope<W: Write>(p: PartId, section: &Section, out: &mut W) -> io::Result<
     out.write_all(b"$upscope $end\n")
 }
 
-/// Writes the declaration of a signal of so many bits.
+/// Writes the declaration of a signal of this many bits.
 fn put_variable<W: Write>(width: u8, signal: Signal, name: &str, out: &mut W) -> io::Result<()> {
     writeln!(out, "$var wire {width} {signal} {name} $end")
 }

@@ -2,7 +2,9 @@
 use Rattle.std.specs.Prelude.{◌≡◌, ℕ, ◌+◌, ◌-◌, ◌<◌, ◌≤◌, List, length, slice_index_or}
 use Rattle.ptk_words_windows.specs.Windows.{own_ticks}
 use Rattle.ptk_words_model.specs.State.{State}
-use Rattle.ptk_system.specs.World.{World}
+use Rattle.ptk_system.specs.declared.status.PartStatus.{PartStatus}
+use Rattle.ptk_system.specs.Told.{status_in}
+use Rattle.ptk_system.specs.World.{World, state_of}
 use Rattle.ptk_timeline_segments.specs.declared.lane.Lane.{Lane}
 use Rattle.ptk_timeline_segments.specs.declared.look.Look.{Look}
 use Rattle.ptk_timeline_segments.specs.declared.marks.Marks.{Marks}
@@ -41,3 +43,8 @@ pub record TellsOf (world : World) (recording : Recording) : Type 0 where
       → TellsLooks (look_at (own_ticks world.config.plan p) (history world p) recording.scale.from (place + 1)) recording.scale
       (slice_index_or (slice_index_or recording.lanes.items p lane).rows.items place default)
   pub marks : (p : ℕ) (lane : Lane) → p < length recording.lanes.items → TellsMarks (history world p) recording.scale (slice_index_or recording.lanes.items p lane)
+
+-- what each partition of a system is, in their order
+pub record AreStatusesOf (world : World) (statuses : List PartStatus) : Type 0 where
+  pub count : length statuses ≡ length world.config.sections
+  pub each : (p : ℕ) (default : PartStatus) → p < length statuses → slice_index_or statuses p default ≡ status_in (state_of world p).part

@@ -32,7 +32,7 @@ pub struct Lane {
 }
 
 impl Lane {
-    /// The lane of a partition with so many threads from the system's tick on, with room for all columns. An error where
+    /// The lane of a partition with this many threads from the system's tick on, with room for all columns. An error where
     /// memory ran out. No other call takes memory.
     pub(crate) fn new(
         alloc: Global,

@@ -1,17 +1,28 @@
-//! What each thread of a system was over a stretch of ticks: the data of a picture of a run. A run goes on from one tick
-//! at which something of a partition can change to the next, so ticks at which nothing is due cost nothing, and where a
-//! column stands for many ticks, plain steps in a row cost one look; between looks each thread holds one look (running,
-//! ready, blocked on what, ended; its effective priority where it is raised). A row is a thread's looks, each from the
-//! tick at which the one before ended: its segments lie end to end. It is kept by columns, each of so many ticks, in room
-//! that is made once: of a column, which kind of look held longest, and whether there was another beside it; where a
-//! column is one tick, this is the look itself.
+//! What each thread of a run was, from which tick to which, by columns of a picture; the bars of a row, the marks of a
+//! column, and a partition's windows one after the other.
 //!
-//! A step's ticks are its thread's: from the tick at which it begins, for as many as it costs, that thread is running,
-//! and what the step made of it begins behind them. All else begins at the tick of the decision that brought it.
-//! Where a column is one tick, it has the look of its thread at its tick and the marks of that tick, by the states of the
-//! partition (`Recording::of_run`). A bar is all columns of one look, as many as there are (`Row::bar_from`), and
-//! `next_window` goes over a partition's windows as the plan has them at these ticks. What columns of many ticks show is
-//! tested. Below stand the system, its window plan and the configuration; the drawing, `ptk_timeline`, stands above.
+//! - `Recording::of_run` is a run to the scale's end (`run`), and where a column is a tick each column of each row has
+//!   the look of its thread at its tick, by the states of its partition (`tells`: `TellsOf`, `look_at`): running,
+//!   ready, blocked on what and whose owner, ended, halted or no thread, with its effective priority where that is
+//!   raised.
+//! - A step's ticks are its thread's, up to the next decision or its window's end.
+//! - Of a row by itself: of whatever looks hold, each column has the last look of the shade that held longest, the
+//!   first of these at a draw, and whether there was another (`Row::hold`, `IsCellOf`).
+//! - Where a column is a tick, its marks are all that the decisions of the picture make there: a step begins, input is
+//!   lost, the partition halts, and each tick that is lost (`tells`: `TellsMarks`, `marks_at`).
+//! - `Row::bar_from` returns the column behind a bar, which is all columns of one look, owner and raised priority
+//!   included, and is as long as possible on both sides (`bar`: `IsBar`; `next`).
+//! - `next_window` returns the partition's next window, tick by tick as the plan has it there, and none only where no
+//!   tick is the partition's (`IsNextWindow`, `AreOthers`).
+//! - Columns of many ticks are tested, and not proved: their sums are exact for whatever looks hold between two looks
+//!   at the system, but that none of these changes on the way no clause of `System::compute_to` says.
+//! - What each partition is at the end is the run's, whatever the columns (`ended`: `AreStatusesOf`).
+//!
+//! A run goes on from one tick at which something of a partition can change to the next, so ticks at which nothing is
+//! due cost nothing. A row is kept by columns, in room that is made once: of a column, which kind of look held longest,
+//! and whether there was another beside it; where a column is one tick, this is the look itself. All that is not a step
+//! begins at the tick of the decision that brought it. Below are the system, its window plan and the configuration; the
+//! drawing, `ptk_timeline`, is above.
 #![tactic(auto)]
 
 mod lane;

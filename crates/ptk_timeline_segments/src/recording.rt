@@ -5,25 +5,26 @@ ghost use Rattle.ptk_words.specs.declared.TheConstants.{LAST_TICK};
 ghost use Rattle.ptk_system.specs.World.{at_tick};
 ghost use Rattle.ptk_timeline_segments.specs.declared.lane.Lane.{Lane as AnyLane};
 ghost use Rattle.ptk_timeline_segments.specs.Lanes.{IsShown};
-ghost use Rattle.ptk_timeline_segments.specs.Recordings.{AreLanesOf, TellsOf};
+ghost use Rattle.ptk_timeline_segments.specs.Recordings.{AreLanesOf, AreStatusesOf, TellsOf};
 
 use crate::lane::Lane;
 use crate::scale::Scale;
-use ptk_system::System;
+use ptk_system::{PartStatus, System};
 use ptk_words::{PartId, Tick};
 use std::alloc::{AllocError, Global};
 
-/// What each thread of each partition was, over the ticks of a scale.
+/// What each thread of each partition was, over the ticks of a scale, and what each partition is at their end.
 #[derive(Drop)]
 pub struct Recording {
     scale: Scale,
     lanes: Vec<Lane>,
+    statuses: Vec<PartStatus>,
 }
 
 impl Recording {
     /// Runs a system, which stands at no tick after the scale's first, on to the scale's end, and records what it shows
     /// from the scale's first tick on. The run is that of `run_to`. An error where memory ran out: the system has then
-    /// gone on to the first tick.
+    /// gone on to the first tick, or to the end.
     pub fn of_run(
         alloc: Global,
         system: &mut System<'_>,
@@ -33,12 +34,19 @@ impl Recording {
         ensures run { IfOk result (λ _. system.new ≡ at_tick scale.to system.old) }
         ensures scale { IfOk result (λ recording. recording.scale ≡ scale) }
         ensures tells { IfOk result (λ recording. scale.each ≡ 1 → TellsOf system.old recording) }
+        ensures ended { IfOk result (λ recording. AreStatusesOf (at_tick scale.to system.old) recording.statuses.items) }
     {
         system.run_to(Tick::new(scale.from()));
         let lanes = first_lanes(alloc, system, scale)?;
-        let mut recording = Recording { scale, lanes };
+        let mut recording = Recording {
+            scale,
+            lanes,
+            statuses: Vec::new(alloc),
+        };
         recording.run(system);
         system.run_to(Tick::new(scale.to()));
+        let statuses = statuses_of(alloc, system)?;
+        recording.statuses = statuses;
         Ok(recording)
     }
 
@@ -54,6 +62,13 @@ impl Recording {
         ensures { result.now ≡ self.now.lanes.items }
     {
         self.lanes.as_slice()
+    }
+
+    /// What each partition is at the scale's end, in their order.
+    pub fn statuses(&self) -> &[PartStatus]
+        ensures { result.now ≡ self.now.statuses.items }
+    {
+        self.statuses.as_slice()
     }
 
     /// Goes on from change to change, before the scale's end.
@@ -144,4 +159,16 @@ fn first_lanes(alloc: Global, system: &System<'_>, scale: Scale) -> Result<Vec<L
         lanes.push(Lane::new(alloc, scale, system, PartId::new(i as u8), threads)?)?;
     }
     Ok(lanes)
+}
+
+/// What each of a system's partitions is.
+fn statuses_of(alloc: Global, system: &System<'_>) -> Result<Vec<PartStatus>, AllocError>
+    ensures { IfOk result (λ statuses. AreStatusesOf system.now statuses.items) }
+{
+    let mut statuses = Vec::new(alloc);
+    for i in 0..system.parts() {
+        let status = system.status(PartId::new(i as u8));
+        statuses.push(status)?;
+    }
+    Ok(statuses)
 }

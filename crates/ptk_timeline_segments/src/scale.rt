@@ -19,7 +19,7 @@ pub struct Scale {
 impl Scale {
     ghost use Rattle.ptk_timeline_segments.specs.Columns.{start_of};
 
-    /// The ticks from `from` on and before `to`, none where `to` is not after `from`, in at most so many columns, with as
+    /// The ticks from `from` on and before `to`, none where `to` is not after `from`, in at most this many columns, with as
     /// few ticks in each as that allows: one where there are no more ticks than columns.
     pub fn new(from: Tick, to: Tick, most: u32) -> Scale
         requires { to ≤ LAST_TICK }

@@ -1,4 +1,4 @@
-//! The ticks of a column by shades, and what the column tells of them.
+//! The ticks of a column by shades, and what the column shows of them.
 
 ghost use Rattle.std.specs.Prelude.{◌≡◌, ℕ, ◌+◌, ◌<◌, ◌≤◌, slice_index};
 ghost use Rattle.ptk_words.specs.declared.TheConstants.{LAST_TICK};
