@@ -1,0 +1,60 @@
+//! The count of a partition over a system that goes on.
+
+ghost use Rattle.std.specs.Prelude.{◌≡◌, ◌<◌, ◌≤◌, length};
+ghost use Rattle.ptk_words.specs.declared.TheConstants.{LAST_TICK};
+ghost use Rattle.ptk_statistics_figures.specs.Counts.{reached};
+ghost use Rattle.ptk_statistics_figures.specs.declared.counted.TheConstants.{THREADS};
+ghost use Rattle.ptk_statistics.specs.Sums.{AddsUp};
+
+use ptk_statistics_figures::{Counted, Seen};
+use ptk_system::{PartStatus, System};
+use ptk_words::PartId;
+
+/// The count of a partition of a system that has just booted.
+pub(crate) fn first_count(system: &System<'_>, p: PartId) -> Counted
+    requires partition { p < length system.now.config.sections }
+    ensures tick { reached result ≡ 0 }
+    ensures adds { AddsUp system.now p result }
+{
+    Counted::new(system.next(p), is_halted(system.status(p)))
+}
+
+/// Counts the ticks up to the one that the system has reached, and the steps made since.
+pub(crate) fn advance(counted: &mut Counted, system: &System<'_>, p: PartId)
+    requires partition { p < length system.now.config.sections }
+    requires early { system.now.tick ≤ LAST_TICK }
+    requires order { reached counted.old ≤ system.now.tick }
+    requires adds { AddsUp system.now p counted.old }
+    ensures tick { reached counted.new ≡ system.now.tick }
+    ensures adds { AddsUp system.now p counted.new }
+{
+    system.states_are_alone();
+    let config = system.config();
+    let seen = Seen {
+        steps: system.steps(p),
+        lost: system.lost(p),
+        place: last_place(system, p),
+        next: system.next(p),
+        is_halted: is_halted(system.status(p)),
+    };
+    counted.count(config.plan(), p, system.tick().ticks(), &seen);
+}
+
+/// The place among the threads of the one that made the partition's last step, the first before any step.
+fn last_place(system: &System<'_>, p: PartId) -> usize
+    requires { p < length system.now.config.sections }
+    ensures { result < THREADS }
+{
+    match system.last_step(p) {
+        Some(entry) => entry.thread.place(),
+        None => 0,
+    }
+}
+
+/// Whether this is the status of a halted partition.
+fn is_halted(status: PartStatus) -> bool {
+    match status {
+        PartStatus::Idle | PartStatus::Running => false,
+        PartStatus::Exited(_) | PartStatus::Stopped(_, _) | PartStatus::Refused(_) => true,
+    }
+}

@@ -1,0 +1,354 @@
+//! What is seen of a partition's threads and mutexes at its decisions.
+
+ghost use Rattle.std.specs.Prelude.{◌<◌, ◌≤◌, length};
+ghost use Rattle.ptk_words.specs.declared.TheConstants.{LAST_TICK};
+
+use crate::doing::{doing_of, mutex_of};
+use ptk_statistics_figures::{
+    Doing, Moment, MutexStatistics, Pending, THREADS, ThreadStatistics, free_mutexes, free_numbers,
+};
+use ptk_system::{Activity, PartStatus, System};
+use ptk_words::{A0, A7, Call, ECALL, Entry, MutexNo, Owner, PartId, ThreadNo, Tick};
+use std::alloc::{AllocError, Global};
+
+/// How many mutexes a partition has at most.
+const MUTEXES: usize = 64;
+
+/// The register that is the stack pointer (the calling convention's sp).
+const SP: u32 = 2;
+
+/// The figures of a partition's threads and mutexes, by number.
+#[derive(Drop)]
+pub struct Observed {
+    threads: Vec<ThreadStatistics>,
+    mutexes: Vec<MutexStatistics>,
+}
+
+impl Observed {
+    /// The figures before the first tick, with room for this many threads and mutexes. An error where memory ran out. No
+    /// other call takes memory.
+    pub(crate) fn new(
+        alloc: Global,
+        system: &System<'_>,
+        p: PartId,
+        threads: u32,
+        mutexes: u32,
+    ) -> Result<Observed, AllocError>
+        requires { p < length system.now.config.sections }
+    {
+        let mut threads = free_numbers(alloc, (threads as usize).min(THREADS))?;
+        begin(threads.as_mut_slice(), system, p);
+        let mutexes = free_mutexes(alloc, (mutexes as usize).min(MUTEXES))?;
+        Ok(Observed { threads, mutexes })
+    }
+
+    /// The threads, by number from 1.
+    pub fn threads(&self) -> &[ThreadStatistics] {
+        self.threads.as_slice()
+    }
+
+    /// The mutexes, by number from 1.
+    pub fn mutexes(&self) -> &[MutexStatistics] {
+        self.mutexes.as_slice()
+    }
+
+    /// The partition's decision at a moment was made, in a run up to a tick.
+    pub(crate) fn look(&mut self, system: &System<'_>, p: PartId, at: Moment, to: u64)
+        requires partition { p < length system.now.config.sections }
+        requires early { at.tick ≤ LAST_TICK }
+    {
+        let step = step_at(system, p, at.tick);
+        look_at_threads(
+            self.threads.as_mut_slice(),
+            self.mutexes.as_mut_slice(),
+            system,
+            p,
+            &step,
+            at,
+            to,
+        );
+        look_at_owners(self.mutexes.as_mut_slice(), system, p, at);
+    }
+
+    /// The thread of the partition's steps since, which were plain, has this stack pointer.
+    pub(crate) fn look_at_row(&mut self, system: &System<'_>, p: PartId)
+        requires { p < length system.now.config.sections }
+    {
+        if let Some(entry) = system.last_step(p) {
+            let place = entry.thread.place();
+            if place < self.threads.len() {
+                look_at_stack(&mut self.threads[place], system, p, entry.thread);
+            }
+        }
+    }
+
+    /// The run ends at a moment.
+    pub(crate) fn finish(&mut self, at: Moment) {
+        finish_threads(self.threads.as_mut_slice(), self.mutexes.as_mut_slice(), at);
+        for mutex in self.mutexes.iter_mut() {
+            let owner = mutex.owner();
+            mutex.own_by(owner, at);
+        }
+    }
+}
+
+/// What each thread does after a decision, which began this step.
+fn look_at_threads(
+    threads: &mut [ThreadStatistics],
+    mutexes: &mut [MutexStatistics],
+    system: &System<'_>,
+    p: PartId,
+    step: &Option<Entry>,
+    at: Moment,
+    to: u64,
+)
+    requires partition { p < length system.now.config.sections }
+    requires early { at.tick ≤ LAST_TICK }
+{
+    for i in 0..threads.len().min(THREADS) {
+        let t = ThreadNo::new(i as u8 + 1);
+        let activity = system.activity(p, t);
+        match step {
+            Some(entry) if entry.thread.number() == t.number() => {
+                make_step(
+                    &mut threads[i],
+                    mutexes,
+                    system,
+                    p,
+                    entry,
+                    &activity,
+                    at,
+                    to,
+                );
+            }
+            _ => turn(&mut threads[i], mutexes, system, p, t, &activity, at),
+        }
+    }
+}
+
+/// The run ends at a moment.
+fn finish_threads(threads: &mut [ThreadStatistics], mutexes: &mut [MutexStatistics], at: Moment) {
+    for i in 0..threads.len().min(THREADS) {
+        end_wait(&mut threads[i], mutexes, ThreadNo::new(i as u8 + 1), at);
+        threads[i].finish(at);
+    }
+}
+
+/// A thread that made no step with the decision does this from it on.
+fn turn(
+    thread: &mut ThreadStatistics,
+    mutexes: &mut [MutexStatistics],
+    system: &System<'_>,
+    p: PartId,
+    t: ThreadNo,
+    activity: &Activity,
+    at: Moment,
+)
+    requires { p < length system.now.config.sections }
+{
+    let doing = doing_of(activity);
+    if thread.doing() == doing {
+        return;
+    }
+    end_wait(thread, mutexes, t, at);
+    if !doing.is_blocked() {
+        take_reply(thread, system, p, t);
+    }
+    if thread.doing() == Doing::Running && doing == Doing::Ready {
+        thread.preempt();
+    }
+    thread.turn_to(doing, at);
+    thread.wait_for(mutex_of(activity));
+}
+
+/// The thread of the step that the decision began runs for the ticks of the step, and then does this.
+fn make_step(
+    thread: &mut ThreadStatistics,
+    mutexes: &mut [MutexStatistics],
+    system: &System<'_>,
+    p: PartId,
+    entry: &Entry,
+    activity: &Activity,
+    at: Moment,
+    to: u64,
+)
+    requires partition { p < length system.now.config.sections }
+    requires early { at.tick ≤ LAST_TICK }
+{
+    end_wait(thread, mutexes, entry.thread, at);
+    take_late_reply(thread, entry);
+    if thread.doing() != Doing::Running {
+        thread.turn_to(Doing::Running, at);
+    }
+    let call = call_of(system, p, entry);
+    let doing = doing_of(activity);
+    if let Some(number) = call {
+        make_call(thread, system, p, entry, number, doing);
+    }
+    look_at_stack(thread, system, p, entry.thread);
+    if doing == Doing::Running {
+        return;
+    }
+    if doing == Doing::Ready && call != Some(Call::SchedYield.number()) {
+        thread.preempt();
+    }
+    thread.turn_to(doing, at.after(step_ticks(system, p, at.tick, to)));
+    thread.wait_for(mutex_of(activity));
+}
+
+/// The thread's step is a call of this number, and it then does this.
+fn make_call(
+    thread: &mut ThreadStatistics,
+    system: &System<'_>,
+    p: PartId,
+    entry: &Entry,
+    number: u32,
+    doing: Doing,
+)
+    requires { p < length system.now.config.sections }
+{
+    let pc = entry.pc.wrapping_add(4);
+    thread.call(number);
+    if doing.is_blocked() {
+        thread.await_reply(Some(Pending { number, pc }));
+    } else if doing != Doing::Halted && system.pc(p, entry.thread) == Some(pc) && entry.a0 != 0 {
+        thread.refuse(number);
+    }
+}
+
+/// The reply that a woken thread got to the call with which it blocked, if it got one.
+fn take_reply(thread: &mut ThreadStatistics, system: &System<'_>, p: PartId, t: ThreadNo)
+    requires { p < length system.now.config.sections }
+{
+    let Some(pending) = thread.pending() else {
+        return;
+    };
+    thread.await_reply(None);
+    if system.pc(p, t) == Some(pending.pc) && system.register(p, t, A0).unwrap_or(0) != 0 {
+        thread.refuse(pending.number);
+    }
+}
+
+/// The same of a thread that makes a step with the decision that woke it: a wait for a mutex or on a condition variable
+/// ended by its deadline, and each other wait well.
+fn take_late_reply(thread: &mut ThreadStatistics, entry: &Entry) {
+    let Some(pending) = thread.pending() else {
+        return;
+    };
+    thread.await_reply(None);
+    let is_timed_out = matches!(thread.doing(), Doing::Mutex | Doing::Condition);
+    if entry.pc == pending.pc && is_timed_out {
+        thread.refuse(pending.number);
+    }
+}
+
+/// The wait of a thread for a mutex ends, if it waits for one.
+fn end_wait(
+    thread: &mut ThreadStatistics,
+    mutexes: &mut [MutexStatistics],
+    t: ThreadNo,
+    at: Moment,
+) {
+    let since = thread.since_moment();
+    if let Some(m) = thread.mutex() {
+        if m.place() < mutexes.len() {
+            mutexes[m.place()].wait(at.since(since), t, since);
+        }
+    }
+    thread.wait_for(None);
+}
+
+/// A thread has this stack pointer.
+fn look_at_stack(thread: &mut ThreadStatistics, system: &System<'_>, p: PartId, t: ThreadNo)
+    requires { p < length system.now.config.sections }
+{
+    if let Some(pointer) = system.register(p, t, SP) {
+        thread.see_stack(pointer);
+    }
+}
+
+/// Who owns each mutex, from a moment on.
+fn look_at_owners(mutexes: &mut [MutexStatistics], system: &System<'_>, p: PartId, at: Moment)
+    requires { p < length system.now.config.sections }
+{
+    for i in 0..mutexes.len().min(MUTEXES) {
+        let owner = owner_of(system, p, MutexNo::new(i as u8 + 1));
+        if mutexes[i].owner() != owner {
+            mutexes[i].own_by(owner, at);
+        }
+    }
+}
+
+/// What the threads do before the first tick.
+fn begin(threads: &mut [ThreadStatistics], system: &System<'_>, p: PartId)
+    requires { p < length system.now.config.sections }
+{
+    for i in 0..threads.len().min(THREADS) {
+        let activity = system.activity(p, ThreadNo::new(i as u8 + 1));
+        threads[i].begin(doing_of(&activity));
+    }
+}
+
+/// The step that began at the tick, if one did.
+fn step_at(system: &System<'_>, p: PartId, tick: u64) -> Option<Entry>
+    requires { p < length system.now.config.sections }
+{
+    let entry = system.last_step(p)?;
+    if entry.tick.ticks() == tick {
+        Some(entry)
+    } else {
+        None
+    }
+}
+
+/// The number of the call that a step is, None of a step that is no call. A thread that ended with its call made
+/// pthread_exit.
+fn call_of(system: &System<'_>, p: PartId, entry: &Entry) -> Option<u32>
+    requires { p < length system.now.config.sections }
+{
+    if entry.word != ECALL {
+        return None;
+    }
+    match system.register(p, entry.thread, A7) {
+        Some(number) => Some(number),
+        None => Some(Call::PthreadExit.number()),
+    }
+}
+
+/// How many ticks before `to` the partition's step takes that began at the tick: up to its next decision or the end of its
+/// window, and one where it halted with it.
+fn step_ticks(system: &System<'_>, p: PartId, tick: u64, to: u64) -> u64
+    requires partition { p < length system.now.config.sections }
+    requires early { tick ≤ LAST_TICK }
+{
+    let config = system.config();
+    let end = match config.plan().at(Tick::new(tick)) {
+        Some((_, end)) => end.ticks(),
+        None => tick,
+    };
+    let end = match (system.status(p), system.next(p)) {
+        (PartStatus::Idle | PartStatus::Running, Some(next)) => end.min(next.ticks()),
+        (PartStatus::Idle | PartStatus::Running, None) => end,
+        _ => tick.saturating_add(1),
+    };
+    end.min(to).saturating_sub(tick)
+}
+
+/// The thread that owns a mutex, None where no thread does.
+fn owner_of(system: &System<'_>, p: PartId, m: MutexNo) -> Option<ThreadNo>
+    requires { p < length system.now.config.sections }
+{
+    let owner = system.owner(p, m);
+    match &owner {
+        Some(owner) => thread_of(owner),
+        None => None,
+    }
+}
+
+/// The owner, where it is a thread.
+fn thread_of(owner: &Owner) -> Option<ThreadNo> {
+    match owner {
+        Owner::OwnedBy(thread) => Some(*thread),
+        Owner::Free | Owner::Abandoned => None,
+    }
+}

@@ -1,0 +1,144 @@
+//! The figures of a run.
+
+ghost use Rattle.std.specs.Prelude.{◌≡◌, ℕ, ◌<◌, ◌≤◌, IfOk, length, max, slice_index_or};
+ghost use Rattle.ptk_words.specs.declared.TheConstants.{LAST_TICK};
+ghost use Rattle.ptk_system.specs.World.{at_tick};
+ghost use Rattle.ptk_statistics.specs.Parts.{AgreesWith, AreEnded, AreKept, IsBefore};
+
+use crate::part::{PartStatistics, Sight};
+use ptk_system::System;
+use ptk_words::{PartId, Tick};
+use std::alloc::{AllocError, Global};
+
+/// The figures of each partition of a run.
+#[derive(Drop)]
+pub struct Statistics {
+    parts: Vec<PartStatistics>,
+}
+
+impl Statistics {
+    /// Runs a system that has just booted on to a tick, and gathers its figures up to there. The run is that of `run_to`.
+    /// An error where memory ran out: the system is then as it was.
+    pub fn of_run(
+        alloc: Global,
+        system: &mut System<'_>,
+        to: Tick,
+    ) -> Result<Statistics, AllocError>
+        requires begun { system.old.tick ≡ 0 }
+        requires early { to ≤ LAST_TICK }
+        ensures run { IfOk result (λ _. system.new ≡ at_tick to system.old) }
+        ensures agrees { IfOk result (AgreesWith system.new) }
+    {
+        let parts = first_parts(alloc, system)?;
+        let mut statistics = Statistics { parts };
+        statistics.run(system, to);
+        system.run_to(to);
+        statistics.finish(system);
+        Ok(statistics)
+    }
+
+    /// The figures of the partitions, in their order.
+    pub fn parts(&self) -> &[PartStatistics]
+        ensures { result.now ≡ self.now.parts.items }
+    {
+        self.parts.as_slice()
+    }
+
+    /// Goes on from change to change, before a tick.
+    fn run(&mut self, system: &mut System<'_>, to: Tick)
+        requires early { to ≤ LAST_TICK }
+        requires order { system.old.tick ≤ to }
+        requires kept { AreKept system.old self.old.parts.items }
+        ensures run { system.new ≡ at_tick system.new.tick system.old }
+        ensures within { system.new.tick ≤ to }
+        ensures kept { AreKept system.new self.new.parts.items }
+    {
+        system.states_are_alone();
+        let mut tick = system.tick().ticks();
+        while tick < to.ticks() {
+            self.look(system, Sight::Coming, to);
+            system.run_to(Tick::new(tick + 1));
+            self.look(system, Sight::Decided(tick), to);
+            system.plain_to(to);
+            self.look(system, Sight::Computed, to);
+            let next = next_change(system, to);
+            system.run_to(next);
+            tick = system.tick().ticks();
+        }
+    }
+
+    /// Looks at what the system has done, or will do, of each partition.
+    fn look(&mut self, system: &System<'_>, sight: Sight, to: Tick)
+        requires early { system.now.tick ≤ LAST_TICK }
+        requires last { IsBefore sight }
+        requires kept { AreKept system.now self.old.parts.items }
+        ensures { AreKept system.now self.new.parts.items }
+    {
+        look_all(self.parts.as_mut_slice(), system, sight, to);
+    }
+
+    /// The run ends where the system stands.
+    fn finish(&mut self, system: &System<'_>)
+        requires early { system.now.tick ≤ LAST_TICK }
+        requires kept { AreKept system.now self.old.parts.items }
+        ensures { AgreesWith system.now self.new }
+    {
+        system.states_are_alone();
+        finish_all(self.parts.as_mut_slice(), system);
+    }
+}
+
+/// Looks at what the system has done, or will do, of each partition.
+fn look_all(parts: &mut [PartStatistics], system: &System<'_>, sight: Sight, to: Tick)
+    requires early { system.now.tick ≤ LAST_TICK }
+    requires last { IsBefore sight }
+    requires kept { AreKept system.now parts.old }
+    ensures { AreKept system.now parts.new }
+{
+    for i in 0..parts.len().min(system.parts()) {
+        parts[i].look(system, PartId::new(i as u8), sight, to.ticks());
+    }
+}
+
+/// The run ends where the system stands.
+fn finish_all(parts: &mut [PartStatistics], system: &System<'_>)
+    requires early { system.now.tick ≤ LAST_TICK }
+    requires kept { AreKept system.now parts.old }
+    ensures kept { AreKept system.now parts.new }
+    ensures ended { AreEnded system.now (length parts.new) parts.new }
+{
+    for i in 0..parts.len().min(system.parts()) {
+        parts[i].finish(system, PartId::new(i as u8));
+    }
+}
+
+/// The figures of a booted system's partitions before the first tick.
+fn first_parts(alloc: Global, system: &System<'_>) -> Result<Vec<PartStatistics>, AllocError>
+    requires { system.now.tick ≡ 0 }
+    ensures { IfOk result (λ parts. AreKept system.now parts.items) }
+{
+    let mut parts = Vec::new(alloc);
+    for i in 0..system.parts() {
+        let (threads, mutexes) = match system.config().sections().get(i) {
+            Some(section) => (section.limits().threads, section.limits().mutexes),
+            None => (0, 0),
+        };
+        let p = PartId::new(i as u8);
+        parts.push(PartStatistics::new(alloc, system, p, threads, mutexes)?)?;
+    }
+    Ok(parts)
+}
+
+/// The tick up to which no partition changes but for the tick of its next decision, at most `to`.
+fn next_change(system: &System<'_>, to: Tick) -> Tick
+    ensures { result ≤ to }
+{
+    let mut next = to;
+    for i in 0..system.parts() {
+        let until = system.stays_until(PartId::new(i as u8), to);
+        if until.ticks() < next.ticks() {
+            next = until;
+        }
+    }
+    next
+}

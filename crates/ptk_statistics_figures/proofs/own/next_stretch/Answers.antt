@@ -1,0 +1,26 @@
+use Rattle.std.proofs.Common.{◌≡◌, ◌+◌, ◌-◌, ℕ, None, Some, subst, sym, ap, ap₂, ◌∙◌, arith}
+use Rattle.std.specs.Prelude.{min}
+use Rattle.ptk_words_windows.specs.Windows.{own_ticks}
+use Rattle.ptk_statistics_figures.specs.Own.{own_below}
+use Rattle.ptk_statistics_figures.proofs.OwnTicks.{own_beyond, own_never, own_window}
+use Rattle.ptk_statistics_figures.proofs.own.next_stretch.Goals as goal
+
+pub returns-in_default-clause-own : goal.returns-in_default-clause-own
+returns-in_default-clause-own c =
+    own_never c.args.plan.now c.args.p c.args.from c.args.to c.is_plan.ensures (omega (arith, c.requires.order))
+    (subst (λ (n : ℕ). (own_ticks c.args.plan.now c.args.p).next_of n ≡ None) c.new.ensures c.in_default.ensures.turn)
+
+pub returns-then-to-ticks-clause-own : goal.returns-then-to-ticks-clause-own
+returns-then-to-ticks-clause-own c =
+    own_beyond c.args.plan.now c.args.p c.args.from c.in-Some.turn.start c.args.to c.is_plan.ensures (omega (arith, c.requires.order))
+    (subst (λ (n : ℕ). (own_ticks c.args.plan.now c.args.p).next_of n ≡ Some c.in-Some.turn.start) c.new.ensures c.in-Some.ensures.turn.0)
+    (omega (arith, c.if-to-ticks.true, c.ticks.ensures))
+
+pub returns-clause-own : goal.returns-clause-own
+returns-clause-own c =
+    let end : c.min-end.result ≡ min c.in-Some.turn.end c.args.to = c.min-end.ensures ∙ ap (λ (n : ℕ). min n c.args.to) c.ticks-2.ensures in
+    ap (λ (n : ℕ). own_below (own_ticks c.args.plan.now c.args.p) c.args.from + n) (ap₂ (λ (a b : ℕ). a - b) end c.ticks-3.ensures)
+    ∙ (own_window c.args.plan.now c.args.p c.args.from c.in-Some.turn.start c.in-Some.turn.end c.args.to c.is_plan.ensures
+    (subst (λ (n : ℕ). (own_ticks c.args.plan.now c.args.p).next_of n ≡ Some c.in-Some.turn.start) c.new.ensures c.in-Some.ensures.turn.0)
+    c.in-Some.ensures.turn.1 (omega (arith, c.if-to-ticks.false, c.ticks.ensures))
+    ∙ ap (own_below (own_ticks c.args.plan.now c.args.p)) (sym end))

@@ -1,0 +1,54 @@
+//! How many ticks of a partition lie between two ticks.
+
+ghost use Rattle.std.specs.Prelude.{◌≡◌, ◌+◌, ◌<◌, ◌≤◌};
+ghost use Rattle.ptk_words.specs.declared.TheConstants.{LAST_TICK};
+ghost use Rattle.ptk_words_windows.specs.Windows.{own_ticks};
+ghost use Rattle.ptk_statistics_figures.specs.Own.{own_below};
+
+use ptk_window::{Near, WindowPlan};
+use ptk_words::{PartId, Tick};
+
+/// How many ticks from one on and before another lie in the partition's windows. It goes from window to window; `near` is
+/// where the partition was last found among them.
+pub(crate) fn own_between(plan: &WindowPlan, p: PartId, near: &mut Near, from: u64, to: u64) -> u64
+    requires order { from ≤ to }
+    requires time { to ≤ LAST_TICK }
+    ensures { own_below (own_ticks plan.now p) from + result ≡ own_below (own_ticks plan.now p) to }
+{
+    plan.is_plan();
+    let mut own = 0;
+    let mut tick = from;
+    while tick < to {
+        let stretch = next_stretch(plan, p, near, tick, to);
+        own += stretch.own;
+        tick = stretch.end;
+    }
+    own
+}
+
+/// Ticks in a row up to this one, of which this many lie in the partition's windows.
+#[derive(Clone, Copy)]
+struct Stretch {
+    own: u64,
+    end: u64,
+}
+
+/// The ticks from one on up to the end of the partition's next window, at most before another.
+fn next_stretch(plan: &WindowPlan, p: PartId, near: &mut Near, from: u64, to: u64) -> Stretch
+    requires order { from < to }
+    requires time { to ≤ LAST_TICK }
+    ensures on { from < result.end }
+    ensures within { result.end ≤ to }
+    ensures own { own_below (own_ticks plan.now p) from + result.own ≡ own_below (own_ticks plan.now p) result.end }
+{
+    plan.is_plan();
+    let Some(turn) = plan.turn_from(p, Tick::new(from), near) else {
+        return Stretch { own: 0, end: to };
+    };
+    if to <= turn.start.ticks() {
+        return Stretch { own: 0, end: to };
+    }
+    let end = turn.end.ticks().min(to);
+    let own = end - turn.start.ticks();
+    Stretch { own, end }
+}
