@@ -3,7 +3,7 @@ use Rattle.std.proofs.Common.{◌<◌, ◌≤◌, ◌^◌, ℕ, List, Option, So
 use Rattle.clap.specs.Words.{Row, Text}
 use Rattle.ptk_main_line.specs.CommandLine.{Asks}
 use Rattle.ptk_main_line.specs.declared.requests.Request.{Request}
-use Rattle.ptk_main_line.specs.declared.requests.Request.TheVariants.{Run, Trace, Timeline, Asm, Check, Disasm, Impact, Explain}
+use Rattle.ptk_main_line.specs.declared.requests.Request.TheVariants.{Run, Trace, Timeline, Asm, Check, Disasm, Impact, Explain, Stats}
 use Rattle.ptk_main_line.specs.Values.{MayHaveNumber}
 use Rattle.ptk_main.specs.Requests.{AreSteps, IsInRange, IsThread}
 
@@ -30,3 +30,4 @@ asks_in_range words (Check o) h = tt
 asks_in_range words (Disasm o) h = tt
 asks_in_range words (Impact o) h = tt
 asks_in_range words (Explain o) h = h.3.1.0.1.5
+asks_in_range words (Stats o) h = h.3.1.0.1.5

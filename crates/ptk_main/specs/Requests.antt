@@ -5,7 +5,7 @@ use Rattle.ptk_config.specs.Configuration.{Configuration}
 use Rattle.ptk_config.specs.Sections.{with_trace_at}
 use Rattle.ptk_main_line.specs.declared.requests.TraceOptions.{TraceOptions}
 use Rattle.ptk_main_line.specs.declared.requests.Request.{Request}
-use Rattle.ptk_main_line.specs.declared.requests.Request.TheVariants.{Run, Trace, Timeline, Asm, Check, Disasm, Impact, Explain}
+use Rattle.ptk_main_line.specs.declared.requests.Request.TheVariants.{Run, Trace, Timeline, Asm, Check, Disasm, Impact, Explain, Stats}
 
 -- a thread's number, or none (own)
 abbrev pub IsThread : Option ℕ → Type 0
@@ -29,6 +29,7 @@ IsInRange (Check o) = Unit {0}
 IsInRange (Disasm o) = Unit {0}
 IsInRange (Impact o) = Unit {0}
 IsInRange (Explain o) = o.run.ticks ≤ LAST_TICK
+IsInRange (Stats o) = o.run.ticks ≤ LAST_TICK
 
 -- a configuration whose trace of a partition keeps the last k steps, where both are there (own)
 abbrev pub keeping : Option ℕ → Option ℕ → Configuration → Configuration

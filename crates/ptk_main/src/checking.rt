@@ -26,7 +26,7 @@ fn check_text(rt: &HostRuntime, text: &str, options: CheckOptions<'_>) -> u8 {
     }
 }
 
-// What a check answers in lines, on request after what the configuration has with its images.
+// What a check returns in lines, on request after what the configuration has with its images.
 pub(crate) fn check_config<'a>(
     rt: &HostRuntime,
     text: &str,
@@ -40,7 +40,7 @@ pub(crate) fn check_config<'a>(
     check_with(rt.alloc(), config, &files, &mut rt.stdout())
 }
 
-// What a check answers in a JSON object.
+// What a check returns in a JSON object.
 fn check_json<'a>(
     rt: &HostRuntime,
     text: &str,

@@ -8,6 +8,7 @@ mod tests;
 use crate::assembling::asm;
 use crate::checking::check;
 use crate::comparing::impact;
+use crate::counting::stats;
 use crate::disassembling::disasm;
 use crate::running::{run, timeline};
 use crate::standing::explain;
@@ -28,5 +29,6 @@ pub(crate) fn obey(rt: &HostRuntime, request: Request<'_>) -> u8
         Request::Disasm(options) => end(rt, disasm(rt, options)),
         Request::Impact(options) => impact(rt, options),
         Request::Explain(options) => explain(rt, options),
+        Request::Stats(options) => stats(rt, options),
     }
 }

@@ -2,7 +2,7 @@
 
 ghost use Rattle.std.specs.Prelude.{◌≡◌, Ok, IfOk, string_bytes};
 ghost use Rattle.ptk_words.specs.Image.{ImageParts, image_of};
-ghost use Rattle.ptk_asm_model.specs.Source.{source};
+ghost use Rattle.ptk_asm_language.specs.Source.{source};
 
 use crate::reading::{bytes_in, symbols_of, symbols_text_in};
 use ptk_disasm::{DisasmFault, disassemble_with};

@@ -1,19 +1,25 @@
-//! The program `ptk`: it reads the words of its command line, does what they ask for, and ends with the status of the
-//! outcome. Below stand the command line (`ptk_main_line`), the lines of faults (`ptk_main_faults`), the answers to
-//! requests over files already read (`ptk_main_answers`, whose `run_answer`, `trace_answer` and `check_with` promise what
-//! is written and which fault comes, and whose `explain_with` writes what a configuration comes to), the configuration
-//! (`ptk_config`), the assembler (`ptk_asm`), the way back (`ptk_disasm`) and tables of symbols (`ptk_symbols`); nothing stands
-//! above. Proved here is that the numbers of each request are within their ranges, that an outcome has its status, and what
-//! `--last` changes of a configuration. What no contract can say of real files
-//! and streams is tested in `commands/tests.rt`: the status of each request and of words that are refused, the fault behind
-//! a status that several share, and the files that `asm` writes. Which stream a text goes to no test sees; the gate
-//! compares the standard output of the stored run. No clause is costly to prove.
+//! The program `ptk`: it reads its command line and the real files, lends its standard output, and ends with the status
+//! of the outcome.
+//!
+//! - A run, a trace or a picture is asked for at most 2^40 ticks (`obey`, `requires`).
+//! - The status of each outcome (`end`, `tell`).
+//! - The text of a disassembly is a source of the image that the file's bytes are (`text_of`).
+//! - Which files it reads is tested; which stream gets what is neither proved nor tested.
+//!
+//! Below are the command line (`ptk_main_line`), the lines of faults (`ptk_main_faults`), the answers to requests over
+//! files already read (`ptk_main_answers`), the configuration (`ptk_config`), the assembler (`ptk_asm`), the way back
+//! (`ptk_disasm`) and tables of symbols (`ptk_symbols`); nothing is above. Proved is also what `--last` changes of a
+//! configuration. What no contract can say of real files and streams is tested in `commands/tests.rt`: the status of
+//! each request and of words that are refused, the fault behind a status that several share, and the files that `asm`
+//! writes. Which stream a text goes to no test sees; the gate compares the standard output of the stored run. No clause
+//! is costly to prove.
 #![tactic(auto)]
 
 mod assembling;
 mod checking;
 mod commands;
 mod comparing;
+mod counting;
 mod disassembling;
 mod explaining;
 mod progress;

@@ -5,10 +5,10 @@ ghost use Rattle.ptk_words.specs.declared.TheConstants.{LAST_TICK};
 
 use crate::explaining::refused;
 use crate::progress::Progress;
-use crate::reading::{bytes_in, config_of, images_of, text_in};
+use crate::reading::{bytes_in, config_of, images_of, symbols_of, symbols_text_in, text_in};
 use crate::telling::{end, tell};
 use ptk_config::Config;
-use ptk_main_answers::{RunQuestion, run_answer, timeline_answer};
+use ptk_main_answers::{RunQuestion, named_timeline_answer, run_answer, timeline_answer};
 use ptk_main_faults::Fault;
 use ptk_main_line::{RunOptions, TimelineOptions};
 use ptk_words::Tick;
@@ -76,13 +76,41 @@ pub(crate) fn timeline(rt: &HostRuntime, options: TimelineOptions<'_>) -> u8
 fn timeline_config<'a>(
     rt: &HostRuntime,
     config: &'a Config,
-    options: TimelineOptions<'_>,
+    options: TimelineOptions<'a>,
 ) -> Result<(), Fault<'a>>
     requires { options.run.ticks ≤ LAST_TICK }
 {
+    if options.symbols.is_some() {
+        return named_timeline(rt, config, options);
+    }
     let files = images_of(rt, config, options.run.root)?;
     let from = Tick::new(options.from.unwrap_or(0));
     let to = Tick::new(options.run.ticks);
     let out = &mut rt.stdout();
     timeline_answer(rt.alloc(), config, &files, options.format, from, to, out)
+}
+
+// The picture of a run of a configuration with the names of symbols, on standard output.
+fn named_timeline<'a>(
+    rt: &HostRuntime,
+    config: &'a Config,
+    options: TimelineOptions<'a>,
+) -> Result<(), Fault<'a>>
+    requires { options.run.ticks ≤ LAST_TICK }
+{
+    let files = images_of(rt, config, options.run.root)?;
+    let text = symbols_text_in(rt, options.symbols)?;
+    let symbols = symbols_of(rt, options.symbols, text.as_str())?;
+    let from = Tick::new(options.from.unwrap_or(0));
+    let to = Tick::new(options.run.ticks);
+    named_timeline_answer(
+        rt.alloc(),
+        config,
+        &files,
+        &symbols,
+        options.format,
+        from,
+        to,
+        &mut rt.stdout(),
+    )
 }

@@ -19,7 +19,7 @@ pub(crate) fn end(rt: &HostRuntime, outcome: Result<(), Fault<'_>>) -> u8
     }
 }
 
-/// The status of a fault, whose line goes to standard error. Where that can't be written, the status alone tells.
+/// The status of a fault, whose line goes to standard error. Where that can't be written, there is the status alone.
 pub(crate) fn tell(rt: &HostRuntime, fault: &Fault<'_>) -> u8
     ensures { result ≡ status_number (status_of fault.now) }
 {
@@ -30,7 +30,7 @@ pub(crate) fn tell(rt: &HostRuntime, fault: &Fault<'_>) -> u8
 }
 
 /// The status of words that `clap` does not take, with its text. Where the text belongs on standard error and that can't
-/// be written, the status alone tells. A request for help is done, on standard output, where that can be written.
+/// be written, there is the status alone. A request for help is done, on standard output, where that can be written.
 pub(crate) fn usage(rt: &HostRuntime, error: &clap::Error) -> u8 {
     if error.kind() == ErrorKind::OutOfMemory {
         return tell(rt, &Fault::NoMemory);

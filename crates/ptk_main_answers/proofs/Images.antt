@@ -13,7 +13,8 @@ use Rattle.ptk_words_model.specs.Run.{empty_part, fits, main_thread, memory_of, 
 use Rattle.ptk_words_model.specs.ThreadCreation.{with_new_thread}
 use Rattle.ptk_words_model.specs.State.{Part, State}
 use Rattle.ptk_system.specs.Missing.{image_in}
-use Rattle.ptk_system.specs.Told.{activity_of, is_busy, status_in}
+use Rattle.ptk_words_model.specs.Text.{has_runnable}
+use Rattle.ptk_system.specs.Told.{activity_of, status_in}
 use Rattle.ptk_system.specs.World.{World, alone_in, no_section, section_at, state_of, world_at}
 use Rattle.ptk_system.proofs.Keeping.{state_alone}
 use Rattle.ptk_main_answers.specs.Images.{bytes_refusal, first_refused, image_refusal, is_refused, parts_refusal, refusal_in}
@@ -30,7 +31,7 @@ refusal-parts limits (Ok image) input =
     let started : Part = with_new_thread limits 1 (main_thread limits image) (record empty { memory = memory_of limits image }) in
     let refused : Part = record empty { status = Refused Unfit } in
     elim (fits limits image) as (λ b. refusal_in (status_in (if b then started else refused)) ≡ (if b then None else Some Unfit)) [
-      | true ↦ active_is_no_refusal (is_busy started)
+      | true ↦ active_is_no_refusal (has_runnable started)
       | false ↦ refl
     ]
 

@@ -1,6 +1,6 @@
 //! The answers to a trace: its lines as they are, or in words.
 
-ghost use Rattle.std.specs.Prelude.{◌≡◌, ◌≤◌, None, OnOk, IsSome, MatchResult};
+ghost use Rattle.std.specs.Prelude.{◌≡◌, ◌≤◌, None, OnOk, MatchResult};
 ghost use Rattle.std.specs.Io.KnownBytes.{Appends};
 ghost use Rattle.ptk_words.specs.declared.TheConstants.{LAST_TICK};
 ghost use Rattle.ptk_system.specs.World.{world_at};
@@ -53,7 +53,8 @@ pub fn decoded_answer<'a, W: Write>(
     out: &mut W,
 ) -> Result<(), Fault<'a>>
     requires { ticks ≤ LAST_TICK }
-    ensures known { OnOk result (IsSome (part_named config.now name.now)) }
+    ensures refused { let refusal = refused_trace (part_named config.now name.now) config.now files.now name.now in
+        MatchResult result (λ _. refusal ≡ None) (IsFaultOf refusal refusal) }
 {
     match decoded_trace_with(alloc, config, files, ticks, name, symbols, filter, out) {
         Ok(()) => Ok(()),

@@ -4,8 +4,8 @@ ghost use Rattle.std.specs.Prelude.{◌≡◌, ◌≢◌, ◌⊎◌, IfErr, IfOk
 ghost use Rattle.ptk_config_table.specs.Explained.{IsExplained};
 ghost use Rattle.ptk_config_places.specs.Refusals.{refusal_of, text_walk};
 
-use ptk_config_places::{ExplainFault, Refusal};
-use ptk_config_table::explain;
+use ptk_config_places::Refusal;
+use ptk_config_table::{ExplainFault, explain};
 use ptk_main_faults::Fault;
 use ptk_system::Files;
 use std::alloc::Global;

@@ -1,12 +1,23 @@
-//! What the program answers to a request over a configuration and the files already read, on any writer. `run_answer`,
-//! `trace_answer` and `check_with` promise what an `Ok` wrote (a run's report, the trace of the partition named, the line
-//! of a check), and of an error which refusal it is and that the host's failures come only where nothing is refused before
-//! them. `timeline_answer` promises its refusals alone, `decoded_answer` and
-//! `standing_answer` that the partition is there. `difference` promises the first byte at which a report is not the expected one. `explain_with` writes what a configuration's text amounts to, and promises
-//! where it is refused and the bytes written. That such a call succeeds with ample memory is tested, and the bytes of all
-//! of them with it (`ptk_main_answers_tests`). Below stand the command line (`ptk_main_line`), the faults (`ptk_main_faults`), whole
-//! runs (`ptk_main_runs`), the system (`ptk_system`) and the words of a configuration (`ptk_config_table`); above stands
-//! the program, which reads the files and lends its standard output. No clause is dear to prove.
+//! What each request over a configuration writes, on any writer, as lines or JSON, once the files are read.
+//!
+//! - `run_answer` writes the report of the booted configuration after the ticks asked for, where it is asked for in
+//!   lines and to no earlier end (`written`).
+//! - `trace_answer` the named partition's trace, `check_with` `ok` and a newline.
+//! - A fault is the refusal that is due (no partition of the name, the first missing image, for a check the first image
+//!   that is refused, each by name), out of memory only where nothing is lacking, and a failed write only where nothing
+//!   is refused.
+//! - `difference` is the first byte at which a report is not the expected one, with its line and both bytes, and none
+//!   if and only if they are the same.
+//! - `run_watched` ends at the last tick, or on request where every partition has halted, and `first_failure` is the
+//!   first partition of a kind to fail on.
+//! - Of pictures and JSON objects the clauses say only their form (an object is the compact text of its own tokens).
+//! - `explain_with` returns a text's first fault with its place, and writes what `explain` does (`written`).
+//! - `decoded_answer`, `standing_answer`, `timeline_answer` and `named_timeline_answer` promise their refusals alone.
+//!
+//! That such a call succeeds with ample memory is tested, and the bytes of all of them with it
+//! (`ptk_main_answers_tests`). Below are the command line (`ptk_main_line`), the faults (`ptk_main_faults`), whole runs
+//! (`ptk_main_runs`), the system (`ptk_system`) and the words of a configuration (`ptk_config_table`); above is the
+//! program, which reads the files and lends its standard output. No clause is costly to prove.
 #![tactic(auto)]
 
 mod answer;
@@ -14,6 +25,7 @@ mod check;
 mod document;
 mod expectation;
 mod explanation;
+mod figures;
 mod naming;
 mod picture;
 mod run;
@@ -24,7 +36,8 @@ pub use check::check_with;
 pub use document::check_document;
 pub use expectation::difference;
 pub use explanation::explain_with;
-pub use picture::timeline_answer;
+pub use figures::stats_answer;
+pub use picture::{named_timeline_answer, timeline_answer};
 pub use ptk_main_runs::{Files, RunFault, run_with, trace_with};
 pub use run::{RunQuestion, Watch, run_answer};
 pub use standing::standing_answer;

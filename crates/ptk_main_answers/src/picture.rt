@@ -11,8 +11,9 @@ use crate::naming::boot_fault;
 use ptk_config::Config;
 use ptk_main_faults::Fault;
 use ptk_main_line::PictureFormat;
+use ptk_symbols::Symbols;
 use ptk_system::{Files, System};
-use ptk_timeline::{PictureFault, picture_with};
+use ptk_timeline::{Names, PictureFault, Starts, named_picture_with, picture_with};
 use ptk_timeline_formats::{FormatFault, trace_events_with, vcd_with};
 use ptk_words::Tick;
 use std::alloc::Global;
@@ -42,6 +43,32 @@ pub fn timeline_answer<'a, W: Write>(
     }
 }
 
+/// The same picture, in which a thread has the name of the symbol that begins where it starts, if one does: as SVG the last
+/// thread of each number, as trace events each that starts from the tick on; a Value Change Dump has no names. The same faults
+/// come.
+pub fn named_timeline_answer<'a, W: Write>(
+    alloc: Global,
+    config: &'a Config,
+    files: &Files,
+    symbols: &Symbols<'_>,
+    format: PictureFormat,
+    from: Tick,
+    to: Tick,
+    out: &mut W,
+) -> Result<(), Fault<'a>>
+    requires { to ≤ LAST_TICK }
+    ensures refused { let refusal = refused_picture config.now files.now from to in
+        MatchResult result (λ _. refusal ≡ None) (IsFaultOf refusal refusal) }
+{
+    match put_named(alloc, config, files, symbols, format, from, to, out) {
+        Ok(()) => Ok(()),
+        Err(FormatFault::Boot(fault)) => Err(boot_fault(config, fault)),
+        Err(FormatFault::FromPastEnd) => Err(Fault::NothingFrom(from.ticks())),
+        Err(FormatFault::Memory) => Err(Fault::NoMemory),
+        Err(FormatFault::Write) => Err(Fault::WriteFailed),
+    }
+}
+
 /// Writes the picture of a run in a form.
 fn put_picture<W: Write>(
     alloc: Global,
@@ -63,7 +90,90 @@ fn put_picture<W: Write>(
     match format {
         PictureFormat::Svg => put_svg(alloc, config, files, from, to, out),
         PictureFormat::Vcd => vcd_with(alloc, config, files, from, to, out),
-        PictureFormat::Json => trace_events_with(alloc, config, files, &[], from, to, out),
+        PictureFormat::Json => {
+            let nameless = Symbols::new(alloc);
+            trace_events_with(alloc, config, files, &nameless, from, to, out)
+        }
+    }
+}
+
+/// Writes the picture of a run in a form, with the names of threads.
+fn put_named<W: Write>(
+    alloc: Global,
+    config: &Config,
+    files: &Files,
+    symbols: &Symbols<'_>,
+    format: PictureFormat,
+    from: Tick,
+    to: Tick,
+    out: &mut W,
+) -> Result<(), FormatFault>
+    requires { to ≤ LAST_TICK }
+    ensures order { OnOk result (from < to) }
+    ensures past { IfErr result (λ fault. fault ≡ FromPastEnd → to ≤ from) }
+    ensures first { to ≤ from → IfErr result (λ fault. fault ≡ FromPastEnd) }
+    ensures missing { MatchResult result
+        (λ _. first_missing files.now config.now.sections ≡ None)
+        (λ fault. fault ≢ FromPastEnd → first_missing files.now config.now.sections ≡ missing_in_format fault) }
+{
+    match format {
+        PictureFormat::Svg => put_named_svg(alloc, config, files, symbols, from, to, out),
+        PictureFormat::Vcd => vcd_with(alloc, config, files, from, to, out),
+        PictureFormat::Json => trace_events_with(alloc, config, files, symbols, from, to, out),
+    }
+}
+
+/// Writes the picture of a run as SVG, with the names of threads: a run before it shows where these start.
+fn put_named_svg<W: Write>(
+    alloc: Global,
+    config: &Config,
+    files: &Files,
+    symbols: &Symbols<'_>,
+    from: Tick,
+    to: Tick,
+    out: &mut W,
+) -> Result<(), FormatFault>
+    requires { to ≤ LAST_TICK }
+    ensures order { OnOk result (from < to) }
+    ensures past { IfErr result (λ fault. fault ≡ FromPastEnd → to ≤ from) }
+    ensures first { to ≤ from → IfErr result (λ fault. fault ≡ FromPastEnd) }
+    ensures missing { MatchResult result
+        (λ _. first_missing files.now config.now.sections ≡ None)
+        (λ fault. fault ≢ FromPastEnd → first_missing files.now config.now.sections ≡ missing_in_format fault) }
+{
+    if to.ticks() <= from.ticks() {
+        return Err(FormatFault::FromPastEnd);
+    }
+    let starts = starts_of(alloc, config, files, to)?;
+    let mut system = match System::boot(alloc, config, files) {
+        Ok(system) => system,
+        Err(fault) => return Err(FormatFault::Boot(fault)),
+    };
+    let names = Names {
+        starts: &starts,
+        symbols,
+    };
+    match named_picture_with(alloc, config, &mut system, names, from, to, out) {
+        Ok(()) => Ok(()),
+        Err(PictureFault::Memory) => Err(FormatFault::Memory),
+        Err(PictureFault::Write) => Err(FormatFault::Write),
+        Err(PictureFault::NoTicks) => Err(FormatFault::FromPastEnd),
+    }
+}
+
+/// Where the threads of a run to a tick start.
+fn starts_of(alloc: Global, config: &Config, files: &Files, to: Tick) -> Result<Starts, FormatFault>
+    requires { to ≤ LAST_TICK }
+    ensures known { IfErr result (λ fault. fault ≢ FromPastEnd) }
+    ensures missing { IfErr result (λ fault. first_missing files.now config.now.sections ≡ missing_in_format fault) }
+{
+    let mut system = match System::boot(alloc, config, files) {
+        Ok(system) => system,
+        Err(fault) => return Err(FormatFault::Boot(fault)),
+    };
+    match Starts::of_run(alloc, &mut system, to) {
+        Ok(starts) => Ok(starts),
+        Err(_) => Err(FormatFault::Memory),
     }
 }
 

@@ -1,8 +1,9 @@
 //! The answer to the question how a partition stands.
 
-ghost use Rattle.std.specs.Prelude.{◌≤◌, OnOk, IsSome};
+ghost use Rattle.std.specs.Prelude.{◌≡◌, ◌≤◌, None, MatchResult};
 ghost use Rattle.ptk_words.specs.declared.TheConstants.{LAST_TICK};
 ghost use Rattle.ptk_main_runs.specs.Parts.{part_named};
+ghost use Rattle.ptk_main_answers.specs.Refusals.{IsFaultOf, refused_trace};
 
 use crate::naming::run_fault;
 use ptk_config::Config;
@@ -28,7 +29,8 @@ pub fn standing_answer<'a, W: Write>(
     out: &mut W,
 ) -> Result<(), Fault<'a>>
     requires { ticks ≤ LAST_TICK }
-    ensures known { OnOk result (IsSome (part_named config.now name.now)) }
+    ensures refused { let refusal = refused_trace (part_named config.now name.now) config.now files.now name.now in
+        MatchResult result (λ _. refusal ≡ None) (IsFaultOf refusal refusal) }
 {
     let explained = match format {
         Format::Text => explain_partition_with(alloc, config, files, ticks, name, symbols, out),

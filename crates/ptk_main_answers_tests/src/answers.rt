@@ -4,11 +4,12 @@
 
 use ptk_config::{Config, read_config};
 use ptk_main_answers::{
-    Files, RunQuestion, Watch, check_document, check_with, explain_with, run_answer,
-    timeline_answer, trace_answer,
+    Files, RunQuestion, Watch, check_document, check_with, explain_with, named_timeline_answer,
+    run_answer, timeline_answer, trace_answer,
 };
 use ptk_main_faults::{FailureKind, Fault};
 use ptk_main_line::{FailOn, Format, PictureFormat};
+use ptk_symbols::read_symbols;
 use ptk_words::Tick;
 use std::alloc::Global;
 use std::io::Write;
@@ -53,7 +54,7 @@ fn run_to(ticks: u64) -> RunQuestion<'static> {
     }
 }
 
-// What a run answers.
+// What a run returns.
 fn run<'a, W: Write>(
     alloc: Global,
     config: &'a Config,
@@ -80,7 +81,7 @@ fn trace<'a, W: Write>(
     trace_answer(alloc, config, files, Tick::new(20), "p", out)
 }
 
-// What a check answers with a writer of so much room, of at most 3 bytes.
+// What a check returns with a writer of this much room, of at most 3 bytes.
 fn check_into<'a>(
     alloc: Global,
     config: &'a Config,
@@ -109,6 +110,59 @@ fn picture<'a, W: Write>(
 ) -> Result<(), Fault<'a>> {
     let (from, to) = (Tick::new(u64::from(from)), Tick::new(20));
     timeline_answer(alloc, config, files, PictureFormat::Svg, from, to, out)
+}
+
+// What follows the number of a thread that starts at a routine of the name `a<b&c`.
+const NAME: &str =
+    "<svg x=\"4\" y=\"66\" width=\"106\" height=\"14\"><text x=\"0\" y=\"11\">a&lt;b&amp;c<title>thread 1 starts at a&lt;b&amp;c</title></text></svg>\n";
+
+// The same picture from tick 0, with names by these symbols.
+fn named_picture<W: Write>(
+    alloc: Global,
+    config: &Config,
+    files: &Files,
+    symbols: &str,
+    out: &mut W,
+) -> bool {
+    let Ok(symbols) = read_symbols(alloc, symbols) else {
+        return false;
+    };
+    let (from, to) = (Tick::new(0), Tick::new(20));
+    named_timeline_answer(
+        alloc,
+        config,
+        files,
+        &symbols,
+        PictureFormat::Svg,
+        from,
+        to,
+        out,
+    )
+    .is_ok()
+}
+
+// Whether a picture is the plain one with these bytes somewhere in it and no others.
+fn is_with(plain: &[u8], named: &[u8], more: &str) -> bool {
+    match str::from_utf8(named) {
+        Ok(text) => match text.split_once(more) {
+            Some((before, after)) => {
+                plain.strip_prefix(before.as_bytes()) == Some(after.as_bytes())
+            }
+            None => false,
+        },
+        Err(_) => false,
+    }
+}
+
+// Asserts what a picture with names has.
+fn check_names(rt: &impl Abort, alloc: Global, config: &Config, files: &Files) {
+    let (mut plain, mut out) = (Vec::new(alloc), Vec::new(alloc));
+    assert_eq!(rt; picture(alloc, config, files, 0, &mut plain), Ok(()));
+    assert!(rt; named_picture(alloc, config, files, "00000004 t other\n", &mut out));
+    assert!(rt; out.as_slice() == plain.as_slice());
+    let mut out = Vec::new(alloc);
+    assert!(rt; named_picture(alloc, config, files, "00000000 T a<b&c\n", &mut out));
+    assert!(rt; is_with(&plain, &out, NAME));
 }
 
 // Asserts what each request writes.
@@ -200,6 +254,7 @@ fn each_request_has_its_answer(rt: HostRuntime) {
     match (read_config(alloc, HELLO_TEXT).ok(), hello(alloc)) {
         (Some(config), Some(files)) => {
             check_answers(&rt, alloc, &config, &files);
+            check_names(&rt, alloc, &config, &files);
             check_expectations(&rt, alloc, &config, &files);
         }
         _ => assert!(rt; false, "no memory"),

@@ -44,13 +44,15 @@ const DEADLOCK_LINES: &str =
     "partition p at tick 100: idle, no thread is running or ready, steps 23, lost 0
 thread 1: waits for mutex 2, which thread 2 owns, since tick 57
   SCHED_FIFO, priority 16, effective 16, pc 0x00000040 <_start+0x40>, sp 0x00001000, least 0x00001000
+  mutex 2: PTHREAD_MUTEX_NORMAL, PTHREAD_PRIO_NONE
 thread 2: waits for mutex 1, which thread 1 owns, since tick 46
   SCHED_FIFO, priority 16, effective 16, pc 0x00000060 <second+0x1c>, sp 0x00000f00, least 0x00000f00
+  mutex 1: PTHREAD_MUTEX_NORMAL, PTHREAD_PRIO_NONE
 deadlock: thread 1 waits for mutex 2, which thread 2 owns; thread 2 waits for mutex 1, which thread 1 owns
 ";
 
 const DEADLOCK_JSON: &str =
-    "{\"partition\":\"p\",\"tick\":100,\"status\":\"idle\",\"steps\":23,\"lost\":0,\"threads\":[{\"thread\":1,\"activity\":\"mutex\",\"since\":57,\"mutex\":2,\"owner\":2,\"policy\":\"SCHED_FIFO\",\"assigned_priority\":16,\"effective_priority\":16,\"pc\":64,\"symbol\":\"_start\",\"offset\":64,\"stack_pointer\":4096,\"least_stack_pointer\":4096},{\"thread\":2,\"activity\":\"mutex\",\"since\":46,\"mutex\":1,\"owner\":1,\"policy\":\"SCHED_FIFO\",\"assigned_priority\":16,\"effective_priority\":16,\"pc\":96,\"symbol\":\"second\",\"offset\":28,\"stack_pointer\":3840,\"least_stack_pointer\":3840}],\"deadlocks\":[[1,2]]}\n";
+    "{\"partition\":\"p\",\"tick\":100,\"status\":\"idle\",\"steps\":23,\"lost\":0,\"threads\":[{\"thread\":1,\"activity\":\"mutex\",\"since\":57,\"mutex\":2,\"owner\":2,\"mutex_type\":\"PTHREAD_MUTEX_NORMAL\",\"mutex_protocol\":\"PTHREAD_PRIO_NONE\",\"policy\":\"SCHED_FIFO\",\"assigned_priority\":16,\"effective_priority\":16,\"pc\":64,\"symbol\":\"_start\",\"offset\":64,\"stack_pointer\":4096,\"least_stack_pointer\":4096},{\"thread\":2,\"activity\":\"mutex\",\"since\":46,\"mutex\":1,\"owner\":1,\"mutex_type\":\"PTHREAD_MUTEX_NORMAL\",\"mutex_protocol\":\"PTHREAD_PRIO_NONE\",\"policy\":\"SCHED_FIFO\",\"assigned_priority\":16,\"effective_priority\":16,\"pc\":96,\"symbol\":\"second\",\"offset\":28,\"stack_pointer\":3840,\"least_stack_pointer\":3840}],\"deadlocks\":[[1,2]]}\n";
 
 // A load behind the end of memory, at 4088 + 12.
 const LOAD: &str = "
@@ -100,7 +102,63 @@ thread 1: sleeps, until tick 50, since tick 4
 const SLEEP_JSON: &str =
     "{\"partition\":\"p\",\"tick\":20,\"status\":\"idle\",\"steps\":5,\"lost\":0,\"threads\":[{\"thread\":1,\"activity\":\"sleep\",\"since\":4,\"deadline\":50,\"policy\":\"SCHED_FIFO\",\"assigned_priority\":16,\"effective_priority\":16,\"pc\":20,\"stack_pointer\":4096,\"least_stack_pointer\":4096}],\"deadlocks\":[]}\n";
 
-/// A guest, and what is told of it after so many ticks.
+// The second thread waits for a mutex with a ceiling, and is asked to end; the first one, which has the mutex, waits for its
+// end. The text ends at 136.
+const CEILING: &str = "
+    la a1, second       #   0
+    li a0, 0            #   2
+    li a2, 0            #   3
+    li a7, 10           #   4  create
+    ecall               #   5
+    la a0, lock         #  17
+    li a1, 2            #  19
+    li a2, 2            #  20
+    li a3, 20           #  21
+    li a7, 20           #  22  mutex_init: mutex 1, recursive, with a ceiling
+    ecall               #  23
+    la a0, lock         #  29
+    li a7, 22           #  31  mutex_lock
+    ecall               #  32
+    la a1, when         #  40
+    li a0, 0            #  42
+    li a7, 4            #  43  clock_nanosleep
+    ecall               #  44
+    li a0, 2            # 100
+    li a7, 40           # 101  cancel
+    ecall               # 102
+    li a0, 2            # 112
+    li a7, 12           # 113  join
+    ecall               # 114
+    ret
+second:                 #      at 116
+    la a0, lock         #  50
+    li a7, 22           #  52  mutex_lock: thread 1 has it
+    ecall               #  53
+    ret
+.data
+lock:
+    .word 0
+when:
+    .word 0
+    .word 0
+    .word 100000
+";
+
+const CEILING_LINES: &str =
+    "partition p at tick 130: idle, no thread is running or ready, steps 32, lost 0
+thread 1: waits for the end of thread 2, since tick 114
+  SCHED_FIFO, priority 16, effective 20, pc 0x00000070, sp 0x00001000, least 0x00001000
+thread 2: waits for mutex 1, which thread 1 owns, since tick 53
+  SCHED_FIFO, priority 16, effective 16, pc 0x00000084, sp 0x00000f00, least 0x00000f00
+  mutex 1: PTHREAD_MUTEX_RECURSIVE, PTHREAD_PRIO_PROTECT, ceiling 20
+  a cancellation is pending
+deadlock: thread 1 waits for the end of thread 2; thread 2 waits for mutex 1, which thread 1 owns
+";
+
+const CEILING_JSON: &str =
+    "{\"partition\":\"p\",\"tick\":130,\"status\":\"idle\",\"steps\":32,\"lost\":0,\"threads\":[{\"thread\":1,\"activity\":\"join\",\"since\":114,\"joins\":2,\"policy\":\"SCHED_FIFO\",\"assigned_priority\":16,\"effective_priority\":20,\"pc\":112,\"stack_pointer\":4096,\"least_stack_pointer\":4096},{\"thread\":2,\"activity\":\"mutex\",\"since\":53,\"mutex\":1,\"owner\":1,\"mutex_type\":\"PTHREAD_MUTEX_RECURSIVE\",\"mutex_protocol\":\"PTHREAD_PRIO_PROTECT\",\"mutex_ceiling\":20,\"policy\":\"SCHED_FIFO\",\"assigned_priority\":16,\"effective_priority\":16,\"pc\":132,\"stack_pointer\":3840,\"least_stack_pointer\":3840,\"cancel_pending\":true}],\"deadlocks\":[[1,2]]}\n";
+
+/// A guest, and what is shown of it after this many ticks.
 struct Case<'a> {
     source: &'a str,
     symbols: &'a str,
@@ -109,7 +167,7 @@ struct Case<'a> {
     json: &'a str,
 }
 
-const CASES: [Case<'static>; 3] = [
+const CASES: [Case<'static>; 4] = [
     Case {
         source: DEADLOCK,
         symbols: DEADLOCK_SYMBOLS,
@@ -130,6 +188,13 @@ const CASES: [Case<'static>; 3] = [
         ticks: 20,
         lines: SLEEP_LINES,
         json: SLEEP_JSON,
+    },
+    Case {
+        source: CEILING,
+        symbols: "",
+        ticks: 130,
+        lines: CEILING_LINES,
+        json: CEILING_JSON,
     },
 ];
 

@@ -4,8 +4,9 @@
 
 use ptk_config::{Config, read_config};
 use ptk_main_answers::Files;
-use ptk_timeline_formats::{FormatFault, Routine, trace_events_with, vcd_with};
-use ptk_words::{PartId, Tick};
+use ptk_symbols::read_symbols;
+use ptk_timeline_formats::{FormatFault, trace_events_with, vcd_with};
+use ptk_words::Tick;
 use std::alloc::Global;
 use std::process::Abort;
 
@@ -30,7 +31,7 @@ const EVENTS: &str = "{\"displayTimeUnit\":\"ns\",\"traceEvents\":[\n\
     {\"ph\":\"M\",\"pid\":1,\"name\":\"process_name\",\"args\":{\"name\":\"p\"}},\n\
     {\"ph\":\"M\",\"pid\":1,\"tid\":0,\"name\":\"thread_name\",\"args\":{\"name\":\"windows\"}},\n\
     {\"ph\":\"i\",\"pid\":1,\"tid\":0,\"ts\":30,\"s\":\"p\",\"name\":\"input\",\"args\":{\"bytes\":2}},\n\
-    {\"ph\":\"M\",\"pid\":1,\"tid\":1,\"name\":\"thread_name\",\"args\":{\"name\":\"say \\\"hi\\\"\"}},\n\
+    {\"ph\":\"M\",\"pid\":1,\"tid\":1,\"name\":\"thread_name\",\"args\":{\"name\":\"say\\\"hi\\\"\"}},\n\
     {\"ph\":\"i\",\"pid\":1,\"tid\":0,\"ts\":15,\"s\":\"p\",\"name\":\"exit 0\"},\n\
     {\"ph\":\"X\",\"pid\":1,\"tid\":1,\"ts\":0,\"dur\":15,\"name\":\"running\",\"args\":{\"priority\":16}},\n\
     {\"ph\":\"X\",\"pid\":1,\"tid\":0,\"ts\":0,\"dur\":40,\"name\":\"window\"},\n\
@@ -55,16 +56,14 @@ fn events(
     files: &Files,
     out: &mut Vec<u8>,
 ) -> Result<(), FormatFault> {
-    let routines = [Routine {
-        partition: PartId::new(0),
-        address: 0,
-        name: "say \"hi\"",
-    }];
+    let Ok(symbols) = read_symbols(alloc, "00000000 T say\"hi\"\n") else {
+        return Err(FormatFault::Memory);
+    };
     let (from, to) = (Tick::new(0), Tick::new(40));
-    trace_events_with(alloc, config, files, &routines, from, to, out)
+    trace_events_with(alloc, config, files, &symbols, from, to, out)
 }
 
-// What a dump with a writer of 300 bytes answers.
+// What a dump with a writer of 300 bytes returns.
 fn dump_into_little(alloc: Global, config: &Config, files: &Files) -> Result<(), FormatFault> {
     let mut bytes = [0u8; 300];
     let mut room = bytes.as_mut_slice();

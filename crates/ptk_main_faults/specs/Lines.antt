@@ -1,5 +1,5 @@
 -- The lines on standard error, which refusal has which line, and the status of each.
-use Rattle.std.specs.Prelude.{ℕ, List, Option, Some, None, [], ◌∷◌, ◌++◌, ◌==◌, if◌then◌else◌, decimal, codes}
+use Rattle.std.specs.Prelude.{ℕ, List, Option, Some, None, ◌++◌, ◌==◌, if◌then◌else◌, decimal, codes}
 use Rattle.std.specs.Borrow.{Bor}
 use Rattle.ptk_words.specs.Faults.{image_fault_number}
 use Rattle.ptk_words.specs.declared.faults.ImageFault.{ImageFault}
@@ -10,18 +10,14 @@ use Rattle.ptk_words_windows.specs.declared.fault.WindowFault.TheVariants as win
 use Rattle.ptk_config.specs.FaultNumbers.{config_fault_number}
 use Rattle.ptk_config.specs.declared.fault.ConfigFault.{ConfigFault}
 use Rattle.ptk_config.specs.declared.fault.ConfigFault.TheVariants as config
-use Rattle.ptk_asm_model.specs.declared.statement.Section.{Section}
-use Rattle.ptk_asm_model.specs.declared.statement.Section.TheVariants as section
+use Rattle.ptk_asm_language.specs.declared.statement.Section.{Section}
+use Rattle.ptk_asm_language.specs.declared.statement.Section.TheVariants as section
 use Rattle.ptk_main_faults.specs.declared.fault.Fault.{Fault}
 use Rattle.ptk_main_faults.specs.declared.fault.Fault.TheVariants.{Config, ConfigWindow, Asm, Image, TooLong, MissingFile, NotText, NoPartition, Symbols, NothingFrom, Differs, FailedOn, ReadFailed, WriteFailed, NoMemory}
 use Rattle.ptk_main_faults.specs.declared.status.ExitStatus.{ExitStatus}
 use Rattle.ptk_main_faults.specs.declared.status.ExitStatus.TheVariants.{Refused, HostFailure, Unexpected}
 use Rattle.ptk_main_faults.specs.declared.fault.FailureKind.{FailureKind}
 use Rattle.ptk_main_faults.specs.declared.fault.FailureKind.TheVariants as kind
-
--- the byte that ends a line (own)
-abbrev pub newline : List ℕ
-newline = 10 ∷ []
 
 -- the name of a section (own)
 abbrev pub name_of : Section → List ℕ
@@ -81,22 +77,22 @@ status_of (ReadFailed name) = HostFailure
 status_of WriteFailed = HostFailure
 status_of NoMemory = HostFailure
 
--- of the windows' fault; refused memory is want of memory (own)
+-- of the windows' fault; refused memory is `NoMemory` (own)
 abbrev pub window_table_fault : WindowFault → Fault
 window_table_fault window.Memory = NoMemory
 window_table_fault fault = ConfigWindow (window_fault_number fault)
 
--- of a configuration's fault; refused memory is want of memory (own)
+-- of a configuration's fault; refused memory is `NoMemory` (own)
 abbrev pub config_fault : ConfigFault → Fault
 config_fault config.Memory = NoMemory
 config_fault (config.Window fault) = window_table_fault fault
 config_fault fault = Config (config_fault_number fault)
 
--- of the fault of an image of this name; refused memory is want of memory (own)
+-- of the fault of an image of this name; refused memory is `NoMemory` (own)
 abbrev pub image_fault : Bor (List ℕ) → ImageFault → Fault
 image_fault name image.Memory = NoMemory
 image_fault name fault = Image name (image_fault_number fault)
 
--- of a source, refused at this line; fault 7 is want of memory (own)
+-- of a source, refused at this line; fault 7 is `NoMemory` (own)
 abbrev pub asm_fault : ℕ → ℕ → Fault
 asm_fault line kind = if kind == 7 then NoMemory else Asm line kind

@@ -1,13 +1,13 @@
 //! The faults of the program and their lines.
 
-ghost use Rattle.std.specs.Prelude.{◌≡◌, ◌++◌, Some, IfOk};
+ghost use Rattle.std.specs.Prelude.{◌≡◌, ◌++◌, Some, IfOk, codes};
 ghost use Rattle.std.specs.Io.KnownBytes.{Appends};
 ghost use Rattle.ptk_main_faults.specs.declared.fault.Fault.TheVariants.{NoMemory};
-ghost use Rattle.ptk_main_faults.specs.Lines.{asm_fault, byte_text, config_fault, image_fault, kind_word, line_of, name_of, newline, status_of, unlike_text};
+ghost use Rattle.ptk_main_faults.specs.Lines.{asm_fault, byte_text, config_fault, image_fault, kind_word, line_of, name_of, status_of, unlike_text};
 ghost use Rattle.ptk_main_faults.specs.Statuses.{status_number};
 
 use crate::status::ExitStatus;
-use ptk_asm_model::Section;
+use ptk_asm_language::Section;
 use ptk_config::ConfigFault;
 use ptk_words::ImageFault;
 use ptk_words_windows::WindowFault;
@@ -151,7 +151,7 @@ impl fmt::Display for Fault<'_> {
 }
 
 impl<'a> Fault<'a> {
-    /// The fault of a refused configuration: its number, for the windows with the window fault's, and want of memory
+    /// The fault of a refused configuration: its number, for the windows with the window fault's, and out of memory
     /// for refused memory.
     pub fn of_config(fault: ConfigFault) -> Fault<'a>
         ensures { result ≡ config_fault fault }
@@ -163,7 +163,7 @@ impl<'a> Fault<'a> {
         }
     }
 
-    /// The fault of a refused image of this name: its number, and want of memory for refused memory.
+    /// The fault of a refused image of this name: its number, and out of memory for refused memory.
     pub fn of_image(name: &'a str, fault: ImageFault) -> Fault<'a>
         ensures { result ≡ image_fault name.entry fault }
     {
@@ -173,7 +173,7 @@ impl<'a> Fault<'a> {
         }
     }
 
-    /// The fault of a source that is refused at this line for a fault of this kind, of which 7 is want of memory.
+    /// The fault of a source that is refused at this line for a fault of this kind, of which 7 is out of memory.
     pub fn of_asm(line: u64, kind: u8) -> Fault<'a>
         ensures { result ≡ asm_fault line kind }
     {
@@ -213,7 +213,7 @@ impl From<AllocError> for Fault<'_> {
 /// where the writer fails; how much of the line went out then is not told.
 pub fn fault_line<W: Write>(fault: &Fault<'_>, out: &mut W) -> io::Result<u8>
     ensures { IfOk result (λ status. (status ≡ status_number (status_of fault.now))
-        × Appends (W.contents out.old) (W.contents out.new) (line_of fault.now ++ newline)) }
+        × Appends (W.contents out.old) (W.contents out.new) (line_of fault.now ++ codes "\n")) }
 {
     writeln!(out, "{fault}")?;
     Ok(fault.status().number())

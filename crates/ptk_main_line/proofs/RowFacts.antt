@@ -13,7 +13,7 @@ use Rattle.clap.specs.Matches.{ReadsOne, matched_of}
 use Rattle.clap.specs.declared.parser.matches.Found.{Found}
 use Rattle.clap.proofs.WalkLemmas.{find_row, first_value-rows}
 use Rattle.ptk_main_line.specs.declared.requests.Request.{Request}
-use Rattle.ptk_main_line.specs.declared.requests.Request.TheVariants.{Run, Trace, Timeline, Asm, Check, Disasm, Impact, Explain}
+use Rattle.ptk_main_line.specs.declared.requests.Request.TheVariants.{Run, Trace, Timeline, Asm, Check, Disasm, Impact, Explain, Stats}
 use Rattle.ptk_main_line.specs.declared.requests.RunOptions.{RunOptions}
 use Rattle.ptk_main_line.specs.declared.requests.TraceOptions.{TraceOptions}
 use Rattle.ptk_main_line.specs.declared.requests.TimelineOptions.{TimelineOptions}
@@ -22,7 +22,8 @@ use Rattle.ptk_main_line.specs.declared.requests.DisasmOptions.{DisasmOptions}
 use Rattle.ptk_main_line.specs.declared.requests.CheckOptions.{CheckOptions}
 use Rattle.ptk_main_line.specs.declared.requests.ImpactOptions.{ImpactOptions}
 use Rattle.ptk_main_line.specs.declared.requests.ExplainOptions.{ExplainOptions}
-use Rattle.ptk_main_line.specs.Requests.{Gives, IsRun, IsTrace, IsTimeline, IsAsm, IsCheck, IsDisasm, IsImpact, IsExplain}
+use Rattle.ptk_main_line.specs.declared.requests.StatsOptions.{StatsOptions}
+use Rattle.ptk_main_line.specs.Requests.{Gives, IsRun, IsTrace, IsTimeline, IsAsm, IsCheck, IsDisasm, IsImpact, IsExplain, IsStats}
 use Rattle.ptk_main_line.specs.Values.{FindsText, HasNumber, HasText, MayHaveNumber, source_of}
 
 pub some_is : {X : Type 0} (x y : X) → Some x ≡ Some y → x ≡ y
@@ -121,6 +122,7 @@ no_run rows h (Check o) g = let bad : true ≡ false = ap (λ (t : Text). slice_
 no_run rows h (Disasm o) g = let bad : true ≡ false = ap (λ (t : Text). slice_index t 0 == 114) g.0 in cc
 no_run rows h (Impact o) g = let bad : true ≡ false = ap (λ (t : Text). slice_index t 0 == 114) g.0 in cc
 no_run rows h (Explain o) g = let bad : true ≡ false = ap (λ (t : Text). slice_index t 0 == 114) g.0 in cc
+no_run rows h (Stats o) g = let bad : true ≡ false = ap (λ (t : Text). slice_index t 0 == 114) g.0 in cc
 
 pub no_trace : (rows : List Row) → ((o : TraceOptions) → ¬ IsTrace rows o) → (request : Request) → ¬ Gives (codes "trace") rows request
 no_trace rows h (Run o) g = let bad : true ≡ false = ap (λ (t : Text). slice_index t 0 == 116) g.0 in cc
@@ -131,6 +133,7 @@ no_trace rows h (Check o) g = let bad : true ≡ false = ap (λ (t : Text). slic
 no_trace rows h (Disasm o) g = let bad : true ≡ false = ap (λ (t : Text). slice_index t 0 == 116) g.0 in cc
 no_trace rows h (Impact o) g = let bad : true ≡ false = ap (λ (t : Text). slice_index t 0 == 116) g.0 in cc
 no_trace rows h (Explain o) g = let bad : true ≡ false = ap (λ (t : Text). slice_index t 0 == 116) g.0 in cc
+no_trace rows h (Stats o) g = let bad : true ≡ false = ap (λ (t : Text). slice_index t 0 == 116) g.0 in cc
 
 pub no_timeline : (rows : List Row) → ((o : TimelineOptions) → ¬ IsTimeline rows o) → (request : Request) → ¬ Gives (codes "timeline") rows request
 no_timeline rows h (Run o) g = let bad : true ≡ false = ap (λ (t : Text). slice_index t 0 == 116) g.0 in cc
@@ -141,6 +144,7 @@ no_timeline rows h (Check o) g = let bad : true ≡ false = ap (λ (t : Text). s
 no_timeline rows h (Disasm o) g = let bad : true ≡ false = ap (λ (t : Text). slice_index t 0 == 116) g.0 in cc
 no_timeline rows h (Impact o) g = let bad : true ≡ false = ap (λ (t : Text). slice_index t 0 == 116) g.0 in cc
 no_timeline rows h (Explain o) g = let bad : true ≡ false = ap (λ (t : Text). slice_index t 0 == 116) g.0 in cc
+no_timeline rows h (Stats o) g = let bad : true ≡ false = ap (λ (t : Text). slice_index t 0 == 116) g.0 in cc
 
 pub no_asm : (rows : List Row) → ((o : AsmOptions) → ¬ IsAsm rows o) → (request : Request) → ¬ Gives (codes "asm") rows request
 no_asm rows h (Run o) g = let bad : true ≡ false = ap (λ (t : Text). slice_index t 0 == 97) g.0 in cc
@@ -151,6 +155,7 @@ no_asm rows h (Check o) g = let bad : true ≡ false = ap (λ (t : Text). slice_
 no_asm rows h (Disasm o) g = let bad : true ≡ false = ap (λ (t : Text). slice_index t 0 == 97) g.0 in cc
 no_asm rows h (Impact o) g = let bad : true ≡ false = ap (λ (t : Text). slice_index t 0 == 97) g.0 in cc
 no_asm rows h (Explain o) g = let bad : true ≡ false = ap (λ (t : Text). slice_index t 0 == 97) g.0 in cc
+no_asm rows h (Stats o) g = let bad : true ≡ false = ap (λ (t : Text). slice_index t 0 == 97) g.0 in cc
 
 pub no_check : (rows : List Row) → ((o : CheckOptions) → ¬ IsCheck rows o) → (request : Request) → ¬ Gives (codes "check") rows request
 no_check rows h (Run o) g = let bad : true ≡ false = ap (λ (t : Text). slice_index t 0 == 99) g.0 in cc
@@ -161,6 +166,7 @@ no_check rows h (Check o) g = h o g.1
 no_check rows h (Disasm o) g = let bad : true ≡ false = ap (λ (t : Text). slice_index t 0 == 99) g.0 in cc
 no_check rows h (Impact o) g = let bad : true ≡ false = ap (λ (t : Text). slice_index t 0 == 99) g.0 in cc
 no_check rows h (Explain o) g = let bad : true ≡ false = ap (λ (t : Text). slice_index t 0 == 99) g.0 in cc
+no_check rows h (Stats o) g = let bad : true ≡ false = ap (λ (t : Text). slice_index t 0 == 99) g.0 in cc
 
 pub no_disasm : (rows : List Row) → ((o : DisasmOptions) → ¬ IsDisasm rows o) → (request : Request) → ¬ Gives (codes "disasm") rows request
 no_disasm rows h (Run o) g = let bad : true ≡ false = ap (λ (t : Text). slice_index t 0 == 100) g.0 in cc
@@ -171,6 +177,7 @@ no_disasm rows h (Check o) g = let bad : true ≡ false = ap (λ (t : Text). sli
 no_disasm rows h (Disasm o) g = h o g.1
 no_disasm rows h (Impact o) g = let bad : true ≡ false = ap (λ (t : Text). slice_index t 0 == 100) g.0 in cc
 no_disasm rows h (Explain o) g = let bad : true ≡ false = ap (λ (t : Text). slice_index t 0 == 100) g.0 in cc
+no_disasm rows h (Stats o) g = let bad : true ≡ false = ap (λ (t : Text). slice_index t 0 == 100) g.0 in cc
 
 pub no_impact : (rows : List Row) → ((o : ImpactOptions) → ¬ IsImpact rows o) → (request : Request) → ¬ Gives (codes "impact") rows request
 no_impact rows h (Run o) g = let bad : true ≡ false = ap (λ (t : Text). slice_index t 0 == 105) g.0 in cc
@@ -181,6 +188,7 @@ no_impact rows h (Check o) g = let bad : true ≡ false = ap (λ (t : Text). sli
 no_impact rows h (Disasm o) g = let bad : true ≡ false = ap (λ (t : Text). slice_index t 0 == 105) g.0 in cc
 no_impact rows h (Impact o) g = h o g.1
 no_impact rows h (Explain o) g = let bad : true ≡ false = ap (λ (t : Text). slice_index t 0 == 105) g.0 in cc
+no_impact rows h (Stats o) g = let bad : true ≡ false = ap (λ (t : Text). slice_index t 0 == 105) g.0 in cc
 
 pub no_explain : (rows : List Row) → ((o : ExplainOptions) → ¬ IsExplain rows o) → (request : Request) → ¬ Gives (codes "explain") rows request
 no_explain rows h (Run o) g = let bad : true ≡ false = ap (λ (t : Text). slice_index t 0 == 101) g.0 in cc
@@ -191,6 +199,18 @@ no_explain rows h (Check o) g = let bad : true ≡ false = ap (λ (t : Text). sl
 no_explain rows h (Disasm o) g = let bad : true ≡ false = ap (λ (t : Text). slice_index t 0 == 101) g.0 in cc
 no_explain rows h (Impact o) g = let bad : true ≡ false = ap (λ (t : Text). slice_index t 0 == 101) g.0 in cc
 no_explain rows h (Explain o) g = h o g.1
+no_explain rows h (Stats o) g = let bad : true ≡ false = ap (λ (t : Text). slice_index t 0 == 101) g.0 in cc
+
+pub no_stats : (rows : List Row) → ((o : StatsOptions) → ¬ IsStats rows o) → (request : Request) → ¬ Gives (codes "stats") rows request
+no_stats rows h (Run o) g = let bad : true ≡ false = ap (λ (t : Text). slice_index t 0 == 115) g.0 in cc
+no_stats rows h (Trace o) g = let bad : true ≡ false = ap (λ (t : Text). slice_index t 0 == 115) g.0 in cc
+no_stats rows h (Timeline o) g = let bad : true ≡ false = ap (λ (t : Text). slice_index t 0 == 115) g.0 in cc
+no_stats rows h (Asm o) g = let bad : true ≡ false = ap (λ (t : Text). slice_index t 0 == 115) g.0 in cc
+no_stats rows h (Check o) g = let bad : true ≡ false = ap (λ (t : Text). slice_index t 0 == 115) g.0 in cc
+no_stats rows h (Disasm o) g = let bad : true ≡ false = ap (λ (t : Text). slice_index t 0 == 115) g.0 in cc
+no_stats rows h (Impact o) g = let bad : true ≡ false = ap (λ (t : Text). slice_index t 0 == 115) g.0 in cc
+no_stats rows h (Explain o) g = let bad : true ≡ false = ap (λ (t : Text). slice_index t 0 == 115) g.0 in cc
+no_stats rows h (Stats o) g = h o g.1
 
 -- what holds of the error that a result is one with
 pub err_is : {T E : Type 0} (r : Result T E) (P : E → Type 0) (e : E) → IsErrAnd r (λ f. f ≡ e) → P e → IfErr r P

@@ -68,9 +68,10 @@ trace = with_rules (run_rules (new_app (codes "trace"))) (required_option (codes
     ∷ text_option (codes "symbols") ∷ number_option (codes "thread") 1 32 ∷ flag (codes "calls") ∷ ticks_option (codes "from")
     ∷ ticks_option (codes "to") ∷ number_option (codes "last") 1 1048576 ∷ flag (codes "explain") ∷ [])
 
--- timeline FILE --ticks N [--from M] [--format FORMAT] [--root DIR] (own)
+-- timeline FILE --ticks N [--from M] [--format FORMAT] [--symbols FILE] [--root DIR] (own)
 abbrev pub timeline : App
-timeline = with_rules (run_rules (new_app (codes "timeline"))) (ticks_option (codes "from") ∷ text_option (codes "format") ∷ [])
+timeline = with_rules (run_rules (new_app (codes "timeline"))) (ticks_option (codes "from") ∷ text_option (codes "format")
+    ∷ text_option (codes "symbols") ∷ [])
 
 -- asm IN OUT [--symbols FILE] [--explain] (own)
 abbrev pub asm : App
@@ -97,15 +98,19 @@ abbrev pub explain : App
 explain = with_rules (run_rules (new_app (codes "explain"))) (required_option (codes "partition") ∷ text_option (codes "symbols")
     ∷ text_option (codes "format") ∷ [])
 
+-- stats FILE --ticks N [--partition NAME] [--format FORMAT] [--root DIR] (own)
+abbrev pub stats : App
+stats = with_rules (run_rules (new_app (codes "stats"))) (text_option (codes "partition") ∷ text_option (codes "format") ∷ [])
+
 -- subcommands behind those of a command
 abbrev pub with_subcommands : App → List Shape → App
 with_subcommands a [] = a
 with_subcommands a (s ∷ rest) = with_subcommands (with_subcommand a s) rest
 
--- the command, of whose eight subcommands one has to be there (own)
+-- the command, of whose nine subcommands one has to be there (own)
 abbrev pub ptk : App
 ptk = with_subcommands (on_top (λ s. record s { subcommand_required = true }) (new_app (codes "ptk")))
-    (run.top ∷ trace.top ∷ timeline.top ∷ asm.top ∷ check.top ∷ disasm.top ∷ impact.top ∷ explain.top ∷ [])
+    (run.top ∷ trace.top ∷ timeline.top ∷ asm.top ∷ check.top ∷ disasm.top ∷ impact.top ∷ explain.top ∷ stats.top ∷ [])
 
 -- ---- what the words ask for
 

@@ -13,8 +13,9 @@ use Rattle.ptk_main_line.specs.declared.requests.DisasmOptions.{DisasmOptions}
 use Rattle.ptk_main_line.specs.declared.requests.CheckOptions.{CheckOptions}
 use Rattle.ptk_main_line.specs.declared.requests.ImpactOptions.{ImpactOptions}
 use Rattle.ptk_main_line.specs.declared.requests.ExplainOptions.{ExplainOptions}
+use Rattle.ptk_main_line.specs.declared.requests.StatsOptions.{StatsOptions}
 use Rattle.ptk_main_line.specs.declared.requests.Request.{Request}
-use Rattle.ptk_main_line.specs.declared.requests.Request.TheVariants.{Run, Trace, Timeline, Asm, Check, Disasm, Impact, Explain}
+use Rattle.ptk_main_line.specs.declared.requests.Request.TheVariants.{Run, Trace, Timeline, Asm, Check, Disasm, Impact, Explain, Stats}
 
 -- ---- the options of each command
 
@@ -54,6 +55,7 @@ abbrev pub IsTimeline : List Row → TimelineOptions → Type 0
 IsTimeline rows o = IsRunTo rows o.run
     × MayHaveNumber (codes "from") 0 (2 ^ 40) o.from rows
     × (picture_of (first_of (codes "format") rows) ≡ Some o.format)
+    × MayHaveText (codes "symbols") o.symbols rows
 
 -- asm (own)
 abbrev pub IsAsm : List Row → AsmOptions → Type 0
@@ -91,6 +93,12 @@ IsExplain rows o = IsRunTo rows o.run
     × (format_of (first_of (codes "format") rows) ≡ Some o.format)
     × MayHaveText (codes "symbols") o.symbols rows
 
+-- stats (own)
+abbrev pub IsStats : List Row → StatsOptions → Type 0
+IsStats rows o = IsRunTo rows o.run
+    × (format_of (first_of (codes "format") rows) ≡ Some o.format)
+    × MayHaveText (codes "partition") o.partition rows
+
 -- ---- requests
 
 -- the request is that of the subcommand of this name and has its values (own)
@@ -103,6 +111,7 @@ Gives name rows (Check o) = (name ≡ codes "check") × IsCheck rows o
 Gives name rows (Disasm o) = (name ≡ codes "disasm") × IsDisasm rows o
 Gives name rows (Impact o) = (name ≡ codes "impact") × IsImpact rows o
 Gives name rows (Explain o) = (name ≡ codes "explain") × IsExplain rows o
+Gives name rows (Stats o) = (name ≡ codes "stats") × IsStats rows o
 
 -- ---- answers, where there may be none
 

@@ -2,14 +2,14 @@
 ghost use Rattle.std.specs.Prelude.{◌≡◌, [], ◌∷◌, codes, false, IfOk};
 ghost use Rattle.clap.specs.Words.{app_of, new_app, new_rule, rule_of, with_rule, with_subcommand};
 ghost use Rattle.clap.specs.declared.builder.command.Command.TheViews.{out-Command};
-ghost use Rattle.ptk_main_line.specs.CommandLine.{asm, check, disasm, explain, impact, ptk, run, timeline, trace};
+ghost use Rattle.ptk_main_line.specs.CommandLine.{asm, check, disasm, explain, impact, ptk, run, stats, timeline, trace};
 ghost use Rattle.ptk_main_line.specs.CommandLine.{flag, number_option, required_option, required_word, run_rules, text_option, ticks, ticks_option, with_subcommands};
 
 use crate::help;
 use clap::{Arg, ArgAction, Command, value_parser};
 use std::alloc::{AllocError, Global};
 
-/// The command with its eight subcommands, of which one has to be there.
+/// The command with its nine subcommands, of which one has to be there.
 pub(crate) fn ptk_command<'a>(alloc: Global) -> Result<Command<'a>, AllocError>
     ensures { IfOk result (λ c. app_of c ≡ ptk) }
 {
@@ -19,7 +19,16 @@ pub(crate) fn ptk_command<'a>(alloc: Global) -> Result<Command<'a>, AllocError>
         .subcommand_required(true);
     let command = with_runs(alloc, command)?;
     let command = with_files(alloc, command)?;
-    command.subcommand(explain_command(alloc)?)
+    with_figures(alloc, command)
+}
+
+/// The command with the two subcommands that say how a run went behind those that it has.
+fn with_figures<'a>(alloc: Global, command: Command<'a>) -> Result<Command<'a>, AllocError>
+    ensures { IfOk result (λ c. app_of c ≡ with_subcommands (app_of command.entry) (explain.top ∷ stats.top ∷ [])) }
+{
+    command
+        .subcommand(explain_command(alloc)?)?
+        .subcommand(stats_command(alloc)?)
 }
 
 /// The command with the three subcommands that show a run behind those that it has.
@@ -107,6 +116,8 @@ fn timeline_command<'a>(alloc: Global) -> Result<Command<'a>, AllocError>
     let command = with_argument(command, from)?;
     let format = text_argument(alloc, "format", help::PICTURE_FORMAT);
     let command = with_argument(command, format)?;
+    let symbols = text_argument(alloc, "symbols", help::START_SYMBOLS);
+    let command = with_argument(command, symbols)?;
     Ok(command)
 }
 
@@ -196,6 +207,21 @@ fn explain_command<'a>(alloc: Global) -> Result<Command<'a>, AllocError>
     let command = with_argument(command, partition)?;
     let symbols = text_argument(alloc, "symbols", help::SYMBOLS);
     let command = with_argument(command, symbols)?;
+    let format = text_argument(alloc, "format", help::FORMAT);
+    let command = with_argument(command, format)?;
+    Ok(command)
+}
+
+/// `stats`, with its arguments.
+fn stats_command<'a>(alloc: Global) -> Result<Command<'a>, AllocError>
+    ensures { IfOk result (λ c. (app_of c ≡ stats) × ((out-Command c).has_globals ≡ false)) }
+{
+    let command = Command::new(alloc, "stats")
+        .about(help::STATS)
+        .after_help(help::STATS_AFTER);
+    let command = with_run(alloc, command)?;
+    let partition = text_argument(alloc, "partition", help::ONE_PARTITION);
+    let command = with_argument(command, partition)?;
     let format = text_argument(alloc, "format", help::FORMAT);
     let command = with_argument(command, format)?;
     Ok(command)

@@ -71,18 +71,20 @@ pub(crate) const TIMELINE_AFTER: &str =
     "A lane for each partition, its windows shaded, in it a row for each thread: running, ready, \
     blocked on what, ended. Up to
 1000 ticks a column is a tick; of more, what held longest in the column, with a mark where there was something else. With
---format vcd a Value Change Dump, for GTKWave; with --format json trace events, for Perfetto.
+--format vcd a Value Change Dump, for GTKWave; with --format json trace events, for Perfetto. With --symbols a
+thread has the name of the symbol at which it starts, but in a Value Change Dump.
 
 Exit status:
   0  the picture is printed
   1  ptk: config fault N (see 'ptk check --help'), ptk: missing file NAME, ptk: not text NAME,
-     ptk: nothing to show from tick M: M is at the run's end or behind it
+     ptk: nothing to show from tick M: M is at the run's end or behind it, ptk: symbols NAME line L
   2  usage
   3  ptk: read failed NAME, ptk: write failed, ptk: no memory
 
 Example:
   ptk timeline hello.toml --ticks 20 > hello.svg
-  ptk timeline hello.toml --ticks 20 --format vcd > hello.vcd";
+  ptk timeline hello.toml --ticks 20 --format vcd > hello.vcd
+  ptk timeline hello.toml --ticks 20 --symbols hello.sym > hello.svg";
 
 /// What `asm` does.
 pub(crate) const ASM: &str = "Makes an image of a source in assembly";
@@ -260,6 +262,11 @@ pub(crate) const DECODE: &str =
 /// The file of an image's symbols.
 pub(crate) const SYMBOLS: &str = "The image's symbols, a line for each: ADDRESS LETTER NAME";
 
+/// The file of the symbols by which threads are named.
+pub(crate) const START_SYMBOLS: &str =
+    "The symbols of the images, a line for each: ADDRESS LETTER NAME; each is looked up \
+    for every partition";
+
 /// The file that an image's symbols are written to.
 pub(crate) const LABELS: &str =
     "Write the labels to this file, as --symbols of the other commands reads them";
@@ -304,3 +311,26 @@ pub(crate) const EXPLAIN_RUN_AFTER: &str = "Exit status:
 
 Example:
   ptk explain hello.toml --ticks 20 --partition p";
+
+/// What `stats` does.
+pub(crate) const STATS: &str =
+    "Runs a system and prints its figures: ticks and steps, what each thread did and called, mutexes";
+
+/// What the figures are, the refusals of `stats`, and an example.
+pub(crate) const STATS_AFTER: &str =
+    "Of each partition the ticks in its windows: used by steps, idle, lost at ends of windows, after its halt. Of each
+thread its ticks by what it did, steps, preemptions, activations (from a wake to the next block), the
+longest way from ready to running, the least stack pointer, and its calls with how many were refused. Of
+each mutex the longest that it was held and waited for. 'own' counts ticks in the partition's windows
+alone, 'all' every tick. With --format json one JSON object.
+
+Exit status:
+  0  they are printed
+  1  ptk: config fault N (see 'ptk check --help'), ptk: no partition NAME, ptk: missing file NAME,
+     ptk: not text NAME
+  2  usage
+  3  ptk: read failed NAME, ptk: write failed, ptk: no memory
+
+Example:
+  ptk stats hello.toml --ticks 20
+  ptk stats hello.toml --ticks 20 --partition p --format json";

@@ -1,11 +1,14 @@
-//! The command line of the program: what its words ask for. `read_line` answers a request exactly as `clap`'s meaning of
-//! the command `ptk` of `specs/` gives the words a subcommand and its values, and an error only where that meaning
-//! refuses the words, and then of the kind that it gives, where memory runs out, or where it takes the words and they ask
-//! for nothing; `not_text` is the error of words that are no text, `one_file` that of `asm` where
-//! two of its files are one, `undecoded` that of a trace that is chosen from without words. Each
-//! command's options are a struct, pinned by a definition of `specs/Requests`. Below stands the crate `clap`, above stands the
-//! program, which prints an error by `Error::print`, chooses the status by `Error::use_stderr` and tells that memory ran out by
-//! `Error::kind`.
+//! The command line of the program: what its words ask for.
+//!
+//! - `read_line` returns a request only where clap's meaning of the command gives the words that subcommand and the
+//!   values of each of its options (`IsRun` to `IsExplain`), at most 2^40 ticks.
+//! - An error is of the kind with which clap refuses the words, or memory ran out, or clap takes the words and they ask
+//!   for nothing.
+//! - `not_text` and `one_file` are usage errors.
+//!
+//! `undecoded` is the error of a trace that is chosen from without words. Each command's options are a struct, pinned
+//! by a definition of `specs/Requests`. Below is the crate `clap`; above is the program, which prints an error by
+//! `Error::print`, chooses the status by `Error::use_stderr`, and finds by `Error::kind` that memory ran out.
 #![tactic(auto)]
 
 mod commands;
@@ -17,5 +20,5 @@ mod values;
 pub use line::{MOST_STEPS, MOST_THREADS, MOST_TICKS, not_text, one_file, read_line, undecoded};
 pub use requests::{
     AsmOptions, CheckOptions, DisasmOptions, ExplainOptions, FailOn, Format, ImpactOptions,
-    PictureFormat, Request, RunOptions, RunTo, TimelineOptions, TraceOptions,
+    PictureFormat, Request, RunOptions, RunTo, StatsOptions, TimelineOptions, TraceOptions,
 };

@@ -9,7 +9,7 @@ ghost use Rattle.ptk_main_line.specs.Requests.{FindsRequest, FindsRunTo};
 use crate::commands::ptk_command;
 use crate::requests::{
     AsmOptions, CheckOptions, DisasmOptions, ExplainOptions, ImpactOptions, Request, RunOptions,
-    RunTo, TimelineOptions, TraceOptions,
+    RunTo, StatsOptions, TimelineOptions, TraceOptions,
 };
 use crate::values::{
     format_in, has_flag, kinds_in, number_in, option_in, optional_number_in, picture_format_in,
@@ -106,6 +106,7 @@ fn request_in<'a>(matches: &ArgMatches<'a>) -> Option<Request<'a>>
         "disasm" => disasm_in(found),
         "impact" => impact_in(found),
         "explain" => explain_in(found),
+        "stats" => stats_in(found),
         _other => None,
     }
 }
@@ -169,7 +170,12 @@ fn timeline_in<'a>(found: &ArgMatches<'a>) -> Option<Request<'a>>
     let run = run_to_in(found)?;
     let from = optional_number_in(found, "from", 0, MOST_TICKS)?;
     let format = picture_format_in(found)?;
-    Some(Request::Timeline(TimelineOptions { run, from, format }))
+    Some(Request::Timeline(TimelineOptions {
+        run,
+        from,
+        format,
+        symbols: option_in(found, "symbols"),
+    }))
 }
 
 /// The request in the matches of `asm`.
@@ -240,6 +246,19 @@ fn explain_in<'a>(found: &ArgMatches<'a>) -> Option<Request<'a>>
         run,
         partition,
         symbols: option_in(found, "symbols"),
+        format,
+    }))
+}
+
+/// The request in the matches of `stats`.
+fn stats_in<'a>(found: &ArgMatches<'a>) -> Option<Request<'a>>
+    ensures { FindsRequest result (codes "stats") (rows_of (found_of found.now)) }
+{
+    let run = run_to_in(found)?;
+    let format = format_in(found)?;
+    Some(Request::Stats(StatsOptions {
+        run,
+        partition: option_in(found, "partition"),
         format,
     }))
 }

@@ -23,6 +23,8 @@ pub enum Request<'a> {
     Impact(ImpactOptions<'a>),
     /// `explain`: how one partition stands after a run, in words.
     Explain(ExplainOptions<'a>),
+    /// `stats`: the figures of a run.
+    Stats(StatsOptions<'a>),
 }
 
 /// The run that a command looks at: `FILE --ticks N [--root DIR]`.
@@ -102,6 +104,8 @@ pub struct TimelineOptions<'a> {
     pub from: Option<u64>,
     /// The form of the picture.
     pub format: PictureFormat,
+    /// The file of the symbols.
+    pub symbols: Option<&'a str>,
 }
 
 /// The options of `asm`.
@@ -167,6 +171,17 @@ pub struct ExplainOptions<'a> {
     pub partition: &'a str,
     /// The file of the symbols.
     pub symbols: Option<&'a str>,
+    /// The form of the answer.
+    pub format: Format,
+}
+
+/// The options of `stats`.
+#[derive(Clone, Copy)]
+pub struct StatsOptions<'a> {
+    /// The run.
+    pub run: RunTo<'a>,
+    /// The name of the one partition that is asked for.
+    pub partition: Option<&'a str>,
     /// The form of the answer.
     pub format: Format,
 }

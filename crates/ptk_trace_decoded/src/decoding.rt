@@ -1,16 +1,19 @@
 //! The trace of a partition in words.
 
-ghost use Rattle.std.specs.Prelude.{◌≡◌, ◌≢◌, ◌<◌, ◌≤◌, ◌++◌, None, IfErr, IfSome, OnOk, IsSome, codes, length, position};
+ghost use Rattle.std.specs.Prelude.{◌≡◌, ◌≢◌, ◌<◌, ◌≤◌, ◌++◌, None, IfErr, IfSome, MatchResult, OnOk, IsSome, codes, length, position};
 ghost use Rattle.std.specs.Io.KnownBytes.{Appends};
 ghost use Rattle.std.specs.Str.{bytes_eq};
 ghost use Rattle.ptk_words.specs.declared.TheConstants.{LAST_TICK};
+ghost use Rattle.ptk_system.specs.Missing.{first_missing};
 ghost use Rattle.ptk_main_runs.specs.declared.runs.RunFault.TheVariants.{NoPartition};
 ghost use Rattle.ptk_main_runs.specs.Parts.{part_named};
+ghost use Rattle.ptk_main_runs.specs.RunFaults.{missing_in_run};
+ghost use Rattle.ptk_trace_decoded.specs.HostFaults.{IsOfHost};
 
 use crate::entries::entry_in;
 use crate::filter::Filter;
 use crate::steps::push_step;
-use ptk_asm_text::{split_line, without_ending};
+use ptk_asm_language::{split_line, without_ending};
 use ptk_config::{Config, Section};
 use ptk_main_runs::{RunFault, trace_with};
 use ptk_symbols::Symbols;
@@ -23,12 +26,13 @@ use std::io::Write;
 /// A fault for memory that was refused.
 const NO_MEMORY: RunFault = RunFault::Boot(BootFault::Memory);
 
-/// Writes the trace of the partition of this name after so many ticks, at most 2^40, in words: each line that the filter
+/// Writes the trace of the partition of this name after this many ticks, at most 2^40, in words: each line that the filter
 /// shows as `trace_with` writes it, and behind it two blanks, `#`, the symbol that is nearest to its pc, and its instruction
 /// as the disassembler spells it; at an ECALL also the name of the call, and behind `->` that of its reply, or `blocked`
 /// where its caller waits. A longer trace than the section keeps is that of a configuration with a longer one: it is the
 /// same run (`deeper_trace_is_same_run` of `ptk_impact`).
-/// The errors are those of `trace_with`, and `Boot(Memory)` also where memory for the lines is refused.
+/// The errors are those of `trace_with`, and `Boot(Memory)` also where memory for the lines is refused; the writer may then
+/// have a part of them, as where it fails.
 pub fn decoded_trace_with<W: Write>(
     alloc: Global,
     config: &Config,
@@ -42,6 +46,11 @@ pub fn decoded_trace_with<W: Write>(
     requires { ticks ≤ LAST_TICK }
     ensures known { OnOk result (IsSome (part_named config.now name.now)) }
     ensures unknown { IfErr result (λ fault. fault ≡ NoPartition → part_named config.now name.now ≡ None) }
+    ensures first { IfErr result (λ fault. part_named config.now name.now ≡ None → fault ≡ NoPartition) }
+    ensures missing { MatchResult result
+        (λ _. first_missing files.now config.now.sections ≡ None)
+        (λ fault. fault ≢ NoPartition → first_missing files.now config.now.sections ≡ missing_in_run fault) }
+    ensures silent { IfErr result (λ fault. ¬ IsOfHost fault → out.new ≡ out.old) }
 {
     let lines = lines_of(alloc, config, files, ticks, name)?;
     let Some(p) = partition_of(config, name) else {
@@ -73,6 +82,10 @@ fn lines_of(
     requires { ticks ≤ LAST_TICK }
     ensures known { OnOk result (IsSome (part_named config.now name.now)) }
     ensures unknown { IfErr result (λ fault. fault ≡ NoPartition → part_named config.now name.now ≡ None) }
+    ensures first { IfErr result (λ fault. part_named config.now name.now ≡ None → fault ≡ NoPartition) }
+    ensures missing { MatchResult result
+        (λ _. first_missing files.now config.now.sections ≡ None)
+        (λ fault. fault ≢ NoPartition → first_missing files.now config.now.sections ≡ missing_in_run fault) }
 {
     let mut lines = Vec::new(alloc);
     match trace_with(alloc, config, files, ticks, name, &mut lines) {
@@ -112,7 +125,7 @@ fn put_lines<W: Write>(
     out: &mut W,
 ) -> Result<(), RunFault>
     requires { p < length system.old.config.sections }
-    ensures { IfErr result (λ fault. fault ≢ NoPartition) }
+    ensures { IfErr result IsOfHost }
 {
     let mut rest = lines;
     while !rest.is_empty() {
@@ -135,7 +148,7 @@ fn put_line<W: Write>(
 ) -> Result<(), RunFault>
     requires { p < length system.old.config.sections }
     ensures same { system.new.config ≡ system.old.config }
-    ensures known { IfErr result (λ fault. fault ≢ NoPartition) }
+    ensures known { IfErr result IsOfHost }
 {
     let Some(entry) = entry_in(line) else {
         return Ok(());

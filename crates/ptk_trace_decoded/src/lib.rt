@@ -1,10 +1,15 @@
-//! A partition's trace in words: `decoded_trace_with` writes each line of the trace as it is and, behind two blanks and
-//! `#`, the symbol that is nearest to the step's pc and its instruction as the disassembler spells it (`decoded_text`,
-//! exact by contract); behind an ECALL the call's POSIX name and the name of its reply, or `blocked`. Which lines are
-//! shown is exact by contract too (`is_shown`), for the steps that it reads from the lines. That it reads them as they
-//! were written, what stands behind an ECALL, and the order of the pieces are only tested. The number of a call stands
-//! in a7, which a trace does not keep: a second system of the same boot goes on to each ECALL that is shown. Below
-//! stand whole runs (`ptk_main_runs`), symbols and the disassembler; the answers to requests stand above.
+//! A partition's trace with each step in words, its symbol, and the names of calls and replies (`decoded_trace_with`).
+//!
+//! - `shows` is the definition's choice of steps (`is_shown`), and `push_decoded` appends the definition's words of a
+//!   pc and a word (`decoded_text`).
+//! - `decoded_trace_with` refuses an unknown name as `trace_with` does.
+//! - The rest of a line is tested.
+//!
+//! Each line of the trace is as it is; behind two blanks and `#` are the symbol that is nearest to the step's pc and
+//! its instruction as the disassembler spells it; behind an ECALL the call's POSIX name and the name of its reply, or
+//! `blocked`. The number of a call is in a7, which a trace does not keep: a second system of the same boot goes on to
+//! each ECALL that is shown. Below are whole runs (`ptk_main_runs`), symbols and the disassembler; above are the
+//! answers to requests.
 #![tactic(auto)]
 
 mod calls;

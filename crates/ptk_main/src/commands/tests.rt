@@ -13,7 +13,7 @@ use crate::reading::{bytes_in, config_in, text_in};
 use crate::telling::usage;
 use crate::{answer_words, unread};
 use ptk_asm::assemble;
-use ptk_asm_model::Section;
+use ptk_asm_language::Section;
 use ptk_main_faults::Fault;
 use ptk_main_line::{
     AsmOptions, CheckOptions, DisasmOptions, ExplainOptions, FailOn, Format, ImpactOptions,
@@ -193,6 +193,18 @@ fn timeline_status(rt: &HostRuntime, file: &str, from: u64, format: PictureForma
     let options = TimelineOptions {
         run: run_of(file),
         from: Some(from),
+        symbols: None,
+        format,
+    };
+    obey(rt, Request::Timeline(options))
+}
+
+// The status of `timeline` with the symbols in a file.
+fn named_timeline_status(rt: &HostRuntime, symbols: &str, format: PictureFormat) -> u8 {
+    let options = TimelineOptions {
+        run: run_of("hello.toml"),
+        from: None,
+        symbols: Some(symbols),
         format,
     };
     obey(rt, Request::Timeline(options))
@@ -534,6 +546,11 @@ fn labels_go_to_and_from_a_file(rt: HostRuntime) {
     assert_eq!(rt; explanation_status(&rt, "p", "p.sym", Format::Json), 0);
     assert_eq!(rt; explanation_status(&rt, "p", "bad.sym", Format::Text), 1);
     assert_eq!(rt; explanation_status(&rt, "q", "p.sym", Format::Text), 1);
+    for format in [PictureFormat::Svg, PictureFormat::Vcd, PictureFormat::Json] {
+        assert_eq!(rt; named_timeline_status(&rt, "p.sym", format), 0);
+        assert_eq!(rt; named_timeline_status(&rt, "bad.sym", format), 1);
+        assert_eq!(rt; named_timeline_status(&rt, "none.sym", format), 1);
+    }
     assert_eq!(rt;
         disasm(&rt, disasm_into("p.img", "p.s", Some("bad.sym"))),
         Err(Fault::Symbols("bad.sym", 2))

@@ -36,3 +36,6 @@ returns-in-Some-clause-asked c =
     let met : subcommand_rows_of c.in_ok-matches.matches ≡ subcommand_of ptk words =
     (c.in_ok-matches.ensures.matches (ap is_simple c.in_ok-command.ensures)).1 ∙ ap (λ a. subcommand_of a words) c.in_ok-command.ensures in
     subst (λ (m : Option (Text × List Row)). Means m c.in-Some.request) met c.in-Some.ensures
+
+pub returns-in-Some-clause-refused : goal.returns-in-Some-clause-refused
+returns-in-Some-clause-refused c = tt
