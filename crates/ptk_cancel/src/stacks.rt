@@ -7,7 +7,7 @@ use crate::stack::Stack;
 use ptk_words::{CLEANUP_LIMIT, Cleanup, ThreadNo};
 use std::alloc::{AllocError, Global};
 
-/// An empty stack for each of so many threads. An error where memory ran out.
+/// An empty stack for each of this many threads. An error where memory ran out.
 pub(crate) fn empty_stacks(alloc: Global, threads: u32) -> Result<Vec<Stack>, AllocError>
     ensures { IfOk result (λ stacks. stacks.items ≡ replicate threads []) }
 {

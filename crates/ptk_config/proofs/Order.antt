@@ -1,5 +1,6 @@
 -- A document's stages are in order, so no fault of theirs is one of their numbers.
 use Rattle.std.proofs.Common.{◌≡◌, ◌≢◌, ◌<◌, ◌≤◌, ℕ, ◌+◌, suc, Bool, true, false, ◌&&◌, cond, not, leb, codes, List, [], ◌∷◌, ◌++◌, Option, Some, None, Ok, Err, ℤ, pos, negsuc, All, AllPairs, get_or, refl, subst, arith}
+use Rattle.std.specs.Option.{option_or}
 use Rattle.std.specs.List.{list_any}
 use Rattle.std.proofs.lemmas.Bool.{or_from, and_from, and_parts, leb-true, not_from_false, lt-leb}
 use Rattle.std.proofs.lemmas.List.Folds.{list_any_none}
@@ -9,7 +10,7 @@ use Rattle.ptk_words_windows.specs.declared.fault.WindowFault.{WindowFault}
 use Rattle.ptk_words_windows.specs.declared.fault.WindowFault.TheVariants.{Empty, Short, Overlap, PastFrame, UnknownPartition, Memory, OutOfOrder}
 use Rattle.ptk_words_windows.specs.declared.window.Window.{Window}
 use Rattle.ptk_words_windows.specs.Windows.{Stage}
-use Rattle.ptk_words_windows.specs.WindowFaults.{some_pair, earlier, first_fault, fault_of, are_overlapping, window_fault, begins_with_zero, is_not_later, is_ordered, plan_fault}
+use Rattle.ptk_words_windows.specs.WindowFaults.{some_pair, first_fault, fault_of, are_overlapping, window_fault, begins_with_zero, is_not_later, is_ordered, plan_fault}
 use Rattle.toml.specs.Data.{Data, Items, no_items, item, Members, as_integer}
 use Rattle.ptk_config.specs.declared.fault.ConfigFault.{ConfigFault}
 use Rattle.ptk_config.specs.declared.fault.ConfigFault.TheVariants.{WrongType, OutOfRange, UnknownKey}
@@ -32,7 +33,7 @@ is_of_windows (Some OutOfOrder) = ⊥
 pub record IsOfWindows (o : Option WindowFault) : Type 0 where
   pub is : is_of_windows o
 
-of_earlier : (a b : Option WindowFault) → IsOfWindows a → IsOfWindows b → IsOfWindows (earlier a b)
+of_earlier : (a b : Option WindowFault) → IsOfWindows a → IsOfWindows b → IsOfWindows (option_or a b)
 of_earlier None b here later = later
 of_earlier (Some e) b here later = here
 

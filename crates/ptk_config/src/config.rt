@@ -84,7 +84,7 @@ impl Config {
         &self.plan
     }
 
-    /// Makes the trace of a partition keep its last so many entries, at most 1048576; the key `trace` of a document is 0 to
+    /// Makes the trace of a partition keep this many of its last entries, at most 1048576; the key `trace` of a document is 0 to
     /// 1024. All else stays: it is the same run, and its trace has the last entries of that run (`deeper_trace_is_same_run`
     /// of `ptk_impact`).
     pub fn keep_trace(&mut self, p: PartId, entries: u32)

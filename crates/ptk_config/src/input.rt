@@ -44,7 +44,7 @@ fn read_bytes(alloc: Global, values: &[Value]) -> Result<Vec<u8>, ConfigFault>
     Ok(bytes)
 }
 
-/// An input at this tick or later, of at most so many bytes.
+/// An input at this tick or later, of at most this many bytes.
 fn read_input(alloc: Global, value: &Value, low: u64, room: usize) -> Result<Input, ConfigFault>
     ensures value { MemoryAside (λ i. i) result (input low room (view value.now)) }
     ensures from { IfOk result (λ i. low ≤ i.tick) }

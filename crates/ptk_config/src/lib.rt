@@ -1,8 +1,14 @@
-//! The configuration reader: from a TOML text the sections and the plan of windows that it states, or the first fault in
-//! the order of the checks. `read_config` promises exactly what `configuration_in` of `specs/` states of the text, want of
-//! memory aside, and `Config` that its sections and its plan lie in their ranges. Below stand `ptk_words`,
-//! `ptk_words_windows`, `ptk_window` and the crate `toml`, above stands the system. Dear to prove is `read_config`,
-//! over the whole text; its clause `text` rests on which faults a document can have (`proofs/Faults`).
+//! The configuration reader: from a TOML text the sections and the plan of windows that it states, or the first fault
+//! in the order of the checks.
+//!
+//! - `read_config` returns the configuration that the text states (`configuration_in`), or the first fault in the order
+//!   of checks, unless memory runs out. That fault is never that the numbers of plans do not rise (window fault 7).
+//! - Fault 1 only for text that the crate `toml` refuses, integers beyond 64 bits too.
+//! - The sections and the plan of a `Config` are within their ranges (its invariant).
+//!
+//! Costly to prove is `read_config`, over the whole text; its clause `text` uses which faults a document can have
+//! (`proofs/Faults`). Below are `ptk_words`, `ptk_words_windows`, `ptk_window` and the crate `toml`; above is the
+//! system.
 #![tactic(auto)]
 
 mod config;
@@ -15,7 +21,7 @@ mod window;
 
 pub use config::{Config, read_config};
 
-/// The reading of a document part by part, for the crate that tells the place of a fault.
+/// The reading of a document part by part, for the crate that finds the place of a fault.
 pub mod parts {
     pub use crate::config::{any_doubled, read_sections, shares_name, stages_given};
     pub use crate::reading::{

@@ -82,7 +82,7 @@ pub fn number(table: &Table, key: &str, low: u64, high: u64) -> Result<u64, Conf
     integer(value, low, high)
 }
 
-/// The values, if there are so many.
+/// The values, if there are this many.
 #[tactic(auto, using(crate::proofs::Walks::counts))]
 pub fn counted(values: &Array, low: usize, high: usize) -> Result<&Array, ConfigFault>
     ensures value { seen (λ v. array_view v.now) result ≡ counted low high (array_view values.now) }
@@ -96,7 +96,7 @@ pub fn counted(values: &Array, low: usize, high: usize) -> Result<&Array, Config
     }
 }
 
-/// The array at a key, of so many items.
+/// The array at a key, of this many items.
 pub fn array<'a>(
     table: &'a Table,
     key: &str,

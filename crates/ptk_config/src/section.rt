@@ -89,7 +89,7 @@ impl Section {
         &self.input
     }
 
-    /// Makes its trace keep the last so many entries, at most 1048576; all else stays.
+    /// Makes its trace keep this many of the last entries, at most 1048576; all else stays.
     pub(crate) fn keep_trace(&mut self, entries: u32)
         requires { entries ≤ 1048576 }
         ensures { self.new ≡ with_trace entries self.old }
@@ -170,7 +170,7 @@ pub fn sixteens(table: &Table, key: &str, low: u64, high: u64) -> Result<u64, Co
     }
 }
 
-/// The stack of each of so many threads, which all lie in the memory.
+/// The stack of each of this many threads, which all lie in the memory.
 pub fn stack(table: &Table, memory: u64, threads: u64) -> Result<u64, ConfigFault>
     requires { threads ≤ 32 }
     ensures value { result ≡ stack memory threads (table_view table.now) }

@@ -1,7 +1,11 @@
-//! Images of guests. `read_image` answers the image that bytes spell, or the first check that they fail;
-//! `write_image` writes the one spelling of an image. Each is the other's inverse: `reads_back` and `writes_back`.
-//! Below stands `ptk_words`, whose definitions say which bytes spell an image; the assembler and the system stand
-//! above. Dear to prove is `writes_back`, that no other bytes spell an image (`proofs/Spelling`).
+//! Images of guests, read from bytes and written as bytes.
+//!
+//! - `read_image` returns the image that the bytes spell, or the first failed check.
+//! - `write_image` writes the one spelling.
+//! - `reads_back` and `writes_back`.
+//!
+//! Below is `ptk_words`, whose definitions say which bytes spell an image; above are the assembler and the system.
+//! Costly to prove is `writes_back`, that no other bytes spell an image (`proofs/Spelling`).
 #![tactic(auto)]
 
 mod image;

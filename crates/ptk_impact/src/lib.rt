@@ -1,10 +1,14 @@
-//! What a new configuration can change for a partition: nothing where its view is the same in both, whatever the other
-//! partitions do; the entries that its trace keeps where its trace has another length; else what differs, one by one.
+//! What a new configuration can change for a partition: `Impact::between` compares what boot sees of it in two systems,
+//! and promises the same run where that is the same.
 //!
-//! `Impact::between` answers one partition of one system against one of another, and promises that it calls the partition
-//! unchanged if and only if the views are the same (`SameView` of `ptk_system`), and that it is then in the same state after
-//! every number of ticks. The weight lies below: in the windows' first difference (`ptk_impact_windows`), in the run of a
-//! partition with another trace (`ptk_impact_limits`) and in the system's headline. The program stands above.
+//! - `Impact::between` returns unchanged, unchanged but for the trace kept or changed if and only if what boot sees of
+//!   two partitions is the same, the same but for the trace's length, or neither, and of a changed one exactly what
+//!   differs (`views`).
+//! - After every number of ticks up to 2^40 the states are then the same, or the same but for the kept entries, and so
+//!   are the parts of the report (`runs`).
+//!
+//! The weight is below: in the windows' first difference (`ptk_impact_windows`), in the run of a partition with another
+//! trace (`ptk_impact_limits`) and in the system's headline. The program is above.
 #![tactic(auto)]
 
 mod changes;

@@ -1,9 +1,17 @@
-//! What the program answers to the question for the impact of a new configuration, over two configurations and their files
-//! already read, on any writer. `impact_with` writes a line for each partition of the new one, by name, with what differs
-//! beneath, then one for each that is gone, and a last line that counts; `impact_json_with` writes the same as JSON. What
-//! stands between two partitions is `Impact::between` of `ptk_impact`, whose contract says when one is unchanged. Below stand
-//! `ptk_impact`, the configuration (`ptk_config`), images (`ptk_image`) and the faults (`ptk_main_faults`); above stands the
-//! program, which reads the files and lends its standard output. The bytes are tested (`ptk_main_answers_tests`).
+//! What the program writes for `impact` over two configurations and their files already read, as lines or as JSON, on
+//! any writer.
+//!
+//! - Where the counts of `impact_with` or `impact_json_with` have no changed, new or gone partition, each partition
+//!   that is asked for, of either configuration, was and is there by its name and the renames, and boot sees the same
+//!   of both but for the trace's length.
+//! - Without the option there are no renames.
+//! - `refusal_of` returns why an image is refused.
+//! - What is written is tested.
+//!
+//! There is a line for each partition of the new configuration, by name, with what differs beneath, then one for each
+//! that is gone, and a last line that counts. Below are `ptk_impact`, the configuration (`ptk_config`), images
+//! (`ptk_image`) and the faults (`ptk_main_faults`); above is the program, which reads the files and lends its standard
+//! output. The bytes are tested (`ptk_main_answers_tests`).
 #![tactic(auto)]
 
 mod answer;

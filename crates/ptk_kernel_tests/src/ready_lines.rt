@@ -52,7 +52,7 @@ fn set_all<L: Line>(line: &mut L, threads: &mut Threads, p: PartId, own: bool)
     }
 }
 
-/// Lowers the first thread of the greatest priority, and tells which; None where all are low.
+/// Lowers the first thread of the greatest priority, and returns which; None where all are low.
 fn lower_first<L: Line>(line: &mut L, threads: &mut Threads, p: PartId) -> Option<ThreadNo>
     requires partition { (p < length (L.entries line.old threads.old)) × (p < length threads.old.threads) }
     requires sound { L.is_sound line.old threads.old }

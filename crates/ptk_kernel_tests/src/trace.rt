@@ -18,7 +18,7 @@ const ADD_AND_JUMP_BACK: [u8; 8] = [0x13, 0x05, 0x15, 0x00, 0x6f, 0xf0, 0xdf, 0x
 const ROW_KEPT: &str =
     "598 1 0x00000000 0x00150513 0x0000012c\n599 1 0x00000004 0xffdff06f 0x0000012c\n";
 
-// A writer that takes so many bytes into its array and then fails.
+// A writer that takes this many bytes into its array and then fails.
 #[derive(Drop)]
 struct Broken {
     bytes: [u8; 128],
@@ -63,7 +63,7 @@ fn step(tick: u64, pc: u32, word: u32, a0: u32) -> Entry {
     }
 }
 
-// A program's last three steps, with room for so many.
+// A program's last three steps, with room for this many.
 fn three_steps(alloc: Global, kept: u32) -> Result<Trace, AllocError> {
     let mut trace = Trace::new(alloc, kept)?;
     trace.push(step(8, 0x18, 0x0000_0073, 0));

@@ -24,7 +24,7 @@ impl Model for Row {
 }
 
 impl Row {
-    /// The value 0 for each of so many keys. An error where memory ran out.
+    /// The value 0 for each of this many keys. An error where memory ran out.
     pub(crate) fn new(alloc: Global, keys: u32) -> Result<Row, AllocError>
         ensures { IfOk result (λ row. row ≡ no_values keys) }
     {
@@ -54,7 +54,7 @@ impl Row {
     }
 }
 
-/// So many times 0. An error where memory ran out.
+/// This many times 0. An error where memory ran out.
 fn zeros(alloc: Global, n: u32) -> Result<Vec<u32>, AllocError>
     ensures { IfOk result (λ zeros. zeros.items ≡ no_values n) }
 {
@@ -65,7 +65,7 @@ fn zeros(alloc: Global, n: u32) -> Result<Vec<u32>, AllocError>
     Ok(zeros)
 }
 
-/// The value 0 for each of so many keys in each of so many threads. An error where memory ran out.
+/// The value 0 for each of this many keys in each of this many threads. An error where memory ran out.
 pub(crate) fn rows(alloc: Global, threads: u32, keys: u32) -> Result<Vec<Row>, AllocError>
     ensures { IfOk result (λ rows. rows.items ≡ replicate threads (no_values keys)) }
 {

@@ -1,8 +1,10 @@
-//! The guests in C and C++ of `guest/tests`, run from their stored images, so that no compiler is needed: of each a
-//! heading with its name, and its report. `data/` has for each its configuration, `NAME.toml`, and its image,
-//! `NAME.img`; the gate compares what is printed with `stdout`, the stored reports. Nothing is promised here: that a
-//! report is the one of the booted configuration `run_with` of `ptk_main_runs` promises, which stands below with the
-//! configuration (`ptk_config`); nothing stands above.
+//! A program that runs the guests in C and C++ of `guest/tests` from their stored images and prints their reports, for
+//! the gate.
+//!
+//! No compiler is needed. `data/` has for each guest its configuration, `NAME.toml`, and its image, `NAME.img`; the
+//! gate compares what is printed, of each guest a heading with its name and its report, with `stdout`. That a report is
+//! the one of the booted configuration, `run_with` of `ptk_main_runs` promises, which is below with the configuration
+//! (`ptk_config`); nothing is above.
 #![tactic(auto)]
 
 ghost use Rattle.std.specs.Prelude.{◌≤◌};
@@ -70,7 +72,7 @@ fn main(rt: HostRuntime) -> Result<()> {
     Ok(())
 }
 
-// Prints the report of a guest after so many ticks. An error where a file can't be read, the configuration is refused,
+// Prints the report of a guest after this many ticks. An error where a file can't be read, the configuration is refused,
 // the system does not boot, or the output fails.
 fn print_report(rt: &HostRuntime, name: &str, ticks: u64) -> Result<()> {
     let alloc = rt.alloc();

@@ -95,7 +95,7 @@ pub fn guest_of(alloc: Global, parts: &[&str], source: &[&str]) -> Option<(Confi
     }
 }
 
-/// The report after so many ticks, None where there is none.
+/// The report after this many ticks, None where there is none.
 pub fn report_of(alloc: Global, config: &Config, files: &Files, ticks: u64) -> Option<Vec<u8>> {
     let mut out = Vec::new(alloc);
     match run_with(alloc, config, files, tick_of(ticks), &mut out) {
@@ -104,7 +104,7 @@ pub fn report_of(alloc: Global, config: &Config, files: &Files, ticks: u64) -> O
     }
 }
 
-// The trace of p after so many ticks, None where there is none.
+// The trace of p after this many ticks, None where there is none.
 fn trace_of(alloc: Global, config: &Config, files: &Files, ticks: u64) -> Option<Vec<u8>> {
     let mut out = Vec::new(alloc);
     match trace_with(alloc, config, files, tick_of(ticks), "p", &mut out) {
@@ -121,7 +121,7 @@ pub(crate) fn is_text(got: Option<Vec<u8>>, want: &str) -> bool {
     }
 }
 
-/// Whether this is the guest's report after so many ticks.
+/// Whether this is the guest's report after this many ticks.
 pub fn is_report(alloc: Global, parts: &[&str], source: &[&str], ticks: u64, want: &str) -> bool {
     match guest_of(alloc, parts, source) {
         Some((config, files)) => is_text(report_of(alloc, &config, &files, ticks), want),
@@ -129,7 +129,7 @@ pub fn is_report(alloc: Global, parts: &[&str], source: &[&str], ticks: u64, wan
     }
 }
 
-/// Whether this is the guest's trace after so many ticks.
+/// Whether this is the guest's trace after this many ticks.
 pub fn is_trace(alloc: Global, parts: &[&str], source: &[&str], ticks: u64, want: &str) -> bool {
     match guest_of(alloc, parts, source) {
         Some((config, files)) => is_text(trace_of(alloc, &config, &files, ticks), want),

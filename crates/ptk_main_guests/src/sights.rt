@@ -169,7 +169,7 @@ pub struct Row<'a> {
     pub parts: &'a [&'a str],
     /// The parts of the guest's source.
     pub source: &'a [&'a str],
-    /// What is seen of the first partition, each entry after so many ticks, in their order.
+    /// What is seen of the first partition, each entry after this many ticks, in their order.
     pub sights: &'a [(u64, Sight, u32)],
     /// The ticks of the run that is reported.
     pub ticks: u64,
@@ -206,7 +206,7 @@ pub struct CutRow<'a> {
 }
 
 /// What of a row is not as wanted: the index of the first entry that is not what is seen after its ticks; as many as
-/// there are entries where there is no such guest, or its report after so many ticks is another. None where all is.
+/// there are entries where there is no such guest, or its report after this many ticks is another. None where all is.
 pub fn check_row(alloc: Global, row: &Row<'_>) -> Option<usize> {
     let count = row.sights.len();
     let Some((config, files)) = guest_of(alloc, row.parts, row.source) else {
@@ -264,7 +264,7 @@ pub fn trace_now(alloc: Global, system: &System<'_>, place: u8) -> Option<Vec<u8
     }
 }
 
-// The first entry that is not the report of a system that goes on from entry to entry, each after so many ticks.
+// The first entry that is not the report of a system that goes on from entry to entry, each after this many ticks.
 fn first_other_report(
     alloc: Global,
     system: &mut System<'_>,

@@ -1,6 +1,7 @@
-//! The worked rows of mutexes, as tests of whole runs: small guests, assembled here, with their reports, and what
-//! their threads hold on the way. There is no other code here. Below stands `ptk_main_guests`, which carries out the
-//! runs; nothing stands above.
+//! Worked rows of mutexes, as tests of whole runs of small guests, with their reports and what their threads hold on
+//! the way.
+//!
+//! There is no other code here. Below is `ptk_main_guests`, which carries out the runs; nothing is above.
 #![tactic(auto)]
 
 #[cfg(test)]

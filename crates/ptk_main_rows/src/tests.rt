@@ -144,7 +144,7 @@ fn files_of(alloc: Global, p: &[u32], q: &[u32]) -> Option<Files> {
     images_of(alloc, p, q).ok()
 }
 
-// What `run_with` answers for so many ticks.
+// What `run_with` returns for this many ticks.
 fn run_on<W: Write>(
     alloc: Global,
     config: &Config,
@@ -155,7 +155,7 @@ fn run_on<W: Write>(
     run_with(alloc, config, files, Tick::new(u64::from(ticks)), out)
 }
 
-// What `trace_with` answers for so many ticks.
+// What `trace_with` returns for this many ticks.
 fn trace_on<W: Write>(
     alloc: Global,
     config: &Config,
@@ -167,7 +167,7 @@ fn trace_on<W: Write>(
     trace_with(alloc, config, files, Tick::new(u64::from(ticks)), name, out)
 }
 
-// The report after so many ticks.
+// The report after this many ticks.
 fn report_on(alloc: Global, config: &Config, files: &Files, ticks: u32) -> Option<Vec<u8>> {
     let mut out = Vec::new(alloc);
     match run_on(alloc, config, files, ticks, &mut out) {
@@ -176,7 +176,7 @@ fn report_on(alloc: Global, config: &Config, files: &Files, ticks: u32) -> Optio
     }
 }
 
-// The trace of p after so many ticks.
+// The trace of p after this many ticks.
 fn trace_of(alloc: Global, config: &Config, files: &Files, ticks: u32) -> Option<Vec<u8>> {
     let mut out = Vec::new(alloc);
     match trace_on(alloc, config, files, ticks, "p", &mut out) {
@@ -185,7 +185,7 @@ fn trace_of(alloc: Global, config: &Config, files: &Files, ticks: u32) -> Option
     }
 }
 
-// The report after so many ticks, with these images of p and q.
+// The report after this many ticks, with these images of p and q.
 fn report(alloc: Global, parts: &[&str], p: &[u32], q: &[u32], ticks: u32) -> Option<Vec<u8>> {
     match (config_of(alloc, parts), files_of(alloc, p, q)) {
         (Some(config), Some(files)) => report_on(alloc, &config, &files, ticks),
@@ -193,7 +193,7 @@ fn report(alloc: Global, parts: &[&str], p: &[u32], q: &[u32], ticks: u32) -> Op
     }
 }
 
-// The trace of p after so many ticks, with these images of p and q.
+// The trace of p after this many ticks, with these images of p and q.
 fn trace(alloc: Global, parts: &[&str], p: &[u32], q: &[u32], ticks: u32) -> Option<Vec<u8>> {
     match (config_of(alloc, parts), files_of(alloc, p, q)) {
         (Some(config), Some(files)) => trace_of(alloc, &config, &files, ticks),
@@ -303,7 +303,7 @@ fn an_image_is_its_words(rt: HostRuntime) {
     }
 }
 
-// A worked row: the images of p and q, and what is wanted after so many ticks.
+// A worked row: the images of p and q, and what is wanted after this many ticks.
 #[derive(Clone, Copy)]
 struct Row<'a> {
     name: &'a str,
@@ -692,7 +692,7 @@ fn are_alike(a: Option<Vec<u8>>, b: Option<Vec<u8>>) -> bool {
     }
 }
 
-// The report after so many ticks, where the image of q lacks its last byte.
+// The report after this many ticks, where the image of q lacks its last byte.
 fn report_cut_short(
     alloc: Global,
     config: &Config,

@@ -1,7 +1,11 @@
-//! Whole runs of the program: `run_with` and `trace_with` promise that an `Ok` wrote exactly the report, or the trace's
-//! lines, of the booted configuration after so many ticks, and a fault that it names the first missing file, or that no
-//! partition has the name. Below stand the configuration (`ptk_config`), the system (`ptk_system`) and traces
-//! (`ptk_trace`); the answers to requests stand above, and the worked rows, `ptk_main_rows`. No clause is dear to prove.
+//! Whole runs: `run_with` and `trace_with` make a report or a trace of a configuration, its files and ticks.
+//!
+//! - `run_with` and `trace_with` write the report, or the named partition's trace, of the booted configuration after
+//!   the given ticks.
+//! - Where they are refused the writer is as it was (`silent`).
+//!
+//! Below are the configuration (`ptk_config`), the system (`ptk_system`) and traces (`ptk_trace`); above are the
+//! answers to requests, and the worked rows, `ptk_main_rows`. No clause is costly to prove.
 #![tactic(auto)]
 
 mod runs;

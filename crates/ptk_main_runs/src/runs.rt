@@ -33,7 +33,7 @@ pub enum RunFault {
     Write,
 }
 
-/// Boots the system of a configuration, runs it for so many ticks, at most 2^40, and writes its report. A fault where
+/// Boots the system of a configuration, runs it for this many ticks, at most 2^40, and writes its report. A fault where
 /// the system does not boot, with the writer as it was, or where the writer fails.
 pub fn run_with<W: Write>(
     alloc: Global,
@@ -134,7 +134,7 @@ fn traced<W: Write>(
     }
 }
 
-// The system of a configuration after so many ticks.
+// The system of a configuration after this many ticks.
 fn system_at<'a>(
     alloc: Global,
     config: &'a Config,

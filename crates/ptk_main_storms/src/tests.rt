@@ -51,7 +51,7 @@ enum World {
     Swapped,
 }
 
-/// What is told at a cut.
+/// What is shown at a cut.
 #[derive(Drop)]
 struct Shown {
     report: Vec<u8>,
@@ -104,7 +104,7 @@ fn storm_image(alloc: Global, storm: &Storm) -> Option<Vec<u8>> {
     Some(image)
 }
 
-// What is told now, p's trace among it.
+// What is shown now, p's trace among it.
 fn told_now(alloc: Global, world: World, system: &System<'_>) -> Option<Shown> {
     let place = match world {
         World::QLast | World::Swapped => 0,
@@ -116,7 +116,7 @@ fn told_now(alloc: Global, world: World, system: &System<'_>) -> Option<Shown> {
     })
 }
 
-// What is told at each cut of one run.
+// What is shown at each cut of one run.
 fn told(alloc: Global, world: World, config: &Config, files: &Files) -> Option<Vec<Shown>> {
     let mut system = booted(alloc, config, files)?;
     let mut all = Vec::new(alloc);
@@ -127,14 +127,14 @@ fn told(alloc: Global, world: World, config: &Config, files: &Files) -> Option<V
     Some(all)
 }
 
-// What is told of p beside q without an image.
+// What is shown of p beside q without an image.
 fn told_beside_nobody(alloc: Global, world: World, p: &[u8]) -> Option<Vec<Shown>> {
     let config = config_in(alloc, world, IDLE_Q, "")?;
     let files = files_with(alloc, p, &[]).ok()?;
     told(alloc, world, &config, &files)
 }
 
-// What is told of p beside a storm.
+// What is shown of p beside a storm.
 fn told_beside(alloc: Global, world: World, p: &[u8], storm: &Storm) -> Option<Vec<Shown>> {
     let input = input_of(alloc, storm.besides)?;
     let config = config_in(alloc, world, Q, input.as_str())?;

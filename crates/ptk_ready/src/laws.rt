@@ -8,8 +8,8 @@ ghost use Rattle.ptk_threads_slots.specs.Links.{mark_of, queue_at, queues, AreQu
 ghost use Rattle.ptk_ready.specs.Entries.{entries, is_ready, IsSound};
 ghost use Rattle.ptk_ready.specs.Lines.{line_of, IsFiled};
 
-/// A thread is in a queue's list exactly where its slot is marked with that queue, in none exactly where its slot has
-/// no mark, and in the line exactly where it is marked as ready.
+/// A thread is in a queue's list if and only if its slot is marked with that queue, in none if and only if its slot has
+/// no mark, and in the line if and only if it is marked as ready.
 pub fn marks_tell_queues()
     ensures queued { (links : List Link) (ends : List Ends) (k i : ℕ) → AreQueues links ends
         → ((is_in k (queue_at links ends i) ≡ true) ↔ (mark_of links k ≡ Some i)) }
@@ -18,7 +18,7 @@ pub fn marks_tell_queues()
     ensures ready { (links : List Link) (stamps : List ℤ) (k : ℕ) → is_in k (entries links stamps) ≡ is_ready links k }
 {}
 
-/// The line and its soundness can be told by the queues' lists alone: whatever links lead along the same lists, both
+/// The queues' lists alone determine the line and its soundness: whatever links lead along the same lists, both
 /// are the same.
 #[tactic(auto, using(crate::proofs::Lists::filed_sound))]
 pub fn lists_tell_line()

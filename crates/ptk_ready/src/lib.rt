@@ -1,18 +1,27 @@
-//! The ready threads: `Line` is, for each partition, the list of its threads that are ready to run. Each call gives the
-//! whole list that it leaves in one equation, leaves every other partition's list as it was, and says what becomes of
-//! the slot table. A line's `first_of_greatest` goes by stored priority and then by place, as the function of that name
-//! does for any list of threads; a changed priority moves nobody.
-//! `LinkedLine` is the form that the kernel has: a queue for each effective priority, linked through the slot table.
-//! `LinkedEntries` keeps what stands beside one partition's queues: a stamp for each number, by which the line's order is
-//! told across the queues (`line_of`), and a bitmap of the queues that are not empty, by whose highest bit the first of
-//! the greatest priority is found. Its calls read the links and change stamps and bitmap alone; each says which call of
-//! the slot table is to follow, and `LinkedLine` makes that call. Where a stamp would pass the limit, all are numbered
-//! anew, and the list stays.
-//! `VecLine` is the plain form, with a `Queue` of its own for each partition.
-//! Below stand `ptk_words_parted`, the queue of threads, `ptk_threads_slots`, the links, and `ptk_threads`, the slot
-//! table; above, every crate that makes threads wait or run. Costly to prove is that one list is sorted by stamp and has
-//! exactly the ready threads (`proofs/Orders`), that each queue stays its part of that list (`proofs/Kept`), and that one
-//! partition's change leaves the lines of the others (`proofs/Partitions`).
+//! The line of ready threads: the trait `Line`, and its two forms `LinkedLine`, a queue for each priority linked
+//! through the slot table, and `VecLine`, a plain list for each partition.
+//!
+//! - The trait `Line`: the whole list after each call, for p alone.
+//! - `LinkedLine` meets `Line`, and each partition's queues of ready threads are its line's threads of their priority
+//!   in the line's order (`AreFiled`).
+//! - Of one partition's linked line (`LinkedEntries`), in which each priority's threads are a linked queue and stamps
+//!   order the line (`line_of`): once the change of the queues is made that `push_tail`, `push_head`, `remove` and
+//!   `refile` (a changed priority) ask for, the list is changed by one equation, the waiters' queues are as they were
+//!   and the line is sound (`IsFiled`), renumbered where a stamp would pass its limit.
+//! - `first_of_greatest` is the first thread of the greatest stored priority.
+//! - `marks_tell_queues` says that a thread is in a queue's list if and only if its slot has that queue's mark,
+//!   `lists_tell_line` that the lists alone determine the line.
+//! - `VecLine` meets `Line` too.
+//! - `first_of_greatest` of any threads is the first whose stored priority is greatest.
+//!
+//! `LinkedLine` is the form that the kernel has. Beside one partition's queues `LinkedEntries` keeps a stamp for each
+//! number, which orders the line across the queues (`line_of`), and a bitmap of the queues that are not empty, whose
+//! highest bit finds the first of the greatest priority. Its calls read the links and change stamps and bitmap alone;
+//! each says which call of the slot table is to follow, and `LinkedLine` makes that call. A changed priority moves
+//! nobody. Below are `ptk_words_parted`, the queue of threads, `ptk_threads_slots`, the links, and `ptk_threads`, the
+//! slot table; above is every crate that makes threads wait or run. Costly to prove is that one list is sorted by stamp
+//! and has exactly the ready threads (`proofs/Orders`), that each queue stays its part of that list (`proofs/Kept`),
+//! and that one partition's change leaves the lines of the others (`proofs/Partitions`).
 #![tactic(auto)]
 
 mod bits;

@@ -1,7 +1,11 @@
-//! The memory of all partitions in one vector of bytes. A contract sees a list of bytes for each partition: `read` and
-//! `write` act within one, `whole` lends them joined in order, and what is written through `lend` changes the lent list
-//! and leaves every other. Below stand `ptk_words_parted`, which cuts the vector, and `ptk_words`; above, the gate and
-//! the kernel. No clause is dear to prove.
+//! The memory of all partitions in one vector of bytes, of which it lends one partition's.
+//!
+//! - One vector of memory, seen as a list for each partition.
+//! - `lend` and `write` change p's alone.
+//! - `read` at the end is None.
+//!
+//! Below are `ptk_words_parted`, which cuts the vector, and `ptk_words`; above are the gate and the kernel. No clause
+//! is costly to prove.
 #![tactic(auto)]
 
 ghost use Rattle.std.specs.Prelude.{◌≡◌, ℕ, ◌<◌, ◌≤◌, length, slice_get, slice_set, IfOk, IsTrue, ◌↔◌, map};

@@ -9,7 +9,7 @@ use crate::values::{extend_8, extend_16};
 use ptk_rv32i_code::{LoadKind, StoreKind};
 use ptk_words::{FaultKind, read_word};
 
-/// Where an access of so many bytes begins; a misaligned address is tested before the range.
+/// Where an access of this many bytes begins; a misaligned address is tested before the range.
 #[inline(always)]
 fn place(memory: &[u8], address: u32, size: u32, outside: FaultKind) -> Result<usize, FaultKind>
     requires { 0 < size }

@@ -1,8 +1,8 @@
-//! What a step comes to.
+//! The outcome of a step.
 
 use ptk_words::FaultKind;
 
-/// What a step comes to.
+/// The outcome of a step.
 #[derive(Clone, Copy, Debug, PartialEq, Eq)]
 pub enum Outcome {
     /// The instruction was carried out.

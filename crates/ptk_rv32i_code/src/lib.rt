@@ -1,9 +1,12 @@
-//! Words of the instruction set RV32I as instructions, and back: `Instr` keeps every field of its word in a type whose
-//! values are exactly that field's. `decode` answers an instruction exactly for the words of the instruction table,
-//! with the word's fields; `encode` is its inverse both ways, which `word_again` and `instr_again` say as one call each.
-//! The code decides by opcode, then by funct3; `rd` to `jump_offset` read one field of a word each. The weight of the proofs is in `decoding` (the table by fields, one
-//! major opcode a function) and `encoding` (one layout a function). Below stand `ptk_words` and
-//! `ptk_words_instructions`; `ptk_rv32i` above has every name of this crate.
+//! Words of RV32I as instructions: `Instr`, which keeps every field of its word, `decode` and `encode`.
+//!
+//! - `decode` returns an instruction if and only if the word is one of the table, by mask and match, with the word's
+//!   fields.
+//! - `encode` and `decode` are each other's inverse (`word_again`, `instr_again`).
+//!
+//! The code decides by opcode, then by funct3; `rd` to `jump_offset` read one field of a word each. The weight of the
+//! proofs is in `decoding` (the table by fields, one major opcode a function) and `encoding` (one layout a function).
+//! Below are `ptk_words` and `ptk_words_instructions`; `ptk_rv32i` above passes on every name of this crate.
 #![tactic(auto)]
 
 mod decoding;

@@ -1,6 +1,9 @@
-//! A measure of the processor's speed: a mixed loop of seventeen instructions, stepped so often as the argument says.
+//! A program that runs a mixed loop of seventeen instructions, for measuring the processor's speed.
+//!
+//! - `run` and `run_rows` take at most the steps asked for: a program for measuring.
+//!
 //! It prints the steps that were carried out, a0 and the pc, and with a second word `time` the nanoseconds that they
-//! took; with a third word `rows` it takes them in rows. Without an argument it takes 20,000 steps. Below stand
+//! took; with a third word `rows` it takes them in rows. Without an argument it takes 20,000 steps. Below are
 //! `ptk_words`, `ptk_rv32i` and `ptk_rv32i_rows`.
 #![tactic(auto)]
 
@@ -34,7 +37,7 @@ const PROGRAM: [u32; 17] = [
     0x0000_8067, // jalr x0, 0(ra)
 ];
 
-/// Takes at most so many steps, until one is not done; answers how many were done.
+/// Takes at most this many steps, until one is not done; returns how many were done.
 fn run(cpu: &mut Cpu, memory: &mut [u8], count: u64) -> u64
     ensures { result ≤ count }
 {

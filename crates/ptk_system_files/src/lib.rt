@@ -1,5 +1,9 @@
-//! The files that a system is booted with, by name. `Files::add` promises that the name then has these bytes and that
-//! every other name's stay; `Files::get` answers them. Nothing stands below; the system stands above.
+//! The files that a system is booted with, by name.
+//!
+//! - `Files::add` gives a name its bytes and leaves every other name's.
+//! - A refused one changes nothing.
+//!
+//! Nothing is below; the system is above.
 #![tactic(auto)]
 
 mod file;

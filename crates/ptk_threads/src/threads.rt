@@ -246,7 +246,7 @@ impl Threads {
         self.slot(p, k).is_detached()
     }
 
-    /// What a joiner is told (pthread_join); None of a free number.
+    /// The result that a joiner gets (pthread_join); None of a free number.
     pub fn result(&self, p: PartId, k: ThreadNo) -> Option<u32>
         requires { p < length self.now.threads }
         ensures { result ≡ option_map (λ (thread : Thread). thread.result) (thread_in self.now p k) }
@@ -286,7 +286,7 @@ impl Threads {
         self.change(p, k, Change::AssignedPriority(priority));
     }
 
-    /// Gives the thread so many used ticks.
+    /// Gives the thread this many used ticks.
     pub fn set_used(&mut self, p: PartId, k: ThreadNo, used: u32)
         requires { p < length self.old.threads }
         ensures { self.new ≡ with_changed p k (with_used used) self.old }

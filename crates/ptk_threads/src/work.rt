@@ -6,13 +6,13 @@ use ptk_words::Thread;
 
 /// A piece of work on one thread.
 pub trait Work {
-    /// What it tells of itself.
+    /// What it returns.
     type Answer;
 
     /// Which threads it may be done on.
     ghost can_run: { Self → Thread → Type 0 };
 
-    /// What it was before and what the thread was, what it told, and what both are then.
+    /// What it was before and what the thread was, what it returned, and what both are then.
     ghost has_run: { Self → Thread → Self.Answer → Self → Thread → Type 0 };
 
     /// Does it.

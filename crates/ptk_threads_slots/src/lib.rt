@@ -1,12 +1,16 @@
-//! The slots of one partition's threads, and its linked queues: the ready threads of each priority, the waiters of each
-//! mutex and of each condition variable. Each slot has a link to the slot before it and to the one after it in its
-//! queue, and a mark that names the queue; the ends of every queue stand beside the slots. A link is a slot's number in
-//! the table that all partitions share. The contracts see links and queues in the partition's own numbers (`links_of`),
-//! each queue as the list that its links lead along, by place; that no link names another partition's slot is
-//! `AreLinksFrom`, which every call keeps. `append`, `prepend`, `insert` and `take` change one queue's list, say so in one
-//! equation, and leave the threads as they are; `members` reads a queue into a `ThreadList`. A slot has one mark, so a
-//! thread lies in at most one queue. Below stands `ptk_words`. Costly to prove is what two changed links do to a list
-//! (`proofs/Along`), once for a thread that comes and once for one that goes.
+//! One partition's slots with their links, which are slot numbers of the table that all partitions share, and its
+//! linked queues: a list for each priority's ready threads, and each mutex's and each condition variable's waiters.
+//!
+//! - The queues linked through one partition's slots: `append`, `prepend`, `insert` and `take` each change the 128
+//!   lists by one equation, the links go on to lead along them, and who is in none has no link (`AreQueues`).
+//! - What is kept are slot numbers of the table that all partitions share, those of the partition's own numbers
+//!   (`AreLinksFrom`).
+//!
+//! Each slot has a link to the slot before it and to the one after it in its queue, and a mark that names the queue;
+//! the ends of every queue are beside the slots. A slot has one mark, so a thread is in at most one queue. Contracts
+//! see links and queues in the partition's own numbers (`links_of`), each queue as the list that its links lead along,
+//! by place. `members` reads a queue into a `ThreadList`. Below are `ptk_words` and `ptk_words_parted`. Costly to prove
+//! is what two changed links do to a list (`proofs/Along`), once for a thread that comes and once for one that goes.
 #![tactic(auto)]
 
 mod link;

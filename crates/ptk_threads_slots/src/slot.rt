@@ -122,7 +122,7 @@ impl Slot {
         }
     }
 
-    /// What a joiner of its thread is told; None in a free slot.
+    /// The result that a joiner of its thread gets; None in a free slot.
     pub fn result(&self) -> Option<u32>
         ensures { result ≡ option_map (λ (thread : Thread). thread.result) self.now.thread }
     {

@@ -179,7 +179,7 @@ impl Call {
         }
     }
 
-    /// The ticks that the call takes, 1 to 16 (own choice).
+    /// The ticks that the call takes, 2 to 16 (own choice).
     pub fn cost(self) -> u32
         ensures table { result ≡ ticks_of self }
         ensures positive { 0 < result }
@@ -223,7 +223,7 @@ impl Call {
     }
 }
 
-/// The ticks that the call of this number takes, 1 to 16; a number that is no call takes 2 (own choice).
+/// The ticks that the call of this number takes, 2 to 16; a number that is no call takes 2 (own choice).
 pub fn cost(number: u32) -> u32
     ensures table { result ≡ cost_of number }
     ensures positive { 0 < result }

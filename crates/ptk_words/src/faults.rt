@@ -5,7 +5,7 @@ ghost use Rattle.ptk_words.specs.Faults.{errno_number, image_fault_number};
 
 use thiserror::Error;
 
-/// What a call tells in place of 0, by the name that POSIX gives it (errno.h; the numbers are Linux's).
+/// What a call returns in place of 0, by the name that POSIX gives it (errno.h; the numbers are Linux's).
 #[derive(Clone, Copy, Debug, PartialEq, Eq)]
 pub enum Errno {
     EPERM,

@@ -1,8 +1,14 @@
-//! The words that every crate of the kernel speaks: partition, thread, slot and tick numbers, the registers of a
-//! thread, threads and mutexes as plain data, the calls of a guest with their numbers and costs, faults, statuses, error
-//! numbers and limits. In `specs/` stand words of 32 bits, bytes in memory, pools numbered from 1, registers and the list of
-//! calls.
-//! `cost` promises the table's entry for every number. Nothing stands below; every other crate stands above.
+//! The plain types that every crate uses (numbers of partitions, threads, slots and ticks, registers, threads, mutexes,
+//! faults, limits), the list of calls with their numbers and costs, and definitions of words, bytes, pools, calls and
+//! images.
+//!
+//! - The list of calls: `Call::of_number` finds the call of every number, and `number` and `cost` are the list's, 2 to
+//!   16 ticks.
+//! - The function `cost` is that of every number, 2 where the number is no call.
+//! - A `Cpu`'s x0 reads 0 (its invariant).
+//! - The numbers of errors and faults are the definitions'.
+//!
+//! Nothing is below; every other crate is above.
 #![tactic(auto)]
 
 mod calls;

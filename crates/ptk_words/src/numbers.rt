@@ -255,7 +255,7 @@ impl Model for Tick {
 }
 
 impl Tick {
-    /// The time after so many ticks.
+    /// The time after this many ticks.
     pub fn new(ticks: u64) -> Tick
         ensures { result ≡ ticks }
     {

@@ -53,7 +53,7 @@ pub struct Thread {
     pub is_detached: bool,
     /// The thread that waits for its end.
     pub joiner: Option<ThreadNo>,
-    /// What a joiner is told.
+    /// The result that a joiner gets.
     pub result: u32,
     /// How far it is.
     pub phase: Phase,

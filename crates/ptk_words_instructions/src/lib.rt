@@ -1,9 +1,13 @@
-//! The instruction set RV32I as definitions: the table of 40 rows, the immediates and what each instruction does.
-//! In `specs/` stand the table by mask and match, as the RISC-V manual has it (`Instructions`), and the same table
-//! by fields (`Fields`), which proofs about code that decides by opcode and funct3 use.
-//! `no_word_agrees_twice` promises that a word has at most one row, `rows_by_fields` that both tables find the same
-//! row for every word. `PlainSteps` has instructions in a row of which none is a call, a break or a fault; such rows join
-//! (`steps_join`, `entries_join`). Below stands `ptk_words`; above stand the instruction crates and the model of a partition.
+//! The instruction set RV32I as definitions: the table of 40 rows by mask and match, the same table by fields, what
+//! each instruction does, and plain steps in a row with their laws.
+//!
+//! - `no_word_agrees_twice`: no word agrees with two rows of the table.
+//! - The table by fields finds the same row for every word.
+//! - `steps_join`, `entries_join`: plain steps in a row (no call, break or fault among them), and their trace entries,
+//!   are those of a first part and then the rest.
+//!
+//! `specs/Instructions` has the table as the RISC-V manual has it, `specs/Fields` the one that proofs about code by
+//! opcode and funct3 use. Below is `ptk_words`; above are the crates of instructions and the model of a partition.
 #![tactic(auto)]
 
 ghost use Rattle.ptk_words_instructions.specs.RowLaws.{NoWordAgreesTwice, RowsByFields};

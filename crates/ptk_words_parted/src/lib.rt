@@ -1,12 +1,15 @@
-//! Lists by partition: one vector holds a list for each partition, beside the lists' extents. The memory, the slot table
-//! and what is kept of each thread number stand in such vectors, so that offsets occur here alone; the line and the
-//! consoles are vectors with an entry for each partition. A contract sees a `Parted` as a list of lists: `get`, `part`
-//! and `whole` read it, `set` changes one item of one list, and `lend` lends one list for writing and leaves every
-//! other as it was. Beside the calls stand lemmas for the crates above: the ruleset `loans` of `proofs/Cuts` (a loan
-//! that keeps its length is a `slice_set`). The clause that is costly to prove is `writes_back` of `lend`.
-//! Of one partition's threads there are two collections: `Queue`, an order of threads, none twice, with room for all 32
-//! from the start (`proofs/Lists`), and `ThreadSet`, a set of them in the bits of a number.
-//! Below stands `ptk_words`; above, the crates that keep such lists.
+//! Lists by partition: `Parted<T>` is one vector that holds a list for each partition, with its lemmas; `Queue` and
+//! `ThreadSet` are an order and a set of one partition's threads.
+//!
+//! - A `Parted` is a list for each partition: `get`, `part`, `whole` read it, `set` and `lend` change one list and
+//!   leave every other.
+//! - A `Queue` is the list of its threads, none twice, and a `ThreadSet` is its members (`IsSetOf`).
+//!
+//! The memory, the slot table and what is kept of each thread number are in such vectors, so that offsets occur here
+//! alone; the line and the consoles are vectors with an entry for each partition. A `Queue` has room for all 32 threads
+//! from the start (`proofs/Lists`), and a `ThreadSet` is the bits of a number. The ruleset `loans` of `proofs/Cuts` is
+//! for the crates above: a loan that keeps its length is a `slice_set`. Costly to prove is `writes_back` of `lend`.
+//! Below is `ptk_words`; above are the crates that keep such lists.
 #![tactic(auto)]
 
 mod queue;

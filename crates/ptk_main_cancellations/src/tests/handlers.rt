@@ -136,7 +136,7 @@ enable:
     ret                 #  65  the gate at 66
 ";
 
-/// What each guest above comes to.
+/// How each guest above ends.
 pub(super) const ROWS: [Row<'static>; 5] = [
     Row {
         name: "sixteen_handlers_run_the_last_pushed_first",

@@ -127,7 +127,7 @@ again:
     ecall               #  45
 ";
 
-/// What each guest above comes to.
+/// How each guest above ends.
 pub(super) const ROWS: [Row<'static>; 5] = [
     // Row destructor-limit.
     Row {

@@ -114,7 +114,7 @@ target:
     ret                 #  21  the gate at 22 and 26
 ";
 
-/// What each guest above comes to.
+/// How each guest above ends.
 pub(super) const ROWS: [Row<'static>; 4] = [
     Row {
         name: "an_asynchronous_request_acts_at_the_next_step",

@@ -261,7 +261,7 @@ waiter:
     addi s0, a0, 1000   #      not reached
 ";
 
-/// What each guest above comes to.
+/// How each guest above ends.
 pub(super) const ROWS: [Row<'static>; 8] = [
     Row {
         name: "a_cancelled_waiter_owns_its_mutex_and_takes_no_signal",

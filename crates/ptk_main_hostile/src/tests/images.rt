@@ -16,7 +16,7 @@ fn begins(alloc: Global, config: &Config, image: &[u8], want: &str) -> bool {
     }
 }
 
-// The refusal of an image of which so many bytes are left.
+// The refusal of an image of which this many bytes are left.
 fn refusal_of_cut(left: usize) -> &'static str {
     if left < 24 {
         "partition p refused image 1 steps 0 lost 0\noutput 0\n\n"
@@ -25,7 +25,7 @@ fn refusal_of_cut(left: usize) -> &'static str {
     }
 }
 
-// Whether the image of which so many bytes are left is refused as it must be.
+// Whether the image of which this many bytes are left is refused as it must be.
 fn is_refused(alloc: Global, config: &Config, image: &[u8], left: usize) -> bool {
     match image.get(..left) {
         Some(cut) => begins(alloc, config, cut, refusal_of_cut(left)),

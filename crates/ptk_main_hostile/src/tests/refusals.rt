@@ -1,5 +1,5 @@
 //! Want of memory. Here it is ample, and each call succeeds at once; `hostile/refuse` runs these tests again with one
-//! allocation refused, each in turn. Then the call tells want of memory and nothing else, leaves what it was given, and
+//! allocation refused, each in turn. Then the call tells out of memory and nothing else, leaves what it was given, and
 //! succeeds as it is asked again. The tests ask for no memory besides.
 
 use ptk_asm::assemble;
@@ -189,7 +189,7 @@ fn a_boot_is_refused_memory(rt: HostRuntime) {
     }
 }
 
-// Asserts what is told at tick 40.
+// Asserts what is shown at tick 40.
 fn check_told(rt: &impl Abort, system: &System<'_>) {
     let _parts = system.parts();
     let p = PartId::new(0);

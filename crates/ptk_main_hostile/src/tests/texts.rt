@@ -43,7 +43,7 @@ fn config_fault(alloc: Global, bytes: &[u8]) -> u8 {
     }
 }
 
-// Whether the configuration is refused, for another cause than memory, where it is cut to so many bytes.
+// Whether the configuration is refused, for another cause than memory, where it is cut to this many bytes.
 fn is_refused(alloc: Global, left: usize) -> bool {
     match FIRST_PATH.as_bytes().get(..left) {
         Some(bytes) => {
@@ -136,7 +136,7 @@ fn is_assembled(alloc: Global, bytes: &[u8]) -> bool {
     }
 }
 
-// Whether the source cut to so many bytes is assembled.
+// Whether the source cut to this many bytes is assembled.
 fn is_assembled_cut(alloc: Global, left: usize) -> bool {
     match SOURCE.as_bytes().get(..left) {
         Some(bytes) => is_assembled(alloc, bytes),

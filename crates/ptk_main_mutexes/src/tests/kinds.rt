@@ -217,7 +217,7 @@ third:
     ret                 # 124  the gate at 125 and 129
 ";
 
-/// What each guest above comes to.
+/// How each guest above ends.
 pub(super) const ROWS: [Row<'static>; 8] = [
     Row {
         name: "a_lock_waits_for_the_next_window",

@@ -362,7 +362,7 @@ const NESTED_CEILINGS: &str = "
     ecall               # 164
 ";
 
-/// What each guest above comes to.
+/// How each guest above ends.
 pub(super) const ROWS: [Row<'static>; 10] = [
     Row {
         name: "an_owner_inherits",

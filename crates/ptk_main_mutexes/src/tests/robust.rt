@@ -109,7 +109,7 @@ second:
     ret                 # 102  the gate at 103 and 107
 ";
 
-/// What each guest above comes to.
+/// How each guest above ends.
 pub(super) const ROWS: [Row<'static>; 3] = [
     Row {
         name: "a_dead_owners_mutex_goes_to_its_heir",

@@ -15,7 +15,7 @@ use ptk_words::PartId;
 use std::alloc::Global;
 use std::process::Abort;
 
-// Row cut-run: stops at 3, 10 and 40 on the way, and asserts what is told there.
+// Row cut-run: stops at 3, 10 and 40 on the way, and asserts what is shown there.
 fn check_stops(rt: &impl Abort, alloc: Global, system: &mut System<'_>) {
     run_on_to(system, 0);
     run_on_to(system, 3);
@@ -49,7 +49,7 @@ fn a_run_may_stop_on_the_way(rt: HostRuntime) {
     }
 }
 
-// Whether a writer with so much room, of at most 80 bytes, takes the report.
+// Whether a writer with this much room, of at most 80 bytes, takes the report.
 fn fits_report(system: &System<'_>, most: usize) -> bool
     requires { most ≤ 80 }
 {
@@ -58,7 +58,7 @@ fn fits_report(system: &System<'_>, most: usize) -> bool
     writes_report(system, &mut room)
 }
 
-// Whether a writer with so much room, of at most 80 bytes, takes the trace of the first partition.
+// Whether a writer with this much room, of at most 80 bytes, takes the trace of the first partition.
 fn fits_trace(system: &System<'_>, most: usize) -> bool
     requires { most ≤ 80 }
 {
@@ -67,7 +67,7 @@ fn fits_trace(system: &System<'_>, most: usize) -> bool
     writes_trace(system, &mut room)
 }
 
-// Asserts that a writer takes the report, or the trace, exactly where it has room for it, and that the system then tells
+// Asserts that a writer takes the report, or the trace, if and only if it has room for it, and that the system then tells
 // both.
 fn check_writers(rt: &impl Abort, alloc: Global, system: &System<'_>) {
     assert_eq!(rt; parts_of(system), 1);
@@ -102,7 +102,7 @@ fn a_writer_that_fails_leaves_the_system(rt: HostRuntime) {
     }
 }
 
-// What `run_with` answers for 20 ticks and a writer with so much room, of at most 80 bytes.
+// What `run_with` returns for 20 ticks and a writer with this much room, of at most 80 bytes.
 fn run_into(alloc: Global, config: &Config, files: &Files, most: usize) -> Result<(), RunFault>
     requires { most ≤ 80 }
 {
@@ -111,7 +111,7 @@ fn run_into(alloc: Global, config: &Config, files: &Files, most: usize) -> Resul
     run_on(alloc, config, files, 20, &mut room)
 }
 
-// What `trace_with` answers for p, 20 ticks and a writer with so much room, of at most 80 bytes.
+// What `trace_with` returns for p, 20 ticks and a writer with this much room, of at most 80 bytes.
 fn trace_into(alloc: Global, config: &Config, files: &Files, most: usize) -> Result<(), RunFault>
     requires { most ≤ 80 }
 {
@@ -120,7 +120,7 @@ fn trace_into(alloc: Global, config: &Config, files: &Files, most: usize) -> Res
     trace_on(alloc, config, files, 20, "p", &mut room)
 }
 
-// Asserts that a run's report, and its trace, are written exactly where the writer has room for them.
+// Asserts that a run's report, and its trace, are written if and only if the writer has room for them.
 fn check_rooms(rt: &impl Abort, alloc: Global, config: &Config, files: &Files) {
     let failed = Err(RunFault::Write);
     // Row failing-report.

@@ -131,7 +131,7 @@ waiter:
     ecall               #  33  blocks
 ";
 
-/// What each guest above comes to.
+/// How each guest above ends.
 pub(super) const ROWS: [Row<'static>; 6] = [
     Row {
         name: "a_broadcast_fits_a_window_of_sixteen",

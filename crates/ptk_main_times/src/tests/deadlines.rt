@@ -153,7 +153,7 @@ late:
     ecall               #  77  the gate at 83
 ";
 
-/// What each guest above comes to.
+/// How each guest above ends.
 pub(super) const ROWS: [Row<'static>; 5] = [
     Row {
         name: "a_cycle_falls_as_its_waiter_leaves",

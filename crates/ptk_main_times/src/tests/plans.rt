@@ -41,7 +41,7 @@ const LATE_LOCK: &str = "
     ecall
 ";
 
-/// The other reports that are wanted: p has made so many steps, lost so many ticks, and nothing else.
+/// The other reports that are wanted: p has made this many steps, lost this many ticks, and nothing else.
 const SPUN_0: &str =
     "partition p running steps 0 lost 0\noutput 0\n\npartition q idle steps 0 lost 0\noutput 0\n\n";
 

@@ -99,7 +99,7 @@ const SHORT: &str = "
     .word 45000
 ";
 
-/// What each guest above comes to.
+/// How each guest above ends.
 pub(super) const ROWS: [Row<'static>; 2] = [
     Row {
         name: "a_tick_is_a_thousand_nanoseconds",
