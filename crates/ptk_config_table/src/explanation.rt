@@ -1,4 +1,4 @@
-//! What a text amounts to.
+//! The explanation of a text.
 
 ghost use Rattle.std.specs.Prelude.{◌≡◌, ◌≢◌, ◌+◌, Ok, None, IfOk, IfErr, OnOk, map};
 ghost use Rattle.std.specs.Io.KnownBytes.{Appends};
@@ -33,7 +33,7 @@ fn put_refused<W: Write>(
     put_image(section, outcome, out)
 }
 
-/// Writes what a configuration amounts to with these files: one line of the first image that is refused, if one is; else
+/// Writes the explanation of a configuration with these files: one line of the first image that is refused, if one is; else
 /// of each partition its numbers, its image and what that leaves of the memory below the stacks, and its windows with
 /// their share of the frame, stage by stage. The document is the one that states the configuration.
 fn explain_config<W: Write>(
@@ -55,7 +55,7 @@ fn explain_config<W: Write>(
     }
 }
 
-/// Writes what an accepted text amounts to with these files.
+/// Writes the explanation of an accepted text with these files.
 fn explain_accepted<W: Write>(
     alloc: Global,
     text: &str,
@@ -71,7 +71,7 @@ fn explain_accepted<W: Write>(
     }
 }
 
-/// Writes what a text amounts to with these files: of a configuration that is refused one line that says where and why;
+/// Writes the explanation of a text with these files: of a configuration that is refused one line that says where and why;
 /// of one that is accepted one line that says which image is refused first and why, and where none is, what each
 /// partition has. Returns the first fault of the text with its place, None where the text is accepted; the files play
 /// no part in that. An error where memory was refused, with the writer as it was, or where the writer fails; how much of

@@ -14,7 +14,7 @@ use std::alloc::{AllocError, Global};
 use std::fmt;
 use std::io::Write;
 
-/// What the image of a section amounts to.
+/// The verdict on the image of a section.
 #[derive(Clone, Copy)]
 pub(crate) enum Outcome {
     /// The section names none; this many bytes are free below the stacks.
@@ -105,7 +105,7 @@ impl fmt::Display for Outcome {
     }
 }
 
-/// What an image amounts to where there is room for this many bytes below the stacks.
+/// The verdict on an image where there is room for this many bytes below the stacks.
 fn outcome_of(image: &Image, room: u64) -> Outcome
     ensures { result ≡ images.outcome_of image.now room }
 {
@@ -132,7 +132,7 @@ fn room_below_stacks(limits: &Limits) -> u64
     u64::from(limits.memory) - stacks
 }
 
-/// What the image of a section amounts to with these files. An error where memory was refused.
+/// The verdict on the image of a section with these files. An error where memory was refused.
 fn outcome_in(alloc: Global, section: &Section, files: &Files) -> Result<Outcome, AllocError>
     ensures { IfOk result (λ outcome. outcome ≡ images.outcome_in files.now section.now) }
 {
@@ -150,7 +150,7 @@ fn outcome_in(alloc: Global, section: &Section, files: &Files) -> Result<Outcome
     }
 }
 
-/// What the image of each section amounts to with these files. An error where memory was refused.
+/// The verdict on the image of each section with these files. An error where memory was refused.
 pub(crate) fn outcomes_of(
     alloc: Global,
     sections: &[Section],
@@ -193,7 +193,7 @@ pub(crate) fn first_refused(outcomes: &[Outcome]) -> Option<usize>
     }
 }
 
-/// Writes what the image of a section amounts to, with its name, and ends the line.
+/// Writes the verdict on the image of a section, with its name, and ends the line.
 pub(crate) fn put_image<W: Write>(
     section: &Section,
     outcome: Outcome,

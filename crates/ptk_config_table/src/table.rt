@@ -185,7 +185,7 @@ fn put_section<W: Write>(
     put_image(section, outcome, out)
 }
 
-/// Writes what each partition has whose image amounts to this.
+/// Writes what each partition has whose image has this verdict.
 fn put_sections<W: Write>(
     config: &Config,
     stages: &Stages,
@@ -207,7 +207,7 @@ fn put_sections<W: Write>(
     Ok(())
 }
 
-/// Writes of each partition of a configuration its numbers, what its image amounts to, and its windows, stage by stage.
+/// Writes of each partition of a configuration its numbers, the verdict on its image, and its windows, stage by stage.
 /// The document is the one that states the configuration. An error where memory was refused, with the writer as it was,
 /// or where the writer fails.
 pub(crate) fn put_table<W: Write>(

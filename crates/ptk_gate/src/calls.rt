@@ -28,7 +28,7 @@ use ptk_words::{A0, A1, A2, A3, A4, A7, Call, Cpu, Errno, Limits, PartId, Thread
 use ptk_words_model::{Invocation, Reply};
 
 /// Carries out the call that the running thread's registers state: the number in a7, the arguments in a0 to a4, at the
-/// tick at which the step begins. The reply is what the call came to; ENOSYS of a number that is no call. The pc is
+/// tick at which the step begins. The reply is that of the call; ENOSYS of a number that is no call. The pc is
 /// already past the ECALL and stays, save that an unwinding puts the return gate there. A refusal changes a0 alone, and
 /// leaves the mutex that a static initialiser set up; no other partition changes.
 #[tactic(auto, using(ptk_gate_pools::proofs::Hands::lifting, crate::proofs::Called::whole_calls))]

@@ -26,7 +26,7 @@ impl Pools {
     }
 
     /// The deadline of the partition that is first by (deadline, thread number) comes, if it is at the tick or before:
-    /// a sleeper is woken with 0, a timed lock fails with ETIMEDOUT, a timed wait re-locks and is then told ETIMEDOUT
+    /// a sleeper is woken with 0, a timed lock fails with ETIMEDOUT, a timed wait re-locks and then gets ETIMEDOUT
     /// (clock_nanosleep, pthread_mutex_timedlock, pthread_cond_timedwait). False, and nothing changes, where none is
     /// due.
     #[tactic(auto, using(crate::proofs::Hands::handed))]

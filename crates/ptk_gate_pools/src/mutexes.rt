@@ -121,7 +121,7 @@ impl Pools {
         made
     }
 
-    /// A thread that waits for no mutex re-locks this one, or waits for it with this reply if it is told any, or goes on
+    /// A thread that waits for no mutex re-locks this one, or waits for it with this reply if it gets any, or goes on
     /// without it where it can't be locked any more (pthread_cond_timedwait whose deadline was already reached). Where it
     /// still owns the mutex, the count is below the limit.
     #[tactic(auto, using(crate::proofs::Hands::handed, crate::proofs::Locking::moved, crate::proofs::TimedMoves::moved))]

@@ -107,7 +107,7 @@ impl Work for Row<'_> {
 
     ghost has_run = { λ row thread steps after made. HasRun row thread steps after made };
 
-    /// Runs the row; told is how many steps.
+    /// Runs the row, and returns how many steps it took.
     #[inline(always)]
     fn run(&mut self, thread: &mut Thread) -> u32 {
         let memories = &mut *self.memories;

@@ -20,7 +20,7 @@ pub fn instruct(pools: &mut Pools, t: ThreadNo, cpu: Cpu)
     settle(pools, t, pc, outcome, after);
 }
 
-/// After a step that came to this: the thread has the registers, or the partition has stopped at the pc.
+/// After a step with this effect: the thread has the registers, or the partition has stopped at the pc.
 fn settle(pools: &mut Pools, t: ThreadNo, pc: u32, outcome: Outcome, cpu: Cpu)
     ensures { pools.new ≡ record pools.old { here = settled t pc outcome cpu pools.old.here } }
 {

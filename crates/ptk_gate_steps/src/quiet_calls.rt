@@ -1,7 +1,7 @@
 //! Which calls are quiet, and what each puts into its caller's registers: pthread_self, pthread_getschedparam, a
 //! pthread_detach that is refused, a number that is no call, lock and unlock of a mutex that nobody else wants,
 //! console_put, pthread_setspecific and pthread_getspecific. None of them changes anything here but the registers: its
-//! effect is told.
+//! effect is returned.
 
 ghost use Rattle.std.specs.Prelude.{◌≡◌, ℕ, ◌<◌, ◌≤◌, true, None, Some, IfSome};
 ghost use Rattle.ptk_words.specs.Calls.{call_of};

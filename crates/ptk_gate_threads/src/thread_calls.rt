@@ -1,4 +1,4 @@
-//! Calls 13 and 17: a thread detached, and its scheduling told.
+//! Calls 13 and 17: a thread detached, and its scheduling returned.
 
 ghost use Rattle.std.specs.Prelude.{◌≡◌};
 ghost use Rattle.ptk_words_model.specs.ThreadCalls.{getschedparam};

@@ -1,4 +1,4 @@
-//! What a configuration's text amounts to, in words.
+//! The explanation of a configuration's text, in words.
 
 ghost use Rattle.std.specs.Prelude.{◌≡◌, ◌≢◌, ◌⊎◌, IfErr, IfOk};
 ghost use Rattle.ptk_config_table.specs.Explained.{IsExplained};
@@ -11,7 +11,7 @@ use ptk_system::Files;
 use std::alloc::Global;
 use std::io::Write;
 
-/// Writes what a text amounts to with these files: of a configuration that is refused one line that says where and why;
+/// Writes the explanation of a text with these files: of a configuration that is refused one line that says where and why;
 /// of one that is accepted one line that says which image is refused first and why, and where none is, what each
 /// partition has. Returns the first fault of the text with its place, None where the text is accepted. A fault where
 /// memory was refused, with the writer as it was, or where the writer fails, and of no other kind; how much of the text

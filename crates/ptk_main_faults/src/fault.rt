@@ -210,7 +210,7 @@ impl From<AllocError> for Fault<'_> {
 }
 
 /// Writes the line of a fault, its newline with it, and gives the number of its status. It takes no memory. An error
-/// where the writer fails; how much of the line went out then is not told.
+/// where the writer fails; how much of the line went out then is not known.
 pub fn fault_line<W: Write>(fault: &Fault<'_>, out: &mut W) -> io::Result<u8>
     ensures { IfOk result (λ status. (status ≡ status_number (status_of fault.now))
         × Appends (W.contents out.old) (W.contents out.new) (line_of fault.now ++ codes "\n")) }

@@ -222,7 +222,7 @@ pub fn check_row(alloc: Global, row: &Row<'_>) -> Option<usize> {
     Some(count)
 }
 
-/// The first of these rows that is not as wanted: its name, and what of it, as `check_row` tells it. None where all are.
+/// The first of these rows that is not as wanted: its name, and what of it, as `check_row` says it. None where all are.
 pub fn first_wrong_row<'a>(alloc: Global, rows: &[Row<'a>]) -> Option<(&'a str, usize)> {
     for row in rows {
         if let Some(wrong) = check_row(alloc, row) {

@@ -201,7 +201,7 @@ pub(crate) const TICKS: &str = "How many ticks to run: 0 to 1099511627776, of 10
 pub(crate) const FROM: &str =
     "The first tick that is shown: 0 to 1099511627776, 0 where it is left out";
 
-/// Whether a check says what the configuration comes to.
+/// Whether a check explains the configuration.
 pub(crate) const EXPLAIN: &str =
     "Also prints what each partition has, or where and why the configuration or an image is refused";
 

@@ -81,7 +81,7 @@ fn count_of(cells: &[Cell], shade: Shade) -> usize {
         .count()
 }
 
-/// Whether a cell of a column tells of these cells, a tick each: no shade is oftener there than its own, and it is mixed
+/// Whether a cell of a column shows these cells, a tick each: no shade is oftener there than its own, and it is mixed
 /// where there is another one.
 fn sums_up(column: &Cell, cells: &[Cell]) -> bool {
     let own = count_of(cells, column.look.shade());

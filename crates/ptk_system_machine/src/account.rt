@@ -74,7 +74,7 @@ impl Account {
         &self.trace
     }
 
-    /// Counts a decision with this room that came to `spent`: the tick of the next one, a step and its entry, or the
+    /// Counts a decision with this room whose outcome is `spent`: the tick of the next one, a step and its entry, or the
     /// lost ticks.
     pub(crate) fn count(&mut self, next: Option<Tick>, room: u32, spent: Spent, last: Option<Entry>)
         requires steps { self.old.account.steps ≤ LAST_TICK }

@@ -69,7 +69,7 @@ impl Machine {
     }
 
     /// Goes on from a tick by plain steps and quiet calls of the partition that decides next, up to `to` at most,
-    /// and before any other decision. Answers the tick that it came to, which is the first one only where a decision at
+    /// and before any other decision. Returns the tick that it reached, which is the first one only where a decision at
     /// that tick is no plain step of a quiet partition. To each partition it does what this many ticks would do to that
     /// partition alone.
     pub fn run_row(&mut self, plan: &WindowPlan, tick: Tick, to: Tick) -> Tick
@@ -167,7 +167,7 @@ impl Machine {
 
     /// Goes on from the partition's next decision, with which the turn begins: what comes at its tick arrives and expires,
     /// a thread is chosen, and then, from that very tick on, come plain steps in a row and quiet calls while the partition
-    /// is quiet, or else the turn of that thread. Answers the partition's next turn.
+    /// is quiet, or else the turn of that thread. Returns the partition's next turn.
     fn go_on(&mut self, plan: &WindowPlan, p: PartId, turn: Turn, to: Tick) -> Turn
         requires partition { p < length self.old.accounts }
         requires windows { AreWindowsOf (length self.old.accounts) plan.now }
@@ -217,7 +217,7 @@ impl Machine {
     }
 
     /// Goes on with a quiet partition, whose next decision begins the turn and needs no preparation: by plain steps in a row
-    /// and quiet calls, and by the turn of its thread where another step of it comes before the partition's stop. Answers
+    /// and quiet calls, and by the turn of its thread where another step of it comes before the partition's stop. Returns
     /// the next turn.
     fn go_quiet(&mut self, plan: &WindowPlan, p: PartId, turn: Turn, quiet: Quiet, to: Tick) -> Turn
         requires partition { p < length self.old.accounts }
@@ -244,7 +244,7 @@ impl Machine {
     }
 
     /// The second half of the partition's next decision, with which its turn begins: the turn of the thread that was chosen.
-    /// Answers its next turn. From every state that the first half leads to where the partition is, it leads to where the
+    /// Returns its next turn. From every state that the first half leads to where the partition is, it leads to where the
     /// ticks up to that turn lead.
     #[tactic(auto, using(crate::proofs::States::states))]
     fn take_turn(&mut self, plan: &WindowPlan, p: PartId, turn: Turn, to: Tick) -> Turn
@@ -273,7 +273,7 @@ impl Machine {
 
     /// Plain steps of the partition and quiet calls, the first at its next decision, with which the turn
     /// begins, each in place of a decision and counted as one: as many as come before `to`, over any number of windows. What
-    /// else may come is asked once, before the first. Answers the next turn, which is the same, and nothing changes, where
+    /// else may come is asked once, before the first. Returns the next turn, which is the same, and nothing changes, where
     /// the next decision is no such step of a quiet partition, and a later one where it is a plain step of one.
     fn rows(&mut self, plan: &WindowPlan, p: PartId, turn: Turn, to: Tick) -> Turn
         requires partition { p < length self.old.accounts }
@@ -295,7 +295,7 @@ impl Machine {
         }
     }
 
-    /// Plain steps of a quiet partition and quiet calls, as `rows` tells of them, before its stop. The partition is as
+    /// Plain steps of a quiet partition and quiet calls, as `rows` says of them, before its stop. The partition is as
     /// quiet as it was, up to that stop. It has two callers, so it is compiled as a function of its own; what it calls has
     /// one, and so all of `rows_before` is compiled into it.
     fn rows_on(&mut self, plan: &WindowPlan, p: PartId, turn: Turn, quiet: Quiet, to: Tick) -> Turn
@@ -354,7 +354,7 @@ impl Machine {
         now
     }
 
-    /// Keeps where the partition was last found among its windows, which changes nothing that is told of it.
+    /// Keeps where the partition was last found among its windows, which changes nothing that is said of it.
     fn keep_near(&mut self, p: PartId, near: Near)
         requires { p < length self.old.accounts }
         ensures { self.new ≡ self.old }
@@ -364,7 +364,7 @@ impl Machine {
     }
 
     /// Plain steps of a quiet partition in a row, in the turn's window, and the quiet call behind them, where one follows
-    /// in this window. Answers the next turn, and whether the window was gone through or such a call made.
+    /// in this window. Returns the next turn, and whether the window was gone through or such a call made.
     #[inline(always)]
     fn row_and_reply(
         &mut self,
@@ -407,7 +407,7 @@ impl Machine {
     }
 
     /// Plain steps of a quiet partition in a row, the first at its next decision, with which the turn begins, each in
-    /// place of a decision and counted as one: as many as come before its stop. Answers the next turn, which is the same,
+    /// place of a decision and counted as one: as many as come before its stop. Returns the next turn, which is the same,
     /// and nothing changes, where the next step is not plain. The partition is as quiet as it was, up to that stop or a
     /// later one.
     #[tactic(auto, using(crate::proofs::States::states))]
@@ -447,7 +447,7 @@ impl Machine {
     }
 
     /// The decision of a quiet partition with which its turn begins, where that is a quiet call and ends at
-    /// the partition's stop or before. Answers the next turn, which is the same, and nothing changes, where it is any
+    /// the partition's stop or before. Returns the next turn, which is the same, and nothing changes, where it is any
     /// other or the turn begins at that stop or later. The partition is as quiet as it was, up to that stop or a later one.
     #[tactic(auto, using(crate::proofs::States::states))]
     fn reply(
@@ -505,7 +505,7 @@ fn quiet_within(quiet: &Quiet, end: Tick) -> Quiet
     }
 }
 
-/// From which tick the partition's next decision is looked for, after one at the tick with this room that came to
+/// From which tick the partition's next decision is looked for, after one at the tick with this room whose outcome is
 /// `spent`: behind the ticks that the decision takes up. After an idle one it may have nothing to do up to a later tick,
 /// at most `to`; then from that one. No tick at which it has nothing to do is missed.
 fn free_from(tables: &Tables, p: PartId, tick: Tick, room: u32, spent: Spent, to: Tick) -> Tick

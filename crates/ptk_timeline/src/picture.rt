@@ -144,7 +144,7 @@ fn put_picture<W: Write>(
 }
 
 /// Writes the picture of a recording of a system. An error where the writer fails; nothing else changes, and what the writer
-/// got before is not told.
+/// got before is not known.
 pub fn write_timeline<W: Write>(
     out: &mut W,
     config: &Config,

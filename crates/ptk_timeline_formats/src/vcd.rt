@@ -101,7 +101,7 @@ pub(crate) fn put_vcd_start<W: Write>(out: &mut W) -> io::Result<()> {
     out.write_all(b"$end\n")
 }
 
-/// Whether a signal tells of the change.
+/// Whether a signal shows the change.
 pub(crate) fn is_signal(change: &Change<'_>) -> bool {
     match change {
         Change::WindowBegins

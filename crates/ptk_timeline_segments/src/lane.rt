@@ -20,7 +20,7 @@ use std::alloc::{AllocError, Global};
 /// How many threads a partition has at most.
 const THREADS: u32 = 32;
 
-/// A partition: a row for each thread number, and what came in each column. All is told up to the tick at which something
+/// A partition: a row for each thread number, and what came in each column. All is shown up to the tick at which something
 /// of the partition can change next.
 #[derive(Drop)]
 pub struct Lane {
@@ -70,7 +70,7 @@ impl Lane {
         self.marked.columns()
     }
 
-    /// The tick at which something of the partition can change next, up to which all is told.
+    /// The tick at which something of the partition can change next, up to which all is shown.
     pub(crate) fn next_change(&self) -> u64
         ensures { result ≡ self.now.due }
     {

@@ -61,7 +61,7 @@ impl Tally {
         self.total = self.total.saturating_add(to - from);
     }
 
-    /// What the column tells of these ticks.
+    /// What the column shows of these ticks.
     pub(crate) fn cell(&self) -> Cell
         ensures { (f : ℕ → AnyLook) (a b : ℕ) → a < b → IsTallyOf f a b self.now → IsCellOf f a b result }
     {

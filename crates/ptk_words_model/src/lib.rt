@@ -115,12 +115,12 @@ pub enum Spent {
     Lost,
 }
 
-/// What a call that locks a mutex comes to (pthread_mutex_lock).
+/// The outcome of a call that locks a mutex (pthread_mutex_lock).
 #[derive(Clone, Copy, Debug, PartialEq, Eq)]
 pub enum LockMove {
     /// The caller owns the free mutex.
     Takes,
-    /// The caller owns the free mutex, whose last owner ended, and is told so (EOWNERDEAD).
+    /// The caller owns the free mutex, whose last owner ended, and gets EOWNERDEAD.
     Recovers,
     /// The caller's own recursive mutex counts up.
     Counts,

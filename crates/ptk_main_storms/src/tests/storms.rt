@@ -22,7 +22,7 @@ pub struct Storm {
     pub besides: Besides,
     /// How its part of the report begins at the last cut, 100 windows of 20 ticks.
     pub begins: &'static str,
-    /// How that part ends. Where steps are left open, the output tells that the storm came to its end.
+    /// How that part ends. Where steps are left open, the output shows that the storm ended.
     pub ends: &'static str,
 }
 
