@@ -1,2 +1,9 @@
+pub mod Tails
+pub mod Rows
+pub mod Outputs
+pub mod Written
+pub mod Decided
+pub mod LimitRuns
+pub mod Larger
 pub mod Lists
 pub mod Runs

@@ -17,7 +17,7 @@ use Rattle.ptk_system.proofs.Keeping.{state_alone, states_counted}
 use Rattle.ptk_system.proofs.NextTicks.{same_next}
 use Rattle.ptk_system.proofs.Runs.{is_plan}
 use Rattle.ptk_system.proofs.Views.{same_state, same_report}
-use Rattle.ptk_impact_limits.specs.Deeper.{TraceIsAllThatDiffers, with_trace, but_trace}
+use Rattle.ptk_impact.specs.Deeper.{TraceIsAllThatDiffers, with_trace, but_trace}
 use Rattle.ptk_impact.specs.declared.impact.Impact.{Impact}
 use Rattle.ptk_impact.specs.declared.impact.Impact.TheVariants.{Unchanged, UnchangedButForTrace, Changed}
 use Rattle.ptk_impact.specs.declared.subject.Subject.{Subject}

@@ -1,3 +1,5 @@
+pub mod Deeper
+pub mod Larger
 pub mod Views
 pub mod Changes
 pub mod Impact

@@ -8,7 +8,7 @@ use Rattle.ptk_system.specs.Laws.{SameView}
 use Rattle.ptk_system.specs.Missing.{image_in}
 use Rattle.ptk_system.specs.Shown.{part_report}
 use Rattle.ptk_system.specs.World.{World, section_at, state_of, world_at}
-use Rattle.ptk_impact_limits.specs.Deeper.{with_trace, but_trace}
+use Rattle.ptk_impact.specs.Deeper.{with_trace, but_trace}
 use Rattle.ptk_impact.specs.declared.subject.Subject.{Subject}
 
 -- ---- a partition of a system

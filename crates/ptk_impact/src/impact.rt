@@ -3,7 +3,7 @@
 ghost use Rattle.std.specs.Prelude.{◌≡◌, ◌≤◌, ℕ};
 ghost use Rattle.ptk_words.specs.declared.TheConstants.{LAST_TICK};
 ghost use Rattle.ptk_config.specs.Configuration.{IsConfiguration};
-ghost use Rattle.ptk_impact_limits.specs.Deeper.{with_trace};
+ghost use Rattle.ptk_impact.specs.Deeper.{with_trace};
 ghost use Rattle.ptk_impact.specs.Impact.{IsImpact, RunsAreAlike};
 ghost use Rattle.ptk_impact.specs.Views.{IsPartition};
 

@@ -2,7 +2,7 @@
 
 ghost use Rattle.ptk_impact.specs.Views.{DeeperTraceIsSameRun, SameViewIsSameRun};
 
-use ptk_impact_limits::trace_is_all_that_differs;
+use crate::limit_laws::trace_is_all_that_differs;
 
 /// A partition that boot sees alike in two systems is in the same state after every number of ticks up to 2^40, and its
 /// part of the report is the same where its name is.

@@ -1,7 +1,7 @@
 //! What stands between the old and the new partition.
 
 use ptk_config::Section;
-use ptk_impact::Impact;
+use ptk_impact::{Impact, LimitChange, LimitChanges};
 use ptk_words::{ImageFault, Limits};
 
 /// Two things of a partition, the old one and the new one.
@@ -79,4 +79,20 @@ pub(crate) fn impact_words(impact: &Impact) -> &'static str {
 /// The name of the file of a section's image, empty where it names none.
 pub(crate) fn file_of(section: &Section) -> &str {
     section.image().unwrap_or("")
+}
+
+/// What differs of each limit, by its key in the configuration and in the order of the keys there.
+pub(crate) fn by_key(limits: &LimitChanges) -> [(&'static str, Option<LimitChange>); 10] {
+    [
+        ("memory", limits.memory),
+        ("threads", limits.threads),
+        ("stack", limits.stack),
+        ("mutexes", limits.mutexes),
+        ("conds", limits.conditions),
+        ("keys", limits.keys),
+        ("interval", limits.interval),
+        ("ring", limits.ring),
+        ("output", limits.output),
+        ("trace", limits.trace),
+    ]
 }

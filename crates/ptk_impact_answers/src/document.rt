@@ -4,7 +4,7 @@ ghost use Rattle.std.specs.Prelude.{◌≡◌, IfOk, string_bytes};
 ghost use Rattle.json.specs.Lex.{tokens};
 ghost use Rattle.json.specs.Print.{print};
 
-use crate::comparison::{Comparison, Pair, impact_words};
+use crate::comparison::{Comparison, Pair, by_key, impact_words};
 use ptk_impact::{
     Changes, Difference, ImageChange, Impact, InputChange, LimitChange, LimitChanges,
 };
@@ -171,16 +171,9 @@ fn put_end<S: Serializer>(key: &str, end: Option<Tick>, out: &mut S) -> Result<(
 fn put_limits<S: Serializer>(limits: &LimitChanges, out: &mut S) -> Result<(), S::Error> {
     out.key("limits")?;
     out.begin_map(None)?;
-    put_limit("memory", limits.memory, out)?;
-    put_limit("threads", limits.threads, out)?;
-    put_limit("stack", limits.stack, out)?;
-    put_limit("mutexes", limits.mutexes, out)?;
-    put_limit("conds", limits.conditions, out)?;
-    put_limit("keys", limits.keys, out)?;
-    put_limit("interval", limits.interval, out)?;
-    put_limit("ring", limits.ring, out)?;
-    put_limit("output", limits.output, out)?;
-    put_limit("trace", limits.trace, out)?;
+    for (key, limit) in by_key(limits) {
+        put_limit(key, limit, out)?;
+    }
     out.end_map()
 }
 

@@ -1,6 +1,6 @@
 //! The lines of text.
 
-use crate::comparison::{Comparison, impact_words};
+use crate::comparison::{Comparison, by_key, impact_words};
 use ptk_impact::{Difference, ImageChange, Impact, InputChange, LimitChange, LimitChanges};
 use ptk_words::{Arrival, ImageFault, Tick};
 use std::io::Write;
@@ -90,16 +90,10 @@ fn put_windows<W: Write>(windows: Option<Difference>, out: &mut W) -> io::Result
 
 /// Writes the limits that differ, each by its key.
 fn put_limits<W: Write>(limits: &LimitChanges, out: &mut W) -> io::Result<()> {
-    put_limit("memory", limits.memory, out)?;
-    put_limit("threads", limits.threads, out)?;
-    put_limit("stack", limits.stack, out)?;
-    put_limit("mutexes", limits.mutexes, out)?;
-    put_limit("conds", limits.conditions, out)?;
-    put_limit("keys", limits.keys, out)?;
-    put_limit("interval", limits.interval, out)?;
-    put_limit("ring", limits.ring, out)?;
-    put_limit("output", limits.output, out)?;
-    put_limit("trace", limits.trace, out)
+    for (key, limit) in by_key(limits) {
+        put_limit(key, limit, out)?;
+    }
+    Ok(())
 }
 
 /// Writes a limit that differs, by its key.

@@ -8,7 +8,7 @@ use ptk_statistics_figures::{
     Doing, Moment, MutexStatistics, Pending, THREADS, ThreadStatistics, free_mutexes, free_numbers,
 };
 use ptk_system::{Activity, PartStatus, System};
-use ptk_words::{A0, A7, Call, ECALL, Entry, MutexNo, Owner, PartId, ThreadNo, Tick};
+use ptk_words::{A0, A7, Call, ECALL, Entry, MutexNo, Owner, PartId, ThreadNo, Tick, cost};
 use std::alloc::{AllocError, Global};
 
 /// How many mutexes a partition has at most.
@@ -22,6 +22,9 @@ const SP: u32 = 2;
 pub struct Observed {
     threads: Vec<ThreadStatistics>,
     mutexes: Vec<MutexStatistics>,
+    // the thread of the last step that was looked at, and whether something comes from outside with the next one
+    last: Option<ThreadNo>,
+    is_disturbed: bool,
 }
 
 impl Observed {
@@ -39,7 +42,12 @@ impl Observed {
         let mut threads = free_numbers(alloc, (threads as usize).min(THREADS))?;
         begin(threads.as_mut_slice(), system, p);
         let mutexes = free_mutexes(alloc, (mutexes as usize).min(MUTEXES))?;
-        Ok(Observed { threads, mutexes })
+        Ok(Observed {
+            threads,
+            mutexes,
+            last: None,
+            is_disturbed: true,
+        })
     }
 
     /// The threads, by number from 1.
@@ -58,27 +66,115 @@ impl Observed {
         requires early { at.tick ≤ LAST_TICK }
     {
         let step = step_at(system, p, at.tick);
+        match &step {
+            Some(entry) if !self.is_disturbed && is_apart(system, p, entry) => {
+                self.look_at_step(system, p, entry, at, to);
+            }
+            _ => self.look_at_all(system, p, &step, at, to),
+        }
+        if let Some(entry) = &step {
+            self.last = Some(entry.thread);
+        }
+    }
+
+    /// Whether input arrives or a deadline expires with the partition's decision at the system's tick.
+    pub(crate) fn look_ahead(&mut self, system: &System<'_>, p: PartId)
+        requires { p < length system.now.config.sections }
+    {
+        let now = system.tick();
+        let tables = system.tables();
+        self.is_disturbed = comes_by(tables.next_deadline(p), now)
+            || comes_by(tables.next_arrival_tick(p), now);
+    }
+
+    /// Looks at the thread that made this step, and at the one that made the last step before.
+    fn look_at_step(&mut self, system: &System<'_>, p: PartId, entry: &Entry, at: Moment, to: u64)
+        requires partition { p < length system.now.config.sections }
+        requires early { at.tick ≤ LAST_TICK }
+    {
+        let before = self.last;
+        let mutexes = self.mutexes.as_mut_slice();
+        if let Some(last) = before {
+            let place = last.place();
+            if last.number() != entry.thread.number() && place < self.threads.len() {
+                let activity = system.activity(p, last);
+                turn(
+                    &mut self.threads[place],
+                    mutexes,
+                    system,
+                    p,
+                    last,
+                    &activity,
+                    at,
+                );
+            }
+        }
+        let place = entry.thread.place();
+        if place < self.threads.len() {
+            let activity = system.activity(p, entry.thread);
+            make_step(
+                &mut self.threads[place],
+                mutexes,
+                system,
+                p,
+                entry,
+                &activity,
+                at,
+                to,
+            );
+        }
+        if entry.word == ECALL {
+            look_at_owners(mutexes, system, p, at);
+        }
+    }
+
+    /// Looks at all threads and mutexes.
+    fn look_at_all(
+        &mut self,
+        system: &System<'_>,
+        p: PartId,
+        step: &Option<Entry>,
+        at: Moment,
+        to: u64,
+    )
+        requires partition { p < length system.now.config.sections }
+        requires early { at.tick ≤ LAST_TICK }
+    {
         look_at_threads(
             self.threads.as_mut_slice(),
             self.mutexes.as_mut_slice(),
             system,
             p,
-            &step,
+            step,
             at,
             to,
         );
         look_at_owners(self.mutexes.as_mut_slice(), system, p, at);
     }
 
-    /// The thread of the partition's steps since, which were plain, has this stack pointer.
-    pub(crate) fn look_at_row(&mut self, system: &System<'_>, p: PartId)
+    /// The partition's running thread made plain steps, and maybe a quiet call behind them, up to a tick below which this
+    /// many ticks are the partition's own. No other thread did anything.
+    pub(crate) fn look_at_row(&mut self, system: &System<'_>, p: PartId, own: u64)
         requires { p < length system.now.config.sections }
     {
-        if let Some(entry) = system.last_step(p) {
-            let place = entry.thread.place();
-            if place < self.threads.len() {
-                look_at_stack(&mut self.threads[place], system, p, entry.thread);
-            }
+        let Some(entry) = system.last_step(p) else {
+            return;
+        };
+        let place = entry.thread.place();
+        if self.threads.len() <= place {
+            return;
+        }
+        self.last = Some(entry.thread);
+        let thread = &mut self.threads[place];
+        look_at_stack(thread, system, p, entry.thread);
+        let Some(number) = call_of(system, p, &entry) else {
+            return;
+        };
+        make_call(thread, system, p, &entry, number, Doing::Running);
+        if changes_an_owner(number) {
+            let own = own.saturating_sub(u64::from(cost(number)));
+            let tick = entry.tick.ticks();
+            look_at_owners(self.mutexes.as_mut_slice(), system, p, Moment { own, tick });
         }
     }
 
@@ -313,6 +409,57 @@ fn call_of(system: &System<'_>, p: PartId, entry: &Entry) -> Option<u32>
         Some(number) => Some(number),
         None => Some(Call::PthreadExit.number()),
     }
+}
+
+/// Whether a tick, where there is one, is this one or before it.
+fn comes_by(tick: Option<Tick>, now: Tick) -> bool {
+    match tick {
+        Some(tick) => tick.ticks() <= now.ticks(),
+        None => false,
+    }
+}
+
+/// Whether a step can change what no other thread does but the one that ran before: an instruction of a partition that goes
+/// on, no call that wakes, makes, ends or frees a thread, and no step of a thread's end.
+fn is_apart(system: &System<'_>, p: PartId, entry: &Entry) -> bool
+    requires { p < length system.now.config.sections }
+{
+    let goes_on = matches!(system.status(p), PartStatus::Idle | PartStatus::Running);
+    let Some(number) = call_of(system, p, entry) else {
+        return goes_on && entry.word != 0;
+    };
+    goes_on
+        && !matches!(
+            Call::of_number(number),
+            Some(
+                Call::Exit
+                    | Call::PthreadCreate
+                    | Call::PthreadExit
+                    | Call::PthreadJoin
+                    | Call::PthreadDetach
+                    | Call::PthreadCancel
+                    | Call::MutexUnlock
+                    | Call::CondWait
+                    | Call::CondTimedwait
+                    | Call::CondSignal
+                    | Call::CondBroadcast
+            )
+        )
+}
+
+/// Whether a call of this number can give a mutex another owner while its caller goes on.
+fn changes_an_owner(number: u32) -> bool {
+    matches!(
+        Call::of_number(number),
+        Some(
+            Call::MutexInit
+                | Call::MutexDestroy
+                | Call::MutexLock
+                | Call::MutexTrylock
+                | Call::MutexTimedlock
+                | Call::MutexUnlock
+        )
+    )
 }
 
 /// How many ticks before `to` the partition's step takes that began at the tick: up to its next decision or the end of its

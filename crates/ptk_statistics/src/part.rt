@@ -19,8 +19,8 @@ pub(crate) enum Sight {
     Coming,
     /// It made the decisions at this tick, and stands at the next.
     Decided(u64),
-    /// It went on over plain steps.
-    Computed,
+    /// It went on over plain steps and a quiet call behind them.
+    Gone,
 }
 
 /// The figures of a partition: its ticks and steps, and what its threads and mutexes did.
@@ -64,7 +64,7 @@ impl PartStatistics {
         match sight {
             Sight::Coming => self.look_ahead(system, p),
             Sight::Decided(tick) => self.look_at_decision(system, p, tick, to),
-            Sight::Computed => self.look_at_row(system, p),
+            Sight::Gone => self.look_at_row(system, p),
         }
     }
 
@@ -76,6 +76,9 @@ impl PartStatistics {
         ensures { IsKept system.now p self.new }
     {
         self.is_due = system.next(p) == Some(system.tick());
+        if self.is_due {
+            self.observed.look_ahead(system, p);
+        }
         if self.is_due && self.counted.tick() < system.tick().ticks() {
             self.count(system, p);
         }
@@ -96,7 +99,7 @@ impl PartStatistics {
         }
     }
 
-    /// Looks at the plain steps that the partition made, if it made some.
+    /// Looks at the plain steps that the partition made, and the quiet call behind them, if it made some.
     fn look_at_row(&mut self, system: &System<'_>, p: PartId)
         requires partition { p < length system.now.config.sections }
         requires early { system.now.tick ≤ LAST_TICK }
@@ -104,8 +107,9 @@ impl PartStatistics {
         ensures { IsKept system.now p self.new }
     {
         if self.counted.steps() != system.steps(p) {
-            self.observed.look_at_row(system, p);
             self.count(system, p);
+            let own = self.counted.own();
+            self.observed.look_at_row(system, p, own);
         }
     }
 

@@ -7,7 +7,7 @@ ghost use Rattle.ptk_statistics.specs.Parts.{AgreesWith, AreEnded, AreKept, IsBe
 
 use crate::part::{PartStatistics, Sight};
 use ptk_system::System;
-use ptk_words::{PartId, Tick};
+use ptk_words::{ECALL, PartId, Tick};
 use std::alloc::{AllocError, Global};
 
 /// The figures of each partition of a run.
@@ -56,15 +56,50 @@ impl Statistics {
         system.states_are_alone();
         let mut tick = system.tick().ticks();
         while tick < to.ticks() {
-            self.look(system, Sight::Coming, to);
-            system.run_to(Tick::new(tick + 1));
-            self.look(system, Sight::Decided(tick), to);
-            system.plain_to(to);
-            self.look(system, Sight::Computed, to);
-            let next = next_change(system, to);
-            system.run_to(next);
+            self.go_on(system, to);
             tick = system.tick().ticks();
         }
+    }
+
+    /// Goes on over plain steps and the quiet call behind them, or else over the decisions at the system's tick.
+    fn go_on(&mut self, system: &mut System<'_>, to: Tick)
+        requires early { to ≤ LAST_TICK }
+        requires due { system.old.tick < to }
+        requires kept { AreKept system.old self.old.parts.items }
+        ensures run { system.new ≡ at_tick system.new.tick system.old }
+        ensures on { system.old.tick < system.new.tick }
+        ensures within { system.new.tick ≤ to }
+        ensures kept { AreKept system.new self.new.parts.items }
+    {
+        let tick = system.tick();
+        if is_running(system, tick) {
+            system.call_to(to);
+            self.look(system, Sight::Gone, to);
+        }
+        let reached = system.tick();
+        if reached == tick
+            || (reached.ticks() < to.ticks() && is_behind_plain_step(system, reached))
+        {
+            self.decide(system, reached.ticks(), to);
+        }
+    }
+
+    /// Goes on over the decisions at the system's tick, and to the next change.
+    fn decide(&mut self, system: &mut System<'_>, tick: u64, to: Tick)
+        requires early { to ≤ LAST_TICK }
+        requires at { system.old.tick ≡ tick }
+        requires due { tick < to }
+        requires kept { AreKept system.old self.old.parts.items }
+        ensures run { system.new ≡ at_tick system.new.tick system.old }
+        ensures on { tick < system.new.tick }
+        ensures within { system.new.tick ≤ to }
+        ensures kept { AreKept system.new self.new.parts.items }
+    {
+        self.look(system, Sight::Coming, to);
+        system.run_to(Tick::new(tick + 1));
+        self.look(system, Sight::Decided(tick), to);
+        let next = next_change(system, to);
+        system.run_to(next);
     }
 
     /// Looks at what the system has done, or will do, of each partition.
@@ -127,6 +162,33 @@ fn first_parts(alloc: Global, system: &System<'_>) -> Result<Vec<PartStatistics>
         parts.push(PartStatistics::new(alloc, system, p, threads, mutexes)?)?;
     }
     Ok(parts)
+}
+
+/// Whether a partition that decides at the tick has a thread that runs.
+fn is_running(system: &System<'_>, tick: Tick) -> bool {
+    for i in 0..system.parts() {
+        let p = PartId::new(i as u8);
+        if system.next(p) == Some(tick) {
+            return system.running(p).is_some();
+        }
+    }
+    false
+}
+
+/// Whether a partition that decides at the tick made a plain step just before it: a row of plain steps that ended there is
+/// followed by no quiet call.
+fn is_behind_plain_step(system: &System<'_>, tick: Tick) -> bool {
+    for i in 0..system.parts() {
+        let p = PartId::new(i as u8);
+        if system.next(p) == Some(tick) {
+            return match system.last_step(p) {
+                Some(entry) => entry.word != ECALL
+                    && entry.tick.ticks().saturating_add(1) == tick.ticks(),
+                None => false,
+            };
+        }
+    }
+    false
 }
 
 /// The tick up to which no partition changes but for the tick of its next decision, at most `to`.

@@ -2,7 +2,7 @@
 use Rattle.std.specs.Prelude.{◌≡◌, ℕ, ◌+◌, List, sum}
 use Rattle.ptk_words_windows.specs.Windows.{OwnTicks}
 use Rattle.ptk_statistics_figures.specs.declared.counted.Counted.{Counted}
-use Rattle.ptk_statistics_figures.specs.Own.{own_below}
+use Rattle.ptk_statistics_figures.specs.Own.{IsOwnWindow, own_below}
 
 -- the tick up to which all is counted (own)
 abbrev pub reached : Counted → ℕ
@@ -24,7 +24,8 @@ steps_in c = c.made
 abbrev pub steps_by_thread : Counted → List ℕ
 steps_by_thread c = c.steps
 
--- the steps of the threads make up all steps, and each own tick below the tick reached is used, idle, lost or after the halt (own)
+-- the steps of the threads make up all steps, each own tick below the tick reached is used, idle, lost or after the halt, and the window at hand is one of the partition's (own)
 pub record Adds (windows : OwnTicks) (c : Counted) : Type 0 where
   pub steps : sum (steps_by_thread c) ≡ steps_in c
   pub ticks : counted_ticks c ≡ own_below windows (reached c)
+  pub window : IsOwnWindow windows c.window

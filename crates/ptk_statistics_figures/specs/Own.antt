@@ -1,8 +1,13 @@
 -- How many ticks of a partition lie below a tick.
-use Rattle.std.specs.Prelude.{ℕ, zero, suc, ◌+◌, if◌then◌else◌, is_some}
+use Rattle.std.specs.Prelude.{◌≡◌, ℕ, zero, suc, ◌+◌, ◌<◌, ◌≤◌, if◌then◌else◌, is_some, Some}
 use Rattle.ptk_words_windows.specs.Windows.{OwnTicks}
+use Rattle.ptk_statistics_figures.specs.declared.own.OwnWindow.{OwnWindow}
 
 -- how many of the ticks below n lie in the partition's windows (own)
 unfoldable pub own_below : OwnTicks → ℕ → ℕ
 own_below ticks zero = 0
 own_below ticks (suc n) = own_below ticks n + (if is_some (ticks.end_at n) then 1 else 0)
+
+-- each tick from the window's start on and before its end lies in a window of the partition that ends there (own)
+abbrev pub IsOwnWindow : OwnTicks → OwnWindow → Type 0
+IsOwnWindow ticks window = (n : ℕ) → window.start ≤ n → n < window.end → ticks.end_at n ≡ Some window.end

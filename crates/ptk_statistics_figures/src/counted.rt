@@ -4,10 +4,10 @@ ghost use Rattle.std.specs.Prelude.{◌≡◌, ◌+◌, ◌-◌, ◌<◌, ◌≤
 ghost use Rattle.ptk_statistics_figures.specs.declared.counted.TheConstants.{THREADS};
 ghost use Rattle.ptk_words.specs.declared.TheConstants.{LAST_TICK};
 ghost use Rattle.ptk_words_windows.specs.Windows.{OwnTicks, own_ticks};
-ghost use Rattle.ptk_statistics_figures.specs.Own.{own_below};
+ghost use Rattle.ptk_statistics_figures.specs.Own.{IsOwnWindow, own_below};
 ghost use Rattle.ptk_statistics_figures.specs.Counts.{Adds, counted_ticks, lost_in, reached, steps_by_thread, steps_in};
 
-use crate::own::own_between;
+use crate::own::{OwnWindow, own_between};
 use ptk_window::{Near, WindowPlan};
 use ptk_words::{PartId, ThreadNo, Tick};
 
@@ -41,6 +41,7 @@ pub struct Counted {
     next: Option<Tick>,
     is_halted: bool,
     near: Near,
+    window: OwnWindow,
 }
 
 /// What a system shows of a partition at the tick up to which its ticks are counted.
@@ -78,6 +79,7 @@ impl Counted {
             next,
             is_halted,
             near: Near::new(),
+            window: OwnWindow { start: 0, end: 0 },
         }
     }
 
@@ -136,13 +138,15 @@ impl Counted {
         requires order { self.old.tick ≤ to }
         requires time { to ≤ LAST_TICK }
         requires ticks { counted_ticks self.old ≡ own_below (own_ticks plan.now p) self.old.tick }
+        requires window { IsOwnWindow (own_ticks plan.now p) self.old.window }
+        ensures window { IsOwnWindow (own_ticks plan.now p) self.new.window }
         ensures tick { self.new.tick ≡ to }
         ensures ticks { counted_ticks self.new ≡ own_below (own_ticks plan.now p) self.new.tick }
         ensures lost { self.new.lost + self.new.ahead ≡ self.old.lost + self.old.ahead }
         ensures steps { self.new.steps ≡ self.old.steps }
         ensures made { self.new.made ≡ self.old.made }
     {
-        let own = own_between(plan, p, &mut self.near, self.tick, to);
+        let own = own_between(plan, p, &mut self.near, &mut self.window, self.tick, to);
         self.add(own, share);
         self.tick = to;
     }
@@ -155,6 +159,7 @@ impl Counted {
         ensures steps { self.new.steps ≡ self.old.steps }
         ensures made { self.new.made ≡ self.old.made }
         ensures tick { self.new.tick ≡ self.old.tick }
+        ensures window { self.new.window ≡ self.old.window }
     {
         let lost = own.min(self.ahead);
         self.lost += lost;
@@ -171,6 +176,7 @@ impl Counted {
         ensures steps { self.new.steps ≡ self.old.steps }
         ensures made { self.new.made ≡ self.old.made }
         ensures tick { self.new.tick ≡ self.old.tick }
+        ensures window { self.new.window ≡ self.old.window }
     {
         match share {
             Share::Used => self.used += ticks,

@@ -3,23 +3,43 @@
 ghost use Rattle.std.specs.Prelude.{◌≡◌, ◌+◌, ◌<◌, ◌≤◌};
 ghost use Rattle.ptk_words.specs.declared.TheConstants.{LAST_TICK};
 ghost use Rattle.ptk_words_windows.specs.Windows.{own_ticks};
-ghost use Rattle.ptk_statistics_figures.specs.Own.{own_below};
+ghost use Rattle.ptk_statistics_figures.specs.Own.{IsOwnWindow, own_below};
 
 use ptk_window::{Near, WindowPlan};
 use ptk_words::{PartId, Tick};
 
-/// How many ticks from one on and before another lie in the partition's windows. It goes from window to window; `near` is
-/// where the partition was last found among them.
-pub(crate) fn own_between(plan: &WindowPlan, p: PartId, near: &mut Near, from: u64, to: u64) -> u64
+/// A window of the partition, from `start` on, which lies in it, and up to `end`.
+#[derive(Clone, Copy)]
+pub(crate) struct OwnWindow {
+    pub(crate) start: u64,
+    pub(crate) end: u64,
+}
+
+/// How many ticks from one on and before another lie in the partition's windows. There is nothing to look up where all lie
+/// in the window at hand, which the last one looked up is then. Else it goes from window to window; `near` is where the
+/// partition was last found among them.
+pub(crate) fn own_between(
+    plan: &WindowPlan,
+    p: PartId,
+    near: &mut Near,
+    window: &mut OwnWindow,
+    from: u64,
+    to: u64,
+) -> u64
     requires order { from ≤ to }
     requires time { to ≤ LAST_TICK }
-    ensures { own_below (own_ticks plan.now p) from + result ≡ own_below (own_ticks plan.now p) to }
+    requires window { IsOwnWindow (own_ticks plan.now p) window.old }
+    ensures own { own_below (own_ticks plan.now p) from + result ≡ own_below (own_ticks plan.now p) to }
+    ensures window { IsOwnWindow (own_ticks plan.now p) window.new }
 {
+    if window.start <= from && to <= window.end {
+        return to - from;
+    }
     plan.is_plan();
     let mut own = 0;
     let mut tick = from;
     while tick < to {
-        let stretch = next_stretch(plan, p, near, tick, to);
+        let stretch = next_stretch(plan, p, near, window, tick, to);
         own += stretch.own;
         tick = stretch.end;
     }
@@ -34,9 +54,18 @@ struct Stretch {
 }
 
 /// The ticks from one on up to the end of the partition's next window, at most before another.
-fn next_stretch(plan: &WindowPlan, p: PartId, near: &mut Near, from: u64, to: u64) -> Stretch
+fn next_stretch(
+    plan: &WindowPlan,
+    p: PartId,
+    near: &mut Near,
+    window: &mut OwnWindow,
+    from: u64,
+    to: u64,
+) -> Stretch
     requires order { from < to }
     requires time { to ≤ LAST_TICK }
+    requires window { IsOwnWindow (own_ticks plan.now p) window.old }
+    ensures window { IsOwnWindow (own_ticks plan.now p) window.new }
     ensures on { from < result.end }
     ensures within { result.end ≤ to }
     ensures own { own_below (own_ticks plan.now p) from + result.own ≡ own_below (own_ticks plan.now p) result.end }
@@ -44,6 +73,10 @@ fn next_stretch(plan: &WindowPlan, p: PartId, near: &mut Near, from: u64, to: u6
     plan.is_plan();
     let Some(turn) = plan.turn_from(p, Tick::new(from), near) else {
         return Stretch { own: 0, end: to };
+    };
+    *window = OwnWindow {
+        start: turn.start.ticks(),
+        end: turn.end.ticks(),
     };
     if to <= turn.start.ticks() {
         return Stretch { own: 0, end: to };

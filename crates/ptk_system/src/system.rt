@@ -106,9 +106,9 @@ impl<'a> System<'a> {
         self.tick = self.machine.run_row(plan, self.tick, n);
     }
 
-    /// Goes on as `compute_to` does, but over plain steps alone, of one window at most: it stops before each call, whoever makes
-    /// it, and so whoever looks at the system sees each call by itself.
-    pub fn plain_to(&mut self, n: Tick)
+    /// Goes on as `compute_to` does, but over plain steps of one window at most and the quiet call behind them, which is the
+    /// last step. So whoever looks at the system sees each call by itself.
+    pub fn call_to(&mut self, n: Tick)
         requires { n ≤ LAST_TICK }
         ensures from { self.old.tick ≤ self.new.tick }
         ensures within { self.new.tick ≤ max self.old.tick n }
@@ -122,7 +122,7 @@ impl<'a> System<'a> {
         }
         let config = self.config;
         let plan = config.plan();
-        self.tick = self.machine.run_plain(plan, self.tick, n);
+        self.tick = self.machine.run_call(plan, self.tick, n);
     }
 
     /// The configuration of its boot.

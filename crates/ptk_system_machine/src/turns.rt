@@ -17,7 +17,7 @@ ghost use Rattle.ptk_system_machine.specs.Accounts.{IsBehind};
 ghost use Rattle.ptk_system_machine.specs.Turns.{IsAt, IsComing, IsFreeFrom, IsInWindow, IsPlainAt, IsStillUntil, IsUpTo, turn_at};
 ghost use Rattle.ptk_system_machine.specs.Whole.{AreWindowsOf, account_at, gone_on, put_state, state_at};
 
-mod plain;
+mod calls;
 
 use crate::account::duration;
 use crate::machine::{Machine, is_active};
@@ -235,7 +235,7 @@ impl Machine {
         let _parts = self.parts();
         plan.is_plan();
         let stop = quiet.stop.ticks();
-        let next = self.rows_on(plan, p, turn, quiet, to);
+        let next = self.rows_on(plan, p, turn, quiet, to, quiet.stop);
         if next.start.ticks() < stop {
             self.take_turn(plan, p, next, to)
         } else {
@@ -290,20 +290,30 @@ impl Machine {
         let _parts = self.parts();
         plan.is_plan();
         match self.quiet_until(p, turn.start, to) {
-            Some(quiet) => self.rows_on(plan, p, turn, quiet, to),
+            Some(quiet) => self.rows_on(plan, p, turn, quiet, to, quiet.stop),
             None => turn,
         }
     }
 
-    /// Plain steps of a quiet partition and quiet calls, as `rows` says of them, before its stop. The partition is as
-    /// quiet as it was, up to that stop. It has two callers, so it is compiled as a function of its own; what it calls has
-    /// one, and so all of `rows_before` is compiled into it.
-    fn rows_on(&mut self, plan: &WindowPlan, p: PartId, turn: Turn, quiet: Quiet, to: Tick) -> Turn
+    /// Plain steps of a quiet partition and quiet calls, as `rows` says of them, before its stop; behind the first row and
+    /// the call that ends it, only such as begin before `until`. The partition is as quiet as it was, up to that stop. It
+    /// has several callers, so it is compiled as a function of its own; what it calls has one, and so all of `rows_before`
+    /// is compiled into it.
+    fn rows_on(
+        &mut self,
+        plan: &WindowPlan,
+        p: PartId,
+        turn: Turn,
+        quiet: Quiet,
+        to: Tick,
+        until: Tick,
+    ) -> Turn
         requires partition { p < length self.old.accounts }
         requires windows { AreWindowsOf (length self.old.accounts) plan.now }
         requires time { to ≤ LAST_TICK }
         requires order { turn.start < quiet.stop }
         requires within { quiet.stop ≤ to }
+        requires until { until ≤ quiet.stop }
         requires quiet { IsStill p turn.start quiet self.old.kept }
         requires coming { IsComing (own_ticks plan.now p) to (account_at p self.old).account.next turn }
         requires behind { IsBehind turn.start (state_at p self.old) }
@@ -313,7 +323,7 @@ impl Machine {
         ensures gone { self.new ≡ gone_on (own_ticks plan.now p) p turn.start (result.start - turn.start) self.old }
         ensures still { IsStill p result.start quiet self.new.kept }
     {
-        self.rows_before(plan, p, turn, quiet, to)
+        self.rows_before(plan, p, turn, quiet, to, until)
     }
 
     /// The rows and calls of `rows_on`.
@@ -324,12 +334,14 @@ impl Machine {
         turn: Turn,
         quiet: Quiet,
         to: Tick,
+        until: Tick,
     ) -> Turn
         requires partition { p < length self.old.accounts }
         requires windows { AreWindowsOf (length self.old.accounts) plan.now }
         requires time { to ≤ LAST_TICK }
         requires order { turn.start < quiet.stop }
         requires within { quiet.stop ≤ to }
+        requires until { until ≤ quiet.stop }
         requires quiet { IsStill p turn.start quiet self.old.kept }
         requires coming { IsComing (own_ticks plan.now p) to (account_at p self.old).account.next turn }
         requires behind { IsBehind turn.start (state_at p self.old) }
@@ -341,13 +353,12 @@ impl Machine {
     {
         let _parts = self.parts();
         plan.is_plan();
-        let stop = quiet.stop.ticks();
         let mut walk = plan.walk(p, self.accounts[p.index()].near);
         let mut now = turn;
         let mut is_going = true;
         while is_going {
             let (next, goes_on) = self.row_and_reply(plan, p, now, &quiet, to, &mut walk);
-            is_going = goes_on && next.start.ticks() < stop;
+            is_going = goes_on && next.start.ticks() < until.ticks();
             now = next;
         }
         self.keep_near(p, walk.near());

@@ -5,4 +5,4 @@ use Rattle.ptk_statistics_figures.proofs.counted.Counted.pass.Goals as goal
 
 pub add-requires : goal.add-requires
 add-requires c =
-    omega (arith, c.requires.ticks, c.own_between-own.ensures, own_most (own_ticks c.args.plan.now c.args.p) c.args.to, c.requires.time)
+    omega (arith, c.requires.ticks, c.own_between-own.ensures.own, own_most (own_ticks c.args.plan.now c.args.p) c.args.to, c.requires.time)

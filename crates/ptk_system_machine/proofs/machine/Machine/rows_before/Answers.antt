@@ -34,7 +34,7 @@ loop-is_going-preserved-then-goes_on c =
           from on c.loop-is_going.invariant.gone c.row_and_reply-goes_on.ensures.gone;
       plain = λ stopped at.
           plain_later (own_ticks c.args.plan.now c.args.p) c.args.p c.args.turn.start c.loop-is_going.now.start c.row_and_reply-goes_on.result.0.start c.args.self.now c.loop-is_going.self from on c.loop-is_going.invariant.gone at c.row_and_reply-goes_on.ensures.plain;
-      before = λ e. let lt : c.ticks.result < c.ticks-stop.result = ltb-true c.ticks.result c.ticks-stop.result e in omega (arith, lt);
+      before = λ e. let lt : c.ticks.result < c.ticks-then-goes_on.result = ltb-true c.ticks.result c.ticks-then-goes_on.result e in omega (arith, lt, c.ticks.ensures, c.ticks-then-goes_on.ensures, c.requires.until);
       still = c.row_and_reply-goes_on.ensures.still;
       walk = c.row_and_reply-goes_on.ensures.walk;
     }

@@ -10,9 +10,9 @@ use Rattle.ptk_words_model.specs.declared.Spent.TheVariants.{Step, Idle, Lost}
 use Rattle.ptk_words_model.specs.State.{Part, Account, State}
 use Rattle.ptk_words_model.specs.Decision.{after_decision, spent_by_decision}
 use Rattle.ptk_words_model.specs.Run.{start, last_of, accounted, decided, is_at, after_tick_until, alone}
-use Rattle.ptk_impact_limits.specs.Deeper.{with_trace, but_trace}
-use Rattle.ptk_impact_limits.proofs.Tails.{last-none, last_both}
-use Rattle.ptk_impact_limits.proofs.Decided.{decision_same}
+use Rattle.ptk_impact.specs.Deeper.{with_trace, but_trace}
+use Rattle.ptk_impact.proofs.Tails.{last-none, last_both}
+use Rattle.ptk_impact.proofs.Decided.{decision_same}
 
 -- the accounts differ in the kept entries alone, and the shorter trace is the end of the longer one
 pub record IsSameAccount (limits : Limits) (kept : ℕ) (a b : Account) : Type 0 where

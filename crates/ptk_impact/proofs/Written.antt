@@ -27,7 +27,7 @@ use Rattle.ptk_words_model.specs.Unwinding.{after_end, after_destructor_or_end, 
 use Rattle.ptk_words_model.specs.Console.{arriving, without_arriving}
 use Rattle.ptk_words_model.specs.Decision.{after_arrival_for, after_arrival, after_arrivals, first_waiter, runner_of, with_cpu, invocation, after_effect, after_step, entry_of, step_cost, step_kind, after_whole_step, after_turn, ready_at, after_decision}
 use Rattle.ptk_words_model.specs.Run.{decided, is_at, after_tick_until}
-use Rattle.ptk_impact_limits.proofs.Outputs.{IsMore, is_kept, either_part, either_more, answer_written}
+use Rattle.ptk_impact.proofs.Outputs.{IsMore, is_kept, either_part, either_more, answer_written}
 
 -- ---- before the turn
 

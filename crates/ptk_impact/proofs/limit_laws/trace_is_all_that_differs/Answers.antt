@@ -1,7 +1,7 @@
 use Rattle.ptk_words_model.specs.Run.{alone}
-use Rattle.ptk_impact_limits.specs.Deeper.{with_trace}
-use Rattle.ptk_impact_limits.proofs.Runs.{runs_same, all_but}
-use Rattle.ptk_impact_limits.proofs.laws.trace_is_all_that_differs.Goals as goal
+use Rattle.ptk_impact.specs.Deeper.{with_trace}
+use Rattle.ptk_impact.proofs.LimitRuns.{runs_same, all_but}
+use Rattle.ptk_impact.proofs.limit_laws.trace_is_all_that_differs.Goals as goal
 
 pub returns : goal.returns
 returns c ticks limits image input kept n =

@@ -1,4 +1,4 @@
-//! How the partitions go on over plain steps alone, before any call: for an observer that is to see each call by itself.
+//! How the partitions go on up to a call: for an observer that is to see each call by itself.
 
 ghost use Rattle.std.specs.Prelude.{◌≡◌, ◌<◌, ◌≤◌, ◌-◌, ℕ, Some, length};
 ghost use Rattle.ptk_words.specs.declared.TheConstants.{LAST_TICK};
@@ -10,17 +10,17 @@ ghost use Rattle.ptk_system_machine.specs.Accounts.{IsBehind};
 ghost use Rattle.ptk_system_machine.specs.Turns.{IsComing, IsPlainAt};
 ghost use Rattle.ptk_system_machine.specs.Whole.{AreWindowsOf, account_at, gone_on, state_at};
 
-use super::{first_other, next_due, quiet_within};
+use super::{first_other, next_due};
 use crate::machine::Machine;
 use ptk_kernel::{Quiet, quiet_until};
 use ptk_window::{Turn, WindowPlan};
 use ptk_words::{PartId, Tick};
 
 impl Machine {
-    /// Goes on from a tick as `run_row` does, but by plain steps alone, of one window at most, and before any call. Returns
-    /// the tick that it reached, which is the first one only where a decision at that tick is no plain step of a quiet
-    /// partition. To each partition it does what this many ticks would do to that partition alone.
-    pub fn run_plain(&mut self, plan: &WindowPlan, tick: Tick, to: Tick) -> Tick
+    /// Goes on from a tick as `run_row` does, but by plain steps of one window at most and the quiet call behind them, which
+    /// is the last step. Returns the tick that it reached, which is the first one only where a decision at that tick is no
+    /// plain step of a quiet partition. To each partition it does what this many ticks would do to that partition alone.
+    pub fn run_call(&mut self, plan: &WindowPlan, tick: Tick, to: Tick) -> Tick
         requires windows { AreWindowsOf (length self.old.accounts) plan.now }
         requires order { tick ≤ to }
         requires time { to ≤ LAST_TICK }
@@ -45,13 +45,14 @@ impl Machine {
             p,
             Tick::new(to.ticks().min(first.end.ticks())),
         );
-        self.plain_rows(plan, p, first, stop).start
+        self.call_rows(plan, p, first, stop).start
     }
 
-    /// Plain steps of the partition, the first at its next decision, with which the turn begins, each in place of a decision
-    /// and counted as one: as many as come before `to` in the turn's window. Returns the next turn, which is the same, and
-    /// nothing changes, where the next decision is no plain step of a quiet partition, and a later one where it is one.
-    fn plain_rows(&mut self, plan: &WindowPlan, p: PartId, turn: Turn, to: Tick) -> Turn
+    /// Plain steps of the partition and the quiet call behind them, the first at its next decision, with which the turn
+    /// begins, each in place of a decision and counted as one: as many plain steps as come before `to` in the turn's window.
+    /// Returns the next turn, which is the same, and nothing changes, where the next decision is no step of a quiet
+    /// partition of this kind, and a later one where it is a plain one.
+    fn call_rows(&mut self, plan: &WindowPlan, p: PartId, turn: Turn, to: Tick) -> Turn
         requires partition { p < length self.old.accounts }
         requires windows { AreWindowsOf (length self.old.accounts) plan.now }
         requires time { to ≤ LAST_TICK }
@@ -66,37 +67,8 @@ impl Machine {
         let _parts = self.parts();
         plan.is_plan();
         match quiet_until(&self.tables, p, turn.start, to) {
-            Some(quiet) => self.plain_row(plan, p, turn, quiet, to),
+            Some(quiet) => self.rows_on(plan, p, turn, quiet, to, turn.start),
             None => turn,
         }
-    }
-
-    /// Plain steps of a quiet partition in a row, as `plain_rows` says, before its stop and its window's end.
-    fn plain_row(
-        &mut self,
-        plan: &WindowPlan,
-        p: PartId,
-        turn: Turn,
-        quiet: Quiet,
-        to: Tick,
-    ) -> Turn
-        requires partition { p < length self.old.accounts }
-        requires windows { AreWindowsOf (length self.old.accounts) plan.now }
-        requires time { to ≤ LAST_TICK }
-        requires order { turn.start < quiet.stop }
-        requires within { quiet.stop ≤ to }
-        requires quiet { IsStill p turn.start quiet self.old.kept }
-        requires coming { IsComing (own_ticks plan.now p) to (account_at p self.old).account.next turn }
-        requires behind { IsBehind turn.start (state_at p self.old) }
-        ensures from { turn.start ≤ result.start }
-        ensures plain { IsPlainAt (limits_at p self.old.kept) turn.start (part_at p self.old.kept) → turn.start < result.start }
-        ensures coming { IsComing (own_ticks plan.now p) to (account_at p self.new).account.next result }
-        ensures gone { self.new ≡ gone_on (own_ticks plan.now p) p turn.start (result.start - turn.start) self.old }
-    {
-        let _parts = self.parts();
-        plan.is_plan();
-        let within = quiet_within(&quiet, turn.end);
-        let mut walk = plan.walk(p, self.accounts[p.index()].near);
-        self.row(plan, p, turn, &within, to, &mut walk)
     }
 }

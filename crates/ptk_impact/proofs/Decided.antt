@@ -13,8 +13,8 @@ use Rattle.ptk_words_model.specs.Priority.{thread_at}
 use Rattle.ptk_words_model.specs.Schedule.{after_interval}
 use Rattle.ptk_words_model.specs.Calls.{Answer}
 use Rattle.ptk_words_model.specs.Decision.{runner_of, with_cpu, invocation, after_effect, after_step, entry_of, step_cost, step_kind, after_whole_step, after_turn, ready_at, after_decision}
-use Rattle.ptk_impact_limits.proofs.Rows.{others, IsAlike, answer_same}
-use Rattle.ptk_impact_limits.proofs.Written.{ready_kept, interval_kept}
+use Rattle.ptk_impact.proofs.Rows.{others, IsAlike, answer_same}
+use Rattle.ptk_impact.proofs.Written.{ready_kept, interval_kept}
 
 effect_same : (output kept : ℕ) (limits : Limits) (tick t pc : ℕ) (effect : Effect) (s : Part)
     → IsAlike output limits.output s.console.output (after_effect limits tick t pc effect s).console.output

@@ -4,7 +4,7 @@ use Rattle.ptk_words_quiet.specs.Quiet.{IsQuiet}
 use Rattle.ptk_kernel.specs.Kept.{limits_at, part_at}
 use Rattle.ptk_system_machine.specs.Whole.{Whole}
 use Rattle.ptk_system_machine.proofs.Ticks.{gone_start}
-use Rattle.ptk_system_machine.proofs.machine.Machine.plain_rows.Goals as goal
+use Rattle.ptk_system_machine.proofs.machine.Machine.call_rows.Goals as goal
 
 pub returns-in-None-clause-gone : goal.returns-in-None-clause-gone
 returns-in-None-clause-gone c = gone_start (own_ticks c.args.plan.now c.args.p) c.args.p c.args.turn.start (c.args.turn.start - c.args.turn.start) c.args.self.now (omega arith)

@@ -1,7 +1,7 @@
 //! Laws of the lengths of the trace and of the output, each the contract of a function without code.
 
-ghost use Rattle.ptk_impact_limits.specs.Deeper.{ShorterTraceIsTail, TraceIsAllThatDiffers};
-ghost use Rattle.ptk_impact_limits.specs.Larger.{LargerOutputIsSameRun, OutputIsOnlyAddedTo};
+ghost use Rattle.ptk_impact.specs.Deeper.{ShorterTraceIsTail, TraceIsAllThatDiffers};
+ghost use Rattle.ptk_impact.specs.Larger.{LargerOutputIsSameRun, OutputIsOnlyAddedTo};
 
 /// Two partitions with the same own ticks, image, input and limits but for the trace's length have, after every number
 /// of ticks, states that differ in the kept entries alone.

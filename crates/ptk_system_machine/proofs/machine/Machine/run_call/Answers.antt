@@ -10,10 +10,10 @@ use Rattle.ptk_system_machine.specs.Turns.{IsComing, IsPlainAt, turn_at, no_turn
 use Rattle.ptk_system_machine.specs.Whole.{IsWhole, Whole, account_at, gone_on, state_at}
 use Rattle.ptk_system_machine.proofs.Coming.{among, coming_before, none_before, row_each, turn_taken}
 use Rattle.ptk_system_machine.proofs.Progress.{goes_on, row_due}
-use Rattle.ptk_system_machine.proofs.machine.Machine.run_plain.Goals as goal
+use Rattle.ptk_system_machine.proofs.machine.Machine.run_call.Goals as goal
 
-pub plain_rows-requires-clause-due : goal.plain_rows-requires-clause-due
-plain_rows-requires-clause-due c =
+pub call_rows-requires-clause-due : goal.call_rows-requires-clause-due
+call_rows-requires-clause-due c =
     let place = among c.first_turns-turns.result c.parts.result c.in-Some.p c.in-Some.ensures.0 in
     let same : get_or c.first_turns-turns.result c.index.result c.index-turns-index.result ≡ turn_at c.in-Some.p c.first_turns-turns.result
     = ap (λ (i : ℕ). get_or c.first_turns-turns.result i c.index-turns-index.result) c.index.ensures ∙ get_or_default c.first_turns-turns.result c.in-Some.p c.index-turns-index.result no_turn place.1 in
@@ -25,8 +25,8 @@ plain_rows-requires-clause-due c =
     (λ q lt. (c.first_turns-turns.ensures.each q (omega (arith, lt, c.parts-2.ensures.count, all))).coming)
     (λ k within others. c.first_other-stop.ensures.latest k (omega (arith, within, bound)) others)
 
-pub plain_rows-requires-clause-coming : goal.plain_rows-requires-clause-coming
-plain_rows-requires-clause-coming c =
+pub call_rows-requires-clause-coming : goal.call_rows-requires-clause-coming
+call_rows-requires-clause-coming c =
     let place = among c.first_turns-turns.result c.parts.result c.in-Some.p c.in-Some.ensures.0 in
     let same : get_or c.first_turns-turns.result c.index.result c.index-turns-index.result ≡ turn_at c.in-Some.p c.first_turns-turns.result
     = ap (λ (i : ℕ). get_or c.first_turns-turns.result i c.index-turns-index.result) c.index.ensures ∙ get_or_default c.first_turns-turns.result c.in-Some.p c.index-turns-index.result no_turn place.1 in
@@ -53,9 +53,9 @@ returns-clause-each c =
     let few : length c.first_turns-turns.new.self.accounts ≤ 8 = c.parts.ensures.whole.parts.few in
     let all : length c.first_turns-turns.new.self.accounts ≡ length c.args.self.now.accounts = ap (λ (w : Whole). length w.accounts) c.first_turns-turns.ensures.same in
     let here : c.in-Some.p < length c.args.self.now.accounts = omega (arith, place.0, c.parts.ensures.count, all) in
-    let from : (turn_at c.in-Some.p c.first_turns-turns.result).start ≤ c.plain_rows.result.start = subst (λ (turn : Turn). turn.start ≤ c.plain_rows.result.start) same c.plain_rows.ensures.from in
+    let from : (turn_at c.in-Some.p c.first_turns-turns.result).start ≤ c.call_rows.result.start = subst (λ (turn : Turn). turn.start ≤ c.call_rows.result.start) same c.call_rows.ensures.from in
     let whole = subst (λ (w : Whole). IsWhole w.kept w.accounts) c.first_turns-turns.ensures.same c.parts.ensures.whole in
-    row_each c.args.plan.now c.in-Some.p c.args.tick c.plain_rows.result.start c.first_turns-turns.result c.args.self.now c.plain_rows.new.self whole here
+    row_each c.args.plan.now c.in-Some.p c.args.tick c.call_rows.result.start c.first_turns-turns.result c.args.self.now c.call_rows.new.self whole here
     c.first_turns-turns.ensures.still (c.first_turns-turns.ensures.each c.in-Some.p here).from from
     (λ q below differ. (
     let lt : q < c.parts-2.result = omega (arith, below, c.parts-2.ensures.count, all) in
@@ -63,9 +63,9 @@ returns-clause-each c =
     let taken : q < length (take c.parts-2.result c.first_turns-turns.result) = omega (arith, lt, within, length-take c.parts-2.result c.first_turns-turns.result) in
     let before : c.first_other-stop.result ≤ (turn_at q c.first_turns-turns.result).start
     = subst (λ (turn : Turn). c.first_other-stop.result ≤ turn.start) (turn_taken c.first_turns-turns.result c.parts-2.result q lt) (c.first_other-stop.ensures.each q taken differ) in
-    omega (arith, before, c.plain_rows.ensures.coming.within)))
-    (subst (λ (w : Whole). c.plain_rows.new.self ≡ gone_on (own_ticks c.args.plan.now c.in-Some.p) c.in-Some.p (turn_at c.in-Some.p c.first_turns-turns.result).start (c.plain_rows.result.start - (turn_at c.in-Some.p c.first_turns-turns.result).start) w) c.first_turns-turns.ensures.same
-    (subst (λ (turn : Turn). c.plain_rows.new.self ≡ gone_on (own_ticks c.args.plan.now c.in-Some.p) c.in-Some.p turn.start (c.plain_rows.result.start - turn.start) c.first_turns-turns.new.self) same c.plain_rows.ensures.gone))
+    omega (arith, before, c.call_rows.ensures.coming.within)))
+    (subst (λ (w : Whole). c.call_rows.new.self ≡ gone_on (own_ticks c.args.plan.now c.in-Some.p) c.in-Some.p (turn_at c.in-Some.p c.first_turns-turns.result).start (c.call_rows.result.start - (turn_at c.in-Some.p c.first_turns-turns.result).start) w) c.first_turns-turns.ensures.same
+    (subst (λ (turn : Turn). c.call_rows.new.self ≡ gone_on (own_ticks c.args.plan.now c.in-Some.p) c.in-Some.p turn.start (c.call_rows.result.start - turn.start) c.first_turns-turns.new.self) same c.call_rows.ensures.gone))
 
 pub returns-clause-on : goal.returns-clause-on
 returns-clause-on c = λ before plain.
@@ -75,8 +75,8 @@ returns-clause-on c = λ before plain.
     let all : length c.first_turns-turns.new.self.accounts ≡ length c.args.self.now.accounts = ap (λ (w : Whole). length w.accounts) c.first_turns-turns.ensures.same in
     let here : c.in-Some.p < length c.args.self.now.accounts = omega (arith, place.0, c.parts.ensures.count, all) in
     let up = c.first_turns-turns.ensures.each c.in-Some.p here in
-    goes_on c.in-Some.p c.args.tick c.args.to c.plain_rows.result.start (get_or c.first_turns-turns.result c.index.result c.index-turns-index.result) c.args.self.now
+    goes_on c.in-Some.p c.args.tick c.args.to c.call_rows.result.start (get_or c.first_turns-turns.result c.index.result c.index-turns-index.result) c.args.self.now
     (subst (λ (turn : Turn). c.args.tick ≤ turn.start) (sym same) up.from)
     (subst (λ (turn : Turn). turn.start < c.args.to → (account_at c.in-Some.p c.args.self.now).account.next ≡ Some turn.start) (sym same) up.coming.due)
-    before (plain c.in-Some.p here) c.plain_rows.ensures.from
-    (subst (λ (w : Whole). IsPlainAt (limits_at c.in-Some.p w.kept) (get_or c.first_turns-turns.result c.index.result c.index-turns-index.result).start (part_at c.in-Some.p w.kept) → (get_or c.first_turns-turns.result c.index.result c.index-turns-index.result).start < c.plain_rows.result.start) c.first_turns-turns.ensures.same c.plain_rows.ensures.plain)
+    before (plain c.in-Some.p here) c.call_rows.ensures.from
+    (subst (λ (w : Whole). IsPlainAt (limits_at c.in-Some.p w.kept) (get_or c.first_turns-turns.result c.index.result c.index-turns-index.result).start (part_at c.in-Some.p w.kept) → (get_or c.first_turns-turns.result c.index.result c.index-turns-index.result).start < c.call_rows.result.start) c.first_turns-turns.ensures.same c.call_rows.ensures.plain)

@@ -11,11 +11,11 @@ use Rattle.ptk_words_windows.specs.Windows.{OwnTicks}
 use Rattle.ptk_words_model.specs.State.{Part, State}
 use Rattle.ptk_words_model.specs.Decision.{spent_by_decision}
 use Rattle.ptk_words_model.specs.Run.{accounted, decided, is_at, after_tick_until, after_tick, alone}
-use Rattle.ptk_impact_limits.specs.Larger.{LargerOutputIsSameRun, with_output_limit, output_of}
-use Rattle.ptk_impact_limits.proofs.Outputs.{IsMore, is_kept}
-use Rattle.ptk_impact_limits.proofs.Rows.{IsAlike}
-use Rattle.ptk_impact_limits.proofs.Decided.{decision_same}
-use Rattle.ptk_impact_limits.proofs.Written.{tick_written}
+use Rattle.ptk_impact.specs.Larger.{LargerOutputIsSameRun, with_output_limit, output_of}
+use Rattle.ptk_impact.proofs.Outputs.{IsMore, is_kept}
+use Rattle.ptk_impact.proofs.Rows.{IsAlike}
+use Rattle.ptk_impact.proofs.Decided.{decision_same}
+use Rattle.ptk_impact.proofs.Written.{tick_written}
 
 more_more : (xs ys zs : List ℕ) → IsMore xs ys → IsMore ys zs → IsMore xs zs
 more_more xs ys zs (first, is_first) (last, is_last) = (first ++ last, is_last ∙ (ap (λ (l : List ℕ). l ++ last) is_first ∙ append_assoc xs first last))

@@ -1,5 +1,0 @@
-use Rattle.ptk_impact_limits.proofs.Larger.{only_added_to}
-use Rattle.ptk_impact_limits.proofs.laws.output_is_only_added_to.Goals as goal
-
-pub returns : goal.returns
-returns c = only_added_to

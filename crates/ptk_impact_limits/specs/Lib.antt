@@ -1,2 +1,0 @@
-pub mod Deeper
-pub mod Larger
