@@ -15,7 +15,6 @@ use Rattle.ptk_words_model.specs.Mutex.{mutex_at}
 use Rattle.ptk_words_model.specs.Priority.{thread_at}
 use Rattle.ptk_words_model.specs.Calls.{is_pointer}
 use Rattle.ptk_words_model.specs.Decision.{word_fetched}
-use Rattle.ptk_cancel.specs.KeptCancellations.{is_point_acting}
 use Rattle.ptk_mutex_slots.specs.Plain.{is_takeable, is_releasable}
 
 -- the mutex whose number is the word at the pointer, None where there is none; no partition has more than 64 (pthread_mutex_lock; own)
@@ -23,13 +22,17 @@ abbrev pub mutex_pointed : Word → Part → Option Mutex
 mutex_pointed pointer s =
     if is_pointer s pointer 4 && nat_le (word_at s.memory pointer) 64 then mutex_at s.locks (word_at s.memory pointer) else None
 
+-- a request is pending for the thread, with ENABLE, in whatever phase the thread is (XSH 2.9.5.2; own)
+abbrev pub has_request : ThreadNumber → Part → Bool
+has_request t s = unwrap_or (option_map (λ c. c.is_enabled && c.is_pending) (numbered s.cancellations t)) false
+
 -- the call, with this word in the thread's a0, is quiet; a number that is no call is refused at once, and so are the calls that refuse here (own)
 abbrev pub is_quiet_with : Option Call → ThreadNumber → Word → Part → Bool
 is_quiet_with None t a0 s = true
 is_quiet_with (Some PthreadSelf) t a0 s = true
 is_quiet_with (Some PthreadGetschedparam) t a0 s = true
 is_quiet_with (Some PthreadDetach) t a0 s = unwrap_or (option_map (λ (thread : Thread). is_taken thread) (thread_at s.locks a0)) true
-is_quiet_with (Some ConsolePut) t a0 s = not (unwrap_or (option_map is_point_acting (numbered s.cancellations t)) false)
+is_quiet_with (Some ConsolePut) t a0 s = not (has_request t s)
 is_quiet_with (Some MutexLock) t a0 s = is_takeable (mutex_pointed a0 s)
 is_quiet_with (Some MutexUnlock) t a0 s = is_releasable t (mutex_pointed a0 s)
 is_quiet_with (Some PthreadSetspecific) t a0 s = true

@@ -6,7 +6,6 @@
 ghost use Rattle.std.specs.Prelude.{◌≡◌, ℕ, ◌<◌, ◌≤◌, true, false, None, Some, IfSome, option_and_then, option_map, unwrap_or};
 ghost use Rattle.ptk_words.specs.Calls.{call_of};
 ghost use Rattle.ptk_words.specs.Faults.{errno_number};
-ghost use Rattle.ptk_words.specs.Pools.{numbered};
 ghost use Rattle.ptk_words.specs.Processor.{register, with_register};
 ghost use Rattle.ptk_words.specs.Threads.{is_taken};
 ghost use Rattle.ptk_words.specs.declared.TheConstants.{A0, A1, A7};
@@ -17,10 +16,9 @@ ghost use Rattle.ptk_words_model.specs.Calls.{is_pointer};
 ghost use Rattle.ptk_words_model.specs.Mutex.{mutex_at};
 ghost use Rattle.ptk_words_model.specs.Priority.{thread_at};
 ghost use Rattle.ptk_words_model.specs.State.{Part};
-ghost use Rattle.ptk_cancel.specs.KeptCancellations.{is_point_acting};
 ghost use Rattle.ptk_mutex_slots.specs.Plain.{is_releasable, is_takeable};
 ghost use Rattle.ptk_gate_moves.specs.Held.{limits_here};
-ghost use Rattle.ptk_gate_steps.specs.QuietCalls.{is_quiet_with, mutex_pointed};
+ghost use Rattle.ptk_gate_steps.specs.QuietCalls.{has_request, is_quiet_with, mutex_pointed};
 ghost use Rattle.ptk_gate_steps.specs.Replies.{IsPut};
 ghost use Rattle.ptk_gate_steps.specs.declared.quiet_calls.QuietEffect.TheVariants.{Keeps};
 
@@ -197,7 +195,7 @@ fn mutex_numbered(pools: &Pools, pointer: u32) -> Option<MutexNo>
 fn put_out(pools: &Pools, t: ThreadNo, cpu: &mut Cpu) -> QuietCall
     ensures short { result.ticks ≤ 16 }
     ensures put { call_of (register cpu.old A7) ≡ Some ConsolePut → 0 < result.ticks → IsPut (limits_here pools.now) result.ticks t cpu.old cpu.new result.effect pools.now.here }
-    ensures missed { unwrap_or (option_map is_point_acting (numbered pools.now.here.cancellations t)) false ≡ false → 0 < result.ticks }
+    ensures missed { has_request t pools.now.here ≡ false → 0 < result.ticks }
 {
     if pools.is_point_acting(t) {
         return replied(0);
