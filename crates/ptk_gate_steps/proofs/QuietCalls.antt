@@ -1,7 +1,7 @@
 -- Where no quiet call is missed.
 use Rattle.std.proofs.Common.{◌≡◌, ℕ, ◌<◌, ◌≤◌, Bool, true, false, ◌&&◌, refl, sym, ap, ◌∙◌, arith}
 use Rattle.std.proofs.lemmas.Bool.Decides.{nat_tests}
-use Rattle.std.specs.Prelude.{Option, Some, None, if◌then◌else◌, nat_le}
+use Rattle.std.specs.Prelude.{Option, None, if◌then◌else◌, nat_le}
 use Rattle.ptk_words.specs.Words.{word_at}
 use Rattle.ptk_words_model.specs.State.{Mutex, Part}
 use Rattle.ptk_words_model.specs.Mutex.{mutex_at}
