@@ -7,6 +7,10 @@ use Rattle.clap.specs.declared.error.Error.{Error}
 use Rattle.clap.specs.declared.error.kind.ErrorKind.TheVariants.{InvalidValue}
 use Rattle.clap.specs.declared.builder.action.ArgAction.TheVariants.{SetTrue}
 use Rattle.clap.specs.declared.builder.value_parser.ValueParser.TheVariants as parser
+use Rattle.ptk_main_line.specs.declared.commands.Argument.{Argument}
+use Rattle.ptk_main_line.specs.declared.commands.Takes.{Takes}
+use Rattle.ptk_main_line.specs.declared.commands.Takes.TheVariants.{Word, FreeWord, RequiredText, Nothing, Ticks, RequiredTicks, Thread, Steps}
+use Rattle.ptk_main_line.specs.declared.commands.Takes.TheVariants as takes
 use Rattle.ptk_main_line.specs.Requests.{Gives}
 use Rattle.ptk_main_line.specs.declared.requests.Request.{Request}
 
@@ -45,6 +49,22 @@ ticks_option name = number_option name 0 1099511627776
 -- --ticks N, of which N is a number from 0 to 2^40 (own)
 abbrev pub ticks : Rule
 ticks = record (ticks_option (codes "ticks")) { required = true }
+
+-- what clap is given of an argument of this name that takes this (own)
+abbrev pub rule_taking : Takes → Text → Rule
+rule_taking Word name = required_word name
+rule_taking FreeWord name = new_rule name
+rule_taking takes.Text name = text_option name
+rule_taking RequiredText name = required_option name
+rule_taking Nothing name = flag name
+rule_taking Ticks name = ticks_option name
+rule_taking RequiredTicks name = record (ticks_option name) { required = true }
+rule_taking Thread name = number_option name 1 32
+rule_taking Steps name = number_option name 1 1048576
+
+-- what clap is given of an argument of a table (own)
+abbrev pub rule_for : Argument → Rule
+rule_for argument = rule_taking argument.takes argument.name.now
 
 -- ---- the subcommands
 

@@ -1,5 +1,5 @@
 -- What a subcommand and the rows of its matches ask for.
-use Rattle.std.specs.Prelude.{◌≡◌, ◌^◌, ◌||◌, ℕ, Bool, List, Option, Some, None, is_some}
+use Rattle.std.specs.Prelude.{◌≡◌, ◌^◌, ◌||◌, Bool, List, Option, Some, is_some}
 use Rattle.std.specs.Prelude.{MatchOption, codes}
 use Rattle.clap.specs.Words.{Row, Text, first_of}
 use Rattle.ptk_main_line.specs.Values.{HasFlag, HasText, HasTicks, MayHaveNumber, MayHaveText}

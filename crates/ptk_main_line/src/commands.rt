@@ -1,13 +1,303 @@
-//! The command `ptk` and its subcommands, as `clap` builds them.
-ghost use Rattle.std.specs.Prelude.{◌≡◌, [], ◌∷◌, codes, false, IfOk};
-ghost use Rattle.clap.specs.Words.{app_of, new_app, new_rule, rule_of, with_rule, with_subcommand};
+//! The command `ptk` and its subcommands, as `clap` builds them: each has a table of its arguments.
+ghost use Rattle.std.specs.Prelude.{◌≡◌, [], ◌∷◌, false, map, Some, IfOk};
+ghost use Rattle.clap.specs.Words.{app_of, new_app, rule_of, with_rule, with_subcommand};
+ghost use Rattle.clap.specs.declared.builder.value_parser.ValueParser.TheVariants.{Unsigned};
 ghost use Rattle.clap.specs.declared.builder.command.Command.TheViews.{out-Command};
 ghost use Rattle.ptk_main_line.specs.CommandLine.{asm, check, disasm, explain, impact, ptk, run, stats, timeline, trace};
-ghost use Rattle.ptk_main_line.specs.CommandLine.{flag, number_option, required_option, required_word, run_rules, text_option, ticks, ticks_option, with_subcommands};
+ghost use Rattle.ptk_main_line.specs.CommandLine.{rule_for, run_rules, with_rules, with_subcommands};
 
 use crate::help;
 use clap::{Arg, ArgAction, Command, value_parser};
 use std::alloc::{AllocError, Global};
+
+/// What an argument takes.
+#[derive(Clone, Copy)]
+pub(crate) enum Takes {
+    /// A word by itself, which has to be there.
+    Word,
+    /// A word by itself, which may be left out.
+    FreeWord,
+    /// The text behind an option, which may be left out.
+    Text,
+    /// The text behind an option, which has to be there.
+    RequiredText,
+    /// Nothing: it is a flag.
+    Nothing,
+    /// The number of ticks behind an option, which may be left out.
+    Ticks,
+    /// The number of ticks behind an option, which has to be there.
+    RequiredTicks,
+    /// The number of a thread behind an option, which may be left out.
+    Thread,
+    /// The number of steps to keep behind an option, which may be left out.
+    Steps,
+}
+
+/// An argument of a subcommand.
+#[derive(Clone, Copy)]
+pub(crate) struct Argument {
+    /// Its name; of an option or a flag the long one.
+    name: &'static str,
+    /// What help says of it.
+    help: &'static str,
+    /// What it takes.
+    takes: Takes,
+}
+
+/// The arguments of every subcommand that runs a configuration.
+const RUNS: [Argument; 3] = [
+    Argument {
+        name: "FILE",
+        help: help::CONFIGURATION,
+        takes: Takes::Word,
+    },
+    Argument {
+        name: "ticks",
+        help: help::TICKS,
+        takes: Takes::RequiredTicks,
+    },
+    Argument {
+        name: "root",
+        help: help::ROOT,
+        takes: Takes::Text,
+    },
+];
+
+/// Those of `run` behind these.
+const RUN: [Argument; 6] = [
+    Argument {
+        name: "expect",
+        help: help::EXPECT,
+        takes: Takes::Text,
+    },
+    Argument {
+        name: "fail-on",
+        help: help::FAIL_ON,
+        takes: Takes::Text,
+    },
+    Argument {
+        name: "until-halted",
+        help: help::UNTIL_HALTED,
+        takes: Takes::Nothing,
+    },
+    Argument {
+        name: "quiet",
+        help: help::QUIET,
+        takes: Takes::Nothing,
+    },
+    Argument {
+        name: "format",
+        help: help::FORMAT,
+        takes: Takes::Text,
+    },
+    Argument {
+        name: "explain",
+        help: help::EXPLAIN_FAULT,
+        takes: Takes::Nothing,
+    },
+];
+
+/// Those of `trace` behind the arguments of a run.
+const TRACE: [Argument; 9] = [
+    Argument {
+        name: "partition",
+        help: help::PARTITION,
+        takes: Takes::RequiredText,
+    },
+    Argument {
+        name: "decode",
+        help: help::DECODE,
+        takes: Takes::Nothing,
+    },
+    Argument {
+        name: "symbols",
+        help: help::SYMBOLS,
+        takes: Takes::Text,
+    },
+    Argument {
+        name: "thread",
+        help: help::THREAD,
+        takes: Takes::Thread,
+    },
+    Argument {
+        name: "calls",
+        help: help::CALLS,
+        takes: Takes::Nothing,
+    },
+    Argument {
+        name: "from",
+        help: help::FROM_TICK,
+        takes: Takes::Ticks,
+    },
+    Argument {
+        name: "to",
+        help: help::TO_TICK,
+        takes: Takes::Ticks,
+    },
+    Argument {
+        name: "last",
+        help: help::LAST,
+        takes: Takes::Steps,
+    },
+    Argument {
+        name: "explain",
+        help: help::EXPLAIN_FAULT,
+        takes: Takes::Nothing,
+    },
+];
+
+/// Those of `timeline` behind the arguments of a run.
+const TIMELINE: [Argument; 3] = [
+    Argument {
+        name: "from",
+        help: help::FROM,
+        takes: Takes::Ticks,
+    },
+    Argument {
+        name: "format",
+        help: help::PICTURE_FORMAT,
+        takes: Takes::Text,
+    },
+    Argument {
+        name: "symbols",
+        help: help::START_SYMBOLS,
+        takes: Takes::Text,
+    },
+];
+
+/// Those of `explain` behind the arguments of a run.
+const EXPLAIN: [Argument; 3] = [
+    Argument {
+        name: "partition",
+        help: help::PARTITION,
+        takes: Takes::RequiredText,
+    },
+    Argument {
+        name: "symbols",
+        help: help::SYMBOLS,
+        takes: Takes::Text,
+    },
+    Argument {
+        name: "format",
+        help: help::FORMAT,
+        takes: Takes::Text,
+    },
+];
+
+/// Those of `stats` behind the arguments of a run.
+const STATS: [Argument; 2] = [
+    Argument {
+        name: "partition",
+        help: help::ONE_PARTITION,
+        takes: Takes::Text,
+    },
+    Argument {
+        name: "format",
+        help: help::FORMAT,
+        takes: Takes::Text,
+    },
+];
+
+/// The arguments of `asm`.
+const ASM: [Argument; 4] = [
+    Argument {
+        name: "IN",
+        help: help::SOURCE,
+        takes: Takes::Word,
+    },
+    Argument {
+        name: "OUT",
+        help: help::IMAGE,
+        takes: Takes::Word,
+    },
+    Argument {
+        name: "symbols",
+        help: help::LABELS,
+        takes: Takes::Text,
+    },
+    Argument {
+        name: "explain",
+        help: help::EXPLAIN_SOURCE,
+        takes: Takes::Nothing,
+    },
+];
+
+/// The arguments of `check`.
+const CHECK: [Argument; 4] = [
+    Argument {
+        name: "FILE",
+        help: help::CONFIGURATION,
+        takes: Takes::Word,
+    },
+    Argument {
+        name: "explain",
+        help: help::EXPLAIN,
+        takes: Takes::Nothing,
+    },
+    Argument {
+        name: "format",
+        help: help::FORMAT,
+        takes: Takes::Text,
+    },
+    Argument {
+        name: "root",
+        help: help::ROOT,
+        takes: Takes::Text,
+    },
+];
+
+/// The arguments of `disasm`.
+const DISASM: [Argument; 3] = [
+    Argument {
+        name: "IMAGE",
+        help: help::IMAGE_READ,
+        takes: Takes::Word,
+    },
+    Argument {
+        name: "OUT",
+        help: help::TEXT,
+        takes: Takes::FreeWord,
+    },
+    Argument {
+        name: "symbols",
+        help: help::SYMBOLS,
+        takes: Takes::Text,
+    },
+];
+
+/// The arguments of `impact`.
+const IMPACT: [Argument; 6] = [
+    Argument {
+        name: "OLD",
+        help: help::OLD,
+        takes: Takes::Word,
+    },
+    Argument {
+        name: "NEW",
+        help: help::NEW,
+        takes: Takes::Word,
+    },
+    Argument {
+        name: "partition",
+        help: help::ONE_PARTITION,
+        takes: Takes::Text,
+    },
+    Argument {
+        name: "rename",
+        help: help::RENAME,
+        takes: Takes::Text,
+    },
+    Argument {
+        name: "format",
+        help: help::FORMAT,
+        takes: Takes::Text,
+    },
+    Argument {
+        name: "root",
+        help: help::ROOT,
+        takes: Takes::Text,
+    },
+];
 
 /// The command with its nine subcommands, of which one has to be there.
 pub(crate) fn ptk_command<'a>(alloc: Global) -> Result<Command<'a>, AllocError>
@@ -56,188 +346,121 @@ fn with_files<'a>(alloc: Global, command: Command<'a>) -> Result<Command<'a>, Al
 fn run_command<'a>(alloc: Global) -> Result<Command<'a>, AllocError>
     ensures { IfOk result (λ c. (app_of c ≡ run) × ((out-Command c).has_globals ≡ false)) }
 {
-    let command = Command::new(alloc, "run")
-        .about(help::RUN)
-        .after_help(help::RUN_AFTER);
-    let command = with_run(alloc, command)?;
-    let expect = text_argument(alloc, "expect", help::EXPECT);
-    let command = with_argument(command, expect)?;
-    let fail_on = text_argument(alloc, "fail-on", help::FAIL_ON);
-    let command = with_argument(command, fail_on)?;
-    let until_halted = flag_argument(alloc, "until-halted", help::UNTIL_HALTED);
-    let command = with_argument(command, until_halted)?;
-    let quiet = flag_argument(alloc, "quiet", help::QUIET);
-    let command = with_argument(command, quiet)?;
-    let format = text_argument(alloc, "format", help::FORMAT);
-    let command = with_argument(command, format)?;
-    let explain = flag_argument(alloc, "explain", help::EXPLAIN_FAULT);
-    let command = with_argument(command, explain)?;
-    Ok(command)
+    run_subcommand(alloc, "run", help::RUN, help::RUN_AFTER, &RUN)
 }
 
 /// `trace`, with its arguments.
 fn trace_command<'a>(alloc: Global) -> Result<Command<'a>, AllocError>
     ensures { IfOk result (λ c. (app_of c ≡ trace) × ((out-Command c).has_globals ≡ false)) }
 {
-    let command = Command::new(alloc, "trace")
-        .about(help::TRACE)
-        .after_help(help::TRACE_AFTER);
-    let command = with_run(alloc, command)?;
-    let partition = required_argument(alloc, "partition", help::PARTITION);
-    let command = with_argument(command, partition)?;
-    let decode = flag_argument(alloc, "decode", help::DECODE);
-    let command = with_argument(command, decode)?;
-    let symbols = text_argument(alloc, "symbols", help::SYMBOLS);
-    let command = with_argument(command, symbols)?;
-    let thread = thread_argument(alloc);
-    let command = with_argument(command, thread)?;
-    let calls = flag_argument(alloc, "calls", help::CALLS);
-    let command = with_argument(command, calls)?;
-    let from = ticks_argument(alloc, "from", help::FROM_TICK);
-    let command = with_argument(command, from)?;
-    let to = ticks_argument(alloc, "to", help::TO_TICK);
-    let command = with_argument(command, to)?;
-    let last = last_argument(alloc);
-    let command = with_argument(command, last)?;
-    let explain = flag_argument(alloc, "explain", help::EXPLAIN_FAULT);
-    let command = with_argument(command, explain)?;
-    Ok(command)
+    run_subcommand(alloc, "trace", help::TRACE, help::TRACE_AFTER, &TRACE)
 }
 
 /// `timeline`, with its arguments.
 fn timeline_command<'a>(alloc: Global) -> Result<Command<'a>, AllocError>
     ensures { IfOk result (λ c. (app_of c ≡ timeline) × ((out-Command c).has_globals ≡ false)) }
 {
-    let command = Command::new(alloc, "timeline")
-        .about(help::TIMELINE)
-        .after_help(help::TIMELINE_AFTER);
-    let command = with_run(alloc, command)?;
-    let from = ticks_argument(alloc, "from", help::FROM);
-    let command = with_argument(command, from)?;
-    let format = text_argument(alloc, "format", help::PICTURE_FORMAT);
-    let command = with_argument(command, format)?;
-    let symbols = text_argument(alloc, "symbols", help::START_SYMBOLS);
-    let command = with_argument(command, symbols)?;
-    Ok(command)
+    run_subcommand(
+        alloc,
+        "timeline",
+        help::TIMELINE,
+        help::TIMELINE_AFTER,
+        &TIMELINE,
+    )
 }
 
 /// `asm`, with its arguments.
 fn asm_command<'a>(alloc: Global) -> Result<Command<'a>, AllocError>
     ensures { IfOk result (λ c. (app_of c ≡ asm) × ((out-Command c).has_globals ≡ false)) }
 {
-    let command = Command::new(alloc, "asm")
-        .about(help::ASM)
-        .after_help(help::ASM_AFTER);
-    let source = word_argument(alloc, "IN", help::SOURCE);
-    let command = with_argument(command, source)?;
-    let image = word_argument(alloc, "OUT", help::IMAGE);
-    let command = with_argument(command, image)?;
-    let symbols = text_argument(alloc, "symbols", help::LABELS);
-    let command = with_argument(command, symbols)?;
-    let explain = flag_argument(alloc, "explain", help::EXPLAIN_SOURCE);
-    let command = with_argument(command, explain)?;
-    Ok(command)
+    subcommand(alloc, "asm", help::ASM, help::ASM_AFTER, &ASM)
 }
 
 /// `check`, with its arguments.
 fn check_command<'a>(alloc: Global) -> Result<Command<'a>, AllocError>
     ensures { IfOk result (λ c. (app_of c ≡ check) × ((out-Command c).has_globals ≡ false)) }
 {
-    let command = Command::new(alloc, "check")
-        .about(help::CHECK)
-        .after_help(help::CHECK_AFTER);
-    let file = word_argument(alloc, "FILE", help::CONFIGURATION);
-    let command = with_argument(command, file)?;
-    let explain = flag_argument(alloc, "explain", help::EXPLAIN);
-    let command = with_argument(command, explain)?;
-    let format = text_argument(alloc, "format", help::FORMAT);
-    let command = with_argument(command, format)?;
-    let root = text_argument(alloc, "root", help::ROOT);
-    let command = with_argument(command, root)?;
-    Ok(command)
+    subcommand(alloc, "check", help::CHECK, help::CHECK_AFTER, &CHECK)
 }
 
 /// `disasm`, with its arguments.
 fn disasm_command<'a>(alloc: Global) -> Result<Command<'a>, AllocError>
     ensures { IfOk result (λ c. (app_of c ≡ disasm) × ((out-Command c).has_globals ≡ false)) }
 {
-    let command = Command::new(alloc, "disasm")
-        .about(help::DISASM)
-        .after_help(help::DISASM_AFTER);
-    let image = word_argument(alloc, "IMAGE", help::IMAGE_READ);
-    let command = with_argument(command, image)?;
-    let out = free_word_argument(alloc, "OUT", help::TEXT);
-    let command = with_argument(command, out)?;
-    let symbols = text_argument(alloc, "symbols", help::SYMBOLS);
-    let command = with_argument(command, symbols)?;
-    Ok(command)
+    subcommand(alloc, "disasm", help::DISASM, help::DISASM_AFTER, &DISASM)
 }
 
 /// `impact`, with its arguments.
 fn impact_command<'a>(alloc: Global) -> Result<Command<'a>, AllocError>
     ensures { IfOk result (λ c. (app_of c ≡ impact) × ((out-Command c).has_globals ≡ false)) }
 {
-    let command = Command::new(alloc, "impact")
-        .about(help::IMPACT)
-        .after_help(help::IMPACT_AFTER);
-    let old = word_argument(alloc, "OLD", help::OLD);
-    let command = with_argument(command, old)?;
-    let new = word_argument(alloc, "NEW", help::NEW);
-    let command = with_argument(command, new)?;
-    let partition = text_argument(alloc, "partition", help::ONE_PARTITION);
-    let command = with_argument(command, partition)?;
-    let rename = text_argument(alloc, "rename", help::RENAME);
-    let command = with_argument(command, rename)?;
-    let format = text_argument(alloc, "format", help::FORMAT);
-    let command = with_argument(command, format)?;
-    let root = text_argument(alloc, "root", help::ROOT);
-    let command = with_argument(command, root)?;
-    Ok(command)
+    subcommand(alloc, "impact", help::IMPACT, help::IMPACT_AFTER, &IMPACT)
 }
 
 /// `explain`, with its arguments.
 fn explain_command<'a>(alloc: Global) -> Result<Command<'a>, AllocError>
     ensures { IfOk result (λ c. (app_of c ≡ explain) × ((out-Command c).has_globals ≡ false)) }
 {
-    let command = Command::new(alloc, "explain")
-        .about(help::EXPLAIN_RUN)
-        .after_help(help::EXPLAIN_RUN_AFTER);
-    let command = with_run(alloc, command)?;
-    let partition = required_argument(alloc, "partition", help::PARTITION);
-    let command = with_argument(command, partition)?;
-    let symbols = text_argument(alloc, "symbols", help::SYMBOLS);
-    let command = with_argument(command, symbols)?;
-    let format = text_argument(alloc, "format", help::FORMAT);
-    let command = with_argument(command, format)?;
-    Ok(command)
+    run_subcommand(
+        alloc,
+        "explain",
+        help::EXPLAIN_RUN,
+        help::EXPLAIN_RUN_AFTER,
+        &EXPLAIN,
+    )
 }
 
 /// `stats`, with its arguments.
 fn stats_command<'a>(alloc: Global) -> Result<Command<'a>, AllocError>
     ensures { IfOk result (λ c. (app_of c ≡ stats) × ((out-Command c).has_globals ≡ false)) }
 {
-    let command = Command::new(alloc, "stats")
-        .about(help::STATS)
-        .after_help(help::STATS_AFTER);
-    let command = with_run(alloc, command)?;
-    let partition = text_argument(alloc, "partition", help::ONE_PARTITION);
-    let command = with_argument(command, partition)?;
-    let format = text_argument(alloc, "format", help::FORMAT);
-    let command = with_argument(command, format)?;
-    Ok(command)
+    run_subcommand(alloc, "stats", help::STATS, help::STATS_AFTER, &STATS)
 }
 
-/// The command with FILE, `--ticks N` and `--root DIR` behind the arguments that it has.
-fn with_run<'a>(alloc: Global, command: Command<'a>) -> Result<Command<'a>, AllocError>
-    ensures { IfOk result (λ c. (app_of c ≡ run_rules (app_of command.entry))
+/// A subcommand that runs a configuration: the arguments of a run, and these behind them.
+fn run_subcommand<'a>(
+    alloc: Global,
+    name: &'a str,
+    about: &'a str,
+    after: &'a str,
+    arguments: &[Argument],
+) -> Result<Command<'a>, AllocError>
+    ensures { IfOk result (λ c. (app_of c ≡ with_rules (run_rules (new_app name.entry.now)) (map rule_for arguments.now))
+        × ((out-Command c).has_globals ≡ false)) }
+{
+    let command = subcommand(alloc, name, about, after, &RUNS)?;
+    with_arguments(alloc, command, arguments)
+}
+
+/// A subcommand with these arguments, what it does, and what help says behind them.
+fn subcommand<'a>(
+    alloc: Global,
+    name: &'a str,
+    about: &'a str,
+    after: &'a str,
+    arguments: &[Argument],
+) -> Result<Command<'a>, AllocError>
+    ensures { IfOk result (λ c. (app_of c ≡ with_rules (new_app name.entry.now) (map rule_for arguments.now))
+        × ((out-Command c).has_globals ≡ false)) }
+{
+    let command = Command::new(alloc, name).about(about).after_help(after);
+    with_arguments(alloc, command, arguments)
+}
+
+/// The command with these arguments, none of them global, behind those that it has.
+fn with_arguments<'a>(
+    alloc: Global,
+    command: Command<'a>,
+    arguments: &[Argument],
+) -> Result<Command<'a>, AllocError>
+    ensures { IfOk result (λ c. (app_of c ≡ with_rules (app_of command.entry) (map rule_for arguments.now))
         × ((out-Command c).has_globals ≡ (out-Command command.entry).has_globals)) }
 {
-    let file = word_argument(alloc, "FILE", help::CONFIGURATION);
-    let command = with_argument(command, file)?;
-    let ticks = ticks_argument(alloc, "ticks", help::TICKS).required(true);
-    let command = with_argument(command, ticks)?;
-    let root = text_argument(alloc, "root", help::ROOT);
-    with_argument(command, root)
+    let mut all = command;
+    for argument in arguments {
+        all = with_argument(all, argument.build(alloc))?;
+    }
+    Ok(all)
 }
 
 /// The command with one more argument, which is not global.
@@ -249,78 +472,36 @@ fn with_argument<'a>(command: Command<'a>, argument: Arg<'a>) -> Result<Command<
     command.arg(argument)
 }
 
-/// A word that has to be there, with what help says of it.
-fn word_argument<'a>(alloc: Global, id: &'a str, help: &'a str) -> Arg<'a>
-    ensures rule { rule_of result ≡ required_word id.entry.now }
-    ensures own { result.global ≡ false }
-{
-    Arg::new(alloc, id).help(help).required(true)
+impl Argument {
+    /// The argument as `clap` has it, which is not global.
+    fn build<'a>(&self, alloc: Global) -> Arg<'a>
+        ensures rule { rule_of result ≡ rule_for self.now }
+        ensures own { result.global ≡ false }
+    {
+        let arg = Arg::new(alloc, self.name).help(self.help);
+        match self.takes {
+            Takes::Word => arg.required(true),
+            Takes::FreeWord => arg,
+            Takes::Text => arg.long(self.name),
+            Takes::RequiredText => arg.long(self.name).required(true),
+            Takes::Nothing => arg.long(self.name).action(ArgAction::SetTrue),
+            Takes::Ticks => ticks(arg, self.name),
+            Takes::RequiredTicks => ticks(arg, self.name).required(true),
+            Takes::Thread => arg
+                .long(self.name)
+                .value_parser(value_parser!(u64).range(1..=32)),
+            Takes::Steps => arg
+                .long(self.name)
+                .value_parser(value_parser!(u64).range(1..=1_048_576)),
+        }
+    }
 }
 
-/// A word that may be left out, with what help says of it.
-fn free_word_argument<'a>(alloc: Global, id: &'a str, help: &'a str) -> Arg<'a>
-    ensures rule { rule_of result ≡ new_rule id.entry.now }
-    ensures own { result.global ≡ false }
+/// The argument as an option of this name whose value is a number of ticks.
+fn ticks<'a>(arg: Arg<'a>, name: &'a str) -> Arg<'a>
+    ensures rule { rule_of result ≡ record (rule_of arg.entry) { long = Some name.entry.now; parser = Some (Unsigned 0 1099511627776) } }
+    ensures own { result.global ≡ arg.entry.global }
 {
-    Arg::new(alloc, id).help(help)
-}
-
-/// An option of this name whose value is a text, with what help says of it.
-fn text_argument<'a>(alloc: Global, name: &'a str, help: &'a str) -> Arg<'a>
-    ensures rule { rule_of result ≡ text_option name.entry.now }
-    ensures own { result.global ≡ false }
-{
-    Arg::new(alloc, name).long(name).help(help)
-}
-
-/// An option of this name whose value is a text and has to be there, with what help says of it.
-fn required_argument<'a>(alloc: Global, name: &'a str, help: &'a str) -> Arg<'a>
-    ensures rule { rule_of result ≡ required_option name.entry.now }
-    ensures own { result.global ≡ false }
-{
-    Arg::new(alloc, name).long(name).help(help).required(true)
-}
-
-/// A flag of this name, with what help says of it.
-fn flag_argument<'a>(alloc: Global, name: &'a str, help: &'a str) -> Arg<'a>
-    ensures rule { rule_of result ≡ flag name.entry.now }
-    ensures own { result.global ≡ false }
-{
-    Arg::new(alloc, name)
-        .long(name)
-        .help(help)
-        .action(ArgAction::SetTrue)
-}
-
-/// An option of this name whose value is a number of ticks, with what help says of it.
-fn ticks_argument<'a>(alloc: Global, name: &'a str, help: &'a str) -> Arg<'a>
-    ensures rule { rule_of result ≡ ticks_option name.entry.now }
-    ensures own { result.global ≡ false }
-{
-    Arg::new(alloc, name)
-        .long(name)
-        .help(help)
+    arg.long(name)
         .value_parser(value_parser!(u64).range(0..=1_099_511_627_776))
-}
-
-/// `--thread K`.
-fn thread_argument<'a>(alloc: Global) -> Arg<'a>
-    ensures rule { rule_of result ≡ number_option (codes "thread") 1 32 }
-    ensures own { result.global ≡ false }
-{
-    Arg::new(alloc, "thread")
-        .long("thread")
-        .help(help::THREAD)
-        .value_parser(value_parser!(u64).range(1..=32))
-}
-
-/// `--last K`.
-fn last_argument<'a>(alloc: Global) -> Arg<'a>
-    ensures rule { rule_of result ≡ number_option (codes "last") 1 1048576 }
-    ensures own { result.global ≡ false }
-{
-    Arg::new(alloc, "last")
-        .long("last")
-        .help(help::LAST)
-        .value_parser(value_parser!(u64).range(1..=1_048_576))
 }

@@ -1,4 +1,3 @@
-use Rattle.std.proofs.Common.{codes}
 use Rattle.clap.specs.Words.{found_of, rows_of}
 use Rattle.ptk_main_line.specs.Requests.{IsRunTo}
 use Rattle.ptk_main_line.proofs.RowFacts.{none_found}

@@ -1,0 +1,11 @@
+use Rattle.std.proofs.Common.{◌∙◌, map, ap}
+use Rattle.std.proofs.lemmas.Result.{IfOk-weaker}
+use Rattle.clap.specs.Words.{App}
+use Rattle.ptk_main_line.specs.CommandLine.{rule_for, with_rules}
+use Rattle.ptk_main_line.proofs.commands.run_subcommand.Goals as goal
+
+pub returns : goal.returns
+returns c =
+    IfOk-weaker c.with_arguments.result _ _
+    (λ r h. (h.0 ∙ ap (λ (a : App). with_rules a (map rule_for c.args.arguments.now)) c.in_ok-command.ensures.0, h.1 ∙ c.in_ok-command.ensures.1))
+    c.with_arguments.ensures
