@@ -13,7 +13,7 @@ use Rattle.ptk_words.specs.declared.sections.Limits.{Limits}
 use Rattle.ptk_words.specs.declared.threads.Thread.{Thread}
 use Rattle.ptk_words_model.specs.State.{Part, with_halt}
 use Rattle.ptk_words_model.specs.ThreadCreation.{with_new_thread}
-use Rattle.ptk_words_model.specs.Run.{empty_part, fits, main_thread, memory_of, with_image}
+use Rattle.ptk_words_model.specs.Run.{fits, main_thread, memory_of, with_image}
 use Rattle.ptk_words_well.specs.Well.{IsWell}
 use Rattle.ptk_words_well.proofs.Parts.{well_memory, well_halt}
 use Rattle.ptk_words_well.proofs.Starts.{well_least_free}

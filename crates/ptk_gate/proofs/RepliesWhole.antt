@@ -6,9 +6,9 @@ use Rattle.ptk_words_model.specs.State.{Part}
 use Rattle.ptk_words_well.specs.Well.{IsWell}
 use Rattle.ptk_words_well.proofs.Decisions.{well_decision}
 use Rattle.ptk_words_quiet.specs.Quiet.{IsQuiet}
-use Rattle.ptk_words_quiet.specs.Replies.{IsReply, after_reply}
+use Rattle.ptk_words_quiet.specs.Replies.{after_reply}
 use Rattle.ptk_words_quiet.proofs.ReplyDecisions.{reply_decided}
-use Rattle.ptk_gate_pools.specs.Kept.{Kept, part_at, put_part, limits_at}
+use Rattle.ptk_gate_pools.specs.Kept.{Kept, part_at, limits_at}
 use Rattle.ptk_gate_steps.specs.Replies.{IsMade}
 use Rattle.ptk_gate.specs.Whole.{AreWhole}
 use Rattle.ptk_gate.proofs.Wholes.{are_whole_put, well_at}

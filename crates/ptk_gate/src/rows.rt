@@ -2,6 +2,9 @@
 
 ghost use Rattle.std.specs.Prelude.{◌≡◌, ℕ, ◌+◌, ◌-◌, ◌^◌, ◌<◌, ◌≤◌, true, false, length, min, Some, IfSome};
 ghost use Rattle.std.specs.Option.{IsSomeAnd};
+ghost use Rattle.ptk_words.specs.Calls.{cost_of};
+ghost use Rattle.ptk_words.specs.Processor.{register};
+ghost use Rattle.ptk_words.specs.declared.TheConstants.{A7};
 ghost use Rattle.ptk_words.specs.declared.threads.Thread.{Thread};
 ghost use Rattle.ptk_words_instructions.specs.PlainSteps.{is_plain, plain_steps};
 ghost use Rattle.ptk_words_model.specs.Priority.{thread_at};
@@ -10,6 +13,7 @@ ghost use Rattle.ptk_words_quiet.specs.Quiet.{IsQuiet, ArePlain, core_of, after_
 ghost use Rattle.ptk_words_quiet.specs.Idle.{IsIdle};
 ghost use Rattle.ptk_trace.specs.TracedRows.{traced};
 ghost use Rattle.ptk_gate_pools.specs.Kept.{part_at, put_part, limits_at};
+ghost use Rattle.ptk_gate_steps.specs.QuietCalls.{is_quiet_call};
 ghost use Rattle.ptk_gate_steps.specs.Replies.{IsMade};
 
 use crate::tables::Tables;
@@ -54,7 +58,8 @@ impl Tables {
 
     /// The next step of a quiet partition's running thread at the tick, where that is a quiet call and ends at the
     /// partition's stop or before. How many ticks it took: it was the partition's decision, and the partition is as
-    /// quiet as it was. 0, and nothing changes, of any other step.
+    /// quiet as it was. 0, and nothing changes, of any other step: where the step is a quiet call, only if it ends after
+    /// the stop.
     pub fn make_reply(&mut self, p: PartId, quiet: Quiet, tick: Tick) -> u32
         requires partition { p < length self.old.limits }
         requires order { tick < quiet.stop }
@@ -63,6 +68,8 @@ impl Tables {
         ensures few { tick + result ≤ quiet.stop }
         ensures short { result ≤ 16 }
         ensures made { (thread : Thread) → thread_at (part_at p self.old).locks quiet.thread ≡ Some thread → 0 < result → IsMade p tick quiet.thread result thread self.old self.new }
+        ensures missed { (thread : Thread) → thread_at (part_at p self.old).locks quiet.thread ≡ Some thread → is_quiet_call quiet.thread thread (part_at p self.old) ≡ true
+            → tick + cost_of (register thread.cpu A7) ≤ quiet.stop → 0 < result }
     {
         let room = quiet.stop.ticks() - tick.ticks();
         self.pools.take(p);

@@ -4,4 +4,5 @@ pub mod QuietStops
 pub mod RepliesPut
 pub mod RepliesMade
 pub mod LocksMade
+pub mod QuietCalls
 pub mod IdleStops

@@ -3,7 +3,7 @@ use Rattle.std.proofs.Common.{◌≡◌, ℕ, ◌-◌, ◌<◌, Bool, true, fals
 use Rattle.std.specs.Prelude.{◌==◌, Option, Some, None, is_some, option_map, unwrap_or, nat_lt, if◌then◌else◌}
 use Rattle.std.proofs.lemmas.Bool.{ne_eqb, eqb-true}
 use Rattle.ptk_words.specs.Calls.{call_of, ticks_of}
-use Rattle.ptk_words.specs.Pools.{least_free, first_of_greatest}
+use Rattle.ptk_words.specs.Pools.{first_of_greatest}
 use Rattle.ptk_words.specs.Processor.{Processor, register, with_register}
 use Rattle.ptk_words.specs.Words.{word_at}
 use Rattle.ptk_words.specs.declared.TheConstants.{A0, A7}

@@ -3,15 +3,22 @@
 //! console_put, pthread_setspecific and pthread_getspecific. None of them changes anything here but the registers: its
 //! effect is returned.
 
-ghost use Rattle.std.specs.Prelude.{◌≡◌, ℕ, ◌<◌, ◌≤◌, true, None, Some, IfSome};
+ghost use Rattle.std.specs.Prelude.{◌≡◌, ℕ, ◌<◌, ◌≤◌, true, false, None, Some, IfSome, option_and_then, option_map, unwrap_or};
 ghost use Rattle.ptk_words.specs.Calls.{call_of};
 ghost use Rattle.ptk_words.specs.Faults.{errno_number};
 ghost use Rattle.ptk_words.specs.Processor.{register, with_register};
+ghost use Rattle.ptk_words.specs.Threads.{is_taken};
 ghost use Rattle.ptk_words.specs.declared.TheConstants.{A0, A1, A7};
 ghost use Rattle.ptk_words.specs.Words.{word_at};
 ghost use Rattle.ptk_words.specs.declared.calls.Call.TheVariants.{ConsolePut, PthreadDetach, PthreadGetschedparam, PthreadGetspecific, PthreadSetspecific, MutexLock, MutexUnlock};
+ghost use Rattle.ptk_words.specs.declared.threads.Thread.{Thread};
 ghost use Rattle.ptk_words_model.specs.Calls.{is_pointer};
+ghost use Rattle.ptk_words_model.specs.Mutex.{mutex_at};
+ghost use Rattle.ptk_words_model.specs.Priority.{thread_at};
+ghost use Rattle.ptk_words_model.specs.State.{Part};
+ghost use Rattle.ptk_mutex_slots.specs.Plain.{is_releasable, is_takeable};
 ghost use Rattle.ptk_gate_moves.specs.Held.{limits_here};
+ghost use Rattle.ptk_gate_steps.specs.QuietCalls.{has_request, is_quiet_with, mutex_pointed};
 ghost use Rattle.ptk_gate_steps.specs.Replies.{IsPut};
 ghost use Rattle.ptk_gate_steps.specs.declared.quiet_calls.QuietEffect.TheVariants.{Keeps};
 
@@ -49,6 +56,7 @@ pub(crate) fn put_reply(pools: &Pools, t: ThreadNo, known: Option<Call>, cpu: &m
     requires known { known ≡ call_of (register cpu.old A7) }
     ensures short { result.ticks ≤ 16 }
     ensures put { 0 < result.ticks → IsPut (limits_here pools.now) result.ticks t cpu.old cpu.new result.effect pools.now.here }
+    ensures missed { is_quiet_with known t (register cpu.old A0) pools.now.here ≡ true → 0 < result.ticks }
 {
     match known {
         None => {
@@ -85,7 +93,7 @@ pub(crate) fn put_reply(pools: &Pools, t: ThreadNo, known: Option<Call>, cpu: &m
 /// Whether `put_reply` may make this call, or a number that is no call. It costs the registers' copy where it may.
 #[inline(always)]
 pub(crate) fn may_be_quiet(known: Option<Call>) -> bool
-    ensures { known ≡ None → result ≡ true }
+    ensures { (t a0 : ℕ) (s : Part) → is_quiet_with known t a0 s ≡ true → result ≡ true }
 {
     match known {
         None
@@ -121,6 +129,7 @@ fn replied(ticks: u32) -> QuietCall
 fn lock(pools: &Pools, cpu: &mut Cpu) -> QuietCall
     ensures short { result.ticks ≤ 16 }
     ensures put { (t : ℕ) → call_of (register cpu.old A7) ≡ Some MutexLock → 0 < result.ticks → IsPut (limits_here pools.now) result.ticks t cpu.old cpu.new result.effect pools.now.here }
+    ensures missed { is_takeable (mutex_pointed (register cpu.old A0) pools.now.here) ≡ true → 0 < result.ticks }
 {
     match mutex_numbered(pools, cpu.register(A0)) {
         Some(m) => {
@@ -144,6 +153,7 @@ fn lock(pools: &Pools, cpu: &mut Cpu) -> QuietCall
 fn unlock(pools: &Pools, t: ThreadNo, cpu: &mut Cpu) -> QuietCall
     ensures short { result.ticks ≤ 16 }
     ensures put { call_of (register cpu.old A7) ≡ Some MutexUnlock → 0 < result.ticks → IsPut (limits_here pools.now) result.ticks t cpu.old cpu.new result.effect pools.now.here }
+    ensures missed { is_releasable t (mutex_pointed (register cpu.old A0) pools.now.here) ≡ true → 0 < result.ticks }
 {
     match mutex_numbered(pools, cpu.register(A0)) {
         Some(m) => {
@@ -163,9 +173,10 @@ fn unlock(pools: &Pools, t: ThreadNo, cpu: &mut Cpu) -> QuietCall
 /// The number of a mutex that the word at a pointer is, whether one has it or not; None of a pointer to no word, of 0
 /// and of a word above 64.
 #[inline]
-#[tactic(auto, using(ptk_gate_moves::proofs::Pointers::pointers))]
+#[tactic(auto, using(ptk_gate_moves::proofs::Pointers::pointers, crate::proofs::QuietCalls::pointings))]
 fn mutex_numbered(pools: &Pools, pointer: u32) -> Option<MutexNo>
-    ensures { IfSome result (λ m. (is_pointer pools.now.here pointer 4 ≡ true) × (word_at pools.now.here.memory pointer ≡ m) × (0 < m)) }
+    ensures named { IfSome result (λ m. (is_pointer pools.now.here pointer 4 ≡ true) × (word_at pools.now.here.memory pointer ≡ m) × (0 < m)) }
+    ensures pointed { option_and_then (λ m. mutex_at pools.now.here.locks m) result ≡ mutex_pointed pointer pools.now.here }
 {
     if !is_pointer(pools, pointer, 4) {
         return None;
@@ -184,6 +195,7 @@ fn mutex_numbered(pools: &Pools, pointer: u32) -> Option<MutexNo>
 fn put_out(pools: &Pools, t: ThreadNo, cpu: &mut Cpu) -> QuietCall
     ensures short { result.ticks ≤ 16 }
     ensures put { call_of (register cpu.old A7) ≡ Some ConsolePut → 0 < result.ticks → IsPut (limits_here pools.now) result.ticks t cpu.old cpu.new result.effect pools.now.here }
+    ensures missed { has_request t pools.now.here ≡ false → 0 < result.ticks }
 {
     if pools.is_point_acting(t) {
         return replied(0);
@@ -207,6 +219,7 @@ fn put_out(pools: &Pools, t: ThreadNo, cpu: &mut Cpu) -> QuietCall
 fn set_specific(pools: &Pools, cpu: &mut Cpu) -> QuietCall
     ensures short { result.ticks ≤ 16 }
     ensures put { (t : ℕ) → call_of (register cpu.old A7) ≡ Some PthreadSetspecific → IsPut (limits_here pools.now) result.ticks t cpu.old cpu.new result.effect pools.now.here }
+    ensures made { 0 < result.ticks }
 {
     let key = KeyNo::new(cpu.register(A0));
     if !pools.is_key(key) {
@@ -266,7 +279,8 @@ fn tell_scheduling(pools: &Pools, cpu: &mut Cpu)
 /// detached or has a joiner. False of one that detaches, and the registers stay.
 #[tactic(auto, using(crate::proofs::RepliesPut::replies))]
 fn refuse_detachment(pools: &Pools, cpu: &mut Cpu) -> bool
-    ensures { (t : ℕ) → result ≡ true → call_of (register cpu.old A7) ≡ Some PthreadDetach → IsPut (limits_here pools.now) 6 t cpu.old cpu.new Keeps pools.now.here }
+    ensures put { (t : ℕ) → result ≡ true → call_of (register cpu.old A7) ≡ Some PthreadDetach → IsPut (limits_here pools.now) 6 t cpu.old cpu.new Keeps pools.now.here }
+    ensures refused { result ≡ unwrap_or (option_map (λ (thread : Thread). is_taken thread) (thread_at pools.now.here.locks (register cpu.old A0))) true }
 {
     let Some(target) = named_thread(pools, cpu.register(A0)) else {
         refuse(cpu, Errno::ESRCH);

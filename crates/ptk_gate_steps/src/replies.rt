@@ -1,13 +1,17 @@
 //! Quiet calls, which reply at once, wake nobody and change no priority, made on their caller's registers where they
 //! stand (`make_reply`); `quiet_calls` says which calls they are.
 
-ghost use Rattle.std.specs.Prelude.{◌≡◌, ◌+◌, ◌^◌, ◌<◌, ◌≤◌, Some};
+ghost use Rattle.std.specs.Prelude.{◌≡◌, ◌+◌, ◌^◌, ◌<◌, ◌≤◌, true, Some};
+ghost use Rattle.ptk_words.specs.Calls.{cost_of};
+ghost use Rattle.ptk_words.specs.Processor.{register};
+ghost use Rattle.ptk_words.specs.declared.TheConstants.{A7};
 ghost use Rattle.ptk_words.specs.declared.threads.Thread.{Thread};
 ghost use Rattle.ptk_words_model.specs.Priority.{thread_at};
 ghost use Rattle.ptk_words_model.specs.Schedule.{with_thread};
 ghost use Rattle.ptk_words_model.specs.State.{with_locks};
 ghost use Rattle.ptk_words_quiet.specs.Quiet.{computed};
 ghost use Rattle.ptk_gate_moves.specs.Held.{limits_here};
+ghost use Rattle.ptk_gate_steps.specs.QuietCalls.{is_quiet_call};
 ghost use Rattle.ptk_gate_steps.specs.Replies.{IsMadeHere, IsPlainEffect, after_quiet_effect};
 
 use crate::kinds::word_fetched;
@@ -17,13 +21,14 @@ use ptk_words::{A0, A7, Call, Cpu, ECALL, Entry, Policy, ThreadNo, Tick};
 
 /// Makes the next step of a thread of the partition in hand, where that is a quiet call that takes at most `room` ticks:
 /// the thread has the reply, its ticks are counted, the call's effect is made, and it is the last step. Returns its ticks;
-/// 0, and nothing changes, of any other step.
+/// 0, and nothing changes, of any other step: where the step is a quiet call, only if it takes more than `room` ticks.
 pub fn make_reply(pools: &mut Pools, t: ThreadNo, tick: Tick, room: u64) -> u32
     requires used { (thread : Thread) → thread_at pools.old.here.locks t ≡ Some thread → thread.used + 16 < 2 ^ 32 }
     ensures none { result ≡ 0 → pools.new ≡ pools.old }
     ensures fits { result ≤ room }
     ensures short { result ≤ 16 }
     ensures made { (thread : Thread) → thread_at pools.old.here.locks t ≡ Some thread → 0 < result → IsMadeHere tick t result thread pools.old pools.new }
+    ensures missed { (thread : Thread) → thread_at pools.old.here.locks t ≡ Some thread → is_quiet_call t thread pools.old.here ≡ true → cost_of (register thread.cpu A7) ≤ room → 0 < result }
 {
     let Some(thread) = pools.thread_ref(t) else {
         return 0;

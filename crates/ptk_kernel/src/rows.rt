@@ -2,6 +2,9 @@
 
 ghost use Rattle.std.specs.Prelude.{◌≡◌, ℕ, ◌+◌, ◌^◌, ◌<◌, ◌≤◌, true, false, length, Some, IfSome};
 ghost use Rattle.std.specs.Option.{IsSomeAnd};
+ghost use Rattle.ptk_words.specs.Calls.{cost_of};
+ghost use Rattle.ptk_words.specs.Processor.{register};
+ghost use Rattle.ptk_words.specs.declared.TheConstants.{A7};
 ghost use Rattle.ptk_words.specs.declared.threads.Thread.{Thread};
 ghost use Rattle.ptk_words_instructions.specs.PlainSteps.{is_plain, plain_steps};
 ghost use Rattle.ptk_words_model.specs.declared.Spent.TheVariants.{Step};
@@ -11,6 +14,7 @@ ghost use Rattle.ptk_words_model.specs.Run.{is_active};
 ghost use Rattle.ptk_words_quiet.specs.Quiet.{IsQuiet, core_of};
 ghost use Rattle.ptk_words_quiet.specs.Idle.{IsIdle};
 ghost use Rattle.ptk_gate.specs.Kept.{part_at, put_part, limits_at};
+ghost use Rattle.ptk_gate_steps.specs.QuietCalls.{is_quiet_call};
 ghost use Rattle.ptk_kernel.specs.Rows.{IsRow, IsStill, IsStillTo};
 
 use ptk_gate::Tables;
@@ -54,8 +58,8 @@ pub fn compute(tables: &mut Tables, p: PartId, quiet: Quiet, tick: Tick, trace: 
 
 /// The decision of a quiet partition at the tick, where its next step is a quiet call, which replies at once, wakes
 /// nobody and changes no priority, and ends at the partition's stop or before. How many ticks it took; the partition is
-/// as quiet as it was, up to that stop or a later one. 0, and nothing changes, where the next step is any other. No other
-/// partition changes.
+/// as quiet as it was, up to that stop or a later one. 0, and nothing changes, where the next step is any other; where it
+/// is a quiet call, only if that ends after the stop. No other partition changes.
 pub fn reply(tables: &mut Tables, p: PartId, quiet: Quiet, tick: Tick) -> u32
     requires partition { p < length tables.old.limits }
     requires order { tick < quiet.stop }
@@ -63,6 +67,8 @@ pub fn reply(tables: &mut Tables, p: PartId, quiet: Quiet, tick: Tick) -> u32
     ensures none { result ≡ 0 → tables.new ≡ tables.old }
     ensures within { tick + result ≤ quiet.stop }
     ensures short { result ≤ 16 }
+    ensures missed { (thread : Thread) → thread_at (part_at p tables.old).locks quiet.thread ≡ Some thread → is_quiet_call quiet.thread thread (part_at p tables.old) ≡ true
+        → tick + cost_of (register thread.cpu A7) ≤ quiet.stop → 0 < result }
     ensures told { (room : ℕ) → 0 < result → result ≤ room → Step result ≡ spent_by_decision (limits_at p tables.old) tick room (part_at p tables.old) }
     ensures moved { (room : ℕ) → 0 < result → result ≤ room → tables.new ≡ put_part p (after_decision (limits_at p tables.old) tick room (part_at p tables.old)) tables.old }
     ensures still { (stop : ℕ) → quiet.stop ≤ stop → IsStillTo p tick stop quiet.thread tables.old → IsStillTo p (tick + result) stop quiet.thread tables.new }

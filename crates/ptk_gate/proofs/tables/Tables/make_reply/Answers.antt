@@ -1,4 +1,4 @@
-use Rattle.std.proofs.Common.{◌≡◌, ◌<◌, ◌≤◌, ◌+◌, ◌∙◌, length, sym, ap, subst, arith}
+use Rattle.std.proofs.Common.{◌≡◌, ◌<◌, ◌≤◌, ◌+◌, ◌∙◌, true, length, sym, ap, subst, arith}
 use Rattle.std.specs.Prelude.{Some}
 use Rattle.ptk_words.specs.declared.threads.Thread.{Thread}
 use Rattle.ptk_words_model.specs.Priority.{thread_at}
@@ -6,6 +6,7 @@ use Rattle.ptk_words_quiet.specs.Quiet.{IsQuiet}
 use Rattle.ptk_gate_pools.specs.Kept.{Kept, part_at, limits_at}
 use Rattle.ptk_gate_pools.specs.Held.{Held, all_of}
 use Rattle.ptk_gate_pools.proofs.Hands.{all-held}
+use Rattle.ptk_gate_steps.specs.QuietCalls.{is_quiet_call}
 use Rattle.ptk_gate_steps.specs.Replies.{IsMade}
 use Rattle.ptk_gate_steps.proofs.RepliesMade.{made_in_tables}
 use Rattle.ptk_gate.proofs.RepliesWhole.{reply_whole}
@@ -35,3 +36,11 @@ returns-clause-made c = λ thread found some.
     ap (λ (h : Held). thread_at h.here.locks c.args.quiet.thread) c.take.ensures ∙ ap (λ (kept : Kept). thread_at (part_at c.args.p kept).locks c.args.quiet.thread) c.self.view_is ∙ found in
     subst (λ (kept : Kept). IsMade c.args.p c.args.tick c.args.quiet.thread c.make_reply.result thread kept (all_of c.make_reply.new.pools)) c.self.view_is
     (made_in_tables c.args.p c.args.tick c.args.quiet.thread c.make_reply.result thread (all_of c.self.inside.pools) c.take.new.self c.make_reply.new.pools c.take.ensures (c.make_reply.ensures.made thread found_here some))
+
+pub returns-clause-missed : goal.returns-clause-missed
+returns-clause-missed c = λ thread found quiet fits.
+    let found_here : thread_at c.take.new.self.here.locks c.args.quiet.thread ≡ Some thread =
+    ap (λ (h : Held). thread_at h.here.locks c.args.quiet.thread) c.take.ensures ∙ ap (λ (kept : Kept). thread_at (part_at c.args.p kept).locks c.args.quiet.thread) c.self.view_is ∙ found in
+    let quiet_here : is_quiet_call c.args.quiet.thread thread c.take.new.self.here ≡ true =
+    ap (λ (h : Held). is_quiet_call c.args.quiet.thread thread h.here) c.take.ensures ∙ ap (λ (kept : Kept). is_quiet_call c.args.quiet.thread thread (part_at c.args.p kept)) c.self.view_is ∙ quiet in
+    c.make_reply.ensures.missed thread found_here quiet_here (omega (arith, fits))
