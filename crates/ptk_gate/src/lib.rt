@@ -6,7 +6,7 @@
 //! - That each partition's part is whole (`IsWell`) is the invariant of `Tables`, kept by every call.
 //! - It requires that p is not halted and a thread of it runs.
 //! - `Tables::quiet_until` returns the tick up to which a partition is quiet, `Tables::run_row` makes its plain steps
-//!   in a row, and `Tables::make_reply` a quiet call.
+//!   in a row, and `Tables::make_reply` a quiet call, of which it misses none.
 //! - `effective_priority` and `owner` return these of a thread and of a mutex.
 //!
 //! Each public call names its partition, takes it in hand and makes the model's move on the part in hand. This is the

@@ -7,7 +7,7 @@
 //! - The ticks up to which the partition only computes (`quiet_until`) or has nothing to do (`idle_until`); both are
 //!   the latest such tick.
 //! - `make_reply` makes a quiet call in its caller's registers, and its effect: a mutex taken or given, a byte put, or
-//!   a value of a key set.
+//!   a value of a key set. It misses none that fits its room (`missed`, by `is_quiet_call`).
 //!
 //! What the gate's tables ask without a change takes a `Look` at one partition, whichever is in hand, and its clauses
 //! speak of that partition's numbers and part alone. Below are the pools and the instructions; above are the gate's

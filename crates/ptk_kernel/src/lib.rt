@@ -8,7 +8,7 @@
 //! - `compute` makes plain steps of a quiet partition in a row in place of decisions, up to that tick, with the part
 //!   and the trace after these plain steps.
 //! - It ends early only before a step that is not plain, or after 2^31 steps.
-//! - `reply` makes the decision of a quiet partition whose next step is a quiet call.
+//! - `reply` makes the decision of a quiet partition whose next step is a quiet call, and misses none that ends in time.
 //! - Both leave it as quiet as it was.
 //! - `prepare` is its part up to the choice of the running thread (`ready_at`), and `take_turn` the rest (`after_turn`,
 //!   `spent_in_turn`), of whatever state p is in.
