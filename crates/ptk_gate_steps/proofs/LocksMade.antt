@@ -23,7 +23,7 @@ use Rattle.ptk_words_model.specs.declared.LockMove.TheVariants as moves
 use Rattle.ptk_words_model.specs.State.{Mutex, Locks, Part, with_locks}
 use Rattle.ptk_words_model.specs.Priority.{is_owner, assigned_priority, effective_priority}
 use Rattle.ptk_words_model.specs.Mutex.{mutex_at, with_mutex, is_free, is_raising, is_above_ceiling, owner_move, free_move, own_lock_move, lock_move, owns, waiters_of, count_of, soundness_of, after_take, after_free, after_hand_over_to, after_last_unlock, after_unlock}
-use Rattle.ptk_words_model.specs.MutexCalls.{mutex_lock, mutex_unlock, make_move}
+use Rattle.ptk_words_model.specs.MutexCalls.{is_locked, mutex_lock, mutex_unlock, make_move}
 use Rattle.ptk_words_model.specs.Calls.{Answer, replied, refusal, success, is_pointer}
 use Rattle.ptk_words_model.specs.CallTable.{answer_to}
 use Rattle.ptk_words_model.specs.Steps.{Row, readable, mutex_named}
@@ -32,7 +32,7 @@ use Rattle.ptk_words_well.specs.Rests.{lock_by, unlock_named}
 use Rattle.ptk_mutex_slots.specs.Plain.{is_sound, is_takeable, is_releasable}
 use Rattle.ptk_mutex_slots.proofs.Plain.{takeable_plain, releasable_plain}
 use Rattle.ptk_gate_steps.specs.declared.quiet_calls.QuietEffect.TheVariants.{Takes, Releases}
-use Rattle.ptk_gate_steps.specs.Replies.{IsPut}
+use Rattle.ptk_gate_steps.specs.Replies.{IsPut, is_contended}
 
 -- ---- the moves
 
@@ -91,6 +91,32 @@ freed t m locks is =
     ap (λ (n : ℕ). if nat_lt 1 n then with_mutex m (λ mutex. record mutex { count = mutex.count - 1 }) locks else after_last_unlock (soundness_of (mutex_at locks m)) m locks) is.once
     ∙ (ap (λ (soundness : Soundness). after_last_unlock soundness m locks) is.sound
     ∙ ap (λ (ts : List ℕ). after_hand_over_to (first_of_greatest (effective_priority locks) ts) m locks) is.alone)
+
+-- ---- the mutexes that threads wait for
+
+free_by : (owner : Owner) (some : Bool) → is_free owner ≡ true → (not (is_free owner) && some) ≡ false
+free_by Free some e = refl
+free_by Abandoned some e = absurd (cc e)
+free_by (OwnedBy t) some e = absurd (cc e)
+
+last_and : (a b c : Bool) → (a && b && c) ≡ true → c ≡ true
+last_and true true true e = refl
+last_and true true false e = absurd (cc e)
+last_and true false c e = absurd (cc e)
+last_and false b c e = absurd (cc e)
+
+-- the mutex that a lock takes is not owned
+takeable_alone : (x : Option Mutex) → is_takeable x ≡ true → is_contended x ≡ false
+takeable_alone None e = absurd (cc e)
+takeable_alone (Some m) e = free_by m.owner (nat_lt 0 (length m.waiters)) (last_and (not (is_raising m.protocol)) (is_sound m.soundness) (is_free m.owner) e)
+
+alone_by : (locked : Bool) (ts : List ℕ) → ts ≡ [] → (locked && nat_lt 0 (length ts)) ≡ false
+alone_by true ts e = ap (λ (us : List ℕ). nat_lt 0 (length us)) e
+alone_by false ts e = refl
+
+-- none waits for the mutex that an unlock frees
+releasable_alone : (t : ℕ) (x : Option Mutex) → is_releasable t x ≡ true → is_contended x ≡ false
+releasable_alone t x e = alone_by (is_locked x) (waiters_of x) (last t x e).alone
 
 -- ---- the mutex of a word
 
@@ -157,7 +183,7 @@ lock_put limits t m before after s e pointed word some free left = record {
       ap (λ (o : Option Call). (answer_to o (invocation limits tick t before) (with_cpu t before s)).part) e
       ∙ lock_row m (invocation limits tick t before) (with_cpu t before s) (named_with t m (register before A0) before s named) free;
   left = left;
-  plain = takeable_plain (mutex_at s.locks m) free;
+  plain = (takeable_plain (mutex_at s.locks m) free, takeable_alone (mutex_at s.locks m) free);
 }
 
 -- pthread_mutex_unlock
@@ -171,7 +197,7 @@ unlock_put limits t m before after s e pointed word some free left = record {
       ap (λ (o : Option Call). (answer_to o (invocation limits tick t before) (with_cpu t before s)).part) e
       ∙ unlock_row m (invocation limits tick t before) (with_cpu t before s) (named_with t m (register before A0) before s named) free;
   left = left;
-  plain = releasable_plain t (mutex_at s.locks m) free;
+  plain = (releasable_plain t (mutex_at s.locks m) free, releasable_alone t (mutex_at s.locks m) free);
 }
 
 pub ruleset locks = (lock_put, unlock_put)

@@ -1,7 +1,8 @@
 -- How a quiet call is made: its reply and ticks put, its effect made, and the last step noted.
 use Rattle.std.proofs.Common.{◌≡◌, ℕ, ◌+◌, Bool, true, false, refl, sym, ap, subst, ◌∙◌}
 use Rattle.std.specs.Prelude.{Option, Some, if◌then◌else◌}
-use Rattle.ptk_words.specs.Pools.{pool_get, pool_set}
+use Rattle.std.proofs.lemmas.Bool.{false≢true}
+use Rattle.ptk_words.specs.Pools.{pool_changed, pool_get, pool_set}
 use Rattle.ptk_words.specs.Processor.{Processor}
 use Rattle.ptk_words.specs.declared.TheConstants.{ECALL}
 use Rattle.ptk_words.specs.declared.mutexes.Owner.TheVariants.{Free, OwnedBy}
@@ -11,12 +12,13 @@ use Rattle.ptk_words.specs.declared.threads.Policy.{Policy}
 use Rattle.ptk_words.specs.declared.threads.Policy.TheVariants.{Fifo, RoundRobin}
 use Rattle.ptk_words.specs.declared.threads.Thread.{Thread}
 use Rattle.ptk_words_instructions.specs.Instructions.{with_next_pc}
-use Rattle.ptk_words_model.specs.State.{Part, with_locks, with_console}
+use Rattle.ptk_words_model.specs.State.{Mutex, Part, with_locks, with_console}
+use Rattle.ptk_words_model.specs.Mutex.{mutex_at}
 use Rattle.ptk_words_model.specs.Priority.{thread_at, effective_priority}
 use Rattle.ptk_words_model.specs.Schedule.{with_thread, with_used, is_round_robin}
 use Rattle.ptk_words_model.specs.Console.{is_full, with_output}
 use Rattle.ptk_words_model.specs.Decision.{with_cpu, word_fetched}
-use Rattle.ptk_words_locks.proofs.Pools.{changed_twice}
+use Rattle.ptk_words_locks.proofs.Pools.{changed_other, changed_twice}
 use Rattle.ptk_words_quiet.specs.Quiet.{computed}
 use Rattle.ptk_words_quiet.specs.Replies.{Outcome, outcome_of, with_outcome, reply_entry, after_reply}
 use Rattle.ptk_words_quiet.proofs.PlainDecisions.{with_registers_of}
@@ -28,7 +30,7 @@ use Rattle.ptk_gate_pools.proofs.Hands.{all-done}
 use Rattle.ptk_gate_moves.proofs.PlainMutexes.{effective-plain}
 use Rattle.ptk_gate_steps.specs.declared.quiet_calls.QuietEffect.{QuietEffect}
 use Rattle.ptk_gate_steps.specs.declared.quiet_calls.QuietEffect.TheVariants.{Keeps, Takes, Releases, Puts, Sets}
-use Rattle.ptk_gate_steps.specs.Replies.{IsPut, IsPlainEffect, IsMadeHere, IsMade, after_quiet_effect}
+use Rattle.ptk_gate_steps.specs.Replies.{IsPut, IsPlainEffect, IsMadeHere, IsMade, KeepsContended, after_quiet_effect, is_contended}
 
 -- ---- the registers and the ticks put
 
@@ -53,10 +55,22 @@ left_robin t n used cpu thread policy s found same robin counted =
 -- the outcome of an effect changes no priority
 effect_plain : (effect : QuietEffect) (t u : ℕ) (limits : Limits) (s : Part) → IsPlainEffect effect limits s → effective_priority (with_outcome (outcome_of (after_quiet_effect effect t s)) s).locks u ≡ effective_priority s.locks u
 effect_plain Keeps t u limits s plain = refl
-effect_plain (Takes m) t u limits s plain = ap (λ (rank : ℕ → ℕ). rank u) (effective-plain m (λ mutex. record mutex { owner = OwnedBy t; count = 1 }) s.threads s.mutexes (λ mutex. refl) plain)
-effect_plain (Releases m) t u limits s plain = ap (λ (rank : ℕ → ℕ). rank u) (effective-plain m (λ mutex. record mutex { owner = Free; count = 0 }) s.threads s.mutexes (λ mutex. refl) plain)
+effect_plain (Takes m) t u limits s plain = ap (λ (rank : ℕ → ℕ). rank u) (effective-plain m (λ mutex. record mutex { owner = OwnedBy t; count = 1 }) s.threads s.mutexes (λ mutex. refl) plain.0)
+effect_plain (Releases m) t u limits s plain = ap (λ (rank : ℕ → ℕ). rank u) (effective-plain m (λ mutex. record mutex { owner = Free; count = 0 }) s.threads s.mutexes (λ mutex. refl) plain.0)
 effect_plain (Puts byte) t u limits s plain = refl
 effect_plain (Sets k value) t u limits s plain = refl
+
+-- a mutex that threads wait for is another than one that none waits for
+contended_other : (k m : ℕ) (f : Mutex → Mutex) (s : Part) → is_contended (mutex_at s.locks m) ≡ false → is_contended (mutex_at s.locks k) ≡ true → pool_get (pool_changed m f s.mutexes) k ≡ mutex_at s.locks k
+contended_other k m f s none some = changed_other m k f s.mutexes (λ same. false≢true (sym none ∙ (ap (λ (j : ℕ). is_contended (mutex_at s.locks j)) (sym same) ∙ some)))
+
+-- the outcome of an effect leaves each mutex that threads wait for
+effect_keeps : (effect : QuietEffect) (t : ℕ) (limits : Limits) (s : Part) → IsPlainEffect effect limits s → KeepsContended (outcome_of (after_quiet_effect effect t s)) s
+effect_keeps Keeps t limits s plain = λ k some. refl
+effect_keeps (Takes m) t limits s plain = λ k some. contended_other k m (λ mutex. record mutex { owner = OwnedBy t; count = 1 }) s plain.1 some
+effect_keeps (Releases m) t limits s plain = λ k some. contended_other k m (λ mutex. record mutex { owner = Free; count = 0 }) s plain.1 some
+effect_keeps (Puts byte) t limits s plain = λ k some. refl
+effect_keeps (Sets k value) t limits s plain = λ j some. refl
 
 -- once the registers and the ticks are put, the effect is as plain
 pub plain_still : (t ticks : ℕ) (after : Processor) (effect : QuietEffect) (old mid : Held) → mid ≡ record old { here = with_locks (with_thread t (computed ticks after)) old.here }
@@ -103,13 +117,14 @@ made tick t ticks thread cpu after effect entry old mid left new word past put f
       o,
       record { word = word; cost = next.cost; values = next.values; replies = next.replies; left = next.left; priorities = λ w. effect_plain effect t w (limits_here old) s next.plain },
       second ∙ (ap (λ (k : Held). record k { here = record k.here { last = Some entry } }) both ∙ ap (λ (e : Entry). record old { here = record v { last = Some e } }) is),
+      effect_keeps effect t (limits_here old) s next.plain,
     )
 
 -- what was made of the partition in hand is made of it in the tables
 pub made_in_tables : (p tick t ticks : ℕ) (thread : Thread) (kept : Kept) (taken new : Held) → taken ≡ held p kept → IsMadeHere tick t ticks thread taken new → IsMade p tick t ticks thread kept (all_of new)
 made_in_tables p tick t ticks thread kept taken new e here =
     let is : IsMadeHere tick t ticks thread (held p kept) new = subst (λ (pools : Held). IsMadeHere tick t ticks thread pools new) e here in
-    (is.0, is.1, is.2, ap all_of is.3 ∙ all-done p (after_reply tick t ticks thread is.0 is.1 (part_at p kept)) kept)
+    (is.0, is.1, is.2, ap all_of is.3 ∙ all-done p (after_reply tick t ticks thread is.0 is.1 (part_at p kept)) kept, is.4)
 
 pub ruleset effects = (put_open)
 

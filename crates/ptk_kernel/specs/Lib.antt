@@ -1,5 +1,6 @@
 pub mod Spending
 pub mod StepParts
 pub mod Rows
+pub mod Steady
 pub use Rattle.ptk_gate.specs.Kept
 pub mod Events

@@ -9,7 +9,7 @@
 //!   and the trace after these plain steps.
 //! - It ends early only before a step that is not plain, or after 2^31 steps.
 //! - `reply` makes the decision of a quiet partition whose next step is a quiet call, and misses none that ends in time.
-//! - Both leave it as quiet as it was.
+//! - Both leave it as quiet as it was, and each thread and each mutex that threads wait for as they were (`IsSteady`).
 //! - `prepare` is its part up to the choice of the running thread (`ready_at`), and `take_turn` the rest (`after_turn`,
 //!   `spent_in_turn`), of whatever state p is in.
 //!

@@ -16,6 +16,7 @@ ghost use Rattle.ptk_words_quiet.specs.Idle.{IsIdle};
 ghost use Rattle.ptk_gate.specs.Kept.{part_at, put_part, limits_at};
 ghost use Rattle.ptk_gate_steps.specs.QuietCalls.{is_quiet_call};
 ghost use Rattle.ptk_kernel.specs.Rows.{IsRow, IsStill, IsStillTo};
+ghost use Rattle.ptk_kernel.specs.Steady.{IsOfRunning, IsSteady};
 
 use ptk_gate::Tables;
 use ptk_gate_steps::Quiet;
@@ -58,8 +59,9 @@ pub fn compute(tables: &mut Tables, p: PartId, quiet: Quiet, tick: Tick, trace: 
 
 /// The decision of a quiet partition at the tick, where its next step is a quiet call, which replies at once, wakes
 /// nobody and changes no priority, and ends at the partition's stop or before. How many ticks it took; the partition is
-/// as quiet as it was, up to that stop or a later one. 0, and nothing changes, where the next step is any other; where it
-/// is a quiet call, only if that ends after the stop. No other partition changes.
+/// as quiet as it was, up to that stop or a later one: the same thread runs, each thread waits as before, and a mutex
+/// that threads wait for keeps its owner. 0, and nothing changes, where the next step is any other; where it is a quiet
+/// call, only if that ends after the stop. No other partition changes.
 pub fn reply(tables: &mut Tables, p: PartId, quiet: Quiet, tick: Tick) -> u32
     requires partition { p < length tables.old.limits }
     requires order { tick < quiet.stop }
@@ -70,6 +72,8 @@ pub fn reply(tables: &mut Tables, p: PartId, quiet: Quiet, tick: Tick) -> u32
     ensures missed { (thread : Thread) → thread_at (part_at p tables.old).locks quiet.thread ≡ Some thread → is_quiet_call quiet.thread thread (part_at p tables.old) ≡ true
         → tick + cost_of (register thread.cpu A7) ≤ quiet.stop → 0 < result }
     ensures told { (room : ℕ) → 0 < result → result ≤ room → Step result ≡ spent_by_decision (limits_at p tables.old) tick room (part_at p tables.old) }
+    ensures steady { 0 < result → IsSteady (part_at p tables.old) (part_at p tables.new) }
+    ensures last { 0 < result → IsOfRunning (part_at p tables.new) }
     ensures moved { (room : ℕ) → 0 < result → result ≤ room → tables.new ≡ put_part p (after_decision (limits_at p tables.old) tick room (part_at p tables.old)) tables.old }
     ensures still { (stop : ℕ) → quiet.stop ≤ stop → IsStillTo p tick stop quiet.thread tables.old → IsStillTo p (tick + result) stop quiet.thread tables.new }
 {

@@ -9,3 +9,4 @@ pub mod OwnDecisions
 pub mod Changes
 pub mod Latest
 pub mod Stays
+pub mod Going

@@ -102,7 +102,7 @@ next_here world p k is alone lt at =
     next_is_own world.config.plan p (section_at world.config p).limits (image_in world.files (section_at world.config p).image) (section_at world.config p).input world.tick k (is_plan world.config is)
     (sym (ap (λ (s : State). s.account.next) (state_alone world p alone lt)) ∙ at)
 
-well_here : (world : World) (p : ℕ) → IsConfiguration world.config → world ≡ world_at world.config world.files world.tick → p < length world.config.sections
+pub well_here : (world : World) (p : ℕ) → IsConfiguration world.config → world ≡ world_at world.config world.files world.tick → p < length world.config.sections
     → IsWell (section_at world.config p).limits (state_of world p).part
 well_here world p is alone lt =
     let limits : IsWithinLimits (section_at world.config p).limits = is.ranges.limits p no_section lt in

@@ -2,6 +2,7 @@ pub mod Missing
 pub mod World
 pub mod Told
 pub mod Activities
+pub mod Going
 pub mod Shown
 pub mod Loaded
 pub mod Laws

@@ -2,6 +2,7 @@
 
 ghost use Rattle.std.specs.Prelude.{◌≡◌, ◌<◌, ◌≤◌, ℕ, None, Some, IfOk, MatchResult, length, max};
 ghost use Rattle.ptk_words.specs.declared.TheConstants.{LAST_TICK};
+ghost use Rattle.ptk_system.specs.Going.{GoesOnAsIs};
 ghost use Rattle.ptk_system.specs.Missing.{first_missing, missing_in};
 ghost use Rattle.ptk_system_machine.specs.Turns.{IsPlainAt};
 ghost use Rattle.ptk_system.specs.World.{at_tick, section_at, state_of, world_at};
@@ -88,7 +89,8 @@ impl<'a> System<'a> {
 
     /// Goes on over plain steps and quiet calls of the partition that decides next, to a tick of at most 2^40
     /// that is not after `n`, and before any other decision. It stands still only where `n` was already reached, or where a
-    /// decision at the tick reached is no plain step of a quiet partition.
+    /// decision at the tick reached is no plain step of a quiet partition. At each tick on the way each thread does what it
+    /// did at the first one, with the same priorities and the same owner of the mutex that it waits for.
     pub fn compute_to(&mut self, n: Tick)
         requires { n ≤ LAST_TICK }
         ensures from { self.old.tick ≤ self.new.tick }
@@ -97,6 +99,7 @@ impl<'a> System<'a> {
             (state_of self.old p).account.next ≡ Some self.old.tick →
             IsPlainAt (section_at self.old.config p).limits self.old.tick (state_of self.old p).part) → self.old.tick < self.new.tick }
         ensures run { self.new ≡ at_tick self.new.tick self.old }
+        ensures steady { (p : ℕ) → p < length self.old.config.sections → GoesOnAsIs self.old p self.new.tick }
     {
         if n.ticks() <= self.tick.ticks() {
             return;

@@ -8,3 +8,4 @@ pub mod Costs
 pub mod StillQuiet
 pub mod Progress
 pub mod Prepared
+pub mod Steady

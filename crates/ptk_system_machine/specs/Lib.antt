@@ -1,3 +1,4 @@
 pub mod Accounts
 pub mod Whole
 pub mod Turns
+pub mod Steady

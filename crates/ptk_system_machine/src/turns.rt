@@ -14,6 +14,7 @@ ghost use Rattle.ptk_kernel.specs.Kept.{limits_at, part_at, put_part};
 ghost use Rattle.ptk_kernel.specs.Rows.{IsStill, IsStillTo};
 ghost use Rattle.ptk_kernel.specs.Spending.{cost_in};
 ghost use Rattle.ptk_system_machine.specs.Accounts.{IsBehind};
+ghost use Rattle.ptk_system_machine.specs.Steady.{AreSteady, states_from};
 ghost use Rattle.ptk_system_machine.specs.Turns.{IsAt, IsComing, IsFreeFrom, IsInWindow, IsPlainAt, IsStillUntil, IsUpTo, turn_at};
 ghost use Rattle.ptk_system_machine.specs.Whole.{AreWindowsOf, account_at, gone_on, put_state, state_at};
 
@@ -71,7 +72,7 @@ impl Machine {
     /// Goes on from a tick by plain steps and quiet calls of the partition that decides next, up to `to` at most,
     /// and before any other decision. Returns the tick that it reached, which is the first one only where a decision at
     /// that tick is no plain step of a quiet partition. To each partition it does what this many ticks would do to that
-    /// partition alone.
+    /// partition alone. At each tick on the way each partition's threads are and wait as at the first one.
     pub fn run_row(&mut self, plan: &WindowPlan, tick: Tick, to: Tick) -> Tick
         requires windows { AreWindowsOf (length self.old.accounts) plan.now }
         requires order { tick ≤ to }
@@ -85,6 +86,8 @@ impl Machine {
         ensures limits { self.new.kept.limits ≡ self.old.kept.limits }
         ensures each { (q : ℕ) → q < length self.old.accounts →
             state_at q self.new ≡ after_ticks (own_ticks plan.now q) (limits_at q self.old.kept) tick (result - tick) (state_at q self.old) }
+        ensures steady { (q : ℕ) → q < length self.old.accounts →
+            AreSteady (part_at q self.old.kept) (states_from (own_ticks plan.now q) (limits_at q self.old.kept) tick (state_at q self.old)) tick result }
     {
         plan.is_plan();
         let turns = self.first_turns(plan, tick, to);
@@ -286,6 +289,7 @@ impl Machine {
         ensures plain { IsPlainAt (limits_at p self.old.kept) turn.start (part_at p self.old.kept) → turn.start < result.start }
         ensures coming { IsComing (own_ticks plan.now p) to (account_at p self.new).account.next result }
         ensures gone { self.new ≡ gone_on (own_ticks plan.now p) p turn.start (result.start - turn.start) self.old }
+        ensures steady { AreSteady (part_at p self.old.kept) (states_from (own_ticks plan.now p) (limits_at p self.old.kept) turn.start (state_at p self.old)) turn.start result.start }
     {
         let _parts = self.parts();
         plan.is_plan();
@@ -321,6 +325,7 @@ impl Machine {
         ensures plain { IsPlainAt (limits_at p self.old.kept) turn.start (part_at p self.old.kept) → turn.start < result.start }
         ensures coming { IsComing (own_ticks plan.now p) to (account_at p self.new).account.next result }
         ensures gone { self.new ≡ gone_on (own_ticks plan.now p) p turn.start (result.start - turn.start) self.old }
+        ensures steady { AreSteady (part_at p self.old.kept) (states_from (own_ticks plan.now p) (limits_at p self.old.kept) turn.start (state_at p self.old)) turn.start result.start }
         ensures still { IsStill p result.start quiet self.new.kept }
     {
         self.rows_before(plan, p, turn, quiet, to, until)
@@ -349,6 +354,7 @@ impl Machine {
         ensures plain { IsPlainAt (limits_at p self.old.kept) turn.start (part_at p self.old.kept) → turn.start < result.start }
         ensures coming { IsComing (own_ticks plan.now p) to (account_at p self.new).account.next result }
         ensures gone { self.new ≡ gone_on (own_ticks plan.now p) p turn.start (result.start - turn.start) self.old }
+        ensures steady { AreSteady (part_at p self.old.kept) (states_from (own_ticks plan.now p) (limits_at p self.old.kept) turn.start (state_at p self.old)) turn.start result.start }
         ensures still { IsStill p result.start quiet self.new.kept }
     {
         let _parts = self.parts();
@@ -400,6 +406,7 @@ impl Machine {
         ensures plain { IsPlainAt (limits_at p self.old.kept) turn.start (part_at p self.old.kept) → turn.start < result.0.start }
         ensures coming { IsComing (own_ticks plan.now p) to (account_at p self.new).account.next result.0 }
         ensures gone { self.new ≡ gone_on (own_ticks plan.now p) p turn.start (result.0.start - turn.start) self.old }
+        ensures steady { AreSteady (part_at p self.old.kept) (states_from (own_ticks plan.now p) (limits_at p self.old.kept) turn.start (state_at p self.old)) turn.start result.0.start }
         ensures still { IsStill p result.0.start quiet.now self.new.kept }
         ensures walk { result.0.start < to → IsAt plan.now p result.0.end walk.new }
     {
@@ -445,6 +452,7 @@ impl Machine {
         ensures plain { IsPlainAt (limits_at p self.old.kept) turn.start (part_at p self.old.kept) → turn.start < result.start }
         ensures coming { IsComing (own_ticks plan.now p) to (account_at p self.new).account.next result }
         ensures gone { self.new ≡ gone_on (own_ticks plan.now p) p turn.start (result.start - turn.start) self.old }
+        ensures steady { AreSteady (part_at p self.old.kept) (states_from (own_ticks plan.now p) (limits_at p self.old.kept) turn.start (state_at p self.old)) turn.start result.start }
         ensures still { (stop : ℕ) → quiet.now.stop ≤ stop → IsStillTo p turn.start stop quiet.now.thread self.old.kept → IsStillTo p result.start stop quiet.now.thread self.new.kept }
         ensures walk { result.start < to → IsAt plan.now p result.end walk.new }
     {
@@ -482,6 +490,7 @@ impl Machine {
         ensures from { turn.start ≤ result.start }
         ensures coming { IsComing (own_ticks plan.now p) to (account_at p self.new).account.next result }
         ensures gone { self.new ≡ gone_on (own_ticks plan.now p) p turn.start (result.start - turn.start) self.old }
+        ensures steady { AreSteady (part_at p self.old.kept) (states_from (own_ticks plan.now p) (limits_at p self.old.kept) turn.start (state_at p self.old)) turn.start result.start }
         ensures still { (stop : ℕ) → quiet.now.stop ≤ stop → IsStillTo p turn.start stop quiet.now.thread self.old.kept → IsStillTo p result.start stop quiet.now.thread self.new.kept }
         ensures walk { result.start < to → IsAt plan.now p result.end walk.new }
     {

@@ -5,5 +5,6 @@ pub mod Marking
 pub mod Bars
 pub mod OwnWindows
 pub mod Telling
+pub mod Passing
 pub mod Lanes
 pub mod Recordings

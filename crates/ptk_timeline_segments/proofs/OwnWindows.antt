@@ -4,7 +4,6 @@ use Rattle.std.proofs.lemmas.Option.{MatchOption-at_none, MatchOption-at_some}
 use Rattle.ptk_words_windows.specs.Windows.{IsFirstOwn, IsOwn, IsPlan, WindowPlan, own_ticks}
 use Rattle.ptk_words_windows.proofs.NextLaws.{next_first}
 use Rattle.ptk_words_windows.proofs.OwnLaws.{end_none, window_whole}
-use Rattle.ptk_timeline_segments.specs.declared.windows.Span.{Span}
 use Rattle.ptk_timeline_segments.specs.OwnWindows.{AreOthers, IsNextWindow}
 
 -- before the first own tick none is

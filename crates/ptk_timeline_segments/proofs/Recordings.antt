@@ -1,20 +1,20 @@
 -- What all lanes tell, from one change to the next, and in the end.
-use Rattle.std.proofs.Common.{◌≡◌, ℕ, ◌+◌, ◌*◌, ◌<◌, ◌≤◌, List, ◌++◌, length, take, drop, get_or, ◌⊎◌, inl, inr, sym, ap, subst, ◌∙◌, arith}
+use Rattle.std.proofs.Common.{◌≡◌, ℕ, ◌+◌, ◌<◌, ◌≤◌, List, ◌++◌, length, take, drop, get_or, ◌⊎◌, inl, inr, sym, ap, subst, ◌∙◌, arith}
 use Rattle.std.proofs.Math.Nat.{mul-le-mul_right}
 use Rattle.std.proofs.lemmas.Bool.{cases_lt}
 use Rattle.std.proofs.lemmas.List.{take-append-le, take_all}
 use Rattle.ptk_words_windows.specs.Windows.{own_ticks}
+use Rattle.ptk_system.specs.Going.{GoesOnAsIs}
 use Rattle.ptk_system.specs.World.{World, at_tick}
 use Rattle.ptk_timeline_segments.specs.declared.lane.Lane.{Lane}
 use Rattle.ptk_timeline_segments.specs.declared.look.Look.{Look}
 use Rattle.ptk_timeline_segments.specs.declared.recording.Recording.{Recording}
 use Rattle.ptk_timeline_segments.specs.declared.row.Row.{Row}
 use Rattle.ptk_timeline_segments.specs.declared.scale.Scale.{Scale}
-use Rattle.ptk_timeline_segments.specs.declared.tally.Cell.{Cell}
 use Rattle.ptk_timeline_segments.specs.Cells.{IsCellOf}
 use Rattle.ptk_timeline_segments.specs.Columns.{start_of}
 use Rattle.ptk_timeline_segments.specs.Histories.{history, look_at}
-use Rattle.ptk_timeline_segments.specs.Lanes.{IsLaneOf, IsShown, IsThreadsRow}
+use Rattle.ptk_timeline_segments.specs.Lanes.{IsLaneOf, IsPassed, IsShown, IsThreadsRow}
 use Rattle.ptk_timeline_segments.specs.Recordings.{AreLanesOf, TellsLooks, TellsMarks, TellsOf}
 use Rattle.ptk_timeline_segments.specs.Rows.{IsRowOf}
 use Rattle.ptk_timeline_segments.proofs.Marking.{marks_told}
@@ -87,6 +87,57 @@ step_told first now scale own tick lanes new same goes before are shows =
     (subst (λ (s : Scale). AreLanesOf now s (tick + 1) new) same
     (shows at (omega (arith, before, to)) (subst (λ (s : Scale). AreLanesOf now s tick lanes) (sym same) (lanes_at first now (tick + 1) tick scale lanes goes are))))
 
+-- ---- over ticks over which each thread does what it did
+
+pub pass_told : (world : World) (scale : Scale) (from : ℕ) (lanes given new : List Lane) → given ≡ lanes → length new ≡ length given → 1 < scale.each → world.tick ≤ scale.to
+    → ((p : ℕ) → p < length world.config.sections → GoesOnAsIs (at_tick from world) p world.tick) → AreLanesOf world scale from lanes
+    → ((p : ℕ) (default : Lane) → p < length given → p < length world.config.sections → (low : ℕ) → IsPassed world p low (get_or given p default) (get_or new p default))
+    → AreLanesOf world scale world.tick new
+pass_told world scale from lanes given new same length_same wide within steady are passed = record {
+  count = length_same ∙ (ap length same ∙ are.count);
+  scales = λ p default lt. (passed p default (inside p lt) (known p lt) from).scale ∙ was p default lt;
+  due = λ p default lt. (told p default lt).0;
+  tells = λ p default lt. (told p default lt).1;
+}
+  where
+    inside : (p : ℕ) → p < length new → p < length given
+    inside p lt = omega (arith, lt, length_same)
+
+    known : (p : ℕ) → p < length new → p < length world.config.sections
+    known p lt = omega (arith, lt, length_same, ap length same, are.count)
+
+    among : (p : ℕ) → p < length new → p < length lanes
+    among p lt = omega (arith, lt, length_same, ap length same)
+
+    was : (p : ℕ) (default : Lane) → p < length new → (get_or given p default).scale ≡ scale
+    was p default lt = ap (λ (xs : List Lane). (get_or xs p default).scale) same ∙ are.scales p default (among p lt)
+
+    told : (p : ℕ) (default : Lane) → p < length new
+        → (world.tick ≤ (get_or new p default).due) × IsLaneOf (own_ticks world.config.plan p) (history world p) (get_or new p default)
+    told p default lt =
+        let to : (get_or given p default).scale.to ≡ scale.to = ap (λ (s : Scale). s.to) (was p default lt) in
+        let each : (get_or given p default).scale.each ≡ scale.each = ap (λ (s : Scale). s.each) (was p default lt) in
+        let due : (get_or given p default).due ≡ (get_or lanes p default).due = ap (λ (xs : List Lane). (get_or xs p default).due) same in
+        (passed p default (inside p lt) (known p lt) from).right
+        (subst (λ (xs : List Lane). IsLaneOf (own_ticks world.config.plan p) (history world p) (get_or xs p default)) (sym same) (are.tells p default (among p lt)))
+        (omega (arith, wide, each)) (omega (arith, are.due p default (among p lt), due)) (omega (arith, within, to)) (steady p (known p lt))
+
+-- the lanes of a system that went on so, as they are of the first one
+pub passed_told : (first before now : World) (scale own : Scale) (tick : ℕ) (lanes new : List Lane) → own ≡ scale → before ≡ at_tick tick first → now ≡ at_tick now.tick first → 1 < scale.each → now.tick ≤ scale.to
+    → ((p : ℕ) → p < length before.config.sections → GoesOnAsIs before p now.tick) → AreLanesOf first scale tick lanes
+    → ((from : ℕ) → 1 < own.each → now.tick ≤ own.to → ((p : ℕ) → p < length now.config.sections → GoesOnAsIs (at_tick from now) p now.tick) → AreLanesOf now own from lanes → AreLanesOf now own now.tick new)
+    → AreLanesOf first scale now.tick new
+passed_told first before now scale own tick lanes new same begun goes wide within steady are passes =
+    let each : own.each ≡ scale.each = ap (λ (s : Scale). s.each) same in
+    let to : own.to ≡ scale.to = ap (λ (s : Scale). s.to) same in
+    let there : at_tick tick now ≡ before = ap (at_tick tick) goes ∙ sym begun in
+    let sections : length now.config.sections ≡ length before.config.sections = ap (λ (w : World). length w.config.sections) goes ∙ sym (ap (λ (w : World). length w.config.sections) begun) in
+    lanes_back first now now.tick now.tick scale new goes
+    (subst (λ (s : Scale). AreLanesOf now s now.tick new) same
+    (passes tick (omega (arith, wide, each)) (omega (arith, within, to))
+    (λ p lt. subst (λ (w : World). GoesOnAsIs w p now.tick) (sym there) (steady p (omega (arith, lt, sections))))
+    (subst (λ (s : Scale). AreLanesOf now s tick lanes) (sym same) (lanes_at first now now.tick tick scale lanes goes are))))
+
 -- ---- in the end
 
 -- a row that has counted to the end has filled its columns
@@ -106,12 +157,12 @@ row_tells look scale row same counted is = record {
       (is.cells column default (filled_all row column (counted ∙ sym (ap (λ (s : Scale). s.to) same)) (subst (λ (s : Scale). start_of s column < s.to) (sym same) some)));
 }
 
-pub tells_of : (world : World) (recording : Recording) → recording.scale.each ≡ 1 → AreLanesOf world recording.scale recording.scale.to recording.lanes.items → TellsOf world recording
-tells_of world recording one are = record {
+pub tells_of : (world : World) (recording : Recording) → AreLanesOf world recording.scale recording.scale.to recording.lanes.items → TellsOf world recording
+tells_of world recording are = record {
   parts = are.count;
   rows = λ p place lane default part lt.
       row p place lane default part (are.tells p lane part) ((are.tells p lane part).rows place default lt);
-  marks = λ p lane part. marks p lane part (are.tells p lane part);
+  marks = λ one p lane part. marks one p lane part (are.tells p lane part);
 }
   where
     done : (p : ℕ) (lane : Lane) → p < length recording.lanes.items → IsLaneOf (own_ticks world.config.plan p) (history world p) (get_or recording.lanes.items p lane)
@@ -120,9 +171,9 @@ tells_of world recording one are = record {
         let to : (get_or recording.lanes.items p lane).scale.to ≡ recording.scale.to = ap (λ (s : Scale). s.to) (are.scales p lane part) in
         omega (arith, are.due p lane part, is.to, to)
 
-    marks : (p : ℕ) (lane : Lane) → p < length recording.lanes.items → IsLaneOf (own_ticks world.config.plan p) (history world p) (get_or recording.lanes.items p lane)
+    marks : recording.scale.each ≡ 1 → (p : ℕ) (lane : Lane) → p < length recording.lanes.items → IsLaneOf (own_ticks world.config.plan p) (history world p) (get_or recording.lanes.items p lane)
         → TellsMarks (history world p) recording.scale (get_or recording.lanes.items p lane)
-    marks p lane part is =
+    marks one p lane part is =
         let scale : (get_or recording.lanes.items p lane).scale ≡ recording.scale = are.scales p lane part in
         marks_told (history world p) recording.scale (get_or recording.lanes.items p lane) one scale is.scaled (done p lane part is)
         (is.marks (ap (λ (s : Scale). s.each) scale ∙ one))

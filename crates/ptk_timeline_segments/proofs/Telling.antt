@@ -1,16 +1,15 @@
 -- What a lane tells from one change of its partition to the next.
-use Rattle.std.proofs.Common.{◌≡◌, ◌≢◌, ℕ, zero, suc, ◌+◌, ◌-◌, ◌<◌, ◌≤◌, ◌==◌, nat_lt, min, max, Bool, true, false, ◌&&◌, if◌then◌else◌, Option, Some, None, unwrap_or, List, length, get_or, ◌⊎◌, inl, inr, refl, sym, ap, subst, ◌∙◌, arith, add-zero, add-suc}
+use Rattle.std.proofs.Common.{◌≡◌, ℕ, zero, suc, ◌+◌, ◌-◌, ◌<◌, ◌≤◌, nat_lt, min, max, Bool, true, false, ◌&&◌, if◌then◌else◌, Option, Some, None, unwrap_or, length, get_or, ◌⊎◌, inl, inr, refl, sym, ap, subst, ◌∙◌, arith, add-zero, add-suc}
 use Rattle.std.proofs.lemmas.Bool.{cases_lt, le-ltb}
 use Rattle.ptk_words.specs.declared.sections.Entry.{Entry}
 use Rattle.ptk_words_windows.specs.Windows.{OwnTicks, own_ticks}
-use Rattle.ptk_words_model.specs.State.{Part, State}
+use Rattle.ptk_words_model.specs.State.{State}
 use Rattle.ptk_words_model.specs.Run.{is_active}
-use Rattle.ptk_system.specs.World.{World, at_tick, but_next, state_of}
+use Rattle.ptk_system.specs.World.{World, but_next, state_of}
 use Rattle.ptk_timeline_segments.specs.declared.look.Look.{Look}
 use Rattle.ptk_timeline_segments.specs.declared.lane.Lane.{Lane}
 use Rattle.ptk_timeline_segments.specs.declared.row.Row.{Row}
 use Rattle.ptk_timeline_segments.specs.declared.scale.Scale.{Scale}
-use Rattle.ptk_timeline_segments.specs.declared.step.Busy.{Busy}
 use Rattle.ptk_timeline_segments.specs.Histories.{history, is_begun, is_step_of, is_stepping, last_begun, look_at, look_in, sooner_of, step_end, stepping}
 use Rattle.ptk_timeline_segments.specs.Lanes.{GoesOn, IsDue, IsLaneOf, IsThreadsRow, StartsAs, busy_by, busy_of, is_busy}
 use Rattle.ptk_timeline_segments.specs.Marked.{BeginsAs, IsMarkedBy, IsMarkedTo}
@@ -19,17 +18,17 @@ use Rattle.ptk_timeline_segments.proofs.Marking.{Stays, marked_begins, marked_on
 
 -- ---- ticks with which a partition stays
 
-look_same : (t : ℕ) (a b : State) → but_next a ≡ but_next b → look_in t a.part ≡ look_in t b.part
+pub look_same : (t : ℕ) (a b : State) → but_next a ≡ but_next b → look_in t a.part ≡ look_in t b.part
 look_same t a b e = ap (λ (s : State). look_in t s.part) e
 
-steps_same : (a b : State) → but_next a ≡ but_next b → a.account.steps ≡ b.account.steps
+pub steps_same : (a b : State) → but_next a ≡ but_next b → a.account.steps ≡ b.account.steps
 steps_same a b e = ap (λ (s : State). s.account.steps) e
 
 not_less : (n m : ℕ) → n ≡ m → nat_lt n m ≡ false
 not_less n m e = le-ltb n m (omega (arith, e))
 
 -- where a partition stays no step begins
-none_begun : (states : ℕ → State) (s : State) (from to k : ℕ) → Stays states s from to → from ≤ k → k < to → is_begun states k ≡ false
+pub none_begun : (states : ℕ → State) (s : State) (from to k : ℕ) → Stays states s from to → from ≤ k → k < to → is_begun states k ≡ false
 none_begun states s from to k stays le lt =
     not_less (states k).account.steps (states (k + 1)).account.steps
     (steps_same (states k) s (stays.same k le (omega (arith, lt))) ∙ sym (steps_same (states (k + 1)) s (stays.same (k + 1) (omega (arith, le)) (omega (arith, lt)))))
@@ -92,7 +91,7 @@ tells_at ticks states from tick to t n steps le after before stays counted ended
 -- ---- a lane
 
 -- a step ends no later than the next decision
-end_sooner : (ticks : OwnTicks) (tick : ℕ) (s : State) (j : ℕ) → s.account.next ≡ Some j → step_end ticks tick s ≤ max (tick + 1) j
+pub end_sooner : (ticks : OwnTicks) (tick : ℕ) (s : State) (j : ℕ) → s.account.next ≡ Some j → step_end ticks tick s ≤ max (tick + 1) j
 end_sooner ticks tick s j next = by (is_active s.part.status) s.account.next next
   where
     end : ℕ
@@ -120,7 +119,7 @@ end_due world p tick due scale at before is sooner = by (cases_lt (tick + 1) end
     by (inr soon) = let begun : world.tick ≤ due = is.from (omega (arith, at, before)) in omega (arith, begun, at, soon)
 
 -- a lane as its partition's states tell it, in parts
-states_stay : (world : World) (p due : ℕ) (scale : Scale) → IsDue world p scale due → Stays (history world p) (history world p world.tick) world.tick due
+pub states_stay : (world : World) (p due : ℕ) (scale : Scale) → IsDue world p scale due → Stays (history world p) (history world p world.tick) world.tick due
 states_stay world p due scale is = record { same = λ k from to. is.stays k from to ∙ ap but_next is.now }
 
 -- from the tick of one change to that of the next

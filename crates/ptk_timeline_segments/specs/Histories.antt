@@ -1,5 +1,5 @@
 -- What a thread looks like at each tick, by the states of its partition.
-use Rattle.std.specs.Prelude.{ℕ, zero, suc, ◌+◌, ◌-◌, ◌==◌, nat_lt, min, Bool, true, false, ◌&&◌, if◌then◌else◌, Option, Some, None, option_map, unwrap_or}
+use Rattle.std.specs.Prelude.{ℕ, zero, suc, ◌+◌, ◌-◌, ◌==◌, nat_lt, min, Bool, false, ◌&&◌, if◌then◌else◌, Option, Some, None, option_map, unwrap_or}
 use Rattle.ptk_words.specs.declared.mutexes.Owner.{Owner}
 use Rattle.ptk_words.specs.declared.sections.Entry.{Entry}
 use Rattle.ptk_words.specs.declared.threads.Thread.{Thread}

@@ -4,7 +4,8 @@ use Rattle.ptk_words.specs.declared.sections.Entry.{Entry}
 use Rattle.ptk_words_windows.specs.Windows.{OwnTicks, own_ticks}
 use Rattle.ptk_words_model.specs.State.{State}
 use Rattle.ptk_system.specs.declared.status.PartStatus.{PartStatus}
-use Rattle.ptk_system.specs.World.{World, but_next, state_of}
+use Rattle.ptk_system.specs.Going.{GoesOnAsIs}
+use Rattle.ptk_system.specs.World.{World, at_tick, but_next, state_of}
 use Rattle.ptk_system.specs.declared.status.PartStatus.TheVariants.{Idle, Running, Exited, Stopped, Refused}
 use Rattle.ptk_timeline_segments.specs.declared.look.Look.{Look}
 use Rattle.ptk_timeline_segments.specs.declared.row.Row.{Row}
@@ -79,3 +80,9 @@ pub record IsShown (world : World) (p tick : ℕ) (old new : Lane) : Type 0 wher
   pub scale : new.scale ≡ old.scale
   pub right : IsLaneOf (own_ticks world.config.plan p) (history world p) old → world.tick ≡ tick + 1 → tick ≤ old.due → tick < old.scale.to
       → (tick + 1 ≤ new.due) × IsLaneOf (own_ticks world.config.plan p) (history world p) new
+
+-- a lane of columns of many ticks goes on over ticks, from this one on, over which each thread does what it did
+pub record IsPassed (world : World) (p from : ℕ) (old new : Lane) : Type 0 where
+  pub scale : new.scale ≡ old.scale
+  pub right : IsLaneOf (own_ticks world.config.plan p) (history world p) old → 1 < old.scale.each → from ≤ old.due → world.tick ≤ old.scale.to → GoesOnAsIs (at_tick from world) p world.tick
+      → (world.tick ≤ new.due) × IsLaneOf (own_ticks world.config.plan p) (history world p) new

@@ -35,14 +35,14 @@ pub record TellsMarks (states : ℕ → State) (scale : Scale) (lane : Lane) : T
   pub columns : (column : ℕ) (default : Marks) → scale.from + column < scale.to
       → slice_index_or lane.marked.columns.items column default ≡ marks_at states scale.from (scale.to - scale.from) (scale.from + column)
 
--- each row of each lane tells of its thread, by partition and thread number, and each lane of what came
+-- each row of each lane tells of its thread, by partition and thread number, and in columns of one tick each lane of what came
 pub record TellsOf (world : World) (recording : Recording) : Type 0 where
   pub parts : length recording.lanes.items ≡ length world.config.sections
   pub rows : (p place : ℕ) (lane : Lane) (default : Row) → p < length recording.lanes.items
       → place < length (slice_index_or recording.lanes.items p lane).rows.items
       → TellsLooks (look_at (own_ticks world.config.plan p) (history world p) recording.scale.from (place + 1)) recording.scale
       (slice_index_or (slice_index_or recording.lanes.items p lane).rows.items place default)
-  pub marks : (p : ℕ) (lane : Lane) → p < length recording.lanes.items → TellsMarks (history world p) recording.scale (slice_index_or recording.lanes.items p lane)
+  pub marks : recording.scale.each ≡ 1 → (p : ℕ) (lane : Lane) → p < length recording.lanes.items → TellsMarks (history world p) recording.scale (slice_index_or recording.lanes.items p lane)
 
 -- what each partition of a system is, in their order
 pub record AreStatusesOf (world : World) (statuses : List PartStatus) : Type 0 where

@@ -1,5 +1,5 @@
 -- A tally of the ticks of a column so far.
-use Rattle.std.specs.Prelude.{◌≡◌, ℕ, ◌-◌, ◌<◌, ◌≤◌, slice_index, slice_index_or}
+use Rattle.std.specs.Prelude.{◌≡◌, ℕ, ◌-◌, ◌<◌, slice_index, slice_index_or}
 use Rattle.ptk_timeline_segments.specs.declared.look.Look.{Look}
 use Rattle.ptk_timeline_segments.specs.declared.look.TheConstants.{SHADES}
 use Rattle.ptk_timeline_segments.specs.declared.tally.Tally.{Tally}

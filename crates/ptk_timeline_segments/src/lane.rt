@@ -6,7 +6,7 @@ ghost use Rattle.ptk_words_windows.specs.Windows.{own_ticks};
 ghost use Rattle.ptk_system.specs.World.{state_of};
 ghost use Rattle.ptk_timeline_segments.specs.declared.row.Row.{Row as AnyRow};
 ghost use Rattle.ptk_timeline_segments.specs.Histories.{history, look_in};
-ghost use Rattle.ptk_timeline_segments.specs.Lanes.{GoesOn, IsDue, IsLaneOf, IsShown, StartsAs};
+ghost use Rattle.ptk_timeline_segments.specs.Lanes.{GoesOn, IsDue, IsLaneOf, IsPassed, IsShown, StartsAs};
 
 use crate::look::Look;
 use crate::marks::{Marked, Marks};
@@ -77,14 +77,16 @@ impl Lane {
         self.due
     }
 
-    /// The system went on over plain steps, with which nothing changes that is shown.
+    /// The system went on over plain steps and quiet calls, over which each thread does what it did: in columns of many
+    /// ticks nothing changes that is shown.
     pub(crate) fn go_on(&mut self, system: &System<'_>, p: PartId)
         requires { p < length system.now.config.sections }
-        ensures { self.new.scale ≡ self.old.scale }
+        ensures { (from : ℕ) → IsPassed system.now p from self.old self.new }
     {
-        if self.due < system.tick().ticks() {
-            self.tell(system, p, &None);
+        if system.tick().ticks() <= self.due {
+            return;
         }
+        self.tell(system, p, &None);
     }
 
     /// What the system, which has made the decisions at the tick, shows from that tick on.

@@ -1,21 +1,19 @@
 //! What each thread of a run was, from which tick to which, by columns of a picture; the bars of a row, the marks of a
 //! column, and a partition's windows one after the other.
 //!
-//! - `Recording::of_run` is a run to the scale's end (`run`), and where a column is a tick each column of each row has
-//!   the look of its thread at its tick, by the states of its partition (`tells`: `TellsOf`, `look_at`): running,
-//!   ready, blocked on what and whose owner, ended, halted or no thread, with its effective priority where that is
-//!   raised.
+//! - `Recording::of_run` is a run to the scale's end (`run`), and each column of each row has the look of its thread at
+//!   its ticks, by the states of its partition (`tells`: `TellsOf`, `look_at`): running, ready, blocked on what and
+//!   whose owner, ended, halted or no thread, with its effective priority where that is raised.
 //! - A step's ticks are its thread's, up to the next decision or its window's end.
-//! - Of a row by itself: of whatever looks hold, each column has the last look of the shade that held longest, the
-//!   first of these at a draw, and whether there was another (`Row::hold`, `IsCellOf`).
+//! - A column of many ticks has the last look of the shade that held at most of them, the first of these at a draw, and
+//!   tells whether another held too (`IsCellOf`); over ticks that a picture passes by `System::compute_to` no look
+//!   changes (`IsPassed`).
 //! - Where a column is a tick, its marks are all that the decisions of the picture make there: a step begins, input is
 //!   lost, the partition halts, and each tick that is lost (`tells`: `TellsMarks`, `marks_at`).
 //! - `Row::bar_from` returns the column behind a bar, which is all columns of one look, owner and raised priority
 //!   included, and is as long as possible on both sides (`bar`: `IsBar`; `next`).
 //! - `next_window` returns the partition's next window, tick by tick as the plan has it there, and none only where no
 //!   tick is the partition's (`IsNextWindow`, `AreOthers`).
-//! - Columns of many ticks are tested, and not proved: their sums are exact for whatever looks hold between two looks
-//!   at the system, but that none of these changes on the way no clause of `System::compute_to` says.
 //! - What each partition is at the end is the run's, whatever the columns (`ended`: `AreStatusesOf`).
 //!
 //! A run goes on from one tick at which something of a partition can change to the next, so ticks at which nothing is

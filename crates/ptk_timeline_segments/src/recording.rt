@@ -2,9 +2,10 @@
 
 ghost use Rattle.std.specs.Prelude.{◌≡◌, ℕ, ◌+◌, ◌<◌, ◌≤◌, IfOk, length, max, slice_index_or};
 ghost use Rattle.ptk_words.specs.declared.TheConstants.{LAST_TICK};
+ghost use Rattle.ptk_system.specs.Going.{GoesOnAsIs};
 ghost use Rattle.ptk_system.specs.World.{at_tick};
 ghost use Rattle.ptk_timeline_segments.specs.declared.lane.Lane.{Lane as AnyLane};
-ghost use Rattle.ptk_timeline_segments.specs.Lanes.{IsShown};
+ghost use Rattle.ptk_timeline_segments.specs.Lanes.{IsPassed, IsShown};
 ghost use Rattle.ptk_timeline_segments.specs.Recordings.{AreLanesOf, AreStatusesOf, TellsOf};
 
 use crate::lane::Lane;
@@ -33,7 +34,7 @@ impl Recording {
         requires { system.old.tick ≤ scale.from }
         ensures run { IfOk result (λ _. system.new ≡ at_tick scale.to system.old) }
         ensures scale { IfOk result (λ recording. recording.scale ≡ scale) }
-        ensures tells { IfOk result (λ recording. scale.each ≡ 1 → TellsOf system.old recording) }
+        ensures tells { IfOk result (λ recording. TellsOf system.old recording) }
         ensures ended { IfOk result (λ recording. AreStatusesOf (at_tick scale.to system.old) recording.statuses.items) }
     {
         system.run_to(Tick::new(scale.from()));
@@ -76,7 +77,7 @@ impl Recording {
         ensures scale { self.new.scale ≡ self.old.scale }
         ensures run { system.new ≡ at_tick system.new.tick system.old }
         ensures within { system.new.tick ≤ max system.old.tick self.old.scale.to }
-        ensures right { self.old.scale.each ≡ 1 → system.old.tick ≤ self.old.scale.to → AreLanesOf system.old self.old.scale system.old.tick self.old.lanes.items
+        ensures right { system.old.tick ≤ self.old.scale.to → AreLanesOf system.old self.old.scale system.old.tick self.old.lanes.items
             → AreLanesOf system.old self.old.scale self.old.scale.to self.new.lanes.items }
     {
         system.states_are_alone();
@@ -92,7 +93,7 @@ impl Recording {
                 self.go_on(system);
             }
             let next = self.next_change();
-            let after = next.max(tick + 1);
+            let after = next.max(system.tick().ticks());
             tick = after;
         }
     }
@@ -119,9 +120,12 @@ impl Recording {
         show_all(self.lanes.as_mut_slice(), system, tick);
     }
 
-    /// The system went on over plain steps.
+    /// The system went on over plain steps and quiet calls, over which each thread does what it did.
     fn go_on(&mut self, system: &System<'_>)
-        ensures { self.new.scale ≡ self.old.scale }
+        ensures scale { self.new.scale ≡ self.old.scale }
+        ensures right { (from : ℕ) → 1 < self.old.scale.each → system.now.tick ≤ self.old.scale.to
+            → ((p : ℕ) → p < length system.now.config.sections → GoesOnAsIs (at_tick from system.now) p system.now.tick)
+            → AreLanesOf system.now self.old.scale from self.old.lanes.items → AreLanesOf system.now self.old.scale system.now.tick self.new.lanes.items }
     {
         go_on_all(self.lanes.as_mut_slice(), system);
     }
@@ -138,8 +142,11 @@ fn show_all(lanes: &mut [Lane], system: &System<'_>, tick: u64)
     }
 }
 
-/// The system went on over plain steps.
-fn go_on_all(lanes: &mut [Lane], system: &System<'_>) {
+/// The system went on over plain steps and quiet calls, over which each thread does what it did.
+fn go_on_all(lanes: &mut [Lane], system: &System<'_>)
+    ensures { (p : ℕ) (default : AnyLane) → p < length lanes.old → p < length system.now.config.sections
+        → (from : ℕ) → IsPassed system.now p from (slice_index_or lanes.old p default) (slice_index_or lanes.new p default) }
+{
     for i in 0..lanes.len().min(system.parts()) {
         lanes[i].go_on(system, PartId::new(i as u8));
     }

@@ -1,4 +1,4 @@
-use Rattle.std.proofs.Common.{◌≤◌, ◌+◌, length, arith}
+use Rattle.std.proofs.Common.{◌≤◌, length, arith}
 use Rattle.ptk_kernel.proofs.RowsMade.{row_empty, row_some, row_still}
 use Rattle.ptk_kernel.proofs.rows.compute.Goals as goal
 

@@ -1,7 +1,6 @@
-use Rattle.std.proofs.Common.{◌≡◌, ℕ, ◌+◌, List, [], ◌∷◌, ◌++◌, length, subst, sym, ◌∙◌, ap, arith, length-append}
+use Rattle.std.proofs.Common.{◌≡◌, ℕ, ◌+◌, [], ◌∷◌, ◌++◌, length, subst, sym, ◌∙◌, ap, arith, length-append}
 use Rattle.ptk_system.specs.World.{state_of}
 use Rattle.ptk_timeline_segments.specs.declared.look.Look.{Look}
-use Rattle.ptk_timeline_segments.specs.declared.row.Row.{Row}
 use Rattle.ptk_timeline_segments.specs.Histories.{look_in}
 use Rattle.ptk_timeline_segments.specs.Lanes.{StartsAs}
 use Rattle.ptk_timeline_segments.proofs.Lists.{AreEach, each_more}

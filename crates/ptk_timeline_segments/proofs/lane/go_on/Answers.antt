@@ -1,4 +1,4 @@
-use Rattle.std.proofs.Common.{◌≡◌, ℕ, min, subst, sym}
+use Rattle.std.proofs.Common.{ℕ, subst}
 use Rattle.ptk_timeline_segments.specs.declared.look.Look.{Look}
 use Rattle.ptk_timeline_segments.specs.Histories.{stepping}
 use Rattle.ptk_timeline_segments.proofs.Lanes.{Held, held_twice}

@@ -1,6 +1,5 @@
 use Rattle.std.proofs.Common.{◌≡◌, ℕ, [], ◌∷◌, ◌++◌, length, subst, sym, ap, arith, length-append}
 use Rattle.ptk_words_windows.specs.Windows.{own_ticks}
-use Rattle.ptk_timeline_segments.specs.declared.lane.Lane.{Lane}
 use Rattle.ptk_timeline_segments.specs.Histories.{history}
 use Rattle.ptk_timeline_segments.specs.Lanes.{IsLaneOf}
 use Rattle.ptk_timeline_segments.proofs.Lists.{AreEach, each_more}

@@ -1,3 +1,4 @@
+use Rattle.ptk_system_machine.proofs.Steady.{steady_gone}
 use Rattle.std.proofs.Common.{◌<◌, ◌≤◌, arith}
 use Rattle.ptk_words_windows.specs.Windows.{own_ticks}
 use Rattle.ptk_kernel.specs.Rows.{IsStill}
@@ -46,3 +47,8 @@ returns-clause-still c =
     sooner c.quiet_within-within.ensures.thread c.row-next.ensures.still c.requires.quiet in
     still_beyond c.args.p c.row-next.result.start c.reply-after.result.start c.args.quiet.now.stop c.quiet_within-within.result.stop c.args.quiet.now.thread c.quiet_within-within.result.thread c.row-next.new.self.kept c.reply-after.new.self.kept
     sooner c.quiet_within-within.ensures.thread c.reply-after.ensures.still mid
+
+pub returns-clause-steady : goal.returns-clause-steady
+returns-clause-steady c =
+    steady_gone (own_ticks c.args.plan.now c.args.p) c.args.p c.args.turn.start c.row-next.result.start c.reply-after.result.start c.args.self.now c.row-next.new.self c.parts-parts.ensures.whole c.requires.partition
+    c.row-next.ensures.from c.reply-after.ensures.from c.row-next.ensures.gone c.row-next.ensures.steady c.reply-after.ensures.steady

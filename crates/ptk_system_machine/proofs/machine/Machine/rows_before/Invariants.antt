@@ -3,8 +3,9 @@ use Rattle.std.specs.Prelude.{if◌then◌else◌}
 use Rattle.ptk_words_windows.specs.Windows.{own_ticks}
 use Rattle.ptk_kernel.specs.Kept.{limits_at, part_at}
 use Rattle.ptk_kernel.specs.Rows.{IsStill}
+use Rattle.ptk_system_machine.specs.Steady.{AreSteady, states_from}
 use Rattle.ptk_system_machine.specs.Turns.{IsAt, IsComing, IsPlainAt}
-use Rattle.ptk_system_machine.specs.Whole.{account_at, gone_on}
+use Rattle.ptk_system_machine.specs.Whole.{account_at, gone_on, state_at}
 use Rattle.ptk_system_machine.proofs.machine.Machine.rows_before.Given as goal
 
 abbrev pub invariant-loop-is_going : goal.invariant-loop-is_going
@@ -12,6 +13,7 @@ invariant-loop-is_going l = record {
   from : l.fn.turn.start ≤ l.now.start;
   coming : IsComing (own_ticks l.plan l.p) l.to (account_at l.p l.self).account.next l.now;
   gone : l.self ≡ gone_on (own_ticks l.plan l.p) l.p l.fn.turn.start (l.now.start - l.fn.turn.start) l.fn.self;
+  steady : AreSteady (part_at l.p l.fn.self.kept) (states_from (own_ticks l.plan l.p) (limits_at l.p l.fn.self.kept) l.fn.turn.start (state_at l.p l.fn.self)) l.fn.turn.start l.now.start;
   plain : l.is_going ≡ false → IsPlainAt (limits_at l.p l.fn.self.kept) l.fn.turn.start (part_at l.p l.fn.self.kept) → l.fn.turn.start < l.now.start;
   before : l.is_going ≡ true → l.now.start < l.quiet.stop;
   still : IsStill l.p l.now.start l.quiet l.self.kept;

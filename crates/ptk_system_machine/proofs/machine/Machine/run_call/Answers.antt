@@ -3,12 +3,11 @@ use Rattle.std.specs.Prelude.{min}
 use Rattle.std.proofs.Math.ListN.{take}
 use Rattle.std.proofs.lemmas.List.{get_or_default, length-take}
 use Rattle.ptk_words_windows.specs.Windows.{own_ticks}
-use Rattle.ptk_words_quiet.specs.Quiet.{after_ticks}
 use Rattle.ptk_kernel.specs.Kept.{limits_at, part_at}
 use Rattle.ptk_window.specs.declared.near.Turn.{Turn}
 use Rattle.ptk_system_machine.specs.Turns.{IsComing, IsPlainAt, turn_at, no_turn}
-use Rattle.ptk_system_machine.specs.Whole.{IsWhole, Whole, account_at, gone_on, state_at}
-use Rattle.ptk_system_machine.proofs.Coming.{among, coming_before, none_before, row_each, turn_taken}
+use Rattle.ptk_system_machine.specs.Whole.{IsWhole, Whole, account_at, gone_on}
+use Rattle.ptk_system_machine.proofs.Coming.{among, coming_before, row_each, turn_taken}
 use Rattle.ptk_system_machine.proofs.Progress.{goes_on, row_due}
 use Rattle.ptk_system_machine.proofs.machine.Machine.run_call.Goals as goal
 

@@ -1,3 +1,5 @@
+use Rattle.ptk_system_machine.specs.Steady.{AreSteady, states_from}
+use Rattle.ptk_system_machine.proofs.Steady.{steady_each, steady_none}
 use Rattle.std.proofs.Common.{◌≡◌, ℕ, ◌-◌, ◌<◌, ◌≤◌, Some, length, get_or, subst, sym, ap, ◌∙◌, arith}
 use Rattle.std.specs.Prelude.{min}
 use Rattle.std.proofs.Math.ListN.{take}
@@ -6,7 +8,7 @@ use Rattle.ptk_words_windows.specs.Windows.{own_ticks}
 use Rattle.ptk_kernel.specs.Kept.{limits_at, part_at}
 use Rattle.ptk_window.specs.declared.near.Turn.{Turn}
 use Rattle.ptk_system_machine.specs.Turns.{IsComing, IsPlainAt, turn_at, no_turn}
-use Rattle.ptk_system_machine.specs.Whole.{IsWhole, Whole, account_at, gone_on}
+use Rattle.ptk_system_machine.specs.Whole.{IsWhole, Whole, account_at, gone_on, state_at}
 use Rattle.ptk_system_machine.proofs.Coming.{among, coming_before, row_each, turn_taken}
 use Rattle.ptk_system_machine.proofs.Progress.{goes_on, row_due}
 use Rattle.ptk_system_machine.proofs.machine.Machine.run_row.Goals as goal
@@ -79,3 +81,35 @@ returns-clause-on c = λ before plain.
     (subst (λ (turn : Turn). turn.start < c.args.to → (account_at c.in-Some.p c.args.self.now).account.next ≡ Some turn.start) (sym same) up.coming.due)
     before (plain c.in-Some.p here) c.rows.ensures.from
     (subst (λ (w : Whole). IsPlainAt (limits_at c.in-Some.p w.kept) (get_or c.first_turns-turns.result c.index.result c.index-turns-index.result).start (part_at c.in-Some.p w.kept) → (get_or c.first_turns-turns.result c.index.result c.index-turns-index.result).start < c.rows.result.start) c.first_turns-turns.ensures.same c.rows.ensures.plain)
+
+pub returns-clause-steady : goal.returns-clause-steady
+returns-clause-steady c =
+    let place = among c.first_turns-turns.result c.parts.result c.in-Some.p c.in-Some.ensures.0 in
+    let same : get_or c.first_turns-turns.result c.index.result c.index-turns-index.result ≡ turn_at c.in-Some.p c.first_turns-turns.result
+    = ap (λ (i : ℕ). get_or c.first_turns-turns.result i c.index-turns-index.result) c.index.ensures ∙ get_or_default c.first_turns-turns.result c.in-Some.p c.index-turns-index.result no_turn place.1 in
+    let few : length c.first_turns-turns.new.self.accounts ≤ 8 = c.parts.ensures.whole.parts.few in
+    let all : length c.first_turns-turns.new.self.accounts ≡ length c.args.self.now.accounts = ap (λ (w : Whole). length w.accounts) c.first_turns-turns.ensures.same in
+    let here : c.in-Some.p < length c.args.self.now.accounts = omega (arith, place.0, c.parts.ensures.count, all) in
+    let from : (turn_at c.in-Some.p c.first_turns-turns.result).start ≤ c.rows.result.start = subst (λ (turn : Turn). turn.start ≤ c.rows.result.start) same c.rows.ensures.from in
+    steady_each c.args.plan.now c.in-Some.p c.args.tick c.rows.result.start c.first_turns-turns.result c.args.self.now here
+    c.first_turns-turns.ensures.still (c.first_turns-turns.ensures.each c.in-Some.p here).from from
+    (λ q below differ. (
+    let lt : q < c.parts-2.result = omega (arith, below, c.parts-2.ensures.count, all) in
+    let within : q < length c.first_turns-turns.result = omega (arith, below, all, few, c.first_turns-turns.type_inv) in
+    let taken : q < length (take c.parts-2.result c.first_turns-turns.result) = omega (arith, lt, within, length-take c.parts-2.result c.first_turns-turns.result) in
+    let before : c.first_other-stop.result ≤ (turn_at q c.first_turns-turns.result).start
+    = subst (λ (turn : Turn). c.first_other-stop.result ≤ turn.start) (turn_taken c.first_turns-turns.result c.parts-2.result q lt) (c.first_other-stop.ensures.each q taken differ) in
+    omega (arith, before, c.rows.ensures.coming.within)))
+    (subst (λ (w : Whole). AreSteady (part_at c.in-Some.p w.kept) (states_from (own_ticks c.args.plan.now c.in-Some.p) (limits_at c.in-Some.p w.kept) (turn_at c.in-Some.p c.first_turns-turns.result).start (state_at c.in-Some.p w)) (turn_at c.in-Some.p c.first_turns-turns.result).start c.rows.result.start) c.first_turns-turns.ensures.same
+    (subst (λ (turn : Turn). AreSteady (part_at c.in-Some.p c.first_turns-turns.new.self.kept) (states_from (own_ticks c.args.plan.now c.in-Some.p) (limits_at c.in-Some.p c.first_turns-turns.new.self.kept) turn.start (state_at c.in-Some.p c.first_turns-turns.new.self)) turn.start c.rows.result.start) same c.rows.ensures.steady))
+
+pub returns-in_default-clause-steady : goal.returns-in_default-clause-steady
+returns-in_default-clause-steady c =
+    let few : length c.first_turns-turns.new.self.accounts ≤ 8 = c.parts.ensures.whole.parts.few in
+    let all : length c.first_turns-turns.new.self.accounts ≡ length c.args.self.now.accounts = ap (λ (w : Whole). length w.accounts) c.first_turns-turns.ensures.same in
+    steady_none c.args.plan.now c.args.tick c.args.to c.first_turns-turns.result c.args.self.now c.first_turns-turns.ensures.still
+    (λ q below.
+    let lt : q < c.parts.result = omega (arith, below, c.parts.ensures.count, all) in
+    let within : q < length c.first_turns-turns.result = omega (arith, below, all, few, c.first_turns-turns.type_inv) in
+    let taken : q < length (take c.parts.result c.first_turns-turns.result) = omega (arith, lt, within, length-take c.parts.result c.first_turns-turns.result) in
+    subst (λ (turn : Turn). c.args.to ≤ turn.start) (turn_taken c.first_turns-turns.result c.parts.result q lt) (c.in_default.ensures q no_turn taken))

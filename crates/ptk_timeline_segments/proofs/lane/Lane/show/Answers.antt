@@ -1,4 +1,4 @@
-use Rattle.std.proofs.Common.{◌≡◌, ℕ, ◌+◌, nat_lt, Option, get_or, ap, subst, sym, arith}
+use Rattle.std.proofs.Common.{ℕ, ◌+◌, nat_lt, Option, get_or, ap, subst, sym, arith}
 use Rattle.ptk_system.specs.World.{state_of}
 use Rattle.ptk_timeline_segments.specs.declared.marks.Marked.{Marked}
 use Rattle.ptk_timeline_segments.specs.declared.step.Busy.{Busy}

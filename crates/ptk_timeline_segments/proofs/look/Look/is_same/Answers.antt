@@ -1,4 +1,4 @@
-use Rattle.std.proofs.Common.{◌≡◌, ℕ, nat_eq, sym, ap, ◌∙◌}
+use Rattle.std.proofs.Common.{ℕ, nat_eq, sym, ap, ◌∙◌}
 use Rattle.std.proofs.lemmas.Bool.Decides.{Decides-eqb}
 use Rattle.std.proofs.lemmas.Slice.Eq.{slice_eq-Decides}
 use Rattle.ptk_timeline_segments.specs.LookNumbers.{numbers_of}

@@ -1,4 +1,4 @@
-use Rattle.std.proofs.Common.{◌≡◌, ℕ, ◌+◌, ◌-◌, ◌<◌, ◌≤◌, max, length, get_or, ◌⊎◌, inl, inr, sym, ◌∙◌, arith, length-set}
+use Rattle.std.proofs.Common.{◌≡◌, ◌+◌, ◌-◌, ◌<◌, ◌≤◌, max, length, get_or, inl, inr, ◌∙◌, arith, length-set}
 use Rattle.std.proofs.lemmas.Bool.{cases_lt}
 use Rattle.ptk_timeline_segments.specs.declared.marks.Marks.{Marks}
 use Rattle.ptk_timeline_segments.specs.Marking.{both, marks_of}

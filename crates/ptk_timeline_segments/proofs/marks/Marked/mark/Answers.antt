@@ -1,4 +1,4 @@
-use Rattle.std.proofs.Common.{◌≡◌, ℕ, ◌-◌, nat_lt, Bool, not, ◌&&◌, refl, ap, subst, ◌∙◌}
+use Rattle.std.proofs.Common.{ℕ, ◌-◌, nat_lt, Bool, not, ◌&&◌, refl, ap, subst, ◌∙◌}
 use Rattle.ptk_words_model.specs.State.{State}
 use Rattle.ptk_words_model.specs.Run.{is_active}
 use Rattle.ptk_system.specs.World.{state_of}

@@ -1,4 +1,4 @@
-use Rattle.std.proofs.Common.{◌≡◌, ℕ, ◌<◌, ◌≤◌, length, get_or}
+use Rattle.std.proofs.Common.{ℕ, ◌<◌, ◌≤◌, get_or}
 use Rattle.ptk_timeline_segments.specs.declared.lane.Lane.{Lane}
 use Rattle.ptk_timeline_segments.proofs.recording.Recording.next_change.Given as goal
 

@@ -1,5 +1,4 @@
-use Rattle.std.proofs.Common.{◌≡◌, List, length, subst, sym, ◌+◌, arith}
-use Rattle.ptk_timeline_segments.specs.declared.lane.Lane.{Lane}
+use Rattle.std.proofs.Common.{◌≡◌, length, subst, sym, ◌+◌, arith}
 use Rattle.ptk_timeline_segments.specs.Recordings.{AreLanesOf}
 use Rattle.ptk_timeline_segments.proofs.Recordings.{show_told, written}
 use Rattle.ptk_timeline_segments.proofs.recording.Recording.show.Goals as goal

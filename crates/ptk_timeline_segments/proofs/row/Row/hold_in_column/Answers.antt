@@ -1,6 +1,5 @@
 use Rattle.std.proofs.Common.{◌≡◌, ℕ, ◌+◌, ◌<◌, length, subst, sym, ◌∙◌, arith}
 use Rattle.ptk_timeline_segments.specs.Columns.{start_of}
-use Rattle.ptk_timeline_segments.specs.Cells.{IsCellOf}
 use Rattle.ptk_timeline_segments.specs.Tallies.{IsTallyOf}
 use Rattle.ptk_timeline_segments.proofs.Counting.{cells_filled, filled_within}
 use Rattle.ptk_timeline_segments.proofs.row.Row.hold_in_column.Goals as goal

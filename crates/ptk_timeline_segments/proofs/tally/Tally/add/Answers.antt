@@ -1,4 +1,4 @@
-use Rattle.std.proofs.Common.{◌≡◌, ℕ, ◌+◌, ◌-◌, ◌<◌, ◌≤◌, get_or, ap, ◌∙◌, arith, rules}
+use Rattle.std.proofs.Common.{◌≡◌, ◌-◌, ◌≤◌, get_or, ap, ◌∙◌, arith, rules}
 use Rattle.ptk_timeline_segments.specs.Shades.{place_in, place_of}
 use Rattle.ptk_timeline_segments.proofs.Counting.{count_few, tally_held}
 use Rattle.ptk_timeline_segments.proofs.tally.Tally.add.Goals as goal

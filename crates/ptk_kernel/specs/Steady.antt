@@ -1,0 +1,25 @@
+-- What stays of a partition whose running thread computes and makes quiet calls.
+use Rattle.std.specs.Prelude.{◌≡◌, ℕ, true, Some, option_map}
+use Rattle.ptk_words.specs.Processor.{Processor}
+use Rattle.ptk_words.specs.declared.sections.Entry.{Entry}
+use Rattle.ptk_words.specs.declared.threads.Thread.{Thread}
+use Rattle.ptk_words_model.specs.State.{Part}
+use Rattle.ptk_words_model.specs.Priority.{thread_at, effective_priority}
+use Rattle.ptk_words_model.specs.Mutex.{mutex_at}
+use Rattle.ptk_gate_steps.specs.Replies.{is_contended}
+
+-- the thread with these registers, and no tick of its interval used: what is left of it are its policy, its priority, its phase, its wait and its end
+abbrev pub at_rest : Processor → Thread → Thread
+at_rest cpu thread = record thread { cpu = cpu; used = 0 }
+
+-- the same thread runs, each thread is and waits as before, with the same priorities, and so is each mutex that threads wait for (XSH 2.8.4; own)
+pub record IsSteady (s after : Part) : Type 0 where
+  pub status : after.status ≡ s.status
+  pub running : after.running ≡ s.running
+  pub threads : (t : ℕ) (cpu : Processor) → option_map (at_rest cpu) (thread_at after.locks t) ≡ option_map (at_rest cpu) (thread_at s.locks t)
+  pub priorities : (t : ℕ) → effective_priority after.locks t ≡ effective_priority s.locks t
+  pub mutexes : (m : ℕ) → is_contended (mutex_at s.locks m) ≡ true → mutex_at after.locks m ≡ mutex_at s.locks m
+
+-- the last step was the running thread's
+abbrev pub IsOfRunning : Part → Type 0
+IsOfRunning s = (entry : Entry) → s.last ≡ Some entry → s.running ≡ Some entry.thread
