@@ -17,9 +17,6 @@ use Rattle.ptk_asm.specs.Passing.{State, Shows, behind, stepped, labelled, with_
 
 -- ---- a statement's first fault, check by check
 
-pub fault-form : (at : Place) (t : Token) (ts : List Token) → form_in (t ∷ ts) ≡ None → statement_fault at (t ∷ ts) ≡ Some fault.Mnemonic
-fault-form at t ts e = simp e
-
 pub fault-section : (at : Place) (t : Token) (ts : List Token) (f : Form) → form_in (t ∷ ts) ≡ Some f → stands_in f at.section ≡ false → statement_fault at (t ∷ ts) ≡ Some fault.Mnemonic
 fault-section at t ts f e s = simp (e, s)
 

@@ -77,23 +77,6 @@ refuses_tokens k before line bare parts e f h =
     let p : code_of line ≡ parts = sym (f ∙ ap without_comment e) in
     refuses-tokens k before line (subst (λ (x : List ℕ). Refuses k (token_fault x)) (sym p) h)
 
--- the bytes of a piece that is no token are those at fault in its line
-pub placed_tokens : (k : FaultKind) (e : LineFault) (before : List (List ℕ)) (line bare parts : List ℕ) → bare ≡ without_ending line → parts ≡ without_comment bare → Refuses k (token_fault parts)
-    → IsPlaced k e (wrong_place parts) → IsPlaced k e (line_place before line)
-placed_tokens k e before line bare parts f g h i =
-    let p : code_of line ≡ parts = sym (g ∙ ap without_comment f) in
-    by_tokens k (tokens_of (code_of line)) (subst (λ (x : List ℕ). Refuses k (token_fault x)) (sym p) h) (subst (λ (x : List ℕ). IsPlaced k e (wrong_place x)) (sym p) i)
-  where
-    by_tokens : (k : FaultKind) (o : Option (List Token)) → Refuses k (fault_unless o) → IsPlaced k e (wrong_place (code_of line)) → IsPlaced k e (tokens_place (labels_after before) (place_after before) (code_of line) o)
-    by_tokens k None h i = i
-    by_tokens fault.Memory (Some ts) h i = tt
-    by_tokens fault.Token (Some ts) h i = absurd (cc)
-    by_tokens fault.Mnemonic (Some ts) h i = absurd (cc)
-    by_tokens fault.Register (Some ts) h i = absurd (cc)
-    by_tokens fault.Range (Some ts) h i = absurd (cc)
-    by_tokens fault.UnknownLabel (Some ts) h i = absurd (cc)
-    by_tokens fault.DoubledLabel (Some ts) h i = absurd (cc)
-
 -- the bytes of a token at fault are those at fault in its line
 pub place_line : (before : List (List ℕ)) (line bare parts : List ℕ) (ts : List Token) (xs : List Extent) (end : ℕ) → bare ≡ without_ending line → parts ≡ without_comment bare → tokens_of parts ≡ Some ts
     → xs ≡ places_of parts → end ≡ length parts → place_at xs (index_at (state_after before) ts) end ≡ line_place before line

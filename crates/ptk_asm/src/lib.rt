@@ -1,3 +1,5 @@
+#![tactic(auto)]
+
 //! The assembler's two passes: `assemble` returns the image of a source, or its first fault with its line and the bytes
 //! at fault, and `label_table` the labels as a symbol table.
 //!
@@ -17,7 +19,6 @@
 //! of the proofs is in the tie of a line's step to that state (`States`, `Texts`), to the token at fault (`Spots`), in
 //! the fields of instructions (`fields`), and in two inductions over the lines before a line (`Whole`, `Lengths`).
 //! Below are `ptk_asm_language` and `ptk_image`; above is the program.
-#![tactic(auto)]
 
 mod assembling;
 mod emission;

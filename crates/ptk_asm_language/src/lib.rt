@@ -1,3 +1,5 @@
+#![tactic(auto)]
+
 //! The assembly language as definitions (lines, tokens, statements and their meaning, labels, faults in their order, the
 //! image of a source), and the code that reads one line of it.
 //!
@@ -18,7 +20,6 @@
 //! above. Costly to prove are the pieces of a line (`Pieces`, `PlaceList`), which the definition joins from the back and
 //! the code scans from the front; that a number is kept at 2^40 at most, above every bound (`Magnitudes`); and the
 //! tables of names (`mnemonics`, `registers`), one match a table.
-#![tactic(auto)]
 
 mod characters;
 mod fault;

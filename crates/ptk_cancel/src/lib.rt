@@ -1,3 +1,5 @@
+#![tactic(auto)]
+
 //! What all partitions' threads keep of cancellation (state, type, request, mark), and their stacks of cleanup
 //! handlers.
 //!
@@ -12,7 +14,6 @@
 //! nothing. What else cancellation needs of a thread, its phase and its wait, is elsewhere. Below are `ptk_words`,
 //! `ptk_words_parted` and `ptk_words_model`; above, `ptk_gate_pools` has it as one of its pools. No clause is costly to
 //! prove.
-#![tactic(auto)]
 
 mod entries;
 mod stack;

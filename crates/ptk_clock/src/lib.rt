@@ -1,3 +1,5 @@
+#![tactic(auto)]
+
 //! Ticks of times, and the deadlines of all partitions' slots in one order, of which the least due one is the model's
 //! next expiry; and the same by partition and thread (`ThreadDeadlines`).
 //!
@@ -18,7 +20,6 @@
 //! the others' deadlines (`proofs/Rooms`, `proofs/Places`, `proofs/ByThread`). Below are `ptk_words`,
 //! `ptk_words_parted`, and the order of expiries of `ptk_words_model` and `ptk_words_locks`; above are the gate's
 //! tables.
-#![tactic(auto)]
 
 mod deadlines;
 mod laws;

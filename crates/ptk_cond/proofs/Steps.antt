@@ -77,13 +77,6 @@ woken_next bits c o syncs e of = subst (λ (x : Option ℕ). IsSetOf bits (optio
 
 -- ---- the roster after a move
 
--- nothing moved yet
-syncs_none : (p : ℕ) (a : Rostered) → AreSyncedAt p a → AreSyncsMoved p a a (of_part p a)
-syncs_none p a synced = record {
-  of_locks = moved_none p a.table a.lines a.mutexes synced.ready;
-  of_conditions = sym (set_part-same a.conditions p);
-}
-
 -- one more move
 syncs_more : (p : ℕ) (f : Syncs → Syncs) (a b after : Rostered) (syncs : Syncs) → AreSyncedAt p a → AreSyncsMoved p a b syncs → AreSyncsMoved p b after (f (of_part p b)) → AreSyncsMoved p a after (f syncs)
 syncs_more p f a b after syncs synced moved more =
@@ -188,9 +181,6 @@ pub record AreSignalled (p c left total : ℕ) (a b : Rostered) : Type 0 where
   pub moved : AreSyncsMoved p a b (of_part p b)
   pub same : iterate (after_signal c) left (of_part p b) ≡ iterate (after_signal c) total (of_part p a)
 
-pub signalled_none : (p c total : ℕ) (a : Rostered) → AreSyncedAt p a → AreSignalled p c total total a a
-signalled_none p c total a synced = record { synced = synced; moved = syncs_none p a synced; same = refl }
-
 pub signalled_more : (p c left rest total : ℕ) (a b after : Rostered) → AreSyncedAt p a → rest ≡ suc left → AreSignalled p c rest total a b → AreSyncsMoved p b after (after_signal c (of_part p b)) → AreSyncedAt p after → AreSignalled p c left total a after
 signalled_more p c left rest total a b after start e signalled more synced =
     let at : of_part p after ≡ after_signal c (of_part p b) = syncs_moved p b after (after_signal c (of_part p b)) signalled.synced more in
@@ -200,11 +190,6 @@ signalled_more p c left rest total a b after start e signalled more synced =
       moved = subst (λ (s : Syncs). AreSyncsMoved p a after s) (sym at) moved;
       same = ap (iterate (after_signal c) left) at ∙ ap (λ (n : ℕ). iterate (after_signal c) n (of_part p b)) (sym e) ∙ signalled.same;
     }
-
-pub signalled_all : (p c left total : ℕ) (a b : Rostered) → left ≡ 0 → AreSignalled p c left total a b → AreSyncsMoved p a b (iterate (after_signal c) total (of_part p a))
-signalled_all p c left total a b e signalled =
-    let done : of_part p b ≡ iterate (after_signal c) total (of_part p a) = ap (λ (n : ℕ). iterate (after_signal c) n (of_part p b)) (sym e) ∙ signalled.same in
-    subst (λ (s : Syncs). AreSyncsMoved p a b s) done signalled.moved
 
 pub ruleset waits = (has_part, has_conditions, has_ready, sleeper_free, pool_get-changed, pool_changed-changed, part_of-set, set-set, set-get_or, length-set)
 

@@ -39,12 +39,6 @@ pub waits_used : (o : Option Thread) (wait : Wait) → wait_of o ≡ Some wait �
 waits_used None wait e = absurd (cc e)
 waits_used (Some thread) wait e = refl
 
--- a thread in a wait for a mutex is a waiter of it
-pub waiter_of : (t m : ℕ) (deadline : Option ℕ) (syncs : Syncs) → IsBlocked syncs t → wait_of (thread_at syncs.locks t) ≡ Some (MutexWait m deadline) → IsWaiter syncs.locks m t
-waiter_of t m deadline syncs blocked e =
-    let waits : awaited (thread_at syncs.locks t) ≡ Some m = awaits_by_wait (thread_at syncs.locks t) ∙ ap mutex_of_wait e in
-    record { waits = waits; out = blocked.out (MutexWait m deadline) e; inside = blocked.queued m waits }
-
 locked_of : (m : ℕ) (wait : Option Wait) → mutex_locked wait ≡ Some m → mutex_of_wait wait ≡ Some m
 locked_of m None e = absurd (cc e)
 locked_of m (Some InputWait) e = absurd (cc e)

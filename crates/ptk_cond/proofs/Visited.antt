@@ -8,7 +8,7 @@ use Rattle.ptk_words_model.specs.Priority.{effective_priorities, effective_prior
 use Rattle.ptk_words_model.specs.Condition.{condition_waiters, after_signal}
 use Rattle.ptk_words_locks.proofs.Lines.{first_none}
 use Rattle.ptk_roster.specs.Rosters.{Rostered}
-use Rattle.ptk_mutex_rise.specs.Visits.{IsVisited}
+use Rattle.ptk_mutex.specs.Visits.{IsVisited}
 use Rattle.ptk_mutex.specs.declared.mutexes.Mutexes.{Mutexes}
 use Rattle.ptk_mutex.proofs.Sound.{of_part, AreSyncedAt, AreSyncsMoved, syncs_moved}
 use Rattle.ptk_cond.specs.Tables.{next_waiter}
@@ -33,9 +33,6 @@ stored_reached p c i a b reached synced = synced.ready.stored ∙ ap (λ (s : Sy
 pub record AreVisited (c i : ℕ) (syncs : Syncs) (old now : Mutexes) : Type 0 where
   pub none : i ≡ 0 → now ≡ old
   pub some : 0 < i → IsVisitedBySignal now.visited i c syncs
-
-pub visited_none : (c : ℕ) (syncs : Syncs) (old : Mutexes) → AreVisited c 0 syncs old old
-visited_none c syncs old = record { none = λ e. refl; some = λ lt. absurd (omega arith) }
 
 later : (visited i c : ℕ) (syncs : Syncs) → IsVisitedBySignal visited i c syncs → IsVisitedBySignal visited (suc i) c syncs
 later visited i c syncs was = record { earlier = was.earlier; within = omega (arith, was.within); read = was.read }

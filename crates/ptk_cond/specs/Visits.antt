@@ -5,7 +5,7 @@ use Rattle.ptk_words.specs.Names.{ConditionNumber, Priority}
 use Rattle.ptk_words_model.specs.State.{Syncs}
 use Rattle.ptk_words_model.specs.Priority.{effective_priorities}
 use Rattle.ptk_words_model.specs.Condition.{after_signal}
-use Rattle.ptk_mutex_rise.specs.Visits.{IsVisited}
+use Rattle.ptk_mutex.specs.Visits.{IsVisited}
 
 -- the effective priorities after n signals (pthread_cond_signal)
 abbrev pub priorities_after : ℕ → ConditionNumber → Syncs → List Priority

@@ -1,3 +1,5 @@
+#![tactic(auto)]
+
 //! The moves on condition variables over the roster (a wait, a signal or a broadcast moves waiters through
 //! `ptk_mutex`), and what the coming of a deadline does to a thread, whatever its wait is.
 //!
@@ -18,7 +20,6 @@
 //! (`proofs/Waiters`), and that waking a sleeper leaves every effective priority as it was (`proofs/Priorities`). Below
 //! are `ptk_mutex`, `ptk_roster`, which has the waiters as linked queues, and `ptk_words_locks`, which says what a wait
 //! on a condition variable is; above are the pools of `ptk_gate_pools`.
-#![tactic(auto)]
 
 mod conditions;
 mod expiries;

@@ -7,7 +7,7 @@ ghost use Rattle.ptk_words_model.specs.Mutex.{wait_of};
 ghost use Rattle.ptk_words_model.specs.Priority.{thread_at};
 ghost use Rattle.ptk_words_model.specs.Condition.{condition_waiters, mutex_of_condition_wait, after_unblock, after_unblock_for, after_signal, after_signal_to, after_broadcast};
 ghost use Rattle.ptk_words_parted.specs.Sets.{IsSetOf};
-ghost use Rattle.ptk_mutex_rise.specs.Visits.{IsVisited};
+ghost use Rattle.ptk_mutex.specs.Visits.{IsVisited};
 ghost use Rattle.ptk_mutex.specs.Sound.{IsSound};
 ghost use Rattle.ptk_mutex.specs.Tables.{with_threads};
 ghost use Rattle.ptk_cond.specs.Tables.{syncs_at, AreSynced, MayLeave, next_waiter};

@@ -1,3 +1,5 @@
+#![tactic(auto)]
+
 //! The configuration reader: from a TOML text the sections and the plan of windows that it states, or the first fault
 //! in the order of the checks.
 //!
@@ -9,7 +11,6 @@
 //! Costly to prove is `read_config`, over the whole text; its clause `text` uses which faults a document can have
 //! (`proofs/Faults`). Below are `ptk_words`, `ptk_words_windows`, `ptk_window` and the crate `toml`; above is the
 //! system.
-#![tactic(auto)]
 
 mod config;
 mod fault;

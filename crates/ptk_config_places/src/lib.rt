@@ -1,3 +1,5 @@
+#![tactic(auto)]
+
 //! Where a configuration is refused: the place of its first fault (`first_refusal`), and what a document has at a place.
 //!
 //! - `first_refusal` returns a place if and only if `configuration_in` has a fault, with that fault (`fault`), and the
@@ -8,7 +10,6 @@
 //! Below is `ptk_config`, whose definitions and functions of each check these are; above are `ptk_config_table`, which
 //! says a refusal in words, and the program. Costly to prove is `walk_table`, over a whole document; the law that places
 //! leave each fault as it is, is in `proofs/Forgotten`.
-#![tactic(auto)]
 
 mod document;
 mod lookup;

@@ -6,7 +6,7 @@ use Rattle.std.proofs.KnownBytes.{Appends-trans}
 use Rattle.std.proofs.lemmas.Grind.{flat_map-append}
 use Rattle.std.proofs.lemmas.List.{get_or-map}
 use Rattle.ptk_words_windows.specs.Windows.{Stage, WindowPlan}
-use Rattle.ptk_system_files.specs.NamedFiles.{NamedFile}
+use Rattle.ptk_image.specs.NamedFiles.{NamedFile}
 use Rattle.ptk_config.specs.Sections.{Section}
 use Rattle.ptk_config_table.specs.declared.images.Outcome.{Outcome}
 use Rattle.ptk_config_table.specs.Images.{outcome_in}

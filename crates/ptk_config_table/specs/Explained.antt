@@ -2,7 +2,7 @@
 use Rattle.std.specs.Prelude.{ℕ, ◌+◌, List, [], ◌++◌, map, slice_get, Option, Some, None, Ok, Err, codes, decimal}
 use Rattle.std.specs.Io.KnownBytes.{Appends}
 use Rattle.toml.specs.Parse.{parse_document}
-use Rattle.ptk_system_files.specs.NamedFiles.{NamedFile}
+use Rattle.ptk_image.specs.NamedFiles.{NamedFile}
 use Rattle.ptk_config.specs.Reading.{Checked}
 use Rattle.ptk_config.specs.Sections.{Section}
 use Rattle.ptk_config.specs.Configuration.{Configuration, configuration_in}

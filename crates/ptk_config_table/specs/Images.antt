@@ -5,7 +5,7 @@ use Rattle.ptk_words.specs.declared.sections.Limits.{Limits}
 use Rattle.ptk_words.specs.declared.faults.ImageFault.{ImageFault}
 use Rattle.ptk_words.specs.declared.faults.ImageFault.TheVariants as image
 use Rattle.ptk_words.specs.Image.{ImageParts, image_of}
-use Rattle.ptk_system_files.specs.NamedFiles.{NamedFile, content_of}
+use Rattle.ptk_image.specs.NamedFiles.{NamedFile, content_of}
 use Rattle.ptk_config.specs.Sections.{Section}
 use Rattle.ptk_config_table.specs.declared.images.Outcome.{Outcome}
 use Rattle.ptk_config_table.specs.declared.images.Outcome.TheVariants.{Unnamed, Missing, Refused, Unfit, Accepted}

@@ -13,7 +13,7 @@ use crate::refusal::{ExplainFault, explain_refusal};
 use crate::table::put_table;
 use ptk_config::{Config, Section, read_config};
 use ptk_config_places::Refusal;
-use ptk_system_files::Files;
+use ptk_image::Files;
 use std::alloc::Global;
 use std::io::Write;
 use toml::Table;

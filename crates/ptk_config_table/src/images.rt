@@ -7,8 +7,7 @@ ghost use Rattle.ptk_config_table.specs.Images as images;
 
 use crate::refusal::ExplainFault;
 use ptk_config::Section;
-use ptk_image::{Image, read_image};
-use ptk_system_files::Files;
+use ptk_image::{Files, Image, read_image};
 use ptk_words::{ImageFault, Limits};
 use std::alloc::{AllocError, Global};
 use std::fmt;

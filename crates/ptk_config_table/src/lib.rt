@@ -1,3 +1,5 @@
+#![tactic(auto)]
+
 //! A configuration in words (`explain`): of a refused one the line that says where and why (`explain_refusal`), of one
 //! with a refused image a line about that image, and else what each partition has.
 //!
@@ -12,8 +14,7 @@
 //!   no more of it.
 //!
 //! Below are the configuration (`ptk_config`) with the places of its faults (`ptk_config_places`), images (`ptk_image`)
-//! and the files (`ptk_system_files`); above is the program. No clause is costly to prove.
-#![tactic(auto)]
+//! and the files (`ptk_image`); above is the program. No clause is costly to prove.
 
 mod explanation;
 mod images;

@@ -4,7 +4,7 @@ ghost use Rattle.std.specs.Prelude.{◌≡◌, ◌≢◌, ◌<◌, ◌++◌, ◌
 ghost use Rattle.std.specs.List.{enumerate_from};
 ghost use Rattle.std.specs.Io.KnownBytes.{Appends};
 ghost use Rattle.toml.specs.View.{table_view};
-ghost use Rattle.ptk_system_files.specs.NamedFiles.{NamedFile};
+ghost use Rattle.ptk_image.specs.NamedFiles.{NamedFile};
 ghost use Rattle.ptk_config.specs.Configuration.{configuration};
 ghost use Rattle.ptk_config_table.specs.Images.{outcome_in};
 ghost use Rattle.ptk_config_table.specs.Table as table;

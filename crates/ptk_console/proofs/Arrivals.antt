@@ -38,19 +38,3 @@ without_arriving-without_next tick console =
     ∙ ap (λ (n : ℕ). drop n console.coming) (parted come)
     in
     ap (λ (xs : List Arrival). record console { coming = xs }) same
-
-taken_one : (p : Arrival → Bool) (xs : List Arrival) (byte : ℕ) → option_map (λ arrival. arrival.byte) (slice_get (take_while p xs) 0) ≡ Some byte
-    → length (drop (length (take 1 (take_while p xs))) xs) + 1 ≡ length xs
-taken_one p [] byte h = absurd (cc)
-taken_one p (x ∷ xs) byte h =
-    let P : List Arrival → Type 0 = λ ys. option_map (λ arrival. arrival.byte) (slice_get ys 0) ≡ Some byte → length (drop (length (take 1 ys)) (x ∷ xs)) + 1 ≡ length (x ∷ xs) in
-    let M : Bool → Type 0 = λ b. P (cond b (x ∷ take_while p xs) []) in
-    let cases : P (cond (p x) (x ∷ take_while p xs) []) =
-    elim (p x) as M [ true ↦ λ (e : Some x.byte ≡ Some byte). omega arith | false ↦ λ (e : ◌≡◌ {A = Option ℕ} None (Some byte)). absurd (cc) ]
-    in
-    let whole : P (take_while p (x ∷ xs)) = rw take_while-cons cases in
-    whole h
-
--- a byte that was taken is one less to come
-pub coming-without_next : (tick : ℕ) (console : Console) (byte : ℕ) → next_byte tick console ≡ Some byte → length (without_next tick console).coming + 1 ≡ length console.coming
-coming-without_next tick console byte taken = taken_one (is_due_at tick) console.coming byte taken

@@ -1,3 +1,5 @@
+#![tactic(auto)]
+
 //! The consoles of all partitions: the input still to come, the ring of bytes that arrived, the bytes lost because the
 //! ring was full, the output, and the threads that wait for a byte.
 //!
@@ -8,7 +10,6 @@
 //! Room for all is made by `Consoles::build` alone. Below are `ptk_words_model`, whose definitions the contracts cite,
 //! and `ptk_words_parted`, whose queue keeps the waiters; above are the gate and the kernel. Costly to prove is that a
 //! move of one console is that move in the table (`proofs/Moves`).
-#![tactic(auto)]
 
 mod console;
 mod consoles;

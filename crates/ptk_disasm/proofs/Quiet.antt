@@ -26,9 +26,6 @@ both-quiet [] ys h k = k
 both-quiet (x ∷ xs) ys h k =
     let parts = both (is_quiet x) (list_all is_quiet xs) h in rw parts.0 (both-quiet xs ys parts.1 k)
 
-no_lf : (c : ℕ) → is_quiet c ≡ true → (c == 10) ≡ false
-no_lf c h = grind (arith, nat_tests)
-
 no_comment : (c : ℕ) → is_quiet c ≡ true → (c == 35) ≡ false
 no_comment c h = grind (arith, nat_tests)
 

@@ -1,3 +1,5 @@
+#![tactic(auto)]
+
 //! The disassembler: `disassemble` returns the source of an image, `disassemble_with` the same with names in its
 //! comments.
 //!
@@ -11,7 +13,6 @@
 //! The definition of the source is in `specs/Disassembly`. The weight of the proofs is in `images_read_back`: a
 //! statement's text follows the slots that the assembler reads it by, so one induction over slots proves all forms.
 //! Below are `ptk_image` and the assembler with its parts; above is the program.
-#![tactic(auto)]
 
 mod again;
 mod disassembly;

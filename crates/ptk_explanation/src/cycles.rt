@@ -2,7 +2,7 @@
 
 ghost use Rattle.std.specs.Prelude.{◌<◌, length};
 
-use ptk_standing::{blocker, is_deadlocked};
+use crate::deadlock::{blocker, is_deadlocked};
 use ptk_system::System;
 use ptk_words::{PartId, THREAD_LIMIT, ThreadNo};
 

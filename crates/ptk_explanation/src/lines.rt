@@ -5,10 +5,10 @@ ghost use Rattle.std.specs.Prelude.{◌<◌, ◌≤◌, length};
 use crate::cycles::{begins_cycle, following};
 use crate::facts::{Awaited, Stop, ThreadFacts, awaited_in, thread_count};
 use crate::history::{History, STACK_POINTER};
+use crate::status::standing;
 use crate::words::{
     Doing, Headline, ceiling_of, policy_name, protocol_name, refusal_words, type_name,
 };
-use ptk_standing::standing;
 use ptk_symbols::Symbols;
 use ptk_system::{PartStatus, System};
 use ptk_words::{Cpu, PartId, THREAD_LIMIT, ThreadNo};

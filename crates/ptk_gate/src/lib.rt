@@ -1,3 +1,5 @@
+#![tactic(auto)]
+
 //! The tables of all partitions, `Tables`: the pools with what holds of them between calls, the loading of images, the
 //! calls by the call table, and rows of plain steps of a quiet partition.
 //!
@@ -14,7 +16,6 @@
 //! `Tables::pass_ecall` puts the pc past it, and the kernel makes the call; `Tables::instruct` makes the effect of any
 //! other instruction. `Tables::idle_until` returns how long a partition has nothing to do. Below are the pools and
 //! their moves; above are the kernel and the system. Costly to prove are `call` and `load`.
-#![tactic(auto)]
 
 mod calls;
 mod loading;

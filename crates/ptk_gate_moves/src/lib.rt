@@ -1,3 +1,5 @@
+#![tactic(auto)]
+
 //! The moves composed of several: reply, refuse, block, wake, halt, the end of a turn, a round-robin interval, the
 //! beginning of a thread and of an unwinding, and cancellation points.
 //!
@@ -10,7 +12,6 @@
 //! `ptk_gate_pools`, whose `Pools`, `Look` and specs are passed on to the crates above: `ptk_gate_services`,
 //! `ptk_gate_steps`, `ptk_gate_threads`, `ptk_gate_sync` and the gate's tables. Costly to prove is `begin`, four moves
 //! in a row.
-#![tactic(auto)]
 
 mod blocking;
 mod calls;

@@ -1,3 +1,5 @@
+#![tactic(auto)]
+
 //! The pools of each kind made at boot from the sections' numbers, and `Memories`, the memory of all partitions with
 //! its decoded words.
 //!
@@ -11,7 +13,6 @@
 //! is what a reader then sees of it, a list for each section (`per_section`). Whoever writes a byte of memory writes it
 //! by `Memories`. Below are the pools of each kind, `ptk_rv32i_rows` and `ptk_trace`; above, `ptk_gate_pools` joins the
 //! parts to one structure.
-#![tactic(auto)]
 
 mod counts;
 mod deadlines;

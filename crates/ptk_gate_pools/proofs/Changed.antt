@@ -25,10 +25,6 @@ use Rattle.ptk_gate_pools.proofs.Stored.{left_long, refreshed_slot, refreshed_ch
 use Rattle.ptk_gate_pools.proofs.Timed.{timed_slot, timed_left, timed_wait_again}
 use Rattle.ptk_gate_pools.proofs.Locking.{stored_moved}
 
--- the partition is one of the pools'
-pub within_of : (p : ℕ) (a : Inside) (kept : Kept) → kept_of a ≡ kept → p < length kept.limits → p < length a.limits.items
-within_of p a kept view lt = subst (λ (k : Kept). p < length k.limits) (sym view) lt
-
 -- the tables of one partition's moves are those that these leave
 pub record AreSet (p : ℕ) (syncs : Syncs) (a : Inside) (roster : Rostered) : Type 0 where
   pub of_threads : roster.table ≡ with_threads p syncs.locks a.roster.table

@@ -46,14 +46,6 @@ timeout_syncs t (Some (MutexWait m deadline)) s = refl
 timeout_syncs t (Some (ConditionWait c m deadline)) s = refl
 timeout_syncs t (Some (RelockWait m reply)) s = refl
 
--- a thread that waits is where its wait says
-pub blocked_of : (limits : Limits) (s : Part) (t : ℕ) → IsWell limits s → IsBlocked s.syncs t
-blocked_of limits s t well = record {
-  out = λ wait e. not_ready_out s.threads s.line s.running t (lined_of limits s well) (waits_not_ready wait (thread_at s.locks t) e);
-  queued = λ m e. well.exclusion.waits_listed m t e;
-  listed = λ c e. well.conditional.waits_listed c t e;
-}
-
 -- ---- the tables after an expiry
 
 -- what a partition's calls read and change (own)
@@ -81,18 +73,9 @@ pub expired_move : (p t tick : ℕ) (a : Inside) → Some t ≡ option_map (λ (
 expired_move p t tick a told timed =
     one_expired p t a (next_expiry tick (part_of a.deadlines p)) told ∙ ap (λ (o : Option Expiry). after_one_expiry o (part_at p (kept_of a))) (next_same p tick a timed)
 
-some_told : (t : ℕ) (o : Option Expiry) → Some t ≡ option_map (λ (x : Expiry). x.thread) o → true ≡ is_some o
-some_told t None e = absurd (let no : ⊥ = cc in no)
-some_told t (Some x) e = refl
-
 none_told : (o : Option Expiry) → None ≡ option_map (λ (x : Expiry). x.thread) o → o ≡ None
 none_told None e = refl
 none_told (Some x) e = absurd (let no : ⊥ = cc in no)
-
--- one was due
-pub expired_told : (p t tick : ℕ) (a : Inside) → Some t ≡ option_map (λ (x : Expiry). x.thread) (next_expiry tick (part_of a.deadlines p)) → AreTimed a.deadlines a.roster.table.threads
-    → true ≡ is_some (next_expiry tick (deadlines_of (part_at p (kept_of a)).locks))
-expired_told p t tick a told timed = some_told t (next_expiry tick (part_of a.deadlines p)) told ∙ ap is_some (next_same p tick a timed)
 
 -- none was due
 pub none_due : (p tick : ℕ) (a : Inside) → None ≡ option_map (λ (x : Expiry). x.thread) (next_expiry tick (part_of a.deadlines p)) → AreTimed a.deadlines a.roster.table.threads

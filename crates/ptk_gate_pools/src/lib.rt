@@ -1,3 +1,5 @@
+#![tactic(auto)]
+
 //! The pools of all partitions in one structure, `Pools`, with one partition in hand: what can be read of it, the moves
 //! that write one component of it, and plain steps of a thread in a row; `Look` reads one partition, whichever is in
 //! hand.
@@ -20,7 +22,6 @@
 //! pools of each kind, `ptk_gate_parts`, which makes them, `ptk_gate_waits`, the instructions and their rows; above is
 //! `ptk_gate_moves`. Costly to prove are the choices by stored priorities; what takes the check longest is the drop of
 //! all pools.
-#![tactic(auto)]
 
 mod arrivals;
 mod building;

@@ -1,3 +1,5 @@
+#![tactic(auto)]
+
 //! The calls on the console, on clocks, on cancellation and cleanup handlers, and on keys and their values, with the
 //! input that arrives and the deadlines that expire, composed of moves.
 //!
@@ -14,7 +16,6 @@
 //! neither deleted nor set, and its value is 0. Costly to prove are `arrive_due` and `expire_due`, whose loops take one
 //! by one what the model takes at once, and `cancel`: a thread that is taken out of its wait is in use and not in the
 //! line. Below are the pools and their moves; above are the gate's tables.
-#![tactic(auto)]
 
 mod arrivals;
 mod cleanups;

@@ -1,3 +1,5 @@
+#![tactic(auto)]
+
 //! The running thread's next step, its cost and what the trace keeps of it; up to which tick nothing but its steps can
 //! come, or that there is nothing to do; and quiet calls, made beside rows of steps.
 //!
@@ -12,7 +14,6 @@
 //! What the gate's tables ask without a change takes a `Look` at one partition, whichever is in hand, and its clauses
 //! speak of that partition's numbers and part alone. Below are the pools and the instructions; above are the gate's
 //! tables and the kernel. Costly to prove is `instruct`, which brings what is seen of a step and its effect together.
-#![tactic(auto)]
 
 mod idle_stops;
 mod instructions;

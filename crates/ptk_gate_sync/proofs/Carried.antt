@@ -17,10 +17,6 @@ pub moved_on : (u : Part) (row rest : Answer) (old mid new : Held) → row ≡ r
 moved_on u row rest old mid new e first second =
     second ∙ ap (λ (h : Held). record h { here = rest.part }) first ∙ ap (λ (a : Answer). record old { here = a.part }) (sym e)
 
--- the state that the rest of a row leaves is the row's
-pub moved_as : (row rest : Answer) (old new : Held) → row ≡ rest → new ≡ record old { here = rest.part } → new ≡ record old { here = row.part }
-moved_as row rest old new e moved = moved ∙ ap (λ (a : Answer). record old { here = a.part }) (sym e)
-
 -- what two moves in a row leave is the second one's part
 pub moved_twice : (u v : Part) (old mid new : Held) → mid ≡ record old { here = u } → new ≡ record mid { here = v } → new ≡ record old { here = v }
 moved_twice u v old mid new first second = second ∙ ap (λ (h : Held). record h { here = v }) first

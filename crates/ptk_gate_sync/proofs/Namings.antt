@@ -71,9 +71,6 @@ ok_any P (Err e) h = tt
 by_zero : (word : ℕ) (made other : Answer) → word ≡ 0 → (if word == 0 then made else other) ≡ made
 by_zero word made other e = rw (eq-eqb word 0 e) refl
 
-by_number : (word : ℕ) (made other : Answer) → word ≢ 0 → (if word == 0 then made else other) ≡ other
-by_number word made other ne = rw (ne_eqb word 0 ne) refl
-
 -- ---- mutexes
 
 -- the mutex of a word of 0 is set up at the least free number

@@ -34,81 +34,11 @@ none_waits (t ∷ ts) e = let le : length (t ∷ ts) ≤ 0 = ltb-false 0 (length
 
 pub ruleset unwaited = (none_waits)
 
--- ---- a lock with a deadline
-
-pub waits_is : (move : LockMove) → is_waiting move ≡ true → move ≡ Waits
-waits_is Takes e = absurd (cc e)
-waits_is Recovers e = absurd (cc e)
-waits_is Counts e = absurd (cc e)
-waits_is Waits e = refl
-waits_is (Refuses errno) e = absurd (cc e)
-
-move_now : (move : LockMove) (m tick : ℕ) (time : Timespec) (deadline : Option ℕ) (i : Invocation) (s : Part) → is_waiting move ≡ false → make_move (timed_move move time tick) m deadline i s ≡ make_move move m None i s
-move_now Takes m tick time deadline i s e = refl
-move_now Recovers m tick time deadline i s e = refl
-move_now Counts m tick time deadline i s e = refl
-move_now Waits m tick time deadline i s e = absurd (cc e)
-move_now (Refuses errno) m tick time deadline i s e = refl
-
--- a lock that does not wait does not look at the time
-pub timed_now : (m : ℕ) (i : Invocation) (s : Part) → is_waiting (lock_move s.locks i.caller (mutex_at s.locks m)) ≡ false → timedlock_named m i s ≡ lock_by None m i s
-timed_now m i s e = let time : Timespec = timespec_at s.memory i.a1 in move_now (lock_move s.locks i.caller (mutex_at s.locks m)) m i.tick time (Some (deadline_of time)) i s e
-
--- a lock that waits does
-pub timed_later : (m : ℕ) (i : Invocation) (s : Part) → lock_move s.locks i.caller (mutex_at s.locks m) ≡ Waits → timedlock_named m i s ≡ timed_wait_named m i s
-timed_later m i s e = let time : Timespec = timespec_at s.memory i.a1 in ap (λ move. make_move (timed_move move time i.tick) m (Some (deadline_of time)) i s) e
-
 -- ---- the time
 
 none_if : (b : Bool) (d : ℕ) → (if b then Some d else None) ≡ None → b ≡ false
 none_if true d e = absurd (cc e)
 none_if false d e = refl
-
-some_if : (b : Bool) (d x : ℕ) → (if b then Some d else None) ≡ Some x → (b ≡ true) × (d ≡ x)
-some_if true d x e = (refl, cc e)
-some_if false d x e = absurd (cc e)
-
--- a time whose nanoseconds are none
-asked_none : (time : Timespec) → deadline_asked time ≡ None → is_timespec time ≡ false
-asked_none time e = none_if (is_timespec time) (deadline_of time) e
-
-asked_some : (time : Timespec) (d : ℕ) → deadline_asked time ≡ Some d → (is_timespec time ≡ true) × (deadline_of time ≡ d)
-asked_some time d e = some_if (is_timespec time) (deadline_of time) d e
-
--- the move of a lock that waits, by whether the time is one and by its deadline (own)
-abbrev move_by : Bool → ℕ → ℕ → LockMove
-move_by b deadline tick = if not b then Refuses EINVAL else if nat_le deadline tick then Refuses ETIMEDOUT else Waits
-
-pub timed_refused : (m : ℕ) (i : Invocation) (s : Part) → deadline_asked (timespec_at s.memory i.a1) ≡ None → timed_wait_named m i s ≡ refusal EINVAL i s
-timed_refused m i s e =
-    let time : Timespec = timespec_at s.memory i.a1 in
-    ap (λ b. make_move (move_by b (deadline_of time) i.tick) m (Some (deadline_of time)) i s) (asked_none time e)
-
-timed_at : (m d : ℕ) (i : Invocation) (s : Part) → deadline_asked (timespec_at s.memory i.a1) ≡ Some d → timed_wait_named m i s ≡ make_move (move_by true d i.tick) m (Some d) i s
-timed_at m d i s e =
-    let time : Timespec = timespec_at s.memory i.a1 in
-    let known = asked_some time d e in
-    ap (λ b. make_move (move_by b (deadline_of time) i.tick) m (Some (deadline_of time)) i s) known.0
-    ∙ ap (λ x. make_move (move_by true x i.tick) m (Some x) i s) known.1
-
-pub timed_late : (m d : ℕ) (i : Invocation) (s : Part) → deadline_asked (timespec_at s.memory i.a1) ≡ Some d → nat_le d i.tick ≡ true → timed_wait_named m i s ≡ refusal ETIMEDOUT i s
-timed_late m d i s e late = timed_at m d i s e ∙ ap (λ b. make_move (if b then Refuses ETIMEDOUT else Waits) m (Some d) i s) late
-
-pub timed_ahead : (m d : ℕ) (i : Invocation) (s : Part) → deadline_asked (timespec_at s.memory i.a1) ≡ Some d → nat_le d i.tick ≡ false → lock_move s.locks i.caller (mutex_at s.locks m) ≡ Waits → timed_wait_named m i s ≡ lock_by (Some d) m i s
-timed_ahead m d i s e ahead waits =
-    timed_at m d i s e ∙ ap (λ b. make_move (if b then Refuses ETIMEDOUT else Waits) m (Some d) i s) ahead ∙ ap (λ move. make_move move m (Some d) i s) (sym waits)
-
--- so of a wait on a condition variable
-pub asked_refused : (c m : ℕ) (i : Invocation) (s : Part) → deadline_asked (timespec_at s.memory i.a2) ≡ None → wait_until_asked c m i s ≡ refusal EINVAL i s
-asked_refused c m i s e =
-    let time : Timespec = timespec_at s.memory i.a2 in
-    ap (λ b. if not b then refusal EINVAL i s else wait_until (deadline_of time) c m i s) (asked_none time e)
-
-pub asked_until : (c m d : ℕ) (i : Invocation) (s : Part) → deadline_asked (timespec_at s.memory i.a2) ≡ Some d → wait_until_asked c m i s ≡ wait_until d c m i s
-asked_until c m d i s e =
-    let time : Timespec = timespec_at s.memory i.a2 in
-    let known = asked_some time d e in
-    ap (λ b. if not b then refusal EINVAL i s else wait_until (deadline_of time) c m i s) known.0 ∙ ap (λ x. wait_until x c m i s) known.1
 
 -- ---- a deadline that has come
 

@@ -1,3 +1,5 @@
+#![tactic(auto)]
+
 //! The calls on threads, the next move of an unwinding thread (a handler, a destructor or its end) and the choice of
 //! the running thread, composed of moves.
 //!
@@ -8,7 +10,6 @@
 //! A call that takes several words decodes them first, into what it asks for or the error that refuses it, and one
 //! function then carries that out. Below are the pools and their moves; above are the gate's tables. Costly to prove
 //! are the compositions, each of which changes several components of a whole state.
-#![tactic(auto)]
 
 mod attributes;
 mod choices;

@@ -1,3 +1,5 @@
+#![tactic(auto)]
+
 //! What kind a wait is, and the deadline that is kept of it.
 //!
 //! - `follow_wait` and `follow_move` make the kept deadline of a thread that of its wait.
@@ -5,7 +7,6 @@
 //!
 //! These functions act on the roster and the deadlines of one partition, and not on the pools as a whole. Below are
 //! `ptk_roster` and `ptk_clock`; above is `ptk_gate_pools`. Nothing here is costly to prove.
-#![tactic(auto)]
 
 mod deadlines;
 mod kinds;

@@ -1,3 +1,5 @@
+#![tactic(auto)]
+
 //! What a new configuration can change for a partition: `Impact::between` compares what boot sees of it in two systems,
 //! and promises the same run where that is the same.
 //!
@@ -15,7 +17,6 @@
 //!
 //! The weight is below: in the windows' first difference (`ptk_impact_windows`) and in the system's headline. The
 //! functions without code are laws of the definitions. The program is above.
-#![tactic(auto)]
 
 mod changes;
 mod image;

@@ -6,7 +6,7 @@ ghost use Rattle.ptk_system.specs.Missing.{image_in};
 ghost use Rattle.ptk_impact.specs.Views.{IsPartition, section_of};
 
 use ptk_config::{Config, Section};
-use ptk_system_files::Files;
+use ptk_image::Files;
 use ptk_words::PartId;
 
 /// A partition of a configuration whose images are these files.

@@ -1,3 +1,5 @@
+#![tactic(auto)]
+
 //! What the program writes for `impact` over two configurations and their files already read, as lines or as JSON, on
 //! any writer.
 //!
@@ -12,7 +14,6 @@
 //! that is gone, and a last line that counts. Below are `ptk_impact`, the configuration (`ptk_config`), images
 //! (`ptk_image`) and the faults (`ptk_main_faults`); above is the program, which reads the files and lends its standard
 //! output. The bytes are tested (`ptk_main_answers_tests`).
-#![tactic(auto)]
 
 mod answer;
 mod comparison;

@@ -4,8 +4,8 @@ ghost use Rattle.std.specs.Prelude.{◌≡◌, ◌<◌, ◌≤◌, None, IfSome,
 ghost use Rattle.ptk_impact_answers.specs.Matching.{place_named};
 
 use ptk_config::{Config, Section};
+use ptk_image::Files;
 use ptk_impact::Subject;
-use ptk_system_files::Files;
 use ptk_words::PartId;
 
 /// A configuration, and the files that have its images.

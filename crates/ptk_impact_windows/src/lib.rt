@@ -1,3 +1,5 @@
+#![tactic(auto)]
+
 //! The first tick at which the windows of two partitions, each of a plan of its own, differ, or that they are the same
 //! at all ticks.
 //!
@@ -10,7 +12,6 @@
 //! each plan from the beginning of each stage. The weight of the proofs is in `proofs/Repeats`: two functions that
 //! repeat, each with a period of its own, and agree for the sum of the two periods, agree everywhere. Below is
 //! `ptk_window`; above is `ptk_impact`.
-#![tactic(auto)]
 
 mod comparison;
 mod difference;

@@ -213,17 +213,6 @@ instruction_made p tick next cpu r old new e kind word read runs moved =
     ∙ ap (λ (c : Processor). put_part p (after_instruction r.number c.pc (effect_at c s.memory) s) old) same
     ∙ ap (λ (q : Part). put_part p q old) (instruction_stepped (limits_at p old) tick next r s e runs kind word)
 
--- the unwinding that begins is the step of its kind
-pub unwinding_stepped : (limits : Limits) (tick : ℕ) (next : NextStep) (r : Runner) (s : Part) → next_step_in s ≡ Some next → runner_of s ≡ Some r → next.kind ≡ UnwindingStart
-    → after_unwinding_start next.thread CANCELED s ≡ after_step limits tick r next.kind s
-unwinding_stepped limits tick next r s e runs kind =
-    ap (λ (n : NextStep). after_unwinding_start n.thread CANCELED s) (next_is s next r e runs)
-    ∙ ap (λ (k : StepKind). after_step limits tick r k s) (sym kind)
-
--- the step at the return gate is the step of its kind
-pub gate_stepped : (limits : Limits) (tick : ℕ) (kind : StepKind) (r : Runner) (s : Part) → kind ≡ GateStep → after_gate_step r.thread.phase r.number r.thread s ≡ after_step limits tick r kind s
-gate_stepped limits tick kind r s e = ap (λ (k : StepKind). after_step limits tick r k s) (sym e)
-
 -- ---- the whole step
 
 whole_as : (limits : Limits) (tick : ℕ) (kind : StepKind) (r : Runner) (s : Part) → kind ≡ step_kind s r.number r.thread

@@ -1,3 +1,5 @@
+#![tactic(auto)]
+
 //! One decision of one partition at a tick of its own (`decide`), its two halves (`prepare`, `take_turn`), and in place
 //! of decisions plain steps in a row (`compute`), quiet calls (`reply`) and the ticks over which a partition has
 //! nothing to do (`stays_idle_until`).
@@ -20,7 +22,6 @@
 //! the gate's `call`, through which every ECALL goes; above is the system. Costly to prove is that two moves one after
 //! another are the model's one: `tables.parts()` is read first there, for its clause that every component of the tables
 //! has an entry for each partition.
-#![tactic(auto)]
 
 mod decisions;
 mod events;

@@ -1,3 +1,5 @@
+#![tactic(auto)]
+
 //! Tests of the crates from `ptk_words_parted` up to `ptk_gate`, and of `ptk_trace`, `ptk_window` and `ptk_image`, by
 //! their public names.
 //!
@@ -6,7 +8,6 @@
 //! traces are compared byte for byte, and faults by number. They are apart, so that those crates are proved once and
 //! not a second time with their tests. What the other calls do, their clauses say, and the worked rows of whole runs
 //! show. There is no other code here, and nothing is above.
-#![tactic(auto)]
 
 #[cfg(test)]
 mod clock;

@@ -1,3 +1,5 @@
+#![tactic(auto)]
+
 //! The keys of all partitions with their destructors, the values by thread and key, and how far each thread's
 //! destructor calls are.
 //!
@@ -10,7 +12,6 @@
 //! word that is no key has the value 0, and setting something of it changes nothing. Below are `ptk_words`,
 //! `ptk_words_parted` and `ptk_words_model`; above, `ptk_gate_pools` has it as one of its pools. Costly to prove is
 //! that the least key whose destructor is due is found (`proofs/Due`).
-#![tactic(auto)]
 
 mod destructors;
 mod numbers;

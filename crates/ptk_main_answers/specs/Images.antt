@@ -7,7 +7,7 @@ use Rattle.ptk_words.specs.declared.sections.Limits.{Limits}
 use Rattle.ptk_words_model.specs.Run.{fits}
 use Rattle.ptk_config.specs.Sections.{Section}
 use Rattle.ptk_config.specs.Configuration.{Configuration}
-use Rattle.ptk_system_files.specs.NamedFiles.{NamedFile}
+use Rattle.ptk_image.specs.NamedFiles.{NamedFile}
 use Rattle.ptk_system.specs.Missing.{image_in}
 use Rattle.ptk_system.specs.World.{section_at}
 use Rattle.ptk_system.specs.declared.status.PartStatus.{PartStatus}

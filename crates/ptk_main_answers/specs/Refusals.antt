@@ -1,7 +1,7 @@
 -- Why a request over a configuration and files is refused, as a fault is told.
 use Rattle.std.specs.Prelude.{◌≡◌, ◌≢◌, ℕ, List, Option, Some, None, option_map, option_and_then, if◌then◌else◌, nat_le}
 use Rattle.ptk_config.specs.Configuration.{Configuration}
-use Rattle.ptk_system_files.specs.NamedFiles.{NamedFile}
+use Rattle.ptk_image.specs.NamedFiles.{NamedFile}
 use Rattle.ptk_system.specs.Missing.{first_missing}
 use Rattle.ptk_system.specs.declared.fault.BootFault.{BootFault}
 use Rattle.ptk_system.specs.declared.fault.BootFault.TheVariants as boot

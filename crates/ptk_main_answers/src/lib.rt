@@ -1,3 +1,5 @@
+#![tactic(auto)]
+
 //! What each request over a configuration writes, on any writer, as lines or JSON, once the files are read.
 //!
 //! - `run_answer` writes the report of the booted configuration after the ticks asked for, where it is asked for in
@@ -18,7 +20,6 @@
 //! (`ptk_main_answers_tests`). Below are the command line (`ptk_main_line`), the faults (`ptk_main_faults`), whole runs
 //! (`ptk_main_runs`), the system (`ptk_system`) and the words of a configuration (`ptk_config_table`); above is the
 //! program, which reads the files and lends its standard output. No clause is costly to prove.
-#![tactic(auto)]
 
 mod answer;
 mod check;

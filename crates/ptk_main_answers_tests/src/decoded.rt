@@ -2,8 +2,8 @@
 //! alone. What is wanted was worked out by hand.
 
 use ptk_config::{Config, read_config};
+use ptk_image::Files;
 use ptk_symbols::{Symbols, read_symbols};
-use ptk_system_files::Files;
 use ptk_trace_decoded::{Filter, decoded_trace_with};
 use ptk_words::{ThreadNo, Tick};
 use std::alloc::Global;
@@ -36,57 +36,40 @@ const REFUSED_CALLS: &str =
     11 1 0x00000010 0x00000073 0x00000026  # ecall call 99 -> ENOSYS\n\
     14 1 0x00000018 0x00000073 0x00000026  # ecall console_get blocked\n";
 
-// The decoded trace of p at tick 20 with this image; nothing where it is refused.
-fn decoded(
+// Whether the decoded trace of p at tick 20 with this image has these lines.
+fn is_decoded(
     alloc: Global,
     config: &Config,
     image: &[u8],
     symbols: &Symbols<'_>,
     filter: &Filter,
-) -> Result<Vec<u8>, Fail> {
+    want: &str,
+) -> bool {
     let mut files = Files::new(alloc);
-    files.add("p.img", image)?;
-    let mut out = Vec::new(alloc);
-    let is_written = decoded_trace_with(
-        alloc,
-        config,
-        &files,
-        Tick::new(20),
-        "p",
-        symbols,
-        filter,
-        &mut out,
-    )
-    .is_ok();
-    if is_written {
-        Ok(out)
-    } else {
-        Ok(Vec::new(alloc))
+    if files.add("p.img", image).is_err() {
+        return false;
     }
+    let mut out = Vec::new(alloc);
+    let ticks = Tick::new(20);
+    let is_written = decoded_trace_with(
+        alloc, config, &files, ticks, "p", symbols, filter, &mut out,
+    ).is_ok();
+    is_written && out.as_slice() == want.as_bytes()
 }
 
 #[test]
 fn each_step_has_its_words(rt: HostRuntime) -> Result<(), Fail> {
     let alloc = rt.alloc();
     let config = read_config(alloc, CONFIGURATION)?;
-    let symbols = read_symbols(alloc, HELLO_SYMBOLS)?;
-    let lines = decoded(alloc, &config, HELLO_IMAGE, &symbols, &Filter::all())?;
-    assert!(rt; lines.as_slice() == HELLO_LINES.as_bytes());
-    Ok(())
-}
-
-#[test]
-fn a_call_has_its_name_and_its_reply(rt: HostRuntime) -> Result<(), Fail> {
-    let alloc = rt.alloc();
-    let config = read_config(alloc, CONFIGURATION)?;
-    let symbols = Symbols::new(alloc);
-    let filter = Filter {
+    let (all, symbols) = (Filter::all(), read_symbols(alloc, HELLO_SYMBOLS)?);
+    assert!(rt; is_decoded(alloc, &config, HELLO_IMAGE, &symbols, &all, HELLO_LINES));
+    let none = Symbols::new(alloc);
+    let calls = Filter {
         thread: Some(ThreadNo::new(1)),
         is_calls_only: true,
         from: Tick::new(1),
         to: Tick::new(15),
     };
-    let lines = decoded(alloc, &config, REFUSED_IMAGE, &symbols, &filter)?;
-    assert!(rt; lines.as_slice() == REFUSED_CALLS.as_bytes());
+    assert!(rt; is_decoded(alloc, &config, REFUSED_IMAGE, &none, &calls, REFUSED_CALLS));
     Ok(())
 }

@@ -2,11 +2,11 @@
 //! between each row and the calls that it tests.
 
 use ptk_config::read_config;
+use ptk_image::Files;
 use ptk_impact_answers::{Question, Release, impact_json_with, impact_with};
 use ptk_main_answers::{run_with, trace_with};
 use ptk_main_faults::Fault;
 use ptk_main_line::Format;
-use ptk_system_files::Files;
 use ptk_words::Tick;
 use std::alloc::Global;
 use std::test::Fail;

@@ -2,8 +2,8 @@
 //! helper that promises nothing stands between the rows and the calls that they test.
 
 use ptk_config::read_config;
+use ptk_image::Files;
 use ptk_statistics_answers::{stats_json_with, stats_with};
-use ptk_system_files::Files;
 use ptk_words::{LAST_TICK, Tick};
 use std::alloc::Global;
 use std::test::Fail;

@@ -1,3 +1,5 @@
+#![tactic(auto)]
+
 //! A program that runs the guests in C and C++ of `guest/tests` from their stored images and prints their reports, for
 //! the gate.
 //!
@@ -5,7 +7,6 @@
 //! gate compares what is printed, of each guest a heading with its name and its report, with `stdout`. That a report is
 //! the one of the booted configuration, `run_with` of `ptk_main_runs` promises, which is below with the configuration
 //! (`ptk_config`); nothing is above.
-#![tactic(auto)]
 
 ghost use Rattle.std.specs.Prelude.{◌≤◌};
 ghost use Rattle.ptk_words.specs.declared.TheConstants.{LAST_TICK};

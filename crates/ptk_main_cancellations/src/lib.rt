@@ -1,8 +1,9 @@
+#![tactic(auto)]
+
 //! Worked rows of cancellation, cleanup handlers and keys, as tests of whole runs of small guests, with their reports
 //! and traces.
 //!
 //! There is no other code here. Below is `ptk_main_guests`, which carries out the runs; nothing is above.
-#![tactic(auto)]
 
 #[cfg(test)]
 mod tests;

@@ -1,3 +1,5 @@
+#![tactic(auto)]
+
 //! Why the program stops: its lines on standard error and its exit statuses.
 //!
 //! - `fault_line`: an `Ok` wrote exactly the fault's line and returns its status. Out of memory, wherever it was, is
@@ -7,7 +9,6 @@
 //! By `told` of `specs/` the clauses of callers say which fault it is by the text of its name alone. Below are
 //! `ptk_words`, `ptk_words_windows`, `ptk_asm_language` and `ptk_config`, whose faults have the numbers; above is the
 //! program, which writes nothing else on standard error but `clap`'s texts. No clause is costly to prove.
-#![tactic(auto)]
 
 mod fault;
 mod status;

@@ -1,10 +1,11 @@
+#![tactic(auto)]
+
 //! What the tests of whole runs share: worked rows as data (a guest in assembly, what is seen of its run, its report),
 //! and what carries them out.
 //!
 //! Memory is ample there, so an answer that it ran out is one that fails. The functions promise nothing, and are
 //! between each row and the calls that it tests, so that a check does not compute the rows' runs. Below are the
 //! assembler (`ptk_asm`), whole runs and their system (`ptk_main_runs`); above are the crates of worked rows.
-#![tactic(auto)]
 
 mod guests;
 mod rows;

@@ -1,3 +1,5 @@
+#![tactic(auto)]
+
 //! The command line of the program: what its words ask for.
 //!
 //! - `read_line` returns a request only where clap's meaning of the command gives the words that subcommand and the
@@ -9,7 +11,6 @@
 //! `undecoded` is the error of a trace that is chosen from without words. Each command's options are a struct, pinned
 //! by a definition of `specs/Requests`. Below is the crate `clap`; above is the program, which prints an error by
 //! `Error::print`, chooses the status by `Error::use_stderr`, and finds by `Error::kind` that memory ran out.
-#![tactic(auto)]
 
 mod commands;
 mod help;

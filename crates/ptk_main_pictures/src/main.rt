@@ -1,3 +1,5 @@
+#![tactic(auto)]
+
 //! A program that draws four runs, for the gate to compare with the stored pictures, and worked rows of the data of
 //! pictures as tests of whole runs.
 //!
@@ -7,7 +9,6 @@
 //! a plan of two stages with lost ticks and lost input, and in columns of many ticks. The tests have what each thread
 //! was, from which tick to which, in whole runs of small guests (`ptk_main_guests`). Below are the drawing
 //! (`ptk_timeline`) and its segments (`ptk_timeline_segments`); nothing is above.
-#![tactic(auto)]
 
 ghost use Rattle.std.specs.Prelude.{◌≤◌};
 ghost use Rattle.ptk_words.specs.declared.TheConstants.{LAST_TICK};

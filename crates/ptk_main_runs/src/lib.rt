@@ -1,3 +1,5 @@
+#![tactic(auto)]
+
 //! Whole runs: `run_with` and `trace_with` make a report or a trace of a configuration, its files and ticks.
 //!
 //! - `run_with` and `trace_with` write the report, or the named partition's trace, of the booted configuration after
@@ -6,7 +8,6 @@
 //!
 //! Below are the configuration (`ptk_config`), the system (`ptk_system`) and traces (`ptk_trace`); above are the
 //! answers to requests, and the worked rows, `ptk_main_rows`. No clause is costly to prove.
-#![tactic(auto)]
 
 mod runs;
 

@@ -1,3 +1,13 @@
+pub mod ChainLaws
+pub mod Rises
+pub mod Joins
+pub mod Gains
+pub mod RiseSteps
+pub mod Visits
+pub mod Rosters
+pub mod Changes
+pub mod Waits
+pub mod Takes
 pub mod Pool
 pub mod Moved
 pub mod Locked

@@ -31,10 +31,10 @@ use Rattle.ptk_threads.proofs.Pools.{part_of-set}
 use Rattle.ptk_mutex_slots.specs.declared.slot.Change.TheVariants.{Take, CountUp}
 use Rattle.ptk_mutex_slots.specs.Changes.{mutex_changed}
 use Rattle.ptk_roster.specs.Waiters.{waited_by}
-use Rattle.ptk_mutex_rise.specs.Before.{awake, freed, IsBeforeWait, IsBeforeTake, IsBeforeAssignment}
-use Rattle.ptk_mutex_rise.specs.Visits.{IsVisited}
-use Rattle.ptk_mutex_rise.proofs.Changes.{effective_mutex, effective_thread}
-use Rattle.ptk_mutex_rise.proofs.Visits.{unvisited}
+use Rattle.ptk_mutex.specs.Before.{awake, freed, IsBeforeWait, IsBeforeTake, IsBeforeAssignment}
+use Rattle.ptk_mutex.specs.Visits.{IsVisited}
+use Rattle.ptk_mutex.proofs.Changes.{effective_mutex, effective_thread}
+use Rattle.ptk_mutex.proofs.Visits.{unvisited}
 use Rattle.ptk_mutex.specs.Tables.{locks_at, with_threads, AreReady}
 use Rattle.ptk_mutex.specs.Rises.{IsFree, MayTake, is_waiting}
 use Rattle.ptk_mutex.proofs.Moved.{stays}
@@ -166,60 +166,7 @@ assignment_before p t before after table table' lines mutexes ready e le f =
 pub stored_visited : (p visited : ℕ) (table table' new : ThreadTable) → table'.stored ≡ table.stored → IsVisited visited (part_of table'.stored p) (part_of new.stored p) → IsVisited visited (part_of table.stored p) (part_of new.stored p)
 stored_visited p visited table table' new same read = subst (λ l. IsVisited visited (part_of l p) (part_of new.stored p)) same read
 
--- ---- which moves take a free mutex
-
-count_takes : (b : Bool) (x : Option Mutex) → MayTake (if b then Counts else Refuses EAGAIN) x
-count_takes true x = tt
-count_takes false x = tt
-
-free_takes : (soundness : Soundness) (x : Option Mutex) → IsFree x → MayTake (free_move soundness) x
-free_takes Consistent x free = free
-free_takes Inconsistent x free = free
-free_takes Unrecoverable x free = tt
-
-own_takes : (kind : MutexKind) (n : ℕ) (x : Option Mutex) → MayTake (own_lock_move kind n) x
-own_takes Normal n x = tt
-own_takes ErrorCheck n x = tt
-own_takes Recursive n x = count_takes (nat_lt n COUNT_LIMIT) x
-
-own_trytakes : (kind : MutexKind) (n : ℕ) (x : Option Mutex) → MayTake (own_trylock_move kind n) x
-own_trytakes Normal n x = tt
-own_trytakes ErrorCheck n x = tt
-own_trytakes Recursive n x = count_takes (nat_lt n COUNT_LIMIT) x
-
-either_takes : (b : Bool) (one other : LockMove) (x : Option Mutex) → MayTake one x → MayTake other x → MayTake (if b then one else other) x
-either_takes true one other x first second = first
-either_takes false one other x first second = second
-
-owner_takes : (owner : Owner) (t : ℕ) (free own another : LockMove) (x : Option Mutex) → (owner ≡ Free → MayTake free x) → MayTake own x → MayTake another x → MayTake (owner_move owner t (record { of_free = free; of_own = own; of_another = another })) x
-owner_takes Free t free own another x first second third = first refl
-owner_takes Abandoned t free own another x first second third = third
-owner_takes (OwnedBy u) t free own another x first second third = either_takes (u == t) own another x second third
-
-pub lock_takes : (locks : Locks) (t : ℕ) (x : Option Mutex) → MayTake (lock_move locks t x) x
-lock_takes locks t None = tt
-lock_takes locks t (Some m) =
-    either_takes (is_above_ceiling (assigned_priority locks t) m.protocol) (Refuses EINVAL) _ (Some m) tt
-    (owner_takes m.owner t (free_move m.soundness) (own_lock_move m.kind m.count) Waits (Some m) (λ free. free_takes m.soundness (Some m) free) (own_takes m.kind m.count (Some m)) tt)
-
-pub trylock_takes : (locks : Locks) (t : ℕ) (x : Option Mutex) → MayTake (trylock_move locks t x) x
-trylock_takes locks t None = tt
-trylock_takes locks t (Some m) =
-    either_takes (is_above_ceiling (assigned_priority locks t) m.protocol) (Refuses EINVAL) _ (Some m) tt
-    (owner_takes m.owner t (free_move m.soundness) (own_trylock_move m.kind m.count) (Refuses EBUSY) (Some m) (λ free. free_takes m.soundness (Some m) free) (own_trytakes m.kind m.count (Some m)) tt)
-
-pub relock_takes : (t : ℕ) (x : Option Mutex) → MayTake (relock_move t x) x
-relock_takes t None = tt
-relock_takes t (Some m) = owner_takes m.owner t (free_move m.soundness) Counts Waits (Some m) (λ free. free_takes m.soundness (Some m) free) tt tt
-
 -- ---- a re-lock is the move, and then the thread is woken unless it waits
-
-pub relock_waits : (made : LockMove) (t m : ℕ) (reply : Option ℕ) (locks : Locks) → is_waiting made ≡ true → after_relock_move made t m reply locks ≡ after_move made t m (RelockWait m reply) locks
-relock_waits Takes t m reply locks e = cc
-relock_waits Recovers t m reply locks e = cc
-relock_waits Counts t m reply locks e = cc
-relock_waits Waits t m reply locks e = refl
-relock_waits (Refuses error) t m reply locks e = cc
 
 pub relock_wakes : (made : LockMove) (t m : ℕ) (reply : Option ℕ) (locks : Locks) → is_waiting made ≡ false → after_relock_move made t m reply locks ≡ after_wake t (option_to_list (move_reply made reply)) (after_move made t m (RelockWait m reply) locks)
 relock_wakes Takes t m reply locks e = refl

@@ -180,9 +180,6 @@ pub record AreEnded (p t k : ℕ) (table : ThreadTable) (lines : List (List ℕ)
   pub ready : AreReady p table' lines' mutexes'
   pub moved : AreMoved p table lines mutexes table' lines' mutexes' (fold (end_of t) (locks_at p table lines mutexes) (numbers_to k))
 
-pub ended_none : (p t : ℕ) (table : ThreadTable) (lines : List (List ℕ)) (mutexes : List (List (Option Mutex))) → AreReady p table lines mutexes → AreEnded p t 0 table lines mutexes table lines mutexes
-ended_none p t table lines mutexes ready = record { ready = ready; moved = moved_none p table lines mutexes ready }
-
 pub ended_more : (p t k m : ℕ) (table table' new : ThreadTable) (lines lines' after : List (List ℕ)) (mutexes mutexes' others : List (List (Option Mutex))) → HasPart p table lines mutexes → m ≡ k + 1 → AreEnded p t k table lines mutexes table' lines' mutexes'
     → AreMoved p table' lines' mutexes' new after others (end_of t (locks_at p table' lines' mutexes') m) → AreReady p new after others → AreEnded p t (k + 1) table lines mutexes new after others
 ended_more p t k m table table' new lines lines' after mutexes mutexes' others has e ended more ready =

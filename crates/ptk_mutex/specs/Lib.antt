@@ -1,3 +1,9 @@
+pub mod Risen
+pub mod Rosters
+pub mod Visits
+pub mod Before
+pub mod Gained
+pub mod Risings
 pub mod Pool
 pub mod Tables
 pub mod Moves

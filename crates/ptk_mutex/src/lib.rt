@@ -1,3 +1,5 @@
+#![tactic(auto)]
+
 //! The moves on mutexes over the roster, robust ones among them (lock, unlock, hand over, an owner's end), after which
 //! the stored priorities are the effective ones.
 //!
@@ -13,25 +15,32 @@
 //! - `unlock` and `abandon` return the set of threads woken.
 //! - Each call says what it leaves of the number of reads (`visited`): after `lock`, `trylock`, `lock_again`, `relock`
 //!   and a rise by `assign` the number that rose or one more, and 0 after any other.
+//! - `raise`, the walk along a thread's chain after a change that can only raise: it raises each thread, stops at the
+//!   first that is already at least as high, and leaves the effective priorities, on cycles too (`stored`). The number
+//!   of priorities that it reads is that of those that rose, or one more (`visited`), at most one more than a partition
+//!   has threads (`few`).
 //!
 //! What a call needs of its partition is `AreReady` of `specs/Tables`; one that may queue its caller also needs a
 //! caller that is no waiter (`IsNoWaiter`), since a thread has one link. A refused lock changes nothing; who is woken
-//! goes to the tail of the line. No call but `build` takes memory. After a change that can only raise, `ptk_mutex_rise`
-//! walks the chain; after any other change on which they may depend, the partition's priorities are all computed again,
-//! and `visited` of `Mutexes`, the number of stored priorities that the walk read, is 0. Costly to prove are that the
-//! stored priorities choose the heir (`proofs/Locked`), the calls of many moves (`proofs/Steps`), and that a call
-//! leaves other waiters alone (`proofs/Apart`). Below are `ptk_roster`, `ptk_mutex_slots` and `ptk_mutex_rise`; above
-//! are `ptk_cond` and `ptk_gate_pools`.
-#![tactic(auto)]
+//! goes to the tail of the line. No call but `build` takes memory. A `Rise` says what raised a thread: it began to wait,
+//! took a mutex, or got a higher assigned priority. After any other change on which they may depend, the partition's
+//! priorities are all computed again, and `visited` of `Mutexes`, the number of stored priorities that the walk read,
+//! is 0. Costly to prove are that stopping early changes nothing, on cycles too (`proofs/Rises`), and what a rise adds to
+//! the priorities (`proofs/Joins`, `proofs/Gains`), which speak of lists alone (`proofs/Rosters` puts a list into the
+//! roster); that the stored priorities choose the heir (`proofs/Locked`), the calls of many moves (`proofs/Steps`), and
+//! that a call leaves other waiters alone (`proofs/Apart`). Below are `ptk_roster` and `ptk_mutex_slots`; above are
+//! `ptk_cond` and `ptk_gate_pools`.
 
 mod ends;
 mod locking;
 mod mutexes;
 mod plain;
+mod rise;
 mod rising;
 mod starting;
 mod unlocking;
 mod waking;
+mod walk;
 
 pub use mutexes::Mutexes;
 pub use ptk_mutex_slots::{MutexSlot, MutexState, effective, reply_of};

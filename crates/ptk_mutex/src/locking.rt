@@ -14,16 +14,16 @@ ghost use Rattle.ptk_words_model.specs.State.{locks_of};
 ghost use Rattle.ptk_words_model.specs.Priority.{assigned_of};
 ghost use Rattle.ptk_words_model.specs.Mutex.{mutex_at, lock_move, trylock_move, relock_move, count_of, owns, owns_raising, is_raising_for, after_move, with_soundness};
 ghost use Rattle.ptk_words_locks.specs.Conditions.{IsNoWaiter};
-ghost use Rattle.ptk_mutex_rise.specs.Visits.{IsVisited};
+ghost use Rattle.ptk_mutex.specs.Visits.{IsVisited};
 ghost use Rattle.ptk_mutex.specs.Tables.{locks_at, with_threads, MayWait, AreReady};
 ghost use Rattle.ptk_mutex.specs.Moves.{after_lock, after_trylock, after_assignment};
 ghost use Rattle.ptk_mutex.specs.Sound.{IsSound};
 
 use crate::mutexes::{Mutexes, refresh_priorities};
+use crate::rise::{Rise, raise};
 use crate::rising::make;
 use crate::unlocking::alter;
 use crate::waking::relock_move;
-use ptk_mutex_rise::{Rise, raise};
 use ptk_mutex_slots::{Change, MutexSlot, assigned, slot_in};
 use ptk_roster::Roster;
 use ptk_words::{Errno, MutexNo, PartId, Priority, Soundness, ThreadNo, Tick, Wait};

@@ -10,11 +10,11 @@ ghost use Rattle.ptk_words_model.specs.Mutex.{after_take, after_count, after_wai
 ghost use Rattle.ptk_words_locks.specs.Conditions.{IsNoWaiter};
 ghost use Rattle.ptk_threads.specs.Table.{thread_in};
 ghost use Rattle.ptk_mutex_slots.specs.declared.slot.Change.TheVariants.{CountUp};
-ghost use Rattle.ptk_mutex_rise.specs.Visits.{IsVisited};
+ghost use Rattle.ptk_mutex.specs.Visits.{IsVisited};
 ghost use Rattle.ptk_mutex.specs.Tables.{locks_at, with_threads, MayWait, AreReady};
 ghost use Rattle.ptk_mutex.specs.Rises.{IsFree, MayTake};
 
-use ptk_mutex_rise::{Rise, raise};
+use crate::rise::{Rise, raise};
 use ptk_mutex_slots::Change;
 use ptk_roster::Roster;
 use ptk_words::{MutexNo, PartId, ThreadNo, Wait};

@@ -11,7 +11,7 @@ ghost use Rattle.ptk_words_model.specs.declared.LockMove.TheVariants.{Counts};
 ghost use Rattle.ptk_words_model.specs.Mutex.{mutex_at, count_of, relock_move, after_relock, after_relock_move, after_leave};
 ghost use Rattle.ptk_words_locks.specs.Conditions.{IsNoWaiter};
 ghost use Rattle.ptk_threads.specs.Table.{thread_in, with_changed};
-ghost use Rattle.ptk_mutex_rise.specs.Visits.{IsVisited};
+ghost use Rattle.ptk_mutex.specs.Visits.{IsVisited};
 ghost use Rattle.ptk_mutex.specs.Sound.{IsSound};
 ghost use Rattle.ptk_mutex.specs.Tables.{locks_at, with_threads, with_threads_alone, HasPart, IsWaiter, MayWait, AreReady};
 ghost use Rattle.ptk_mutex.specs.Moves.{after_withdrawal};

@@ -22,10 +22,6 @@ pub waiters_twice : (v w : List ℕ) (x : Option Mutex) → with_waiters v (with
 waiters_twice v w None = refl
 waiters_twice v w (Some m) = refl
 
-pub waiters_own : (x : Option Mutex) → with_waiters (waiters_of x) x ≡ x
-waiters_own None = refl
-waiters_own (Some m) = refl
-
 -- ---- one mutex
 
 pub is_none-waiters : (w : List ℕ) (x : Option Mutex) → is_none (with_waiters w x) ≡ is_none x
@@ -56,10 +52,6 @@ owns-waiters t w (Some m) = refl
 pub is_raising_for-waiters : (t : ℕ) (w : List ℕ) (x : Option Mutex) → is_raising_for t (with_waiters w x) ≡ is_raising_for t x
 is_raising_for-waiters t w None = refl
 is_raising_for-waiters t w (Some m) = refl
-
-pub is_raising_at-waiters : (w : List ℕ) (x : Option Mutex) → is_raising_at (with_waiters w x) ≡ is_raising_at x
-is_raising_at-waiters w None = refl
-is_raising_at-waiters w (Some m) = refl
 
 pub soundness_of-waiters : (w : List ℕ) (x : Option Mutex) → soundness_of (with_waiters w x) ≡ soundness_of x
 soundness_of-waiters w None = refl
@@ -93,23 +85,12 @@ both_true : (b : Bool) → (b && true) ≡ b
 both_true true = refl
 both_true false = refl
 
-not_twice : (b : Bool) → not (not b) ≡ b
-not_twice true = refl
-not_twice false = refl
-
 alone : (raises sound owned once none : Bool) → (none && (raises && sound && owned && once && true)) ≡ (raises && sound && owned && once && none)
 alone true true true true none = both_true none
 alone true true true false none = none_false none
 alone true true false once none = none_false none
 alone true false owned once none = none_false none
 alone false sound owned once none = none_false none
-
--- an unlock frees it where it would without waiters, and nobody waits
-pub is_releasable-bare : (t : ℕ) (has_waiters : Bool) (x : Option Mutex) → has_waiters ≡ not (length (waiters_of x) == 0) → (not has_waiters && is_releasable t (bare x)) ≡ is_releasable t x
-is_releasable-bare t has_waiters None e = none_false (not has_waiters)
-is_releasable-bare t has_waiters (Some m) e =
-    ap (λ b. not b && (is_plain m && is_owner t m.owner && (m.count == 1) && true)) e ∙ (ap (λ b. b && (is_plain m && is_owner t m.owner && (m.count == 1) && true)) (not_twice (length m.waiters == 0))
-    ∙ alone (not (is_raising m.protocol)) (is_sound m.soundness) (is_owner t m.owner) (m.count == 1) (length m.waiters == 0))
 
 -- ---- a change
 

@@ -1,3 +1,5 @@
+#![tactic(auto)]
+
 //! One mutex but for its waiters, the move that a lock of it makes, and one partition's effective priorities computed.
 //!
 //! - One mutex's place: each change of it is the definition's, whoever waits, and so are the moves of lock, trylock and
@@ -9,7 +11,6 @@
 //! (`proofs/Bare`). In `recompute` each thread raises its chain; that this leaves the greatest held priority, within
 //! the range that `ptk_roster` asks of what it stores, is what is costly to prove (`proofs/Levels`). No call takes
 //! memory. Below is `ptk_threads`; above are `ptk_roster` and `ptk_mutex`.
-#![tactic(auto)]
 
 mod moves;
 mod priorities;

@@ -1,3 +1,5 @@
+#![tactic(auto)]
+
 //! The line of ready threads: the trait `Line`, and its two forms `LinkedLine`, a queue for each priority linked
 //! through the slot table, and `VecLine`, a plain list for each partition.
 //!
@@ -22,7 +24,6 @@
 //! slot table; above is every crate that makes threads wait or run. Costly to prove is that one list is sorted by stamp
 //! and has exactly the ready threads (`proofs/Orders`), that each queue stays its part of that list (`proofs/Kept`),
 //! and that one partition's change leaves the lines of the others (`proofs/Partitions`).
-#![tactic(auto)]
 
 mod bits;
 mod choice;

@@ -1,3 +1,5 @@
+#![tactic(auto)]
+
 //! The memory of all partitions in one vector of bytes, of which it lends one partition's.
 //!
 //! - One vector of memory, seen as a list for each partition.
@@ -6,7 +8,6 @@
 //!
 //! Below are `ptk_words_parted`, which cuts the vector, and `ptk_words`; above are the gate and the kernel. No clause
 //! is costly to prove.
-#![tactic(auto)]
 
 ghost use Rattle.std.specs.Prelude.{◌≡◌, ℕ, ◌<◌, ◌≤◌, length, slice_get, slice_set, IfOk, IsTrue, ◌↔◌, map};
 ghost use Rattle.std.specs.Borrow.{sem};

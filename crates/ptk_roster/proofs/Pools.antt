@@ -101,9 +101,6 @@ no_waiter queues mutexes marks p k out = record {
 abbrev pub seen_of : {limit : ℕ} → List (LinkedEntries limit) → ThreadTable → List (List (Option Mutex)) → List (List Bool) → Rostered
 seen_of line a mutexes marks = record { table = seen a; lines = lines_by line a.queues; mutexes = mutexes_by a.queues mutexes; conditions = conditions_by a.queues marks }
 
-none_ready : (stored : List ℕ) (n : ℕ) → of_priority stored n [] ≡ []
-none_ready stored n = refl
-
 pub queues_of : (limit : ℕ) (line : List (LinkedEntries limit)) (a : ThreadTable) (mutexes : List (List (Option Mutex))) (marks : List (List Bool)) → IsRoster limit line a mutexes marks → AreQueuesOf (seen_of line a mutexes marks) a.queues
 queues_of limit line a mutexes marks roster = record {
   each = λ p. record {

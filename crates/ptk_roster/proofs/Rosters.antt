@@ -343,10 +343,6 @@ level_at (x ∷ priorities) (suc i) bound lt = level_at priorities i (λ k. boun
 abbrev pub with_pasted : ℕ → List ℕ → ℕ → ThreadTable → ThreadTable
 with_pasted p priorities i table = record table { stored = set table.stored p (paste (part_of table.stored p) 0 priorities i) }
 
-pub pasted_none : (p : ℕ) (priorities : List ℕ) (table : ThreadTable) → table ≡ with_pasted p priorities 0 table
-pasted_none p priorities table = ap (λ (stored : List (List ℕ)). record table { stored = stored })
-    (sym (set-get_or table.stored p []) ∙ ap (set table.stored p) (paste-zero (part_of table.stored p) 0 priorities))
-
 -- a partition with a number has a list
 part_within : {X : Type 0} (parts : List (List X)) (p i : ℕ) → i < length (part_of parts p) → p < length parts
 part_within [] p i lt = absurd (omega (arith, lt))

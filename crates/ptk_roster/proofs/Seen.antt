@@ -140,9 +140,6 @@ queue_all P queues p i xs new old = elim (le_or_gt (length queues) p) as (λ _. 
   ])
 ]
 
-pub here_queue : (queues : List (List (List ℕ))) (p i : ℕ) (xs : List ℕ) → p < length queues → i < length (part_of queues p) → part_of (part_of (queue_set queues p i xs) p) i ≡ xs
-here_queue queues p i xs lt below = ap (λ lists. part_of lists i) (get_or-set_same queues p (set (part_of queues p) i xs) [] lt) ∙ get_or-set_same (part_of queues p) i xs [] below
-
 mutexes_other : (queues : List (List (List ℕ))) (pool : List (Option Mutex)) (p q i : ℕ) (xs : List ℕ) → 32 + length pool ≤ i → mutexes_in (part_of (queue_set queues p i xs) q) pool ≡ mutexes_in (part_of queues q) pool
 mutexes_other queues pool p q i xs le =
     numbered_same (λ j slot. with_waiters (part_of (part_of (queue_set queues p i xs) q) j) slot) (λ j slot. with_waiters (part_of (part_of queues q) j) slot) 32 pool (λ j slot from lt.

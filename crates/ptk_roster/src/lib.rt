@@ -1,3 +1,5 @@
+#![tactic(auto)]
+
 //! The slot table, the linked line, the mutexes and the condition variables in one, `Roster`: what is above sees the
 //! threads of each partition, one list of those that are ready, and its mutexes and condition variables, each with its
 //! waiters in order of arrival.
@@ -16,7 +18,6 @@
 //! `set_priority` and `store` change stored priorities alone, and leave each thread's place in its list. Below are
 //! `ptk_threads`, `ptk_ready` and `ptk_mutex_slots`; above is every crate that makes threads wait or run. Costly to
 //! prove is that one queue's change is one list's (`proofs/Seen`).
-#![tactic(auto)]
 
 mod conditions;
 mod fields;

@@ -1,3 +1,5 @@
+#![tactic(auto)]
+
 //! Words of RV32I as instructions: `Instr`, which keeps every field of its word, `decode` and `encode`.
 //!
 //! - `decode` returns an instruction if and only if the word is one of the table, by mask and match, with the word's
@@ -7,7 +9,6 @@
 //! The code decides by opcode, then by funct3; `rd` to `jump_offset` read one field of a word each. The weight of the
 //! proofs is in `decoding` (the table by fields, one major opcode a function) and `encoding` (one layout a function).
 //! Below are `ptk_words` and `ptk_words_instructions`; `ptk_rv32i` above passes on every name of this crate.
-#![tactic(auto)]
 
 mod decoding;
 mod encoding;

@@ -1,3 +1,5 @@
+#![tactic(auto)]
+
 //! A program that runs a mixed loop of seventeen instructions, for measuring the processor's speed.
 //!
 //! - `run` and `run_rows` take at most the steps asked for: a program for measuring.
@@ -5,7 +7,6 @@
 //! It prints the steps that were carried out, a0 and the pc, and with a second word `time` the nanoseconds that they
 //! took; with a third word `rows` it takes them in rows. Without an argument it takes 20,000 steps. Below are
 //! `ptk_words`, `ptk_rv32i` and `ptk_rv32i_rows`.
-#![tactic(auto)]
 
 ghost use Rattle.std.specs.Prelude.{◌≤◌};
 ghost use Rattle.ptk_rv32i_rows.specs.Entries.{AreDecoded};

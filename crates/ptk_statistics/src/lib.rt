@@ -1,3 +1,5 @@
+#![tactic(auto)]
+
 //! The figures of a run, gathered as it goes on from decision to decision (`Statistics::of_run`).
 //!
 //! - `Statistics::of_run` is a run to its tick (`run`), and the counts agree with the system then (`agrees`: `Agrees`):
@@ -8,7 +10,6 @@
 //! ticks at which nothing is due at once. What each figure of a thread and of a mutex says is tested. Below are the
 //! count (`ptk_statistics_figures`) and the system; above are the answers, `ptk_statistics_answers`. No clause is
 //! costly to prove.
-#![tactic(auto)]
 
 mod advance;
 mod doing;

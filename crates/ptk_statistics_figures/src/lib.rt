@@ -1,3 +1,5 @@
+#![tactic(auto)]
+
 //! What is counted of a run, each of one thing: the ticks in a partition's windows by what became of them and its steps
 //! by thread (`Counted`), what a thread did (`ThreadStatistics`), and how long a mutex was held and waited for.
 //!
@@ -7,7 +9,6 @@
 //!
 //! Which own tick was used, idle or after the halt is tested, and so is all of threads and mutexes. Below is the window
 //! plan; above are the figures of a run, `ptk_statistics`. No clause is costly to prove.
-#![tactic(auto)]
 
 mod counted;
 mod doing;

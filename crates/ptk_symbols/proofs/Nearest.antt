@@ -30,12 +30,3 @@ chosen b s (Some t) = two b s t (nat_le t.0 s.0) (nat_le s.0 b.0) (nat_le t.0 b.
 one_more : (best : Option (ℕ × List ℕ)) (s : ℕ × List ℕ) (later : Option (ℕ × List ℕ)) → behind best (Some (greater_of s later)) ≡ behind (Some (above best s)) later
 one_more None s later = refl
 one_more (Some b) s later = ap Some (chosen b s later)
-
--- one symbol more
-pub best-more : (a : ℕ) (best : Option (ℕ × List ℕ)) (s : ℕ × List ℕ) (symbols : List (ℕ × List ℕ))
-    → behind best (last_below a (s ∷ symbols)) ≡ behind (better a best s) (last_below a symbols)
-best-more a best s symbols = by_test (nat_le s.0 a) refl
-  where
-    by_test : (c : Bool) → nat_le s.0 a ≡ c → behind best (last_below a (s ∷ symbols)) ≡ behind (better a best s) (last_below a symbols)
-    by_test true e = rw e (one_more best s (last_below a symbols))
-    by_test false e = rw e refl

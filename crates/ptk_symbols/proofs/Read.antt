@@ -22,12 +22,3 @@ pub before-more : (symbols : List (ℕ × List ℕ)) (s : ℕ × List ℕ) (n : 
     → before (symbols ++ s ∷ []) later ≡ before symbols (with_symbol n (Some s) later)
 before-more symbols s n (Ok later) = ap Ok (append_assoc symbols (s ∷ []) later)
 before-more symbols s n (Err m) = refl
-
--- the first of the mapped items that passes is the first of the items, mapped
-pub find_map : {X Y : Type 0} (f : X → Y) (p : Y → Bool) (xs : List X) → find p (map f xs) ≡ option_map f (find (λ x. p (f x)) xs)
-find_map f p [] = refl
-find_map f p (x ∷ xs) = by_test (p (f x)) refl (find_map f p xs)
-  where
-    by_test : (b : Bool) → p (f x) ≡ b → find p (map f xs) ≡ option_map f (find (λ y. p (f y)) xs) → find p (map f (x ∷ xs)) ≡ option_map f (find (λ y. p (f y)) (x ∷ xs))
-    by_test true e h = rw e refl
-    by_test false e h = rw e h

@@ -1,3 +1,5 @@
+#![tactic(auto)]
+
 //! Symbol tables in the text that `nm` prints: `read_symbols`, and the symbol that is nearest to an address.
 //!
 //! - `read_symbols` reads the definition's table (`Tables`), or returns the number of the first line that is no symbol.
@@ -6,7 +8,6 @@
 //! - `push_name` and `push_place` append its text.
 //!
 //! Below are the lines of `ptk_asm_language`; above are the disassembler and decoded traces.
-#![tactic(auto)]
 
 mod fault;
 mod lines;

@@ -17,7 +17,7 @@ use Rattle.ptk_words_locks.specs.Locks.{is_ready}
 use Rattle.ptk_words_well.specs.Well.{IsWell}
 use Rattle.ptk_gate_pools.specs.Kept.{limits_at, part_at}
 use Rattle.ptk_config.specs.Configuration.{Configuration, IsConfiguration}
-use Rattle.ptk_system_files.specs.NamedFiles.{NamedFile}
+use Rattle.ptk_image.specs.NamedFiles.{NamedFile}
 use Rattle.ptk_kernel.specs.Steady.{IsSteady, at_rest}
 use Rattle.ptk_kernel.proofs.Steady.{awaited_contended}
 use Rattle.ptk_system_machine.specs.Steady.{AreSteady, states_from}

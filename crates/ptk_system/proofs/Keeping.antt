@@ -4,7 +4,7 @@ use Rattle.std.proofs.lemmas.Bool.{cases_order}
 use Rattle.std.proofs.lemmas.List.{length-append, get_or_append_left, get_or_at}
 use Rattle.ptk_words_model.specs.State.{State}
 use Rattle.ptk_config.specs.Configuration.{Configuration}
-use Rattle.ptk_system_files.specs.NamedFiles.{NamedFile}
+use Rattle.ptk_image.specs.NamedFiles.{NamedFile}
 use Rattle.ptk_system_machine.specs.Whole.{Whole, state_at}
 use Rattle.ptk_system.specs.World.{IsRun, World, alone_in, alone_states, no_state, state_of, states_in, states_to, world_at, world_of}
 

@@ -18,7 +18,7 @@ use Rattle.ptk_gate_pools.proofs.Parted.{part_at-put, part_at-other, parts_put}
 use Rattle.ptk_gate_pools.proofs.Blanks.{part_at-blank}
 use Rattle.ptk_config.specs.Sections.{Section}
 use Rattle.ptk_config.specs.Configuration.{Configuration, IsConfiguration}
-use Rattle.ptk_system_files.specs.NamedFiles.{NamedFile}
+use Rattle.ptk_image.specs.NamedFiles.{NamedFile}
 use Rattle.ptk_system_machine.specs.Accounts.{KeptAccount, first_account}
 use Rattle.ptk_system_machine.specs.Whole.{Whole, account_at, first_account_of, state_at}
 use Rattle.ptk_system.specs.Missing.{image_in}

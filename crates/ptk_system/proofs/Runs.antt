@@ -10,7 +10,7 @@ use Rattle.ptk_words_quiet.specs.Quiet.{after_ticks}
 use Rattle.ptk_words_quiet.proofs.TicksInARow.{alone_on}
 use Rattle.ptk_gate_pools.specs.Kept.{Kept, limits_at, part_at}
 use Rattle.ptk_config.specs.Configuration.{Configuration, IsConfiguration}
-use Rattle.ptk_system_files.specs.NamedFiles.{NamedFile}
+use Rattle.ptk_image.specs.NamedFiles.{NamedFile}
 use Rattle.ptk_system_machine.specs.Accounts.{IsBehind}
 use Rattle.ptk_system_machine.specs.Steady.{AreSteady, states_from}
 use Rattle.ptk_system_machine.specs.Turns.{IsPlainAt}

@@ -3,7 +3,7 @@ use Rattle.std.specs.Prelude.{◌≡◌, ℕ, ◌<◌, ◌≤◌, length, List, 
 use Rattle.ptk_words_model.specs.Run.{empty_part, start_part}
 use Rattle.ptk_gate_pools.specs.Kept.{Kept, AreParts, part_at}
 use Rattle.ptk_config.specs.Configuration.{Configuration}
-use Rattle.ptk_system_files.specs.NamedFiles.{NamedFile}
+use Rattle.ptk_image.specs.NamedFiles.{NamedFile}
 use Rattle.ptk_system.specs.Missing.{image_in}
 use Rattle.ptk_system.specs.World.{section_at}
 

@@ -1,7 +1,7 @@
 -- The images that a configuration names, and the files that have them.
 use Rattle.std.specs.Prelude.{ℕ, Bool, ◌&&◌, List, Option, Some, None, option_and_then, is_some, is_none, position}
 use Rattle.ptk_config.specs.Sections.{Section}
-use Rattle.ptk_system_files.specs.NamedFiles.{NamedFile, content_of}
+use Rattle.ptk_image.specs.NamedFiles.{NamedFile, content_of}
 use Rattle.ptk_system.specs.declared.fault.BootFault.{BootFault}
 use Rattle.ptk_system.specs.declared.fault.BootFault.TheVariants.{Memory, MissingFile}
 

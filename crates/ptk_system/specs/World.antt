@@ -8,7 +8,7 @@ use Rattle.ptk_console.specs.ConsoleTable.{no_limits}
 use Rattle.ptk_gate_pools.specs.Kept.{limits_at}
 use Rattle.ptk_config.specs.Sections.{Section}
 use Rattle.ptk_config.specs.Configuration.{Configuration, IsConfiguration}
-use Rattle.ptk_system_files.specs.NamedFiles.{NamedFile}
+use Rattle.ptk_image.specs.NamedFiles.{NamedFile}
 use Rattle.ptk_system_machine.specs.Accounts.{first_account}
 use Rattle.ptk_system_machine.specs.Whole.{Whole, state_at}
 use Rattle.ptk_system.specs.Missing.{image_in}

@@ -2,7 +2,7 @@
 
 ghost use Rattle.std.specs.Prelude.{◌≡◌, ◌<◌, List, IfOk, IfErr, IfSome, IsOk, OnOk, length, map, option_map};
 ghost use Rattle.std.specs.Option.{IsSomeAnd};
-ghost use Rattle.ptk_system_files.specs.NamedFiles.{NamedFile};
+ghost use Rattle.ptk_image.specs.NamedFiles.{NamedFile};
 ghost use Rattle.ptk_words.specs.Image.{image_of};
 ghost use Rattle.ptk_words_model.specs.Run.{empty_part, with_image, with_image_bytes};
 ghost use Rattle.ptk_gate_pools.specs.Kept.{limits_at, part_at, put_part};
@@ -12,8 +12,7 @@ ghost use Rattle.ptk_system.specs.World.{IsRun};
 
 use crate::fault::BootFault;
 use ptk_config::{Config, Section};
-use ptk_image::read_image;
-use ptk_system_files::Files;
+use ptk_image::{Files, read_image};
 use ptk_system_machine::{Machine, Tables};
 use ptk_words::{Arrival, ImageFault, Limits, PartId};
 use std::alloc::{AllocError, Global};

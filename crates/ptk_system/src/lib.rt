@@ -1,3 +1,5 @@
+#![tactic(auto)]
+
 //! A system of partitions, `System`: boot from a configuration and files, run, getters (what each thread does among
 //! them), and report; and the laws of separation.
 //!
@@ -8,10 +10,9 @@
 //! A system's value has the state that each partition is in, and every getter, the tables and the report are functions
 //! of it. The headline is the invariant of `System`, which `states_are_alone` states: after any ticks each partition's
 //! state is the one that the definition gives it alone, of its own ticks, its section, its image and its input. Below
-//! are all partitions over the ticks (`ptk_system_machine`), the files (`ptk_system_files`), the kernel, images, the
+//! are all partitions over the ticks (`ptk_system_machine`), the files (`ptk_image`), the kernel, images, the
 //! configuration, windows and traces; above is the program. Costly to prove is that loading one image leaves every
 //! other partition (`proofs/Loading`).
-#![tactic(auto)]
 
 mod activity;
 mod booting;
@@ -27,6 +28,6 @@ pub use fault::BootFault;
 pub use laws::{
     decisions_are_own, idle_world, one_processor, steps_are_apart, stop_on_the_way, two_worlds,
 };
-pub use ptk_system_files::Files;
+pub use ptk_image::Files;
 pub use status::PartStatus;
 pub use system::System;

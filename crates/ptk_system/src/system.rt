@@ -10,7 +10,7 @@ ghost use Rattle.ptk_system.specs.World.{at_tick, section_at, state_of, world_at
 use crate::booting::{first_machine, first_missing};
 use crate::fault::BootFault;
 use ptk_config::Config;
-use ptk_system_files::Files;
+use ptk_image::Files;
 use ptk_system_machine::Machine;
 use ptk_words::Tick;
 use std::alloc::Global;

@@ -1,3 +1,5 @@
+#![tactic(auto)]
+
 //! All partitions over the ticks: the tables with each partition's account (next decision, steps, lost ticks, last
 //! steps), taken on by preparations of decisions, rows of plain steps, quiet calls, turns of single threads and idle
 //! ticks.
@@ -14,7 +16,6 @@
 //! to the next one are as many ticks as the definition says (`proofs/Ticks`), that a row is counted as that many
 //! decisions (`proofs/CountedRows`), and, for pictures, where partitions go on side by side, that each may be at a tick
 //! of its own (`proofs/Coming`).
-#![tactic(auto)]
 
 mod account;
 mod machine;

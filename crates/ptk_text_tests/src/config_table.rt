@@ -1,7 +1,7 @@
 //! What is written of accepted and of refused texts, worked out by hand.
 
 use ptk_config_table::{ExplainFault, explain};
-use ptk_system_files::Files;
+use ptk_image::Files;
 use std::alloc::Global;
 use std::test::Fail;
 

@@ -1,3 +1,5 @@
+#![tactic(auto)]
+
 //! One slot table for all partitions' threads, with the queues that are linked through its slots, each shown as the
 //! list that the links of its slots lead along.
 //!
@@ -14,7 +16,6 @@
 //! lists, and `ptk_words_model`, which defines a reply; above are `ptk_ready` and every crate that acts on threads.
 //! Costly to prove is that a change of one partition's links, or of one thread, leaves every queue of every partition
 //! what its links say (`proofs/Linked`).
-#![tactic(auto)]
 
 mod changes;
 mod references;

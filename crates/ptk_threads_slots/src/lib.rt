@@ -1,3 +1,5 @@
+#![tactic(auto)]
+
 //! One partition's slots with their links, which are slot numbers of the table that all partitions share, and its
 //! linked queues: a list for each priority's ready threads, and each mutex's and each condition variable's waiters.
 //!
@@ -11,7 +13,6 @@
 //! see links and queues in the partition's own numbers (`links_of`), each queue as the list that its links lead along,
 //! by place. `members` reads a queue into a `ThreadList`. Below are `ptk_words` and `ptk_words_parted`. Costly to prove
 //! is what two changed links do to a list (`proofs/Along`), once for a thread that comes and once for one that goes.
-#![tactic(auto)]
 
 mod link;
 mod queues;

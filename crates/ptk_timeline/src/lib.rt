@@ -1,3 +1,5 @@
+#![tactic(auto)]
+
 //! The picture of a run as SVG on any writer: a lane for each partition with its windows shaded, in it a row for each
 //! thread, and marks of what came; and where the threads of a run start, for their names (`Starts`).
 //!
@@ -12,7 +14,6 @@
 //! below, a rectangle is a bar of a row, and the windows are those that the plan has at these ticks, so the text grows
 //! with what changes and with the width. Drawing takes no memory; `Starts` has an entry for each thread's number. Above
 //! are `ptk_main_answers` and the program of pictures, `ptk_main_pictures`.
-#![tactic(auto)]
 
 mod axis;
 mod layout;

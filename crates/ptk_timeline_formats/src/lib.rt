@@ -1,3 +1,5 @@
+#![tactic(auto)]
+
 //! A run as a Value Change Dump (`vcd_with`) and as trace events in JSON (`trace_events_with`), written while it goes
 //! on.
 //!
@@ -8,7 +10,6 @@
 //! GTKWave opens the first (IEEE 1364-2005, section 18), Perfetto and chrome://tracing the second. Both go from change
 //! to change and keep of each thread what was shown of it last, so memory does not grow with the run. Below are the
 //! system (`ptk_system`) and the configuration; the program's answers are above.
-#![tactic(auto)]
 
 mod board;
 mod change;

@@ -24,19 +24,3 @@ alike_more cells look first behind item lt is same alike column default low high
     by (inr later) =
         let at : column ≡ behind = omega (arith, later, high) in
         ap (λ (k : ℕ). (get_or cells k default).look) at ∙ (look_any cells behind default item lt ∙ (ap (λ (c : Cell). c.look) (sym is) ∙ same))
-
-pub bar_ended : (cells : List Cell) (look : Look) (first behind : ℕ) → first < length cells → first < behind → behind ≤ length cells → IsBegun cells first
-    → ((default : Cell) → (get_or cells first default).look ≡ look) → AreAlike cells look first behind → ((default : Cell) → behind < length cells → (get_or cells behind default).look ≢ look) → IsBar cells first behind
-bar_ended cells look first behind here some within begun is alike ended = record {
-  some = some;
-  within = within;
-  begun = begun;
-  same = λ column default low high. alike column default low high ∙ sym (is default);
-  ended = λ default lt same. ended default lt (same ∙ is default);
-}
-
--- the column behind a bar begins the next one
-pub next_begun : (cells : List Cell) (first behind : ℕ) → IsBar cells first behind → behind < length cells → IsBegun cells behind
-next_begun cells first behind is lt before default at same =
-    let low : first ≤ before = omega (arith, at, is.some) in
-    is.ended default lt (sym same ∙ is.same before default low (omega (arith, at)))

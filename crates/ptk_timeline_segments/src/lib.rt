@@ -1,3 +1,5 @@
+#![tactic(auto)]
+
 //! What each thread of a run was, from which tick to which, by columns of a picture; the bars of a row, the marks of a
 //! column, and a partition's windows one after the other.
 //!
@@ -21,7 +23,6 @@
 //! and whether there was another beside it; where a column is one tick, this is the look itself. All that is not a step
 //! begins at the tick of the decision that brought it. Below are the system, its window plan and the configuration; the
 //! drawing, `ptk_timeline`, is above.
-#![tactic(auto)]
 
 mod lane;
 mod look;

@@ -1,3 +1,5 @@
+#![tactic(auto)]
+
 //! A partition's last steps: a ring of them with the newest in a batch, their lines, and plain steps in a row of which
 //! each is kept (`Trace::run_row`).
 //!
@@ -9,7 +11,6 @@
 //! To keep one more step takes no memory and cannot fail. Below are `ptk_words_model`, whose definitions of texts the
 //! contracts cite, `ptk_rv32i_rows`, whose loops the rows are, and the kit's ring and decimals; above are the crates
 //! that run a partition's thread, and the system, which puts the other steps in and asks for the lines.
-#![tactic(auto)]
 
 mod rows;
 mod text;

@@ -71,6 +71,9 @@ impl Trace {
     pub fn push(&mut self, entry: Entry)
         ensures { self.new ≡ record self.old { entries = last_of self.old.kept (self.old.entries ++ entry ∷ []) } }
     {
+        if self.ring.capacity() == 0 {
+            return;
+        }
         self.noted = make_room(&mut self.ring, &self.batch, self.noted);
         self.batch[self.noted] = entry;
         self.noted += 1;

@@ -1,3 +1,5 @@
+#![tactic(auto)]
+
 //! A partition's trace with each step in words, its symbol, and the names of calls and replies (`decoded_trace_with`).
 //!
 //! - `shows` is the definition's choice of steps (`is_shown`), and `push_decoded` appends the definition's words of a
@@ -10,7 +12,6 @@
 //! `blocked`. The number of a call is in a7, which a trace does not keep: a second system of the same boot goes on to
 //! each ECALL that is shown. Below are whole runs (`ptk_main_runs`), symbols and the disassembler; above are the
 //! answers to requests.
-#![tactic(auto)]
 
 mod calls;
 mod decoding;

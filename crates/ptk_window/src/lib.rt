@@ -1,3 +1,5 @@
+#![tactic(auto)]
+
 //! The window plan: which partition's window has a tick, a partition's next own tick, its next turn from where it was
 //! last (`Near`), and its way from window to window (`Walk`).
 //!
@@ -16,7 +18,6 @@
 //! orders of a stage's two sorted lists (`proofs/Orders`), what a search in them finds (`proofs/Searches`), which stage
 //! has a tick (`proofs/StageLaws`) and where a partition's next window is (`proofs/Nexts`). Below are `ptk_words` and
 //! `ptk_words_windows`; above are the configuration and the system.
-#![tactic(auto)]
 
 mod faults;
 mod lookup;

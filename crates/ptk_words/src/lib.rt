@@ -1,3 +1,5 @@
+#![tactic(auto)]
+
 //! The plain types that every crate uses (numbers of partitions, threads, slots and ticks, registers, threads, mutexes,
 //! faults, limits), the list of calls with their numbers and costs, and definitions of words, bytes, pools, calls and
 //! images.
@@ -9,7 +11,6 @@
 //! - The numbers of errors and faults are the definitions'.
 //!
 //! Nothing is below; every other crate is above.
-#![tactic(auto)]
 
 mod calls;
 mod faults;

@@ -1,3 +1,5 @@
+#![tactic(auto)]
+
 //! The instruction set RV32I as definitions: the table of 40 rows by mask and match, the same table by fields, what
 //! each instruction does, and plain steps in a row with their laws.
 //!
@@ -8,7 +10,6 @@
 //!
 //! `specs/Instructions` has the table as the RISC-V manual has it, `specs/Fields` the one that proofs about code by
 //! opcode and funct3 use. Below is `ptk_words`; above are the crates of instructions and the model of a partition.
-#![tactic(auto)]
 
 ghost use Rattle.ptk_words_instructions.specs.RowLaws.{NoWordAgreesTwice, RowsByFields};
 ghost use Rattle.ptk_words_instructions.specs.PlainLaws.{StepsJoin, EntriesJoin};

@@ -1,3 +1,5 @@
+#![tactic(auto)]
+
 //! Laws of the definitions, and worked rows that they compute, as the contracts of functions without code.
 //!
 //! - `costs_are_small`, `calls_are_numbered` (each call is the call of its own number and of no other),
@@ -11,7 +13,6 @@
 //! with one lemma for each move, and in `chain_is_decided`, which shortens chains that go round. Below are `ptk_words`,
 //! `ptk_words_instructions`, `ptk_words_windows`, `ptk_words_model` and `ptk_words_well`; above are crates that need a
 //! law.
-#![tactic(auto)]
 
 pub mod laws;
 pub mod rows;

@@ -54,12 +54,6 @@ pub conditions_input : (t : ℕ) (threads : List (Option Thread)) (mutexes : Lis
     → AreConditions (pool_changed t (in_wait InputWait) threads) mutexes conditions
 conditions_input t threads mutexes conditions ready are = conditions_blocked t InputWait threads mutexes conditions ready refl are
 
--- a waiter of the console is woken
-pub conditions_answered : (t : ℕ) (values waiters : List ℕ) (locks : Locks) (conditions : List (Option Condition)) → is_in t waiters ≡ true → AreListed locks.threads waiters → AreConditions locks.threads locks.mutexes conditions
-    → AreConditions (after_wake t values locks).threads (after_wake t values locks).mutexes conditions
-conditions_answered t values waiters locks conditions here listed are =
-    conditions_woken t (woken_with values) locks.threads locks.mutexes conditions (waking_woken values) (ap condition_of_wait (listed.waiters_wait t here)) are
-
 -- ---- joins
 
 -- the thread with this joiner (own)
@@ -83,16 +77,6 @@ conditions_join t u threads mutexes conditions ready are =
 
 -- ---- the end of a thread
 
-same_then : (a b c : List (Option Thread)) → AreSameOn a b → AreSameOn b c → AreSameOn a c
-same_then a b c first second = record { on = λ t. second.on t ∙ first.on t; named = λ t. second.named t ∙ first.named t }
-
-same_woken : (t : ℕ) (f : Thread → Thread) (threads : List (Option Thread)) → IsWaking f → waits_on (pool_get threads t) ≡ None → AreSameOn threads (pool_changed t f threads)
-same_woken t f threads waking off = same_on_off t threads (pool_changed t f threads) (λ u ne. ap wait_of (changed_other t u f threads ne)) off (ap condition_of_wait (waking_idle t f threads waking))
-
-same_join_by : (t : ℕ) (joiner : Option ℕ) (result : ℕ) (locks : Locks) → ((u : ℕ) → joiner ≡ Some u → wait_of (thread_at locks u) ≡ Some (JoinWait t)) → AreSameOn locks.threads (after_join_by joiner result locks).threads
-same_join_by t None result locks waits = record { on = λ u. refl; named = λ u. refl }
-same_join_by t (Some u) result locks waits = same_woken u (woken_with (0 ∷ result ∷ [])) locks.threads (waking_woken (0 ∷ result ∷ [])) (ap condition_of_wait (waits u refl))
-
 ended_waits : (o : Option Thread) → wait_of (option_map (λ (thread : Thread). record thread { phase = Ended }) o) ≡ wait_of o
 ended_waits None = refl
 ended_waits (Some thread) = refl
@@ -101,33 +85,6 @@ released_by : (b : Bool) (t : ℕ) (locks taken : Locks) → AreSameOn locks.thr
 released_by true t locks taken same = same
 released_by false t locks taken same = same_on_waits locks.threads (pool_changed t (λ (thread : Thread). record thread { phase = Ended }) locks.threads)
     (changed_same wait_of t (λ (thread : Thread). record thread { phase = Ended }) locks.threads (ended_waits (pool_get locks.threads t)))
-
-released_mutexes : (b : Bool) (t : ℕ) (joiner : Option ℕ) (result : ℕ) (locks : Locks) → (if b then without_thread t (after_join_by joiner result locks) else with_thread t (λ thread. record thread { phase = Ended }) locks).mutexes ≡ locks.mutexes
-released_mutexes true t None result locks = refl
-released_mutexes true t (Some u) result locks = refl
-released_mutexes false t joiner result locks = refl
-
--- a thread that waits for nothing has ended: its joiner is woken, its number free or kept (pthread_exit)
-pub conditions_released : (t : ℕ) (o : Option Thread) (waiters : List ℕ) (locks : Locks) (conditions : List (Option Condition)) → thread_at locks t ≡ o → wait_of (thread_at locks t) ≡ None → AreListed locks.threads waiters
-    → AreConditions locks.threads locks.mutexes conditions → AreConditions (after_release t o locks).threads (after_release t o locks).mutexes conditions
-conditions_released t None waiters locks conditions e free listed are = are
-conditions_released t (Some thread) waiters locks conditions e free listed are =
-    let taken : Locks = after_join_by thread.joiner thread.result locks in
-    let woken : AreSameOn locks.threads taken.threads = same_join_by t thread.joiner thread.result locks (λ u joins. listed.joiners_wait u t (ap joiner_of e ∙ joins)) in
-    let gone : AreSameOn locks.threads (pool_set taken.threads t None) =
-    same_then locks.threads taken.threads (pool_set taken.threads t None) woken (same_set t None taken.threads (woken.on t ∙ ap condition_of_wait free) refl) in
-    rw (released_mutexes (is_taken thread) t thread.joiner thread.result locks)
-    (conditions_same locks.threads (after_release t (Some thread) locks).threads locks.mutexes conditions (released_by (is_taken thread) t locks taken gone) are)
-
--- so is the running thread's end, with its mutexes given up first (pthread_exit, pthread_mutexattr_setrobust)
-pub conditions_end : (interval t : ℕ) (waiters : List ℕ) (syncs : Syncs) → AreSyncs interval (Some t) waiters syncs
-    → AreConditions (after_release t (thread_at syncs.locks t) (after_owner_end t syncs.locks)).threads (after_release t (thread_at syncs.locks t) (after_owner_end t syncs.locks)).mutexes syncs.conditions
-conditions_end interval t waiters syncs are =
-    let free : wait_of (thread_at syncs.locks t) ≡ None = ready_waits (thread_at syncs.locks t) (are.lined.running_ready t refl) in
-    let idle : awaited (thread_at syncs.locks t) ≡ None = idle_awaits (thread_at syncs.locks t) free in
-    let same : thread_at (after_owner_end t syncs.locks) t ≡ thread_at syncs.locks t = syncs_end_same interval t (Some t) waiters syncs idle are in
-    let after : AreSyncs interval (Some t) waiters (record syncs { locks = after_owner_end t syncs.locks }) = syncs_owner_end interval t (Some t) waiters syncs idle are in
-    conditions_released t (thread_at syncs.locks t) waiters (after_owner_end t syncs.locks) syncs.conditions same (ap wait_of same ∙ free) after.waiting after.conditions
 
 -- ---- where nobody waits on a condition variable
 
@@ -145,11 +102,3 @@ conditions_none threads mutexes conditions off empty = record {
   named_used = λ t m e. absurd (let none : names (pool_get threads t) ≡ None = off_names (wait_of (pool_get threads t)) (off t) in let no : ⊥ = cc in no);
   room = λ t m e. absurd (let none : names (pool_get threads t) ≡ None = off_names (wait_of (pool_get threads t)) (off t) in let no : ⊥ = cc in no);
 }
-
--- ---- a waiter of a condition variable
-
--- it is not in the line
-pub waiter_out : (c t : ℕ) (threads : List (Option Thread)) (line : List ℕ) (running : Option ℕ) → waits_on (pool_get threads t) ≡ Some c → AreLined threads line running → is_in t line ≡ false
-waiter_out c t threads line running on lined =
-    let is : IsConditionWait c (wait_of (pool_get threads t)) = condition_wait c (wait_of (pool_get threads t)) on in
-    not_ready_out threads line running t lined (waits_not_ready (ConditionWait c is.mutex is.deadline) (pool_get threads t) is.waits)

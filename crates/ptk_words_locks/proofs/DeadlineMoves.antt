@@ -30,33 +30,13 @@ use Rattle.ptk_words_locks.proofs.Gathered.{gathered_own, waiter_used}
 use Rattle.ptk_words_locks.proofs.Timed.{syncs_unlock}
 use Rattle.ptk_words_locks.proofs.Relocks.{syncs_signal_to}
 use Rattle.ptk_words_locks.proofs.DeadlineLists.{free_again, without_first, threads_of, without_due}
-use Rattle.ptk_words_locks.proofs.Deadlines.{deadlines-get, deadlines-pool_set, deadlines-kept, deadlines-wait, deadlines-woken, changed_deadline, deadlines-unlock}
+use Rattle.ptk_words_locks.proofs.Deadlines.{deadlines-get, deadlines-kept, deadlines-wait, deadlines-woken, changed_deadline, deadlines-unlock}
 
 -- ---- one thread
-
--- a thread is woken that has no deadline, as one that waits for input or for a thread's end
-pub deadlines-woken_untimed : (t : ℕ) (f : Thread → Thread) (locks : Locks) → IsWaking f → deadline_of_wait (wait_of (thread_at locks t)) ≡ None → deadlines_of (at_tail_with f t locks) ≡ deadlines_of locks
-deadlines-woken_untimed t f locks waking untimed = deadlines-woken t f locks waking ∙ free_again t (deadlines_of locks) (deadlines-get t locks ∙ untimed)
 
 ended_waits : (o : Option Thread) → wait_of (option_map (λ (thread : Thread). record thread { phase = Ended }) o) ≡ wait_of o
 ended_waits None = refl
 ended_waits (Some thread) = refl
-
-release_by : (b : Bool) (t : ℕ) (locks taken : Locks) → deadlines_of taken ≡ deadlines_of locks → deadline_of_wait (wait_of (thread_at locks t)) ≡ None
-    → deadlines_of (if b then without_thread t taken else with_thread t (λ thread. record thread { phase = Ended }) locks) ≡ deadlines_of locks
-release_by true t locks taken same untimed =
-    deadlines-pool_set t None taken ∙ ap (λ deadlines. pool_set deadlines t None) same ∙ free_again t (deadlines_of locks) (deadlines-get t locks ∙ untimed)
-release_by false t locks taken same untimed = deadlines-kept t (λ (thread : Thread). record thread { phase = Ended }) locks (ended_waits (thread_at locks t))
-
-join_by : (t : ℕ) (joiner : Option ℕ) (result : ℕ) (locks : Locks) → ((u : ℕ) → joiner ≡ Some u → wait_of (thread_at locks u) ≡ Some (JoinWait t)) → deadlines_of (after_join_by joiner result locks) ≡ deadlines_of locks
-join_by t None result locks waits = refl
-join_by t (Some u) result locks waits = deadlines-woken_untimed u (woken_with (0 ∷ result ∷ [])) locks (waking_woken (0 ∷ result ∷ [])) (ap deadline_of_wait (waits u refl))
-
--- a thread that waits for nothing has ended, and its joiner is woken
-pub deadlines-released : (t : ℕ) (o : Option Thread) (waiters : List ℕ) (locks : Locks) → thread_at locks t ≡ o → wait_of (thread_at locks t) ≡ None → AreListed locks.threads waiters → deadlines_of (after_release t o locks) ≡ deadlines_of locks
-deadlines-released t None waiters locks e free listed = refl
-deadlines-released t (Some thread) waiters locks e free listed =
-    release_by (is_taken thread) t locks (after_join_by thread.joiner thread.result locks) (join_by t thread.joiner thread.result locks (λ u joins. listed.joiners_wait u t (ap joiner_of e ∙ joins))) (ap deadline_of_wait free)
 
 -- a lock, a trylock and a timed lock
 pub deadlines-move : (move : LockMove) (t m : ℕ) (wait : Wait) (locks : Locks) → is_alive (thread_at locks t) ≡ true → deadlines_of (after_move move t m wait locks) ≡ deadlines_after_move move t wait (deadlines_of locks)
@@ -73,15 +53,6 @@ deadlines-condition_wait interval t c m deadline waiters syncs are =
     let locks : Locks = after_unlock m syncs.locks in
     let alive : is_alive (thread_at locks t) ≡ true = ready_alive (thread_at locks t) ((syncs_unlock interval m (Some t) waiters syncs are).lined.running_ready t refl) in
     deadlines-wait t (ConditionWait c m deadline) locks alive ∙ ap (λ deadlines. pool_set deadlines t deadline) (deadlines-unlock m syncs.locks)
-
--- a deadline already reached: the mutex is released and locked again, or waited for with no deadline
-pub deadlines-late_wait : (interval t m : ℕ) (reply : Option ℕ) (waiters : List ℕ) (syncs : Syncs) → AreSyncs interval (Some t) waiters syncs
-    → deadlines_of (after_move (relock_move t (mutex_at (after_unlock m syncs.locks) m)) t m (RelockWait m reply) (after_unlock m syncs.locks))
-    ≡ deadlines_after_move (relock_move t (mutex_at (after_unlock m syncs.locks) m)) t (RelockWait m reply) (without_deadlines (woken_by_unlock m syncs.locks) (deadlines_of syncs.locks))
-deadlines-late_wait interval t m reply waiters syncs are =
-    let locks : Locks = after_unlock m syncs.locks in
-    let alive : is_alive (thread_at locks t) ≡ true = ready_alive (thread_at locks t) ((syncs_unlock interval m (Some t) waiters syncs are).lined.running_ready t refl) in
-    deadlines-move (relock_move t (mutex_at locks m)) t m (RelockWait m reply) locks alive ∙ ap (deadlines_after_move (relock_move t (mutex_at locks m)) t (RelockWait m reply)) (deadlines-unlock m syncs.locks)
 
 -- ---- a re-lock
 

@@ -36,10 +36,6 @@ deadline_at o = deadline_of_wait (wait_of o)
 pub deadlines-get : (t : ℕ) (locks : Locks) → pool_get (deadlines_of locks) t ≡ deadline_of_wait (wait_of (thread_at locks t))
 deadlines-get t locks = get-map deadline_at t locks.threads refl
 
--- a thread's number is taken or gets free, with the deadline of its wait
-pub deadlines-pool_set : (t : ℕ) (o : Option Thread) (locks : Locks) → deadlines_of (record locks { threads = pool_set locks.threads t o }) ≡ pool_set (deadlines_of locks) t (deadline_of_wait (wait_of o))
-deadlines-pool_set t o locks = map-pool_set deadline_at t o locks.threads
-
 pub changed_deadline : (t : ℕ) (f : Thread → Thread) (deadline : Option ℕ) (threads : List (Option Thread)) → deadline_at (option_map f (pool_get threads t)) ≡ deadline → map deadline_at (pool_changed t f threads) ≡ pool_set (map deadline_at threads) t deadline
 changed_deadline t f deadline threads e = map-pool_set deadline_at t (option_map f (pool_get threads t)) threads ∙ ap (pool_set (map deadline_at threads) t) e
 

@@ -111,25 +111,3 @@ pub waking_ready : (f : Thread → Thread) (o : Option Thread) → IsWaking f �
 waking_ready f None waking e = absurd (false≢true e)
 waking_ready f (Some thread) waking e =
     ap (λ wait. is_none wait && not (is_ended (f thread).phase)) (waking.wait thread) ∙ ap (λ phase. not (is_ended phase)) (waking.phase thread) ∙ e
-
--- ---- a waiter that is woken with a move of its mutex
-
-pub handed_ready : (move : LockMove) (o : Option Thread) → is_alive o ≡ true → is_ready (option_map (handed move) o) ≡ true
-handed_ready move None e = absurd (false≢true e)
-handed_ready move (Some thread) e = e
-
-pub handed_waits : (move : LockMove) (o : Option Thread) → wait_of (option_map (handed move) o) ≡ None
-handed_waits move None = refl
-handed_waits move (Some thread) = refl
-
-pub handed_joiner : (move : LockMove) (o : Option Thread) → joiner_of (option_map (handed move) o) ≡ joiner_of o
-handed_joiner move None = refl
-handed_joiner move (Some thread) = refl
-
-pub handed_alive : (move : LockMove) (o : Option Thread) → is_alive (option_map (handed move) o) ≡ is_alive o
-handed_alive move None = refl
-handed_alive move (Some thread) = refl
-
-pub handed_used : (move : LockMove) (o : Option Thread) → used_of (option_map (handed move) o) ≡ 0
-handed_used move None = refl
-handed_used move (Some thread) = refl

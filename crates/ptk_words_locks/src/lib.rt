@@ -1,3 +1,5 @@
+#![tactic(auto)]
+
 //! What holds of a partition's threads, line, waits, mutexes and condition variables between moves; that the moves keep
 //! it; and whose deadlines each move begins and ends.
 //!
@@ -13,7 +15,6 @@
 //! `specs/Expiries` which deadline is next. `proofs/` has the same for each move of the mutexes and of the condition
 //! variables, those of the mutexes with whatever else holds of threads and mutexes (`Rest` in `proofs/Held`). Below is
 //! `ptk_words_model`; above, `ptk_words_well` composes them to what holds of a whole partition.
-#![tactic(auto)]
 
 ghost use Rattle.std.specs.Prelude.{◌≡◌, ℕ, List, Option, Some};
 ghost use Rattle.ptk_words_model.specs.State.{Syncs, Part};

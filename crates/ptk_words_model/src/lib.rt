@@ -1,3 +1,5 @@
+#![tactic(auto)]
+
 //! The machine of one partition as definitions: state, priorities, places, mutexes, condition variables, console, keys,
 //! unwinding, calls, decision, the partition alone, and the texts of reports and traces.
 //!
@@ -5,7 +7,6 @@
 //!
 //! The code declares the few plain types that these definitions use. Below are `ptk_words`, `ptk_words_instructions`
 //! and `ptk_words_windows`; every pool, the gate, the kernel and the system cite these definitions.
-#![tactic(auto)]
 
 use ptk_words::{Errno, Limits, Policy, Priority, Thread, ThreadNo, Tick};
 

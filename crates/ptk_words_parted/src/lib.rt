@@ -1,3 +1,5 @@
+#![tactic(auto)]
+
 //! Lists by partition: `Parted<T>` is one vector that holds a list for each partition, with its lemmas; `Queue` and
 //! `ThreadSet` are an order and a set of one partition's threads.
 //!
@@ -10,7 +12,6 @@
 //! from the start (`proofs/Lists`), and a `ThreadSet` is the bits of a number. The ruleset `loans` of `proofs/Cuts` is
 //! for the crates above: a loan that keeps its length is a `slice_set`. Costly to prove is `writes_back` of `lend`.
 //! Below is `ptk_words`; above are the crates that keep such lists.
-#![tactic(auto)]
 
 mod queue;
 mod thread_set;

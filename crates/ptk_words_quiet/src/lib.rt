@@ -1,3 +1,5 @@
+#![tactic(auto)]
+
 //! Laws of quiet partitions: plain steps in a row are the same number of ticks, quiet calls leave a partition quiet,
 //! and the ticks of a partition that has nothing to do change nothing.
 //!
@@ -20,7 +22,6 @@
 //! when it is idle up to a tick. Costly to prove is that registers and used ticks change no effective priority and no
 //! deadline. Below are the definitions and the laws of pools; above are the crates that carry out such rows and pass
 //! over such ticks.
-#![tactic(auto)]
 
 ghost use Rattle.std.specs.Prelude.{ℕ, List, Option};
 ghost use Rattle.ptk_words.specs.declared.sections.Arrival.{Arrival};

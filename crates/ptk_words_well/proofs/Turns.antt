@@ -33,10 +33,6 @@ pub well_lined : (limits : Limits) (line : List ℕ) (running : Option ℕ) (s :
 well_lined limits line running s lined halted well =
     well_scheduled limits s s.threads line s.mutexes running s.console.waiters refl refl lined (waiting_of limits s well) well.exclusion well.conditional well.used halted well
 
--- no thread runs
-pub well_stopped : (limits : Limits) (s : Part) → IsWell limits s → IsWell limits (record s { running = None })
-well_stopped limits s well = well_lined limits s.line None s (lined_stopped s.threads s.line s.running (lined_of limits s well)) (λ e. refl) well
-
 -- ---- a thread with no ticks used
 
 unused_alike : (t : ℕ) (threads : List (Option Thread)) → AreAlike threads (pool_changed t unused threads)

@@ -101,7 +101,3 @@ well_cancelled_in limits t (Some (JoinWait u)) s e well =
 well_cancelled_in limits t (Some (MutexWait m deadline)) s e well = well
 well_cancelled_in limits t (Some (ConditionWait c m deadline)) s e well = well_mark limits t (with_syncs (after_unblock t c None) s) (well_wait_end limits t c m deadline None s e well)
 well_cancelled_in limits t (Some (RelockWait m reply)) s e well = well
-
--- the thread is taken out of its wait
-pub well_cancelled_wait : (limits : Limits) (t : ℕ) (s : Part) → IsWell limits s → IsWell limits (after_cancelled_wait t (wait_of (thread_at s.locks t)) s)
-well_cancelled_wait limits t s well = well_cancelled_in limits t (wait_of (thread_at s.locks t)) s refl well

@@ -1,3 +1,5 @@
+#![tactic(auto)]
+
 //! What holds of a partition's whole state between moves (`IsWell`), and that every call and every decision keeps it.
 //!
 //! - `start_is_well`, `calls_keep_well`, `decisions_keep_well`, `stays_well`: the running thread is ready and not in
@@ -10,7 +12,6 @@
 //! `ptk_words_locks`, which has the laws of pools, lines, mutexes, condition variables and deadlines (`proofs/Synced`
 //! takes a whole state apart for them, and puts it together again); above, the gate's tables have `IsWell` as their
 //! invariant.
-#![tactic(auto)]
 
 ghost use Rattle.std.specs.Prelude.{ℕ, List, Option};
 ghost use Rattle.ptk_words.specs.declared.sections.Arrival.{Arrival};

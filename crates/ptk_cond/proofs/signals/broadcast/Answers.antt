@@ -2,8 +2,8 @@ use Rattle.std.proofs.Common.{◌≡◌, ◌+◌, ◌-◌, ◌<◌, ◌∙◌, l
 use Rattle.std.specs.Fn.{iterate}
 use Rattle.ptk_words_model.specs.Condition.{after_signal, condition_waiters}
 use Rattle.ptk_roster.specs.Rosters.{Rostered}
-use Rattle.ptk_cond.proofs.Steps.{of_part, AreSyncsMoved, signalled_none, signalled_more}
-use Rattle.ptk_cond.proofs.Visited.{AreVisited, reached_more, visited_none, visited_more}
+use Rattle.ptk_cond.proofs.Steps.{of_part, AreSyncsMoved, signalled_more}
+use Rattle.ptk_cond.proofs.Visited.{AreVisited, reached_more, visited_more}
 use Rattle.ptk_cond.proofs.signals.broadcast.Goals as goal
 
 pub loop-i-preserved : goal.loop-i-preserved

@@ -1,7 +1,7 @@
 use Rattle.std.proofs.Common.{◌≡◌, List, map, take, flat_map}
 use Rattle.std.specs.List.{enumerate_from}
 use Rattle.std.specs.Io.KnownBytes.{Appends}
-use Rattle.ptk_system_files.specs.NamedFiles.{NamedFile}
+use Rattle.ptk_image.specs.NamedFiles.{NamedFile}
 use Rattle.ptk_config_table.specs.Images.{outcome_in}
 use Rattle.ptk_config_table.specs.Table.{numbered_lines}
 use Rattle.ptk_config_table.proofs.table.put_sections.Given as goal

@@ -5,7 +5,7 @@ use Rattle.ptk_words_parted.specs.Parts.{part_of}
 use Rattle.ptk_words_model.specs.State.{Mutex}
 use Rattle.ptk_words_model.specs.Priority.{assigned_of}
 use Rattle.ptk_threads.specs.Table.{ThreadTable}
-use Rattle.ptk_mutex_rise.specs.Before.{IsBeforeAssignment}
+use Rattle.ptk_mutex.specs.Before.{IsBeforeAssignment}
 use Rattle.ptk_mutex.proofs.Raised.{assignment_before, stored_visited}
 use Rattle.ptk_mutex.proofs.locking.reassign.Goals as goal
 

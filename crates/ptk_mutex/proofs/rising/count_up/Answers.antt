@@ -1,8 +1,8 @@
 use Rattle.std.proofs.Common.{ℕ, List, sym, ◌∙◌, ap, subst}
 use Rattle.ptk_roster.specs.Rosters.{Rostered}
-use Rattle.ptk_mutex_rise.specs.Visits.{IsVisited}
+use Rattle.ptk_mutex.specs.Visits.{IsVisited}
 use Rattle.ptk_mutex.proofs.Raised.{count_stays}
-use Rattle.ptk_mutex_rise.proofs.Visits.{unvisited}
+use Rattle.ptk_mutex.proofs.Visits.{unvisited}
 use Rattle.ptk_words_parted.specs.Parts.{part_of}
 use Rattle.ptk_mutex.proofs.rising.count_up.Goals as goal
 

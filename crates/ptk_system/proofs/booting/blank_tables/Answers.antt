@@ -4,7 +4,7 @@ use Rattle.ptk_words.specs.declared.sections.Arrival.{Arrival}
 use Rattle.ptk_console.specs.ConsoleTable.{fresh_console}
 use Rattle.ptk_gate_pools.specs.Kept.{Kept}
 use Rattle.ptk_gate_pools.specs.Blank.{blank}
-use Rattle.ptk_system_files.specs.NamedFiles.{NamedFile}
+use Rattle.ptk_image.specs.NamedFiles.{NamedFile}
 use Rattle.ptk_system.specs.Loaded.{AreLoaded}
 use Rattle.ptk_system.proofs.Loading.{blank_loaded}
 use Rattle.ptk_system.proofs.booting.blank_tables.Goals as goal

@@ -1,0 +1,19 @@
+//! The status of a partition, or that it has no image.
+
+ghost use Rattle.std.specs.Prelude.{◌≡◌, ◌<◌, length};
+ghost use Rattle.ptk_system.specs.World.{section_at, state_of};
+ghost use Rattle.ptk_explanation.specs.Standing.{standing_of};
+
+use ptk_system::{PartStatus, System};
+use ptk_words::PartId;
+
+/// The status of a partition; None where its section names no image, so that it has no thread (own).
+pub(crate) fn standing(system: &System<'_>, p: PartId) -> Option<PartStatus>
+    requires { p < length system.now.config.sections }
+    ensures { result ≡ standing_of (section_at system.now.config p) (state_of system.now p).part }
+{
+    match system.config().sections()[p.index()].image() {
+        Some(_) => Some(system.status(p)),
+        None => None,
+    }
+}

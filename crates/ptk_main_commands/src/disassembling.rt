@@ -1,0 +1,54 @@
+//! `disasm`: the assembler text of an image.
+
+ghost use Rattle.std.specs.Prelude.{◌≡◌, Ok, IfOk, string_bytes};
+ghost use Rattle.ptk_words.specs.Image.{ImageParts, image_of};
+ghost use Rattle.ptk_asm_language.specs.Source.{source};
+
+use crate::reading::{bytes_in, symbols_of, symbols_text_in};
+use ptk_disasm::{DisasmFault, disassemble_with};
+use ptk_image::read_image;
+use ptk_main_faults::Fault;
+use ptk_main_line::DisasmOptions;
+use ptk_symbols::Symbols;
+use std::alloc::Global;
+use std::fs;
+use std::io::Write;
+
+/// The text of the image in a file, with the names of the symbols in another where one is named, into a third file, or to
+/// standard output where none is named. Nothing is written where the image or the symbols are refused. A fault where a file
+/// can't be read, the image or a symbol is refused, memory ran out, or the text can't be written.
+pub fn disasm<'a>(rt: &HostRuntime, options: DisasmOptions<'a>) -> Result<(), Fault<'a>> {
+    let bytes = bytes_in(rt, options.image)?;
+    let names = symbols_text_in(rt, options.symbols)?;
+    let symbols = symbols_of(rt, options.symbols, names.as_str())?;
+    let text = text_of(rt.alloc(), options.image, bytes.as_slice(), &symbols)?;
+    let written = match options.target {
+        Some(file) => fs::write(rt, file, text.as_bytes()),
+        None => rt.stdout().write_all(text.as_bytes()),
+    };
+    match written {
+        Ok(()) => Ok(()),
+        Err(_) => Err(Fault::WriteFailed),
+    }
+}
+
+/// The text of the image that these bytes are, by the name of its file: the assembler makes this image of it. A fault where
+/// they are no image, a section is longer than a source may have it, or memory ran out.
+fn text_of<'a>(
+    alloc: Global,
+    name: &'a str,
+    bytes: &[u8],
+    symbols: &Symbols<'_>,
+) -> Result<String, Fault<'a>>
+    ensures { IfOk result (λ text. (image : ImageParts) × (image_of bytes.now ≡ Ok image) × (source (string_bytes text) ≡ Ok image)) }
+{
+    let image = match read_image(alloc, bytes) {
+        Ok(image) => image,
+        Err(fault) => return Err(Fault::of_image(name, fault)),
+    };
+    match disassemble_with(alloc, &image, symbols) {
+        Ok(text) => Ok(text),
+        Err(DisasmFault::TooLong(section)) => Err(Fault::TooLong(name, section)),
+        Err(DisasmFault::Memory) => Err(Fault::NoMemory),
+    }
+}

@@ -1,0 +1,132 @@
+//! The files that the program reads.
+
+use ptk_config::{Config, Section, read_config};
+use ptk_main_answers::Files;
+use ptk_main_faults::Fault;
+use ptk_symbols::{SymbolFault, Symbols, read_symbols};
+use std::{fs, io};
+
+/// The bytes of a file. A fault where it is not there, can't be read, or memory ran out. A path through a file is one of a
+/// file that is not there (own choice).
+pub fn bytes_in<'a>(rt: &HostRuntime, name: &'a str) -> Result<Vec<u8>, Fault<'a>> {
+    match fs::read(rt, name) {
+        Ok(bytes) => Ok(bytes),
+        Err(error) => match error.kind() {
+            io::ErrorKind::NotFound | io::ErrorKind::NotADirectory => Err(Fault::MissingFile(name)),
+            io::ErrorKind::OutOfMemory => Err(Fault::NoMemory),
+            _ => Err(Fault::ReadFailed(name)),
+        },
+    }
+}
+
+/// The text of a file. A fault where the file can't be read, or is no text.
+pub fn text_in<'a>(rt: &HostRuntime, name: &'a str) -> Result<String, Fault<'a>> {
+    let bytes = bytes_in(rt, name)?;
+    match String::from_utf8(bytes) {
+        Ok(text) => Ok(text),
+        Err(_) => Err(Fault::NotText(name)),
+    }
+}
+
+/// The configuration in a file. A fault where the file can't be read, is no text, or states no configuration.
+pub fn config_in<'a>(rt: &HostRuntime, name: &'a str) -> Result<Config, Fault<'a>> {
+    let text = text_in(rt, name)?;
+    config_of(rt, text.as_str())
+}
+
+/// The configuration that a text states. A fault where it states none.
+pub(crate) fn config_of(rt: &HostRuntime, text: &str) -> Result<Config, Fault<'static>> {
+    match read_config(rt.alloc(), text) {
+        Ok(config) => Ok(config),
+        Err(fault) => Err(Fault::of_config(fault)),
+    }
+}
+
+/// The text of a file of symbols, the empty one where no file is named.
+pub(crate) fn symbols_text_in<'a>(
+    rt: &HostRuntime,
+    name: Option<&'a str>,
+) -> Result<String, Fault<'a>> {
+    match name {
+        Some(name) => text_in(rt, name),
+        None => Ok(String::new(rt.alloc())),
+    }
+}
+
+/// The symbols in the text of the file of this name. A fault where a line is no symbol, or memory ran out.
+pub(crate) fn symbols_of<'a, 't>(
+    rt: &HostRuntime,
+    name: Option<&'a str>,
+    text: &'t str,
+) -> Result<Symbols<'t>, Fault<'a>> {
+    match read_symbols(rt.alloc(), text) {
+        Ok(symbols) => Ok(symbols),
+        Err(SymbolFault::Line(number)) => Err(Fault::Symbols(name.unwrap_or(""), number as u64)),
+        Err(SymbolFault::Memory) => Err(Fault::NoMemory),
+    }
+}
+
+/// The images that the sections name, in their order, each looked up by its name behind the folder `root` and a slash, where
+/// one is given, and from the working directory otherwise. One that is not there is left out; a fault where another can't
+/// be read, or memory ran out.
+pub(crate) fn images_of<'a>(
+    rt: &HostRuntime,
+    config: &'a Config,
+    root: Option<&str>,
+) -> Result<Files, Fault<'a>> {
+    let mut files = Files::new(rt.alloc());
+    for section in config.sections() {
+        add_image_of(rt, &mut files, section, root)?;
+    }
+    Ok(files)
+}
+
+// Adds the image that a section names, if it names one.
+fn add_image_of<'a>(
+    rt: &HostRuntime,
+    files: &mut Files,
+    section: &'a Section,
+    root: Option<&str>,
+) -> Result<(), Fault<'a>> {
+    match section.image() {
+        Some(name) => add_image(rt, files, name, root),
+        None => Ok(()),
+    }
+}
+
+// The bytes of the image of this name.
+fn image_bytes<'a>(
+    rt: &HostRuntime,
+    name: &'a str,
+    root: Option<&str>,
+) -> Result<Vec<u8>, Fault<'a>> {
+    let Some(root) = root else {
+        return bytes_in(rt, name);
+    };
+    match format!(in rt.alloc(); "{root}/{name}") {
+        Ok(path) => match bytes_in(rt, path.as_str()) {
+            Ok(bytes) => Ok(bytes),
+            Err(Fault::MissingFile(_)) => Err(Fault::MissingFile(name)),
+            Err(Fault::NoMemory) => Err(Fault::NoMemory),
+            Err(_) => Err(Fault::ReadFailed(name)),
+        },
+        Err(_) => Err(Fault::NoMemory),
+    }
+}
+
+// Adds the file of this name, where it is there.
+fn add_image<'a>(
+    rt: &HostRuntime,
+    files: &mut Files,
+    name: &'a str,
+    root: Option<&str>,
+) -> Result<(), Fault<'a>> {
+    match image_bytes(rt, name, root) {
+        Ok(bytes) => match files.add(name, &bytes) {
+            Ok(()) => Ok(()),
+            Err(_) => Err(Fault::NoMemory),
+        },
+        Err(Fault::MissingFile(_)) => Ok(()),
+        Err(fault) => Err(fault),
+    }
+}

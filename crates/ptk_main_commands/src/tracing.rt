@@ -1,0 +1,125 @@
+//! `trace`: the last steps of a partition, as they are or in words.
+
+ghost use Rattle.std.specs.Prelude.{◌≡◌, ◌<◌, ◌≤◌, ℕ, IfSome};
+ghost use Rattle.ptk_words.specs.declared.TheConstants.{LAST_TICK};
+ghost use Rattle.ptk_main_runs.specs.Parts.{part_named};
+ghost use Rattle.ptk_main_commands.specs.Requests.{AreSteps, IsThread, IsTraceInRange, keeping};
+
+use crate::explaining::refused;
+use crate::reading::{config_of, images_of, symbols_of, symbols_text_in, text_in};
+use crate::telling::{end, tell, usage};
+use ptk_config::Config;
+use ptk_main_answers::{Files, decoded_answer, trace_answer};
+use ptk_main_faults::Fault;
+use ptk_main_line::{MOST_TICKS, TraceOptions, undecoded};
+use ptk_trace_decoded::{Filter, partition_of};
+use ptk_words::{ThreadNo, Tick};
+
+/// The last steps of a partition. A usage error where an option of a trace in words is there without `--decode`.
+pub(crate) fn trace(rt: &HostRuntime, options: TraceOptions<'_>) -> u8
+    requires { IsTraceInRange options }
+{
+    if options.wants_words() && !options.decode {
+        return match undecoded(rt.alloc()) {
+            Ok(error) => usage(rt, &error),
+            Err(_) => tell(rt, &Fault::NoMemory),
+        };
+    }
+    match text_in(rt, options.run.file) {
+        Ok(text) => trace_text(rt, text.as_str(), options),
+        Err(fault) => tell(rt, &fault),
+    }
+}
+
+// The last steps of a partition of the configuration that a text states.
+fn trace_text(rt: &HostRuntime, text: &str, options: TraceOptions<'_>) -> u8
+    requires { IsTraceInRange options }
+{
+    match config_of(rt, text) {
+        Ok(mut config) => {
+            keep_last(&mut config, options);
+            end(rt, trace_config(rt, &config, options))
+        }
+        Err(fault) => refused(rt, text, options.explain, &fault),
+    }
+}
+
+// Makes the trace of the partition keep as many steps as are asked for. All else stays, so it is the same run: the law
+// `deeper_trace_is_same_run` of `ptk_impact`.
+fn keep_last(config: &mut Config, options: TraceOptions<'_>)
+    requires { AreSteps options.last }
+    ensures { config.new ≡ keeping options.entry.last (part_named config.old options.entry.partition.now) config.old }
+{
+    let place = partition_of(config, options.partition);
+    if let (Some(last), Some(p)) = (options.last, place) {
+        config.keep_trace(p, last as u32);
+    }
+}
+
+// The last steps of a partition of a configuration, on standard output.
+fn trace_config<'a>(
+    rt: &HostRuntime,
+    config: &'a Config,
+    options: TraceOptions<'a>,
+) -> Result<(), Fault<'a>>
+    requires { IsTraceInRange options }
+{
+    let files = images_of(rt, config, options.run.root)?;
+    if options.decode {
+        return put_words(rt, config, &files, options);
+    }
+    let ticks = Tick::new(options.run.ticks);
+    let out = &mut rt.stdout();
+    trace_answer(rt.alloc(), config, &files, ticks, options.partition, out)
+}
+
+// The same in words.
+fn put_words<'a>(
+    rt: &HostRuntime,
+    config: &'a Config,
+    files: &Files,
+    options: TraceOptions<'a>,
+) -> Result<(), Fault<'a>>
+    requires { IsTraceInRange options }
+{
+    let text = symbols_text_in(rt, options.symbols)?;
+    let symbols = symbols_of(rt, options.symbols, text.as_str())?;
+    let ticks = Tick::new(options.run.ticks);
+    let filter = filter_of(options);
+    decoded_answer(
+        rt.alloc(),
+        config,
+        files,
+        ticks,
+        options.partition,
+        &symbols,
+        &filter,
+        &mut rt.stdout(),
+    )
+}
+
+// The steps that are shown.
+fn filter_of(options: TraceOptions<'_>) -> Filter
+    requires { IsThread options.thread }
+    ensures thread { result.thread ≡ options.entry.thread }
+    ensures calls { result.is_calls_only ≡ options.entry.calls }
+{
+    let last = options.to.unwrap_or(MOST_TICKS);
+    Filter {
+        thread: thread_of(options.thread),
+        is_calls_only: options.calls,
+        from: Tick::new(options.from.unwrap_or(0)),
+        to: Tick::new(last.saturating_add(1)),
+    }
+}
+
+// The thread of a number.
+fn thread_of(number: Option<u64>) -> Option<ThreadNo>
+    requires { IsThread number }
+    ensures { result ≡ number }
+{
+    match number {
+        Some(number) => Some(ThreadNo::new(number as u8)),
+        None => None,
+    }
+}

@@ -1,4 +1,0 @@
-use Rattle.ptk_mutex_rise.proofs.walk.+raise_until.Given as goal
-
-abbrev pub decreases-raise_until : goal.decreases-raise_until
-decreases-raise_until l = l.fuel
