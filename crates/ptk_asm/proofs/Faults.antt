@@ -1,5 +1,5 @@
 -- The fault of the code is the first one of the source.
-use Rattle.std.proofs.Common.{◌≡◌, ℕ, ◌+◌, ◌≤◌, length, arith, List, [], ◌∷◌, Some, Option, refl, sym, ap, subst, ◌∙◌}
+use Rattle.std.proofs.Common.{◌≡◌, ℕ, ◌+◌, ◌≤◌, length, arith, List, [], ◌∷◌, Some, Option, sym, ap, ◌∙◌}
 use Rattle.std.specs.Prelude.{Err}
 use Rattle.ptk_asm_language.specs.declared.place.Span.{Span}
 use Rattle.ptk_asm_language.specs.declared.place.Extent.{Extent}

@@ -1,12 +1,11 @@
 -- The bytes at fault lie within their line.
-use Rattle.std.proofs.Common.{◌≡◌, ℕ, ◌+◌, ◌-◌, ◌≤◌, Bool, true, false, length, get_or, arith, List, [], ◌∷◌, Some, None, Option, zero, suc, refl, sym, ap, subst, ◌∙◌}
-use Rattle.std.specs.Prelude.{is_some}
+use Rattle.std.proofs.Common.{◌≡◌, ℕ, ◌-◌, ◌≤◌, Bool, true, false, length, get_or, arith, List, [], ◌∷◌, Some, None, Option, zero, suc, refl}
 use Rattle.std.proofs.lemmas.Grind.{common_steps}
 use Rattle.ptk_asm_language.specs.declared.place.Extent.{Extent}
 use Rattle.ptk_asm_language.specs.Lines.{without_ending, code_of}
 use Rattle.ptk_asm_language.specs.Tokens.{Token, pieces, token, tokens_of}
-use Rattle.ptk_asm_language.specs.Places.{behind_pieces, extent_of, extents_of, places_of, is_continuation, behind_character, whole_extent, first_wrong, wrong_place, nowhere, end_at, place_at, last_place}
-use Rattle.ptk_asm_language.specs.Source.{tokens_place, line_place, last_of, labels_after, place_after, fault_index}
+use Rattle.ptk_asm_language.specs.Places.{behind_pieces, extent_of, extents_of, places_of, is_continuation, behind_character, whole_extent, first_wrong, nowhere, end_at, last_place}
+use Rattle.ptk_asm_language.specs.Source.{tokens_place, line_place, labels_after, place_after}
 
 -- the bytes lie within a length
 pub record IsInside (x : Extent) (n : ℕ) : Type 0 where

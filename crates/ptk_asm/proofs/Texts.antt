@@ -8,9 +8,8 @@ use Rattle.ptk_asm_language.specs.declared.place.Extent.{Extent}
 use Rattle.ptk_asm_language.specs.declared.fault.FaultKind.{FaultKind}
 use Rattle.ptk_asm_language.specs.declared.fault.FaultKind.TheVariants as fault
 use Rattle.ptk_asm_language.specs.Lines.{raw_lines, without_ending, without_comment, code_of}
-use Rattle.ptk_asm_language.specs.declared.fault.LineFault.{LineFault}
-use Rattle.ptk_asm_language.specs.Places.{places_of, place_at, last_place, wrong_place}
-use Rattle.ptk_asm_language.specs.Reading.{Refuses, IsPlaced, token_fault, fault_unless}
+use Rattle.ptk_asm_language.specs.Places.{places_of, place_at, last_place}
+use Rattle.ptk_asm_language.specs.Reading.{Refuses, token_fault, fault_unless}
 use Rattle.ptk_asm_language.specs.Tokens.{Token, tokens_of}
 use Rattle.ptk_asm_language.specs.Source.{Statement, Placed, placed_at, stated, line_fault, line_place, tokens_place, last_of, at_line, first_pass, label_in, statement_in, span_after, placed_after, grown_by, turned_to, with_label, section_after, lengths_after, labels_after, place_after}
 use Rattle.ptk_asm.proofs.Whole.{whole-none}

@@ -31,8 +31,8 @@ pub(crate) fn place_of(labels: &HashMap<&[u8], Place>, name: &[u8]) -> Option<Pl
     labels.get(name).copied()
 }
 
-/// The entry once a label is defined: its offset where it is the first instruction's, in the text, else 0; the old entry
-/// where it has another name.
+/// The entry once a label is defined: its offset where it is the first instruction's, in the text, else 0; the old
+/// entry where it has another name.
 pub(crate) fn entry_with(entry: u32, name: &[u8], place: Place) -> u32
     ensures { result ≡ (if bytes_eq name.now (codes "_start") then entry_at (Some place) else entry) }
 {

@@ -31,8 +31,8 @@ fn few_words_decode(instructions: Instructions)
     }
 }
 
-/// Law: the words of a statement, read from its bytes, decode to the instructions written, unless it is a directive that
-/// writes bytes.
+/// Law: the words of a statement, read from its bytes, decode to the instructions written, unless it is a directive
+/// that writes bytes.
 pub fn words_decode(form: Form, registers: &[Register], number: i64)
     ensures { writes_data form ≡ false → DecodesToWritten form registers.now number }
 {

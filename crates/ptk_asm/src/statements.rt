@@ -135,7 +135,8 @@ fn is_misplaced(place: Place, form: Form, size: u64) -> bool
         || u64::from(place.offset) + size > LONGEST
 }
 
-/// The statement of a mnemonic and the tokens behind it, which stands at this place; `end` is where the line's code ends.
+/// The statement of a mnemonic and the tokens behind it, which stands at this place; `end` is where the line's code
+/// ends.
 #[tactic(auto, using(crate::proofs::States::statement_rules, crate::proofs::Spots::statement_places))]
 fn statement_with<'a>(
     alloc: Global,
@@ -162,8 +163,8 @@ fn statement_with<'a>(
     Ok(Statement { form, operands })
 }
 
-/// The statement that tokens are, which stands at this place; `end` is where the line's code ends. The error is the first
-/// fault with the place of its token in the line, or out of memory.
+/// The statement that tokens are, which stands at this place; `end` is where the line's code ends. The error is the
+/// first fault with the place of its token in the line, or out of memory.
 #[tactic(auto, using(crate::proofs::States::views_front, crate::proofs::Spots::spots_front))]
 pub(crate) fn statement_of<'a>(
     alloc: Global,

@@ -1,12 +1,11 @@
 -- The bytes of the pieces of a line, from its front.
-use Rattle.std.proofs.Common.{◌≡◌, ℕ, ◌+◌, ◌<◌, Bool, true, false, ◌||◌, List, [], ◌∷◌, ◌++◌, Some, None, length, drop, take, refl, sym, ap, ◌∙◌, arith, ◌==◌, one-add, get_or, suc, append_assoc}
-use Rattle.std.specs.Prelude.{is_some}
+use Rattle.std.proofs.Common.{◌≡◌, ℕ, ◌+◌, ◌<◌, Bool, true, false, ◌||◌, List, [], ◌∷◌, ◌++◌, Some, None, length, drop, refl, sym, ap, ◌∙◌, arith, ◌==◌, one-add, get_or, append_assoc}
 use Rattle.std.proofs.lemmas.List.{append-nil, map-append}
 use Rattle.ptk_asm_language.specs.declared.token.Spanned.{Spanned}
 use Rattle.ptk_asm_language.specs.declared.place.Extent.{Extent}
 use Rattle.ptk_asm_language.specs.Tokens.{Token, is_run, is_blank, pieces, token}
 use Rattle.ptk_asm_language.specs.Places.{behind_pieces, extent_of, extents_of, first_wrong, whole_extent}
-use Rattle.ptk_asm_language.specs.Reading.{view, spot, spots}
+use Rattle.ptk_asm_language.specs.Reading.{spot, spots}
 use Rattle.ptk_asm_language.specs.Scanning.{after_blanks, run_len}
 use Rattle.ptk_asm_language.proofs.Pieces.{blank_no_run, after_blanks-head}
 

@@ -1,10 +1,13 @@
 -- The tokens of a line, one after the other.
-use Rattle.std.proofs.Common.{◌≡◌, ℕ, List, [], ◌∷◌, ◌++◌, Some, None, Option, refl, sym, ap, ◌∙◌, append_assoc}
+use Rattle.std.proofs.Common.{◌≡◌, ℕ, List, [], ◌∷◌, ◌++◌, Some, None, Option, option_map, refl, sym, ap, ◌∙◌, append_assoc}
 use Rattle.std.proofs.lemmas.List.{append-nil, map-append}
 use Rattle.ptk_asm_language.specs.Tokens.{Token, pieces, token, tokens_of, all_tokens, with_front}
-use Rattle.ptk_asm_language.specs.Scanning.{joined}
 use Rattle.ptk_asm_language.specs.Reading.{view, views}
 use Rattle.ptk_asm_language.specs.declared.token.Spanned.{Spanned}
+
+-- the tokens before, and those of a line
+unfoldable pub joined : List Token → Option (List Token) → Option (List Token)
+joined front tokens = option_map (λ ts. front ++ ts) tokens
 
 joined_front : (front : List Token) (t : Token) (rest : Option (List Token)) → joined (front ++ t ∷ []) rest ≡ joined front (with_front (Some t) rest)
 unfolding joined

@@ -1,5 +1,5 @@
 -- The lines of a source.
-use Rattle.std.specs.Prelude.{ℕ, suc, List, [], ◌∷◌, take_while, not, ◌==◌, if◌then◌else◌}
+use Rattle.std.specs.Prelude.{ℕ, List, [], ◌∷◌, take_while, not, ◌==◌, if◌then◌else◌}
 
 -- the lines with this character before the first of them (own)
 abbrev pub onto_first : ℕ → List (List ℕ) → List (List ℕ)

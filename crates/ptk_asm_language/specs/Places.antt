@@ -1,6 +1,5 @@
 -- Where the tokens of a line stand in it, in bytes from its beginning.
-use Rattle.std.specs.Prelude.{ℕ, suc, ◌+◌, ◌-◌, Bool, ◌||◌, List, [], ◌∷◌, length, drop, map, if◌then◌else◌, is_some, Result, Ok, Err}
-use Rattle.std.specs.List.{prefix_len}
+use Rattle.std.specs.Prelude.{ℕ, suc, ◌-◌, Bool, ◌||◌, List, [], ◌∷◌, length, if◌then◌else◌, is_some, Result, Ok, Err}
 use Rattle.std.proofs.Math.ListN.{get_or}
 use Rattle.ptk_asm_language.specs.declared.place.Extent.{Extent}
 use Rattle.ptk_asm_language.specs.declared.statement.Slot.{Slot}

@@ -1,10 +1,6 @@
 -- The code's steps over a line and over a text.
-use Rattle.std.specs.Prelude.{ℕ, suc, List, [], ◌∷◌, ◌++◌, ◌==◌, if◌then◌else◌, Option, option_map}
-use Rattle.ptk_asm_language.specs.Tokens.{Token, is_blank, is_run}
-
--- the tokens before, and those of a line
-unfoldable pub joined : List Token → Option (List Token) → Option (List Token)
-joined front tokens = option_map (λ ts. front ++ ts) tokens
+use Rattle.std.specs.Prelude.{ℕ, suc, List, [], ◌∷◌, ◌==◌, if◌then◌else◌}
+use Rattle.ptk_asm_language.specs.Tokens.{is_blank, is_run}
 
 -- a line without the blanks at its front
 abbrev pub after_blanks : List ℕ → List ℕ

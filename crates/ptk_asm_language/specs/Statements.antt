@@ -1,5 +1,5 @@
 -- The statements of the language: their mnemonics, what stands in their places, and what they mean.
-use Rattle.std.specs.Prelude.{ℕ, ◌+◌, ◌-◌, ◌*◌, ◌/◌, ◌%◌, ◌^◌, Bool, true, false, not, ◌&&◌, ◌||◌, List, [], ◌∷◌, ◌++◌, length, find, flat_map, replicate, ◌==◌, if◌then◌else◌, Option, Some, None, option_map, Result, Ok, Err, ℤ, pos, negsuc, nat_abs, nat_le, nat_lt, slice_index, codes}
+use Rattle.std.specs.Prelude.{ℕ, ◌+◌, ◌-◌, ◌*◌, ◌/◌, ◌%◌, ◌^◌, Bool, true, false, ◌&&◌, List, [], ◌∷◌, ◌++◌, find, flat_map, replicate, ◌==◌, if◌then◌else◌, Option, Some, None, option_map, Result, Ok, Err, ℤ, pos, negsuc, nat_abs, nat_le, nat_lt, slice_index, codes}
 use Rattle.std.specs.Option.{option_or}
 use Rattle.std.specs.Int.{w32, to_le_bytes}
 use Rattle.std.specs.Str.{bytes_eq}

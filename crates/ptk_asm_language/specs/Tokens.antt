@@ -1,5 +1,5 @@
 -- The tokens of a line.
-use Rattle.std.specs.Prelude.{ℕ, ◌+◌, ◌-◌, ◌*◌, ◌<◌, ◌≤◌, Bool, true, false, not, ◌&&◌, ◌||◌, List, [], ◌∷◌, length, drop, ◌==◌, nat_lt, nat_le, if◌then◌else◌, Option, Some, None, option_map, ℤ, pos, neg_ℤ}
+use Rattle.std.specs.Prelude.{ℕ, ◌+◌, ◌-◌, ◌*◌, Bool, false, ◌&&◌, ◌||◌, List, [], ◌∷◌, ◌==◌, nat_lt, nat_le, if◌then◌else◌, Option, Some, None, option_map, ℤ, pos, neg_ℤ}
 use Rattle.std.specs.List.{list_all}
 use Rattle.ptk_asm_language.specs.Lines.{onto_first}
 

@@ -50,7 +50,7 @@ impl FaultKind {
 }
 
 /// Why a line is refused, and the bytes of the line at fault.
-#[derive(Clone, Copy, Debug, PartialEq, Eq)]
+#[derive(Clone, Copy, PartialEq, Eq)]
 pub struct LineFault {
     /// The first byte at fault, counted from the line's beginning.
     pub from: usize,

@@ -1,7 +1,7 @@
 #![tactic(auto)]
 
-//! The assembly language as definitions (lines, tokens, statements and their meaning, labels, faults in their order, the
-//! image of a source), and the code that reads one line of it.
+//! The assembly language as definitions (lines, tokens, statements and their meaning, labels, faults in their order,
+//! the image of a source), and the code that reads one line of it.
 //!
 //! - Definitions that the assembler's contracts cite: `source`, a grammar on the bytes of the text, and likewise the
 //!   bytes at fault (`Places`).
@@ -17,8 +17,8 @@
 //! The definitions are computed by structural recursion. The code shares nothing with them but the plain types:
 //! sections, forms, places of operands, tokens and faults; the functions without code in `rows` are the worked sources.
 //! Below are `ptk_words` (images) and `ptk_rv32i_code` (instructions); `ptk_asm`, `ptk_symbols` and `ptk_disasm` are
-//! above. Costly to prove are the pieces of a line (`Pieces`, `PlaceList`), which the definition joins from the back and
-//! the code scans from the front; that a number is kept at 2^40 at most, above every bound (`Magnitudes`); and the
+//! above. Costly to prove are the pieces of a line (`Pieces`, `PlaceList`), which the definition joins from the back
+//! and the code scans from the front; that a number is kept at 2^40 at most, above every bound (`Magnitudes`); and the
 //! tables of names (`mnemonics`, `registers`), one match a table.
 
 mod characters;

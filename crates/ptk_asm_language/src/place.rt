@@ -3,7 +3,7 @@
 use crate::statement::Section;
 
 /// A line: its number, counted from 1, and where it begins and ends in the source, without its line ending.
-#[derive(Clone, Copy, Debug, PartialEq, Eq)]
+#[derive(Clone, Copy, PartialEq, Eq)]
 pub struct Span {
     /// The number of the line, counted from 1.
     pub line: usize,
@@ -14,7 +14,7 @@ pub struct Span {
 }
 
 /// Bytes of a line.
-#[derive(Clone, Copy, Debug, PartialEq, Eq)]
+#[derive(Clone, Copy, PartialEq, Eq)]
 pub struct Extent {
     /// The first one, counted from the line's beginning.
     pub from: usize,
@@ -23,7 +23,7 @@ pub struct Extent {
 }
 
 /// A place in the image.
-#[derive(Clone, Copy, Debug, PartialEq, Eq)]
+#[derive(Clone, Copy, PartialEq, Eq)]
 pub struct Place {
     /// The section.
     pub section: Section,
@@ -32,7 +32,7 @@ pub struct Place {
 }
 
 /// How many bytes the sections take.
-#[derive(Clone, Copy, Debug, PartialEq, Eq)]
+#[derive(Clone, Copy, PartialEq, Eq)]
 pub struct Lengths {
     /// Bytes of the text.
     pub text: u32,

@@ -13,8 +13,9 @@ use crate::numbers::is_number;
 use crate::token::{Spanned, Token};
 use std::alloc::Global;
 
-/// The tokens of a line without its ending and its comment, each with its bytes in the line. The error is the first piece
-/// that is no token of the language (`Token`), with its bytes, those of a character outside it whole, or out of memory.
+/// The tokens of a line without its ending and its comment, each with its bytes in the line. The error is the first
+/// piece that is no token of the language (`Token`), with its bytes, those of a character outside it whole, or out of
+/// memory.
 #[tactic(auto, using(crate::proofs::TokenList::joined_none, crate::proofs::TokenList::spanned_push, crate::proofs::TokenList::spanned_stop, crate::proofs::TokenList::token_end, crate::proofs::PlaceList::place_rules))]
 pub fn tokens_of(alloc: Global, line: &[u8]) -> Result<Vec<Spanned<'_>>, LineFault>
     ensures ok { IfOk result (λ v. is.tokens_of line.now ≡ Some (views v.items)) }

@@ -1,5 +1,5 @@
 -- The tables after a change of one partition, and those made for each section.
-use Rattle.std.proofs.Common.{arith, ◌≡◌, ℕ, ◌<◌, zero, suc, List, [], ◌∷◌, length, map, refl, sym, ◌∙◌, ap}
+use Rattle.std.proofs.Common.{◌≡◌, ℕ, zero, suc, List, [], ◌∷◌, length, map, refl, ap}
 use Rattle.std.specs.Prelude.{Option, Some, None, option_map, unwrap_or, replicate}
 use Rattle.std.proofs.lemmas.List.{length-map, length-set}
 use Rattle.ptk_words.specs.Pools.{numbered, pool_set, pool_update}

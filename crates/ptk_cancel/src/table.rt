@@ -192,8 +192,8 @@ impl Cancellations {
         stacks::depth_in(self.cleanups.part(p), t)
     }
 
-    /// Puts a handler on top of the thread's; false, and nothing changes, where 16 are there (pthread_cleanup_push). Past
-    /// the last thread number nothing changes either, and it is true.
+    /// Puts a handler on top of the thread's; false, and nothing changes, where 16 are there (pthread_cleanup_push).
+    /// Past the last thread number nothing changes either, and it is true.
     #[tactic(auto, using(crate::proofs::Tables::tables))]
     pub fn push(&mut self, p: PartId, t: ThreadNo, cleanup: Cleanup) -> bool
         requires { p < length self.old.cancellations }

@@ -1,5 +1,5 @@
 -- The slots of all partitions, one partition's behind the other's, after a change of one partition's pairs.
-use Rattle.std.proofs.Common.{◌≡◌, ◌≢◌, ℕ, zero, suc, ◌+◌, ◌*◌, ◌-◌, ◌<◌, ◌≤◌, List, [], ◌∷◌, length, replicate, Bool, true, false, cond, refl, sym, ◌∙◌, ap, subst, arith, Option, Some, None, ◌⊎◌, inl, inr}
+use Rattle.std.proofs.Common.{◌≡◌, ℕ, zero, suc, ◌+◌, ◌*◌, ◌-◌, ◌<◌, ◌≤◌, List, [], ◌∷◌, length, replicate, refl, sym, ◌∙◌, ap, subst, arith, Option, Some, None, inl, inr}
 use Rattle.std.proofs.Common.{take, drop, ◌++◌}
 use Rattle.std.specs.Prelude.{slice_get, slice_set, slice_index_or, map, All}
 use Rattle.std.proofs.Math.Seq.{take-append_seam}

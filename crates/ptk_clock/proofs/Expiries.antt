@@ -9,8 +9,8 @@ use Rattle.ptk_words.specs.Names.{Tick}
 use Rattle.ptk_words.specs.Pools.{pool_get, is_in}
 use Rattle.ptk_words_model.specs.Withdrawal as withdrawal
 use Rattle.ptk_words_model.specs.Withdrawal.{Expiry}
-use Rattle.ptk_words_locks.specs.Expiries.{next_expiry, without_expiry, IsLeastDue, IsNoneDue, IsNextExpiry}
-use Rattle.ptk_words_locks.proofs.Expiries.{next_only}
+use Rattle.ptk_words_sync_invariant.specs.Expiries.{next_expiry, without_expiry, IsLeastDue, IsNoneDue, IsNextExpiry}
+use Rattle.ptk_words_sync_invariant.proofs.Expiries.{next_only}
 use Rattle.ptk_clock.specs.Pairs.{Pair, slots_of, is_before, IsBeforeAll, AreInOrder, IsLeast, is_due, least_due, without_taken}
 use Rattle.ptk_clock.specs.BySlot.{deadline_at, deadlines_from, expiry_from}
 use Rattle.ptk_clock.proofs.BySlot.{deadline_at-cons, own_slot, deadlines_from-without, deadlines_from-without_other}

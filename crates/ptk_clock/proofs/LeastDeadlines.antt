@@ -7,11 +7,11 @@ use Rattle.std.proofs.lemmas.Bool.Decides.{nat_tests}
 use Rattle.std.proofs.lemmas.Option.{none-some}
 use Rattle.ptk_words.specs.Names.{Tick}
 use Rattle.ptk_words.specs.Pools.{pool_get, pool_set, is_in}
-use Rattle.ptk_words_locks.specs.Expiries.{next_expiry, without_expiry}
-use Rattle.ptk_words_locks.specs.Deadlines.{without_deadlines}
-use Rattle.ptk_words_locks.proofs.Expiries.{next_only}
-use Rattle.ptk_words_locks.proofs.Pools.{free_own, get-set_other, length-pool_set}
-use Rattle.ptk_words_locks.proofs.DeadlineLists.{free_again}
+use Rattle.ptk_words_sync_invariant.specs.Expiries.{next_expiry, without_expiry}
+use Rattle.ptk_words_sync_invariant.specs.Deadlines.{without_deadlines}
+use Rattle.ptk_words_sync_invariant.proofs.Expiries.{next_only}
+use Rattle.ptk_words_sync_invariant.proofs.Pools.{free_own, get-set_other, length-pool_set}
+use Rattle.ptk_words_sync_invariant.proofs.DeadlineLists.{free_again}
 use Rattle.ptk_clock.specs.Pairs.{Pair, DeadlineTable, is_before, IsLeast, is_among, is_due, least_among, least_due, without_slot, without_taken}
 use Rattle.ptk_clock.specs.BySlot.{deadline_at, deadlines_from, expiry_from}
 use Rattle.ptk_clock.specs.ByThread.{earlier, least_deadline, is_reached, IsElsewhereSame}

@@ -2,7 +2,7 @@
 
 ghost use Rattle.std.specs.Prelude.{◌≡◌, ℕ, ◌+◌, ◌<◌, false, List, IfSome, option_map};
 ghost use Rattle.ptk_words.specs.Pools.{is_in};
-ghost use Rattle.ptk_words_locks.specs.Expiries.{next_expiry};
+ghost use Rattle.ptk_words_sync_invariant.specs.Expiries.{next_expiry};
 ghost use Rattle.ptk_clock.specs.BySlot.{deadlines_from, expiry_from};
 ghost use Rattle.ptk_clock.specs.Pairs.{Pair, slots_of, with_pair, without_slot, without_taken, is_due, is_among, least_due, least_among, IsLeast};
 
@@ -29,7 +29,8 @@ pub trait Deadlines {
         ensures slots { slots self.new ≡ slots self.old };
 
     /// Takes out the least pair among the slots from the first to the last whose deadline is at most now. None, and
-    /// nothing changes, where none is due. Where the slots are those of a partition's n threads, it is their next expiry.
+    /// nothing changes, where none is due. Where the slots are those of a partition's n threads, it is their next
+    /// expiry.
     fn take_due(&mut self, first: SlotNo, last: SlotNo, now: Tick) -> Option<(Tick, SlotNo)>
         ensures taken { result ≡ least_due first last now (pairs self.old) }
         ensures least { IfSome result (IsLeast (is_due first last now) (pairs self.old)) }

@@ -2,7 +2,7 @@
 
 ghost use Rattle.std.specs.Prelude.{◌≡◌, ℕ, ◌+◌, ◌-◌, ◌<◌, ◌≤◌, ◌^◌, ◌⊎◌, false, List, [], length, replicate, Some, None, option_map, slice_set};
 ghost use Rattle.ptk_words.specs.Pools.{pool_get, is_in};
-ghost use Rattle.ptk_words_locks.specs.Expiries.{next_expiry, without_expiry};
+ghost use Rattle.ptk_words_sync_invariant.specs.Expiries.{next_expiry, without_expiry};
 ghost use Rattle.ptk_clock.specs.Pairs.{Pair, slots_of, AreInOrder, with_pair, without_slot, without_taken, least_due};
 ghost use Rattle.ptk_clock.specs.BySlot.{deadlines_from, expiry_from};
 ghost use Rattle.ptk_clock.specs.Ticks.{tick_of, seconds_of_words, tick_of_words};

@@ -18,8 +18,8 @@
 //! through it once. All have room for all slots from the start, so that no call but a constructor takes memory. Costly
 //! to prove are that room, that a place found is the pair's place in the order, and that one partition's change leaves
 //! the others' deadlines (`proofs/Rooms`, `proofs/Places`, `proofs/ByThread`). Below are `ptk_words`,
-//! `ptk_words_parted`, and the order of expiries of `ptk_words_model` and `ptk_words_locks`; above are the gate's
-//! tables.
+//! `ptk_words_parted`, and the order of expiries of `ptk_words_model` and `ptk_words_sync_invariant`; above are the
+//! gate's tables.
 
 mod deadlines;
 mod laws;

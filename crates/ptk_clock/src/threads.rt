@@ -3,8 +3,8 @@
 ghost use Rattle.std.specs.Prelude.{◌≡◌, ℕ, ◌+◌, ◌-◌, ◌<◌, ◌≤◌, List, [], length, map, All, IfOk, Some, None, option_map, slice_get, slice_set, suc};
 ghost use Rattle.ptk_words.specs.Pools.{pool_set};
 ghost use Rattle.ptk_words_parted.specs.Parts.{part_of, filled};
-ghost use Rattle.ptk_words_locks.specs.Deadlines.{without_deadlines};
-ghost use Rattle.ptk_words_locks.specs.Expiries.{next_expiry, without_expiry};
+ghost use Rattle.ptk_words_sync_invariant.specs.Deadlines.{without_deadlines};
+ghost use Rattle.ptk_words_sync_invariant.specs.Expiries.{next_expiry, without_expiry};
 ghost use Rattle.ptk_words_parted.specs.Sets.{IsSetOf};
 ghost use Rattle.ptk_clock.specs.BySlot.{deadlines_from};
 ghost use Rattle.ptk_clock.specs.ByThread.{least_deadline, is_reached, first_slot, laid_from, end_from, AreLaid, IsElsewhereSame, with_least};
@@ -210,8 +210,8 @@ fn end_in(queue: &mut SharedDeadlines, slots: PartitionSlots, threads: ThreadSet
     }
 }
 
-/// Ends the first due deadline of a partition's slots, and returns whose it was; None, and nothing changes, where none is
-/// due.
+/// Ends the first due deadline of a partition's slots, and returns whose it was; None, and nothing changes, where none
+/// is due.
 fn take_in(queue: &mut SharedDeadlines, slots: PartitionSlots, now: Tick) -> Option<ThreadNo>
     requires within { slots.first + slots.count ≤ 256 }
     requires threads { slots.count ≤ 32 }

@@ -28,8 +28,8 @@ const HELLO_IMAGE: [u8; 60] = [
     0x93, 0x08, 0x00, 0x00, 0x13, 0x05, 0x00, 0x00, 0x73, 0x00, 0x00, 0x00,
 ];
 
-/// Statements of one word each, all instructions among them, with the words of the manual's listing (RISC-V 24, 25), put
-/// together field by field; LLVM's assembler gives the same.
+/// Statements of one word each, all instructions among them, with the words of the manual's listing (RISC-V 24, 25),
+/// put together field by field; LLVM's assembler gives the same.
 const STATEMENTS: [(&str, u32); 47] = [
     ("addi a0, a1, -2048", 0x8005_8513),
     ("slti t0, t1, 2047", 0x7ff3_2293),

@@ -6,8 +6,8 @@ use ptk_disasm::{DisasmFault, assembled_again, disassemble};
 use ptk_image::{Image, write_image};
 use std::test::Fail;
 
-/// The entry in the text, a jump back, a word that is no instruction, data that is no whole word, and zeros. The words are
-/// put together field by field (RISC-V 2.3).
+/// The entry in the text, a jump back, a word that is no instruction, data that is no whole word, and zeros. The words
+/// are put together field by field (RISC-V 2.3).
 const TEXT: &str = "li a0, -1 # 00000000 fff00513
 _start:
 beq a0, a1, -4 # 00000004 feb50ee3 -> 00000000
@@ -42,8 +42,8 @@ fn no_text_has_a_longer_section(rt: HostRuntime) {
     assert_eq!(rt; refusal, Some(DisasmFault::TooLong(Section::Bss)));
 }
 
-// Memory is ample here; where it is refused (`rt try --test --fail-alloc N`), the call says so and succeeds as it is asked
-// again.
+// Memory is ample here; where it is refused (`rt try --test --fail-alloc N`), the call says so and succeeds as it is
+// asked again.
 #[test]
 fn a_text_is_refused_memory_alone(rt: HostRuntime) {
     let image = Image::new(0, Vec::new(rt.alloc()), Vec::new(rt.alloc()), 3);

@@ -72,7 +72,8 @@ const LOADS: [Row; 7] = [
     (0x0000_d183, 16, 0, 0xff80, 68), // lhu x3, 0(x1)
 ];
 
-/// The word at address 16 after a store of 0x12345678 in x2, from 0x017fff80: the word of the store, x1, what is wanted.
+/// The word at address 16 after a store of 0x12345678 in x2, from 0x017fff80: the word of the store, x1, what is
+/// wanted.
 const STORES: [(u32, u32, u32); 5] = [
     (0x0020_8023, 16, 0x017f_ff78), // sb x2, 0(x1)
     (0x8020_8023, 2065, 0x017f_7880), // sb x2, -2048(x1)

@@ -1,5 +1,5 @@
-//! Symbol tables: which symbol an address is shown by, which lines are none, and the labels of a source. What is wanted was
-//! worked out by hand.
+//! Symbol tables: which symbol an address is shown by, which lines are none, and the labels of a source. What is wanted
+//! was worked out by hand.
 
 use ptk_asm::label_table;
 use ptk_symbols::{SymbolFault, read_symbols};

@@ -13,7 +13,7 @@ use Rattle.ptk_threads.specs.Table.{ThreadTable, with_changed, with_wait}
 use Rattle.ptk_threads.proofs.Pools.{part_of-set}
 use Rattle.ptk_threads.proofs.Slots.{length-pool_changed}
 use Rattle.ptk_mutex.specs.Tables.{with_threads}
-use Rattle.ptk_words_locks.proofs.MutexPlaces.{pool_set_same}
+use Rattle.ptk_words_sync_invariant.proofs.MutexPlaces.{pool_set_same}
 
 -- ---- a thread that waits for no mutex, before and after
 

@@ -1,15 +1,13 @@
 -- A thread that is told to be blocked is where its wait puts it.
 use Rattle.std.proofs.Common.{◌≡◌, ℕ, ◌<◌, ◌≤◌, List, refl, sym, ◌∙◌, ap, true, false}
-use Rattle.std.specs.Prelude.{Bool, not, ◌&&◌, Option, Some, None, option_and_then}
+use Rattle.std.specs.Prelude.{Bool, not, ◌&&◌, Option, Some, None}
 use Rattle.ptk_words.specs.Pools.{is_in}
-use Rattle.ptk_words.specs.declared.threads.Thread.{Thread}
 use Rattle.ptk_words.specs.declared.threads.Wait.{Wait}
 use Rattle.ptk_words_model.specs.State.{Syncs}
-use Rattle.ptk_words_model.specs.Priority.{awaited, mutex_of_wait, thread_at}
-use Rattle.ptk_words_model.specs.Mutex.{mutex_at, wait_of, waiters_of}
-use Rattle.ptk_words_model.specs.Condition.{condition_waiters}
-use Rattle.ptk_words_locks.specs.Conditions.{condition_of_wait}
-use Rattle.ptk_roster.specs.Rosters.{Rostered}
+use Rattle.ptk_words_model.specs.Priority.{mutex_of_wait, thread_at}
+use Rattle.ptk_words_model.specs.Mutex.{wait_of}
+use Rattle.ptk_words_sync_invariant.specs.Conditions.{condition_of_wait}
+use Rattle.ptk_syncs.specs.Rosters.{Rostered}
 use Rattle.ptk_words_parted.specs.Sets.{has, IsSetOf}
 use Rattle.ptk_mutex.specs.Sound.{syncs_at}
 use Rattle.ptk_cond.specs.Timeouts.{IsBlocked, is_out, is_queued, is_listed, is_blocked_in}

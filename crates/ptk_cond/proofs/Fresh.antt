@@ -1,20 +1,19 @@
 -- That tables stay as the calls need them where the number of a condition variable is taken or freed.
-use Rattle.std.proofs.Common.{◌≡◌, ℕ, ◌<◌, List, [], length, map, refl, sym, ◌∙◌, ap, subst, true}
+use Rattle.std.proofs.Common.{◌≡◌, ℕ, ◌<◌, List, [], length, refl, sym, ◌∙◌, ap, subst, true}
 use Rattle.std.specs.Prelude.{Option, Some, None, option_map, unwrap_or}
 use Rattle.std.proofs.Math.ListN.{set}
-use Rattle.std.proofs.lemmas.List.{length-set, length-map}
-use Rattle.std.specs.Prelude.{slice_index}
+use Rattle.std.proofs.lemmas.List.{length-set}
 use Rattle.ptk_words.specs.Pools.{pool_get, pool_set, is_in, least_free}
-use Rattle.ptk_words_parted.specs.Parts.{part_of, filled}
+use Rattle.ptk_words_parted.specs.Parts.{part_of}
 use Rattle.ptk_words_parted.proofs.Cuts.{set_part-same}
 use Rattle.ptk_words_model.specs.State.{Condition, Locks, Mutex}
 use Rattle.ptk_words_model.specs.Condition.{waiters_on}
 use Rattle.ptk_threads.specs.Table.{ThreadTable}
 use Rattle.ptk_threads.proofs.Pools.{part_of-set}
-use Rattle.ptk_roster.specs.Rosters.{Rostered}
-use Rattle.ptk_roster.specs.Waiters.{condition_of}
+use Rattle.ptk_syncs.specs.Rosters.{Rostered}
+use Rattle.ptk_syncs.specs.Waiters.{condition_of}
 use Rattle.ptk_mutex.proofs.Pool.{least_free_is}
-use Rattle.ptk_words_locks.proofs.MutexPlaces.{pool_set_same}
+use Rattle.ptk_words_sync_invariant.proofs.MutexPlaces.{pool_set_same}
 use Rattle.ptk_mutex.specs.Sound.{IsSound}
 use Rattle.ptk_mutex.proofs.Sound.{of_part, AreSyncedAt, sound_moved}
 use Rattle.ptk_mutex.proofs.Steps.{AreMoved, moved_none}

@@ -1,6 +1,6 @@
 -- What the calls need of the roster, what it is after a move of one partition, and several moves one after the other.
 use Rattle.std.specs.Fn.{iterate}
-use Rattle.std.proofs.Common.{◌≡◌, ℕ, suc, ◌<◌, List, [], ◌∷◌, ◌++◌, length, refl, sym, ◌∙◌, ap, subst, arith, true, false}
+use Rattle.std.proofs.Common.{◌≡◌, ℕ, suc, ◌<◌, List, [], ◌∷◌, ◌++◌, length, refl, sym, ◌∙◌, ap, subst, true}
 use Rattle.std.specs.Prelude.{Option, Some, None, IsSome, option_to_list}
 use Rattle.std.proofs.Math.ListN.{set}
 use Rattle.std.proofs.lemmas.List.{length-set, set-set, set-get_or}
@@ -14,16 +14,16 @@ use Rattle.ptk_words_model.specs.Priority.{awaited, mutex_of_wait, thread_at}
 use Rattle.ptk_words_model.specs.Schedule.{with_thread}
 use Rattle.ptk_words_model.specs.Mutex.{wait_of, after_unlock, after_relock}
 use Rattle.ptk_words_model.specs.Condition.{condition_waiters, mutex_of_condition_wait, after_condition_wait, after_unblock_for, after_signal, waiters_on}
-use Rattle.ptk_words_locks.specs.Conditions.{HasRoom, IsNoWaiter}
-use Rattle.ptk_words_locks.proofs.Gathered.{waiter_used}
+use Rattle.ptk_words_sync_invariant.specs.Conditions.{HasRoom, IsNoWaiter}
+use Rattle.ptk_words_sync_invariant.proofs.Gathered.{waiter_used}
 use Rattle.ptk_threads.specs.Table.{ThreadTable, stored_of, with_changed, with_wait}
 use Rattle.ptk_threads.proofs.Pools.{pool_get-changed, pool_changed-changed, part_of-set}
 use Rattle.ptk_words_parted.specs.Sets.{IsSetOf}
-use Rattle.ptk_roster.specs.Rosters.{Rostered}
-use Rattle.ptk_roster.specs.Waiters.{condition_of}
+use Rattle.ptk_syncs.specs.Rosters.{Rostered}
+use Rattle.ptk_syncs.specs.Waiters.{condition_of}
 use Rattle.ptk_mutex.specs.Tables.{locks_at, with_threads, HasPart, MayWait, AreLocked, AreReady}
 use Rattle.ptk_mutex.proofs.Moved.{stays}
-use Rattle.ptk_mutex.proofs.Steps.{AreMoved, moved_none, moved_locks, moved_ready, moved_more}
+use Rattle.ptk_mutex.proofs.Steps.{AreMoved, moved_locks, moved_ready, moved_more}
 use Rattle.ptk_mutex.proofs.Apart.{calm_unlock, may_relock}
 use Rattle.ptk_mutex.proofs.Awake.{awake_none, awake_free}
 pub use Rattle.ptk_mutex.proofs.Sound.{of_part, AreSyncedAt, AreSyncsMoved, syncs_moved, moved_synced, sound_moved}

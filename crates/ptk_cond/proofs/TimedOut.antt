@@ -15,10 +15,10 @@ use Rattle.ptk_words_model.specs.Priority.{thread_at, awaited, mutex_of_wait, ef
 use Rattle.ptk_words_model.specs.Schedule.{woken_with, after_wake}
 use Rattle.ptk_words_model.specs.Mutex.{mutex_at, wait_of, waiters_of}
 use Rattle.ptk_words_model.specs.Condition.{condition_waiters}
-use Rattle.ptk_words_locks.specs.Conditions.{condition_of_wait, IsNoWaiter}
-use Rattle.ptk_words_locks.proofs.Threads.{none_awaits}
+use Rattle.ptk_words_sync_invariant.specs.Conditions.{condition_of_wait, IsNoWaiter}
+use Rattle.ptk_words_sync_invariant.proofs.Threads.{none_awaits}
 use Rattle.ptk_threads.specs.Table.{ThreadTable, thread_in, with_changed}
-use Rattle.ptk_roster.specs.Rosters.{Rostered}
+use Rattle.ptk_syncs.specs.Rosters.{Rostered}
 use Rattle.ptk_mutex.specs.Tables.{with_threads, AreLocked, AreReady, IsWaiter}
 use Rattle.ptk_mutex.specs.Sound.{IsSound}
 use Rattle.ptk_mutex.proofs.Apart.{apart_woken, other_waiter, waiting_kept}

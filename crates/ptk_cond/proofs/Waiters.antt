@@ -1,5 +1,5 @@
 -- That waiters still wait after a wait and after one was unblocked, and whom a signal chooses.
-use Rattle.std.proofs.Common.{◌≡◌, ◌≢◌, ℕ, zero, suc, Bool, List, [], ◌∷◌, ◌++◌, refl, sym, ◌∙◌, ap, subst, true, false, ◌⊎◌, inl, inr}
+use Rattle.std.proofs.Common.{◌≡◌, ◌≢◌, ℕ, zero, suc, List, [], ◌∷◌, ◌++◌, refl, sym, ◌∙◌, ap, subst, true, ◌⊎◌, inl, inr}
 use Rattle.std.specs.Prelude.{Option, Some, None, IsSome, option_map, slice_get}
 use Rattle.std.specs.Option.{option_flatten}
 use Rattle.std.proofs.Math.ListN.{set}
@@ -9,18 +9,16 @@ use Rattle.ptk_words.specs.declared.threads.Thread.{Thread}
 use Rattle.ptk_words.specs.declared.threads.Wait.{Wait}
 use Rattle.ptk_words.specs.declared.threads.Wait.TheVariants.{ConditionWait}
 use Rattle.ptk_words_model.specs.State.{Condition, Locks, Syncs}
-use Rattle.ptk_words_model.specs.Priority.{awaited, mutex_of_wait, thread_at, effective_priority, effective_priorities}
+use Rattle.ptk_words_model.specs.Priority.{awaited, thread_at, effective_priority, effective_priorities}
 use Rattle.ptk_words_model.specs.Schedule.{with_thread}
-use Rattle.ptk_words_model.specs.Mutex.{mutex_at, wait_of, waiters_of, after_unlock, after_relock}
+use Rattle.ptk_words_model.specs.Mutex.{mutex_at, wait_of, after_unlock, after_relock}
 use Rattle.ptk_words_model.specs.Condition.{condition_waiters, mutex_of_condition_wait, after_condition_wait, after_unblock_for, waiters_on}
-use Rattle.ptk_words_locks.specs.Conditions.{condition_of_wait, HasRoom, IsNoWaiter}
-use Rattle.ptk_words_locks.proofs.Lines.{in_push, in_without, first_in}
-use Rattle.ptk_words_locks.proofs.Threads.{idle_awaits, none_awaits}
-use Rattle.ptk_words_locks.proofs.Conditions.{condition_wait}
+use Rattle.ptk_words_sync_invariant.specs.Conditions.{condition_of_wait, HasRoom}
+use Rattle.ptk_words_sync_invariant.proofs.Lines.{in_push, in_without, first_in}
 use Rattle.ptk_threads.specs.Table.{stored_of}
 use Rattle.ptk_threads.proofs.Pools.{pool_get-changed, pool_get-changed_other, pool_get-set_other}
-use Rattle.ptk_roster.specs.Waiters.{condition_of}
-use Rattle.ptk_mutex.specs.Tables.{AreLocked, MayWait}
+use Rattle.ptk_syncs.specs.Waiters.{condition_of}
+use Rattle.ptk_mutex.specs.Tables.{AreLocked}
 use Rattle.ptk_mutex.proofs.Locked.{stored_first, some_same, other_than}
 use Rattle.ptk_mutex.proofs.Apart.{calm_unlock, below_unlock, apart_more, apart_thread, apart_unlock, apart_relock, kept_waiter, may_relock}
 use Rattle.ptk_mutex.proofs.Awake.{awake_none, awake_other}

@@ -11,7 +11,7 @@ use Rattle.ptk_words_model.specs.Priority.{awaited, mutex_of_wait, thread_at}
 use Rattle.ptk_words_model.specs.Schedule.{after_wake}
 use Rattle.ptk_words_model.specs.Mutex.{mutex_at, wait_of, waiters_of}
 use Rattle.ptk_words_model.specs.Condition.{condition_waiters, after_unblock}
-use Rattle.ptk_words_locks.specs.Conditions.{condition_of_wait}
+use Rattle.ptk_words_sync_invariant.specs.Conditions.{condition_of_wait}
 use Rattle.ptk_mutex.specs.Moves.{after_withdrawal}
 
 -- the deadline of a wait comes, as `after_timeout` has it, of what it reads and changes (clock_nanosleep, pthread_mutex_timedlock, pthread_cond_timedwait)

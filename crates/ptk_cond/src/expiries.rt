@@ -7,7 +7,7 @@ ghost use Rattle.ptk_words_parted.specs.Parts.{part_of};
 ghost use Rattle.ptk_words_model.specs.Schedule.{woken_with};
 ghost use Rattle.ptk_words_model.specs.Mutex.{wait_of};
 ghost use Rattle.ptk_threads.specs.Table.{thread_in, with_changed};
-ghost use Rattle.ptk_words_locks.specs.Conditions.{condition_of_wait, IsNoWaiter};
+ghost use Rattle.ptk_words_sync_invariant.specs.Conditions.{condition_of_wait, IsNoWaiter};
 ghost use Rattle.ptk_mutex.specs.Visits.{IsVisited};
 ghost use Rattle.ptk_mutex.specs.Sound.{IsSound};
 ghost use Rattle.ptk_mutex.specs.Tables.{with_threads};
@@ -17,7 +17,7 @@ ghost use Rattle.ptk_cond.specs.Timeouts.{after_sync_timeout, mutex_locked, is_o
 use crate::kinds::{condition_awaited, is_sleep, mutex_awaited, mutex_locked};
 use crate::signals::withdraw;
 use ptk_mutex::Mutexes;
-use ptk_roster::Roster;
+use ptk_syncs::Roster;
 use ptk_words::{ConditionNo, Errno, MutexNo, PartId, ThreadNo, Wait};
 use ptk_words_parted::ThreadSet;
 
@@ -51,8 +51,8 @@ pub fn time_out(roster: &mut Roster, mutexes: &mut Mutexes, p: PartId, t: Thread
     }
 }
 
-/// Whether a thread that waits is where its wait puts it, as `time_out` asks: out of the line, and among the waiters of the
-/// mutex or the condition variable that it waits for; true of a thread that waits for nothing.
+/// Whether a thread that waits is where its wait puts it, as `time_out` asks: out of the line, and among the waiters of
+/// the mutex or the condition variable that it waits for; true of a thread that waits for nothing.
 #[tactic(auto, using(crate::proofs::Blocked::blocked))]
 pub fn is_blocked(roster: &Roster, p: PartId, t: ThreadNo) -> bool
     requires { p < length roster.now.table.threads }

@@ -2,7 +2,7 @@
 
 ghost use Rattle.std.specs.Prelude.{◌≡◌};
 ghost use Rattle.ptk_words_model.specs.Priority.{mutex_of_wait};
-ghost use Rattle.ptk_words_locks.specs.Conditions.{condition_of_wait};
+ghost use Rattle.ptk_words_sync_invariant.specs.Conditions.{condition_of_wait};
 ghost use Rattle.ptk_cond.specs.Timeouts.{is_sleep, mutex_locked};
 
 use ptk_words::{ConditionNo, MutexNo, Wait};

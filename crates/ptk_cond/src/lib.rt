@@ -18,8 +18,8 @@
 //! mutex calls need, and waiters that wait, from which it follows that a thread that waits for nothing is among no
 //! waiters. No call takes memory. Costly to prove is that waiters still wait after one of them was unblocked
 //! (`proofs/Waiters`), and that waking a sleeper leaves every effective priority as it was (`proofs/Priorities`). Below
-//! are `ptk_mutex`, `ptk_roster`, which has the waiters as linked queues, and `ptk_words_locks`, which says what a wait
-//! on a condition variable is; above are the pools of `ptk_gate_pools`.
+//! are `ptk_mutex`, `ptk_syncs`, which has the waiters as linked queues, and `ptk_words_sync_invariant`, which says
+//! what a wait on a condition variable is; above are the pools of `ptk_gate_pools`.
 
 mod conditions;
 mod expiries;

@@ -15,13 +15,13 @@ ghost use Rattle.ptk_cond.specs.Visits.{IsVisitedBySignal};
 
 use crate::naming::mutex_of_condition_wait;
 use ptk_mutex::Mutexes;
-use ptk_roster::Roster;
+use ptk_syncs::Roster;
 use ptk_words::{ConditionNo, MutexNo, PartId, ThreadNo};
 use ptk_words_parted::ThreadSet;
 
 /// The waiter of greatest effective priority, the earliest among equals, is unblocked: it re-locks the mutex that it
-/// named, with reply 0 (pthread_cond_signal). Nothing changes without waiters. Returns the set of threads whose condition
-/// waits this ended, one at most.
+/// named, with reply 0 (pthread_cond_signal). Nothing changes without waiters. Returns the set of threads whose
+/// condition waits this ended, one at most.
 #[tactic(auto, using(crate::proofs::Steps::steps, crate::proofs::Steps::woken_next))]
 pub fn signal(roster: &mut Roster, mutexes: &mut Mutexes, p: PartId, c: ConditionNo) -> ThreadSet
     requires ready { AreSynced p roster.old.table roster.old.lines roster.old.mutexes roster.old.conditions }

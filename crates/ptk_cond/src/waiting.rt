@@ -4,20 +4,20 @@ ghost use Rattle.std.specs.Prelude.{◌≡◌, IsSome, slice_set};
 ghost use Rattle.ptk_words.specs.Pools.{pool_get};
 ghost use Rattle.ptk_words_parted.specs.Parts.{part_of};
 ghost use Rattle.ptk_words_model.specs.Condition.{after_condition_wait};
-ghost use Rattle.ptk_words_locks.specs.Deadlines.{woken_by_unlock};
+ghost use Rattle.ptk_words_sync_invariant.specs.Deadlines.{woken_by_unlock};
 ghost use Rattle.ptk_words_parted.specs.Sets.{IsSetOf};
 ghost use Rattle.ptk_mutex.specs.Sound.{IsSound};
 ghost use Rattle.ptk_mutex.specs.Tables.{locks_at, with_threads};
 ghost use Rattle.ptk_cond.specs.Tables.{syncs_at, AreSynced, IsAwake};
 
 use ptk_mutex::Mutexes;
-use ptk_roster::Roster;
+use ptk_syncs::Roster;
 use ptk_words::{ConditionNo, MutexNo, PartId, ThreadNo, Tick, Wait};
 use ptk_words_parted::ThreadSet;
 
 /// A thread that waits for nothing unlocks the mutex once, as unlock does, and is then the last waiter of the condition
-/// variable, until the deadline (a tick) if there is one (pthread_cond_wait, pthread_cond_timedwait). Returns the set of
-/// threads that the unlock woke.
+/// variable, until the deadline (a tick) if there is one (pthread_cond_wait, pthread_cond_timedwait). Returns the set
+/// of threads that the unlock woke.
 #[tactic(auto, using(crate::proofs::Steps::waits))]
 pub fn wait(
     roster: &mut Roster,

@@ -1,5 +1,5 @@
 -- A document's stages are in order, so no fault of theirs is one of their numbers.
-use Rattle.std.proofs.Common.{◌≡◌, ◌≢◌, ◌<◌, ◌≤◌, ℕ, ◌+◌, suc, Bool, true, false, ◌&&◌, cond, not, leb, codes, List, [], ◌∷◌, ◌++◌, Option, Some, None, Ok, Err, ℤ, pos, negsuc, All, AllPairs, get_or, refl, subst, arith}
+use Rattle.std.proofs.Common.{◌≡◌, ◌<◌, ◌≤◌, ℕ, ◌+◌, suc, Bool, true, false, ◌&&◌, cond, not, leb, codes, List, [], ◌∷◌, ◌++◌, Option, Some, None, Ok, Err, ℤ, pos, negsuc, All, AllPairs, get_or, refl, subst, arith}
 use Rattle.std.specs.Option.{option_or}
 use Rattle.std.specs.List.{list_any}
 use Rattle.std.proofs.lemmas.Bool.{or_from, and_from, and_parts, leb-true, not_from_false, lt-leb}
@@ -10,11 +10,11 @@ use Rattle.ptk_words_windows.specs.declared.fault.WindowFault.{WindowFault}
 use Rattle.ptk_words_windows.specs.declared.fault.WindowFault.TheVariants.{Empty, Short, Overlap, PastFrame, UnknownPartition, Memory, OutOfOrder}
 use Rattle.ptk_words_windows.specs.declared.window.Window.{Window}
 use Rattle.ptk_words_windows.specs.Windows.{Stage}
-use Rattle.ptk_words_windows.specs.WindowFaults.{some_pair, first_fault, fault_of, are_overlapping, window_fault, begins_with_zero, is_not_later, is_ordered, plan_fault}
+use Rattle.ptk_words_windows.specs.WindowFaults.{some_pair, first_fault, fault_of, window_fault, begins_with_zero, is_not_later, is_ordered, plan_fault}
 use Rattle.toml.specs.Data.{Data, Items, no_items, item, Members, as_integer}
 use Rattle.ptk_config.specs.declared.fault.ConfigFault.{ConfigFault}
 use Rattle.ptk_config.specs.declared.fault.ConfigFault.TheVariants.{WrongType, OutOfRange, UnknownKey}
-use Rattle.ptk_config.specs.Reading.{Checked, ◌>>=◌, or_fault, tested, within, integer, members, required, number, array, counted, items, each_after, only}
+use Rattle.ptk_config.specs.Reading.{Checked, ◌>>=◌, or_fault, tested, within, integer, members, required, number, array, counted, items, each_after}
 use Rattle.ptk_config.specs.Sections.{Section}
 use Rattle.ptk_config.specs.Windows.{AreLater, last_from, stage, stage_in, stages_of, windows_in}
 use Rattle.ptk_config.proofs.Stages.{AreInOrder, AreInOrder-nil, AreInOrder-push, AreLater-end, AreLater-nil, last_from-push}

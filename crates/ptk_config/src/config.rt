@@ -13,7 +13,6 @@ use std::marker::Model;
 use toml::{Table, Value};
 
 /// The sections, by number, and the plan of their windows.
-#[derive(Debug)]
 pub struct Config {
     sections: Vec<Section>,
     plan: WindowPlan,
@@ -84,8 +83,10 @@ impl Config {
         &self.plan
     }
 
-    /// Makes the trace of a partition keep this many of its last entries, at most 1048576; the key `trace` of a document is 0 to
-    /// 1024. All else stays: it is the same run, and its trace has the last entries of that run (`deeper_trace_is_same_run`
+    /// Makes the trace of a partition keep this many of its last entries, at most 1048576; the key `trace` of a
+    /// document is 0 to
+    /// 1024. All else stays: it is the same run, and its trace has the last entries of that run
+    ///       (`deeper_trace_is_same_run`
     /// of `ptk_impact`).
     pub fn keep_trace(&mut self, p: PartId, entries: u32)
         requires place { p < length self.old.sections }

@@ -16,7 +16,7 @@ use std::marker::Model;
 use toml::{Table, Value};
 
 /// The bytes that come in at a tick.
-#[derive(Debug, Drop)]
+#[derive(Drop)]
 pub(crate) struct Input {
     tick: u64,
     bytes: Vec<u8>,

@@ -18,7 +18,6 @@ use std::marker::Model;
 use toml::{Table, Value};
 
 /// What a partition is made from.
-#[derive(Debug)]
 pub struct Section {
     name: String,
     image: Option<String>,

@@ -19,7 +19,7 @@ use toml::{Table, Value};
 const LAST_FROM: u64 = 68_719_476_736;
 
 /// Windows that hold from the frame of this number on.
-#[derive(Debug, Drop)]
+#[derive(Drop)]
 pub struct Stage {
     from: u64,
     windows: Vec<Window>,

@@ -9,7 +9,7 @@ use ptk_config::ConfigFault;
 use std::alloc::AllocError;
 
 /// A key of the configuration.
-#[derive(Clone, Copy, Debug, PartialEq, Eq)]
+#[derive(Clone, Copy, PartialEq, Eq)]
 pub enum Key {
     /// How many ticks a frame has.
     Frame,
@@ -90,7 +90,7 @@ impl Key {
 }
 
 /// A table of the configuration. Numbers count from 1.
-#[derive(Clone, Copy, Debug, PartialEq, Eq)]
+#[derive(Clone, Copy, PartialEq, Eq)]
 pub enum TablePlace {
     /// The document's.
     Top,
@@ -105,7 +105,7 @@ pub enum TablePlace {
 }
 
 /// Where in the configuration a fault is. Numbers count from 1.
-#[derive(Clone, Copy, Debug, PartialEq, Eq)]
+#[derive(Clone, Copy, PartialEq, Eq)]
 pub enum Place {
     /// The text, which is no document.
     Text,
@@ -118,7 +118,7 @@ pub enum Place {
 }
 
 /// The first fault of a configuration with its place.
-#[derive(Clone, Copy, Debug, PartialEq, Eq)]
+#[derive(Clone, Copy, PartialEq, Eq)]
 pub struct Refusal {
     /// Where it is.
     pub place: Place,

@@ -96,7 +96,7 @@ fn walk_bytes(table: TablePlace, values: &[Value]) -> Result<(), Refusal>
 }
 
 /// The inputs so far in sum: the tick of the last, 0 where there is none, and how many bytes they have.
-#[derive(Clone, Copy, Debug)]
+#[derive(Clone, Copy)]
 pub(crate) struct InputsBefore {
     last: u64,
     count: usize,

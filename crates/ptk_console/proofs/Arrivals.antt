@@ -1,13 +1,12 @@
 -- Taking input bytes one by one, in place of all that come at a tick: what a loop over `next_arrival` keeps.
-use Rattle.std.proofs.Common.{◌≡◌, ◌∙◌, ◌+◌, ℕ, Bool, true, false, List, [], ◌∷◌, length, length-append, take, drop, refl, sym, ap, arith, cond, Option, Some, None}
-use Rattle.std.specs.Prelude.{option_map, slice_get}
+use Rattle.std.proofs.Common.{◌≡◌, ◌∙◌, ◌+◌, ℕ, Bool, true, false, List, [], ◌∷◌, length, length-append, take, drop, refl, sym, ap, cond}
 use Rattle.std.specs.List.{take_while}
 use Rattle.std.proofs.lemmas.List.{drop-drop, take-append-drop}
 use Rattle.std.proofs.lemmas.List.Sums.{take_while-cons}
 use Rattle.ptk_words.specs.declared.sections.Arrival.{Arrival}
 use Rattle.ptk_words_model.specs.State.{Console}
 use Rattle.ptk_words_model.specs.Console.{arriving, is_due_at, without_arriving}
-use Rattle.ptk_console.specs.ConsoleTable.{next_byte, without_next}
+use Rattle.ptk_console.specs.ConsoleTable.{without_next}
 
 -- the elements that pass, by the first of them
 passing_rest : (p : Arrival → Bool) (xs : List Arrival) → take_while p (drop (length (take 1 (take_while p xs))) xs) ≡ drop 1 (take_while p xs)

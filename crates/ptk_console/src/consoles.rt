@@ -82,8 +82,8 @@ impl Consoles {
         self.items[p.index()].is_due(tick)
     }
 
-    /// Puts the partition's next input byte into its ring, or loses and counts it where the ring is full, if it comes at
-    /// the tick or before; false where none does.
+    /// Puts the partition's next input byte into its ring, or loses and counts it where the ring is full, if it comes
+    /// at the tick or before; false where none does.
     pub fn arrive(&mut self, p: PartId, tick: Tick) -> bool
         requires { p < length self.old.consoles }
         ensures told { result ≡ is_some (next_byte tick (console_at self.old p)) }

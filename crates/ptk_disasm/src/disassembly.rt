@@ -60,11 +60,11 @@ fn sections_fit(image: &Image) -> Result<(), DisasmFault>
     Ok(())
 }
 
-/// The source of an image, of which `assemble` makes that image again (clause `same`, by the assembler's own definition).
-/// A line for each word of the text, `_start:` at the entry, the data as words and up to three bytes, the zeros as one
-/// `.space`. A word that is no instruction, or that no statement has, is `.word`. A comment behind each line has its
-/// address; for a word of the text also the word, and the address that a branch or a jump goes to.
-/// The error is the first section of text, data and bss that is longer than 1,048,576 bytes, or `Memory` where memory runs
+/// The source of an image, of which `assemble` makes that image again (clause `same`, by the assembler's own
+/// definition). A line for each word of the text, `_start:` at the entry, the data as words and up to three bytes, the
+/// zeros as one `.space`. A word that is no instruction, or that no statement has, is `.word`. A comment behind each
+/// line has its address; for a word of the text also the word, and the address that a branch or a jump goes to. The
+/// error is the first section of text, data and bss that is longer than 1,048,576 bytes, or `Memory` where memory runs
 /// out, which comes only where all of them fit.
 pub fn disassemble(alloc: Global, image: &Image) -> Result<String, DisasmFault>
     ensures same { IfOk result (λ text. source (string_bytes text) ≡ Ok image.now) }
@@ -75,9 +75,9 @@ pub fn disassemble(alloc: Global, image: &Image) -> Result<String, DisasmFault>
     disassemble_with(alloc, image, &Symbols::new(alloc))
 }
 
-/// The source of an image as `disassemble` returns it, with names in the comments of the text's words: behind the address
-/// of a line the first symbol that begins there, behind the target of a branch or a jump the symbol that is nearest to it,
-/// with the distance from it. Nothing stands there where the symbols have none.
+/// The source of an image as `disassemble` returns it, with names in the comments of the text's words: behind the
+/// address of a line the first symbol that begins there, behind the target of a branch or a jump the symbol that is
+/// nearest to it, with the distance from it. Nothing stands there where the symbols have none.
 pub fn disassemble_with(
     alloc: Global,
     image: &Image,

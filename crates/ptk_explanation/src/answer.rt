@@ -28,11 +28,11 @@ enum Form {
     Json,
 }
 
-/// Writes how the partition of a name stands after this many ticks, in words: its status; of a fault the instruction, its
-/// address and the registers; of a partition that goes on each thread, and each deadlock.
+/// Writes how the partition of a name stands after this many ticks, in words: its status; of a fault the instruction,
+/// its address and the registers; of a partition that goes on each thread, and each deadlock.
 ///
-/// That there is such a partition is tested before the system boots. A fault where there is none, where the system does not
-/// boot or memory ran out, each before the first byte, or where the writer fails.
+/// That there is such a partition is tested before the system boots. A fault where there is none, where the system does
+/// not boot or memory ran out, each before the first byte, or where the writer fails.
 pub fn explain_partition_with<W: Write>(
     alloc: Global,
     config: &Config,

@@ -10,7 +10,6 @@ use crate::words::{cause_word, ceiling_of, policy_name, protocol_name, type_name
 use ptk_symbols::Symbols;
 use ptk_system::{Activity, PartStatus, System};
 use ptk_words::{Cpu, Owner, PartId, THREAD_LIMIT, ThreadNo, Tick, Wait};
-use serde::Serialize;
 use std::alloc::{AllocError, Global};
 use std::fmt::Write;
 
@@ -44,60 +43,76 @@ impl<'a> Place<'a> {
     }
 }
 
-/// A thread. What it does not have is left out.
-#[derive(Clone, Copy, Serialize)]
-struct ThreadObject<'a> {
-    thread: u8,
-    activity: &'static str,
-    since: u64,
-    #[serde(skip_serializing_if = "Option::is_none")]
-    mutex: Option<u8>,
-    #[serde(skip_serializing_if = "Option::is_none")]
-    owner: Option<u8>,
-    #[serde(skip_serializing_if = "Option::is_none")]
-    mutex_type: Option<&'static str>,
-    #[serde(skip_serializing_if = "Option::is_none")]
-    mutex_protocol: Option<&'static str>,
-    #[serde(skip_serializing_if = "Option::is_none")]
-    mutex_ceiling: Option<u8>,
-    #[serde(skip_serializing_if = "Option::is_none")]
-    condition: Option<u8>,
-    #[serde(skip_serializing_if = "Option::is_none")]
-    joins: Option<u8>,
-    #[serde(skip_serializing_if = "Option::is_none")]
-    deadline: Option<u64>,
-    policy: &'static str,
-    assigned_priority: u8,
-    effective_priority: u8,
-    #[serde(skip_serializing_if = "Option::is_none")]
-    pc: Option<u32>,
-    #[serde(skip_serializing_if = "Option::is_none")]
-    symbol: Option<&'a str>,
-    #[serde(skip_serializing_if = "Option::is_none")]
-    offset: Option<u32>,
-    #[serde(skip_serializing_if = "Option::is_none")]
-    stack_pointer: Option<u32>,
-    #[serde(skip_serializing_if = "Option::is_none")]
-    least_stack_pointer: Option<u32>,
-    #[serde(skip_serializing_if = "Option::is_none")]
-    cancel_pending: Option<bool>,
+/// A member of an object: its name, and its value, without which it is left out.
+#[derive(Clone, Copy)]
+struct Member<'a> {
+    name: &'static str,
+    value: Option<Value<'a>>,
 }
 
-/// What stopped a partition at an instruction. What it does not have is left out.
-#[derive(Clone, Copy, Serialize)]
-struct StopObject<'a> {
-    kind: &'static str,
-    tick: u64,
-    thread: u8,
-    pc: u32,
-    #[serde(skip_serializing_if = "Option::is_none")]
-    symbol: Option<&'a str>,
-    #[serde(skip_serializing_if = "Option::is_none")]
-    offset: Option<u32>,
-    #[serde(skip_serializing_if = "Option::is_none")]
-    instruction: Option<&'a str>,
-    #[serde(skip_serializing_if = "Option::is_none")]
-    address: Option<u32>,
+/// The value of a member.
+#[derive(Clone, Copy)]
+enum Value<'a> {
+    /// A number.
+    Number(u64),
+    /// A text.
+    Text(&'a str),
+    /// A fact that holds.
+    Yes,
+}
+
+impl<'a> Member<'a> {
+    /// A number, if there is one.
+    fn number(name: &'static str, number: Option<u64>) -> Member<'a> {
+        Member {
+            name,
+            value: match number {
+                Some(number) => Some(Value::Number(number)),
+                None => None,
+            },
+        }
+    }
+
+    /// A byte, if there is one.
+    fn byte(name: &'static str, byte: Option<u8>) -> Member<'a> {
+        Member {
+            name,
+            value: match byte {
+                Some(byte) => Some(Value::Number(u64::from(byte))),
+                None => None,
+            },
+        }
+    }
+
+    /// A word, if there is one.
+    fn word(name: &'static str, word: Option<u32>) -> Member<'a> {
+        Member {
+            name,
+            value: match word {
+                Some(word) => Some(Value::Number(u64::from(word))),
+                None => None,
+            },
+        }
+    }
+
+    /// A text, if there is one.
+    fn text(name: &'static str, text: Option<&'a str>) -> Member<'a> {
+        Member {
+            name,
+            value: match text {
+                Some(text) => Some(Value::Text(text)),
+                None => None,
+            },
+        }
+    }
+
+    /// True, where the fact holds.
+    fn fact(name: &'static str, holds: bool) -> Member<'a> {
+        Member {
+            name,
+            value: if holds { Some(Value::Yes) } else { None },
+        }
+    }
 }
 
 /// What a wait is for.
@@ -269,7 +284,7 @@ fn push_head(
     requires { p < length system.now.config.sections }
 {
     out.push_str("{\"partition\":")?;
-    push_object(alloc, out, &system.config().sections()[p.index()].name())?;
+    push_text(alloc, out, system.config().sections()[p.index()].name())?;
     let (tick, steps, lost) = (system.tick().ticks(), system.steps(p), system.lost(p));
     let status = status_word(standing(system, p));
     write!(
@@ -278,14 +293,33 @@ fn push_head(
     )
 }
 
-/// Appends a value in the compact form.
-fn push_object<T: Serialize>(
-    alloc: Global,
-    out: &mut String,
-    object: &T,
-) -> Result<(), AllocError> {
-    match serde_json::to_string(alloc, object) {
-        Ok(text) => out.push_str(text.as_str()),
+/// Appends an object of the members that have a value, in the compact form.
+fn push_members(alloc: Global, out: &mut String, members: &[Member<'_>]) -> Result<(), AllocError> {
+    let mut before = "{";
+    for member in members {
+        if let Some(value) = &member.value {
+            let name = member.name;
+            write!(out, "{before}\"{name}\":")?;
+            push_value(alloc, out, value)?;
+            before = ",";
+        }
+    }
+    out.push_str("}")
+}
+
+/// Appends the value of a member.
+fn push_value(alloc: Global, out: &mut String, value: &Value<'_>) -> Result<(), AllocError> {
+    match value {
+        Value::Number(number) => write!(out, "{number}"),
+        Value::Text(text) => push_text(alloc, out, text),
+        Value::Yes => out.push_str("true"),
+    }
+}
+
+/// Appends a text between quotes, with escapes.
+fn push_text(alloc: Global, out: &mut String, text: &str) -> Result<(), AllocError> {
+    match serde_json::to_string(alloc, &text) {
+        Ok(quoted) => out.push_str(quoted.as_str()),
         Err(_) => Err(AllocError),
     }
 }
@@ -302,18 +336,18 @@ fn push_stop(
         Some(statement) => Some(statement.as_str()),
         None => None,
     };
-    let object = StopObject {
-        kind: cause_word(stop.cause),
-        tick: stop.step.tick.ticks(),
-        thread: stop.step.thread.number(),
-        pc: stop.step.pc,
-        symbol: place.symbol,
-        offset: place.offset,
-        instruction,
-        address: stop.address,
-    };
+    let members = [
+        Member::text("kind", Some(cause_word(stop.cause))),
+        Member::number("tick", Some(stop.step.tick.ticks())),
+        Member::byte("thread", Some(stop.step.thread.number())),
+        Member::word("pc", Some(stop.step.pc)),
+        Member::text("symbol", place.symbol),
+        Member::word("offset", place.offset),
+        Member::text("instruction", instruction),
+        Member::word("address", stop.address),
+    ];
     out.push_str(",\"fault\":")?;
-    push_object(alloc, out, &object)?;
+    push_members(alloc, out, &members)?;
     push_registers(out, &stop.cpu)
 }
 
@@ -371,33 +405,29 @@ fn push_thread(
         None => None,
     };
     let mutex = MutexMembers::of(&facts.awaited);
-    let object = ThreadObject {
-        thread: facts.number.number(),
-        activity: target.activity,
-        since: facts.history.since,
-        mutex: target.mutex,
-        owner: owner_number(facts),
-        mutex_type: mutex.kind,
-        mutex_protocol: mutex.protocol,
-        mutex_ceiling: mutex.ceiling,
-        condition: target.condition,
-        joins: target.joins,
-        deadline: target.deadline,
-        policy: policy_name(facts.thread.policy),
-        assigned_priority: facts.thread.priority.level(),
-        effective_priority: facts.effective,
-        pc,
-        symbol: place.symbol,
-        offset: place.offset,
-        stack_pointer,
-        least_stack_pointer: facts.history.least_stack,
-        cancel_pending: if facts.is_cancel_pending {
-            Some(true)
-        } else {
-            None
-        },
-    };
-    push_object(alloc, out, &object)
+    let members = [
+        Member::byte("thread", Some(facts.number.number())),
+        Member::text("activity", Some(target.activity)),
+        Member::number("since", Some(facts.history.since)),
+        Member::byte("mutex", target.mutex),
+        Member::byte("owner", owner_number(facts)),
+        Member::text("mutex_type", mutex.kind),
+        Member::text("mutex_protocol", mutex.protocol),
+        Member::byte("mutex_ceiling", mutex.ceiling),
+        Member::byte("condition", target.condition),
+        Member::byte("joins", target.joins),
+        Member::number("deadline", target.deadline),
+        Member::text("policy", Some(policy_name(facts.thread.policy))),
+        Member::byte("assigned_priority", Some(facts.thread.priority.level())),
+        Member::byte("effective_priority", Some(facts.effective)),
+        Member::word("pc", pc),
+        Member::text("symbol", place.symbol),
+        Member::word("offset", place.offset),
+        Member::word("stack_pointer", stack_pointer),
+        Member::word("least_stack_pointer", facts.history.least_stack),
+        Member::fact("cancel_pending", facts.is_cancel_pending),
+    ];
+    push_members(alloc, out, &members)
 }
 
 /// Appends the cycles of threads that wait for one another, each as the numbers of its threads in order.

@@ -76,8 +76,8 @@ pub(crate) fn histories(
     Ok(histories)
 }
 
-/// Runs a system on to a tick, and looks at a partition's threads after each of its decisions but plain steps in a row and
-/// quiet calls, which neither begin nor end what a thread does.
+/// Runs a system on to a tick, and looks at a partition's threads after each of its decisions but plain steps in a row
+/// and quiet calls, which neither begin nor end what a thread does.
 fn watch(system: &mut System<'_>, p: PartId, to: Tick, histories: &mut [History])
     requires partition { p < length system.old.config.sections }
     requires early { to ≤ LAST_TICK }

@@ -20,9 +20,9 @@ const JUMP_BITS: u32 = 21;
 /// The bytes of a word (RISC-V 1.5).
 const WORD_BYTES: u32 = 4;
 
-/// The address for which an instruction was not carried out: the pc where it was not fetched, the address of a load or a
-/// store, the target of a jump; None of a word that is no instruction. `cpu` is the thread's, which a fault leaves as it
-/// was, and `word` what stands at its pc.
+/// The address for which an instruction was not carried out: the pc where it was not fetched, the address of a load or
+/// a store, the target of a jump; None of a word that is no instruction. `cpu` is the thread's, which a fault leaves as
+/// it was, and `word` what stands at its pc.
 pub(crate) fn refused_address(kind: FaultKind, cpu: &Cpu, word: u32) -> Option<u32>
     ensures { result ≡ is.refused_address kind cpu.now word }
 {

@@ -6,8 +6,8 @@ use Rattle.ptk_words.specs.Ranges.{IsWithinLimits}
 use Rattle.ptk_words.specs.declared.sections.Arrival.{Arrival}
 use Rattle.ptk_words.specs.declared.sections.Limits.{Limits}
 use Rattle.ptk_words_model.specs.State.{Part, Console}
-use Rattle.ptk_words_well.specs.Well.{IsWell}
-use Rattle.ptk_words_well.proofs.Starts.{well_empty}
+use Rattle.ptk_words_invariant.specs.Well.{IsWell}
+use Rattle.ptk_words_invariant.proofs.Starts.{well_empty}
 use Rattle.ptk_console.specs.ConsoleTable.{fresh_console, no_limits}
 use Rattle.ptk_gate_pools.specs.Blank.{blank}
 use Rattle.ptk_gate_pools.specs.Kept.{IsOfWords}

@@ -12,10 +12,10 @@ use Rattle.ptk_words_model.specs.State.{Part}
 use Rattle.ptk_words_model.specs.Priority.{thread_at}
 use Rattle.ptk_words_model.specs.Mutex.{wait_of}
 use Rattle.ptk_words_model.specs.Decision.{runner_of}
-use Rattle.ptk_words_locks.specs.Locks.{is_ready}
-use Rattle.ptk_words_well.specs.Well.{IsWell}
-use Rattle.ptk_words_well.proofs.Waits.{waits_not_ready}
-use Rattle.ptk_words_well.proofs.Decisions.{runner_runs, well_after_call}
+use Rattle.ptk_words_sync_invariant.specs.Locks.{is_ready}
+use Rattle.ptk_words_invariant.specs.Well.{IsWell}
+use Rattle.ptk_words_invariant.proofs.Waits.{waits_not_ready}
+use Rattle.ptk_words_invariant.proofs.Decisions.{runner_runs, well_after_call}
 use Rattle.ptk_gate_pools.specs.Kept.{part_at, limits_at}
 use Rattle.ptk_gate_pools.specs.Held.{Held, held, all_of, limits_here}
 use Rattle.ptk_gate.specs.Whole.{AreWhole}

@@ -10,8 +10,8 @@ use Rattle.ptk_words_model.specs.Schedule.{with_thread}
 use Rattle.ptk_words_model.specs.Decision.{with_cpu}
 use Rattle.ptk_words_model.specs.Run.{is_active}
 use Rattle.ptk_threads.specs.Registers.{with_pc}
-use Rattle.ptk_words_well.specs.Well.{IsWell}
-use Rattle.ptk_words_well.proofs.Threads.{well_cpu}
+use Rattle.ptk_words_invariant.specs.Well.{IsWell}
+use Rattle.ptk_words_invariant.proofs.Threads.{well_cpu}
 use Rattle.ptk_gate_pools.specs.Kept.{part_at, limits_at}
 use Rattle.ptk_gate_pools.specs.Held.{Held, held, all_of}
 use Rattle.ptk_gate_pools.proofs.Hands.{lifted}

@@ -3,11 +3,11 @@ use Rattle.std.proofs.Common.{◌≡◌, ℕ, zero, suc, ◌+◌, ◌≤◌, ◌
 use Rattle.ptk_words.specs.declared.sections.Limits.{Limits}
 use Rattle.ptk_words.specs.declared.threads.Thread.{Thread}
 use Rattle.ptk_words_model.specs.State.{Part}
-use Rattle.ptk_words_well.specs.Well.{IsWell}
-use Rattle.ptk_words_well.proofs.Decisions.{well_decision}
-use Rattle.ptk_words_quiet.specs.Quiet.{IsQuiet}
-use Rattle.ptk_words_quiet.specs.Replies.{after_reply}
-use Rattle.ptk_words_quiet.proofs.ReplyDecisions.{reply_decided}
+use Rattle.ptk_words_invariant.specs.Well.{IsWell}
+use Rattle.ptk_words_invariant.proofs.Decisions.{well_decision}
+use Rattle.ptk_words_batches.specs.Quiet.{IsQuiet}
+use Rattle.ptk_words_batches.specs.Replies.{after_reply}
+use Rattle.ptk_words_batches.proofs.ReplyDecisions.{reply_decided}
 use Rattle.ptk_gate_pools.specs.Kept.{Kept, part_at, limits_at}
 use Rattle.ptk_gate_steps.specs.Replies.{IsMade}
 use Rattle.ptk_gate.specs.Whole.{AreWhole}

@@ -5,10 +5,10 @@ use Rattle.ptk_words.specs.declared.TheConstants.{RETURN_GATE}
 use Rattle.ptk_words.specs.declared.sections.Limits.{Limits}
 use Rattle.ptk_words.specs.declared.threads.Thread.{Thread}
 use Rattle.ptk_words_model.specs.State.{Part}
-use Rattle.ptk_words_well.specs.Well.{IsWell}
-use Rattle.ptk_words_quiet.specs.Quiet.{IsQuiet, ArePlain, core_of, after_row}
-use Rattle.ptk_words_quiet.proofs.RowsKept.{well_kept}
-use Rattle.ptk_words_quiet.proofs.Sooner.{row_none}
+use Rattle.ptk_words_invariant.specs.Well.{IsWell}
+use Rattle.ptk_words_batches.specs.Quiet.{IsQuiet, ArePlain, core_of, after_row}
+use Rattle.ptk_words_batches.proofs.RowsKept.{well_kept}
+use Rattle.ptk_words_batches.proofs.Sooner.{row_none}
 use Rattle.ptk_console.specs.ConsoleTable.{no_limits}
 use Rattle.ptk_gate_pools.specs.Kept.{Kept, part_at, put_part, limits_at}
 use Rattle.ptk_gate.specs.Whole.{AreWhole}

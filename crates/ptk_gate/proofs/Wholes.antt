@@ -10,7 +10,7 @@ use Rattle.ptk_words_instructions.specs.Instructions.{Effect, Done, Call, Break,
 use Rattle.ptk_words.specs.declared.threads.Thread.{Thread}
 use Rattle.ptk_words_model.specs.State.{Part}
 use Rattle.ptk_words_model.specs.Priority.{thread_at}
-use Rattle.ptk_words_well.specs.Well.{IsWell}
+use Rattle.ptk_words_invariant.specs.Well.{IsWell}
 use Rattle.ptk_words.specs.Pools.{is_in}
 use Rattle.ptk_words.specs.declared.sections.Entry.{Entry}
 use Rattle.ptk_words_model.specs.Decision.{after_arrivals}
@@ -18,20 +18,20 @@ use Rattle.ptk_words_model.specs.Schedule.{after_choice, after_interval}
 use Rattle.ptk_words_model.specs.Unwinding.{after_unwinding_start, after_gate_step}
 use Rattle.ptk_words_model.specs.Withdrawal.{after_expiries}
 use Rattle.ptk_words_model.specs.Run.{is_active}
-use Rattle.ptk_words_locks.proofs.Lined.{ready_alive}
-use Rattle.ptk_words_well.proofs.Effects.{HasLength, effect_length}
-use Rattle.ptk_words_well.proofs.Parts.{well_last, well_memory, well_halt}
-use Rattle.ptk_words_well.proofs.Threads.{well_cpu}
-use Rattle.ptk_words_well.proofs.Turns.{well_choice, well_interval}
-use Rattle.ptk_words_well.proofs.Waits.{well_arrivals}
-use Rattle.ptk_words_well.proofs.Decisions.{well_gate_step}
-use Rattle.ptk_words_well.proofs.Unwindings.{well_unwinding_start}
-use Rattle.ptk_words_well.proofs.Timeouts.{well_expiries}
+use Rattle.ptk_words_sync_invariant.proofs.Lined.{ready_alive}
+use Rattle.ptk_words_invariant.proofs.Effects.{HasLength, effect_length}
+use Rattle.ptk_words_invariant.proofs.Parts.{well_last, well_memory, well_halt}
+use Rattle.ptk_words_invariant.proofs.Threads.{well_cpu}
+use Rattle.ptk_words_invariant.proofs.Turns.{well_choice, well_interval}
+use Rattle.ptk_words_invariant.proofs.Waits.{well_arrivals}
+use Rattle.ptk_words_invariant.proofs.Decisions.{well_gate_step}
+use Rattle.ptk_words_invariant.proofs.Unwindings.{well_unwinding_start}
+use Rattle.ptk_words_invariant.proofs.Timeouts.{well_expiries}
 use Rattle.ptk_gate_pools.specs.Moves.{with_last_step}
 use Rattle.ptk_gate_pools.specs.Kept.{Kept, AreWell, part_at, put_part, limits_at}
 use Rattle.ptk_gate_pools.specs.Held.{Held, held, all_of, limits_here}
 use Rattle.ptk_gate_pools.proofs.Hands.{lifted, lowered}
-use Rattle.ptk_words_locks.specs.Conditions.{IsNoWaiter}
+use Rattle.ptk_words_sync_invariant.specs.Conditions.{IsNoWaiter}
 use Rattle.ptk_gate_pools.proofs.NoWaiters.{runner_apart}
 use Rattle.ptk_gate_pools.proofs.Parted.{part_at-put, part_at-other, parts_put}
 use Rattle.ptk_gate_steps.specs.Instructions.{after_instruction}

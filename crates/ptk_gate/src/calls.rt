@@ -4,7 +4,7 @@ ghost use Rattle.std.specs.Prelude.{◌≡◌, ◌<◌, true, length, Some, IsSo
 ghost use Rattle.ptk_words_model.specs.CallTable.{answer_of};
 ghost use Rattle.ptk_words_model.specs.Decision.{invocation};
 ghost use Rattle.ptk_words_model.specs.Run.{is_active};
-ghost use Rattle.ptk_words_well.specs.Well.{IsWell};
+ghost use Rattle.ptk_words_invariant.specs.Well.{IsWell};
 ghost use Rattle.ptk_gate_pools.specs.Kept.{part_at, put_part, limits_at};
 ghost use Rattle.ptk_gate_pools.specs.Held.{limits_here};
 ghost use Rattle.ptk_gate.specs.Answers.{call_answer};

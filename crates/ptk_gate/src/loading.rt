@@ -3,7 +3,7 @@
 ghost use Rattle.std.specs.Prelude.{◌≡◌, ℕ, ◌^◌, ◌<◌, ◌≤◌, ◌+◌, length, Ok, Err};
 ghost use Rattle.ptk_words.specs.Image.{ImageParts};
 ghost use Rattle.ptk_words_model.specs.Run.{empty_part, fits, main_thread, with_image};
-ghost use Rattle.ptk_words_well.specs.Well.{IsWell};
+ghost use Rattle.ptk_words_invariant.specs.Well.{IsWell};
 ghost use Rattle.ptk_gate_pools.specs.Kept.{part_at, put_part, limits_at};
 ghost use Rattle.ptk_gate_pools.specs.Held.{limits_here};
 ghost use Rattle.ptk_gate.specs.Whole.{IsBlank};

@@ -9,8 +9,8 @@ ghost use Rattle.ptk_words.specs.declared.threads.Thread.{Thread};
 ghost use Rattle.ptk_words_instructions.specs.PlainSteps.{is_plain, plain_steps};
 ghost use Rattle.ptk_words_model.specs.Priority.{thread_at};
 ghost use Rattle.ptk_words_model.specs.Run.{is_active};
-ghost use Rattle.ptk_words_quiet.specs.Quiet.{IsQuiet, ArePlain, core_of, after_row};
-ghost use Rattle.ptk_words_quiet.specs.Idle.{IsIdle};
+ghost use Rattle.ptk_words_batches.specs.Quiet.{IsQuiet, ArePlain, core_of, after_row};
+ghost use Rattle.ptk_words_batches.specs.Idle.{IsIdle};
 ghost use Rattle.ptk_trace.specs.TracedRows.{traced};
 ghost use Rattle.ptk_gate_pools.specs.Kept.{part_at, put_part, limits_at};
 ghost use Rattle.ptk_gate_steps.specs.QuietCalls.{is_quiet_call};
@@ -22,9 +22,9 @@ use ptk_trace::Trace;
 use ptk_words::{PartId, Tick};
 
 impl Tables {
-    /// Whether the partition only computes from the tick on, and up to which tick, at most `stop`: no input comes before
-    /// it, no deadline is due, no round-robin interval ends, and the running thread stays and begins no unwinding. None
-    /// where no tick after the first one is such.
+    /// Whether the partition only computes from the tick on, and up to which tick, at most `stop`: no input comes
+    /// before it, no deadline is due, no round-robin interval ends, and the running thread stays and begins no
+    /// unwinding. None where no tick after the first one is such.
     #[tactic(auto, using(crate::proofs::Wholes::moves, crate::proofs::RowsWhole::gate_far))]
     pub fn quiet_until(&self, p: PartId, tick: Tick, stop: Tick) -> Option<Quiet>
         requires partition { p < length self.now.limits }
@@ -38,8 +38,8 @@ impl Tables {
     }
 
     /// Plain steps of the running thread of a quiet partition in a row, the first of them at the tick, as many as come
-    /// before the partition's stop, at most 2^31, and before a step that is not plain; how many. They are its next steps,
-    /// and the trace has them as the newest.
+    /// before the partition's stop, at most 2^31, and before a step that is not plain; how many. They are its next
+    /// steps, and the trace has them as the newest.
     pub fn run_row(&mut self, p: PartId, quiet: Quiet, tick: Tick, trace: &mut Trace) -> u32
         requires partition { p < length self.old.limits }
         requires order { tick < quiet.stop }
@@ -58,8 +58,8 @@ impl Tables {
 
     /// The next step of a quiet partition's running thread at the tick, where that is a quiet call and ends at the
     /// partition's stop or before. How many ticks it took: it was the partition's decision, and the partition is as
-    /// quiet as it was. 0, and nothing changes, of any other step: where the step is a quiet call, only if it ends after
-    /// the stop.
+    /// quiet as it was. 0, and nothing changes, of any other step: where the step is a quiet call, only if it ends
+    /// after the stop.
     pub fn make_reply(&mut self, p: PartId, quiet: Quiet, tick: Tick) -> u32
         requires partition { p < length self.old.limits }
         requires order { tick < quiet.stop }

@@ -36,7 +36,8 @@ impl Tables {
     }
 
     /// All deadlines of the partition at the tick or before expire, in the order of deadline and thread number, each in
-    /// the state that the one before left (clock_nanosleep, pthread_mutex_timedlock, pthread_cond_timedwait; own choice).
+    /// the state that the one before left (clock_nanosleep, pthread_mutex_timedlock, pthread_cond_timedwait; own
+    /// choice).
     #[tactic(auto, using(crate::proofs::Wholes::moves, ptk_gate_pools::proofs::Hands::lifting))]
     pub fn expire_due(&mut self, p: PartId, tick: Tick)
         requires partition { p < length self.old.limits }
@@ -138,8 +139,8 @@ impl Tables {
         instruct(&mut self.pools, t, cpu);
     }
 
-    /// A thread of SCHED_RR that still runs after a step of this many ticks has used them; at the interval it goes to the
-    /// tail, and no thread runs (XSH 2.8.4).
+    /// A thread of SCHED_RR that still runs after a step of this many ticks has used them; at the interval it goes to
+    /// the tail, and no thread runs (XSH 2.8.4).
     #[tactic(auto, using(crate::proofs::Wholes::intervals, ptk_gate_pools::proofs::Hands::lifting))]
     pub fn count_interval(&mut self, p: PartId, cost: u32, t: ThreadNo)
         requires partition { p < length self.old.limits }

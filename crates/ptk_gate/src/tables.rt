@@ -37,8 +37,8 @@ impl Model for Tables {
 }
 
 impl Tables {
-    /// The tables of 1 to 8 sections, from each one's numbers and input, with the room that all later calls fill: memory
-    /// all 0, no thread, and all input still to come. An error where memory ran out. No other call takes memory.
+    /// The tables of 1 to 8 sections, from each one's numbers and input, with the room that all later calls fill:
+    /// memory all 0, no thread, and all input still to come. An error where memory ran out. No other call takes memory.
     #[tactic(auto, using(crate::proofs::Blanks::blanks))]
     pub fn new(
         alloc: Global,
@@ -65,9 +65,9 @@ impl Tables {
         self.pools.parts()
     }
 
-    /// The slot table of all partitions' threads. Its stored priorities are the effective ones, and its queues, which lie
-    /// along the links of the slots, are the ready threads of each priority, in the line's order, and the waiters of each
-    /// mutex and condition variable (XSH 2.8.4, pthread_mutexattr_getprotocol).
+    /// The slot table of all partitions' threads. Its stored priorities are the effective ones, and its queues, which
+    /// lie along the links of the slots, are the ready threads of each priority, in the line's order, and the waiters
+    /// of each mutex and condition variable (XSH 2.8.4, pthread_mutexattr_getprotocol).
     pub fn threads(&self) -> &Threads
         ensures threads { result.now.threads ≡ self.now.threads }
         ensures stored { AreStored result.now.stored self.now.threads self.now.mutexes }
@@ -76,8 +76,8 @@ impl Tables {
         self.pools.threads()
     }
 
-    /// How many stored priorities the last call on mutexes read as it raised some, of whatever partition: at most one more
-    /// than a partition has threads.
+    /// How many stored priorities the last call on mutexes read as it raised some, of whatever partition: at most one
+    /// more than a partition has threads.
     pub fn visited(&self) -> u32
         ensures { result ≤ THREAD_LIMIT + 1 }
     {

@@ -8,12 +8,12 @@ ghost use Rattle.ptk_words_model.specs.Priority.{effective_priority, thread_at};
 ghost use Rattle.ptk_words_model.specs.Mutex.{mutex_at};
 ghost use Rattle.ptk_words_model.specs.ThreadCreation.{new_cancellation};
 ghost use Rattle.ptk_words_model.specs.Withdrawal.{deadlines_of};
-ghost use Rattle.ptk_mutex_slots.specs.Slots.{state_of};
+ghost use Rattle.ptk_mutex_priorities.specs.Slots.{state_of};
 ghost use Rattle.ptk_clock.specs.ByThread.{least_deadline};
 ghost use Rattle.ptk_gate_pools.specs.Kept.{part_at};
 
 use crate::tables::Tables;
-use ptk_mutex_slots::MutexState;
+use ptk_mutex_priorities::MutexState;
 use ptk_words::{MutexNo, Owner, PartId, ThreadNo, Tick};
 
 impl Tables {

@@ -6,10 +6,10 @@ use Rattle.ptk_words.specs.declared.sections.Limits.{Limits}
 use Rattle.ptk_words_model.specs.State.{Part}
 use Rattle.ptk_words_model.specs.Priority.{thread_at, awaited}
 use Rattle.ptk_words_model.specs.Mutex.{mutex_at, waiters_of}
-use Rattle.ptk_words_locks.proofs.Lined.{ready_waits, not_ready_out}
-use Rattle.ptk_words_locks.proofs.Threads.{idle_awaits, awaits_not_ready}
-use Rattle.ptk_words_well.specs.Well.{IsWell}
-use Rattle.ptk_words_well.proofs.Whole.{lined_of}
+use Rattle.ptk_words_sync_invariant.proofs.Lined.{ready_waits, not_ready_out}
+use Rattle.ptk_words_sync_invariant.proofs.Threads.{idle_awaits, awaits_not_ready}
+use Rattle.ptk_words_invariant.specs.Well.{IsWell}
+use Rattle.ptk_words_invariant.proofs.Whole.{lined_of}
 use Rattle.ptk_mutex.specs.Tables.{IsWaiter, AreLocked, MayWait}
 use Rattle.ptk_gate_pools.proofs.NoWaiters.{runner_apart}
 use Rattle.ptk_gate_moves.proofs.Ready.{running_in_use}

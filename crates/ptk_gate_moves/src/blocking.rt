@@ -6,7 +6,7 @@ ghost use Rattle.ptk_words_model.specs.Priority.{thread_at};
 ghost use Rattle.ptk_words_model.specs.Schedule.{with_thread, woken_with, after_wake};
 ghost use Rattle.ptk_words_model.specs.Calls.{blocked_in};
 ghost use Rattle.ptk_words.specs.Pools.{is_in};
-ghost use Rattle.ptk_words_locks.specs.Conditions.{IsNoWaiter};
+ghost use Rattle.ptk_words_sync_invariant.specs.Conditions.{IsNoWaiter};
 
 use crate::places::push_tail;
 use crate::replies::reply;
@@ -26,7 +26,7 @@ pub fn block(pools: &mut Pools, i: Invocation, wait: Wait) -> Reply
 
 /// A blocked thread, in no list of waiters any more, is ready, at the tail, with these values in a0 and so on (XSH
 /// 2.8.4).
-#[tactic(auto, using(ptk_words_locks::proofs::Pools::changed_twice))]
+#[tactic(auto, using(ptk_words_sync_invariant::proofs::Pools::changed_twice))]
 pub fn wake(pools: &mut Pools, t: ThreadNo, values: &[u32])
     requires few { length values.now < 4 }
     requires in_use { IsSome (thread_at pools.old.here.locks t) }
@@ -40,7 +40,7 @@ pub fn wake(pools: &mut Pools, t: ThreadNo, values: &[u32])
 
 /// The thread waits for nothing any more, has these values in a0 and so on, and has used no tick; a free number
 /// stays free.
-#[tactic(auto, using(ptk_words_locks::proofs::Pools::changed_twice))]
+#[tactic(auto, using(ptk_words_sync_invariant::proofs::Pools::changed_twice))]
 fn rouse(pools: &mut Pools, t: ThreadNo, values: &[u32])
     requires few { length values.now < 4 }
     ensures { pools.new ≡ record pools.old { here = with_locks (with_thread t (woken_with values.now)) pools.old.here } }

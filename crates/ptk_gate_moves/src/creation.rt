@@ -3,7 +3,7 @@
 ghost use Rattle.std.specs.Prelude.{◌≡◌, ◌<◌, length, Some};
 ghost use Rattle.ptk_words.specs.Pools.{least_free};
 ghost use Rattle.ptk_words_model.specs.ThreadCreation.{with_new_thread};
-ghost use Rattle.ptk_words_well.specs.Well.{IsWell};
+ghost use Rattle.ptk_words_invariant.specs.Well.{IsWell};
 ghost use Rattle.ptk_gate_pools.specs.Held.{limits_here};
 
 use ptk_gate_pools::Pools;

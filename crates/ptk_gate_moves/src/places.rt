@@ -6,7 +6,7 @@ ghost use Rattle.ptk_words_model.specs.Priority.{thread_at};
 ghost use Rattle.ptk_words_model.specs.Schedule.{at_tail, at_head, after_turn_end};
 ghost use Rattle.ptk_words.specs.Pools.{is_in};
 ghost use Rattle.ptk_gate_pools.specs.Moves.{stopped};
-ghost use Rattle.ptk_words_locks.specs.Conditions.{IsNoWaiter};
+ghost use Rattle.ptk_words_sync_invariant.specs.Conditions.{IsNoWaiter};
 
 use ptk_gate_pools::Pools;
 use ptk_words::ThreadNo;

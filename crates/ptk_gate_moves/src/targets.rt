@@ -42,7 +42,8 @@ fn named(slots: &[Slot], word: u32) -> Option<Runner>
     }
 }
 
-/// The thread that a guest names by a word, where it lies, if that is the number of one in use. Nothing of it is copied.
+/// The thread that a guest names by a word, where it lies, if that is the number of one in use. Nothing of it is
+/// copied.
 pub fn named_thread(pools: &Pools, word: u32) -> Option<&Thread>
     ensures thread { option_copied result ≡ thread_at pools.now.here.locks word }
     ensures number { IfSome result (λ _. (0 < word) × (word ≤ 32)) }

@@ -7,11 +7,11 @@ use Rattle.ptk_words.specs.Pools.{pool_set}
 use Rattle.ptk_words.specs.declared.threads.Thread.{Thread}
 use Rattle.ptk_words_model.specs.State.{Mutex, Syncs, with_syncs}
 use Rattle.ptk_words_model.specs.Priority.{effective_priorities}
-use Rattle.ptk_words_locks.specs.Deadlines.{without_deadlines}
-use Rattle.ptk_words_locks.proofs.Deadlines.{deadline_at}
+use Rattle.ptk_words_sync_invariant.specs.Deadlines.{without_deadlines}
+use Rattle.ptk_words_sync_invariant.proofs.Deadlines.{deadline_at}
 use Rattle.ptk_words_parted.specs.Parts.{part_of}
 use Rattle.ptk_threads.specs.Table.{ThreadTable, thread_in, with_changed, with_slot, with_left}
-use Rattle.ptk_roster.specs.Rosters.{Rostered}
+use Rattle.ptk_syncs.specs.Rosters.{Rostered}
 use Rattle.ptk_words_parted.specs.Sets.{IsSetOf}
 use Rattle.ptk_mutex.specs.Tables.{with_threads}
 use Rattle.ptk_mutex.specs.declared.mutexes.Mutexes.{Mutexes}
@@ -19,7 +19,7 @@ use Rattle.ptk_gate_pools.specs.declared.pools.Pools.TheInside.{Inside}
 use Rattle.ptk_gate_pools.specs.Held.{held}
 use Rattle.ptk_gate_pools.proofs.Hands.{held-put}
 use Rattle.ptk_gate_pools.proofs.Opened.{parts_of}
-use Rattle.ptk_gate_pools.specs.Kept.{Kept, AreStored, AreTimed, part_at, put_part}
+use Rattle.ptk_gate_pools.specs.Kept.{AreStored, AreTimed, part_at, put_part}
 use Rattle.ptk_gate_pools.specs.Pooled.{kept_of, ArePooled}
 use Rattle.ptk_gate_pools.proofs.Stored.{left_long, refreshed_slot, refreshed_changed, refreshed_left}
 use Rattle.ptk_gate_pools.proofs.Timed.{timed_slot, timed_left, timed_wait_again}

@@ -12,17 +12,17 @@ use Rattle.ptk_words_parted.specs.Parts.{part_of}
 use Rattle.ptk_words_model.specs.State.{Mutex, Condition, Locks, Syncs, Part}
 use Rattle.ptk_words_model.specs.Mutex.{after_unlock, wait_of}
 use Rattle.ptk_words_model.specs.Condition.{condition_waiters, after_condition_wait, after_signal, after_broadcast, after_unblock}
-use Rattle.ptk_words_locks.specs.Conditions.{AreSyncs, condition_of_wait}
-use Rattle.ptk_words_locks.specs.Deadlines.{without_deadlines, woken_by_unlock}
-use Rattle.ptk_words_locks.proofs.Threads.{in_wait}
-use Rattle.ptk_words_locks.proofs.Deadlines.{deadline_at, deadlines-unlock}
-use Rattle.ptk_words_locks.proofs.DeadlineMoves.{deadlines-unblock, deadlines-signal, deadlines-broadcast}
-use Rattle.ptk_words_well.specs.Well.{IsWell}
+use Rattle.ptk_words_sync_invariant.specs.Conditions.{AreSyncs, condition_of_wait}
+use Rattle.ptk_words_sync_invariant.specs.Deadlines.{without_deadlines, woken_by_unlock}
+use Rattle.ptk_words_sync_invariant.proofs.Threads.{in_wait}
+use Rattle.ptk_words_sync_invariant.proofs.Deadlines.{deadline_at, deadlines-unlock}
+use Rattle.ptk_words_sync_invariant.proofs.DeadlineMoves.{deadlines-unblock, deadlines-signal, deadlines-broadcast}
+use Rattle.ptk_words_invariant.specs.Well.{IsWell}
 use Rattle.ptk_threads.specs.Table.{ThreadTable, thread_in}
 use Rattle.ptk_threads.proofs.Pools.{part_of-set}
 use Rattle.ptk_words_parted.specs.Sets.{IsSetOf}
 use Rattle.ptk_mutex.specs.Tables.{locks_at, with_threads}
-use Rattle.ptk_roster.specs.Waiters.{condition_of}
+use Rattle.ptk_syncs.specs.Waiters.{condition_of}
 use Rattle.ptk_cond.specs.Pool.{with_new_condition}
 use Rattle.ptk_cond.specs.Tables.{syncs_at, next_waiter}
 use Rattle.ptk_gate_pools.specs.Kept.{AreTimed, deadlines_in}

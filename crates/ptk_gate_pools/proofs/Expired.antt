@@ -1,10 +1,9 @@
 -- A deadline that comes: what it does is the model's, and kept deadlines stay those of the threads' waits.
 use Rattle.std.proofs.Common.{◌≡◌, ℕ, List, [], refl, sym, ◌∙◌, ap, map, length}
-use Rattle.std.specs.Prelude.{true, Option, Some, None, is_some, option_map}
+use Rattle.std.specs.Prelude.{Option, Some, None, option_map}
 use Rattle.std.proofs.Math.ListN.{set}
 use Rattle.std.proofs.lemmas.List.{set-get_or, length-map}
 use Rattle.ptk_words.specs.Pools.{pool_set}
-use Rattle.ptk_words.specs.declared.sections.Limits.{Limits}
 use Rattle.ptk_words.specs.declared.threads.Thread.{Thread}
 use Rattle.ptk_words.specs.declared.threads.Wait.{Wait}
 use Rattle.ptk_words.specs.declared.threads.Wait.TheVariants.{InputWait, SleepWait, JoinWait, MutexWait, ConditionWait, RelockWait}
@@ -13,12 +12,9 @@ use Rattle.ptk_words_model.specs.State.{Syncs, Part, with_syncs}
 use Rattle.ptk_words_model.specs.Priority.{thread_at}
 use Rattle.ptk_words_model.specs.Mutex.{wait_of}
 use Rattle.ptk_words_model.specs.Withdrawal.{Expiry, after_timeout, deadlines_of}
-use Rattle.ptk_words_locks.specs.Expiries.{next_expiry, without_expiry}
-use Rattle.ptk_words_locks.proofs.Lined.{not_ready_out}
-use Rattle.ptk_words_locks.proofs.Wakings.{waits_not_ready}
-use Rattle.ptk_words_locks.proofs.Deadlines.{deadline_at}
-use Rattle.ptk_words_locks.proofs.DeadlineMoves.{deadlines-timeout}
-use Rattle.ptk_words_well.specs.Well.{IsWell}
+use Rattle.ptk_words_sync_invariant.specs.Expiries.{next_expiry, without_expiry}
+use Rattle.ptk_words_sync_invariant.proofs.Deadlines.{deadline_at}
+use Rattle.ptk_words_sync_invariant.proofs.DeadlineMoves.{deadlines-timeout}
 use Rattle.ptk_threads.specs.Table.{ThreadTable, thread_in}
 use Rattle.ptk_mutex.specs.Tables.{with_threads}
 use Rattle.ptk_cond.specs.Tables.{syncs_at}
@@ -28,11 +24,10 @@ use Rattle.ptk_clock.specs.BySlot.{deadlines_from}
 use Rattle.ptk_clock.specs.ByThread.{first_slot}
 use Rattle.ptk_gate_pools.specs.Kept.{AreTimed, deadlines_in, part_at}
 use Rattle.ptk_gate_pools.specs.Pooled.{kept_of}
-use Rattle.ptk_cond.specs.Timeouts.{after_sync_timeout, IsBlocked}
+use Rattle.ptk_cond.specs.Timeouts.{after_sync_timeout}
 use Rattle.ptk_gate_pools.specs.Expired.{after_one_expiry}
 use Rattle.ptk_gate_pools.proofs.Timed.{timed_row}
 use Rattle.ptk_gate_pools.proofs.TimedMoves.{timed_locks}
-use Rattle.ptk_gate_pools.proofs.Synced.{lined_of}
 
 -- ---- the model's move
 

@@ -10,14 +10,14 @@ use Rattle.ptk_words.specs.declared.threads.Wait.TheVariants.{InputWait, SleepWa
 use Rattle.ptk_words_model.specs.State.{Mutex, Condition, Part}
 use Rattle.ptk_words_model.specs.Priority.{thread_at, mutex_of_wait}
 use Rattle.ptk_words_model.specs.Mutex.{wait_of, waiters_of}
-use Rattle.ptk_words_locks.specs.Locks.{AreMutexes}
+use Rattle.ptk_words_sync_invariant.specs.Locks.{AreMutexes}
 use Rattle.ptk_words_model.specs.Condition.{waiters_on}
-use Rattle.ptk_words_locks.specs.Conditions.{condition_of_wait, AreConditions}
-use Rattle.ptk_words_locks.proofs.Lined.{ready_waits}
-use Rattle.ptk_words_locks.proofs.Threads.{awaits_wait}
-use Rattle.ptk_words_well.specs.Well.{IsWell}
-use Rattle.ptk_words_well.proofs.Starts.{IsFree, least_free_is}
-use Rattle.ptk_words_locks.specs.Conditions.{IsNoWaiter}
+use Rattle.ptk_words_sync_invariant.specs.Conditions.{condition_of_wait, AreConditions}
+use Rattle.ptk_words_sync_invariant.proofs.Lined.{ready_waits}
+use Rattle.ptk_words_sync_invariant.proofs.Threads.{awaits_wait}
+use Rattle.ptk_words_invariant.specs.Well.{IsWell}
+use Rattle.ptk_words_invariant.proofs.Starts.{IsFree, least_free_is}
+use Rattle.ptk_words_sync_invariant.specs.Conditions.{IsNoWaiter}
 
 -- ---- by its wait
 

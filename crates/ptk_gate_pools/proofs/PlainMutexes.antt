@@ -9,9 +9,9 @@ use Rattle.ptk_words_parted.specs.Parts.{part_of}
 use Rattle.ptk_words_model.specs.State.{Mutex, locks_of}
 use Rattle.ptk_words_model.specs.Priority.{effective_of}
 use Rattle.ptk_words_model.specs.Mutex.{after_take, after_free}
-use Rattle.ptk_words_locks.proofs.MutexPlaces.{effective-set}
-use Rattle.ptk_mutex_slots.specs.Plain.{is_raising_at}
-use Rattle.ptk_mutex_slots.proofs.Plain.{plain_inherits, plain_ceiling, plain_kept}
+use Rattle.ptk_words_sync_invariant.proofs.MutexPlaces.{effective-set}
+use Rattle.ptk_mutex_priorities.specs.Plain.{is_raising_at}
+use Rattle.ptk_mutex_priorities.proofs.Plain.{plain_inherits, plain_ceiling, plain_kept}
 use Rattle.ptk_gate_pools.specs.Kept.{AreStored}
 use Rattle.ptk_gate_pools.proofs.Vacant.{stored_put}
 

@@ -1,5 +1,5 @@
 -- Plain steps of a thread in a row: what they leave of the pools, and that stored priorities stay the effective ones.
-use Rattle.std.proofs.Common.{arith, ◌≡◌, ℕ, zero, suc, ◌<◌, List, length, get_or, refl, sym, ◌∙◌, ap, subst}
+use Rattle.std.proofs.Common.{arith, ◌≡◌, ℕ, ◌<◌, List, length, get_or, refl, sym, ◌∙◌, ap, subst}
 use Rattle.std.specs.Prelude.{Option, Some, None, IsSome, slice_set, slice_index_or}
 use Rattle.std.specs.Vec.{with_item}
 use Rattle.std.proofs.lemmas.List.{length-set, set-get_or, get_or_default}
@@ -7,10 +7,10 @@ use Rattle.ptk_words.specs.Processor.{Processor}
 use Rattle.ptk_words.specs.declared.sections.Entry.{Entry}
 use Rattle.ptk_words.specs.declared.threads.Thread.{Thread}
 use Rattle.ptk_words_parted.specs.Parts.{part_of}
-use Rattle.ptk_words_instructions.specs.PlainSteps.{Core, core, plain_steps}
-use Rattle.ptk_words_quiet.specs.Quiet.{computed, last_after, after_row}
+use Rattle.ptk_words_instructions.specs.PlainSteps.{core, plain_steps}
+use Rattle.ptk_words_batches.specs.Quiet.{computed, last_after, after_row}
 use Rattle.ptk_threads.specs.Table.{ThreadTable, with_changed}
-use Rattle.ptk_roster.specs.Rosters.{Rostered}
+use Rattle.ptk_syncs.specs.Rosters.{Rostered}
 use Rattle.ptk_gate_pools.specs.Kept.{Kept, AreStored, part_at, put_part}
 use Rattle.ptk_gate_pools.specs.Pooled.{kept_of, ArePooled}
 use Rattle.ptk_gate_pools.specs.declared.pools.Pools.TheInside.{Inside}

@@ -7,13 +7,13 @@ use Rattle.ptk_words.specs.declared.threads.Thread.{Thread}
 use Rattle.ptk_words_model.specs.State.{Mutex, Condition, Part, Syncs}
 use Rattle.ptk_words_model.specs.Priority.{thread_at, awaited}
 use Rattle.ptk_words_model.specs.Mutex.{wait_of}
-use Rattle.ptk_words_locks.specs.Locks.{is_ready, AreLined}
-use Rattle.ptk_words_locks.specs.Conditions.{condition_of_wait, AreSyncs}
-use Rattle.ptk_words_locks.proofs.Lined.{ready_waits, not_ready_out}
-use Rattle.ptk_words_locks.proofs.Threads.{awaits_not_ready}
-use Rattle.ptk_words_locks.proofs.Wakings.{waits_not_ready}
-use Rattle.ptk_words_locks.proofs.Conditions.{IsConditionWait, condition_wait}
-use Rattle.ptk_words_well.specs.Well.{IsWell}
+use Rattle.ptk_words_sync_invariant.specs.Locks.{is_ready, AreLined}
+use Rattle.ptk_words_sync_invariant.specs.Conditions.{condition_of_wait, AreSyncs}
+use Rattle.ptk_words_sync_invariant.proofs.Lined.{ready_waits, not_ready_out}
+use Rattle.ptk_words_sync_invariant.proofs.Threads.{awaits_not_ready}
+use Rattle.ptk_words_sync_invariant.proofs.Wakings.{waits_not_ready}
+use Rattle.ptk_words_sync_invariant.proofs.Conditions.{IsConditionWait, condition_wait}
+use Rattle.ptk_words_invariant.specs.Well.{IsWell}
 use Rattle.ptk_threads.specs.Table.{ThreadTable}
 use Rattle.ptk_mutex.specs.Tables.{IsWaiter, AreLocked}
 use Rattle.ptk_cond.specs.Tables.{syncs_at, AreSynced, IsOnCondition, AreWaiting, IsAwake}

@@ -9,7 +9,7 @@ use Rattle.ptk_words.specs.declared.threads.Thread.{Thread}
 use Rattle.ptk_words_parted.specs.Parts.{part_of}
 use Rattle.ptk_words_model.specs.State.{locks_of}
 use Rattle.ptk_words_model.specs.Mutex.{wait_of}
-use Rattle.ptk_words_locks.proofs.Deadlines.{deadline_at, deadlines-kept}
+use Rattle.ptk_words_sync_invariant.proofs.Deadlines.{deadline_at, deadlines-kept}
 use Rattle.ptk_threads.specs.Table.{ThreadTable, thread_in, with_changed, with_slot, with_left}
 use Rattle.ptk_gate_pools.specs.Kept.{AreTimed, deadlines_in}
 use Rattle.ptk_gate_pools.proofs.Stored.{own_row}

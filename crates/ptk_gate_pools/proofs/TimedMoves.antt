@@ -14,9 +14,9 @@ use Rattle.ptk_words_model.specs.State.{Mutex, Locks, locks_of}
 use Rattle.ptk_words_model.specs.Priority.{thread_at}
 use Rattle.ptk_words_model.specs.Mutex.{wait_of, after_move, after_unlock, after_owner_end, with_soundness}
 use Rattle.ptk_words_model.specs.Withdrawal.{deadline_of_wait, deadlines_of}
-use Rattle.ptk_words_locks.specs.Deadlines.{without_deadlines, deadlines_after_move, woken_by_unlock, woken_by_owner_end}
-use Rattle.ptk_words_locks.proofs.Threads.{in_wait}
-use Rattle.ptk_words_locks.proofs.Deadlines.{deadline_at, changed_deadline, deadlines-kept, deadlines-unlock, deadlines-owner_end}
+use Rattle.ptk_words_sync_invariant.specs.Deadlines.{without_deadlines, deadlines_after_move, woken_by_unlock, woken_by_owner_end}
+use Rattle.ptk_words_sync_invariant.proofs.Threads.{in_wait}
+use Rattle.ptk_words_sync_invariant.proofs.Deadlines.{deadline_at, changed_deadline, deadlines-kept, deadlines-unlock, deadlines-owner_end}
 use Rattle.ptk_threads.specs.Table.{ThreadTable, with_priority}
 use Rattle.ptk_words_parted.specs.Sets.{IsSetOf}
 use Rattle.ptk_mutex.specs.Tables.{locks_at, with_threads, MayWait}

@@ -15,11 +15,11 @@ use Rattle.ptk_words_model.specs.State.{Mutex, Condition, Console, Part}
 use Rattle.ptk_words_model.specs.Priority.{effective_priorities}
 use Rattle.ptk_words_model.specs.Mutex.{wait_of}
 use Rattle.ptk_words_model.specs.Withdrawal.{deadline_of_wait}
-use Rattle.ptk_words_well.specs.Well.{IsWell}
-use Rattle.ptk_roster.specs.Rosters.{AreQueuesIn}
+use Rattle.ptk_words_invariant.specs.Well.{IsWell}
+use Rattle.ptk_syncs.specs.Rosters.{AreQueuesIn}
 use Rattle.ptk_console.specs.ConsoleTable.{fresh_console, no_limits}
-pub use Rattle.ptk_gate_parts.specs.Sections.{per_section}
-pub use Rattle.ptk_gate_parts.specs.AllDecoded.{IsOfWords}
+pub use Rattle.ptk_gate_boot.specs.Sections.{per_section}
+pub use Rattle.ptk_gate_boot.specs.AllDecoded.{IsOfWords}
 
 -- each component as a list with an entry for each partition
 pub record Kept : Type 0 where

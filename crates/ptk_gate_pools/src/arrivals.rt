@@ -14,8 +14,8 @@ use crate::pools::Pools;
 use ptk_words::{ThreadNo, Tick};
 
 impl Pools {
-    /// The waiter for input of greatest effective priority, the earliest among equals, where all of them are in use; None
-    /// where no thread waits.
+    /// The waiter for input of greatest effective priority, the earliest among equals, where all of them are in use;
+    /// None where no thread waits.
     #[tactic(auto, using(crate::proofs::Ranks::stored_waiter))]
     pub fn first_waiter(&self) -> Option<ThreadNo>
         requires in_use { AreInUse self.now.here.threads self.now.here.console.waiters }

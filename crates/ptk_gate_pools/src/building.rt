@@ -5,13 +5,13 @@ ghost use Rattle.ptk_words.specs.declared.faults.Status.TheVariants.{Active};
 ghost use Rattle.ptk_cancel.specs.KeptCancellations.{fresh_cancellations};
 ghost use Rattle.ptk_keys.specs.KeptKeys.{fresh_keys};
 ghost use Rattle.ptk_console.specs.ConsoleTable.{fresh_console};
-ghost use Rattle.ptk_gate_parts.specs.AllDecoded.{IsOfWords};
+ghost use Rattle.ptk_gate_boot.specs.AllDecoded.{IsOfWords};
 ghost use Rattle.ptk_gate_pools.specs.Blank.{blank};
 ghost use Rattle.ptk_gate_pools.specs.Kept.{per_section};
 ghost use Rattle.ptk_gate_pools.specs.Held.{held};
 
 use crate::pools::Pools;
-use ptk_gate_parts::{Records, Stores, ThreadParts, records_of, stores_of, thread_parts_of};
+use ptk_gate_boot::{Records, Stores, ThreadParts, records_of, stores_of, thread_parts_of};
 use ptk_mutex::Mutexes;
 use ptk_words::{Arrival, Limits, PartId};
 use std::alloc::{AllocError, Global};

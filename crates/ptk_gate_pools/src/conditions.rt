@@ -8,8 +8,8 @@ ghost use Rattle.ptk_words_model.specs.Priority.{thread_at};
 ghost use Rattle.ptk_words_model.specs.Mutex.{mutex_at, owns, wait_of};
 ghost use Rattle.ptk_words_model.specs.Condition.{condition_waiters, names_another, after_condition_wait, after_signal, after_broadcast, after_unblock};
 ghost use Rattle.ptk_words_model.specs.Calls.{with_pool_condition};
-ghost use Rattle.ptk_words_locks.specs.Conditions.{condition_of_wait};
-ghost use Rattle.ptk_words_well.specs.Well.{IsWell};
+ghost use Rattle.ptk_words_sync_invariant.specs.Conditions.{condition_of_wait};
+ghost use Rattle.ptk_words_invariant.specs.Well.{IsWell};
 ghost use Rattle.ptk_gate_pools.specs.Held.{limits_here};
 
 use crate::pools::Pools;
@@ -71,8 +71,8 @@ impl Pools {
     }
 
     /// The running thread unlocks its mutex once, as unlock does, and is then the last waiter of the condition
-    /// variable, until the deadline (a tick) if there is one (pthread_cond_wait, pthread_cond_timedwait). It still runs,
-    /// and a deadline already reached is the caller's to refuse before.
+    /// variable, until the deadline (a tick) if there is one (pthread_cond_wait, pthread_cond_timedwait). It still
+    /// runs, and a deadline already reached is the caller's to refuse before.
     #[tactic(auto, using(crate::proofs::Hands::handed))]
     pub fn wait_on(&mut self, t: ThreadNo, c: ConditionNo, m: MutexNo, deadline: Option<Tick>)
         requires well { IsWell (limits_here self.old) self.old.here }
@@ -89,8 +89,8 @@ impl Pools {
         follow_wait(&mut self.deadlines, &self.roster, p, t);
     }
 
-    /// The waiter of greatest effective priority, the earliest among equals, is unblocked: it re-locks the mutex that it
-    /// named, with reply 0 (pthread_cond_signal). Nothing changes without waiters.
+    /// The waiter of greatest effective priority, the earliest among equals, is unblocked: it re-locks the mutex that
+    /// it named, with reply 0 (pthread_cond_signal). Nothing changes without waiters.
     #[tactic(auto, using(crate::proofs::Hands::handed))]
     pub fn signal(&mut self, c: ConditionNo)
         requires well { IsWell (limits_here self.old) self.old.here }

@@ -2,8 +2,8 @@
 
 ghost use Rattle.std.specs.Prelude.{◌≡◌, ℕ, ◌<◌, length, map, is_some};
 ghost use Rattle.ptk_words_model.specs.Withdrawal.{deadlines_of};
-ghost use Rattle.ptk_words_locks.specs.Expiries.{next_expiry};
-ghost use Rattle.ptk_words_well.specs.Well.{IsWell};
+ghost use Rattle.ptk_words_sync_invariant.specs.Expiries.{next_expiry};
+ghost use Rattle.ptk_words_invariant.specs.Well.{IsWell};
 ghost use Rattle.ptk_clock.specs.BySlot.{deadlines_from};
 ghost use Rattle.ptk_clock.specs.ByThread.{first_slot, least_deadline};
 ghost use Rattle.ptk_gate_pools.specs.Kept.{part_at, deadlines_in};

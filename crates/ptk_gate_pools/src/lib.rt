@@ -19,7 +19,7 @@
 //! again; the kept deadlines are those of the waits (`proofs/Timed`), so the next one is read without a search.
 //! `run_row` is made on the thread's registers in the slot table and on the lent memory: `plain` and `ended` say which
 //! steps they are, `moved` what they leave of the part, `traced` what the trace has (`proofs/PlainRows`). Below are the
-//! pools of each kind, `ptk_gate_parts`, which makes them, `ptk_gate_waits`, the instructions and their rows; above is
+//! pools of each kind, `ptk_gate_boot`, which makes them, `ptk_gate_waits`, the instructions and their rows; above is
 //! `ptk_gate_moves`. Costly to prove are the choices by stored priorities; what takes the check longest is the drop of
 //! all pools.
 

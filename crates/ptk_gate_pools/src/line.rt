@@ -7,7 +7,7 @@ ghost use Rattle.ptk_words_model.specs.Schedule.{at_head, first_ready};
 ghost use Rattle.ptk_words.specs.Pools.{is_in};
 ghost use Rattle.ptk_gate_pools.specs.Kept.{AreInUse};
 ghost use Rattle.ptk_gate_pools.specs.Moves.{with_last, out_of_line};
-ghost use Rattle.ptk_words_locks.specs.Conditions.{IsNoWaiter};
+ghost use Rattle.ptk_words_sync_invariant.specs.Conditions.{IsNoWaiter};
 
 use crate::pools::Pools;
 use ptk_words::ThreadNo;

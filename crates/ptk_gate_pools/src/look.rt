@@ -10,7 +10,7 @@ ghost use Rattle.ptk_words_model.specs.Withdrawal.{deadlines_of};
 ghost use Rattle.ptk_words_model.specs.ThreadCreation.{new_cancellation};
 ghost use Rattle.ptk_cancel.specs.KeptCancellations.{is_acting};
 ghost use Rattle.ptk_clock.specs.ByThread.{least_deadline};
-ghost use Rattle.ptk_mutex_slots.specs.Slots.{state_of};
+ghost use Rattle.ptk_mutex_priorities.specs.Slots.{state_of};
 ghost use Rattle.ptk_gate_pools.specs.Kept.{AreInUse, part_at};
 ghost use Rattle.ptk_gate_pools.specs.Held.{all_of, seen};
 

@@ -12,14 +12,14 @@ ghost use Rattle.ptk_words_model.specs.Mutex.{mutex_at, new_mutex, waiters_of, o
 ghost use Rattle.ptk_words_model.specs.MutexCalls.{is_locked};
 ghost use Rattle.ptk_words_model.specs.Condition.{names_mutex};
 ghost use Rattle.ptk_words_model.specs.Calls.{with_pool_mutex};
-ghost use Rattle.ptk_mutex_slots.specs.Slots.{state_of};
+ghost use Rattle.ptk_mutex_priorities.specs.Slots.{state_of};
 ghost use Rattle.ptk_mutex.specs.Tables.{AreLocked, MayWait};
-ghost use Rattle.ptk_words_locks.specs.Conditions.{IsNoWaiter};
+ghost use Rattle.ptk_words_sync_invariant.specs.Conditions.{IsNoWaiter};
 
 use crate::pools::Pools;
 use ptk_gate_waits::follow_move;
 use ptk_mutex::MutexState;
-use ptk_mutex_slots::MutexSlot;
+use ptk_mutex_priorities::MutexSlot;
 use ptk_words::{MutexKind, MutexNo, Protocol, ThreadNo, Tick, Wait};
 use ptk_words_model::LockMove;
 
@@ -102,9 +102,9 @@ impl Pools {
         self.mutexes.lock_move(&self.roster, p, t, m)
     }
 
-    /// A thread that waits for no mutex locks this one, or waits for it, until the deadline (a tick) if there is one, or
-    /// is refused (pthread_mutex_lock, pthread_mutex_timedlock). A deadline already reached is the caller's to refuse
-    /// before.
+    /// A thread that waits for no mutex locks this one, or waits for it, until the deadline (a tick) if there is one,
+    /// or is refused (pthread_mutex_lock, pthread_mutex_timedlock). A deadline already reached is the caller's to
+    /// refuse before.
     #[tactic(auto, using(crate::proofs::Hands::handed, crate::proofs::Locking::moved, crate::proofs::TimedMoves::moved))]
     pub fn lock(&mut self, t: ThreadNo, m: MutexNo, deadline: Option<Tick>) -> LockMove
         requires locked { AreLocked self.old.here.locks }
@@ -122,8 +122,8 @@ impl Pools {
     }
 
     /// A thread that waits for no mutex re-locks this one, or waits for it with this reply if it gets any, or goes on
-    /// without it where it can't be locked any more (pthread_cond_timedwait whose deadline was already reached). Where it
-    /// still owns the mutex, the count is below the limit.
+    /// without it where it can't be locked any more (pthread_cond_timedwait whose deadline was already reached). Where
+    /// it still owns the mutex, the count is below the limit.
     #[tactic(auto, using(crate::proofs::Hands::handed, crate::proofs::Locking::moved, crate::proofs::TimedMoves::moved))]
     pub fn lock_again(&mut self, t: ThreadNo, m: MutexNo, reply: Option<u32>) -> LockMove
         requires locked { AreLocked self.old.here.locks }

@@ -3,7 +3,7 @@
 ghost use Rattle.std.specs.Prelude.{◌≡◌, ◌<◌, false, length};
 ghost use Rattle.ptk_words_model.specs.State.{with_locks};
 ghost use Rattle.ptk_words_model.specs.Mutex.{mutex_at, after_take, after_free};
-ghost use Rattle.ptk_mutex_slots.specs.Plain.{is_takeable, is_releasable, is_raising_at};
+ghost use Rattle.ptk_mutex_priorities.specs.Plain.{is_takeable, is_releasable, is_raising_at};
 
 use crate::pools::Pools;
 use ptk_words::{MutexNo, ThreadNo};
@@ -19,8 +19,8 @@ impl Pools {
         self.mutexes.is_takeable(&self.roster, p, m)
     }
 
-    /// Whether an unlock by the thread frees the mutex, wakes nobody and changes no priority: the thread locked it once,
-    /// it is sound and neither INHERIT nor PROTECT, and nobody waits for it (pthread_mutex_unlock).
+    /// Whether an unlock by the thread frees the mutex, wakes nobody and changes no priority: the thread locked it
+    /// once, it is sound and neither INHERIT nor PROTECT, and nobody waits for it (pthread_mutex_unlock).
     #[inline]
     pub fn is_releasable(&self, t: ThreadNo, m: MutexNo) -> bool
         ensures { result ≡ is_releasable t (mutex_at self.now.here.locks m) }

@@ -8,11 +8,11 @@ ghost use Rattle.ptk_gate_pools.specs.Held.{held, all_of};
 use ptk_cancel::Cancellations;
 use ptk_clock::ThreadDeadlines;
 use ptk_console::Consoles;
-use ptk_gate_parts::Memories;
+use ptk_gate_boot::Memories;
 use ptk_keys::KeyTable;
 use ptk_mutex::Mutexes;
 use ptk_regions::Regions;
-use ptk_roster::Roster;
+use ptk_syncs::Roster;
 use ptk_threads::Threads;
 use ptk_words::{Entry, Limits, PartId, Status, ThreadNo};
 use std::marker::Model;
@@ -91,8 +91,8 @@ impl Pools {
         self.roster.threads()
     }
 
-    /// How many stored priorities the last call on mutexes read as it raised some, of whatever partition: at most one more
-    /// than a partition has threads.
+    /// How many stored priorities the last call on mutexes read as it raised some, of whatever partition: at most one
+    /// more than a partition has threads.
     pub fn visited(&self) -> u32
         ensures { result ≤ THREAD_LIMIT + 1 }
     {

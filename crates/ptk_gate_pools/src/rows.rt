@@ -6,20 +6,20 @@ ghost use Rattle.ptk_words_parted.specs.Parts.{part_of};
 ghost use Rattle.ptk_words_instructions.specs.PlainSteps.{core, is_plain, plain_steps};
 ghost use Rattle.ptk_words_model.specs.Priority.{thread_at};
 ghost use Rattle.ptk_threads.specs.Table.{thread_in, with_changed};
-ghost use Rattle.ptk_words_quiet.specs.Quiet.{ArePlain, core_of, computed, after_row, last_after};
+ghost use Rattle.ptk_words_batches.specs.Quiet.{ArePlain, core_of, computed, after_row, last_after};
 ghost use Rattle.ptk_trace.specs.TracedRows.{traced};
 
 use crate::pools::Pools;
-use ptk_gate_parts::Memories;
-use ptk_roster::Roster;
+use ptk_gate_boot::Memories;
+use ptk_syncs::Roster;
 use ptk_threads::Work;
 use ptk_trace::Trace;
 use ptk_words::{Entry, PartId, Policy, Thread, ThreadNo, Tick};
 
 impl Pools {
-    /// Plain steps of a thread in use in a row, the first of them at the tick, at most this many, until the next word is no
-    /// plain step; how many. Each is counted as if it had been a decision: the registers, the memory, the used ticks of
-    /// SCHED_RR, the last step, and the trace, which has them as the newest. Nothing else changes.
+    /// Plain steps of a thread in use in a row, the first of them at the tick, at most this many, until the next word
+    /// is no plain step; how many. Each is counted as if it had been a decision: the registers, the memory, the used
+    /// ticks of SCHED_RR, the last step, and the trace, which has them as the newest. Nothing else changes.
     pub fn run_row(&mut self, t: ThreadNo, tick: Tick, most: u32, trace: &mut Trace) -> u32
         requires time { tick < 2 ^ 63 }
         requires in_use { IsSome (thread_at self.old.here.locks t) }
@@ -85,8 +85,8 @@ fn run_at(
     roster.work_on(p, t, &mut row)
 }
 
-/// Plain steps of a thread in a row, as work on it: whose they are, of which partition, from when on and at most how many, and what they
-/// write beside its registers.
+/// Plain steps of a thread in a row, as work on it: whose they are, of which partition, from when on and at most how
+/// many, and what they write beside its registers.
 #[derive(Drop)]
 struct Row<'a> {
     p: PartId,

@@ -144,7 +144,8 @@ impl Pools {
         self.mutexes.refresh(&mut self.roster, p);
     }
 
-    /// The thread, which is not in the line, has ended: its number stays with the result until a join or a detachment, or is free (pthread_exit).
+    /// The thread, which is not in the line, has ended: its number stays with the result until a join or a detachment,
+    /// or is free (pthread_exit).
     #[tactic(auto, using(crate::proofs::Hands::handed, crate::proofs::Stored::refreshed, crate::proofs::Timed::followed))]
     pub fn end(&mut self, t: ThreadNo)
         requires out { is_in t self.old.here.line ≡ false }

@@ -8,7 +8,7 @@ use Rattle.ptk_words_model.specs.Console.{arriving, without_waiter}
 use Rattle.ptk_words.specs.declared.sections.Arrival.{Arrival}
 use Rattle.ptk_words_model.specs.Schedule.{after_wake}
 use Rattle.ptk_words_model.specs.Decision.{first_waiter, after_arrival_for, after_arrivals}
-use Rattle.ptk_words_well.specs.Well.{IsWell}
+use Rattle.ptk_words_invariant.specs.Well.{IsWell}
 use Rattle.ptk_console.specs.ConsoleTable.{next_byte, without_next, with_any_input}
 use Rattle.ptk_console.specs.ConsoleTable as console
 use Rattle.ptk_gate_moves.specs.Held.{Held, limits_here}

@@ -15,16 +15,16 @@ use Rattle.ptk_words_model.specs.State.{Console, Part, with_console}
 use Rattle.ptk_words_model.specs.Console.{arriving, is_due_at, without_arriving}
 use Rattle.ptk_words_model.specs.Priority.{thread_at, effective_priority}
 use Rattle.ptk_words_model.specs.Decision.{after_arrival_for, first_waiter, after_arrival, after_arrivals}
-use Rattle.ptk_words_locks.specs.Locks.{is_ready}
-use Rattle.ptk_words_well.specs.Well.{IsWell}
+use Rattle.ptk_words_sync_invariant.specs.Locks.{is_ready}
+use Rattle.ptk_words_invariant.specs.Well.{IsWell}
 use Rattle.ptk_words.specs.Pools.{is_in}
-use Rattle.ptk_words_locks.proofs.Lines.{first_in}
-use Rattle.ptk_words_well.proofs.Parts.{well_console}
-use Rattle.ptk_words_well.proofs.Waits.{well_arrival_for}
+use Rattle.ptk_words_sync_invariant.proofs.Lines.{first_in}
+use Rattle.ptk_words_invariant.proofs.Parts.{well_console}
+use Rattle.ptk_words_invariant.proofs.Waits.{well_arrival_for}
 use Rattle.ptk_console.specs.ConsoleTable.{next_byte, without_next}
 use Rattle.ptk_console.proofs.Arrivals.{arriving-without_next, without_arriving-without_next}
 use Rattle.ptk_gate_moves.specs.Moves.{with_next_taken}
-use Rattle.ptk_words_locks.specs.Conditions.{IsNoWaiter}
+use Rattle.ptk_words_sync_invariant.specs.Conditions.{IsNoWaiter}
 use Rattle.ptk_gate_moves.proofs.NoWaiters.{reader_apart}
 use Rattle.ptk_gate_services.specs.Arrivals.{after_byte}
 

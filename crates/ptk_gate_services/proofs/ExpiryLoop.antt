@@ -4,10 +4,10 @@ use Rattle.std.specs.Prelude.{Option, Some, None, is_some}
 use Rattle.std.proofs.lemmas.Bool.{false≢true}
 use Rattle.ptk_words_model.specs.State.{Part}
 use Rattle.ptk_words_model.specs.Withdrawal.{Expiry, in_order, due, deadlines_of, after_expiries}
-use Rattle.ptk_words_locks.specs.Expiries.{next_expiry, after_expiry, after_next}
-use Rattle.ptk_words_locks.proofs.Expiries.{in_turn, one_at_a_time}
-use Rattle.ptk_words_well.specs.Well.{IsWell}
-use Rattle.ptk_words_well.proofs.Timeouts.{well_timeout}
+use Rattle.ptk_words_sync_invariant.specs.Expiries.{next_expiry, after_expiry, after_next}
+use Rattle.ptk_words_sync_invariant.proofs.Expiries.{in_turn, one_at_a_time}
+use Rattle.ptk_words_invariant.specs.Well.{IsWell}
+use Rattle.ptk_words_invariant.proofs.Timeouts.{well_timeout}
 use Rattle.ptk_gate_moves.specs.Held.{Held, limits_here}
 use Rattle.ptk_gate_moves.specs.Expired.{after_one_expiry}
 

@@ -11,12 +11,12 @@ use Rattle.ptk_words_model.specs.State.{Locks, Part}
 use Rattle.ptk_words_model.specs.Priority.{thread_at}
 use Rattle.ptk_words_model.specs.Mutex.{wait_of}
 use Rattle.ptk_words_model.specs.Withdrawal.{without_joiner}
-use Rattle.ptk_words_locks.proofs.Lined.{not_ready_out}
-use Rattle.ptk_words_locks.proofs.Pools.{changed_own, changed_other}
-use Rattle.ptk_words_well.specs.Well.{IsWell}
-use Rattle.ptk_words_well.proofs.Whole.{lined_of}
-use Rattle.ptk_words_well.proofs.Waits.{waits_not_ready}
-use Rattle.ptk_words_locks.specs.Conditions.{IsNoWaiter}
+use Rattle.ptk_words_sync_invariant.proofs.Lined.{not_ready_out}
+use Rattle.ptk_words_sync_invariant.proofs.Pools.{changed_own, changed_other}
+use Rattle.ptk_words_invariant.specs.Well.{IsWell}
+use Rattle.ptk_words_invariant.proofs.Whole.{lined_of}
+use Rattle.ptk_words_invariant.proofs.Waits.{waits_not_ready}
+use Rattle.ptk_words_sync_invariant.specs.Conditions.{IsNoWaiter}
 use Rattle.ptk_gate_moves.proofs.NoWaiters.{reader_apart, sleeper_apart, joiner_apart}
 
 waits_some : (wait : Wait) (o : Option Thread) → wait_of o ≡ Some wait → IsSome o

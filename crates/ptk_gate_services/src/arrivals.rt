@@ -6,11 +6,11 @@ ghost use Rattle.ptk_words_model.specs.Console.{without_waiter};
 ghost use Rattle.ptk_words_model.specs.Priority.{thread_at};
 ghost use Rattle.ptk_words_model.specs.Schedule.{after_wake};
 ghost use Rattle.ptk_words_model.specs.Decision.{first_waiter, after_arrivals};
-ghost use Rattle.ptk_words_well.specs.Well.{IsWell};
+ghost use Rattle.ptk_words_invariant.specs.Well.{IsWell};
 ghost use Rattle.ptk_words.specs.Pools.{is_in};
 ghost use Rattle.ptk_console.specs.ConsoleTable.{next_byte};
 ghost use Rattle.ptk_gate_moves.specs.Held.{limits_here};
-ghost use Rattle.ptk_words_locks.specs.Conditions.{IsNoWaiter};
+ghost use Rattle.ptk_words_sync_invariant.specs.Conditions.{IsNoWaiter};
 ghost use Rattle.ptk_gate_services.specs.Arrivals.{after_next};
 
 use ptk_gate_moves::{Pools, wake};

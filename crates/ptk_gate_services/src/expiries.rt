@@ -2,8 +2,8 @@
 
 ghost use Rattle.std.specs.Prelude.{◌≡◌, is_some};
 ghost use Rattle.ptk_words_model.specs.Withdrawal.{deadlines_of, after_expiries};
-ghost use Rattle.ptk_words_locks.specs.Expiries.{next_expiry};
-ghost use Rattle.ptk_words_well.specs.Well.{IsWell};
+ghost use Rattle.ptk_words_sync_invariant.specs.Expiries.{next_expiry};
+ghost use Rattle.ptk_words_invariant.specs.Well.{IsWell};
 ghost use Rattle.ptk_gate_moves.specs.Held.{limits_here};
 ghost use Rattle.ptk_gate_moves.specs.Expired.{after_one_expiry};
 

@@ -8,9 +8,9 @@ use ptk_keys::KeyNo;
 use ptk_words::Errno;
 use ptk_words_model::{Invocation, Reply};
 
-/// pthread_key_create: a new key at the least free number, which is returned in a1, with the destructor at the address of
-/// a0, or none where that is 0; its value is 0 in every thread. EAGAIN where the partition has no free key; a refusal
-/// changes nothing but a0.
+/// pthread_key_create: a new key at the least free number, which is returned in a1, with the destructor at the address
+/// of a0, or none where that is 0; its value is 0 in every thread. EAGAIN where the partition has no free key; a
+/// refusal changes nothing but a0.
 pub fn key_create(pools: &mut Pools, i: Invocation) -> Reply
     ensures told { result ≡ (key_create i pools.old.here).reply }
     ensures moved { pools.new ≡ record pools.old { here = (key_create i pools.old.here).part } }

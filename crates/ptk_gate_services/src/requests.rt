@@ -4,7 +4,7 @@ ghost use Rattle.std.specs.Prelude.{◌≡◌};
 ghost use Rattle.ptk_words_model.specs.Priority.{thread_at};
 ghost use Rattle.ptk_words_model.specs.Mutex.{wait_of};
 ghost use Rattle.ptk_words_model.specs.CancellationCalls as calls;
-ghost use Rattle.ptk_words_well.specs.Well.{IsWell};
+ghost use Rattle.ptk_words_invariant.specs.Well.{IsWell};
 ghost use Rattle.ptk_gate_moves.specs.Held.{limits_here};
 ghost use Rattle.ptk_gate_services.specs.Requests.{after_request};
 

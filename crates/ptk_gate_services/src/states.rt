@@ -24,8 +24,8 @@ fn type_number(is_asynchronous: bool) -> u32
 }
 
 /// pthread_setcancelstate: the caller's cancelability state is that of a0, PTHREAD_CANCEL_ENABLE, 0, or
-/// PTHREAD_CANCEL_DISABLE, 1, and the old one is returned in a1. A pending request stays pending. EINVAL of another word; a
-/// refusal changes nothing but a0.
+/// PTHREAD_CANCEL_DISABLE, 1, and the old one is returned in a1. A pending request stays pending. EINVAL of another
+/// word; a refusal changes nothing but a0.
 pub fn setcancelstate(pools: &mut Pools, i: Invocation) -> Reply
     ensures told { result ≡ (setcancelstate i pools.old.here).reply }
     ensures moved { pools.new ≡ record pools.old { here = (setcancelstate i pools.old.here).part } }
@@ -39,8 +39,8 @@ pub fn setcancelstate(pools: &mut Pools, i: Invocation) -> Reply
 }
 
 /// pthread_setcanceltype: the caller's cancelability type is that of a0, PTHREAD_CANCEL_DEFERRED, 0, or
-/// PTHREAD_CANCEL_ASYNCHRONOUS, 1, and the old one is returned in a1. EINVAL of another word; a refusal changes nothing but
-/// a0.
+/// PTHREAD_CANCEL_ASYNCHRONOUS, 1, and the old one is returned in a1. EINVAL of another word; a refusal changes nothing
+/// but a0.
 pub fn setcanceltype(pools: &mut Pools, i: Invocation) -> Reply
     ensures told { result ≡ (setcanceltype i pools.old.here).reply }
     ensures moved { pools.new ≡ record pools.old { here = (setcanceltype i pools.old.here).part } }

@@ -5,8 +5,8 @@ use Rattle.std.proofs.lemmas.Bool.{lt-ltb, false≢true}
 use Rattle.ptk_words.specs.declared.sections.Limits.{Limits}
 use Rattle.ptk_words_model.specs.State.{Part}
 use Rattle.ptk_words_model.specs.Run.{is_active}
-use Rattle.ptk_words_well.specs.Well.{IsWell}
-use Rattle.ptk_words_quiet.specs.Idle.{IsIdle}
+use Rattle.ptk_words_invariant.specs.Well.{IsWell}
+use Rattle.ptk_words_batches.specs.Idle.{IsIdle}
 use Rattle.ptk_gate_steps.specs.QuietStops.{before_event}
 use Rattle.ptk_gate_steps.proofs.QuietStops.{none_comes_before, none_expires_before, event_no_later}
 

@@ -28,9 +28,9 @@ use Rattle.ptk_words_model.specs.Calls.{Answer, replied, refusal, success, is_po
 use Rattle.ptk_words_model.specs.CallTable.{answer_to}
 use Rattle.ptk_words_model.specs.Steps.{Row, readable, mutex_named}
 use Rattle.ptk_words_model.specs.Decision.{with_cpu, invocation}
-use Rattle.ptk_words_well.specs.Rests.{lock_by, unlock_named}
-use Rattle.ptk_mutex_slots.specs.Plain.{is_sound, is_takeable, is_releasable}
-use Rattle.ptk_mutex_slots.proofs.Plain.{takeable_plain, releasable_plain}
+use Rattle.ptk_words_invariant.specs.Rests.{lock_by, unlock_named}
+use Rattle.ptk_mutex_priorities.specs.Plain.{is_sound, is_takeable, is_releasable}
+use Rattle.ptk_mutex_priorities.proofs.Plain.{takeable_plain, releasable_plain}
 use Rattle.ptk_gate_steps.specs.declared.quiet_calls.QuietEffect.TheVariants.{Takes, Releases}
 use Rattle.ptk_gate_steps.specs.Replies.{IsPut, is_contended}
 

@@ -16,12 +16,12 @@ use Rattle.ptk_words_model.specs.Schedule.{first_ready, is_round_robin}
 use Rattle.ptk_words_model.specs.Decision.{is_to_unwind}
 use Rattle.ptk_words_model.specs.Unwinding.{is_alive}
 use Rattle.ptk_words_model.specs.Run.{is_active}
-use Rattle.ptk_words_locks.specs.Locks.{used_of}
-use Rattle.ptk_words_locks.proofs.Lined.{ready_alive}
-use Rattle.ptk_words_locks.proofs.Lines.{first_in}
-use Rattle.ptk_words_well.specs.Well.{IsWell}
-use Rattle.ptk_words_quiet.specs.Quiet.{stays_before, IsQuiet}
-use Rattle.ptk_words_quiet.proofs.Arrivals.{none_before}
+use Rattle.ptk_words_sync_invariant.specs.Locks.{used_of}
+use Rattle.ptk_words_sync_invariant.proofs.Lined.{ready_alive}
+use Rattle.ptk_words_sync_invariant.proofs.Lines.{first_in}
+use Rattle.ptk_words_invariant.specs.Well.{IsWell}
+use Rattle.ptk_words_batches.specs.Quiet.{stays_before, IsQuiet}
+use Rattle.ptk_words_batches.proofs.Arrivals.{none_before}
 use Rattle.ptk_gate_moves.proofs.Ready.{lined_in_use}
 use Rattle.ptk_words_model.specs.Withdrawal.{deadlines_of, due}
 use Rattle.ptk_gate_steps.specs.QuietStops.{before_input, before_event, quiet_stop}

@@ -23,8 +23,8 @@ use Rattle.ptk_words_model.specs.ThreadCreation.{policy_number}
 use Rattle.ptk_words_model.specs.Calls.{Answer, replied, refusal, success, cancellation_answer}
 use Rattle.ptk_words_model.specs.CallTable.{answer_to}
 use Rattle.ptk_words_model.specs.Decision.{with_cpu, invocation}
-use Rattle.ptk_words_locks.proofs.Threads.{changed_same}
-use Rattle.ptk_words_quiet.proofs.PlainDecisions.{with_registers_of}
+use Rattle.ptk_words_sync_invariant.proofs.Threads.{changed_same}
+use Rattle.ptk_words_batches.proofs.PlainDecisions.{with_registers_of}
 use Rattle.ptk_gate_steps.specs.declared.quiet_calls.QuietEffect.TheVariants.{Keeps, Puts, Sets}
 use Rattle.ptk_gate_steps.specs.Replies.{IsPut}
 

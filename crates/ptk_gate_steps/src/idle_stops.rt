@@ -2,8 +2,8 @@
 
 ghost use Rattle.std.specs.Prelude.{◌≡◌, ℕ, ◌≤◌, IfSome};
 ghost use Rattle.std.specs.Option.{IsSomeAnd};
-ghost use Rattle.ptk_words_well.specs.Well.{IsWell};
-ghost use Rattle.ptk_words_quiet.specs.Idle.{IsIdle};
+ghost use Rattle.ptk_words_invariant.specs.Well.{IsWell};
+ghost use Rattle.ptk_words_batches.specs.Idle.{IsIdle};
 
 use crate::quiet_stops::before_events;
 use ptk_gate_moves::Look;

@@ -9,8 +9,8 @@ use ptk_rv32i::Outcome;
 use ptk_words::{Cause, Cpu, Status, ThreadNo};
 
 /// A step of the thread, which has these registers: the instruction's effect on the registers and the memory, or the
-/// partition stops at a break or a fault, which leaves both. The call of an ECALL is left to be carried out on the state
-/// after it.
+/// partition stops at a break or a fault, which leaves both. The call of an ECALL is left to be carried out on the
+/// state after it.
 pub fn instruct(pools: &mut Pools, t: ThreadNo, cpu: Cpu)
     ensures { pools.new ≡ record pools.old { here = after_instruction t cpu.pc (effect_at cpu pools.old.here.memory) pools.old.here } }
 {

@@ -16,7 +16,7 @@ ghost use Rattle.ptk_words_model.specs.Calls.{is_pointer};
 ghost use Rattle.ptk_words_model.specs.Mutex.{mutex_at};
 ghost use Rattle.ptk_words_model.specs.Priority.{thread_at};
 ghost use Rattle.ptk_words_model.specs.State.{Part};
-ghost use Rattle.ptk_mutex_slots.specs.Plain.{is_releasable, is_takeable};
+ghost use Rattle.ptk_mutex_priorities.specs.Plain.{is_releasable, is_takeable};
 ghost use Rattle.ptk_gate_moves.specs.Held.{limits_here};
 ghost use Rattle.ptk_gate_steps.specs.QuietCalls.{has_request, is_quiet_with, mutex_pointed};
 ghost use Rattle.ptk_gate_steps.specs.Replies.{IsPut};

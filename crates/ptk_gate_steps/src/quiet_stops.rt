@@ -7,8 +7,8 @@ ghost use Rattle.ptk_words.specs.declared.threads.Thread.{Thread};
 ghost use Rattle.ptk_words_model.specs.Priority.{thread_at, effective_priority};
 ghost use Rattle.ptk_words_model.specs.Schedule.{first_ready};
 ghost use Rattle.ptk_words_model.specs.Run.{is_active};
-ghost use Rattle.ptk_words_well.specs.Well.{IsWell};
-ghost use Rattle.ptk_words_quiet.specs.Quiet.{stays_before, IsQuiet};
+ghost use Rattle.ptk_words_invariant.specs.Well.{IsWell};
+ghost use Rattle.ptk_words_batches.specs.Quiet.{stays_before, IsQuiet};
 ghost use Rattle.ptk_gate_steps.specs.QuietStops.{before_event, quiet_stop};
 
 use ptk_gate_moves::{Look, is_to_unwind};
@@ -23,9 +23,9 @@ pub struct Quiet {
     pub stop: Tick,
 }
 
-/// Whether the partition only computes from the tick on, and up to which tick, at most `stop`: no input comes before it, no
-/// deadline is due, no round-robin interval ends, and the running thread stays and begins no unwinding. None where a
-/// thread must be chosen, an unwinding begins, or something comes at the tick itself.
+/// Whether the partition only computes from the tick on, and up to which tick, at most `stop`: no input comes before
+/// it, no deadline is due, no round-robin interval ends, and the running thread stays and begins no unwinding. None
+/// where a thread must be chosen, an unwinding begins, or something comes at the tick itself.
 pub fn quiet_until(look: &Look<'_>, tick: Tick, stop: Tick) -> Option<Quiet>
     requires active { is_active look.now.part.status ≡ true }
     requires well { IsWell look.now.limits look.now.part }

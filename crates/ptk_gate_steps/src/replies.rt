@@ -9,7 +9,7 @@ ghost use Rattle.ptk_words.specs.declared.threads.Thread.{Thread};
 ghost use Rattle.ptk_words_model.specs.Priority.{thread_at};
 ghost use Rattle.ptk_words_model.specs.Schedule.{with_thread};
 ghost use Rattle.ptk_words_model.specs.State.{with_locks};
-ghost use Rattle.ptk_words_quiet.specs.Quiet.{computed};
+ghost use Rattle.ptk_words_batches.specs.Quiet.{computed};
 ghost use Rattle.ptk_gate_moves.specs.Held.{limits_here};
 ghost use Rattle.ptk_gate_steps.specs.QuietCalls.{is_quiet_call};
 ghost use Rattle.ptk_gate_steps.specs.Replies.{IsMadeHere, IsPlainEffect, after_quiet_effect};
@@ -19,9 +19,10 @@ use crate::quiet_calls::{QuietEffect, may_be_quiet, put_reply};
 use ptk_gate_moves::Pools;
 use ptk_words::{A0, A7, Call, Cpu, ECALL, Entry, Policy, ThreadNo, Tick};
 
-/// Makes the next step of a thread of the partition in hand, where that is a quiet call that takes at most `room` ticks:
-/// the thread has the reply, its ticks are counted, the call's effect is made, and it is the last step. Returns its ticks;
-/// 0, and nothing changes, of any other step: where the step is a quiet call, only if it takes more than `room` ticks.
+/// Makes the next step of a thread of the partition in hand, where that is a quiet call that takes at most `room`
+/// ticks: the thread has the reply, its ticks are counted, the call's effect is made, and it is the last step. Returns
+/// its ticks; 0, and nothing changes, of any other step: where the step is a quiet call, only if it takes more than
+/// `room` ticks.
 pub fn make_reply(pools: &mut Pools, t: ThreadNo, tick: Tick, room: u64) -> u32
     requires used { (thread : Thread) → thread_at pools.old.here.locks t ≡ Some thread → thread.used + 16 < 2 ^ 32 }
     ensures none { result ≡ 0 → pools.new ≡ pools.old }

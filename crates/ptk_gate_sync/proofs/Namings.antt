@@ -15,11 +15,11 @@ use Rattle.ptk_words_model.specs.State.{Part}
 use Rattle.ptk_words_model.specs.Mutex.{mutex_at, new_mutex}
 use Rattle.ptk_words_model.specs.Calls.{Answer, refusal, is_pointer, is_cancelled, with_stored, with_pool_mutex, with_pool_condition}
 use Rattle.ptk_words_model.specs.Steps.{Row, readable, cancellation_point, mutex_named, condition_named}
-use Rattle.ptk_words_locks.proofs.Pools.{get-set_own}
-use Rattle.ptk_words_well.specs.Well.{IsWell}
-use Rattle.ptk_words_well.proofs.Starts.{IsFree, least_free_is}
-use Rattle.ptk_words_well.proofs.MutexCalls.{length-stored, well_stored, well_set_up}
-use Rattle.ptk_words_well.proofs.NamedRows.{well_new_condition}
+use Rattle.ptk_words_sync_invariant.proofs.Pools.{get-set_own}
+use Rattle.ptk_words_invariant.specs.Well.{IsWell}
+use Rattle.ptk_words_invariant.proofs.Starts.{IsFree, least_free_is}
+use Rattle.ptk_words_invariant.proofs.MutexCalls.{length-stored, well_stored, well_set_up}
+use Rattle.ptk_words_invariant.proofs.NamedRows.{well_new_condition}
 use Rattle.ptk_gate_moves.proofs.Pointers.{pointer_room}
 use Rattle.ptk_gate_sync.specs.Named.{IsNamed, IsMutexOfWord, IsConditionOfWord, IsConditionNamed}
 

@@ -1,29 +1,20 @@
 -- The rests of the rows of calls 24 and 30 to 35.
-use Rattle.std.proofs.Common.{arith, ◌≡◌, ℕ, ◌<◌, ◌≤◌, Bool, true, false, List, [], ◌∷◌, length, refl, sym, ◌∙◌, ap}
-use Rattle.std.specs.Prelude.{Option, Some, None, IsSome, not, nat_lt, nat_le, if◌then◌else◌}
+use Rattle.std.proofs.Common.{arith, ◌≡◌, ℕ, ◌<◌, ◌≤◌, Bool, true, false, List, [], ◌∷◌, length, refl}
+use Rattle.std.specs.Prelude.{Option, Some, None, IsSome, nat_lt, if◌then◌else◌}
 use Rattle.std.proofs.lemmas.Bool.{ltb-false}
 use Rattle.ptk_words.specs.declared.TheConstants.{COUNT_LIMIT}
-use Rattle.ptk_words.specs.declared.faults.Errno.TheVariants.{EINVAL, ETIMEDOUT}
 use Rattle.ptk_words.specs.declared.sections.Limits.{Limits}
-use Rattle.ptk_words_model.specs.declared.Invocation.{Invocation}
-use Rattle.ptk_words_model.specs.declared.LockMove.{LockMove}
-use Rattle.ptk_words_model.specs.declared.LockMove.TheVariants.{Takes, Recovers, Counts, Waits, Refuses}
+use Rattle.ptk_words_model.specs.declared.LockMove.TheVariants.{Counts}
 use Rattle.ptk_words_model.specs.State.{Mutex, Part, with_locks}
-use Rattle.ptk_words_model.specs.Mutex.{mutex_at, owns, count_of, lock_move, relock_move, after_unlock}
-use Rattle.ptk_words_model.specs.MutexCalls.{make_move, timed_move}
-use Rattle.ptk_words_model.specs.Time.{Timespec, timespec_at, is_timespec, deadline_of}
-use Rattle.ptk_words_model.specs.Calls.{refusal}
-use Rattle.ptk_words_locks.proofs.ConditionWaits.{room_unlock}
-use Rattle.ptk_words_well.specs.Well.{IsWell}
-use Rattle.ptk_words_well.proofs.Synced.{running_syncs}
-use Rattle.ptk_words_well.proofs.MutexCalls.{well_unlock}
+use Rattle.ptk_words_model.specs.Mutex.{mutex_at, owns, count_of, relock_move, after_unlock}
+use Rattle.ptk_words_sync_invariant.proofs.ConditionWaits.{room_unlock}
+use Rattle.ptk_words_invariant.specs.Well.{IsWell}
+use Rattle.ptk_words_invariant.proofs.Synced.{running_syncs}
+use Rattle.ptk_words_invariant.proofs.MutexCalls.{well_unlock}
 use Rattle.ptk_mutex.specs.Tables.{AreLocked, MayWait}
-use Rattle.ptk_words_locks.specs.Conditions.{IsNoWaiter}
+use Rattle.ptk_words_sync_invariant.specs.Conditions.{IsNoWaiter}
 use Rattle.ptk_gate_moves.proofs.NoWaiters.{runner_apart}
-use Rattle.ptk_gate_moves.specs.Moves.{deadline_asked}
 use Rattle.ptk_gate_moves.proofs.Locked.{locked_of, may_wait}
-use Rattle.ptk_mutex.specs.Rises.{is_waiting}
-use Rattle.ptk_words_well.specs.Rests.{lock_by, timedlock_named, timed_wait_named, wait_until, wait_until_asked}
 
 -- ---- destruction
 

@@ -2,9 +2,9 @@
 
 ghost use Rattle.std.specs.Prelude.{◌≡◌, ◌<◌, ◌≤◌, ◌+◌, length};
 ghost use Rattle.ptk_words_model.specs.ConditionCalls.{cond_init, cond_destroy, cond_signal, cond_broadcast};
-ghost use Rattle.ptk_words_well.specs.Well.{IsWell};
+ghost use Rattle.ptk_words_invariant.specs.Well.{IsWell};
 ghost use Rattle.ptk_gate_moves.specs.Held.{limits_here};
-ghost use Rattle.ptk_words_well.specs.Rests.{destroy_condition_named, signal_named, broadcast_named};
+ghost use Rattle.ptk_words_invariant.specs.Rests.{destroy_condition_named, signal_named, broadcast_named};
 
 use crate::condition_naming::{make_condition, named_condition};
 use ptk_gate_moves::{Pools, is_pointer, refuse, succeed};

@@ -21,9 +21,9 @@ pub(crate) struct NewMutex {
     pub is_robust: bool,
 }
 
-/// pthread_mutex_init: a mutex of the type of a1 and the protocol of a2, with the ceiling of a3 where it has one, at the
-/// least free number, which the word at the pointer of a0 then holds; the old word is not looked at. Refusals in this
-/// order (own choice), which change nothing but a0: EFAULT where the pointer is no multiple of 4 or the word lies
+/// pthread_mutex_init: a mutex of the type of a1 and the protocol of a2, with the ceiling of a3 where it has one, at
+/// the least free number, which the word at the pointer of a0 then holds; the old word is not looked at. Refusals in
+/// this order (own choice), which change nothing but a0: EFAULT where the pointer is no multiple of 4 or the word lies
 /// outside memory; EINVAL of a type, of a protocol or of PROTECT's ceiling; ENOMEM where no number is free.
 pub fn mutex_init(pools: &mut Pools, i: Invocation) -> Reply
     ensures told { result ≡ (mutex_init i pools.old.here).reply }

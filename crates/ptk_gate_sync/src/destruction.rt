@@ -4,14 +4,14 @@ ghost use Rattle.std.specs.Prelude.{◌≡◌, ◌<◌, ◌≤◌, ◌+◌, ◌|
 ghost use Rattle.ptk_words_model.specs.Mutex.{mutex_at};
 ghost use Rattle.ptk_words_model.specs.Condition.{names_mutex};
 ghost use Rattle.ptk_words_model.specs.MutexCalls.{is_locked, mutex_destroy};
-ghost use Rattle.ptk_words_well.specs.Well.{IsWell};
-ghost use Rattle.ptk_mutex_slots.specs.Slots.{mutex_with};
+ghost use Rattle.ptk_words_invariant.specs.Well.{IsWell};
+ghost use Rattle.ptk_mutex_priorities.specs.Slots.{mutex_with};
 ghost use Rattle.ptk_gate_moves.specs.Held.{limits_here};
-ghost use Rattle.ptk_words_well.specs.Rests.{destroy_named};
+ghost use Rattle.ptk_words_invariant.specs.Rests.{destroy_named};
 
 use crate::naming::named_mutex;
 use ptk_gate_moves::{Pools, refuse, succeed};
-use ptk_mutex_slots::MutexState;
+use ptk_mutex_priorities::MutexState;
 use ptk_words::{DESTROYED, Errno, MutexNo, Owner};
 use ptk_words_model::{Invocation, Reply};
 

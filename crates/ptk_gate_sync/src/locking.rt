@@ -5,14 +5,14 @@ ghost use Rattle.ptk_words_model.specs.Calls.{told};
 ghost use Rattle.ptk_words_model.specs.MutexCalls.{mutex_lock, mutex_trylock, mutex_timedlock};
 ghost use Rattle.ptk_words_model.specs.declared.LockMove.TheVariants.{Waits};
 ghost use Rattle.ptk_words_model.specs.Mutex.{mutex_at, lock_move};
-ghost use Rattle.ptk_words_well.specs.Well.{IsWell};
+ghost use Rattle.ptk_words_invariant.specs.Well.{IsWell};
 ghost use Rattle.ptk_mutex.specs.Rises.{is_waiting};
 ghost use Rattle.ptk_gate_moves.specs.Held.{limits_here};
-ghost use Rattle.ptk_words_well.specs.Rests.{lock_by, trylock_named, timedlock_named, timed_wait_named};
+ghost use Rattle.ptk_words_invariant.specs.Rests.{lock_by, trylock_named, timedlock_named, timed_wait_named};
 
 use crate::naming::named_mutex;
 use ptk_gate_moves::{Pools, asked_deadline, is_pointer, refuse, reply};
-use ptk_mutex_slots::reply_of;
+use ptk_mutex_priorities::reply_of;
 use ptk_words::{Errno, MutexNo, Tick};
 use ptk_words_model::{Invocation, LockMove, Reply};
 

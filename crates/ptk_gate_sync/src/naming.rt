@@ -4,7 +4,7 @@ ghost use Rattle.std.specs.Prelude.{◌≡◌, ◌<◌, true, length, is_some, O
 ghost use Rattle.ptk_words.specs.Pools.{pool_get};
 ghost use Rattle.ptk_words.specs.declared.faults.Errno.TheVariants.{EINVAL};
 ghost use Rattle.ptk_words_model.specs.Calls.{is_pointer};
-ghost use Rattle.ptk_words_well.specs.Well.{IsWell};
+ghost use Rattle.ptk_words_invariant.specs.Well.{IsWell};
 ghost use Rattle.ptk_gate_moves.specs.Held.{limits_here};
 ghost use Rattle.ptk_gate_sync.specs.Named.{IsNamed, IsMutexOfWord};
 

@@ -3,21 +3,21 @@
 ghost use Rattle.std.specs.Prelude.{◌≡◌, ◌<◌, [], length, option_map};
 ghost use Rattle.ptk_words_model.specs.Mutex.{mutex_at};
 ghost use Rattle.ptk_words_model.specs.MutexCalls.{mutex_unlock, is_inconsistent, is_repairable, mutex_consistent};
-ghost use Rattle.ptk_words_well.specs.Rests.{unlock_named, consistent_named};
-ghost use Rattle.ptk_words_well.specs.Well.{IsWell};
-ghost use Rattle.ptk_mutex_slots.specs.Slots.{mutex_with};
+ghost use Rattle.ptk_words_invariant.specs.Rests.{unlock_named, consistent_named};
+ghost use Rattle.ptk_words_invariant.specs.Well.{IsWell};
+ghost use Rattle.ptk_mutex_priorities.specs.Slots.{mutex_with};
 ghost use Rattle.ptk_gate_moves.specs.Held.{limits_here};
 
 use crate::naming::named_mutex;
 use ptk_gate_moves::{Pools, refuse, succeed};
-use ptk_mutex_slots::MutexState;
+use ptk_mutex_priorities::MutexState;
 use ptk_words::{Errno, MutexNo, Soundness};
 use ptk_words_model::{Invocation, Reply};
 
 /// pthread_mutex_unlock: the caller's mutex that the word at the pointer of a0 names counts down, or goes to the waiter
 /// of greatest effective priority, the earliest among equals, or is free; an inconsistent one is lost, and its waiters
-/// are refused with ENOTRECOVERABLE. EFAULT, EINVAL or ENOMEM of the word, then EPERM of a mutex that the caller does not
-/// own (own choice for NORMAL); a refusal changes nothing but a0 and what a static initialiser set up.
+/// are refused with ENOTRECOVERABLE. EFAULT, EINVAL or ENOMEM of the word, then EPERM of a mutex that the caller does
+/// not own (own choice for NORMAL); a refusal changes nothing but a0 and what a static initialiser set up.
 pub fn mutex_unlock(pools: &mut Pools, i: Invocation) -> Reply
     requires well { IsWell (limits_here pools.old) pools.old.here }
     ensures told { result ≡ (mutex_unlock i pools.old.here).reply }

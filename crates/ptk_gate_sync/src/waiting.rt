@@ -6,15 +6,15 @@ ghost use Rattle.ptk_words_model.specs.Calls.{is_pointer};
 ghost use Rattle.ptk_words_model.specs.Mutex.{mutex_at, owns};
 ghost use Rattle.ptk_words_model.specs.Steps.{Row, condition_named, mutex_named, valid};
 ghost use Rattle.ptk_words_model.specs.ConditionCalls.{cond_wait, cond_timedwait, late_wait_answer};
-ghost use Rattle.ptk_words_well.specs.Well.{IsWell};
+ghost use Rattle.ptk_words_invariant.specs.Well.{IsWell};
 ghost use Rattle.ptk_gate_moves.specs.Held.{limits_here};
-ghost use Rattle.ptk_words_well.specs.Rests.{block_on, wait_named, wait_until, wait_until_asked, timedwait_named};
+ghost use Rattle.ptk_words_invariant.specs.Rests.{block_on, wait_named, wait_until, wait_until_asked, timedwait_named};
 
 use crate::condition_naming::condition_of_word;
 use crate::locking::tell;
 use crate::naming::mutex_of_word;
 use ptk_gate_moves::{Pools, asked_deadline, cancel, is_cancelled, is_pointer, refuse};
-use ptk_mutex_slots::reply_of;
+use ptk_mutex_priorities::reply_of;
 use ptk_words::{ConditionNo, Errno, MutexNo, Tick};
 use ptk_words_model::{Invocation, Reply};
 

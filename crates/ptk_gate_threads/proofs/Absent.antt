@@ -10,11 +10,11 @@ use Rattle.ptk_words_model.specs.State.{Locks, Part}
 use Rattle.ptk_words_model.specs.Priority.{thread_at}
 use Rattle.ptk_words_model.specs.Decision.{runner_at}
 use Rattle.ptk_words_model.specs.Unwinding.{after_join_by}
-use Rattle.ptk_words_locks.specs.Locks.{is_ready}
-use Rattle.ptk_words_locks.proofs.Lined.{not_ready_out}
-use Rattle.ptk_words_locks.proofs.Lines.{out_push}
-use Rattle.ptk_words_well.specs.Well.{IsWell}
-use Rattle.ptk_words_well.proofs.Whole.{lined_of}
+use Rattle.ptk_words_sync_invariant.specs.Locks.{is_ready}
+use Rattle.ptk_words_sync_invariant.proofs.Lined.{not_ready_out}
+use Rattle.ptk_words_sync_invariant.proofs.Lines.{out_push}
+use Rattle.ptk_words_invariant.specs.Well.{IsWell}
+use Rattle.ptk_words_invariant.proofs.Whole.{lined_of}
 
 -- ---- a thread that has ended
 

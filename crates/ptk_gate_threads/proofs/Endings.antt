@@ -9,15 +9,15 @@ use Rattle.ptk_words_model.specs.State.{Locks, Part, with_locks}
 use Rattle.ptk_words_model.specs.Priority.{thread_at}
 use Rattle.ptk_words_model.specs.Mutex.{wait_of, after_owner_end}
 use Rattle.ptk_words_model.specs.Unwinding.{after_release, after_last_end, after_end}
-use Rattle.ptk_words_locks.specs.Locks.{joiner_of, is_ready}
-use Rattle.ptk_words_well.specs.Well.{IsWell}
+use Rattle.ptk_words_sync_invariant.specs.Locks.{joiner_of, is_ready}
+use Rattle.ptk_words_invariant.specs.Well.{IsWell}
 use Rattle.ptk_words.specs.Pools.{is_in}
-use Rattle.ptk_words_locks.proofs.Lined.{not_ready_out}
-use Rattle.ptk_words_well.proofs.Whole.{lined_of}
-use Rattle.ptk_words_well.proofs.Waits.{waits_not_ready}
+use Rattle.ptk_words_sync_invariant.proofs.Lined.{not_ready_out}
+use Rattle.ptk_words_invariant.proofs.Whole.{lined_of}
+use Rattle.ptk_words_invariant.proofs.Waits.{waits_not_ready}
 use Rattle.ptk_gate_moves.specs.Held.{Held, limits_here}
 use Rattle.ptk_gate_moves.specs.Moves.{stopped}
-use Rattle.ptk_words_locks.specs.Conditions.{IsNoWaiter}
+use Rattle.ptk_words_sync_invariant.specs.Conditions.{IsNoWaiter}
 use Rattle.ptk_gate_moves.proofs.NoWaiters.{joiner_apart}
 use Rattle.ptk_gate_threads.proofs.Owners.{well_abandonment, release_same}
 

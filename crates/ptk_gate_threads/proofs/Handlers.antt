@@ -7,7 +7,7 @@ use Rattle.ptk_words.specs.declared.threads.Cleanup.{Cleanup}
 use Rattle.ptk_words_model.specs.State.{Part, with_cleanups}
 use Rattle.ptk_words_model.specs.Keys.{next_destructor}
 use Rattle.ptk_words_model.specs.Unwinding.{cleanups_of, after_routine_call, after_destructor_or_end, after_unwinding_move}
-use Rattle.ptk_words_well.specs.Well.{IsWell}
+use Rattle.ptk_words_invariant.specs.Well.{IsWell}
 
 -- ---- with a handler left
 

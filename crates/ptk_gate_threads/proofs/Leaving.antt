@@ -15,7 +15,7 @@ use Rattle.ptk_words_model.specs.Decision.{runner_at}
 use Rattle.ptk_words_model.specs.Calls.{success}
 use Rattle.ptk_words_model.specs.ThreadCalls.{detach}
 use Rattle.ptk_words_model.specs.Unwinding.{after_join_by, after_release, without_thread}
-use Rattle.ptk_words_locks.proofs.Pools.{changed_own, changed_other}
+use Rattle.ptk_words_sync_invariant.proofs.Pools.{changed_own, changed_other}
 use Rattle.ptk_gate_moves.specs.Moves.{with_left}
 
 if_over : {A B : Type 0} (b : Bool) (x y : A) (f : A → B) → f (if b then x else y) ≡ (if b then f x else f y)

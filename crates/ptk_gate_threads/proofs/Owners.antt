@@ -10,11 +10,11 @@ use Rattle.ptk_words_model.specs.State.{Mutex, Locks, Syncs, Part, with_locks}
 use Rattle.ptk_words_model.specs.Priority.{thread_at, is_owner}
 use Rattle.ptk_words_model.specs.Mutex.{mutex_at, soundness_of, with_soundness, handed, heir, free_move, after_hand_over_to, after_bequest, after_abandonment, after_mutex_end, after_owner_end}
 use Rattle.ptk_words_model.specs.Unwinding.{after_release}
-use Rattle.ptk_words_locks.proofs.Threads.{changed_same}
-use Rattle.ptk_words_locks.proofs.Timed.{AreSyncs, syncs_soundness, syncs_abandonment, syncs_hand_over}
-use Rattle.ptk_words_well.specs.Well.{IsWell}
-use Rattle.ptk_words_well.proofs.Synced.{syncs_of_well, well_syncs_by}
-use Rattle.ptk_words_well.proofs.SyncSizes.{sized_owner_end}
+use Rattle.ptk_words_sync_invariant.proofs.Threads.{changed_same}
+use Rattle.ptk_words_sync_invariant.proofs.Timed.{AreSyncs, syncs_soundness, syncs_abandonment, syncs_hand_over}
+use Rattle.ptk_words_invariant.specs.Well.{IsWell}
+use Rattle.ptk_words_invariant.proofs.Synced.{syncs_of_well, well_syncs_by}
+use Rattle.ptk_words_invariant.proofs.SyncSizes.{sized_owner_end}
 
 -- ---- threads, line, mutexes and condition variables stay whole
 

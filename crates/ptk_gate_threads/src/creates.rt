@@ -6,7 +6,7 @@ ghost use Rattle.ptk_words_model.specs.Steps.{valid, change, succeed_with};
 ghost use Rattle.ptk_words_model.specs.ThreadCalls.{create};
 ghost use Rattle.ptk_words_model.specs.ThreadCreation.{default_stack_top, start_cpu, created_thread, with_new_thread};
 ghost use Rattle.ptk_words_model.specs.ThreadCreation as creation;
-ghost use Rattle.ptk_words_well.specs.Well.{IsWell};
+ghost use Rattle.ptk_words_invariant.specs.Well.{IsWell};
 ghost use Rattle.ptk_gate_moves.specs.Held.{limits_here};
 
 use crate::attributes::requested;

@@ -5,20 +5,20 @@ ghost use Rattle.std.specs.List.{list_any};
 ghost use Rattle.ptk_words_model.specs.State.{with_locks};
 ghost use Rattle.ptk_words_model.specs.Priority.{thread_at};
 ghost use Rattle.ptk_words_model.specs.Unwinding.{is_alive, after_join_by, after_release, after_last_end, after_end};
-ghost use Rattle.ptk_words_locks.specs.Locks.{joiner_of};
-ghost use Rattle.ptk_words_well.specs.Well.{IsWell};
+ghost use Rattle.ptk_words_sync_invariant.specs.Locks.{joiner_of};
+ghost use Rattle.ptk_words_invariant.specs.Well.{IsWell};
 ghost use Rattle.ptk_words.specs.Pools.{is_in};
 ghost use Rattle.ptk_threads_slots.specs.Links.{threads_of};
 ghost use Rattle.ptk_gate_moves.specs.Held.{limits_here};
-ghost use Rattle.ptk_words_locks.specs.Conditions.{IsNoWaiter};
+ghost use Rattle.ptk_words_sync_invariant.specs.Conditions.{IsNoWaiter};
 ghost use Rattle.ptk_gate_moves.specs.Moves.{stopped};
 
 use ptk_gate_moves::{Pools, halt, is_ended, wake};
 use ptk_threads::Slot;
 use ptk_words::{Status, Thread, ThreadNo};
 
-/// The running thread has ended: its robust mutexes go to their heirs and its others are nobody's, then its joiner is woken,
-/// its number free or kept, and the last thread's end exits the partition with 0 (pthread_exit,
+/// The running thread has ended: its robust mutexes go to their heirs and its others are nobody's, then its joiner is
+/// woken, its number free or kept, and the last thread's end exits the partition with 0 (pthread_exit,
 /// pthread_mutexattr_setrobust).
 #[tactic(auto, using(ptk_gate_moves::proofs::Locked::locked, crate::proofs::Endings::ended))]
 pub(crate) fn end(pools: &mut Pools, t: ThreadNo)

@@ -5,11 +5,11 @@ ghost use Rattle.ptk_words_model.specs.State.{with_locks};
 ghost use Rattle.ptk_words_model.specs.Schedule.{at_tail, at_head, with_thread};
 ghost use Rattle.ptk_words_model.specs.Priority.{thread_at};
 ghost use Rattle.ptk_words_model.specs.ThreadCalls.{after_placing, after_placing_at_tail, yield};
-ghost use Rattle.ptk_words_well.specs.Well.{IsWell};
+ghost use Rattle.ptk_words_invariant.specs.Well.{IsWell};
 ghost use Rattle.ptk_words.specs.Pools.{is_in};
 ghost use Rattle.ptk_mutex.specs.Tables.{AreLocked};
 ghost use Rattle.ptk_gate_moves.specs.Held.{limits_here};
-ghost use Rattle.ptk_words_locks.specs.Conditions.{IsNoWaiter};
+ghost use Rattle.ptk_words_sync_invariant.specs.Conditions.{IsNoWaiter};
 ghost use Rattle.ptk_gate_moves.specs.Moves.{with_scheduling};
 
 use ptk_gate_moves::{Pools, end_turn, push_tail, step_back, succeed};
@@ -78,7 +78,7 @@ pub(crate) fn place_last(pools: &mut Pools, t: ThreadNo)
 
 /// The thread has this policy and priority. If it runs or is ready, it goes to the tail, but an owner of an INHERIT or
 /// PROTECT mutex keeps its place (pthread_setschedparam).
-#[tactic(auto, using(ptk_words_locks::proofs::Pools::changed_own))]
+#[tactic(auto, using(ptk_words_sync_invariant::proofs::Pools::changed_own))]
 pub(crate) fn reschedule(pools: &mut Pools, t: ThreadNo, policy: Policy, priority: Priority)
     requires in_use { IsSome (thread_at pools.old.here.locks t) }
     requires fresh { pools.old.here.running ≡ Some t → is_in t pools.old.here.line ≡ false }
@@ -92,7 +92,7 @@ pub(crate) fn reschedule(pools: &mut Pools, t: ThreadNo, policy: Policy, priorit
 }
 
 /// The thread has this policy and assigned priority, and has used no tick.
-#[tactic(auto, using(ptk_words_locks::proofs::Pools::changed_twice))]
+#[tactic(auto, using(ptk_words_sync_invariant::proofs::Pools::changed_twice))]
 fn give_scheduling(pools: &mut Pools, t: ThreadNo, policy: Policy, priority: Priority)
     requires locked { AreLocked pools.old.here.locks }
     ensures { pools.new ≡ record pools.old { here = with_locks (with_thread t (with_scheduling policy priority)) pools.old.here } }

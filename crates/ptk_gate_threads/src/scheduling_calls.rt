@@ -7,11 +7,11 @@ ghost use Rattle.ptk_words_model.specs.Priority.{thread_at};
 ghost use Rattle.ptk_words_model.specs.Steps.{valid, change, change_thread, succeed};
 ghost use Rattle.ptk_words_model.specs.ThreadCalls.{after_placing_at_tail, setschedparam, after_priority_change, setschedprio};
 ghost use Rattle.ptk_threads.specs.Table.{with_priority};
-ghost use Rattle.ptk_words_well.specs.Well.{IsWell};
+ghost use Rattle.ptk_words_invariant.specs.Well.{IsWell};
 ghost use Rattle.ptk_words.specs.Pools.{is_in};
 ghost use Rattle.ptk_mutex.specs.Tables.{AreLocked};
 ghost use Rattle.ptk_gate_moves.specs.Held.{limits_here};
-ghost use Rattle.ptk_words_locks.specs.Conditions.{IsNoWaiter};
+ghost use Rattle.ptk_words_sync_invariant.specs.Conditions.{IsNoWaiter};
 ghost use Rattle.ptk_gate_moves.specs.Moves.{with_scheduling};
 
 use crate::attributes::named_policy;
@@ -114,7 +114,7 @@ fn asked_priority(pools: &Pools, i: &Invocation) -> Result<NewPriority, Errno>
 }
 
 /// The thread, whose priority was the old one, has the new one, and its place follows.
-#[tactic(auto, using(ptk_words_locks::proofs::Pools::changed_own))]
+#[tactic(auto, using(ptk_words_sync_invariant::proofs::Pools::changed_own))]
 fn change_priority(pools: &mut Pools, t: ThreadNo, old: Priority, new: Priority)
     requires in_use { IsSome (thread_at pools.old.here.locks t) }
     requires fresh { pools.old.here.running ≡ Some t → is_in t pools.old.here.line ≡ false }

@@ -3,7 +3,7 @@
 ghost use Rattle.std.specs.Prelude.{◌≡◌};
 ghost use Rattle.ptk_words_model.specs.ThreadCalls.{getschedparam};
 ghost use Rattle.ptk_words_model.specs.ThreadCalls as calls;
-ghost use Rattle.ptk_words_well.specs.Well.{IsWell};
+ghost use Rattle.ptk_words_invariant.specs.Well.{IsWell};
 ghost use Rattle.ptk_gate_moves.specs.Held.{limits_here};
 
 use ptk_gate_moves::{

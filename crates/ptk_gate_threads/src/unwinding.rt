@@ -3,7 +3,7 @@
 ghost use Rattle.std.specs.Prelude.{◌≡◌, None, Some};
 ghost use Rattle.ptk_words_model.specs.Keys.{next_destructor};
 ghost use Rattle.ptk_words_model.specs.Unwinding.{after_return, after_gate_step, after_unwinding_move, after_destructor_or_end, cleanups_of};
-ghost use Rattle.ptk_words_well.specs.Well.{IsWell};
+ghost use Rattle.ptk_words_invariant.specs.Well.{IsWell};
 ghost use Rattle.ptk_gate_moves.specs.Held.{limits_here};
 
 use crate::ends::end;
@@ -11,8 +11,8 @@ use ptk_gate_moves::{Pools, call_routine, halt, start_unwinding};
 use ptk_keys::DestructorCall;
 use ptk_words::{A0, Phase, Status, Thread, ThreadNo};
 
-/// A step of the running thread at the return gate: a normal thread's start routine has returned, an unwinding one goes on with its
-/// unwinding, and one that has ended takes no step (pthread_exit, XSH 2.9.5.3).
+/// A step of the running thread at the return gate: a normal thread's start routine has returned, an unwinding one goes
+/// on with its unwinding, and one that has ended takes no step (pthread_exit, XSH 2.9.5.3).
 pub fn step_at_gate(pools: &mut Pools, t: ThreadNo, thread: Thread)
     requires well { IsWell (limits_here pools.old) pools.old.here }
     requires runs { pools.old.here.running ≡ Some t }
@@ -37,8 +37,8 @@ fn return_from(pools: &mut Pools, t: ThreadNo, thread: Thread)
     }
 }
 
-/// The next move of the running thread, which unwinds: the handler pushed last is taken off and called, else its next destructor is
-/// called, else it ends (XSH 2.9.5.3).
+/// The next move of the running thread, which unwinds: the handler pushed last is taken off and called, else its next
+/// destructor is called, else it ends (XSH 2.9.5.3).
 #[tactic(auto, using(crate::proofs::Handlers::unwound))]
 fn unwind_further(pools: &mut Pools, t: ThreadNo)
     requires well { IsWell (limits_here pools.old) pools.old.here }

@@ -6,12 +6,12 @@ ghost use Rattle.ptk_words.specs.Pools.{pool_set};
 ghost use Rattle.ptk_words_parted.specs.Parts.{part_of};
 ghost use Rattle.ptk_words_model.specs.Mutex.{wait_of};
 ghost use Rattle.ptk_words_model.specs.Withdrawal.{deadline_of_wait};
-ghost use Rattle.ptk_words_locks.specs.Deadlines.{deadlines_after_move};
+ghost use Rattle.ptk_words_sync_invariant.specs.Deadlines.{deadlines_after_move};
 ghost use Rattle.ptk_threads.specs.Table.{thread_in};
 
 use crate::kinds::deadline_of;
 use ptk_clock::ThreadDeadlines;
-use ptk_roster::Roster;
+use ptk_syncs::Roster;
 use ptk_words::{PartId, ThreadNo, Wait};
 use ptk_words_model::LockMove;
 

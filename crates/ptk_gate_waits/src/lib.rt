@@ -6,7 +6,7 @@
 //! - `is_for_mutex` returns whether a wait is for a mutex.
 //!
 //! These functions act on the roster and the deadlines of one partition, and not on the pools as a whole. Below are
-//! `ptk_roster` and `ptk_clock`; above is `ptk_gate_pools`. Nothing here is costly to prove.
+//! `ptk_syncs` and `ptk_clock`; above is `ptk_gate_pools`. Nothing here is costly to prove.
 
 mod deadlines;
 mod kinds;

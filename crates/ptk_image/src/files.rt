@@ -35,8 +35,8 @@ impl Files {
         }
     }
 
-    /// Adds a file with a copy of these bytes. A file that has the name is replaced; every other name has the bytes that
-    /// it had. An error where memory ran out, and then nothing changes.
+    /// Adds a file with a copy of these bytes. A file that has the name is replaced; every other name has the bytes
+    /// that it had. An error where memory ran out, and then nothing changes.
     #[tactic(auto, using(crate::proofs::Added::added))]
     pub fn add(&mut self, name: &str, content: &[u8]) -> Result<(), AllocError>
         ensures added { OnOk result ((other : List ℕ) → content_of self.new other ≡

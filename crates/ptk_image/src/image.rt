@@ -5,7 +5,6 @@ ghost use Rattle.std.specs.Prelude.{◌≡◌, ◌<◌, ◌≤◌, ◌%◌, ◌^
 use std::marker::Model;
 
 /// What a guest starts with: the bytes of its text and data, the zeros that come after them, and its first pc.
-#[derive(Debug)]
 pub struct Image {
     entry: u32,
     text: Vec<u8>,

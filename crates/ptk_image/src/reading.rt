@@ -10,10 +10,10 @@ use ptk_words::ImageFault;
 use std::alloc::Global;
 
 /// Reads an image: the bytes `PTKI`, the little-endian words version (1), entry, text length, data length and bss
-/// length, the text, the data. The first failed check is the error: `Short` for fewer than 24 bytes, `Magic`, `Version`,
-/// `Length` for a text length that is not a multiple of 4 or bytes after the header that are not exactly text and data,
-/// `Entry` for one that is not a multiple of 4 or is above the text length. `Memory` comes only where the bytes pass
-/// every check and there is no memory for a copy of text and data.
+/// length, the text, the data. The first failed check is the error: `Short` for fewer than 24 bytes, `Magic`,
+/// `Version`, `Length` for a text length that is not a multiple of 4 or bytes after the header that are not exactly
+/// text and data, `Entry` for one that is not a multiple of 4 or is above the text length. `Memory` comes only where
+/// the bytes pass every check and there is no memory for a copy of text and data.
 pub fn read_image(alloc: Global, bytes: &[u8]) -> Result<Image, ImageFault>
     ensures image { IfOk result (λ image. image_of bytes.now ≡ Ok image) }
     ensures fault { IfErr result (λ fault. fault ≢ ImageFault.Memory → image_of bytes.now ≡ Err fault) }

@@ -10,8 +10,8 @@ pub enum ImageChange {
     Added,
     /// The old partition has an image, and the new one has none.
     Removed,
-    /// Both have one, and this is the first offset at which their bytes differ: the length of one that is the beginning of
-    /// the other.
+    /// Both have one, and this is the first offset at which their bytes differ: the length of one that is the beginning
+    /// of the other.
     Bytes(usize),
 }
 

@@ -10,8 +10,8 @@ pub fn same_view_is_same_run()
     ensures { SameViewIsSameRun }
 {}
 
-/// A partition that boot sees alike but for the trace's length is, after every number of ticks up to 2^40, in a state that
-/// differs in the kept entries alone, and its part of the report is the same where its name is.
+/// A partition that boot sees alike but for the trace's length is, after every number of ticks up to 2^40, in a state
+/// that differs in the kept entries alone, and its part of the report is the same where its name is.
 pub fn deeper_trace_is_same_run()
     ensures { DeeperTraceIsSameRun }
 {

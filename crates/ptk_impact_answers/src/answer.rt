@@ -39,14 +39,14 @@ impl<'a> Question<'a> {
     }
 }
 
-/// Writes what stands between two configurations: a line for each partition of the new one that is asked for, by name, with
-/// what differs beneath, then a line for each that is gone, and a last line that counts. Gives the counts. Where they
-/// have no changed, new or gone partition, each that is asked for was and is there, and boot sees the same of both but for
-/// the trace's length: it is the same run.
+/// Writes what stands between two configurations: a line for each partition of the new one that is asked for, by name,
+/// with what differs beneath, then a line for each that is gone, and a last line that counts. Gives the counts. Where
+/// they have no changed, new or gone partition, each that is asked for was and is there, and boot sees the same of both
+/// but for the trace's length: it is the same run.
 ///
-/// `Fault::MissingFile` names the first image that is not there, those of the old configuration first; `Fault::NoPartition`
-/// an asked name that neither configuration has, a renamed one that one of them has not, or what is no rename. Nothing is
-/// written before either. Any other fault is one of the host.
+/// `Fault::MissingFile` names the first image that is not there, those of the old configuration first;
+/// `Fault::NoPartition` an asked name that neither configuration has, a renamed one that one of them has not, or what
+/// is no rename. Nothing is written before either. Any other fault is one of the host.
 pub fn impact_with<'a, 'f, W: Write>(
     alloc: Global,
     old: Release<'a, 'f>,
@@ -60,8 +60,8 @@ pub fn impact_with<'a, 'f, W: Write>(
     impact_in(Form::Lines, alloc, old, new, question, out)
 }
 
-/// Writes the same as one JSON object on one line, with `\n` behind it. Gives the counts, with the same meaning, and the
-/// same faults come.
+/// Writes the same as one JSON object on one line, with `\n` behind it. Gives the counts, with the same meaning, and
+/// the same faults come.
 pub fn impact_json_with<'a, 'f, W: Write>(
     alloc: Global,
     old: Release<'a, 'f>,
@@ -114,8 +114,8 @@ struct Releases<'a, 'f> {
 }
 
 impl<'a, 'f> Releases<'a, 'f> {
-    /// The first name of the question that no partition has: of a rename in the old or the new configuration, or the asked
-    /// one in both.
+    /// The first name of the question that no partition has: of a rename in the old or the new configuration, or the
+    /// asked one in both.
     fn unknown_name(&self, question: Question<'a>) -> Option<&'a str> {
         for rename in self.renames.as_slice() {
             if self.old.place_of(rename.old()).is_none() {

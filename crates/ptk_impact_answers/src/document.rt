@@ -30,8 +30,8 @@ pub(crate) fn json_of(alloc: Global, comparison: &Comparison<'_>) -> Result<Stri
     serde_json::to_string(alloc, comparison)
 }
 
-/// The JSON text of a partition that one configuration has, with the word of its answer, in the same form. An error where
-/// memory ran out.
+/// The JSON text of a partition that one configuration has, with the word of its answer, in the same form. An error
+/// where memory ran out.
 pub(crate) fn json_of_alone(
     alloc: Global,
     name: &str,
@@ -146,8 +146,8 @@ fn put_changes<S: Serializer>(
     out.end_map()
 }
 
-/// Puts the first tick at which the windows differ, and the end of the window that holds it, null where the tick is not its
-/// own.
+/// Puts the first tick at which the windows differ, and the end of the window that holds it, null where the tick is not
+/// its own.
 fn put_windows<S: Serializer>(windows: Option<Difference>, out: &mut S) -> Result<(), S::Error> {
     let Some(difference) = windows else {
         return Ok(());

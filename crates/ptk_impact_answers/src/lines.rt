@@ -136,7 +136,8 @@ fn put_refusals<W: Write>(comparison: &Comparison<'_>, out: &mut W) -> io::Resul
     writeln!(out, "  image: {old} -> {new}")
 }
 
-/// Writes what differs and plays no part in a run: the name, the place among the sections, the name of the image's file.
+/// Writes what differs and plays no part in a run: the name, the place among the sections, the name of the image's
+/// file.
 fn put_notes<W: Write>(comparison: &Comparison<'_>, out: &mut W) -> io::Result<()> {
     if comparison.has_other_name() {
         let (old, new) = (comparison.old_name, comparison.new_name);

@@ -42,8 +42,9 @@ impl<'a> Model for Renames<'a> {
 }
 
 impl<'a> Renames<'a> {
-    /// The renames that a text states, `OLD=NEW` with commas between them; none where there is no text. A fault where one
-    /// is no such pair or there are more than eight, which names it as the name of no partition, or where memory ran out.
+    /// The renames that a text states, `OLD=NEW` with commas between them; none where there is no text. A fault where
+    /// one is no such pair or there are more than eight, which names it as the name of no partition, or where memory
+    /// ran out.
     pub(crate) fn read(alloc: Global, text: Option<&'a str>) -> Result<Renames<'a>, Fault<'a>>
         ensures { text.entry ≡ None → IfOk result (λ renames. renames ≡ []) }
     {

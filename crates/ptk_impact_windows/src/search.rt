@@ -9,9 +9,10 @@ use crate::difference::Difference;
 use ptk_window::{Near, WindowPlan};
 use ptk_words::{PartId, Tick};
 
-/// The least tick at which the windows of two partitions differ, each of a plan of its own: one of them has a window that
-/// holds the tick where the other has none, or their windows that hold it end at two ticks. None if and only if there
-/// is no such tick, so that the two have the same own ticks and window ends at all ticks, however the plans are written.
+/// The least tick at which the windows of two partitions differ, each of a plan of its own: one of them has a window
+/// that holds the tick where the other has none, or their windows that hold it end at two ticks. None if and only if
+/// there is no such tick, so that the two have the same own ticks and window ends at all ticks, however the plans are
+/// written.
 ///
 /// It compares window by window, from the beginning of each stage of either plan for one frame of each plan, and no
 /// further. So it ends after at most 32 such ranges of at most 193 pairs of windows each, for plans of at most 16
@@ -38,8 +39,8 @@ pub fn first_difference(
     earlier(near_own, near_other)
 }
 
-/// A difference of the two partitions, before which they agree near the beginning of each stage of the plan `staged`. None
-/// where they agree near each of them.
+/// A difference of the two partitions, before which they agree near the beginning of each stage of the plan `staged`.
+/// None where they agree near each of them.
 fn difference_near_stages(
     staged: &WindowPlan,
     plan: &WindowPlan,

@@ -6,8 +6,8 @@ use Rattle.ptk_words_model.specs.Decision.{after_arrivals, ready_at, runner_of, 
 use Rattle.ptk_words_model.specs.Schedule.{after_choice}
 use Rattle.ptk_words_model.specs.Withdrawal.{after_expiries}
 use Rattle.ptk_words_model.specs.Run.{is_active}
-use Rattle.ptk_words_well.proofs.Decisions.{arrivals_status}
-use Rattle.ptk_words_well.proofs.Timeouts.{expiries_status}
+use Rattle.ptk_words_invariant.proofs.Decisions.{arrivals_status}
+use Rattle.ptk_words_invariant.proofs.Timeouts.{expiries_status}
 use Rattle.ptk_gate.specs.Kept.{Kept, AreParts, part_at, put_part, limits_at}
 use Rattle.ptk_gate_steps.specs.declared.turns.NextStep.{NextStep}
 use Rattle.ptk_gate.specs.Answers.{call_answer}

@@ -7,11 +7,11 @@ use Rattle.ptk_words_instructions.specs.PlainSteps.{Core, plain_entries}
 use Rattle.ptk_words_model.specs.State.{Part}
 use Rattle.ptk_words_model.specs.Priority.{thread_at}
 use Rattle.ptk_words_model.specs.Run.{last_of}
-use Rattle.ptk_words_quiet.specs.Quiet.{IsQuiet, ArePlain, core_of, computed, after_row, thread_after}
-use Rattle.ptk_words_quiet.specs.Replies.{after_reply}
-use Rattle.ptk_words_quiet.proofs.QuietRows.{row_stays}
-use Rattle.ptk_words_quiet.proofs.ReplyDecisions.{reply_decided, reply_quiet}
-use Rattle.ptk_words_quiet.proofs.Sooner.{row_none, quiet_sooner}
+use Rattle.ptk_words_batches.specs.Quiet.{IsQuiet, ArePlain, core_of, computed, after_row, thread_after}
+use Rattle.ptk_words_batches.specs.Replies.{after_reply}
+use Rattle.ptk_words_batches.proofs.QuietRows.{row_stays}
+use Rattle.ptk_words_batches.proofs.ReplyDecisions.{reply_decided, reply_quiet}
+use Rattle.ptk_words_batches.proofs.Sooner.{row_none, quiet_sooner}
 use Rattle.ptk_trace.specs.KeptSteps.{KeptSteps}
 use Rattle.ptk_trace.specs.TracedRows as rows
 use Rattle.ptk_gate.specs.Kept.{Kept, AreParts, limits_at, part_at, put_part}

@@ -12,11 +12,11 @@ use Rattle.ptk_words_model.specs.State.{Part}
 use Rattle.ptk_words_model.specs.Mutex.{mutex_at, waiters_of}
 use Rattle.ptk_words_model.specs.MutexCalls.{is_locked}
 use Rattle.ptk_words_model.specs.Priority.{awaited, thread_at}
-use Rattle.ptk_words_locks.proofs.Threads.{changed_same}
-use Rattle.ptk_words_well.specs.Well.{IsWell}
-use Rattle.ptk_words_quiet.specs.Quiet.{computed, with_row, after_row}
-use Rattle.ptk_words_quiet.specs.Replies.{IsReply, Outcome, after_reply, reply_entry, with_outcome}
-use Rattle.ptk_words_quiet.proofs.QuietRows.{same_rank}
+use Rattle.ptk_words_sync_invariant.proofs.Threads.{changed_same}
+use Rattle.ptk_words_invariant.specs.Well.{IsWell}
+use Rattle.ptk_words_batches.specs.Quiet.{computed, with_row, after_row}
+use Rattle.ptk_words_batches.specs.Replies.{IsReply, Outcome, after_reply, reply_entry, with_outcome}
+use Rattle.ptk_words_batches.proofs.QuietRows.{same_rank}
 use Rattle.ptk_gate.specs.Kept.{Kept, AreParts, limits_at, part_at}
 use Rattle.ptk_gate.proofs.Parted.{part_at-put}
 use Rattle.ptk_gate_steps.specs.Replies.{IsMade, KeepsContended, is_contended}

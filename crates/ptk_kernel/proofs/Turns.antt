@@ -4,7 +4,7 @@ use Rattle.std.specs.Prelude.{Option, Some, None, not, ◌&&◌, ◌==◌, optio
 use Rattle.std.proofs.lemmas.Bool.{eqb-true}
 use Rattle.ptk_words.specs.Processor.{Processor, register}
 use Rattle.ptk_words.specs.Words.{word_of, word_at}
-use Rattle.ptk_words.specs.declared.TheConstants.{A0, A7, CANCELED, ECALL, RETURN_GATE}
+use Rattle.ptk_words.specs.declared.TheConstants.{A0, A7, ECALL, RETURN_GATE}
 use Rattle.ptk_words.specs.declared.faults.FaultKind.TheVariants.{Fetch, Misaligned}
 use Rattle.ptk_words.specs.declared.sections.Limits.{Limits}
 use Rattle.ptk_words.specs.declared.threads.Thread.{Thread}
@@ -15,9 +15,9 @@ use Rattle.ptk_words_model.specs.declared.StepKind.{StepKind}
 use Rattle.ptk_words_model.specs.declared.StepKind.TheVariants.{UnwindingStart, GateStep, CallStep, InstructionStep}
 use Rattle.ptk_words_model.specs.State.{Part}
 use Rattle.ptk_words_model.specs.Priority.{thread_at}
+use Rattle.ptk_words_model.specs.Schedule.{after_interval}
 use Rattle.ptk_words_model.specs.Decision.{a0_after, after_effect, after_step, after_turn, after_whole_step, is_to_unwind, runner_of, spent_in_turn, step_cost, step_kind, traced_word, with_cpu, word_fetched}
-use Rattle.ptk_words_model.specs.Unwinding.{after_unwinding_start, after_gate_step}
-use Rattle.ptk_words_well.proofs.Decisions.{runner_runs}
+use Rattle.ptk_words_invariant.proofs.Decisions.{runner_runs}
 use Rattle.ptk_gate.specs.Kept.{Kept, part_at, put_part, limits_at}
 use Rattle.ptk_gate.proofs.Ranks.{put_same}
 use Rattle.ptk_gate_steps.specs.declared.turns.NextStep.{NextStep}
@@ -25,9 +25,13 @@ use Rattle.ptk_gate_steps.specs.Instructions.{after_instruction}
 use Rattle.ptk_gate_steps.specs.NextSteps.{a0_kept, cpu_of, next_step_in, next_step_of}
 use Rattle.ptk_gate.specs.Answers.{call_answer}
 use Rattle.ptk_gate.proofs.Passing.{passed_as}
-use Rattle.ptk_kernel.specs.StepParts.{counted, passed, stepped}
+use Rattle.ptk_kernel.specs.StepParts.{passed, stepped}
 use Rattle.ptk_kernel.proofs.Instructions.{call_parts, effect_alone, runner_found}
 use Rattle.ptk_kernel.proofs.NoCalls.{no_call_at}
+
+-- the thread's step of so many ticks counts in its round-robin interval (XSH 2.8.4, SCHED_RR)
+abbrev pub counted : Limits → ℕ → ℕ → Part → Part
+counted limits cost t s = after_interval limits.interval cost t (thread_at s.locks t) s
 
 -- ---- the thread whose step it is
 

@@ -9,9 +9,9 @@ use Rattle.ptk_words_model.specs.Decision.{after_step, after_whole_step, runner_
 use Rattle.ptk_gate.specs.Kept.{Kept, AreParts, part_at, put_part, limits_at}
 use Rattle.ptk_gate_steps.specs.declared.turns.NextStep.{NextStep}
 use Rattle.ptk_gate_steps.specs.NextSteps.{next_step_in}
-use Rattle.ptk_kernel.specs.StepParts.{counted, noted, stepped}
+use Rattle.ptk_kernel.specs.StepParts.{noted, stepped}
 use Rattle.ptk_kernel.proofs.Moves.{moved_then}
-use Rattle.ptk_kernel.proofs.Turns.{next_is, whole_is}
+use Rattle.ptk_kernel.proofs.Turns.{counted, next_is, whole_is}
 
 -- the step and then its entry
 pub step_made : (n p tick : ℕ) (next : NextStep) (r : Runner) (old mid new : Kept) → AreParts n old → p < n → next_step_in (part_at p old) ≡ Some next → runner_of (part_at p old) ≡ Some r

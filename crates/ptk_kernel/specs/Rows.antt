@@ -1,7 +1,7 @@
 -- Plain steps of a quiet partition in a row.
 use Rattle.std.specs.Prelude.{◌≡◌, ℕ, ◌+◌}
 use Rattle.ptk_words.specs.declared.threads.Thread.{Thread}
-use Rattle.ptk_words_quiet.specs.Quiet.{IsQuiet, ArePlain, core_of, after_row}
+use Rattle.ptk_words_batches.specs.Quiet.{IsQuiet, ArePlain, core_of, after_row}
 use Rattle.ptk_trace.specs.KeptSteps.{KeptSteps}
 use Rattle.ptk_trace.specs.TracedRows as rows
 use Rattle.ptk_gate_steps.specs.declared.quiet_stops.Quiet.{Quiet}

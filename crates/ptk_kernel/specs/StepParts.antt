@@ -7,7 +7,7 @@ use Rattle.ptk_words_model.specs.declared.Runner.{Runner}
 use Rattle.ptk_words_model.specs.declared.StepKind.{StepKind}
 use Rattle.ptk_words_model.specs.State.{Part, with_locks}
 use Rattle.ptk_words_model.specs.Priority.{thread_at}
-use Rattle.ptk_words_model.specs.Schedule.{after_interval, with_thread}
+use Rattle.ptk_words_model.specs.Schedule.{with_thread}
 use Rattle.ptk_words_model.specs.Decision.{after_step}
 use Rattle.ptk_gate_steps.specs.declared.turns.NextStep.{NextStep}
 use Rattle.ptk_gate_steps.specs.NextSteps.{a0_kept, next_step_of}
@@ -28,10 +28,6 @@ noted tick next s =
 -- the thread has gone on past the ECALL of its step (RISC-V 2.8)
 abbrev pub passed : NextStep → Part → Part
 passed next s = with_locks (with_thread next.thread (with_pc (word_of (next.pc + 4)))) s
-
--- the thread's step of so many ticks counts in its round-robin interval (XSH 2.8.4, SCHED_RR)
-abbrev pub counted : Limits → ℕ → ℕ → Part → Part
-counted limits cost t s = after_interval limits.interval cost t (thread_at s.locks t) s
 
 -- the step with its place in the trace
 abbrev pub stepped : Limits → ℕ → Runner → StepKind → Part → Part

@@ -13,9 +13,9 @@ use ptk_gate_steps::{NextStep, step_cost};
 use ptk_words::{Entry, PartId, Tick};
 use ptk_words_model::Spent;
 
-/// A decision of the partition, which has not halted, at a tick of its own with this number of ticks to its window's end:
-/// `prepare`, and then `take_turn`. What it spent: the ticks of the step, Idle where no thread runs, Lost where the cost
-/// does not fit and no step was made. No other partition changes.
+/// A decision of the partition, which has not halted, at a tick of its own with this number of ticks to its window's
+/// end: `prepare`, and then `take_turn`. What it spent: the ticks of the step, Idle where no thread runs, Lost where
+/// the cost does not fit and no step was made. No other partition changes.
 pub fn decide(tables: &mut Tables, p: PartId, tick: Tick, room: u32) -> Spent
     requires partition { p < length tables.old.limits }
     requires active { is_active (part_at p tables.old).status ≡ true }
@@ -29,9 +29,9 @@ pub fn decide(tables: &mut Tables, p: PartId, tick: Tick, room: u32) -> Spent
     take_turn(tables, p, tick, room)
 }
 
-/// The first half of a decision of the partition, which has not halted, at the tick: what has come by that tick arrives, the
-/// deadlines that are due expire, and the running thread is chosen. The partition's part is `ready_at` of what it was; no
-/// tick is spent, and no other partition changes.
+/// The first half of a decision of the partition, which has not halted, at the tick: what has come by that tick
+/// arrives, the deadlines that are due expire, and the running thread is chosen. The partition's part is `ready_at` of
+/// what it was; no tick is spent, and no other partition changes.
 pub fn prepare(tables: &mut Tables, p: PartId, tick: Tick)
     requires partition { p < length tables.old.limits }
     requires active { is_active (part_at p tables.old).status ≡ true }
@@ -44,8 +44,8 @@ pub fn prepare(tables: &mut Tables, p: PartId, tick: Tick)
 }
 
 /// The second half of a decision, of a partition that is prepared for it: the running thread makes its next step at the
-/// tick, if the whole cost fits into the room, the ticks to the window's end. What it spent: the ticks of the step; Idle
-/// where no thread runs and Lost where the cost does not fit, and nothing changes. No other partition changes.
+/// tick, if the whole cost fits into the room, the ticks to the window's end. What it spent: the ticks of the step;
+/// Idle where no thread runs and Lost where the cost does not fit, and nothing changes. No other partition changes.
 #[tactic(auto, using(crate::proofs::Turns::turns))]
 pub fn take_turn(tables: &mut Tables, p: PartId, tick: Tick, room: u32) -> Spent
     requires partition { p < length tables.old.limits }

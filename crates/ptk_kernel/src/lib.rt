@@ -10,14 +10,15 @@
 //! - `compute` makes plain steps of a quiet partition in a row in place of decisions, up to that tick, with the part
 //!   and the trace after these plain steps.
 //! - It ends early only before a step that is not plain, or after 2^31 steps.
-//! - `reply` makes the decision of a quiet partition whose next step is a quiet call, and misses none that ends in time.
+//! - `reply` makes the decision of a quiet partition whose next step is a quiet call, and misses none that ends in
+//!   time.
 //! - Both leave it as quiet as it was, and each thread and each mutex that threads wait for as they were (`IsSteady`).
 //! - `prepare` is its part up to the choice of the running thread (`ready_at`), and `take_turn` the rest (`after_turn`,
 //!   `spent_in_turn`), of whatever state p is in.
 //!
 //! `prepare` and `take_turn` are public, since between the two a caller may find that the partition is quiet.
 //! `last_step` returns the trace's entry. `compute` tests once that nothing else can come, and its clause
-//! (`specs/Rows`) is in the words of `ptk_words_quiet`, whose laws make ticks of it. `idle_until` returns when the
+//! (`specs/Rows`) is in the words of `ptk_words_batches`, whose laws make ticks of it. `idle_until` returns when the
 //! partition's next deadline or input comes. Below are the gate's tables, which carry out each part of a decision, and
 //! the gate's `call`, through which every ECALL goes; above is the system. Costly to prove is that two moves one after
 //! another are the model's one: `tables.parts()` is read first there, for its clause that every component of the tables

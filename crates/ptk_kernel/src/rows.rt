@@ -11,8 +11,8 @@ ghost use Rattle.ptk_words_model.specs.declared.Spent.TheVariants.{Step};
 ghost use Rattle.ptk_words_model.specs.Decision.{after_decision, spent_by_decision};
 ghost use Rattle.ptk_words_model.specs.Priority.{thread_at};
 ghost use Rattle.ptk_words_model.specs.Run.{is_active};
-ghost use Rattle.ptk_words_quiet.specs.Quiet.{IsQuiet, core_of};
-ghost use Rattle.ptk_words_quiet.specs.Idle.{IsIdle};
+ghost use Rattle.ptk_words_batches.specs.Quiet.{IsQuiet, core_of};
+ghost use Rattle.ptk_words_batches.specs.Idle.{IsIdle};
 ghost use Rattle.ptk_gate.specs.Kept.{part_at, put_part, limits_at};
 ghost use Rattle.ptk_gate_steps.specs.QuietCalls.{is_quiet_call};
 ghost use Rattle.ptk_kernel.specs.Rows.{IsRow, IsStill, IsStillTo};
@@ -24,8 +24,8 @@ use ptk_trace::Trace;
 use ptk_words::{PartId, Tick};
 
 /// Whether the partition only computes from the tick on, and up to which tick, at most `stop`: no input comes before
-/// it, no deadline is due, no round-robin interval ends, and the running thread stays and begins no unwinding. None where
-/// no tick after the first one is such.
+/// it, no deadline is due, no round-robin interval ends, and the running thread stays and begins no unwinding. None
+/// where no tick after the first one is such.
 pub fn quiet_until(tables: &Tables, p: PartId, tick: Tick, stop: Tick) -> Option<Quiet>
     requires partition { p < length tables.now.limits }
     requires active { is_active (part_at p tables.now).status ≡ true }
@@ -37,10 +37,10 @@ pub fn quiet_until(tables: &Tables, p: PartId, tick: Tick, stop: Tick) -> Option
     tables.quiet_until(p, tick, stop)
 }
 
-/// Plain steps of a quiet partition in a row, the first of them at the tick, each in place of a decision: as many as come
-/// before the partition's stop and before a step that is not plain, and no fewer up to 2^31. How many ticks they took,
-/// one each; 0, and nothing changes, where its next step isn't plain. The partition is as quiet as it was, up to that
-/// stop or a later one. The trace has the steps as the newest. No other partition changes.
+/// Plain steps of a quiet partition in a row, the first of them at the tick, each in place of a decision: as many as
+/// come before the partition's stop and before a step that is not plain, and no fewer up to 2^31. How many ticks they
+/// took, one each; 0, and nothing changes, where its next step isn't plain. The partition is as quiet as it was, up to
+/// that stop or a later one. The trace has the steps as the newest. No other partition changes.
 pub fn compute(tables: &mut Tables, p: PartId, quiet: Quiet, tick: Tick, trace: &mut Trace) -> u32
     requires partition { p < length tables.old.limits }
     requires order { tick < quiet.stop }

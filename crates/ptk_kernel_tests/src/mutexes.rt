@@ -3,7 +3,7 @@
 ghost use Rattle.std.specs.Prelude.{◌≡◌, ◌<◌, ◌≤◌, length, All};
 
 use ptk_mutex::{Mutexes, ThreadSet, effective};
-use ptk_roster::Roster;
+use ptk_syncs::Roster;
 use ptk_words::{
     ConditionNo, Cpu, MutexKind, MutexNo, PartId, Phase, Policy, Priority, Protocol, Thread,
     ThreadNo, Tick,
@@ -23,7 +23,7 @@ struct Objects {
 
 impl Model for Objects {
     ghost use Rattle.std.specs.Prelude.{◌<◌, length};
-    ghost use Rattle.ptk_roster.specs.Rosters.{Rostered};
+    ghost use Rattle.ptk_syncs.specs.Rosters.{Rostered};
     ghost use Rattle.ptk_mutex.specs.Sound.{IsSound};
 
     ghost Value = { Rostered };
@@ -155,8 +155,8 @@ fn an_owner_is_raised_and_hands_over(rt: HostRuntime) -> Result<(), Fail> {
     let high = objects.create(Priority::new(9)).ok_or("no thread")?;
     let inherit = objects.mutex(MutexKind::Normal, Protocol::Inherit);
     let m = inherit.ok_or("no mutex")?;
-    assert_eq!(rt; objects.lock(&rt, low, m, None), LockMove::Takes);
-    assert_eq!(rt; objects.lock(&rt, high, m, None), LockMove::Waits);
+    assert!(rt; objects.lock(&rt, low, m, None) == LockMove::Takes);
+    assert!(rt; objects.lock(&rt, high, m, None) == LockMove::Waits);
     assert_eq!(rt; objects.priority(low), Some(9));
     assert_eq!(rt; objects.mutexes.visited(), 1);
     let woken = objects.unlock(m);

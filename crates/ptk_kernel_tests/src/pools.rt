@@ -42,10 +42,7 @@ fn consoles_of_two_partitions(rt: HostRuntime) -> Result<(), Fail> {
     }];
     let consoles = Consoles::build(rt.alloc(), &[LIMITS, LIMITS], &[&input, &[]])?;
     assert_eq!(rt; consoles.parts(), 2);
-    assert_eq!(rt;
-        consoles.next_arrival_tick(PartId::new(0)),
-        Some(Tick::new(30))
-    );
-    assert_eq!(rt; consoles.next_arrival_tick(PartId::new(1)), None);
+    assert!(rt; consoles.next_arrival_tick(PartId::new(0)) == Some(Tick::new(30)));
+    assert!(rt; consoles.next_arrival_tick(PartId::new(1)) == None);
     Ok(())
 }

@@ -25,8 +25,8 @@ fn new_thread() -> Thread {
     }
 }
 
-/// A table with as many slots as these counts, of which the second partition's are all in use. The counts are no numbers
-/// here, so that the check does not write the table out.
+/// A table with as many slots as these counts, of which the second partition's are all in use. The counts are no
+/// numbers here, so that the check does not write the table out.
 fn table(alloc: Global, counts: &[u32]) -> Result<Threads, AllocError>
     requires partitions { (1 < length counts.now) × (length counts.now ≤ 8) }
     requires threads { All (λ count. count ≤ 32) counts.now }

@@ -1,6 +1,6 @@
 //! Threads, mutexes and condition variables of two partitions, made with ample memory.
 
-use ptk_roster::Roster;
+use ptk_syncs::Roster;
 use ptk_threads::Threads;
 use std::test::Fail;
 

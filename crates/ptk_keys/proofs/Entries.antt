@@ -1,5 +1,5 @@
 -- Entries by number, read and written at an index.
-use Rattle.std.proofs.Common.{arith, ◌≡◌, ℕ, ◌+◌, ◌-◌, ◌<◌, ◌≤◌, zero, suc, List, [], ◌∷◌, ◌++◌, length, get_or, map, take, drop, refl, sym, ◌∙◌, ap, add-one}
+use Rattle.std.proofs.Common.{arith, ◌≡◌, ℕ, ◌-◌, ◌<◌, ◌≤◌, zero, suc, List, [], ◌∷◌, length, get_or, map, refl, sym, ◌∙◌, ap, add-one}
 use Rattle.std.specs.Prelude.{Some, None, option_map, unwrap_or, slice_get, slice_set}
 use Rattle.std.proofs.lemmas.List.{set_past}
 use Rattle.ptk_words.specs.Pools.{numbered, pool_set, pool_update}

@@ -11,7 +11,7 @@ use ptk_words_model::Rounds;
 use std::marker::Model;
 
 /// A destructor's call: its round, its key and the argument (pthread_key_create).
-#[derive(Clone, Copy, Debug, PartialEq, Eq)]
+#[derive(Clone, Copy, PartialEq, Eq)]
 pub struct DestructorCall {
     round: u32,
     key: KeyNo,

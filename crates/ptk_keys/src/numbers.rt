@@ -8,7 +8,7 @@ use std::marker::Model;
 
 /// A word that a program states as a key of its partition. Keys are numbered from 1: 0 is none, nor is a number past
 /// the partition's keys.
-#[derive(Clone, Copy, Debug, PartialEq, Eq)]
+#[derive(Clone, Copy, PartialEq, Eq)]
 pub struct KeyNo {
     number: u32,
 }

@@ -2,15 +2,11 @@
 
 //! The program `ptk`: the words of its command line, and its exit status.
 //!
-//! - Nothing is proved here but that it runs; what it does with the words is `ptk_main_commands`.
+//! - It is proved to run to its end without an error of its own; what it does with the words stands in
+//!   `ptk_main_commands`.
 //!
 //! Below is `ptk_main_commands`; nothing is above. What no contract can say of real files and streams is tested in
-//! `tests.rt`: the status of each request and of words that are refused, the fault behind a status that several share, and
-//! the files that `asm` writes. Which stream a text goes to no test sees; the gate compares the standard output of the
-//! stored run.
-
-#[cfg(test)]
-mod tests;
+//! `ptk_main_tests`. Which stream a text goes to no test sees; the gate compares the standard output of the stored run.
 
 use ptk_main_commands::{answer_words, tell, unread};
 use ptk_main_faults::Fault;

@@ -2,3 +2,5 @@ pub mod Images
 pub mod Refusals
 pub mod Answers
 pub mod Expectations
+pub mod Decoded
+pub mod HostFaults

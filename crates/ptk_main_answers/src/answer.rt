@@ -8,13 +8,14 @@ ghost use Rattle.ptk_main_runs.specs.Parts.{part_named};
 ghost use Rattle.ptk_main_answers.specs.Answers.{trace_of};
 ghost use Rattle.ptk_main_answers.specs.Refusals.{IsFaultOf, refused_trace};
 
+use crate::decoding::decoded_trace_with;
+use crate::filter::Filter;
 use crate::naming::run_fault;
 use ptk_config::Config;
 use ptk_main_faults::Fault;
 use ptk_main_runs::trace_with;
 use ptk_symbols::Symbols;
 use ptk_system::Files;
-use ptk_trace_decoded::{Filter, decoded_trace_with};
 use ptk_words::Tick;
 use std::alloc::Global;
 use std::io::Write;
@@ -40,8 +41,8 @@ pub fn trace_answer<'a, W: Write>(
     }
 }
 
-/// The lines of the last steps of the partition of this name that the filter shows, in words. Which of them it shows and
-/// what stands behind each is for `ptk_trace_decoded` to say.
+/// The lines of the last steps of the partition of this name that the filter shows, in words. Which of them it shows
+/// and what stands behind each is for `decoded_trace_with` to say.
 pub fn decoded_answer<'a, W: Write>(
     alloc: Global,
     config: &'a Config,

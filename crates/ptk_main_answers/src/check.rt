@@ -17,8 +17,8 @@ use ptk_words::{ImageFault, PartId};
 use std::alloc::Global;
 use std::io::Write;
 
-/// Writes `ok` and a newline where every image that the configuration names is there, is sound and fits its partition. A
-/// boot refuses each that does not. A missing file comes before any other fault of an image.
+/// Writes `ok` and a newline where every image that the configuration names is there, is sound and fits its partition.
+/// A boot refuses each that does not. A missing file comes before any other fault of an image.
 pub fn check_with<'a, W: Write>(
     alloc: Global,
     config: &'a Config,

@@ -149,8 +149,8 @@ fn image_fault_of(status: PartStatus) -> Option<u8> {
     }
 }
 
-/// Writes the answer to a check as one JSON object and a newline: `ok`, or the line of the fault for which the configuration
-/// or an image is refused, and what `check --explain` says.
+/// Writes the answer to a check as one JSON object and a newline: `ok`, or the line of the fault for which the
+/// configuration or an image is refused, and what `check --explain` says.
 pub fn check_document<W: Write>(
     alloc: Global,
     fault: Option<&Fault<'_>>,

@@ -10,8 +10,8 @@ use ptk_main_line::FailOn;
 use ptk_system::{PartStatus, System};
 use ptk_words::PartId;
 
-/// The first byte at which a report is not the expected one, as a fault with its line and both bytes. None where both are
-/// the same.
+/// The first byte at which a report is not the expected one, as a fault with its line and both bytes. None where both
+/// are the same.
 pub fn difference(report: &[u8], expected: &[u8]) -> Option<Fault<'static>>
     ensures { MatchOption result (report.now ≡ expected.now) (IsFirstDifference report.now expected.now) }
 {

@@ -1,18 +1,18 @@
 //! The explanation of a configuration's text, in words.
 
 ghost use Rattle.std.specs.Prelude.{◌≡◌, ◌≢◌, ◌⊎◌, IfErr, IfOk};
-ghost use Rattle.ptk_config_table.specs.Explained.{IsExplained};
+ghost use Rattle.ptk_config_explain.specs.Explained.{IsExplained};
 ghost use Rattle.ptk_config_places.specs.Refusals.{refusal_of, text_walk};
 
+use ptk_config_explain::{ExplainFault, explain};
 use ptk_config_places::Refusal;
-use ptk_config_table::{ExplainFault, explain};
 use ptk_main_faults::Fault;
 use ptk_system::Files;
 use std::alloc::Global;
 use std::io::Write;
 
-/// Writes the explanation of a text with these files: of a configuration that is refused one line that says where and why;
-/// of one that is accepted one line that says which image is refused first and why, and where none is, what each
+/// Writes the explanation of a text with these files: of a configuration that is refused one line that says where and
+/// why; of one that is accepted one line that says which image is refused first and why, and where none is, what each
 /// partition has. Returns the first fault of the text with its place, None where the text is accepted. A fault where
 /// memory was refused, with the writer as it was, or where the writer fails, and of no other kind; how much of the text
 /// a failed writer has is not said.

@@ -1,6 +1,7 @@
 #![tactic(auto)]
 
-//! What each request over a configuration writes, on any writer, as lines or JSON, once the files are read.
+//! What each request over a configuration writes, on any writer, as lines or JSON, once the files are read; among it a
+//! partition's trace with each step in words, its symbol, and the names of calls and replies (`decoded_trace_with`).
 //!
 //! - `run_answer` writes the report of the booted configuration after the ticks asked for, where it is asked for in
 //!   lines and to no earlier end (`written`).
@@ -15,29 +16,45 @@
 //! - Of pictures and JSON objects the clauses say only their form (an object is the compact text of its own tokens).
 //! - `explain_with` returns a text's first fault with its place, and writes what `explain` does (`written`).
 //! - `decoded_answer`, `standing_answer`, `timeline_answer` and `named_timeline_answer` promise their refusals alone.
+//! - Of a trace in words `shows` is the definition's choice of steps (`is_shown`), and `push_decoded` appends the
+//!   definition's words of a pc and a word (`decoded_text`); `decoded_trace_with` refuses an unknown name as
+//!   `trace_with` does. The rest of a line is tested.
 //!
-//! That such a call succeeds with ample memory is tested, and the bytes of all of them with it
-//! (`ptk_main_answers_tests`). Below are the command line (`ptk_main_line`), the faults (`ptk_main_faults`), whole runs
-//! (`ptk_main_runs`), the system (`ptk_system`) and the words of a configuration (`ptk_config_table`); above is the
-//! program, which reads the files and lends its standard output. No clause is costly to prove.
+//! Each line of a trace in words is as the trace has it; behind two blanks and `#` are the symbol that is nearest to
+//! the step's pc and its instruction as the disassembler spells it; behind an ECALL the call's POSIX name and the name
+//! of its reply, or `blocked`. The number of a call is in a7, which a trace does not keep: a second system of the same
+//! boot goes on to each ECALL that is shown.
+//!
+//! That the answer to a request succeeds with ample memory is tested, and the bytes of all of them with it
+//! (`ptk_main_tests`). Below are the command line (`ptk_main_line`), the faults (`ptk_main_faults`), whole runs
+//! (`ptk_main_runs`), the system (`ptk_system`), symbols and the disassembler, and the words of a configuration
+//! (`ptk_config_explain`); above is the program, which reads the files and lends its standard output. No clause is
+//! costly to prove.
 
 mod answer;
+mod calls;
 mod check;
+mod decoding;
 mod document;
+mod entries;
 mod expectation;
 mod explanation;
 mod figures;
+mod filter;
 mod naming;
 mod picture;
 mod run;
 mod standing;
+mod steps;
 
 pub use answer::{decoded_answer, trace_answer};
 pub use check::check_with;
+pub use decoding::{decoded_trace_with, partition_of};
 pub use document::check_document;
 pub use expectation::difference;
 pub use explanation::explain_with;
 pub use figures::stats_answer;
+pub use filter::Filter;
 pub use picture::{named_timeline_answer, timeline_answer};
 pub use ptk_main_runs::{Files, RunFault, run_with, trace_with};
 pub use run::{RunQuestion, Watch, run_answer};

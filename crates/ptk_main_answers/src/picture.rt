@@ -19,8 +19,8 @@ use ptk_words::Tick;
 use std::alloc::Global;
 use std::io::Write;
 
-/// The picture of a run from a tick on, of whose bytes nothing is promised. `Fault::NothingFrom` where the run ends at that
-/// tick or before it, which is looked at first.
+/// The picture of a run from a tick on, of whose bytes nothing is promised. `Fault::NothingFrom` where the run ends at
+/// that tick or before it, which is looked at first.
 pub fn timeline_answer<'a, W: Write>(
     alloc: Global,
     config: &'a Config,
@@ -43,9 +43,9 @@ pub fn timeline_answer<'a, W: Write>(
     }
 }
 
-/// The same picture, in which a thread has the name of the symbol that begins where it starts, if one does: as SVG the last
-/// thread of each number, as trace events each that starts from the tick on; a Value Change Dump has no names. The same faults
-/// come.
+/// The same picture, in which a thread has the name of the symbol that begins where it starts, if one does: as SVG the
+/// last thread of each number, as trace events each that starts from the tick on; a Value Change Dump has no names. The
+/// same faults come.
 pub fn named_timeline_answer<'a, W: Write>(
     alloc: Global,
     config: &'a Config,

@@ -47,8 +47,8 @@ pub struct RunQuestion<'q> {
     pub fail_on: FailOn,
 }
 
-/// Runs a configuration and writes its report. A fault where an image's file is missing, memory was refused or the writer
-/// failed; and where the report is written, but is not the expected one, or a partition is of a kind to fail on.
+/// Runs a configuration and writes its report. A fault where an image's file is missing, memory was refused or the
+/// writer failed; and where the report is written, but is not the expected one, or a partition is of a kind to fail on.
 pub fn run_answer<'a, V: Watch, W: Write>(
     alloc: Global,
     config: &'a Config,
@@ -75,8 +75,8 @@ pub fn run_answer<'a, V: Watch, W: Write>(
     }
 }
 
-/// Runs a booted system to a tick, or where it is asked for to one at which every partition has halted: that is looked at
-/// each `HALT_STRIDE` ticks.
+/// Runs a booted system to a tick, or where it is asked for to one at which every partition has halted: that is looked
+/// at each `HALT_STRIDE` ticks.
 fn run_watched<V: Watch>(system: &mut System<'_>, last: Tick, until_halted: bool, watch: &mut V)
     requires small { last ≤ LAST_TICK }
     requires start { system.old.tick ≤ last }

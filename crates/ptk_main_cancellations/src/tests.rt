@@ -1,11 +1,13 @@
-//! The worked rows of cancellation, cleanup handlers and keys. What is wanted was worked out by hand from the costs of
-//! calls; the ticks stand beside the guests, a column for each step's first tick. Replies are kept in s registers, 1000
-//! more; 999 is 1000 more than the result of a thread that was cancelled, 0xffffffff.
+//! The worked rows of cancellation, cleanup handlers, keys, sleeps and input. What is wanted was worked out by hand
+//! from the costs of calls; the ticks stand beside the guests, a column for each step's first tick. Replies are kept in
+//! s registers, 1000 more; 999 is 1000 more than the result of a thread that was cancelled, 0xffffffff.
 
 mod handlers;
+mod inputs;
 mod keys;
 mod neighbours;
 mod requests;
+mod sleeps;
 mod waits;
 
 use ptk_main_guests::{first_wrong_cuts, first_wrong_row, first_wrong_trace};
@@ -13,6 +15,11 @@ use ptk_main_guests::{first_wrong_cuts, first_wrong_row, first_wrong_trace};
 #[test]
 fn rows_of_handlers(rt: HostRuntime) {
     assert_eq!(rt; first_wrong_row(rt.alloc(), &handlers::ROWS), None);
+}
+
+#[test]
+fn rows_of_inputs(rt: HostRuntime) {
+    assert_eq!(rt; first_wrong_row(rt.alloc(), &inputs::ROWS), None);
 }
 
 #[test]
@@ -30,6 +37,12 @@ fn rows_of_neighbours(rt: HostRuntime) {
 fn rows_of_requests(rt: HostRuntime) {
     assert_eq!(rt; first_wrong_row(rt.alloc(), &requests::ROWS), None);
     assert_eq!(rt; first_wrong_trace(rt.alloc(), &requests::TRACES), None);
+}
+
+#[test]
+fn rows_of_sleeps(rt: HostRuntime) {
+    assert_eq!(rt; first_wrong_row(rt.alloc(), &sleeps::ROWS), None);
+    assert_eq!(rt; first_wrong_cuts(rt.alloc(), &sleeps::CUTS), None);
 }
 
 #[test]

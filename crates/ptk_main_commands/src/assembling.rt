@@ -12,9 +12,9 @@ use std::{fs, io};
 /// The longest piece of a source that is shown.
 const MOST_SHOWN: usize = 32;
 
-/// Writes the image of a source into a file, and on request its labels into another, and gives the number of the status.
-/// Nothing is written where the source is refused, or two of the files are one. The labels are written first: where the image
-/// can't be written then, the labels stand.
+/// Writes the image of a source into a file, and on request its labels into another, and gives the number of the
+/// status. Nothing is written where the source is refused, or two of the files are one. The labels are written first:
+/// where the image can't be written then, the labels stand.
 pub(crate) fn asm(rt: &HostRuntime, options: AsmOptions<'_>) -> u8 {
     if are_mixed(rt, options) {
         return match one_file(rt.alloc()) {
@@ -41,8 +41,8 @@ fn are_mixed(rt: &HostRuntime, options: AsmOptions<'_>) -> bool {
     }
 }
 
-// Whether two paths are one file: their words are the same, or both are there and lead to one path. Two hard links to one
-// file are not seen.
+// Whether two paths are one file: their words are the same, or both are there and lead to one path. Two hard links to
+// one file are not seen.
 fn is_one_file(rt: &HostRuntime, source: &str, image: &str) -> bool {
     if source == image {
         return true;

@@ -26,9 +26,9 @@ fn check_text(rt: &HostRuntime, text: &str, options: CheckOptions<'_>) -> u8 {
     }
 }
 
-/// Writes what a check says in lines to standard output, on request after what the configuration has with its images. The
-/// first fault, as an error: an image that is not there or can't be read, is no image, or does not fit; memory ran out, or
-/// standard output refused the bytes.
+/// Writes what a check says in lines to standard output, on request after what the configuration has with its images.
+/// The first fault, as an error: an image that is not there or can't be read, is no image, or does not fit; memory ran
+/// out, or standard output refused the bytes.
 pub fn check_config<'a>(
     rt: &HostRuntime,
     text: &str,
@@ -62,8 +62,8 @@ fn check_json<'a>(
     }
 }
 
-/// The fault of a refused text, after where and why it is refused, which goes to standard output; that of the host where
-/// these words can't be written. Out of memory says nothing of the text, and comes alone.
+/// The fault of a refused text, after where and why it is refused, which goes to standard output; that of the host
+/// where these words can't be written. Out of memory says nothing of the text, and comes alone.
 pub fn refusal_explained(rt: &HostRuntime, text: &str, fault: Fault<'static>) -> Fault<'static> {
     if fault == Fault::NoMemory {
         return fault;

@@ -13,8 +13,9 @@ use crate::telling::{end, usage};
 use crate::tracing::trace;
 use ptk_main_line::{Request, read_line};
 
-/// Does what the words of a command line ask for, the program's name the first of them, and gives the number of the status.
-/// The text of words that ask for nothing goes to standard error, that of a request for help to standard output.
+/// Does what the words of a command line ask for, the program's name the first of them, and gives the number of the
+/// status. The text of words that ask for nothing goes to standard error, that of a request for help to standard
+/// output.
 #[tactic(auto, using(crate::proofs::InRange::asks_in_range))]
 pub fn answer_words(rt: &HostRuntime, words: &[&str]) -> u8 {
     match read_line(rt.alloc(), words) {

@@ -14,9 +14,9 @@ use std::alloc::Global;
 use std::fs;
 use std::io::Write;
 
-/// The text of the image in a file, with the names of the symbols in another where one is named, into a third file, or to
-/// standard output where none is named. Nothing is written where the image or the symbols are refused. A fault where a file
-/// can't be read, the image or a symbol is refused, memory ran out, or the text can't be written.
+/// The text of the image in a file, with the names of the symbols in another where one is named, into a third file, or
+/// to standard output where none is named. Nothing is written where the image or the symbols are refused. A fault where
+/// a file can't be read, the image or a symbol is refused, memory ran out, or the text can't be written.
 pub fn disasm<'a>(rt: &HostRuntime, options: DisasmOptions<'a>) -> Result<(), Fault<'a>> {
     let bytes = bytes_in(rt, options.image)?;
     let names = symbols_text_in(rt, options.symbols)?;
@@ -32,8 +32,8 @@ pub fn disasm<'a>(rt: &HostRuntime, options: DisasmOptions<'a>) -> Result<(), Fa
     }
 }
 
-/// The text of the image that these bytes are, by the name of its file: the assembler makes this image of it. A fault where
-/// they are no image, a section is longer than a source may have it, or memory ran out.
+/// The text of the image that these bytes are, by the name of its file: the assembler makes this image of it. A fault
+/// where they are no image, a section is longer than a source may have it, or memory ran out.
 fn text_of<'a>(
     alloc: Global,
     name: &'a str,

@@ -4,8 +4,8 @@ use crate::telling::tell;
 use ptk_main_answers::{Files, explain_with};
 use ptk_main_faults::Fault;
 
-/// The status of a refused configuration, whose line goes to standard error, and behind it on request where and why. Out of
-/// memory says nothing of the text, and comes alone.
+/// The status of a refused configuration, whose line goes to standard error, and behind it on request where and why.
+/// Out of memory says nothing of the text, and comes alone.
 pub(crate) fn refused(rt: &HostRuntime, text: &str, explain: bool, fault: &Fault<'_>) -> u8 {
     let status = tell(rt, fault);
     if explain && *fault != Fault::NoMemory {

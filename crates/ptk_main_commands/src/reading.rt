@@ -6,8 +6,8 @@ use ptk_main_faults::Fault;
 use ptk_symbols::{SymbolFault, Symbols, read_symbols};
 use std::{fs, io};
 
-/// The bytes of a file. A fault where it is not there, can't be read, or memory ran out. A path through a file is one of a
-/// file that is not there (own choice).
+/// The bytes of a file. A fault where it is not there, can't be read, or memory ran out. A path through a file is one
+/// of a file that is not there (own choice).
 pub fn bytes_in<'a>(rt: &HostRuntime, name: &'a str) -> Result<Vec<u8>, Fault<'a>> {
     match fs::read(rt, name) {
         Ok(bytes) => Ok(bytes),
@@ -66,9 +66,9 @@ pub(crate) fn symbols_of<'a, 't>(
     }
 }
 
-/// The images that the sections name, in their order, each looked up by its name behind the folder `root` and a slash, where
-/// one is given, and from the working directory otherwise. One that is not there is left out; a fault where another can't
-/// be read, or memory ran out.
+/// The images that the sections name, in their order, each looked up by its name behind the folder `root` and a slash,
+/// where one is given, and from the working directory otherwise. One that is not there is left out; a fault where
+/// another can't be read, or memory ran out.
 pub(crate) fn images_of<'a>(
     rt: &HostRuntime,
     config: &'a Config,

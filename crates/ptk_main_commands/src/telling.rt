@@ -31,8 +31,9 @@ pub fn tell(rt: &HostRuntime, fault: &Fault<'_>) -> u8
     }
 }
 
-/// The status of words that `clap` does not take, with its text. Where the text belongs on standard error and that can't
-/// be written, there is the status alone. A request for help is done, on standard output, where that can be written.
+/// The status of words that `clap` does not take, with its text. Where the text belongs on standard error and that
+/// can't be written, there is the status alone. A request for help is done, on standard output, where that can be
+/// written.
 pub fn usage(rt: &HostRuntime, error: &clap::Error) -> u8 {
     if error.kind() == ErrorKind::OutOfMemory {
         return tell(rt, &Fault::NoMemory);

@@ -9,10 +9,9 @@ use crate::explaining::refused;
 use crate::reading::{config_of, images_of, symbols_of, symbols_text_in, text_in};
 use crate::telling::{end, tell, usage};
 use ptk_config::Config;
-use ptk_main_answers::{Files, decoded_answer, trace_answer};
+use ptk_main_answers::{Files, Filter, decoded_answer, partition_of, trace_answer};
 use ptk_main_faults::Fault;
 use ptk_main_line::{MOST_TICKS, TraceOptions, undecoded};
-use ptk_trace_decoded::{Filter, partition_of};
 use ptk_words::{ThreadNo, Tick};
 
 /// The last steps of a partition. A usage error where an option of a trace in words is there without `--decode`.

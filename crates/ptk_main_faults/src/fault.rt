@@ -16,7 +16,7 @@ use std::io::Write;
 use std::{fmt, io};
 
 /// Why the program stops: a case for each line that it writes on standard error.
-#[derive(Clone, Copy, Debug, PartialEq, Eq)]
+#[derive(Clone, Copy, PartialEq, Eq)]
 pub enum Fault<'a> {
     /// `ptk: config fault N`: the configuration is refused, for another cause than its windows.
     Config(u8),
@@ -38,8 +38,8 @@ pub enum Fault<'a> {
     Symbols(&'a str, u64),
     /// `ptk: nothing to show from tick M`: the run ends before this tick.
     NothingFrom(u64),
-    /// `ptk: report differs at byte B line L: got X, expected Y`: the first byte of a report, counted from 0, that is not the
-    /// expected one, its line, counted from 1, and both bytes as numbers, `end` where there is none.
+    /// `ptk: report differs at byte B line L: got X, expected Y`: the first byte of a report, counted from 0, that is
+    /// not the expected one, its line, counted from 1, and both bytes as numbers, `end` where there is none.
     Differs(u64, u64, Option<u8>, Option<u8>),
     /// `ptk: partition NAME is KIND`: a partition is of a kind to fail on.
     FailedOn(&'a str, FailureKind),
@@ -52,7 +52,7 @@ pub enum Fault<'a> {
 }
 
 /// A kind of a partition's status at which a run may fail.
-#[derive(Clone, Copy, Debug, PartialEq, Eq)]
+#[derive(Clone, Copy, PartialEq, Eq)]
 pub enum FailureKind {
     /// An instruction stopped it: a fault or a break.
     Fault,

@@ -28,8 +28,8 @@ pub enum Sight {
     Level(u8),
     /// The number of the mutex that a thread waits for.
     Awaited(u8),
-    /// How many threads lie in a queue, where the links of the slot table lead along these threads, in this order and no
-    /// others.
+    /// How many threads lie in a queue, where the links of the slot table lead along these threads, in this order and
+    /// no others.
     Linked(Queue, &'static [u8]),
     /// How many stored priorities the last call on mutexes read as it raised some, of whatever partition.
     Visited,

@@ -4,6 +4,7 @@ mod calls;
 mod images;
 mod machine;
 mod refusals;
+mod storms;
 mod texts;
 
 use std::alloc::{AllocError, Global};

@@ -30,10 +30,10 @@ pub const MOST_STEPS: u64 = 1_048_576;
 
 /// Reads the words of a command line, of which the first is the program's name.
 ///
-/// An error has one of the kinds that `clap` gives the words: `DisplayHelp` where they ask for help, and otherwise what is
-/// wrong with them. Its kind is `InvalidValue` where `clap` takes the words and they ask for nothing: the value of
-/// `--format` or `--fail-on` is another word. It is `OutOfMemory` where memory runs out. An argument and its values are read
-/// as `clap` reads them, so options may stand before or after FILE, and `--ticks=N` is `--ticks N`.
+/// An error has one of the kinds that `clap` gives the words: `DisplayHelp` where they ask for help, and otherwise what
+/// is wrong with them. Its kind is `InvalidValue` where `clap` takes the words and they ask for nothing: the value of
+/// `--format` or `--fail-on` is another word. It is `OutOfMemory` where memory runs out. An argument and its values are
+/// read as `clap` reads them, so options may stand before or after FILE, and `--ticks=N` is `--ticks N`.
 pub fn read_line<'a>(alloc: Global, words: &'a [&'a str]) -> Result<Request<'a>, Error>
     ensures asked { IfOk result (λ r. Asks (map (λ w. w.now) words.entry.now) r) }
     ensures taken { OnOk result (fault_of ptk (map (λ w. w.now) words.entry.now) ≡ []) }
@@ -59,8 +59,8 @@ fn no_request(alloc: Global) -> Result<Error, AllocError>
 }
 
 /// The error of a command line with a word that is not UTF-8, which `read_line` can't be given: a usage error with the
-/// command's usage in its text. `clap` has no kind of its own for it here, so its kind is that of a value that can't be read
-/// (own choice). An error where memory runs out.
+/// command's usage in its text. `clap` has no kind of its own for it here, so its kind is that of a value that can't be
+/// read (own choice). An error where memory runs out.
 pub fn not_text(alloc: Global) -> Result<Error, AllocError>
     ensures { IfOk result (λ e. kind_of e ≡ ValueValidation) }
 {
@@ -80,8 +80,8 @@ pub fn one_file(alloc: Global) -> Result<Error, AllocError>
     )
 }
 
-/// The error of `trace` where an option chooses what is shown and `--decode` is not given: a usage error. An error where
-/// memory runs out.
+/// The error of `trace` where an option chooses what is shown and `--decode` is not given: a usage error. An error
+/// where memory runs out.
 pub fn undecoded(alloc: Global) -> Result<Error, AllocError>
     ensures { IfOk result (λ e. kind_of e ≡ MissingRequiredArgument) }
 {

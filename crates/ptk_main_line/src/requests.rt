@@ -187,7 +187,7 @@ pub struct StatsOptions<'a> {
 }
 
 /// The form of an answer.
-#[derive(Clone, Copy, Debug, PartialEq, Eq)]
+#[derive(Clone, Copy, PartialEq, Eq)]
 pub enum Format {
     /// Lines of text.
     Text,
@@ -196,7 +196,7 @@ pub enum Format {
 }
 
 /// The form of a picture.
-#[derive(Clone, Copy, Debug, PartialEq, Eq)]
+#[derive(Clone, Copy, PartialEq, Eq)]
 pub enum PictureFormat {
     /// Scalable Vector Graphics, for a browser.
     Svg,
@@ -207,7 +207,7 @@ pub enum PictureFormat {
 }
 
 /// The kinds of a partition's status at which a run fails.
-#[derive(Clone, Copy, Debug, PartialEq, Eq)]
+#[derive(Clone, Copy, PartialEq, Eq)]
 pub struct FailOn {
     /// A fault or a break.
     pub fault: bool,

@@ -36,7 +36,8 @@ impl PictureFormat {
 }
 
 impl FailOn {
-    /// The kinds that a value names, each once and in any order, with commas between them. None where it is another text.
+    /// The kinds that a value names, each once and in any order, with commas between them. None where it is another
+    /// text.
     fn named(value: &str) -> Option<FailOn>
         ensures { result ≡ kinds_named value.now }
     {
@@ -120,7 +121,8 @@ pub(crate) fn format_in(found: &ArgMatches) -> Option<Format>
     }
 }
 
-/// The form of a picture that `--format` names, `PictureFormat::Svg` where it is not given. None where its value names none.
+/// The form of a picture that `--format` names, `PictureFormat::Svg` where it is not given. None where its value names
+/// none.
 pub(crate) fn picture_format_in(found: &ArgMatches) -> Option<PictureFormat>
     ensures { result ≡ picture_of (first_of (codes "format") (rows_of (found_of found.now))) }
 {

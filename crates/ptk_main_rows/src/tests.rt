@@ -1,16 +1,21 @@
-//! The worked rows: whole runs with their reports and traces. What is wanted was worked out by hand.
-//! Memory is ample here, so an answer that it is wanting fails too. A helper that promises nothing stands between each row
-//! and the calls that it tests, and answers whether the row holds: so the check neither computes the rows' runs nor
-//! follows an early return at each row.
+//! The worked rows: whole runs with their reports and traces. What is wanted was worked out by hand. Memory is ample
+//! here, so an answer that it is wanting fails too. A helper that promises nothing stands between each row and the
+//! calls that it tests, and answers whether the row holds: so the check neither computes the rows' runs nor follows an
+//! early return at each row.
 
 ghost use Rattle.std.specs.Prelude.{◌<◌, length};
 
 mod ends;
 mod greatest;
+mod guests;
+mod plans;
 
-use crate::rows;
-use ptk_config::{Config, read_config};
-use ptk_main_runs::{Files, RunFault, System, run_with, trace_with};
+use ptk_main_guests::{
+    Config, CutRow, Files, P, Row, System, TraceRow, booted, config_of, files_with,
+    first_wrong_cuts, first_wrong_row, first_wrong_trace, guest_of, image_of, is_report,
+    report_now, report_of, run_on_to, trace_now,
+};
+use ptk_main_runs::{RunFault, run_with, trace_with};
 use ptk_words::{PartId, ThreadNo, Tick};
 use std::alloc::{AllocError, Global};
 use std::io::Write;
@@ -21,8 +26,6 @@ const FRAME_20: &str = "frame = 20\n";
 const FRAME_40: &str = "frame = 40\n";
 
 const FRAME_100: &str = "frame = 100\n";
-
-const P: &str = "[[partition]]\nname = \"p\"\nimage = \"p.img\"\n";
 
 const Q: &str = "[[partition]]\nname = \"q\"\nimage = \"q.img\"\n";
 
@@ -95,53 +98,20 @@ const BESIDE_STORM: [&str; 7] = [FRAME_40, Q, MANY_THREADS, P, NUMBERS, FIRST_20
 
 const HELLO_REPORT: &str = "partition p exit 0 steps 9 lost 0\noutput 2\nhi\n";
 
-// The configuration whose text these parts make, None where there is none.
-fn config_of(alloc: Global, parts: &[&str]) -> Option<Config> {
-    match parts.concat(alloc) {
-        Ok(text) => config_in(alloc, text.as_str()),
-        Err(_) => None,
-    }
+// The configuration, and the files with the images of p and q.
+fn pair_of(alloc: Global, parts: &[&str], p: &str, q: &str) -> Option<(Config, Files)> {
+    let config = config_of(alloc, parts)?;
+    let p = image_of(alloc, &[p])?;
+    let q = image_of(alloc, &[q])?;
+    let files = files_with(alloc, &p, &q).ok()?;
+    Some((config, files))
 }
 
-// The configuration of a text, or None.
-fn config_in(alloc: Global, text: &str) -> Option<Config> {
-    read_config(alloc, text).ok()
-}
-
-// The bytes of an image, from its words.
-fn bytes_of(alloc: Global, words: &[u32]) -> Result<Vec<u8>, AllocError> {
-    let mut bytes = Vec::new(alloc);
-    for word in words {
-        bytes.extend_from_slice(&word.to_le_bytes())?;
-    }
-    Ok(bytes)
-}
-
-// The same without the last byte.
-fn bytes_cut_short(alloc: Global, words: &[u32]) -> Result<Vec<u8>, AllocError> {
-    let mut bytes = bytes_of(alloc, words)?;
-    let _last = bytes.pop();
-    Ok(bytes)
-}
-
-// Whether the file was added.
-fn is_added(files: &mut Files, name: &str, bytes: &[u8]) -> bool {
-    files.add(name, bytes).is_ok()
-}
-
-// The images of p and q.
-fn images_of(alloc: Global, p: &[u32], q: &[u32]) -> Result<Files, AllocError> {
-    let mut files = Files::new(alloc);
-    let bytes = bytes_of(alloc, p)?;
-    files.add("p.img", &bytes)?;
-    let bytes = bytes_of(alloc, q)?;
-    files.add("q.img", &bytes)?;
-    Ok(files)
-}
-
-// The same, None where memory ran out.
-fn files_of(alloc: Global, p: &[u32], q: &[u32]) -> Option<Files> {
-    images_of(alloc, p, q).ok()
+// The image of a source without its last byte.
+fn image_cut_short(alloc: Global, source: &str) -> Option<Vec<u8>> {
+    let mut image = image_of(alloc, &[source])?;
+    let _last = image.pop();
+    Some(image)
 }
 
 // What `run_with` returns for this many ticks.
@@ -167,37 +137,19 @@ fn trace_on<W: Write>(
     trace_with(alloc, config, files, Tick::new(u64::from(ticks)), name, out)
 }
 
-// The report after this many ticks.
-fn report_on(alloc: Global, config: &Config, files: &Files, ticks: u32) -> Option<Vec<u8>> {
+// The report after this many ticks, with these guests of p and q.
+fn report_beside(alloc: Global, row: &Pair<'_>) -> Option<Vec<u8>> {
+    let (config, files) = pair_of(alloc, row.parts, row.p, row.q)?;
+    report_of(alloc, &config, &files, u64::from(row.ticks))
+}
+
+// The trace of p after this many ticks, with these guests of p and q.
+fn trace_beside(alloc: Global, parts: &[&str], p: &str, q: &str, ticks: u32) -> Option<Vec<u8>> {
+    let (config, files) = pair_of(alloc, parts, p, q)?;
     let mut out = Vec::new(alloc);
-    match run_on(alloc, config, files, ticks, &mut out) {
+    match trace_on(alloc, &config, &files, ticks, "p", &mut out) {
         Ok(()) => Some(out),
         Err(_) => None,
-    }
-}
-
-// The trace of p after this many ticks.
-fn trace_of(alloc: Global, config: &Config, files: &Files, ticks: u32) -> Option<Vec<u8>> {
-    let mut out = Vec::new(alloc);
-    match trace_on(alloc, config, files, ticks, "p", &mut out) {
-        Ok(()) => Some(out),
-        Err(_) => None,
-    }
-}
-
-// The report after this many ticks, with these images of p and q.
-fn report(alloc: Global, parts: &[&str], p: &[u32], q: &[u32], ticks: u32) -> Option<Vec<u8>> {
-    match (config_of(alloc, parts), files_of(alloc, p, q)) {
-        (Some(config), Some(files)) => report_on(alloc, &config, &files, ticks),
-        _ => None,
-    }
-}
-
-// The trace of p after this many ticks, with these images of p and q.
-fn trace(alloc: Global, parts: &[&str], p: &[u32], q: &[u32], ticks: u32) -> Option<Vec<u8>> {
-    match (config_of(alloc, parts), files_of(alloc, p, q)) {
-        (Some(config), Some(files)) => trace_of(alloc, &config, &files, ticks),
-        _ => None,
     }
 }
 
@@ -212,19 +164,6 @@ fn is_some_text(got: Option<Vec<u8>>, want: &str) -> bool {
         Some(got) => is_text(&got, want.as_bytes()),
         None => false,
     }
-}
-
-// The system of a configuration at tick 0, None where it does not boot.
-fn booted<'a>(alloc: Global, config: &'a Config, files: &'a Files) -> Option<System<'a>> {
-    match System::boot(alloc, config, files) {
-        Ok(system) => Some(system),
-        Err(_) => None,
-    }
-}
-
-// Runs on to a tick.
-fn run_on_to(system: &mut System<'_>, ticks: u32) {
-    system.run_to(Tick::new(u64::from(ticks)));
 }
 
 // The first partition.
@@ -270,288 +209,238 @@ fn is_first_output(system: &System<'_>, want: &str) -> bool {
     is_text(system.output(first(system)), want.as_bytes())
 }
 
-// Whether the writer took the report.
-fn writes_report<W: Write>(system: &System<'_>, out: &mut W) -> bool {
-    system.report(out).is_ok()
-}
-
-// Whether the writer took the trace of the first partition.
-fn writes_trace<W: Write>(system: &System<'_>, out: &mut W) -> bool {
-    system.trace(first(system)).lines(out).is_ok()
-}
-
-// Whether this is the system's report.
-fn is_told(alloc: Global, system: &System<'_>, want: &str) -> bool {
-    let mut out = Vec::new(alloc);
-    writes_report(system, &mut out) && is_text(&out, want.as_bytes())
-}
-
-// Whether this is the trace of the system's first partition.
-fn is_traced(alloc: Global, system: &System<'_>, want: &str) -> bool {
-    let mut out = Vec::new(alloc);
-    writes_trace(system, &mut out) && is_text(&out, want.as_bytes())
-}
-
 #[test]
 fn an_image_is_its_words(rt: HostRuntime) {
     let want =
         b"PTKI\x01\0\0\0\0\0\0\0\x24\0\0\0\0\0\0\0\0\0\0\0\x93\x08\x10\x00\x13\x05\x80\x06\x73\0\0\0\x93\x08\x10\x00\x13\x05\x90\x06\x73\0\0\0\x93\x08\0\0\x13\x05\0\0\x73\0\0\0";
     // Row hello.
-    match bytes_of(rt.alloc(), &rows::HELLO) {
-        Ok(bytes) => assert!(rt; is_text(&bytes, want.as_slice())),
-        Err(_) => assert!(rt; false, "no memory"),
+    match image_of(rt.alloc(), &[guests::HELLO]) {
+        Some(bytes) => assert!(rt; is_text(&bytes, want.as_slice())),
+        None => assert!(rt; false, "no image"),
     }
 }
 
-// A worked row: the images of p and q, and what is wanted after this many ticks.
-#[derive(Clone, Copy)]
-struct Row<'a> {
-    name: &'a str,
-    parts: &'a [&'a str],
-    p: &'a [u32],
-    q: &'a [u32],
-    ticks: u32,
-    want: &'a str,
-}
-
-// The rows' reports.
-const REPORTS: [Row<'static>; 22] = [
+// The rows' reports where one guest runs.
+const ROWS: [Row<'static>; 12] = [
     Row {
         name: "hello",
         parts: &ALONE,
-        p: &rows::HELLO,
-        q: &[],
+        source: &[guests::HELLO],
+        sights: &[],
         ticks: 20,
-        want: HELLO_REPORT,
+        report: HELLO_REPORT,
     },
     Row {
         name: "empty-image",
         parts: &ALONE,
-        p: &rows::EMPTY,
-        q: &[],
+        source: &[guests::EMPTY],
+        sights: &[],
         ticks: 20,
-        want: "partition p fault illegal pc 0x00000000 steps 1 lost 0\noutput 0\n\n",
+        report: "partition p fault illegal pc 0x00000000 steps 1 lost 0\noutput 0\n\n",
     },
     Row {
         name: "load-at-memory-end",
         parts: &ALONE,
-        p: &rows::LOAD_AT_END,
-        q: &[],
+        source: &[guests::LOAD_AT_END],
+        sights: &[],
         ticks: 20,
-        want: "partition p fault misaligned pc 0x0000000c steps 4 lost 0\noutput 0\n\n",
+        report: "partition p fault misaligned pc 0x0000000c steps 4 lost 0\noutput 0\n\n",
     },
     Row {
         name: "load-at-memory-end",
         parts: &ALONE,
-        p: &rows::LOAD_PAST_END,
-        q: &[],
+        source: &[guests::LOAD_PAST_END],
+        sights: &[],
         ticks: 20,
-        want: "partition p fault load pc 0x0000000c steps 4 lost 0\noutput 0\n\n",
-    },
-    Row {
-        name: "late-put",
-        parts: &LATE,
-        p: &rows::LATE_PUT,
-        q: &[],
-        ticks: 40,
-        want: "partition p running steps 13 lost 3\noutput 0\n\n",
-    },
-    Row {
-        name: "late-put",
-        parts: &LATE,
-        p: &rows::LATE_PUT,
-        q: &[],
-        ticks: 41,
-        want: "partition p running steps 14 lost 3\noutput 1\nh\n",
+        report: "partition p fault load pc 0x0000000c steps 4 lost 0\noutput 0\n\n",
     },
     Row {
         name: "create-join",
         parts: &WIDE,
-        p: &rows::CREATE_JOIN,
-        q: &[],
+        source: &[guests::CREATE_JOIN],
+        sights: &[],
         ticks: 40,
-        want: "partition p exit 7 steps 16 lost 0\noutput 0\n\n",
+        report: "partition p exit 7 steps 16 lost 0\noutput 0\n\n",
     },
     Row {
         name: "number-one-reused",
         parts: &WIDE,
-        p: &rows::NUMBER_ONE_REUSED,
-        q: &[],
+        source: &[guests::NUMBER_ONE_REUSED],
+        sights: &[],
         ticks: 100,
-        want: "partition p exit 5 steps 32 lost 0\noutput 1\n1\n",
+        report: "partition p exit 5 steps 32 lost 0\noutput 1\n1\n",
     },
     Row {
         name: "own-priority-falls",
         parts: &WIDE,
-        p: &rows::FALLS_BY_PRIO,
-        q: &[],
+        source: &[guests::FALLS, guests::BY_PRIO, guests::FALLS_REST],
+        sights: &[],
         ticks: 100,
-        want: "partition p exit 0 steps 27 lost 0\noutput 2\nxy\n",
+        report: "partition p exit 0 steps 27 lost 0\noutput 2\nxy\n",
     },
     Row {
         name: "own-priority-falls",
         parts: &WIDE,
-        p: &rows::FALLS_BY_PARAM,
-        q: &[],
+        source: &[guests::FALLS, guests::BY_PARAM, guests::FALLS_REST],
+        sights: &[],
         ticks: 100,
-        want: "partition p exit 0 steps 28 lost 0\noutput 2\nyx\n",
-    },
-    Row {
-        name: "two-hellos",
-        parts: &TWO,
-        p: &rows::HELLO,
-        q: &rows::HELLO,
-        ticks: 40,
-        want: "partition p exit 0 steps 9 lost 0\noutput 2\nhi\npartition q exit 0 steps 9 lost 0\noutput 2\nhi\n",
-    },
-    Row {
-        name: "load-at-memory-end",
-        parts: &TWO,
-        p: &rows::LOAD_AT_END,
-        q: &rows::HELLO,
-        ticks: 40,
-        want: "partition p fault misaligned pc 0x0000000c steps 4 lost 0\noutput 0\n\npartition q exit 0 steps 9 lost 0\noutput 2\nhi\n",
-    },
-    Row {
-        name: "load-at-memory-end",
-        parts: &TWO,
-        p: &rows::LOAD_PAST_END,
-        q: &rows::HELLO,
-        ticks: 40,
-        want: "partition p fault load pc 0x0000000c steps 4 lost 0\noutput 0\n\npartition q exit 0 steps 9 lost 0\noutput 2\nhi\n",
+        report: "partition p exit 0 steps 28 lost 0\noutput 2\nyx\n",
     },
     Row {
         name: "round-robin-windows",
         parts: &SLOW,
-        p: &rows::ROUND_ROBIN,
-        q: &[],
+        source: &[guests::ROUND_ROBIN],
+        sights: &[],
         ticks: 87,
-        want: "partition p running steps 19 lost 3\noutput 0\n\npartition q idle steps 0 lost 0\noutput 0\n\n",
+        report: "partition p running steps 19 lost 3\noutput 0\n\npartition q idle steps 0 lost 0\noutput 0\n\n",
     },
     Row {
         name: "input-ring",
         parts: &ONE_BYTE,
-        p: &rows::GET_ONE,
-        q: &[],
+        source: &[guests::GET_ONE],
+        sights: &[],
         ticks: 41,
-        want: "partition p exit 0 steps 4 lost 0\noutput 0\n\npartition q idle steps 0 lost 0\noutput 0\n\n",
+        report: "partition p exit 0 steps 4 lost 0\noutput 0\n\npartition q idle steps 0 lost 0\noutput 0\n\n",
     },
     Row {
         name: "input-ring",
         parts: &FULL_RING,
-        p: &rows::GET_TWO,
-        q: &[],
+        source: &[guests::TWENTY_TICKS, guests::GET_TWO],
+        sights: &[],
         ticks: 100,
-        want: "partition p exit 0 steps 33 lost 2\noutput 2\nab\npartition q idle steps 0 lost 0\noutput 0\n\n",
-    },
-    Row {
-        name: "neighbour-exhausts",
-        parts: &BESIDE_QUIET,
-        p: &rows::PUTS_THE_NUMBER,
-        q: &rows::QUIET,
-        ticks: 1500,
-        want: "partition q exit 0 steps 3 lost 0\noutput 0\n\npartition p exit 7 steps 20 lost 0\noutput 1\n2\n",
-    },
-    Row {
-        name: "neighbour-exhausts",
-        parts: &BESIDE_STORM,
-        p: &rows::PUTS_THE_NUMBER,
-        q: &rows::STORM,
-        ticks: 1500,
-        want: "partition q fault break pc 0x0000003c steps 207 lost 131\noutput 4\n!!!!\npartition p exit 7 steps 20 lost 0\noutput 1\n2\n",
+        report: "partition p exit 0 steps 33 lost 2\noutput 2\nab\npartition q idle steps 0 lost 0\noutput 0\n\n",
     },
     Row {
         name: "refused-neighbour-image",
         parts: &BARE,
-        p: &rows::HELLO,
-        q: &[],
+        source: &[guests::HELLO],
+        sights: &[],
         ticks: 40,
-        want: "partition p exit 0 steps 9 lost 0\noutput 2\nhi\npartition q idle steps 0 lost 0\noutput 0\n\n",
+        report: "partition p exit 0 steps 9 lost 0\noutput 2\nhi\npartition q idle steps 0 lost 0\noutput 0\n\n",
     },
-    Row {
+];
+
+// Their reports however a run is cut.
+const CUTS: [CutRow<'static>; 2] = [
+    CutRow {
+        name: "late-put",
+        parts: &LATE,
+        source: &[guests::LATE_PUT],
+        cuts: &[
+            (40, "partition p running steps 13 lost 3\noutput 0\n\n"),
+            (41, "partition p running steps 14 lost 3\noutput 1\nh\n"),
+        ],
+    },
+    CutRow {
         name: "cut-run",
         parts: &ALONE,
-        p: &rows::HELLO,
-        q: &[],
-        ticks: 3,
-        want: "partition p running steps 3 lost 0\noutput 1\nh\n",
+        source: &[guests::HELLO],
+        cuts: &[
+            (3, "partition p running steps 3 lost 0\noutput 1\nh\n"),
+            (10, "partition p running steps 6 lost 0\noutput 2\nhi\n"),
+            (40, HELLO_REPORT),
+        ],
     },
-    Row {
-        name: "cut-run",
-        parts: &ALONE,
-        p: &rows::HELLO,
-        q: &[],
-        ticks: 10,
-        want: "partition p running steps 6 lost 0\noutput 2\nhi\n",
-    },
-    Row {
-        name: "cut-run",
-        parts: &ALONE,
-        p: &rows::HELLO,
-        q: &[],
+];
+
+// A worked row of two guests: the sources of p and q, and the report after this many ticks.
+#[derive(Clone, Copy)]
+struct Pair<'a> {
+    name: &'a str,
+    parts: &'a [&'a str],
+    p: &'a str,
+    q: &'a str,
+    ticks: u32,
+    report: &'a str,
+}
+
+// The rows' reports where q has a guest too.
+const PAIRS: [Pair<'static>; 5] = [
+    Pair {
+        name: "two-hellos",
+        parts: &TWO,
+        p: guests::HELLO,
+        q: guests::HELLO,
         ticks: 40,
-        want: HELLO_REPORT,
+        report: "partition p exit 0 steps 9 lost 0\noutput 2\nhi\npartition q exit 0 steps 9 lost 0\noutput 2\nhi\n",
+    },
+    Pair {
+        name: "load-at-memory-end",
+        parts: &TWO,
+        p: guests::LOAD_AT_END,
+        q: guests::HELLO,
+        ticks: 40,
+        report: "partition p fault misaligned pc 0x0000000c steps 4 lost 0\noutput 0\n\npartition q exit 0 steps 9 lost 0\noutput 2\nhi\n",
+    },
+    Pair {
+        name: "load-at-memory-end",
+        parts: &TWO,
+        p: guests::LOAD_PAST_END,
+        q: guests::HELLO,
+        ticks: 40,
+        report: "partition p fault load pc 0x0000000c steps 4 lost 0\noutput 0\n\npartition q exit 0 steps 9 lost 0\noutput 2\nhi\n",
+    },
+    Pair {
+        name: "neighbour-exhausts",
+        parts: &BESIDE_QUIET,
+        p: guests::PUTS_THE_NUMBER,
+        q: guests::QUIET,
+        ticks: 1500,
+        report: "partition q exit 0 steps 3 lost 0\noutput 0\n\npartition p exit 7 steps 20 lost 0\noutput 1\n2\n",
+    },
+    Pair {
+        name: "neighbour-exhausts",
+        parts: &BESIDE_STORM,
+        p: guests::PUTS_THE_NUMBER,
+        q: guests::STORM,
+        ticks: 1500,
+        report: "partition q fault break pc 0x0000003c steps 207 lost 131\noutput 4\n!!!!\npartition p exit 7 steps 20 lost 0\noutput 1\n2\n",
     },
 ];
 
 // The rows' traces of p.
-const TRACES: [Row<'static>; 5] = [
-    Row {
+const TRACES: [TraceRow<'static>; 5] = [
+    TraceRow {
         name: "input-ring",
         parts: &ONE_BYTE,
-        p: &rows::GET_ONE,
-        q: &[],
+        source: &[guests::GET_ONE],
         ticks: 41,
-        want: "0 1 0x00000000 0x00200893 0x00000000\n1 1 0x00000004 0x00000073 0x00000000\n19 1 0x00000008 0x00000893 0x00000000\n40 1 0x0000000c 0x00000073 0x00000000\n",
+        trace: "0 1 0x00000000 0x00200893 0x00000000\n1 1 0x00000004 0x00000073 0x00000000\n19 1 0x00000008 0x00000893 0x00000000\n40 1 0x0000000c 0x00000073 0x00000000\n",
     },
-    Row {
+    TraceRow {
         name: "short-trace",
         parts: &SHORT,
-        p: &rows::HELLO,
-        q: &[],
+        source: &[guests::HELLO],
         ticks: 20,
-        want: SHORT_TRACE,
+        trace: SHORT_TRACE,
     },
-    Row {
+    TraceRow {
         name: "full-trace",
         parts: &ALONE,
-        p: &rows::HELLO,
-        q: &[],
+        source: &[guests::HELLO],
         ticks: 20,
-        want: FULL_TRACE,
+        trace: FULL_TRACE,
     },
-    Row {
+    TraceRow {
         name: "create-join",
         parts: &WIDE,
-        p: &rows::CREATE_JOIN,
-        q: &[],
+        source: &[guests::CREATE_JOIN],
         ticks: 40,
-        want: CREATE_JOIN_TRACE,
+        trace: CREATE_JOIN_TRACE,
     },
-    Row {
+    TraceRow {
         name: "round-robin-windows",
         parts: &SLOW,
-        p: &rows::ROUND_ROBIN,
-        q: &[],
+        source: &[guests::ROUND_ROBIN],
         ticks: 87,
-        want: ROUND_ROBIN_TRACE,
+        trace: ROUND_ROBIN_TRACE,
     },
 ];
 
-// The name of the first row whose report is another.
-fn first_wrong_report<'a>(alloc: Global, rows: &[Row<'a>]) -> Option<&'a str> {
+// The name of the first row of two guests whose report is another.
+fn first_wrong_pair<'a>(alloc: Global, rows: &[Pair<'a>]) -> Option<&'a str> {
     for row in rows {
-        if !is_some_text(report(alloc, row.parts, row.p, row.q, row.ticks), row.want) {
-            return Some(row.name);
-        }
-    }
-    None
-}
-
-// The name of the first row whose trace is another.
-fn first_wrong_trace<'a>(alloc: Global, rows: &[Row<'a>]) -> Option<&'a str> {
-    for row in rows {
-        if !is_some_text(trace(alloc, row.parts, row.p, row.q, row.ticks), row.want) {
+        if !is_some_text(report_beside(alloc, row), row.report) {
             return Some(row.name);
         }
     }
@@ -561,7 +450,9 @@ fn first_wrong_trace<'a>(alloc: Global, rows: &[Row<'a>]) -> Option<&'a str> {
 #[test]
 fn each_row_is_reported(rt: HostRuntime) {
     assert_eq!(rt; HELLO_REPORT.len(), 46);
-    assert_eq!(rt; first_wrong_report(rt.alloc(), &REPORTS), None);
+    assert_eq!(rt; first_wrong_row(rt.alloc(), &ROWS), None);
+    assert_eq!(rt; first_wrong_cuts(rt.alloc(), &CUTS), None);
+    assert_eq!(rt; first_wrong_pair(rt.alloc(), &PAIRS), None);
 }
 
 // A section with room for 8192 bytes of output, alone in a frame that its run does not end.
@@ -586,15 +477,27 @@ fn long_report(alloc: Global) -> Result<String, AllocError> {
 }
 
 // Whether the guest that puts 8192 bytes has its report once it has exited, at tick 57351.
-fn is_long_report(alloc: Global) -> Result<bool, AllocError> {
-    let want = long_report(alloc)?;
-    let got = report(alloc, &LONG_OUTPUT, &rows::PUTS_8192, &[], 60_000);
-    Ok(is_some_text(got, want.as_str()))
+fn is_long_report(alloc: Global) -> bool {
+    match long_report(alloc) {
+        Ok(want) => is_report(
+            alloc,
+            &LONG_OUTPUT,
+            &[guests::PUTS_8192],
+            60_000,
+            want.as_str(),
+        ),
+        Err(_) => false,
+    }
 }
 
 #[test]
 fn a_long_output_is_reported_whole(rt: HostRuntime) {
-    assert_eq!(rt; is_long_report(rt.alloc()), Ok(true));
+    assert!(rt; is_long_report(rt.alloc()));
+}
+
+#[test]
+fn rows_of_plans(rt: HostRuntime) {
+    assert_eq!(rt; first_wrong_cuts(rt.alloc(), &plans::CUTS), None);
 }
 
 #[test]
@@ -602,7 +505,8 @@ fn traces_are_the_last_steps(rt: HostRuntime) {
     assert_eq!(rt; first_wrong_trace(rt.alloc(), &TRACES), None);
 }
 
-// Asserts what main's a1 is before and after the byte comes at tick 19, where main stands then, and bytes of its memory.
+// Asserts what main's a1 is before and after the byte comes at tick 19, where main stands then, and bytes of its
+// memory.
 fn check_byte_at_19(rt: &impl Abort, system: &mut System<'_>) {
     run_on_to(system, 19);
     assert_eq!(rt; first_register(system, 11), Some(0));
@@ -617,15 +521,12 @@ fn check_byte_at_19(rt: &impl Abort, system: &mut System<'_>) {
 #[test]
 fn a_byte_comes_into_a1(rt: HostRuntime) {
     let alloc = rt.alloc();
-    match (
-        config_of(alloc, &ONE_BYTE),
-        files_of(alloc, &rows::GET_ONE, &[]),
-    ) {
-        (Some(config), Some(files)) => match booted(alloc, &config, &files) {
+    match guest_of(alloc, &ONE_BYTE, &[guests::GET_ONE]) {
+        Some((config, files)) => match booted(alloc, &config, &files) {
             Some(mut system) => check_byte_at_19(&rt, &mut system),
             None => assert!(rt; false, "no boot"),
         },
-        _ => assert!(rt; false, "no memory"),
+        None => assert!(rt; false, "no memory"),
     }
 }
 
@@ -634,7 +535,7 @@ fn counts_at(
     alloc: Global,
     config: &Config,
     files: &Files,
-    ticks: u32,
+    ticks: u64,
 ) -> Option<(usize, u64, u64)> {
     match booted(alloc, config, files) {
         Some(mut system) => {
@@ -652,35 +553,21 @@ fn counts_at(
 #[test]
 fn input_is_lost_where_the_ring_is_full(rt: HostRuntime) {
     let alloc = rt.alloc();
-    match (
-        config_of(alloc, &FULL_RING),
-        files_of(alloc, &rows::SPIN, &[]),
-    ) {
-        (Some(config), Some(files)) => {
+    match guest_of(alloc, &FULL_RING, &[guests::SPIN]) {
+        Some((config, files)) => {
             // Row input-ring.
             assert_eq!(rt; counts_at(alloc, &config, &files, 41), Some((2, 1, 21)));
         }
-        _ => assert!(rt; false, "no memory"),
+        None => assert!(rt; false, "no memory"),
     }
 }
 
 #[test]
 fn a_neighbour_that_exhausts_changes_nothing(rt: HostRuntime) {
     let alloc = rt.alloc();
-    let beside_quiet = trace(
-        alloc,
-        &BESIDE_QUIET,
-        &rows::PUTS_THE_NUMBER,
-        &rows::QUIET,
-        1500,
-    );
-    let beside_storm = trace(
-        alloc,
-        &BESIDE_STORM,
-        &rows::PUTS_THE_NUMBER,
-        &rows::STORM,
-        1500,
-    );
+    let p = guests::PUTS_THE_NUMBER;
+    let beside_quiet = trace_beside(alloc, &BESIDE_QUIET, p, guests::QUIET, 1500);
+    let beside_storm = trace_beside(alloc, &BESIDE_STORM, p, guests::STORM, 1500);
     assert!(rt; are_alike(beside_quiet, beside_storm));
 }
 
@@ -692,35 +579,26 @@ fn are_alike(a: Option<Vec<u8>>, b: Option<Vec<u8>>) -> bool {
     }
 }
 
-// The report after this many ticks, where the image of q lacks its last byte.
-fn report_cut_short(
-    alloc: Global,
-    config: &Config,
-    mut files: Files,
-    q: &[u32],
-    ticks: u32,
-) -> Option<Vec<u8>> {
-    match bytes_cut_short(alloc, q) {
-        Ok(bytes) if bytes.len() == 59 && is_added(&mut files, "q.img", &bytes) => {
-            report_on(alloc, config, &files, ticks)
-        }
-        _ => None,
+// The report of two guests after 40 ticks, where the image of q lacks its last byte.
+fn report_cut_short(alloc: Global) -> Option<Vec<u8>> {
+    let (config, mut files) = guest_of(alloc, &TWO, &[guests::HELLO])?;
+    let q = image_cut_short(alloc, guests::HELLO)?;
+    if q.len() != 59 {
+        return None;
     }
+    files.add("q.img", &q).ok()?;
+    report_of(alloc, &config, &files, 40)
 }
 
 #[test]
 fn a_refused_image_halts_its_partition_alone(rt: HostRuntime) {
-    let alloc = rt.alloc();
-    match (config_of(alloc, &TWO), files_of(alloc, &rows::HELLO, &[])) {
-        // Row refused-neighbour-image.
-        (Some(config), Some(files)) => assert!(rt;
-            is_some_text(
-                report_cut_short(alloc, &config, files, &rows::HELLO, 40),
-                "partition p exit 0 steps 9 lost 0\noutput 2\nhi\npartition q refused image 4 steps 0 lost 0\noutput 0\n\n"
-            )
-        ),
-        _ => assert!(rt; false, "no memory"),
-    }
+    // Row refused-neighbour-image.
+    assert!(rt;
+        is_some_text(
+            report_cut_short(rt.alloc()),
+            "partition p exit 0 steps 9 lost 0\noutput 2\nhi\npartition q refused image 4 steps 0 lost 0\noutput 0\n\n"
+        )
+    );
 }
 
 const SHORT_TRACE: &str =

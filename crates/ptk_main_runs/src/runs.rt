@@ -60,8 +60,8 @@ pub fn run_with<W: Write>(
     }
 }
 
-/// The same, with the trace of the partition of this name in place of the report. That there is such a partition is tested
-/// before the system is booted; where there is none the writer is as it was.
+/// The same, with the trace of the partition of this name in place of the report. That there is such a partition is
+/// tested before the system is booted; where there is none the writer is as it was.
 pub fn trace_with<W: Write>(
     alloc: Global,
     config: &Config,

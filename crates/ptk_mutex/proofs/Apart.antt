@@ -22,13 +22,13 @@ use Rattle.ptk_words_model.specs.Priority.{assigned_priority, awaited, is_owner,
 use Rattle.ptk_words_model.specs.Schedule.{with_thread, at_tail_with, woken_with}
 use Rattle.ptk_words_model.specs.Mutex.{mutex_at, with_mutex, waiters_of, wait_of, count_of, soundness_of, with_soundness, new_mutex, owns, owner_move, own_lock_move, own_trylock_move, is_above_ceiling, lock_move, trylock_move, free_move, handed, heir, move_reply, relock_move, without_mutex_waiter, after_take, after_count, after_free, after_move, after_hand_over_to, after_hand_over, after_refusal_to, after_refusal, after_loss, after_last_unlock, after_unlock, after_relock, after_relock_move, after_bequest, after_abandonment, after_mutex_end}
 use Rattle.ptk_words_model.specs.Condition.{mutex_of_condition_wait, waiters_on}
-use Rattle.ptk_words_locks.specs.Conditions.{condition_of_wait, HasRoom, IsNoWaiter}
-use Rattle.ptk_words_locks.proofs.Lines.{out_push}
-use Rattle.ptk_words_locks.proofs.Conditions.{condition_wait, room_map}
-use Rattle.ptk_words_locks.proofs.MutexPlaces.{pool_set_same}
-use Rattle.ptk_words_locks.proofs.Rooms.{counts_owner, roomy_joined, roomy_left, roomy_soundness}
+use Rattle.ptk_words_sync_invariant.specs.Conditions.{condition_of_wait, HasRoom, IsNoWaiter}
+use Rattle.ptk_words_sync_invariant.proofs.Lines.{out_push}
+use Rattle.ptk_words_sync_invariant.proofs.Conditions.{condition_wait, room_map}
+use Rattle.ptk_words_sync_invariant.proofs.MutexPlaces.{pool_set_same}
+use Rattle.ptk_words_sync_invariant.proofs.Rooms.{counts_owner, roomy_joined, roomy_left, roomy_soundness}
 use Rattle.ptk_threads.proofs.Pools.{pool_get-changed, pool_get-changed_other, pool_get-set_other}
-use Rattle.ptk_mutex_slots.specs.declared.slot.Change.TheVariants.{Abandon, Release, Mark}
+use Rattle.ptk_mutex_priorities.specs.declared.slot.Change.TheVariants.{Abandon, Release, Mark}
 use Rattle.ptk_mutex.specs.Tables.{AreLocked, IsWaiter, MayGet, MayWait}
 use Rattle.ptk_mutex.specs.Moves.{after_assignment, after_withdrawal}
 use Rattle.ptk_mutex.specs.Sound.{AreWaiting, IsOnCondition}

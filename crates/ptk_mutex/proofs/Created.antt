@@ -11,7 +11,7 @@ use Rattle.ptk_words_model.specs.State.{Locks, Mutex}
 use Rattle.ptk_words_model.specs.Priority.{awaited, effective_priorities, thread_at}
 use Rattle.ptk_threads.specs.Table.{ThreadTable, with_new, with_new_at}
 use Rattle.ptk_threads.proofs.Pools.{part_of-set, pool_get-set_other}
-use Rattle.ptk_roster.specs.Rosters.{Rostered}
+use Rattle.ptk_syncs.specs.Rosters.{Rostered}
 use Rattle.ptk_mutex.specs.Moves.{after_creation}
 use Rattle.ptk_mutex.specs.Tables.{locks_at, with_threads, AreLocked, AreReady, IsWaiter}
 use Rattle.ptk_mutex.specs.Sound.{IsSound}

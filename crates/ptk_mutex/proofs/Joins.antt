@@ -8,11 +8,11 @@ use Rattle.std.proofs.lemmas.List.{length-map, get_or-map}
 use Rattle.std.proofs.lemmas.Map.Views.{any-filter_same}
 use Rattle.ptk_words.specs.Pools.{numbers_to}
 use Rattle.ptk_words_model.specs.Chain.{steps_from, Leads, leads_to, greatest_leading}
-use Rattle.ptk_mutex_slots.specs.Raised.{raised_along}
+use Rattle.ptk_mutex_priorities.specs.Raised.{raised_along}
 use Rattle.ptk_mutex.specs.Risen.{risen}
 use Rattle.ptk_threads.specs.Table.{stored_of}
 use Rattle.ptk_mutex.proofs.ChainLaws.{or_cases, or_right, false_true, none_some, reaches_sound, chain_complete, IsNumber, IsBounded}
-use Rattle.ptk_mutex_slots.proofs.Levels.{raised_along_at, length-raised_along, swept_all, length-numbers_to, get_or-numbers_to}
+use Rattle.ptk_mutex_priorities.proofs.Levels.{raised_along_at, length-raised_along, swept_all, length-numbers_to, get_or-numbers_to}
 use Rattle.ptk_mutex.proofs.Rises.{IsPlace, IsWithin, risen-is}
 
 -- ---- the greatest of a list

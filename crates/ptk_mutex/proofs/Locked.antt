@@ -15,11 +15,11 @@ use Rattle.ptk_words_model.specs.State.{Mutex, Locks}
 use Rattle.ptk_words_model.specs.Priority.{awaited, thread_at, effective_of, effective_priority, effective_priorities}
 use Rattle.ptk_words_model.specs.Schedule.{at_tail_with}
 use Rattle.ptk_words_model.specs.Mutex.{mutex_at, with_mutex, waiters_of, count_of, heir, without_mutex_waiter}
-use Rattle.ptk_words_locks.proofs.Lines.{in_push, in_without, out_push, own_head, first_in}
+use Rattle.ptk_words_sync_invariant.proofs.Lines.{in_push, in_without, out_push, own_head, first_in}
 use Rattle.ptk_threads.specs.Table.{stored_of}
 use Rattle.ptk_threads.proofs.Pools.{pool_get-changed, pool_get-changed_other}
 use Rattle.ptk_mutex.specs.Tables.{IsWaiter, AreLocked, MayGet}
-use Rattle.ptk_mutex_slots.proofs.Levels.{length-numbers_to, get_or-numbers_to}
+use Rattle.ptk_mutex_priorities.proofs.Levels.{length-numbers_to, get_or-numbers_to}
 
 -- ---- one that waits
 

@@ -1,5 +1,5 @@
 -- What the calls need of the tables, and what the tables are after a move of one partition.
-use Rattle.std.proofs.Common.{◌≡◌, ℕ, ◌-◌, ◌<◌, ◌≤◌, List, length, refl, ◌∙◌, ap, arith, Bool, true, false}
+use Rattle.std.proofs.Common.{◌≡◌, ℕ, ◌-◌, ◌<◌, ◌≤◌, List, refl, ◌∙◌, ap, arith, true, false}
 use Rattle.std.specs.Prelude.{Option, Some, None, option_map}
 use Rattle.std.proofs.Math.ListN.{set}
 use Rattle.std.proofs.lemmas.List.{length-set, set-set, set-get_or}
@@ -10,8 +10,8 @@ use Rattle.ptk_words_model.specs.Mutex.{waiters_of, count_of}
 use Rattle.ptk_words_parted.specs.Parts.{part_of}
 use Rattle.ptk_threads.specs.Table.{ThreadTable, thread_in}
 use Rattle.ptk_threads.proofs.Pools.{pool_get-changed, pool_changed-changed, part_of-set}
-use Rattle.ptk_mutex_slots.specs.declared.slot.Change.TheVariants.{CountUp, CountDown}
-use Rattle.ptk_mutex_slots.specs.Changes.{SlotMayChange}
+use Rattle.ptk_mutex_priorities.specs.declared.slot.Change.TheVariants.{CountUp, CountDown}
+use Rattle.ptk_mutex_priorities.specs.Changes.{SlotMayChange}
 use Rattle.std.specs.Prelude.{option_and_then, option_to_list}
 use Rattle.ptk_words.specs.Pools.{pool_set}
 use Rattle.ptk_words.specs.declared.threads.Thread.{Thread}
@@ -23,7 +23,7 @@ use Rattle.ptk_threads.proofs.Pools.{pool_changed-free}
 use Rattle.ptk_words.specs.Pools.{first_of_greatest}
 use Rattle.ptk_words_parted.proofs.Cuts.{set_part-same}
 use Rattle.ptk_words_model.specs.Mutex.{heir, owns, after_mutex_end, after_bequest, after_abandonment}
-use Rattle.ptk_mutex_slots.specs.Slots.{is_robust_at}
+use Rattle.ptk_mutex_priorities.specs.Slots.{is_robust_at}
 use Rattle.ptk_mutex.specs.Tables.{with_threads}
 use Rattle.ptk_threads.specs.Table.{stored_of}
 use Rattle.ptk_mutex.specs.Tables.{MayGet}

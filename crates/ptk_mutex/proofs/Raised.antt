@@ -1,42 +1,34 @@
 -- What a rise needs of the tables before it, and what the moves leave that raise a thread or nobody.
-use Rattle.std.proofs.Common.{◌≡◌, ℕ, ◌<◌, ◌≤◌, List, length, refl, sym, ◌∙◌, ap, subst, arith, Bool, true, false}
-use Rattle.std.specs.Prelude.{◌==◌, nat_lt, if◌then◌else◌, Option, Some, None, option_map, option_to_list}
+use Rattle.std.proofs.Common.{◌≡◌, ℕ, ◌<◌, ◌≤◌, List, length, refl, sym, ◌∙◌, ap, subst, arith, true, false}
+use Rattle.std.specs.Prelude.{Option, Some, None, option_map, option_to_list}
 use Rattle.std.proofs.Math.ListN.{set}
 use Rattle.std.proofs.lemmas.Bool.{eq-eqb}
 use Rattle.std.proofs.lemmas.List.{set-set}
 use Rattle.ptk_words.specs.Pools.{pool_get, pool_changed}
-use Rattle.ptk_words.specs.declared.TheConstants.{COUNT_LIMIT}
-use Rattle.ptk_words.specs.declared.faults.Errno.TheVariants.{EAGAIN, EBUSY, EINVAL}
 use Rattle.ptk_words.specs.declared.threads.Thread.{Thread}
 use Rattle.ptk_words.specs.declared.threads.Wait.{Wait}
 use Rattle.ptk_words.specs.declared.threads.Wait.TheVariants.{RelockWait}
-use Rattle.ptk_words.specs.declared.mutexes.MutexKind.{MutexKind}
-use Rattle.ptk_words.specs.declared.mutexes.MutexKind.TheVariants.{Normal, ErrorCheck, Recursive}
-use Rattle.ptk_words.specs.declared.mutexes.Soundness.{Soundness}
-use Rattle.ptk_words.specs.declared.mutexes.Soundness.TheVariants.{Consistent, Inconsistent, Unrecoverable}
-use Rattle.ptk_words.specs.declared.mutexes.Owner.{Owner}
-use Rattle.ptk_words.specs.declared.mutexes.Owner.TheVariants.{Free, Abandoned, OwnedBy}
 use Rattle.ptk_words_parted.specs.Parts.{part_of}
 use Rattle.ptk_words_parted.proofs.Cuts.{set_part-same}
 use Rattle.ptk_words_model.specs.declared.LockMove.{LockMove}
 use Rattle.ptk_words_model.specs.declared.LockMove.TheVariants.{Takes, Recovers, Counts, Waits, Refuses}
 use Rattle.ptk_words_model.specs.State.{Mutex, Locks}
-use Rattle.ptk_words_model.specs.Priority.{awaited, thread_at, assigned_priority, assigned_of, inheritor, inheritor_of, ceiling_for, effective_priorities}
+use Rattle.ptk_words_model.specs.Priority.{awaited, thread_at, assigned_of, inheritor, inheritor_of, ceiling_for, effective_priorities}
 use Rattle.ptk_words_model.specs.Schedule.{woken_with, after_wake}
-use Rattle.ptk_words_model.specs.Mutex.{owns, own_lock_move, own_trylock_move, free_move, owner_move, is_above_ceiling, lock_move, trylock_move, relock_move, move_reply, after_count, after_move, after_relock_move}
-use Rattle.ptk_words_locks.proofs.Pools.{changed_twice, changed_own}
-use Rattle.ptk_words_locks.proofs.Raising.{level_of}
+use Rattle.ptk_words_model.specs.Mutex.{owns, move_reply, after_count, after_move, after_relock_move}
+use Rattle.ptk_words_sync_invariant.proofs.Pools.{changed_twice, changed_own}
+use Rattle.ptk_words_sync_invariant.proofs.Raising.{level_of}
 use Rattle.ptk_threads.specs.Table.{ThreadTable, thread_in, with_changed, with_wait, with_priority}
 use Rattle.ptk_threads.proofs.Pools.{part_of-set}
-use Rattle.ptk_mutex_slots.specs.declared.slot.Change.TheVariants.{Take, CountUp}
-use Rattle.ptk_mutex_slots.specs.Changes.{mutex_changed}
-use Rattle.ptk_roster.specs.Waiters.{waited_by}
+use Rattle.ptk_mutex_priorities.specs.declared.slot.Change.TheVariants.{Take, CountUp}
+use Rattle.ptk_mutex_priorities.specs.Changes.{mutex_changed}
+use Rattle.ptk_syncs.specs.Waiters.{waited_by}
 use Rattle.ptk_mutex.specs.Before.{awake, freed, IsBeforeWait, IsBeforeTake, IsBeforeAssignment}
 use Rattle.ptk_mutex.specs.Visits.{IsVisited}
 use Rattle.ptk_mutex.proofs.Changes.{effective_mutex, effective_thread}
 use Rattle.ptk_mutex.proofs.Visits.{unvisited}
 use Rattle.ptk_mutex.specs.Tables.{locks_at, with_threads, AreReady}
-use Rattle.ptk_mutex.specs.Rises.{IsFree, MayTake, is_waiting}
+use Rattle.ptk_mutex.specs.Rises.{IsFree, is_waiting}
 use Rattle.ptk_mutex.proofs.Moved.{stays}
 
 -- ---- a free mutex taken

@@ -19,11 +19,11 @@ use Rattle.ptk_words_model.specs.Chain.{leads_to, greatest_leading}
 use Rattle.ptk_words_model.specs.Priority.{is_owner, ceiling_of, ceiling_for, inheritor, inheritor_of, assigned_of, held_of, next_in_chain, effective_of, effective_priorities}
 use Rattle.ptk_words_model.specs.Mutex.{mutex_at, new_mutex, is_free, waiters_of, count_of}
 use Rattle.ptk_words_model.specs.MutexCalls.{is_locked}
-use Rattle.ptk_words_locks.proofs.MutexPlaces.{pool_set_same, effective-set}
+use Rattle.ptk_words_sync_invariant.proofs.MutexPlaces.{pool_set_same, effective-set}
 use Rattle.ptk_threads.specs.Table.{ThreadTable, free_table}
 use Rattle.ptk_threads.proofs.Pools.{part_of-set}
-use Rattle.ptk_roster.specs.Rosters.{seen}
-use Rattle.ptk_mutex_slots.proofs.Levels.{length-numbers_to}
+use Rattle.ptk_syncs.specs.Rosters.{seen}
+use Rattle.ptk_mutex_priorities.proofs.Levels.{length-numbers_to}
 use Rattle.ptk_mutex.specs.Pool.{with_new_mutex}
 use Rattle.ptk_mutex.specs.Tables.{AreLocked, AreReady}
 use Rattle.ptk_mutex.proofs.Pool.{least_free_is}

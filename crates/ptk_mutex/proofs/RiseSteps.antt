@@ -4,7 +4,7 @@ use Rattle.std.specs.Prelude.{nat_le, Option, Some}
 use Rattle.std.proofs.lemmas.Bool.Decides.{nat_tests}
 use Rattle.ptk_words.specs.Pools.{pool_set}
 use Rattle.ptk_threads.specs.Table.{stored_of}
-use Rattle.ptk_mutex_slots.specs.Raised.{raised}
+use Rattle.ptk_mutex_priorities.specs.Raised.{raised}
 use Rattle.ptk_mutex.specs.Risen.{risen, reads}
 use Rattle.ptk_mutex.proofs.Rises.{raised-same}
 

@@ -4,10 +4,10 @@ use Rattle.std.specs.Prelude.{nat_le, if◌then◌else◌, Option, Some, None, o
 use Rattle.std.proofs.lemmas.Bool.{cases_eq, cases_lt}
 use Rattle.std.proofs.lemmas.Bool.Decides.{nat_tests}
 use Rattle.std.proofs.lemmas.List.{get_or-set_same, get_or-set_other, set-get_or, set_past}
-use Rattle.ptk_mutex_slots.specs.Raised.{raised, raised_along}
+use Rattle.ptk_mutex_priorities.specs.Raised.{raised, raised_along}
 use Rattle.ptk_mutex.specs.Risen.{risen}
 use Rattle.ptk_threads.specs.Table.{stored_of}
-use Rattle.ptk_mutex_slots.proofs.Levels.{length-raised}
+use Rattle.ptk_mutex_priorities.proofs.Levels.{length-raised}
 
 -- a number of the list
 abbrev pub IsPlace : List ℕ → ℕ → Type 0

@@ -7,7 +7,7 @@ use Rattle.std.proofs.Math.ListN.{set}
 use Rattle.ptk_words.specs.Pools.{pool_set}
 use Rattle.ptk_words_parted.specs.Parts.{part_of}
 use Rattle.ptk_threads.specs.Table.{stored_of, with_stored}
-use Rattle.ptk_roster.specs.Rosters.{Rostered}
+use Rattle.ptk_syncs.specs.Rosters.{Rostered}
 use Rattle.ptk_mutex.specs.Risen.{risen, reads}
 use Rattle.ptk_mutex.specs.Rosters.{with_priorities}
 use Rattle.ptk_mutex.proofs.RiseSteps.{risen_stop, risen_some, reads_some}

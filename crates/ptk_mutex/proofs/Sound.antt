@@ -19,11 +19,11 @@ use Rattle.ptk_words_model.specs.Priority.{effective_priorities}
 use Rattle.ptk_words_model.specs.Mutex.{mutex_at, new_mutex, owns, waiters_of, with_soundness, after_free, after_move, after_owner_end, after_relock, after_take, after_unlock}
 use Rattle.ptk_words_model.specs.MutexCalls.{is_locked}
 use Rattle.ptk_words_model.specs.Condition.{waiters_on}
-use Rattle.ptk_words_locks.specs.Conditions.{IsNoWaiter}
+use Rattle.ptk_words_sync_invariant.specs.Conditions.{IsNoWaiter}
 use Rattle.ptk_threads.specs.Table.{ThreadTable, free_table}
 use Rattle.ptk_threads.proofs.Pools.{part_of-set, part_of-set_other}
-use Rattle.ptk_roster.specs.Rosters.{Rostered, seen}
-use Rattle.ptk_mutex_slots.specs.Plain.{is_raising_at}
+use Rattle.ptk_syncs.specs.Rosters.{Rostered, seen}
+use Rattle.ptk_mutex_priorities.specs.Plain.{is_raising_at}
 use Rattle.ptk_mutex.specs.Moves.{after_assignment, after_withdrawal}
 use Rattle.ptk_mutex.specs.Pool.{with_new_mutex}
 use Rattle.ptk_mutex.specs.Tables.{IsWaiter, AreReady}

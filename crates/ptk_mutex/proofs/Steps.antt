@@ -38,9 +38,9 @@ use Rattle.ptk_words_model.specs.Schedule.{woken_with}
 use Rattle.ptk_words_model.specs.Mutex.{move_reply, after_count, after_relock_move}
 use Rattle.ptk_threads.specs.Table.{ThreadTable}
 use Rattle.ptk_threads.proofs.Pools.{part_of-set}
-use Rattle.ptk_mutex_slots.specs.declared.slot.Change.{Change}
-use Rattle.ptk_mutex_slots.specs.declared.slot.Change.TheVariants.{Take, CountUp, CountDown, Release, Abandon, Mark}
-use Rattle.ptk_mutex_slots.specs.Changes.{mutex_changed, IsQuiet}
+use Rattle.ptk_mutex_priorities.specs.declared.slot.Change.{Change}
+use Rattle.ptk_mutex_priorities.specs.declared.slot.Change.TheVariants.{Take, CountUp, CountDown, Release, Abandon, Mark}
+use Rattle.ptk_mutex_priorities.specs.Changes.{mutex_changed, IsQuiet}
 use Rattle.ptk_mutex.specs.Tables.{locks_at, with_threads, HasPart, AreLocked, AreReady, IsWaiter, MayGet}
 use Rattle.ptk_mutex.specs.Moves.{after_change}
 use Rattle.ptk_mutex.proofs.Locked.{IsMild, locked_mild, locked_left, heir_may_get}

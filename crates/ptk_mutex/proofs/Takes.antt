@@ -14,14 +14,14 @@ use Rattle.ptk_words_model.specs.State.{Mutex}
 use Rattle.ptk_words_model.specs.Chain.{greatest_leading}
 use Rattle.ptk_words_model.specs.Priority.{is_owner, ceiling_of, ceiling_for, inheritor, inheritor_of, awaited, assigned_of, next_in_chain, held_of, effective_priorities}
 use Rattle.ptk_words_model.specs.Mutex.{owns}
-use Rattle.ptk_words_locks.proofs.Pools.{changed_own, changed_other, length-changed}
-use Rattle.ptk_words_locks.proofs.Threads.{changed_same}
-use Rattle.ptk_words_locks.proofs.Raising.{level_of}
+use Rattle.ptk_words_sync_invariant.proofs.Pools.{changed_own, changed_other, length-changed}
+use Rattle.ptk_words_sync_invariant.proofs.Threads.{changed_same}
+use Rattle.ptk_words_sync_invariant.proofs.Raising.{level_of}
 use Rattle.ptk_threads.specs.Table.{stored_of}
 use Rattle.ptk_threads.proofs.Pools.{pool_changed-free}
-use Rattle.ptk_mutex_slots.specs.Slots.{bare, with_waiters}
-use Rattle.ptk_mutex_slots.proofs.Bare.{pool_get-bare}
-use Rattle.ptk_mutex_slots.proofs.Levels.{greatest_more}
+use Rattle.ptk_mutex_priorities.specs.Slots.{bare, with_waiters}
+use Rattle.ptk_mutex_priorities.proofs.Bare.{pool_get-bare}
+use Rattle.ptk_mutex_priorities.proofs.Levels.{greatest_more}
 use Rattle.ptk_mutex.specs.Risen.{risen, reads}
 use Rattle.ptk_mutex.specs.Visits.{IsVisited}
 use Rattle.ptk_mutex.specs.Before.{freed, with_priority, IsBeforeTake, IsBeforeAssignment}

@@ -8,14 +8,14 @@ use Rattle.ptk_words.specs.declared.threads.Thread.{Thread}
 use Rattle.ptk_words_parted.specs.Parts.{part_of}
 use Rattle.ptk_words_model.specs.State.{Mutex, Locks}
 use Rattle.ptk_words_model.specs.Priority.{effective_of, effective_priorities}
-use Rattle.ptk_words_locks.proofs.MutexPlaces.{effective-set}
+use Rattle.ptk_words_sync_invariant.proofs.MutexPlaces.{effective-set}
 use Rattle.ptk_threads.specs.Table.{ThreadTable}
 use Rattle.ptk_threads.proofs.Pools.{part_of-set}
-use Rattle.ptk_mutex_slots.specs.declared.slot.Change.{Change}
-use Rattle.ptk_mutex_slots.specs.declared.slot.Change.TheVariants.{Take, Release}
-use Rattle.ptk_mutex_slots.specs.Changes.{mutex_changed, IsQuiet}
-use Rattle.ptk_mutex_slots.specs.Plain.{is_raising_at}
-use Rattle.ptk_mutex_slots.proofs.Plain.{plain_inherits, plain_ceiling, plain_kept}
+use Rattle.ptk_mutex_priorities.specs.declared.slot.Change.{Change}
+use Rattle.ptk_mutex_priorities.specs.declared.slot.Change.TheVariants.{Take, Release}
+use Rattle.ptk_mutex_priorities.specs.Changes.{mutex_changed, IsQuiet}
+use Rattle.ptk_mutex_priorities.specs.Plain.{is_raising_at}
+use Rattle.ptk_mutex_priorities.proofs.Plain.{plain_inherits, plain_ceiling, plain_kept}
 use Rattle.ptk_mutex.specs.Tables.{locks_at, AreLocked, AreReady}
 use Rattle.ptk_mutex.proofs.Steps.{locked_change}
 

@@ -6,8 +6,8 @@ use Rattle.std.proofs.lemmas.Bool.{cases_eq, cases_lt}
 use Rattle.std.proofs.lemmas.Bool.Decides.{nat_tests}
 use Rattle.std.proofs.lemmas.List.{get_or-set_same, get_or-set_other}
 use Rattle.ptk_threads.specs.Table.{stored_of}
-use Rattle.ptk_mutex_slots.specs.Raised.{raised}
-use Rattle.ptk_mutex_slots.proofs.Levels.{length-raised}
+use Rattle.ptk_mutex_priorities.specs.Raised.{raised}
+use Rattle.ptk_mutex_priorities.proofs.Levels.{length-raised}
 use Rattle.ptk_mutex.specs.Risen.{risen, reads}
 use Rattle.ptk_mutex.specs.Visits.{risen_count, IsVisited}
 use Rattle.ptk_mutex.proofs.Rises.{IsPlace, IsWithin, raised-same, raised_past, place_or_past}

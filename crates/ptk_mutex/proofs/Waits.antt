@@ -7,9 +7,9 @@ use Rattle.ptk_words.specs.declared.threads.Thread.{Thread}
 use Rattle.ptk_words_model.specs.State.{Mutex}
 use Rattle.ptk_words_model.specs.Chain.{greatest_leading}
 use Rattle.ptk_words_model.specs.Priority.{awaited, inheritor_of, ceiling_for, next_in_chain, held_of, effective_priorities}
-use Rattle.ptk_words_locks.proofs.Pools.{changed_own, changed_other, length-changed}
-use Rattle.ptk_words_locks.proofs.Threads.{changed_same}
-use Rattle.ptk_words_locks.proofs.Raising.{level_of}
+use Rattle.ptk_words_sync_invariant.proofs.Pools.{changed_own, changed_other, length-changed}
+use Rattle.ptk_words_sync_invariant.proofs.Threads.{changed_same}
+use Rattle.ptk_words_sync_invariant.proofs.Raising.{level_of}
 use Rattle.ptk_threads.specs.Table.{stored_of}
 use Rattle.ptk_mutex.specs.Risen.{risen, reads}
 use Rattle.ptk_mutex.specs.Visits.{IsVisited}

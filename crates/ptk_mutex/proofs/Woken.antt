@@ -6,9 +6,9 @@ use Rattle.ptk_words.specs.declared.mutexes.Soundness.TheVariants.{Consistent, I
 use Rattle.ptk_words_parted.specs.Parts.{part_of}
 use Rattle.ptk_words_model.specs.State.{Mutex, Locks}
 use Rattle.ptk_words_model.specs.Mutex.{mutex_at, count_of, soundness_of, owns, heir, with_soundness, after_mutex_end}
-use Rattle.ptk_words_locks.specs.Deadlines.{woken_by_last_unlock, woken_by_unlock, woken_by_mutex_end, woken_by_ends}
+use Rattle.ptk_words_sync_invariant.specs.Deadlines.{woken_by_last_unlock, woken_by_unlock, woken_by_mutex_end, woken_by_ends}
 use Rattle.ptk_threads.specs.Table.{ThreadTable}
-use Rattle.ptk_mutex_slots.specs.Slots.{is_robust_at}
+use Rattle.ptk_mutex_priorities.specs.Slots.{is_robust_at}
 use Rattle.ptk_words_parted.specs.Sets.{has, IsSetOf}
 use Rattle.ptk_words_parted.proofs.Sets.{set_none, set_union}
 use Rattle.ptk_mutex.specs.Tables.{locks_at, HasPart}

@@ -7,8 +7,8 @@ use Rattle.ptk_words.specs.declared.threads.Wait.TheVariants.{MutexWait}
 use Rattle.ptk_words_model.specs.State.{Locks}
 use Rattle.ptk_words_model.specs.Schedule.{with_thread, after_wake}
 use Rattle.ptk_words_model.specs.Mutex.{mutex_at, with_mutex, lock_move, trylock_move, after_move, without_mutex_waiter}
-use Rattle.ptk_mutex_slots.specs.declared.slot.Change.{Change}
-use Rattle.ptk_mutex_slots.specs.Changes.{mutex_changed}
+use Rattle.ptk_mutex_priorities.specs.declared.slot.Change.{Change}
+use Rattle.ptk_mutex_priorities.specs.Changes.{mutex_changed}
 
 -- the thread makes its move of lock; where it waits, it waits until the deadline, if there is one (pthread_mutex_lock, pthread_mutex_timedlock)
 abbrev pub after_lock : ThreadNumber → MutexNumber → Option Tick → Locks → Locks

@@ -1,7 +1,7 @@
 -- Priorities raised along a chain up to the first thread that is at least as high, and how many of them that reads.
 use Rattle.std.specs.Prelude.{ℕ, zero, suc, List, nat_le, Option, option_map, unwrap_or, if◌then◌else◌}
 use Rattle.ptk_threads.specs.Table.{stored_of}
-use Rattle.ptk_mutex_slots.specs.Raised.{raised}
+use Rattle.ptk_mutex_priorities.specs.Raised.{raised}
 
 -- u and the numbers that at most so many steps of its chain lead to have at least this priority, up to the first that had it before (pthread_mutexattr_getprotocol)
 abbrev pub risen : (ℕ → Option ℕ) → ℕ → ℕ → ℕ → List ℕ → List ℕ

@@ -8,9 +8,9 @@ use Rattle.ptk_words_model.specs.State.{Condition, Locks, Mutex, Syncs}
 use Rattle.ptk_words_model.specs.Priority.{thread_at}
 use Rattle.ptk_words_model.specs.Mutex.{mutex_at, wait_of}
 use Rattle.ptk_words_model.specs.Condition.{condition_waiters, mutex_of_condition_wait}
-use Rattle.ptk_words_locks.specs.Conditions.{condition_of_wait, HasRoom}
+use Rattle.ptk_words_sync_invariant.specs.Conditions.{condition_of_wait, HasRoom}
 use Rattle.ptk_threads.specs.Table.{ThreadTable}
-use Rattle.ptk_roster.specs.Rosters.{Rostered}
+use Rattle.ptk_syncs.specs.Rosters.{Rostered}
 use Rattle.ptk_mutex.specs.Tables.{locks_at, AreReady}
 
 -- what the condition calls read and change of a partition (own)

@@ -5,24 +5,24 @@ ghost use Rattle.ptk_words.specs.Pools.{pool_get};
 ghost use Rattle.ptk_words.specs.declared.mutexes.Soundness.TheVariants.{Inconsistent};
 ghost use Rattle.ptk_words_parted.specs.Parts.{part_of};
 ghost use Rattle.ptk_words_model.specs.Mutex.{heir, with_soundness, after_bequest, after_mutex_end, after_owner_end};
-ghost use Rattle.ptk_words_locks.specs.Deadlines.{woken_by_mutex_end, woken_by_owner_end};
+ghost use Rattle.ptk_words_sync_invariant.specs.Deadlines.{woken_by_mutex_end, woken_by_owner_end};
 ghost use Rattle.ptk_words_parted.specs.Sets.{IsSetOf};
-ghost use Rattle.ptk_mutex_slots.specs.Slots.{is_robust_at};
+ghost use Rattle.ptk_mutex_priorities.specs.Slots.{is_robust_at};
 ghost use Rattle.ptk_mutex.specs.Sound.{IsSound};
 ghost use Rattle.ptk_mutex.specs.Tables.{locks_at, with_threads, AreReady};
 
 use crate::locking::is_owner;
 use crate::mutexes::Mutexes;
 use crate::unlocking::{alter, hand_over};
-use ptk_mutex_slots::{Change, slot_in};
-use ptk_roster::Roster;
+use ptk_mutex_priorities::{Change, slot_in};
+use ptk_syncs::Roster;
 use ptk_words::{MutexNo, PartId, Soundness, ThreadNo};
 use ptk_words_parted::ThreadSet;
 
 impl Mutexes {
     /// Does to a thread's mutexes what the thread's end does, in ascending number: a robust one goes, inconsistent, to
-    /// its heir, whose reply is EOWNERDEAD; any other stays locked, and nobody owns it (pthread_mutexattr_setrobust; own
-    /// choice). Returns the set of threads woken.
+    /// its heir, whose reply is EOWNERDEAD; any other stays locked, and nobody owns it (pthread_mutexattr_setrobust;
+    /// own choice). Returns the set of threads woken.
     pub fn abandon(&mut self, roster: &mut Roster, p: PartId, t: ThreadNo) -> ThreadSet
         requires ready { AreReady p roster.old.table roster.old.lines roster.old.mutexes }
         ensures woken { IsSetOf result (woken_by_owner_end t (locks_at p roster.old.table roster.old.lines roster.old.mutexes)) }
@@ -96,7 +96,7 @@ fn bequeath(roster: &mut Roster, p: PartId, m: MutexNo) -> Option<ThreadNo>
 }
 
 /// Whether a mutex is robust.
-#[tactic(auto, using(ptk_mutex_slots::proofs::Bare::bares))]
+#[tactic(auto, using(ptk_mutex_priorities::proofs::Bare::bares))]
 fn is_robust(roster: &Roster, p: PartId, m: MutexNo) -> bool
     requires { p < length roster.now.table.threads }
     ensures { result ≡ is_robust_at (pool_get (part_of roster.now.mutexes p) m) }

@@ -22,14 +22,14 @@
 //!
 //! What a call needs of its partition is `AreReady` of `specs/Tables`; one that may queue its caller also needs a
 //! caller that is no waiter (`IsNoWaiter`), since a thread has one link. A refused lock changes nothing; who is woken
-//! goes to the tail of the line. No call but `build` takes memory. A `Rise` says what raised a thread: it began to wait,
-//! took a mutex, or got a higher assigned priority. After any other change on which they may depend, the partition's
-//! priorities are all computed again, and `visited` of `Mutexes`, the number of stored priorities that the walk read,
-//! is 0. Costly to prove are that stopping early changes nothing, on cycles too (`proofs/Rises`), and what a rise adds to
-//! the priorities (`proofs/Joins`, `proofs/Gains`), which speak of lists alone (`proofs/Rosters` puts a list into the
-//! roster); that the stored priorities choose the heir (`proofs/Locked`), the calls of many moves (`proofs/Steps`), and
-//! that a call leaves other waiters alone (`proofs/Apart`). Below are `ptk_roster` and `ptk_mutex_slots`; above are
-//! `ptk_cond` and `ptk_gate_pools`.
+//! goes to the tail of the line. No call but `build` takes memory. A `Rise` says what raised a thread: it began to
+//! wait, took a mutex, or got a higher assigned priority. After any other change on which they may depend, the
+//! partition's priorities are all computed again, and `visited` of `Mutexes`, the number of stored priorities that the
+//! walk read, is 0. Costly to prove are that stopping early changes nothing, on cycles too (`proofs/Rises`), and what a
+//! rise adds to the priorities (`proofs/Joins`, `proofs/Gains`), which speak of lists alone (`proofs/Rosters` puts a
+//! list into the roster); that the stored priorities choose the heir (`proofs/Locked`), the calls of many moves
+//! (`proofs/Steps`), and that a call leaves other waiters alone (`proofs/Apart`). Below are `ptk_syncs` and
+//! `ptk_mutex_priorities`; above are `ptk_cond` and `ptk_gate_pools`.
 
 mod ends;
 mod locking;
@@ -43,6 +43,6 @@ mod waking;
 mod walk;
 
 pub use mutexes::Mutexes;
-pub use ptk_mutex_slots::{MutexSlot, MutexState, effective, reply_of};
+pub use ptk_mutex_priorities::{MutexSlot, MutexState, effective, reply_of};
 pub use ptk_words_parted::ThreadSet;
 pub use starting::build;

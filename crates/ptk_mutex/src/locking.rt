@@ -13,7 +13,7 @@ ghost use Rattle.ptk_words_model.specs.declared.LockMove.TheVariants.{Counts};
 ghost use Rattle.ptk_words_model.specs.State.{locks_of};
 ghost use Rattle.ptk_words_model.specs.Priority.{assigned_of};
 ghost use Rattle.ptk_words_model.specs.Mutex.{mutex_at, lock_move, trylock_move, relock_move, count_of, owns, owns_raising, is_raising_for, after_move, with_soundness};
-ghost use Rattle.ptk_words_locks.specs.Conditions.{IsNoWaiter};
+ghost use Rattle.ptk_words_sync_invariant.specs.Conditions.{IsNoWaiter};
 ghost use Rattle.ptk_mutex.specs.Visits.{IsVisited};
 ghost use Rattle.ptk_mutex.specs.Tables.{locks_at, with_threads, MayWait, AreReady};
 ghost use Rattle.ptk_mutex.specs.Moves.{after_lock, after_trylock, after_assignment};
@@ -24,17 +24,17 @@ use crate::rise::{Rise, raise};
 use crate::rising::make;
 use crate::unlocking::alter;
 use crate::waking::relock_move;
-use ptk_mutex_slots::{Change, MutexSlot, assigned, slot_in};
-use ptk_roster::Roster;
+use ptk_mutex_priorities::{Change, MutexSlot, assigned, slot_in};
+use ptk_syncs::Roster;
 use ptk_words::{Errno, MutexNo, PartId, Priority, Soundness, ThreadNo, Tick, Wait};
 use ptk_words_model::LockMove;
 
 impl Mutexes {
-    /// A thread that waits for no mutex locks this one, or waits for it, until the deadline (a tick) if there is one, or
-    /// is refused (pthread_mutex_lock, pthread_mutex_timedlock). Returns which of these. Refused, nothing changes:
+    /// A thread that waits for no mutex locks this one, or waits for it, until the deadline (a tick) if there is one,
+    /// or is refused (pthread_mutex_lock, pthread_mutex_timedlock). Returns which of these. Refused, nothing changes:
     /// EINVAL of a free number and of a PROTECT mutex whose ceiling is below the thread's assigned priority,
-    /// ENOTRECOVERABLE of a lost mutex, EDEADLK of one's own that checks errors, EAGAIN of a recursive one at its limit.
-    /// A deadline already reached is the caller's to refuse before. The line stays.
+    /// ENOTRECOVERABLE of a lost mutex, EDEADLK of one's own that checks errors, EAGAIN of a recursive one at its
+    /// limit. A deadline already reached is the caller's to refuse before. The line stays.
     #[tactic(auto, using(crate::proofs::Moved::moves))]
     pub fn lock(
         &mut self,
@@ -85,7 +85,7 @@ impl Mutexes {
     }
 
     /// What a lock by the thread would do now; nothing changes (pthread_mutex_timedlock).
-    #[tactic(auto, using(ptk_mutex_slots::proofs::Bare::bares))]
+    #[tactic(auto, using(ptk_mutex_priorities::proofs::Bare::bares))]
     pub fn lock_move(&self, roster: &Roster, p: PartId, t: ThreadNo, m: MutexNo) -> LockMove
         requires { p < length roster.now.table.threads }
         ensures { result ≡ lock_move (locks_of (part_of roster.now.table.threads p) (part_of roster.now.mutexes p)) t (pool_get (part_of roster.now.mutexes p) m) }
@@ -200,7 +200,7 @@ fn reassign(roster: &mut Roster, p: PartId, t: ThreadNo, priority: Priority) -> 
 }
 
 /// The move of trylock.
-#[tactic(auto, using(ptk_mutex_slots::proofs::Bare::bares))]
+#[tactic(auto, using(ptk_mutex_priorities::proofs::Bare::bares))]
 fn trylock_move(roster: &Roster, p: PartId, t: ThreadNo, m: MutexNo) -> LockMove
     requires { p < length roster.now.table.threads }
     ensures { result ≡ trylock_move (locks_of (part_of roster.now.table.threads p) (part_of roster.now.mutexes p)) t (pool_get (part_of roster.now.mutexes p) m) }
@@ -212,7 +212,7 @@ fn trylock_move(roster: &Roster, p: PartId, t: ThreadNo, m: MutexNo) -> LockMove
 }
 
 /// Whether the thread owns the mutex.
-#[tactic(auto, using(ptk_mutex_slots::proofs::Bare::bares))]
+#[tactic(auto, using(ptk_mutex_priorities::proofs::Bare::bares))]
 pub(crate) fn is_owner(roster: &Roster, p: PartId, t: ThreadNo, m: MutexNo) -> bool
     requires { p < length roster.now.table.threads }
     ensures { result ≡ owns t (pool_get (part_of roster.now.mutexes p) m) }

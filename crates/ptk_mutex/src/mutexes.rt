@@ -7,13 +7,13 @@ ghost use Rattle.ptk_words_model.specs.Mutex.{new_mutex, waiters_of};
 ghost use Rattle.ptk_words_model.specs.MutexCalls.{is_locked};
 ghost use Rattle.ptk_words_model.specs.Priority.{effective_priorities};
 ghost use Rattle.ptk_words_parted.specs.Parts.{part_of};
-ghost use Rattle.ptk_mutex_slots.specs.Slots.{state_of};
+ghost use Rattle.ptk_mutex_priorities.specs.Slots.{state_of};
 ghost use Rattle.ptk_mutex.specs.Pool.{with_new_mutex};
 ghost use Rattle.ptk_mutex.specs.Sound.{IsSound};
 ghost use Rattle.ptk_mutex.specs.Tables.{AreReady};
 
-use ptk_mutex_slots::{MutexState, recompute, slot_in};
-use ptk_roster::Roster;
+use ptk_mutex_priorities::{MutexState, recompute, slot_in};
+use ptk_syncs::Roster;
 use ptk_words::{MutexKind, MutexNo, PartId, Protocol, THREAD_LIMIT};
 
 /// The calls on the mutexes of a roster.
@@ -32,8 +32,8 @@ impl Mutexes {
         Mutexes { visited: 0 }
     }
 
-    /// How many stored priorities the walk of the last call read, of whatever partition: as many as rose, or one more; 0
-    /// after one that computed all again or changed none.
+    /// How many stored priorities the walk of the last call read, of whatever partition: as many as rose, or one more;
+    /// 0 after one that computed all again or changed none.
     pub fn visited(&self) -> u32
         ensures value { result ≡ self.now.visited }
         ensures few { result ≤ THREAD_LIMIT + 1 }
@@ -42,7 +42,7 @@ impl Mutexes {
     }
 
     /// What the mutex of a number is, but for its waiters; None of a free number.
-    #[tactic(auto, using(ptk_mutex_slots::proofs::Bare::bares))]
+    #[tactic(auto, using(ptk_mutex_priorities::proofs::Bare::bares))]
     pub fn state(&self, roster: &Roster, p: PartId, m: MutexNo) -> Option<MutexState>
         requires { p < length roster.now.table.threads }
         ensures { result ≡ option_map state_of (pool_get (part_of roster.now.mutexes p) m) }

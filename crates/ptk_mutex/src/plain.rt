@@ -5,20 +5,20 @@ ghost use Rattle.ptk_words.specs.Pools.{pool_get};
 ghost use Rattle.ptk_words_parted.specs.Parts.{part_of};
 ghost use Rattle.ptk_words_model.specs.State.{locks_of};
 ghost use Rattle.ptk_words_model.specs.Mutex.{after_take, after_free};
-ghost use Rattle.ptk_mutex_slots.specs.Plain.{is_takeable, is_releasable, is_raising_at};
+ghost use Rattle.ptk_mutex_priorities.specs.Plain.{is_takeable, is_releasable, is_raising_at};
 ghost use Rattle.ptk_mutex.specs.Sound.{IsSound};
 ghost use Rattle.ptk_mutex.specs.Tables.{AreReady};
 
 use crate::mutexes::Mutexes;
-use ptk_mutex_slots::{Change, slot_in};
-use ptk_roster::Roster;
+use ptk_mutex_priorities::{Change, slot_in};
+use ptk_syncs::Roster;
 use ptk_words::{MutexNo, PartId, ThreadNo};
 
 impl Mutexes {
     /// Whether a lock takes the mutex and changes no priority: it is free and sound, and neither INHERIT nor PROTECT
     /// (pthread_mutex_lock).
     #[inline]
-    #[tactic(auto, using(ptk_mutex_slots::proofs::Bare::bares))]
+    #[tactic(auto, using(ptk_mutex_priorities::proofs::Bare::bares))]
     pub fn is_takeable(&self, roster: &Roster, p: PartId, m: MutexNo) -> bool
         requires { p < length roster.now.table.threads }
         ensures told { result ≡ is_takeable (pool_get (part_of roster.now.mutexes p) m) }
@@ -30,10 +30,10 @@ impl Mutexes {
         }
     }
 
-    /// Whether an unlock by the thread frees the mutex, wakes nobody and changes no priority: the thread locked it once,
-    /// it is sound and neither INHERIT nor PROTECT, and nobody waits for it (pthread_mutex_unlock).
+    /// Whether an unlock by the thread frees the mutex, wakes nobody and changes no priority: the thread locked it
+    /// once, it is sound and neither INHERIT nor PROTECT, and nobody waits for it (pthread_mutex_unlock).
     #[inline]
-    #[tactic(auto, using(ptk_mutex_slots::proofs::Bare::bares))]
+    #[tactic(auto, using(ptk_mutex_priorities::proofs::Bare::bares))]
     pub fn is_releasable(&self, roster: &Roster, p: PartId, t: ThreadNo, m: MutexNo) -> bool
         requires { p < length roster.now.table.threads }
         ensures told { result ≡ is_releasable t (pool_get (part_of roster.now.mutexes p) m) }
@@ -45,8 +45,8 @@ impl Mutexes {
         }
     }
 
-    /// The thread owns the mutex, counted once (pthread_mutex_lock). The stored priorities stay; they are the effective ones
-    /// where the mutex is neither INHERIT nor PROTECT, which is the caller's to test (`is_takeable`).
+    /// The thread owns the mutex, counted once (pthread_mutex_lock). The stored priorities stay; they are the effective
+    /// ones where the mutex is neither INHERIT nor PROTECT, which is the caller's to test (`is_takeable`).
     #[inline]
     pub fn take_plain(&mut self, roster: &mut Roster, p: PartId, t: ThreadNo, m: MutexNo)
         requires { p < length roster.old.table.threads }

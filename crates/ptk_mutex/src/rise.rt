@@ -14,8 +14,8 @@ ghost use Rattle.ptk_mutex.specs.Rosters.{with_priorities};
 ghost use Rattle.ptk_mutex.specs.Visits.{IsVisited};
 
 use crate::walk::{next_in, rise, slots_of};
-use ptk_mutex_slots::{MutexSlot, assigned, awaited, slot_in};
-use ptk_roster::Roster;
+use ptk_mutex_priorities::{MutexSlot, assigned, awaited, slot_in};
+use ptk_syncs::Roster;
 use ptk_words::{MutexNo, PartId, Protocol, ThreadNo};
 
 /// What raised a thread.
@@ -29,8 +29,8 @@ pub enum Rise {
     Assignment(ThreadNo),
 }
 
-/// Stores a partition's effective priorities again after a rise (pthread_mutexattr_getprotocol). Returns how many stored
-/// priorities the walk along the chain read.
+/// Stores a partition's effective priorities again after a rise (pthread_mutexattr_getprotocol). Returns how many
+/// stored priorities the walk along the chain read.
 pub fn raise(roster: &mut Roster, p: PartId, rise: Rise) -> u32
     requires partition { p < length roster.old.table.threads }
     requires before { IsBefore rise (part_of roster.old.table.threads p) (part_of roster.old.mutexes p) (part_of roster.old.table.stored p) }
@@ -85,8 +85,8 @@ fn rise_after_take(roster: &mut Roster, p: PartId, t: ThreadNo, m: MutexNo) -> u
     rise(roster, p, t, gained)
 }
 
-/// A thread has an assigned priority no less than before: its chain rises to it (pthread_setschedprio). Returns how many
-/// stored priorities the walk read.
+/// A thread has an assigned priority no less than before: its chain rises to it (pthread_setschedprio). Returns how
+/// many stored priorities the walk read.
 fn rise_after_assignment(roster: &mut Roster, p: PartId, t: ThreadNo) -> u32
     requires partition { p < length roster.old.table.threads }
     requires before { IsBeforeAssignment t (part_of roster.old.table.threads p) (part_of roster.old.mutexes p) (part_of roster.old.table.stored p) }

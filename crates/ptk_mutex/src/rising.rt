@@ -7,16 +7,16 @@ ghost use Rattle.ptk_words.specs.declared.TheConstants.{THREAD_LIMIT};
 ghost use Rattle.ptk_words_parted.specs.Parts.{part_of};
 ghost use Rattle.ptk_words_model.specs.Priority.{awaited, mutex_of_wait};
 ghost use Rattle.ptk_words_model.specs.Mutex.{after_take, after_count, after_wait, after_move};
-ghost use Rattle.ptk_words_locks.specs.Conditions.{IsNoWaiter};
+ghost use Rattle.ptk_words_sync_invariant.specs.Conditions.{IsNoWaiter};
 ghost use Rattle.ptk_threads.specs.Table.{thread_in};
-ghost use Rattle.ptk_mutex_slots.specs.declared.slot.Change.TheVariants.{CountUp};
+ghost use Rattle.ptk_mutex_priorities.specs.declared.slot.Change.TheVariants.{CountUp};
 ghost use Rattle.ptk_mutex.specs.Visits.{IsVisited};
 ghost use Rattle.ptk_mutex.specs.Tables.{locks_at, with_threads, MayWait, AreReady};
 ghost use Rattle.ptk_mutex.specs.Rises.{IsFree, MayTake};
 
 use crate::rise::{Rise, raise};
-use ptk_mutex_slots::Change;
-use ptk_roster::Roster;
+use ptk_mutex_priorities::Change;
+use ptk_syncs::Roster;
 use ptk_words::{MutexNo, PartId, ThreadNo, Wait};
 use ptk_words_model::LockMove;
 

@@ -3,15 +3,15 @@
 ghost use Rattle.std.specs.Prelude.{◌≡◌, ◌<◌, ◌≤◌, true, [], None, length, replicate, map, IfOk, All};
 ghost use Rattle.ptk_words.specs.Pools.{least_free};
 ghost use Rattle.ptk_words_parted.specs.Parts.{part_of, filled};
-ghost use Rattle.ptk_words_locks.specs.Conditions.{IsNoWaiter};
+ghost use Rattle.ptk_words_sync_invariant.specs.Conditions.{IsNoWaiter};
 ghost use Rattle.ptk_threads.specs.Table.{free_table};
-ghost use Rattle.ptk_roster.specs.Rosters.{seen};
+ghost use Rattle.ptk_syncs.specs.Rosters.{seen};
 ghost use Rattle.ptk_mutex.specs.Moves.{after_creation};
 ghost use Rattle.ptk_mutex.specs.Sound.{is_idle, is_awake, IsAwake, IsSound};
 ghost use Rattle.ptk_mutex.specs.Tables.{locks_at, with_threads, MayWait};
 
 use crate::mutexes::{Mutexes, refresh_priorities};
-use ptk_roster::Roster;
+use ptk_syncs::Roster;
 use ptk_words::{PartId, Thread, ThreadNo};
 use std::alloc::{AllocError, Global};
 

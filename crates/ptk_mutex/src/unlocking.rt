@@ -4,25 +4,25 @@ ghost use Rattle.std.specs.Prelude.{◌≡◌, ◌<◌, length, slice_set};
 ghost use Rattle.ptk_words.specs.Pools.{pool_get};
 ghost use Rattle.ptk_words_parted.specs.Parts.{part_of};
 ghost use Rattle.ptk_words_model.specs.Mutex.{heir, waiters_of, soundness_of, count_of, after_hand_over, after_hand_over_to, after_refusal, after_refusal_to, after_refusals, after_loss, after_last_unlock, after_unlock};
-ghost use Rattle.ptk_words_locks.specs.Deadlines.{woken_by_last_unlock, woken_by_unlock};
+ghost use Rattle.ptk_words_sync_invariant.specs.Deadlines.{woken_by_last_unlock, woken_by_unlock};
 ghost use Rattle.ptk_words_parted.specs.Sets.{IsSetOf};
-ghost use Rattle.ptk_mutex_slots.specs.Changes.{SlotMayChange, IsQuiet};
+ghost use Rattle.ptk_mutex_priorities.specs.Changes.{SlotMayChange, IsQuiet};
 ghost use Rattle.ptk_mutex.specs.Sound.{IsSound};
 ghost use Rattle.ptk_mutex.specs.Tables.{locks_at, with_threads, with_threads_alone, HasPart, MayGet, AreReady};
 ghost use Rattle.ptk_mutex.specs.Moves.{after_change};
 
 use crate::mutexes::{Mutexes, refresh_priorities};
 use crate::waking::leave;
-use ptk_mutex_slots::{Change, free_move, slot_in};
-use ptk_roster::Roster;
+use ptk_mutex_priorities::{Change, free_move, slot_in};
+use ptk_syncs::Roster;
 use ptk_words::{Errno, MutexNo, PartId, Soundness, ThreadNo};
 use ptk_words_model::LockMove;
 use ptk_words_parted::ThreadSet;
 
 impl Mutexes {
     /// An owner unlocks its mutex once; who owns it is the caller's to test (`owns`). The last unlock hands it over to
-    /// the waiter of greatest effective priority, the earliest among equals, who is woken; but a mutex that was not made
-    /// consistent is lost, and every waiter is woken with the reply ENOTRECOVERABLE (pthread_mutex_unlock,
+    /// the waiter of greatest effective priority, the earliest among equals, who is woken; but a mutex that was not
+    /// made consistent is lost, and every waiter is woken with the reply ENOTRECOVERABLE (pthread_mutex_unlock,
     /// pthread_mutex_consistent). Returns the set of threads woken.
     pub fn unlock(&mut self, roster: &mut Roster, p: PartId, m: MutexNo) -> ThreadSet
         requires ready { AreReady p roster.old.table roster.old.lines roster.old.mutexes }
@@ -217,7 +217,7 @@ pub(crate) fn alter(roster: &mut Roster, p: PartId, m: MutexNo, change: Change)
 }
 
 /// The state of what a mutex guards.
-#[tactic(auto, using(ptk_mutex_slots::proofs::Bare::bares))]
+#[tactic(auto, using(ptk_mutex_priorities::proofs::Bare::bares))]
 fn soundness(roster: &Roster, p: PartId, m: MutexNo) -> Soundness
     requires { p < length roster.now.table.threads }
     ensures { result ≡ soundness_of (pool_get (part_of roster.now.mutexes p) m) }
@@ -229,7 +229,7 @@ fn soundness(roster: &Roster, p: PartId, m: MutexNo) -> Soundness
 }
 
 /// How often a mutex is locked.
-#[tactic(auto, using(ptk_mutex_slots::proofs::Bare::bares))]
+#[tactic(auto, using(ptk_mutex_priorities::proofs::Bare::bares))]
 fn count(roster: &Roster, p: PartId, m: MutexNo) -> u32
     requires { p < length roster.now.table.threads }
     ensures { result ≡ count_of (pool_get (part_of roster.now.mutexes p) m) }

@@ -9,7 +9,7 @@ ghost use Rattle.ptk_words_parted.specs.Parts.{part_of};
 ghost use Rattle.ptk_words_model.specs.Schedule.{woken_with};
 ghost use Rattle.ptk_words_model.specs.declared.LockMove.TheVariants.{Counts};
 ghost use Rattle.ptk_words_model.specs.Mutex.{mutex_at, count_of, relock_move, after_relock, after_relock_move, after_leave};
-ghost use Rattle.ptk_words_locks.specs.Conditions.{IsNoWaiter};
+ghost use Rattle.ptk_words_sync_invariant.specs.Conditions.{IsNoWaiter};
 ghost use Rattle.ptk_threads.specs.Table.{thread_in, with_changed};
 ghost use Rattle.ptk_mutex.specs.Visits.{IsVisited};
 ghost use Rattle.ptk_mutex.specs.Sound.{IsSound};
@@ -19,8 +19,8 @@ ghost use Rattle.ptk_mutex.specs.Rises.{MayTake, is_waiting};
 
 use crate::mutexes::{Mutexes, refresh_priorities};
 use crate::rising::make;
-use ptk_mutex_slots::{kept_reply, reply_of, slot_in};
-use ptk_roster::Roster;
+use ptk_mutex_priorities::{kept_reply, reply_of, slot_in};
+use ptk_syncs::Roster;
 use ptk_words::{A0, MutexNo, PartId, Thread, ThreadNo, Wait};
 use ptk_words_model::LockMove;
 
@@ -141,7 +141,7 @@ fn take_out(roster: &mut Roster, p: PartId, t: ThreadNo, m: MutexNo, reply: Opti
 }
 
 /// The move of a re-lock.
-#[tactic(auto, using(ptk_mutex_slots::proofs::Bare::bares))]
+#[tactic(auto, using(ptk_mutex_priorities::proofs::Bare::bares))]
 pub(crate) fn relock_move(roster: &Roster, p: PartId, t: ThreadNo, m: MutexNo) -> LockMove
     requires { p < length roster.now.table.threads }
     ensures { result ≡ relock_move t (pool_get (part_of roster.now.mutexes p) m) }

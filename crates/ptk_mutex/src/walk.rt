@@ -8,8 +8,8 @@ ghost use Rattle.ptk_threads.specs.Table.{stored_of};
 ghost use Rattle.ptk_mutex.specs.Risen.{risen, reads};
 ghost use Rattle.ptk_mutex.specs.Rosters.{with_priorities, next_at};
 
-use ptk_mutex_slots::next_in_chain;
-use ptk_roster::Roster;
+use ptk_mutex_priorities::next_in_chain;
+use ptk_syncs::Roster;
 use ptk_threads::Slot;
 use ptk_words::{PartId, Priority, ThreadNo};
 
@@ -22,7 +22,8 @@ pub(crate) fn slots_of(roster: &Roster, p: PartId) -> &[Slot]
     roster.threads().part(p)
 }
 
-/// The next thread of a chain: the owner of the INHERIT mutex that the thread waits for (pthread_mutexattr_getprotocol).
+/// The next thread of a chain: the owner of the INHERIT mutex that the thread waits for
+/// (pthread_mutexattr_getprotocol).
 pub(crate) fn next_in(roster: &Roster, p: PartId, t: ThreadNo) -> Option<ThreadNo>
     requires { p < length roster.now.table.threads }
     ensures { result ≡ next_at p roster.now t }

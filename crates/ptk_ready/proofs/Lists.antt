@@ -6,7 +6,6 @@ use Rattle.std.proofs.lemmas.Nat.Bits.{bit_at-zero}
 use Rattle.std.proofs.lemmas.List.Elements.{filter-append}
 use Rattle.ptk_words.specs.Pools.{is_in, numbers_to}
 use Rattle.ptk_words_parted.specs.Parts.{part_of, joined}
-use Rattle.ptk_threads.specs.Table.{stored_of}
 use Rattle.ptk_threads_slots.specs.declared.link.Link.{Link}
 use Rattle.ptk_threads_slots.specs.declared.link.Ends.{Ends}
 use Rattle.ptk_threads_slots.specs.Links.{queue_at, queues, AreQueues}
@@ -17,7 +16,7 @@ use Rattle.ptk_ready.specs.Entries.{is_ready, ready_of, stamp_of, entries, of_pr
 use Rattle.ptk_ready.specs.Lines.{queued, line_of, IsFiled}
 use Rattle.ptk_ready.proofs.Orders.{same_test, and_parts, in_kept, in_sorted}
 use Rattle.ptk_ready.proofs.Ready.{ready_mark, marked_ready}
-use Rattle.ptk_ready.specs.Laws.{filter_agree, in_priority}
+use Rattle.ptk_ready.specs.Laws.{filter_agree}
 
 -- ---- lists joined
 

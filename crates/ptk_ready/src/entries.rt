@@ -19,8 +19,8 @@ use ptk_threads_slots::{Ends, Link, QueueName, Slot, link_of};
 use ptk_words::{Priority, ThreadNo};
 
 /// What a partition's line keeps beside the links: each number's stamp, of magnitude `LIMIT` at most where its thread
-/// is ready, and the queues of ready threads that are not empty. The queues themselves are the slot table's: a call here
-/// says which call of the slot table its caller makes next, and its contract speaks of the line as it is then.
+/// is ready, and the queues of ready threads that are not empty. The queues themselves are the slot table's: a call
+/// here says which call of the slot table its caller makes next, and its contract speaks of the line as it is then.
 #[derive(Clone, Copy)]
 pub struct LinkedEntries<const LIMIT: u64> {
     stamps: [i64; 32],

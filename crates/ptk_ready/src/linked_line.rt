@@ -33,8 +33,8 @@ impl<const LIMIT: u64> Model for LinkedLine<LIMIT> {
 }
 
 impl<const LIMIT: u64> LinkedLine<LIMIT> {
-    /// An empty line for each of this many partitions, sound over a slot table in whose queues no thread is ready. An error
-    /// where memory ran out.
+    /// An empty line for each of this many partitions, sound over a slot table in whose queues no thread is ready. An
+    /// error where memory ran out.
     pub fn build(alloc: Global, parts: usize) -> Result<LinkedLine<LIMIT>, AllocError>
         requires limit { (64 ≤ LIMIT) × (LIMIT ≤ 2 ^ 62) }
         ensures empty { IfOk result (λ line. (table : ThreadTable) → length table.queues ≡ parts → AreUnused table.queues

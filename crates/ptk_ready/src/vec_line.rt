@@ -29,8 +29,8 @@ impl Model for VecLine {
 }
 
 impl VecLine {
-    /// An empty line for each of this many partitions, sound over a slot table as it is built. An error where memory ran
-    /// out.
+    /// An empty line for each of this many partitions, sound over a slot table as it is built. An error where memory
+    /// ran out.
     #[tactic(auto, using(crate::proofs::Unused::unused_built))]
     pub fn build(alloc: Global, parts: usize) -> Result<VecLine, AllocError>
         ensures empty { IfOk result (λ line. line ≡ replicate parts []) }

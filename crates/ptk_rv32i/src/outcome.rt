@@ -3,7 +3,7 @@
 use ptk_words::FaultKind;
 
 /// The outcome of a step.
-#[derive(Clone, Copy, Debug, PartialEq, Eq)]
+#[derive(Clone, Copy, PartialEq, Eq)]
 pub enum Outcome {
     /// The instruction was carried out.
     Done,

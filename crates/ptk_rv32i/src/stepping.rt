@@ -230,8 +230,9 @@ pub fn compute(
     write(cpu, pc, rd, value)
 }
 
-/// Carries out an instruction at this pc, which then is the next one's; the pc of the registers themselves is not
-/// read, and nothing is said of it. A fault or a break leaves all three as they were, and a call the registers and the memory.
+/// Carries out an instruction at this pc, which then is the next one's; the pc of the registers themselves is not read,
+/// and nothing is said of it. A fault or a break leaves all three as they were, and a call the registers and the
+/// memory.
 #[inline(always)]
 pub fn carry_out(cpu: &mut Cpu, memory: &mut [u8], pc: &mut u32, instr: Instr) -> Outcome
     ensures { seen (at_pc pc.new cpu.new) memory.new result ≡ after (at_pc pc.old cpu.old) memory.old (effect_of_instr (at_pc pc.old cpu.old) memory.old instr) }

@@ -1,5 +1,5 @@
 -- The steps and the lost ticks of a partition never become fewer.
-use Rattle.std.proofs.Common.{◌≡◌, ℕ, zero, suc, ◌+◌, ◌-◌, ◌<◌, ◌≤◌, Bool, true, false, if◌then◌else◌, List, length, Option, Some, None, sym, ap, subst, ◌∙◌, arith}
+use Rattle.std.proofs.Common.{ℕ, zero, suc, ◌+◌, ◌-◌, ◌<◌, ◌≤◌, Bool, true, false, if◌then◌else◌, length, Option, Some, None, sym, subst, ◌∙◌, arith}
 use Rattle.ptk_words.specs.declared.sections.Limits.{Limits}
 use Rattle.ptk_words_windows.specs.Windows.{OwnTicks, own_ticks}
 use Rattle.ptk_words_model.specs.declared.Spent.{Spent}
@@ -7,7 +7,7 @@ use Rattle.ptk_words_model.specs.declared.Spent.TheVariants.{Step, Idle, Lost}
 use Rattle.ptk_words_model.specs.State.{Part, Account, State}
 use Rattle.ptk_words_model.specs.Decision.{after_decision, spent_by_decision}
 use Rattle.ptk_words_model.specs.Run.{accounted, after_tick_until, decided, is_at}
-use Rattle.ptk_words_quiet.specs.Quiet.{after_ticks}
+use Rattle.ptk_words_batches.specs.Quiet.{after_ticks}
 use Rattle.ptk_system.specs.World.{World, at_tick, section_at, state_of, alone_in}
 use Rattle.ptk_system.proofs.Keeping.{alone_at}
 use Rattle.ptk_system.proofs.Runs.{alone_to}

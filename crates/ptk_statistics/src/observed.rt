@@ -28,8 +28,8 @@ pub struct Observed {
 }
 
 impl Observed {
-    /// The figures before the first tick, with room for this many threads and mutexes. An error where memory ran out. No
-    /// other call takes memory.
+    /// The figures before the first tick, with room for this many threads and mutexes. An error where memory ran out.
+    /// No other call takes memory.
     pub(crate) fn new(
         alloc: Global,
         system: &System<'_>,
@@ -152,8 +152,8 @@ impl Observed {
         look_at_owners(self.mutexes.as_mut_slice(), system, p, at);
     }
 
-    /// The partition's running thread made plain steps, and maybe a quiet call behind them, up to a tick below which this
-    /// many ticks are the partition's own. No other thread did anything.
+    /// The partition's running thread made plain steps, and maybe a quiet call behind them, up to a tick below which
+    /// this many ticks are the partition's own. No other thread did anything.
     pub(crate) fn look_at_row(&mut self, system: &System<'_>, p: PartId, own: u64)
         requires { p < length system.now.config.sections }
     {
@@ -419,8 +419,8 @@ fn comes_by(tick: Option<Tick>, now: Tick) -> bool {
     }
 }
 
-/// Whether a step can change what no other thread does but the one that ran before: an instruction of a partition that goes
-/// on, no call that wakes, makes, ends or frees a thread, and no step of a thread's end.
+/// Whether a step can change what no other thread does but the one that ran before: an instruction of a partition that
+/// goes on, no call that wakes, makes, ends or frees a thread, and no step of a thread's end.
 fn is_apart(system: &System<'_>, p: PartId, entry: &Entry) -> bool
     requires { p < length system.now.config.sections }
 {
@@ -462,8 +462,8 @@ fn changes_an_owner(number: u32) -> bool {
     )
 }
 
-/// How many ticks before `to` the partition's step takes that began at the tick: up to its next decision or the end of its
-/// window, and one where it halted with it.
+/// How many ticks before `to` the partition's step takes that began at the tick: up to its next decision or the end of
+/// its window, and one where it halted with it.
 fn step_ticks(system: &System<'_>, p: PartId, tick: u64, to: u64) -> u64
     requires partition { p < length system.now.config.sections }
     requires early { tick ≤ LAST_TICK }

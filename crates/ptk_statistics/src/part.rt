@@ -32,8 +32,8 @@ pub struct PartStatistics {
 }
 
 impl PartStatistics {
-    /// The figures of a partition of a system that has just booted, with room for this many threads and mutexes. An error
-    /// where memory ran out. No other call takes memory.
+    /// The figures of a partition of a system that has just booted, with room for this many threads and mutexes. An
+    /// error where memory ran out. No other call takes memory.
     pub(crate) fn new(
         alloc: Global,
         system: &System<'_>,

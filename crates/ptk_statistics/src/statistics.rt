@@ -17,8 +17,8 @@ pub struct Statistics {
 }
 
 impl Statistics {
-    /// Runs a system that has just booted on to a tick, and gathers its figures up to there. The run is that of `run_to`.
-    /// An error where memory ran out: the system is then as it was.
+    /// Runs a system that has just booted on to a tick, and gathers its figures up to there. The run is that of
+    /// `run_to`. An error where memory ran out: the system is then as it was.
     pub fn of_run(
         alloc: Global,
         system: &mut System<'_>,
@@ -175,8 +175,8 @@ fn is_running(system: &System<'_>, tick: Tick) -> bool {
     false
 }
 
-/// Whether a partition that decides at the tick made a plain step just before it: a row of plain steps that ended there is
-/// followed by no quiet call.
+/// Whether a partition that decides at the tick made a plain step just before it: a row of plain steps that ended there
+/// is followed by no quiet call.
 fn is_behind_plain_step(system: &System<'_>, tick: Tick) -> bool {
     for i in 0..system.parts() {
         let p = PartId::new(i as u8);

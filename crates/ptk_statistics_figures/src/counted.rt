@@ -26,8 +26,8 @@ enum Share {
 }
 
 /// The ticks in a partition's windows and its steps, up to a tick. Each such tick counts once: it is used where a step
-/// takes it, also as one of a step that ends later, lost at the end of a window for which a step cost too much, after the
-/// halt from the tick behind the one of the step with which the partition halted, and idle else.
+/// takes it, also as one of a step that ends later, lost at the end of a window for which a step cost too much, after
+/// the halt from the tick behind the one of the step with which the partition halted, and idle else.
 #[derive(Drop)]
 pub struct Counted {
     used: u64,
@@ -83,8 +83,8 @@ impl Counted {
         }
     }
 
-    /// Counts the ticks up to this one, at which a partition with these windows shows this: the ticks since the last count in
-    /// its windows, each once, and the steps made since, which are of one thread.
+    /// Counts the ticks up to this one, at which a partition with these windows shows this: the ticks since the last
+    /// count in its windows, each once, and the steps made since, which are of one thread.
     pub fn count(&mut self, plan: &WindowPlan, p: PartId, now: u64, seen: &Seen)
         requires order { reached self.old ≤ now }
         requires time { now ≤ LAST_TICK }
@@ -151,7 +151,8 @@ impl Counted {
         self.tick = to;
     }
 
-    /// Counts ticks of the partition's windows: those that were lost ahead are lost first, and the others have this share.
+    /// Counts ticks of the partition's windows: those that were lost ahead are lost first, and the others have this
+    /// share.
     fn add(&mut self, own: u64, share: Share)
         requires { counted_ticks self.old + own ≤ LAST_TICK }
         ensures ticks { counted_ticks self.new ≡ counted_ticks self.old + own }

@@ -63,7 +63,8 @@ impl Moment {
     }
 }
 
-/// Lengths of time that were measured again and again: how many, and the sum, the least and the greatest of either number.
+/// Lengths of time that were measured again and again: how many, and the sum, the least and the greatest of either
+/// number.
 #[derive(Clone, Copy)]
 pub struct Spread {
     count: u64,
@@ -131,8 +132,8 @@ impl Spread {
     }
 }
 
-/// The longest of the times that something took by all ticks, the first of these at a draw: whose it was, and the tick at
-/// which it began.
+/// The longest of the times that something took by all ticks, the first of these at a draw: whose it was, and the tick
+/// at which it began.
 #[derive(Clone, Copy)]
 pub struct Longest {
     /// How long it took.

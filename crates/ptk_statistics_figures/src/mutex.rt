@@ -49,7 +49,8 @@ impl MutexStatistics {
         self.held
     }
 
-    /// The longest time that a thread waited for it, also to have it again after a condition wait, None where nobody did.
+    /// The longest time that a thread waited for it, also to have it again after a condition wait, None where nobody
+    /// did.
     pub fn waited(&self) -> Option<Longest> {
         self.waited
     }

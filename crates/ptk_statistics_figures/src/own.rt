@@ -15,9 +15,9 @@ pub(crate) struct OwnWindow {
     pub(crate) end: u64,
 }
 
-/// How many ticks from one on and before another lie in the partition's windows. There is nothing to look up where all lie
-/// in the window at hand, which the last one looked up is then. Else it goes from window to window; `near` is where the
-/// partition was last found among them.
+/// How many ticks from one on and before another lie in the partition's windows. There is nothing to look up where all
+/// lie in the window at hand, which the last one looked up is then. Else it goes from window to window; `near` is where
+/// the partition was last found among them.
 pub(crate) fn own_between(
     plan: &WindowPlan,
     p: PartId,

@@ -9,7 +9,8 @@ use crate::repeated::repeated;
 use ptk_words::{Call, MutexNo, Tick};
 use std::alloc::{AllocError, Global};
 
-/// How many numbers of calls are counted apart: those of all calls are below, and the last stands for all other numbers.
+/// How many numbers of calls are counted apart: those of all calls are below, and the last stands for all other
+/// numbers.
 const NUMBERS: usize = 64;
 
 /// How often a call was made, and how often its reply was not 0.
@@ -197,8 +198,8 @@ impl ThreadStatistics {
         self.preemptions
     }
 
-    /// The least stack pointer that was seen: behind its calls, where it was switched to, and behind rows of plain steps.
-    /// None where none was.
+    /// The least stack pointer that was seen: behind its calls, where it was switched to, and behind rows of plain
+    /// steps. None where none was.
     pub fn least_stack(&self) -> Option<u32> {
         self.least_stack
     }

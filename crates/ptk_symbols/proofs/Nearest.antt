@@ -1,9 +1,9 @@
 -- The best symbol so far, before what those that are left come to.
-use Rattle.std.proofs.Common.{◌≡◌, ℕ, ◌≤◌, List, ◌∷◌, Option, Some, None, Bool, true, false, refl, ap, arith}
-use Rattle.std.specs.Prelude.{nat_le, if◌then◌else◌}
+use Rattle.std.proofs.Common.{◌≡◌, ℕ, List, Option, Some, None, Bool, true, false, refl, ap, arith}
+use Rattle.std.specs.Prelude.{nat_le}
 use Rattle.std.proofs.lemmas.Bool.Decides.{nat_tests}
-use Rattle.ptk_symbols.specs.Tables.{greater_of, last_below}
-use Rattle.ptk_symbols.specs.Looking.{above, better}
+use Rattle.ptk_symbols.specs.Tables.{greater_of}
+use Rattle.ptk_symbols.specs.Looking.{above}
 
 -- the best so far before the best of those that are left
 abbrev pub behind : Option (ℕ × List ℕ) → Option (ℕ × List ℕ) → Option (ℕ × List ℕ)

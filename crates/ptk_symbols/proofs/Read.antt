@@ -1,6 +1,6 @@
 -- Symbols that were read, before those that are left.
-use Rattle.std.proofs.Common.{◌≡◌, ℕ, ◌+◌, List, [], ◌∷◌, ◌++◌, map, Option, Some, None, Result, Ok, Err, refl, ap, append_assoc, ◌==◌, true, false, Bool, ◌<◌, length, take, drop, arith}
-use Rattle.std.specs.Prelude.{find, option_map, nat_lt}
+use Rattle.std.proofs.Common.{◌≡◌, ℕ, ◌+◌, List, [], ◌∷◌, ◌++◌, Some, Result, Ok, Err, refl, ap, append_assoc, true, ◌<◌, length, take, drop, arith}
+use Rattle.std.specs.Prelude.{nat_lt}
 use Rattle.std.specs.List.{list_all}
 use Rattle.std.proofs.lemmas.Bool.Decides.{nat_tests}
 use Rattle.ptk_symbols.specs.Tables.{with_symbol, is_mark, is_visible, address_behind, symbol_in}

@@ -69,16 +69,16 @@ impl<'a> Symbols<'a> {
         }
     }
 
-    /// Appends the name of the first symbol of the text that begins at an address, as ` <name>`; nothing where none begins
-    /// there. The error is that of the allocator.
+    /// Appends the name of the first symbol of the text that begins at an address, as ` <name>`; nothing where none
+    /// begins there. The error is that of the allocator.
     pub fn push_name(&self, out: &mut String, address: u32) -> Result<(), AllocError>
         ensures { OnOk result (string_bytes out.new ≡ string_bytes out.old ++ is.name_text self.now address) }
     {
         push_located(out, self.exact(address))
     }
 
-    /// Appends the symbol that is nearest to an address, as ` <name>` or ` <name+0x4>`; nothing where every symbol begins
-    /// above. The error is that of the allocator.
+    /// Appends the symbol that is nearest to an address, as ` <name>` or ` <name+0x4>`; nothing where every symbol
+    /// begins above. The error is that of the allocator.
     pub fn push_place(&self, out: &mut String, address: u32) -> Result<(), AllocError>
         ensures { OnOk result (string_bytes out.new ≡ string_bytes out.old ++ is.place_text self.now address) }
     {
@@ -100,7 +100,8 @@ fn symbol_at<'a>(symbols: &[Symbol<'a>], address: u32) -> Option<Symbol<'a>>
     None
 }
 
-/// The better of the best symbol so far and one more: this one where it begins at or below the address and above the best.
+/// The better of the best symbol so far and one more: this one where it begins at or below the address and above the
+/// best.
 fn better<'a>(address: u32, best: Option<Symbol<'a>>, symbol: Symbol<'a>) -> Option<Symbol<'a>>
     requires { IfSome best (λ s. s.address ≤ address) }
     ensures value { shown.found_pair result ≡ shown.better address (shown.found_pair best.entry) (shown.pair symbol.entry) }

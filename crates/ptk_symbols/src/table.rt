@@ -10,10 +10,10 @@ use crate::symbols::Symbols;
 use ptk_asm_language::{split_line, without_ending};
 use std::alloc::{AllocError, Global};
 
-/// The symbols in a text, a line each as `nm` prints it: the address in eight hexadecimal digits, a blank, a letter, a blank
-/// and a name of visible ASCII characters, in the order of the text; LF or CR LF ends a line, also the last one. An empty
-/// line is no symbol.
-/// The error is the number of the first line that is no symbol, counted from 1, or `Memory` where memory runs out.
+/// The symbols in a text, a line each as `nm` prints it: the address in eight hexadecimal digits, a blank, a letter, a
+/// blank and a name of visible ASCII characters, in the order of the text; LF or CR LF ends a line, also the last one.
+/// An empty line is no symbol. The error is the number of the first line that is no symbol, counted from 1, or `Memory`
+/// where memory runs out.
 pub fn read_symbols<'a>(alloc: Global, text: &'a str) -> Result<Symbols<'a>, SymbolFault>
     ensures table { IfOk result (λ symbols. is.table_of text.now ≡ Ok symbols) }
     ensures line { IfErr result (λ fault. IsWrongLine fault (is.table_of text.now)) }

@@ -21,14 +21,14 @@ use Rattle.ptk_words_model.specs.Withdrawal.{Expiry, after_expiries, after_timeo
 use Rattle.ptk_words_model.specs.Console.{arriving, is_due_at, without_arriving}
 use Rattle.ptk_words_model.specs.Decision.{after_arrival, after_arrival_for, after_arrivals, after_decision, after_turn, first_waiter, ready_at, runner_at, runner_in, runner_of, spent_by_decision, spent_in_turn, step_cost, step_kind}
 use Rattle.ptk_words_model.specs.Run.{accounted, decided, is_active}
-use Rattle.ptk_words_locks.specs.Expiries.{IsLeastDue, IsNoneDue, after_expiry, after_next, next_expiry}
-use Rattle.ptk_words_locks.proofs.Expiries.{in_turn, next_least, next_only, one_at_a_time}
-use Rattle.ptk_words_locks.proofs.Lines.{first_none}
-use Rattle.ptk_words_locks.specs.Locks.{is_ready}
-use Rattle.ptk_words_well.specs.Well.{IsWell}
-use Rattle.ptk_words_quiet.specs.Idle.{IsIdle}
-use Rattle.ptk_words_quiet.proofs.Arrivals.{none_before}
-use Rattle.ptk_words_quiet.proofs.PlainDecisions.{no_arrivals}
+use Rattle.ptk_words_sync_invariant.specs.Expiries.{IsLeastDue, IsNoneDue, after_expiry, after_next, next_expiry}
+use Rattle.ptk_words_sync_invariant.proofs.Expiries.{in_turn, next_least, next_only, one_at_a_time}
+use Rattle.ptk_words_sync_invariant.proofs.Lines.{first_none}
+use Rattle.ptk_words_sync_invariant.specs.Locks.{is_ready}
+use Rattle.ptk_words_invariant.specs.Well.{IsWell}
+use Rattle.ptk_words_batches.specs.Idle.{IsIdle}
+use Rattle.ptk_words_batches.proofs.Arrivals.{none_before}
+use Rattle.ptk_words_batches.proofs.PlainDecisions.{no_arrivals}
 use Rattle.ptk_system.specs.World.{but_next}
 
 -- ---- the input still to come

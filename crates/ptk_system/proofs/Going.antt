@@ -13,20 +13,18 @@ use Rattle.ptk_words_model.specs.State.{Part, State}
 use Rattle.ptk_words_model.specs.Priority.{awaited, mutex_of_wait, thread_at}
 use Rattle.ptk_words_model.specs.Run.{is_active}
 use Rattle.ptk_words_model.specs.Schedule.{is_running}
-use Rattle.ptk_words_locks.specs.Locks.{is_ready}
-use Rattle.ptk_words_well.specs.Well.{IsWell}
+use Rattle.ptk_words_sync_invariant.specs.Locks.{is_ready}
+use Rattle.ptk_words_invariant.specs.Well.{IsWell}
 use Rattle.ptk_gate_pools.specs.Kept.{limits_at, part_at}
 use Rattle.ptk_config.specs.Configuration.{Configuration, IsConfiguration}
 use Rattle.ptk_image.specs.NamedFiles.{NamedFile}
-use Rattle.ptk_kernel.specs.Steady.{IsSteady, at_rest}
-use Rattle.ptk_kernel.proofs.Steady.{awaited_contended}
-use Rattle.ptk_system_machine.specs.Steady.{AreSteady, states_from}
+use Rattle.ptk_system_machine.specs.Steady.{AreSteady, IsSteady, at_rest, states_from}
 use Rattle.ptk_system_machine.specs.Whole.{Whole, state_at}
 use Rattle.ptk_system.specs.declared.activity.Activity.TheVariants.{Blocked, Running, Ended, Halted}
 use Rattle.ptk_system.specs.Activities.{activity_in, activity_of_number, activity_of_wait}
 use Rattle.ptk_system.specs.Going.{DoTheSame, GoesOnAsIs}
 use Rattle.ptk_system.specs.World.{IsRun, World, alone_in, at_tick, section_at, state_of, world_at, world_of}
-use Rattle.ptk_system_machine.proofs.Steady.{steady_start}
+use Rattle.ptk_system_machine.proofs.Steady.{awaited_contended, steady_start}
 use Rattle.ptk_system_machine.proofs.Ticks.{not_due, still_on}
 use Rattle.ptk_system.proofs.Keeping.{alone_at, alone_told}
 use Rattle.ptk_system.proofs.Runs.{alone_to, run_steady}

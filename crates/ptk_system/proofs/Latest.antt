@@ -12,11 +12,11 @@ use Rattle.ptk_words_windows.proofs.OwnLaws.{end_of_window, own_from, window_who
 use Rattle.ptk_words_model.specs.State.{State}
 use Rattle.ptk_words_model.specs.Decision.{after_decision, spent_by_decision}
 use Rattle.ptk_words_model.specs.Run.{after_tick_until, alone, decided, is_active, is_at, next_from, start}
-use Rattle.ptk_words_well.specs.Well.{IsWell}
-use Rattle.ptk_words_quiet.specs.Quiet.{after_ticks}
-use Rattle.ptk_words_quiet.specs.Idle.{IsIdle, waiting_from}
-use Rattle.ptk_words_quiet.proofs.IdleTicks.{idle_ticks}
-use Rattle.ptk_words_quiet.proofs.TicksInARow.{first_by, join, next_own}
+use Rattle.ptk_words_invariant.specs.Well.{IsWell}
+use Rattle.ptk_words_batches.specs.Quiet.{after_ticks}
+use Rattle.ptk_words_batches.specs.Idle.{IsIdle, waiting_from}
+use Rattle.ptk_words_batches.proofs.IdleTicks.{idle_ticks}
+use Rattle.ptk_words_batches.proofs.TicksInARow.{first_by, join, next_own}
 use Rattle.ptk_system_machine.specs.Accounts.{duration_of}
 use Rattle.ptk_system_machine.proofs.States.{accounted_next}
 use Rattle.ptk_system_machine.proofs.Costs.{decision_costs}

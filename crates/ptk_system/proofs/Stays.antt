@@ -9,11 +9,11 @@ use Rattle.ptk_words_model.specs.declared.Spent.{Spent}
 use Rattle.ptk_words_model.specs.State.{Part, State}
 use Rattle.ptk_words_model.specs.Decision.{spent_by_decision}
 use Rattle.ptk_words_model.specs.Run.{accounted, after_tick_until, decided, is_active, is_at, next_from}
-use Rattle.ptk_words_well.specs.Well.{IsWell}
-use Rattle.ptk_words_well.proofs.Runs.{sound_alone}
-use Rattle.ptk_words_quiet.specs.Quiet.{after_ticks}
-use Rattle.ptk_words_quiet.specs.Idle.{IsIdle, waiting_from}
-use Rattle.ptk_words_quiet.proofs.IdleTicks.{idle_decided}
+use Rattle.ptk_words_invariant.specs.Well.{IsWell}
+use Rattle.ptk_words_invariant.proofs.Runs.{sound_alone}
+use Rattle.ptk_words_batches.specs.Quiet.{after_ticks}
+use Rattle.ptk_words_batches.specs.Idle.{IsIdle, waiting_from}
+use Rattle.ptk_words_batches.proofs.IdleTicks.{idle_decided}
 use Rattle.ptk_config.specs.Configuration.{IsConfiguration}
 use Rattle.ptk_system_machine.specs.Accounts.{IsBehind}
 use Rattle.ptk_system_machine.proofs.Ticks.{in_window, not_due, still_on}

@@ -4,7 +4,7 @@
 ghost use Rattle.std.specs.Prelude.{◌≡◌, ◌<◌, ◌≤◌, ℕ, None, Some, length, option_map, unwrap_or};
 ghost use Rattle.ptk_words.specs.Pools.{numbered};
 ghost use Rattle.ptk_words_model.specs.ThreadCreation.{new_cancellation};
-ghost use Rattle.ptk_mutex_slots.specs.Slots.{state_of as mutex_state};
+ghost use Rattle.ptk_mutex_priorities.specs.Slots.{state_of as mutex_state};
 ghost use Rattle.ptk_words.specs.declared.threads.Thread.{Thread};
 ghost use Rattle.ptk_words_windows.specs.Windows.{own_ticks};
 ghost use Rattle.ptk_words_model.specs.State.{Mutex};
@@ -16,14 +16,15 @@ ghost use Rattle.ptk_system.specs.Activities.{activity_in, activity_of_thread, a
 ghost use Rattle.ptk_system.specs.World.{at_tick, but_next, state_of};
 
 use crate::system::System;
-use ptk_mutex_slots::MutexState;
+use ptk_mutex_priorities::MutexState;
 use ptk_system_machine::idle_from;
 use ptk_words::{
     Entry, LAST_TICK, MutexNo, Owner, PartId, Phase, Priority, Status, Thread, ThreadNo, Tick, Wait,
 };
 
-/// What a thread does: it is running, ready, blocked or ended (XSH 2.8.4), its partition is halted, or its number is free.
-#[derive(Clone, Copy, Debug, PartialEq, Eq)]
+/// What a thread does: it is running, ready, blocked or ended (XSH 2.8.4), its partition is halted, or its number is
+/// free.
+#[derive(Clone, Copy, PartialEq, Eq)]
 pub enum Activity {
     /// No thread has the number.
     Free,
@@ -134,10 +135,10 @@ impl<'a> System<'a> {
         self.kept().tables().last_step(p)
     }
 
-    /// The latest tick, at most `stop`, up to which nothing of the partition changes but the tick of its next decision: no
-    /// register, no byte, no count of steps or lost ticks, and no entry of the trace. It is that of its next decision, of
-    /// a halted one `stop`, and of one that has nothing to do its first own tick from the next input's or deadline's on,
-    /// where that is later.
+    /// The latest tick, at most `stop`, up to which nothing of the partition changes but the tick of its next decision:
+    /// no register, no byte, no count of steps or lost ticks, and no entry of the trace. It is that of its next
+    /// decision, of a halted one `stop`, and of one that has nothing to do its first own tick from the next input's or
+    /// deadline's on, where that is later.
     pub fn stays_until(&self, p: PartId, stop: Tick) -> Tick
         requires { p < length self.now.config.sections }
         ensures within { result ≤ stop }

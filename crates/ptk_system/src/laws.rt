@@ -45,8 +45,8 @@ pub fn one_processor()
     ensures apart { OwnTicksAreApart }
 {}
 
-/// With a tick a partition's state changes by a decision alone, which takes place at a tick of its own, with the rest of the
-/// window as its room; with any other tick it stays.
+/// With a tick a partition's state changes by a decision alone, which takes place at a tick of its own, with the rest
+/// of the window as its room; with any other tick it stays.
 #[tactic(auto, using(crate::proofs::OwnDecisions::decisions))]
 pub fn decisions_are_own(system: &System, p: PartId, tick: Tick)
     requires { p < length system.now.config.sections }

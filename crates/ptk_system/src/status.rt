@@ -10,7 +10,7 @@ use ptk_words::{Cause, FaultKind, ImageFault, Status};
 use std::fmt;
 
 /// What a partition does, or why it is halted.
-#[derive(Clone, Copy, Debug, PartialEq, Eq)]
+#[derive(Clone, Copy, PartialEq, Eq)]
 pub enum PartStatus {
     /// It is not halted, and no thread is running or ready.
     Idle,

@@ -16,8 +16,8 @@ use ptk_words::Tick;
 use std::alloc::Global;
 use std::marker::Model;
 
-/// The partitions of a configuration after some ticks, each with its state. Each of them is what it would be alone: that is
-/// its invariant (`IsRun`), and `states_are_alone` states it.
+/// The partitions of a configuration after some ticks, each with its state. Each of them is what it would be alone:
+/// that is its invariant (`IsRun`), and `states_are_alone` states it.
 #[derive(Drop)]
 pub struct System<'a> {
     pub(crate) config: &'a Config,
@@ -64,8 +64,8 @@ impl<'a> System<'a> {
         })
     }
 
-    /// Goes on to a tick of at most 2^40, and does nothing where it was already reached. Over ticks at which a partition
-    /// has nothing to do it costs nothing, however many they are.
+    /// Goes on to a tick of at most 2^40, and does nothing where it was already reached. Over ticks at which a
+    /// partition has nothing to do it costs nothing, however many they are.
     pub fn run_to(&mut self, n: Tick)
         requires { n ≤ LAST_TICK }
         ensures { self.new ≡ at_tick (max self.old.tick n) self.old }
@@ -87,10 +87,10 @@ impl<'a> System<'a> {
         self.tick = n;
     }
 
-    /// Goes on over plain steps and quiet calls of the partition that decides next, to a tick of at most 2^40
-    /// that is not after `n`, and before any other decision. It stands still only where `n` was already reached, or where a
-    /// decision at the tick reached is no plain step of a quiet partition. At each tick on the way each thread does what it
-    /// did at the first one, with the same priorities and the same owner of the mutex that it waits for.
+    /// Goes on over plain steps and quiet calls of the partition that decides next, to a tick of at most 2^40 that is
+    /// not after `n`, and before any other decision. It stands still only where `n` was already reached, or where a
+    /// decision at the tick reached is no plain step of a quiet partition. At each tick on the way each thread does
+    /// what it did at the first one, with the same priorities and the same owner of the mutex that it waits for.
     pub fn compute_to(&mut self, n: Tick)
         requires { n ≤ LAST_TICK }
         ensures from { self.old.tick ≤ self.new.tick }
@@ -109,8 +109,8 @@ impl<'a> System<'a> {
         self.tick = self.machine.run_row(plan, self.tick, n);
     }
 
-    /// Goes on as `compute_to` does, but over plain steps of one window at most and the quiet call behind them, which is the
-    /// last step. So whoever looks at the system sees each call by itself.
+    /// Goes on as `compute_to` does, but over plain steps of one window at most and the quiet call behind them, which
+    /// is the last step. So whoever looks at the system sees each call by itself.
     pub fn call_to(&mut self, n: Tick)
         requires { n ≤ LAST_TICK }
         ensures from { self.old.tick ≤ self.new.tick }

@@ -26,8 +26,8 @@ impl<'a> System<'a> {
         config.parts()
     }
 
-    /// Each partition's state is the one that the definition gives it alone, of its own ticks, its section's numbers, its
-    /// image and its input, after the ticks that were reached. It opens the invariant, and does nothing.
+    /// Each partition's state is the one that the definition gives it alone, of its own ticks, its section's numbers,
+    /// its image and its input, after the ticks that were reached. It opens the invariant, and does nothing.
     pub fn states_are_alone(&self)
         ensures configured { IsConfiguration self.now.config }
         ensures count { length self.now.states ≡ length self.now.config.sections }

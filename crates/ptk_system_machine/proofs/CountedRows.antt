@@ -10,8 +10,8 @@ use Rattle.ptk_words_windows.specs.Windows.{OwnTicks}
 use Rattle.ptk_words_instructions.specs.PlainSteps.{plain_entries}
 use Rattle.ptk_words_model.specs.State.{State}
 use Rattle.ptk_words_model.specs.Run.{is_active, last_of, next_from}
-use Rattle.ptk_words_quiet.specs.Quiet.{AreOwn, core_of, counted_row, row_state, after_row, after_ticks}
-use Rattle.ptk_words_quiet.proofs.TicksInARow.{row_ticks}
+use Rattle.ptk_words_batches.specs.Quiet.{AreOwn, core_of, counted_row, row_state, after_row, after_ticks}
+use Rattle.ptk_words_batches.proofs.TicksInARow.{row_ticks}
 use Rattle.ptk_trace.specs.KeptSteps.{KeptSteps}
 use Rattle.ptk_kernel.specs.Rows.{IsRow}
 use Rattle.ptk_kernel.specs.Kept.{Kept, limits_at, part_at, put_part}

@@ -14,12 +14,12 @@ use Rattle.ptk_words_model.specs.Priority.{effective_priority}
 use Rattle.ptk_words_model.specs.Withdrawal.{after_expiries}
 use Rattle.ptk_words_model.specs.Decision.{after_arrivals, after_turn, after_decision, ready_at, runner_of, spent_by_decision, spent_in_turn}
 use Rattle.ptk_words_model.specs.Run.{is_active}
-use Rattle.ptk_words_well.proofs.Decisions.{arrivals_status}
-use Rattle.ptk_words_well.proofs.Timeouts.{expiries_status}
-use Rattle.ptk_words_quiet.specs.Quiet.{after_ticks}
-use Rattle.ptk_words_quiet.specs.Prepared.{prepared}
-use Rattle.ptk_words_quiet.proofs.PlainDecisions.{quiet_ready}
-use Rattle.ptk_words_quiet.proofs.PreparedTicks.{prepared_on}
+use Rattle.ptk_words_invariant.proofs.Decisions.{arrivals_status}
+use Rattle.ptk_words_invariant.proofs.Timeouts.{expiries_status}
+use Rattle.ptk_words_batches.specs.Quiet.{after_ticks}
+use Rattle.ptk_words_batches.specs.Prepared.{prepared}
+use Rattle.ptk_words_batches.proofs.PlainDecisions.{quiet_ready}
+use Rattle.ptk_words_batches.proofs.PreparedTicks.{prepared_on}
 use Rattle.ptk_kernel.specs.Kept.{Kept, AreParts, limits_at, part_at, put_part}
 use Rattle.ptk_kernel.specs.Rows.{IsStillTo}
 use Rattle.ptk_kernel.proofs.Parted.{part_at-put, parts_put, put_part-put}

@@ -11,7 +11,7 @@ use Rattle.ptk_words_windows.specs.Windows.{WindowPlan, OwnTicks, IsOwn, IsOwnUn
 use Rattle.ptk_words_windows.proofs.OwnLaws.{end_of_window, own_apart, own_from}
 use Rattle.ptk_words_model.specs.State.{Part}
 use Rattle.ptk_words_model.specs.Priority.{thread_at}
-use Rattle.ptk_words_quiet.specs.Quiet.{core_of}
+use Rattle.ptk_words_batches.specs.Quiet.{core_of}
 use Rattle.ptk_window.specs.declared.near.Turn.{Turn}
 use Rattle.ptk_kernel.specs.Kept.{limits_at, part_at}
 use Rattle.ptk_system_machine.specs.Turns.{IsComing, IsInWindow, IsPlainAt, turn_at}

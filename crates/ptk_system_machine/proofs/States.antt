@@ -11,7 +11,7 @@ use Rattle.ptk_words_model.specs.declared.Spent.TheVariants.{Step, Idle, Lost}
 use Rattle.ptk_words_model.specs.State.{Part, Account, State}
 use Rattle.ptk_words_model.specs.Run.{accounted, decided, next_from}
 use Rattle.ptk_words_model.specs.Decision.{after_decision, spent_by_decision}
-use Rattle.ptk_words_quiet.specs.Idle.{waiting_from}
+use Rattle.ptk_words_batches.specs.Idle.{waiting_from}
 use Rattle.ptk_kernel.specs.Kept.{Kept, AreParts, limits_at, part_at, put_part}
 use Rattle.ptk_kernel.proofs.Parted.{part_at-put, part_at-other, parts_put}
 use Rattle.ptk_system_machine.specs.Accounts.{HasEntry, KeptAccount, duration_of, spent_account}

@@ -5,13 +5,14 @@ use Rattle.ptk_words.specs.declared.sections.Limits.{Limits}
 use Rattle.ptk_words.specs.declared.threads.Thread.{Thread}
 use Rattle.ptk_words_windows.specs.Windows.{OwnTicks, WindowPlan, own_ticks}
 use Rattle.ptk_words_model.specs.State.{Part, State}
-use Rattle.ptk_words_quiet.specs.Quiet.{AreOwn, ArePlain, IsQuiet, after_ticks, core_of, row_state}
-use Rattle.ptk_words_quiet.proofs.TicksInARow.{join, row_ticks}
+use Rattle.ptk_words_batches.specs.Quiet.{AreOwn, ArePlain, IsQuiet, after_ticks, core_of, row_state}
+use Rattle.ptk_words_batches.proofs.TicksInARow.{join, row_ticks}
 use Rattle.ptk_trace.specs.KeptSteps.{KeptSteps}
 use Rattle.ptk_kernel.specs.Kept.{Kept, limits_at, part_at}
 use Rattle.ptk_kernel.specs.Rows.{IsRow}
 use Rattle.ptk_kernel.specs.Steady.{IsOfRunning, IsSteady}
 use Rattle.ptk_kernel.proofs.Steady.{row_last, row_steady, steady_on, steady_same}
+pub use Rattle.ptk_kernel.proofs.Steady.{awaited_contended}
 use Rattle.ptk_window.specs.declared.near.Turn.{Turn}
 use Rattle.ptk_system_machine.specs.Steady.{AreSteady, states_from}
 use Rattle.ptk_system_machine.specs.Turns.{IsStillUntil, turn_at}

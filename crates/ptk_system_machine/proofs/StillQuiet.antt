@@ -2,7 +2,7 @@
 use Rattle.std.proofs.Common.{◌≡◌, ℕ, ◌<◌, ◌≤◌, sym, ap, subst, ◌∙◌, arith}
 use Rattle.std.specs.Prelude.{Option, unwrap_or}
 use Rattle.ptk_words_windows.specs.Windows.{OwnTicks}
-use Rattle.ptk_words_quiet.proofs.Sooner.{quiet_sooner}
+use Rattle.ptk_words_batches.proofs.Sooner.{quiet_sooner}
 use Rattle.ptk_kernel.specs.Kept.{Kept, limits_at, part_at}
 use Rattle.ptk_kernel.specs.Rows.{IsStillTo}
 use Rattle.ptk_system_machine.specs.Turns.{IsInWindow}

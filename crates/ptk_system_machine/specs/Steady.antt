@@ -3,8 +3,8 @@ use Rattle.std.specs.Prelude.{ℕ, ◌+◌, ◌-◌, ◌<◌, ◌≤◌}
 use Rattle.ptk_words.specs.declared.sections.Limits.{Limits}
 use Rattle.ptk_words_windows.specs.Windows.{OwnTicks}
 use Rattle.ptk_words_model.specs.State.{Part, State}
-use Rattle.ptk_words_quiet.specs.Quiet.{after_ticks}
-use Rattle.ptk_kernel.specs.Steady.{IsOfRunning, IsSteady}
+use Rattle.ptk_words_batches.specs.Quiet.{after_ticks}
+pub use Rattle.ptk_kernel.specs.Steady.{IsOfRunning, IsSteady, at_rest}
 
 -- from a tick on and up to another the threads are and wait as in this state, and each step is the running thread's, which goes on (own)
 pub record AreSteady (s : Part) (states : ℕ → State) (from to : ℕ) : Type 0 where

@@ -7,8 +7,8 @@ use Rattle.ptk_words_windows.specs.Windows.{WindowPlan, OwnTicks}
 use Rattle.ptk_words_model.specs.declared.Spent.{Spent}
 use Rattle.ptk_words_model.specs.declared.Spent.TheVariants.{Idle}
 use Rattle.ptk_words_model.specs.State.{Part, State}
-use Rattle.ptk_words_quiet.specs.Quiet.{AreOwn, IsQuiet, after_ticks, core_of}
-use Rattle.ptk_words_quiet.specs.Idle.{IsIdle}
+use Rattle.ptk_words_batches.specs.Quiet.{AreOwn, IsQuiet, after_ticks, core_of}
+use Rattle.ptk_words_batches.specs.Idle.{IsIdle}
 use Rattle.ptk_window.specs.Walks.{Way}
 use Rattle.ptk_window.specs.declared.near.Turn.{Turn}
 use Rattle.ptk_system_machine.specs.Accounts.{duration_of}

@@ -74,8 +74,8 @@ impl Account {
         &self.trace
     }
 
-    /// Counts a decision with this room whose outcome is `spent`: the tick of the next one, a step and its entry, or the
-    /// lost ticks.
+    /// Counts a decision with this room whose outcome is `spent`: the tick of the next one, a step and its entry, or
+    /// the lost ticks.
     pub(crate) fn count(&mut self, next: Option<Tick>, room: u32, spent: Spent, last: Option<Entry>)
         requires steps { self.old.account.steps ≤ LAST_TICK }
         requires lost { self.old.account.lost ≤ 2 ^ 60 }
@@ -95,8 +95,8 @@ impl Account {
         }
     }
 
-    /// Counts this many steps of a row, whose entries are in the trace, each as a decision: the tick of the next one, and
-    /// the steps.
+    /// Counts this many steps of a row, whose entries are in the trace, each as a decision: the tick of the next one,
+    /// and the steps.
     pub(crate) fn count_row(&mut self, next: Option<Tick>, steps: u32)
         requires { self.old.account.steps ≤ LAST_TICK }
         ensures { self.new ≡ record self.old { account = record self.old.account { next = next; steps = self.old.account.steps + steps } } }

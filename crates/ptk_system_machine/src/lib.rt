@@ -10,7 +10,7 @@
 //! - At each tick of a row of plain steps and quiet calls the threads of each partition are and wait as at its first
 //!   (`Machine::run_row`, `steady`).
 //! - Each turn is prepared once: what is quiet is prepared, and from what is prepared and quiet ticks lead where they
-//!   lead from the state before (`quiet_is_prepared`, `prepared_goes_on` of `ptk_words_quiet`).
+//!   lead from the state before (`quiet_is_prepared`, `prepared_goes_on` of `ptk_words_batches`).
 //!
 //! Below are the kernel and the window plan; above is the system. Costly to prove are that a decision and the ticks up
 //! to the next one are as many ticks as the definition says (`proofs/Ticks`), that a row is counted as that many

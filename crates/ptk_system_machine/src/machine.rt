@@ -108,8 +108,8 @@ fn first_accounts(
     Ok(accounts)
 }
 
-/// The partition's first own tick from this one on, none where it is halted. `near` is where the partition was last found
-/// among its windows.
+/// The partition's first own tick from this one on, none where it is halted. `near` is where the partition was last
+/// found among its windows.
 #[inline]
 pub(crate) fn next_from(
     plan: &WindowPlan,

@@ -1,5 +1,5 @@
-//! How all partitions go on: one after the other, each from turn to turn, by rows of plain steps and quiet calls and by the
-//! turns of single threads.
+//! How all partitions go on: one after the other, each from turn to turn, by rows of plain steps and quiet calls and by
+//! the turns of single threads.
 
 ghost use Rattle.std.specs.Prelude.{◌≡◌, ◌<◌, ◌≤◌, ◌≢◌, ◌^◌, ◌+◌, ◌-◌, ℕ, All, None, Some, IfSome, IsSome, IsTrue, MatchOption, length, min};
 ghost use Rattle.ptk_words.specs.declared.TheConstants.{LAST_TICK};
@@ -7,9 +7,9 @@ ghost use Rattle.ptk_words_windows.specs.Windows.{own_ticks};
 ghost use Rattle.ptk_words_model.specs.Decision.{ready_at};
 ghost use Rattle.ptk_words_model.specs.Run.{next_from};
 ghost use Rattle.ptk_words_model.specs.State.{State};
-ghost use Rattle.ptk_words_quiet.specs.Quiet.{after_ticks};
-ghost use Rattle.ptk_words_quiet.specs.Prepared.{prepared};
-ghost use Rattle.ptk_words_quiet.specs.Idle.{IsIdle};
+ghost use Rattle.ptk_words_batches.specs.Quiet.{after_ticks};
+ghost use Rattle.ptk_words_batches.specs.Prepared.{prepared};
+ghost use Rattle.ptk_words_batches.specs.Idle.{IsIdle};
 ghost use Rattle.ptk_kernel.specs.Kept.{limits_at, part_at, put_part};
 ghost use Rattle.ptk_kernel.specs.Rows.{IsStill, IsStillTo};
 ghost use Rattle.ptk_kernel.specs.Spending.{cost_in};
@@ -33,8 +33,8 @@ use ptk_words_model::Spent;
 const PARTS: usize = 8;
 
 impl Machine {
-    /// Goes on from a tick to `to`: with one partition after the other, in the order of sections, since none sees how far
-    /// another has come. To each partition it does what this many ticks would do to that partition alone.
+    /// Goes on from a tick to `to`: with one partition after the other, in the order of sections, since none sees how
+    /// far another has come. To each partition it does what this many ticks would do to that partition alone.
     pub fn run(&mut self, plan: &WindowPlan, tick: Tick, to: Tick)
         requires windows { AreWindowsOf (length self.old.accounts) plan.now }
         requires order { tick ≤ to }
@@ -138,8 +138,8 @@ impl Machine {
         }
     }
 
-    /// The turn that begins with the partition's next decision, where that is from the tick on and before `to`. None where
-    /// it is not, or is at a tick that is not the partition's own, at which it never takes place.
+    /// The turn that begins with the partition's next decision, where that is from the tick on and before `to`. None
+    /// where it is not, or is at a tick that is not the partition's own, at which it never takes place.
     fn due_turn(&mut self, plan: &WindowPlan, p: PartId, tick: Tick, to: Tick) -> Option<Turn>
         requires partition { p < length self.old.accounts }
         requires time { to ≤ LAST_TICK }
@@ -168,9 +168,9 @@ impl Machine {
         Some(turn)
     }
 
-    /// Goes on from the partition's next decision, with which the turn begins: what comes at its tick arrives and expires,
-    /// a thread is chosen, and then, from that very tick on, come plain steps in a row and quiet calls while the partition
-    /// is quiet, or else the turn of that thread. Returns the partition's next turn.
+    /// Goes on from the partition's next decision, with which the turn begins: what comes at its tick arrives and
+    /// expires, a thread is chosen, and then, from that very tick on, come plain steps in a row and quiet calls while
+    /// the partition is quiet, or else the turn of that thread. Returns the partition's next turn.
     fn go_on(&mut self, plan: &WindowPlan, p: PartId, turn: Turn, to: Tick) -> Turn
         requires partition { p < length self.old.accounts }
         requires windows { AreWindowsOf (length self.old.accounts) plan.now }
@@ -204,8 +204,8 @@ impl Machine {
         prepare(&mut self.tables, p, tick);
     }
 
-    /// Whether the partition is quiet from its next decision on, which is at the tick, and up to which tick, at most `to`. It
-    /// is where its running thread's next step is a plain one, and none other comes before it.
+    /// Whether the partition is quiet from its next decision on, which is at the tick, and up to which tick, at most
+    /// `to`. It is where its running thread's next step is a plain one, and none other comes before it.
     fn quiet_until(&self, p: PartId, tick: Tick, to: Tick) -> Option<Quiet>
         requires partition { p < length self.now.accounts }
         requires order { tick < to }
@@ -219,9 +219,9 @@ impl Machine {
         quiet_until(&self.tables, p, tick, to)
     }
 
-    /// Goes on with a quiet partition, whose next decision begins the turn and needs no preparation: by plain steps in a row
-    /// and quiet calls, and by the turn of its thread where another step of it comes before the partition's stop. Returns
-    /// the next turn.
+    /// Goes on with a quiet partition, whose next decision begins the turn and needs no preparation: by plain steps in
+    /// a row and quiet calls, and by the turn of its thread where another step of it comes before the partition's stop.
+    /// Returns the next turn.
     fn go_quiet(&mut self, plan: &WindowPlan, p: PartId, turn: Turn, quiet: Quiet, to: Tick) -> Turn
         requires partition { p < length self.old.accounts }
         requires windows { AreWindowsOf (length self.old.accounts) plan.now }
@@ -246,9 +246,9 @@ impl Machine {
         }
     }
 
-    /// The second half of the partition's next decision, with which its turn begins: the turn of the thread that was chosen.
-    /// Returns its next turn. From every state that the first half leads to where the partition is, it leads to where the
-    /// ticks up to that turn lead.
+    /// The second half of the partition's next decision, with which its turn begins: the turn of the thread that was
+    /// chosen. Returns its next turn. From every state that the first half leads to where the partition is, it leads to
+    /// where the ticks up to that turn lead.
     #[tactic(auto, using(crate::proofs::States::states))]
     fn take_turn(&mut self, plan: &WindowPlan, p: PartId, turn: Turn, to: Tick) -> Turn
         requires partition { p < length self.old.accounts }
@@ -274,9 +274,9 @@ impl Machine {
         coming(account.next(), end, to)
     }
 
-    /// Plain steps of the partition and quiet calls, the first at its next decision, with which the turn
-    /// begins, each in place of a decision and counted as one: as many as come before `to`, over any number of windows. What
-    /// else may come is asked once, before the first. Returns the next turn, which is the same, and nothing changes, where
+    /// Plain steps of the partition and quiet calls, the first at its next decision, with which the turn begins, each
+    /// in place of a decision and counted as one: as many as come before `to`, over any number of windows. What else
+    /// may come is asked once, before the first. Returns the next turn, which is the same, and nothing changes, where
     /// the next decision is no such step of a quiet partition, and a later one where it is a plain step of one.
     fn rows(&mut self, plan: &WindowPlan, p: PartId, turn: Turn, to: Tick) -> Turn
         requires partition { p < length self.old.accounts }
@@ -299,10 +299,10 @@ impl Machine {
         }
     }
 
-    /// Plain steps of a quiet partition and quiet calls, as `rows` says of them, before its stop; behind the first row and
-    /// the call that ends it, only such as begin before `until`. The partition is as quiet as it was, up to that stop. It
-    /// has several callers, so it is compiled as a function of its own; what it calls has one, and so all of `rows_before`
-    /// is compiled into it.
+    /// Plain steps of a quiet partition and quiet calls, as `rows` says of them, before its stop; behind the first row
+    /// and the call that ends it, only such as begin before `until`. The partition is as quiet as it was, up to that
+    /// stop. It has several callers, so it is compiled as a function of its own; what it calls has one, and so all of
+    /// `rows_before` is compiled into it.
     fn rows_on(
         &mut self,
         plan: &WindowPlan,
@@ -380,8 +380,8 @@ impl Machine {
         self.accounts[p.index()].near = near;
     }
 
-    /// Plain steps of a quiet partition in a row, in the turn's window, and the quiet call behind them, where one follows
-    /// in this window. Returns the next turn, and whether the window was gone through or such a call made.
+    /// Plain steps of a quiet partition in a row, in the turn's window, and the quiet call behind them, where one
+    /// follows in this window. Returns the next turn, and whether the window was gone through or such a call made.
     #[inline(always)]
     fn row_and_reply(
         &mut self,
@@ -425,9 +425,9 @@ impl Machine {
     }
 
     /// Plain steps of a quiet partition in a row, the first at its next decision, with which the turn begins, each in
-    /// place of a decision and counted as one: as many as come before its stop. Returns the next turn, which is the same,
-    /// and nothing changes, where the next step is not plain. The partition is as quiet as it was, up to that stop or a
-    /// later one.
+    /// place of a decision and counted as one: as many as come before its stop. Returns the next turn, which is the
+    /// same, and nothing changes, where the next step is not plain. The partition is as quiet as it was, up to that
+    /// stop or a later one.
     #[tactic(auto, using(crate::proofs::States::states))]
     fn row(
         &mut self,
@@ -465,9 +465,9 @@ impl Machine {
         coming(account.next(), end, to)
     }
 
-    /// The decision of a quiet partition with which its turn begins, where that is a quiet call and ends at
-    /// the partition's stop or before. Returns the next turn, which is the same, and nothing changes, where it is any
-    /// other or the turn begins at that stop or later. The partition is as quiet as it was, up to that stop or a later one.
+    /// The decision of a quiet partition with which its turn begins, where that is a quiet call and ends at the
+    /// partition's stop or before. Returns the next turn, which is the same, and nothing changes, where it is any other
+    /// or the turn begins at that stop or later. The partition is as quiet as it was, up to that stop or a later one.
     #[tactic(auto, using(crate::proofs::States::states))]
     fn reply(
         &mut self,
@@ -526,8 +526,8 @@ fn quiet_within(quiet: &Quiet, end: Tick) -> Quiet
 }
 
 /// From which tick the partition's next decision is looked for, after one at the tick with this room whose outcome is
-/// `spent`: behind the ticks that the decision takes up. After an idle one it may have nothing to do up to a later tick,
-/// at most `to`; then from that one. No tick at which it has nothing to do is missed.
+/// `spent`: behind the ticks that the decision takes up. After an idle one it may have nothing to do up to a later
+/// tick, at most `to`; then from that one. No tick at which it has nothing to do is missed.
 fn free_from(tables: &Tables, p: PartId, tick: Tick, room: u32, spent: Spent, to: Tick) -> Tick
     requires partition { p < length tables.now.limits }
     requires time { tick ≤ LAST_TICK }
@@ -604,8 +604,8 @@ fn coming(next: Option<Tick>, end: Tick, to: Tick) -> Turn
 }
 
 /// The partition's first own tick from this one on, none where it is halted, and the end of the window that holds it.
-/// Where the tick lies before `end`, it is in the partition's window with that end. `near` is where the partition was last
-/// found among its windows.
+/// Where the tick lies before `end`, it is in the partition's window with that end. `near` is where the partition was
+/// last found among its windows.
 #[inline(always)]
 fn next_turn(
     plan: &WindowPlan,
@@ -636,8 +636,8 @@ fn next_turn(
 }
 
 /// The partition's first own tick from this one on, which is not after `end`, and the end of the window that holds it.
-/// Where the tick lies before `end`, it is in the partition's window with that end. The walk is at that window, where it
-/// is known to be at one, and then at the one that was answered.
+/// Where the tick lies before `end`, it is in the partition's window with that end. The walk is at that window, where
+/// it is known to be at one, and then at the one that was answered.
 #[inline(always)]
 fn turn_on(
     plan: &WindowPlan,

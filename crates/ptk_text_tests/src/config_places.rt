@@ -1,8 +1,8 @@
 //! The line of each kind of fault, and that an accepted text has none.
 
 use crate::config::joined;
+use ptk_config_explain::{ExplainFault, explain_refusal};
 use ptk_config_places::{Key, Place, TablePlace, first_refusal};
-use ptk_config_table::{ExplainFault, explain_refusal};
 use std::alloc::{AllocError, Global};
 use std::test::Fail;
 
@@ -80,7 +80,7 @@ fn each_change_has_its_line(rt: HostRuntime) -> Result<(), Fail> {
 fn accepted_text_has_no_line(rt: HostRuntime) -> Result<(), Fail> {
     let alloc = rt.alloc();
     let text = good(alloc)?;
-    assert_eq!(rt; first_refusal(alloc, text.as_str())?, None);
+    assert!(rt; first_refusal(alloc, text.as_str())? == None);
     assert!(rt; written(alloc, text.as_str())?.is_empty());
     Ok(())
 }
@@ -423,10 +423,7 @@ fn the_place_is_told(rt: HostRuntime) -> Result<(), Fail> {
     let text = good(alloc)?.replace(alloc, "memory = 8192", "memory = 5000")?;
     match first_refusal(alloc, text.as_str())? {
         Some(refusal) => {
-            assert_eq!(rt;
-                refusal.place,
-                Place::Key(TablePlace::Section(2), Key::Memory)
-            );
+            assert!(rt; refusal.place == Place::Key(TablePlace::Section(2), Key::Memory));
             assert_eq!(rt; refusal.fault.number(), 4);
         }
         None => assert!(rt; false, "accepted"),
@@ -441,9 +438,8 @@ fn a_writer_that_fails_is_an_error(rt: HostRuntime) {
     for most in 0..line.len() {
         let mut bytes = [0u8; 19];
         let mut room = &mut bytes[..most];
-        assert_eq!(rt;
-            explain_refusal(alloc, "", &mut room),
-            Err(ExplainFault::Write),
+        assert!(rt;
+            explain_refusal(alloc, "", &mut room) == Err(ExplainFault::Write),
             "at {most}"
         );
     }

@@ -1,6 +1,6 @@
 //! What is written of accepted and of refused texts, worked out by hand.
 
-use ptk_config_table::{ExplainFault, explain};
+use ptk_config_explain::{ExplainFault, explain};
 use ptk_image::Files;
 use std::alloc::Global;
 use std::test::Fail;

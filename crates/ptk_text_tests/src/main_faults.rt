@@ -86,15 +86,12 @@ fn a_window_of_fifteen_ticks_is_refused(rt: HostRuntime) -> Result<(), Fail> {
 
 #[test]
 fn want_of_memory_is_one_line(rt: HostRuntime) {
-    assert_eq!(rt; Fault::of_config(ConfigFault::Memory), Fault::NoMemory);
+    assert!(rt; Fault::of_config(ConfigFault::Memory) == Fault::NoMemory);
     let window = ConfigFault::Window(WindowFault::Memory);
-    assert_eq!(rt; Fault::of_config(window), Fault::NoMemory);
-    assert_eq!(rt;
-        Fault::of_image("p.img", ImageFault::Memory),
-        Fault::NoMemory
-    );
-    assert_eq!(rt; Fault::of_asm(2, 7), Fault::NoMemory);
-    assert_eq!(rt; Fault::from(AllocError), Fault::NoMemory);
+    assert!(rt; Fault::of_config(window) == Fault::NoMemory);
+    assert!(rt; Fault::of_image("p.img", ImageFault::Memory) == Fault::NoMemory);
+    assert!(rt; Fault::of_asm(2, 7) == Fault::NoMemory);
+    assert!(rt; Fault::from(AllocError) == Fault::NoMemory);
 }
 
 /// Refusals of a configuration, and their faults.
@@ -130,16 +127,10 @@ const REFUSALS: [(ConfigFault, Fault<'static>); 11] = [
 #[test]
 fn refusals_have_their_numbers(rt: HostRuntime) {
     for (refusal, fault) in REFUSALS {
-        assert_eq!(rt; Fault::of_config(refusal), fault);
+        assert!(rt; Fault::of_config(refusal) == fault);
     }
-    assert_eq!(rt;
-        Fault::of_image("q", ImageFault::Length),
-        Fault::Image("q", 4)
-    );
-    assert_eq!(rt;
-        Fault::of_image("q", ImageFault::Unfit),
-        Fault::Image("q", 7)
-    );
+    assert!(rt; Fault::of_image("q", ImageFault::Length) == Fault::Image("q", 4));
+    assert!(rt; Fault::of_image("q", ImageFault::Unfit) == Fault::Image("q", 7));
 }
 
 #[test]

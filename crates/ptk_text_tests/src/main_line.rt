@@ -53,9 +53,9 @@ fn reads_run(rt: HostRuntime) {
         refused: false,
         idle: true,
     };
-    assert_eq!(rt; options.fail_on, kinds);
+    assert!(rt; options.fail_on == kinds);
     assert!(rt; options.until_halted && options.quiet && options.explain);
-    assert_eq!(rt; options.format, Format::Json);
+    assert!(rt; options.format == Format::Json);
 }
 
 /// Words of `trace` with each of its options, words of it with none, and words of `timeline`.
@@ -126,7 +126,7 @@ fn reads_trace_and_timeline(rt: HostRuntime) {
         rt.abort()
     };
     assert_eq!(rt; options.from, Some(7));
-    assert_eq!(rt; options.format, PictureFormat::Vcd);
+    assert!(rt; options.format == PictureFormat::Vcd);
     assert_eq!(rt; options.symbols, Some("a.sym"));
 }
 

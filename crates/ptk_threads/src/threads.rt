@@ -61,8 +61,8 @@ impl Threads {
         self.slots.parts()
     }
 
-    /// All slots, by partition and then by number. Along their links lies the list of each queue, and no link leaves its
-    /// partition.
+    /// All slots, by partition and then by number. Along their links lies the list of each queue, and no link leaves
+    /// its partition.
     pub fn slots(&self) -> &[Slot]
         ensures threads { threads_of result.now ≡ joined self.now.threads }
         ensures queues { AreAlongLinks result.now self.now.threads self.now.queues }

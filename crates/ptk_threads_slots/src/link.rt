@@ -13,7 +13,7 @@ pub const PLACES: usize = 128;
 const NUMBERS: usize = 32;
 
 /// A queue of a partition.
-#[derive(Clone, Copy, Debug, PartialEq, Eq)]
+#[derive(Clone, Copy, PartialEq, Eq)]
 pub enum QueueName {
     /// The ready threads of this effective priority.
     Ready(Priority),
@@ -38,10 +38,10 @@ impl QueueName {
 }
 
 /// The slots before and after one in its queue, in the table that all partitions share, and the queue.
-#[derive(Clone, Copy, Debug, PartialEq, Eq)]
+#[derive(Clone, Copy, PartialEq, Eq)]
 pub struct SlotLink {
-    /// The place of its partition's first slot, which is thread 1's; at most 224, since a partition has at most 32 slots,
-    /// and at most 7 come before it.
+    /// The place of its partition's first slot, which is thread 1's; at most 224, since a partition has at most 32
+    /// slots, and at most 7 come before it.
     pub first: u8,
     /// The slot before it; None of the first one, and of a slot that lies in no queue.
     pub previous: Option<SlotNo>,
@@ -128,7 +128,7 @@ fn slot_at(first: u8, thread: &Option<ThreadNo>) -> Option<SlotNo>
 }
 
 /// The threads before and after one in its queue, and the queue that it lies in.
-#[derive(Clone, Copy, Debug, PartialEq, Eq)]
+#[derive(Clone, Copy, PartialEq, Eq)]
 pub struct Link {
     /// The thread before it; None of the first.
     pub previous: Option<ThreadNo>,
@@ -152,7 +152,7 @@ impl Link {
 }
 
 /// The first and the last thread of a queue, None and None of an empty one.
-#[derive(Clone, Copy, Debug, PartialEq, Eq)]
+#[derive(Clone, Copy, PartialEq, Eq)]
 pub struct Ends {
     /// The first thread.
     pub first: Option<ThreadNo>,

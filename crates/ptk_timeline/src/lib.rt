@@ -8,12 +8,12 @@
 //! - `picture_with` leaves the system at the picture's end (`ran`), and returns `NoTicks` only where `from` is not
 //!   before `to` (`none`), and a picture only where it is (`some`).
 //! - A lane's head is the partition's name with what it is at the end, byte for byte (`write_head`, `head_text`).
-//! - Which other bytes are written is tested: the gate compares four stored pictures (`ptk_main_pictures`).
+//! - Which other bytes are written is tested: the gate compares four stored pictures (`ptk_main_stored`).
 //!
 //! It opens in any browser, without script or network. A column of the picture is a column of `ptk_timeline_segments`,
 //! below, a rectangle is a bar of a row, and the windows are those that the plan has at these ticks, so the text grows
 //! with what changes and with the width. Drawing takes no memory; `Starts` has an entry for each thread's number. Above
-//! are `ptk_main_answers` and the program of pictures, `ptk_main_pictures`.
+//! are `ptk_main_answers` and the program of pictures, `ptk_main_stored`.
 
 mod axis;
 mod layout;

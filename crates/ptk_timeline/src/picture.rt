@@ -70,9 +70,9 @@ pub enum PictureFault {
     NoTicks,
 }
 
-/// Runs the system of a configuration, which stands at no tick after `from` or `to`, to a tick of at most 2^40, and writes the
-/// picture of its ticks from `from` on. A fault where there is none of them, memory is refused or the writer fails. Of the
-/// picture's bytes no clause speaks; stored pictures are compared.
+/// Runs the system of a configuration, which stands at no tick after `from` or `to`, to a tick of at most 2^40, and
+/// writes the picture of its ticks from `from` on. A fault where there is none of them, memory is refused or the writer
+/// fails. Of the picture's bytes no clause speaks; stored pictures are compared.
 pub fn picture_with<W: Write>(
     alloc: Global,
     config: &Config,
@@ -91,8 +91,8 @@ pub fn picture_with<W: Write>(
     put_picture(alloc, config, system, &None, from, to, out)
 }
 
-/// Writes the same picture with the names of its threads: that of the routine at which the last thread of a number started in
-/// the run of which the starts are, where a symbol begins there. The same faults come.
+/// Writes the same picture with the names of its threads: that of the routine at which the last thread of a number
+/// started in the run of which the starts are, where a symbol begins there. The same faults come.
 pub fn named_picture_with<W: Write>(
     alloc: Global,
     config: &Config,
@@ -143,8 +143,8 @@ fn put_picture<W: Write>(
     }
 }
 
-/// Writes the picture of a recording of a system. An error where the writer fails; nothing else changes, and what the writer
-/// got before is not known.
+/// Writes the picture of a recording of a system. An error where the writer fails; nothing else changes, and what the
+/// writer got before is not known.
 pub fn write_timeline<W: Write>(
     out: &mut W,
     config: &Config,
@@ -178,8 +178,8 @@ fn put_timeline<W: Write>(
     out.write_all(b"</svg>\n")
 }
 
-/// Writes the lanes, one below the other, with the axis and the lines of the plan, and without the style and the legend. An
-/// error where the writer fails.
+/// Writes the lanes, one below the other, with the axis and the lines of the plan, and without the style and the
+/// legend. An error where the writer fails.
 pub fn write_lanes<W: Write>(
     out: &mut W,
     config: &Config,
@@ -225,8 +225,8 @@ fn put_lanes<W: Write>(
     write_plans(out, config.plan(), recording.scale(), lanes_end(recording))
 }
 
-/// Writes the lane of a partition of a name and a status: its windows, its head, its marks and its rows, and over these the
-/// others' windows.
+/// Writes the lane of a partition of a name and a status: its windows, its head, its marks and its rows, and over these
+/// the others' windows.
 fn write_lane<W: Write>(
     out: &mut W,
     config: &Config,

@@ -42,8 +42,8 @@ impl Stretch {
     }
 }
 
-/// Writes the rows of the lane of a partition of a name, one below the other from `top` on, with the names of its threads
-/// where there are some.
+/// Writes the rows of the lane of a partition of a name, one below the other from `top` on, with the names of its
+/// threads where there are some.
 pub(crate) fn write_rows<W: Write>(
     out: &mut W,
     scale: Scale,
@@ -68,7 +68,8 @@ pub(crate) fn write_rows<W: Write>(
     Ok(())
 }
 
-/// Writes the name of a row's thread at the left of its number, where it has one; what finds no room is in its title alone.
+/// Writes the name of a row's thread at the left of its number, where it has one; what finds no room is in its title
+/// alone.
 fn write_name<W: Write>(
     out: &mut W,
     names: &Option<Names<'_, '_>>,

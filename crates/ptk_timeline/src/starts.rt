@@ -27,7 +27,8 @@ impl Seen {
         }
     }
 
-    /// What is seen of the number after a decision: a thread that has it and did not have it before has made no step yet.
+    /// What is seen of the number after a decision: a thread that has it and did not have it before has made no step
+    /// yet.
     fn look(&mut self, system: &System<'_>, p: PartId, t: ThreadNo)
         requires { p < length system.now.config.sections }
     {
@@ -65,16 +66,16 @@ impl Numbers {
     }
 }
 
-/// Where the threads of a run start: of each number of each partition the pc at which the last thread that had it started,
-/// the image's entry or the routine of `pthread_create`.
+/// Where the threads of a run start: of each number of each partition the pc at which the last thread that had it
+/// started, the image's entry or the routine of `pthread_create`.
 #[derive(Drop)]
 pub struct Starts {
     parts: Vec<Numbers>,
 }
 
 impl Starts {
-    /// Runs a system on to a tick of at most 2^40, and returns where its threads start on the way; those that it has already
-    /// start where they are. An error where memory ran out.
+    /// Runs a system on to a tick of at most 2^40, and returns where its threads start on the way; those that it has
+    /// already start where they are. An error where memory ran out.
     pub fn of_run(alloc: Global, system: &mut System<'_>, to: Tick) -> Result<Starts, AllocError>
         requires { to ≤ LAST_TICK }
     {
@@ -95,8 +96,8 @@ impl Starts {
         }
     }
 
-    /// Runs a system on to a tick, and looks at its threads after each decision but plain steps in a row and quiet calls, with
-    /// which no thread starts or ends.
+    /// Runs a system on to a tick, and looks at its threads after each decision but plain steps in a row and quiet
+    /// calls, with which no thread starts or ends.
     fn watch(&mut self, system: &mut System<'_>, to: Tick)
         requires { to ≤ LAST_TICK }
     {

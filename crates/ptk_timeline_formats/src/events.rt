@@ -259,8 +259,8 @@ fn put_wait<W: Write>(wait: &Wait, out: &mut W) -> io::Result<()> {
     }
 }
 
-/// Writes the flow from a thread's step to the thread whose wait it has ended. Both ends lie in the middle of the tick, so
-/// inside of both slices.
+/// Writes the flow from a thread's step to the thread whose wait it has ended. Both ends lie in the middle of the tick,
+/// so inside of both slices.
 fn put_flow<W: Write>(
     p: PartId,
     by: ThreadNo,

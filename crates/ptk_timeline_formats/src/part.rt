@@ -33,8 +33,8 @@ pub(crate) struct Part {
 }
 
 impl Part {
-    /// What is shown of a partition with this many threads from the system's tick on. An error where memory ran out. No other
-    /// call takes memory for what is kept.
+    /// What is shown of a partition with this many threads from the system's tick on. An error where memory ran out. No
+    /// other call takes memory for what is kept.
     pub(crate) fn new(
         alloc: Global,
         system: &System<'_>,
@@ -136,8 +136,8 @@ impl Part {
         self.settle(system, p, end, end, sheet, out)
     }
 
-    /// Nothing of the partition changes before the tick `due`: where the step ends before that tick, or none comes in the
-    /// window, what the step has made of its thread is shown from its end on.
+    /// Nothing of the partition changes before the tick `due`: where the step ends before that tick, or none comes in
+    /// the window, what the step has made of its thread is shown from its end on.
     fn settle<W: Write>(
         &mut self,
         system: &System<'_>,
@@ -192,8 +192,8 @@ impl Part {
         Ok(())
     }
 
-    /// The system went on over plain steps after the decision at a tick. Gives the first tick at which no step of the decision
-    /// goes on.
+    /// The system went on over plain steps after the decision at a tick. Gives the first tick at which no step of the
+    /// decision goes on.
     fn go_on<W: Write>(
         &mut self,
         system: &System<'_>,

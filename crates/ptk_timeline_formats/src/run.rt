@@ -18,12 +18,12 @@ use ptk_words::Tick;
 use std::alloc::Global;
 use std::io::Write;
 
-/// Boots the system of a configuration, runs it to a tick of at most 2^40, and writes its ticks from `from` on as a Value
-/// Change Dump (IEEE 1364-2005, section 18).
+/// Boots the system of a configuration, runs it to a tick of at most 2^40, and writes its ticks from `from` on as a
+/// Value Change Dump (IEEE 1364-2005, section 18).
 ///
-/// `FormatFault::FromPastEnd` comes where `from` is not before `ticks`, and before the boot; `FormatFault::Boot` where the
-/// system does not boot. Nothing is written before either. Any other fault is one of memory or of the writer, which may
-/// have got a part.
+/// `FormatFault::FromPastEnd` comes where `from` is not before `ticks`, and before the boot; `FormatFault::Boot` where
+/// the system does not boot. Nothing is written before either. Any other fault is one of memory or of the writer, which
+/// may have got a part.
 pub fn vcd_with<W: Write>(
     alloc: Global,
     config: &Config,

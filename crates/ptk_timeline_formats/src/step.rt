@@ -39,9 +39,9 @@ impl Step {
         }
     }
 
-    /// The last step of a partition that has made one since it had made this many, None where it has made none: it goes on
-    /// from this tick up to the next decision, within the window that ends at `end`; a step with which the partition halts
-    /// is shown for a tick.
+    /// The last step of a partition that has made one since it had made this many, None where it has made none: it goes
+    /// on from this tick up to the next decision, within the window that ends at `end`; a step with which the partition
+    /// halts is shown for a tick.
     pub(crate) fn since(
         system: &System<'_>,
         p: PartId,

@@ -37,8 +37,8 @@ pub(crate) fn first_threads(
     Ok(kept)
 }
 
-/// Shows what the system shows of the threads of a partition from a tick on, while a step takes up its ticks, and writes
-/// what of it is new.
+/// Shows what the system shows of the threads of a partition from a tick on, while a step takes up its ticks, and
+/// writes what of it is new.
 pub(crate) fn show_threads<W: Write>(
     threads: &mut [Kept],
     system: &System<'_>,

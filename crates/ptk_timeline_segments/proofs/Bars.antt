@@ -1,10 +1,9 @@
 -- A bar that ends, and the next one's beginning.
-use Rattle.std.proofs.Common.{◌≡◌, ◌≢◌, ℕ, ◌+◌, ◌<◌, ◌≤◌, List, length, get_or, ◌⊎◌, inl, inr, sym, ap, ◌∙◌, arith}
+use Rattle.std.proofs.Common.{◌≡◌, ℕ, ◌+◌, ◌<◌, ◌≤◌, List, length, get_or, ◌⊎◌, inl, inr, sym, ap, ◌∙◌, arith}
 use Rattle.std.proofs.lemmas.Bool.{cases_lt}
 use Rattle.std.proofs.lemmas.List.{get_or_default}
 use Rattle.ptk_timeline_segments.specs.declared.look.Look.{Look}
 use Rattle.ptk_timeline_segments.specs.declared.tally.Cell.{Cell}
-use Rattle.ptk_timeline_segments.specs.Bars.{IsBar, IsBegun}
 
 -- the columns from one on and before another have this look
 abbrev pub AreAlike : List Cell → Look → ℕ → ℕ → Type 0

@@ -20,8 +20,8 @@ use std::alloc::{AllocError, Global};
 /// How many threads a partition has at most.
 const THREADS: u32 = 32;
 
-/// A partition: a row for each thread number, and what came in each column. All is shown up to the tick at which something
-/// of the partition can change next.
+/// A partition: a row for each thread number, and what came in each column. All is shown up to the tick at which
+/// something of the partition can change next.
 #[derive(Drop)]
 pub struct Lane {
     scale: Scale,
@@ -32,8 +32,8 @@ pub struct Lane {
 }
 
 impl Lane {
-    /// The lane of a partition with this many threads from the system's tick on, with room for all columns. An error where
-    /// memory ran out. No other call takes memory.
+    /// The lane of a partition with this many threads from the system's tick on, with room for all columns. An error
+    /// where memory ran out. No other call takes memory.
     pub(crate) fn new(
         alloc: Global,
         scale: Scale,

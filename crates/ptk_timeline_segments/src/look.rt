@@ -15,7 +15,7 @@ use ptk_words::{Owner, PartId, ThreadNo, Wait};
 pub(crate) const SHADES: usize = 11;
 
 /// The kind of what a thread does: one shade of the picture.
-#[derive(Clone, Copy, Debug, PartialEq, Eq)]
+#[derive(Clone, Copy, PartialEq, Eq)]
 pub enum Shade {
     /// No thread has the number.
     Free,
@@ -64,7 +64,7 @@ impl Shade {
 }
 
 /// What a thread looks like at a tick.
-#[derive(Clone, Copy, Debug, PartialEq, Eq)]
+#[derive(Clone, Copy, PartialEq, Eq)]
 pub struct Look {
     /// What it does.
     pub activity: Activity,

@@ -13,7 +13,7 @@ use ptk_words::PartId;
 use std::alloc::{AllocError, Global};
 
 /// What came in a column.
-#[derive(Clone, Copy, Debug, PartialEq, Eq)]
+#[derive(Clone, Copy, PartialEq, Eq)]
 pub struct Marks {
     /// A step began; not known where a column is many ticks.
     pub is_stepped: bool,

@@ -9,8 +9,8 @@ use crate::scale::Scale;
 use crate::tally::{Cell, Tally};
 use std::alloc::{AllocError, Global};
 
-/// A thread's looks from the first tick on: its columns, those before a place with all their ticks, what is known of the
-/// one at that place, and the tick up to which all is counted.
+/// A thread's looks from the first tick on: its columns, those before a place with all their ticks, what is known of
+/// the one at that place, and the tick up to which all is counted.
 #[derive(Drop)]
 pub struct Row {
     scale: Scale,
@@ -76,8 +76,8 @@ impl Row {
         }
     }
 
-    /// The column behind the bar that begins with this one: the columns of one look, owner and raised priority included,
-    /// as many as there are.
+    /// The column behind the bar that begins with this one: the columns of one look, owner and raised priority
+    /// included, as many as there are.
     pub fn bar_from(&self, first: usize) -> usize
         requires within { first < length self.now.cells.items }
         requires begun { IsBegun self.now.cells.items first }

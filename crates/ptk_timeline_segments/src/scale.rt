@@ -6,7 +6,7 @@ ghost use Rattle.ptk_words.specs.declared.TheConstants.{LAST_TICK};
 use ptk_words::Tick;
 
 /// The ticks from one to a later one, in columns of as many ticks each; the last column may have fewer.
-#[derive(Clone, Copy, Debug)]
+#[derive(Clone, Copy)]
 pub struct Scale {
     from: u64,
     to: u64,
@@ -19,8 +19,8 @@ pub struct Scale {
 impl Scale {
     ghost use Rattle.ptk_timeline_segments.specs.Columns.{start_of};
 
-    /// The ticks from `from` on and before `to`, none where `to` is not after `from`, in at most this many columns, with as
-    /// few ticks in each as that allows: one where there are no more ticks than columns.
+    /// The ticks from `from` on and before `to`, none where `to` is not after `from`, in at most this many columns,
+    /// with as few ticks in each as that allows: one where there are no more ticks than columns.
     pub fn new(from: Tick, to: Tick, most: u32) -> Scale
         requires { to ≤ LAST_TICK }
         ensures from { result.from ≡ min from to }

@@ -36,7 +36,8 @@ impl Busy {
     }
 }
 
-/// The step that begins at the tick before the system's, if one does, of a partition that had made this many steps before.
+/// The step that begins at the tick before the system's, if one does, of a partition that had made this many steps
+/// before.
 pub(crate) fn step_at(system: &System<'_>, p: PartId, tick: u64, steps: u64) -> Option<Busy>
     requires partition { p < length system.now.config.sections }
     requires early { tick ≤ LAST_TICK }

@@ -11,7 +11,7 @@ ghost use Rattle.ptk_timeline_segments.specs.Tallies.{IsTallyOf};
 use crate::look::{Look, SHADES};
 
 /// A column of a row.
-#[derive(Clone, Copy, Debug, PartialEq, Eq)]
+#[derive(Clone, Copy, PartialEq, Eq)]
 pub struct Cell {
     /// The last look of the shade that held longest, of the first of these at a draw.
     pub look: Look,

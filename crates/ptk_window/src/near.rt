@@ -12,7 +12,7 @@ use ptk_words::{PartId, Tick};
 use ptk_words_windows::Window;
 
 /// A turn of a partition: its first own tick from some tick on, up to the end of the window that holds it.
-#[derive(Clone, Copy, Debug, PartialEq, Eq)]
+#[derive(Clone, Copy, PartialEq, Eq)]
 pub struct Turn {
     /// The first own tick.
     pub start: Tick,
@@ -24,7 +24,7 @@ pub struct Turn {
 ///
 /// It decides how fast the next look-up is and never what it returns, so nothing is promised of its value: a look-up
 /// tests whether it fits the plan and the partition.
-#[derive(Clone, Copy, Debug)]
+#[derive(Clone, Copy)]
 pub struct Near {
     /// How many ticks a frame has, 0 for a place that helps no look-up.
     frame: u32,

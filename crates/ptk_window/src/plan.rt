@@ -14,7 +14,7 @@ use std::marker::Model;
 /// A frame, which repeats, and by stages the windows that it has: those of a stage from the frame of its number on,
 /// until the next stage's. Each window lies in the frame and is a known partition's, and no two of a stage have a
 /// common tick.
-#[derive(Debug, Drop)]
+#[derive(Drop)]
 pub struct WindowPlan {
     frame: u32,
     tables: Vec<Table>,

@@ -11,7 +11,7 @@ use std::alloc::{AllocError, Global};
 
 /// The windows that a frame has from some frame on. Beside the windows as given it keeps them in the two orders in
 /// which the look-ups halve them.
-#[derive(Debug, Drop)]
+#[derive(Drop)]
 pub(crate) struct Table {
     /// How many ticks a frame has.
     pub(crate) frame: u32,

@@ -12,8 +12,8 @@ use crate::table::Table;
 use ptk_words::{PartId, Tick};
 use std::marker::Model;
 
-/// The way of a partition through its windows in a plan. It finds the first of them as any look-up does; from then on it
-/// knows at which window it is, and goes to the next one without a search or a test.
+/// The way of a partition through its windows in a plan. It finds the first of them as any look-up does; from then on
+/// it knows at which window it is, and goes to the next one without a search or a test.
 #[derive(Drop)]
 pub struct Walk<'a> {
     tables: &'a [Table],
@@ -63,9 +63,9 @@ impl<'a> Walk<'a> {
         self.near
     }
 
-    /// The partition's first own tick that is not before this one, which is at most 2^57, and the end of the window that
-    /// holds it. Where it is known at which window the way is, that one ends at this tick. None where the partition has
-    /// no tick from this one on.
+    /// The partition's first own tick that is not before this one, which is at most 2^57, and the end of the window
+    /// that holds it. Where it is known at which window the way is, that one ends at this tick. None where the
+    /// partition has no tick from this one on.
     #[inline(always)]
     pub fn turn_after(&mut self, end: Tick) -> Option<Turn>
         requires time { end ≤ 2 ^ 57 }

@@ -5,7 +5,7 @@ ghost use Rattle.ptk_words.specs.Calls.{number_of, ticks_of, call_of, cost_of};
 
 /// A call, by the name that POSIX.1-2017 gives it, without the `pthread_` of mutexes, condition variables, cleanup
 /// handlers and keys. A guest gives its number in a7.
-#[derive(Clone, Copy, Debug, PartialEq, Eq)]
+#[derive(Clone, Copy, PartialEq, Eq)]
 pub enum Call {
     /// exit: halts the partition (own choice).
     Exit,

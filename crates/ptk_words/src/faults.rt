@@ -6,7 +6,7 @@ ghost use Rattle.ptk_words.specs.Faults.{errno_number, image_fault_number};
 use thiserror::Error;
 
 /// What a call returns in place of 0, by the name that POSIX gives it (errno.h; the numbers are Linux's).
-#[derive(Clone, Copy, Debug, PartialEq, Eq)]
+#[derive(Clone, Copy, PartialEq, Eq)]
 pub enum Errno {
     EPERM,
     ESRCH,
@@ -47,7 +47,7 @@ impl Errno {
 }
 
 /// Why an instruction is not carried out (RISC-V 1.6, 2.2, 2.5, 2.6).
-#[derive(Clone, Copy, Debug, PartialEq, Eq)]
+#[derive(Clone, Copy, PartialEq, Eq)]
 pub enum FaultKind {
     /// The word is no instruction.
     Illegal,
@@ -62,7 +62,7 @@ pub enum FaultKind {
 }
 
 /// What stopped a partition at an instruction.
-#[derive(Clone, Copy, Debug, PartialEq, Eq)]
+#[derive(Clone, Copy, PartialEq, Eq)]
 pub enum Cause {
     /// An EBREAK (RISC-V 2.8).
     Break,
@@ -107,7 +107,7 @@ impl ImageFault {
 }
 
 /// Whether a partition goes on, or why it is halted.
-#[derive(Clone, Copy, Debug, PartialEq, Eq)]
+#[derive(Clone, Copy, PartialEq, Eq)]
 pub enum Status {
     /// It is not halted.
     Active,

@@ -3,7 +3,7 @@
 use crate::numbers::{Priority, ThreadNo};
 
 /// PTHREAD_MUTEX_NORMAL (also DEFAULT), ERRORCHECK and RECURSIVE (pthread_mutexattr_gettype).
-#[derive(Clone, Copy, Debug, PartialEq, Eq)]
+#[derive(Clone, Copy, PartialEq, Eq)]
 pub enum MutexKind {
     Normal,
     ErrorCheck,
@@ -12,7 +12,7 @@ pub enum MutexKind {
 
 /// The state of what a robust mutex guards (pthread_mutex_consistent, pthread_mutexattr_setrobust). A mutex that is not
 /// robust is always consistent.
-#[derive(Clone, Copy, Debug, PartialEq, Eq)]
+#[derive(Clone, Copy, PartialEq, Eq)]
 pub enum Soundness {
     /// No owner ended since an owner last made it so.
     Consistent,
@@ -23,7 +23,7 @@ pub enum Soundness {
 }
 
 /// PTHREAD_PRIO_NONE, INHERIT, and PROTECT with its ceiling (pthread_mutexattr_getprotocol).
-#[derive(Clone, Copy, Debug, PartialEq, Eq)]
+#[derive(Clone, Copy, PartialEq, Eq)]
 pub enum Protocol {
     NoProtocol,
     Inherit,
@@ -31,7 +31,7 @@ pub enum Protocol {
 }
 
 /// Who owns a mutex.
-#[derive(Clone, Copy, Debug, PartialEq, Eq)]
+#[derive(Clone, Copy, PartialEq, Eq)]
 pub enum Owner {
     /// It is not locked.
     Free,

@@ -37,7 +37,7 @@ impl PartId {
 }
 
 /// A thread of a partition, from 1 to 32.
-#[derive(Clone, Copy, Debug, PartialEq, Eq)]
+#[derive(Clone, Copy, PartialEq, Eq)]
 pub struct ThreadNo {
     number: u8,
 }
@@ -84,7 +84,7 @@ impl ThreadNo {
 }
 
 /// A slot of the table that all partitions' threads share, from 0.
-#[derive(Clone, Copy, Debug, PartialEq, Eq)]
+#[derive(Clone, Copy, PartialEq, Eq)]
 pub struct SlotNo {
     index: u16,
 }
@@ -116,7 +116,7 @@ impl SlotNo {
 }
 
 /// A mutex of a partition's pool, from 1 to 64.
-#[derive(Clone, Copy, Debug, PartialEq, Eq)]
+#[derive(Clone, Copy, PartialEq, Eq)]
 pub struct MutexNo {
     number: u8,
 }
@@ -163,7 +163,7 @@ impl MutexNo {
 }
 
 /// A condition variable of a partition's pool, from 1 to 32.
-#[derive(Clone, Copy, Debug, PartialEq, Eq)]
+#[derive(Clone, Copy, PartialEq, Eq)]
 pub struct ConditionNo {
     number: u8,
 }
@@ -201,7 +201,7 @@ impl ConditionNo {
 }
 
 /// An assigned priority or a ceiling, 1 to 32, of which the greatest is the most urgent (XSH 2.8.4).
-#[derive(Clone, Copy, Debug, PartialEq, Eq)]
+#[derive(Clone, Copy, PartialEq, Eq)]
 pub struct Priority {
     level: u8,
 }
@@ -239,7 +239,7 @@ impl Priority {
 }
 
 /// A time in ticks of 1,000 ns, from 0 (own choice).
-#[derive(Clone, Copy, Debug, PartialEq, Eq)]
+#[derive(Clone, Copy, PartialEq, Eq)]
 pub struct Tick {
     ticks: u64,
 }

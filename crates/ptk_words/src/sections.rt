@@ -3,7 +3,7 @@
 use crate::numbers::{ThreadNo, Tick};
 
 /// The numbers of a partition's section.
-#[derive(Clone, Copy, Debug, PartialEq, Eq)]
+#[derive(Clone, Copy, PartialEq, Eq)]
 pub struct Limits {
     /// Bytes of memory.
     pub memory: u32,
@@ -28,7 +28,7 @@ pub struct Limits {
 }
 
 /// An input byte and the tick at which it comes.
-#[derive(Clone, Copy, Debug, PartialEq, Eq)]
+#[derive(Clone, Copy, PartialEq, Eq)]
 pub struct Arrival {
     /// The tick at which it comes.
     pub tick: Tick,
@@ -37,7 +37,7 @@ pub struct Arrival {
 }
 
 /// A step in the trace.
-#[derive(Clone, Copy, Debug, PartialEq, Eq)]
+#[derive(Clone, Copy, PartialEq, Eq)]
 pub struct Entry {
     /// The tick at which it began.
     pub tick: Tick,

@@ -4,14 +4,14 @@ use crate::numbers::{ConditionNo, MutexNo, Priority, ThreadNo, Tick};
 use crate::processor::Cpu;
 
 /// SCHED_FIFO and SCHED_RR (XSH 2.8.4).
-#[derive(Clone, Copy, Debug, PartialEq, Eq)]
+#[derive(Clone, Copy, PartialEq, Eq)]
 pub enum Policy {
     Fifo,
     RoundRobin,
 }
 
 /// How far a thread is: from its start, from the start of its unwinding, from its end on (pthread_exit).
-#[derive(Clone, Copy, Debug, PartialEq, Eq)]
+#[derive(Clone, Copy, PartialEq, Eq)]
 pub enum Phase {
     Normal,
     Unwinding,
@@ -20,7 +20,7 @@ pub enum Phase {
 
 /// What a blocked thread waits for, a timed one with its deadline (pthread_join, pthread_mutex_timedlock,
 /// pthread_cond_timedwait, clock_nanosleep).
-#[derive(Clone, Copy, Debug, PartialEq, Eq)]
+#[derive(Clone, Copy, PartialEq, Eq)]
 pub enum Wait {
     /// A byte of the console.
     InputWait,
@@ -62,7 +62,7 @@ pub struct Thread {
 }
 
 /// A cleanup handler (pthread_cleanup_push).
-#[derive(Clone, Copy, Debug, PartialEq, Eq)]
+#[derive(Clone, Copy, PartialEq, Eq)]
 pub struct Cleanup {
     /// The address of the routine.
     pub routine: u32,

@@ -20,13 +20,14 @@ pub fn calls_are_numbered()
     ensures { CallsAreNumbered }
 {}
 
-/// As many steps as there are numbers of threads decide whether a chain leads from one thread to another, on a cycle too.
+/// As many steps as there are numbers of threads decide whether a chain leads from one thread to another, on a cycle
+/// too.
 pub fn chain_is_decided()
     ensures { (threads : List (Option Thread)) → (mutexes : List (Option Mutex)) → ChainIsDecided threads mutexes }
 {}
 
-/// The effective priority, as the definitions compute it, is the maximum over all threads: the greatest held priority of
-/// the threads in use whose chain leads to the thread, each chain followed over any number of steps.
+/// The effective priority, as the definitions compute it, is the maximum over all threads: the greatest held priority
+/// of the threads in use whose chain leads to the thread, each chain followed over any number of steps.
 pub fn priority_is_greatest()
     ensures { (threads : List (Option Thread)) → (mutexes : List (Option Mutex)) → PriorityIsGreatest threads mutexes }
 {}

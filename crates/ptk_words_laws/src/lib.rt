@@ -11,8 +11,8 @@
 //! They hold of the machine of one partition as it is defined, whatever code carries it. `rows` computes small guests
 //! and built states; `laws` says what holds of every state and every run. The weight of the proofs is in `sizes_stay`,
 //! with one lemma for each move, and in `chain_is_decided`, which shortens chains that go round. Below are `ptk_words`,
-//! `ptk_words_instructions`, `ptk_words_windows`, `ptk_words_model` and `ptk_words_well`; above are crates that need a
-//! law.
+//! `ptk_words_instructions`, `ptk_words_windows`, `ptk_words_model` and `ptk_words_invariant`; above are crates that
+//! need a law.
 
 pub mod laws;
 pub mod rows;

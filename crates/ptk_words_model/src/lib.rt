@@ -11,7 +11,7 @@
 use ptk_words::{Errno, Limits, Policy, Priority, Thread, ThreadNo, Tick};
 
 /// The outcome of a call.
-#[derive(Clone, Copy, Debug, PartialEq, Eq)]
+#[derive(Clone, Copy, PartialEq, Eq)]
 pub enum Reply {
     /// It returned with this in a0: an error number, or 0.
     Done(u32),
@@ -71,7 +71,7 @@ pub struct Runner {
 }
 
 /// What the running thread's next step is.
-#[derive(Clone, Copy, Debug, PartialEq, Eq)]
+#[derive(Clone, Copy, PartialEq, Eq)]
 pub enum StepKind {
     /// The start of an unwinding.
     UnwindingStart,
@@ -84,7 +84,7 @@ pub enum StepKind {
 }
 
 /// What a thread keeps of cancellation (XSH 2.9.5).
-#[derive(Clone, Copy, Debug, PartialEq, Eq)]
+#[derive(Clone, Copy, PartialEq, Eq)]
 pub struct Cancellation {
     /// PTHREAD_CANCEL_ENABLE, and not DISABLE.
     pub is_enabled: bool,
@@ -97,7 +97,7 @@ pub struct Cancellation {
 }
 
 /// How far a thread's destructor calls are (pthread_key_create).
-#[derive(Clone, Copy, Debug, PartialEq, Eq)]
+#[derive(Clone, Copy, PartialEq, Eq)]
 pub struct Rounds {
     /// The round, from 1; 0 before an unwinding.
     pub round: u32,
@@ -106,7 +106,7 @@ pub struct Rounds {
 }
 
 /// The outcome of a decision.
-#[derive(Clone, Copy, Debug, PartialEq, Eq)]
+#[derive(Clone, Copy, PartialEq, Eq)]
 pub enum Spent {
     /// A step of this many ticks.
     Step(u32),
@@ -117,7 +117,7 @@ pub enum Spent {
 }
 
 /// The outcome of a call that locks a mutex (pthread_mutex_lock).
-#[derive(Clone, Copy, Debug, PartialEq, Eq)]
+#[derive(Clone, Copy, PartialEq, Eq)]
 pub enum LockMove {
     /// The caller owns the free mutex.
     Takes,

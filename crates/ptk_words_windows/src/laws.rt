@@ -38,7 +38,8 @@ pub fn end_is_one()
     ensures { EndIsOne }
 {}
 
-/// The end comes at most a frame after the tick, and from the tick to it each tick is the partition's, in the same window.
+/// The end comes at most a frame after the tick, and from the tick to it each tick is the partition's, in the same
+/// window.
 pub fn window_is_whole()
     ensures { WindowIsWhole }
 {}

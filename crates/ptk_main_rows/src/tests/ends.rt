@@ -1,19 +1,28 @@
-//! Where a run ends: at any tick on the way, at a writer that fails, and at its faults. The helpers of the worked rows are
-//! used here too.
+//! Where a run ends: at any tick on the way, at a writer that fails, and at its faults. The helpers of the worked rows
+//! are used here too.
 
 ghost use Rattle.std.specs.Prelude.{◌≤◌};
 
+use super::guests::HELLO;
 use super::{
-    ALONE, FULL_TRACE, HELLO_REPORT, SHORT, SHORT_TRACE, TWO, booted, config_of, files_of,
-    first_steps, is_added, is_first_output, is_told, is_traced, parts_of, run_on, run_on_to,
-    trace_on, writes_report, writes_trace,
+    ALONE, FULL_TRACE, HELLO_REPORT, SHORT, SHORT_TRACE, TWO, first, first_steps, is_first_output,
+    is_some_text, pair_of, parts_of, run_on, trace_on,
 };
-use crate::rows;
-use ptk_config::Config;
-use ptk_main_runs::{BootFault, Files, RunFault, System};
+use ptk_main_guests::{Config, Files, System, booted, guest_of, report_now, run_on_to, trace_now};
+use ptk_main_runs::{BootFault, RunFault};
 use ptk_words::PartId;
 use std::alloc::Global;
 use std::process::Abort;
+
+// Whether this is the system's report.
+fn is_told(alloc: Global, system: &System<'_>, want: &str) -> bool {
+    is_some_text(report_now(alloc, system), want)
+}
+
+// Whether this is the trace of the system's first partition.
+fn is_traced(alloc: Global, system: &System<'_>, want: &str) -> bool {
+    is_some_text(trace_now(alloc, system, 0), want)
+}
 
 // Row cut-run: stops at 3, 10 and 40 on the way, and asserts what is shown there.
 fn check_stops(rt: &impl Abort, alloc: Global, system: &mut System<'_>) {
@@ -40,12 +49,12 @@ fn check_stops(rt: &impl Abort, alloc: Global, system: &mut System<'_>) {
 #[test]
 fn a_run_may_stop_on_the_way(rt: HostRuntime) {
     let alloc = rt.alloc();
-    match (config_of(alloc, &ALONE), files_of(alloc, &rows::HELLO, &[])) {
-        (Some(config), Some(files)) => match booted(alloc, &config, &files) {
+    match guest_of(alloc, &ALONE, &[HELLO]) {
+        Some((config, files)) => match booted(alloc, &config, &files) {
             Some(mut system) => check_stops(&rt, alloc, &mut system),
             None => assert!(rt; false, "no boot"),
         },
-        _ => assert!(rt; false, "no memory"),
+        None => assert!(rt; false, "no memory"),
     }
 }
 
@@ -55,7 +64,7 @@ fn fits_report(system: &System<'_>, most: usize) -> bool
 {
     let mut bytes = [0u8; 80];
     let mut room = &mut bytes[..most];
-    writes_report(system, &mut room)
+    system.report(&mut room).is_ok()
 }
 
 // Whether a writer with this much room, of at most 80 bytes, takes the trace of the first partition.
@@ -64,11 +73,11 @@ fn fits_trace(system: &System<'_>, most: usize) -> bool
 {
     let mut bytes = [0u8; 80];
     let mut room = &mut bytes[..most];
-    writes_trace(system, &mut room)
+    system.trace(first(system)).lines(&mut room).is_ok()
 }
 
-// Asserts that a writer takes the report, or the trace, if and only if it has room for it, and that the system then tells
-// both.
+// Asserts that a writer takes the report, or the trace, if and only if it has room for it, and that the system then
+// tells both.
 fn check_writers(rt: &impl Abort, alloc: Global, system: &System<'_>) {
     assert_eq!(rt; parts_of(system), 1);
     // Row failing-report.
@@ -90,15 +99,15 @@ fn check_writers(rt: &impl Abort, alloc: Global, system: &System<'_>) {
 #[test]
 fn a_writer_that_fails_leaves_the_system(rt: HostRuntime) {
     let alloc = rt.alloc();
-    match (config_of(alloc, &SHORT), files_of(alloc, &rows::HELLO, &[])) {
-        (Some(config), Some(files)) => match booted(alloc, &config, &files) {
+    match guest_of(alloc, &SHORT, &[HELLO]) {
+        Some((config, files)) => match booted(alloc, &config, &files) {
             Some(mut system) => {
                 run_on_to(&mut system, 20);
                 check_writers(&rt, alloc, &system);
             }
             None => assert!(rt; false, "no boot"),
         },
-        _ => assert!(rt; false, "no memory"),
+        None => assert!(rt; false, "no memory"),
     }
 }
 
@@ -138,9 +147,9 @@ fn check_rooms(rt: &impl Abort, alloc: Global, config: &Config, files: &Files) {
 #[test]
 fn a_run_ends_where_its_writer_fails(rt: HostRuntime) {
     let alloc = rt.alloc();
-    match (config_of(alloc, &SHORT), files_of(alloc, &rows::HELLO, &[])) {
-        (Some(config), Some(files)) => check_rooms(&rt, alloc, &config, &files),
-        _ => assert!(rt; false, "no memory"),
+    match guest_of(alloc, &SHORT, &[HELLO]) {
+        Some((config, files)) => check_rooms(&rt, alloc, &config, &files),
+        None => assert!(rt; false, "no memory"),
     }
 }
 
@@ -167,7 +176,7 @@ fn check_missing(rt: &impl Abort, alloc: Global, config: &Config) {
     let first = RunFault::Boot(BootFault::MissingFile(PartId::new(0)));
     let missing = run_on(alloc, config, &files, 20, &mut out);
     assert_eq!(rt; missing, Err(first));
-    assert!(rt; is_added(&mut files, "p.img", b""));
+    assert!(rt; files.add("p.img", b"").is_ok());
     let second = RunFault::Boot(BootFault::MissingFile(PartId::new(1)));
     let missing = trace_on(alloc, config, &files, 20, "p", &mut out);
     assert_eq!(rt; missing, Err(second));
@@ -177,14 +186,11 @@ fn check_missing(rt: &impl Abort, alloc: Global, config: &Config) {
 #[test]
 fn faults_of_runs(rt: HostRuntime) {
     let alloc = rt.alloc();
-    match (
-        config_of(alloc, &TWO),
-        files_of(alloc, &rows::HELLO, &rows::HELLO),
-    ) {
-        (Some(config), Some(files)) => {
+    match pair_of(alloc, &TWO, HELLO, HELLO) {
+        Some((config, files)) => {
             check_short_writers(&rt, alloc, &config, &files);
             check_missing(&rt, alloc, &config);
         }
-        _ => assert!(rt; false, "no memory"),
+        None => assert!(rt; false, "no memory"),
     }
 }

@@ -1,21 +1,19 @@
-//! A system at the greatest limits, past 2^20 ticks. A body that answers out of memory, or a writer's error, only for many
-//! sections, many windows, large pools or a long run meets every contract: this row sees it. What is wanted was worked out
-//! by hand.
+//! A system at the greatest limits, past 2^20 ticks. A body that answers out of memory, or a writer's error, only for
+//! many sections, many windows, large pools or a long run meets every contract: this row sees it. What is wanted was
+//! worked out by hand.
 //!
 //! Frame 1000000, 64 windows: window k begins at 15625 * k and is of section k modulo 8. Those of `spin` are 1000 ticks
-//! long, those of `late` and `bare`, which are idle at each of their ticks, 16; the others go up to the next window. After
-//! 2^21 ticks, two frames and 97152 ticks:
+//! long, those of `late` and `bare`, which are idle at each of their ticks, 16; the others go up to the next window.
+//! After 2^21 ticks, two frames and 97152 ticks:
 //! - `spin` jumps to itself: a step at each of its ticks, 8 windows of 1000 in each of two frames and one window in the
 //!   third, whose second begins at 125000; its last 1024 steps are traced;
 //! - `hello`, `join` and `quiet` exit in their first windows, as they do alone in a frame of 100;
-//! - `late` waits from 31255 for a byte that comes at 2^20: its first tick from there on is 1156250, where it reads the byte
-//!   and goes on to exit: 2 steps before and 2 after;
+//! - `late` waits from 31255 for a byte that comes at 2^20: its first tick from there on is 1156250, where it reads the
+//!   byte and goes on to exit: 2 steps before and 2 after;
 //! - `cut` has an image without its last byte, `bare` has none, and that of `empty` has no text.
 
-use super::{bytes_cut_short, bytes_of, config_in, is_some_text, is_text, report_on, trace_on};
-use crate::rows;
-use ptk_config::Config;
-use ptk_main_runs::Files;
+use super::{guests, image_cut_short, is_some_text, is_text, trace_on};
+use ptk_main_guests::{Config, Files, config_of, image_of, report_of};
 use std::alloc::{AllocError, Global};
 
 // The numbers of a section but for its stack.
@@ -105,28 +103,34 @@ fn text_of(alloc: Global) -> Result<String, AllocError> {
     Ok(text)
 }
 
-// The images.
-fn images_of(alloc: Global) -> Result<Files, AllocError> {
+// The images, but for that of `cut`.
+const IMAGES: [(&str, &str); 6] = [
+    ("spin.img", guests::SPIN),
+    ("hello.img", guests::HELLO),
+    ("late.img", guests::GET_ONE),
+    ("empty.img", guests::EMPTY),
+    ("join.img", guests::CREATE_JOIN),
+    ("quiet.img", guests::QUIET),
+];
+
+// The files with the images.
+fn images_of(alloc: Global) -> Option<Files> {
     let mut files = Files::new(alloc);
-    files.add("spin.img", &bytes_of(alloc, &rows::SPIN)?)?;
-    files.add("hello.img", &bytes_of(alloc, &rows::HELLO)?)?;
-    files.add("late.img", &bytes_of(alloc, &rows::GET_ONE)?)?;
-    files.add("cut.img", &bytes_cut_short(alloc, &rows::HELLO)?)?;
-    files.add("empty.img", &bytes_of(alloc, &rows::EMPTY)?)?;
-    files.add("join.img", &bytes_of(alloc, &rows::CREATE_JOIN)?)?;
-    files.add("quiet.img", &bytes_of(alloc, &rows::QUIET)?)?;
-    Ok(files)
+    for (name, source) in IMAGES {
+        let image = image_of(alloc, &[source])?;
+        files.add(name, &image).ok()?;
+    }
+    let cut = image_cut_short(alloc, guests::HELLO)?;
+    files.add("cut.img", &cut).ok()?;
+    Some(files)
 }
 
 // The configuration and the files, None where there are none.
 fn greatest(alloc: Global) -> Option<(Config, Files)> {
-    match (text_of(alloc), images_of(alloc)) {
-        (Ok(text), Ok(files)) => match config_in(alloc, text.as_str()) {
-            Some(config) => Some((config, files)),
-            None => None,
-        },
-        _ => None,
-    }
+    let text = text_of(alloc).ok()?;
+    let config = config_of(alloc, &[text.as_str()])?;
+    let files = images_of(alloc)?;
+    Some((config, files))
 }
 
 // Adds the trace lines of `spin` at these ticks.
@@ -166,7 +170,7 @@ fn the_greatest_system_is_run(rt: HostRuntime) {
     let alloc = rt.alloc();
     match greatest(alloc) {
         Some((config, files)) => {
-            let report = report_on(alloc, &config, &files, TICKS);
+            let report = report_of(alloc, &config, &files, u64::from(TICKS));
             assert!(rt; is_some_text(report, GREATEST_REPORT));
             assert!(rt; is_traced(alloc, &config, &files));
         }

@@ -3,7 +3,7 @@
 ghost use Rattle.std.specs.Prelude.{◌≡◌, ◌<◌, ◌≤◌, ◌-◌, ℕ, Some, length};
 ghost use Rattle.ptk_words.specs.declared.TheConstants.{LAST_TICK};
 ghost use Rattle.ptk_words_windows.specs.Windows.{own_ticks};
-ghost use Rattle.ptk_words_quiet.specs.Quiet.{after_ticks};
+ghost use Rattle.ptk_words_batches.specs.Quiet.{after_ticks};
 ghost use Rattle.ptk_kernel.specs.Kept.{limits_at, part_at};
 ghost use Rattle.ptk_kernel.specs.Rows.{IsStill};
 ghost use Rattle.ptk_system_machine.specs.Accounts.{IsBehind};
@@ -17,9 +17,10 @@ use ptk_window::{Turn, WindowPlan};
 use ptk_words::{PartId, Tick};
 
 impl Machine {
-    /// Goes on from a tick as `run_row` does, but by plain steps of one window at most and the quiet call behind them, which
-    /// is the last step. Returns the tick that it reached, which is the first one only where a decision at that tick is no
-    /// plain step of a quiet partition. To each partition it does what this many ticks would do to that partition alone.
+    /// Goes on from a tick as `run_row` does, but by plain steps of one window at most and the quiet call behind them,
+    /// which is the last step. Returns the tick that it reached, which is the first one only where a decision at that
+    /// tick is no plain step of a quiet partition. To each partition it does what this many ticks would do to that
+    /// partition alone.
     pub fn run_call(&mut self, plan: &WindowPlan, tick: Tick, to: Tick) -> Tick
         requires windows { AreWindowsOf (length self.old.accounts) plan.now }
         requires order { tick ≤ to }
@@ -49,9 +50,9 @@ impl Machine {
     }
 
     /// Plain steps of the partition and the quiet call behind them, the first at its next decision, with which the turn
-    /// begins, each in place of a decision and counted as one: as many plain steps as come before `to` in the turn's window.
-    /// Returns the next turn, which is the same, and nothing changes, where the next decision is no step of a quiet
-    /// partition of this kind, and a later one where it is a plain one.
+    /// begins, each in place of a decision and counted as one: as many plain steps as come before `to` in the turn's
+    /// window. Returns the next turn, which is the same, and nothing changes, where the next decision is no step of a
+    /// quiet partition of this kind, and a later one where it is a plain one.
     fn call_rows(&mut self, plan: &WindowPlan, p: PartId, turn: Turn, to: Tick) -> Turn
         requires partition { p < length self.old.accounts }
         requires windows { AreWindowsOf (length self.old.accounts) plan.now }

@@ -37,7 +37,7 @@ use Rattle.ptk_words_model.specs.ConditionCalls.{cond_init, cond_destroy, may_wa
 use Rattle.ptk_words_model.specs.CancellationCalls.{cancel, cancellation_of, setcancelstate, setcanceltype, testcancel, cleanup_push, cleanup_pop_answer, cleanup_pop}
 use Rattle.ptk_words_model.specs.KeyCalls.{key_create, key_delete, setspecific, getspecific}
 use Rattle.ptk_words_model.specs.Steps.{mutex_named, condition_named, Row}
-use Rattle.ptk_words_well.specs.Rests.{destroy_named, lock_by, trylock_named, timedlock_named, unlock_named, consistent_named, destroy_condition_named, signal_named, broadcast_named, block_on, wait_until_asked}
+use Rattle.ptk_words_invariant.specs.Rests.{destroy_named, lock_by, trylock_named, timedlock_named, unlock_named, consistent_named, destroy_condition_named, signal_named, broadcast_named, block_on, wait_until_asked}
 use Rattle.ptk_words_laws.proofs.Sizes.Pools.{length-pool_set, most_from_test}
 use Rattle.ptk_words_laws.proofs.Sizes.Locks.{SyncsSized, with_thread_sized, after_wake_sized, with_soundness_sized, after_move_sized, after_unlock_sized, without_joiner_sized, after_unblock_sized}
 use Rattle.ptk_words_laws.proofs.Sizes.Parts.{KeysSized, Sized, with_locks_sized, with_syncs_sized, with_memory_sized, with_cancellation_sized, with_cleanups_sized, with_keys_sized, with_console_sized, woken_sized}

@@ -33,7 +33,7 @@ use Rattle.ptk_words_laws.specs.Sizes.{StartIsSized, CallsKeepSizes, DecisionsKe
 use Rattle.ptk_words_laws.proofs.Sizes.Pools.{least_from_test}
 use Rattle.ptk_words_laws.proofs.Sizes.Parts.{Sized, from_sized, to_sized, with_memory_sized, with_last_sized, with_halt_sized, with_status_sized, choice_sized, interval_sized, expiries_sized, arrivals_sized}
 use Rattle.ptk_words_laws.proofs.Sizes.Unwindings.{unwinding_start_sized, gate_step_sized}
-use Rattle.ptk_words_well.proofs.Effects.{HasLength, effect_length}
+use Rattle.ptk_words_invariant.proofs.Effects.{HasLength, effect_length}
 use Rattle.ptk_words_laws.proofs.Sizes.Calls.{thread_changed_sized, new_thread_sized}
 use Rattle.ptk_words_laws.proofs.Sizes.Table.{call_sized}
 

@@ -2,7 +2,7 @@ use Rattle.std.proofs.Common.{ℕ, List, ◌∷◌, arith, refl, sym, subst}
 use Rattle.ptk_asm_language.specs.declared.place.Span.{Span}
 use Rattle.ptk_asm_language.specs.declared.fault.FaultKind.{FaultKind}
 use Rattle.ptk_asm_language.specs.Reading.{Refuses, IsPlaced}
-use Rattle.ptk_asm_language.specs.Source.{line_fault, line_place, span_after}
+use Rattle.ptk_asm_language.specs.Source.{line_fault, line_place}
 use Rattle.ptk_asm.proofs.Texts.{behind_more}
 use Rattle.ptk_asm.proofs.Faults.{IsLocated, first_at}
 use Rattle.ptk_asm.proofs.first_pass.first_pass.Goals as goal

@@ -2,7 +2,7 @@ use Rattle.std.proofs.Common.{◌≡◌, ◌≤◌, ◌++◌, length}
 use Rattle.ptk_asm_language.specs.Tokens as is
 use Rattle.ptk_asm_language.specs.Places.{behind_pieces, extents_of, places_of, first_wrong, wrong_place}
 use Rattle.ptk_asm_language.specs.Reading.{views, spots}
-use Rattle.ptk_asm_language.specs.Scanning.{joined}
+use Rattle.ptk_asm_language.proofs.TokenList.{joined}
 use Rattle.ptk_asm_language.proofs.scanner.tokens_of.Given as goal
 
 abbrev pub invariant-loop-piece : goal.invariant-loop-piece

@@ -5,9 +5,9 @@ use Rattle.ptk_words.specs.declared.threads.Thread.{Thread}
 use Rattle.ptk_words_parted.specs.Parts.{part_of}
 use Rattle.ptk_words_model.specs.State.{Syncs}
 use Rattle.ptk_words_model.specs.Mutex.{wait_of}
-use Rattle.ptk_words_locks.specs.Conditions.{condition_of_wait}
+use Rattle.ptk_words_sync_invariant.specs.Conditions.{condition_of_wait}
 use Rattle.ptk_threads.specs.Table.{thread_in}
-use Rattle.ptk_roster.specs.Rosters.{Rostered}
+use Rattle.ptk_syncs.specs.Rosters.{Rostered}
 use Rattle.ptk_mutex.specs.Tables.{with_threads}
 use Rattle.ptk_mutex.proofs.Moved.{stays}
 use Rattle.ptk_mutex.proofs.Sound.{of_part, synced_withdrawal}

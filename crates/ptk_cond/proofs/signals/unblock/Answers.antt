@@ -3,8 +3,8 @@ use Rattle.ptk_words.specs.Pools.{pool_get, without}
 use Rattle.ptk_words_parted.specs.Parts.{part_of}
 use Rattle.ptk_words_model.specs.State.{Locks}
 use Rattle.ptk_words_model.specs.Condition.{after_unblock_for, waiters_on}
-use Rattle.ptk_words_locks.specs.Conditions.{HasRoom}
-use Rattle.ptk_roster.specs.Rosters.{Rostered}
+use Rattle.ptk_words_sync_invariant.specs.Conditions.{HasRoom}
+use Rattle.ptk_syncs.specs.Rosters.{Rostered}
 use Rattle.ptk_mutex.specs.Visits.{IsVisited}
 use Rattle.ptk_mutex.specs.Tables.{MayWait}
 use Rattle.ptk_cond.proofs.Steps.{of_part, AreSyncsMoved, ready_waiters, same_waiters, waiter_may, waiter_room, unblocked, unblocked_waiting, moved_synced, AreSyncedAt, sound_moved}

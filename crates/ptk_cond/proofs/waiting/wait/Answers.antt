@@ -4,8 +4,8 @@ use Rattle.ptk_words_parted.specs.Parts.{part_of}
 use Rattle.ptk_words_model.specs.State.{Locks, Syncs}
 use Rattle.ptk_words_model.specs.Mutex.{after_unlock}
 use Rattle.ptk_words_model.specs.Condition.{after_condition_wait, waiters_on}
-use Rattle.ptk_words_locks.specs.Deadlines.{woken_by_unlock}
-use Rattle.ptk_roster.specs.Rosters.{Rostered}
+use Rattle.ptk_words_sync_invariant.specs.Deadlines.{woken_by_unlock}
+use Rattle.ptk_syncs.specs.Rosters.{Rostered}
 use Rattle.ptk_words_parted.specs.Sets.{IsSetOf}
 use Rattle.ptk_mutex.specs.Tables.{locks_at}
 use Rattle.ptk_mutex.proofs.Steps.{AreMoved}

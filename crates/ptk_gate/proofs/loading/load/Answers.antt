@@ -5,7 +5,7 @@ use Rattle.ptk_words.specs.declared.threads.Thread.{Thread}
 use Rattle.ptk_words_model.specs.State.{Part}
 use Rattle.ptk_words_model.specs.ThreadCreation.{with_new_thread}
 use Rattle.ptk_words_model.specs.Run.{fits, main_thread}
-use Rattle.ptk_words_well.specs.Well.{IsWell}
+use Rattle.ptk_words_invariant.specs.Well.{IsWell}
 use Rattle.ptk_gate_pools.specs.Held.{Held, limits_here}
 use Rattle.ptk_gate.proofs.Loads.{room_at, fits_seen, main_seen, filled, loaded, refused_unfit}
 use Rattle.ptk_gate.proofs.loading.load.Goals as goal

@@ -6,7 +6,7 @@ use Rattle.ptk_words.specs.declared.sections.Entry.{Entry}
 use Rattle.ptk_words.specs.declared.threads.Thread.{Thread}
 use Rattle.ptk_words_instructions.specs.Instructions.{with_next_pc}
 use Rattle.ptk_words_model.specs.Decision.{word_fetched}
-use Rattle.ptk_words_quiet.specs.Replies.{reply_entry}
+use Rattle.ptk_words_batches.specs.Replies.{reply_entry}
 use Rattle.ptk_gate_steps.specs.Replies.{IsMadeHere}
 use Rattle.ptk_gate_steps.proofs.RepliesMade.{made, plain_still}
 use Rattle.ptk_gate_steps.proofs.replies.make_reply.Goals as goal

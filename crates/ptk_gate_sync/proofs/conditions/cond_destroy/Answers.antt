@@ -1,4 +1,4 @@
-use Rattle.ptk_words_well.specs.Rests.{destroy_condition_named}
+use Rattle.ptk_words_invariant.specs.Rests.{destroy_condition_named}
 use Rattle.ptk_gate_sync.proofs.Carried.{told_on, moved_on}
 use Rattle.ptk_gate_sync.proofs.conditions.cond_destroy.Goals as goal
 

@@ -1,6 +1,6 @@
 use Rattle.std.specs.Prelude.{None}
 use Rattle.ptk_gate_sync.proofs.Carried.{told_on, moved_on}
-use Rattle.ptk_words_well.specs.Rests.{lock_by}
+use Rattle.ptk_words_invariant.specs.Rests.{lock_by}
 use Rattle.ptk_gate_sync.proofs.locking.mutex_lock.Goals as goal
 
 pub returns-in-Ok-clause-told : goal.returns-in-Ok-clause-told

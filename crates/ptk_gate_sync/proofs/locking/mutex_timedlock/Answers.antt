@@ -1,6 +1,6 @@
 use Rattle.std.proofs.Common.{sym, ◌∙◌}
 use Rattle.ptk_words_model.specs.Steps.{mutex_named}
-use Rattle.ptk_words_well.specs.Rests.{timedlock_named}
+use Rattle.ptk_words_invariant.specs.Rests.{timedlock_named}
 use Rattle.ptk_gate_sync.proofs.Carried.{told_on, moved_on}
 use Rattle.ptk_gate_sync.proofs.Namings.{readable_within}
 use Rattle.ptk_gate_sync.proofs.locking.mutex_timedlock.Goals as goal

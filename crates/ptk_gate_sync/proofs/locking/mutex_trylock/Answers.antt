@@ -1,5 +1,5 @@
 use Rattle.ptk_gate_sync.proofs.Carried.{told_on, moved_on}
-use Rattle.ptk_words_well.specs.Rests.{trylock_named}
+use Rattle.ptk_words_invariant.specs.Rests.{trylock_named}
 use Rattle.ptk_gate_sync.proofs.locking.mutex_trylock.Goals as goal
 
 pub returns-in-Ok-clause-told : goal.returns-in-Ok-clause-told

@@ -1,5 +1,5 @@
 use Rattle.ptk_gate_sync.proofs.Carried.{told_on, moved_on}
-use Rattle.ptk_words_well.specs.Rests.{consistent_named}
+use Rattle.ptk_words_invariant.specs.Rests.{consistent_named}
 use Rattle.ptk_gate_sync.proofs.owning.mutex_consistent.Goals as goal
 
 pub returns-in-Ok-clause-told : goal.returns-in-Ok-clause-told

@@ -1,5 +1,5 @@
 use Rattle.std.proofs.Common.{sym, ◌∙◌}
-use Rattle.ptk_words_well.specs.Rests.{timedwait_named}
+use Rattle.ptk_words_invariant.specs.Rests.{timedwait_named}
 use Rattle.ptk_gate_sync.proofs.Carried.{told_on, moved_on}
 use Rattle.ptk_gate_sync.proofs.Namings.{timed_row}
 use Rattle.ptk_gate_sync.proofs.waiting.cond_timedwait.Goals as goal

@@ -1,6 +1,6 @@
 use Rattle.std.proofs.Common.{◌≡◌}
 use Rattle.ptk_words.specs.Pools.{numbers_to}
-use Rattle.ptk_words_locks.specs.Deadlines.{woken_by_ends}
+use Rattle.ptk_words_sync_invariant.specs.Deadlines.{woken_by_ends}
 use Rattle.ptk_words_parted.specs.Sets.{IsSetOf}
 use Rattle.ptk_mutex.specs.Tables.{locks_at}
 use Rattle.ptk_mutex.proofs.Steps.{AreEnded}

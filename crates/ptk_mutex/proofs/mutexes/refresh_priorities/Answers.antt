@@ -3,7 +3,7 @@ use Rattle.std.specs.Prelude.{Option, slice_set}
 use Rattle.ptk_words.specs.declared.threads.Thread.{Thread}
 use Rattle.ptk_words_parted.specs.Parts.{part_of}
 use Rattle.ptk_words_model.specs.Priority.{effective_priorities}
-use Rattle.ptk_mutex_slots.proofs.Bare.{effective_priorities-bare}
+use Rattle.ptk_mutex_priorities.proofs.Bare.{effective_priorities-bare}
 use Rattle.ptk_mutex.proofs.mutexes.refresh_priorities.Goals as goal
 
 pub store-requires-clause-levels : goal.store-requires-clause-levels

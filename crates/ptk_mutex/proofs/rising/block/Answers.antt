@@ -1,7 +1,7 @@
 use Rattle.std.proofs.Common.{◌∙◌, ap}
 use Rattle.std.specs.Prelude.{Some}
 use Rattle.ptk_threads.specs.Table.{ThreadTable, with_changed, with_wait}
-use Rattle.ptk_roster.specs.Rosters.{Rostered}
+use Rattle.ptk_syncs.specs.Rosters.{Rostered}
 use Rattle.ptk_mutex.proofs.Raised.{block_before, stored_visited}
 use Rattle.ptk_mutex.proofs.rising.block.Goals as goal
 

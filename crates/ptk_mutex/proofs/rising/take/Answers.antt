@@ -3,9 +3,9 @@ use Rattle.std.specs.Prelude.{IsSome, slice_set}
 use Rattle.ptk_words.specs.Pools.{pool_changed}
 use Rattle.ptk_words_parted.specs.Parts.{part_of}
 use Rattle.ptk_threads.specs.Table.{ThreadTable, thread_in}
-use Rattle.ptk_mutex_slots.specs.declared.slot.Change.TheVariants.{Take}
-use Rattle.ptk_mutex_slots.specs.Changes.{mutex_changed}
-use Rattle.ptk_roster.specs.Rosters.{Rostered}
+use Rattle.ptk_mutex_priorities.specs.declared.slot.Change.TheVariants.{Take}
+use Rattle.ptk_mutex_priorities.specs.Changes.{mutex_changed}
+use Rattle.ptk_syncs.specs.Rosters.{Rostered}
 use Rattle.ptk_mutex.proofs.Raised.{take_before, take_owned, stored_visited}
 use Rattle.ptk_mutex.proofs.rising.take.Goals as goal
 

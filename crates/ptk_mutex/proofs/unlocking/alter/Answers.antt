@@ -1,5 +1,5 @@
 use Rattle.std.proofs.Common.{◌≡◌, arith, sym, ap, ◌∙◌}
-use Rattle.ptk_roster.specs.Rosters.{Rostered}
+use Rattle.ptk_syncs.specs.Rosters.{Rostered}
 use Rattle.ptk_words_model.specs.State.{Locks}
 use Rattle.ptk_words_parted.proofs.Cuts.{set_part-same}
 use Rattle.ptk_mutex.specs.Tables.{locks_at, with_threads}

@@ -1,4 +1,4 @@
-use Rattle.std.proofs.Common.{◌≡◌, ◌++◌, ◌+◌, ◌≤◌, ℕ, List, length}
+use Rattle.std.proofs.Common.{◌≡◌, ◌+◌, ◌≤◌, length}
 use Rattle.std.specs.Prelude.{map}
 use Rattle.ptk_asm_language.specs.Lines.{raw_lines}
 use Rattle.ptk_symbols.specs.Tables.{table_of, table_from}

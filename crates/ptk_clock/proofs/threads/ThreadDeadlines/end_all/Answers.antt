@@ -1,5 +1,5 @@
 use Rattle.std.proofs.Common.{◌≡◌, ◌∙◌, sym, ap, None}
-use Rattle.ptk_words_locks.specs.Deadlines.{without_deadlines}
+use Rattle.ptk_words_sync_invariant.specs.Deadlines.{without_deadlines}
 use Rattle.std.proofs.Common.{[]}
 use Rattle.std.specs.Prelude.{slice_set}
 use Rattle.std.proofs.lemmas.List.{set-get_or}

@@ -5,7 +5,7 @@ use Rattle.std.proofs.lemmas.List.{set-get_or}
 use Rattle.ptk_words.specs.Names.{Tick}
 use Rattle.ptk_words_parted.specs.Parts.{part_of}
 use Rattle.ptk_words_model.specs.Withdrawal.{Expiry}
-use Rattle.ptk_words_locks.specs.Expiries.{next_expiry, without_expiry}
+use Rattle.ptk_words_sync_invariant.specs.Expiries.{next_expiry, without_expiry}
 use Rattle.ptk_clock.specs.declared.threads.PartitionSlots.{PartitionSlots}
 use Rattle.ptk_clock.proofs.LeastDeadlines.{none_due}
 use Rattle.ptk_clock.proofs.ByThread.{part_of-by}

@@ -2,7 +2,7 @@ use Rattle.std.proofs.Common.{◌≡◌, ◌<◌, ◌≤◌, ◌+◌, ◌∙◌,
 use Rattle.std.specs.Prelude.{Some}
 use Rattle.ptk_words.specs.declared.threads.Thread.{Thread}
 use Rattle.ptk_words_model.specs.Priority.{thread_at}
-use Rattle.ptk_words_quiet.specs.Quiet.{IsQuiet}
+use Rattle.ptk_words_batches.specs.Quiet.{IsQuiet}
 use Rattle.ptk_gate_pools.specs.Kept.{Kept, part_at, limits_at}
 use Rattle.ptk_gate_pools.specs.Held.{Held, all_of}
 use Rattle.ptk_gate_pools.proofs.Hands.{all-held}

@@ -3,7 +3,7 @@ use Rattle.std.specs.Prelude.{Some}
 use Rattle.ptk_words.specs.declared.threads.Thread.{Thread}
 use Rattle.ptk_words_instructions.specs.PlainSteps.{is_plain, plain_steps}
 use Rattle.ptk_words_model.specs.Priority.{thread_at}
-use Rattle.ptk_words_quiet.specs.Quiet.{IsQuiet, ArePlain, core_of, after_row}
+use Rattle.ptk_words_batches.specs.Quiet.{IsQuiet, ArePlain, core_of, after_row}
 use Rattle.ptk_trace.specs.TracedRows.{traced}
 use Rattle.ptk_gate_pools.specs.Kept.{Kept, part_at, put_part, limits_at}
 use Rattle.ptk_gate_pools.specs.Held.{Held, all_of}

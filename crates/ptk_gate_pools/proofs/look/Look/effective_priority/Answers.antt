@@ -1,5 +1,4 @@
 use Rattle.std.proofs.Common.{◌≡◌, ◌∙◌, ap, sym, subst}
-use Rattle.ptk_words_parted.specs.Parts.{part_of}
 use Rattle.std.specs.Prelude.{IsSome}
 use Rattle.ptk_words_model.specs.Priority.{thread_at, effective_priority}
 use Rattle.ptk_gate_pools.specs.Held.{Seen, seen}

@@ -1,4 +1,4 @@
-use Rattle.std.proofs.Common.{◌≡◌, ◌∙◌, ap, sym, subst}
+use Rattle.std.proofs.Common.{◌≡◌, ◌∙◌, ap}
 use Rattle.ptk_words_model.specs.Withdrawal.{deadlines_of}
 use Rattle.ptk_clock.specs.ByThread.{least_deadline}
 use Rattle.ptk_gate_pools.specs.Held.{Seen, seen}

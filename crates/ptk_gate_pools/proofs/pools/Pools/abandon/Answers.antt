@@ -2,7 +2,7 @@ use Rattle.std.proofs.Common.{◌∙◌}
 use Rattle.ptk_words_parted.specs.Parts.{part_of}
 use Rattle.ptk_words_model.specs.State.{Locks}
 use Rattle.ptk_words_model.specs.Mutex.{after_owner_end}
-use Rattle.ptk_words_locks.specs.Deadlines.{woken_by_owner_end}
+use Rattle.ptk_words_sync_invariant.specs.Deadlines.{woken_by_owner_end}
 use Rattle.ptk_mutex.specs.Tables.{locks_at}
 use Rattle.ptk_gate_pools.proofs.Changed.{tables_pooled, stay, ended_long}
 use Rattle.ptk_gate_pools.proofs.TimedMoves.{timed_ended}

@@ -1,5 +1,5 @@
 use Rattle.std.proofs.Common.{◌∙◌, ap, sym, subst, length}
-use Rattle.ptk_gate_pools.specs.Held.{Held, held, limits_here}
+use Rattle.ptk_gate_pools.specs.Held.{held}
 use Rattle.ptk_gate_pools.specs.Pooled.{kept_of}
 use Rattle.ptk_gate_pools.proofs.Hands.{held-put}
 use Rattle.ptk_gate_pools.proofs.Opened.{parts_of}

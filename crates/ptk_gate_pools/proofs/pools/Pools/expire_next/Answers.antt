@@ -2,7 +2,7 @@ use Rattle.std.proofs.Common.{◌∙◌, ap, sym, length}
 use Rattle.std.proofs.lemmas.List.{length-set}
 use Rattle.ptk_words_parted.specs.Parts.{part_of}
 use Rattle.ptk_words_model.specs.State.{Part}
-use Rattle.ptk_words_locks.specs.Expiries.{next_expiry}
+use Rattle.ptk_words_sync_invariant.specs.Expiries.{next_expiry}
 use Rattle.ptk_gate_pools.specs.Kept.{put_part}
 use Rattle.ptk_gate_pools.specs.Held.{held}
 use Rattle.ptk_gate_pools.specs.Pooled.{kept_of}

@@ -1,6 +1,5 @@
 use Rattle.ptk_gate_pools.specs.Held.{Held}
 use Rattle.std.proofs.Common.{◌∙◌, ap, sym}
-use Rattle.ptk_words_parted.specs.Parts.{part_of}
 use Rattle.ptk_gate_pools.proofs.Ranks.{stored_waiter}
 use Rattle.ptk_gate_pools.proofs.pools.Pools.first_waiter.Goals as goal
 

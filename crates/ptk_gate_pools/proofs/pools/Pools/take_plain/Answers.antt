@@ -3,7 +3,7 @@ use Rattle.std.proofs.lemmas.List.{length-set}
 use Rattle.ptk_words_parted.specs.Parts.{part_of}
 use Rattle.ptk_words.specs.Pools.{pool_get}
 use Rattle.ptk_words_model.specs.Mutex.{mutex_at}
-use Rattle.ptk_mutex_slots.specs.Plain.{is_raising_at}
+use Rattle.ptk_mutex_priorities.specs.Plain.{is_raising_at}
 use Rattle.ptk_gate_pools.specs.Held.{Held}
 use Rattle.ptk_gate_pools.proofs.PlainMutexes.{stored_taken}
 use Rattle.ptk_gate_pools.proofs.pools.Pools.take_plain.Goals as goal

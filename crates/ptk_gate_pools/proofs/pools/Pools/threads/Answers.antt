@@ -1,6 +1,5 @@
-use Rattle.std.proofs.Common.{◌≡◌, ◌∙◌, ap, sym, subst}
+use Rattle.std.proofs.Common.{◌∙◌, ap, sym, subst}
 use Rattle.ptk_gate_pools.specs.Kept.{Kept, AreStored, AreQueued}
-use Rattle.ptk_gate_pools.specs.Held.{all_of}
 use Rattle.ptk_gate_pools.specs.Pooled.{kept_of}
 use Rattle.ptk_gate_pools.proofs.Opened.{whole}
 use Rattle.ptk_gate_pools.proofs.pools.Pools.threads.Goals as goal

@@ -2,7 +2,7 @@ use Rattle.ptk_gate_pools.specs.Held.{Held, limits_here}
 use Rattle.std.proofs.Common.{ℕ, ◌<◌, ◌∙◌, ap, sym, subst, length}
 use Rattle.std.proofs.lemmas.List.{length-set}
 use Rattle.ptk_words_model.specs.Condition.{after_condition_wait}
-use Rattle.ptk_words_locks.specs.Deadlines.{woken_by_unlock}
+use Rattle.ptk_words_sync_invariant.specs.Deadlines.{woken_by_unlock}
 use Rattle.ptk_mutex.specs.Tables.{locks_at}
 use Rattle.ptk_cond.specs.Tables.{syncs_at, IsAwake}
 use Rattle.ptk_gate_pools.proofs.Changed.{tables_pooled, tables_held, ended_long}

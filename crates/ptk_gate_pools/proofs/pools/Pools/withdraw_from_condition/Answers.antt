@@ -4,7 +4,7 @@ use Rattle.std.proofs.lemmas.List.{length-set}
 use Rattle.ptk_words_model.specs.Priority.{thread_at}
 use Rattle.ptk_words_model.specs.Mutex.{wait_of}
 use Rattle.ptk_words_model.specs.Condition.{after_unblock}
-use Rattle.ptk_words_locks.specs.Conditions.{condition_of_wait}
+use Rattle.ptk_words_sync_invariant.specs.Conditions.{condition_of_wait}
 use Rattle.ptk_cond.specs.Tables.{syncs_at}
 use Rattle.ptk_gate_pools.specs.Held.{Held}
 use Rattle.ptk_gate_pools.proofs.Changed.{tables_pooled}

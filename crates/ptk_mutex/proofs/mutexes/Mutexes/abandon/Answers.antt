@@ -1,4 +1,4 @@
-use Rattle.ptk_roster.specs.Rosters.{Rostered}
+use Rattle.ptk_syncs.specs.Rosters.{Rostered}
 use Rattle.ptk_mutex.proofs.Sound.{sound_ended}
 use Rattle.ptk_mutex.proofs.mutexes.Mutexes.abandon.Goals as goal
 

@@ -6,7 +6,7 @@ use Rattle.ptk_mutex.specs.Tables.{locks_at, with_threads}
 use Rattle.ptk_mutex.proofs.Locked.{locked_assignment}
 use Rattle.ptk_mutex.proofs.Moved.{moves}
 use Rattle.ptk_mutex.proofs.Steps.{moved_ready}
-use Rattle.ptk_roster.specs.Rosters.{Rostered}
+use Rattle.ptk_syncs.specs.Rosters.{Rostered}
 use Rattle.ptk_mutex.proofs.Sound.{sound_assigned}
 use Rattle.ptk_mutex.proofs.mutexes.Mutexes.assign.Goals as goal
 

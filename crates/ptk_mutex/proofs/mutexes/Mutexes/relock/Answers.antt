@@ -5,7 +5,7 @@ use Rattle.ptk_words_model.specs.Mutex.{mutex_at, relock_move, after_relock}
 use Rattle.ptk_mutex.specs.Tables.{locks_at, with_threads}
 use Rattle.ptk_mutex.proofs.Moved.{moves}
 use Rattle.ptk_mutex.proofs.Steps.{moved_ready, locked_relock}
-use Rattle.ptk_roster.specs.Rosters.{Rostered}
+use Rattle.ptk_syncs.specs.Rosters.{Rostered}
 use Rattle.ptk_mutex.proofs.Sound.{sound_relock}
 use Rattle.ptk_mutex.proofs.mutexes.Mutexes.relock.Goals as goal
 

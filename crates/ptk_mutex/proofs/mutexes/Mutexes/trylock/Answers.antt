@@ -9,7 +9,7 @@ use Rattle.ptk_mutex.specs.Moves.{after_trylock}
 use Rattle.ptk_mutex.specs.Tables.{locks_at, with_threads}
 use Rattle.ptk_mutex.proofs.Moved.{moves}
 use Rattle.ptk_mutex.proofs.Steps.{moved_ready, locked_move, trylock_counts, line_after_move}
-use Rattle.ptk_roster.specs.Rosters.{Rostered}
+use Rattle.ptk_syncs.specs.Rosters.{Rostered}
 use Rattle.ptk_mutex.proofs.Apart.{trylock_owned}
 use Rattle.ptk_mutex.proofs.Sound.{sound_made}
 use Rattle.ptk_mutex.proofs.mutexes.Mutexes.trylock.Goals as goal

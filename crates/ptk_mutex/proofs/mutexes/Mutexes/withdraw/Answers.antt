@@ -7,7 +7,7 @@ use Rattle.ptk_mutex.specs.Moves.{after_withdrawal}
 use Rattle.ptk_mutex.proofs.Locked.{locked_left}
 use Rattle.ptk_mutex.proofs.Moved.{moves}
 use Rattle.ptk_mutex.proofs.Steps.{moved_ready}
-use Rattle.ptk_roster.specs.Rosters.{Rostered}
+use Rattle.ptk_syncs.specs.Rosters.{Rostered}
 use Rattle.ptk_mutex.proofs.Sound.{sound_withdrawal}
 use Rattle.ptk_mutex.proofs.mutexes.Mutexes.withdraw.Goals as goal
 

@@ -1,4 +1,4 @@
-use Rattle.std.proofs.Common.{◌≡◌, ◌≤◌, arith}
+use Rattle.std.proofs.Common.{arith}
 use Rattle.ptk_statistics.proofs.Parts.{at_again}
 use Rattle.ptk_statistics.proofs.statistics.Statistics.run.Goals as goal
 

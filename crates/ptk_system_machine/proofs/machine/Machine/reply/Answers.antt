@@ -1,4 +1,4 @@
-use Rattle.ptk_words_quiet.specs.Idle.{waiting_from}
+use Rattle.ptk_words_batches.specs.Idle.{waiting_from}
 use Rattle.ptk_system_machine.specs.Steady.{AreSteady, states_from}
 use Rattle.ptk_system_machine.proofs.Steady.{states_first, steady_call, steady_start}
 use Rattle.std.proofs.Common.{◌≡◌, ℕ, ◌+◌, ◌-◌, ◌<◌, ◌≤◌, Bool, true, length, get_or, Some, None, refl, subst, sym, ap, ◌∙◌, arith}

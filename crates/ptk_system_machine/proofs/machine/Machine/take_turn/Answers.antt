@@ -5,8 +5,8 @@ use Rattle.ptk_words_windows.specs.Windows.{own_ticks}
 use Rattle.ptk_words_model.specs.Run.{next_from}
 use Rattle.ptk_words_model.specs.State.{State}
 use Rattle.ptk_words_model.specs.Decision.{ready_at}
-use Rattle.ptk_words_quiet.specs.Quiet.{after_ticks}
-use Rattle.ptk_words_quiet.specs.Prepared.{prepared}
+use Rattle.ptk_words_batches.specs.Quiet.{after_ticks}
+use Rattle.ptk_words_batches.specs.Prepared.{prepared}
 use Rattle.ptk_kernel.specs.Kept.{Kept, limits_at, part_at}
 use Rattle.ptk_system_machine.specs.Accounts.{KeptAccount, kept_account_of, duration_of, spent_account}
 use Rattle.ptk_system_machine.specs.Turns.{IsInWindow}

@@ -1,0 +1,90 @@
+-- What the image of a section amounts to with some files, in words, and which image is refused first.
+use Rattle.std.specs.Prelude.{ℕ, ◌+◌, ◌-◌, ◌*◌, nat_le, Bool, true, false, List, [], ◌∷◌, ◌++◌, length, position, if◌then◌else◌, Option, Some, None, Result, Ok, Err, codes, decimal}
+use Rattle.std.specs.Option.{option_or}
+use Rattle.ptk_words.specs.declared.sections.Limits.{Limits}
+use Rattle.ptk_words.specs.declared.faults.ImageFault.{ImageFault}
+use Rattle.ptk_words.specs.declared.faults.ImageFault.TheVariants as image
+use Rattle.ptk_words.specs.Image.{ImageParts, image_of}
+use Rattle.ptk_image.specs.NamedFiles.{NamedFile, content_of}
+use Rattle.ptk_config.specs.Sections.{Section}
+use Rattle.ptk_config_explain.specs.declared.images.Outcome.{Outcome}
+use Rattle.ptk_config_explain.specs.declared.images.Outcome.TheVariants.{Unnamed, Missing, Refused, Unfit, Accepted}
+
+-- the bytes of memory below the stacks of all threads (own)
+abbrev pub room_below_stacks : Limits → ℕ
+room_below_stacks limits = limits.memory - limits.threads * limits.stack
+
+-- how many bytes an image fills (own)
+abbrev pub filled_by : ImageParts → ℕ
+filled_by image = (length image.text + length image.«data») + image.bss
+
+-- an image that has to fit into so much room (own)
+abbrev pub outcome_of : ImageParts → ℕ → Outcome
+outcome_of image room =
+    if nat_le (filled_by image) room then Accepted (length image.text) (length image.«data») image.bss (room - filled_by image) else Unfit (filled_by image) room
+
+-- bytes that are to be an image (own)
+abbrev pub outcome_read : Result ImageParts ImageFault → ℕ → Outcome
+outcome_read (Ok image) room = outcome_of image room
+outcome_read (Err fault) room = Refused fault
+
+-- the file that is to be an image, None where there is no such file (own)
+abbrev pub outcome_found : Option (List ℕ) → ℕ → Outcome
+outcome_found (Some bytes) room = outcome_read (image_of bytes) room
+outcome_found None room = Missing
+
+-- the image of this name, None where none is named (own)
+abbrev pub outcome_named : List NamedFile → Option (List ℕ) → ℕ → Outcome
+outcome_named files (Some name) room = outcome_found (content_of files name) room
+outcome_named files None room = Unnamed room
+
+-- the image of a section (own)
+abbrev pub outcome_in : List NamedFile → Section → Outcome
+outcome_in files section = outcome_named files section.image (room_below_stacks section.limits)
+
+-- ---- which image is refused first
+
+-- the file is not there (own)
+abbrev pub is_missing : Outcome → Bool
+is_missing Missing = true
+is_missing outcome = false
+
+-- the file is there, and is no image or one that does not fit (own)
+abbrev pub is_refused : Outcome → Bool
+is_refused (Refused fault) = true
+is_refused (Unfit filled room) = true
+is_refused outcome = false
+
+-- the place, from 0, of the first image whose file is not there, else of the first that is refused (own)
+abbrev pub first_refused : List Outcome → Option ℕ
+first_refused outcomes = option_or (position is_missing outcomes) (position is_refused outcomes)
+
+-- ---- words
+
+-- why bytes are no image (own)
+abbrev pub fault_words : ImageFault → List ℕ
+fault_words image.Short = codes "the image is shorter than its header"
+fault_words image.Magic = codes "the image does not begin with PTKI"
+fault_words image.Version = codes "the image has an unknown version"
+fault_words image.Length = codes "the image has other lengths than its header says"
+fault_words image.Entry = codes "the entry of the image is misplaced"
+fault_words image.Memory = codes "out of memory"
+fault_words image.Unfit = codes "the image does not fit into its partition"
+
+-- how many bytes are free (own)
+abbrev pub free_words : ℕ → List ℕ
+free_words free = decimal free ++ codes " bytes free below the stacks"
+
+-- what an image amounts to (own)
+abbrev pub outcome_words : Outcome → List ℕ
+outcome_words (Unnamed free) = free_words free
+outcome_words Missing = codes "no such file"
+outcome_words (Refused fault) = fault_words fault
+outcome_words (Unfit filled room) = decimal filled ++ (codes " bytes where " ++ (decimal room ++ codes " are below the stacks"))
+outcome_words (Accepted text data_bytes bss free) =
+    codes "text " ++ (decimal text ++ (codes ", data " ++ (decimal data_bytes ++ (codes ", bss " ++ (decimal bss ++ (codes "; " ++ free_words free))))))
+
+-- the line of an image of this name, or of none (own)
+abbrev pub image_line : Option (List ℕ) → Outcome → List ℕ
+image_line (Some name) outcome = codes "image " ++ (name ++ (codes ": " ++ (outcome_words outcome ++ (10 ∷ []))))
+image_line None outcome = codes "no image; " ++ (outcome_words outcome ++ (10 ∷ []))

@@ -1,0 +1,128 @@
+//! A step in words.
+
+ghost use Rattle.std.specs.Prelude.{◌≡◌, ◌<◌, ◌++◌, OnOk, length, string_bytes};
+ghost use Rattle.ptk_words.specs.declared.TheConstants.{LAST_TICK};
+ghost use Rattle.ptk_main_answers.specs.Decoded as is;
+
+use crate::calls::{call_name, reply_name};
+use ptk_disasm::{push_target, push_word_statement, target_of};
+use ptk_symbols::Symbols;
+use ptk_system::{Activity, System};
+use ptk_words::{A7, Call, ECALL, Entry, PartId, RETURN_GATE, Tick};
+use std::alloc::AllocError;
+use std::fmt::Write;
+
+/// Bytes of an instruction.
+const WORD: u32 = 4;
+
+/// What a call leaves in a0, or that it leaves nothing there yet.
+enum Reply {
+    /// It replied this.
+    Of(u32),
+    /// Its caller is blocked.
+    Blocked,
+    /// It has no reply.
+    Never,
+}
+
+/// Appends the symbol that is nearest to a pc, and the step of a word that stands there.
+fn push_decoded(
+    text: &mut String,
+    symbols: &Symbols<'_>,
+    pc: u32,
+    word: u32,
+) -> Result<(), AllocError>
+    ensures { OnOk result (string_bytes text.new ≡ string_bytes text.old ++ is.decoded_text symbols.now pc word) }
+{
+    symbols.push_place(text, pc)?;
+    text.push_str(" ")?;
+    if pc == RETURN_GATE {
+        return text.push_str("return gate");
+    }
+    push_word_statement(text, word)?;
+    push_target(text, symbols, target_of(pc, word))
+}
+
+/// Appends the name of a call, or its number where no call has it.
+fn push_call(text: &mut String, number: Option<u32>) -> Result<(), AllocError> {
+    let Some(number) = number else {
+        return Ok(());
+    };
+    match Call::of_number(number) {
+        Some(call) => {
+            text.push_str(" ")?;
+            text.push_str(call_name(call))
+        }
+        None => write!(text, " call {number}"),
+    }
+}
+
+/// Appends what a call replied, by its name where it has one.
+fn push_reply(text: &mut String, reply: Reply) -> Result<(), AllocError> {
+    match reply {
+        Reply::Of(a0) => {
+            text.push_str(" -> ")?;
+            match reply_name(a0) {
+                Some(name) => text.push_str(name),
+                None => write!(text, "{a0}"),
+            }
+        }
+        Reply::Blocked => text.push_str(" blocked"),
+        Reply::Never => Ok(()),
+    }
+}
+
+/// What the call of a step replied, in the system behind it: nothing where the thread waits, where its partition is
+/// halted, and where it does not go on behind the ECALL.
+fn reply_of(system: &System<'_>, p: PartId, entry: &Entry) -> Reply
+    requires { p < length system.now.config.sections }
+{
+    match system.activity(p, entry.thread) {
+        Activity::Blocked(_) => Reply::Blocked,
+        Activity::Running | Activity::Ready => {
+            if system.pc(p, entry.thread) == Some(entry.pc.wrapping_add(WORD)) {
+                Reply::Of(entry.a0)
+            } else {
+                Reply::Never
+            }
+        }
+        Activity::Free | Activity::Ended | Activity::Halted => Reply::Never,
+    }
+}
+
+/// Appends the name of the call that a step makes, and its reply. The system goes on to the step, whose call stands in
+/// a7, and over it.
+fn push_made_call(
+    text: &mut String,
+    system: &mut System<'_>,
+    p: PartId,
+    entry: &Entry,
+) -> Result<(), AllocError>
+    requires partition { p < length system.old.config.sections }
+    requires early { entry.now.tick < LAST_TICK }
+    ensures { system.new.config ≡ system.old.config }
+{
+    system.run_to(entry.tick);
+    push_call(text, system.register(p, entry.thread, A7))?;
+    system.run_to(Tick::new(entry.tick.ticks() + 1));
+    push_reply(text, reply_of(system, p, entry))
+}
+
+/// Appends a step in words, behind which the system is where the step is an ECALL.
+pub(crate) fn push_step(
+    text: &mut String,
+    system: &mut System<'_>,
+    p: PartId,
+    symbols: &Symbols<'_>,
+    entry: &Entry,
+) -> Result<(), AllocError>
+    requires partition { p < length system.old.config.sections }
+    requires early { entry.now.tick < LAST_TICK }
+    ensures { system.new.config ≡ system.old.config }
+{
+    push_decoded(text, symbols, entry.pc, entry.word)?;
+    if entry.word == ECALL && entry.pc != RETURN_GATE {
+        push_made_call(text, system, p, entry)?;
+    }
+    Ok(())
+}

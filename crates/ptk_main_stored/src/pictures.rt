@@ -1,0 +1,43 @@
+//! The four pictures.
+
+ghost use Rattle.std.specs.Prelude.{◌≤◌};
+ghost use Rattle.ptk_words.specs.declared.TheConstants.{LAST_TICK};
+
+use crate::{config_of, images_of, tick_of};
+use anyhow::{Context, Error, Result};
+use ptk_config::Config;
+use ptk_main_runs::{Files, System};
+use ptk_timeline::{PictureFault, picture_with};
+use ptk_words::Tick;
+
+/// Prints the pictures. An error where a file can't be read, a configuration is refused, a system does not boot, or the
+/// output fails.
+pub(crate) fn print_pictures(rt: &HostRuntime) -> Result<()> {
+    print_picture(rt, "examples/inversion/inversion.toml", 0, 1000)?;
+    print_picture(rt, "examples/modes/modes.toml", 0, 800)?;
+    print_picture(rt, "owners/two-stages.toml", 20, 290)?;
+    print_picture(rt, "owners/alone.toml", 0, 2001)
+}
+
+// Prints the name of a configuration and the picture of its run, from a tick on and before another.
+fn print_picture(rt: &HostRuntime, name: &str, from: u64, to: u64) -> Result<()> {
+    println!(rt; "{name}")?;
+    let config = config_of(rt, name)?;
+    let files = images_of(rt, &config, "")?;
+    draw(rt, &config, &files, tick_of(from), tick_of(to)).context("no picture")
+}
+
+// Prints the picture of a run.
+fn draw(rt: &HostRuntime, config: &Config, files: &Files, from: Tick, to: Tick) -> Result<()>
+    requires { to ≤ LAST_TICK }
+{
+    let Some(mut system) = System::boot(rt.alloc(), config, files).ok() else {
+        return Err(Error::msg("the system does not boot"));
+    };
+    match picture_with(rt.alloc(), config, &mut system, from, to, &mut rt.stdout()) {
+        Ok(()) => Ok(()),
+        Err(PictureFault::Memory) => Err(Error::msg("out of memory")),
+        Err(PictureFault::Write) => Err(Error::msg("the writer failed")),
+        Err(PictureFault::NoTicks) => Err(Error::msg("no tick to show")),
+    }
+}

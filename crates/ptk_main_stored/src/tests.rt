@@ -1,0 +1,350 @@
+//! The worked rows as segments. What is wanted was worked out by hand from the costs of calls; the ticks stand beside
+//! the guests, a column for each step's first tick.
+
+use crate::segments::{Segment, does_sum_up, first_wrong_segment, recorded};
+use ptk_main_guests::{ALONE, LIBRARY, NUMBERS, P};
+use ptk_timeline_segments::{Recording, Shade};
+use std::alloc::Global;
+
+// The first segment of a guest's run that is not as wanted, with a column for each tick; this many where there is no
+// run.
+fn wrong(
+    alloc: Global,
+    parts: &[&str],
+    source: &[&str],
+    from: u64,
+    to: u64,
+    segments: &[Segment],
+) -> Option<usize> {
+    match recorded(alloc, parts, source, from, to, 1000) {
+        Some(recording) => first_wrong_segment(&recording, segments),
+        None => Some(segments.len()),
+    }
+}
+
+// Row inherit-basic: low is main, 1; high is 2, middle 3.
+const INHERIT_BASIC: &str = "
+    li a0, 1            #   0  low
+    li a1, 5            #   1
+    li a7, 18           #   2  setschedprio
+    ecall               #   3
+    li a0, 1024         #  11
+    li a1, 0            #  12  NORMAL
+    li a2, 1            #  13  INHERIT
+    li a7, 20           #  14  mutex_init
+    ecall               #  15
+    li a0, 1024         #  21
+    li a7, 22           #  22  mutex_lock
+    ecall               #  23
+    la a1, high         #  31
+    li a3, 20           #  33
+    call create         #  34  creates at 39; its ret comes at 105
+    li a0, 108          # 106  l
+    li a7, 1            # 107  console_put
+    ecall               # 108
+    li a0, 1024         # 112
+    li a7, 25           # 113  mutex_unlock
+    ecall               # 114
+    li a7, 11           # 158  pthread_exit
+    ecall               # 159  the gate at 165, and ends there
+high:
+    la a1, letter       #  51
+    li a2, 109          #  53  m
+    li a3, 10           #  54
+    call create         #  55  creates at 60
+    li a0, 1024         #  73
+    nop
+    nop
+    nop
+    nop
+    nop
+    nop
+    nop
+    nop
+    nop
+    nop
+    nop
+    nop
+    nop
+    nop
+    nop
+    nop
+    nop
+    nop
+    nop
+    nop
+    nop
+    nop
+    li a7, 22           #  96  mutex_lock
+    ecall               #  97  blocks
+    li a0, 1024         # 124
+    li a7, 25           # 125  mutex_unlock
+    ecall               # 126
+    li a7, 11           # 136  pthread_exit
+    ecall               # 137  the gate at 143, and ends there; middle from 147 to 161
+";
+
+#[test]
+fn an_owner_runs_while_a_greater_one_waits(rt: HostRuntime) {
+    let segments = [
+        Segment(1, 0, 51, Shade::Running),
+        Segment(1, 51, 105, Shade::Ready),
+        Segment(1, 105, 124, Shade::Running),
+        Segment(2, 0, 39, Shade::Free),
+        Segment(2, 39, 51, Shade::Ready),
+        Segment(2, 51, 105, Shade::Running),
+        Segment(2, 105, 114, Shade::Mutex),
+        Segment(2, 114, 124, Shade::Ready),
+        Segment(2, 124, 147, Shade::Running),
+        Segment(2, 147, 160, Shade::Ended),
+        Segment(3, 60, 147, Shade::Ready),
+        Segment(3, 147, 160, Shade::Running),
+    ];
+    assert_eq!(rt;
+        wrong(
+            rt.alloc(),
+            &ALONE,
+            &[INHERIT_BASIC, LIBRARY],
+            0,
+            160,
+            &segments
+        ),
+        None
+    );
+}
+
+// The raised priority of a thread of the first partition in a column.
+fn raised(recording: &Recording, thread: usize, column: usize) -> Option<u8> {
+    let lane = recording.lanes().first()?;
+    lane.rows()
+        .get(thread.saturating_sub(1))?
+        .cells()
+        .get(column)?
+        .look
+        .raised
+}
+
+#[test]
+fn a_raised_priority_is_told(rt: HostRuntime) {
+    let recording = recorded(rt.alloc(), &ALONE, &[INHERIT_BASIC, LIBRARY], 0, 160, 1000);
+    let got = match &recording {
+        Some(recording) => [
+            raised(recording, 1, 96),
+            raised(recording, 1, 97),
+            raised(recording, 1, 113),
+            raised(recording, 1, 114),
+        ],
+        None => [Some(0); 4],
+    };
+    assert_eq!(rt; got, [None, Some(20), Some(20), None]);
+}
+
+// The numbers of a section with an interval of 5 ticks.
+const SLOW: &str =
+    "memory = 4096\nthreads = 4\nstack = 256\nmutexes = 4\nconds = 4\nkeys = 4\ninterval = 5\nring = 16\noutput = 64\ntrace = 16\n";
+
+// p has the first 20 ticks of 40, q, without an image, the others.
+const SLOW_HALVES: [&str; 6] = [
+    "frame = 40\n",
+    P,
+    SLOW,
+    "[[partition]]\nname = \"q\"\n",
+    NUMBERS,
+    "[[window]]\nstart = 0\nlength = 20\npartition = \"p\"\n[[window]]\nstart = 20\nlength = 20\npartition = \"q\"\n",
+];
+
+// Row round-robin-windows: 3 ticks are lost at 17.
+const ROUND_ROBIN: &str = "
+    li a0, 44           #  0
+    li a1, 40           #  1
+    li a7, 10           #  2  pthread_create
+    ecall               #  3
+    li a0, 44           # 15
+    li a1, 40           # 16
+    ecall               # 40
+    li a7, 15           # 52  sched_yield
+    ecall               # 53
+    nop
+spin:
+    j spin              # 57 to 59, 80, 81 of 2; 82 to 86 of 3
+.data
+    .word 0             # joinable
+    .word 1             # explicit
+    .word 2             # SCHED_RR
+    .word 16            # priority
+    .word 0             # default stack
+";
+
+#[test]
+fn an_interval_goes_over_windows(rt: HostRuntime) {
+    let segments = [
+        Segment(1, 0, 57, Shade::Running),
+        Segment(1, 57, 87, Shade::Ready),
+        Segment(2, 3, 57, Shade::Ready),
+        Segment(2, 57, 82, Shade::Running),
+        Segment(2, 82, 87, Shade::Ready),
+        Segment(3, 40, 82, Shade::Ready),
+        Segment(3, 82, 87, Shade::Running),
+    ];
+    assert_eq!(rt;
+        wrong(rt.alloc(), &SLOW_HALVES, &[ROUND_ROBIN], 0, 87, &segments),
+        None
+    );
+}
+
+// p has the first 20 ticks of 40, q, without an image, the others.
+const HALVES: [&str; 6] = [
+    "frame = 40\n",
+    P,
+    NUMBERS,
+    "[[partition]]\nname = \"q\"\n",
+    NUMBERS,
+    "[[window]]\nstart = 0\nlength = 20\npartition = \"p\"\n[[window]]\nstart = 20\nlength = 20\npartition = \"q\"\n",
+];
+
+// Row lock-over-window-end: 2 ticks are lost at 18, and the lock begins at 40.
+const LOCK_OVER_WINDOW_END: &str =
+    "nop\nnop\nnop\nnop\nnop\nnop\nnop\nnop\nnop\nnop\nnop\nnop\nnop\nnop\nnop\nnop\nli a0, 1024\nli a7, 22\necall\n";
+
+// Whether the marks of the first partition are those of row lock-over-window-end.
+fn is_marked(recording: &Recording) -> bool {
+    let Some(lane) = recording.lanes().first() else {
+        return false;
+    };
+    for (tick, marks) in lane.marks().iter().enumerate() {
+        let is_lost = tick == 18 || tick == 19;
+        let is_stepped = tick < 18 || tick == 40;
+        if marks.is_lost != is_lost || marks.is_stepped != is_stepped || marks.is_halted {
+            return false;
+        }
+    }
+    true
+}
+
+#[test]
+fn lost_ticks_are_marked(rt: HostRuntime) {
+    let recording = recorded(rt.alloc(), &HALVES, &[LOCK_OVER_WINDOW_END], 0, 48, 1000);
+    let segments = [Segment(1, 0, 48, Shade::Running)];
+    let found = match &recording {
+        Some(recording) => (
+            is_marked(recording),
+            first_wrong_segment(recording, &segments),
+        ),
+        None => (false, None),
+    };
+    assert_eq!(rt; found, (true, None));
+}
+
+// Row long-sleep.
+const LONG_SLEEP: &str = "
+    la a1, time         #   0
+    li a0, 0            #   2
+    li a7, 4            #   3  clock_nanosleep
+    ecall               #   4  blocks
+    li a7, 0            # 1099511627000  exit
+    ecall
+.data
+time:
+    .word 1099511
+    .word 0
+    .word 627000000
+";
+
+const TWENTY: [&str; 4] = [
+    "frame = 20\n",
+    P,
+    NUMBERS,
+    "[[window]]\nstart = 0\nlength = 20\npartition = \"p\"\n",
+];
+
+// Whether the first partition's first thread sleeps longest in every column, and has something else beside it in the
+// first and the last alone.
+fn sleeps(recording: &Recording) -> bool {
+    let Some(lane) = recording.lanes().first() else {
+        return false;
+    };
+    let Some(row) = lane.rows().first() else {
+        return false;
+    };
+    let last = row.cells().len().saturating_sub(1);
+    for (column, cell) in row.cells().iter().enumerate() {
+        let is_mixed = column == 0 || column == last;
+        if cell.look.shade() != Shade::Sleep || cell.is_mixed != is_mixed {
+            return false;
+        }
+    }
+    true
+}
+
+#[test]
+fn a_long_sleep_is_one_jump(rt: HostRuntime) {
+    let source = [LONG_SLEEP];
+    let recording = recorded(rt.alloc(), &TWENTY, &source, 0, 1_099_511_627_776, 1000);
+    let is_asleep = match &recording {
+        Some(recording) => sleeps(recording),
+        None => false,
+    };
+    assert!(rt; is_asleep);
+    let segments = [
+        Segment(1, 1_099_511_626_990, 1_099_511_627_000, Shade::Sleep),
+        Segment(1, 1_099_511_627_000, 1_099_511_627_002, Shade::Running),
+    ];
+    assert_eq!(rt;
+        wrong(
+            rt.alloc(),
+            &TWENTY,
+            &source,
+            1_099_511_626_990,
+            1_099_511_627_010,
+            &segments
+        ),
+        None
+    );
+}
+
+// Whether the first this many ticks of a guest's run are told alike by columns of one tick and, taken together, by at
+// most so many columns.
+fn is_summed_up(alloc: Global, parts: &[&str], source: &[&str], ticks: u64, most: u32) -> bool {
+    let wide = recorded(alloc, parts, source, 0, ticks, most);
+    let narrow = recorded(alloc, parts, source, 0, ticks, 1000);
+    match (&wide, &narrow) {
+        (Some(wide), Some(narrow)) => does_sum_up(wide, narrow),
+        _ => false,
+    }
+}
+
+#[test]
+fn wide_columns_sum_up(rt: HostRuntime) {
+    let source = [INHERIT_BASIC, LIBRARY];
+    assert!(rt; is_summed_up(rt.alloc(), &ALONE, &source, 160, 40));
+    assert!(rt; is_summed_up(rt.alloc(), &ALONE, &source, 160, 23));
+    assert!(rt; is_summed_up(rt.alloc(), &ALONE, &source, 160, 3));
+}
+
+#[test]
+fn wide_columns_sum_up_windows(rt: HostRuntime) {
+    assert!(rt; is_summed_up(rt.alloc(), &SLOW_HALVES, &[ROUND_ROBIN], 900, 300));
+    assert!(rt; is_summed_up(rt.alloc(), &SLOW_HALVES, &[ROUND_ROBIN], 900, 31));
+    assert!(rt; is_summed_up(rt.alloc(), &HALVES, &[LOCK_OVER_WINDOW_END], 90, 11));
+}
+
+// Quiet calls, and plain steps, for ever; another thread of the same priority at each turn of the loop.
+const REPLIES: &str = "
+    la a1, more
+    li a3, 16
+    call create
+more:
+    li a7, 14           # pthread_self
+    ecall
+    addi t0, t0, 1
+    li a7, 15           # sched_yield
+    ecall
+    j more
+";
+
+#[test]
+fn wide_columns_sum_up_calls(rt: HostRuntime) {
+    let source = [REPLIES, LIBRARY];
+    assert!(rt; is_summed_up(rt.alloc(), &ALONE, &source, 1000, 143));
+    assert!(rt; is_summed_up(rt.alloc(), &HALVES, &source, 1000, 40));
+}

@@ -1,0 +1,518 @@
+//! What the program does with the words of its command line, over real files: the status of each request, the files
+//! that it writes, and behind the statuses that several faults share the fault itself. What is wanted comes from the
+//! table of lines and statuses. Each test that has files is a process of its own, and works in a folder of its own,
+//! which it removes. A helper that promises nothing stands between the rows and the calls that it tests.
+
+use ptk_asm::assemble;
+use ptk_asm_language::Section;
+use ptk_main_commands::{
+    answer_words, bytes_in, check_config, config_in, disasm, put_place, refusal_explained, text_in,
+    unread, usage,
+};
+use ptk_main_faults::Fault;
+use ptk_main_line::{CheckOptions, DisasmOptions, Format};
+use std::alloc::AllocError;
+use std::{env, fs, io};
+
+const P: &str = "[[partition]]\nname = \"p\"\nimage = \"p.img\"\n";
+
+const Q: &str = "[[partition]]\nname = \"q\"\nimage = \"q.img\"\n";
+
+/// A section whose image is a folder.
+const FOLDER: &str = "[[partition]]\nname = \"p\"\nimage = \"folder.img\"\n";
+
+/// Sections whose image is not there, or is none.
+const MISSING: &str = "[[partition]]\nname = \"p\"\nimage = \"none.img\"\n";
+
+const MISSING_Q: &str = "[[partition]]\nname = \"q\"\nimage = \"none.img\"\n";
+
+const BAD_Q: &str = "[[partition]]\nname = \"q\"\nimage = \"short.img\"\n";
+
+const NUMBERS: &str =
+    "memory = 4096\nthreads = 4\nstack = 256\nmutexes = 4\nconds = 4\nkeys = 4\ninterval = 100\nring = 16\noutput = 64\ntrace = 16\n";
+
+const FIRST_20: &str = "[[window]]\nstart = 0\nlength = 20\npartition = \"p\"\n";
+
+const SECOND_20: &str = "[[window]]\nstart = 20\nlength = 20\npartition = \"q\"\n";
+
+// Puts `h` and `i` and exits with 0, as a source and as its image.
+const HELLO_SOURCE: &str =
+    "li a7, 1\nli a0, 104\necall\nli a7, 1\nli a0, 105\necall\nli a7, 0\nli a0, 0\necall\n";
+
+const HELLO_IMAGE: &[u8] =
+    b"PTKI\x01\0\0\0\0\0\0\0\x24\0\0\0\0\0\0\0\0\0\0\0\x93\x08\x10\x00\x13\x05\x80\x06\x73\0\0\0\x93\x08\x10\x00\x13\x05\x90\x06\x73\0\0\0\x93\x08\0\0\x13\x05\0\0\x73\0\0\0";
+
+/// A file of text, in parts.
+struct Text {
+    name: &'static str,
+    parts: &'static [&'static str],
+}
+
+/// The texts that there are before the first command.
+const TEXTS: [Text; 14] = [
+    Text {
+        name: "alone.toml",
+        parts: &["frame = 20\n", P, NUMBERS, FIRST_20],
+    },
+    Text {
+        name: "two.toml",
+        parts: &["frame = 40\n", P, NUMBERS, Q, NUMBERS, FIRST_20, SECOND_20],
+    },
+    Text {
+        name: "folder.toml",
+        parts: &["frame = 20\n", FOLDER, NUMBERS, FIRST_20],
+    },
+    Text {
+        name: "missing.toml",
+        parts: &["frame = 20\n", MISSING, NUMBERS, FIRST_20],
+    },
+    Text {
+        name: "second.toml",
+        parts: &[
+            "frame = 40\n",
+            P,
+            NUMBERS,
+            MISSING_Q,
+            NUMBERS,
+            FIRST_20,
+            SECOND_20,
+        ],
+    },
+    Text {
+        name: "bad.toml",
+        parts: &[
+            "frame = 40\n",
+            P,
+            NUMBERS,
+            BAD_Q,
+            NUMBERS,
+            FIRST_20,
+            SECOND_20,
+        ],
+    },
+    Text {
+        name: "empty.toml",
+        parts: &[],
+    },
+    Text {
+        name: "right",
+        parts: &["partition p exit 0 steps 9 lost 0\noutput 2\nhi\n"],
+    },
+    Text {
+        name: "wrong",
+        parts: &["partition p exit 0 steps 9 lost 0\noutput 2\nh\n"],
+    },
+    Text {
+        name: "hello.s",
+        parts: &[HELLO_SOURCE],
+    },
+    Text {
+        name: "named.s",
+        parts: &["_start:\n", HELLO_SOURCE, "end:\nnop\n"],
+    },
+    // Row operand-out-of-range.
+    Text {
+        name: "bad.s",
+        parts: &["nop\naddi a0, a0, 2048\n"],
+    },
+    Text {
+        name: "bad.sym",
+        parts: &["00000000 t _start\nend\n"],
+    },
+    Text {
+        name: "kept.img",
+        parts: &["kept"],
+    },
+];
+
+/// A file of bytes.
+struct Bytes {
+    name: &'static str,
+    bytes: &'static [u8],
+}
+
+/// The images and the texts that are none, before the first command. Of `long.img` the bss is 1,048,577 zeros, one more
+/// than a source may have.
+const BYTES: [Bytes; 6] = [
+    Bytes {
+        name: "p.img",
+        bytes: HELLO_IMAGE,
+    },
+    Bytes {
+        name: "q.img",
+        bytes: HELLO_IMAGE,
+    },
+    Bytes {
+        name: "short.img",
+        bytes: b"PTKI",
+    },
+    Bytes {
+        name: "long.img",
+        bytes: b"PTKI\x01\0\0\0\0\0\0\0\0\0\0\0\0\0\0\0\x01\0\x10\0",
+    },
+    Bytes {
+        name: "bytes.toml",
+        bytes: b"\xff",
+    },
+    Bytes {
+        name: "bytes.s",
+        bytes: b"\xff",
+    },
+];
+
+/// Command lines with their statuses, in this order: some read what others before them wrote.
+const COMMANDS: [(&str, u8); 80] = [
+    ("ptk", 2),
+    ("ptk --help", 0),
+    ("ptk run alone.toml --ticks 1099511627777", 2),
+    // a file that is not there
+    ("ptk run none.toml --ticks 20", 1),
+    ("ptk trace none.toml --ticks 20 --partition p", 1),
+    ("ptk timeline none.toml --ticks 20 --from 5", 1),
+    ("ptk check none.toml", 1),
+    ("ptk check none.toml --explain", 1),
+    ("ptk asm none.s none.img", 1),
+    // a folder
+    ("ptk run . --ticks 20", 3),
+    ("ptk run folder.toml --ticks 20", 3),
+    // a configuration that is refused
+    ("ptk run bytes.toml --ticks 20", 1),
+    ("ptk check bytes.toml --explain", 1),
+    ("ptk run empty.toml --ticks 20", 1),
+    ("ptk check empty.toml", 1),
+    ("ptk check empty.toml --explain", 1),
+    ("ptk check empty.toml --format json", 1),
+    // an image that is not there, and one that is none
+    ("ptk run missing.toml --ticks 20", 1),
+    ("ptk check missing.toml", 1),
+    ("ptk check missing.toml --explain", 1),
+    ("ptk run bad.toml --ticks 20", 0),
+    ("ptk check bad.toml", 1),
+    ("ptk check bad.toml --explain", 1),
+    // all in order
+    ("ptk check alone.toml", 0),
+    ("ptk check alone.toml --explain", 0),
+    ("ptk check alone.toml --format json", 0),
+    ("ptk run alone.toml --ticks 20", 0),
+    ("ptk run alone.toml --ticks 20 --expect right", 0),
+    ("ptk run alone.toml --ticks 20 --expect wrong", 4),
+    ("ptk run alone.toml --ticks 20 --expect none", 1),
+    ("ptk run alone.toml --ticks 20 --root .", 0),
+    ("ptk run alone.toml --ticks 20 --root none", 1),
+    ("ptk trace alone.toml --ticks 20 --partition p", 0),
+    ("ptk trace alone.toml --ticks 20 --partition z", 1),
+    ("ptk timeline alone.toml --ticks 20 --from 5", 0),
+    (
+        "ptk timeline alone.toml --ticks 20 --from 5 --format vcd",
+        0,
+    ),
+    (
+        "ptk timeline alone.toml --ticks 20 --from 5 --format json",
+        0,
+    ),
+    ("ptk timeline alone.toml --ticks 20 --from 20", 1),
+    (
+        "ptk timeline alone.toml --ticks 20 --from 20 --format vcd",
+        1,
+    ),
+    (
+        "ptk timeline alone.toml --ticks 20 --from 20 --format json",
+        1,
+    ),
+    // what a new configuration can change
+    ("ptk impact alone.toml alone.toml", 0),
+    ("ptk impact alone.toml two.toml", 1),
+    ("ptk impact two.toml two.toml --partition q", 0),
+    ("ptk impact two.toml two.toml --partition z", 1),
+    ("ptk impact alone.toml alone.toml --format json", 0),
+    ("ptk impact alone.toml two.toml --format json", 1),
+    ("ptk impact missing.toml missing.toml", 1),
+    ("ptk impact none.toml two.toml", 1),
+    ("ptk impact two.toml .", 3),
+    // an image and labels of a source
+    ("ptk asm hello.s hello.img", 0),
+    ("ptk asm hello.s none/hello.img", 3),
+    ("ptk asm hello.s hello.s", 2),
+    ("ptk asm hello.s ./hello.s", 2),
+    ("ptk asm named.s none.img --symbols none.img", 2),
+    ("ptk asm named.s none.img --symbols named.s", 2),
+    ("ptk asm named.s none.img --symbols none/p.sym", 3),
+    ("ptk asm named.s named.img --symbols named.sym", 0),
+    // a source that is refused
+    ("ptk asm bad.s kept.img --explain", 1),
+    ("ptk asm bad.s kept.img --symbols none.sym", 1),
+    ("ptk asm bytes.s kept.img", 1),
+    // symbols, in order or not
+    (
+        "ptk trace alone.toml --ticks 20 --partition p --decode --symbols named.sym --thread 1 --calls --from 1 --to 5 --last 1000",
+        0,
+    ),
+    (
+        "ptk trace alone.toml --ticks 20 --partition p --decode --thread 1 --calls --from 1 --to 5 --last 1000",
+        0,
+    ),
+    (
+        "ptk trace alone.toml --ticks 20 --partition p --thread 1 --calls --from 1 --to 5 --last 1000",
+        2,
+    ),
+    (
+        "ptk trace alone.toml --ticks 20 --partition p --decode --symbols none.sym",
+        1,
+    ),
+    (
+        "ptk trace alone.toml --ticks 20 --partition p --decode --symbols bad.sym",
+        1,
+    ),
+    (
+        "ptk explain alone.toml --ticks 20 --partition p --symbols named.sym",
+        0,
+    ),
+    (
+        "ptk explain alone.toml --ticks 20 --partition p --symbols named.sym --format json",
+        0,
+    ),
+    (
+        "ptk explain alone.toml --ticks 20 --partition p --symbols bad.sym",
+        1,
+    ),
+    (
+        "ptk explain alone.toml --ticks 20 --partition q --symbols named.sym",
+        1,
+    ),
+    ("ptk timeline alone.toml --ticks 20 --symbols named.sym", 0),
+    (
+        "ptk timeline alone.toml --ticks 20 --symbols named.sym --format vcd",
+        0,
+    ),
+    (
+        "ptk timeline alone.toml --ticks 20 --symbols bad.sym --format json",
+        1,
+    ),
+    ("ptk timeline alone.toml --ticks 20 --symbols none.sym", 1),
+    // the source of an image
+    ("ptk disasm hello.img again.s", 0),
+    ("ptk asm again.s again.img", 0),
+    ("ptk disasm named.img named-again.s --symbols named.sym", 0),
+    ("ptk asm named-again.s named-again.img", 0),
+    ("ptk disasm short.img none.s", 1),
+    ("ptk disasm long.img none.s", 1),
+    ("ptk disasm hello.img none/hello.s", 3),
+];
+
+/// The files that the commands wrote or left, in the end.
+const WRITTEN: [Bytes; 4] = [
+    // Row hello-source.
+    Bytes {
+        name: "hello.img",
+        bytes: HELLO_IMAGE,
+    },
+    Bytes {
+        name: "again.img",
+        bytes: HELLO_IMAGE,
+    },
+    Bytes {
+        name: "named.sym",
+        bytes: b"00000000 t _start\n00000024 t end\n",
+    },
+    Bytes {
+        name: "kept.img",
+        bytes: b"kept",
+    },
+];
+
+/// Names that no command wrote a file for.
+const UNWRITTEN: [&str; 3] = ["none.img", "none.sym", "none.s"];
+
+/// Files that can't be read, with their faults.
+const READS: [(&str, Fault<'static>); 3] = [
+    ("none.toml", Fault::MissingFile("none.toml")),
+    ("right/x", Fault::MissingFile("right/x")),
+    (".", Fault::ReadFailed(".")),
+];
+
+/// Files that have no configuration, with their faults.
+const CONFIGS: [(&str, Fault<'static>); 2] = [
+    ("bytes.toml", Fault::NotText("bytes.toml")),
+    ("empty.toml", Fault::Config(2)),
+];
+
+/// Configurations with what `check` says of them, whether it explains or not.
+const CHECKS: [(&str, Option<Fault<'static>>); 5] = [
+    ("alone.toml", None),
+    ("folder.toml", Some(Fault::ReadFailed("folder.img"))),
+    ("missing.toml", Some(Fault::MissingFile("none.img"))),
+    ("second.toml", Some(Fault::MissingFile("none.img"))),
+    ("bad.toml", Some(Fault::Image("short.img", 1))),
+];
+
+/// Images of which no source is made, with the symbols that are asked for.
+const DISASMS: [(&str, Option<&str>, Fault<'static>); 3] = [
+    ("short.img", None, Fault::Image("short.img", 1)),
+    ("long.img", None, Fault::TooLong("long.img", Section::Bss)),
+    ("p.img", Some("bad.sym"), Fault::Symbols("bad.sym", 2)),
+];
+
+// Whether the file was written.
+fn is_written(rt: &HostRuntime, name: &str, bytes: &[u8]) -> bool {
+    fs::write(rt, name, bytes).is_ok()
+}
+
+// Whether the text that these parts make was written into a file.
+fn is_text_written(rt: &HostRuntime, text: &Text) -> bool {
+    match text.parts.concat(rt.alloc()) {
+        Ok(bytes) => is_written(rt, text.name, bytes.as_bytes()),
+        Err(_) => false,
+    }
+}
+
+// Whether the test is now in a folder of this name, below the one it was in, in which there are the files, and a
+// folder.
+fn has_entered(rt: &HostRuntime, folder: &str) -> bool {
+    let _left = fs::remove_dir_all(rt, folder);
+    fs::create_dir(rt, folder).is_ok()
+        && env::set_current_dir(rt, folder).is_ok()
+        && fs::create_dir(rt, "folder.img").is_ok()
+        && TEXTS.iter().all(|text| is_text_written(rt, text))
+        && BYTES
+            .iter()
+            .all(|file| is_written(rt, file.name, file.bytes))
+}
+
+// Whether the test is out of the folder again, and the folder is gone.
+fn has_left(rt: &HostRuntime, folder: &str) -> bool {
+    env::set_current_dir(rt, "..").is_ok() && fs::remove_dir_all(rt, folder).is_ok()
+}
+
+// Whether a file has these bytes.
+fn has_bytes(rt: &HostRuntime, name: &str, want: &[u8]) -> bool {
+    match fs::read(rt, name) {
+        Ok(bytes) => bytes.as_slice() == want,
+        Err(_) => false,
+    }
+}
+
+// Whether a command line has this status.
+fn has_status(rt: &HostRuntime, line: &str, status: u8) -> bool {
+    match line.split(' ').collect::<Vec<&str>>(rt.alloc()) {
+        Ok(words) => answer_words(rt, words.as_slice()) == status,
+        Err(_) => false,
+    }
+}
+
+// Whether a file can't be read, with this fault.
+fn is_unread(rt: &HostRuntime, name: &str, want: &Fault<'_>) -> bool {
+    match bytes_in(rt, name) {
+        Ok(_) => false,
+        Err(fault) => fault == *want,
+    }
+}
+
+// Whether a file has no configuration, with this fault.
+fn is_unconfigured(rt: &HostRuntime, name: &str, want: &Fault<'_>) -> bool {
+    match config_in(rt, name) {
+        Ok(_) => false,
+        Err(fault) => fault == *want,
+    }
+}
+
+// Whether `check` says this of the configuration in a file.
+fn is_checked(rt: &HostRuntime, file: &str, explain: bool, want: &Option<Fault<'_>>) -> bool {
+    let options = CheckOptions {
+        file,
+        root: None,
+        explain,
+        format: Format::Text,
+    };
+    match (text_in(rt, file), config_in(rt, file)) {
+        (Ok(text), Ok(config)) => {
+            check_config(rt, text.as_str(), &config, options).err() == *want
+        }
+        _ => false,
+    }
+}
+
+// Whether no source is made of an image, with this fault.
+fn is_left<'a>(
+    rt: &HostRuntime,
+    image: &'a str,
+    symbols: Option<&'a str>,
+    want: &Fault<'_>,
+) -> bool {
+    let options = DisasmOptions {
+        image,
+        target: Some("none.s"),
+        symbols,
+    };
+    disasm(rt, options).err() == Some(*want)
+}
+
+#[test]
+fn each_command_has_its_status(rt: HostRuntime) {
+    assert!(rt; has_entered(&rt, "each-command-has-its-status"));
+    for (line, status) in COMMANDS.iter() {
+        assert!(rt; has_status(&rt, line, *status), "{line}");
+    }
+    for file in WRITTEN.iter() {
+        assert!(rt; has_bytes(&rt, file.name, file.bytes));
+    }
+    for name in UNWRITTEN.iter() {
+        assert!(rt; is_unread(&rt, name, &Fault::MissingFile(name)));
+    }
+    assert!(rt; has_bytes(&rt, "hello.s", HELLO_SOURCE.as_bytes()));
+    assert!(rt; has_left(&rt, "each-command-has-its-status"));
+}
+
+#[test]
+fn each_fault_is_told(rt: HostRuntime) {
+    assert!(rt; has_entered(&rt, "each-fault-is-told"));
+    assert!(rt;
+        READS
+            .iter()
+            .all(|(name, fault)| is_unread(&rt, name, fault))
+    );
+    assert!(rt;
+        CONFIGS
+            .iter()
+            .all(|(name, fault)| is_unconfigured(&rt, name, fault))
+    );
+    for explain in [false, true] {
+        assert!(rt;
+            CHECKS
+                .iter()
+                .all(|(file, fault)| is_checked(&rt, file, explain, fault))
+        );
+    }
+    for (image, symbols, fault) in DISASMS.iter() {
+        assert!(rt; is_left(&rt, image, *symbols, fault));
+    }
+    for fault in [Fault::Config(2), Fault::NoMemory] {
+        assert!(rt; refusal_explained(&rt, "", fault) == fault);
+    }
+    assert!(rt; has_left(&rt, "each-fault-is-told"));
+}
+
+#[test]
+fn words_that_cannot_be_read_have_statuses(rt: HostRuntime) {
+    assert!(rt; unread(&rt, io::ErrorKind::InvalidData) == 2);
+    assert!(rt; unread(&rt, io::ErrorKind::OutOfMemory) == 3);
+    assert!(rt; usage(&rt, &clap::Error::from(AllocError)) == 3);
+}
+
+// Whether the place of a source's fault is written as these words.
+fn is_place(rt: &HostRuntime, source: &str, want: &str) -> bool {
+    let mut out = Vec::new(rt.alloc());
+    match assemble(rt.alloc(), source) {
+        Ok(_) => false,
+        Err(fault) => {
+            put_place(source.as_bytes(), &fault, &mut out).is_ok()
+                && out.as_slice() == want.as_bytes()
+        }
+    }
+}
+
+#[test]
+fn a_refused_source_has_a_place(rt: HostRuntime) {
+    let source = "nop\naddi a0, a0, 2048\n";
+    let want = "line 2, column 14: 2048: number, distance, offset or section out of range\n";
+    assert!(rt; is_place(&rt, source, want));
+}

@@ -1,0 +1,235 @@
+//! How partitions stand. What is wanted was worked out by hand; the ticks stand beside the guests, a column for each
+//! step's first tick.
+
+use ptk_explanation::{explain_partition_json_with, explain_partition_with};
+use ptk_main_guests::{ALONE, guest_of};
+use ptk_symbols::read_symbols;
+use ptk_words::{LAST_TICK, Tick};
+use std::alloc::Global;
+use std::test::Fail;
+
+// Each of two threads has a mutex and waits for the other's. The text ends at 100.
+const DEADLOCK: &str = "
+    la a1, second       #   0
+    li a0, 0            #   2
+    li a2, 0            #   3
+    li a7, 10           #   4  create
+    ecall               #   5
+    la a0, left         #  17
+    li a7, 22           #  19  mutex_lock: it is set up as mutex 1
+    ecall               #  20
+    li a7, 15           #  28  yield
+    ecall               #  29
+    la a0, right        #  54
+    li a7, 22           #  56  mutex_lock: thread 2 has it
+    ecall               #  57
+    ret
+second:                 #      at 68
+    la a0, right        #  33
+    li a7, 22           #  35  mutex_lock: it is set up as mutex 2
+    ecall               #  36
+    la a0, left         #  44
+    ecall               #  46  mutex_lock: thread 1 has it
+    ret
+.data
+left:
+    .word 0
+right:
+    .word 0
+";
+
+const DEADLOCK_SYMBOLS: &str = "00000000 t _start\n00000044 t second\n";
+
+const DEADLOCK_LINES: &str =
+    "partition p at tick 100: idle, no thread is running or ready, steps 23, lost 0
+thread 1: waits for mutex 2, which thread 2 owns, since tick 57
+  SCHED_FIFO, priority 16, effective 16, pc 0x00000040 <_start+0x40>, sp 0x00001000, least 0x00001000
+  mutex 2: PTHREAD_MUTEX_NORMAL, PTHREAD_PRIO_NONE
+thread 2: waits for mutex 1, which thread 1 owns, since tick 46
+  SCHED_FIFO, priority 16, effective 16, pc 0x00000060 <second+0x1c>, sp 0x00000f00, least 0x00000f00
+  mutex 1: PTHREAD_MUTEX_NORMAL, PTHREAD_PRIO_NONE
+deadlock: thread 1 waits for mutex 2, which thread 2 owns; thread 2 waits for mutex 1, which thread 1 owns
+";
+
+const DEADLOCK_JSON: &str =
+    "{\"partition\":\"p\",\"tick\":100,\"status\":\"idle\",\"steps\":23,\"lost\":0,\"threads\":[{\"thread\":1,\"activity\":\"mutex\",\"since\":57,\"mutex\":2,\"owner\":2,\"mutex_type\":\"PTHREAD_MUTEX_NORMAL\",\"mutex_protocol\":\"PTHREAD_PRIO_NONE\",\"policy\":\"SCHED_FIFO\",\"assigned_priority\":16,\"effective_priority\":16,\"pc\":64,\"symbol\":\"_start\",\"offset\":64,\"stack_pointer\":4096,\"least_stack_pointer\":4096},{\"thread\":2,\"activity\":\"mutex\",\"since\":46,\"mutex\":1,\"owner\":1,\"mutex_type\":\"PTHREAD_MUTEX_NORMAL\",\"mutex_protocol\":\"PTHREAD_PRIO_NONE\",\"policy\":\"SCHED_FIFO\",\"assigned_priority\":16,\"effective_priority\":16,\"pc\":96,\"symbol\":\"second\",\"offset\":28,\"stack_pointer\":3840,\"least_stack_pointer\":3840}],\"deadlocks\":[[1,2]]}\n";
+
+// A load behind the end of memory, at 4088 + 12.
+const LOAD: &str = "
+    li a1, 2044         #   0
+    add a1, a1, a1      #   1
+    lw a0, 12(a1)       #   2
+";
+
+const LOAD_SYMBOLS: &str = "00000004 T load\n";
+
+const LOAD_LINES: &str = "partition p at tick 100: stopped by the fault load, steps 3, lost 0
+thread 1 at tick 2, pc 0x00000008 <load+0x4>: lw a0, 12(a1)
+address 0x00001004: at or past the end of memory
+  zero 0x00000000    ra 0xfffffff0    sp 0x00001000    gp 0x00000000
+    tp 0x00000000    t0 0x00000000    t1 0x00000000    t2 0x00000000
+    s0 0x00000000    s1 0x00000000    a0 0x00000000    a1 0x00000ff8
+    a2 0x00000000    a3 0x00000000    a4 0x00000000    a5 0x00000000
+    a6 0x00000000    a7 0x00000000    s2 0x00000000    s3 0x00000000
+    s4 0x00000000    s5 0x00000000    s6 0x00000000    s7 0x00000000
+    s8 0x00000000    s9 0x00000000   s10 0x00000000   s11 0x00000000
+    t3 0x00000000    t4 0x00000000    t5 0x00000000    t6 0x00000000
+";
+
+const LOAD_JSON: &str =
+    "{\"partition\":\"p\",\"tick\":100,\"status\":\"fault\",\"steps\":3,\"lost\":0,\"fault\":{\"kind\":\"load\",\"tick\":2,\"thread\":1,\"pc\":8,\"symbol\":\"load\",\"offset\":4,\"instruction\":\"lw a0, 12(a1)\",\"address\":4100},\"registers\":[0,4294967280,4096,0,0,0,0,0,0,0,0,4088,0,0,0,0,0,0,0,0,0,0,0,0,0,0,0,0,0,0,0,0]}\n";
+
+// A thread that sleeps until the 50,000th nanosecond. The text ends at 24.
+const SLEEP: &str = "
+    la a1, when         #   0
+    li a0, 0            #   2
+    li a7, 4            #   3  clock_nanosleep
+    ecall               #   4
+    ret
+.data
+when:
+    .word 0
+    .word 0
+    .word 50000
+";
+
+const SLEEP_LINES: &str =
+    "partition p at tick 20: idle, no thread is running or ready, steps 5, lost 0
+thread 1: sleeps, until tick 50, since tick 4
+  SCHED_FIFO, priority 16, effective 16, pc 0x00000014, sp 0x00001000, least 0x00001000
+";
+
+const SLEEP_JSON: &str =
+    "{\"partition\":\"p\",\"tick\":20,\"status\":\"idle\",\"steps\":5,\"lost\":0,\"threads\":[{\"thread\":1,\"activity\":\"sleep\",\"since\":4,\"deadline\":50,\"policy\":\"SCHED_FIFO\",\"assigned_priority\":16,\"effective_priority\":16,\"pc\":20,\"stack_pointer\":4096,\"least_stack_pointer\":4096}],\"deadlocks\":[]}\n";
+
+// The second thread waits for a mutex with a ceiling, and is asked to end; the first one, which has the mutex, waits
+// for its end. The text ends at 136.
+const CEILING: &str = "
+    la a1, second       #   0
+    li a0, 0            #   2
+    li a2, 0            #   3
+    li a7, 10           #   4  create
+    ecall               #   5
+    la a0, lock         #  17
+    li a1, 2            #  19
+    li a2, 2            #  20
+    li a3, 20           #  21
+    li a7, 20           #  22  mutex_init: mutex 1, recursive, with a ceiling
+    ecall               #  23
+    la a0, lock         #  29
+    li a7, 22           #  31  mutex_lock
+    ecall               #  32
+    la a1, when         #  40
+    li a0, 0            #  42
+    li a7, 4            #  43  clock_nanosleep
+    ecall               #  44
+    li a0, 2            # 100
+    li a7, 40           # 101  cancel
+    ecall               # 102
+    li a0, 2            # 112
+    li a7, 12           # 113  join
+    ecall               # 114
+    ret
+second:                 #      at 116
+    la a0, lock         #  50
+    li a7, 22           #  52  mutex_lock: thread 1 has it
+    ecall               #  53
+    ret
+.data
+lock:
+    .word 0
+when:
+    .word 0
+    .word 0
+    .word 100000
+";
+
+const CEILING_LINES: &str =
+    "partition p at tick 130: idle, no thread is running or ready, steps 32, lost 0
+thread 1: waits for the end of thread 2, since tick 114
+  SCHED_FIFO, priority 16, effective 20, pc 0x00000070, sp 0x00001000, least 0x00001000
+thread 2: waits for mutex 1, which thread 1 owns, since tick 53
+  SCHED_FIFO, priority 16, effective 16, pc 0x00000084, sp 0x00000f00, least 0x00000f00
+  mutex 1: PTHREAD_MUTEX_RECURSIVE, PTHREAD_PRIO_PROTECT, ceiling 20
+  a cancellation is pending
+deadlock: thread 1 waits for the end of thread 2; thread 2 waits for mutex 1, which thread 1 owns
+";
+
+const CEILING_JSON: &str =
+    "{\"partition\":\"p\",\"tick\":130,\"status\":\"idle\",\"steps\":32,\"lost\":0,\"threads\":[{\"thread\":1,\"activity\":\"join\",\"since\":114,\"joins\":2,\"policy\":\"SCHED_FIFO\",\"assigned_priority\":16,\"effective_priority\":20,\"pc\":112,\"stack_pointer\":4096,\"least_stack_pointer\":4096},{\"thread\":2,\"activity\":\"mutex\",\"since\":53,\"mutex\":1,\"owner\":1,\"mutex_type\":\"PTHREAD_MUTEX_RECURSIVE\",\"mutex_protocol\":\"PTHREAD_PRIO_PROTECT\",\"mutex_ceiling\":20,\"policy\":\"SCHED_FIFO\",\"assigned_priority\":16,\"effective_priority\":16,\"pc\":132,\"stack_pointer\":3840,\"least_stack_pointer\":3840,\"cancel_pending\":true}],\"deadlocks\":[[1,2]]}\n";
+
+/// A guest, and what is shown of it after this many ticks.
+struct Case<'a> {
+    source: &'a str,
+    symbols: &'a str,
+    ticks: u64,
+    lines: &'a str,
+    json: &'a str,
+}
+
+const CASES: [Case<'static>; 4] = [
+    Case {
+        source: DEADLOCK,
+        symbols: DEADLOCK_SYMBOLS,
+        ticks: 100,
+        lines: DEADLOCK_LINES,
+        json: DEADLOCK_JSON,
+    },
+    Case {
+        source: LOAD,
+        symbols: LOAD_SYMBOLS,
+        ticks: 100,
+        lines: LOAD_LINES,
+        json: LOAD_JSON,
+    },
+    Case {
+        source: SLEEP,
+        symbols: "",
+        ticks: 20,
+        lines: SLEEP_LINES,
+        json: SLEEP_JSON,
+    },
+    Case {
+        source: CEILING,
+        symbols: "",
+        ticks: 130,
+        lines: CEILING_LINES,
+        json: CEILING_JSON,
+    },
+];
+
+// Whether this is told of a case, as lines and as JSON.
+fn is_told(alloc: Global, case: &Case<'_>) -> Result<bool, Fail> {
+    let (config, files) = guest_of(alloc, &ALONE, &[case.source]).ok_or("no guest")?;
+    let symbols = read_symbols(alloc, case.symbols)?;
+    let ticks = Tick::new(case.ticks.min(LAST_TICK));
+    let (mut lines, mut json) = (Vec::new(alloc), Vec::new(alloc));
+    let is_told = explain_partition_with(
+        alloc, &config, &files, ticks, "p", &symbols, &mut lines,
+    ).is_ok();
+    let is_json = explain_partition_json_with(
+        alloc, &config, &files, ticks, "p", &symbols, &mut json,
+    ).is_ok();
+    Ok(
+        is_told
+            && is_json
+            && lines.as_slice() == case.lines.as_bytes()
+            && json.as_slice() == case.json.as_bytes(),
+    )
+}
+
+// The place of the first case of which another text is told.
+fn first_wrong(alloc: Global) -> Result<Option<usize>, Fail> {
+    for (place, case) in CASES.iter().enumerate() {
+        if !is_told(alloc, case)? {
+            return Ok(Some(place));
+        }
+    }
+    Ok(None)
+}
+
+#[test]
+fn partitions_stand_as_told(rt: HostRuntime) -> Result<(), Fail> {
+    assert_eq!(rt; first_wrong(rt.alloc())?, None);
+    Ok(())
+}

@@ -1,0 +1,534 @@
+//! What is written of pairs of configurations. What is wanted was worked out by hand. A helper that promises nothing
+//! stands between each row and the calls that it tests.
+
+use ptk_config::read_config;
+use ptk_image::Files;
+use ptk_impact_answers::{Question, Release, impact_json_with, impact_with};
+use ptk_main_answers::{run_with, trace_with};
+use ptk_main_faults::Fault;
+use ptk_main_line::Format;
+use ptk_words::Tick;
+use std::alloc::Global;
+use std::test::Fail;
+
+// The table of partition p or q, whose image has two steps.
+const P: &str = "[[partition]]\nname = \"p\"\nimage = \"p.img\"\n";
+
+const Q: &str = "[[partition]]\nname = \"q\"\nimage = \"p.img\"\n";
+
+const NUMBERS: &str =
+    "memory = 4096\nthreads = 4\nstack = 256\nmutexes = 4\nconds = 4\nkeys = 4\ninterval = 100\nring = 16\noutput = 64\ntrace = 16\n";
+
+// Half of the frame of 40 ticks.
+const P_FIRST: &str = "[[window]]\nstart = 0\nlength = 20\npartition = \"p\"\n";
+
+const Q_SECOND: &str = "[[window]]\nstart = 20\nlength = 20\npartition = \"q\"\n";
+
+/// Both partitions in a frame of 40 ticks.
+const BOTH: [&str; 7] = ["frame = 40\n", P, NUMBERS, Q, NUMBERS, P_FIRST, Q_SECOND];
+
+/// p alone, in the same window.
+const ALONE: [&str; 4] = ["frame = 40\n", P, NUMBERS, P_FIRST];
+
+// An image of two words, and the same with one bit other.
+const IMAGE: &[u8] = b"PTKI\x01\0\0\0\0\0\0\0\x08\0\0\0\0\0\0\0\0\0\0\0\x93\x08\0\0\x73\0\0\0";
+
+const OTHER_IMAGE: &[u8] =
+    b"PTKI\x01\0\0\0\0\0\0\0\x08\0\0\0\0\0\0\0\0\0\0\0\x93\x08\0\0\x73\0\0\x01";
+
+/// Two configurations, a question on the way from one to the other, and its answer.
+struct Case<'a> {
+    old: &'a [&'a str],
+    new: &'a [&'a str],
+    question: Question<'a>,
+    format: Format,
+    answer: Answer<'a>,
+}
+
+/// What is written, of the same run or of another one, or the fault for which nothing is.
+enum Answer<'a> {
+    SameRun(&'a str),
+    OtherRun(&'a str),
+    Refused(Fault<'a>),
+}
+
+/// The question for all partitions under their own names.
+const ALL: Question<'static> = Question {
+    partition: None,
+    rename: None,
+};
+
+// The images p.img, other.img, which has one other bit, the same under a name with a quotation mark, and bad.img, which
+// is none.
+fn files(alloc: Global) -> Result<Files, Fail> {
+    let mut files = Files::new(alloc);
+    files.add("p.img", IMAGE)?;
+    files.add("other.img", OTHER_IMAGE)?;
+    files.add("a\".img", OTHER_IMAGE)?;
+    files.add("bad.img", b"no image")?;
+    Ok(files)
+}
+
+// Whether this is the answer to the case.
+fn is_answered(alloc: Global, case: &Case<'_>, files: &Files) -> Result<bool, Fail> {
+    let (old, new) = (case.old.concat(alloc)?, case.new.concat(alloc)?);
+    let (old, new) = match (
+        read_config(alloc, old.as_str()),
+        read_config(alloc, new.as_str()),
+    ) {
+        (Ok(old), Ok(new)) => (old, new),
+        _ => return Ok(false),
+    };
+    let before = Release {
+        config: &old,
+        files,
+    };
+    let after = Release {
+        config: &new,
+        files,
+    };
+    let mut out = Vec::new(alloc);
+    let told = match case.format {
+        Format::Text => impact_with(alloc, before, after, case.question, &mut out),
+        Format::Json => impact_json_with(alloc, before, after, case.question, &mut out),
+    };
+    Ok(match (told, &case.answer) {
+        (Ok(tally), Answer::SameRun(text)) => {
+            tally.is_same_run() && out.as_slice() == text.as_bytes()
+        }
+        (Ok(tally), Answer::OtherRun(text)) => {
+            !tally.is_same_run() && out.as_slice() == text.as_bytes()
+        }
+        (Err(fault), Answer::Refused(wanted)) => fault == *wanted && out.is_empty(),
+        _ => false,
+    })
+}
+
+/// A frame twice as long, with its windows twice.
+const TWICE_THE_FRAME: Case<'static> = Case {
+    old: &BOTH,
+    new: &[
+        "frame = 80\n",
+        P,
+        NUMBERS,
+        Q,
+        NUMBERS,
+        P_FIRST,
+        Q_SECOND,
+        "[[window]]\nstart = 40\nlength = 20\npartition = \"p\"\n[[window]]\nstart = 60\nlength = 20\npartition = \"q\"\n",
+    ],
+    question: ALL,
+    format: Format::Text,
+    answer: Answer::SameRun(
+        "p: unchanged\nq: unchanged\n2 unchanged, 0 unchanged but for the trace kept, 0 changed, 0 new, 0 gone\n",
+    ),
+};
+
+/// A stage that repeats the table before it, in another order.
+const REPEATED_STAGE: Case<'static> = Case {
+    old: &BOTH,
+    new: &[
+        "frame = 40\n",
+        P,
+        NUMBERS,
+        Q,
+        NUMBERS,
+        P_FIRST,
+        Q_SECOND,
+        "[[plan]]\nfrom = 3\n[[plan.window]]\nstart = 20\nlength = 20\npartition = \"q\"\n[[plan.window]]\nstart = 0\nlength = 20\npartition = \"p\"\n",
+    ],
+    question: ALL,
+    format: Format::Text,
+    answer: Answer::SameRun(
+        "p: unchanged\nq: unchanged\n2 unchanged, 0 unchanged but for the trace kept, 0 changed, 0 new, 0 gone\n",
+    ),
+};
+
+/// The windows swapped from frame 2 on, which begins at tick 80.
+const SWAPPED_WINDOWS: Case<'static> = Case {
+    old: &BOTH,
+    new: &[
+        "frame = 40\n",
+        P,
+        NUMBERS,
+        Q,
+        NUMBERS,
+        P_FIRST,
+        Q_SECOND,
+        "[[plan]]\nfrom = 2\n[[plan.window]]\nstart = 0\nlength = 20\npartition = \"q\"\n[[plan.window]]\nstart = 20\nlength = 20\npartition = \"p\"\n",
+    ],
+    question: ALL,
+    format: Format::Text,
+    answer: Answer::OtherRun(
+        "p: changed\n  windows: tick 80: its own until 100 -> not its own\nq: changed\n  windows: tick 80: not its own -> its own until 100\n0 unchanged, 0 unchanged but for the trace kept, 2 changed, 0 new, 0 gone\n",
+    ),
+};
+
+/// A pair in which the answers and the differences are of each kind. Windows: old p 0..20, q 20..40, s 40..56, t
+/// 56..72; new pilot 0..16, q 20..40, r 40..56, t 56..72.
+const EACH_KIND: Case<'static> = Case {
+    old: &[
+        "frame = 80\n",
+        P,
+        NUMBERS,
+        "input = [{ at = 5, bytes = [65] }]\n",
+        Q,
+        NUMBERS,
+        "[[partition]]\nname = \"s\"\n",
+        NUMBERS,
+        "[[partition]]\nname = \"t\"\n",
+        NUMBERS,
+        P_FIRST,
+        "[[window]]\nstart = 20\nlength = 20\npartition = \"q\"\n",
+        "[[window]]\nstart = 40\nlength = 16\npartition = \"s\"\n",
+        "[[window]]\nstart = 56\nlength = 16\npartition = \"t\"\n",
+    ],
+    new: &[
+        "frame = 80\n",
+        "[[partition]]\nname = \"r\"\n",
+        NUMBERS,
+        "[[partition]]\nname = \"pilot\"\nimage = 'a\".img'\n",
+        "memory = 8192\nthreads = 4\nstack = 256\nmutexes = 4\nconds = 4\nkeys = 3\ninterval = 100\nring = 16\noutput = 64\ntrace = 16\n",
+        "input = [{ at = 5, bytes = [65, 66] }]\n",
+        "[[partition]]\nname = \"q\"\nimage = \"bad.img\"\n",
+        NUMBERS,
+        "[[partition]]\nname = \"t\"\n",
+        "memory = 4096\nthreads = 4\nstack = 256\nmutexes = 4\nconds = 4\nkeys = 4\ninterval = 100\nring = 16\noutput = 64\ntrace = 64\n",
+        "[[window]]\nstart = 0\nlength = 16\npartition = \"pilot\"\n",
+        "[[window]]\nstart = 20\nlength = 20\npartition = \"q\"\n",
+        "[[window]]\nstart = 40\nlength = 16\npartition = \"r\"\n",
+        "[[window]]\nstart = 56\nlength = 16\npartition = \"t\"\n",
+    ],
+    question: Question {
+        partition: None,
+        rename: Some("p=pilot"),
+    },
+    format: Format::Json,
+    answer: Answer::OtherRun(
+        "{\"format\":\"ptk impact 1\",\"partitions\":[{\"name\":\"r\",\"answer\":\"new\"},{\"name\":\"pilot\",\"answer\":\"changed\",\"old_name\":\"p\",\"place\":{\"old\":0,\"new\":1},\"file\":{\"old\":\"p.img\",\"new\":\"a\\\".img\"},\"differences\":{\"windows\":{\"tick\":0,\"old_end\":20,\"new_end\":16},\"limits\":{\"memory\":{\"old\":4096,\"new\":8192},\"keys\":{\"old\":4,\"new\":3}},\"image\":{\"offset\":31},\"input\":{\"index\":1,\"old\":null,\"new\":{\"tick\":5,\"byte\":66}}}},{\"name\":\"q\",\"answer\":\"changed\",\"place\":{\"old\":1,\"new\":2},\"file\":{\"old\":\"p.img\",\"new\":\"bad.img\"},\"differences\":{\"image\":{\"offset\":0,\"fault\":{\"old\":null,\"new\":1}}}},{\"name\":\"t\",\"answer\":\"unchanged but for the trace kept\",\"differences\":{\"limits\":{\"trace\":{\"old\":16,\"new\":64}}}},{\"name\":\"s\",\"answer\":\"gone\"}],\"unchanged\":0,\"unchanged_but_for_trace\":1,\"changed\":2,\"new\":1,\"gone\":1}\n",
+    ),
+};
+
+/// Questions with their answers: the same run, another one, and what is refused.
+const CASES: [Case<'static>; 21] = [
+    TWICE_THE_FRAME,
+    REPEATED_STAGE,
+    // the sections in another order
+    Case {
+        old: &BOTH,
+        new: &["frame = 40\n", Q, NUMBERS, P, NUMBERS, P_FIRST, Q_SECOND],
+        question: ALL,
+        format: Format::Text,
+        answer: Answer::SameRun(
+            "q: unchanged\n  place: 1 -> 0 (no change of behaviour)\np: unchanged\n  place: 0 -> 1 (no change of behaviour)\n2 unchanged, 0 unchanged but for the trace kept, 0 changed, 0 new, 0 gone\n",
+        ),
+    },
+    // a longer trace
+    Case {
+        old: &ALONE,
+        new: &[
+            "frame = 40\n",
+            P,
+            "trace = 64\n",
+            "memory = 4096\nthreads = 4\nstack = 256\nmutexes = 4\nconds = 4\nkeys = 4\ninterval = 100\nring = 16\noutput = 64\n",
+            P_FIRST,
+        ],
+        question: ALL,
+        format: Format::Text,
+        answer: Answer::SameRun(
+            "p: unchanged but for the trace kept\n  trace: 16 -> 64\n0 unchanged, 1 unchanged but for the trace kept, 0 changed, 0 new, 0 gone\n",
+        ),
+    },
+    // another name
+    Case {
+        old: &ALONE,
+        new: &[
+            "frame = 40\n",
+            "[[partition]]\nname = \"pilot\"\nimage = \"p.img\"\n",
+            NUMBERS,
+            "[[window]]\nstart = 0\nlength = 20\npartition = \"pilot\"\n",
+        ],
+        question: Question {
+            partition: None,
+            rename: Some("p=pilot"),
+        },
+        format: Format::Text,
+        answer: Answer::SameRun(
+            "pilot: unchanged\n  name: p -> pilot (no change of behaviour)\n1 unchanged, 0 unchanged but for the trace kept, 0 changed, 0 new, 0 gone\n",
+        ),
+    },
+    // one partition alone, whose neighbour is removed
+    Case {
+        old: &BOTH,
+        new: &ALONE,
+        question: Question {
+            partition: Some("p"),
+            rename: None,
+        },
+        format: Format::Text,
+        answer: Answer::SameRun(
+            "p: unchanged\n1 unchanged, 0 unchanged but for the trace kept, 0 changed, 0 new, 0 gone\n",
+        ),
+    },
+    SWAPPED_WINDOWS,
+    // p's window moved to the second half from frame 1 on
+    Case {
+        old: &BOTH,
+        new: &[
+            "frame = 40\n",
+            P,
+            NUMBERS,
+            Q,
+            NUMBERS,
+            P_FIRST,
+            Q_SECOND,
+            "[[plan]]\nfrom = 1\n[[plan.window]]\nstart = 20\nlength = 20\npartition = \"p\"\n",
+        ],
+        question: ALL,
+        format: Format::Text,
+        answer: Answer::OtherRun(
+            "p: changed\n  windows: tick 40: its own until 60 -> not its own\nq: changed\n  windows: tick 60: its own until 80 -> not its own\n0 unchanged, 0 unchanged but for the trace kept, 2 changed, 0 new, 0 gone\n",
+        ),
+    },
+    // adjacent windows joined: the same ticks, other ends
+    Case {
+        old: &[
+            "frame = 40\n",
+            P,
+            NUMBERS,
+            P_FIRST,
+            "[[window]]\nstart = 20\nlength = 20\npartition = \"p\"\n",
+        ],
+        new: &[
+            "frame = 40\n",
+            P,
+            NUMBERS,
+            "[[window]]\nstart = 0\nlength = 40\npartition = \"p\"\n",
+        ],
+        question: ALL,
+        format: Format::Text,
+        answer: Answer::OtherRun(
+            "p: changed\n  windows: tick 0: its own until 20 -> its own until 40\n0 unchanged, 0 unchanged but for the trace kept, 1 changed, 0 new, 0 gone\n",
+        ),
+    },
+    // one bit of an image, the highest of its last byte
+    Case {
+        old: &ALONE,
+        new: &[
+            "frame = 40\n",
+            "[[partition]]\nname = \"p\"\nimage = \"other.img\"\n",
+            NUMBERS,
+            P_FIRST,
+        ],
+        question: ALL,
+        format: Format::Text,
+        answer: Answer::OtherRun(
+            "p: changed\n  image: other bytes from offset 31\n  file: p.img -> other.img (no change of behaviour)\n0 unchanged, 0 unchanged but for the trace kept, 1 changed, 0 new, 0 gone\n",
+        ),
+    },
+    // an image that is none
+    Case {
+        old: &ALONE,
+        new: &[
+            "frame = 40\n",
+            "[[partition]]\nname = \"p\"\nimage = \"bad.img\"\n",
+            NUMBERS,
+            P_FIRST,
+        ],
+        question: ALL,
+        format: Format::Text,
+        answer: Answer::OtherRun(
+            "p: changed\n  image: other bytes from offset 0\n  image: not refused -> refused, fault 1\n  file: p.img -> bad.img (no change of behaviour)\n0 unchanged, 0 unchanged but for the trace kept, 1 changed, 0 new, 0 gone\n",
+        ),
+    },
+    // an input byte one tick later
+    Case {
+        old: &[
+            "frame = 40\n",
+            P,
+            NUMBERS,
+            "input = [{ at = 5, bytes = [65] }]\n",
+            P_FIRST,
+        ],
+        new: &[
+            "frame = 40\n",
+            P,
+            NUMBERS,
+            "input = [{ at = 6, bytes = [65] }]\n",
+            P_FIRST,
+        ],
+        question: ALL,
+        format: Format::Text,
+        answer: Answer::OtherRun(
+            "p: changed\n  input: arrival 0: byte 65 at tick 5 -> byte 65 at tick 6\n0 unchanged, 0 unchanged but for the trace kept, 1 changed, 0 new, 0 gone\n",
+        ),
+    },
+    // an input byte more, and less room
+    Case {
+        old: &[
+            "frame = 40\n",
+            P,
+            NUMBERS,
+            "input = [{ at = 5, bytes = [65] }]\n",
+            P_FIRST,
+        ],
+        new: &[
+            "frame = 40\n",
+            P,
+            "memory = 8192\nthreads = 4\nstack = 256\nmutexes = 4\nconds = 4\nkeys = 3\ninterval = 100\nring = 16\noutput = 64\ntrace = 16\n",
+            "input = [{ at = 5, bytes = [65, 66] }]\n",
+            P_FIRST,
+        ],
+        question: ALL,
+        format: Format::Text,
+        answer: Answer::OtherRun(
+            "p: changed\n  memory: 4096 -> 8192\n  keys: 4 -> 3\n  input: arrival 1: none -> byte 66 at tick 5\n0 unchanged, 0 unchanged but for the trace kept, 1 changed, 0 new, 0 gone\n",
+        ),
+    },
+    // a neighbour removed
+    Case {
+        old: &BOTH,
+        new: &ALONE,
+        question: ALL,
+        format: Format::Text,
+        answer: Answer::OtherRun(
+            "p: unchanged\nq: gone\n1 unchanged, 0 unchanged but for the trace kept, 0 changed, 0 new, 1 gone\n",
+        ),
+    },
+    // a neighbour added
+    Case {
+        old: &ALONE,
+        new: &BOTH,
+        question: ALL,
+        format: Format::Text,
+        answer: Answer::OtherRun(
+            "p: unchanged\nq: new\n1 unchanged, 0 unchanged but for the trace kept, 0 changed, 1 new, 0 gone\n",
+        ),
+    },
+    // a neighbour replaced by one that has no image
+    Case {
+        old: &BOTH,
+        new: &[
+            "frame = 40\n",
+            P,
+            NUMBERS,
+            "[[partition]]\nname = \"q\"\n",
+            NUMBERS,
+            P_FIRST,
+            Q_SECOND,
+        ],
+        question: ALL,
+        format: Format::Text,
+        answer: Answer::OtherRun(
+            "p: unchanged\nq: changed\n  image: one -> none\n1 unchanged, 0 unchanged but for the trace kept, 1 changed, 0 new, 0 gone\n",
+        ),
+    },
+    EACH_KIND,
+    Case {
+        old: &ALONE,
+        new: &[
+            "frame = 40\n",
+            "[[partition]]\nname = \"p\"\nimage = \"none.img\"\n",
+            NUMBERS,
+            P_FIRST,
+        ],
+        question: ALL,
+        format: Format::Text,
+        answer: Answer::Refused(Fault::MissingFile("none.img")),
+    },
+    Case {
+        old: &ALONE,
+        new: &BOTH,
+        question: Question {
+            partition: Some("z"),
+            rename: None,
+        },
+        format: Format::Text,
+        answer: Answer::Refused(Fault::NoPartition("z")),
+    },
+    Case {
+        old: &ALONE,
+        new: &BOTH,
+        question: Question {
+            partition: None,
+            rename: Some("z=q"),
+        },
+        format: Format::Text,
+        answer: Answer::Refused(Fault::NoPartition("z")),
+    },
+    Case {
+        old: &ALONE,
+        new: &BOTH,
+        question: Question {
+            partition: None,
+            rename: Some("p=q,p"),
+        },
+        format: Format::Text,
+        answer: Answer::Refused(Fault::NoPartition("p")),
+    },
+];
+
+#[test]
+fn a_question_is_answered(rt: HostRuntime) -> Result<(), Fail> {
+    let files = files(rt.alloc())?;
+    for (place, case) in CASES.iter().enumerate() {
+        assert!(rt; is_answered(rt.alloc(), case, &files)?, "{place}");
+    }
+    Ok(())
+}
+
+// An image that counts on without end: addi a0, a0, 1, and a jump back to it (RISC-V Unprivileged ISA, RV32I).
+const COUNTING_IMAGE: &[u8] =
+    b"PTKI\x01\0\0\0\0\0\0\0\x08\0\0\0\0\0\0\0\0\0\0\0\x13\x05\x15\0\x6f\xf0\xdf\xff";
+
+// Ticks in windows of p and of q, in the first frame and in later ones: frame 3 begins at tick 120.
+const TICKS: [u32; 4] = [30, 50, 130, 155];
+
+// The report at a tick and the traces of p and q there, one after the other, where p.img counts. None where the text is
+// refused.
+fn run_of(alloc: Global, text: &[&str], tick: u32) -> Result<Option<Vec<u8>>, Fail> {
+    let mut files = Files::new(alloc);
+    files.add("p.img", COUNTING_IMAGE)?;
+    let text = text.concat(alloc)?;
+    let Ok(config) = read_config(alloc, text.as_str()) else {
+        return Ok(None);
+    };
+    let tick = Tick::new(u64::from(tick));
+    let mut out = Vec::new(alloc);
+    let is_run = run_with(alloc, &config, &files, tick, &mut out).is_ok();
+    let is_p = trace_with(alloc, &config, &files, tick, "p", &mut out).is_ok();
+    let is_q = trace_with(alloc, &config, &files, tick, "q", &mut out).is_ok();
+    if is_run && is_p && is_q {
+        Ok(Some(out))
+    } else {
+        Ok(None)
+    }
+}
+
+// Whether both configurations of the case have the same report and traces at a tick, None where a text is refused.
+fn runs_alike(alloc: Global, case: &Case<'_>, tick: u32) -> Result<Option<bool>, Fail> {
+    match (
+        run_of(alloc, case.old, tick)?,
+        run_of(alloc, case.new, tick)?,
+    ) {
+        (Some(old), Some(new)) => Ok(Some(old == new)),
+        _ => Ok(None),
+    }
+}
+
+// The tables written otherwise leave each report and trace as it is; the windows swapped do not.
+#[test]
+fn an_unchanged_partition_runs_alike(rt: HostRuntime) -> Result<(), Fail> {
+    for tick in TICKS {
+        assert!(rt;
+            runs_alike(rt.alloc(), &TWICE_THE_FRAME, tick)? == Some(true),
+            "{tick}"
+        );
+        assert!(rt;
+            runs_alike(rt.alloc(), &REPEATED_STAGE, tick)? == Some(true),
+            "{tick}"
+        );
+    }
+    assert!(rt; runs_alike(rt.alloc(), &SWAPPED_WINDOWS, 130)? == Some(false));
+    Ok(())
+}

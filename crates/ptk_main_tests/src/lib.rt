@@ -1,0 +1,26 @@
+#![tactic(auto)]
+
+//! Tests of the program: the bytes that its requests write, and what its command lines do with real files.
+//!
+//! - The bytes are those of the public calls of `ptk_main_answers`, `ptk_impact_answers`, `ptk_timeline_formats`,
+//!   `ptk_explanation` and `ptk_statistics`.
+//! - Of a command line (`ptk_main_commands`) it is the status, the fault behind a status that several share, and the
+//!   files that `asm` and `disasm` write.
+//!
+//! They use public names alone and are apart, so that those crates and the program are proved once and not a second
+//! time with their tests. There is no other code here, and nothing is above.
+
+#[cfg(test)]
+mod answers;
+#[cfg(test)]
+mod commands;
+#[cfg(test)]
+mod decoded;
+#[cfg(test)]
+mod explanations;
+#[cfg(test)]
+mod formats;
+#[cfg(test)]
+mod impacts;
+#[cfg(test)]
+mod statistics;

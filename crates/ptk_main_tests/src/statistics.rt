@@ -1,0 +1,97 @@
+//! The figures of runs of three small guests. What they are was worked out by hand from the costs of docs/GUEST_ABI.md.
+//! A helper that promises nothing stands between the rows and the calls that they test.
+
+use ptk_config::read_config;
+use ptk_image::Files;
+use ptk_statistics::{stats_json_with, stats_with};
+use ptk_words::{LAST_TICK, Tick};
+use std::alloc::Global;
+use std::test::Fail;
+
+/// The table of partition p.
+const P: &str = "[[partition]]\nname = \"p\"\nimage = \"p.img\"\n";
+
+const NUMBERS: &str =
+    "memory = 4096\nthreads = 4\nstack = 256\nmutexes = 4\nconds = 4\nkeys = 4\ninterval = 100\nring = 16\noutput = 64\ntrace = 16\n";
+
+/// exit(0).
+const EXIT: &[u8] = b"PTKI\x01\0\0\0\0\0\0\0\x08\0\0\0\0\0\0\0\0\0\0\0\x93\x08\0\0\x73\0\0\0";
+
+/// console_put in a loop: the number of the call, the call, and back to it.
+const PUTS: &[u8] =
+    b"PTKI\x01\0\0\0\0\0\0\0\x0c\0\0\0\0\0\0\0\0\0\0\0\x93\x08\x10\0\x73\0\0\0\x6f\xf0\xdf\xff";
+
+/// clock_nanosleep until tick 30, then 60, then 120: the number of the call, the address of the time, 30,000 ns; in the
+/// loop it is stored, the call made, and doubled.
+const SLEEPS: &[u8] =
+    b"PTKI\x01\0\0\0\0\0\0\0\x20\0\0\0\0\0\0\0\0\0\0\0\x93\x08\x40\0\x93\x05\0\x20\x37\x76\0\0\x13\x06\x06\x53\x23\xa4\xc5\0\x73\0\0\0\x33\x06\xc6\0\x6f\xf0\x5f\xff";
+
+/// An image, the window of its partition, a number of ticks, and what is written of its run.
+struct Case<'a> {
+    image: &'a [u8],
+    window: &'a str,
+    ticks: u64,
+    written: &'a str,
+}
+/// What is written of each run.
+const CASES: [Case<'static>; 3] = [
+    // two steps, and the partition is halted from the tick behind the one of its exit
+    Case {
+        image: EXIT,
+        window: "[[window]]\nstart = 0\nlength = 20\npartition = \"p\"\n",
+        ticks: 30,
+        written: "partition p exited\n  own ticks        used        idle        lost  after halt  lost ahead       steps\n         20           2           0           0          18           0           2\nthread does            since       steps   preempted       to run    to run own  least stack\n     1 halted              2           2           0            0             0   0x00001000\nthread ticks     running       ready       input       sleep        join       mutex   condition      relock\n     1 own             2           0           0           0           0           0           0           0\n     1 all             2           0           0           0           0           0           0           0\nthread activations       least        mean    greatest     at tick   own least    own mean own greatest\nthread call                           made     refused\n     1 exit                              1           0\n mutex longest       ticks   own ticks      thread     at tick\n\n",
+    },
+    // a call of 4 ticks has room for 1 at the end of the first window and for 2 at that of the second, whose second is
+    // tick 56
+    Case {
+        image: PUTS,
+        window: "[[window]]\nstart = 0\nlength = 17\npartition = \"p\"\n",
+        ticks: 56,
+        written: "partition p running\n  own ticks        used        idle        lost  after halt  lost ahead       steps\n         33          31           0           2           0           1          13\nthread does            since       steps   preempted       to run    to run own  least stack\n     1 running             0          13           0            0             0   0x00001000\nthread ticks     running       ready       input       sleep        join       mutex   condition      relock\n     1 own            33           0           0           0           0           0           0           0\n     1 all            56           0           0           0           0           0           0           0\nthread activations       least        mean    greatest     at tick   own least    own mean own greatest\nthread call                           made     refused\n     1 console_put                       6           0\n mutex longest       ticks   own ticks      thread     at tick\n\n",
+    },
+    // woken at 30, with 3 ticks lost at 33 and blocked from 46 on; woken at 60 and blocked from 69 on
+    Case {
+        image: SLEEPS,
+        window: "[[window]]\nstart = 0\nlength = 36\npartition = \"p\"\n",
+        ticks: 70,
+        written: "partition p idle\n  own ticks        used        idle        lost  after halt  lost ahead       steps\n         66          29          34           3           0           0          14\nthread does            since       steps   preempted       to run    to run own  least stack\n     1 sleep              69          14           0            0             0   0x00001000\nthread ticks     running       ready       input       sleep        join       mutex   condition      relock\n     1 own            32           0           0          34           0           0           0           0\n     1 all            36           0           0          34           0           0           0           0\nthread activations       least        mean    greatest     at tick   own least    own mean own greatest\n     1           2           9          12          16          30           9          10           12\nthread call                           made     refused\n     1 clock_nanosleep                   3           0\n mutex longest       ticks   own ticks      thread     at tick\n\n",
+    },
+];
+
+/// The first run as JSON.
+const JSON: &str =
+    "{\"format\":\"ptk stats 1\",\"ticks\":30,\"partitions\":[{\"name\":\"p\",\"status\":\"exited\",\"own\":20,\"used\":2,\"idle\":0,\"lost\":0,\"after_halt\":18,\"lost_ahead\":0,\"steps\":2,\"threads\":[{\"thread\":1,\"does\":\"halted\",\"since\":2,\"steps\":2,\"preemptions\":0,\"least_stack\":4096,\"to_run\":{\"own\":0,\"all\":0},\"ticks\":{\"running\":{\"own\":2,\"all\":2},\"ready\":{\"own\":0,\"all\":0},\"input\":{\"own\":0,\"all\":0},\"sleep\":{\"own\":0,\"all\":0},\"join\":{\"own\":0,\"all\":0},\"mutex\":{\"own\":0,\"all\":0},\"condition\":{\"own\":0,\"all\":0},\"relock\":{\"own\":0,\"all\":0}},\"activations\":{\"count\":0,\"least\":{\"own\":0,\"all\":0},\"mean\":{\"own\":0,\"all\":0},\"greatest\":{\"own\":0,\"all\":0},\"greatest_from\":0},\"calls\":[{\"call\":\"exit\",\"made\":1,\"refused\":0}]}],\"mutexes\":[]}]}\n";
+
+// Whether this is written of the run of a case.
+fn is_written(alloc: Global, case: &Case<'_>, is_json: bool, written: &str) -> Result<bool, Fail> {
+    let mut files = Files::new(alloc);
+    files.add("p.img", case.image)?;
+    let text = ["frame = 40\n", P, NUMBERS, case.window].concat(alloc)?;
+    let Ok(config) = read_config(alloc, text.as_str()) else {
+        return Ok(false);
+    };
+    if case.ticks > LAST_TICK {
+        return Ok(false);
+    }
+    let mut out = Vec::new(alloc);
+    let ticks = Tick::new(case.ticks);
+    let answer = if is_json {
+        stats_json_with(alloc, &config, &files, ticks, Some("p"), &mut out)
+    } else {
+        stats_with(alloc, &config, &files, ticks, None, &mut out)
+    };
+    Ok(answer.is_ok() && out.as_slice() == written.as_bytes())
+}
+
+#[test]
+fn figures(rt: HostRuntime) -> Result<(), Fail> {
+    for (place, case) in CASES.iter().enumerate() {
+        assert!(rt;
+            is_written(rt.alloc(), case, false, case.written)?,
+            "{place}"
+        );
+    }
+    assert!(rt; is_written(rt.alloc(), &CASES[0], true, JSON)?);
+    Ok(())
+}

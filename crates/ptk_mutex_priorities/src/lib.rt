@@ -1,0 +1,21 @@
+#![tactic(auto)]
+
+//! One mutex but for its waiters, the move that a lock of it makes, and one partition's effective priorities computed.
+//!
+//! - One mutex's place: each change of it is the definition's, whoever waits, and so are the moves of lock, trylock and
+//!   re-lock with their replies.
+//! - `recompute` gives a partition's effective priorities, on cycles too.
+//!
+//! `MutexSlot` is the place of a number: a contract sees it as the mutex at it without its waiters, which the slot
+//! table keeps. `Change` is all else that becomes of a mutex. What reads no waiters is the same of the mutex with them
+//! (`proofs/Bare`). In `recompute` each thread raises its chain; that this leaves the greatest held priority, within
+//! the range that `ptk_syncs` asks of what it stores, is what is costly to prove (`proofs/Levels`). No call takes
+//! memory. Below is `ptk_threads`; above are `ptk_syncs` and `ptk_mutex`.
+
+mod moves;
+mod priorities;
+mod slot;
+
+pub use moves::{free_move, kept_reply, reply_of};
+pub use priorities::{assigned, awaited, effective, next_in_chain, recompute, thread_slot};
+pub use slot::{Change, MutexSlot, MutexState, slot_in};

@@ -1,0 +1,208 @@
+//! The JSON object of a partition, written member by member.
+
+ghost use Rattle.std.specs.Prelude.{◌≡◌, IfOk, string_bytes};
+ghost use Rattle.json.specs.Lex.{tokens};
+ghost use Rattle.json.specs.Print.{print};
+
+use crate::part::PartStatistics;
+use crate::words::{CALLS, KINDS, call_word, doing_word, status_word};
+use ptk_statistics_figures::{
+    CallCount, Counted, Longest, MutexStatistics, Span, Spread, ThreadStatistics,
+};
+use ptk_system::PartStatus;
+use ptk_words::ThreadNo;
+use serde::{Described, Serialize, Serializer};
+use serde_json::Error;
+use std::alloc::Global;
+
+/// How many threads a partition has at most.
+const THREADS: usize = 32;
+
+/// A partition with its figures.
+#[derive(Clone, Copy)]
+pub(crate) struct Figures<'a> {
+    /// Its name.
+    pub(crate) name: &'a str,
+    /// What it does in the end, or why it is halted.
+    pub(crate) status: PartStatus,
+    /// Its figures.
+    pub(crate) part: &'a PartStatistics,
+}
+
+/// The JSON text of a partition: an object in the compact form of its tokens, with no newline. An error where memory
+/// ran out.
+pub(crate) fn json_of(alloc: Global, figures: &Figures<'_>) -> Result<String, Error>
+    ensures { IfOk result (λ text. string_bytes text ≡ print (tokens (string_bytes text))) }
+{
+    serde_json::to_string(alloc, figures)
+}
+
+impl Described for Figures<'_> {}
+
+impl Serialize for Figures<'_> {
+    fn serialize<S: Serializer>(&self, out: &mut S) -> Result<(), S::Error> {
+        out.begin_map(None)?;
+        out.key("name")?;
+        out.str(self.name)?;
+        out.key("status")?;
+        out.str(status_word(self.status))?;
+        put_counted(self.part.counted(), out)?;
+        put_threads(self.part, out)?;
+        put_mutexes(self.part.mutexes(), out)?;
+        out.end_map()
+    }
+}
+
+/// Puts a number under a key.
+fn put_number<S: Serializer>(key: &str, number: u64, out: &mut S) -> Result<(), S::Error> {
+    out.key(key)?;
+    out.u64(number)
+}
+
+/// Puts the ticks and the steps of a partition.
+fn put_counted<S: Serializer>(counted: &Counted, out: &mut S) -> Result<(), S::Error> {
+    put_number("own", counted.own(), out)?;
+    put_number("used", counted.used(), out)?;
+    put_number("idle", counted.idle(), out)?;
+    put_number("lost", counted.lost(), out)?;
+    put_number("after_halt", counted.halted(), out)?;
+    put_number("lost_ahead", counted.ahead(), out)?;
+    put_number("steps", counted.steps(), out)
+}
+
+/// Puts the threads that there were.
+fn put_threads<S: Serializer>(part: &PartStatistics, out: &mut S) -> Result<(), S::Error> {
+    out.key("threads")?;
+    out.begin_seq(None)?;
+    let threads = part.threads();
+    for i in 0..threads.len().min(THREADS) {
+        if threads[i].is_used() {
+            let t = ThreadNo::new(i as u8 + 1);
+            put_thread(t, part.counted().steps_of(t), &threads[i], out)?;
+        }
+    }
+    out.end_seq()
+}
+
+/// Puts a thread.
+fn put_thread<S: Serializer>(
+    t: ThreadNo,
+    steps: u64,
+    thread: &ThreadStatistics,
+    out: &mut S,
+) -> Result<(), S::Error> {
+    out.begin_map(None)?;
+    put_number("thread", u64::from(t.number()), out)?;
+    out.key("does")?;
+    out.str(doing_word(thread.doing()))?;
+    put_number("since", thread.since().ticks(), out)?;
+    put_number("steps", steps, out)?;
+    put_number("preemptions", thread.preemptions(), out)?;
+    out.key("least_stack")?;
+    thread.least_stack().serialize(out)?;
+    put_span("to_run", thread.dispatch(), out)?;
+    put_spans(thread, out)?;
+    put_activations(thread.activations(), out)?;
+    put_calls(thread, out)?;
+    out.end_map()
+}
+
+/// Puts a number of own ticks and of all ticks under a key.
+fn put_span<S: Serializer>(key: &str, span: Span, out: &mut S) -> Result<(), S::Error> {
+    let Span { own, wall } = span;
+    out.key(key)?;
+    out.begin_map(None)?;
+    put_number("own", own, out)?;
+    put_number("all", wall, out)?;
+    out.end_map()
+}
+
+/// Puts for how long a thread did what, each by its word.
+fn put_spans<S: Serializer>(thread: &ThreadStatistics, out: &mut S) -> Result<(), S::Error> {
+    out.key("ticks")?;
+    out.begin_map(None)?;
+    for kind in KINDS.iter() {
+        put_span(doing_word(*kind), thread.span(*kind), out)?;
+    }
+    out.end_map()
+}
+
+/// Puts a thread's activations.
+fn put_activations<S: Serializer>(spread: &Spread, out: &mut S) -> Result<(), S::Error> {
+    out.key("activations")?;
+    out.begin_map(None)?;
+    put_number("count", spread.count(), out)?;
+    put_span("least", spread.least(), out)?;
+    put_span("mean", spread.mean(), out)?;
+    put_span("greatest", spread.greatest(), out)?;
+    put_number("greatest_from", spread.greatest_from().ticks(), out)?;
+    out.end_map()
+}
+
+/// Puts the calls that a thread made.
+fn put_calls<S: Serializer>(thread: &ThreadStatistics, out: &mut S) -> Result<(), S::Error> {
+    out.key("calls")?;
+    out.begin_seq(None)?;
+    for call in CALLS.iter() {
+        put_call(call_word(*call), thread.calls(*call), out)?;
+    }
+    put_call("no call", thread.unknown_calls(), out)?;
+    out.end_seq()
+}
+
+/// Puts how often a call was made, if it was.
+fn put_call<S: Serializer>(word: &str, count: CallCount, out: &mut S) -> Result<(), S::Error> {
+    let CallCount { made, refused } = count;
+    if made == 0 {
+        return Ok(());
+    }
+    out.begin_map(None)?;
+    out.key("call")?;
+    out.str(word)?;
+    put_number("made", made, out)?;
+    put_number("refused", refused, out)?;
+    out.end_map()
+}
+
+/// Puts the mutexes that somebody had.
+fn put_mutexes<S: Serializer>(mutexes: &[MutexStatistics], out: &mut S) -> Result<(), S::Error> {
+    out.key("mutexes")?;
+    out.begin_seq(None)?;
+    for (i, mutex) in mutexes.iter().enumerate() {
+        if mutex.held().is_some() || mutex.waited().is_some() {
+            put_mutex(i, mutex, out)?;
+        }
+    }
+    out.end_seq()
+}
+
+/// Puts the mutex at a place.
+fn put_mutex<S: Serializer>(
+    place: usize,
+    mutex: &MutexStatistics,
+    out: &mut S,
+) -> Result<(), S::Error> {
+    out.begin_map(None)?;
+    put_number("mutex", (place as u64).saturating_add(1), out)?;
+    put_longest("held", mutex.held(), out)?;
+    put_longest("waited", mutex.waited(), out)?;
+    out.end_map()
+}
+
+/// Puts a mutex's longest time, if there was one.
+fn put_longest<S: Serializer>(
+    key: &str,
+    longest: Option<Longest>,
+    out: &mut S,
+) -> Result<(), S::Error> {
+    let Some(Longest { span, thread, from }) = longest else {
+        return Ok(());
+    };
+    out.key(key)?;
+    out.begin_map(None)?;
+    put_number("own", span.own, out)?;
+    put_number("all", span.wall, out)?;
+    put_number("thread", u64::from(thread.number()), out)?;
+    put_number("from", from.ticks(), out)?;
+    out.end_map()
+}

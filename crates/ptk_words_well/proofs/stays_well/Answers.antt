@@ -1,5 +1,0 @@
-use Rattle.ptk_words_well.proofs.Runs.{sound_alone}
-use Rattle.ptk_words_well.proofs.stays_well.Goals as goal
-
-pub returns : goal.returns
-returns c = λ ticks limits image input threads interval n. (sound_alone ticks limits image input n threads interval).well
