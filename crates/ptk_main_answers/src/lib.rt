@@ -32,7 +32,6 @@
 //! costly to prove.
 
 mod answer;
-mod calls;
 mod check;
 mod decoding;
 mod document;
@@ -43,6 +42,7 @@ mod figures;
 mod filter;
 mod naming;
 mod picture;
+mod replies;
 mod run;
 mod standing;
 mod steps;

@@ -4,8 +4,9 @@ ghost use Rattle.std.specs.Prelude.{◌≡◌, ◌<◌, ◌++◌, OnOk, length, 
 ghost use Rattle.ptk_words.specs.declared.TheConstants.{LAST_TICK};
 ghost use Rattle.ptk_main_answers.specs.Decoded as is;
 
-use crate::calls::{call_name, reply_name};
+use crate::replies::reply_name;
 use ptk_disasm::{push_target, push_word_statement, target_of};
+use ptk_statistics::call_name;
 use ptk_symbols::Symbols;
 use ptk_system::{Activity, System};
 use ptk_words::{A7, Call, ECALL, Entry, PartId, RETURN_GATE, Tick};

@@ -2,7 +2,7 @@
 
 use crate::document::Figures;
 use crate::part::PartStatistics;
-use crate::words::{CALLS, KINDS, call_word, doing_word, status_word};
+use crate::words::{CALLS, KINDS, call_name, doing_word, status_word};
 use ptk_statistics_figures::{
     CallCount, Counted, Longest, MutexStatistics, Span, Spread, ThreadStatistics,
 };
@@ -33,11 +33,26 @@ fn put_counted<W: Write>(counted: &Counted, out: &mut W) -> io::Result<()> {
         out,
         "  own ticks        used        idle        lost  after halt  lost ahead       steps"
     )?;
-    let (own, used, idle) = (counted.own(), counted.used(), counted.idle());
-    write!(out, "{own:>11} {used:>11} {idle:>11}")?;
-    let (lost, halted, ahead) = (counted.lost(), counted.halted(), counted.ahead());
-    let steps = counted.steps();
-    writeln!(out, " {lost:>11} {halted:>11} {ahead:>11} {steps:>11}")
+    let own = counted.own();
+    write!(out, "{own:>11}")?;
+    let numbers = [
+        counted.used(),
+        counted.idle(),
+        counted.lost(),
+        counted.halted(),
+        counted.ahead(),
+        counted.steps(),
+    ];
+    put_numbers(&numbers, out)?;
+    writeln!(out)
+}
+
+/// Writes numbers in columns of 11, each behind a space.
+fn put_numbers<W: Write>(numbers: &[u64], out: &mut W) -> io::Result<()> {
+    for number in numbers {
+        write!(out, " {number:>11}")?;
+    }
+    Ok(())
 }
 
 /// Writes how each thread stands, its steps and preemptions, the longest way to run, and its least stack pointer.
@@ -64,16 +79,12 @@ fn put_thread<W: Write>(
     out: &mut W,
 ) -> io::Result<()> {
     let (number, word) = (t.number(), doing_word(thread.doing()));
-    let (since, preemptions) = (thread.since().ticks(), thread.preemptions());
-    write!(
-        out,
-        "{number:>6} {word:<9} {since:>11} {steps:>11} {preemptions:>11}"
-    )?;
+    write!(out, "{number:>6} {word:<9}")?;
+    put_numbers(&[thread.since().ticks(), steps, thread.preemptions()], out)?;
     let Span { own, wall } = thread.dispatch();
-    write!(out, " {wall:>12} {own:>13}")?;
     match thread.least_stack() {
-        Some(least) => writeln!(out, "   0x{least:08x}"),
-        None => writeln!(out, "            -"),
+        Some(least) => writeln!(out, " {wall:>12} {own:>13}   0x{least:08x}"),
+        None => writeln!(out, " {wall:>12} {own:>13}            -"),
     }
 }
 
@@ -87,32 +98,20 @@ fn put_spans<W: Write>(threads: &[ThreadStatistics], out: &mut W) -> io::Result<
     writeln!(out)?;
     for (i, thread) in threads.iter().enumerate() {
         if thread.is_used() {
-            put_own(i, thread, out)?;
-            put_wall(i, thread, out)?;
+            let own = KINDS.map(|kind| thread.span(kind).own);
+            let all = KINDS.map(|kind| thread.span(kind).wall);
+            put_ticks(i, "own", &own, out)?;
+            put_ticks(i, "all", &all, out)?;
         }
     }
     Ok(())
 }
 
-/// Writes a thread's own ticks.
-fn put_own<W: Write>(place: usize, thread: &ThreadStatistics, out: &mut W) -> io::Result<()> {
+/// Writes a thread's ticks of each kind, counted in own ticks or in all.
+fn put_ticks<W: Write>(place: usize, which: &str, ticks: &[u64], out: &mut W) -> io::Result<()> {
     let number = place.saturating_add(1);
-    write!(out, "{number:>6} own  ")?;
-    for kind in KINDS.iter() {
-        let ticks = thread.span(*kind).own;
-        write!(out, " {ticks:>11}")?;
-    }
-    writeln!(out)
-}
-
-/// Writes all ticks of a thread.
-fn put_wall<W: Write>(place: usize, thread: &ThreadStatistics, out: &mut W) -> io::Result<()> {
-    let number = place.saturating_add(1);
-    write!(out, "{number:>6} all  ")?;
-    for kind in KINDS.iter() {
-        let ticks = thread.span(*kind).wall;
-        write!(out, " {ticks:>11}")?;
-    }
+    write!(out, "{number:>6} {which}  ")?;
+    put_numbers(ticks, out)?;
     writeln!(out)
 }
 
@@ -132,16 +131,21 @@ fn put_activations<W: Write>(threads: &[ThreadStatistics], out: &mut W) -> io::R
 
 /// Writes the activations of a thread.
 fn put_activation<W: Write>(place: usize, spread: &Spread, out: &mut W) -> io::Result<()> {
-    let (number, count) = (place.saturating_add(1), spread.count());
+    let number = place.saturating_add(1);
     let (least, mean, greatest) = (spread.least(), spread.mean(), spread.greatest());
-    let (low, middle, high) = (least.wall, mean.wall, greatest.wall);
-    let from = spread.greatest_from().ticks();
-    write!(
-        out,
-        "{number:>6} {count:>11} {low:>11} {middle:>11} {high:>11} {from:>11}"
-    )?;
-    let (low, middle, high) = (least.own, mean.own, greatest.own);
-    writeln!(out, " {low:>11} {middle:>11} {high:>12}")
+    let numbers = [
+        spread.count(),
+        least.wall,
+        mean.wall,
+        greatest.wall,
+        spread.greatest_from().ticks(),
+        least.own,
+        mean.own,
+    ];
+    write!(out, "{number:>6}")?;
+    put_numbers(&numbers, out)?;
+    let longest = greatest.own;
+    writeln!(out, " {longest:>12}")
 }
 
 /// Writes the calls of all threads.
@@ -159,7 +163,7 @@ fn put_all_calls<W: Write>(threads: &[ThreadStatistics], out: &mut W) -> io::Res
 /// Writes the calls of a thread that it made.
 fn put_calls<W: Write>(place: usize, thread: &ThreadStatistics, out: &mut W) -> io::Result<()> {
     for call in CALLS.iter() {
-        put_call(place, call_word(*call), thread.calls(*call), out)?;
+        put_call(place, call_name(*call), thread.calls(*call), out)?;
     }
     put_call(place, "no call", thread.unknown_calls(), out)
 }

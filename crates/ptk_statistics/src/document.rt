@@ -5,7 +5,7 @@ ghost use Rattle.json.specs.Lex.{tokens};
 ghost use Rattle.json.specs.Print.{print};
 
 use crate::part::PartStatistics;
-use crate::words::{CALLS, KINDS, call_word, doing_word, status_word};
+use crate::words::{CALLS, KINDS, call_name, doing_word, status_word};
 use ptk_statistics_figures::{
     CallCount, Counted, Longest, MutexStatistics, Span, Spread, ThreadStatistics,
 };
@@ -53,21 +53,39 @@ impl Serialize for Figures<'_> {
     }
 }
 
-/// Puts a number under a key.
-fn put_number<S: Serializer>(key: &str, number: u64, out: &mut S) -> Result<(), S::Error> {
+/// Puts numbers, each under its key.
+fn put_numbers<S: Serializer>(numbers: &[(&str, u64)], out: &mut S) -> Result<(), S::Error> {
+    for (key, number) in numbers {
+        out.key(key)?;
+        out.u64(*number)?;
+    }
+    Ok(())
+}
+
+/// Puts an object of numbers under a key.
+fn put_object<S: Serializer>(
+    key: &str,
+    numbers: &[(&str, u64)],
+    out: &mut S,
+) -> Result<(), S::Error> {
     out.key(key)?;
-    out.u64(number)
+    out.begin_map(None)?;
+    put_numbers(numbers, out)?;
+    out.end_map()
 }
 
 /// Puts the ticks and the steps of a partition.
 fn put_counted<S: Serializer>(counted: &Counted, out: &mut S) -> Result<(), S::Error> {
-    put_number("own", counted.own(), out)?;
-    put_number("used", counted.used(), out)?;
-    put_number("idle", counted.idle(), out)?;
-    put_number("lost", counted.lost(), out)?;
-    put_number("after_halt", counted.halted(), out)?;
-    put_number("lost_ahead", counted.ahead(), out)?;
-    put_number("steps", counted.steps(), out)
+    let numbers = [
+        ("own", counted.own()),
+        ("used", counted.used()),
+        ("idle", counted.idle()),
+        ("lost", counted.lost()),
+        ("after_halt", counted.halted()),
+        ("lost_ahead", counted.ahead()),
+        ("steps", counted.steps()),
+    ];
+    put_numbers(&numbers, out)
 }
 
 /// Puts the threads that there were.
@@ -91,13 +109,16 @@ fn put_thread<S: Serializer>(
     thread: &ThreadStatistics,
     out: &mut S,
 ) -> Result<(), S::Error> {
+    let numbers = [
+        ("since", thread.since().ticks()),
+        ("steps", steps),
+        ("preemptions", thread.preemptions()),
+    ];
     out.begin_map(None)?;
-    put_number("thread", u64::from(t.number()), out)?;
+    put_numbers(&[("thread", u64::from(t.number()))], out)?;
     out.key("does")?;
     out.str(doing_word(thread.doing()))?;
-    put_number("since", thread.since().ticks(), out)?;
-    put_number("steps", steps, out)?;
-    put_number("preemptions", thread.preemptions(), out)?;
+    put_numbers(&numbers, out)?;
     out.key("least_stack")?;
     thread.least_stack().serialize(out)?;
     put_span("to_run", thread.dispatch(), out)?;
@@ -109,12 +130,7 @@ fn put_thread<S: Serializer>(
 
 /// Puts a number of own ticks and of all ticks under a key.
 fn put_span<S: Serializer>(key: &str, span: Span, out: &mut S) -> Result<(), S::Error> {
-    let Span { own, wall } = span;
-    out.key(key)?;
-    out.begin_map(None)?;
-    put_number("own", own, out)?;
-    put_number("all", wall, out)?;
-    out.end_map()
+    put_object(key, &[("own", span.own), ("all", span.wall)], out)
 }
 
 /// Puts for how long a thread did what, each by its word.
@@ -131,11 +147,11 @@ fn put_spans<S: Serializer>(thread: &ThreadStatistics, out: &mut S) -> Result<()
 fn put_activations<S: Serializer>(spread: &Spread, out: &mut S) -> Result<(), S::Error> {
     out.key("activations")?;
     out.begin_map(None)?;
-    put_number("count", spread.count(), out)?;
+    put_numbers(&[("count", spread.count())], out)?;
     put_span("least", spread.least(), out)?;
     put_span("mean", spread.mean(), out)?;
     put_span("greatest", spread.greatest(), out)?;
-    put_number("greatest_from", spread.greatest_from().ticks(), out)?;
+    put_numbers(&[("greatest_from", spread.greatest_from().ticks())], out)?;
     out.end_map()
 }
 
@@ -144,7 +160,7 @@ fn put_calls<S: Serializer>(thread: &ThreadStatistics, out: &mut S) -> Result<()
     out.key("calls")?;
     out.begin_seq(None)?;
     for call in CALLS.iter() {
-        put_call(call_word(*call), thread.calls(*call), out)?;
+        put_call(call_name(*call), thread.calls(*call), out)?;
     }
     put_call("no call", thread.unknown_calls(), out)?;
     out.end_seq()
@@ -159,8 +175,7 @@ fn put_call<S: Serializer>(word: &str, count: CallCount, out: &mut S) -> Result<
     out.begin_map(None)?;
     out.key("call")?;
     out.str(word)?;
-    put_number("made", made, out)?;
-    put_number("refused", refused, out)?;
+    put_numbers(&[("made", made), ("refused", refused)], out)?;
     out.end_map()
 }
 
@@ -183,7 +198,7 @@ fn put_mutex<S: Serializer>(
     out: &mut S,
 ) -> Result<(), S::Error> {
     out.begin_map(None)?;
-    put_number("mutex", (place as u64).saturating_add(1), out)?;
+    put_numbers(&[("mutex", (place as u64).saturating_add(1))], out)?;
     put_longest("held", mutex.held(), out)?;
     put_longest("waited", mutex.waited(), out)?;
     out.end_map()
@@ -198,11 +213,11 @@ fn put_longest<S: Serializer>(
     let Some(Longest { span, thread, from }) = longest else {
         return Ok(());
     };
-    out.key(key)?;
-    out.begin_map(None)?;
-    put_number("own", span.own, out)?;
-    put_number("all", span.wall, out)?;
-    put_number("thread", u64::from(thread.number()), out)?;
-    put_number("from", from.ticks(), out)?;
-    out.end_map()
+    let numbers = [
+        ("own", span.own),
+        ("all", span.wall),
+        ("thread", u64::from(thread.number())),
+        ("from", from.ticks()),
+    ];
+    put_object(key, &numbers, out)
 }

@@ -34,3 +34,4 @@ pub use ptk_statistics_figures::{
 };
 pub use ptk_system::{Files, PartStatus, System};
 pub use statistics::Statistics;
+pub use words::call_name;

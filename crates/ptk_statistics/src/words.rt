@@ -57,8 +57,8 @@ pub(crate) const KINDS: [Doing; 8] = [
     Doing::Relock,
 ];
 
-/// The name of a call: the standard's, and of the three that are none of the standard's their own.
-pub(crate) fn call_word(call: Call) -> &'static str {
+/// The name that POSIX.1-2017 gives a call, or its own name in the guest's view (docs/GUEST_ABI.md).
+pub fn call_name(call: Call) -> &'static str {
     match call {
         Call::Exit => "exit",
         Call::ConsolePut => "console_put",

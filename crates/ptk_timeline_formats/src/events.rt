@@ -7,7 +7,7 @@ use crate::step::is_halted;
 use ptk_config::{Config, Section};
 use ptk_symbols::Symbols;
 use ptk_system::PartStatus;
-use ptk_words::{PartId, ThreadNo, Wait};
+use ptk_words::{MutexNo, PartId, ThreadNo, Wait};
 use std::alloc::Global;
 use std::io;
 use std::io::Write;
@@ -40,8 +40,129 @@ impl Track {
     }
 }
 
-/// Writes what stands before the events, the partitions' names, and the input that comes from a tick on and before
-/// another.
+/// Numbers of an event by name, None for one that it does not have.
+type Numbers = [Option<(&'static str, u64)>; 4];
+
+/// A slice of a track, or an instant of a partition.
+#[derive(Clone, Copy)]
+struct Event {
+    phase: Phase,
+    track: Track,
+    tick: u64,
+    name: &'static str,
+    arguments: Numbers,
+}
+
+/// What an event is.
+#[derive(Clone, Copy)]
+enum Phase {
+    /// A slice of this many ticks.
+    Slice(u64),
+    /// An instant.
+    Instant,
+}
+
+impl Event {
+    /// An instant of a partition with a number.
+    fn instant(p: PartId, tick: u64, name: &'static str, key: &'static str, number: u64) -> Event {
+        Event {
+            phase: Phase::Instant,
+            track: Track::windows(p),
+            tick,
+            name,
+            arguments: [Some((key, number)), None, None, None],
+        }
+    }
+
+    /// The slice of a window from a tick up to another, None of no ticks.
+    fn window(p: PartId, since: u64, tick: u64) -> Option<Event> {
+        if tick <= since {
+            return None;
+        }
+        Some(Event {
+            phase: Phase::Slice(tick - since),
+            track: Track::windows(p),
+            tick: since,
+            name: "window",
+            arguments: [None; 4],
+        })
+    }
+
+    /// The slice of what was shown of a thread up to a tick, None of no ticks or of a free number.
+    fn thread(p: PartId, t: ThreadNo, kept: &Kept, tick: u64) -> Option<Event> {
+        if tick <= kept.since || matches!(kept.shown.doing, Doing::Free) {
+            return None;
+        }
+        Some(Event {
+            phase: Phase::Slice(tick - kept.since),
+            track: Track::thread(p, t),
+            tick: kept.since,
+            name: kept.shown.doing.label().word,
+            arguments: arguments_of(&kept.shown),
+        })
+    }
+
+    /// Writes it.
+    fn put<W: Write>(&self, out: &mut W) -> io::Result<()> {
+        let (before, ticks, scope) = match self.phase {
+            Phase::Slice(ticks) => (",\n{\"ph\":\"X\",", Some(("dur", ticks)), ""),
+            Phase::Instant => (",\n{\"ph\":\"i\",", None, ",\"s\":\"p\""),
+        };
+        let place = [
+            Some(("pid", self.track.process as u64)),
+            Some(("tid", u64::from(self.track.thread))),
+            Some(("ts", self.tick)),
+            ticks,
+        ];
+        put_numbers(before, &place, out)?;
+        write!(out, "{scope},\"name\":\"{}\"", self.name)?;
+        put_numbers(",\"args\":{", &self.arguments, out)?;
+        let has_arguments = self.arguments[0].is_some();
+        out.write_all(if has_arguments { b"}}" } else { b"}" })
+    }
+}
+
+/// Writes numbers by name with a comma between two, and this text before the first; None is left out.
+fn put_numbers<W: Write>(before: &str, numbers: &Numbers, out: &mut W) -> io::Result<()> {
+    let mut between = before;
+    for number in numbers.iter() {
+        if let Some((name, number)) = number {
+            write!(out, "{between}\"{name}\":{number}")?;
+            between = ",";
+        }
+    }
+    Ok(())
+}
+
+/// A thread's effective priority, what it waits for, and until when.
+fn arguments_of(shown: &Shown) -> Numbers {
+    let Some(priority) = shown.priority else {
+        return [None; 4];
+    };
+    let priority = Some(("priority", u64::from(priority)));
+    let Doing::Blocked(wait) = &shown.doing else {
+        return [priority, None, None, None];
+    };
+    let (first, second) = match wait {
+        Wait::InputWait | Wait::SleepWait(_) => (None, None),
+        Wait::JoinWait(thread) => (Some(("thread", u64::from(thread.number()))), None),
+        Wait::MutexWait(m, _) | Wait::RelockWait(m, _) => (mutex(*m), None),
+        Wait::ConditionWait(c, m, _) => {
+            let condition = Some(("condition", u64::from(c.number())));
+            (condition, mutex(*m))
+        }
+    };
+    let until = deadline_of(wait).map(|deadline| ("until", deadline.ticks()));
+    [priority, first, second, until]
+}
+
+/// A mutex as an argument.
+fn mutex(m: MutexNo) -> Option<(&'static str, u64)> {
+    Some(("mutex", u64::from(m.number())))
+}
+
+/// Writes what stands before the events, the names of the partitions and of the tracks of their windows, and the input
+/// that comes from a tick on and before another.
 pub(crate) fn put_events_head<W: Write>(
     alloc: Global,
     config: &Config,
@@ -49,46 +170,19 @@ pub(crate) fn put_events_head<W: Write>(
     to: u64,
     out: &mut W,
 ) -> Result<(), PutFault> {
-    out.write_all(b"{\"displayTimeUnit\":\"ns\",\"traceEvents\":[\n")?;
+    let mut before = "{\"displayTimeUnit\":\"ns\",\"traceEvents\":[\n";
     for (place, section) in config.sections().iter().enumerate() {
         let p = PartId::new((place % 8) as u8);
-        let comma = if place == 0 { "" } else { ",\n" };
-        put_process(alloc, p, section, comma, out)?;
+        let Track { process, thread } = Track::windows(p);
+        let name = serde_json::to_string(alloc, &section.name())?;
+        write!(
+            out,
+            "{before}{{\"ph\":\"M\",\"pid\":{process},\"name\":\"process_name\",\"args\":{{\"name\":{name}}}}},\n{{\"ph\":\"M\",\"pid\":{process},\"tid\":{thread},\"name\":\"thread_name\",\"args\":{{\"name\":\"windows\"}}}}"
+        )?;
         put_input(p, section, from, to, out)?;
+        before = ",\n";
     }
     Ok(())
-}
-
-/// Writes what stands behind the events.
-pub(crate) fn put_events_end<W: Write>(out: &mut W) -> io::Result<()> {
-    out.write_all(b"\n]}\n")
-}
-
-/// Writes the names of a partition and of the track of its windows.
-fn put_process<W: Write>(
-    alloc: Global,
-    p: PartId,
-    section: &Section,
-    comma: &str,
-    out: &mut W,
-) -> Result<(), PutFault> {
-    let name = serde_json::to_string(alloc, &section.name())?;
-    let Track { process, .. } = Track::windows(p);
-    write!(
-        out,
-        "{comma}{{\"ph\":\"M\",\"pid\":{process},\"name\":\"process_name\",\"args\":{{\"name\":{name}}}}}"
-    )?;
-    put_name(Track::windows(p), "\"windows\"", out)?;
-    Ok(())
-}
-
-/// Writes the name of a track, a string of JSON.
-fn put_name<W: Write>(track: Track, name: &str, out: &mut W) -> io::Result<()> {
-    let Track { process, thread } = track;
-    write!(
-        out,
-        ",\n{{\"ph\":\"M\",\"pid\":{process},\"tid\":{thread},\"name\":\"thread_name\",\"args\":{{\"name\":{name}}}}}"
-    )
 }
 
 /// Writes an instant for each tick at which input comes, with how many bytes.
@@ -109,28 +203,12 @@ fn put_input<W: Write>(
         };
         if is_last {
             if from <= tick && tick < to {
-                put_instant(p, tick, "input", "bytes", bytes, out)?;
+                Event::instant(p, tick, "input", "bytes", bytes).put(out)?;
             }
             bytes = 0;
         }
     }
     Ok(())
-}
-
-/// Writes an instant of a partition with a number.
-fn put_instant<W: Write>(
-    p: PartId,
-    tick: u64,
-    name: &str,
-    key: &str,
-    number: u64,
-    out: &mut W,
-) -> io::Result<()> {
-    let Track { process, thread } = Track::windows(p);
-    write!(
-        out,
-        ",\n{{\"ph\":\"i\",\"pid\":{process},\"tid\":{thread},\"ts\":{tick},\"s\":\"p\",\"name\":\"{name}\",\"args\":{{\"{key}\":{number}}}}}"
-    )
 }
 
 /// Writes the events of what changes.
@@ -142,61 +220,46 @@ pub(crate) fn put_event<W: Write>(
     change: &Change<'_>,
     out: &mut W,
 ) -> Result<(), PutFault> {
-    match change {
-        Change::WindowBegins | Change::Runner(_) => {}
-        Change::WindowEnds(since) => put_window(p, *since, tick, out)?,
-        Change::Status(status) => put_halt(p, tick, *status, out)?,
-        Change::First(t, shown, start) => put_start(alloc, symbols, p, *t, shown, *start, out)?,
-        Change::Next(t, kept, _) => put_slice(Track::thread(p, *t), kept, tick, out)?,
-        Change::Woken(by, t) => put_flow(p, *by, *t, tick, out)?,
-        Change::Lost(ticks) => put_instant(p, tick, "ticks lost", "ticks", *ticks, out)?,
-        Change::Dropped(bytes) => put_instant(p, tick, "input lost", "bytes", *bytes, out)?,
+    let event = match change {
+        Change::WindowBegins | Change::Runner(_) => None,
+        Change::WindowEnds(since) => Event::window(p, *since, tick),
+        Change::Next(t, kept, _) => Event::thread(p, *t, kept, tick),
+        Change::Lost(ticks) => Some(Event::instant(p, tick, "ticks lost", "ticks", *ticks)),
+        Change::Dropped(bytes) => Some(Event::instant(p, tick, "input lost", "bytes", *bytes)),
+        Change::First(t, shown, start) => {
+            return put_start(alloc, symbols, Track::thread(p, *t), shown, *start, out);
+        }
+        Change::Status(status) => return put_halt(p, tick, *status, out),
+        Change::Woken(by, t) => return put_flow(p, *by, *t, tick, out),
+    };
+    if let Some(event) = event {
+        event.put(out)?;
     }
     Ok(())
 }
 
-/// Writes the slice of a window, none of no ticks.
-fn put_window<W: Write>(p: PartId, since: u64, tick: u64, out: &mut W) -> io::Result<()> {
-    if tick <= since {
-        return Ok(());
-    }
-    put_beginning(Track::windows(p), since, tick - since, "window", out)?;
-    out.write_all(b"}")
-}
-
-/// Writes a slice up to its name.
-fn put_beginning<W: Write>(
-    track: Track,
-    since: u64,
-    ticks: u64,
-    name: &str,
-    out: &mut W,
-) -> io::Result<()> {
-    let Track { process, thread } = track;
-    write!(
-        out,
-        ",\n{{\"ph\":\"X\",\"pid\":{process},\"tid\":{thread},\"ts\":{since},\"dur\":{ticks},\"name\":\"{name}\""
-    )
-}
-
 /// Writes an instant where the status is that of a halted partition.
-fn put_halt<W: Write>(p: PartId, tick: u64, status: PartStatus, out: &mut W) -> io::Result<()> {
-    if !is_halted(status) {
-        return Ok(());
+fn put_halt<W: Write>(
+    p: PartId,
+    tick: u64,
+    status: PartStatus,
+    out: &mut W,
+) -> Result<(), PutFault> {
+    if is_halted(status) {
+        let Track { process, thread } = Track::windows(p);
+        write!(
+            out,
+            ",\n{{\"ph\":\"i\",\"pid\":{process},\"tid\":{thread},\"ts\":{tick},\"s\":\"p\",\"name\":\"{status}\"}}"
+        )?;
     }
-    let Track { process, thread } = Track::windows(p);
-    write!(
-        out,
-        ",\n{{\"ph\":\"i\",\"pid\":{process},\"tid\":{thread},\"ts\":{tick},\"s\":\"p\",\"name\":\"{status}\"}}"
-    )
+    Ok(())
 }
 
 /// Writes the name of a thread that is there: that of the routine at which it starts, or its number.
 fn put_start<W: Write>(
     alloc: Global,
     symbols: &Symbols<'_>,
-    p: PartId,
-    t: ThreadNo,
+    track: Track,
     shown: &Shown,
     start: Option<u32>,
     out: &mut W,
@@ -204,12 +267,15 @@ fn put_start<W: Write>(
     if matches!(shown.doing, Doing::Free) {
         return Ok(());
     }
-    let number = t.number();
+    let Track { process, thread } = track;
     let name = match routine_at(symbols, start) {
         Some(routine) => serde_json::to_string(alloc, &routine)?,
-        None => format!(in alloc; "\"thread {number}\"")?,
+        None => format!(in alloc; "\"thread {thread}\"")?,
     };
-    put_name(Track::thread(p, t), name.as_str(), out)?;
+    write!(
+        out,
+        ",\n{{\"ph\":\"M\",\"pid\":{process},\"tid\":{thread},\"name\":\"thread_name\",\"args\":{{\"name\":{name}}}}}"
+    )?;
     Ok(())
 }
 
@@ -223,42 +289,6 @@ fn routine_at<'a>(symbols: &Symbols<'a>, start: Option<u32>) -> Option<&'a str> 
     }
 }
 
-/// Writes the slice of what was shown of a thread up to a tick, none of no ticks or of a free number.
-fn put_slice<W: Write>(track: Track, kept: &Kept, tick: u64, out: &mut W) -> io::Result<()> {
-    if tick <= kept.since || matches!(kept.shown.doing, Doing::Free) {
-        return Ok(());
-    }
-    let word = kept.shown.doing.label().word;
-    put_beginning(track, kept.since, tick - kept.since, word, out)?;
-    if let Some(priority) = kept.shown.priority {
-        write!(out, ",\"args\":{{\"priority\":{priority}")?;
-        if let Doing::Blocked(wait) = &kept.shown.doing {
-            put_wait(wait, out)?;
-        }
-        out.write_all(b"}")?;
-    }
-    out.write_all(b"}")
-}
-
-/// Writes what a thread waits for, and until when.
-fn put_wait<W: Write>(wait: &Wait, out: &mut W) -> io::Result<()> {
-    match wait {
-        Wait::InputWait | Wait::SleepWait(_) => {}
-        Wait::JoinWait(thread) => write!(out, ",\"thread\":{}", thread.number())?,
-        Wait::MutexWait(m, _) | Wait::RelockWait(m, _) => {
-            write!(out, ",\"mutex\":{}", m.number())?;
-        }
-        Wait::ConditionWait(c, m, _) => {
-            let (condition, mutex) = (c.number(), m.number());
-            write!(out, ",\"condition\":{condition},\"mutex\":{mutex}")?;
-        }
-    }
-    match deadline_of(wait) {
-        Some(deadline) => write!(out, ",\"until\":{}", deadline.ticks()),
-        None => Ok(()),
-    }
-}
-
 /// Writes the flow from a thread's step to the thread whose wait it has ended. Both ends lie in the middle of the tick,
 /// so inside of both slices.
 fn put_flow<W: Write>(
@@ -267,15 +297,17 @@ fn put_flow<W: Write>(
     t: ThreadNo,
     tick: u64,
     out: &mut W,
-) -> io::Result<()> {
-    let process = p.index().saturating_add(1);
-    let (from, to) = (by.number(), t.number());
-    write!(
-        out,
-        ",\n{{\"ph\":\"s\",\"pid\":{process},\"tid\":{from},\"ts\":{tick}.5,\"cat\":\"wake\",\"name\":\"wakes\",\"id\":\"{process}.{to}.{tick}\"}}"
-    )?;
-    write!(
-        out,
-        ",\n{{\"ph\":\"f\",\"bp\":\"e\",\"pid\":{process},\"tid\":{to},\"ts\":{tick}.5,\"cat\":\"wake\",\"name\":\"wakes\",\"id\":\"{process}.{to}.{tick}\"}}"
-    )
+) -> Result<(), PutFault> {
+    let Track {
+        process,
+        thread: to,
+    } = Track::thread(p, t);
+    let ends = [("\"s\"", by.number()), ("\"f\",\"bp\":\"e\"", to)];
+    for (phase, thread) in ends.iter() {
+        write!(
+            out,
+            ",\n{{\"ph\":{phase},\"pid\":{process},\"tid\":{thread},\"ts\":{tick}.5,\"cat\":\"wake\",\"name\":\"wakes\",\"id\":\"{process}.{to}.{tick}\"}}"
+        )?;
+    }
+    Ok(())
 }

@@ -68,9 +68,12 @@ impl Part {
         ensures to { sheet.new.to ≡ sheet.old.to }
     {
         let tick = sheet.at();
-        sheet.put(p, tick, &Change::WindowEnds(tick), out)?;
-        sheet.put(p, tick, &Change::Status(self.status), out)?;
-        sheet.put(p, tick, &Change::Runner(self.runner), out)?;
+        let first = [
+            Some(Change::WindowEnds(tick)),
+            Some(Change::Status(self.status)),
+            Some(Change::Runner(self.runner)),
+        ];
+        sheet.put_each(p, tick, &first, out)?;
         for i in 0..self.threads.len().min(THREADS) {
             let t = ThreadNo::new(i as u8 + 1);
             let start = start_of(system, p, t, tick);
@@ -119,21 +122,17 @@ impl Part {
         ensures to { sheet.new.to ≡ sheet.old.to }
         ensures config { system.new.config ≡ system.old.config }
     {
-        let mut tick = from;
         self.step = None;
+        let mut tick = due(system, p, from, end);
         while tick < end {
-            let due = due(system, p, tick, end);
-            self.settle(system, p, due, end, sheet, out)?;
-            if due >= end {
-                return Ok(());
-            }
-            system.run_to(Tick::new(due + 1));
-            self.decide(system, p, due, end, sheet, out)?;
+            system.run_to(Tick::new(tick + 1));
+            self.decide(system, p, tick, end, sheet, out)?;
             system.compute_to(Tick::new(end));
-            let begin = self.go_on(system, p, due, end, sheet, out)?;
-            tick = system.tick().ticks().max(begin);
+            let begin = self.go_on(system, p, tick, end, sheet, out)?;
+            tick = due(system, p, system.tick().ticks().max(begin).min(end), end);
+            self.settle(system, p, tick, end, sheet, out)?;
         }
-        self.settle(system, p, end, end, sheet, out)
+        Ok(())
     }
 
     /// Nothing of the partition changes before the tick `due`: where the step ends before that tick, or none comes in
@@ -245,16 +244,14 @@ impl Part {
         ensures step { self.new.step ≡ self.old.step }
         ensures shown { OnOk result (AreShown step.now (state_of system.now p).part self.new.threads.items) }
     {
-        let status = status_of(system, p, step);
-        if status != self.status {
-            self.status = status;
-            sheet.put(p, tick, &Change::Status(status), out)?;
-        }
-        let runner = runner_of(system, p, step);
-        if runner != self.runner {
-            self.runner = runner;
-            sheet.put(p, tick, &Change::Runner(runner), out)?;
-        }
+        let (status, runner) = (status_of(system, p, step), runner_of(system, p, step));
+        let changes = [
+            (status != self.status).then_some(Change::Status(status)),
+            (runner != self.runner).then_some(Change::Runner(runner)),
+        ];
+        self.status = status;
+        self.runner = runner;
+        sheet.put_each(p, tick, &changes, out)?;
         let threads = self.threads.as_mut_slice();
         show_threads(threads, system, p, step, tick, sheet, out)
     }
@@ -276,17 +273,15 @@ impl Part {
         ensures step { self.new.step ≡ self.old.step }
     {
         let (lost, dropped) = (system.lost(p), system.dropped(p));
-        if self.lost < lost {
-            let ticks = lost - self.lost;
-            self.lost = lost;
-            sheet.put(p, tick, &Change::Lost(ticks), out)?;
-        }
-        if self.dropped < dropped {
-            let bytes = dropped - self.dropped;
-            self.dropped = dropped;
-            sheet.put(p, tick, &Change::Dropped(bytes), out)?;
-        }
-        Ok(())
+        let ticks = lost.saturating_sub(self.lost);
+        let bytes = dropped.saturating_sub(self.dropped);
+        let changes = [
+            (ticks > 0).then_some(Change::Lost(ticks)),
+            (bytes > 0).then_some(Change::Dropped(bytes)),
+        ];
+        self.lost = lost;
+        self.dropped = dropped;
+        sheet.put_each(p, tick, &changes, out)
     }
 }
 

@@ -7,10 +7,8 @@ ghost use Rattle.ptk_timeline_formats.specs.declared.fault.FormatFault.TheVarian
 ghost use Rattle.ptk_timeline_formats.specs.Faults.{missing_in_format};
 
 use crate::board::Board;
-use crate::events::{put_events_end, put_events_head};
 use crate::fault::{FormatFault, PutFault};
 use crate::sheet::{Form, Sheet};
-use crate::vcd::{put_vcd_head, put_vcd_start};
 use ptk_config::Config;
 use ptk_symbols::Symbols;
 use ptk_system::{Files, System};
@@ -142,21 +140,26 @@ fn put_run<W: Write>(
     requires within { sheet.old.at ≤ sheet.old.to }
 {
     let mut board = Board::new(alloc, system)?;
+    sheet.put_head(config, out)?;
+    board.put_all(system, sheet, out)?;
+    out.write_all(sheet.form().behind_first())?;
+    board.run(config, system, sheet, out)?;
+    put_end(&mut board, sheet, out)
+}
+
+/// Writes what stands behind all that changes: the last tick, or the last events and the end of their list.
+fn put_end<W: Write>(
+    board: &mut Board,
+    sheet: &mut Sheet<'_, '_>,
+    out: &mut W,
+) -> Result<(), PutFault>
+    requires within { sheet.old.at ≤ sheet.old.to }
+{
     match sheet.form() {
-        Form::Vcd => {
-            put_vcd_head(config, sheet.at(), out)?;
-            board.put_all(system, sheet, out)?;
-            put_vcd_start(out)?;
-            board.run(config, system, sheet, out)?;
-            sheet.reach(sheet.to(), out)
-        }
+        Form::Vcd => sheet.reach(sheet.to(), out),
         Form::Events => {
-            put_events_head(alloc, config, sheet.at(), sheet.to(), out)?;
-            board.put_all(system, sheet, out)?;
-            board.run(config, system, sheet, out)?;
             board.put_rest(sheet, out)?;
-            put_events_end(out)?;
-            Ok(())
+            Ok(out.write_all(b"\n]}\n")?)
         }
     }
 }

@@ -1,9 +1,10 @@
 //! What is written, up to a tick.
 
 use crate::change::Change;
-use crate::events::put_event;
+use crate::events::{put_event, put_events_head};
 use crate::fault::PutFault;
-use crate::vcd::{is_signal, put_value};
+use crate::vcd::{is_signal, put_value, put_vcd_head};
+use ptk_config::Config;
 use ptk_symbols::Symbols;
 use ptk_words::PartId;
 use std::alloc::Global;
@@ -31,6 +32,16 @@ pub(crate) struct Sheet<'a, 's> {
 
 ghost use Rattle.std.specs.Prelude.{◌≡◌, ◌<◌, ◌≤◌};
 ghost use Rattle.ptk_words.specs.declared.TheConstants.{LAST_TICK};
+
+impl Form {
+    /// What stands between the first values and what changes.
+    pub(crate) fn behind_first(self) -> &'static [u8] {
+        match self {
+            Form::Vcd => b"$end\n",
+            Form::Events => b"",
+        }
+    }
+}
 
 impl<'a, 's> Sheet<'a, 's> {
     /// Nothing is written yet; what will be is of the ticks from one up to another.
@@ -72,6 +83,35 @@ impl<'a, 's> Sheet<'a, 's> {
     /// The format.
     pub(crate) fn form(&self) -> Form {
         self.form
+    }
+
+    /// Writes what stands before the first values.
+    pub(crate) fn put_head<W: Write>(&self, config: &Config, out: &mut W) -> Result<(), PutFault> {
+        match self.form {
+            Form::Vcd => Ok(put_vcd_head(config, self.at, out)?),
+            Form::Events => put_events_head(self.alloc, config, self.at, self.to, out),
+        }
+    }
+
+    /// Writes what changes of a partition at a tick, in this order.
+    pub(crate) fn put_each<W: Write>(
+        &mut self,
+        p: PartId,
+        tick: u64,
+        changes: &[Option<Change<'_>>],
+        out: &mut W,
+    ) -> Result<(), PutFault>
+        requires from { self.old.at ≤ tick }
+        requires to { tick ≤ self.old.to }
+        ensures within { self.new.at ≤ tick }
+        ensures to { self.new.to ≡ self.old.to }
+    {
+        for change in changes.iter() {
+            if let Some(change) = change {
+                self.put(p, tick, change, out)?;
+            }
+        }
+        Ok(())
     }
 
     /// Writes what changes of a partition at a tick. A format that has no form for the change writes nothing.

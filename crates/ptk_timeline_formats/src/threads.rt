@@ -85,48 +85,31 @@ fn show_thread<W: Write>(
         let since = kept.since;
         return Ok(Kept { shown, since });
     }
-    if matches!(kept.shown.doing, Doing::Free) {
-        let start = system.pc(p, t);
-        sheet.put(p, tick, &Change::First(t, &shown, start), out)?;
+    let change = if matches!(kept.shown.doing, Doing::Free) {
+        Change::First(t, &shown, system.pc(p, t))
     } else {
-        sheet.put(p, tick, &Change::Next(t, kept, &shown), out)?;
-    }
-    if let Some(step) = step {
-        put_woken(
-            &kept.shown.doing,
-            &shown.doing,
-            p,
-            t,
-            step,
-            tick,
-            sheet,
-            out,
-        )?;
-    }
+        Change::Next(t, kept, &shown)
+    };
+    let waker = waker_of(t, &kept.shown.doing, &shown.doing, step, tick);
+    let woken = waker.map(|by| Change::Woken(by, t));
+    sheet.put_each(p, tick, &[Some(change), woken], out)?;
     Ok(Kept { shown, since: tick })
 }
 
-/// Writes that a step has ended a thread's wait, where the wait has ended and neither came its deadline nor was it for
-/// input, which comes by itself.
-fn put_woken<W: Write>(
+/// The thread whose step has ended the wait of another, where the wait has ended and neither came its deadline nor was
+/// it for input, which comes by itself.
+fn waker_of(
+    t: ThreadNo,
     before: &Doing,
     after: &Doing,
-    p: PartId,
-    t: ThreadNo,
-    step: &Step,
+    step: &Option<Step>,
     tick: u64,
-    sheet: &mut Sheet<'_, '_>,
-    out: &mut W,
-) -> Result<(), PutFault>
-    requires at { sheet.old.at ≤ tick }
-    requires to { tick ≤ sheet.old.to }
-    ensures within { sheet.new.at ≤ tick }
-    ensures to { sheet.new.to ≡ sheet.old.to }
-{
-    if step.thread.number() == t.number() || !is_woken(before, after, tick) {
-        return Ok(());
+) -> Option<ThreadNo> {
+    let by = step.as_ref()?.thread;
+    if by.number() == t.number() || !is_woken(before, after, tick) {
+        return None;
     }
-    sheet.put(p, tick, &Change::Woken(step.thread, t), out)
+    Some(by)
 }
 
 /// Whether a wait has ended at a tick that does not end by itself there.

@@ -4,7 +4,7 @@ use crate::change::Change;
 use crate::shown::Shown;
 use ptk_config::{Config, Section};
 use ptk_system::PartStatus;
-use ptk_words::PartId;
+use ptk_words::{PartId, ThreadNo};
 use std::io::Write;
 use std::{fmt, io};
 
@@ -75,30 +75,22 @@ pub(crate) fn put_vcd_head<W: Write>(config: &Config, from: u64, out: &mut W) ->
     writeln!(out, "$enddefinitions $end\n#{from}\n$dumpvars")
 }
 
-/// Writes the scope of a partition.
+/// Writes the scope of a partition: its signals, and a scope with those of each of its threads.
 fn put_scope<W: Write>(p: PartId, section: &Section, out: &mut W) -> io::Result<()> {
     let name = section.name();
-    writeln!(out, "$scope module {name} $end")?;
-    put_variable(1, Signal::window(p), "window", out)?;
-    put_variable(3, Signal::status(p), "status [2:0]", out)?;
-    put_variable(6, Signal::runner(p), "running [5:0]", out)?;
+    let (window, status, runner) = (Signal::window(p), Signal::status(p), Signal::runner(p));
+    writeln!(
+        out,
+        "$scope module {name} $end\n$var wire 1 {window} window $end\n$var wire 3 {status} status [2:0] $end\n$var wire 6 {runner} running [5:0] $end"
+    )?;
     for number in 1..section.limits().threads.min(32) as u8 + 1 {
-        writeln!(out, "$scope module thread_{number} $end")?;
-        put_variable(4, Signal::state(p, number), "state [3:0]", out)?;
-        put_variable(6, Signal::priority(p, number), "priority [5:0]", out)?;
-        out.write_all(b"$upscope $end\n")?;
+        let (state, priority) = (Signal::state(p, number), Signal::priority(p, number));
+        writeln!(
+            out,
+            "$scope module thread_{number} $end\n$var wire 4 {state} state [3:0] $end\n$var wire 6 {priority} priority [5:0] $end\n$upscope $end"
+        )?;
     }
     out.write_all(b"$upscope $end\n")
-}
-
-/// Writes the declaration of a signal of this many bits.
-fn put_variable<W: Write>(width: u8, signal: Signal, name: &str, out: &mut W) -> io::Result<()> {
-    writeln!(out, "$var wire {width} {signal} {name} $end")
-}
-
-/// Writes what stands between the first values and what changes.
-pub(crate) fn put_vcd_start<W: Write>(out: &mut W) -> io::Result<()> {
-    out.write_all(b"$end\n")
 }
 
 /// Whether a signal shows the change.
@@ -114,59 +106,89 @@ pub(crate) fn is_signal(change: &Change<'_>) -> bool {
     }
 }
 
-/// Writes the values that change.
-pub(crate) fn put_value<W: Write>(p: PartId, change: &Change<'_>, out: &mut W) -> io::Result<()> {
-    match change {
-        Change::WindowBegins => put_bit("1", Signal::window(p), out),
-        Change::WindowEnds(_) => put_bit("0", Signal::window(p), out),
-        Change::Status(status) => put_vector(status_number(*status), Signal::status(p), out),
-        Change::Runner(number) => put_vector(*number, Signal::runner(p), out),
-        Change::First(t, shown, _) => {
-            put_state(p, t.number(), shown, out)?;
-            put_priority(p, t.number(), shown, out)
+/// A signal's value as it is written: of one bit right before its signal, of several as a binary number and a blank
+/// (18.2.1).
+#[derive(Clone, Copy)]
+struct Value {
+    before: &'static str,
+    number: u8,
+    behind: &'static str,
+    signal: Signal,
+}
+
+impl Value {
+    /// That of a signal of one bit.
+    fn bit(number: u8, signal: Signal) -> Value {
+        Value {
+            before: "",
+            number,
+            behind: "",
+            signal,
         }
-        Change::Next(t, kept, shown) => put_next(p, t.number(), &kept.shown, shown, out),
-        Change::Woken(_, _) | Change::Lost(_) | Change::Dropped(_) => Ok(()),
+    }
+
+    /// That of a signal of several bits, without leading zeros.
+    fn vector(number: u8, signal: Signal) -> Value {
+        Value {
+            before: "b",
+            number,
+            behind: " ",
+            signal,
+        }
     }
 }
 
-/// Writes which of a thread's state and priority is another.
-fn put_next<W: Write>(
-    p: PartId,
-    number: u8,
-    before: &Shown,
-    shown: &Shown,
-    out: &mut W,
-) -> io::Result<()> {
-    if before.doing.label().number != shown.doing.label().number {
-        put_state(p, number, shown, out)?;
-    }
-    if before.priority != shown.priority {
-        put_priority(p, number, shown, out)?;
+/// Writes the values that change.
+pub(crate) fn put_value<W: Write>(p: PartId, change: &Change<'_>, out: &mut W) -> io::Result<()> {
+    for value in values_of(p, change).iter() {
+        if let Some(value) = value {
+            let Value {
+                before,
+                number,
+                behind,
+                signal,
+            } = *value;
+            writeln!(out, "{before}{number:b}{behind}{signal}")?;
+        }
     }
     Ok(())
 }
 
-/// Writes a thread's state.
-fn put_state<W: Write>(p: PartId, number: u8, shown: &Shown, out: &mut W) -> io::Result<()> {
-    let state = shown.doing.label().number;
-    put_vector(state, Signal::state(p, number), out)
+/// The values that change.
+fn values_of(p: PartId, change: &Change<'_>) -> [Option<Value>; 2] {
+    let value = match change {
+        Change::WindowBegins => Value::bit(1, Signal::window(p)),
+        Change::WindowEnds(_) => Value::bit(0, Signal::window(p)),
+        Change::Status(status) => Value::vector(status_number(*status), Signal::status(p)),
+        Change::Runner(number) => Value::vector(*number, Signal::runner(p)),
+        Change::First(t, shown, _) => return thread_values(p, *t, None, shown),
+        Change::Next(t, kept, shown) => return thread_values(p, *t, Some(&kept.shown), shown),
+        Change::Woken(_, _) | Change::Lost(_) | Change::Dropped(_) => return [None; 2],
+    };
+    [Some(value), None]
 }
 
-/// Writes a thread's effective priority, 0 of a free number.
-fn put_priority<W: Write>(p: PartId, number: u8, shown: &Shown, out: &mut W) -> io::Result<()> {
-    let priority = shown.priority.unwrap_or(0);
-    put_vector(priority, Signal::priority(p, number), out)
-}
-
-/// Writes the value of a signal of one bit (18.2.1).
-fn put_bit<W: Write>(bit: &str, signal: Signal, out: &mut W) -> io::Result<()> {
-    writeln!(out, "{bit}{signal}")
-}
-
-/// Writes the value of a signal of several bits, without leading zeros (18.2.1).
-fn put_vector<W: Write>(value: u8, signal: Signal, out: &mut W) -> io::Result<()> {
-    writeln!(out, "b{value:b} {signal}")
+/// Which of a thread's state and effective priority, 0 of a free number, is another than before.
+fn thread_values(
+    p: PartId,
+    t: ThreadNo,
+    before: Option<&Shown>,
+    shown: &Shown,
+) -> [Option<Value>; 2] {
+    let (state, priority) = (shown.doing.label().number, shown.priority.unwrap_or(0));
+    let (is_same_state, is_same_priority) = match before {
+        Some(before) => (
+            before.doing.label().number == state,
+            before.priority == shown.priority,
+        ),
+        None => (false, false),
+    };
+    let state = Value::vector(state, Signal::state(p, t.number()));
+    let priority = Value::vector(priority, Signal::priority(p, t.number()));
+    [
+        (!is_same_state).then_some(state),
+        (!is_same_priority).then_some(priority),
+    ]
 }
 
 /// The number of a status.

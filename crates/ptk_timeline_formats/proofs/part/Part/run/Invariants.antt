@@ -1,11 +1,9 @@
 use Rattle.std.proofs.Common.{◌≡◌, ◌-◌, ◌≤◌}
-use Rattle.std.specs.Prelude.{IfSome}
 use Rattle.ptk_timeline_formats.proofs.part.Part.run.Given as goal
 
 abbrev pub invariant-loop-tick : goal.invariant-loop-tick
 invariant-loop-tick g l =
-    (l.sheet.at ≤ l.tick) × (l.sheet.at ≤ l.end) × (l.sheet.to ≡ l.initial.sheet.to) × (l.system.config ≡ l.initial.system.config)
-    × IfSome l.self.step (λ step. (l.sheet.at ≤ step.until) × (step.until ≤ l.end))
+    (l.sheet.at ≤ l.tick) × (l.tick ≤ l.end) × (l.sheet.to ≡ l.initial.sheet.to) × (l.system.config ≡ l.initial.system.config)
 
 abbrev pub decreases-loop-tick : goal.decreases-loop-tick
 decreases-loop-tick g l = l.end - l.tick
