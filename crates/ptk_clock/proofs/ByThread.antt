@@ -172,11 +172,6 @@ change p n items read lent s xs ys new same e lends count elsewhere made =
       made = ap (λ k. take k (new ++ drop (length new) items)) all ∙ take-append_seam new (drop (length new) items) ∙ made';
     }
 
-pub count_back : (p n : ℕ) (items : List PartitionSlots) (s : PartitionSlots) (xs ys : List Pair) (new : List PartitionSlots) (value : List (List (Option Tick))) → IsChange p n items s xs ys new → deadlines_by_partition items xs ≡ value
-    → length (deadlines_by_partition (take n (new ++ drop (length new) items)) ys) ≡ length value
-count_back p n items s xs ys new value changed view =
-    ap (λ (ss : List PartitionSlots). length (deadlines_by_partition ss ys)) changed.made ∙ length-by (with_least p ys items) ys ∙ length-with_least p items ys ∙ sym (length-by items xs) ∙ ap length view
-
 pub kept_back : (slots after p n : ℕ) (items : List PartitionSlots) (s : PartitionSlots) (xs ys : List Pair) (new : List PartitionSlots) → AreThreadDeadlines slots xs items → after ≡ slots → IsChange p n items s xs ys new
     → AreThreadDeadlines after ys (take n (new ++ drop (length new) items))
 kept_back slots after p n items s xs ys new h e changed =

@@ -1,5 +1,5 @@
 -- The least due pair of a partition's slots is its next expiry by thread number.
-use Rattle.std.proofs.Common.{◌≡◌, ℕ, zero, suc, ◌+◌, ◌-◌, ◌<◌, ◌≤◌, List, [], ◌∷◌, length, replicate, Bool, true, false, cond, refl, sym, ◌∙◌, ap, subst, arith, Option, Some, None, ◌⊎◌, inl, inr}
+use Rattle.std.proofs.Common.{◌≡◌, ℕ, zero, suc, ◌+◌, ◌-◌, ◌<◌, ◌≤◌, List, [], ◌∷◌, length, replicate, Bool, true, false, cond, refl, sym, ◌∙◌, ap, subst, arith, Option, Some, None, inl, inr}
 use Rattle.std.specs.Prelude.{nat_eq, ◌==◌, find, option_map, slice_get, IfSome}
 use Rattle.std.specs.Option.{option_flatten}
 use Rattle.std.proofs.lemmas.Bool.{cases_lt, eqb-true, or_from}
@@ -9,11 +9,11 @@ use Rattle.ptk_words.specs.Names.{Tick}
 use Rattle.ptk_words.specs.Pools.{pool_get, is_in}
 use Rattle.ptk_words_model.specs.Withdrawal as withdrawal
 use Rattle.ptk_words_model.specs.Withdrawal.{Expiry}
-use Rattle.ptk_words_sync_invariant.specs.Expiries.{next_expiry, without_expiry, IsLeastDue, IsNoneDue, IsNextExpiry}
+use Rattle.ptk_words_sync_invariant.specs.Expiries.{next_expiry, IsLeastDue, IsNoneDue, IsNextExpiry}
 use Rattle.ptk_words_sync_invariant.proofs.Expiries.{next_only}
-use Rattle.ptk_clock.specs.Pairs.{Pair, slots_of, is_before, IsBeforeAll, AreInOrder, IsLeast, is_due, least_due, without_taken}
+use Rattle.ptk_clock.specs.Pairs.{Pair, slots_of, is_before, IsBeforeAll, AreInOrder, IsLeast, is_due, least_due}
 use Rattle.ptk_clock.specs.BySlot.{deadline_at, deadlines_from, expiry_from}
-use Rattle.ptk_clock.proofs.BySlot.{deadline_at-cons, own_slot, deadlines_from-without, deadlines_from-without_other}
+use Rattle.ptk_clock.proofs.BySlot.{deadline_at-cons, own_slot}
 use Rattle.ptk_clock.proofs.Leasts.{least-due}
 
 -- ---- a pair by its slot
@@ -188,31 +188,3 @@ next-due first last n now xs order end =
 pub next_found : (first last : ℕ) (now : Tick) (xs ys : List Pair) (o : Option Pair) → AreInOrder xs → xs ≡ ys → least_due first last now xs ≡ o
     → (n : ℕ) → last + 1 ≡ first + n → option_map (expiry_from first) o ≡ next_expiry now (deadlines_from first n ys)
 next_found first last now xs ys o order e found n end = ap (option_map (expiry_from first)) (sym found) ∙ next-due first last n now xs order end ∙ ap (λ pairs. next_expiry now (deadlines_from first n pairs)) e
-
--- ---- the pair is taken out
-
-without_found : (first last n : ℕ) (now : Tick) (xs : List Pair) (o : Option Pair) → last + 1 ≡ first + n → least_due first last now xs ≡ o
-    → deadlines_from first n (without_taken o xs) ≡ without_expiry (option_map (expiry_from first) o) (deadlines_from first n xs)
-without_found first last n now xs None end e = refl
-without_found first last n now xs (Some a) end e =
-    let is : IsDue first last now a = due_parts first last now a (found_passes (is_due first last now) xs a e) in
-    let low : first ≤ a.1 = is.low in
-    let high : a.1 ≤ last = is.high in
-    deadlines_from-without first n a.1 xs low (omega (arith, high, end))
-
--- its thread's deadline goes
-pub without-due : (first last n : ℕ) (now : Tick) (xs : List Pair) → last + 1 ≡ first + n
-    → deadlines_from first n (without_taken (least_due first last now xs) xs) ≡ without_expiry (option_map (expiry_from first) (least_due first last now xs)) (deadlines_from first n xs)
-without-due first last n now xs end = without_found first last n now xs (least_due first last now xs) end refl
-
-without_found_other : (first last from n : ℕ) (now : Tick) (xs : List Pair) (o : Option Pair) → (last < from) ⊎ (from + n ≤ first) → least_due first last now xs ≡ o → deadlines_from from n (without_taken o xs) ≡ deadlines_from from n xs
-without_found_other first last from n now xs None away e = refl
-without_found_other first last from n now xs (Some a) away e =
-    let is : IsDue first last now a = due_parts first last now a (found_passes (is_due first last now) xs a e) in
-    let low : first ≤ a.1 = is.low in
-    let high : a.1 ≤ last = is.high in
-    deadlines_from-without_other from n a.1 xs (elim away [ inl below ↦ inl (omega (arith, high, below)) | inr above ↦ inr (omega (arith, low, above)) ])
-
--- no other partition's goes
-pub without-due_other : (first last from n : ℕ) (now : Tick) (xs : List Pair) → (last < from) ⊎ (from + n ≤ first) → deadlines_from from n (without_taken (least_due first last now xs) xs) ≡ deadlines_from from n xs
-without-due_other first last from n now xs away = without_found_other first last from n now xs (least_due first last now xs) away refl

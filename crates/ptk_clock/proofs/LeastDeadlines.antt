@@ -1,23 +1,19 @@
 -- The least of deadlines by thread number: of the slots it is found among, what it says of expiries, and of none.
-use Rattle.std.proofs.Common.{◌≡◌, ◌≢◌, ℕ, zero, suc, ◌+◌, ◌-◌, ◌<◌, ◌≤◌, List, [], ◌∷◌, length, min, Bool, true, false, cond, ◌||◌, not, refl, sym, ◌∙◌, ap, subst, arith, Option, Some, None, inl, inr}
-use Rattle.std.specs.Prelude.{nat_eq, ◌==◌, option_map, slice_get, if◌then◌else◌, IfSome}
+use Rattle.std.proofs.Common.{◌≡◌, ◌≢◌, ℕ, zero, suc, ◌+◌, ◌-◌, ◌<◌, ◌≤◌, List, [], ◌∷◌, min, Bool, true, false, cond, not, refl, sym, ◌∙◌, ap, subst, arith, Option, Some, None, inl, inr}
+use Rattle.std.specs.Prelude.{◌==◌, option_map, slice_get, IfSome}
 use Rattle.std.specs.Option.{option_flatten, is_some}
-use Rattle.std.proofs.lemmas.Bool.{cases_eq, eq-eqb, ne_eqb}
 use Rattle.std.proofs.lemmas.Bool.Decides.{nat_tests}
 use Rattle.std.proofs.lemmas.Option.{none-some}
 use Rattle.ptk_words.specs.Names.{Tick}
-use Rattle.ptk_words.specs.Pools.{pool_get, pool_set, is_in}
-use Rattle.ptk_words_sync_invariant.specs.Expiries.{next_expiry, without_expiry}
-use Rattle.ptk_words_sync_invariant.specs.Deadlines.{without_deadlines}
+use Rattle.ptk_words.specs.Pools.{pool_get, pool_set}
+use Rattle.ptk_words_sync_invariant.specs.Expiries.{next_expiry}
 use Rattle.ptk_words_sync_invariant.proofs.Expiries.{next_only}
-use Rattle.ptk_words_sync_invariant.proofs.Pools.{free_own, get-set_other, length-pool_set}
 use Rattle.ptk_words_sync_invariant.proofs.DeadlineLists.{free_again}
-use Rattle.ptk_clock.specs.Pairs.{Pair, DeadlineTable, is_before, IsLeast, is_among, is_due, least_among, least_due, without_slot, without_taken}
-use Rattle.ptk_clock.specs.BySlot.{deadline_at, deadlines_from, expiry_from}
-use Rattle.ptk_clock.specs.ByThread.{earlier, least_deadline, is_reached, IsElsewhereSame}
+use Rattle.ptk_clock.specs.Pairs.{Pair, is_before, IsLeast, is_among, is_due, least_among, least_due}
+use Rattle.ptk_clock.specs.BySlot.{deadline_at, deadlines_from}
+use Rattle.ptk_clock.specs.ByThread.{earlier, least_deadline, is_reached}
 use Rattle.ptk_clock.proofs.BySlot.{deadline_at-cons, own_slot, decided}
-use Rattle.ptk_clock.proofs.SlotMoves.{set_none, elsewhere_none}
-use Rattle.ptk_clock.proofs.Expiries.{none_passes, not_before_least, found_passes, found_at, IsDue, due_parts, without-due, without-due_other}
+use Rattle.ptk_clock.proofs.Expiries.{none_passes, not_before_least, found_passes, found_at, IsDue, due_parts}
 
 -- ---- the least of some slots' deadlines
 
@@ -168,132 +164,15 @@ some_least d (Some x) e h = none-some x (sym e)
 all_free : (t : ℕ) (ds : List (Option Tick)) → least_deadline ds ≡ None → pool_get ds t ≡ None
 all_free t ds e = no_deadline (pool_get ds t) (λ d at. some_least d (least_deadline ds) e (to_number t d ds at))
 
-pub none_ended : (ts : List ℕ) (ds : List (Option Tick)) → least_deadline ds ≡ None → without_deadlines ts ds ≡ ds
-none_ended [] ds e = refl
-none_ended (t ∷ ts) ds e = ap (without_deadlines ts) (free_again t ds (all_free t ds e)) ∙ none_ended ts ds e
+not_some : (o : Option Tick) → is_some o ≡ false → o ≡ None
+not_some None e = refl
+not_some (Some d) e = let no : true ≡ false = e in absurd (cc)
 
-pub none_told : (o : Option Tick) (b : Bool) → is_some o ≡ not b → b ≡ true → o ≡ None
-none_told None b e t = refl
-none_told (Some d) b e t = let no : true ≡ false = e ∙ ap not t in absurd (cc)
+-- where no thread has a deadline, and none is to come, all stay
+pub none_set : (t : ℕ) (least deadline : Option Tick) (ds : List (Option Tick)) → least ≡ least_deadline ds → is_some deadline ≡ false → is_some least ≡ false → pool_set ds t deadline ≡ ds
+none_set t least deadline ds is new old = ap (pool_set ds t) (not_some deadline new) ∙ free_again t ds (all_free t ds (sym is ∙ not_some least old))
 
--- ---- the deadlines of a set of threads
-
-same_pools : (xs ys : List (Option Tick)) → length xs ≡ length ys → ((i : ℕ) → i < length xs → option_flatten (slice_get xs i) ≡ option_flatten (slice_get ys i)) → xs ≡ ys
-same_pools [] [] e h = refl
-same_pools [] (y ∷ ys) e h = absurd (omega (arith, e))
-same_pools (x ∷ xs) [] e h = absurd (omega (arith, e))
-same_pools (x ∷ xs) (y ∷ ys) e h =
-    let here : x ≡ y = h 0 (omega arith) in
-    let rest : xs ≡ ys = same_pools xs ys (omega (arith, e)) (λ i lt. h (suc i) (omega (arith, lt))) in
-    rw (here, rest) refl
-
-none_either : (b : Bool) (o : Option Tick) → o ≡ None → o ≡ cond b None o
-none_either true o e = e
-none_either false o e = refl
-
-get-without : (t : ℕ) (ts : List ℕ) (ds : List (Option Tick)) → pool_get (without_deadlines ts ds) t ≡ cond (is_in t ts) None (pool_get ds t)
-get-without t [] ds = refl
-get-without t (u ∷ ts) ds = get-without t ts (pool_set ds u None) ∙ elim (cases_eq t u) as (λ _. cond (is_in t ts) None (pool_get (pool_set ds u None) t) ≡ cond (is_in t (u ∷ ts)) None (pool_get ds t)) [
-  | inl same ↦ (
-      let gone : pool_get (pool_set ds u None) t ≡ None = ap (pool_get (pool_set ds u None)) same ∙ free_own u ds in
-      let first : nat_eq t u ≡ true = eq-eqb t u same in
-      sym (none_either (is_in t ts) (pool_get (pool_set ds u None) t) gone) ∙ gone ∙ ap (λ b. cond (b || is_in t ts) None (pool_get ds t)) (sym first)
-      )
-  | inr ne ↦ (
-      let first : nat_eq t u ≡ false = ne_eqb t u ne in
-      ap (λ o. cond (is_in t ts) None o) (get-set_other u t None ds ne) ∙ ap (λ b. cond (b || is_in t ts) None (pool_get ds t)) (sym first)
-      )
-]
-
-set_when : (t k : ℕ) (b : Bool) (ds : List (Option Tick)) → t ≢ k → pool_get (cond b (pool_set ds k None) ds) t ≡ pool_get ds t
-set_when t k true ds ne = get-set_other k t None ds ne
-set_when t k false ds ne = refl
-
-end_when : (k : ℕ) (b : Bool) (ds : List (Option Tick)) (o : Option Tick) → pool_get ds k ≡ o → pool_get (cond b (pool_set ds k None) ds) k ≡ cond b None o
-end_when k true ds o e = free_own k ds
-end_when k false ds o e = e
-
--- the deadlines without those of the first k threads that pass the test (own)
-abbrev pub without_first : (ℕ → Bool) → ℕ → List (Option Tick) → List (Option Tick)
-without_first test zero deadlines = deadlines
-without_first test (suc k) deadlines = if test (suc k) then pool_set (without_first test k deadlines) (suc k) None else without_first test k deadlines
-
--- the deadlines of the first k threads that pass the test are ended, and no other's (own)
-pub record AreEnded (test : ℕ → Bool) (first n k : ℕ) (old new : DeadlineTable) : Type 0 where
-  pub own : deadlines_from first n new.pairs ≡ without_first test k (deadlines_from first n old.pairs)
-  pub elsewhere : IsElsewhereSame first n old.pairs new.pairs
-  pub slots : new.slots ≡ old.slots
-
-get-first_later : (test : ℕ → Bool) (k t : ℕ) (ds : List (Option Tick)) → k < t → pool_get (without_first test k ds) t ≡ pool_get ds t
-get-first_later test zero t ds lt = refl
-get-first_later test (suc k) t ds lt = set_when t (suc k) (test (suc k)) (without_first test k ds) (λ e. absurd (omega (arith, lt, e))) ∙ get-first_later test k t ds (omega (arith, lt))
-
-get-first : (test : ℕ → Bool) (k t : ℕ) (ds : List (Option Tick)) → 0 < t → t ≤ k → pool_get (without_first test k ds) t ≡ cond (test t) None (pool_get ds t)
-get-first test zero t ds pos le = absurd (omega (arith, pos, le))
-get-first test (suc k) t ds pos le = elim (cases_eq t (suc k)) as (λ _. pool_get (without_first test (suc k) ds) t ≡ cond (test t) None (pool_get ds t)) [
-  | inl same ↦ (
-      let P : ℕ → Type 0 = λ u. pool_get (without_first test (suc k) ds) u ≡ cond (test u) None (pool_get ds u) in
-      subst P (sym same) (end_when (suc k) (test (suc k)) (without_first test k ds) (pool_get ds (suc k)) (get-first_later test k (suc k) ds (omega arith)))
-      )
-  | inr ne ↦ (
-      let ne' : t ≢ suc k = ne in
-      set_when t (suc k) (test (suc k)) (without_first test k ds) ne ∙ get-first test k t ds pos (omega (arith, le, ne'))
-      )
-]
-
-length-without : (ts : List ℕ) (ds : List (Option Tick)) → length (without_deadlines ts ds) ≡ length ds
-length-without [] ds = refl
-length-without (t ∷ ts) ds = length-without ts (pool_set ds t None) ∙ length-pool_set ds t None
-
-length_when : (k : ℕ) (b : Bool) (ds : List (Option Tick)) → length (cond b (pool_set ds k None) ds) ≡ length ds
-length_when k true ds = length-pool_set ds k None
-length_when k false ds = refl
-
-length-first : (test : ℕ → Bool) (k : ℕ) (ds : List (Option Tick)) → length (without_first test k ds) ≡ length ds
-length-first test zero ds = refl
-length-first test (suc k) ds = length_when (suc k) (test (suc k)) (without_first test k ds) ∙ length-first test k ds
-
--- those of all threads that pass the test are those of the list that has them
-pub first-all : (test : ℕ → Bool) (n : ℕ) (ts : List ℕ) (ds : List (Option Tick)) → length ds ≡ n → n ≤ 32 → ((t : ℕ) → 0 < t → t ≤ 32 → test t ≡ is_in t ts) → without_first test n ds ≡ without_deadlines ts ds
-first-all test n ts ds count le are =
-    same_pools (without_first test n ds) (without_deadlines ts ds) (length-first test n ds ∙ sym (length-without ts ds))
-    (λ i lt. (
-    let below : i < length (without_first test n ds) = lt in
-    let within : suc i ≤ n = omega (arith, below, length-first test n ds, count) in
-    get-first test n (suc i) ds (omega arith) within ∙ ap (λ b. cond b None (pool_get ds (suc i))) (are (suc i) (omega arith) (omega (arith, within, le))) ∙ sym (get-without (suc i) ts ds)
-    ))
-
--- ---- one thread after the other
-
-ended_once : (test : ℕ → Bool) (k : ℕ) (b : Bool) (ds : List (Option Tick)) → test (suc k) ≡ b → without_first test (k + 1) ds ≡ cond b (pool_set (without_first test k ds) (suc k) None) (without_first test k ds)
-ended_once test k b ds e =
-    let next : k + 1 ≡ suc k = omega arith in
-    ap (λ j. without_first test j ds) next ∙ ap (λ c. cond c (pool_set (without_first test k ds) (suc k) None) (without_first test k ds)) e
-
-at_next : (test : ℕ → Bool) (k : ℕ) (b : Bool) → test (k + 1) ≡ b → test (suc k) ≡ b
-at_next test k b e = let next : suc k ≡ k + 1 = omega arith in ap test next ∙ e
-
-pub ended_then : (test : ℕ → Bool) (first n k slot : ℕ) (old now new : DeadlineTable) → k < n → test (k + 1) ≡ true → slot ≡ first + k → new.pairs ≡ without_slot slot now.pairs → new.slots ≡ now.slots → AreEnded test first n k old now → AreEnded test first n (k + 1) old new
-ended_then test first n k slot old now new lt passes at pairs slots h =
-    let back : first + k ≡ first + (suc k - 1) = omega arith in
-    let all : new.pairs ≡ without_slot (first + (suc k - 1)) now.pairs = pairs ∙ ap (λ s. without_slot s now.pairs) (at ∙ back) in
-    record {
-      own = ap (deadlines_from first n) all ∙ set_none first n (suc k) now.pairs (omega arith) (omega (arith, lt)) ∙ ap (λ (ds : List (Option Tick)). pool_set ds (suc k) None) h.own
-          ∙ sym (ended_once test k true (deadlines_from first n old.pairs) (at_next test k true passes));
-      elsewhere = λ start m apart. ap (deadlines_from start m) all ∙ elsewhere_none first n (suc k) now.pairs (omega arith) (omega (arith, lt)) start m apart ∙ h.elsewhere start m apart;
-      slots = slots ∙ h.slots;
-    }
-
-pub ended_else : (test : ℕ → Bool) (first n k : ℕ) (old now new : DeadlineTable) → test (k + 1) ≡ false → new ≡ now → AreEnded test first n k old now → AreEnded test first n (k + 1) old new
-ended_else test first n k old now new fails same h =
-    let pairs : new.pairs ≡ now.pairs = ap (λ (table : DeadlineTable). table.pairs) same in
-    record {
-      own = ap (deadlines_from first n) pairs ∙ h.own ∙ sym (ended_once test k false (deadlines_from first n old.pairs) (at_next test k false fails));
-      elsewhere = λ start m apart. ap (deadlines_from start m) pairs ∙ h.elsewhere start m apart;
-      slots = ap (λ (table : DeadlineTable). table.slots) same ∙ h.slots;
-    }
-
--- ---- the first due one taken out
+-- ---- the first due one
 
 pub record IsOwn (first n slot : ℕ) : Type 0 where
   pub low : first ≤ slot
@@ -305,18 +184,3 @@ taken_own f first last n now xs o a e end taken some =
     let low : f ≤ a.1 = is.low in
     let high : a.1 ≤ last = is.high in
     record { low = omega (arith, e, low); high = omega (arith, end, high) }
-
-pub taken_out : (f first last n : ℕ) (now : Tick) (xs ys : List Pair) (o : Option Pair) → f ≡ first → last + 1 ≡ first + n → o ≡ least_due f last now xs → ((m : ℕ) → last + 1 ≡ f + m → option_map (expiry_from f) o ≡ next_expiry now (deadlines_from f m xs)) → ys ≡ without_taken o xs
-    → deadlines_from first n ys ≡ without_expiry (next_expiry now (deadlines_from first n xs)) (deadlines_from first n xs)
-taken_out f first last n now xs ys o e end taken next pairs =
-    let end' : last + 1 ≡ f + n = omega (arith, e, end) in
-    let all : deadlines_from f n ys ≡ without_expiry (next_expiry now (deadlines_from f n xs)) (deadlines_from f n xs) =
-    ap (deadlines_from f n) (pairs ∙ ap (λ p. without_taken p xs) taken) ∙ without-due f last n now xs end'
-    ∙ ap (λ p. without_expiry p (deadlines_from f n xs)) (ap (option_map (expiry_from f)) (sym taken) ∙ next n end') in
-    ap (λ k. deadlines_from k n ys) (sym e) ∙ all ∙ ap (λ k. without_expiry (next_expiry now (deadlines_from k n xs)) (deadlines_from k n xs)) e
-
-pub taken_elsewhere : (f first last n : ℕ) (now : Tick) (xs ys : List Pair) (o : Option Pair) → f ≡ first → last + 1 ≡ first + n → o ≡ least_due f last now xs → ys ≡ without_taken o xs → IsElsewhereSame first n xs ys
-taken_elsewhere f first last n now xs ys o e end taken pairs = λ start m apart. (
-    ap (deadlines_from start m) (pairs ∙ ap (λ p. without_taken p xs) taken)
-    ∙ without-due_other f last start m now xs (elim apart [ inl before ↦ inr (omega (arith, before, e)) | inr behind ↦ inl (omega (arith, behind, end)) ])
-    )

@@ -34,9 +34,9 @@ least-due first last now xs h = least-find (is_due first last now) xs h
 pub least-among : (first last : ℕ) (xs : List Pair) → AreInOrder xs → IfSome (least_among first last xs) (IsLeast (is_among first last) xs)
 least-among first last xs h = least-find (is_among first last) xs h
 
--- the pair that was found, among the same pairs
-pub taken_least : (first last : ℕ) (now : Tick) (xs ys : List Pair) (taken : Pair) → AreInOrder xs → xs ≡ ys → least_due first last now xs ≡ Some taken → IsLeast (is_due first last now) ys taken
-taken_least first last now xs ys taken h e found =
-    let P : List Pair → Type 0 = λ zs. IsLeast (is_due first last now) zs taken in
-    let Q : Option Pair → Type 0 = λ o. IfSome o (IsLeast (is_due first last now) xs) in
-    subst P e (subst Q found (least-due first last now xs h))
+-- what was found, among the same pairs
+pub due_least : (first last : ℕ) (now : Tick) (xs ys : List Pair) (o : Option Pair) → AreInOrder xs → xs ≡ ys → o ≡ least_due first last now xs → IfSome o (IsLeast (is_due first last now) ys)
+due_least first last now xs ys o h e found =
+    let P : List Pair → Type 0 = λ zs. IfSome o (IsLeast (is_due first last now) zs) in
+    let Q : Option Pair → Type 0 = λ p. IfSome p (IsLeast (is_due first last now) xs) in
+    subst P e (subst Q (sym found) (least-due first last now xs h))

@@ -1,5 +1,5 @@
 -- Deadlines of slots as pairs, in order.
-use Rattle.std.specs.Prelude.{◌≡◌, ⊤, ℕ, Bool, true, false, not, ◌&&◌, ◌||◌, ◌==◌, nat_lt, nat_le, List, [], ◌∷◌, filter, find, map, Option, None, Some}
+use Rattle.std.specs.Prelude.{◌≡◌, ⊤, ℕ, Bool, true, false, not, ◌&&◌, ◌||◌, ◌==◌, nat_lt, nat_le, List, [], ◌∷◌, filter, find, map, Option}
 use Rattle.ptk_words.specs.Names.{Tick}
 use Rattle.ptk_words_model.specs.Withdrawal.{in_order_with}
 
@@ -57,11 +57,6 @@ least_among first last pairs = find (is_among first last) pairs
 -- of pairs in order, the least due among the slots from the first to the last
 abbrev pub least_due : ℕ → ℕ → Tick → List Pair → Option Pair
 least_due first last now pairs = find (is_due first last now) pairs
-
--- the pairs after one of them was taken out
-abbrev pub without_taken : Option Pair → List Pair → List Pair
-without_taken None pairs = pairs
-without_taken (Some taken) pairs = without_slot taken.1 pairs
 
 -- no pair that passes the test is before this one
 abbrev pub IsLeast : (Pair → Bool) → List Pair → Pair → Type 0

@@ -2,8 +2,8 @@
 
 ghost use Rattle.std.specs.Prelude.{◌≡◌, ℕ, ◌+◌, ◌-◌, ◌<◌, ◌≤◌, ◌^◌, ◌⊎◌, false, List, [], length, replicate, Some, None, option_map, slice_set};
 ghost use Rattle.ptk_words.specs.Pools.{pool_get, is_in};
-ghost use Rattle.ptk_words_sync_invariant.specs.Expiries.{next_expiry, without_expiry};
-ghost use Rattle.ptk_clock.specs.Pairs.{Pair, slots_of, AreInOrder, with_pair, without_slot, without_taken, least_due};
+ghost use Rattle.ptk_words_sync_invariant.specs.Expiries.{next_expiry};
+ghost use Rattle.ptk_clock.specs.Pairs.{Pair, slots_of, AreInOrder, with_pair, without_slot, least_due};
 ghost use Rattle.ptk_clock.specs.BySlot.{deadlines_from, expiry_from};
 ghost use Rattle.ptk_clock.specs.Ticks.{tick_of, seconds_of_words, tick_of_words};
 
@@ -33,15 +33,10 @@ pub fn removed_by_slot()
         → deadlines_from first n (without_slot slot pairs) ≡ deadlines_from first n pairs }
 {}
 
-/// Of pairs in order, the least due one of a partition's slots is the partition's next expiry by thread number. Taken
-/// out, it takes that thread's deadline away, and changes no other partition's.
-pub fn taken_by_slot()
-    ensures next { (first last n now : ℕ) (pairs : List Pair) → AreInOrder pairs → last + 1 ≡ first + n
+/// Of pairs in order, the least due one of a partition's slots is the partition's next expiry by thread number.
+pub fn due_by_slot()
+    ensures { (first last n now : ℕ) (pairs : List Pair) → AreInOrder pairs → last + 1 ≡ first + n
         → option_map (expiry_from first) (least_due first last now pairs) ≡ next_expiry now (deadlines_from first n pairs) }
-    ensures own { (first last n now : ℕ) (pairs : List Pair) → last + 1 ≡ first + n
-        → deadlines_from first n (without_taken (least_due first last now pairs) pairs) ≡ without_expiry (option_map (expiry_from first) (least_due first last now pairs)) (deadlines_from first n pairs) }
-    ensures others { (first last start n now : ℕ) (pairs : List Pair) → (last < start) ⊎ (start + n ≤ first)
-        → deadlines_from start n (without_taken (least_due first last now pairs) pairs) ≡ deadlines_from start n pairs }
 {}
 
 /// The tick of a time whose seconds are two words, low and high, one signed number.

@@ -49,10 +49,8 @@ impl Deadlines for PlainDeadlines {
         self.queue.remove(slot);
     }
 
-    fn take_due(&mut self, first: SlotNo, last: SlotNo, now: Tick) -> Option<(Tick, SlotNo)> {
-        let taken = first_due(self.queue.pairs(), first, last, now)?;
-        self.queue.remove(taken.1);
-        Some(taken)
+    fn due(&self, first: SlotNo, last: SlotNo, now: Tick) -> Option<(Tick, SlotNo)> {
+        first_due(self.queue.pairs(), first, last, now)
     }
 
     fn least(&self, first: SlotNo, last: SlotNo) -> Option<Tick> {

@@ -57,10 +57,8 @@ impl Deadlines for SharedDeadlines {
         self.queue.remove(slot);
     }
 
-    fn take_due(&mut self, first: SlotNo, last: SlotNo, now: Tick) -> Option<(Tick, SlotNo)> {
-        let taken = due_in(self.queue.pairs(), first, last, now)?;
-        self.queue.remove(taken.1);
-        Some(taken)
+    fn due(&self, first: SlotNo, last: SlotNo, now: Tick) -> Option<(Tick, SlotNo)> {
+        due_in(self.queue.pairs(), first, last, now)
     }
 
     fn least(&self, first: SlotNo, last: SlotNo) -> Option<Tick> {

@@ -3,16 +3,13 @@
 ghost use Rattle.std.specs.Prelude.{◌≡◌, ℕ, ◌+◌, ◌-◌, ◌<◌, ◌≤◌, List, [], length, map, All, IfOk, Some, None, option_map, slice_get, slice_set, suc};
 ghost use Rattle.ptk_words.specs.Pools.{pool_set};
 ghost use Rattle.ptk_words_parted.specs.Parts.{part_of, filled};
-ghost use Rattle.ptk_words_sync_invariant.specs.Deadlines.{without_deadlines};
-ghost use Rattle.ptk_words_sync_invariant.specs.Expiries.{next_expiry, without_expiry};
-ghost use Rattle.ptk_words_parted.specs.Sets.{IsSetOf};
+ghost use Rattle.ptk_words_sync_invariant.specs.Expiries.{next_expiry};
 ghost use Rattle.ptk_clock.specs.BySlot.{deadlines_from};
 ghost use Rattle.ptk_clock.specs.ByThread.{least_deadline, is_reached, first_slot, laid_from, end_from, AreLaid, IsElsewhereSame, with_least};
 
 use crate::deadlines::Deadlines;
 use crate::shared::SharedDeadlines;
 use ptk_words::{PartId, SlotNo, ThreadNo, Tick};
-use ptk_words_parted::ThreadSet;
 use std::alloc::{AllocError, Global};
 use std::marker::Model;
 
@@ -74,27 +71,24 @@ impl ThreadDeadlines {
         &self.queue
     }
 
-    /// Sets or ends the deadline of a thread; nothing changes past the partition's last thread.
+    /// Sets or ends the deadline of a thread; nothing changes past the partition's last thread. Where no thread of the
+    /// partition has a deadline, there is none to end, and the queue is not gone through.
     pub fn set(&mut self, p: PartId, t: ThreadNo, deadline: Option<Tick>)
+        requires { p < length self.old }
+        ensures { self.new ≡ slice_set self.old p (pool_set (part_of self.old p) t deadline) }
+    {
+        if deadline.is_some() || self.next(p).is_some() {
+            self.put(p, t, deadline);
+        }
+    }
+
+    /// The same, by a pass over the queue.
+    fn put(&mut self, p: PartId, t: ThreadNo, deadline: Option<Tick>)
         requires { p < length self.old }
         ensures { self.new ≡ slice_set self.old p (pool_set (part_of self.old p) t deadline) }
     {
         let slots = slots_at(&self.partitions, p);
         set_in(&mut self.queue, slots, t, deadline);
-        keep_least(&self.queue, &mut self.partitions, p);
-    }
-
-    /// Ends the deadlines of some threads, of those that have one.
-    pub fn end_all(&mut self, p: PartId, threads: ThreadSet)
-        requires { p < length self.old }
-        ensures ended { (ts : List ℕ) → IsSetOf threads ts → self.new ≡ slice_set self.old p (without_deadlines ts (part_of self.old p)) }
-        ensures parts { length self.new ≡ length self.old }
-    {
-        let slots = slots_at(&self.partitions, p);
-        if slots.next.is_none() {
-            return;
-        }
-        end_in(&mut self.queue, slots, threads);
         keep_least(&self.queue, &mut self.partitions, p);
     }
 
@@ -107,20 +101,17 @@ impl ThreadDeadlines {
         slots.next
     }
 
-    /// Ends the first deadline that is at most now, by deadline and then thread number, and returns whose it was. None,
-    /// and nothing changes, where none is due; then no deadline but the least is looked at.
-    pub fn take_due(&mut self, p: PartId, now: Tick) -> Option<ThreadNo>
-        requires { p < length self.old }
-        ensures told { result ≡ option_map (λ a. a.thread) (next_expiry now (part_of self.old p)) }
-        ensures moved { self.new ≡ slice_set self.old p (without_expiry (next_expiry now (part_of self.old p)) (part_of self.old p)) }
+    /// Whose deadline is the first that is at most now, by deadline and then thread number; None where none is due.
+    /// Where the least is not reached, no other is looked at.
+    pub fn due(&self, p: PartId, now: Tick) -> Option<ThreadNo>
+        requires { p < length self.now }
+        ensures { result ≡ option_map (λ a. a.thread) (next_expiry now (part_of self.now p)) }
     {
         let slots = slots_at(&self.partitions, p);
         if !is_reached(slots.next, now) {
             return None;
         }
-        let thread = take_in(&mut self.queue, slots, now);
-        keep_least(&self.queue, &mut self.partitions, p);
-        thread
+        due_in(&self.queue, slots, now)
     }
 }
 
@@ -194,36 +185,16 @@ fn set_in(queue: &mut SharedDeadlines, slots: PartitionSlots, t: ThreadNo, deadl
     }
 }
 
-/// Ends the deadlines of those of a partition's slots whose threads are in the set.
-fn end_in(queue: &mut SharedDeadlines, slots: PartitionSlots, threads: ThreadSet)
-    requires within { slots.first + slots.count ≤ queue.old.slots }
-    requires few { queue.old.slots ≤ 256 }
-    requires threads { slots.count ≤ 32 }
-    ensures own { (ts : List ℕ) → IsSetOf threads ts → deadlines_from slots.first slots.count queue.new.pairs ≡ without_deadlines ts (deadlines_from slots.first slots.count queue.old.pairs) }
-    ensures elsewhere { IsElsewhereSame slots.first slots.count queue.old.pairs queue.new.pairs }
-    ensures slots { queue.new.slots ≡ queue.old.slots }
-{
-    for k in 0..slots.count {
-        if threads.has(ThreadNo::new(k + 1)) {
-            queue.remove(SlotNo::new(slots.first + u16::from(k)));
-        }
-    }
-}
-
-/// Ends the first due deadline of a partition's slots, and returns whose it was; None, and nothing changes, where none
-/// is due.
-fn take_in(queue: &mut SharedDeadlines, slots: PartitionSlots, now: Tick) -> Option<ThreadNo>
+/// Whose deadline is the first due one of a partition's slots; None where none is due.
+fn due_in(queue: &SharedDeadlines, slots: PartitionSlots, now: Tick) -> Option<ThreadNo>
     requires within { slots.first + slots.count ≤ 256 }
     requires threads { slots.count ≤ 32 }
-    ensures told { result ≡ option_map (λ a. a.thread) (next_expiry now (deadlines_from slots.first slots.count queue.old.pairs)) }
-    ensures own { deadlines_from slots.first slots.count queue.new.pairs ≡ without_expiry (next_expiry now (deadlines_from slots.first slots.count queue.old.pairs)) (deadlines_from slots.first slots.count queue.old.pairs) }
-    ensures elsewhere { IsElsewhereSame slots.first slots.count queue.old.pairs queue.new.pairs }
-    ensures slots { queue.new.slots ≡ queue.old.slots }
+    ensures { result ≡ option_map (λ a. a.thread) (next_expiry now (deadlines_from slots.first slots.count queue.now.pairs)) }
 {
     if slots.count == 0 {
         return None;
     }
-    let (_, slot) = queue.take_due(slots.first(), slots.last(), now)?;
+    let (_, slot) = queue.due(slots.first(), slots.last(), now)?;
     Some(slots.thread_of(slot))
 }
 

@@ -18,12 +18,12 @@ use Rattle.ptk_mutex.specs.Sound.{IsSound}
 use Rattle.ptk_mutex.proofs.Sound.{of_part, AreSyncedAt, sound_moved}
 use Rattle.ptk_mutex.proofs.Steps.{AreMoved, moved_none}
 use Rattle.ptk_cond.specs.Pool.{with_new_condition}
-use Rattle.ptk_cond.specs.Tables.{AreSynced}
+use Rattle.ptk_cond.specs.Tables.{AreSyncedBy}
 
 -- ---- one entry without waiters in another's place
 
-synced_set : (p c : ℕ) (x : Option Condition) (table : ThreadTable) (lines : List (List ℕ)) (mutexes : List (List (Option Mutex))) (conditions : List (List (Option Condition))) → waiters_on (pool_get (part_of conditions p) c) ≡ [] → waiters_on x ≡ [] → AreSynced p table lines mutexes conditions
-    → AreSynced p table lines mutexes (set conditions p (pool_set (part_of conditions p) c x))
+synced_set : (p c : ℕ) (x : Option Condition) (table : ThreadTable) (lines : List (List ℕ)) (mutexes : List (List (Option Mutex))) (conditions : List (List (Option Condition))) → waiters_on (pool_get (part_of conditions p) c) ≡ [] → waiters_on x ≡ [] → AreSyncedBy p table lines mutexes conditions
+    → AreSyncedBy p table lines mutexes (set conditions p (pool_set (part_of conditions p) c x))
 synced_set p c x table lines mutexes conditions was idle synced =
     let row : List (Option Condition) = pool_set (part_of conditions p) c x in
     record {
@@ -37,26 +37,26 @@ synced_set p c x table lines mutexes conditions was idle synced =
       };
     }
 
-synced_new : (p : ℕ) (o : Option ℕ) (table : ThreadTable) (lines : List (List ℕ)) (mutexes : List (List (Option Mutex))) (conditions : List (List (Option Condition))) → least_free (part_of conditions p) ≡ o → AreSynced p table lines mutexes conditions
-    → AreSynced p table lines mutexes (set conditions p (unwrap_or (option_map (λ c. pool_set (part_of conditions p) c (Some (condition_of []))) o) (part_of conditions p)))
+synced_new : (p : ℕ) (o : Option ℕ) (table : ThreadTable) (lines : List (List ℕ)) (mutexes : List (List (Option Mutex))) (conditions : List (List (Option Condition))) → least_free (part_of conditions p) ≡ o → AreSyncedBy p table lines mutexes conditions
+    → AreSyncedBy p table lines mutexes (set conditions p (unwrap_or (option_map (λ c. pool_set (part_of conditions p) c (Some (condition_of []))) o) (part_of conditions p)))
 synced_new p None table lines mutexes conditions e synced = rw (set_part-same conditions p) synced
 synced_new p (Some c) table lines mutexes conditions e synced =
     synced_set p c (Some (condition_of [])) table lines mutexes conditions (ap waiters_on (least_free_is (part_of conditions p) c e)) refl synced
 
 -- init leaves the tables so
-pub synced_init : (p : ℕ) (table : ThreadTable) (lines : List (List ℕ)) (mutexes : List (List (Option Mutex))) (conditions : List (List (Option Condition))) → AreSynced p table lines mutexes conditions
-    → AreSynced p table lines mutexes (set conditions p (with_new_condition (part_of conditions p)))
+pub synced_init : (p : ℕ) (table : ThreadTable) (lines : List (List ℕ)) (mutexes : List (List (Option Mutex))) (conditions : List (List (Option Condition))) → AreSyncedBy p table lines mutexes conditions
+    → AreSyncedBy p table lines mutexes (set conditions p (with_new_condition (part_of conditions p)))
 synced_init p table lines mutexes conditions synced = synced_new p (least_free (part_of conditions p)) table lines mutexes conditions refl synced
 
 -- destroy of a condition variable without waiters leaves the tables so
-pub synced_destroy : (p c : ℕ) (table : ThreadTable) (lines : List (List ℕ)) (mutexes : List (List (Option Mutex))) (conditions : List (List (Option Condition))) → waiters_on (pool_get (part_of conditions p) c) ≡ [] → AreSynced p table lines mutexes conditions
-    → AreSynced p table lines mutexes (set conditions p (pool_set (part_of conditions p) c None))
+pub synced_destroy : (p c : ℕ) (table : ThreadTable) (lines : List (List ℕ)) (mutexes : List (List (Option Mutex))) (conditions : List (List (Option Condition))) → waiters_on (pool_get (part_of conditions p) c) ≡ [] → AreSyncedBy p table lines mutexes conditions
+    → AreSyncedBy p table lines mutexes (set conditions p (pool_set (part_of conditions p) c None))
 synced_destroy p c table lines mutexes conditions unused synced = synced_set p c None table lines mutexes conditions unused refl synced
 
 -- ---- the whole roster
 
 -- with these condition variables of a partition
-sound_set : (p : ℕ) (row : List (Option Condition)) (a b : Rostered) → b ≡ record a { conditions = set a.conditions p row } → p < length a.table.threads → (AreSyncedAt p a → AreSynced p a.table a.lines a.mutexes (set a.conditions p row)) → IsSound a → IsSound b
+sound_set : (p : ℕ) (row : List (Option Condition)) (a b : Rostered) → b ≡ record a { conditions = set a.conditions p row } → p < length a.table.threads → (AreSyncedAt p a → AreSyncedBy p a.table a.lines a.mutexes (set a.conditions p row)) → IsSound a → IsSound b
 sound_set p row a b e lt keeps sound =
     let synced : AreSyncedAt p a = sound.synced p lt in
     let locks : Locks = (of_part p a).locks in

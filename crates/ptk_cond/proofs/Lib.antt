@@ -4,7 +4,4 @@ pub mod Waiters
 pub mod Steps
 pub mod Fresh
 pub mod Asleep
-pub mod Priorities
-pub mod TimedOut
 pub mod Visited
-pub mod Blocked

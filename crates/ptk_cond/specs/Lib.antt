@@ -1,4 +1,3 @@
 pub mod Pool
 pub mod Tables
-pub mod Timeouts
 pub mod Visits

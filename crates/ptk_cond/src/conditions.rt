@@ -45,7 +45,7 @@ pub fn init(roster: &mut Roster, p: PartId) -> Option<ConditionNo>
     requires { p < length roster.old.table.threads }
     ensures told { result ≡ least_free (part_of roster.old.conditions p) }
     ensures roster { roster.new ≡ record roster.old { conditions = slice_set roster.old.conditions p (with_new_condition (part_of roster.old.conditions p)) } }
-    ensures ready { AreSynced p roster.old.table roster.old.lines roster.old.mutexes roster.old.conditions → AreSynced p roster.new.table roster.new.lines roster.new.mutexes roster.new.conditions }
+    ensures ready { AreSynced p roster.old → AreSynced p roster.new }
     ensures sound { IsSound roster.old → IsSound roster.new }
 {
     open_free(roster, p)
@@ -56,7 +56,7 @@ pub fn destroy(roster: &mut Roster, p: PartId, c: ConditionNo)
     requires partition { p < length roster.old.table.threads }
     requires unused { waiters_on (pool_get (part_of roster.old.conditions p) c) ≡ [] }
     ensures roster { roster.new ≡ record roster.old { conditions = slice_set roster.old.conditions p (pool_set (part_of roster.old.conditions p) c None) } }
-    ensures ready { AreSynced p roster.old.table roster.old.lines roster.old.mutexes roster.old.conditions → AreSynced p roster.new.table roster.new.lines roster.new.mutexes roster.new.conditions }
+    ensures ready { AreSynced p roster.old → AreSynced p roster.new }
     ensures sound { IsSound roster.old → IsSound roster.new }
 {
     roster.close_condition(p, c);

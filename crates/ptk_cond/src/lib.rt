@@ -1,15 +1,11 @@
 #![tactic(auto)]
 
-//! The moves on condition variables over the roster (a wait, a signal or a broadcast moves waiters through
-//! `ptk_mutex`), and what the coming of a deadline does to a thread, whatever its wait is.
+//! The moves on condition variables over the roster: a wait, a signal or a broadcast moves waiters through `ptk_mutex`.
 //!
 //! - Over the roster, which has the condition variables with their waiters: wait, signal, broadcast and what ends a
 //!   wait at its deadline or at a cancellation are the model's moves for p, one equation for threads with their stored
 //!   priorities, line, mutexes and condition variables each.
 //! - Each choice of a broadcast is made in the state that the one before left.
-//! - `signal` and `broadcast` return the set of threads whose waits they ended.
-//! - `time_out`, the coming of the deadline of any wait, is the model's move, and `is_blocked` returns whether a thread
-//!   waits in the lists in which it requires it to.
 //! - Every call keeps what the calls ask (`ready`, and `sound` for all partitions), and says what it leaves of the
 //!   number of reads: that of its re-lock, of one of its signals, 0, or what it was.
 //!
@@ -17,19 +13,16 @@
 //! named. What a call needs of its partition, and leaves of it, is `AreSynced` of `ptk_mutex/specs/Sound`: what the
 //! mutex calls need, and waiters that wait, from which it follows that a thread that waits for nothing is among no
 //! waiters. No call takes memory. Costly to prove is that waiters still wait after one of them was unblocked
-//! (`proofs/Waiters`), and that waking a sleeper leaves every effective priority as it was (`proofs/Priorities`). Below
-//! are `ptk_mutex`, `ptk_syncs`, which has the waiters as linked queues, and `ptk_words_sync_invariant`, which says
-//! what a wait on a condition variable is; above are the pools of `ptk_gate_pools`.
+//! (`proofs/Waiters`). Below are `ptk_mutex`, `ptk_syncs`, which has the waiters as linked queues, and
+//! `ptk_words_sync_invariant`, which says what a wait on a condition variable is; above are `ptk_gate_waits` and the
+//! pools of `ptk_gate_pools`.
 
 mod conditions;
-mod expiries;
-mod kinds;
 mod naming;
 mod signals;
 mod waiting;
 
 pub use conditions::{destroy, init, is_there, numbered};
-pub use expiries::{is_blocked, time_out};
 pub use naming::{names, names_another};
 pub use signals::{broadcast, signal, withdraw};
 pub use waiting::wait;

@@ -4,20 +4,17 @@ ghost use Rattle.std.specs.Prelude.{◌≡◌, IsSome, slice_set};
 ghost use Rattle.ptk_words.specs.Pools.{pool_get};
 ghost use Rattle.ptk_words_parted.specs.Parts.{part_of};
 ghost use Rattle.ptk_words_model.specs.Condition.{after_condition_wait};
-ghost use Rattle.ptk_words_sync_invariant.specs.Deadlines.{woken_by_unlock};
-ghost use Rattle.ptk_words_parted.specs.Sets.{IsSetOf};
 ghost use Rattle.ptk_mutex.specs.Sound.{IsSound};
 ghost use Rattle.ptk_mutex.specs.Tables.{locks_at, with_threads};
 ghost use Rattle.ptk_cond.specs.Tables.{syncs_at, AreSynced, IsAwake};
 
 use ptk_mutex::Mutexes;
 use ptk_syncs::Roster;
+use ptk_threads::ThreadChange;
 use ptk_words::{ConditionNo, MutexNo, PartId, ThreadNo, Tick, Wait};
-use ptk_words_parted::ThreadSet;
 
 /// A thread that waits for nothing unlocks the mutex once, as unlock does, and is then the last waiter of the condition
-/// variable, until the deadline (a tick) if there is one (pthread_cond_wait, pthread_cond_timedwait). Returns the set
-/// of threads that the unlock woke.
+/// variable, until the deadline (a tick) if there is one (pthread_cond_wait, pthread_cond_timedwait).
 #[tactic(auto, using(crate::proofs::Steps::waits))]
 pub fn wait(
     roster: &mut Roster,
@@ -27,21 +24,20 @@ pub fn wait(
     c: ConditionNo,
     m: MutexNo,
     deadline: Option<Tick>,
-) -> ThreadSet
-    requires ready { AreSynced p roster.old.table roster.old.lines roster.old.mutexes roster.old.conditions }
-    requires caller { IsAwake (locks_at p roster.old.table roster.old.lines roster.old.mutexes) t }
+)
+    requires ready { AreSynced p roster.old }
+    requires caller { IsAwake (locks_at p roster.old) t }
     requires used { IsSome (pool_get (part_of roster.old.conditions p) c) }
-    ensures woken { IsSetOf result (woken_by_unlock m (locks_at p roster.old.table roster.old.lines roster.old.mutexes)) }
-    ensures threads { roster.new.table ≡ with_threads p (after_condition_wait t c m deadline (syncs_at p roster.old.table roster.old.lines roster.old.mutexes roster.old.conditions)).locks roster.old.table }
-    ensures line { roster.new.lines ≡ slice_set roster.old.lines p (after_condition_wait t c m deadline (syncs_at p roster.old.table roster.old.lines roster.old.mutexes roster.old.conditions)).line }
-    ensures mutexes { roster.new.mutexes ≡ slice_set roster.old.mutexes p (after_condition_wait t c m deadline (syncs_at p roster.old.table roster.old.lines roster.old.mutexes roster.old.conditions)).mutexes }
-    ensures conditions { roster.new.conditions ≡ slice_set roster.old.conditions p (after_condition_wait t c m deadline (syncs_at p roster.old.table roster.old.lines roster.old.mutexes roster.old.conditions)).conditions }
-    ensures ready { AreSynced p roster.new.table roster.new.lines roster.new.mutexes roster.new.conditions }
+    ensures threads { roster.new.table ≡ with_threads p (after_condition_wait t c m deadline (syncs_at p roster.old)).locks roster.old.table }
+    ensures line { roster.new.lines ≡ slice_set roster.old.lines p (after_condition_wait t c m deadline (syncs_at p roster.old)).line }
+    ensures mutexes { roster.new.mutexes ≡ slice_set roster.old.mutexes p (after_condition_wait t c m deadline (syncs_at p roster.old)).mutexes }
+    ensures conditions { roster.new.conditions ≡ slice_set roster.old.conditions p (after_condition_wait t c m deadline (syncs_at p roster.old)).conditions }
+    ensures ready { AreSynced p roster.new }
     ensures visited { mutexes.new.visited ≡ 0 }
     ensures sound { IsSound roster.old → IsSound roster.new }
 {
     roster.await_condition(p, c, t);
-    let woken = mutexes.unlock(roster, p, m);
-    roster.set_wait(p, t, Some(Wait::ConditionWait(c, m, deadline)));
-    woken
+    mutexes.unlock(roster, p, m);
+    let wait = Wait::ConditionWait(c, m, deadline);
+    roster.change(p, t, ThreadChange::Wait(Some(wait)));
 }

@@ -3,7 +3,7 @@
 //! The pools of each kind made at boot from the sections' numbers, and `Memories`, the memory of all partitions with
 //! its decoded words.
 //!
-//! - `stores_of`, `schedules_of`, `deadlines_of`, `endings_of` and `records_of` make the pools of each kind as they are
+//! - `stores_of`, `schedules_of`, `endings_of` and `records_of` make the pools of each kind as they are
 //!   at boot, an entry for each section.
 //! - `Memories` is the memory of all partitions: `fill`, `step`, `store_word` and `run_row` each change one partition's
 //!   bytes by one equation.
@@ -15,7 +15,6 @@
 //! parts to one structure.
 
 mod counts;
-mod deadlines;
 mod endings;
 mod memories;
 mod records;

@@ -1,23 +1,20 @@
-//! What is kept of the threads of each partition: the threads themselves, until when they wait, and what their ends are
-//! made of.
+//! What is kept of the threads of each partition: the threads themselves, and what their ends are made of.
 
 ghost use Rattle.std.specs.Prelude.{◌≡◌, ◌≤◌, [], length, map, replicate, IfOk, All, None};
 ghost use Rattle.ptk_cancel.specs.KeptCancellations.{fresh_cancellations};
 ghost use Rattle.ptk_keys.specs.KeptKeys.{fresh_keys};
 ghost use Rattle.ptk_gate_boot.specs.Sections.{per_section};
 
-use crate::deadlines::deadlines_of;
 use crate::endings::{Endings, endings_of};
 use crate::schedules::{Schedules, schedules_of};
-use ptk_clock::ThreadDeadlines;
 use ptk_words::Limits;
 use std::alloc::{AllocError, Global};
 
 /// What is kept of the threads of each partition.
-pub type ThreadParts = (Schedules, ThreadDeadlines, Endings);
+pub type ThreadParts = (Schedules, Endings);
 
-/// Every number of a thread, a mutex and a condition variable is free, the line is empty, no thread runs or has a
-/// deadline or is cancelled, and no key is in use.
+/// Every number of a thread, a mutex and a condition variable is free, the line is empty, no thread runs or is
+/// cancelled, and no key is in use.
 pub fn thread_parts_of(alloc: Global, limits: &[Limits]) -> Result<ThreadParts, AllocError>
     requires sections { length limits.now ≤ 8 }
     requires threads { All (λ count. count ≤ 32) (map (λ l. l.threads) limits.now) }
@@ -29,12 +26,10 @@ pub fn thread_parts_of(alloc: Global, limits: &[Limits]) -> Result<ThreadParts, 
     ensures mutexes { IfOk result (λ made. made.0.0.mutexes ≡ per_section (λ l. l.mutexes) None limits.now) }
     ensures conditions { IfOk result (λ made. made.0.0.conditions ≡ per_section (λ l. l.conditions) None limits.now) }
     ensures running { IfOk result (λ made. made.0.1.items ≡ replicate (length limits.now) None) }
-    ensures deadlines { IfOk result (λ made. made.1 ≡ per_section (λ l. l.threads) None limits.now) }
-    ensures cancellations { IfOk result (λ made. made.2.0 ≡ fresh_cancellations limits.now) }
-    ensures keys { IfOk result (λ made. made.2.1 ≡ fresh_keys limits.now) }
+    ensures cancellations { IfOk result (λ made. made.1.0 ≡ fresh_cancellations limits.now) }
+    ensures keys { IfOk result (λ made. made.1.1 ≡ fresh_keys limits.now) }
 {
     let schedules = schedules_of(alloc, limits)?;
-    let deadlines = deadlines_of(alloc, limits)?;
     let endings = endings_of(alloc, limits)?;
-    Ok((schedules, deadlines, endings))
+    Ok((schedules, endings))
 }

@@ -2,12 +2,10 @@ pub mod Parted
 pub mod Hands
 pub mod Numbers
 pub mod Stored
-pub mod Timed
 pub mod Vacant
 pub mod Places
 pub mod PlainMutexes
 pub mod Locking
-pub mod TimedMoves
 pub mod Changed
 pub mod Synced
 pub mod Conditional

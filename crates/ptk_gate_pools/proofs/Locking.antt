@@ -1,20 +1,25 @@
 -- What the moves on mutexes need of the pools, and that they leave stored priorities the effective ones.
-use Rattle.std.proofs.Common.{arith, ◌≡◌, ◌≢◌, ℕ, ◌<◌, List, length, sym, ◌∙◌, ap, ◌⊎◌, inl, inr, subst}
+use Rattle.std.proofs.Common.{arith, ◌≡◌, ◌≢◌, ℕ, ◌<◌, List, [], length, sym, ◌∙◌, ap, ◌⊎◌, inl, inr, subst}
 use Rattle.std.specs.Prelude.{Option}
 use Rattle.std.proofs.Math.ListN.{set}
 use Rattle.std.proofs.lemmas.Bool.{cases_eq}
+use Rattle.std.proofs.lemmas.List.{set-get_or}
 use Rattle.ptk_words.specs.declared.threads.Thread.{Thread}
+use Rattle.ptk_words.specs.declared.threads.Wait.{Wait}
 use Rattle.ptk_words_parted.specs.Parts.{part_of}
+use Rattle.ptk_words_model.specs.declared.LockMove.{LockMove}
+use Rattle.ptk_words_model.specs.declared.LockMove.TheVariants.{Takes, Recovers, Counts, Waits, Refuses}
+use Rattle.ptk_words_model.specs.Mutex.{after_move}
 use Rattle.ptk_words_model.specs.State.{Mutex, Locks}
 use Rattle.ptk_words_model.specs.Priority.{effective_priorities}
 use Rattle.ptk_threads.specs.Table.{ThreadTable}
 use Rattle.ptk_threads.proofs.Pools.{part_of-set, part_of-set_other}
-use Rattle.ptk_mutex.specs.Tables.{locks_at, with_threads, AreLocked, AreReady}
+use Rattle.ptk_mutex.specs.Tables.{locks_by, with_threads, AreLocked, AreReadyBy}
 use Rattle.ptk_gate_pools.specs.Kept.{AreStored}
 
 -- each table has the partition, mutexes are used as they should be, and stored priorities are the effective ones
 pub ready_is : (p n : ℕ) (table : ThreadTable) (lines : List (List ℕ)) (mutexes : List (List (Option Mutex))) → p < n → length table.threads ≡ n → length table.stored ≡ n → length lines ≡ n → length mutexes ≡ n
-    → AreStored table.stored table.threads mutexes → AreLocked (locks_at p table lines mutexes) → AreReady p table lines mutexes
+    → AreStored table.stored table.threads mutexes → AreLocked (locks_by p table lines mutexes) → AreReadyBy p table lines mutexes
 ready_is p n table lines mutexes lt threads stored line pool are locked = record {
   part = record { of_threads = omega arith; of_stored = omega arith; of_lines = omega arith; of_mutexes = omega arith };
   locked = locked;
@@ -38,5 +43,13 @@ pub stored_moved : (p n : ℕ) (locks : Locks) (table new : ThreadTable) (mutexe
     → p < n → length table.threads ≡ n → length table.stored ≡ n → length mutexes ≡ n → AreStored table.stored table.threads mutexes → AreStored new.stored new.threads others
 stored_moved p n locks table new mutexes others e f lt threads stored pool are =
     rw (e, f) (record { each = λ q. moved_row p q locks table mutexes (omega arith) (omega arith) (omega arith) are (cases_eq q p) })
+
+-- the line stays
+pub line_stays : (p t m : ℕ) (move : LockMove) (wait : Wait) (table : ThreadTable) (lines : List (List ℕ)) (mutexes : List (List (Option Mutex))) → lines ≡ set lines p (after_move move t m wait (locks_by p table lines mutexes)).line
+line_stays p t m Takes wait table lines mutexes = sym (set-get_or lines p [])
+line_stays p t m Recovers wait table lines mutexes = sym (set-get_or lines p [])
+line_stays p t m Counts wait table lines mutexes = sym (set-get_or lines p [])
+line_stays p t m Waits wait table lines mutexes = sym (set-get_or lines p [])
+line_stays p t m (Refuses e) wait table lines mutexes = sym (set-get_or lines p [])
 
 pub ruleset moved = (ready_is, stored_moved)

@@ -15,7 +15,6 @@ use Rattle.ptk_gate_pools.specs.Kept.{Kept, AreStored, part_at, put_part}
 use Rattle.ptk_gate_pools.specs.Pooled.{kept_of, ArePooled}
 use Rattle.ptk_gate_pools.specs.declared.pools.Pools.TheInside.{Inside}
 use Rattle.ptk_gate_pools.proofs.Stored.{stored_changed}
-use Rattle.ptk_gate_pools.proofs.Timed.{timed_changed}
 
 -- ---- a number in use
 
@@ -80,7 +79,6 @@ row_pooled p i t tick n thread a memories roster last row =
       lines = ap length row.of_lines ∙ old.lines;
       mutexes = ap length row.of_mutexes ∙ old.mutexes;
       conditions = ap length row.of_conditions ∙ old.conditions;
-      deadlines = old.deadlines;
       running = old.running;
       cancellations = old.cancellations;
       cleanups = old.cleanups;
@@ -92,7 +90,6 @@ row_pooled p i t tick n thread a memories roster last row =
       statuses = old.statuses;
       lasts = length-set a.lasts.items i last ∙ old.lasts;
       stored = subst (AreStored roster.table.stored roster.table.threads) (sym row.of_mutexes) (stored_changed p t (computed n cpu) a.roster.table roster.table a.roster.mutexes row.of_table (λ thread. refl) (λ thread. refl) old.stored);
-      timed = timed_changed p t (computed n cpu) a.roster.table roster.table a.deadlines row.of_table (λ thread. refl) old.timed;
       in_hand = old.in_hand;
     }
 

@@ -12,7 +12,7 @@ use Rattle.ptk_words_model.specs.State.{Mutex}
 use Rattle.ptk_words_model.specs.Priority.{mutex_of_wait, awaited, effective_priorities}
 use Rattle.ptk_threads.specs.Table.{ThreadTable, thread_in, stored_left, with_changed, with_slot, with_left, with_wait}
 use Rattle.ptk_threads.proofs.Pools.{part_of-set}
-use Rattle.ptk_cond.proofs.Priorities.{level, priorities_changed, level_kept, awaited_kept}
+use Rattle.ptk_gate_waits.proofs.Priorities.{level, priorities_changed, level_kept, awaited_kept}
 use Rattle.ptk_gate_pools.specs.Kept.{AreStored}
 
 -- ---- a change that no priority reads
@@ -48,6 +48,11 @@ pub stored_changed : (p k : ℕ) (f : Thread → Thread) (table new : ThreadTabl
 stored_changed p k f table new mutexes e priority wait are =
     stored_same p k f table new mutexes e (level_kept f (thread_in table p k) priority) (awaited_kept f (thread_in table p k) wait) are
 
+-- the same of the table as it is written
+pub stored_with : (p k : ℕ) (f : Thread → Thread) (table : ThreadTable) (mutexes : List (List (Option Mutex))) → ((thread : Thread) → (f thread).priority ≡ thread.priority) → ((thread : Thread) → mutex_of_wait (f thread).wait ≡ mutex_of_wait thread.wait)
+    → AreStored table.stored table.threads mutexes → AreStored table.stored (set table.threads p (pool_changed k f (part_of table.threads p))) mutexes
+stored_with p k f table mutexes priority wait are = stored_changed p k f table (with_changed p k f table) mutexes refl priority wait are
+
 not_some : (o : Option ℕ) → is_some o ≡ false → o ≡ None
 not_some None e = refl
 not_some (Some m) e = absurd (cc e)
@@ -64,7 +69,7 @@ stored_wait p k wait old table new mutexes e was before after are =
     stored_same p k (with_wait wait) table new mutexes e (level_kept (with_wait wait) (thread_in table p k) (λ thread. refl))
     (wait_entry wait (thread_in table p k) (not_some (mutex_of_wait wait) after) none) are
 
-pub ruleset stored = (stored_changed)
+pub ruleset stored = (stored_changed, stored_with)
 
 -- ---- a partition's priorities computed again
 

@@ -8,7 +8,7 @@ use Rattle.ptk_words_model.specs.State.{Mutex, Condition, Part, Syncs}
 use Rattle.ptk_words_model.specs.Priority.{thread_at, awaited}
 use Rattle.ptk_words_model.specs.Mutex.{wait_of}
 use Rattle.ptk_words_sync_invariant.specs.Locks.{is_ready, AreLined}
-use Rattle.ptk_words_sync_invariant.specs.Conditions.{condition_of_wait, AreSyncs}
+use Rattle.ptk_words_sync_invariant.specs.Conditions.{condition_of_wait}
 use Rattle.ptk_words_sync_invariant.proofs.Lined.{ready_waits, not_ready_out}
 use Rattle.ptk_words_sync_invariant.proofs.Threads.{awaits_not_ready}
 use Rattle.ptk_words_sync_invariant.proofs.Wakings.{waits_not_ready}
@@ -16,29 +16,12 @@ use Rattle.ptk_words_sync_invariant.proofs.Conditions.{IsConditionWait, conditio
 use Rattle.ptk_words_invariant.specs.Well.{IsWell}
 use Rattle.ptk_threads.specs.Table.{ThreadTable}
 use Rattle.ptk_mutex.specs.Tables.{IsWaiter, AreLocked}
-use Rattle.ptk_cond.specs.Tables.{syncs_at, AreSynced, IsOnCondition, AreWaiting, IsAwake}
+use Rattle.ptk_cond.specs.Tables.{syncs_by, AreSyncedBy, IsOnCondition, AreWaiting, IsAwake}
 use Rattle.ptk_gate_pools.specs.Kept.{AreStored}
 use Rattle.ptk_gate_pools.proofs.Locking.{ready_is}
 
 pub lined_of : (limits : Limits) (s : Part) → IsWell limits s → AreLined s.threads s.line s.running
 lined_of limits s well = record { line_ready = well.line_ready; line_distinct = well.line_distinct; running_ready = well.running_ready; running_out = well.running_out }
-
--- the threads, the line, the mutexes and the condition variables are whole
-pub whole_of : (limits : Limits) (s : Part) → IsWell limits s → AreSyncs limits.interval s.running s.console.waiters s.syncs
-whole_of limits s well = record {
-  lined = lined_of limits s well;
-  waiting = record {
-    waiters_wait = well.waiters_wait;
-    waiters_distinct = well.waiters_distinct;
-    waits_listed = well.waits_listed;
-    joiners_wait = well.joiners_wait;
-    joins_listed = well.joins_listed;
-    ended_wait = well.ended_wait;
-  };
-  exclusion = well.exclusion;
-  conditions = well.conditional;
-  used = well.used;
-}
 
 -- a waiter waits, so it is not ready, so it is not in the line
 waiter_is : (limits : Limits) (m t : ℕ) (s : Part) → IsWell limits s → awaited (thread_at s.locks t) ≡ Some m → IsWaiter s.locks m t
@@ -61,7 +44,7 @@ waiting_of limits s well = record { waiters = λ c t e. on_condition limits c t 
 
 -- what the condition calls need of the tables of a whole state
 pub synced_is : (p n : ℕ) (limits : Limits) (s : Part) (table : ThreadTable) (lines : List (List ℕ)) (mutexes : List (List (Option Mutex))) (conditions : List (List (Option Condition))) → p < n → length table.threads ≡ n → length table.stored ≡ n
-    → length lines ≡ n → length mutexes ≡ n → length conditions ≡ n → AreStored table.stored table.threads mutexes → s.syncs ≡ syncs_at p table lines mutexes conditions → IsWell limits s → AreSynced p table lines mutexes conditions
+    → length lines ≡ n → length mutexes ≡ n → length conditions ≡ n → AreStored table.stored table.threads mutexes → s.syncs ≡ syncs_by p table lines mutexes conditions → IsWell limits s → AreSyncedBy p table lines mutexes conditions
 synced_is p n limits s table lines mutexes conditions lt threads stored line pool others are same well = record {
   ready = ready_is p n table lines mutexes lt threads stored line pool are (subst (λ (syncs : Syncs). AreLocked syncs.locks) same (locked_of limits s well));
   of_conditions = omega arith;

@@ -1,6 +1,5 @@
 -- The tables of all partitions, by component, and of them one partition's part.
-use Rattle.std.specs.Prelude.{◌≡◌, ℕ, ◌<◌, ◌≤◌, true, List, [], length, map, slice_index_or, slice_set, Option, None, IsSome}
-use Rattle.ptk_words.specs.Names.{Tick}
+use Rattle.std.specs.Prelude.{◌≡◌, ℕ, ◌<◌, ◌≤◌, true, List, [], length, slice_index_or, slice_set, Option, None, IsSome}
 use Rattle.ptk_words.specs.Pools.{pool_get, is_in}
 use Rattle.ptk_words.specs.declared.faults.Status.{Status}
 use Rattle.ptk_words.specs.declared.faults.Status.TheVariants.{Active}
@@ -13,11 +12,10 @@ use Rattle.ptk_words_model.specs.declared.Cancellation.{Cancellation}
 use Rattle.ptk_words_model.specs.declared.Rounds.{Rounds}
 use Rattle.ptk_words_model.specs.State.{Mutex, Condition, Console, Part}
 use Rattle.ptk_words_model.specs.Priority.{effective_priorities}
-use Rattle.ptk_words_model.specs.Mutex.{wait_of}
-use Rattle.ptk_words_model.specs.Withdrawal.{deadline_of_wait}
 use Rattle.ptk_words_invariant.specs.Well.{IsWell}
 use Rattle.ptk_syncs.specs.Rosters.{AreQueuesIn}
 use Rattle.ptk_console.specs.ConsoleTable.{fresh_console, no_limits}
+pub use Rattle.ptk_threads.specs.Timed.{deadlines_in}
 pub use Rattle.ptk_gate_boot.specs.Sections.{per_section}
 pub use Rattle.ptk_gate_boot.specs.AllDecoded.{IsOfWords}
 
@@ -116,14 +114,6 @@ AreInUse threads ts = (t : ℕ) → is_in t ts ≡ true → IsSome (pool_get thr
 -- each stored priority is the effective one, for every partition (pthread_mutexattr_getprotocol)
 pub record AreStored (stored : List (List ℕ)) (threads : List (List (Option Thread))) (mutexes : List (List (Option Mutex))) : Type 0 where
   pub each : (p : ℕ) → part_of stored p ≡ effective_priorities (part_of threads p) (part_of mutexes p)
-
--- the deadlines of the waits of threads, by thread number (clock_nanosleep, pthread_mutex_timedlock, pthread_cond_timedwait)
-abbrev pub deadlines_in : List (Option Thread) → List (Option Tick)
-deadlines_in threads = map (λ thread. deadline_of_wait (wait_of thread)) threads
-
--- each kept deadline is that of its thread's wait, for every partition
-pub record AreTimed (deadlines : List (List (Option Tick))) (threads : List (List (Option Thread))) : Type 0 where
-  pub all : deadlines ≡ map deadlines_in threads
 
 -- each partition's queues are the threads of its line of each stored priority, in the line's order, and the waiters of its mutexes and condition variables (XSH 2.8.4)
 abbrev pub AreQueued : List (List ℕ) → List (List (List ℕ)) → Kept → Type 0

@@ -1,7 +1,7 @@
 -- What the pools have inside, as the tables of all partitions, and what holds of it.
 use Rattle.std.specs.Prelude.{◌≡◌, ◌<◌, ◌≤◌, length}
 use Rattle.ptk_gate_pools.specs.declared.pools.Pools.TheInside.{Inside}
-use Rattle.ptk_gate_pools.specs.Kept.{Kept, AreStored, AreTimed}
+use Rattle.ptk_gate_pools.specs.Kept.{Kept, AreStored}
 
 -- the tables
 abbrev pub kept_of : Inside → Kept
@@ -24,7 +24,7 @@ kept_of a =
       limits = a.limits.items;
     }
 
--- every pool has an entry for each of at most 8 partitions, the consoles have the sections' numbers, the stored priorities are the effective ones and the kept deadlines are those of the threads' waits
+-- every pool has an entry for each of at most 8 partitions, the consoles have the sections' numbers, and the stored priorities are the effective ones
 pub record ArePooled (a : Inside) : Type 0 where
   pub few : length a.limits.items ≤ 8
   pub memory : length a.memories ≡ length a.limits.items
@@ -33,7 +33,6 @@ pub record ArePooled (a : Inside) : Type 0 where
   pub lines : length a.roster.lines ≡ length a.limits.items
   pub mutexes : length a.roster.mutexes ≡ length a.limits.items
   pub conditions : length a.roster.conditions ≡ length a.limits.items
-  pub deadlines : length a.deadlines ≡ length a.limits.items
   pub running : length a.running.items ≡ length a.limits.items
   pub cancellations : length a.cancellations.cancellations ≡ length a.limits.items
   pub cleanups : length a.cancellations.cleanups ≡ length a.limits.items
@@ -45,5 +44,4 @@ pub record ArePooled (a : Inside) : Type 0 where
   pub statuses : length a.statuses.items ≡ length a.limits.items
   pub lasts : length a.lasts.items ≡ length a.limits.items
   pub stored : AreStored a.roster.table.stored a.roster.table.threads a.roster.mutexes
-  pub timed : AreTimed a.deadlines a.roster.table.threads
   pub in_hand : a.hand < length a.limits.items

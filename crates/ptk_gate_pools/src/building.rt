@@ -60,9 +60,8 @@ fn joined(
     requires running { threads.0.1.items ≡ replicate (length limits.now) None }
     requires mutexes { threads.0.0.mutexes ≡ per_section (λ l. l.mutexes) None limits.now }
     requires conditions { threads.0.0.conditions ≡ per_section (λ l. l.conditions) None limits.now }
-    requires deadlines { threads.1 ≡ per_section (λ l. l.threads) None limits.now }
-    requires cancellations { threads.2.0 ≡ fresh_cancellations limits.now }
-    requires keys { threads.2.1 ≡ fresh_keys limits.now }
+    requires cancellations { threads.1.0 ≡ fresh_cancellations limits.now }
+    requires keys { threads.1.1 ≡ fresh_keys limits.now }
     requires statuses { records.0.items ≡ replicate (length limits.now) Active }
     requires lasts { records.1.items ≡ replicate (length limits.now) None }
     requires limits { records.2.items ≡ limits.now }
@@ -70,12 +69,11 @@ fn joined(
 {
     let (statuses, lasts, limits) = records;
     let (memories, consoles) = stores;
-    let ((roster, running), deadlines, (cancellations, keys)) = threads;
+    let ((roster, running), (cancellations, keys)) = threads;
     Pools {
         memories,
         roster,
         mutexes: Mutexes::new(),
-        deadlines,
         running,
         cancellations,
         keys,

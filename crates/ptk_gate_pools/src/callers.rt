@@ -8,20 +8,21 @@ ghost use Rattle.ptk_words_model.specs.Calls.{replied};
 ghost use Rattle.ptk_console.specs.ConsoleTable.{next_byte};
 
 use crate::pools::Pools;
+use ptk_threads::ThreadChange;
 use ptk_words::{ThreadNo, Tick};
 
 impl Pools {
     /// The thread goes on at this address; a free number stays free.
-    #[tactic(auto, using(crate::proofs::Hands::handed, crate::proofs::Stored::stored, crate::proofs::Timed::kept))]
+    #[tactic(auto, using(crate::proofs::Hands::handed, crate::proofs::Stored::stored))]
     pub fn give_pc(&mut self, t: ThreadNo, pc: u32)
         ensures { self.new ≡ record self.old { here = with_locks (with_thread t (with_pc pc)) self.old.here } }
     {
         let p = self.hand;
-        self.roster.set_pc(p, t, pc);
+        self.roster.change(p, t, ThreadChange::Address(pc));
     }
 
     /// Puts the values into the thread's a0, a1 and so on; a free number stays free.
-    #[tactic(auto, using(crate::proofs::Hands::handed, crate::proofs::Stored::stored, crate::proofs::Timed::kept))]
+    #[tactic(auto, using(crate::proofs::Hands::handed, crate::proofs::Stored::stored))]
     pub fn give_values(&mut self, t: ThreadNo, values: &[u32])
         requires few { length values.now < 4 }
         ensures { self.new ≡ record self.old { here = replied t values.now self.old.here } }

@@ -1,5 +1,5 @@
 //! Condition variables: their numbers, what is shown of them, and the moves of wait, signal, broadcast and
-//! withdrawal (pthread_cond_wait, pthread_cond_signal). Whoever is woken has no deadline any more.
+//! withdrawal (pthread_cond_wait, pthread_cond_signal).
 
 ghost use Rattle.std.specs.Prelude.{◌≡◌, ◌<◌, true, [], length, nat_lt, if◌then◌else◌, Some, None, IsSome, is_some};
 ghost use Rattle.ptk_words.specs.Pools.{least_free, pool_get};
@@ -13,7 +13,6 @@ ghost use Rattle.ptk_words_invariant.specs.Well.{IsWell};
 ghost use Rattle.ptk_gate_pools.specs.Held.{limits_here};
 
 use crate::pools::Pools;
-use ptk_gate_waits::follow_wait;
 use ptk_words::{ConditionNo, MutexNo, ThreadNo, Tick};
 
 impl Pools {
@@ -84,9 +83,7 @@ impl Pools {
         let p = self.hand;
         let roster = &mut self.roster;
         let mutexes = &mut self.mutexes;
-        let woken = ptk_cond::wait(roster, mutexes, p, t, c, m, deadline);
-        self.deadlines.end_all(p, woken);
-        follow_wait(&mut self.deadlines, &self.roster, p, t);
+        ptk_cond::wait(roster, mutexes, p, t, c, m, deadline);
     }
 
     /// The waiter of greatest effective priority, the earliest among equals, is unblocked: it re-locks the mutex that
@@ -99,8 +96,7 @@ impl Pools {
         let p = self.hand;
         let roster = &mut self.roster;
         let mutexes = &mut self.mutexes;
-        let woken = ptk_cond::signal(roster, mutexes, p, c);
-        self.deadlines.end_all(p, woken);
+        ptk_cond::signal(roster, mutexes, p, c);
     }
 
     /// Every waiter is unblocked, one after the other, each choice in the state that the one before left
@@ -113,8 +109,7 @@ impl Pools {
         let p = self.hand;
         let roster = &mut self.roster;
         let mutexes = &mut self.mutexes;
-        let woken = ptk_cond::broadcast(roster, mutexes, p, c);
-        self.deadlines.end_all(p, woken);
+        ptk_cond::broadcast(roster, mutexes, p, c);
     }
 
     /// A thread that waits on the condition variable is taken out of that wait: it re-locks the mutex that it named,
@@ -129,6 +124,5 @@ impl Pools {
         let roster = &mut self.roster;
         let mutexes = &mut self.mutexes;
         ptk_cond::withdraw(roster, mutexes, p, t, c, None);
-        self.deadlines.set(p, t, None);
     }
 }

@@ -12,7 +12,7 @@ ghost use Rattle.ptk_gate_pools.specs.Expired.{after_one_expiry};
 
 use crate::pools::Pools;
 use ptk_clock::SharedDeadlines;
-use ptk_cond::time_out;
+use ptk_gate_waits::time_out;
 use ptk_words::Tick;
 
 impl Pools {
@@ -22,7 +22,7 @@ impl Pools {
         ensures { (q : ℕ) → q < length self.now.elsewhere.limits
             → deadlines_of (part_at q (all_of self.now)).locks ≡ deadlines_from (first_slot q (map deadlines_in (all_of self.now).threads)) (length (part_at q (all_of self.now)).threads) result.now.pairs }
     {
-        self.deadlines.shared()
+        self.roster.threads().deadlines()
     }
 
     /// The deadline of the partition that is first by (deadline, thread number) comes, if it is at the tick or before:
@@ -36,7 +36,7 @@ impl Pools {
         ensures moved { self.new ≡ record self.old { here = after_one_expiry (next_expiry tick (deadlines_of self.old.here.locks)) self.old.here } }
     {
         let p = self.hand;
-        match self.deadlines.take_due(p, tick) {
+        match self.roster.threads().first_due(p, tick) {
             Some(t) => {
                 let roster = &mut self.roster;
                 let mutexes = &mut self.mutexes;

@@ -7,8 +7,7 @@
 //! - The pools of all partitions as one value, with one partition in hand (`Held`).
 //! - Each call is one equation: of the part in hand one component is written, or by a move on mutexes its threads, line
 //!   and mutexes, and every other partition's part stays.
-//! - That stored priorities are the effective ones is its invariant, and that the queue of deadlines has exactly those
-//!   of the threads' waits: a woken thread's leaves it at once.
+//! - That stored priorities are the effective ones is its invariant.
 //! - `expire_next` makes the first expiry of a partition.
 //! - `run_row` makes plain steps of a thread in a row: the part and the trace are those after them, and it ends early
 //!   only where the next step is not plain.
@@ -16,12 +15,11 @@
 //! `take` takes a partition in hand. Contracts see the pools as the partition in hand, its part, and the rest of the
 //! tables (`Held`), so no call can name another partition, and two moves in a row are a record updated twice. A move of
 //! a field that no priority reads leaves the stored priorities (`proofs/Stored`), and after any other they are computed
-//! again; the kept deadlines are those of the waits (`proofs/Timed`), so the next one is read without a search.
-//! `run_row` is made on the thread's registers in the slot table and on the lent memory: `plain` and `ended` say which
-//! steps they are, `moved` what they leave of the part, `traced` what the trace has (`proofs/PlainRows`). Below are the
-//! pools of each kind, `ptk_gate_boot`, which makes them, `ptk_gate_waits`, the instructions and their rows; above is
-//! `ptk_gate_moves`. Costly to prove are the choices by stored priorities; what takes the check longest is the drop of
-//! all pools.
+//! again. The deadlines of waits are the slot table's, so no move speaks of them. `run_row` is made on the thread's
+//! registers in the slot table and on the lent memory: `plain` and `ended` say which steps they are, `moved` what they
+//! leave of the part, `traced` what the trace has (`proofs/PlainRows`). Below are the pools of each kind,
+//! `ptk_gate_boot`, which makes them, `ptk_gate_waits`, the instructions and their rows; above is `ptk_gate_moves`.
+//! Costly to prove are the choices by stored priorities; what takes the check longest is the drop of all pools.
 
 mod arrivals;
 mod building;

@@ -23,7 +23,7 @@ impl Pools {
     }
 
     /// Puts a thread that is in use, not in the line and no waiter last.
-    #[tactic(auto, using(crate::proofs::Hands::handed, crate::proofs::Stored::stored, crate::proofs::Timed::kept))]
+    #[tactic(auto, using(crate::proofs::Hands::handed, crate::proofs::Stored::stored))]
     pub fn append(&mut self, t: ThreadNo)
         requires in_use { IsSome (thread_at self.old.here.locks t) }
         requires fresh { is_in t self.old.here.line ≡ false }
@@ -35,7 +35,7 @@ impl Pools {
     }
 
     /// Puts a thread that is in use, not in the line and no waiter first.
-    #[tactic(auto, using(crate::proofs::Hands::handed, crate::proofs::Stored::stored, crate::proofs::Timed::kept))]
+    #[tactic(auto, using(crate::proofs::Hands::handed, crate::proofs::Stored::stored))]
     pub fn push_head(&mut self, t: ThreadNo)
         requires in_use { IsSome (thread_at self.old.here.locks t) }
         requires fresh { is_in t self.old.here.line ≡ false }
@@ -47,7 +47,7 @@ impl Pools {
     }
 
     /// Takes a thread out of the line; nothing changes where it is not in it.
-    #[tactic(auto, using(crate::proofs::Hands::handed, crate::proofs::Stored::stored, crate::proofs::Timed::kept))]
+    #[tactic(auto, using(crate::proofs::Hands::handed, crate::proofs::Stored::stored))]
     pub fn take_from_line(&mut self, t: ThreadNo)
         ensures { self.new ≡ record self.old { here = with_locks (out_of_line t) self.old.here } }
     {

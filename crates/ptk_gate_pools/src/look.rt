@@ -178,7 +178,7 @@ impl Look<'_> {
         ensures { result ≡ least_deadline (deadlines_of self.now.part.locks) }
     {
         let pools = self.pools;
-        pools.deadlines.next(self.p)
+        pools.roster.threads().next_deadline(self.p)
     }
 
     /// The tick of the first input still to come, None where none is.

@@ -17,10 +17,9 @@ ghost use Rattle.ptk_mutex.specs.Tables.{AreLocked, MayWait};
 ghost use Rattle.ptk_words_sync_invariant.specs.Conditions.{IsNoWaiter};
 
 use crate::pools::Pools;
-use ptk_gate_waits::follow_move;
 use ptk_mutex::MutexState;
 use ptk_mutex_priorities::MutexSlot;
-use ptk_words::{MutexKind, MutexNo, Protocol, ThreadNo, Tick, Wait};
+use ptk_words::{MutexKind, MutexNo, Protocol, ThreadNo, Tick};
 use ptk_words_model::LockMove;
 
 impl Pools {
@@ -105,7 +104,7 @@ impl Pools {
     /// A thread that waits for no mutex locks this one, or waits for it, until the deadline (a tick) if there is one,
     /// or is refused (pthread_mutex_lock, pthread_mutex_timedlock). A deadline already reached is the caller's to
     /// refuse before.
-    #[tactic(auto, using(crate::proofs::Hands::handed, crate::proofs::Locking::moved, crate::proofs::TimedMoves::moved))]
+    #[tactic(auto, using(crate::proofs::Hands::handed, crate::proofs::Locking::moved))]
     pub fn lock(&mut self, t: ThreadNo, m: MutexNo, deadline: Option<Tick>) -> LockMove
         requires locked { AreLocked self.old.here.locks }
         requires caller { MayWait self.old.here.locks t }
@@ -114,17 +113,13 @@ impl Pools {
         ensures moved { self.new ≡ record self.old { here = with_locks (after_move (lock_move self.old.here.locks t (mutex_at self.old.here.locks m)) t m (MutexWait m deadline)) self.old.here } }
     {
         let p = self.hand;
-        let until = deadline;
-        let wait = Wait::MutexWait(m, until);
-        let made = self.mutexes.lock(&mut self.roster, p, t, m, deadline);
-        follow_move(&mut self.deadlines, p, t, made, wait);
-        made
+        self.mutexes.lock(&mut self.roster, p, t, m, deadline)
     }
 
     /// A thread that waits for no mutex re-locks this one, or waits for it with this reply if it gets any, or goes on
     /// without it where it can't be locked any more (pthread_cond_timedwait whose deadline was already reached). Where
     /// it still owns the mutex, the count is below the limit.
-    #[tactic(auto, using(crate::proofs::Hands::handed, crate::proofs::Locking::moved, crate::proofs::TimedMoves::moved))]
+    #[tactic(auto, using(crate::proofs::Hands::handed, crate::proofs::Locking::moved))]
     pub fn lock_again(&mut self, t: ThreadNo, m: MutexNo, reply: Option<u32>) -> LockMove
         requires locked { AreLocked self.old.here.locks }
         requires caller { MayWait self.old.here.locks t }
@@ -134,14 +129,11 @@ impl Pools {
         ensures moved { self.new ≡ record self.old { here = with_locks (after_move (relock_move t (mutex_at self.old.here.locks m)) t m (RelockWait m reply)) self.old.here } }
     {
         let p = self.hand;
-        let wait = Wait::RelockWait(m, reply);
-        let made = self.mutexes.lock_again(&mut self.roster, p, t, m, reply);
-        follow_move(&mut self.deadlines, p, t, made, wait);
-        made
+        self.mutexes.lock_again(&mut self.roster, p, t, m, reply)
     }
 
     /// A thread that waits for no mutex locks this one, or is refused (pthread_mutex_trylock).
-    #[tactic(auto, using(crate::proofs::Hands::handed, crate::proofs::Locking::moved, crate::proofs::TimedMoves::moved))]
+    #[tactic(auto, using(crate::proofs::Hands::handed, crate::proofs::Locking::moved))]
     pub fn trylock(&mut self, t: ThreadNo, m: MutexNo) -> LockMove
         requires locked { AreLocked self.old.here.locks }
         requires caller { MayWait self.old.here.locks t }
@@ -150,24 +142,21 @@ impl Pools {
         ensures moved { self.new ≡ record self.old { here = with_locks (after_move (trylock_move self.old.here.locks t (mutex_at self.old.here.locks m)) t m (MutexWait m None)) self.old.here } }
     {
         let p = self.hand;
-        let made = self.mutexes.trylock(&mut self.roster, p, t, m);
-        follow_move(&mut self.deadlines, p, t, made, Wait::MutexWait(m, None));
-        made
+        self.mutexes.trylock(&mut self.roster, p, t, m)
     }
 
     /// An owner unlocks its mutex once (pthread_mutex_unlock).
-    #[tactic(auto, using(crate::proofs::Hands::handed, crate::proofs::Locking::moved, crate::proofs::TimedMoves::moved))]
+    #[tactic(auto, using(crate::proofs::Hands::handed, crate::proofs::Locking::moved))]
     pub fn unlock(&mut self, m: MutexNo)
         requires locked { AreLocked self.old.here.locks }
         ensures { self.new ≡ record self.old { here = with_locks (after_unlock m) self.old.here } }
     {
         let p = self.hand;
-        let woken = self.mutexes.unlock(&mut self.roster, p, m);
-        self.deadlines.end_all(p, woken);
+        self.mutexes.unlock(&mut self.roster, p, m);
     }
 
     /// What the mutex guards is sound again (pthread_mutex_consistent).
-    #[tactic(auto, using(crate::proofs::Hands::handed, crate::proofs::Locking::moved, crate::proofs::TimedMoves::moved))]
+    #[tactic(auto, using(crate::proofs::Hands::handed, crate::proofs::Locking::moved))]
     pub fn make_consistent(&mut self, m: MutexNo)
         requires locked { AreLocked self.old.here.locks }
         ensures { self.new ≡ record self.old { here = with_locks (with_soundness Consistent m) self.old.here } }
@@ -177,14 +166,13 @@ impl Pools {
     }
 
     /// What the end of the thread makes of the mutexes that it owns (pthread_mutexattr_setrobust; own choice).
-    #[tactic(auto, using(crate::proofs::Hands::handed, crate::proofs::Locking::moved, crate::proofs::TimedMoves::moved))]
+    #[tactic(auto, using(crate::proofs::Hands::handed, crate::proofs::Locking::moved))]
     pub fn abandon(&mut self, t: ThreadNo)
         requires locked { AreLocked self.old.here.locks }
         ensures { self.new ≡ record self.old { here = with_locks (after_owner_end t) self.old.here } }
     {
         let p = self.hand;
-        let heirs = self.mutexes.abandon(&mut self.roster, p, t);
-        self.deadlines.end_all(p, heirs);
+        self.mutexes.abandon(&mut self.roster, p, t);
     }
 }
 

@@ -6,7 +6,6 @@ ghost use Rattle.ptk_gate_pools.specs.Kept.{AreStored, AreQueued};
 ghost use Rattle.ptk_gate_pools.specs.Held.{held, all_of};
 
 use ptk_cancel::Cancellations;
-use ptk_clock::ThreadDeadlines;
 use ptk_console::Consoles;
 use ptk_gate_boot::Memories;
 use ptk_keys::KeyTable;
@@ -22,7 +21,6 @@ pub struct Pools {
     pub(crate) memories: Memories,
     pub(crate) roster: Roster,
     pub(crate) mutexes: Mutexes,
-    pub(crate) deadlines: ThreadDeadlines,
     pub(crate) running: Vec<Option<ThreadNo>>,
     pub(crate) cancellations: Cancellations,
     pub(crate) keys: KeyTable,
@@ -40,7 +38,6 @@ impl Drop for Pools {
             memories,
             roster,
             mutexes,
-            deadlines,
             running,
             cancellations,
             keys,

@@ -15,36 +15,35 @@ ghost use Rattle.ptk_mutex.specs.Tables.{AreLocked};
 ghost use Rattle.ptk_gate_pools.specs.Moves.{with_number, with_left};
 
 use crate::pools::Pools;
-use ptk_gate_waits::{follow_wait, is_for_mutex};
+use ptk_gate_waits::is_for_mutex;
+use ptk_threads::ThreadChange;
 use ptk_words::{Cpu, Phase, Policy, Priority, Thread, ThreadNo, Wait};
 
 impl Pools {
     /// The least free number is the thread's.
-    #[tactic(auto, using(crate::proofs::Hands::handed, crate::proofs::Stored::refreshed, crate::proofs::Timed::followed, crate::proofs::Numbers::taken))]
+    #[tactic(auto, using(crate::proofs::Hands::handed, crate::proofs::Stored::refreshed, crate::proofs::Numbers::taken))]
     pub fn take_number(&mut self, t: ThreadNo, thread: Thread)
         requires free { least_free self.old.here.threads ≡ Some t }
         ensures { self.new ≡ record self.old { here = with_locks (with_number t thread) self.old.here } }
     {
         let p = self.hand;
         self.roster.create(p, thread);
-        follow_wait(&mut self.deadlines, &self.roster, p, t);
         self.mutexes.refresh(&mut self.roster, p);
     }
 
     /// The number of a thread that is not in the line becomes free; a free number stays free.
-    #[tactic(auto, using(crate::proofs::Hands::handed, crate::proofs::Stored::refreshed, crate::proofs::Timed::followed))]
+    #[tactic(auto, using(crate::proofs::Hands::handed, crate::proofs::Stored::refreshed))]
     pub fn free(&mut self, t: ThreadNo)
         requires out { is_in t self.old.here.line ≡ false }
         ensures { self.new ≡ record self.old { here = with_locks (without_thread t) self.old.here } }
     {
         let p = self.hand;
         self.roster.free(p, t);
-        follow_wait(&mut self.deadlines, &self.roster, p, t);
         self.mutexes.refresh(&mut self.roster, p);
     }
 
     /// The thread has these registers.
-    #[tactic(auto, using(crate::proofs::Hands::handed, crate::proofs::Stored::stored, crate::proofs::Timed::kept))]
+    #[tactic(auto, using(crate::proofs::Hands::handed, crate::proofs::Stored::stored))]
     pub fn give_cpu(&mut self, t: ThreadNo, cpu: Cpu)
         ensures { self.new ≡ record self.old { here = with_cpu t cpu self.old.here } }
     {
@@ -53,16 +52,16 @@ impl Pools {
     }
 
     /// The thread has this policy (XSH 2.8.4).
-    #[tactic(auto, using(crate::proofs::Hands::handed, crate::proofs::Stored::stored, crate::proofs::Timed::kept))]
+    #[tactic(auto, using(crate::proofs::Hands::handed, crate::proofs::Stored::stored))]
     pub fn give_policy(&mut self, t: ThreadNo, policy: Policy)
         ensures { self.new ≡ record self.old { here = with_locks (with_thread t (with_policy policy)) self.old.here } }
     {
         let p = self.hand;
-        self.roster.set_policy(p, t, policy);
+        self.roster.change(p, t, ThreadChange::Policy(policy));
     }
 
     /// The thread has this assigned priority (XSH 2.8.4).
-    #[tactic(auto, using(crate::proofs::Hands::handed, crate::proofs::Locking::moved, crate::proofs::TimedMoves::moved))]
+    #[tactic(auto, using(crate::proofs::Hands::handed, crate::proofs::Locking::moved))]
     pub fn give_priority(&mut self, t: ThreadNo, priority: Priority)
         requires locked { AreLocked self.old.here.locks }
         ensures { self.new ≡ record self.old { here = with_locks (with_thread t (with_priority priority)) self.old.here } }
@@ -72,24 +71,23 @@ impl Pools {
     }
 
     /// The thread has used this many ticks of its interval (XSH 2.8.4, SCHED_RR).
-    #[tactic(auto, using(crate::proofs::Hands::handed, crate::proofs::Stored::stored, crate::proofs::Timed::kept))]
+    #[tactic(auto, using(crate::proofs::Hands::handed, crate::proofs::Stored::stored))]
     pub fn give_used(&mut self, t: ThreadNo, used: u32)
         ensures { self.new ≡ record self.old { here = with_used t used self.old.here } }
     {
         let p = self.hand;
-        self.roster.set_used(p, t, used);
+        self.roster.change(p, t, ThreadChange::Used(used));
     }
 
     /// The thread waits for this, or for nothing (XSH 2.8.4).
-    #[tactic(auto, using(crate::proofs::Hands::handed, crate::proofs::Stored::refreshed, crate::proofs::Timed::followed))]
+    #[tactic(auto, using(crate::proofs::Hands::handed, crate::proofs::Stored::refreshed))]
     pub fn give_wait(&mut self, t: ThreadNo, wait: Option<Wait>)
         ensures { self.new ≡ record self.old { here = with_locks (with_thread t (with_wait wait)) self.old.here } }
     {
         let p = self.hand;
         let had_mutex = is_for_mutex(&self.roster.threads().wait(p, t));
         let has_mutex = is_for_mutex(&wait);
-        self.roster.set_wait(p, t, wait);
-        follow_wait(&mut self.deadlines, &self.roster, p, t);
+        self.roster.change(p, t, ThreadChange::Wait(wait));
         if !had_mutex && !has_mutex {
             return;
         }
@@ -97,63 +95,61 @@ impl Pools {
     }
 
     /// The thread is this far (pthread_exit).
-    #[tactic(auto, using(crate::proofs::Hands::handed, crate::proofs::Stored::stored, crate::proofs::Timed::kept))]
+    #[tactic(auto, using(crate::proofs::Hands::handed, crate::proofs::Stored::stored))]
     pub fn give_phase(&mut self, t: ThreadNo, phase: Phase)
         ensures { self.new ≡ record self.old { here = with_locks (with_thread t (with_phase phase)) self.old.here } }
     {
         let p = self.hand;
-        self.roster.set_phase(p, t, phase);
+        self.roster.change(p, t, ThreadChange::Phase(phase));
     }
 
     /// The thread has this result (pthread_exit).
-    #[tactic(auto, using(crate::proofs::Hands::handed, crate::proofs::Stored::stored, crate::proofs::Timed::kept))]
+    #[tactic(auto, using(crate::proofs::Hands::handed, crate::proofs::Stored::stored))]
     pub fn give_result(&mut self, t: ThreadNo, value: u32)
         ensures { self.new ≡ record self.old { here = with_locks (with_thread t (with_result value)) self.old.here } }
     {
         let p = self.hand;
-        self.roster.set_result(p, t, value);
+        self.roster.change(p, t, ThreadChange::Result(value));
     }
 
     /// The thread's end is waited for by this one (pthread_join).
-    #[tactic(auto, using(crate::proofs::Hands::handed, crate::proofs::Stored::stored, crate::proofs::Timed::kept))]
+    #[tactic(auto, using(crate::proofs::Hands::handed, crate::proofs::Stored::stored))]
     pub fn give_joiner(&mut self, t: ThreadNo, joiner: ThreadNo)
         ensures { self.new ≡ record self.old { here = with_locks (with_thread t (with_joiner (Some joiner))) self.old.here } }
     {
         let p = self.hand;
-        self.roster.set_joiner(p, t, Some(joiner));
+        self.roster.change(p, t, ThreadChange::Joiner(Some(joiner)));
     }
 
     /// Nobody waits for the end of the thread any more (pthread_join).
-    #[tactic(auto, using(crate::proofs::Hands::handed, crate::proofs::Stored::stored, crate::proofs::Timed::kept))]
+    #[tactic(auto, using(crate::proofs::Hands::handed, crate::proofs::Stored::stored))]
     pub fn drop_joiner(&mut self, u: ThreadNo)
         ensures { self.new ≡ record self.old { here = with_locks (without_joiner u) self.old.here } }
     {
         let p = self.hand;
-        self.roster.set_joiner(p, u, None);
+        self.roster.change(p, u, ThreadChange::Joiner(None));
     }
 
     /// The thread is detached: its number is free where it has ended, and then it is not in the line (pthread_detach).
-    #[tactic(auto, using(crate::proofs::Hands::handed, crate::proofs::Stored::refreshed, crate::proofs::Timed::followed))]
+    #[tactic(auto, using(crate::proofs::Hands::handed, crate::proofs::Stored::refreshed))]
     pub fn detach(&mut self, t: ThreadNo)
         requires out { option_and_then left_at_detach (thread_at self.old.here.locks t) ≡ None → is_in t self.old.here.line ≡ false }
         ensures { self.new ≡ record self.old { here = with_locks (with_left t left_at_detach) self.old.here } }
     {
         let p = self.hand;
         self.roster.detach(p, t);
-        follow_wait(&mut self.deadlines, &self.roster, p, t);
         self.mutexes.refresh(&mut self.roster, p);
     }
 
     /// The thread, which is not in the line, has ended: its number stays with the result until a join or a detachment,
     /// or is free (pthread_exit).
-    #[tactic(auto, using(crate::proofs::Hands::handed, crate::proofs::Stored::refreshed, crate::proofs::Timed::followed))]
+    #[tactic(auto, using(crate::proofs::Hands::handed, crate::proofs::Stored::refreshed))]
     pub fn end(&mut self, t: ThreadNo)
         requires out { is_in t self.old.here.line ≡ false }
         ensures { self.new ≡ record self.old { here = with_locks (with_left t left_at_end) self.old.here } }
     {
         let p = self.hand;
         self.roster.end(p, t);
-        follow_wait(&mut self.deadlines, &self.roster, p, t);
         self.mutexes.refresh(&mut self.roster, p);
     }
 }

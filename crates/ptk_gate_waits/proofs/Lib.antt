@@ -1,1 +1,3 @@
-pub mod Waits
+pub mod Priorities
+pub mod TimedOut
+pub mod Blocked

@@ -1,15 +1,19 @@
 #![tactic(auto)]
 
-//! What kind a wait is, and the deadline that is kept of it.
+//! What the coming of a deadline does to a thread, whatever its wait is.
 //!
-//! - `follow_wait` and `follow_move` make the kept deadline of a thread that of its wait.
+//! - `time_out`, the coming of the deadline of any wait, is the model's move: a sleeper is woken, a waiter of a mutex
+//!   leaves it, and one of a condition variable locks its mutex again.
+//! - `is_blocked` returns whether a thread waits in the lists in which `time_out` requires it to.
 //! - `is_for_mutex` returns whether a wait is for a mutex.
 //!
-//! These functions act on the roster and the deadlines of one partition, and not on the pools as a whole. Below are
-//! `ptk_syncs` and `ptk_clock`; above is `ptk_gate_pools`. Nothing here is costly to prove.
+//! These functions act on the roster and not on the pools as a whole. Which thread is due is asked of the slot table,
+//! which keeps the deadline of each wait. Below are `ptk_mutex` and `ptk_cond`, which end the waits of theirs; above is
+//! `ptk_gate_pools`. Costly to prove is that waking a sleeper leaves every effective priority as it was
+//! (`proofs/Priorities`).
 
-mod deadlines;
+mod expiries;
 mod kinds;
 
-pub use deadlines::{follow_move, follow_wait};
+pub use expiries::{is_blocked, time_out};
 pub use kinds::is_for_mutex;

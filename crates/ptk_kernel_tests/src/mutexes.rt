@@ -2,7 +2,7 @@
 
 ghost use Rattle.std.specs.Prelude.{◌≡◌, ◌<◌, ◌≤◌, length, All};
 
-use ptk_mutex::{Mutexes, ThreadSet, effective};
+use ptk_mutex::{Mutexes, effective};
 use ptk_syncs::Roster;
 use ptk_words::{
     ConditionNo, Cpu, MutexKind, MutexNo, PartId, Phase, Policy, Priority, Protocol, Thread,
@@ -90,31 +90,36 @@ impl Objects {
 
     /// The deadline of the thread's wait comes.
     fn time_out(&mut self, rt: &impl Abort, t: ThreadNo) {
-        assert!(rt; ptk_cond::is_blocked(&self.roster, self.p, t));
+        assert!(rt; ptk_gate_waits::is_blocked(&self.roster, self.p, t));
         let roster = &mut self.roster;
         let mutexes = &mut self.mutexes;
-        ptk_cond::time_out(roster, mutexes, self.p, t);
+        ptk_gate_waits::time_out(roster, mutexes, self.p, t);
     }
 
     /// The mutex's owner unlocks it.
-    fn unlock(&mut self, m: MutexNo) -> ThreadSet {
-        self.mutexes.unlock(&mut self.roster, self.p, m)
+    fn unlock(&mut self, m: MutexNo) {
+        self.mutexes.unlock(&mut self.roster, self.p, m);
     }
 
     /// The running thread waits on the condition variable, with no deadline.
-    fn wait(&mut self, rt: &impl Abort, t: ThreadNo, c: ConditionNo, m: MutexNo) -> ThreadSet {
+    fn wait(&mut self, rt: &impl Abort, t: ThreadNo, c: ConditionNo, m: MutexNo) {
         assert!(rt; self.mutexes.is_awake(&self.roster, self.p, t));
         assert!(rt; ptk_cond::is_there(&self.roster, self.p, c));
         let roster = &mut self.roster;
         let mutexes = &mut self.mutexes;
-        ptk_cond::wait(roster, mutexes, self.p, t, c, m, None)
+        ptk_cond::wait(roster, mutexes, self.p, t, c, m, None);
     }
 
     /// The condition variable is signalled.
-    fn signal(&mut self, c: ConditionNo) -> ThreadSet {
+    fn signal(&mut self, c: ConditionNo) {
         let roster = &mut self.roster;
         let mutexes = &mut self.mutexes;
-        ptk_cond::signal(roster, mutexes, self.p, c)
+        ptk_cond::signal(roster, mutexes, self.p, c);
+    }
+
+    /// The deadline of the partition's threads that comes next.
+    fn next_deadline(&self) -> Option<Tick> {
+        self.roster.threads().next_deadline(self.p)
     }
 
     /// The effective priority of a thread.
@@ -159,9 +164,7 @@ fn an_owner_is_raised_and_hands_over(rt: HostRuntime) -> Result<(), Fail> {
     assert!(rt; objects.lock(&rt, high, m, None) == LockMove::Waits);
     assert_eq!(rt; objects.priority(low), Some(9));
     assert_eq!(rt; objects.mutexes.visited(), 1);
-    let woken = objects.unlock(m);
-    assert!(rt; woken.has(high));
-    assert!(rt; !woken.has(low));
+    objects.unlock(m);
     assert!(rt; objects.owns(high, m));
     assert!(rt; objects.is_ready(high));
     assert_eq!(rt; objects.priority(low), Some(2));
@@ -177,10 +180,12 @@ fn a_deadline_takes_a_waiter_out(rt: HostRuntime) -> Result<(), Fail> {
     let m = inherit.ok_or("no mutex")?;
     objects.lock(&rt, low, m, None);
     objects.lock(&rt, high, m, Some(Tick::new(50)));
+    assert!(rt; objects.next_deadline() == Some(Tick::new(50)));
     objects.time_out(&rt, high);
+    assert!(rt; objects.next_deadline() == None);
     assert!(rt; objects.is_ready(high));
     assert_eq!(rt; objects.priority(low), Some(2));
-    assert!(rt; !objects.unlock(m).has(high));
+    objects.unlock(m);
     assert!(rt; !objects.owns(high, m));
     Ok(())
 }
@@ -216,17 +221,16 @@ fn a_signal_ends_one_wait(rt: HostRuntime) -> Result<(), Fail> {
         objects.wait(&rt, t, c, m);
         assert!(rt; !objects.owns(t, m));
     }
-    let first = objects.signal(c);
-    assert!(rt; first.has(high));
-    assert!(rt; !first.has(low));
+    objects.signal(c);
     assert!(rt; objects.owns(high, m));
-    let second = objects.signal(c);
-    assert!(rt; second.has(low));
+    assert!(rt; objects.is_ready(high));
     assert!(rt; !objects.is_ready(low));
-    assert!(rt; objects.unlock(m).has(low));
+    objects.signal(c);
+    assert!(rt; !objects.is_ready(low));
+    objects.unlock(m);
     assert!(rt; objects.owns(low, m));
-    let third = objects.signal(c);
-    assert!(rt; !third.has(low));
-    assert!(rt; !third.has(high));
+    assert!(rt; objects.is_ready(low));
+    objects.signal(c);
+    assert!(rt; objects.owns(low, m));
     Ok(())
 }

@@ -12,7 +12,7 @@ use Rattle.ptk_words_model.specs.Condition.{condition_waiters}
 use Rattle.ptk_words_sync_invariant.specs.Conditions.{condition_of_wait, IsNoWaiter}
 use Rattle.ptk_words_sync_invariant.proofs.Threads.{idle_awaits, none_awaits}
 use Rattle.ptk_syncs.specs.Rosters.{Rostered}
-use Rattle.ptk_mutex.specs.Tables.{locks_at, AreLocked, MayWait}
+use Rattle.ptk_mutex.specs.Tables.{locks_by, AreLocked, MayWait}
 use Rattle.ptk_mutex.specs.Sound.{AreWaiting, IsOnCondition, IsAwake, IsSound, is_idle, is_awake}
 use Rattle.ptk_mutex.proofs.Sound.{of_part}
 
@@ -70,17 +70,17 @@ told_awake t locks e =
     record { used = idle_used (thread_at locks t) idle; out = both_second (is_idle (thread_at locks t)) (is_in t locks.line) e; awake = idle_none (thread_at locks t) idle }
 
 -- who is told so is awake
-pub awake_told : (p t : ℕ) (told : Bool) (a : Rostered) → told ≡ is_awake (locks_at p a.table a.lines a.mutexes) t → told ≡ true → IsAwake (locks_at p a.table a.lines a.mutexes) t
-awake_told p t told a e granted = told_awake t (locks_at p a.table a.lines a.mutexes) (sym e ∙ granted)
+pub awake_told : (p t : ℕ) (told : Bool) (a : Rostered) → told ≡ is_awake (locks_by p a.table a.lines a.mutexes) t → told ≡ true → IsAwake (locks_by p a.table a.lines a.mutexes) t
+awake_told p t told a e granted = told_awake t (locks_by p a.table a.lines a.mutexes) (sym e ∙ granted)
 
 -- may lock
-pub may_told : (p t : ℕ) (told : Bool) (a : Rostered) → told ≡ is_awake (locks_at p a.table a.lines a.mutexes) t → told ≡ true → MayWait (locks_at p a.table a.lines a.mutexes) t
+pub may_told : (p t : ℕ) (told : Bool) (a : Rostered) → told ≡ is_awake (locks_by p a.table a.lines a.mutexes) t → told ≡ true → MayWait (locks_by p a.table a.lines a.mutexes) t
 may_told p t told a e granted =
-    let may : IsAwake (locks_at p a.table a.lines a.mutexes) t = awake_told p t told a e granted in
-    record { used = may.used; out = may.out; awake = awake_none t (locks_at p a.table a.lines a.mutexes) may }
+    let may : IsAwake (locks_by p a.table a.lines a.mutexes) t = awake_told p t told a e granted in
+    record { used = may.used; out = may.out; awake = awake_none t (locks_by p a.table a.lines a.mutexes) may }
 
 -- and is no waiter of a sound roster
-pub free_told : (p t : ℕ) (told : Bool) (a : Rostered) → told ≡ is_awake (locks_at p a.table a.lines a.mutexes) t → told ≡ true → p < length a.table.threads → IsSound a → IsNoWaiter t (part_of a.mutexes p) (part_of a.conditions p)
+pub free_told : (p t : ℕ) (told : Bool) (a : Rostered) → told ≡ is_awake (locks_by p a.table a.lines a.mutexes) t → told ≡ true → p < length a.table.threads → IsSound a → IsNoWaiter t (part_of a.mutexes p) (part_of a.conditions p)
 free_told p t told a e granted lt sound = awake_free t (of_part p a) (awake_told p t told a e granted) (sound.synced p lt).ready.locked (sound.synced p lt).waiting
 
 pub ruleset tests = (awake_told, may_told, free_told)

@@ -28,7 +28,7 @@ use Rattle.ptk_mutex.specs.Tables.{with_threads}
 use Rattle.ptk_threads.specs.Table.{stored_of}
 use Rattle.ptk_mutex.specs.Tables.{MayGet}
 use Rattle.ptk_mutex.proofs.Locked.{waiter_used, stored_heir, heir_may_get}
-use Rattle.ptk_mutex.specs.Tables.{locks_at, HasPart, AreReady}
+use Rattle.ptk_mutex.specs.Tables.{locks_by, HasPartBy, AreReadyBy}
 
 -- ---- room
 
@@ -37,10 +37,10 @@ count_room None h = tt
 count_room (Some m) h = h
 
 -- a count can go up
-pub countable : (p m : ℕ) (table : ThreadTable) (lines : List (List ℕ)) (mutexes : List (List (Option Mutex))) → AreReady p table lines mutexes → SlotMayChange CountUp (pool_get (part_of mutexes p) m)
+pub countable : (p m : ℕ) (table : ThreadTable) (lines : List (List ℕ)) (mutexes : List (List (Option Mutex))) → AreReadyBy p table lines mutexes → SlotMayChange CountUp (pool_get (part_of mutexes p) m)
 countable p m table lines mutexes ready = count_room (pool_get (part_of mutexes p) m) (ready.locked.counts m)
 
-pub has_part : (p : ℕ) (table : ThreadTable) (lines : List (List ℕ)) (mutexes : List (List (Option Mutex))) → AreReady p table lines mutexes → HasPart p table lines mutexes
+pub has_part : (p : ℕ) (table : ThreadTable) (lines : List (List ℕ)) (mutexes : List (List (Option Mutex))) → AreReadyBy p table lines mutexes → HasPartBy p table lines mutexes
 has_part p table lines mutexes ready = ready.part
 
 -- ---- a thread woken
@@ -68,12 +68,12 @@ handed-is t made row = ap (pool_set row t) (handed_entry made (pool_get row t))
 -- ---- the choice
 
 -- the first waiter of the greatest stored priority is the heir
-pub choice-is : (p m : ℕ) (o : Option ℕ) (table : ThreadTable) (lines : List (List ℕ)) (mutexes : List (List (Option Mutex))) → AreReady p table lines mutexes → o ≡ first_of_greatest (stored_of (part_of table.stored p)) (waiters_of (pool_get (part_of mutexes p) m)) → o ≡ heir m (locks_at p table lines mutexes)
-choice-is p m o table lines mutexes ready e = e ∙ stored_heir m (locks_at p table lines mutexes) (part_of table.stored p) ready.locked ready.stored
+pub choice-is : (p m : ℕ) (o : Option ℕ) (table : ThreadTable) (lines : List (List ℕ)) (mutexes : List (List (Option Mutex))) → AreReadyBy p table lines mutexes → o ≡ first_of_greatest (stored_of (part_of table.stored p)) (waiters_of (pool_get (part_of mutexes p) m)) → o ≡ heir m (locks_by p table lines mutexes)
+choice-is p m o table lines mutexes ready e = e ∙ stored_heir m (locks_by p table lines mutexes) (part_of table.stored p) ready.locked ready.stored
 
 -- and may get the mutex
-pub choice_may : (p m : ℕ) (o : Option ℕ) (table : ThreadTable) (lines : List (List ℕ)) (mutexes : List (List (Option Mutex))) → AreReady p table lines mutexes → o ≡ first_of_greatest (stored_of (part_of table.stored p)) (waiters_of (pool_get (part_of mutexes p) m)) → MayGet o (locks_at p table lines mutexes) m
-choice_may p m o table lines mutexes ready e = heir_may_get m (locks_at p table lines mutexes) o ready.locked (choice-is p m o table lines mutexes ready e)
+pub choice_may : (p m : ℕ) (o : Option ℕ) (table : ThreadTable) (lines : List (List ℕ)) (mutexes : List (List (Option Mutex))) → AreReadyBy p table lines mutexes → o ≡ first_of_greatest (stored_of (part_of table.stored p)) (waiters_of (pool_get (part_of mutexes p) m)) → MayGet o (locks_by p table lines mutexes) m
+choice_may p m o table lines mutexes ready e = heir_may_get m (locks_by p table lines mutexes) o ready.locked (choice-is p m o table lines mutexes ready e)
 
 pub ruleset choices = (choice-is, choice_may, has_part)
 
@@ -97,7 +97,7 @@ end-plain t m None locks e r = cc
 end-plain t m (Some x) locks e r = rw (e, r) refl
 
 -- nothing moved
-pub stays : (p : ℕ) (table : ThreadTable) (lines : List (List ℕ)) (mutexes : List (List (Option Mutex))) → AreReady p table lines mutexes → with_threads p (locks_at p table lines mutexes) table ≡ table
+pub stays : (p : ℕ) (table : ThreadTable) (lines : List (List ℕ)) (mutexes : List (List (Option Mutex))) → AreReadyBy p table lines mutexes → with_threads p (locks_by p table lines mutexes) table ≡ table
 stays p table lines mutexes ready = rw (← ready.stored, set_part-same, set_part-same) refl
 
 pub ruleset ends = (end-other, end-robust, end-plain, stays, has_part, set_part-same)

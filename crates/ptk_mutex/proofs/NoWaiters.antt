@@ -16,7 +16,7 @@ use Rattle.ptk_threads.specs.Table.{ThreadTable}
 use Rattle.ptk_threads.proofs.Pools.{part_of-set}
 use Rattle.ptk_mutex_priorities.specs.declared.slot.Change.TheVariants.{Take, CountUp}
 use Rattle.ptk_mutex_priorities.specs.Changes.{mutex_changed}
-use Rattle.ptk_mutex.specs.Tables.{locks_at, HasPart}
+use Rattle.ptk_mutex.specs.Tables.{locks_by, HasPartBy}
 use Rattle.ptk_mutex.specs.Rises.{is_waiting}
 
 -- ---- a mutex changed
@@ -51,11 +51,11 @@ no_waiter-move Waits t m wait locks conditions e none = cc
 no_waiter-move (Refuses error) t m wait locks conditions e none = none
 
 -- a thread that made it is still no waiter
-pub made_free : (made : LockMove) (p t m : ℕ) (wait : Wait) (table : ThreadTable) (lines : List (List ℕ)) (mutexes mutexes' : List (List (Option Mutex))) (conditions conditions' : List (List (Option Condition))) → HasPart p table lines mutexes → is_waiting made ≡ false
-    → mutexes' ≡ set mutexes p (after_move made t m wait (locks_at p table lines mutexes)).mutexes → conditions' ≡ conditions → IsNoWaiter t (part_of mutexes p) (part_of conditions p) → IsNoWaiter t (part_of mutexes' p) (part_of conditions' p)
+pub made_free : (made : LockMove) (p t m : ℕ) (wait : Wait) (table : ThreadTable) (lines : List (List ℕ)) (mutexes mutexes' : List (List (Option Mutex))) (conditions conditions' : List (List (Option Condition))) → HasPartBy p table lines mutexes → is_waiting made ≡ false
+    → mutexes' ≡ set mutexes p (after_move made t m wait (locks_by p table lines mutexes)).mutexes → conditions' ≡ conditions → IsNoWaiter t (part_of mutexes p) (part_of conditions p) → IsNoWaiter t (part_of mutexes' p) (part_of conditions' p)
 made_free made p t m wait table lines mutexes mutexes' conditions conditions' has e moved same none =
-    let row : List (Option Mutex) = (after_move made t m wait (locks_at p table lines mutexes)).mutexes in
+    let row : List (Option Mutex) = (after_move made t m wait (locks_by p table lines mutexes)).mutexes in
     let here : part_of mutexes' p ≡ row = ap (λ (l : List (List (Option Mutex))). part_of l p) moved ∙ part_of-set mutexes p row has.of_mutexes in
     let there : part_of conditions' p ≡ part_of conditions p = ap (λ (l : List (List (Option Condition))). part_of l p) same in
-    let kept : IsNoWaiter t row (part_of conditions p) = no_waiter-move made t m wait (locks_at p table lines mutexes) (part_of conditions p) e none in
+    let kept : IsNoWaiter t row (part_of conditions p) = no_waiter-move made t m wait (locks_by p table lines mutexes) (part_of conditions p) e none in
     subst (λ (l : List (Option Mutex)). IsNoWaiter t l (part_of conditions' p)) (sym here) (subst (λ (l : List (Option Condition)). IsNoWaiter t row l) (sym there) kept)

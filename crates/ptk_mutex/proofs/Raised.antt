@@ -27,7 +27,7 @@ use Rattle.ptk_mutex.specs.Before.{awake, freed, IsBeforeWait, IsBeforeTake, IsB
 use Rattle.ptk_mutex.specs.Visits.{IsVisited}
 use Rattle.ptk_mutex.proofs.Changes.{effective_mutex, effective_thread}
 use Rattle.ptk_mutex.proofs.Visits.{unvisited}
-use Rattle.ptk_mutex.specs.Tables.{locks_at, with_threads, AreReady}
+use Rattle.ptk_mutex.specs.Tables.{locks_by, with_threads, AreReadyBy}
 use Rattle.ptk_mutex.specs.Rises.{IsFree, is_waiting}
 use Rattle.ptk_mutex.proofs.Moved.{stays}
 
@@ -57,7 +57,7 @@ take_effective t m threads row free =
     ∙ effective_mutex m (λ a. freed (mutex_changed (Take t) a)) threads row (taken_inheritor t (pool_get row m) free) (λ u. taken_ceiling t u (pool_get row m) free)
 
 -- the stored priorities are those of before the take
-pub take_before : (p t m : ℕ) (table table' : ThreadTable) (lines : List (List ℕ)) (mutexes mutexes' : List (List (Option Mutex))) → AreReady p table lines mutexes → IsFree (pool_get (part_of mutexes p) m)
+pub take_before : (p t m : ℕ) (table table' : ThreadTable) (lines : List (List ℕ)) (mutexes mutexes' : List (List (Option Mutex))) → AreReadyBy p table lines mutexes → IsFree (pool_get (part_of mutexes p) m)
     → table' ≡ table → mutexes' ≡ set mutexes p (pool_changed m (mutex_changed (Take t)) (part_of mutexes p)) → IsBeforeTake m (part_of table'.threads p) (part_of mutexes' p) (part_of table'.stored p)
 take_before p t m table table' lines mutexes mutexes' ready free same e =
     let row : List (Option Mutex) = part_of mutexes p in
@@ -77,7 +77,7 @@ counted_ceiling u None = refl
 counted_ceiling u (Some a) = refl
 
 -- it raises nobody
-pub count_stays : (p m : ℕ) (table : ThreadTable) (lines : List (List ℕ)) (mutexes : List (List (Option Mutex))) → AreReady p table lines mutexes → table ≡ with_threads p (after_count m (locks_at p table lines mutexes)) table
+pub count_stays : (p m : ℕ) (table : ThreadTable) (lines : List (List ℕ)) (mutexes : List (List (Option Mutex))) → AreReadyBy p table lines mutexes → table ≡ with_threads p (after_count m (locks_by p table lines mutexes)) table
 count_stays p m table lines mutexes ready =
     let same : effective_priorities (part_of table.threads p) (pool_changed m (mutex_changed CountUp) (part_of mutexes p)) ≡ part_of table.stored p =
     effective_mutex m (mutex_changed CountUp) (part_of table.threads p) (part_of mutexes p) (counted_inheritor (pool_get (part_of mutexes p) m)) (λ u. counted_ceiling u (pool_get (part_of mutexes p) m)) ∙ sym ready.stored in
@@ -109,7 +109,7 @@ block_effective t m wait threads row none =
     ∙ effective_mutex m (waited_by t) threads row (joined_inheritor t (pool_get row m)) (λ u. joined_ceiling t u (pool_get row m))
 
 -- the stored priorities are those of before the wait
-pub block_before : (p t m : ℕ) (wait : Wait) (table table' : ThreadTable) (lines : List (List ℕ)) (mutexes mutexes' : List (List (Option Mutex))) → AreReady p table lines mutexes → awaited (thread_in table p t) ≡ None
+pub block_before : (p t m : ℕ) (wait : Wait) (table table' : ThreadTable) (lines : List (List ℕ)) (mutexes mutexes' : List (List (Option Mutex))) → AreReadyBy p table lines mutexes → awaited (thread_in table p t) ≡ None
     → mutexes' ≡ set mutexes p (pool_changed m (waited_by t) (part_of mutexes p)) → table' ≡ with_changed p t (with_wait (Some wait)) table → IsBeforeWait t (part_of table'.threads p) (part_of mutexes' p) (part_of table'.stored p)
 block_before p t m wait table table' lines mutexes mutexes' ready none e f =
     let row : List (Option Mutex) = part_of mutexes p in
@@ -136,7 +136,7 @@ given_most before after None e le = omega (arith, e)
 given_most before after (Some thread) e le = le
 
 -- the stored priorities are those of before the assignment
-pub assignment_before : (p t before after : ℕ) (table table' : ThreadTable) (lines : List (List ℕ)) (mutexes : List (List (Option Mutex))) → AreReady p table lines mutexes → before ≡ assigned_of (part_of table.threads p) t → before ≤ after
+pub assignment_before : (p t before after : ℕ) (table table' : ThreadTable) (lines : List (List ℕ)) (mutexes : List (List (Option Mutex))) → AreReadyBy p table lines mutexes → before ≡ assigned_of (part_of table.threads p) t → before ≤ after
     → table' ≡ with_changed p t (with_priority after) table → IsBeforeAssignment t (part_of table'.threads p) (part_of mutexes p) (part_of table'.stored p)
 assignment_before p t before after table table' lines mutexes ready e le f =
     let threads : List (Option Thread) = part_of table.threads p in

@@ -25,7 +25,7 @@ use Rattle.ptk_threads.proofs.Pools.{part_of-set}
 use Rattle.ptk_syncs.specs.Rosters.{seen}
 use Rattle.ptk_mutex_priorities.proofs.Levels.{length-numbers_to}
 use Rattle.ptk_mutex.specs.Pool.{with_new_mutex}
-use Rattle.ptk_mutex.specs.Tables.{AreLocked, AreReady}
+use Rattle.ptk_mutex.specs.Tables.{AreLocked, AreReadyBy}
 use Rattle.ptk_mutex.proofs.Pool.{least_free_is}
 
 -- ---- a mutex that is not in use
@@ -95,8 +95,8 @@ locked_set m x locks was idle le locked = record {
   counts = λ n. pool_set_all (λ (y : Option Mutex). count_of y ≤ COUNT_LIMIT) locks.mutexes m n x le (locked.counts n);
 }
 
-pub ready_set : (p m : ℕ) (x : Option Mutex) (table : ThreadTable) (lines : List (List ℕ)) (mutexes : List (List (Option Mutex))) → IsIdle (pool_get (part_of mutexes p) m) → IsIdle x → count_of x ≤ COUNT_LIMIT → AreReady p table lines mutexes
-    → AreReady p table lines (set mutexes p (pool_set (part_of mutexes p) m x))
+pub ready_set : (p m : ℕ) (x : Option Mutex) (table : ThreadTable) (lines : List (List ℕ)) (mutexes : List (List (Option Mutex))) → IsIdle (pool_get (part_of mutexes p) m) → IsIdle x → count_of x ≤ COUNT_LIMIT → AreReadyBy p table lines mutexes
+    → AreReadyBy p table lines (set mutexes p (pool_set (part_of mutexes p) m x))
 ready_set p m x table lines mutexes was idle le ready =
     let row : List (Option Mutex) = pool_set (part_of mutexes p) m x in
     let here : part_of (set mutexes p row) p ≡ row = part_of-set mutexes p row ready.part.of_mutexes in
@@ -112,20 +112,20 @@ ready_set p m x table lines mutexes was idle le ready =
       stored = ready.stored ∙ sym (effective_set (part_of table.threads p) (part_of mutexes p) m x was idle) ∙ ap (effective_priorities (part_of table.threads p)) (sym here);
     }
 
-ready_new : (p : ℕ) (o : Option ℕ) (mutex : Mutex) (table : ThreadTable) (lines : List (List ℕ)) (mutexes : List (List (Option Mutex))) → least_free (part_of mutexes p) ≡ o → IsIdle (Some mutex) → mutex.count ≤ COUNT_LIMIT → AreReady p table lines mutexes
-    → AreReady p table lines (set mutexes p (unwrap_or (option_map (λ m. pool_set (part_of mutexes p) m (Some mutex)) o) (part_of mutexes p)))
+ready_new : (p : ℕ) (o : Option ℕ) (mutex : Mutex) (table : ThreadTable) (lines : List (List ℕ)) (mutexes : List (List (Option Mutex))) → least_free (part_of mutexes p) ≡ o → IsIdle (Some mutex) → mutex.count ≤ COUNT_LIMIT → AreReadyBy p table lines mutexes
+    → AreReadyBy p table lines (set mutexes p (unwrap_or (option_map (λ m. pool_set (part_of mutexes p) m (Some mutex)) o) (part_of mutexes p)))
 ready_new p None mutex table lines mutexes e idle le ready = rw (set_part-same mutexes p) ready
 ready_new p (Some m) mutex table lines mutexes e idle le ready = ready_set p m (Some mutex) table lines mutexes (idle_none (pool_get (part_of mutexes p) m) (least_free_is (part_of mutexes p) m e)) idle le ready
 
 -- init leaves ready tables
-pub ready_init : (p : ℕ) (kind : MutexKind) (protocol : Protocol) (is_robust : Bool) (table : ThreadTable) (lines : List (List ℕ)) (mutexes : List (List (Option Mutex))) → AreReady p table lines mutexes
-    → AreReady p table lines (set mutexes p (with_new_mutex (new_mutex kind protocol is_robust) (part_of mutexes p)))
+pub ready_init : (p : ℕ) (kind : MutexKind) (protocol : Protocol) (is_robust : Bool) (table : ThreadTable) (lines : List (List ℕ)) (mutexes : List (List (Option Mutex))) → AreReadyBy p table lines mutexes
+    → AreReadyBy p table lines (set mutexes p (with_new_mutex (new_mutex kind protocol is_robust) (part_of mutexes p)))
 ready_init p kind protocol is_robust table lines mutexes ready =
     ready_new p (least_free (part_of mutexes p)) (new_mutex kind protocol is_robust) table lines mutexes refl (idle_unlocked (Some (new_mutex kind protocol is_robust)) refl refl) (omega arith) ready
 
 -- destroy of a mutex that is not locked and has no waiters leaves ready tables
-pub ready_destroy : (p m : ℕ) (table : ThreadTable) (lines : List (List ℕ)) (mutexes : List (List (Option Mutex))) → waiters_of (pool_get (part_of mutexes p) m) ≡ [] → is_locked (pool_get (part_of mutexes p) m) ≡ false → AreReady p table lines mutexes
-    → AreReady p table lines (set mutexes p (pool_set (part_of mutexes p) m None))
+pub ready_destroy : (p m : ℕ) (table : ThreadTable) (lines : List (List ℕ)) (mutexes : List (List (Option Mutex))) → waiters_of (pool_get (part_of mutexes p) m) ≡ [] → is_locked (pool_get (part_of mutexes p) m) ≡ false → AreReadyBy p table lines mutexes
+    → AreReadyBy p table lines (set mutexes p (pool_set (part_of mutexes p) m None))
 ready_destroy p m table lines mutexes unused unlocked ready =
     ready_set p m None table lines mutexes (idle_unlocked (pool_get (part_of mutexes p) m) unused unlocked) (idle_none None refl) (omega arith) ready
 
@@ -175,7 +175,7 @@ locked_blank locks blank = record {
 }
 
 -- tables in which every number is free are ready at each partition
-pub ready_blank : (p : ℕ) (counts limits : List ℕ) (lines : List (List ℕ)) → p < length counts → p < length limits → p < length lines → AreReady p (seen (free_table counts)) lines (map (filled None) limits)
+pub ready_blank : (p : ℕ) (counts limits : List ℕ) (lines : List (List ℕ)) → p < length counts → p < length limits → p < length lines → AreReadyBy p (seen (free_table counts)) lines (map (filled None) limits)
 ready_blank p counts limits lines of_threads of_mutexes of_lines = record {
   part = record {
     of_threads = rw (length-map counts (filled {X = Option Thread} None)) of_threads;

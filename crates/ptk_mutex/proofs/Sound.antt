@@ -26,8 +26,8 @@ use Rattle.ptk_syncs.specs.Rosters.{Rostered, seen}
 use Rattle.ptk_mutex_priorities.specs.Plain.{is_raising_at}
 use Rattle.ptk_mutex.specs.Moves.{after_assignment, after_withdrawal}
 use Rattle.ptk_mutex.specs.Pool.{with_new_mutex}
-use Rattle.ptk_mutex.specs.Tables.{IsWaiter, AreReady}
-use Rattle.ptk_mutex.specs.Sound.{syncs_at, AreWaiting, AreSynced, IsSound}
+use Rattle.ptk_mutex.specs.Tables.{IsWaiter, AreReadyBy}
+use Rattle.ptk_mutex.specs.Sound.{syncs_by, AreWaiting, AreSyncedBy, IsSound}
 use Rattle.ptk_mutex.proofs.Apart.{IsApart, apart_closed, apart_ends, apart_free, apart_made, apart_opened, apart_relock, apart_soundness, apart_take, apart_unlock, apart_withdrawal, other_waiter, waiting_assigned, waiting_kept}
 use Rattle.ptk_mutex.proofs.Unraised.{ready_freed, ready_taken}
 use Rattle.ptk_mutex.proofs.Ready.{pool_blank, ready_blank, ready_destroy, ready_init, row_blank}
@@ -36,14 +36,14 @@ use Rattle.ptk_mutex.proofs.Steps.{AreMoved, moved_locks}
 -- ---- what a partition has
 
 abbrev pub of_part : ℕ → Rostered → Syncs
-of_part p a = syncs_at p a.table a.lines a.mutexes a.conditions
+of_part p a = syncs_by p a.table a.lines a.mutexes a.conditions
 
 -- the mutex calls, and all calls, find it as they need it at a partition
 abbrev pub AreReadyAt : ℕ → Rostered → Type 0
-AreReadyAt p a = AreReady p a.table a.lines a.mutexes
+AreReadyAt p a = AreReadyBy p a.table a.lines a.mutexes
 
 abbrev pub AreSyncedAt : ℕ → Rostered → Type 0
-AreSyncedAt p a = AreSynced p a.table a.lines a.mutexes a.conditions
+AreSyncedAt p a = AreSyncedBy p a.table a.lines a.mutexes a.conditions
 
 -- the roster b is the roster a with these syncs at p
 pub record AreSyncsMoved (p : ℕ) (a b : Rostered) (syncs : Syncs) : Type 0 where
@@ -200,7 +200,7 @@ sound_ended p t a b move sound =
 abbrev pub with_mutexes : ℕ → List (Option Mutex) → Rostered → Rostered
 with_mutexes p row a = record a { mutexes = set a.mutexes p row }
 
-sound_mutexes : (p : ℕ) (row : List (Option Mutex)) (a b : Rostered) → b ≡ with_mutexes p row a → p < length a.table.threads → (AreReadyAt p a → AreReady p a.table a.lines (set a.mutexes p row))
+sound_mutexes : (p : ℕ) (row : List (Option Mutex)) (a b : Rostered) → b ≡ with_mutexes p row a → p < length a.table.threads → (AreReadyAt p a → AreReadyBy p a.table a.lines (set a.mutexes p row))
     → ((k : ℕ) → IsApart (of_part p a).locks (record (of_part p a).locks { mutexes = row }) k) → IsSound a → IsSound b
 sound_mutexes p row a b e lt readies apart sound =
     let synced : AreSyncedAt p a = sound.synced p lt in
@@ -262,7 +262,7 @@ sound_refreshed p a b lt of_table of_lines of_mutexes of_conditions sound =
 
 -- ---- a fresh roster
 
-synced_blank : (p : ℕ) (counts limits others : List ℕ) (lines : List (List ℕ)) → p < length counts → p < length limits → p < length others → p < length lines → AreSynced p (seen (free_table counts)) lines (map (filled None) limits) (map (filled None) others)
+synced_blank : (p : ℕ) (counts limits others : List ℕ) (lines : List (List ℕ)) → p < length counts → p < length limits → p < length others → p < length lines → AreSyncedBy p (seen (free_table counts)) lines (map (filled None) limits) (map (filled None) others)
 synced_blank p counts limits others lines of_threads of_mutexes of_conditions of_lines = record {
   ready = ready_blank p counts limits lines of_threads of_mutexes of_lines;
   of_conditions = rw (length-map others (filled {X = Option Condition} None)) of_conditions;
@@ -289,10 +289,10 @@ sound_blank counts limits others a of_limits of_others of_table of_lines of_mute
 -- ---- what a caller needs
 
 -- of a sound roster each call finds what it asks of its partition
-pub sound_ready : (p : ℕ) (a : Rostered) → IsSound a → p < length a.table.threads → AreReady p a.table a.lines a.mutexes
+pub sound_ready : (p : ℕ) (a : Rostered) → IsSound a → p < length a.table.threads → AreReadyBy p a.table a.lines a.mutexes
 sound_ready p a sound lt = (sound.synced p lt).ready
 
-pub sound_synced : (p : ℕ) (a : Rostered) → IsSound a → p < length a.table.threads → AreSynced p a.table a.lines a.mutexes a.conditions
+pub sound_synced : (p : ℕ) (a : Rostered) → IsSound a → p < length a.table.threads → AreSyncedBy p a.table a.lines a.mutexes a.conditions
 sound_synced p a sound lt = sound.synced p lt
 
 pub ruleset callers = (sound_ready, sound_synced, length-set)

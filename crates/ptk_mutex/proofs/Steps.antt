@@ -41,7 +41,7 @@ use Rattle.ptk_threads.proofs.Pools.{part_of-set}
 use Rattle.ptk_mutex_priorities.specs.declared.slot.Change.{Change}
 use Rattle.ptk_mutex_priorities.specs.declared.slot.Change.TheVariants.{Take, CountUp, CountDown, Release, Abandon, Mark}
 use Rattle.ptk_mutex_priorities.specs.Changes.{mutex_changed, IsQuiet}
-use Rattle.ptk_mutex.specs.Tables.{locks_at, with_threads, HasPart, AreLocked, AreReady, IsWaiter, MayGet}
+use Rattle.ptk_mutex.specs.Tables.{locks_by, with_threads, HasPartBy, AreLocked, AreReadyBy, IsWaiter, MayGet}
 use Rattle.ptk_mutex.specs.Moves.{after_change}
 use Rattle.ptk_mutex.proofs.Locked.{IsMild, locked_mild, locked_left, heir_may_get}
 use Rattle.ptk_mutex.proofs.NoWaiters.{changed_waiters}
@@ -53,14 +53,14 @@ pub record AreMoved (p : ℕ) (table : ThreadTable) (lines : List (List ℕ)) (m
   pub of_mutexes : mutexes' ≡ set mutexes p locks.mutexes
 
 -- nothing moved yet
-pub moved_none : (p : ℕ) (table : ThreadTable) (lines : List (List ℕ)) (mutexes : List (List (Option Mutex))) → AreReady p table lines mutexes → AreMoved p table lines mutexes table lines mutexes (locks_at p table lines mutexes)
+pub moved_none : (p : ℕ) (table : ThreadTable) (lines : List (List ℕ)) (mutexes : List (List (Option Mutex))) → AreReadyBy p table lines mutexes → AreMoved p table lines mutexes table lines mutexes (locks_by p table lines mutexes)
 moved_none p table lines mutexes ready = record {
   of_threads = rw (← ready.stored, set_part-same, set_part-same) refl;
   of_lines = sym (set_part-same lines p);
   of_mutexes = sym (set_part-same mutexes p);
 }
 
-has_moved : (p : ℕ) (table : ThreadTable) (lines : List (List ℕ)) (mutexes : List (List (Option Mutex))) (locks : Locks) → HasPart p table lines mutexes → HasPart p (with_threads p locks table) (set lines p locks.line) (set mutexes p locks.mutexes)
+has_moved : (p : ℕ) (table : ThreadTable) (lines : List (List ℕ)) (mutexes : List (List (Option Mutex))) (locks : Locks) → HasPartBy p table lines mutexes → HasPartBy p (with_threads p locks table) (set lines p locks.line) (set mutexes p locks.mutexes)
 has_moved p table lines mutexes locks has = record {
   of_threads = rw length-set has.of_threads;
   of_stored = rw length-set has.of_stored;
@@ -68,16 +68,16 @@ has_moved p table lines mutexes locks has = record {
   of_mutexes = rw length-set has.of_mutexes;
 }
 
-locks_put : (p : ℕ) (table : ThreadTable) (lines : List (List ℕ)) (mutexes : List (List (Option Mutex))) (locks : Locks) → HasPart p table lines mutexes → locks_at p (with_threads p locks table) (set lines p locks.line) (set mutexes p locks.mutexes) ≡ locks
+locks_put : (p : ℕ) (table : ThreadTable) (lines : List (List ℕ)) (mutexes : List (List (Option Mutex))) (locks : Locks) → HasPartBy p table lines mutexes → locks_by p (with_threads p locks table) (set lines p locks.line) (set mutexes p locks.mutexes) ≡ locks
 locks_put p table lines mutexes locks has =
     rw (part_of-set table.threads p locks.threads has.of_threads, part_of-set lines p locks.line has.of_lines, part_of-set mutexes p locks.mutexes has.of_mutexes) refl
 
 -- what p then has
-pub moved_locks : (p : ℕ) (table table' : ThreadTable) (lines lines' : List (List ℕ)) (mutexes mutexes' : List (List (Option Mutex))) (locks : Locks) → HasPart p table lines mutexes → AreMoved p table lines mutexes table' lines' mutexes' locks → locks_at p table' lines' mutexes' ≡ locks
+pub moved_locks : (p : ℕ) (table table' : ThreadTable) (lines lines' : List (List ℕ)) (mutexes mutexes' : List (List (Option Mutex))) (locks : Locks) → HasPartBy p table lines mutexes → AreMoved p table lines mutexes table' lines' mutexes' locks → locks_by p table' lines' mutexes' ≡ locks
 moved_locks p table table' lines lines' mutexes mutexes' locks has moved =
     rw (moved.of_threads, moved.of_lines, moved.of_mutexes) (locks_put p table lines mutexes locks has)
 
-pub moved_has : (p : ℕ) (table table' : ThreadTable) (lines lines' : List (List ℕ)) (mutexes mutexes' : List (List (Option Mutex))) (locks : Locks) → HasPart p table lines mutexes → AreMoved p table lines mutexes table' lines' mutexes' locks → HasPart p table' lines' mutexes'
+pub moved_has : (p : ℕ) (table table' : ThreadTable) (lines lines' : List (List ℕ)) (mutexes mutexes' : List (List (Option Mutex))) (locks : Locks) → HasPartBy p table lines mutexes → AreMoved p table lines mutexes table' lines' mutexes' locks → HasPartBy p table' lines' mutexes'
 moved_has p table table' lines lines' mutexes mutexes' locks has moved =
     rw (moved.of_threads, moved.of_lines, moved.of_mutexes) (has_moved p table lines mutexes locks has)
 
@@ -86,7 +86,7 @@ stored_put : (p : ℕ) (table : ThreadTable) (mutexes : List (List (Option Mutex
 stored_put p table mutexes locks t s m = rw (part_of-set table.stored p (effective_priorities locks.threads locks.mutexes) s, part_of-set table.threads p locks.threads t, part_of-set mutexes p locks.mutexes m) refl
 
 -- moved tables are ready again
-pub moved_ready : (p : ℕ) (table table' : ThreadTable) (lines lines' : List (List ℕ)) (mutexes mutexes' : List (List (Option Mutex))) (locks : Locks) → HasPart p table lines mutexes → AreLocked locks → AreMoved p table lines mutexes table' lines' mutexes' locks → AreReady p table' lines' mutexes'
+pub moved_ready : (p : ℕ) (table table' : ThreadTable) (lines lines' : List (List ℕ)) (mutexes mutexes' : List (List (Option Mutex))) (locks : Locks) → HasPartBy p table lines mutexes → AreLocked locks → AreMoved p table lines mutexes table' lines' mutexes' locks → AreReadyBy p table' lines' mutexes'
 moved_ready p table table' lines lines' mutexes mutexes' locks has locked moved = record {
   part = moved_has p table table' lines lines' mutexes mutexes' locks has moved;
   locked = subst (λ (l : Locks). AreLocked l) (sym (moved_locks p table table' lines lines' mutexes mutexes' locks has moved)) locked;
@@ -94,10 +94,10 @@ moved_ready p table table' lines lines' mutexes mutexes' locks has locked moved 
 }
 
 -- one more move
-pub moved_more : (p : ℕ) (f : Locks → Locks) (table table' new : ThreadTable) (lines lines' after : List (List ℕ)) (mutexes mutexes' others : List (List (Option Mutex))) (locks : Locks) → HasPart p table lines mutexes → AreMoved p table lines mutexes table' lines' mutexes' locks
-    → AreMoved p table' lines' mutexes' new after others (f (locks_at p table' lines' mutexes')) → AreMoved p table lines mutexes new after others (f locks)
+pub moved_more : (p : ℕ) (f : Locks → Locks) (table table' new : ThreadTable) (lines lines' after : List (List ℕ)) (mutexes mutexes' others : List (List (Option Mutex))) (locks : Locks) → HasPartBy p table lines mutexes → AreMoved p table lines mutexes table' lines' mutexes' locks
+    → AreMoved p table' lines' mutexes' new after others (f (locks_by p table' lines' mutexes')) → AreMoved p table lines mutexes new after others (f locks)
 moved_more p f table table' new lines lines' after mutexes mutexes' others locks has moved more =
-    let at : locks_at p table' lines' mutexes' ≡ locks = moved_locks p table table' lines lines' mutexes mutexes' locks has moved in
+    let at : locks_by p table' lines' mutexes' ≡ locks = moved_locks p table table' lines lines' mutexes mutexes' locks has moved in
     let now : AreMoved p table' lines' mutexes' new after others (f locks) = subst (λ (l : Locks). AreMoved p table' lines' mutexes' new after others (f l)) at more in
     record {
       of_threads = now.of_threads ∙ rw (moved.of_threads, set-set, set-set) refl;
@@ -144,18 +144,18 @@ locked_refusal m locks locked = refuse_to_locked m (heir m locks) locks (heir_ma
 
 -- so many refusals are left of all
 pub record AreRefused (p m left total : ℕ) (table : ThreadTable) (lines : List (List ℕ)) (mutexes : List (List (Option Mutex))) (table' : ThreadTable) (lines' : List (List ℕ)) (mutexes' : List (List (Option Mutex))) : Type 0 where
-  pub ready : AreReady p table' lines' mutexes'
-  pub moved : AreMoved p table lines mutexes table' lines' mutexes' (locks_at p table' lines' mutexes')
-  pub same : iterate (after_refusal m) left (locks_at p table' lines' mutexes') ≡ iterate (after_refusal m) total (locks_at p table lines mutexes)
+  pub ready : AreReadyBy p table' lines' mutexes'
+  pub moved : AreMoved p table lines mutexes table' lines' mutexes' (locks_by p table' lines' mutexes')
+  pub same : iterate (after_refusal m) left (locks_by p table' lines' mutexes') ≡ iterate (after_refusal m) total (locks_by p table lines mutexes)
 
-pub refused_none : (p m total : ℕ) (table : ThreadTable) (lines : List (List ℕ)) (mutexes : List (List (Option Mutex))) → AreReady p table lines mutexes → AreRefused p m total total table lines mutexes table lines mutexes
+pub refused_none : (p m total : ℕ) (table : ThreadTable) (lines : List (List ℕ)) (mutexes : List (List (Option Mutex))) → AreReadyBy p table lines mutexes → AreRefused p m total total table lines mutexes table lines mutexes
 refused_none p m total table lines mutexes ready = record { ready = ready; moved = moved_none p table lines mutexes ready; same = refl }
 
-pub refused_more : (p m left rest total : ℕ) (table table' new : ThreadTable) (lines lines' after : List (List ℕ)) (mutexes mutexes' others : List (List (Option Mutex))) → HasPart p table lines mutexes → rest ≡ suc left → AreRefused p m rest total table lines mutexes table' lines' mutexes'
-    → AreMoved p table' lines' mutexes' new after others (after_refusal m (locks_at p table' lines' mutexes')) → AreReady p new after others → AreRefused p m left total table lines mutexes new after others
+pub refused_more : (p m left rest total : ℕ) (table table' new : ThreadTable) (lines lines' after : List (List ℕ)) (mutexes mutexes' others : List (List (Option Mutex))) → HasPartBy p table lines mutexes → rest ≡ suc left → AreRefused p m rest total table lines mutexes table' lines' mutexes'
+    → AreMoved p table' lines' mutexes' new after others (after_refusal m (locks_by p table' lines' mutexes')) → AreReadyBy p new after others → AreRefused p m left total table lines mutexes new after others
 refused_more p m left rest total table table' new lines lines' after mutexes mutexes' others has e refused more ready =
-    let now : Locks = locks_at p table' lines' mutexes' in
-    let at : locks_at p new after others ≡ after_refusal m now = moved_locks p table' new lines' after mutexes' others (after_refusal m now) refused.ready.part more in
+    let now : Locks = locks_by p table' lines' mutexes' in
+    let at : locks_by p new after others ≡ after_refusal m now = moved_locks p table' new lines' after mutexes' others (after_refusal m now) refused.ready.part more in
     let moved : AreMoved p table lines mutexes new after others (after_refusal m now) = moved_more p (after_refusal m) table table' new lines lines' after mutexes mutexes' others now has refused.moved more in
     record {
       ready = ready;
@@ -164,9 +164,9 @@ refused_more p m left rest total table table' new lines lines' after mutexes mut
     }
 
 pub refused_all : (p m left total : ℕ) (table table' : ThreadTable) (lines lines' : List (List ℕ)) (mutexes mutexes' : List (List (Option Mutex))) → left ≡ 0 → AreRefused p m left total table lines mutexes table' lines' mutexes'
-    → AreMoved p table lines mutexes table' lines' mutexes' (iterate (after_refusal m) total (locks_at p table lines mutexes))
+    → AreMoved p table lines mutexes table' lines' mutexes' (iterate (after_refusal m) total (locks_by p table lines mutexes))
 refused_all p m left total table table' lines lines' mutexes mutexes' e refused =
-    let done : locks_at p table' lines' mutexes' ≡ iterate (after_refusal m) total (locks_at p table lines mutexes) = ap (λ (n : ℕ). iterate (after_refusal m) n (locks_at p table' lines' mutexes')) (sym e) ∙ refused.same in
+    let done : locks_by p table' lines' mutexes' ≡ iterate (after_refusal m) total (locks_by p table lines mutexes) = ap (λ (n : ℕ). iterate (after_refusal m) n (locks_by p table' lines' mutexes')) (sym e) ∙ refused.same in
     subst (λ (l : Locks). AreMoved p table lines mutexes table' lines' mutexes' l) done refused.moved
 
 -- ---- all mutexes of an owner that ended
@@ -177,16 +177,16 @@ end_of t locks m = after_mutex_end t (mutex_at locks m) m locks
 
 -- once the mutexes 1 to k have been seen
 pub record AreEnded (p t k : ℕ) (table : ThreadTable) (lines : List (List ℕ)) (mutexes : List (List (Option Mutex))) (table' : ThreadTable) (lines' : List (List ℕ)) (mutexes' : List (List (Option Mutex))) : Type 0 where
-  pub ready : AreReady p table' lines' mutexes'
-  pub moved : AreMoved p table lines mutexes table' lines' mutexes' (fold (end_of t) (locks_at p table lines mutexes) (numbers_to k))
+  pub ready : AreReadyBy p table' lines' mutexes'
+  pub moved : AreMoved p table lines mutexes table' lines' mutexes' (fold (end_of t) (locks_by p table lines mutexes) (numbers_to k))
 
-pub ended_more : (p t k m : ℕ) (table table' new : ThreadTable) (lines lines' after : List (List ℕ)) (mutexes mutexes' others : List (List (Option Mutex))) → HasPart p table lines mutexes → m ≡ k + 1 → AreEnded p t k table lines mutexes table' lines' mutexes'
-    → AreMoved p table' lines' mutexes' new after others (end_of t (locks_at p table' lines' mutexes') m) → AreReady p new after others → AreEnded p t (k + 1) table lines mutexes new after others
+pub ended_more : (p t k m : ℕ) (table table' new : ThreadTable) (lines lines' after : List (List ℕ)) (mutexes mutexes' others : List (List (Option Mutex))) → HasPartBy p table lines mutexes → m ≡ k + 1 → AreEnded p t k table lines mutexes table' lines' mutexes'
+    → AreMoved p table' lines' mutexes' new after others (end_of t (locks_by p table' lines' mutexes') m) → AreReadyBy p new after others → AreEnded p t (k + 1) table lines mutexes new after others
 ended_more p t k m table table' new lines lines' after mutexes mutexes' others has e ended more ready =
-    let was : Locks = fold (end_of t) (locks_at p table lines mutexes) (numbers_to k) in
+    let was : Locks = fold (end_of t) (locks_by p table lines mutexes) (numbers_to k) in
     let number : m ≡ suc k = omega (arith, e) in
     let moved : AreMoved p table lines mutexes new after others (end_of t was m) = moved_more p (λ (l : Locks). end_of t l m) table table' new lines lines' after mutexes mutexes' others was has ended.moved more in
-    let all : fold (end_of t) (locks_at p table lines mutexes) (numbers_to (suc k)) ≡ end_of t was m = fold-append (end_of t) (locks_at p table lines mutexes) (numbers_to k) (suc k ∷ []) ∙ ap (end_of t was) (sym number) in
+    let all : fold (end_of t) (locks_by p table lines mutexes) (numbers_to (suc k)) ≡ end_of t was m = fold-append (end_of t) (locks_by p table lines mutexes) (numbers_to k) (suc k ∷ []) ∙ ap (end_of t was) (sym number) in
     let one : k + 1 ≡ suc k = omega arith in
     rw one (record { ready = ready; moved = subst (λ (l : Locks). AreMoved p table lines mutexes new after others l) (sym all) moved })
 

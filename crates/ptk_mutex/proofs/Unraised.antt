@@ -16,7 +16,7 @@ use Rattle.ptk_mutex_priorities.specs.declared.slot.Change.TheVariants.{Take, Re
 use Rattle.ptk_mutex_priorities.specs.Changes.{mutex_changed, IsQuiet}
 use Rattle.ptk_mutex_priorities.specs.Plain.{is_raising_at}
 use Rattle.ptk_mutex_priorities.proofs.Plain.{plain_inherits, plain_ceiling, plain_kept}
-use Rattle.ptk_mutex.specs.Tables.{locks_at, AreLocked, AreReady}
+use Rattle.ptk_mutex.specs.Tables.{locks_by, AreLocked, AreReadyBy}
 use Rattle.ptk_mutex.proofs.Steps.{locked_change}
 
 -- what keeps the protocol of such a mutex changes no priority (pthread_mutexattr_getprotocol)
@@ -29,12 +29,12 @@ effective-plain m f threads mutexes same plain =
     effective-set m new threads mutexes (plain_inherits new kept ∙ sym (plain_inherits old plain)) (λ u. plain_ceiling u new kept ∙ sym (plain_ceiling u old plain))
 
 ready_quiet : (p m : ℕ) (change : Change) (table : ThreadTable) (lines : List (List ℕ)) (mutexes : List (List (Option Mutex))) → IsQuiet change → ((mutex : Mutex) → (mutex_changed change mutex).protocol ≡ mutex.protocol) → is_raising_at (pool_get (part_of mutexes p) m) ≡ false
-    → AreReady p table lines mutexes → AreReady p table lines (set mutexes p (pool_changed m (mutex_changed change) (part_of mutexes p)))
+    → AreReadyBy p table lines mutexes → AreReadyBy p table lines (set mutexes p (pool_changed m (mutex_changed change) (part_of mutexes p)))
 ready_quiet p m change table lines mutexes quiet same plain ready =
     let row : List (Option Mutex) = pool_changed m (mutex_changed change) (part_of mutexes p) in
     let here : part_of (set mutexes p row) p ≡ row = part_of-set mutexes p row ready.part.of_mutexes in
     let after : Locks = record { threads = part_of table.threads p; line = part_of lines p; mutexes = row } in
-    let locked : AreLocked after = locked_change change m (locks_at p table lines mutexes) quiet ready.locked in
+    let locked : AreLocked after = locked_change change m (locks_by p table lines mutexes) quiet ready.locked in
     let kept : effective_priorities (part_of table.threads p) row ≡ effective_priorities (part_of table.threads p) (part_of mutexes p) =
     ap (λ (rank : ℕ → ℕ). map rank (numbers_of (part_of table.threads p))) (effective-plain m (mutex_changed change) (part_of table.threads p) (part_of mutexes p) same plain) in
     record {
@@ -49,11 +49,11 @@ ready_quiet p m change table lines mutexes quiet same plain ready =
     }
 
 -- a thread takes it
-pub ready_taken : (p t m : ℕ) (table : ThreadTable) (lines : List (List ℕ)) (mutexes : List (List (Option Mutex))) → is_raising_at (pool_get (part_of mutexes p) m) ≡ false → AreReady p table lines mutexes
-    → AreReady p table lines (set mutexes p (pool_changed m (mutex_changed (Take t)) (part_of mutexes p)))
+pub ready_taken : (p t m : ℕ) (table : ThreadTable) (lines : List (List ℕ)) (mutexes : List (List (Option Mutex))) → is_raising_at (pool_get (part_of mutexes p) m) ≡ false → AreReadyBy p table lines mutexes
+    → AreReadyBy p table lines (set mutexes p (pool_changed m (mutex_changed (Take t)) (part_of mutexes p)))
 ready_taken p t m table lines mutexes plain ready = ready_quiet p m (Take t) table lines mutexes tt (λ mutex. refl) plain ready
 
 -- or it is free
-pub ready_freed : (p m : ℕ) (table : ThreadTable) (lines : List (List ℕ)) (mutexes : List (List (Option Mutex))) → is_raising_at (pool_get (part_of mutexes p) m) ≡ false → AreReady p table lines mutexes
-    → AreReady p table lines (set mutexes p (pool_changed m (mutex_changed Release) (part_of mutexes p)))
+pub ready_freed : (p m : ℕ) (table : ThreadTable) (lines : List (List ℕ)) (mutexes : List (List (Option Mutex))) → is_raising_at (pool_get (part_of mutexes p) m) ≡ false → AreReadyBy p table lines mutexes
+    → AreReadyBy p table lines (set mutexes p (pool_changed m (mutex_changed Release) (part_of mutexes p)))
 ready_freed p m table lines mutexes plain ready = ready_quiet p m Release table lines mutexes tt (λ mutex. refl) plain ready

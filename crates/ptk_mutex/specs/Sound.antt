@@ -11,11 +11,15 @@ use Rattle.ptk_words_model.specs.Condition.{condition_waiters, mutex_of_conditio
 use Rattle.ptk_words_sync_invariant.specs.Conditions.{condition_of_wait, HasRoom}
 use Rattle.ptk_threads.specs.Table.{ThreadTable}
 use Rattle.ptk_syncs.specs.Rosters.{Rostered}
-use Rattle.ptk_mutex.specs.Tables.{locks_at, AreReady}
+use Rattle.ptk_mutex.specs.Tables.{locks_by, AreReadyBy}
 
 -- what the condition calls read and change of a partition (own)
-abbrev pub syncs_at : ℕ → ThreadTable → List (List ℕ) → List (List (Option Mutex)) → List (List (Option Condition)) → Syncs
-syncs_at p table lines mutexes conditions = record { locks = locks_at p table lines mutexes; conditions = part_of conditions p }
+abbrev pub syncs_by : ℕ → ThreadTable → List (List ℕ) → List (List (Option Mutex)) → List (List (Option Condition)) → Syncs
+syncs_by p table lines mutexes conditions = record { locks = locks_by p table lines mutexes; conditions = part_of conditions p }
+
+-- the same of the roster
+abbrev pub syncs_at : ℕ → Rostered → Syncs
+syncs_at p roster = syncs_by p roster.table roster.lines roster.mutexes roster.conditions
 
 -- who waits on condition variable c: a thread whose wait is on it, which is not in the line, and whose re-lock has room (pthread_cond_wait)
 pub record IsOnCondition (locks : Locks) (c k : ℕ) : Type 0 where
@@ -29,14 +33,17 @@ pub record AreWaiting (syncs : Syncs) : Type 0 where
   pub waiters : (c k : ℕ) → is_in k (condition_waiters syncs c) ≡ true → IsOnCondition syncs.locks c k
 
 -- what the condition calls need of the tables at a partition, and what they leave: what the mutex calls need, and waiters that wait (own)
-pub record AreSynced (p : ℕ) (table : ThreadTable) (lines : List (List ℕ)) (mutexes : List (List (Option Mutex))) (conditions : List (List (Option Condition))) : Type 0 where
-  pub ready : AreReady p table lines mutexes
+pub record AreSyncedBy (p : ℕ) (table : ThreadTable) (lines : List (List ℕ)) (mutexes : List (List (Option Mutex))) (conditions : List (List (Option Condition))) : Type 0 where
+  pub ready : AreReadyBy p table lines mutexes
   pub of_conditions : p < length conditions
-  pub waiting : AreWaiting (syncs_at p table lines mutexes conditions)
+  pub waiting : AreWaiting (syncs_by p table lines mutexes conditions)
+
+abbrev pub AreSynced : ℕ → Rostered → Type 0
+AreSynced p roster = AreSyncedBy p roster.table roster.lines roster.mutexes roster.conditions
 
 -- each partition is as all calls need it, and its stored priorities are the effective ones (own)
 pub record IsSound (roster : Rostered) : Type 0 where
-  pub synced : (p : ℕ) → p < length roster.table.threads → AreSynced p roster.table roster.lines roster.mutexes roster.conditions
+  pub synced : (p : ℕ) → p < length roster.table.threads → AreSynced p roster
 
 -- a thread that may begin to wait on a condition variable: it is in use, not in the line, and waits for nothing (pthread_cond_wait)
 pub record IsAwake (locks : Locks) (t : ℕ) : Type 0 where

@@ -7,10 +7,15 @@ use Rattle.ptk_words_model.specs.State.{Mutex, Locks}
 use Rattle.ptk_words_model.specs.Priority.{thread_at, awaited, effective_priorities}
 use Rattle.ptk_words_model.specs.Mutex.{mutex_at, waiters_of, count_of}
 use Rattle.ptk_threads.specs.Table.{ThreadTable}
+use Rattle.ptk_syncs.specs.Rosters.{Rostered}
 
--- what the mutex calls read and change of a partition (own)
-abbrev pub locks_at : ℕ → ThreadTable → List (List ℕ) → List (List (Option Mutex)) → Locks
-locks_at p table lines pool = record { threads = part_of table.threads p; line = part_of lines p; mutexes = part_of pool p }
+-- what the mutex calls read and change of a partition, by the tables of all (own)
+abbrev pub locks_by : ℕ → ThreadTable → List (List ℕ) → List (List (Option Mutex)) → Locks
+locks_by p table lines pool = record { threads = part_of table.threads p; line = part_of lines p; mutexes = part_of pool p }
+
+-- the same of the roster
+abbrev pub locks_at : ℕ → Rostered → Locks
+locks_at p roster = locks_by p roster.table roster.lines roster.mutexes
 
 -- the threads of a partition, with the effective priorities that they then have as the stored ones (pthread_mutexattr_getprotocol)
 abbrev pub with_threads : ℕ → Locks → ThreadTable → ThreadTable
@@ -25,11 +30,14 @@ abbrev pub with_threads_alone : ℕ → Locks → ThreadTable → ThreadTable
 with_threads_alone p locks table = record table { threads = slice_set table.threads p locks.threads }
 
 -- every table has the partition (own)
-pub record HasPart (p : ℕ) (table : ThreadTable) (lines : List (List ℕ)) (pool : List (List (Option Mutex))) : Type 0 where
+pub record HasPartBy (p : ℕ) (table : ThreadTable) (lines : List (List ℕ)) (pool : List (List (Option Mutex))) : Type 0 where
   pub of_threads : p < length table.threads
   pub of_stored : p < length table.stored
   pub of_lines : p < length lines
   pub of_mutexes : p < length pool
+
+abbrev pub HasPart : ℕ → Rostered → Type 0
+HasPart p roster = HasPartBy p roster.table roster.lines roster.mutexes
 
 -- who waits for mutex m: one of its waiters, whose wait names it, and which is not in the line (pthread_mutex_lock)
 pub record IsWaiter (locks : Locks) (m k : ℕ) : Type 0 where
@@ -45,10 +53,13 @@ pub record AreLocked (locks : Locks) : Type 0 where
   pub counts : (m : ℕ) → count_of (mutex_at locks m) ≤ COUNT_LIMIT
 
 -- what the mutex calls need of the tables at a partition, and what they leave: its part is there and used as it should be, and its stored priorities are the effective ones (own)
-pub record AreReady (p : ℕ) (table : ThreadTable) (lines : List (List ℕ)) (pool : List (List (Option Mutex))) : Type 0 where
-  pub part : HasPart p table lines pool
-  pub locked : AreLocked (locks_at p table lines pool)
+pub record AreReadyBy (p : ℕ) (table : ThreadTable) (lines : List (List ℕ)) (pool : List (List (Option Mutex))) : Type 0 where
+  pub part : HasPartBy p table lines pool
+  pub locked : AreLocked (locks_by p table lines pool)
   pub stored : part_of table.stored p ≡ effective_priorities (part_of table.threads p) (part_of pool p)
+
+abbrev pub AreReady : ℕ → Rostered → Type 0
+AreReady p roster = AreReadyBy p roster.table roster.lines roster.mutexes
 
 -- nobody, or one that waits for the mutex (pthread_mutex_unlock)
 abbrev pub MayGet : Option ℕ → Locks → ℕ → Type 0

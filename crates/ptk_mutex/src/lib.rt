@@ -12,7 +12,7 @@
 //!   and `build` gives it.
 //! - `create` adds a thread, and `is_awake` returns whether a thread may make a call that can block, so a caller proves
 //!   nothing.
-//! - `unlock` and `abandon` return the set of threads woken.
+//! - `wake` makes a blocked thread ready; whoever is woken here or in a crate above is woken by it.
 //! - Each call says what it leaves of the number of reads (`visited`): after `lock`, `trylock`, `lock_again`, `relock`
 //!   and a rise by `assign` the number that rose or one more, and 0 after any other.
 //! - `raise`, the walk along a thread's chain after a change that can only raise: it raises each thread, stops at the
@@ -44,5 +44,5 @@ mod walk;
 
 pub use mutexes::Mutexes;
 pub use ptk_mutex_priorities::{MutexSlot, MutexState, effective, reply_of};
-pub use ptk_words_parted::ThreadSet;
 pub use starting::build;
+pub use waking::wake;

@@ -26,6 +26,7 @@ use crate::unlocking::alter;
 use crate::waking::relock_move;
 use ptk_mutex_priorities::{Change, MutexSlot, assigned, slot_in};
 use ptk_syncs::Roster;
+use ptk_threads::ThreadChange;
 use ptk_words::{Errno, MutexNo, PartId, Priority, Soundness, ThreadNo, Tick, Wait};
 use ptk_words_model::LockMove;
 
@@ -44,16 +45,16 @@ impl Mutexes {
         m: MutexNo,
         deadline: Option<Tick>,
     ) -> LockMove
-        requires ready { AreReady p roster.old.table roster.old.lines roster.old.mutexes }
-        requires caller { MayWait (locks_at p roster.old.table roster.old.lines roster.old.mutexes) t }
+        requires ready { AreReady p roster.old }
+        requires caller { MayWait (locks_at p roster.old) t }
         requires free { IsNoWaiter t (part_of roster.old.mutexes p) (part_of roster.old.conditions p) }
-        ensures told { result ≡ lock_move (locks_at p roster.old.table roster.old.lines roster.old.mutexes) t (mutex_at (locks_at p roster.old.table roster.old.lines roster.old.mutexes) m) }
-        ensures threads { roster.new.table ≡ with_threads p (after_lock t m deadline (locks_at p roster.old.table roster.old.lines roster.old.mutexes)) roster.old.table }
+        ensures told { result ≡ lock_move (locks_at p roster.old) t (mutex_at (locks_at p roster.old) m) }
+        ensures threads { roster.new.table ≡ with_threads p (after_lock t m deadline (locks_at p roster.old)) roster.old.table }
         ensures line { roster.new.lines ≡ roster.old.lines }
-        ensures mutexes { roster.new.mutexes ≡ slice_set roster.old.mutexes p (after_lock t m deadline (locks_at p roster.old.table roster.old.lines roster.old.mutexes)).mutexes }
+        ensures mutexes { roster.new.mutexes ≡ slice_set roster.old.mutexes p (after_lock t m deadline (locks_at p roster.old)).mutexes }
         ensures conditions { roster.new.conditions ≡ roster.old.conditions }
         ensures visited { IsVisited self.new.visited (part_of roster.old.table.stored p) (part_of roster.new.table.stored p) }
-        ensures ready { AreReady p roster.new.table roster.new.lines roster.new.mutexes }
+        ensures ready { AreReady p roster.new }
         ensures sound { IsSound roster.old → IsSound roster.new }
     {
         let made = self.lock_move(roster, p, t, m);
@@ -67,16 +68,16 @@ impl Mutexes {
     /// its limit. The line stays.
     #[tactic(auto, using(crate::proofs::Moved::moves))]
     pub fn trylock(&mut self, roster: &mut Roster, p: PartId, t: ThreadNo, m: MutexNo) -> LockMove
-        requires ready { AreReady p roster.old.table roster.old.lines roster.old.mutexes }
-        requires caller { MayWait (locks_at p roster.old.table roster.old.lines roster.old.mutexes) t }
+        requires ready { AreReady p roster.old }
+        requires caller { MayWait (locks_at p roster.old) t }
         requires free { IsNoWaiter t (part_of roster.old.mutexes p) (part_of roster.old.conditions p) }
-        ensures told { result ≡ trylock_move (locks_at p roster.old.table roster.old.lines roster.old.mutexes) t (mutex_at (locks_at p roster.old.table roster.old.lines roster.old.mutexes) m) }
-        ensures threads { roster.new.table ≡ with_threads p (after_trylock t m (locks_at p roster.old.table roster.old.lines roster.old.mutexes)) roster.old.table }
+        ensures told { result ≡ trylock_move (locks_at p roster.old) t (mutex_at (locks_at p roster.old) m) }
+        ensures threads { roster.new.table ≡ with_threads p (after_trylock t m (locks_at p roster.old)) roster.old.table }
         ensures line { roster.new.lines ≡ roster.old.lines }
-        ensures mutexes { roster.new.mutexes ≡ slice_set roster.old.mutexes p (after_trylock t m (locks_at p roster.old.table roster.old.lines roster.old.mutexes)).mutexes }
+        ensures mutexes { roster.new.mutexes ≡ slice_set roster.old.mutexes p (after_trylock t m (locks_at p roster.old)).mutexes }
         ensures conditions { roster.new.conditions ≡ roster.old.conditions }
         ensures visited { IsVisited self.new.visited (part_of roster.old.table.stored p) (part_of roster.new.table.stored p) }
-        ensures ready { AreReady p roster.new.table roster.new.lines roster.new.mutexes }
+        ensures ready { AreReady p roster.new }
         ensures sound { IsSound roster.old → IsSound roster.new }
     {
         let made = trylock_move(roster, p, t, m);
@@ -109,17 +110,17 @@ impl Mutexes {
         m: MutexNo,
         reply: Option<u32>,
     ) -> LockMove
-        requires ready { AreReady p roster.old.table roster.old.lines roster.old.mutexes }
-        requires caller { MayWait (locks_at p roster.old.table roster.old.lines roster.old.mutexes) t }
+        requires ready { AreReady p roster.old }
+        requires caller { MayWait (locks_at p roster.old) t }
         requires free { IsNoWaiter t (part_of roster.old.mutexes p) (part_of roster.old.conditions p) }
-        requires countable { relock_move t (mutex_at (locks_at p roster.old.table roster.old.lines roster.old.mutexes) m) ≡ Counts → count_of (mutex_at (locks_at p roster.old.table roster.old.lines roster.old.mutexes) m) < COUNT_LIMIT }
-        ensures told { result ≡ relock_move t (mutex_at (locks_at p roster.old.table roster.old.lines roster.old.mutexes) m) }
-        ensures threads { roster.new.table ≡ with_threads p (after_move (relock_move t (mutex_at (locks_at p roster.old.table roster.old.lines roster.old.mutexes) m)) t m (RelockWait m reply) (locks_at p roster.old.table roster.old.lines roster.old.mutexes)) roster.old.table }
+        requires countable { relock_move t (mutex_at (locks_at p roster.old) m) ≡ Counts → count_of (mutex_at (locks_at p roster.old) m) < COUNT_LIMIT }
+        ensures told { result ≡ relock_move t (mutex_at (locks_at p roster.old) m) }
+        ensures threads { roster.new.table ≡ with_threads p (after_move (relock_move t (mutex_at (locks_at p roster.old) m)) t m (RelockWait m reply) (locks_at p roster.old)) roster.old.table }
         ensures line { roster.new.lines ≡ roster.old.lines }
-        ensures mutexes { roster.new.mutexes ≡ slice_set roster.old.mutexes p (after_move (relock_move t (mutex_at (locks_at p roster.old.table roster.old.lines roster.old.mutexes) m)) t m (RelockWait m reply) (locks_at p roster.old.table roster.old.lines roster.old.mutexes)).mutexes }
+        ensures mutexes { roster.new.mutexes ≡ slice_set roster.old.mutexes p (after_move (relock_move t (mutex_at (locks_at p roster.old) m)) t m (RelockWait m reply) (locks_at p roster.old)).mutexes }
         ensures conditions { roster.new.conditions ≡ roster.old.conditions }
         ensures visited { IsVisited self.new.visited (part_of roster.old.table.stored p) (part_of roster.new.table.stored p) }
-        ensures ready { AreReady p roster.new.table roster.new.lines roster.new.mutexes }
+        ensures ready { AreReady p roster.new }
         ensures sound { IsSound roster.old → IsSound roster.new }
     {
         let made = relock_move(roster, p, t, m);
@@ -146,13 +147,13 @@ impl Mutexes {
     /// What a mutex guards is sound again (pthread_mutex_consistent).
     #[tactic(auto, using(crate::proofs::Moved::moves))]
     pub fn consistent(&mut self, roster: &mut Roster, p: PartId, m: MutexNo)
-        requires ready { AreReady p roster.old.table roster.old.lines roster.old.mutexes }
-        ensures threads { roster.new.table ≡ with_threads p (with_soundness Consistent m (locks_at p roster.old.table roster.old.lines roster.old.mutexes)) roster.old.table }
+        requires ready { AreReady p roster.old }
+        ensures threads { roster.new.table ≡ with_threads p (with_soundness Consistent m (locks_at p roster.old)) roster.old.table }
         ensures line { roster.new.lines ≡ roster.old.lines }
-        ensures mutexes { roster.new.mutexes ≡ slice_set roster.old.mutexes p (with_soundness Consistent m (locks_at p roster.old.table roster.old.lines roster.old.mutexes)).mutexes }
+        ensures mutexes { roster.new.mutexes ≡ slice_set roster.old.mutexes p (with_soundness Consistent m (locks_at p roster.old)).mutexes }
         ensures conditions { roster.new.conditions ≡ roster.old.conditions }
         ensures visited { self.new.visited ≡ 0 }
-        ensures ready { AreReady p roster.new.table roster.new.lines roster.new.mutexes }
+        ensures ready { AreReady p roster.new }
         ensures sound { IsSound roster.old → IsSound roster.new }
     {
         self.visited = 0;
@@ -163,14 +164,14 @@ impl Mutexes {
     /// A thread has this assigned priority (pthread_setschedprio).
     #[tactic(auto, using(crate::proofs::Moved::moves))]
     pub fn assign(&mut self, roster: &mut Roster, p: PartId, t: ThreadNo, priority: Priority)
-        requires ready { AreReady p roster.old.table roster.old.lines roster.old.mutexes }
-        ensures threads { roster.new.table ≡ with_threads p (after_assignment t priority (locks_at p roster.old.table roster.old.lines roster.old.mutexes)) roster.old.table }
+        requires ready { AreReady p roster.old }
+        ensures threads { roster.new.table ≡ with_threads p (after_assignment t priority (locks_at p roster.old)) roster.old.table }
         ensures line { roster.new.lines ≡ roster.old.lines }
         ensures mutexes { roster.new.mutexes ≡ roster.old.mutexes }
         ensures conditions { roster.new.conditions ≡ roster.old.conditions }
         ensures visited { assigned_of (part_of roster.old.table.threads p) t ≤ priority → IsVisited self.new.visited (part_of roster.old.table.stored p) (part_of roster.new.table.stored p) }
         ensures fallen { priority < assigned_of (part_of roster.old.table.threads p) t → self.new.visited ≡ 0 }
-        ensures ready { AreReady p roster.new.table roster.new.lines roster.new.mutexes }
+        ensures ready { AreReady p roster.new }
         ensures sound { IsSound roster.old → IsSound roster.new }
     {
         self.visited = reassign(roster, p, t, priority);
@@ -181,8 +182,8 @@ impl Mutexes {
 /// priorities the walk of a rise read; 0 after a fall.
 #[tactic(auto, using(crate::proofs::Moved::moves))]
 fn reassign(roster: &mut Roster, p: PartId, t: ThreadNo, priority: Priority) -> u32
-    requires ready { AreReady p roster.old.table roster.old.lines roster.old.mutexes }
-    ensures threads { roster.new.table ≡ with_threads p (after_assignment t priority (locks_at p roster.old.table roster.old.lines roster.old.mutexes)) roster.old.table }
+    requires ready { AreReady p roster.old }
+    ensures threads { roster.new.table ≡ with_threads p (after_assignment t priority (locks_at p roster.old)) roster.old.table }
     ensures line { roster.new.lines ≡ roster.old.lines }
     ensures mutexes { roster.new.mutexes ≡ roster.old.mutexes }
     ensures conditions { roster.new.conditions ≡ roster.old.conditions }
@@ -191,7 +192,7 @@ fn reassign(roster: &mut Roster, p: PartId, t: ThreadNo, priority: Priority) -> 
     ensures few { result ≤ THREAD_LIMIT + 1 }
 {
     let before = assigned(roster.threads().part(p), t);
-    roster.set_assigned_priority(p, t, priority);
+    roster.change(p, t, ThreadChange::AssignedPriority(priority));
     if priority.level() < before {
         refresh_priorities(roster, p);
         return 0;

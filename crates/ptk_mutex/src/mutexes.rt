@@ -67,7 +67,7 @@ impl Mutexes {
         ensures told { result ≡ least_free (part_of roster.old.mutexes p) }
         ensures roster { roster.new ≡ record roster.old { mutexes = slice_set roster.old.mutexes p (with_new_mutex (new_mutex kind protocol is_robust) (part_of roster.old.mutexes p)) } }
         ensures visited { self.new.visited ≡ 0 }
-        ensures ready { AreReady p roster.old.table roster.old.lines roster.old.mutexes → AreReady p roster.new.table roster.new.lines roster.new.mutexes }
+        ensures ready { AreReady p roster.old → AreReady p roster.new }
         ensures sound { IsSound roster.old → IsSound roster.new }
     {
         self.visited = 0;
@@ -80,7 +80,7 @@ impl Mutexes {
         requires unused { waiters_of (pool_get (part_of roster.old.mutexes p) m) ≡ [] }
         ensures roster { roster.new ≡ record roster.old { mutexes = slice_set roster.old.mutexes p (pool_set (part_of roster.old.mutexes p) m None) } }
         ensures visited { self.new.visited ≡ 0 }
-        ensures ready { is_locked (pool_get (part_of roster.old.mutexes p) m) ≡ false → AreReady p roster.old.table roster.old.lines roster.old.mutexes → AreReady p roster.new.table roster.new.lines roster.new.mutexes }
+        ensures ready { is_locked (pool_get (part_of roster.old.mutexes p) m) ≡ false → AreReady p roster.old → AreReady p roster.new }
         ensures sound { is_locked (pool_get (part_of roster.old.mutexes p) m) ≡ false → IsSound roster.old → IsSound roster.new }
     {
         self.visited = 0;

@@ -52,7 +52,7 @@ impl Mutexes {
         requires { p < length roster.old.table.threads }
         ensures roster { roster.new ≡ record roster.old { mutexes = slice_set roster.old.mutexes p (after_take t m (locks_of (part_of roster.old.table.threads p) (part_of roster.old.mutexes p))).mutexes } }
         ensures visited { self.new.visited ≡ 0 }
-        ensures ready { is_raising_at (pool_get (part_of roster.old.mutexes p) m) ≡ false → AreReady p roster.old.table roster.old.lines roster.old.mutexes → AreReady p roster.new.table roster.new.lines roster.new.mutexes }
+        ensures ready { is_raising_at (pool_get (part_of roster.old.mutexes p) m) ≡ false → AreReady p roster.old → AreReady p roster.new }
         ensures sound { is_raising_at (pool_get (part_of roster.old.mutexes p) m) ≡ false → IsSound roster.old → IsSound roster.new }
     {
         self.visited = 0;
@@ -66,7 +66,7 @@ impl Mutexes {
         requires { p < length roster.old.table.threads }
         ensures roster { roster.new ≡ record roster.old { mutexes = slice_set roster.old.mutexes p (after_free m (locks_of (part_of roster.old.table.threads p) (part_of roster.old.mutexes p))).mutexes } }
         ensures visited { self.new.visited ≡ 0 }
-        ensures ready { is_raising_at (pool_get (part_of roster.old.mutexes p) m) ≡ false → AreReady p roster.old.table roster.old.lines roster.old.mutexes → AreReady p roster.new.table roster.new.lines roster.new.mutexes }
+        ensures ready { is_raising_at (pool_get (part_of roster.old.mutexes p) m) ≡ false → AreReady p roster.old → AreReady p roster.new }
         ensures sound { is_raising_at (pool_get (part_of roster.old.mutexes p) m) ≡ false → IsSound roster.old → IsSound roster.new }
     {
         self.visited = 0;

@@ -17,6 +17,7 @@ ghost use Rattle.ptk_mutex.specs.Rises.{IsFree, MayTake};
 use crate::rise::{Rise, raise};
 use ptk_mutex_priorities::Change;
 use ptk_syncs::Roster;
+use ptk_threads::ThreadChange;
 use ptk_words::{MutexNo, PartId, ThreadNo, Wait};
 use ptk_words_model::LockMove;
 
@@ -30,14 +31,14 @@ pub(crate) fn make(
     wait: Wait,
     made: LockMove,
 ) -> u32
-    requires ready { AreReady p roster.old.table roster.old.lines roster.old.mutexes }
-    requires caller { MayWait (locks_at p roster.old.table roster.old.lines roster.old.mutexes) t }
+    requires ready { AreReady p roster.old }
+    requires caller { MayWait (locks_at p roster.old) t }
     requires free { IsNoWaiter t (part_of roster.old.mutexes p) (part_of roster.old.conditions p) }
     requires named { mutex_of_wait (Some wait) ≡ Some m }
     requires takes { MayTake made (pool_get (part_of roster.old.mutexes p) m) }
-    ensures threads { roster.new.table ≡ with_threads p (after_move made t m wait (locks_at p roster.old.table roster.old.lines roster.old.mutexes)) roster.old.table }
+    ensures threads { roster.new.table ≡ with_threads p (after_move made t m wait (locks_at p roster.old)) roster.old.table }
     ensures line { roster.new.lines ≡ roster.old.lines }
-    ensures mutexes { roster.new.mutexes ≡ slice_set roster.old.mutexes p (after_move made t m wait (locks_at p roster.old.table roster.old.lines roster.old.mutexes)).mutexes }
+    ensures mutexes { roster.new.mutexes ≡ slice_set roster.old.mutexes p (after_move made t m wait (locks_at p roster.old)).mutexes }
     ensures conditions { roster.new.conditions ≡ roster.old.conditions }
     ensures visited { IsVisited result (part_of roster.old.table.stored p) (part_of roster.new.table.stored p) }
     ensures few { result ≤ THREAD_LIMIT + 1 }
@@ -53,12 +54,12 @@ pub(crate) fn make(
 /// A thread has locked a free mutex.
 #[tactic(auto, using(crate::proofs::Moved::moves))]
 fn take(roster: &mut Roster, p: PartId, t: ThreadNo, m: MutexNo) -> u32
-    requires ready { AreReady p roster.old.table roster.old.lines roster.old.mutexes }
+    requires ready { AreReady p roster.old }
     requires used { IsSome (thread_in roster.old.table p t) }
     requires free { IsFree (pool_get (part_of roster.old.mutexes p) m) }
-    ensures threads { roster.new.table ≡ with_threads p (after_take t m (locks_at p roster.old.table roster.old.lines roster.old.mutexes)) roster.old.table }
+    ensures threads { roster.new.table ≡ with_threads p (after_take t m (locks_at p roster.old)) roster.old.table }
     ensures line { roster.new.lines ≡ roster.old.lines }
-    ensures mutexes { roster.new.mutexes ≡ slice_set roster.old.mutexes p (after_take t m (locks_at p roster.old.table roster.old.lines roster.old.mutexes)).mutexes }
+    ensures mutexes { roster.new.mutexes ≡ slice_set roster.old.mutexes p (after_take t m (locks_at p roster.old)).mutexes }
     ensures conditions { roster.new.conditions ≡ roster.old.conditions }
     ensures visited { IsVisited result (part_of roster.old.table.stored p) (part_of roster.new.table.stored p) }
     ensures few { result ≤ THREAD_LIMIT + 1 }
@@ -70,10 +71,10 @@ fn take(roster: &mut Roster, p: PartId, t: ThreadNo, m: MutexNo) -> u32
 /// The owner of a mutex has locked it once more, which raises nobody.
 #[tactic(auto, using(crate::proofs::Moved::moves))]
 fn count_up(roster: &mut Roster, p: PartId, m: MutexNo) -> u32
-    requires ready { AreReady p roster.old.table roster.old.lines roster.old.mutexes }
-    ensures threads { roster.new.table ≡ with_threads p (after_count m (locks_at p roster.old.table roster.old.lines roster.old.mutexes)) roster.old.table }
+    requires ready { AreReady p roster.old }
+    ensures threads { roster.new.table ≡ with_threads p (after_count m (locks_at p roster.old)) roster.old.table }
     ensures line { roster.new.lines ≡ roster.old.lines }
-    ensures mutexes { roster.new.mutexes ≡ slice_set roster.old.mutexes p (after_count m (locks_at p roster.old.table roster.old.lines roster.old.mutexes)).mutexes }
+    ensures mutexes { roster.new.mutexes ≡ slice_set roster.old.mutexes p (after_count m (locks_at p roster.old)).mutexes }
     ensures conditions { roster.new.conditions ≡ roster.old.conditions }
     ensures visited { IsVisited result (part_of roster.old.table.stored p) (part_of roster.new.table.stored p) }
     ensures few { result ≤ THREAD_LIMIT + 1 }
@@ -85,17 +86,17 @@ fn count_up(roster: &mut Roster, p: PartId, m: MutexNo) -> u32
 /// A thread that waited for no mutex waits for one, as its last waiter.
 #[tactic(auto, using(crate::proofs::Moved::moves))]
 fn block(roster: &mut Roster, p: PartId, t: ThreadNo, m: MutexNo, wait: Wait) -> u32
-    requires ready { AreReady p roster.old.table roster.old.lines roster.old.mutexes }
-    requires caller { MayWait (locks_at p roster.old.table roster.old.lines roster.old.mutexes) t }
+    requires ready { AreReady p roster.old }
+    requires caller { MayWait (locks_at p roster.old) t }
     requires free { IsNoWaiter t (part_of roster.old.mutexes p) (part_of roster.old.conditions p) }
-    ensures threads { roster.new.table ≡ with_threads p (after_wait t m wait (locks_at p roster.old.table roster.old.lines roster.old.mutexes)) roster.old.table }
+    ensures threads { roster.new.table ≡ with_threads p (after_wait t m wait (locks_at p roster.old)) roster.old.table }
     ensures line { roster.new.lines ≡ roster.old.lines }
-    ensures mutexes { roster.new.mutexes ≡ slice_set roster.old.mutexes p (after_wait t m wait (locks_at p roster.old.table roster.old.lines roster.old.mutexes)).mutexes }
+    ensures mutexes { roster.new.mutexes ≡ slice_set roster.old.mutexes p (after_wait t m wait (locks_at p roster.old)).mutexes }
     ensures conditions { roster.new.conditions ≡ roster.old.conditions }
     ensures visited { IsVisited result (part_of roster.old.table.stored p) (part_of roster.new.table.stored p) }
     ensures few { result ≤ THREAD_LIMIT + 1 }
 {
     roster.await_mutex(p, m, t);
-    roster.set_wait(p, t, Some(wait));
+    roster.change(p, t, ThreadChange::Wait(Some(wait)));
     raise(roster, p, Rise::Wait(t))
 }

@@ -44,7 +44,7 @@ impl Mutexes {
     pub fn create(&mut self, roster: &mut Roster, p: PartId, thread: Thread) -> Option<ThreadNo>
         requires { p < length roster.old.table.threads }
         ensures told { result ≡ least_free (part_of roster.old.table.threads p) }
-        ensures threads { roster.new.table ≡ with_threads p (after_creation thread (locks_at p roster.old.table roster.old.lines roster.old.mutexes)) roster.old.table }
+        ensures threads { roster.new.table ≡ with_threads p (after_creation thread (locks_at p roster.old)) roster.old.table }
         ensures line { roster.new.lines ≡ roster.old.lines }
         ensures mutexes { roster.new.mutexes ≡ roster.old.mutexes }
         ensures conditions { roster.new.conditions ≡ roster.old.conditions }
@@ -62,9 +62,9 @@ impl Mutexes {
     #[tactic(auto, using(crate::proofs::Awake::tests))]
     pub fn is_awake(&self, roster: &Roster, p: PartId, t: ThreadNo) -> bool
         requires { p < length roster.now.table.threads }
-        ensures told { result ≡ is_awake (locks_at p roster.now.table roster.now.lines roster.now.mutexes) t }
-        ensures awake { result ≡ true → IsAwake (locks_at p roster.now.table roster.now.lines roster.now.mutexes) t }
-        ensures caller { result ≡ true → MayWait (locks_at p roster.now.table roster.now.lines roster.now.mutexes) t }
+        ensures told { result ≡ is_awake (locks_at p roster.now) t }
+        ensures awake { result ≡ true → IsAwake (locks_at p roster.now) t }
+        ensures caller { result ≡ true → MayWait (locks_at p roster.now) t }
         ensures free { IsSound roster.now → result ≡ true → IsNoWaiter t (part_of roster.now.mutexes p) (part_of roster.now.conditions p) }
     {
         is_idle(&roster.threads().thread(p, t)) && !roster.contains(p, t)

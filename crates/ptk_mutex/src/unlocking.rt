@@ -3,9 +3,7 @@
 ghost use Rattle.std.specs.Prelude.{◌≡◌, ◌<◌, length, slice_set};
 ghost use Rattle.ptk_words.specs.Pools.{pool_get};
 ghost use Rattle.ptk_words_parted.specs.Parts.{part_of};
-ghost use Rattle.ptk_words_model.specs.Mutex.{heir, waiters_of, soundness_of, count_of, after_hand_over, after_hand_over_to, after_refusal, after_refusal_to, after_refusals, after_loss, after_last_unlock, after_unlock};
-ghost use Rattle.ptk_words_sync_invariant.specs.Deadlines.{woken_by_last_unlock, woken_by_unlock};
-ghost use Rattle.ptk_words_parted.specs.Sets.{IsSetOf};
+ghost use Rattle.ptk_words_model.specs.Mutex.{heir, soundness_of, count_of, after_hand_over, after_hand_over_to, after_refusal, after_refusal_to, after_refusals, after_loss, after_last_unlock, after_unlock};
 ghost use Rattle.ptk_mutex_priorities.specs.Changes.{SlotMayChange, IsQuiet};
 ghost use Rattle.ptk_mutex.specs.Sound.{IsSound};
 ghost use Rattle.ptk_mutex.specs.Tables.{locks_at, with_threads, with_threads_alone, HasPart, MayGet, AreReady};
@@ -17,92 +15,83 @@ use ptk_mutex_priorities::{Change, free_move, slot_in};
 use ptk_syncs::Roster;
 use ptk_words::{Errno, MutexNo, PartId, Soundness, ThreadNo};
 use ptk_words_model::LockMove;
-use ptk_words_parted::ThreadSet;
 
 impl Mutexes {
     /// An owner unlocks its mutex once; who owns it is the caller's to test (`owns`). The last unlock hands it over to
     /// the waiter of greatest effective priority, the earliest among equals, who is woken; but a mutex that was not
     /// made consistent is lost, and every waiter is woken with the reply ENOTRECOVERABLE (pthread_mutex_unlock,
-    /// pthread_mutex_consistent). Returns the set of threads woken.
-    pub fn unlock(&mut self, roster: &mut Roster, p: PartId, m: MutexNo) -> ThreadSet
-        requires ready { AreReady p roster.old.table roster.old.lines roster.old.mutexes }
-        ensures woken { IsSetOf result (woken_by_unlock m (locks_at p roster.old.table roster.old.lines roster.old.mutexes)) }
-        ensures threads { roster.new.table ≡ with_threads p (after_unlock m (locks_at p roster.old.table roster.old.lines roster.old.mutexes)) roster.old.table }
-        ensures line { roster.new.lines ≡ slice_set roster.old.lines p (after_unlock m (locks_at p roster.old.table roster.old.lines roster.old.mutexes)).line }
-        ensures mutexes { roster.new.mutexes ≡ slice_set roster.old.mutexes p (after_unlock m (locks_at p roster.old.table roster.old.lines roster.old.mutexes)).mutexes }
+    /// pthread_mutex_consistent).
+    pub fn unlock(&mut self, roster: &mut Roster, p: PartId, m: MutexNo)
+        requires ready { AreReady p roster.old }
+        ensures threads { roster.new.table ≡ with_threads p (after_unlock m (locks_at p roster.old)) roster.old.table }
+        ensures line { roster.new.lines ≡ slice_set roster.old.lines p (after_unlock m (locks_at p roster.old)).line }
+        ensures mutexes { roster.new.mutexes ≡ slice_set roster.old.mutexes p (after_unlock m (locks_at p roster.old)).mutexes }
         ensures conditions { roster.new.conditions ≡ roster.old.conditions }
         ensures visited { self.new.visited ≡ 0 }
-        ensures ready { AreReady p roster.new.table roster.new.lines roster.new.mutexes }
+        ensures ready { AreReady p roster.new }
         ensures sound { IsSound roster.old → IsSound roster.new }
     {
         self.visited = 0;
-        unlock_once(roster, p, m)
+        unlock_once(roster, p, m);
     }
 }
 
-/// A count above 1 goes down by 1, else this is the last unlock. Returns the set of threads woken.
-#[tactic(auto, using(crate::proofs::Moved::moves, crate::proofs::Woken::unlocks))]
-fn unlock_once(roster: &mut Roster, p: PartId, m: MutexNo) -> ThreadSet
-    requires ready { AreReady p roster.old.table roster.old.lines roster.old.mutexes }
-    ensures woken { IsSetOf result (woken_by_unlock m (locks_at p roster.old.table roster.old.lines roster.old.mutexes)) }
-    ensures threads { roster.new.table ≡ with_threads p (after_unlock m (locks_at p roster.old.table roster.old.lines roster.old.mutexes)) roster.old.table }
-    ensures line { roster.new.lines ≡ slice_set roster.old.lines p (after_unlock m (locks_at p roster.old.table roster.old.lines roster.old.mutexes)).line }
-    ensures mutexes { roster.new.mutexes ≡ slice_set roster.old.mutexes p (after_unlock m (locks_at p roster.old.table roster.old.lines roster.old.mutexes)).mutexes }
+/// A count above 1 goes down by 1, else this is the last unlock.
+#[tactic(auto, using(crate::proofs::Moved::moves))]
+fn unlock_once(roster: &mut Roster, p: PartId, m: MutexNo)
+    requires ready { AreReady p roster.old }
+    ensures threads { roster.new.table ≡ with_threads p (after_unlock m (locks_at p roster.old)) roster.old.table }
+    ensures line { roster.new.lines ≡ slice_set roster.old.lines p (after_unlock m (locks_at p roster.old)).line }
+    ensures mutexes { roster.new.mutexes ≡ slice_set roster.old.mutexes p (after_unlock m (locks_at p roster.old)).mutexes }
     ensures conditions { roster.new.conditions ≡ roster.old.conditions }
-    ensures ready { AreReady p roster.new.table roster.new.lines roster.new.mutexes }
+    ensures ready { AreReady p roster.new }
 {
     if count(roster, p, m) > 1 {
         alter(roster, p, m, Change::CountDown);
-        ThreadSet::empty()
     } else {
-        unlock_last(roster, p, m)
+        unlock_last(roster, p, m);
     }
 }
 
-/// The last unlock, by what the mutex guards. Returns the set of threads woken.
-#[tactic(auto, using(crate::proofs::Moved::moves, crate::proofs::Woken::unlocks))]
-fn unlock_last(roster: &mut Roster, p: PartId, m: MutexNo) -> ThreadSet
-    requires ready { AreReady p roster.old.table roster.old.lines roster.old.mutexes }
-    ensures woken { IsSetOf result (woken_by_last_unlock (soundness_of (pool_get (part_of roster.old.mutexes p) m)) m (locks_at p roster.old.table roster.old.lines roster.old.mutexes)) }
-    ensures threads { roster.new.table ≡ with_threads p (after_last_unlock (soundness_of (pool_get (part_of roster.old.mutexes p) m)) m (locks_at p roster.old.table roster.old.lines roster.old.mutexes)) roster.old.table }
-    ensures line { roster.new.lines ≡ slice_set roster.old.lines p (after_last_unlock (soundness_of (pool_get (part_of roster.old.mutexes p) m)) m (locks_at p roster.old.table roster.old.lines roster.old.mutexes)).line }
-    ensures mutexes { roster.new.mutexes ≡ slice_set roster.old.mutexes p (after_last_unlock (soundness_of (pool_get (part_of roster.old.mutexes p) m)) m (locks_at p roster.old.table roster.old.lines roster.old.mutexes)).mutexes }
+/// The last unlock, by what the mutex guards.
+#[tactic(auto, using(crate::proofs::Moved::moves))]
+fn unlock_last(roster: &mut Roster, p: PartId, m: MutexNo)
+    requires ready { AreReady p roster.old }
+    ensures threads { roster.new.table ≡ with_threads p (after_last_unlock (soundness_of (pool_get (part_of roster.old.mutexes p) m)) m (locks_at p roster.old)) roster.old.table }
+    ensures line { roster.new.lines ≡ slice_set roster.old.lines p (after_last_unlock (soundness_of (pool_get (part_of roster.old.mutexes p) m)) m (locks_at p roster.old)).line }
+    ensures mutexes { roster.new.mutexes ≡ slice_set roster.old.mutexes p (after_last_unlock (soundness_of (pool_get (part_of roster.old.mutexes p) m)) m (locks_at p roster.old)).mutexes }
     ensures conditions { roster.new.conditions ≡ roster.old.conditions }
-    ensures ready { AreReady p roster.new.table roster.new.lines roster.new.mutexes }
+    ensures ready { AreReady p roster.new }
 {
     match soundness(roster, p, m) {
-        Soundness::Consistent => ThreadSet::of_option(hand_over(roster, p, m)),
+        Soundness::Consistent => hand_over(roster, p, m),
         Soundness::Inconsistent | Soundness::Unrecoverable => lose(roster, p, m),
     }
 }
 
-/// The mutex is free for good, and every waiter leaves without it. Returns the set of these.
-fn lose(roster: &mut Roster, p: PartId, m: MutexNo) -> ThreadSet
-    requires ready { AreReady p roster.old.table roster.old.lines roster.old.mutexes }
-    ensures woken { IsSetOf result (waiters_of (pool_get (part_of roster.old.mutexes p) m)) }
-    ensures threads { roster.new.table ≡ with_threads p (after_loss m (locks_at p roster.old.table roster.old.lines roster.old.mutexes)) roster.old.table }
-    ensures line { roster.new.lines ≡ slice_set roster.old.lines p (after_loss m (locks_at p roster.old.table roster.old.lines roster.old.mutexes)).line }
-    ensures mutexes { roster.new.mutexes ≡ slice_set roster.old.mutexes p (after_loss m (locks_at p roster.old.table roster.old.lines roster.old.mutexes)).mutexes }
+/// The mutex is free for good, and every waiter leaves without it.
+fn lose(roster: &mut Roster, p: PartId, m: MutexNo)
+    requires ready { AreReady p roster.old }
+    ensures threads { roster.new.table ≡ with_threads p (after_loss m (locks_at p roster.old)) roster.old.table }
+    ensures line { roster.new.lines ≡ slice_set roster.old.lines p (after_loss m (locks_at p roster.old)).line }
+    ensures mutexes { roster.new.mutexes ≡ slice_set roster.old.mutexes p (after_loss m (locks_at p roster.old)).mutexes }
     ensures conditions { roster.new.conditions ≡ roster.old.conditions }
-    ensures ready { AreReady p roster.new.table roster.new.lines roster.new.mutexes }
+    ensures ready { AreReady p roster.new }
 {
-    let waiters = roster.mutex_waiters(p, m);
-    let woken = ThreadSet::of_all(waiters.as_slice());
     alter(roster, p, m, Change::Release);
     let lost = Change::Mark(Soundness::Unrecoverable);
     alter(roster, p, m, lost);
     refuse_all(roster, p, m);
-    woken
 }
 
 /// Every waiter leaves without the mutex, each choice in the state that the one before left.
 fn refuse_all(roster: &mut Roster, p: PartId, m: MutexNo)
-    requires ready { AreReady p roster.old.table roster.old.lines roster.old.mutexes }
-    ensures threads { roster.new.table ≡ with_threads p (after_refusals m (locks_at p roster.old.table roster.old.lines roster.old.mutexes)) roster.old.table }
-    ensures line { roster.new.lines ≡ slice_set roster.old.lines p (after_refusals m (locks_at p roster.old.table roster.old.lines roster.old.mutexes)).line }
-    ensures mutexes { roster.new.mutexes ≡ slice_set roster.old.mutexes p (after_refusals m (locks_at p roster.old.table roster.old.lines roster.old.mutexes)).mutexes }
+    requires ready { AreReady p roster.old }
+    ensures threads { roster.new.table ≡ with_threads p (after_refusals m (locks_at p roster.old)) roster.old.table }
+    ensures line { roster.new.lines ≡ slice_set roster.old.lines p (after_refusals m (locks_at p roster.old)).line }
+    ensures mutexes { roster.new.mutexes ≡ slice_set roster.old.mutexes p (after_refusals m (locks_at p roster.old)).mutexes }
     ensures conditions { roster.new.conditions ≡ roster.old.conditions }
-    ensures ready { AreReady p roster.new.table roster.new.lines roster.new.mutexes }
+    ensures ready { AreReady p roster.new }
 {
     let waiters = roster.mutex_waiters(p, m);
     let count = waiters.as_slice().len();
@@ -112,33 +101,29 @@ fn refuse_all(roster: &mut Roster, p: PartId, m: MutexNo)
 }
 
 /// The mutex goes to the waiter of greatest effective priority, the earliest among equals; without one it is free.
-/// Returns that waiter.
 #[tactic(auto, using(crate::proofs::Moved::moves))]
-pub(crate) fn hand_over(roster: &mut Roster, p: PartId, m: MutexNo) -> Option<ThreadNo>
-    requires ready { AreReady p roster.old.table roster.old.lines roster.old.mutexes }
-    ensures told { result ≡ heir m (locks_at p roster.old.table roster.old.lines roster.old.mutexes) }
-    ensures threads { roster.new.table ≡ with_threads p (after_hand_over m (locks_at p roster.old.table roster.old.lines roster.old.mutexes)) roster.old.table }
-    ensures line { roster.new.lines ≡ slice_set roster.old.lines p (after_hand_over m (locks_at p roster.old.table roster.old.lines roster.old.mutexes)).line }
-    ensures mutexes { roster.new.mutexes ≡ slice_set roster.old.mutexes p (after_hand_over m (locks_at p roster.old.table roster.old.lines roster.old.mutexes)).mutexes }
+pub(crate) fn hand_over(roster: &mut Roster, p: PartId, m: MutexNo)
+    requires ready { AreReady p roster.old }
+    ensures threads { roster.new.table ≡ with_threads p (after_hand_over m (locks_at p roster.old)) roster.old.table }
+    ensures line { roster.new.lines ≡ slice_set roster.old.lines p (after_hand_over m (locks_at p roster.old)).line }
+    ensures mutexes { roster.new.mutexes ≡ slice_set roster.old.mutexes p (after_hand_over m (locks_at p roster.old)).mutexes }
     ensures conditions { roster.new.conditions ≡ roster.old.conditions }
-    ensures ready { AreReady p roster.new.table roster.new.lines roster.new.mutexes }
+    ensures ready { AreReady p roster.new }
 {
     let next = choose(roster, p, m);
-    let heir = hand_to(roster, p, m, next);
+    hand_to(roster, p, m, next);
     refresh_priorities(roster, p);
-    heir
 }
 
 /// The mutex goes to a waiter, with its reply (EOWNERDEAD after a dead owner), or to nobody; the stored priorities
-/// stay. Returns that waiter.
+/// stay.
 #[tactic(auto, using(crate::proofs::Moved::moves))]
-fn hand_to(roster: &mut Roster, p: PartId, m: MutexNo, next: Option<ThreadNo>) -> Option<ThreadNo>
-    requires part { HasPart p roster.old.table roster.old.lines roster.old.mutexes }
-    requires may { MayGet next (locks_at p roster.old.table roster.old.lines roster.old.mutexes) m }
-    ensures told { result ≡ next }
-    ensures threads { roster.new.table ≡ with_threads_alone p (after_hand_over_to next m (locks_at p roster.old.table roster.old.lines roster.old.mutexes)) roster.old.table }
-    ensures line { roster.new.lines ≡ slice_set roster.old.lines p (after_hand_over_to next m (locks_at p roster.old.table roster.old.lines roster.old.mutexes)).line }
-    ensures mutexes { roster.new.mutexes ≡ slice_set roster.old.mutexes p (after_hand_over_to next m (locks_at p roster.old.table roster.old.lines roster.old.mutexes)).mutexes }
+fn hand_to(roster: &mut Roster, p: PartId, m: MutexNo, next: Option<ThreadNo>)
+    requires part { HasPart p roster.old }
+    requires may { MayGet next (locks_at p roster.old) m }
+    ensures threads { roster.new.table ≡ with_threads_alone p (after_hand_over_to next m (locks_at p roster.old)) roster.old.table }
+    ensures line { roster.new.lines ≡ slice_set roster.old.lines p (after_hand_over_to next m (locks_at p roster.old)).line }
+    ensures mutexes { roster.new.mutexes ≡ slice_set roster.old.mutexes p (after_hand_over_to next m (locks_at p roster.old)).mutexes }
     ensures conditions { roster.new.conditions ≡ roster.old.conditions }
 {
     match next {
@@ -146,24 +131,20 @@ fn hand_to(roster: &mut Roster, p: PartId, m: MutexNo, next: Option<ThreadNo>) -
             let made = free_move(soundness(roster, p, m));
             roster.change_mutex(p, m, Change::Take(t));
             leave(roster, p, t, m, made);
-            Some(t)
         }
-        None => {
-            roster.change_mutex(p, m, Change::Release);
-            None
-        }
+        None => roster.change_mutex(p, m, Change::Release),
     }
 }
 
 /// The waiter of greatest effective priority, the earliest among equals, leaves without the mutex.
 #[tactic(auto, using(crate::proofs::Moved::moves))]
 fn refuse_next(roster: &mut Roster, p: PartId, m: MutexNo)
-    requires ready { AreReady p roster.old.table roster.old.lines roster.old.mutexes }
-    ensures threads { roster.new.table ≡ with_threads p (after_refusal m (locks_at p roster.old.table roster.old.lines roster.old.mutexes)) roster.old.table }
-    ensures line { roster.new.lines ≡ slice_set roster.old.lines p (after_refusal m (locks_at p roster.old.table roster.old.lines roster.old.mutexes)).line }
-    ensures mutexes { roster.new.mutexes ≡ slice_set roster.old.mutexes p (after_refusal m (locks_at p roster.old.table roster.old.lines roster.old.mutexes)).mutexes }
+    requires ready { AreReady p roster.old }
+    ensures threads { roster.new.table ≡ with_threads p (after_refusal m (locks_at p roster.old)) roster.old.table }
+    ensures line { roster.new.lines ≡ slice_set roster.old.lines p (after_refusal m (locks_at p roster.old)).line }
+    ensures mutexes { roster.new.mutexes ≡ slice_set roster.old.mutexes p (after_refusal m (locks_at p roster.old)).mutexes }
     ensures conditions { roster.new.conditions ≡ roster.old.conditions }
-    ensures ready { AreReady p roster.new.table roster.new.lines roster.new.mutexes }
+    ensures ready { AreReady p roster.new }
 {
     let next = choose(roster, p, m);
     refuse_to(roster, p, m, next);
@@ -173,11 +154,11 @@ fn refuse_next(roster: &mut Roster, p: PartId, m: MutexNo)
 /// A waiter, if there is one, leaves without the mutex; the stored priorities stay.
 #[tactic(auto, using(crate::proofs::Moved::moves))]
 fn refuse_to(roster: &mut Roster, p: PartId, m: MutexNo, next: Option<ThreadNo>)
-    requires part { HasPart p roster.old.table roster.old.lines roster.old.mutexes }
-    requires may { MayGet next (locks_at p roster.old.table roster.old.lines roster.old.mutexes) m }
-    ensures threads { roster.new.table ≡ with_threads_alone p (after_refusal_to next m (locks_at p roster.old.table roster.old.lines roster.old.mutexes)) roster.old.table }
-    ensures line { roster.new.lines ≡ slice_set roster.old.lines p (after_refusal_to next m (locks_at p roster.old.table roster.old.lines roster.old.mutexes)).line }
-    ensures mutexes { roster.new.mutexes ≡ slice_set roster.old.mutexes p (after_refusal_to next m (locks_at p roster.old.table roster.old.lines roster.old.mutexes)).mutexes }
+    requires part { HasPart p roster.old }
+    requires may { MayGet next (locks_at p roster.old) m }
+    ensures threads { roster.new.table ≡ with_threads_alone p (after_refusal_to next m (locks_at p roster.old)) roster.old.table }
+    ensures line { roster.new.lines ≡ slice_set roster.old.lines p (after_refusal_to next m (locks_at p roster.old)).line }
+    ensures mutexes { roster.new.mutexes ≡ slice_set roster.old.mutexes p (after_refusal_to next m (locks_at p roster.old)).mutexes }
     ensures conditions { roster.new.conditions ≡ roster.old.conditions }
 {
     match next {
@@ -192,9 +173,9 @@ fn refuse_to(roster: &mut Roster, p: PartId, m: MutexNo, next: Option<ThreadNo>)
 /// The first waiter of the greatest effective priority, None without waiters.
 #[tactic(auto, using(crate::proofs::Moved::choices))]
 fn choose(roster: &Roster, p: PartId, m: MutexNo) -> Option<ThreadNo>
-    requires ready { AreReady p roster.now.table roster.now.lines roster.now.mutexes }
-    ensures told { result ≡ heir m (locks_at p roster.now.table roster.now.lines roster.now.mutexes) }
-    ensures may { MayGet result (locks_at p roster.now.table roster.now.lines roster.now.mutexes) m }
+    requires ready { AreReady p roster.now }
+    ensures told { result ≡ heir m (locks_at p roster.now) }
+    ensures may { MayGet result (locks_at p roster.now) m }
 {
     let waiters = roster.mutex_waiters(p, m);
     roster.first_among(p, waiters.as_slice())
@@ -203,14 +184,14 @@ fn choose(roster: &Roster, p: PartId, m: MutexNo) -> Option<ThreadNo>
 /// A quiet change of a mutex.
 #[tactic(auto, using(crate::proofs::Moved::moves))]
 pub(crate) fn alter(roster: &mut Roster, p: PartId, m: MutexNo, change: Change)
-    requires ready { AreReady p roster.old.table roster.old.lines roster.old.mutexes }
+    requires ready { AreReady p roster.old }
     requires quiet { IsQuiet change }
     requires possible { SlotMayChange change (pool_get (part_of roster.old.mutexes p) m) }
-    ensures threads { roster.new.table ≡ with_threads p (after_change change m (locks_at p roster.old.table roster.old.lines roster.old.mutexes)) roster.old.table }
+    ensures threads { roster.new.table ≡ with_threads p (after_change change m (locks_at p roster.old)) roster.old.table }
     ensures line { roster.new.lines ≡ roster.old.lines }
-    ensures mutexes { roster.new.mutexes ≡ slice_set roster.old.mutexes p (after_change change m (locks_at p roster.old.table roster.old.lines roster.old.mutexes)).mutexes }
+    ensures mutexes { roster.new.mutexes ≡ slice_set roster.old.mutexes p (after_change change m (locks_at p roster.old)).mutexes }
     ensures conditions { roster.new.conditions ≡ roster.old.conditions }
-    ensures ready { AreReady p roster.new.table roster.new.lines roster.new.mutexes }
+    ensures ready { AreReady p roster.new }
 {
     roster.change_mutex(p, m, change);
     refresh_priorities(roster, p);

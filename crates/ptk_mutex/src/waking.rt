@@ -38,17 +38,17 @@ impl Mutexes {
         m: MutexNo,
         reply: Option<u32>,
     ) -> LockMove
-        requires ready { AreReady p roster.old.table roster.old.lines roster.old.mutexes }
-        requires caller { MayWait (locks_at p roster.old.table roster.old.lines roster.old.mutexes) t }
+        requires ready { AreReady p roster.old }
+        requires caller { MayWait (locks_at p roster.old) t }
         requires free { IsNoWaiter t (part_of roster.old.mutexes p) (part_of roster.old.conditions p) }
-        requires countable { relock_move t (mutex_at (locks_at p roster.old.table roster.old.lines roster.old.mutexes) m) ≡ Counts → count_of (mutex_at (locks_at p roster.old.table roster.old.lines roster.old.mutexes) m) < COUNT_LIMIT }
-        ensures told { result ≡ relock_move t (mutex_at (locks_at p roster.old.table roster.old.lines roster.old.mutexes) m) }
-        ensures threads { roster.new.table ≡ with_threads p (after_relock t m reply (locks_at p roster.old.table roster.old.lines roster.old.mutexes)) roster.old.table }
-        ensures line { roster.new.lines ≡ slice_set roster.old.lines p (after_relock t m reply (locks_at p roster.old.table roster.old.lines roster.old.mutexes)).line }
-        ensures mutexes { roster.new.mutexes ≡ slice_set roster.old.mutexes p (after_relock t m reply (locks_at p roster.old.table roster.old.lines roster.old.mutexes)).mutexes }
+        requires countable { relock_move t (mutex_at (locks_at p roster.old) m) ≡ Counts → count_of (mutex_at (locks_at p roster.old) m) < COUNT_LIMIT }
+        ensures told { result ≡ relock_move t (mutex_at (locks_at p roster.old) m) }
+        ensures threads { roster.new.table ≡ with_threads p (after_relock t m reply (locks_at p roster.old)) roster.old.table }
+        ensures line { roster.new.lines ≡ slice_set roster.old.lines p (after_relock t m reply (locks_at p roster.old)).line }
+        ensures mutexes { roster.new.mutexes ≡ slice_set roster.old.mutexes p (after_relock t m reply (locks_at p roster.old)).mutexes }
         ensures conditions { roster.new.conditions ≡ roster.old.conditions }
         ensures visited { IsVisited self.new.visited (part_of roster.old.table.stored p) (part_of roster.new.table.stored p) }
-        ensures ready { AreReady p roster.new.table roster.new.lines roster.new.mutexes }
+        ensures ready { AreReady p roster.new }
         ensures sound { IsSound roster.old → IsSound roster.new }
     {
         let made = relock_move(roster, p, t, m);
@@ -66,14 +66,14 @@ impl Mutexes {
         m: MutexNo,
         reply: Option<u32>,
     )
-        requires ready { AreReady p roster.old.table roster.old.lines roster.old.mutexes }
-        requires waiter { IsWaiter (locks_at p roster.old.table roster.old.lines roster.old.mutexes) m t }
-        ensures threads { roster.new.table ≡ with_threads p (after_withdrawal t m reply (locks_at p roster.old.table roster.old.lines roster.old.mutexes)) roster.old.table }
-        ensures line { roster.new.lines ≡ slice_set roster.old.lines p (after_withdrawal t m reply (locks_at p roster.old.table roster.old.lines roster.old.mutexes)).line }
-        ensures mutexes { roster.new.mutexes ≡ slice_set roster.old.mutexes p (after_withdrawal t m reply (locks_at p roster.old.table roster.old.lines roster.old.mutexes)).mutexes }
+        requires ready { AreReady p roster.old }
+        requires waiter { IsWaiter (locks_at p roster.old) m t }
+        ensures threads { roster.new.table ≡ with_threads p (after_withdrawal t m reply (locks_at p roster.old)) roster.old.table }
+        ensures line { roster.new.lines ≡ slice_set roster.old.lines p (after_withdrawal t m reply (locks_at p roster.old)).line }
+        ensures mutexes { roster.new.mutexes ≡ slice_set roster.old.mutexes p (after_withdrawal t m reply (locks_at p roster.old)).mutexes }
         ensures conditions { roster.new.conditions ≡ roster.old.conditions }
         ensures visited { self.new.visited ≡ 0 }
-        ensures ready { AreReady p roster.new.table roster.new.lines roster.new.mutexes }
+        ensures ready { AreReady p roster.new }
         ensures sound { IsSound roster.old → IsSound roster.new }
     {
         self.visited = 0;
@@ -92,13 +92,13 @@ fn make_relock(
     reply: Option<u32>,
     made: LockMove,
 ) -> u32
-    requires ready { AreReady p roster.old.table roster.old.lines roster.old.mutexes }
-    requires caller { MayWait (locks_at p roster.old.table roster.old.lines roster.old.mutexes) t }
+    requires ready { AreReady p roster.old }
+    requires caller { MayWait (locks_at p roster.old) t }
     requires free { IsNoWaiter t (part_of roster.old.mutexes p) (part_of roster.old.conditions p) }
     requires takes { MayTake made (pool_get (part_of roster.old.mutexes p) m) }
-    ensures threads { roster.new.table ≡ with_threads p (after_relock_move made t m reply (locks_at p roster.old.table roster.old.lines roster.old.mutexes)) roster.old.table }
-    ensures line { roster.new.lines ≡ slice_set roster.old.lines p (after_relock_move made t m reply (locks_at p roster.old.table roster.old.lines roster.old.mutexes)).line }
-    ensures mutexes { roster.new.mutexes ≡ slice_set roster.old.mutexes p (after_relock_move made t m reply (locks_at p roster.old.table roster.old.lines roster.old.mutexes)).mutexes }
+    ensures threads { roster.new.table ≡ with_threads p (after_relock_move made t m reply (locks_at p roster.old)) roster.old.table }
+    ensures line { roster.new.lines ≡ slice_set roster.old.lines p (after_relock_move made t m reply (locks_at p roster.old)).line }
+    ensures mutexes { roster.new.mutexes ≡ slice_set roster.old.mutexes p (after_relock_move made t m reply (locks_at p roster.old)).mutexes }
     ensures conditions { roster.new.conditions ≡ roster.old.conditions }
     ensures visited { IsVisited result (part_of roster.old.table.stored p) (part_of roster.new.table.stored p) }
     ensures few { result ≤ THREAD_LIMIT + 1 }
@@ -115,11 +115,11 @@ fn make_relock(
 /// priorities stay.
 #[tactic(auto, using(crate::proofs::Moved::wakes))]
 pub(crate) fn leave(roster: &mut Roster, p: PartId, t: ThreadNo, m: MutexNo, made: LockMove)
-    requires part { HasPart p roster.old.table roster.old.lines roster.old.mutexes }
-    requires waiter { IsWaiter (locks_at p roster.old.table roster.old.lines roster.old.mutexes) m t }
-    ensures threads { roster.new.table ≡ with_threads_alone p (after_leave made t m (locks_at p roster.old.table roster.old.lines roster.old.mutexes)) roster.old.table }
-    ensures line { roster.new.lines ≡ slice_set roster.old.lines p (after_leave made t m (locks_at p roster.old.table roster.old.lines roster.old.mutexes)).line }
-    ensures mutexes { roster.new.mutexes ≡ slice_set roster.old.mutexes p (after_leave made t m (locks_at p roster.old.table roster.old.lines roster.old.mutexes)).mutexes }
+    requires part { HasPart p roster.old }
+    requires waiter { IsWaiter (locks_at p roster.old) m t }
+    ensures threads { roster.new.table ≡ with_threads_alone p (after_leave made t m (locks_at p roster.old)) roster.old.table }
+    ensures line { roster.new.lines ≡ slice_set roster.old.lines p (after_leave made t m (locks_at p roster.old)).line }
+    ensures mutexes { roster.new.mutexes ≡ slice_set roster.old.mutexes p (after_leave made t m (locks_at p roster.old)).mutexes }
     ensures conditions { roster.new.conditions ≡ roster.old.conditions }
 {
     let kept = kept_reply(roster.threads().wait(p, t));
@@ -129,11 +129,11 @@ pub(crate) fn leave(roster: &mut Roster, p: PartId, t: ThreadNo, m: MutexNo, mad
 /// A waiter leaves and is woken; the stored priorities stay.
 #[tactic(auto, using(crate::proofs::Moved::moves))]
 fn take_out(roster: &mut Roster, p: PartId, t: ThreadNo, m: MutexNo, reply: Option<u32>)
-    requires part { HasPart p roster.old.table roster.old.lines roster.old.mutexes }
-    requires waiter { IsWaiter (locks_at p roster.old.table roster.old.lines roster.old.mutexes) m t }
-    ensures threads { roster.new.table ≡ with_threads_alone p (after_withdrawal t m reply (locks_at p roster.old.table roster.old.lines roster.old.mutexes)) roster.old.table }
-    ensures line { roster.new.lines ≡ slice_set roster.old.lines p (after_withdrawal t m reply (locks_at p roster.old.table roster.old.lines roster.old.mutexes)).line }
-    ensures mutexes { roster.new.mutexes ≡ slice_set roster.old.mutexes p (after_withdrawal t m reply (locks_at p roster.old.table roster.old.lines roster.old.mutexes)).mutexes }
+    requires part { HasPart p roster.old }
+    requires waiter { IsWaiter (locks_at p roster.old) m t }
+    ensures threads { roster.new.table ≡ with_threads_alone p (after_withdrawal t m reply (locks_at p roster.old)) roster.old.table }
+    ensures line { roster.new.lines ≡ slice_set roster.old.lines p (after_withdrawal t m reply (locks_at p roster.old)).line }
+    ensures mutexes { roster.new.mutexes ≡ slice_set roster.old.mutexes p (after_withdrawal t m reply (locks_at p roster.old)).mutexes }
     ensures conditions { roster.new.conditions ≡ roster.old.conditions }
 {
     roster.leave_mutex(p, m, t);
@@ -162,9 +162,10 @@ fn is_waiting(made: LockMove) -> bool
     }
 }
 
-/// A blocked thread is ready, at the tail, with this reply if any.
+/// A blocked thread is ready, at the tail, and waits for nothing any more; it has used no tick, and has this reply if
+/// there is one. The stored priorities stay (XSH 2.8.4).
 #[tactic(auto, using(crate::proofs::Moved::wakes))]
-fn wake(roster: &mut Roster, p: PartId, t: ThreadNo, reply: Option<u32>)
+pub fn wake(roster: &mut Roster, p: PartId, t: ThreadNo, reply: Option<u32>)
     requires partition { p < length roster.old.table.threads }
     requires in_use { IsSome (thread_in roster.old.table p t) }
     requires out { is_in t (part_of roster.old.lines p) ≡ false }

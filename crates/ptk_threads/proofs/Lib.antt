@@ -3,3 +3,4 @@ pub mod Joined
 pub mod Linked
 pub mod Pools
 pub mod Registers
+pub mod Timed

@@ -1,17 +1,29 @@
 -- A change of one field of a thread.
+use Rattle.std.specs.Prelude.{Bool, true, false}
 use Rattle.ptk_words.specs.declared.threads.Thread.{Thread}
-use Rattle.ptk_threads.specs.declared.changes.Change.{Change}
-use Rattle.ptk_threads.specs.declared.changes.Change.TheVariants.{Policy, AssignedPriority, Used, Phase, Main, Detached, Joiner, Result, Wait}
-use Rattle.ptk_threads.specs.Table.{with_policy, with_priority, with_used, with_phase, with_main, with_detached_mark, with_joiner, with_result, with_wait}
+use Rattle.ptk_threads.specs.declared.changes.ThreadChange.{ThreadChange}
+use Rattle.ptk_threads.specs.declared.changes.ThreadChange.TheVariants.{Address, Policy, AssignedPriority, Used, Phase, Joiner, Result, Wait}
+use Rattle.ptk_threads.specs.Table.{with_policy, with_priority, with_used, with_phase, with_joiner, with_result, with_wait}
+use Rattle.ptk_threads.specs.Registers.{with_pc}
 
 -- the thread with that field set
-abbrev pub thread_changed : Change → Thread → Thread
-thread_changed (Policy policy) thread = with_policy policy thread
-thread_changed (AssignedPriority priority) thread = with_priority priority thread
-thread_changed (Used used) thread = with_used used thread
-thread_changed (Phase phase) thread = with_phase phase thread
-thread_changed (Main is_main) thread = with_main is_main thread
-thread_changed (Detached is_detached) thread = with_detached_mark is_detached thread
-thread_changed (Joiner joiner) thread = with_joiner joiner thread
-thread_changed (Result result) thread = with_result result thread
-thread_changed (Wait wait) thread = with_wait wait thread
+abbrev pub thread_changed : ThreadChange → Thread → Thread
+thread_changed (Address pc) = with_pc pc
+thread_changed (Policy policy) = with_policy policy
+thread_changed (AssignedPriority priority) = with_priority priority
+thread_changed (Used used) = with_used used
+thread_changed (Phase phase) = with_phase phase
+thread_changed (Joiner joiner) = with_joiner joiner
+thread_changed (Result result) = with_result result
+thread_changed (Wait wait) = with_wait wait
+
+-- the field is what the thread waits for (XSH 2.8.4)
+abbrev pub sets_wait : ThreadChange → Bool
+sets_wait (Address pc) = false
+sets_wait (Policy policy) = false
+sets_wait (AssignedPriority priority) = false
+sets_wait (Used used) = false
+sets_wait (Phase phase) = false
+sets_wait (Joiner joiner) = false
+sets_wait (Result result) = false
+sets_wait (Wait wait) = true

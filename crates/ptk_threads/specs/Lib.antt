@@ -1,5 +1,6 @@
 pub mod Shared
 pub mod Queues
 pub mod Table
+pub mod Timed
 pub mod Changes
 pub mod Registers

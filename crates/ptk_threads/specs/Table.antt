@@ -1,5 +1,5 @@
 -- The slot table: the threads of each partition by number, their stored priorities and queues, and what each call makes of it.
-use Rattle.std.specs.Prelude.{◌≡◌, ℕ, zero, suc, ◌<◌, ◌≤◌, Bool, IsSome, List, length, Option, Some, None, option_and_then, slice_index, slice_set, map}
+use Rattle.std.specs.Prelude.{◌≡◌, ℕ, zero, suc, ◌<◌, ◌≤◌, IsSome, List, length, Option, Some, None, option_and_then, slice_index, slice_set, map}
 use Rattle.ptk_words.specs.Processor.{Processor}
 use Rattle.ptk_words.specs.Pools.{pool_get, pool_set, pool_changed, least_free}
 use Rattle.ptk_words.specs.declared.threads.Thread.{Thread}
@@ -125,14 +125,6 @@ with_used used thread = record thread { used = used }
 -- this phase (pthread_exit)
 abbrev pub with_phase : Phase → Thread → Thread
 with_phase phase thread = record thread { phase = phase }
-
--- whether the image started it
-abbrev pub with_main : Bool → Thread → Thread
-with_main is_main thread = record thread { is_main = is_main }
-
--- whether its number is free at its end (pthread_detach)
-abbrev pub with_detached_mark : Bool → Thread → Thread
-with_detached_mark is_detached thread = record thread { is_detached = is_detached }
 
 -- this joiner (pthread_join)
 abbrev pub with_joiner : Option ℕ → Thread → Thread

@@ -5,31 +5,37 @@ ghost use Rattle.ptk_words.specs.Pools.{pool_get, pool_set, pool_changed};
 ghost use Rattle.ptk_words.specs.declared.threads.Thread.{Thread};
 ghost use Rattle.ptk_threads_slots.specs.Links.{shared_links, threads_of};
 ghost use Rattle.ptk_threads.specs.Table.{with_cpu, replaced_by};
-ghost use Rattle.ptk_threads.specs.Changes.{thread_changed};
-ghost use Rattle.ptk_threads.specs.Registers.{with_pc};
+ghost use Rattle.ptk_threads.specs.Changes.{thread_changed, sets_wait};
 ghost use Rattle.ptk_words_model.specs.Schedule.{with_registers, with_reply};
 
 use crate::work::Work;
 use ptk_threads_slots::Slot;
 use ptk_words::{A0, Cpu, Phase, Policy, Priority, Thread, ThreadNo, Wait};
 
-/// A field of a thread, with its new value.
+/// A field of a thread, with its new value; the other fields stay.
 #[derive(Clone, Copy)]
-pub(crate) enum Change {
+pub enum ThreadChange {
+    /// The address at which it goes on; its registers stay.
+    Address(u32),
+    /// Its policy (XSH 2.8.4).
     Policy(Policy),
+    /// Its assigned priority (XSH 2.8.4).
     AssignedPriority(Priority),
+    /// The ticks that it used of a round-robin interval (XSH 2.8.4, SCHED_RR).
     Used(u32),
+    /// How far it is (pthread_exit).
     Phase(Phase),
-    Main(bool),
-    Detached(bool),
+    /// The thread that waits for its end, or none (pthread_join).
     Joiner(Option<ThreadNo>),
+    /// The result that a joiner gets (pthread_join).
     Result(u32),
+    /// What it waits for, or nothing (XSH 2.8.4).
     Wait(Option<Wait>),
 }
 
 /// Changes the thread of a number, if there is one.
 #[tactic(auto, using(crate::proofs::Slots::changes))]
-pub(crate) fn change_in(slots: &mut [Slot], k: ThreadNo, change: Change)
+pub(crate) fn change_in(slots: &mut [Slot], k: ThreadNo, change: ThreadChange)
     ensures threads { threads_of slots.new ≡ pool_changed k (thread_changed change) (threads_of slots.old) }
     ensures links { shared_links slots.new ≡ shared_links slots.old }
 {
@@ -63,19 +69,6 @@ pub(crate) fn replace_in(slots: &mut [Slot], k: ThreadNo, thread: Thread)
     if i < slots.len() {
         let slot = &mut slots[i];
         replace_at(&mut slot.thread, thread);
-    }
-}
-
-/// The thread of a number, if there is one, goes on at this address.
-#[tactic(auto, using(crate::proofs::Slots::changes))]
-pub(crate) fn set_pc_in(slots: &mut [Slot], k: ThreadNo, pc: u32)
-    ensures threads { threads_of slots.new ≡ pool_changed k (with_pc pc) (threads_of slots.old) }
-    ensures links { shared_links slots.new ≡ shared_links slots.old }
-{
-    let i = k.place();
-    if i < slots.len() {
-        let slot = &mut slots[i];
-        set_pc_at(&mut slot.thread, pc);
     }
 }
 
@@ -129,8 +122,8 @@ fn work_at<W: Work>(place: &mut Option<Thread>, work: &mut W) -> W::Answer
     }
 }
 
-/// Changes one field of a thread, if it is one.
-fn change_at(place: &mut Option<Thread>, change: Change)
+/// Changes a thread, if it is one.
+fn change_at(place: &mut Option<Thread>, change: ThreadChange)
     ensures { place.new ≡ option_map (thread_changed change) place.old }
 {
     if let Some(thread) = place {
@@ -144,16 +137,6 @@ fn replace_at(place: &mut Option<Thread>, thread: Thread)
 {
     if let Some(own) = place {
         *own = thread;
-    }
-}
-
-/// The thread, if it is one, goes on at this address.
-fn set_pc_at(place: &mut Option<Thread>, pc: u32)
-    ensures { place.new ≡ option_map (with_pc pc) place.old }
-{
-    if let Some(thread) = place {
-        let cpu = &mut thread.cpu;
-        cpu.set_pc(pc);
     }
 }
 
@@ -177,6 +160,25 @@ fn set_cpu_at(place: &mut Option<Thread>, cpu: Cpu)
     }
 }
 
+/// Changes a field of a thread; the others stay.
+fn change_thread(thread: &mut Thread, change: ThreadChange)
+    ensures { thread.new ≡ thread_changed change thread.old }
+{
+    match change {
+        ThreadChange::Address(pc) => {
+            let cpu = &mut thread.cpu;
+            cpu.set_pc(pc);
+        }
+        ThreadChange::Policy(policy) => thread.policy = policy,
+        ThreadChange::AssignedPriority(priority) => thread.priority = priority,
+        ThreadChange::Used(used) => thread.used = used,
+        ThreadChange::Phase(phase) => thread.phase = phase,
+        ThreadChange::Joiner(joiner) => thread.joiner = joiner,
+        ThreadChange::Result(result) => thread.result = result,
+        ThreadChange::Wait(wait) => thread.wait = wait,
+    }
+}
+
 /// Puts the values into the registers from a0 on.
 #[tactic(auto, using(crate::proofs::Registers::registers))]
 fn write_values(cpu: &mut Cpu, values: &[u32])
@@ -188,19 +190,9 @@ fn write_values(cpu: &mut Cpu, values: &[u32])
     }
 }
 
-/// Sets one field of a thread; the others stay.
-fn change_thread(thread: &mut Thread, change: Change)
-    ensures { thread.new ≡ thread_changed change thread.old }
+/// Whether the change says what the thread waits for.
+pub(crate) fn sets_wait(change: &ThreadChange) -> bool
+    ensures { result ≡ sets_wait change.now }
 {
-    match change {
-        Change::Policy(policy) => thread.policy = policy,
-        Change::AssignedPriority(priority) => thread.priority = priority,
-        Change::Used(used) => thread.used = used,
-        Change::Phase(phase) => thread.phase = phase,
-        Change::Main(is_main) => thread.is_main = is_main,
-        Change::Detached(is_detached) => thread.is_detached = is_detached,
-        Change::Joiner(joiner) => thread.joiner = joiner,
-        Change::Result(result) => thread.result = result,
-        Change::Wait(wait) => thread.wait = wait,
-    }
+    matches!(change, ThreadChange::Wait(_))
 }

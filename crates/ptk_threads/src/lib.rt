@@ -7,22 +7,25 @@
 //!   one partition's threads or queues.
 //! - `slots` lends the slots of all partitions, along whose links, from slot to next slot and back, lies the list of
 //!   each queue (`AreAlongLinks`), and no link leaves its partition (`StayInPartitions`).
-//! - `work_on` does a piece of work on one thread in its place.
+//! - `change` changes one thread, and `work_on` does a piece of work on one in its place.
+//! - The deadline of a wait is kept where the wait is set, so that `next_deadline` and `first_due` look at no thread.
 //!
 //! The slot of thread k of a partition is its first slot plus k − 1. A contract sees, by partition and then by number,
 //! the threads and their stored effective priorities, and by partition and then by place the queues. Each call is total
 //! in all but the partition: a number that is free returns None, and setting something of it changes nothing. No call
-//! but the constructor takes memory. Below are `ptk_threads_slots`, `ptk_words`, `ptk_words_parted`, which keeps the
-//! lists, and `ptk_words_model`, which defines a reply; above are `ptk_ready` and every crate that acts on threads.
-//! Costly to prove is that a change of one partition's links, or of one thread, leaves every queue of every partition
-//! what its links say (`proofs/Linked`).
+//! but the constructor takes memory. Below are `ptk_threads_slots`, `ptk_clock`, which has the queue of deadlines,
+//! `ptk_words_parted`, which keeps the lists, and `ptk_words_model`, which defines a reply; above are `ptk_ready` and
+//! every crate that acts on threads. Costly to prove is that a change of one partition's links, or of one thread,
+//! leaves every queue of every partition what its links say (`proofs/Linked`).
 
 mod changes;
 mod references;
 mod slot_table;
 mod threads;
+mod waits;
 mod work;
 
+pub use changes::ThreadChange;
 pub use ptk_threads_slots::{Ends, Link, QueueName, Slot, SlotLink, ThreadList};
 pub use slot_table::LinkedSlots;
 pub use threads::{Threads, stored_in};

@@ -24,7 +24,7 @@ impl Threads {
 /// The thread of a number among a partition's slots, None of a free one.
 #[inline]
 #[tactic(auto, using(crate::proofs::Slots::reads))]
-fn thread_among(slots: &[Slot], k: ThreadNo) -> Option<&Thread>
+pub(crate) fn thread_among(slots: &[Slot], k: ThreadNo) -> Option<&Thread>
     ensures { option_copied result ≡ pool_get (threads_of slots.now) k }
 {
     let i = k.place();

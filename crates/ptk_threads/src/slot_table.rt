@@ -8,12 +8,11 @@ ghost use Rattle.ptk_words_parted.specs.Parts.{part_of, joined, filled};
 ghost use Rattle.ptk_threads_slots.specs.Links.{links_of, threads_of, no_ends, queues, AreQueues};
 ghost use Rattle.ptk_threads.specs.Table.{with_cpu, replaced_by};
 ghost use Rattle.ptk_threads.specs.Changes.{thread_changed};
-ghost use Rattle.ptk_threads.specs.Registers.{with_pc};
 ghost use Rattle.ptk_threads.specs.Shared.{AreAlongLinks, StayInPartitions};
 ghost use Rattle.ptk_threads.specs.Queues.{no_queues, free_parts, AreListed, IsUnqueued, with_last, with_first, with_before, with_none};
 
 use crate::changes::{
-    Change, change_in, put_in, replace_in, set_cpu_in, set_pc_in, set_values_in, work_in,
+    ThreadChange, change_in, put_in, replace_in, set_cpu_in, set_values_in, work_in,
 };
 use crate::work::Work;
 use ptk_threads_slots::{Ends, PLACES, QueueName, Slot, append, insert, prepend, take};
@@ -105,7 +104,7 @@ impl SlotTable {
 
     /// Changes one field of a thread.
     #[tactic(auto, using(crate::proofs::Linked::lifts))]
-    pub(crate) fn change(&mut self, p: PartId, k: ThreadNo, change: Change)
+    pub(crate) fn change(&mut self, p: PartId, k: ThreadNo, change: ThreadChange)
         requires { p < length self.old.threads }
         ensures { self.new ≡ record self.old { threads = slice_set self.old.threads p (pool_changed k (thread_changed change) (part_of self.old.threads p)) } }
     {
@@ -128,15 +127,6 @@ impl SlotTable {
         ensures { self.new ≡ record self.old { threads = slice_set self.old.threads p (pool_changed k (replaced_by thread) (part_of self.old.threads p)) } }
     {
         replace_in(self.slots.lend(p), k, thread);
-    }
-
-    /// A thread goes on at this address.
-    #[tactic(auto, using(crate::proofs::Linked::lifts))]
-    pub(crate) fn set_pc(&mut self, p: PartId, k: ThreadNo, pc: u32)
-        requires { p < length self.old.threads }
-        ensures { self.new ≡ record self.old { threads = slice_set self.old.threads p (pool_changed k (with_pc pc) (part_of self.old.threads p)) } }
-    {
-        set_pc_in(self.slots.lend(p), k, pc);
     }
 
     /// Puts the values into a thread's a0, a1 and so on.

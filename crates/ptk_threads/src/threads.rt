@@ -5,40 +5,43 @@ ghost use Rattle.ptk_words.specs.Pools.{least_free, pool_get, pool_set, is_in};
 ghost use Rattle.ptk_words.specs.Threads.{left_at_end, left_at_detach};
 ghost use Rattle.ptk_words.specs.declared.threads.Thread.{Thread};
 ghost use Rattle.ptk_words_parted.specs.Parts.{part_of, joined};
-ghost use Rattle.ptk_threads.specs.Table.{free_table, thread_in, stored_of, with_slot, with_changed, with_stored, with_queues, with_free, with_new, with_rest, with_left, with_cpu, with_policy, with_priority, with_used, with_phase, with_main, with_joiner, with_result, with_wait, with_detached_mark, replaced_by};
+ghost use Rattle.ptk_threads.specs.Table.{free_table, thread_in, stored_of, with_slot, with_changed, with_stored, with_queues, with_free, with_new, with_rest, with_left, with_cpu, replaced_by};
+ghost use Rattle.ptk_words_model.specs.Schedule.{with_reply};
 ghost use Rattle.ptk_threads.specs.Changes.{thread_changed};
-ghost use Rattle.ptk_threads.specs.Registers.{with_pc};
 ghost use Rattle.ptk_threads.specs.Queues.{AreListed, IsUnqueued, with_last, with_first, with_before, with_none, with_out};
 ghost use Rattle.ptk_threads.specs.Shared.{AreAlongLinks, StayInPartitions};
 ghost use Rattle.ptk_threads_slots.specs.declared.slot.Slot.{Slot};
 ghost use Rattle.ptk_threads_slots.specs.Links.{links_of, threads_of, place_of, queues, AreQueues};
-ghost use Rattle.ptk_words_model.specs.Schedule.{with_reply};
 
-use crate::changes::Change;
+use crate::changes::{ThreadChange, sets_wait};
 use crate::slot_table::{LinkedSlots, SlotTable};
+use crate::waits::{follow, follow_if};
 use crate::work::Work;
+use ptk_clock::ThreadDeadlines;
 use ptk_threads_slots::{QueueName, Slot, ThreadList, has_members, is_marked, link_of, members};
 use ptk_words::{Cpu, PartId, Phase, Policy, Priority, Thread, ThreadNo, Wait};
 use ptk_words_parted::Parted;
 use std::alloc::{AllocError, Global};
 use std::marker::Model;
 
-/// The threads of each partition by number from 1, their stored effective priorities, and the queues that are linked
-/// through the slots.
+/// The threads of each partition by number from 1, their stored effective priorities, the queues that are linked
+/// through the slots, and the deadlines of the threads' waits.
 #[derive(Drop)]
 pub struct Threads {
-    slots: SlotTable,
+    pub(crate) slots: SlotTable,
     stored: Parted<u8>,
+    pub(crate) deadlines: ThreadDeadlines,
 }
 
 impl Model for Threads {
-    ghost use Rattle.ptk_threads.specs.Table.{ThreadTable, IsTable};
+    ghost use Rattle.ptk_threads.specs.Table.{ThreadTable};
+    ghost use Rattle.ptk_threads.specs.Timed.{IsKept};
 
     ghost Value = { ThreadTable };
 
     ghost view = { λ a. record { threads = a.slots.threads; stored = a.stored; queues = a.slots.queues } };
 
-    ghost invariant = { λ a. IsTable a.slots.threads a.stored };
+    ghost invariant = { λ a. IsKept a.slots.threads a.stored a.deadlines };
 }
 
 impl Threads {
@@ -50,7 +53,12 @@ impl Threads {
     {
         let slots = SlotTable::build(alloc, counts)?;
         let stored = Parted::build(alloc, counts, 0)?;
-        Ok(Threads { slots, stored })
+        let deadlines = ThreadDeadlines::build(alloc, counts)?;
+        Ok(Threads {
+            slots,
+            stored,
+            deadlines,
+        })
     }
 
     /// How many partitions there are; each has 128 queues.
@@ -170,34 +178,6 @@ impl Threads {
         self.slot(p, k).cpu()
     }
 
-    /// Gives the thread these registers and pc.
-    #[tactic(auto, using(crate::proofs::Slots::pools))]
-    pub fn set_cpu(&mut self, p: PartId, k: ThreadNo, cpu: Cpu)
-        requires { p < length self.old.threads }
-        ensures { self.new ≡ with_changed p k (with_cpu cpu) self.old }
-    {
-        self.slots.set_cpu(p, k, cpu);
-    }
-
-    /// The thread goes on at this address; its registers stay.
-    #[tactic(auto, using(crate::proofs::Slots::pools))]
-    pub fn set_pc(&mut self, p: PartId, k: ThreadNo, pc: u32)
-        requires { p < length self.old.threads }
-        ensures { self.new ≡ with_changed p k (with_pc pc) self.old }
-    {
-        self.slots.set_pc(p, k, pc);
-    }
-
-    /// Puts at most 3 values into the thread's a0, a1 and so on; its pc stays.
-    #[tactic(auto, using(crate::proofs::Slots::pools))]
-    pub fn set_values(&mut self, p: PartId, k: ThreadNo, values: &[u32])
-        requires partition { p < length self.old.threads }
-        requires few { length values.now < 4 }
-        ensures { self.new ≡ with_changed p k (with_reply values.now) self.old }
-    {
-        self.slots.set_values(p, k, values);
-    }
-
     /// Its policy (XSH 2.8.4); None of a free number.
     pub fn policy(&self, p: PartId, k: ThreadNo) -> Option<Policy>
         requires { p < length self.now.threads }
@@ -270,76 +250,34 @@ impl Threads {
         self.slot(p, k).wait()
     }
 
-    /// Gives the thread this policy.
-    pub fn set_policy(&mut self, p: PartId, k: ThreadNo, policy: Policy)
+    /// Changes one field of a thread; a free number stays free. Where that is its wait, its deadline follows.
+    #[tactic(auto, using(crate::proofs::Slots::pools))]
+    pub fn change(&mut self, p: PartId, k: ThreadNo, change: ThreadChange)
         requires { p < length self.old.threads }
-        ensures { self.new ≡ with_changed p k (with_policy policy) self.old }
+        ensures { self.new ≡ with_changed p k (thread_changed change) self.old }
     {
-        self.change(p, k, Change::Policy(policy));
+        let is_wait = sets_wait(&change);
+        self.slots.change(p, k, change);
+        follow_if(&mut self.deadlines, &self.slots, p, k, is_wait);
     }
 
-    /// Gives the thread this assigned priority.
-    pub fn set_assigned_priority(&mut self, p: PartId, k: ThreadNo, priority: Priority)
+    /// Gives the thread these registers and pc.
+    #[tactic(auto, using(crate::proofs::Slots::pools))]
+    pub fn set_cpu(&mut self, p: PartId, k: ThreadNo, cpu: Cpu)
         requires { p < length self.old.threads }
-        ensures { self.new ≡ with_changed p k (with_priority priority) self.old }
+        ensures { self.new ≡ with_changed p k (with_cpu cpu) self.old }
     {
-        self.change(p, k, Change::AssignedPriority(priority));
+        self.slots.set_cpu(p, k, cpu);
     }
 
-    /// Gives the thread this many used ticks.
-    pub fn set_used(&mut self, p: PartId, k: ThreadNo, used: u32)
-        requires { p < length self.old.threads }
-        ensures { self.new ≡ with_changed p k (with_used used) self.old }
+    /// Puts at most 3 values into the thread's a0, a1 and so on; its pc stays.
+    #[tactic(auto, using(crate::proofs::Slots::pools))]
+    pub fn set_values(&mut self, p: PartId, k: ThreadNo, values: &[u32])
+        requires partition { p < length self.old.threads }
+        requires few { length values.now < 4 }
+        ensures { self.new ≡ with_changed p k (with_reply values.now) self.old }
     {
-        self.change(p, k, Change::Used(used));
-    }
-
-    /// Gives the thread this phase.
-    pub fn set_phase(&mut self, p: PartId, k: ThreadNo, phase: Phase)
-        requires { p < length self.old.threads }
-        ensures { self.new ≡ with_changed p k (with_phase phase) self.old }
-    {
-        self.change(p, k, Change::Phase(phase));
-    }
-
-    /// Gives the thread the mark of the main thread, or takes it away.
-    pub fn set_main(&mut self, p: PartId, k: ThreadNo, is_main: bool)
-        requires { p < length self.old.threads }
-        ensures { self.new ≡ with_changed p k (with_main is_main) self.old }
-    {
-        self.change(p, k, Change::Main(is_main));
-    }
-
-    /// Gives the thread the mark of a detached thread, or takes it away.
-    pub fn set_detached(&mut self, p: PartId, k: ThreadNo, is_detached: bool)
-        requires { p < length self.old.threads }
-        ensures { self.new ≡ with_changed p k (with_detached_mark is_detached) self.old }
-    {
-        self.change(p, k, Change::Detached(is_detached));
-    }
-
-    /// Gives the thread this result.
-    pub fn set_result(&mut self, p: PartId, k: ThreadNo, value: u32)
-        requires { p < length self.old.threads }
-        ensures { self.new ≡ with_changed p k (with_result value) self.old }
-    {
-        self.change(p, k, Change::Result(value));
-    }
-
-    /// Gives the thread this joiner, or none.
-    pub fn set_joiner(&mut self, p: PartId, k: ThreadNo, joiner: Option<ThreadNo>)
-        requires { p < length self.old.threads }
-        ensures { self.new ≡ with_changed p k (with_joiner joiner) self.old }
-    {
-        self.change(p, k, Change::Joiner(joiner));
-    }
-
-    /// Gives the thread this wait, or none.
-    pub fn set_wait(&mut self, p: PartId, k: ThreadNo, wait: Option<Wait>)
-        requires { p < length self.old.threads }
-        ensures { self.new ≡ with_changed p k (with_wait wait) self.old }
-    {
-        self.change(p, k, Change::Wait(wait));
+        self.slots.set_values(p, k, values);
     }
 
     /// Puts this thread in place of the one of a number; a free number stays free.
@@ -349,13 +287,16 @@ impl Threads {
         ensures { self.new ≡ with_changed p k (replaced_by thread) self.old }
     {
         self.slots.replace(p, k, thread);
+        follow(&mut self.deadlines, &self.slots, p, k);
     }
 
-    /// Does a piece of work on a thread where it lies: nothing of it is copied, and nothing else of the table changes.
+    /// Does a piece of work on a thread where it lies, which leaves its wait: nothing of it is copied, and nothing else
+    /// of the table changes.
     pub fn work_on<W: Work>(&mut self, p: PartId, k: ThreadNo, work: &mut W) -> W::Answer
         requires partition { p < length self.old.threads }
         requires in_use { IsSome (thread_in self.old p k) }
         requires ready { IfSome (thread_in self.old p k) (W.can_run work.old) }
+        requires waits { (after : W) → (answer : W.Answer) → (thread made : Thread) → W.has_run work.old thread answer after made → made.wait ≡ thread.wait }
         ensures { (made : Thread) × (self.new ≡ with_changed p k (replaced_by made) self.old) × IfSome (thread_in self.old p k) (λ thread. W.has_run work.old thread result work.new made) }
     {
         self.slots.work_on(p, k, work)
@@ -476,15 +417,6 @@ impl Threads {
         slot_of(self.part(p), k)
     }
 
-    /// Changes one field of a thread.
-    #[tactic(auto, using(crate::proofs::Slots::pools))]
-    fn change(&mut self, p: PartId, k: ThreadNo, change: Change)
-        requires { p < length self.old.threads }
-        ensures { self.new ≡ with_changed p k (thread_changed change) self.old }
-    {
-        self.slots.change(p, k, change);
-    }
-
     /// Sets a number's entry and its stored priority; nothing past the partition's slots.
     #[tactic(auto, using(crate::proofs::Slots::pools))]
     fn put(&mut self, p: PartId, k: ThreadNo, thread: Option<Thread>, priority: u8)
@@ -492,6 +424,7 @@ impl Threads {
         ensures { self.new ≡ with_slot p k thread priority self.old }
     {
         self.slots.put(p, k, thread);
+        follow(&mut self.deadlines, &self.slots, p, k);
         self.set_stored_priority(p, k, priority);
     }
 
@@ -502,7 +435,10 @@ impl Threads {
         ensures { self.new ≡ with_rest p k left self.old }
     {
         match left {
-            Some(thread) => self.slots.put(p, k, Some(thread)),
+            Some(thread) => {
+                self.slots.put(p, k, Some(thread));
+                follow(&mut self.deadlines, &self.slots, p, k);
+            }
             None => self.put(p, k, None, 0),
         }
     }

@@ -17,11 +17,6 @@ due_among tick deadlines = filter (λ a. nat_le a.deadline tick) (filter_map exp
 abbrev pub next_expiry : Tick → List (Option Tick) → Option Expiry
 next_expiry tick deadlines = slice_get (in_order (due_among tick deadlines)) 0
 
--- the deadlines by thread number, without that of an expiry
-abbrev pub without_expiry : Option Expiry → List (Option Tick) → List (Option Tick)
-without_expiry None deadlines = deadlines
-without_expiry (Some a) deadlines = pool_set deadlines a.thread None
-
 -- ---- which one is next
 
 -- thread and deadline are of the list, due, and none that is due is before it

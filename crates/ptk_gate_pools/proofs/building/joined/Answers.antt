@@ -5,7 +5,7 @@ use Rattle.ptk_threads.specs.Table.{ThreadTable}
 use Rattle.ptk_console.specs.ConsoleTable.{ConsoleTable}
 use Rattle.ptk_cancel.specs.KeptCancellations.{KeptCancellations}
 use Rattle.ptk_keys.specs.KeptKeys.{KeptKeys}
-use Rattle.ptk_gate_pools.proofs.Built.{stored_made, timed_made}
+use Rattle.ptk_gate_pools.proofs.Built.{stored_made}
 use Rattle.ptk_gate_pools.proofs.building.joined.Goals as goal
 
 pub invariant_of-result : goal.invariant_of-result
@@ -20,7 +20,6 @@ invariant_of-result c =
       lines = ap length c.requires.line ∙ length-replicate (length limits) _ ∙ back;
       mutexes = ap length c.requires.mutexes ∙ length-map limits _ ∙ back;
       conditions = ap length c.requires.conditions ∙ length-map limits _ ∙ back;
-      deadlines = ap length c.requires.deadlines ∙ length-map limits _ ∙ back;
       running = ap length c.requires.running ∙ length-replicate (length limits) _ ∙ back;
       cancellations = ap (λ (kept : KeptCancellations). length kept.cancellations) c.requires.cancellations ∙ length-map limits _ ∙ back;
       cleanups = ap (λ (kept : KeptCancellations). length kept.cleanups) c.requires.cancellations ∙ length-map limits _ ∙ back;
@@ -32,7 +31,6 @@ invariant_of-result c =
       statuses = ap length c.requires.statuses ∙ length-replicate (length limits) _ ∙ back;
       lasts = ap length c.requires.lasts ∙ length-replicate (length limits) _ ∙ back;
       stored = stored_made c.args.threads.0.0.table c.args.threads.0.0.mutexes limits c.requires.mutexes c.requires.table;
-      timed = timed_made c.args.threads.0.0.table c.args.threads.1 limits c.requires.deadlines c.requires.table;
       in_hand = omega (arith, c.new-2.ensures, c.requires.some, back);
     }
 

@@ -2,7 +2,7 @@ use Rattle.std.proofs.Common.{◌≡◌, arith, sym, ap, ◌∙◌}
 use Rattle.ptk_syncs.specs.Rosters.{Rostered}
 use Rattle.ptk_words_model.specs.State.{Locks}
 use Rattle.ptk_words_parted.proofs.Cuts.{set_part-same}
-use Rattle.ptk_mutex.specs.Tables.{locks_at, with_threads}
+use Rattle.ptk_mutex.specs.Tables.{locks_by, with_threads}
 use Rattle.ptk_mutex.specs.Moves.{after_change}
 use Rattle.ptk_mutex.proofs.Moved.{moves}
 use Rattle.ptk_mutex.proofs.Steps.{moved_ready, locked_change}
@@ -10,7 +10,7 @@ use Rattle.ptk_mutex.proofs.unlocking.alter.Goals as goal
 
 pub returns-clause-ready : goal.returns-clause-ready
 returns-clause-ready c =
-    let locks : Locks = locks_at c.args.p c.args.roster.now.table c.args.roster.now.lines c.args.roster.now.mutexes in
+    let locks : Locks = locks_by c.args.p c.args.roster.now.table c.args.roster.now.lines c.args.roster.now.mutexes in
     let after : Locks = after_change c.args.change c.args.m locks in
     let threads : c.refresh_priorities.new.roster.table ≡ with_threads c.args.p after c.args.roster.now.table = grind (arith, moves) in
     moved_ready c.args.p c.args.roster.now.table c.refresh_priorities.new.roster.table c.args.roster.now.lines c.refresh_priorities.new.roster.lines c.args.roster.now.mutexes c.refresh_priorities.new.roster.mutexes after c.requires.ready.part

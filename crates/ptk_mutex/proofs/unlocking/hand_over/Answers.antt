@@ -2,14 +2,14 @@ use Rattle.std.proofs.Common.{◌≡◌, arith}
 use Rattle.std.specs.Prelude.{slice_set}
 use Rattle.ptk_words_model.specs.State.{Locks}
 use Rattle.ptk_words_model.specs.Mutex.{after_hand_over}
-use Rattle.ptk_mutex.specs.Tables.{locks_at, with_threads}
+use Rattle.ptk_mutex.specs.Tables.{locks_by, with_threads}
 use Rattle.ptk_mutex.proofs.Moved.{moves}
 use Rattle.ptk_mutex.proofs.Steps.{moved_ready, locked_hand_over}
 use Rattle.ptk_mutex.proofs.unlocking.hand_over.Goals as goal
 
 pub returns-clause-ready : goal.returns-clause-ready
 returns-clause-ready c =
-    let locks : Locks = locks_at c.args.p c.args.roster.now.table c.args.roster.now.lines c.args.roster.now.mutexes in
+    let locks : Locks = locks_by c.args.p c.args.roster.now.table c.args.roster.now.lines c.args.roster.now.mutexes in
     let after : Locks = after_hand_over c.args.m locks in
     let threads : c.refresh_priorities.new.roster.table ≡ with_threads c.args.p after c.args.roster.now.table = grind (arith, moves) in
     let lines : c.refresh_priorities.new.roster.lines ≡ slice_set c.args.roster.now.lines c.args.p after.line = grind (arith, moves) in

@@ -8,7 +8,7 @@ use Rattle.ptk_words_model.specs.Priority.{awaited, thread_at}
 use Rattle.ptk_words_model.specs.Schedule.{woken_with}
 use Rattle.ptk_words_model.specs.Mutex.{after_move, move_reply}
 use Rattle.ptk_threads.specs.Table.{with_changed}
-use Rattle.ptk_mutex.specs.Tables.{locks_at, with_threads}
+use Rattle.ptk_mutex.specs.Tables.{locks_by, with_threads}
 use Rattle.ptk_mutex.specs.Rises.{is_waiting}
 use Rattle.ptk_mutex.proofs.Raised.{move_threads, relock_wakes, wake_stored}
 use Rattle.ptk_mutex.proofs.NoWaiters.{made_free}
@@ -21,7 +21,7 @@ wake-requires-clause-free c =
 
 pub returns-clause-threads : goal.returns-clause-threads
 returns-clause-threads c =
-    let locks : Locks = locks_at c.args.p c.args.roster.now.table c.args.roster.now.lines c.args.roster.now.mutexes in
+    let locks : Locks = locks_by c.args.p c.args.roster.now.table c.args.roster.now.lines c.args.roster.now.mutexes in
     let moved : Locks = after_move c.args.made c.args.t c.args.m (RelockWait c.args.m c.args.reply) locks in
     let goes_on : is_waiting c.args.made ≡ false = sym c.is_waiting.ensures ∙ c.if-is_waiting.false in
     let awake : awaited (thread_at moved c.args.t) ≡ None =

@@ -1,32 +1,27 @@
 use Rattle.ptk_gate_pools.specs.Held.{Held, limits_here}
 use Rattle.std.proofs.Common.{ap, sym}
-use Rattle.std.specs.Prelude.{option_to_list}
 use Rattle.ptk_words_model.specs.Condition.{after_signal}
-use Rattle.ptk_cond.specs.Tables.{syncs_at, next_waiter}
-use Rattle.ptk_gate_pools.proofs.Changed.{tables_pooled, tables_held, ended_long}
-use Rattle.ptk_gate_pools.proofs.Conditional.{timed_signalled}
+use Rattle.ptk_cond.specs.Tables.{syncs_by}
+use Rattle.ptk_gate_pools.proofs.Changed.{tables_pooled, tables_held}
 use Rattle.ptk_gate_pools.proofs.Synced.{synced_is}
 use Rattle.ptk_gate_pools.proofs.pools.Pools.signal.Goals as goal
 
-pub signal-woken-requires : goal.signal-woken-requires
-signal-woken-requires c =
+pub signal-requires : goal.signal-requires
+signal-requires c =
     let old = c.self.invariant in
     record {
       ready = synced_is c.self.inside.hand _ (limits_here c.args.self.now) c.args.self.now.here c.self.inside.roster.table c.self.inside.roster.lines c.self.inside.roster.mutexes c.self.inside.roster.conditions c.self.invariant.in_hand
           old.threads old.priorities old.lines old.mutexes old.conditions old.stored (ap (λ (pools : Held). pools.here.syncs) (sym c.self.view_is)) c.requires.well;
     }
 
--- whoever is woken has no deadline
 pub invariant_of-self : goal.invariant_of-self
 invariant_of-self c =
-    tables_pooled c.self.inside.hand (after_signal c.args.c (syncs_at c.self.inside.hand c.self.inside.roster.table c.self.inside.roster.lines c.self.inside.roster.mutexes c.self.inside.roster.conditions)) c.self.inside c.signal-woken.new.roster c.signal-woken.new.mutexes c.end_all.new.self c.self.invariant.in_hand
-    (record { of_threads = c.signal-woken.ensures.threads; of_lines = c.signal-woken.ensures.line; of_mutexes = c.signal-woken.ensures.mutexes; of_conditions = c.signal-woken.ensures.conditions })
-    (ended_long c.self.inside.hand c.signal-woken.result (option_to_list (next_waiter c.args.c (syncs_at c.self.inside.hand c.self.inside.roster.table c.self.inside.roster.lines c.self.inside.roster.mutexes c.self.inside.roster.conditions))) c.self.inside.deadlines c.end_all.new.self c.signal-woken.ensures.woken c.end_all.ensures.ended)
-    (timed_signalled c.self.inside.hand c.args.c c.signal-woken.result (limits_here c.args.self.now) c.args.self.now.here c.self.inside.roster.table c.signal-woken.new.roster.table c.self.inside.roster.lines c.self.inside.roster.mutexes c.self.inside.roster.conditions
-    c.self.inside.deadlines c.end_all.new.self c.signal-woken.ensures.threads c.signal-woken.ensures.woken c.end_all.ensures.ended (ap (λ (pools : Held). pools.here.syncs) (sym c.self.view_is)) c.requires.well c.self.invariant.timed) c.self.invariant
+    tables_pooled c.self.inside.hand (after_signal c.args.c (syncs_by c.self.inside.hand c.self.inside.roster.table c.self.inside.roster.lines c.self.inside.roster.mutexes c.self.inside.roster.conditions)) c.self.inside c.signal.new.roster c.signal.new.mutexes c.self.invariant.in_hand
+    (record { of_threads = c.signal.ensures.threads; of_lines = c.signal.ensures.line; of_mutexes = c.signal.ensures.mutexes; of_conditions = c.signal.ensures.conditions })
+    c.self.invariant
 
 pub returns : goal.returns
 returns c =
     rw (← c.self.view_is)
-    (tables_held c.self.inside.hand (after_signal c.args.c (syncs_at c.self.inside.hand c.self.inside.roster.table c.self.inside.roster.lines c.self.inside.roster.mutexes c.self.inside.roster.conditions)) c.self.inside c.signal-woken.new.roster c.signal-woken.new.mutexes c.end_all.new.self
-    (record { of_threads = c.signal-woken.ensures.threads; of_lines = c.signal-woken.ensures.line; of_mutexes = c.signal-woken.ensures.mutexes; of_conditions = c.signal-woken.ensures.conditions }) c.self.invariant c.self.invariant.in_hand)
+    (tables_held c.self.inside.hand (after_signal c.args.c (syncs_by c.self.inside.hand c.self.inside.roster.table c.self.inside.roster.lines c.self.inside.roster.mutexes c.self.inside.roster.conditions)) c.self.inside c.signal.new.roster c.signal.new.mutexes
+    (record { of_threads = c.signal.ensures.threads; of_lines = c.signal.ensures.line; of_mutexes = c.signal.ensures.mutexes; of_conditions = c.signal.ensures.conditions }) c.self.invariant c.self.invariant.in_hand)

@@ -23,7 +23,6 @@ invariant_of-self c =
       lines = old.lines;
       mutexes = length-set a.roster.mutexes a.hand _ ∙ old.mutexes;
       conditions = old.conditions;
-      deadlines = old.deadlines;
       running = old.running;
       cancellations = old.cancellations;
       cleanups = old.cleanups;
@@ -35,6 +34,5 @@ invariant_of-self c =
       statuses = old.statuses;
       lasts = old.lasts;
       stored = stored_taken a.hand c.args.t c.args.m a.roster.table.stored a.roster.table.threads a.roster.mutexes _ plain refl old.stored;
-      timed = old.timed;
       in_hand = old.in_hand;
     })

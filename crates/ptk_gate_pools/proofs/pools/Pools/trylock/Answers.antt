@@ -1,24 +1,19 @@
 use Rattle.std.specs.Prelude.{None}
-use Rattle.std.proofs.Common.{ap, sym, subst, length, ◌∙◌}
-use Rattle.std.proofs.lemmas.List.{length-set}
+use Rattle.std.proofs.Common.{◌∙◌}
 use Rattle.ptk_words.specs.declared.threads.Wait.TheVariants.{MutexWait}
 use Rattle.ptk_words_parted.specs.Parts.{part_of}
 use Rattle.ptk_words_model.specs.State.{Locks}
 use Rattle.ptk_words_model.specs.Mutex.{mutex_at, trylock_move, after_move}
-use Rattle.ptk_mutex.specs.Tables.{locks_at, MayWait}
-use Rattle.ptk_gate_pools.specs.Held.{Held}
+use Rattle.ptk_mutex.specs.Tables.{locks_by}
 use Rattle.ptk_gate_pools.proofs.Changed.{tables_pooled, stay}
-use Rattle.ptk_gate_pools.proofs.TimedMoves.{timed_move, line_stays}
+use Rattle.ptk_gate_pools.proofs.Locking.{line_stays}
 use Rattle.ptk_gate_pools.proofs.pools.Pools.trylock.Goals as goal
 
--- a thread that waits has the deadline of its wait
 pub invariant_of-self : goal.invariant_of-self
 invariant_of-self c =
     let a = c.self.inside in
-    let locks : Locks = locks_at c.self.inside.hand a.roster.table a.roster.lines a.roster.mutexes in
-    tables_pooled c.self.inside.hand (record { locks = after_move (trylock_move locks c.args.t (mutex_at locks c.args.m)) c.args.t c.args.m (MutexWait c.args.m None) locks; conditions = part_of a.roster.conditions c.self.inside.hand }) a c.trylock-made.new.roster c.trylock-made.new.self c.follow_move.new.deadlines
+    let locks : Locks = locks_by c.self.inside.hand a.roster.table a.roster.lines a.roster.mutexes in
+    tables_pooled c.self.inside.hand (record { locks = after_move (trylock_move locks c.args.t (mutex_at locks c.args.m)) c.args.t c.args.m (MutexWait c.args.m None) locks; conditions = part_of a.roster.conditions c.self.inside.hand }) a c.trylock.new.roster c.trylock.new.self
     c.self.invariant.in_hand
-    (record { of_threads = c.trylock-made.ensures.threads; of_lines = c.trylock-made.ensures.line ∙ line_stays c.self.inside.hand c.args.t c.args.m (trylock_move locks c.args.t (mutex_at locks c.args.m)) (MutexWait c.args.m None) a.roster.table a.roster.lines a.roster.mutexes; of_mutexes = c.trylock-made.ensures.mutexes; of_conditions = c.trylock-made.ensures.conditions ∙ stay c.self.inside.hand a.roster.conditions })
-    (ap length c.follow_move.ensures ∙ length-set a.deadlines c.self.inside.hand _)
-    (timed_move c.self.inside.hand c.args.t c.args.m (trylock_move locks c.args.t (mutex_at locks c.args.m)) c.trylock-made.result (MutexWait c.args.m None) a.roster.table c.trylock-made.new.roster.table a.roster.lines a.roster.mutexes a.deadlines c.follow_move.new.deadlines c.trylock-made.ensures.threads c.trylock-made.ensures.told c.follow_move.ensures
-    (subst (λ (pools : Held). MayWait pools.here.locks c.args.t) (sym c.self.view_is) c.requires.caller) c.self.invariant.timed) c.self.invariant
+    (record { of_threads = c.trylock.ensures.threads; of_lines = c.trylock.ensures.line ∙ line_stays c.self.inside.hand c.args.t c.args.m (trylock_move locks c.args.t (mutex_at locks c.args.m)) (MutexWait c.args.m None) a.roster.table a.roster.lines a.roster.mutexes; of_mutexes = c.trylock.ensures.mutexes; of_conditions = c.trylock.ensures.conditions ∙ stay c.self.inside.hand a.roster.conditions })
+    c.self.invariant

@@ -6,7 +6,7 @@ use Rattle.ptk_words_model.specs.declared.LockMove.{LockMove}
 use Rattle.ptk_words_model.specs.State.{Locks}
 use Rattle.ptk_words_model.specs.Mutex.{mutex_at, lock_move}
 use Rattle.ptk_mutex.specs.Moves.{after_lock}
-use Rattle.ptk_mutex.specs.Tables.{locks_at, with_threads}
+use Rattle.ptk_mutex.specs.Tables.{locks_by, with_threads}
 use Rattle.ptk_mutex.proofs.Moved.{moves}
 use Rattle.ptk_mutex.proofs.Steps.{moved_ready, locked_move, lock_counts, line_after_move}
 use Rattle.ptk_syncs.specs.Rosters.{Rostered}
@@ -16,7 +16,7 @@ use Rattle.ptk_mutex.proofs.mutexes.Mutexes.lock.Goals as goal
 
 pub returns-clause-ready : goal.returns-clause-ready
 returns-clause-ready c =
-    let locks : Locks = locks_at c.args.p c.args.roster.now.table c.args.roster.now.lines c.args.roster.now.mutexes in
+    let locks : Locks = locks_by c.args.p c.args.roster.now.table c.args.roster.now.lines c.args.roster.now.mutexes in
     let made : LockMove = lock_move locks c.args.t (mutex_at locks c.args.m) in
     let after : Locks = after_lock c.args.t c.args.m c.args.deadline locks in
     let threads : c.make-self.new.roster.table ≡ with_threads c.args.p after c.args.roster.now.table = grind (arith, moves) in
@@ -34,7 +34,7 @@ pub returns-clause-sound : goal.returns-clause-sound
 returns-clause-sound c = λ sound.
     let a : Rostered = c.args.roster.now in
     let b : Rostered = c.make-self.new.roster in
-    let locks : Locks = locks_at c.args.p a.table a.lines a.mutexes in
+    let locks : Locks = locks_by c.args.p a.table a.lines a.mutexes in
     let made : LockMove = lock_move locks c.args.t (mutex_at locks c.args.m) in
     let after : Locks = after_lock c.args.t c.args.m c.args.deadline locks in
     let threads : b.table ≡ with_threads c.args.p after a.table = grind (arith, moves) in

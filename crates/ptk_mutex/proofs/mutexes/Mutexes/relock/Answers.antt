@@ -2,7 +2,7 @@ use Rattle.std.proofs.Common.{◌≡◌, arith}
 use Rattle.std.specs.Prelude.{slice_set}
 use Rattle.ptk_words_model.specs.State.{Locks}
 use Rattle.ptk_words_model.specs.Mutex.{mutex_at, relock_move, after_relock}
-use Rattle.ptk_mutex.specs.Tables.{locks_at, with_threads}
+use Rattle.ptk_mutex.specs.Tables.{locks_by, with_threads}
 use Rattle.ptk_mutex.proofs.Moved.{moves}
 use Rattle.ptk_mutex.proofs.Steps.{moved_ready, locked_relock}
 use Rattle.ptk_syncs.specs.Rosters.{Rostered}
@@ -11,7 +11,7 @@ use Rattle.ptk_mutex.proofs.mutexes.Mutexes.relock.Goals as goal
 
 pub returns-clause-ready : goal.returns-clause-ready
 returns-clause-ready c =
-    let locks : Locks = locks_at c.args.p c.args.roster.now.table c.args.roster.now.lines c.args.roster.now.mutexes in
+    let locks : Locks = locks_by c.args.p c.args.roster.now.table c.args.roster.now.lines c.args.roster.now.mutexes in
     let after : Locks = after_relock c.args.t c.args.m c.args.reply locks in
     let threads : c.make_relock-self.new.roster.table ≡ with_threads c.args.p after c.args.roster.now.table = grind (arith, moves) in
     let lines : c.make_relock-self.new.roster.lines ≡ slice_set c.args.roster.now.lines c.args.p after.line = grind (arith, moves) in
@@ -24,7 +24,7 @@ pub returns-clause-sound : goal.returns-clause-sound
 returns-clause-sound c = λ sound.
     let a : Rostered = c.args.roster.now in
     let b : Rostered = c.make_relock-self.new.roster in
-    let after : Locks = after_relock c.args.t c.args.m c.args.reply (locks_at c.args.p a.table a.lines a.mutexes) in
+    let after : Locks = after_relock c.args.t c.args.m c.args.reply (locks_by c.args.p a.table a.lines a.mutexes) in
     let threads : b.table ≡ with_threads c.args.p after a.table = grind (arith, moves) in
     let lines : b.lines ≡ slice_set a.lines c.args.p after.line = grind (arith, moves) in
     let mutexes : b.mutexes ≡ slice_set a.mutexes c.args.p after.mutexes = grind (arith, moves) in

@@ -2,7 +2,7 @@ use Rattle.std.specs.Prelude.{option_to_list}
 use Rattle.ptk_words_model.specs.State.{Locks}
 use Rattle.ptk_words_model.specs.Schedule.{woken_with}
 use Rattle.std.proofs.Common.{◌≡◌, arith, ◌∙◌}
-use Rattle.ptk_mutex.specs.Tables.{locks_at, with_threads}
+use Rattle.ptk_mutex.specs.Tables.{locks_by, with_threads}
 use Rattle.ptk_mutex.specs.Moves.{after_withdrawal}
 use Rattle.ptk_mutex.proofs.Locked.{locked_left}
 use Rattle.ptk_mutex.proofs.Moved.{moves}
@@ -13,7 +13,7 @@ use Rattle.ptk_mutex.proofs.mutexes.Mutexes.withdraw.Goals as goal
 
 pub returns-clause-ready : goal.returns-clause-ready
 returns-clause-ready c =
-    let locks : Locks = locks_at c.args.p c.args.roster.now.table c.args.roster.now.lines c.args.roster.now.mutexes in
+    let locks : Locks = locks_by c.args.p c.args.roster.now.table c.args.roster.now.lines c.args.roster.now.mutexes in
     let after : Locks = after_withdrawal c.args.t c.args.m c.args.reply locks in
     let threads : c.refresh_priorities.new.roster.table ≡ with_threads c.args.p after c.args.roster.now.table = grind (arith, moves) in
     moved_ready c.args.p c.args.roster.now.table c.refresh_priorities.new.roster.table c.args.roster.now.lines c.refresh_priorities.new.roster.lines c.args.roster.now.mutexes c.refresh_priorities.new.roster.mutexes after c.requires.ready.part
@@ -24,7 +24,7 @@ pub returns-clause-sound : goal.returns-clause-sound
 returns-clause-sound c = λ sound.
     let a : Rostered = c.args.roster.now in
     let b : Rostered = c.refresh_priorities.new.roster in
-    let after : Locks = after_withdrawal c.args.t c.args.m c.args.reply (locks_at c.args.p a.table a.lines a.mutexes) in
+    let after : Locks = after_withdrawal c.args.t c.args.m c.args.reply (locks_by c.args.p a.table a.lines a.mutexes) in
     let threads : b.table ≡ with_threads c.args.p after a.table = grind (arith, moves) in
     sound_withdrawal c.args.p c.args.t c.args.m c.args.reply a b c.requires.waiter
     (record {

@@ -1,0 +1,162 @@
+-- Kept deadlines stay those of the threads' waits where threads change.
+use Rattle.std.proofs.Common.{◌≡◌, ℕ, zero, suc, List, [], ◌∷◌, map, Bool, true, false, refl, sym, ◌∙◌, ap, replicate, All, ◌≤◌}
+use Rattle.std.specs.Prelude.{Option, Some, None, IfSome, option_map, slice_get, slice_set}
+use Rattle.std.specs.Option.{option_flatten}
+use Rattle.std.proofs.Math.ListN.{set}
+use Rattle.std.proofs.lemmas.List.{map-set, set-get_or}
+use Rattle.ptk_words.specs.Pools.{pool_get, pool_set, pool_changed}
+use Rattle.ptk_words.specs.declared.threads.Thread.{Thread}
+use Rattle.ptk_words_parted.specs.Parts.{part_of, filled}
+use Rattle.ptk_words_model.specs.State.{locks_of}
+use Rattle.ptk_words_model.specs.Mutex.{wait_of}
+use Rattle.ptk_words_sync_invariant.proofs.Deadlines.{deadline_at, deadlines-kept}
+use Rattle.ptk_threads.specs.declared.changes.ThreadChange.{ThreadChange}
+use Rattle.ptk_threads.specs.declared.changes.ThreadChange.TheVariants.{Address, Policy, AssignedPriority, Used, Phase, Joiner, Result, Wait}
+use Rattle.ptk_threads.specs.Table.{IsTable, replaced_by}
+use Rattle.ptk_threads.specs.Changes.{thread_changed, sets_wait}
+use Rattle.ptk_threads.specs.Timed.{AreTimed, IsKept, deadlines_in}
+use Rattle.ptk_threads.proofs.Slots.{table_threads, table_filled, length-pool_set}
+
+-- ---- one partition's deadlines
+
+row_of : (threads : List (List (Option Thread))) (p : ℕ) → part_of (map deadlines_in threads) p ≡ deadlines_in (part_of threads p)
+row_of [] p = refl
+row_of (row ∷ threads) zero = refl
+row_of (row ∷ threads) (suc p) = row_of threads p
+
+-- a partition's kept deadlines
+pub timed_row : (p : ℕ) (deadlines : List (List (Option ℕ))) (threads : List (List (Option Thread))) → AreTimed deadlines threads → part_of deadlines p ≡ deadlines_in (part_of threads p)
+timed_row p deadlines threads timed = ap (λ (rows : List (List (Option ℕ))). part_of rows p) timed.all ∙ row_of threads p
+
+-- a partition's threads are these, and its deadlines those of their waits
+timed_put : (p : ℕ) (row : List (Option Thread)) (kept : List (Option ℕ)) (deadlines : List (List (Option ℕ))) (threads : List (List (Option Thread))) → kept ≡ deadlines_in row → AreTimed deadlines threads
+    → AreTimed (set deadlines p kept) (set threads p row)
+timed_put p row kept deadlines threads e timed = record {
+  all = ap (set deadlines p) e ∙ ap (λ (rows : List (List (Option ℕ))). set rows p (deadlines_in row)) timed.all ∙ sym (map-set deadlines_in threads p row);
+}
+
+-- a partition's threads are these, whose waits have the same deadlines
+timed_same : (p : ℕ) (row : List (Option Thread)) (deadlines : List (List (Option ℕ))) (threads : List (List (Option Thread))) → deadlines_in row ≡ deadlines_in (part_of threads p) → AreTimed deadlines threads → AreTimed deadlines (set threads p row)
+timed_same p row deadlines threads e timed = record {
+  all = sym (set-get_or deadlines p []) ∙ (timed_put p row (part_of deadlines p) deadlines threads (timed_row p deadlines threads timed ∙ sym e) timed).all;
+}
+
+-- ---- a thread changed whose wait stays
+
+timed_kept : (p k : ℕ) (f : Thread → Thread) (deadlines : List (List (Option ℕ))) (threads : List (List (Option Thread))) → wait_of (option_map f (pool_get (part_of threads p) k)) ≡ wait_of (pool_get (part_of threads p) k)
+    → AreTimed deadlines threads → AreTimed deadlines (set threads p (pool_changed k f (part_of threads p)))
+timed_kept p k f deadlines threads same timed =
+    timed_same p (pool_changed k f (part_of threads p)) deadlines threads (deadlines-kept k f (locks_of (part_of threads p) []) same) timed
+
+waits_kept : (f : Thread → Thread) (x : Option Thread) → ((thread : Thread) → (f thread).wait ≡ thread.wait) → wait_of (option_map f x) ≡ wait_of x
+waits_kept f None keeps = refl
+waits_kept f (Some thread) keeps = keeps thread
+
+waits_made : (made : Thread) (x : Option Thread) → IfSome x (λ thread. made.wait ≡ thread.wait) → wait_of (option_map (replaced_by made) x) ≡ wait_of x
+waits_made made None h = refl
+waits_made made (Some thread) h = h
+
+-- ---- a number whose deadline is made that of its wait
+
+follow_at : (i : ℕ) (x : Option Thread) (row : List (Option Thread)) → slice_set (deadlines_in row) i (deadline_at (option_flatten (slice_get (slice_set row i x) i))) ≡ deadlines_in (slice_set row i x)
+follow_at i x [] = refl
+follow_at zero x (y ∷ row) = refl
+follow_at (suc i) x (y ∷ row) = ap (λ (rest : List (Option ℕ)). deadline_at y ∷ rest) (follow_at i x row)
+
+follow : (k : ℕ) (x : Option Thread) (row : List (Option Thread)) → pool_set (deadlines_in row) k (deadline_at (pool_get (pool_set row k x) k)) ≡ deadlines_in (pool_set row k x)
+follow zero x row = refl
+follow (suc i) x row = follow_at i x row
+
+own_row : {A : Type 0} (rows : List (List A)) (p k : ℕ) (x : A) → part_of (set rows p (pool_set (part_of rows p) k x)) p ≡ pool_set (part_of rows p) k x
+own_row [] p zero x = refl
+own_row [] p (suc i) x = refl
+own_row (row ∷ rows) zero k x = refl
+own_row (row ∷ rows) (suc p) k x = own_row rows p k x
+
+-- a number becomes this, and its deadline is that of its wait
+timed_read : (p k : ℕ) (x : Option Thread) (deadlines after : List (List (Option ℕ))) (threads new : List (List (Option Thread))) → new ≡ set threads p (pool_set (part_of threads p) k x)
+    → after ≡ set deadlines p (pool_set (part_of deadlines p) k (deadline_at (pool_get (part_of new p) k))) → AreTimed deadlines threads → AreTimed after new
+timed_read p k x deadlines after threads new e f timed =
+    let row : List (Option Thread) = part_of threads p in
+    let read : pool_get (part_of new p) k ≡ pool_get (pool_set row k x) k = ap (λ (rows : List (List (Option Thread))). pool_get (part_of rows p) k) e ∙ ap (λ (own : List (Option Thread)). pool_get own k) (own_row threads p k x) in
+    record {
+      all = f ∙ ap (λ (o : Option Thread). set deadlines p (pool_set (part_of deadlines p) k (deadline_at o))) read
+          ∙ ap (λ (kept : List (Option ℕ)). set deadlines p (pool_set kept k (deadline_at (pool_get (pool_set row k x) k)))) (timed_row p deadlines threads timed)
+          ∙ ap (set deadlines p) (follow k x row) ∙ (timed_put p (pool_set row k x) (deadlines_in (pool_set row k x)) deadlines threads refl timed).all ∙ ap (map deadlines_in) (sym e);
+    }
+
+-- ---- what always holds
+
+table_set : (p k : ℕ) (x : Option Thread) (threads : List (List (Option Thread))) (stored : List (List ℕ)) → IsTable threads stored → IsTable (set threads p (pool_set (part_of threads p) k x)) stored
+table_set p k x threads stored table = table_threads threads stored p (pool_set (part_of threads p) k x) table (length-pool_set (part_of threads p) k x)
+
+-- an entry was written, and its deadline is that of its wait
+pub kept_put : (p k : ℕ) (x : Option Thread) (threads new : List (List (Option Thread))) (stored : List (List ℕ)) (deadlines after : List (List (Option ℕ))) → new ≡ set threads p (pool_set (part_of threads p) k x)
+    → after ≡ set deadlines p (pool_set (part_of deadlines p) k (deadline_at (pool_get (part_of new p) k))) → IsKept threads stored deadlines → IsKept new stored after
+kept_put p k x threads new stored deadlines after e f kept = record {
+  table = rw e (table_set p k x threads stored kept.table);
+  timed = timed_read p k x deadlines after threads new e f kept.timed;
+}
+
+wait_stays : (change : ThreadChange) (thread : Thread) → sets_wait change ≡ false → (thread_changed change thread).wait ≡ thread.wait
+wait_stays (Address pc) thread e = refl
+wait_stays (Policy policy) thread e = refl
+wait_stays (AssignedPriority priority) thread e = refl
+wait_stays (Used used) thread e = refl
+wait_stays (Phase phase) thread e = refl
+wait_stays (Joiner joiner) thread e = refl
+wait_stays (Result result) thread e = refl
+wait_stays (Wait wait) thread e = let no : true ≡ false = e in absurd (cc)
+
+timed_change : (b : Bool) (p k : ℕ) (change : ThreadChange) (threads new : List (List (Option Thread))) (deadlines after : List (List (Option ℕ))) → b ≡ sets_wait change → new ≡ set threads p (pool_changed k (thread_changed change) (part_of threads p))
+    → (b ≡ true → after ≡ set deadlines p (pool_set (part_of deadlines p) k (deadline_at (pool_get (part_of new p) k)))) → (b ≡ false → after ≡ deadlines) → AreTimed deadlines threads → AreTimed after new
+timed_change true p k change threads new deadlines after is e sets keeps timed = timed_read p k (option_map (thread_changed change) (pool_get (part_of threads p) k)) deadlines after threads new e (sets refl) timed
+timed_change false p k change threads new deadlines after is e sets keeps timed =
+    rw (e, keeps refl) (timed_kept p k (thread_changed change) deadlines threads (waits_kept (thread_changed change) (pool_get (part_of threads p) k) (λ thread. wait_stays change thread (sym is))) timed)
+
+-- a field of a thread was changed
+pub kept_change : (b : Bool) (p k : ℕ) (change : ThreadChange) (threads new : List (List (Option Thread))) (stored : List (List ℕ)) (deadlines after : List (List (Option ℕ))) → b ≡ sets_wait change → new ≡ set threads p (pool_changed k (thread_changed change) (part_of threads p))
+    → (b ≡ true → after ≡ set deadlines p (pool_set (part_of deadlines p) k (deadline_at (pool_get (part_of new p) k)))) → (b ≡ false → after ≡ deadlines) → IsKept threads stored deadlines → IsKept new stored after
+kept_change b p k change threads new stored deadlines after is e sets keeps kept = record {
+  table = rw e (table_set p k (option_map (thread_changed change) (pool_get (part_of threads p) k)) threads stored kept.table);
+  timed = timed_change b p k change threads new deadlines after is e sets keeps kept.timed;
+}
+
+-- a thread was changed, and its wait stays
+pub kept_changed : (p k : ℕ) (f : Thread → Thread) (threads new : List (List (Option Thread))) (stored : List (List ℕ)) (deadlines : List (List (Option ℕ))) → new ≡ set threads p (pool_changed k f (part_of threads p))
+    → ((thread : Thread) → (f thread).wait ≡ thread.wait) → IsKept threads stored deadlines → IsKept new stored deadlines
+kept_changed p k f threads new stored deadlines e keeps kept = rw e (record {
+  table = table_set p k (option_map f (pool_get (part_of threads p) k)) threads stored kept.table;
+  timed = timed_kept p k f deadlines threads (waits_kept f (pool_get (part_of threads p) k) keeps) kept.timed;
+})
+
+-- work was done on a thread, which left its wait
+pub kept_work : (p k : ℕ) (made : Thread) (threads new : List (List (Option Thread))) (stored : List (List ℕ)) (deadlines : List (List (Option ℕ))) → new ≡ set threads p (pool_changed k (replaced_by made) (part_of threads p))
+    → IfSome (pool_get (part_of threads p) k) (λ thread. made.wait ≡ thread.wait) → IsKept threads stored deadlines → IsKept new stored deadlines
+kept_work p k made threads new stored deadlines e same kept = rw e (record {
+  table = table_set p k (option_map (replaced_by made) (pool_get (part_of threads p) k)) threads stored kept.table;
+  timed = timed_kept p k (replaced_by made) deadlines threads (waits_made made (pool_get (part_of threads p) k) same) kept.timed;
+})
+
+pub if_some : {A : Type 0} (x : Option A) (P Q : A → Type 0) → ((a : A) → P a → Q a) → IfSome x P → IfSome x Q
+if_some None P Q f h = h
+if_some (Some a) P Q f h = f a h
+
+-- ---- a table of free slots
+
+free_row : (n : ℕ) (without : Option ℕ) (slot : Option Thread) → without ≡ deadline_at slot → replicate n without ≡ deadlines_in (replicate n slot)
+free_row zero without slot e = refl
+free_row (suc n) without slot e = ap (λ (d : Option ℕ). d ∷ replicate n without) e ∙ ap (λ (rest : List (Option ℕ)). deadline_at slot ∷ rest) (free_row n without slot e)
+
+free_rows : (counts : List ℕ) (without : Option ℕ) (slot : Option Thread) → without ≡ deadline_at slot → map (filled without) counts ≡ map deadlines_in (map (filled slot) counts)
+free_rows [] without slot e = refl
+free_rows (n ∷ ns) without slot e =
+    ap (λ (row : List (Option ℕ)). row ∷ map (filled without) ns) (free_row n without slot e) ∙ ap (λ (rest : List (List (Option ℕ))). deadlines_in (replicate n slot) ∷ rest) (free_rows ns without slot e)
+
+-- no free number has a deadline
+pub kept_filled : (threads : List (List (Option Thread))) (stored : List (List ℕ)) (deadlines : List (List (Option ℕ))) (slot : Option Thread) (without : Option ℕ) (n : ℕ) (counts : List ℕ) → without ≡ deadline_at slot → All (λ count. count ≤ 32) counts
+    → threads ≡ map (filled slot) counts → stored ≡ map (filled n) counts → deadlines ≡ map (filled without) counts → IsKept threads stored deadlines
+kept_filled threads stored deadlines slot without n counts free small e f g = record {
+  table = table_filled threads stored slot n counts small e f;
+  timed = record { all = g ∙ free_rows counts without slot free ∙ ap (map deadlines_in) (sym e) };
+}

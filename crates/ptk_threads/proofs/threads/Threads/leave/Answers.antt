@@ -1,0 +1,10 @@
+use Rattle.std.proofs.Common.{ap}
+use Rattle.std.specs.Prelude.{Some}
+use Rattle.ptk_threads.specs.Queues.{LinkedThreads}
+use Rattle.ptk_threads.proofs.Timed.{kept_put}
+use Rattle.ptk_threads.proofs.threads.Threads.leave.Goals as goal
+
+pub invariant_of-self : goal.invariant_of-self
+invariant_of-self c =
+    kept_put c.args.p c.args.k (Some c.in-Some.thread) c.self.inside.slots.threads c.put.new.self.threads c.self.inside.stored c.self.inside.deadlines c.follow.new.deadlines
+    (ap (λ (t : LinkedThreads). t.threads) c.put.ensures) c.follow.ensures c.self.invariant

@@ -1,0 +1,96 @@
+//! The deadlines of the threads' waits, which are kept where a wait is set or ends.
+
+ghost use Rattle.std.specs.Prelude.{◌≡◌, ℕ, ◌<◌, true, false, length, map, option_map, slice_set};
+ghost use Rattle.ptk_words.specs.Pools.{pool_get, pool_set};
+ghost use Rattle.ptk_words_parted.specs.Parts.{part_of};
+ghost use Rattle.ptk_words_model.specs.Mutex.{wait_of};
+ghost use Rattle.ptk_words_model.specs.Withdrawal.{deadline_of_wait};
+ghost use Rattle.ptk_words_sync_invariant.specs.Expiries.{next_expiry};
+ghost use Rattle.ptk_clock.specs.BySlot.{deadlines_from};
+ghost use Rattle.ptk_clock.specs.ByThread.{first_slot, least_deadline};
+ghost use Rattle.ptk_threads_slots.specs.Links.{threads_of};
+ghost use Rattle.ptk_threads.specs.Timed.{deadlines_in};
+
+use crate::references::thread_among;
+use crate::slot_table::SlotTable;
+use crate::threads::Threads;
+use ptk_clock::{SharedDeadlines, ThreadDeadlines};
+use ptk_threads_slots::Slot;
+use ptk_words::{PartId, ThreadNo, Tick, Wait};
+
+impl Threads {
+    /// The queue of all partitions' deadlines, by slot: a partition's threads have the slots behind those of the
+    /// partitions before it, in order of number.
+    pub fn deadlines(&self) -> &SharedDeadlines
+        ensures { (p : ℕ) → p < length self.now.threads
+            → deadlines_in (part_of self.now.threads p) ≡ deadlines_from (first_slot p (map deadlines_in self.now.threads)) (length (part_of self.now.threads p)) result.now.pairs }
+    {
+        self.deadlines.shared()
+    }
+
+    /// The least deadline of the waits of a partition's threads; None where no wait has one.
+    pub fn next_deadline(&self, p: PartId) -> Option<Tick>
+        requires { p < length self.now.threads }
+        ensures { result ≡ least_deadline (deadlines_in (part_of self.now.threads p)) }
+    {
+        self.deadlines.next(p)
+    }
+
+    /// The thread whose deadline is the first that is at most now, by deadline and then thread number; None where none
+    /// is due (clock_nanosleep, pthread_mutex_timedlock, pthread_cond_timedwait).
+    pub fn first_due(&self, p: PartId, now: Tick) -> Option<ThreadNo>
+        requires { p < length self.now.threads }
+        ensures { result ≡ option_map (λ a. a.thread) (next_expiry now (deadlines_in (part_of self.now.threads p))) }
+    {
+        self.deadlines.due(p, now)
+    }
+}
+
+/// The kept deadline of a thread is made that of its wait where that was changed; else it stays.
+pub(crate) fn follow_if(
+    deadlines: &mut ThreadDeadlines,
+    slots: &SlotTable,
+    p: PartId,
+    k: ThreadNo,
+    is_changed: bool,
+)
+    requires deadlines { p < length deadlines.old }
+    requires threads { p < length slots.now.threads }
+    ensures set { is_changed ≡ true → deadlines.new ≡ slice_set deadlines.old p (pool_set (part_of deadlines.old p) k (deadline_of_wait (wait_of (pool_get (part_of slots.now.threads p) k)))) }
+    ensures kept { is_changed ≡ false → deadlines.new ≡ deadlines.old }
+{
+    if is_changed {
+        follow(deadlines, slots, p, k);
+    }
+}
+
+/// The kept deadline of a thread is made that of its wait; of a free number none is kept.
+pub(crate) fn follow(deadlines: &mut ThreadDeadlines, slots: &SlotTable, p: PartId, k: ThreadNo)
+    requires deadlines { p < length deadlines.old }
+    requires threads { p < length slots.now.threads }
+    ensures { deadlines.new ≡ slice_set deadlines.old p (pool_set (part_of deadlines.old p) k (deadline_of_wait (wait_of (pool_get (part_of slots.now.threads p) k)))) }
+{
+    deadlines.set(p, k, deadline_at(slots.part(p), k));
+}
+
+/// The deadline of the wait of a partition's thread; None of a free number.
+fn deadline_at(slots: &[Slot], k: ThreadNo) -> Option<Tick>
+    ensures { result ≡ deadline_of_wait (wait_of (pool_get (threads_of slots.now) k)) }
+{
+    match thread_among(slots, k) {
+        Some(thread) => deadline_of(thread.wait),
+        None => None,
+    }
+}
+
+/// The deadline of a timed wait; None of any other.
+fn deadline_of(wait: Option<Wait>) -> Option<Tick>
+    ensures { result ≡ deadline_of_wait wait }
+{
+    match wait? {
+        Wait::SleepWait(deadline) => Some(deadline),
+        Wait::MutexWait(_, deadline) => deadline,
+        Wait::ConditionWait(_, _, deadline) => deadline,
+        Wait::InputWait | Wait::JoinWait(_) | Wait::RelockWait(_, _) => None,
+    }
+}
