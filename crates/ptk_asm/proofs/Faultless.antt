@@ -13,6 +13,7 @@ use Rattle.ptk_asm_language.specs.Tokens.{Token, Name, Number, Mark}
 use Rattle.ptk_asm_language.specs.Statements.{Value, Nothing, Given, Labelled, Operands, operand, operands_with, operands_of, with_value, no_operands, slots_of, stands_in, size_of, is_short, is_within}
 use Rattle.ptk_asm_language.specs.Source.{Statement, form_in, stated, statement_fault}
 use Rattle.ptk_asm.proofs.FormBytes.{is_sized}
+use Rattle.ptk_asm.proofs.States.{stated-ok}
 
 -- ---- its parts
 
@@ -25,9 +26,6 @@ form_shown None = form.Fence
 abbrev operands_shown : Option Statement → Operands
 operands_shown (Some s) = s.operands
 operands_shown None = no_operands
-
-stated-ok : (t : Token) (ts : List Token) (f : Form) (o : Operands) → form_in (t ∷ ts) ≡ Some f → operands_of (slots_of f) ts ≡ Ok o → stated (t ∷ ts) ≡ Some (record { form = f; operands = o })
-stated-ok t ts f o e p = simp (e, p)
 
 stated-no_form : (t : Token) (ts : List Token) → form_in (t ∷ ts) ≡ None → stated (t ∷ ts) ≡ None
 stated-no_form t ts e = simp e

@@ -1,5 +1,5 @@
 -- The bytes at fault lie within their line.
-use Rattle.std.proofs.Common.{◌≡◌, ℕ, ◌-◌, ◌≤◌, Bool, true, false, length, get_or, arith, List, [], ◌∷◌, Some, None, Option, zero, suc, refl}
+use Rattle.std.proofs.Common.{◌≡◌, ℕ, ◌≤◌, Bool, true, false, length, get_or, arith, List, [], ◌∷◌, Some, None, Option, zero, suc, refl}
 use Rattle.std.proofs.lemmas.Grind.{common_steps}
 use Rattle.ptk_asm_language.specs.declared.place.Extent.{Extent}
 use Rattle.ptk_asm_language.specs.Lines.{without_ending, code_of}

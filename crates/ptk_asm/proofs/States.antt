@@ -17,9 +17,6 @@ use Rattle.ptk_asm.specs.Passing.{State, Shows, behind, stepped, labelled, with_
 
 -- ---- a statement's first fault, check by check
 
-pub fault-section : (at : Place) (t : Token) (ts : List Token) (f : Form) → form_in (t ∷ ts) ≡ Some f → stands_in f at.section ≡ false → statement_fault at (t ∷ ts) ≡ Some fault.Mnemonic
-fault-section at t ts f e s = simp (e, s)
-
 pub fault-operands : (at : Place) (t : Token) (ts : List Token) (f : Form) (k : FaultKind) → form_in (t ∷ ts) ≡ Some f → stands_in f at.section ≡ true → operands_of (slots_of f) ts ≡ Err k
     → statement_fault at (t ∷ ts) ≡ Some k
 fault-operands at t ts f k e s o = simp (e, s, o)

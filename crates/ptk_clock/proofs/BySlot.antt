@@ -1,8 +1,9 @@
 -- Deadlines by slot after a pair came or left.
-use Rattle.std.proofs.Common.{◌≡◌, ◌≢◌, ℕ, zero, suc, ◌+◌, ◌-◌, ◌<◌, ◌≤◌, List, [], ◌∷◌, Bool, true, false, cond, ◌||◌, not, refl, sym, ◌∙◌, ap, arith, Option, Some, None, ◌⊎◌, inl, inr}
+use Rattle.std.proofs.Common.{◌≡◌, ◌≢◌, ℕ, zero, suc, ◌+◌, ◌-◌, ◌<◌, ◌≤◌, List, [], ◌∷◌, Bool, true, false, cond, not, refl, sym, ◌∙◌, ap, arith, Option, Some, None, ◌⊎◌, inl, inr}
 use Rattle.std.specs.Prelude.{nat_eq, ◌==◌, find, option_map}
 use Rattle.std.proofs.Math.ListN.{set}
 use Rattle.std.proofs.lemmas.Bool.Decides.{nat_tests}
+use Rattle.std.proofs.lemmas.Bool.{or_parts}
 use Rattle.ptk_words.specs.Pools.{is_in}
 use Rattle.ptk_words.specs.Names.{Tick}
 use Rattle.ptk_clock.specs.Pairs.{Pair, slots_of, is_before, with_pair, without_slot}
@@ -15,10 +16,6 @@ at_first false x o = refl
 
 pub deadline_at-cons : (x : Pair) (xs : List Pair) (q : ℕ) → deadline_at (x ∷ xs) q ≡ cond (x.1 == q) (Some x.0) (deadline_at xs q)
 deadline_at-cons x xs q = at_first (x.1 == q) x (find (λ pair. pair.1 == q) xs)
-
-both_false : (a b : Bool) → (a || b) ≡ false → (a ≡ false) × (b ≡ false)
-both_false true b h = ((cc), (cc))
-both_false false b h = (refl, h)
 
 -- two slots that differ are not both q
 turned : (s t q : ℕ) (u v w : Option Tick) → nat_eq s t ≡ false → cond (t == q) u (cond (s == q) v w) ≡ cond (s == q) v (cond (t == q) u w)
@@ -35,7 +32,7 @@ placed a x xs q false n h =
 deadline_at-with : (a : Pair) (xs : List Pair) (q : ℕ) → is_in a.1 (slots_of xs) ≡ false → deadline_at (with_pair a xs) q ≡ cond (a.1 == q) (Some a.0) (deadline_at xs q)
 deadline_at-with a [] q out = deadline_at-cons a [] q
 deadline_at-with a (x ∷ xs) q out =
-    let apart = both_false (nat_eq a.1 x.1) (is_in a.1 (slots_of xs)) out in
+    let apart = or_parts (nat_eq a.1 x.1) (is_in a.1 (slots_of xs)) out in
     placed a x xs q (is_before a x) apart.0 (deadline_at-with a xs q apart.1)
 
 -- what goes is of the slot, and what stays is not

@@ -1,9 +1,10 @@
 -- Where a pair has its place in the order, and where a binary search finds it.
-use Rattle.std.proofs.Common.{◌≡◌, ℕ, zero, suc, ◌+◌, ◌<◌, ◌≤◌, List, [], ◌∷◌, length, get_or, take, Bool, true, false, cond, ◌&&◌, not, refl, sym, ap, arith, Some, None}
+use Rattle.std.proofs.Common.{◌≡◌, ℕ, zero, suc, ◌+◌, ◌<◌, ◌≤◌, List, [], ◌∷◌, length, get_or, take, Bool, true, false, cond, ◌&&◌, not, refl, ap, arith, Some, None}
 use Rattle.std.specs.Prelude.{nat_lt, nat_le, find, position, unwrap_or}
 use Rattle.std.specs.List.{AllWithin, insert, position_or_len}
 use Rattle.std.specs.List.Sorted.{IsPartitionedBy, IsPartitionPoint}
 use Rattle.std.proofs.lemmas.Bool.Decides.{nat_tests}
+use Rattle.std.proofs.lemmas.Bool.{not-true, not-false}
 use Rattle.ptk_words.specs.Names.{Tick}
 use Rattle.ptk_clock.specs.Pairs.{Pair, is_before, IsBeforeAll, AreInOrder, with_pair, is_among, is_due}
 
@@ -61,18 +62,10 @@ insert-with c (x ∷ xs) (suc i) le lower upper =
     let first : is_before c x ≡ false = lower 0 x (omega arith) (omega arith) in
     rw first (ap (λ ys. x ∷ ys) (insert-with c xs i (omega arith) (λ k d h t. lower (suc k) d (omega arith) (omega arith)) (λ k d h t. upper (suc k) d (omega arith) (omega arith))))
 
-not_true : (b : Bool) → not b ≡ true → b ≡ false
-not_true true h = sym h
-not_true false h = refl
-
-not_false : (b : Bool) → not b ≡ false → b ≡ true
-not_false true h = refl
-not_false false h = sym h
-
 -- a binary search for the first pair that is not before c gives c's place
 pub insert-point : (c : Pair) (xs : List Pair) (i : ℕ) → i ≤ length xs → IsPartitionPoint (λ a. not (is_before c a) ≡ true) (λ a. not (is_before c a) ≡ false) xs i → insert xs i c ≡ with_pair c xs
 insert-point c xs i le point =
-    insert-with c xs i le (λ k d h t. not_true (is_before c (get_or xs k d)) (point.0 k d h t)) (λ k d h t. not_false (is_before c (get_or xs k d)) (point.1 k d h t))
+    insert-with c xs i le (λ k d h t. not-true (is_before c (get_or xs k d)) (point.0 k d h t)) (λ k d h t. not-false (is_before c (get_or xs k d)) (point.1 k d h t))
 
 -- the first n pairs are those due by now
 pub find-due : (first last : ℕ) (now : Tick) (xs : List Pair) (n : ℕ) → n ≤ length xs → AllWithin (λ a. nat_le a.0 now ≡ true) xs 0 n → AllWithin (λ a. nat_le a.0 now ≡ false) xs n (length xs)

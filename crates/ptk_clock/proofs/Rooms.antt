@@ -1,29 +1,19 @@
 -- A queue of deadlines after a pair came or left: in order, of each slot at most once, and with room.
-use Rattle.std.proofs.Common.{◌≡◌, ℕ, suc, ◌<◌, ◌≤◌, List, [], ◌∷◌, length, Bool, true, false, cond, ◌||◌, not, refl, ap, arith, ◌⊎◌, inl, inr, Result, Ok, Err}
+use Rattle.std.proofs.Common.{◌≡◌, ℕ, suc, ◌<◌, ◌≤◌, List, [], ◌∷◌, length, Bool, true, false, cond, not, refl, ap, arith, ◌⊎◌, inl, inr, Result, Ok, Err}
 use Rattle.std.specs.Prelude.{nat_eq, filter, ◌==◌, IsOk, is_ok}
 use Rattle.std.specs.List.{IsDistinct, AllByRecursion}
 use Rattle.std.proofs.lemmas.Bool.Decides.{nat_tests}
 use Rattle.std.proofs.lemmas.Map.Keys.{IsDistinct-cons, IsDistinct-head, IsDistinct-tail}
 use Rattle.std.proofs.lemmas.Map.Steps.{length-le_from_distinct_below}
+use Rattle.std.proofs.lemmas.Bool.{or_parts, or_cases, or_right}
 use Rattle.ptk_words.specs.Pools.{is_in}
 use Rattle.ptk_clock.specs.Pairs.{Pair, slots_of, is_before, IsBeforeAll, AreInOrder, with_pair, without_slot}
 use Rattle.ptk_clock.specs.Queues.{AreDeadlines}
+use Rattle.ptk_words_parted.proofs.Lists.{apart_from_out, none_distinct}
 
 by_test : (P : List Pair → Type 0) (b : Bool) (xs ys : List Pair) → (b ≡ true → P xs) → (b ≡ false → P ys) → P (cond b xs ys)
 by_test P true xs ys f g = f refl
 by_test P false xs ys f g = g refl
-
-both_false : (a b : Bool) → (a || b) ≡ false → (a ≡ false) × (b ≡ false)
-both_false true b h = ((cc), (cc))
-both_false false b h = (refl, h)
-
-one_true : (a b : Bool) → (a || b) ≡ true → (a ≡ true) ⊎ (b ≡ true)
-one_true true b h = inl refl
-one_true false b h = inr h
-
-either_true : (a b : Bool) → b ≡ true → (a || b) ≡ true
-either_true true b h = refl
-either_true false b h = h
 
 -- ---- the order
 
@@ -44,7 +34,7 @@ before_all-with b a (x ∷ xs) p h = by_test (IsBeforeAll b) (is_before a x) (a 
 pub order-with : (a : Pair) (xs : List Pair) → is_in a.1 (slots_of xs) ≡ false → AreInOrder xs → AreInOrder (with_pair a xs)
 order-with a [] out h = (tt, tt)
 order-with a (x ∷ xs) out h =
-    let apart = both_false (nat_eq a.1 x.1) (is_in a.1 (slots_of xs)) out in
+    let apart = or_parts (nat_eq a.1 x.1) (is_in a.1 (slots_of xs)) out in
     by_test AreInOrder (is_before a x) (a ∷ x ∷ xs) (x ∷ with_pair a xs)
     (λ t. ((t, before_all_after a x xs t h.0), h))
     (λ f. (before_all-with x a xs (before_other a x apart.0 f) h.0, order-with a xs apart.1 h.1))
@@ -60,20 +50,15 @@ order-filter test (x ∷ xs) h = by_test AreInOrder (test x) (x ∷ filter test 
 -- ---- the slots
 
 in-with : (q : ℕ) (a : Pair) (xs : List Pair) → is_in q (slots_of (with_pair a xs)) ≡ true → (q ≡ a.1) ⊎ (is_in q (slots_of xs) ≡ true)
-in-with q a [] = λ h. elim (one_true (nat_eq q a.1) false h) as (λ _. (q ≡ a.1) ⊎ (is_in q [] ≡ true)) [ inl e ↦ inl (grind (arith, nat_tests)) | inr r ↦ inr r ]
+in-with q a [] = λ h. elim (or_cases (nat_eq q a.1) false h) as (λ _. (q ≡ a.1) ⊎ (is_in q [] ≡ true)) [ inl e ↦ inl (grind (arith, nat_tests)) | inr r ↦ inr r ]
 in-with q a (x ∷ xs) =
     let P : List Pair → Type 0 = λ ys. is_in q (slots_of ys) ≡ true → (q ≡ a.1) ⊎ (is_in q (slots_of (x ∷ xs)) ≡ true) in
     by_test P (is_before a x) (a ∷ x ∷ xs) (x ∷ with_pair a xs)
-    (λ t h. elim (one_true (nat_eq q a.1) (is_in q (slots_of (x ∷ xs))) h) as (λ _. (q ≡ a.1) ⊎ (is_in q (slots_of (x ∷ xs)) ≡ true)) [ inl e ↦ inl (grind (arith, nat_tests)) | inr r ↦ inr r ])
-    (λ f h. elim (one_true (nat_eq q x.1) (is_in q (slots_of (with_pair a xs))) h) as (λ _. (q ≡ a.1) ⊎ (is_in q (slots_of (x ∷ xs)) ≡ true)) [
+    (λ t h. elim (or_cases (nat_eq q a.1) (is_in q (slots_of (x ∷ xs))) h) as (λ _. (q ≡ a.1) ⊎ (is_in q (slots_of (x ∷ xs)) ≡ true)) [ inl e ↦ inl (grind (arith, nat_tests)) | inr r ↦ inr r ])
+    (λ f h. elim (or_cases (nat_eq q x.1) (is_in q (slots_of (with_pair a xs))) h) as (λ _. (q ≡ a.1) ⊎ (is_in q (slots_of (x ∷ xs)) ≡ true)) [
       | inl e ↦ inr (rw e refl)
-      | inr r ↦ elim (in-with q a xs r) as (λ _. (q ≡ a.1) ⊎ (is_in q (slots_of (x ∷ xs)) ≡ true)) [ inl s ↦ inl s | inr s ↦ inr (either_true (nat_eq q x.1) (is_in q (slots_of xs)) s) ]
+      | inr r ↦ elim (in-with q a xs r) as (λ _. (q ≡ a.1) ⊎ (is_in q (slots_of (x ∷ xs)) ≡ true)) [ inl s ↦ inl s | inr s ↦ inr (or_right (nat_eq q x.1) (is_in q (slots_of xs)) s) ]
     ])
-
--- no slot of the list is this one
-apart_from_out : (k : ℕ) (ks : List ℕ) → is_in k ks ≡ false → AllByRecursion (λ y. nat_eq k y ≡ false) ks
-apart_from_out k [] h = tt
-apart_from_out k (j ∷ ks) h = let both = both_false (nat_eq k j) (is_in k ks) h in (both.0, apart_from_out k ks both.1)
 
 apart-with : (k : ℕ) (a : Pair) (xs : List Pair) → nat_eq k a.1 ≡ false → AllByRecursion (λ y. nat_eq k y ≡ false) (slots_of xs) → AllByRecursion (λ y. nat_eq k y ≡ false) (slots_of (with_pair a xs))
 apart-with k a [] n h = (n, tt)
@@ -86,7 +71,7 @@ flipped i j h = grind (arith, nat_tests)
 distinct-with : (a : Pair) (xs : List Pair) → is_in a.1 (slots_of xs) ≡ false → IsDistinct nat_eq (slots_of xs) → IsDistinct nat_eq (slots_of (with_pair a xs))
 distinct-with a [] out h = IsDistinct-cons nat_eq a.1 [] tt h
 distinct-with a (x ∷ xs) out h =
-    let both = both_false (nat_eq a.1 x.1) (is_in a.1 (slots_of xs)) out in
+    let both = or_parts (nat_eq a.1 x.1) (is_in a.1 (slots_of xs)) out in
     by_test (λ ys. IsDistinct nat_eq (slots_of ys)) (is_before a x) (a ∷ x ∷ xs) (x ∷ with_pair a xs)
     (λ t. IsDistinct-cons nat_eq a.1 (slots_of (x ∷ xs)) (apart_from_out a.1 (slots_of (x ∷ xs)) out) h)
     (λ f. IsDistinct-cons nat_eq x.1 (slots_of (with_pair a xs)) (apart-with x.1 a xs (flipped a.1 x.1 both.0) (IsDistinct-head nat_eq x.1 (slots_of xs) h)) (distinct-with a xs both.1 (IsDistinct-tail nat_eq x.1 (slots_of xs) h)))
@@ -96,8 +81,8 @@ in-filter q test [] = λ h. h
 in-filter q test (x ∷ xs) =
     let P : List Pair → Type 0 = λ ys. is_in q (slots_of ys) ≡ true → is_in q (slots_of (x ∷ xs)) ≡ true in
     by_test P (test x) (x ∷ filter test xs) (filter test xs)
-    (λ t h. elim (one_true (nat_eq q x.1) (is_in q (slots_of (filter test xs))) h) as (λ _. is_in q (slots_of (x ∷ xs)) ≡ true) [ inl e ↦ rw e refl | inr r ↦ either_true (nat_eq q x.1) (is_in q (slots_of xs)) (in-filter q test xs r) ])
-    (λ f h. either_true (nat_eq q x.1) (is_in q (slots_of xs)) (in-filter q test xs h))
+    (λ t h. elim (or_cases (nat_eq q x.1) (is_in q (slots_of (filter test xs))) h) as (λ _. is_in q (slots_of (x ∷ xs)) ≡ true) [ inl e ↦ rw e refl | inr r ↦ or_right (nat_eq q x.1) (is_in q (slots_of xs)) (in-filter q test xs r) ])
+    (λ f h. or_right (nat_eq q x.1) (is_in q (slots_of xs)) (in-filter q test xs h))
 
 apart-filter : (k : ℕ) (test : Pair → Bool) (xs : List Pair) → AllByRecursion (λ y. nat_eq k y ≡ false) (slots_of xs) → AllByRecursion (λ y. nat_eq k y ≡ false) (slots_of (filter test xs))
 apart-filter k test [] h = tt
@@ -113,10 +98,6 @@ distinct-filter test (x ∷ xs) h =
     (λ f. later)
 
 -- ---- whole queues
-
-none_distinct : IsDistinct nat_eq []
-unfolding IsDistinct
-none_distinct = tt
 
 pub deadlines_none : (n : ℕ) → AreDeadlines n []
 deadlines_none n = record { in_order = tt; distinct = none_distinct; below = λ q h. (let no : false ≡ true = h in absurd (cc)) }
@@ -144,7 +125,7 @@ pub deadlines_room : (n k : ℕ) (xs : List Pair) → k < n → is_in k (slots_o
 deadlines_room n k xs lt out all =
     let front : IsDistinct nat_eq (k ∷ slots_of xs) = IsDistinct-cons nat_eq k (slots_of xs) (apart_from_out k (slots_of xs) out) all.distinct in
     let below : (q : ℕ) → is_in q (k ∷ slots_of xs) ≡ true → q < n =
-    λ q h. elim (one_true (nat_eq q k) (is_in q (slots_of xs)) h) as (λ _. q < n) [ inl e ↦ (let same : q ≡ k = grind (arith, nat_tests) in omega arith) | inr r ↦ all.below q r ] in
+    λ q h. elim (or_cases (nat_eq q k) (is_in q (slots_of xs)) h) as (λ _. q < n) [ inl e ↦ (let same : q ≡ k = grind (arith, nat_tests) in omega arith) | inr r ↦ all.below q r ] in
     let few : length (k ∷ slots_of xs) ≤ n = length-le_from_distinct_below (k ∷ slots_of xs) n front below in
     omega (arith, length-slots xs)
 

@@ -6,8 +6,7 @@ use Rattle.ptk_words.specs.declared.threads.Thread.{Thread}
 use Rattle.ptk_words_model.specs.State.{Part}
 use Rattle.ptk_words_model.specs.Run.{is_active}
 use Rattle.ptk_words_model.specs.Chain.{Leads, leads_to}
-use Rattle.ptk_words_laws.proofs.ChainLaws.{IsNumber, IsBounded, chain_at-next, chain_at-ended, chain_complete, false_true, none_some, reaches_sound}
-use Rattle.ptk_words_laws.proofs.PriorityLaws.{number_of}
+use Rattle.ptk_words_sync_invariant.proofs.ChainLaws.{IsNumber, IsBounded, chain_at-next, chain_at-ended, chain_complete, false_true, none_some, number_of, reaches_sound}
 use Rattle.ptk_words_model.specs.Schedule.{is_running}
 use Rattle.ptk_system.specs.Activities.{activity_of_number}
 use Rattle.ptk_explanation.specs.Deadlocks.{IsDeadlocked, blocker_in, blocker_of}

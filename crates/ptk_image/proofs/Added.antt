@@ -11,9 +11,6 @@ use Rattle.std.proofs.lemmas.Option.{slice_get_past, slice_get_read}
 use Rattle.std.proofs.lemmas.Slice.Eq.{bytes_eq-Decides}
 use Rattle.ptk_image.specs.NamedFiles.{NamedFile, content_of}
 
-has : List ℕ → NamedFile → Bool
-has name file = bytes_eq file.name name
-
 -- the first that passes does
 passes : {X : Type 0} (p : X → Bool) (xs : List X) (i : ℕ) (d : X) → i ≡ position_or_len p xs → i < length xs → p (get_or xs i d) ≡ true
 passes p [] i d e h = absurd (omega arith)

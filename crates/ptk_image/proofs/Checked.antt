@@ -1,12 +1,10 @@
 -- Bytes that pass each check are read as an image.
-use Rattle.std.proofs.Common.{◌≡◌, ◌∙◌, ◌≤◌, ◌+◌, ◌-◌, ◌%◌, ℕ, true, List, length, take, drop, refl, codes, le-ltb, Ok, arith}
-use Rattle.std.specs.Prelude.{◌==◌, nat_eq}
+use Rattle.std.proofs.Common.{◌≡◌, ◌∙◌, ◌≤◌, ◌+◌, ◌-◌, ◌%◌, ℕ, true, List, length, take, drop, refl, codes, le-ltb, Ok}
+use Rattle.std.specs.Prelude.{nat_eq}
 use Rattle.std.specs.List.{starts_with}
 use Rattle.std.proofs.lemmas.List.{drop-drop}
+use Rattle.std.proofs.lemmas.Bool.{eq-eqb}
 use Rattle.ptk_words.specs.Image.{header_word, image_of}
-
-eqb-same : (a b : ℕ) → a ≡ b → (a == b) ≡ true
-eqb-same a b e = grind arith
 
 image_read : (bytes : List ℕ) → 24 ≤ length bytes → starts_with nat_eq bytes (codes "PTKI") ≡ true → header_word bytes 0 ≡ 1
     → header_word bytes 2 % 4 ≡ 0 → length bytes - 24 ≡ header_word bytes 2 + header_word bytes 3
@@ -16,10 +14,10 @@ image_read bytes long magic version words whole aligned inside =
     rw (
       le-ltb (length bytes) 24 long,
       magic,
-      eqb-same (header_word bytes 0) 1 version,
-      eqb-same (header_word bytes 2 % 4) 0 words,
-      eqb-same (length bytes - 24) (header_word bytes 2 + header_word bytes 3) whole,
-      eqb-same (header_word bytes 1 % 4) 0 aligned,
+      eq-eqb (header_word bytes 0) 1 version,
+      eq-eqb (header_word bytes 2 % 4) 0 words,
+      eq-eqb (length bytes - 24) (header_word bytes 2 + header_word bytes 3) whole,
+      eq-eqb (header_word bytes 1 % 4) 0 aligned,
       le-ltb (header_word bytes 2) (header_word bytes 1) inside,
     ) refl
 

@@ -4,7 +4,7 @@ use Rattle.std.specs.Prelude.{◌==◌, nat_eq, nat_lt, not, ◌||◌, if◌then
 use Rattle.std.specs.Cmp.Lexicographic.{same_text}
 use Rattle.std.specs.List.{starts_with}
 use Rattle.std.proofs.Math.Seq.{drop-append_seam, take-append_seam}
-use Rattle.std.proofs.lemmas.Bool.{ltb-false}
+use Rattle.std.proofs.lemmas.Bool.{ltb-false, not-false, or_parts}
 use Rattle.std.proofs.lemmas.Nat.{from_le_bytes-to_le_bytes_4, le_bytes_4}
 use Rattle.std.proofs.lemmas.List.{drop-drop, get_or-drop, get_or-take, get_or_past, take-append-drop}
 use Rattle.ptk_words.specs.Image.{ImageParts, header_word, image_bytes, image_of, spelled}
@@ -43,12 +43,6 @@ passed : {A E : Type 0} (b : Bool) (e : E) (r : Result A E) (x : A) → (if b th
 passed {A = A} {E = E} b e r x h =
     let P : Bool → Type 0 = λ v. (if v then Err e else r) ≡ Ok x → (v ≡ false) × (r ≡ Ok x) in
     elim b as P [ true ↦ λ (q : ◌≡◌ {A = Result A E} (Err e) (Ok x)). absurd (cc) | false ↦ λ (q : r ≡ Ok x). (refl, q) ] h
-
-not_false : (b : Bool) → not b ≡ false → b ≡ true
-not_false b h = grind arith
-
-or_false : (a b : Bool) → a || b ≡ false → (a ≡ false) × (b ≡ false)
-or_false a b h = grind arith
 
 chain : (p v e t d b text rest b24 b20 b16 b12 b8 b4 bytes : List ℕ)
     → text ++ rest ≡ b24 → b ++ b24 ≡ b20 → d ++ b20 ≡ b16 → t ++ b16 ≡ b12 → e ++ b12 ≡ b8 → v ++ b8 ≡ b4 → p ++ b4 ≡ bytes
@@ -99,8 +93,8 @@ write_back bytes small image h =
     (not (text % 4 == 0) || not (length bytes - 24 == text + rest)) (not (entry % 4 == 0) || nat_lt text entry)
     Short Magic Version Length Entry read image h
     in
-    let lengths = or_false (not (text % 4 == 0)) (not (length bytes - 24 == text + rest)) tests.3 in
+    let lengths = or_parts (not (text % 4 == 0)) (not (length bytes - 24 == text + rest)) tests.3 in
     ap image_bytes (sym tests.4)
-    ∙ joined bytes small (ltb-false (length bytes) 24 tests.0) (not_false (starts_with nat_eq bytes (codes "PTKI")) tests.1)
-    (eqb-true (header_word bytes 0) 1 (not_false (header_word bytes 0 == 1) tests.2))
-    (eqb-true (length bytes - 24) (text + rest) (not_false (length bytes - 24 == text + rest) lengths.1))
+    ∙ joined bytes small (ltb-false (length bytes) 24 tests.0) (not-false (starts_with nat_eq bytes (codes "PTKI")) tests.1)
+    (eqb-true (header_word bytes 0) 1 (not-false (header_word bytes 0 == 1) tests.2))
+    (eqb-true (length bytes - 24) (text + rest) (not-false (length bytes - 24 == text + rest) lengths.1))

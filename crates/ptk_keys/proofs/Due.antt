@@ -60,9 +60,6 @@ either (x ∷ xs) ys = refl
 below : (a b : ℕ) → a < b → nat_lt a b ≡ true
 below a b h = search rules
 
-not_below : (a b : ℕ) → b ≤ a → nat_lt a b ≡ false
-not_below a b h = search rules
-
 positive : (n : ℕ) → nat_lt 0 (suc n) ≡ true
 positive n = below 0 (suc n) (omega arith)
 

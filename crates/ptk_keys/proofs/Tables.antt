@@ -1,29 +1,18 @@
 -- The tables after a change of one partition, and those made for each section.
 use Rattle.std.proofs.Common.{arith, ◌≡◌, ℕ, ◌<◌, ◌≤◌, zero, suc, List, [], ◌∷◌, length, map, refl, sym, ◌∙◌, ap, All}
-use Rattle.std.specs.Prelude.{Option, Some, None, option_map, unwrap_or, replicate}
+use Rattle.std.specs.Prelude.{Option, None, replicate}
 use Rattle.std.proofs.Math.ListN.{set}
 use Rattle.std.proofs.lemmas.List.{length-map, length-replicate, length-set, set_past, set-get_or, set-set}
 use Rattle.std.proofs.lemmas.List.Elements.{All-head, All-tail}
-use Rattle.ptk_words.specs.Pools.{numbered, pool_set, pool_update}
 use Rattle.ptk_words.specs.declared.sections.Limits.{Limits}
-use Rattle.ptk_words_parted.specs.Parts.{part_of, filled}
+use Rattle.ptk_words_parted.specs.Parts.{part_of}
 use Rattle.ptk_words_parted.specs.Cuts.{lent}
 use Rattle.ptk_words_parted.proofs.Cuts.{lent-same, set_part-same}
 use Rattle.ptk_words_model.specs.declared.Rounds.{Rounds}
 use Rattle.ptk_keys.specs.KeptKeys.{AreKept}
+use Rattle.ptk_words_parted.proofs.Entries.{length-pool_set, length-pool_update, filled_per}
 
 -- ---- lengths
-
-pub length-pool_set : {X : Type 0} (xs : List X) (k : ℕ) (x : X) → length (pool_set xs k x) ≡ length xs
-length-pool_set xs zero x = refl
-length-pool_set xs (suc i) x = length-set xs i x
-
-update_length : {X : Type 0} (xs : List X) (k : ℕ) (f : X → X) (o : Option X) → length (unwrap_or (option_map (λ a. pool_set xs k (f a)) o) xs) ≡ length xs
-update_length xs k f None = refl
-update_length xs k f (Some a) = length-pool_set xs k (f a)
-
-pub length-pool_update : {X : Type 0} (xs : List X) (k : ℕ) (f : X → X) → length (pool_update xs k f) ≡ length xs
-length-pool_update xs k f = update_length xs k f (numbered xs k)
 
 length_part-set : {X : Type 0} (rows : List (List X)) (p q : ℕ) (row : List X) → length row ≡ length (part_of rows p) → length (part_of (set rows p row) q) ≡ length (part_of rows q)
 length_part-set [] p q row e = refl
@@ -61,10 +50,6 @@ kept_rounds destructors values rounds p row kept lt e =
 pub ruleset tables = (lent-same, length-set, length-map, set_part-same, set_past, set-get_or, set-set, length-pool_set, length-pool_update, kept_destructors, kept_values, kept_rounds)
 
 -- ---- made for each section
-
-pub filled_per : {A : Type 0} (count : Limits → ℕ) (a : A) (limits : List Limits) → map (filled a) (map count limits) ≡ map (λ l. replicate (count l) a) limits
-filled_per count a [] = refl
-filled_per count a (l ∷ ls) = ap (λ rows. replicate (count l) a ∷ rows) (filled_per count a ls)
 
 few_filled : {X : Type 0} (x : X) (limits : List Limits) → All (λ count. count ≤ 32) (map (λ l. l.keys) limits) → (p : ℕ) → length (part_of (map (λ l. replicate l.keys x) limits) p) ≤ 32
 few_filled x [] small p = omega arith

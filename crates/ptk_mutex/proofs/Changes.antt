@@ -9,7 +9,7 @@ use Rattle.ptk_words_model.specs.Chain.{greatest_leading}
 use Rattle.ptk_words_model.specs.Priority.{awaited, inheritor_of, ceiling_for, assigned_of, next_in_chain, held_of, effective_of, effective_priorities}
 use Rattle.ptk_words_sync_invariant.proofs.Pools.{changed_own, changed_other, length-changed, get_beyond}
 use Rattle.ptk_words_sync_invariant.proofs.Raising.{level_of, effective-changed}
-use Rattle.ptk_mutex.proofs.ChainLaws.{none_some, IsNumber, IsBounded}
+use Rattle.ptk_words_sync_invariant.proofs.ChainLaws.{none_some, IsNumber, IsBounded}
 
 -- ---- only threads of the pool lead on
 

@@ -5,7 +5,7 @@ use Rattle.std.proofs.lemmas.Bool.{cases_eq}
 use Rattle.ptk_words_model.specs.Chain.{Leads, leads_to, greatest_leading}
 use Rattle.ptk_mutex_priorities.specs.Raised.{raised_along}
 use Rattle.ptk_mutex.specs.Risen.{risen}
-use Rattle.ptk_mutex.proofs.ChainLaws.{false_true, reaches_sound, chain_complete, IsNumber, IsBounded}
+use Rattle.ptk_words_sync_invariant.proofs.ChainLaws.{false_true, reaches_sound, chain_complete, IsNumber, IsBounded}
 use Rattle.ptk_mutex_priorities.proofs.Levels.{raised_along_at, length-raised_along, swept_all}
 use Rattle.ptk_mutex.proofs.Rises.{risen-is}
 use Rattle.ptk_mutex.proofs.Joins.{IsTop, top-unique, greatest_leading-top, priorities, length-priorities, priority_at, within_priorities, step_up, max_cases, ReachedBy}

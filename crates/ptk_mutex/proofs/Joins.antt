@@ -2,7 +2,7 @@
 use Rattle.std.proofs.Common.{arith, ◌≡◌, ℕ, zero, suc, ◌<◌, ◌≤◌, max, Bool, true, false, ◌&&◌, List, [], ◌∷◌, ◌++◌, length, map, get_or, sym, ◌∙◌, ap, refl, subst, inl, inr, le_refl}
 use Rattle.std.specs.Prelude.{nat_eq, Option, Some, None, ◌⊎◌, fold, filter, option_and_then, if◌then◌else◌}
 use Rattle.std.specs.List.{list_any}
-use Rattle.std.proofs.lemmas.Bool.{eqb-true, eq-eqb, or_left}
+use Rattle.std.proofs.lemmas.Bool.{eqb-true, eq-eqb, or_cases, or_left, or_right}
 use Rattle.std.proofs.lemmas.List.Folds.{list_any-append}
 use Rattle.std.proofs.lemmas.List.{length-map, get_or-map}
 use Rattle.std.proofs.lemmas.Map.Views.{any-filter_same}
@@ -11,7 +11,7 @@ use Rattle.ptk_words_model.specs.Chain.{steps_from, Leads, leads_to, greatest_le
 use Rattle.ptk_mutex_priorities.specs.Raised.{raised_along}
 use Rattle.ptk_mutex.specs.Risen.{risen}
 use Rattle.ptk_threads.specs.Table.{stored_of}
-use Rattle.ptk_mutex.proofs.ChainLaws.{or_cases, or_right, false_true, none_some, reaches_sound, chain_complete, IsNumber, IsBounded}
+use Rattle.ptk_words_sync_invariant.proofs.ChainLaws.{false_true, none_some, reaches_sound, chain_complete, IsNumber, IsBounded}
 use Rattle.ptk_mutex_priorities.proofs.Levels.{raised_along_at, length-raised_along, swept_all, length-numbers_to, get_or-numbers_to}
 use Rattle.ptk_mutex.proofs.Rises.{IsPlace, IsWithin, risen-is}
 

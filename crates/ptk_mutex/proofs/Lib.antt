@@ -1,4 +1,3 @@
-pub mod ChainLaws
 pub mod Rises
 pub mod Joins
 pub mod Gains

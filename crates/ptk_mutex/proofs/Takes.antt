@@ -26,7 +26,7 @@ use Rattle.ptk_mutex.specs.Risen.{risen, reads}
 use Rattle.ptk_mutex.specs.Visits.{IsVisited}
 use Rattle.ptk_mutex.specs.Before.{freed, with_priority, IsBeforeTake, IsBeforeAssignment}
 use Rattle.ptk_mutex.specs.Gained.{is_for, awaiting, gained_by, gained_of}
-use Rattle.ptk_mutex.proofs.ChainLaws.{false_true, none_some, IsNumber}
+use Rattle.ptk_words_sync_invariant.proofs.ChainLaws.{false_true, none_some, IsNumber}
 use Rattle.ptk_mutex.proofs.Joins.{IsJoin, IsPassed, Attained, attained, member_le, numbers_member, number_member, both_true, parts, priorities, length-priorities, stored_as, join-is}
 use Rattle.ptk_mutex.proofs.Gains.{IsGain, gain-is}
 use Rattle.ptk_mutex.proofs.RiseSteps.{risen_stop}

@@ -14,7 +14,7 @@ use Rattle.ptk_threads.specs.Table.{stored_of}
 use Rattle.ptk_mutex.specs.Risen.{risen, reads}
 use Rattle.ptk_mutex.specs.Visits.{IsVisited}
 use Rattle.ptk_mutex.specs.Before.{awake, IsBeforeWait}
-use Rattle.ptk_mutex.proofs.ChainLaws.{false_true, IsNumber, IsBounded}
+use Rattle.ptk_words_sync_invariant.proofs.ChainLaws.{false_true, IsNumber, IsBounded}
 use Rattle.ptk_mutex.proofs.Rises.{IsWithin}
 use Rattle.ptk_mutex.proofs.Joins.{IsJoin, IsPassed, priorities, length-priorities, stored_as, join-is}
 use Rattle.ptk_mutex.proofs.Visits.{visits}

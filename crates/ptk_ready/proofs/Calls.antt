@@ -2,7 +2,7 @@
 use Rattle.std.proofs.Common.{◌≡◌, ℕ, zero, suc, ◌-◌, ◌<◌, ◌≤◌, List, [], ◌∷◌, ◌++◌, length, drop, true, false, refl, sym, ◌∙◌, ap, subst, arith, inl, inr}
 use Rattle.std.specs.Prelude.{ℤ, pos, neg_ℤ, ◌<ℤ◌, ◌≤ℤ◌, int_lt, ◌==◌, ◌||◌, Bool, find, is_some, option_map, Option, Some, None}
 use Rattle.std.proofs.Math.ListN.{set, get_or-map}
-use Rattle.std.proofs.lemmas.Bool.{cases_eq}
+use Rattle.std.proofs.lemmas.Bool.{cases_eq, cases_Bool, eq-eqb, ne_eqb}
 use Rattle.std.proofs.lemmas.List.{get_or-set_same, length-map, length-set}
 use Rattle.ptk_words.specs.Pools.{is_in, without, pool_set}
 use Rattle.ptk_words_parted.specs.Parts.{part_of}
@@ -22,9 +22,9 @@ use Rattle.ptk_ready.specs.Bits.{has_bit, IsBitChanged}
 use Rattle.ptk_ready.specs.Orders.{placed}
 use Rattle.ptk_ready.specs.Entries.{is_ready, stamp_of, entries, has_any, AreStamps, IsSound}
 use Rattle.ptk_ready.specs.Lines.{line_of, with_refiled, IsFiled}
-use Rattle.ptk_ready.proofs.Orders.{no_less, less_test, true_or_false}
+use Rattle.ptk_ready.proofs.Orders.{no_less, less_test}
 use Rattle.ptk_ready.proofs.Ready.{in_entries, ready_mark}
-use Rattle.ptk_ready.proofs.Kept.{sound_kept, is_priority, no_priority, went}
+use Rattle.ptk_ready.proofs.Kept.{sound_kept, went}
 use Rattle.ptk_ready.proofs.Firsts.{any_member}
 use Rattle.ptk_ready.proofs.Filed.{found_passes, placed_end, placed_before}
 use Rattle.ptk_ready.proofs.Lists.{line_same, filed_line, sound_line}
@@ -195,11 +195,11 @@ removed_lists limit links ends stored stamps bitmap bits k are few filed wide in
 find_without : (p : ℕ → Bool) (k : ℕ) (ks : List ℕ) → p k ≡ false → find p (without k ks) ≡ find p ks
 find_without p k [] fails = refl
 find_without p k (x ∷ xs) fails = elim (cases_eq x k) as (λ _. find p (without k (x ∷ xs)) ≡ find p (x ∷ xs)) [
-  | inl e ↦ (let gone : (x == k) ≡ true = is_priority x k e in
+  | inl e ↦ (let gone : (x == k) ≡ true = eq-eqb x k e in
       let out : p x ≡ false = ap p e ∙ fails in
       rw (gone, out) (find_without p k xs fails))
-  | inr ne ↦ (let stays : (x == k) ≡ false = no_priority x k ne in
-      elim (true_or_false (p x)) as (λ _. find p (without k (x ∷ xs)) ≡ find p (x ∷ xs)) [
+  | inr ne ↦ (let stays : (x == k) ≡ false = ne_eqb x k ne in
+      elim (cases_Bool (p x)) as (λ _. find p (without k (x ∷ xs)) ≡ find p (x ∷ xs)) [
         | inl does ↦ rw (stays, does) refl
         | inr out ↦ rw (stays, out) (find_without p k xs fails)
       ])

@@ -2,7 +2,7 @@
 use Rattle.std.proofs.Common.{◌≡◌, ℕ, suc, ◌<◌, List, [], ◌∷◌, length, Bool, true, false, refl, sym, ◌∙◌, ap, subst, arith, get_or, ◌⊎◌, inl, inr}
 use Rattle.std.specs.Prelude.{ℤ, ◌<ℤ◌, ◌≤ℤ◌, int_lt, Option, Some, None, option_map, unwrap_or}
 use Rattle.std.specs.Int.{int_max, int_min}
-use Rattle.std.proofs.lemmas.Bool.{cases_eq}
+use Rattle.std.proofs.lemmas.Bool.{cases_eq, cases_Bool}
 use Rattle.std.proofs.lemmas.Int.{ints, clamps}
 use Rattle.std.proofs.lemmas.List.{get_or-map, get_or_default}
 use Rattle.ptk_words.specs.Pools.{is_in}
@@ -13,10 +13,10 @@ use Rattle.ptk_threads_slots.specs.Links.{links_of, own_link, no_link, no_ends, 
 use Rattle.ptk_threads_slots.proofs.Along.{in_front, in_here, in_later, not_true, along_marked}
 use Rattle.ptk_ready.specs.Bits.{has_bit, IsBitChanged, IsGreatestBit}
 use Rattle.ptk_ready.specs.Orders.{IsInOrder}
-use Rattle.ptk_ready.specs.Entries.{is_ready, is_ready_place, stamp_of, has_any}
+use Rattle.ptk_ready.specs.Entries.{is_ready, is_ready_place, stamp_of}
 use Rattle.ptk_ready.specs.Stamps.{AreOrdered, IsExtreme, greater_of, lesser_of}
-use Rattle.ptk_ready.proofs.Orders.{true_or_false}
 use Rattle.ptk_ready.proofs.Ready.{ready_mark, marked_ready}
+use Rattle.ptk_ready.proofs.Firsts.{any_member}
 
 pub read_ready : (slots : List Slot) (i : ℕ) (slot : Slot) (answer : Bool) → i < length slots → slot ≡ get_or slots i slot → answer ≡ is_ready_place (option_map place_of slot.link.queue) → answer ≡ is_ready (links_of slots) (suc i)
 read_ready slots i slot answer lt read e =
@@ -36,13 +36,9 @@ IsGreatestBut left links stamps stamp = IsExtremeBut (λ a b. a ≤ℤ b) left l
 abbrev pub IsLeastBut : ℕ → List Link → List ℤ → Option ℤ → Type 0
 IsLeastBut left links stamps stamp = IsExtremeBut (λ a b. b ≤ℤ a) left links stamps stamp
 
-any_in : (k : ℕ) (ks : List ℕ) → is_in k ks ≡ true → has_any ks ≡ true
-any_in k [] h = absurd (cc)
-any_in k (j ∷ ks) h = refl
-
 -- at first all queues are to be looked at
 pub extreme_start : (R : ℤ → ℤ → Type 0) (links : List Link) (ends : List Ends) (stamps : List ℤ) (bitmap : ℕ) → AreOrdered links ends stamps bitmap → IsExtremeBut R bitmap links stamps None
-extreme_start R links ends stamps bitmap filed = λ k i lt mark. filed.bits i lt ∙ any_in k (queue_at links ends i) (filed.queues.marked k i mark)
+extreme_start R links ends stamps bitmap filed = λ k i lt mark. filed.bits i lt ∙ any_member k (queue_at links ends i) (filed.queues.marked k i mark)
 
 -- at last none is
 pub extreme_end : (R : ℤ → ℤ → Type 0) (links : List Link) (stamps : List ℤ) (left : ℕ) (o : Option ℤ) → IsGreatestBit left None → IsExtremeBut R left links stamps o → IsExtreme R links stamps o
@@ -133,10 +129,10 @@ peak_first stamp (x ∷ xs) h = (
 -- ---- a queue looked at
 
 max_one : (m s : ℤ) → (s ≡ int_max m s) ⊎ (m ≡ int_max m s)
-max_one m s = elim (true_or_false (int_lt s m)) as (λ _. (s ≡ int_max m s) ⊎ (m ≡ int_max m s)) [ inl does ↦ inr (rw does refl) | inr fails ↦ inl (rw fails refl) ]
+max_one m s = elim (cases_Bool (int_lt s m)) as (λ _. (s ≡ int_max m s) ⊎ (m ≡ int_max m s)) [ inl does ↦ inr (rw does refl) | inr fails ↦ inl (rw fails refl) ]
 
 min_one : (m s : ℤ) → (s ≡ int_min m s) ⊎ (m ≡ int_min m s)
-min_one m s = elim (true_or_false (int_lt s m)) as (λ _. (s ≡ int_min m s) ⊎ (m ≡ int_min m s)) [ inl does ↦ inl (rw does refl) | inr fails ↦ inr (rw fails refl) ]
+min_one m s = elim (cases_Bool (int_lt s m)) as (λ _. (s ≡ int_min m s) ⊎ (m ≡ int_min m s)) [ inl does ↦ inl (rw does refl) | inr fails ↦ inr (rw fails refl) ]
 
 max_above : (m s : ℤ) → (s ≤ℤ int_max m s) × (m ≤ℤ int_max m s)
 max_above m s = (omega (arith, ints, clamps), omega (arith, ints, clamps))

@@ -2,7 +2,7 @@
 use Rattle.std.proofs.Common.{◌≡◌, ℕ, suc, ◌<◌, List, [], ◌∷◌, ◌++◌, length, Bool, true, false, refl, sym, ◌∙◌, ap, subst, arith, get_or, inl, inr}
 use Rattle.std.specs.Prelude.{ℤ, int_lt, find, nat_eq, Option, Some, None}
 use Rattle.std.proofs.lemmas.Bool.Decides.{nat_tests}
-use Rattle.std.proofs.lemmas.Bool.{eqb-true}
+use Rattle.std.proofs.lemmas.Bool.{eqb-true, cases_Bool}
 use Rattle.ptk_words.specs.Pools.{is_in}
 use Rattle.ptk_threads_slots.proofs.Along.{in_here, in_later, not_true}
 use Rattle.std.proofs.lemmas.List.{get_or_read}
@@ -12,7 +12,6 @@ use Rattle.ptk_threads_slots.specs.declared.link.Ends.{Ends}
 use Rattle.ptk_threads_slots.specs.Links.{link_in, walk, no_ends, ends_at, queue_at}
 use Rattle.ptk_threads_slots.specs.Changes.{put_before}
 use Rattle.ptk_ready.specs.Orders.{placed}
-use Rattle.ptk_ready.proofs.Orders.{true_or_false}
 
 -- a thread that fails the test is passed over
 pub walk_on : (p : ℕ → Bool) (many rest : ℕ) (links : List Link) (at : Option ℕ) (k : ℕ) (next : Option ℕ) → many ≡ suc rest → at ≡ Some k → p k ≡ false → next ≡ (link_in links k).next
@@ -22,7 +21,7 @@ walk_on p many rest links at k next e is fails goes = rw (e, is, goes, fails) re
 -- what is found passes the test and is in the list
 pub found_passes : (p : ℕ → Bool) (b : ℕ) (ks : List ℕ) → find p ks ≡ Some b → (p b ≡ true) × (is_in b ks ≡ true)
 found_passes p b [] h = absurd (cc)
-found_passes p b (k ∷ ks) h = elim (true_or_false (p k)) as (λ _. (p b ≡ true) × (is_in b (k ∷ ks) ≡ true)) [
+found_passes p b (k ∷ ks) h = elim (cases_Bool (p k)) as (λ _. (p b ≡ true) × (is_in b (k ∷ ks) ≡ true)) [
   | inl does ↦ (let found : Some k ≡ Some b = rw does at h in
       let same : k ≡ b = cc in
       (subst (λ z. p z ≡ true) same does, subst (λ z. is_in z (k ∷ ks) ≡ true) same (in_here k ks)))
@@ -33,7 +32,7 @@ found_passes p b (k ∷ ks) h = elim (true_or_false (p k)) as (λ _. (p b ≡ tr
 -- nobody has a greater stamp
 pub placed_end : (stamp : ℕ → ℤ) (k : ℕ) (ks : List ℕ) → find (λ j. int_lt (stamp k) (stamp j)) ks ≡ None → placed stamp k ks ≡ ks ++ k ∷ []
 placed_end stamp k [] h = refl
-placed_end stamp k (j ∷ ks) h = elim (true_or_false (int_lt (stamp k) (stamp j))) as (λ _. placed stamp k (j ∷ ks) ≡ j ∷ ks ++ k ∷ []) [
+placed_end stamp k (j ∷ ks) h = elim (cases_Bool (int_lt (stamp k) (stamp j))) as (λ _. placed stamp k (j ∷ ks) ≡ j ∷ ks ++ k ∷ []) [
   | inl does ↦ (let found : Some j ≡ None = rw does at h in absurd (cc))
   | inr fails ↦ (let rest : find (λ i. int_lt (stamp k) (stamp i)) ks ≡ None = rw fails at h in rw fails (ap (λ l. j ∷ l) (placed_end stamp k ks rest)))
 ]
@@ -41,7 +40,7 @@ placed_end stamp k (j ∷ ks) h = elim (true_or_false (int_lt (stamp k) (stamp j
 -- b is the first one of a greater stamp
 pub placed_before : (stamp : ℕ → ℤ) (k b : ℕ) (ks : List ℕ) → find (λ j. int_lt (stamp k) (stamp j)) ks ≡ Some b → put_before k b ks ≡ placed stamp k ks
 placed_before stamp k b [] h = absurd (cc)
-placed_before stamp k b (j ∷ ks) h = elim (true_or_false (int_lt (stamp k) (stamp j))) as (λ _. put_before k b (j ∷ ks) ≡ placed stamp k (j ∷ ks)) [
+placed_before stamp k b (j ∷ ks) h = elim (cases_Bool (int_lt (stamp k) (stamp j))) as (λ _. put_before k b (j ∷ ks) ≡ placed stamp k (j ∷ ks)) [
   | inl does ↦ (let found : Some j ≡ Some b = rw does at h in
       let same : b ≡ j = cc in
       let here : nat_eq b j ≡ true = grind (arith, nat_tests) in

@@ -2,6 +2,7 @@
 use Rattle.std.proofs.Common.{◌≡◌, ℕ, suc, ◌-◌, ◌<◌, ◌≤◌, List, [], ◌∷◌, length, Bool, true, refl, sym, ◌∙◌, ap, subst, arith, get_or, max, inl, inr}
 use Rattle.std.specs.Prelude.{ℤ, find, filter, fold, ◌==◌, Some, None}
 use Rattle.std.proofs.lemmas.List.{get_or_default}
+use Rattle.std.proofs.lemmas.Bool.{cases_Bool}
 use Rattle.ptk_words.specs.Pools.{is_in, greatest, first_of_greatest}
 use Rattle.ptk_threads.specs.Table.{stored_of}
 use Rattle.ptk_threads_slots.specs.declared.link.Link.{Link}
@@ -10,9 +11,9 @@ use Rattle.ptk_threads_slots.specs.Links.{no_ends, ends_at, first_or, queue_at}
 use Rattle.ptk_threads_slots.proofs.Along.{in_front, in_here, in_later, le_or_gt}
 use Rattle.ptk_ready.specs.Bits.{has_bit, IsGreatestBit}
 use Rattle.ptk_ready.specs.Entries.{entries, has_any, IsSound}
-use Rattle.ptk_ready.proofs.Orders.{true_or_false}
 use Rattle.ptk_ready.specs.Laws.{in_priority}
 use Rattle.ptk_ready.proofs.Kept.{IsKept, sound_kept, of_its_priority}
+use Rattle.ptk_ready.proofs.Lists.{no_members}
 
 -- ---- the greatest of a list
 
@@ -42,7 +43,7 @@ greatest_is rank m b ks h inside e =
 
 first_kept : (p : ℕ → Bool) (ks : List ℕ) → find p ks ≡ first_or None (filter p ks)
 first_kept p [] = refl
-first_kept p (k ∷ ks) = elim (true_or_false (p k)) as (λ _. find p (k ∷ ks) ≡ first_or None (filter p (k ∷ ks))) [
+first_kept p (k ∷ ks) = elim (cases_Bool (p k)) as (λ _. find p (k ∷ ks) ≡ first_or None (filter p (k ∷ ks))) [
   | inl does ↦ rw does refl
   | inr fails ↦ rw fails (first_kept p ks)
 ]
@@ -60,10 +61,6 @@ some_member (k ∷ ks) h = record { one = k; inside = in_here k ks }
 pub any_member : (k : ℕ) (ks : List ℕ) → is_in k ks ≡ true → has_any ks ≡ true
 any_member k [] h = absurd (cc)
 any_member k (j ∷ ks) h = refl
-
-no_member : (ks : List ℕ) → ((k : ℕ) → is_in k ks ≡ true → ⊥) → ks ≡ []
-no_member [] h = refl
-no_member (k ∷ ks) h = absurd (h k (in_here k ks))
 
 -- a thread of the line has its priority's bit
 member_bit : (limit : ℕ) (links : List Link) (ends : List Ends) (stored : List ℕ) (stamps : List ℤ) (bitmap : ℕ) (xs : List ℕ) → IsKept limit links ends stored stamps bitmap xs
@@ -100,7 +97,7 @@ pub none_found : (limit : ℕ) (links : List Link) (ends : List Ends) (stored : 
     → None ≡ first_of_greatest (stored_of stored) (entries links stamps)
 none_found limit links ends stored stamps bitmap sound none =
     let kept = sound_kept limit links ends stored stamps bitmap sound in
-    let empty : entries links stamps ≡ [] = no_member (entries links stamps) (λ k inside.
+    let empty : entries links stamps ≡ [] = no_members (entries links stamps) (λ k inside.
     (let level = kept.levels k inside in
     let set = member_bit limit links ends stored stamps bitmap (entries links stamps) kept k inside in
     let clear = none (stored_of stored k - 1) (omega (arith, level.0, level.1)) in absurd (cc))) in

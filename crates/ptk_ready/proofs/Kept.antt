@@ -2,8 +2,7 @@
 use Rattle.std.proofs.Common.{◌≡◌, ◌≢◌, ℕ, suc, ◌-◌, ◌<◌, ◌≤◌, List, [], ◌∷◌, length, Bool, true, false, ◌&&◌, not, refl, sym, ◌∙◌, ap, subst, arith, ◌⊎◌, inl, inr}
 use Rattle.std.specs.Prelude.{ℤ, pos, neg_ℤ, ◌≤ℤ◌, int_lt, ◌==◌, filter, Some, None}
 use Rattle.std.proofs.Math.ListN.{set}
-use Rattle.std.proofs.lemmas.Bool.{cases_eq}
-use Rattle.std.proofs.lemmas.Bool.Decides.{nat_tests}
+use Rattle.std.proofs.lemmas.Bool.{cases_eq, cases_Bool, and_parts, and_from, eq-eqb, ne_eqb}
 use Rattle.std.proofs.lemmas.List.{get_or-set_same, get_or-set_other, length-map}
 use Rattle.ptk_words.specs.Pools.{is_in, without}
 use Rattle.ptk_words_parted.specs.Parts.{part_of}
@@ -17,7 +16,7 @@ use Rattle.ptk_ready.specs.Bits.{has_bit, IsBitChanged}
 use Rattle.ptk_ready.specs.Orders.{placed, IsInOrder}
 use Rattle.ptk_ready.specs.Entries.{is_ready, stamp_of, entries, of_priority, has_any, IsSound}
 use Rattle.ptk_ready.specs.Laws.{filter_agree, in_priority}
-use Rattle.ptk_ready.proofs.Orders.{true_or_false, same_test, and_parts, in_placed, in_kept, order_same, order_kept, order_placed, order_apart, same_list}
+use Rattle.ptk_ready.proofs.Orders.{same_test, in_placed, in_kept, order_same, order_kept, order_placed, order_apart, same_list}
 use Rattle.ptk_ready.proofs.Ready.{ready_mark, marked_ready, in_entries, entries_order, entries_are}
 
 -- ---- the line as a list in order
@@ -31,17 +30,8 @@ pub record IsKept (limit : ℕ) (links : List Link) (ends : List Ends) (stored :
   pub bits : (i : ℕ) → i < 32 → has_bit bitmap i ≡ has_any (queue_at links ends i)
   pub within : (k : ℕ) → is_in k xs ≡ true → (neg_ℤ (pos limit) ≤ℤ stamp_of stamps k) × (stamp_of stamps k ≤ℤ pos limit)
 
-both : (a b : Bool) → a ≡ true → b ≡ true → (a && b) ≡ true
-both a b h g = rw (h, g) refl
-
-pub is_priority : (a b : ℕ) → a ≡ b → (a == b) ≡ true
-is_priority a b h = grind (arith, nat_tests)
-
-pub no_priority : (a b : ℕ) → a ≢ b → (a == b) ≡ false
-no_priority a b h = grind (arith, nat_tests)
-
 pub of_its_priority : (stored : List ℕ) (n k : ℕ) (xs : List ℕ) → stored_of stored k ≡ n → is_in k xs ≡ true → is_in k (of_priority stored n xs) ≡ true
-of_its_priority stored n k xs e inside = in_kept (λ j. stored_of stored j == n) k xs ∙ both (stored_of stored k == n) (is_in k xs) (is_priority (stored_of stored k) n e) inside
+of_its_priority stored n k xs e inside = in_kept (λ j. stored_of stored j == n) k xs ∙ and_from (stored_of stored k == n) (is_in k xs) (eq-eqb (stored_of stored k) n e) inside
 
 -- a ready thread lies in the queue of its stored priority
 pub kept_mark : (limit : ℕ) (links : List Link) (ends : List Ends) (stored : List ℕ) (stamps : List ℤ) (bitmap : ℕ) (xs : List ℕ) → IsKept limit links ends stored stamps bitmap xs
@@ -103,7 +93,7 @@ queue_other links new ends after i j line ne e =
 -- a number that fails the test may as well not be there
 filter_placed_out : (stamp : ℕ → ℤ) (p : ℕ → Bool) (k : ℕ) (xs : List ℕ) → p k ≡ false → filter p (placed stamp k xs) ≡ filter p xs
 filter_placed_out stamp p k [] fails = rw fails refl
-filter_placed_out stamp p k (x ∷ xs) fails = elim (true_or_false (int_lt (stamp k) (stamp x))) as (λ _. filter p (placed stamp k (x ∷ xs)) ≡ filter p (x ∷ xs)) [
+filter_placed_out stamp p k (x ∷ xs) fails = elim (cases_Bool (int_lt (stamp k) (stamp x))) as (λ _. filter p (placed stamp k (x ∷ xs)) ≡ filter p (x ∷ xs)) [
   | inl less ↦ rw (less, fails) refl
   | inr more ↦ rw (more, filter_placed_out stamp p k xs fails) refl
 ]
@@ -118,17 +108,17 @@ filter_placed stamp p k xs does ne order =
     (λ j inside. (let parts = and_parts (p j) (is_in j (placed stamp k xs)) (sym (in_kept p j (placed stamp k xs)) ∙ inside) in
     in_placed stamp j k (filter p xs) ∙ elim (in_front j k xs (sym (in_placed stamp j k xs) ∙ parts.1)) as (λ _. is_in j (k ∷ filter p xs) ≡ true) [
       | inl e ↦ subst (λ z. is_in z (k ∷ filter p xs) ≡ true) (sym e) (in_here k (filter p xs))
-      | inr r ↦ in_later j k (filter p xs) (in_kept p j xs ∙ both (p j) (is_in j xs) parts.0 r)
+      | inr r ↦ in_later j k (filter p xs) (in_kept p j xs ∙ and_from (p j) (is_in j xs) parts.0 r)
     ]))
     (λ j inside. elim (in_front j k (filter p xs) (sym (in_placed stamp j k (filter p xs)) ∙ inside)) as (λ _. is_in j (filter p (placed stamp k xs)) ≡ true) [
-      | inl e ↦ subst (λ z. is_in z (filter p (placed stamp k xs)) ≡ true) (sym e) (in_kept p k (placed stamp k xs) ∙ both (p k) (is_in k (placed stamp k xs)) does (in_placed stamp k k xs ∙ in_here k xs))
+      | inl e ↦ subst (λ z. is_in z (filter p (placed stamp k xs)) ≡ true) (sym e) (in_kept p k (placed stamp k xs) ∙ and_from (p k) (is_in k (placed stamp k xs)) does (in_placed stamp k k xs ∙ in_here k xs))
       | inr r ↦ (let parts = and_parts (p j) (is_in j xs) (sym (in_kept p j xs) ∙ r) in
-          in_kept p j (placed stamp k xs) ∙ both (p j) (is_in j (placed stamp k xs)) parts.0 (in_placed stamp j k xs ∙ in_later j k xs parts.1))
+          in_kept p j (placed stamp k xs) ∙ and_from (p j) (is_in j (placed stamp k xs)) parts.0 (in_placed stamp j k xs ∙ in_later j k xs parts.1))
     ])
 
 pub any_placed : (stamp : ℕ → ℤ) (k : ℕ) (xs : List ℕ) → has_any (placed stamp k xs) ≡ true
 any_placed stamp k [] = refl
-any_placed stamp k (x ∷ xs) = elim (true_or_false (int_lt (stamp k) (stamp x))) as (λ _. has_any (placed stamp k (x ∷ xs)) ≡ true) [ inl less ↦ rw less refl | inr more ↦ rw more refl ]
+any_placed stamp k (x ∷ xs) = elim (cases_Bool (int_lt (stamp k) (stamp x))) as (λ _. has_any (placed stamp k (x ∷ xs)) ≡ true) [ inl less ↦ rw less refl | inr more ↦ rw more refl ]
 
 -- ---- a thread that comes
 
@@ -156,7 +146,7 @@ coming_order limit stored after stamps anew xs k i coming order =
 coming_line : (limit : ℕ) (stored after : List ℕ) (stamps anew : List ℤ) (xs : List ℕ) (k i : ℕ) → IsComing limit stored after stamps anew xs k i → IsInOrder (stamp_of anew) xs
     → of_priority after (suc i) (placed (stamp_of anew) k xs) ≡ placed (stamp_of anew) k (of_priority stored (suc i) xs)
 coming_line limit stored after stamps anew xs k i coming order =
-    filter_placed (stamp_of anew) (λ j. stored_of after j == suc i) k xs (is_priority (stored_of after k) (suc i) coming.level) coming.apart order
+    filter_placed (stamp_of anew) (λ j. stored_of after j == suc i) k xs (eq-eqb (stored_of after k) (suc i) coming.level) coming.apart order
     ∙ ap (placed (stamp_of anew) k)
     (filter_agree (λ j. stored_of after j == suc i) (λ j. stored_of stored j == suc i) xs
     (λ j inside. ap (λ n. n == suc i) (coming.levels j (member_apart k j xs coming.out inside))))
@@ -164,7 +154,7 @@ coming_line limit stored after stamps anew xs k i coming order =
 coming_other : (limit : ℕ) (stored after : List ℕ) (stamps anew : List ℤ) (xs : List ℕ) (k i n : ℕ) → IsComing limit stored after stamps anew xs k i → suc i ≢ n
     → of_priority after n (placed (stamp_of anew) k xs) ≡ of_priority stored n xs
 coming_other limit stored after stamps anew xs k i n coming ne =
-    filter_placed_out (stamp_of anew) (λ j. stored_of after j == n) k xs (no_priority (stored_of after k) n (λ e. ne (sym coming.level ∙ e)))
+    filter_placed_out (stamp_of anew) (λ j. stored_of after j == n) k xs (ne_eqb (stored_of after k) n (λ e. ne (sym coming.level ∙ e)))
     ∙ filter_agree (λ j. stored_of after j == n) (λ j. stored_of stored j == n) xs
     (λ j inside. ap (λ m. m == n) (coming.levels j (member_apart k j xs coming.out inside)))
 
@@ -205,7 +195,7 @@ came limit links new ends late stored after stamps anew bitmap bits xs k i kept 
 
 filter_twice : (p q : ℕ → Bool) (xs : List ℕ) → filter q (filter p xs) ≡ filter (λ x. p x && q x) xs
 filter_twice p q [] = refl
-filter_twice p q (x ∷ xs) = elim (true_or_false (p x)) as (λ _. filter q (filter p (x ∷ xs)) ≡ filter (λ x. p x && q x) (x ∷ xs)) [
+filter_twice p q (x ∷ xs) = elim (cases_Bool (p x)) as (λ _. filter q (filter p (x ∷ xs)) ≡ filter (λ x. p x && q x) (x ∷ xs)) [
   | inl does ↦ rw (does, filter_twice p q xs) refl
   | inr fails ↦ rw (fails, filter_twice p q xs) refl
 ]
@@ -223,10 +213,10 @@ filter_turned p q xs = filter_twice p q xs ∙ filter_agree (λ x. p x && q x) (
 not_of : (stored : List ℕ) (n k : ℕ) (xs : List ℕ) → stored_of stored k ≢ n → of_priority stored n (without k xs) ≡ of_priority stored n xs
 not_of stored n k [] ne = refl
 not_of stored n k (x ∷ xs) ne = elim (cases_eq x k) as (λ _. of_priority stored n (without k (x ∷ xs)) ≡ of_priority stored n (x ∷ xs)) [
-  | inl e ↦ (let gone : (x == k) ≡ true = is_priority x k e in
-      let fails : (stored_of stored x == n) ≡ false = no_priority (stored_of stored x) n (λ h. ne (ap (stored_of stored) (sym e) ∙ h)) in
+  | inl e ↦ (let gone : (x == k) ≡ true = eq-eqb x k e in
+      let fails : (stored_of stored x == n) ≡ false = ne_eqb (stored_of stored x) n (λ h. ne (ap (stored_of stored) (sym e) ∙ h)) in
       rw (gone, fails) (not_of stored n k xs ne))
-  | inr other ↦ (let stays : (x == k) ≡ false = no_priority x k other in rw (stays, not_of stored n k xs ne) refl)
+  | inr other ↦ (let stays : (x == k) ≡ false = ne_eqb x k other in rw (stays, not_of stored n k xs ne) refl)
 ]
 
 pub in_without : (q k : ℕ) (xs : List ℕ) → is_in q (without k xs) ≡ true → is_in q xs ≡ true

@@ -4,6 +4,7 @@ use Rattle.std.specs.Prelude.{Bool, ℤ, None, filter, ◌==◌, ◌↔◌}
 use Rattle.std.proofs.lemmas.List.{get_or-take, append-nil}
 use Rattle.std.proofs.lemmas.Nat.Bits.{bit_at-zero}
 use Rattle.std.proofs.lemmas.List.Elements.{filter-append}
+use Rattle.std.proofs.lemmas.Bool.{and_parts}
 use Rattle.ptk_words.specs.Pools.{is_in, numbers_to}
 use Rattle.ptk_words_parted.specs.Parts.{part_of, joined}
 use Rattle.ptk_threads_slots.specs.declared.link.Link.{Link}
@@ -14,7 +15,7 @@ use Rattle.ptk_threads_slots.proofs.Lists.{list_at}
 use Rattle.ptk_ready.specs.Orders.{in_order}
 use Rattle.ptk_ready.specs.Entries.{is_ready, ready_of, stamp_of, entries, of_priority, has_any, IsSound}
 use Rattle.ptk_ready.specs.Lines.{queued, line_of, IsFiled}
-use Rattle.ptk_ready.proofs.Orders.{same_test, and_parts, in_kept, in_sorted}
+use Rattle.ptk_ready.proofs.Orders.{same_test, in_kept, in_sorted}
 use Rattle.ptk_ready.proofs.Ready.{ready_mark, marked_ready}
 use Rattle.ptk_ready.specs.Laws.{filter_agree}
 
@@ -102,7 +103,7 @@ filed_sound limit links ends stored stamps bitmap are few =
 
 -- ---- no thread
 
-no_members : (ks : List ℕ) → ((k : ℕ) → is_in k ks ≡ true → ⊥) → ks ≡ []
+pub no_members : (ks : List ℕ) → ((k : ℕ) → is_in k ks ≡ true → ⊥) → ks ≡ []
 no_members [] h = refl
 no_members (k ∷ ks) h = absurd (h k (in_here k ks))
 

@@ -20,9 +20,9 @@ use Rattle.ptk_ready.specs.Stamps.{AreOrdered}
 use Rattle.ptk_ready.proofs.Ranks.{IsRenumbered}
 use Rattle.ptk_ready.proofs.Ready.{in_entries, marked_ready, entries_order}
 use Rattle.ptk_ready.proofs.Orders.{no_less, less_test, test_less, in_placed, in_kept, order_kept, order_placed, order_apart, same_list}
-use Rattle.std.proofs.lemmas.Bool.{cases_eq}
+use Rattle.std.proofs.lemmas.Bool.{cases_eq, eq-eqb, ne_eqb}
 use Rattle.ptk_ready.specs.Laws.{in_priority}
-use Rattle.ptk_ready.proofs.Kept.{IsKept, IsComing, sound_kept, kept_sound, kept_entries, is_priority, no_priority, queue_other, member_apart, in_without, came}
+use Rattle.ptk_ready.proofs.Kept.{IsKept, IsComing, sound_kept, kept_sound, kept_entries, queue_other, member_apart, in_without, came}
 
 -- the queues of waiters, which come after those of ready threads, have the same lists
 abbrev pub KeepsWaiters : List Link → List Ends → List Link → List Ends → Type 0
@@ -48,13 +48,6 @@ pub any_first : (line : List ℕ) → is_some (first_or None line) ≡ has_any l
 any_first [] = refl
 any_first (k ∷ ks) = refl
 
-pub without_out : (k : ℕ) (ks : List ℕ) → is_in k ks ≡ false → without k ks ≡ ks
-without_out k [] out = refl
-without_out k (j ∷ ks) out =
-    let apart : j ≢ k = λ e. (let there : is_in k (j ∷ ks) ≡ true = subst (λ z. is_in z (j ∷ ks) ≡ true) e (in_here j ks) in absurd (cc)) in
-    let later : is_in k ks ≡ false = not_true (is_in k ks) (λ inside. (let there = in_later k j ks inside in absurd (cc))) in
-    rw (no_priority j k apart, without_out k ks later) refl
-
 pub unmarked : (links : List Link) (stamps : List ℤ) (k : ℕ) → mark_of links k ≡ None → is_in k (entries links stamps) ≡ false
 unmarked links stamps k mark = in_entries links stamps k ∙ (rw mark refl)
 
@@ -62,7 +55,7 @@ unmarked links stamps k mark = in_entries links stamps k ∙ (rw mark refl)
 
 pub out_without : (k : ℕ) (xs : List ℕ) → is_in k (without k xs) ≡ true → ⊥
 out_without k xs h =
-    let fails : not (k == k) ≡ false = rw (is_priority k k refl) refl in
+    let fails : not (k == k) ≡ false = rw (eq-eqb k k refl) refl in
     let contra = sym (in_kept (λ j. not (j == k)) k xs) ∙ h in
     let no : false ≡ true = rw fails at contra in
     absurd (cc)
@@ -84,7 +77,7 @@ placed_back stamp k xs order inside =
     ])
     (λ j there. in_placed stamp j k (without k xs) ∙ elim (cases_eq j k) as (λ _. is_in j (k ∷ without k xs) ≡ true) [
       | inl e ↦ subst (λ z. is_in z (k ∷ without k xs) ≡ true) (sym e) (in_here k (without k xs))
-      | inr apart ↦ in_later j k (without k xs) (in_kept (λ i. not (i == k)) j xs ∙ (rw (no_priority j k apart, there) refl))
+      | inr apart ↦ in_later j k (without k xs) (in_kept (λ i. not (i == k)) j xs ∙ (rw (ne_eqb j k apart, there) refl))
     ])
 
 -- a thread that was taken out of the line lies in no queue

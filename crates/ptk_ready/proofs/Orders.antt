@@ -1,8 +1,8 @@
 -- Lists in order of stamps, of which there is one for each set of numbers.
-use Rattle.std.proofs.Common.{◌≡◌, ◌≢◌, ℕ, List, [], ◌∷◌, Bool, true, false, ◌||◌, ◌&&◌, refl, sym, ◌∙◌, ap, subst, arith, ◌⊎◌, inl, inr}
+use Rattle.std.proofs.Common.{◌≡◌, ◌≢◌, ℕ, List, [], ◌∷◌, Bool, true, false, ◌||◌, ◌&&◌, refl, sym, ◌∙◌, ap, subst, arith, inl, inr}
 use Rattle.std.specs.Prelude.{ℤ, ◌<ℤ◌, int_lt, nat_eq, filter}
 use Rattle.std.specs.List.{IsDistinct}
-use Rattle.std.proofs.lemmas.Bool.{eqb-true}
+use Rattle.std.proofs.lemmas.Bool.{eqb-true, cases_Bool, and_parts}
 use Rattle.std.proofs.lemmas.Int.{ints}
 use Rattle.std.proofs.lemmas.Map.Keys.{IsDistinct-tail}
 use Rattle.ptk_words.specs.Pools.{is_in}
@@ -10,10 +10,6 @@ use Rattle.ptk_threads_slots.proofs.Along.{in_front, in_here, in_later, head_out
 use Rattle.ptk_ready.specs.Orders.{placed, in_order, IsInOrder}
 
 -- ---- tests
-
-pub true_or_false : (b : Bool) → (b ≡ true) ⊎ (b ≡ false)
-true_or_false true = inl refl
-true_or_false false = inr refl
 
 -- two tests that imply each other are one
 pub same_test : (a b : Bool) → (a ≡ true → b ≡ true) → (b ≡ true → a ≡ true) → a ≡ b
@@ -42,7 +38,7 @@ swap_or false b c = refl
 
 pub in_placed : (stamp : ℕ → ℤ) (q k : ℕ) (ks : List ℕ) → is_in q (placed stamp k ks) ≡ is_in q (k ∷ ks)
 in_placed stamp q k [] = refl
-in_placed stamp q k (j ∷ ks) = elim (true_or_false (int_lt (stamp k) (stamp j))) as (λ _. is_in q (placed stamp k (j ∷ ks)) ≡ is_in q (k ∷ j ∷ ks)) [
+in_placed stamp q k (j ∷ ks) = elim (cases_Bool (int_lt (stamp k) (stamp j))) as (λ _. is_in q (placed stamp k (j ∷ ks)) ≡ is_in q (k ∷ j ∷ ks)) [
   | inl does ↦ rw does refl
   | inr fails ↦ rw fails (ap (λ b. nat_eq q j || b) (in_placed stamp q k ks) ∙ swap_or (nat_eq q j) (nat_eq q k) (is_in q ks))
 ]
@@ -50,11 +46,6 @@ in_placed stamp q k (j ∷ ks) = elim (true_or_false (int_lt (stamp k) (stamp j)
 pub in_sorted : (stamp : ℕ → ℤ) (q : ℕ) (ks : List ℕ) → is_in q (in_order stamp ks) ≡ is_in q ks
 in_sorted stamp q [] = refl
 in_sorted stamp q (k ∷ ks) = in_placed stamp q k (in_order stamp ks) ∙ ap (λ b. nat_eq q k || b) (in_sorted stamp q ks)
-
-pub and_parts : (a b : Bool) → (a && b) ≡ true → (a ≡ true) × (b ≡ true)
-and_parts true true h = (refl, refl)
-and_parts true false h = absurd (cc)
-and_parts false b h = absurd (cc)
 
 none_kept : (b : Bool) → false ≡ (b && false)
 none_kept true = refl
@@ -70,7 +61,7 @@ left_here false b c h = refl
 
 pub in_kept : (p : ℕ → Bool) (q : ℕ) (ks : List ℕ) → is_in q (filter p ks) ≡ (p q && is_in q ks)
 in_kept p q [] = none_kept (p q)
-in_kept p q (k ∷ ks) = elim (true_or_false (p k)) as (λ _. is_in q (filter p (k ∷ ks)) ≡ (p q && is_in q (k ∷ ks))) [
+in_kept p q (k ∷ ks) = elim (cases_Bool (p k)) as (λ _. is_in q (filter p (k ∷ ks)) ≡ (p q && is_in q (k ∷ ks))) [
   | inl does ↦ rw does (ap (λ b. nat_eq q k || b) (in_kept p q ks) ∙ kept_here (nat_eq q k) (p q) (is_in q ks) (λ e. ap p (eqb-true q k e) ∙ does))
   | inr fails ↦ rw fails (in_kept p q ks ∙ left_here (nat_eq q k) (p q) (is_in q ks) (λ e. ap p (eqb-true q k e) ∙ fails))
 ]
@@ -86,14 +77,14 @@ order_same stamp after (k ∷ ks) same h = (
 
 pub order_kept : (stamp : ℕ → ℤ) (p : ℕ → Bool) (ks : List ℕ) → IsInOrder stamp ks → IsInOrder stamp (filter p ks)
 order_kept stamp p [] h = tt
-order_kept stamp p (k ∷ ks) h = elim (true_or_false (p k)) as (λ _. IsInOrder stamp (filter p (k ∷ ks))) [
+order_kept stamp p (k ∷ ks) h = elim (cases_Bool (p k)) as (λ _. IsInOrder stamp (filter p (k ∷ ks))) [
   | inl does ↦ rw does (λ j inside. h.0 j (and_parts (p j) (is_in j ks) (sym (in_kept p j ks) ∙ inside)).1, order_kept stamp p ks h.1)
   | inr fails ↦ rw fails (order_kept stamp p ks h.1)
 ]
 
 pub order_placed : (stamp : ℕ → ℤ) (k : ℕ) (ks : List ℕ) → ((j : ℕ) → is_in j ks ≡ true → stamp k ≢ stamp j) → IsInOrder stamp ks → IsInOrder stamp (placed stamp k ks)
 order_placed stamp k [] ne h = (λ j inside. absurd (cc), tt)
-order_placed stamp k (j ∷ ks) ne h = elim (true_or_false (int_lt (stamp k) (stamp j))) as (λ _. IsInOrder stamp (placed stamp k (j ∷ ks))) [
+order_placed stamp k (j ∷ ks) ne h = elim (cases_Bool (int_lt (stamp k) (stamp j))) as (λ _. IsInOrder stamp (placed stamp k (j ∷ ks))) [
   | inl does ↦ (let less : stamp k <ℤ stamp j = less_test (stamp k) (stamp j) does in
       rw does (
         λ i inside. elim (in_front i j ks inside) as (λ _. stamp k <ℤ stamp i) [ inl e ↦ rw e less | inr r ↦ (let later = h.0 i r in omega (arith, ints)) ],
@@ -156,7 +147,7 @@ order_apart stamp (k ∷ ks) h i j a b e = elim (in_front i k ks a) as (λ _. i 
 
 pub distinct_kept : (p : ℕ → Bool) (ks : List ℕ) → IsDistinct nat_eq ks → IsDistinct nat_eq (filter p ks)
 distinct_kept p [] d = d
-distinct_kept p (k ∷ ks) d = elim (true_or_false (p k)) as (λ _. IsDistinct nat_eq (filter p (k ∷ ks))) [
+distinct_kept p (k ∷ ks) d = elim (cases_Bool (p k)) as (λ _. IsDistinct nat_eq (filter p (k ∷ ks))) [
   | inl does ↦ rw does (distinct_cons k (filter p ks)
       (not_true (is_in k (filter p ks)) (λ inside. (let there = (and_parts (p k) (is_in k ks) (sym (in_kept p k ks) ∙ inside)).1 in let out = head_out k ks d in absurd (cc))))
       (distinct_kept p ks (IsDistinct-tail nat_eq k ks d)))

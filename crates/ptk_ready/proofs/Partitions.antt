@@ -21,10 +21,11 @@ use Rattle.ptk_ready.specs.declared.entries.LinkedEntries.{LinkedEntries}
 use Rattle.ptk_ready.specs.Lines.{line_of, IsFiled}
 use Rattle.ptk_ready.proofs.Lists.{none_line}
 use Rattle.ptk_ready.proofs.Kept.{member_apart}
-use Rattle.ptk_ready.proofs.Moves.{without_out, out_without, stored_other}
+use Rattle.ptk_ready.proofs.Moves.{out_without, stored_other}
 use Rattle.ptk_ready.proofs.Calls.{member_within}
 use Rattle.ptk_ready.specs.Partitions.{entries_at, lines_by, AreFiled}
 use Rattle.ptk_ready.specs.Laws.{lines_at, lines_long, filed_same}
+use Rattle.ptk_threads_slots.proofs.Lists.{without_none}
 
 -- partition p's line is this list, and all others are as before
 pub record IsMoved (limit : ℕ) (line late : List (LinkedEntries limit)) (table now : ThreadTable) (p : ℕ) (xs : List ℕ) : Type 0 where
@@ -107,7 +108,7 @@ pub put_back : (limit : ℕ) (items line : List (LinkedEntries limit)) (i : ℕ)
 put_back limit items line i entries view value = ap (set items i) value ∙ (set-get_or items i entries ∙ view)
 
 pub line_without : (lines : List (List ℕ)) (p k : ℕ) → is_in k (part_of lines p) ≡ false → lines ≡ set lines p (without k (part_of lines p))
-line_without lines p k out = sym (ap (set lines p) (without_out k (part_of lines p) out) ∙ set-get_or lines p [])
+line_without lines p k out = sym (ap (set lines p) (without_none k (part_of lines p) out) ∙ set-get_or lines p [])
 
 -- ---- a stored priority
 

@@ -7,24 +7,24 @@ use Rattle.ptk_ready.specs.Entries.{is_ready, ready_of, stamp_of, entries, AreSt
 use Rattle.ptk_ready.specs.Stamps.{IsGreatestStamp, IsLeastStamp, above, below, rank, renumbered}
 use Rattle.ptk_threads_slots.proofs.Along.{in_front, not_true, marked_within}
 use Rattle.std.proofs.Math.ListN.{set}
-use Rattle.std.proofs.lemmas.Bool.{cases_eq}
+use Rattle.std.proofs.lemmas.Bool.{cases_eq, cases_Bool}
 use Rattle.std.proofs.lemmas.Int.{ints}
 use Rattle.std.proofs.lemmas.List.{get_or-map, get_or-set_same, get_or-set_other, length-map}
 use Rattle.ptk_ready.specs.Orders.{IsInOrder}
 use Rattle.ptk_ready.proofs.Ready.{ready_mark, in_ready, in_entries, entries_order, entries_are}
-use Rattle.ptk_ready.proofs.Orders.{true_or_false, no_less, less_test, test_less, order_same, order_apart}
+use Rattle.ptk_ready.proofs.Orders.{no_less, less_test, test_less, order_same, order_apart}
 
 -- ---- counts
 
 -- one number more, of those that pass p, counts where it passes q
 pub count_more : (p q : ℕ → Bool) (k : ℕ) (ks : List ℕ) → length (filter q (filter p (ks ++ k ∷ []))) ≡ length (filter q (filter p ks)) + cond (p k && q k) 1 0
-count_more p q k [] = elim (true_or_false (p k)) as (λ _. length (filter q (filter p (k ∷ []))) ≡ 0 + cond (p k && q k) 1 0) [
-  | inl does ↦ rw does (elim (true_or_false (q k)) as (λ _. length (filter q (k ∷ [])) ≡ 0 + cond (q k) 1 0) [ inl also ↦ rw also refl | inr out ↦ rw out refl ])
+count_more p q k [] = elim (cases_Bool (p k)) as (λ _. length (filter q (filter p (k ∷ []))) ≡ 0 + cond (p k && q k) 1 0) [
+  | inl does ↦ rw does (elim (cases_Bool (q k)) as (λ _. length (filter q (k ∷ [])) ≡ 0 + cond (q k) 1 0) [ inl also ↦ rw also refl | inr out ↦ rw out refl ])
   | inr fails ↦ rw fails refl
 ]
 count_more p q k (j ∷ ks) = let rest = count_more p q k ks in
-    elim (true_or_false (p j)) as (λ _. length (filter q (filter p (j ∷ ks ++ k ∷ []))) ≡ length (filter q (filter p (j ∷ ks))) + cond (p k && q k) 1 0) [
-      | inl does ↦ rw does (elim (true_or_false (q j)) as (λ _. length (filter q (j ∷ filter p (ks ++ k ∷ []))) ≡ length (filter q (j ∷ filter p ks)) + cond (p k && q k) 1 0) [
+    elim (cases_Bool (p j)) as (λ _. length (filter q (filter p (j ∷ ks ++ k ∷ []))) ≡ length (filter q (filter p (j ∷ ks))) + cond (p k && q k) 1 0) [
+      | inl does ↦ rw does (elim (cases_Bool (q j)) as (λ _. length (filter q (j ∷ filter p (ks ++ k ∷ []))) ≡ length (filter q (j ∷ filter p ks)) + cond (p k && q k) 1 0) [
         | inl also ↦ rw also (omega (arith, rest))
         | inr out ↦ rw out rest
       ])
@@ -46,9 +46,9 @@ count_small p q (suc n) =
 count_within : (p q : ℕ → Bool) (ks : List ℕ) → ((k : ℕ) → p k ≡ true → q k ≡ true) → length (filter p ks) ≤ length (filter q ks)
 count_within p q [] h = omega arith
 count_within p q (k ∷ ks) h = let rest = count_within p q ks h in
-    elim (true_or_false (p k)) as (λ _. length (filter p (k ∷ ks)) ≤ length (filter q (k ∷ ks))) [
+    elim (cases_Bool (p k)) as (λ _. length (filter p (k ∷ ks)) ≤ length (filter q (k ∷ ks))) [
       | inl does ↦ rw (does, h k does) (omega (arith, rest))
-      | inr fails ↦ rw fails (elim (true_or_false (q k)) as (λ _. length (filter p ks) ≤ length (filter q (k ∷ ks))) [
+      | inr fails ↦ rw fails (elim (cases_Bool (q k)) as (λ _. length (filter p ks) ≤ length (filter q (k ∷ ks))) [
         | inl also ↦ rw also (omega (arith, rest))
         | inr out ↦ rw out rest
       ])
@@ -60,9 +60,9 @@ count_less p q [] b h inside out within = absurd (cc)
 count_less p q (k ∷ ks) b h inside out within = elim (in_front b k ks inside) as (λ _. length (filter p (k ∷ ks)) < length (filter q (k ∷ ks))) [
   | inl e ↦ (let rest = count_within p q ks h in rw (ap p (sym e) ∙ out, ap q (sym e) ∙ within) (omega (arith, rest)))
   | inr r ↦ (let rest = count_less p q ks b h r out within in
-      elim (true_or_false (p k)) as (λ _. length (filter p (k ∷ ks)) < length (filter q (k ∷ ks))) [
+      elim (cases_Bool (p k)) as (λ _. length (filter p (k ∷ ks)) < length (filter q (k ∷ ks))) [
         | inl does ↦ rw (does, h k does) (omega (arith, rest))
-        | inr fails ↦ rw fails (elim (true_or_false (q k)) as (λ _. length (filter p ks) < length (filter q (k ∷ ks))) [
+        | inr fails ↦ rw fails (elim (cases_Bool (q k)) as (λ _. length (filter p ks) < length (filter q (k ∷ ks))) [
           | inl also ↦ rw also (omega (arith, rest))
           | inr other ↦ rw other rest
         ])

@@ -5,13 +5,14 @@ use Rattle.std.specs.List.{IsDistinct}
 use Rattle.std.specs.Cmp.{nat_eq_equiv}
 use Rattle.std.proofs.lemmas.Bool.Decides.{nat_tests}
 use Rattle.std.proofs.lemmas.Map.Keys.{IsDistinct-push}
+use Rattle.std.proofs.lemmas.Bool.{and_parts}
 use Rattle.ptk_words.specs.Pools.{is_in, numbers_to}
 use Rattle.ptk_threads_slots.specs.declared.link.Link.{Link}
 use Rattle.ptk_threads_slots.specs.Links.{mark_of}
 use Rattle.ptk_threads_slots.proofs.Along.{in_front, in_here, in_left, in_right, in_parts, not_true, le_or_gt, marked_within}
 use Rattle.ptk_ready.specs.Orders.{IsInOrder}
 use Rattle.ptk_ready.specs.Entries.{is_ready_place, is_ready, ready_of, stamp_of, entries, AreStamps}
-use Rattle.ptk_ready.proofs.Orders.{same_test, and_parts, in_sorted, in_kept, order_sorted, order_apart, distinct_kept, same_list}
+use Rattle.ptk_ready.proofs.Orders.{same_test, in_sorted, in_kept, order_sorted, order_apart, same_list, distinct_kept}
 
 -- ---- numbers
 

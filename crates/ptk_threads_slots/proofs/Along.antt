@@ -1,8 +1,8 @@
 -- What changed links do to a list that the links lead along.
-use Rattle.std.proofs.Common.{◌≡◌, ◌≢◌, ℕ, zero, suc, ◌<◌, ◌≤◌, List, [], ◌∷◌, ◌++◌, length, Bool, true, false, ◌||◌, refl, sym, ◌∙◌, ap, arith, ◌⊎◌, inl, inr}
+use Rattle.std.proofs.Common.{◌≡◌, ◌≢◌, ℕ, zero, suc, ◌<◌, ◌≤◌, List, [], ◌∷◌, ◌++◌, length, Bool, true, false, refl, sym, ◌∙◌, ap, arith, ◌⊎◌, inl, inr}
 use Rattle.std.specs.Prelude.{Option, Some, None, option_map, nat_eq}
 use Rattle.std.specs.List.{IsDistinct, AllByRecursion}
-use Rattle.std.proofs.lemmas.Bool.{eqb-true, or_left, or_right, cases_lt}
+use Rattle.std.proofs.lemmas.Bool.{or_left, or_right, cases_lt, or_cases, or_parts}
 use Rattle.std.proofs.lemmas.Bool.Decides.{nat_tests}
 use Rattle.std.proofs.lemmas.List.{get_or_past, get_or-set_same, get_or-set_other, length-set}
 use Rattle.std.proofs.lemmas.List.Folds.{list_any-append}
@@ -10,19 +10,10 @@ use Rattle.std.proofs.lemmas.Map.Keys.{IsDistinct-cons, IsDistinct-head, IsDisti
 use Rattle.ptk_words.specs.Pools.{pool_set, is_in}
 use Rattle.ptk_threads_slots.specs.declared.link.Link.{Link}
 use Rattle.ptk_threads_slots.specs.Links.{place_of, link_in, no_link, mark_of, with_next, with_previous, first_or, last_or, IsLink, IsAlong, walk}
+use Rattle.ptk_words_parted.proofs.Lists.{none_distinct, apart_from_out}
+pub use Rattle.ptk_words_parted.proofs.Lists.{in_front}
 
 -- ---- lists
-
-one_true : (a b : Bool) → (a || b) ≡ true → (a ≡ true) ⊎ (b ≡ true)
-one_true true b h = inl refl
-one_true false b h = inr h
-
-both_false : (a b : Bool) → (a || b) ≡ false → (a ≡ false) × (b ≡ false)
-both_false true b h = ((cc), (cc))
-both_false false b h = (refl, h)
-
-pub in_front : (q k : ℕ) (ks : List ℕ) → is_in q (k ∷ ks) ≡ true → (q ≡ k) ⊎ (is_in q ks ≡ true)
-in_front q k ks h = elim (one_true (nat_eq q k) (is_in q ks) h) as (λ _. (q ≡ k) ⊎ (is_in q ks ≡ true)) [ inl e ↦ inl (eqb-true q k e) | inr r ↦ inr r ]
 
 pub in_here : (k : ℕ) (ks : List ℕ) → is_in k (k ∷ ks) ≡ true
 in_here k ks = or_left (nat_eq k k) (is_in k ks) (grind (arith, nat_tests))
@@ -37,7 +28,7 @@ pub in_right : (q : ℕ) (xs ys : List ℕ) → is_in q ys ≡ true → is_in q 
 in_right q xs ys h = list_any-append (nat_eq q) xs ys ∙ or_right (is_in q xs) (is_in q ys) h
 
 pub in_parts : (q : ℕ) (xs ys : List ℕ) → is_in q (xs ++ ys) ≡ true → (is_in q xs ≡ true) ⊎ (is_in q ys ≡ true)
-in_parts q xs ys h = one_true (is_in q xs) (is_in q ys) (sym (list_any-append (nat_eq q) xs ys) ∙ h)
+in_parts q xs ys h = or_cases (is_in q xs) (is_in q ys) (sym (list_any-append (nat_eq q) xs ys) ∙ h)
 
 -- the first of a distinct list is not among the others
 all_apart : (k : ℕ) (ks : List ℕ) → AllByRecursion (λ y. nat_eq k y ≡ false) ks → is_in k ks ≡ false
@@ -59,16 +50,8 @@ apart y z (x ∷ xs) ys d h g =
       | inr r ↦ apart y z xs ys (IsDistinct-tail nat_eq x (xs ++ ys) d) r g
     ]
 
-none_distinct : IsDistinct nat_eq []
-unfolding IsDistinct
-none_distinct = tt
-
-out_apart : (k : ℕ) (ks : List ℕ) → is_in k ks ≡ false → AllByRecursion (λ y. nat_eq k y ≡ false) ks
-out_apart k [] h = tt
-out_apart k (j ∷ ks) h = let both = both_false (nat_eq k j) (is_in k ks) h in (both.0, out_apart k ks both.1)
-
 pub distinct_cons : (k : ℕ) (ks : List ℕ) → is_in k ks ≡ false → IsDistinct nat_eq ks → IsDistinct nat_eq (k ∷ ks)
-distinct_cons k ks out d = IsDistinct-cons nat_eq k ks (out_apart k ks out) d
+distinct_cons k ks out d = IsDistinct-cons nat_eq k ks (apart_from_out k ks out) d
 
 pub not_true : (b : Bool) → (b ≡ true → ⊥) → b ≡ false
 not_true true h = absurd (h refl)
@@ -79,7 +62,7 @@ pub out_join : (q : ℕ) (xs ys : List ℕ) → is_in q xs ≡ false → is_in q
 out_join q xs ys h g = list_any-append (nat_eq q) xs ys ∙ (rw h g)
 
 pub out_parts : (q : ℕ) (xs ys : List ℕ) → is_in q (xs ++ ys) ≡ false → (is_in q xs ≡ false) × (is_in q ys ≡ false)
-out_parts q xs ys h = both_false (is_in q xs) (is_in q ys) (sym (list_any-append (nat_eq q) xs ys) ∙ h)
+out_parts q xs ys h = or_parts (is_in q xs) (is_in q ys) (sym (list_any-append (nat_eq q) xs ys) ∙ h)
 
 pub distinct_left : (xs ys : List ℕ) → IsDistinct nat_eq (xs ++ ys) → IsDistinct nat_eq xs
 distinct_left [] ys d = none_distinct

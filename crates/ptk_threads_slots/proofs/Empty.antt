@@ -1,13 +1,9 @@
 -- Queues that are all empty.
 use Rattle.std.proofs.Common.{◌≡◌, ℕ, zero, suc, List, [], ◌∷◌, refl, sym, ◌∙◌, ap, get_or}
-use Rattle.std.specs.Prelude.{Some, None, nat_eq, option_map, replicate}
-use Rattle.std.specs.List.{IsDistinct}
+use Rattle.std.specs.Prelude.{Some, None, option_map, replicate}
 use Rattle.ptk_threads_slots.specs.declared.link.Link.{Link}
 use Rattle.ptk_threads_slots.specs.Links.{link_in, no_link, no_ends, place_of, AreQueues, queues}
-
-none_distinct : IsDistinct nat_eq []
-unfolding IsDistinct
-none_distinct = tt
+use Rattle.ptk_words_parted.proofs.Lists.{none_distinct}
 
 all_same : {X : Type 0} (n i : ℕ) (x : X) → get_or (replicate n x) i x ≡ x
 all_same zero i x = refl
@@ -30,5 +26,3 @@ empty_queues n m =
 pub empty_lists : (links : List Link) (m : ℕ) → queues links (replicate m no_ends) ≡ replicate m []
 empty_lists links zero = refl
 empty_lists links (suc m) = ap (λ l. [] ∷ l) (empty_lists links m)
-
-pub ruleset empties = (empty_queues, empty_lists)

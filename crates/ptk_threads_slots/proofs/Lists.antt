@@ -2,7 +2,7 @@
 use Rattle.std.proofs.Common.{◌≡◌, ℕ, ◌<◌, ◌≤◌, List, [], ◌∷◌, ◌++◌, length, true, false, refl, sym, ◌∙◌, ap, subst, arith, inl, inr}
 use Rattle.std.specs.Prelude.{Some, None, option_map, nat_eq, ◌==◌}
 use Rattle.std.proofs.Math.ListN.{set, get_or-map}
-use Rattle.std.proofs.lemmas.Bool.{cases_eq}
+use Rattle.std.proofs.lemmas.Bool.{cases_eq, eq-eqb}
 use Rattle.std.proofs.lemmas.Bool.Decides.{nat_tests}
 use Rattle.std.proofs.lemmas.List.{append-nil}
 use Rattle.ptk_words.specs.Pools.{is_in, without}
@@ -46,11 +46,8 @@ split k (x ∷ xs) h =
           record { before = x ∷ rest.before; after = rest.after; is = ap (λ l. x ∷ l) rest.is; out = rw apart rest.out })
     ]
 
-same_test : (k : ℕ) → nat_eq k k ≡ true
-same_test k = grind (arith, nat_tests)
-
 put_split : (k b : ℕ) (xs ys : List ℕ) → is_in b xs ≡ false → put_before k b (xs ++ b ∷ ys) ≡ xs ++ k ∷ b ∷ ys
-put_split k b [] ys out = rw (same_test b) refl
+put_split k b [] ys out = rw (eq-eqb b b refl) refl
 put_split k b (x ∷ xs) ys out =
     let both = out_parts b (x ∷ []) xs out in
     let apart : nat_eq b x ≡ false = grind (arith, nat_tests, both.0) in

@@ -5,7 +5,7 @@ use Rattle.std.specs.List.{list_any}
 use Rattle.std.proofs.lemmas.List.{drop_all}
 use Rattle.ptk_words_windows.specs.WindowFaults.{some_pair, first_fault}
 
-drop-at : {A : Type 0} (xs : List A) (i : ℕ) (x : A) → i < length xs → x ≡ get_or xs i x → drop i xs ≡ x ∷ drop (i + 1) xs
+pub drop-at : {A : Type 0} (xs : List A) (i : ℕ) (x : A) → i < length xs → x ≡ get_or xs i x → drop i xs ≡ x ∷ drop (i + 1) xs
 drop-at [] i x within is = absurd (omega arith)
 drop-at (y ∷ ys) zero x within is = rw (← is)
 drop-at (y ∷ ys) (suc i) x within is = rw (add-one (suc i)) (rw (add-one i) at (drop-at ys i x (omega arith) is))

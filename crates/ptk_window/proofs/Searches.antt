@@ -141,11 +141,3 @@ starts_order ws i k w d grouped low below is same =
           omega (arith, past)
       | inr (inr after) ↦ absurd (omega arith)
     ]
-
--- it begins first of those that end after the place
-pub first_least : (p place : ℕ) (ws : List Window) (i : ℕ) → AreGrouped ws → (first : IsFirstAfter ws p place i) → All (λ v. v.partition ≡ p → place < v.start + v.length → first.window.start ≤ v.start) ws
-first_least p place ws i grouped first k d below of_p after =
-    elim (cases_lt k i) [
-      | inl before ↦ absurd (omega (arith, first.before k d before of_p))
-      | inr later ↦ starts_order ws i k first.window d grouped later below first.is (of_p ∙ sym first.own)
-    ]

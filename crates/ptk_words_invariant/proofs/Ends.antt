@@ -3,6 +3,7 @@ use Rattle.std.proofs.Common.{◌≡◌, ℕ, ◌<◌, Bool, true, false, ◌||�
 use Rattle.std.specs.Prelude.{◌≢◌, Option, Some, None, option_map, is_some, if◌then◌else◌}
 use Rattle.std.specs.List.{list_any}
 use Rattle.std.proofs.lemmas.Bool.{cases_eq, false≢true, false_from_ne_true}
+use Rattle.std.proofs.lemmas.Option.{none-some}
 use Rattle.ptk_words.specs.Pools.{pool_get, pool_set, pool_changed, is_in}
 use Rattle.ptk_words.specs.declared.sections.Limits.{Limits}
 use Rattle.ptk_words.specs.declared.faults.Status.TheVariants.{Exited}
@@ -30,10 +31,8 @@ use Rattle.ptk_words_invariant.proofs.Whole.{lined_of, waiting_of, well_schedule
 use Rattle.ptk_words_invariant.proofs.Exclusion.{awaits_other, ended_owns, exclusion_unowning, conditions_waits}
 use Rattle.ptk_words_invariant.proofs.Threads.{used_changed_at}
 use Rattle.ptk_words_invariant.proofs.Parts.{well_halt}
-use Rattle.ptk_words_invariant.proofs.Waits.{waits_not_ready, waits_alive, woken_ready, woken_waits, joiner_woken, exclusion_woken}
-
-stopped : (t : ℕ) → None ≢ Some t
-stopped t e = let no : ⊥ = cc in no
+use Rattle.ptk_words_invariant.proofs.Waits.{woken_ready, woken_waits, joiner_woken, exclusion_woken}
+use Rattle.ptk_words_sync_invariant.proofs.Wakings.{waits_not_ready, waits_alive}
 
 -- ---- a free number
 
@@ -96,7 +95,7 @@ well_end_detached limits t s runs single none well =
     let ready : is_ready (pool_get s.threads t) ≡ true = well.running_ready t runs in
     let used : (v : ℕ) → used_of (pool_get (pool_set s.threads t None) v) < limits.interval = used_freed limits.interval t s.threads well.used in
     let parts : AreLined (pool_set s.threads t None) s.line None × AreListed (pool_set s.threads t None) s.console.waiters × AreMutexes (pool_set s.threads t None) s.mutexes × AreConditions (pool_set s.threads t None) s.mutexes s.conditions =
-    well_gone limits t None s (ready_waits (pool_get s.threads t) ready) single (well.running_out t runs) (stopped t) (lined_stopped s.threads s.line s.running (lined_of limits s well)) none well in
+    well_gone limits t None s (ready_waits (pool_get s.threads t) ready) single (well.running_out t runs) (none-some t) (lined_stopped s.threads s.line s.running (lined_of limits s well)) none well in
     well_scheduled limits s (pool_set s.threads t None) s.line s.mutexes None s.console.waiters (length-pool_set s.threads t None) refl parts.0 parts.1 parts.2 parts.3 used (λ e. refl) well
 
 -- the thread has ended (own)
@@ -127,7 +126,7 @@ well_end_kept limits t s runs none well =
       | inr ne ↦ well.ended_wait v (sym (ap is_alive (changed_other t v as_ended s.threads ne)) ∙ e)
     ] in
     well_scheduled limits s after s.line s.mutexes None s.console.waiters (length-changed t as_ended s.threads) refl
-    (lined_others t s.threads after s.line None (λ v ne. changed_other t v as_ended s.threads ne) (well.running_out t runs) (stopped t) (lined_stopped s.threads s.line s.running (lined_of limits s well)))
+    (lined_others t s.threads after s.line None (λ v ne. changed_other t v as_ended s.threads ne) (well.running_out t runs) (none-some t) (lined_stopped s.threads s.line s.running (lined_of limits s well)))
     (listed_same s.threads after s.console.waiters same ended (waiting_of limits s well))
     (exclusion_unowning t s.threads after s.mutexes (λ v ne. changed_other t v as_ended s.threads ne) (ap awaited (changed_own t as_ended s.threads) ∙ awaited_as_ended (pool_get s.threads t)) none well.exclusion)
     (conditions_waits s.threads after s.mutexes s.conditions waits well.conditional)
@@ -161,10 +160,10 @@ well_end_joined limits t u values s runs joined none well =
       ended = freed_ended t middle middle_ended;
     } in
     let lined : AreLined middle (s.line ++ u ∷ []) None =
-    lined_push u middle s.line None (ap is_ready (changed_own u (woken_with values) s.threads) ∙ woken_ready values (pool_get s.threads u) alive) out (stopped u)
-    (lined_others u s.threads middle s.line None (λ v other. changed_other u v (woken_with values) s.threads other) out (stopped u) (lined_stopped s.threads s.line s.running (lined_of limits s well))) in
+    lined_push u middle s.line None (ap is_ready (changed_own u (woken_with values) s.threads) ∙ woken_ready values (pool_get s.threads u) alive) out (none-some u)
+    (lined_others u s.threads middle s.line None (λ v other. changed_other u v (woken_with values) s.threads other) out (none-some u) (lined_stopped s.threads s.line s.running (lined_of limits s well))) in
     well_scheduled limits s after (s.line ++ u ∷ []) s.mutexes None s.console.waiters (length-pool_set middle t None ∙ length-changed u (woken_with values) s.threads) refl
-    (lined_others t middle after (s.line ++ u ∷ []) None (freed_others t middle) (out_push u t s.line (λ e. ne (sym e)) (well.running_out t runs)) (stopped t) lined)
+    (lined_others t middle after (s.line ++ u ∷ []) None (freed_others t middle) (out_push u t s.line (λ e. ne (sym e)) (well.running_out t runs)) (none-some t) lined)
     (listed_joined u t s.threads after s.console.waiters change joined (ap wait_of (get-set_other t u None middle ne) ∙ woken) (ap joiner_of (free_own t middle)) (waiting_of limits s well))
     (exclusion_freed t middle s.mutexes middle_free none middle_exclusion)
     (conditions_placed t None middle s.mutexes s.conditions middle_free refl middle_conditions)

@@ -35,6 +35,7 @@ use Rattle.ptk_words_invariant.proofs.Whole.{lined_of, waiting_of, well_schedule
 use Rattle.ptk_words_invariant.proofs.Exclusion.{ended_owns, exclusion_unowning}
 use Rattle.ptk_words_invariant.proofs.Parts.{well_memory, well_halt}
 use Rattle.ptk_words_invariant.proofs.Unwindings.{well_cancellation, well_cleanups, well_rounds, well_values}
+use Rattle.ptk_words_sync_invariant.proofs.Lines.{none_twice}
 
 -- ---- a new thread
 
@@ -139,10 +140,6 @@ values_at n k t (Some values) e = let same : values ≡ no_values k = numbered-r
 no_wait : {A : Type 0} (n t : ℕ) (a : A) (word : Option Thread → Option A) → word None ≡ None → word (pool_get (replicate n None) t) ≡ Some a → ⊥
 no_wait n t a word none e = let here : word (pool_get (replicate n None) t) ≡ None = ap word (get-replicate n t) ∙ none in let no : ⊥ = cc in no
 
-none_twice : IsDistinct nat_eq []
-unfolding IsDistinct
-none_twice = tt
-
 -- the mutexes of which each number is free, with threads of which each number is free
 no_mutexes : (n k : ℕ) → AreMutexes (replicate n None) (replicate k None)
 no_mutexes n k = record {
@@ -192,7 +189,7 @@ well_empty limits input interval = record {
   output = omega arith;
 }
 
-memory_fits : (limits : Limits) (image : ImageParts) → fits limits image ≡ true → length (memory_of limits image) ≡ limits.memory
+pub memory_fits : (limits : Limits) (image : ImageParts) → fits limits image ≡ true → length (memory_of limits image) ≡ limits.memory
 memory_fits limits image e =
     let text : ℕ = length image.text in
     let all : ℕ = length image.«data» in

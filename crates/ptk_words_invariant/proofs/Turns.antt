@@ -3,6 +3,7 @@ use Rattle.std.proofs.Common.{◌≡◌, ℕ, ◌+◌, Bool, true, false, ◌&&�
 use Rattle.std.specs.Prelude.{◌≢◌, Option, Some, None, nat_eq, nat_lt, nat_le, ◌==◌, if◌then◌else◌}
 use Rattle.std.specs.List.{list_any}
 use Rattle.std.proofs.lemmas.Bool.{cases_eq, false≢true, eqb-true, eq-eqb, ne_eqb, leb-false, and_parts, or_right}
+use Rattle.std.proofs.lemmas.Option.{none-some}
 use Rattle.ptk_words.specs.Pools.{pool_changed, without, is_in}
 use Rattle.ptk_words.specs.declared.sections.Limits.{Limits}
 use Rattle.ptk_words.specs.declared.threads.Thread.{Thread}
@@ -21,9 +22,6 @@ use Rattle.ptk_words_sync_invariant.proofs.Listed.{AreSameWaits, listed_same}
 use Rattle.ptk_words_invariant.proofs.Whole.{lined_of, waiting_of, well_scheduled}
 use Rattle.ptk_words_invariant.proofs.Exclusion.{exclusion_waits, conditions_waits}
 use Rattle.ptk_words_invariant.proofs.Threads.{AreAlike, alike_changed, used_changed_at, well_used}
-
-stopped : (t : ℕ) → None ≢ Some t
-stopped t e = let no : ⊥ = cc in no
 
 -- ---- the line alone
 
@@ -57,7 +55,7 @@ well_tail limits t line running s lined ready out stops halted well =
 -- the running thread goes to the tail
 pub well_turn_end : (limits : Limits) (t : ℕ) (s : Part) → s.running ≡ Some t → IsWell limits s → IsWell limits (after_turn_end t s)
 well_turn_end limits t s runs well =
-    well_tail limits t s.line None s (lined_stopped s.threads s.line s.running (lined_of limits s well)) (well.running_ready t runs) (well.running_out t runs) (stopped t) (λ e. refl) well
+    well_tail limits t s.line None s (lined_stopped s.threads s.line s.running (lined_of limits s well)) (well.running_ready t runs) (well.running_out t runs) (none-some t) (λ e. refl) well
 
 -- ---- placing
 
@@ -94,7 +92,7 @@ head_at : (limits : Limits) (t : ℕ) (s : Part) (a b : Bool) → is_running t s
 head_at limits t s true b runs here well =
     let running : s.running ≡ Some t = runs_if t s.running runs in
     well_lined limits (t ∷ s.line) None s
-    (lined_head t s.threads s.line None (well.running_ready t running) (well.running_out t running) (stopped t) (lined_stopped s.threads s.line s.running (lined_of limits s well))) (λ e. refl) well
+    (lined_head t s.threads s.line None (well.running_ready t running) (well.running_out t running) (none-some t) (lined_stopped s.threads s.line s.running (lined_of limits s well))) (λ e. refl) well
 head_at limits t s false true runs here well =
     let inside : is_in t s.line ≡ true = sym (any_is_in t s.line) ∙ here in
     well_lined limits (t ∷ without t s.line) s.running s
@@ -125,7 +123,7 @@ well_dispatch limits t s here active well =
 pub well_preempt : (limits : Limits) (r t : ℕ) (s : Part) → s.running ≡ Some r → is_in t s.line ≡ true → is_active s.status ≡ true → IsWell limits s → IsWell limits (after_dispatch t (with_locks (at_head r) s))
 well_preempt limits r t s runs here active well =
     let first : AreLined s.threads (r ∷ s.line) None =
-    lined_head r s.threads s.line None (well.running_ready r runs) (well.running_out r runs) (stopped r) (lined_stopped s.threads s.line s.running (lined_of limits s well)) in
+    lined_head r s.threads s.line None (well.running_ready r runs) (well.running_out r runs) (none-some r) (lined_stopped s.threads s.line s.running (lined_of limits s well)) in
     well_lined limits (without t (r ∷ s.line)) (Some t) s (lined_dispatch t s.threads (r ∷ s.line) None (or_right (nat_eq t r) (is_in t s.line) here) first) (active_runs s (Some t) active) well
 
 preempt_at : (limits : Limits) (r t : ℕ) (s : Part) (b : Bool) → s.running ≡ Some r → is_in t s.line ≡ true → is_active s.status ≡ true → IsWell limits s → IsWell limits (if b then after_dispatch t (with_locks (at_head r) s) else s)

@@ -1,7 +1,8 @@
 -- Threads that block and threads that are woken.
 use Rattle.std.proofs.Common.{◌≡◌, ℕ, ◌<◌, true, false, List, [], ◌∷◌, ◌++◌, refl, sym, ◌∙◌, ap, ◌⊎◌, inl, inr}
 use Rattle.std.specs.Prelude.{◌≢◌, Option, Some, None, option_map, fold}
-use Rattle.std.proofs.lemmas.Bool.{cases_eq, false≢true, false_from_ne_true, true_from_ne_false}
+use Rattle.std.proofs.lemmas.Bool.{cases_eq, false≢true}
+use Rattle.std.proofs.lemmas.Option.{none-some}
 use Rattle.ptk_words.specs.Pools.{pool_get, pool_changed, without, is_in}
 use Rattle.ptk_words.specs.declared.sections.Limits.{Limits}
 use Rattle.ptk_words.specs.declared.sections.Arrival.{Arrival}
@@ -31,22 +32,15 @@ use Rattle.ptk_words_invariant.proofs.Whole.{lined_of, waiting_of, well_schedule
 use Rattle.ptk_words_invariant.proofs.Exclusion.{awaits_other, exclusion_waits, exclusion_one}
 use Rattle.ptk_words_invariant.proofs.Threads.{used_changed_at}
 use Rattle.ptk_words_invariant.proofs.Parts.{well_input, well_arriving}
+pub use Rattle.ptk_words_sync_invariant.proofs.Wakings.{waits_not_ready, waits_alive}
+use Rattle.ptk_words_sync_invariant.proofs.Raising.{woken_awaits}
 
 -- ---- what a wait makes of a thread
-
-stopped : (t : ℕ) → None ≢ Some t
-stopped t e = let no : ⊥ = cc in no
 
 -- a wait that is for no mutex, where the thread waited for none
 awaited_in_wait : (wait : Wait) (o : Option Thread) → mutex_of_wait (Some wait) ≡ None → awaited o ≡ None → awaited (option_map (in_wait wait) o) ≡ awaited o
 awaited_in_wait wait None other e = refl
 awaited_in_wait wait (Some thread) other e = other ∙ sym e
-
-pub waits_not_ready : (wait : Wait) (o : Option Thread) → wait_of o ≡ Some wait → is_ready o ≡ false
-waits_not_ready wait o e = false_from_ne_true (is_ready o) (λ ready. let free : wait_of o ≡ None = ready_waits o ready in let no : ⊥ = cc in no)
-
-pub waits_alive : (wait : Wait) (o : Option Thread) → (is_alive o ≡ false → wait_of o ≡ None) → wait_of o ≡ Some wait → is_alive o ≡ true
-waits_alive wait o ended e = true_from_ne_false (is_alive o) (λ dead. let free : wait_of o ≡ None = ended dead in let no : ⊥ = cc in no)
 
 pub woken_ready : (values : List ℕ) (o : Option Thread) → is_alive o ≡ true → is_ready (option_map (woken_with values) o) ≡ true
 woken_ready values None e = absurd (false≢true e)
@@ -59,10 +53,6 @@ woken_waits values (Some thread) = refl
 pub alive_woken : (values : List ℕ) (o : Option Thread) → is_alive (option_map (woken_with values) o) ≡ is_alive o
 alive_woken values None = refl
 alive_woken values (Some thread) = refl
-
-awaited_woken : (values : List ℕ) (o : Option Thread) → awaited o ≡ None → awaited (option_map (woken_with values) o) ≡ awaited o
-awaited_woken values None e = refl
-awaited_woken values (Some thread) e = sym e
 
 pub joiner_woken : (values : List ℕ) (o : Option Thread) → joiner_of (option_map (woken_with values) o) ≡ joiner_of o
 joiner_woken values None = refl
@@ -85,7 +75,7 @@ pub exclusion_woken : (t : ℕ) (values : List ℕ) (threads : List (Option Thre
 exclusion_woken t values threads mutexes free are =
     let own : pool_get (pool_changed t (woken_with values) threads) t ≡ option_map (woken_with values) (pool_get threads t) = changed_own t (woken_with values) threads in
     exclusion_one t threads (pool_changed t (woken_with values) threads) mutexes (λ u ne. changed_other t u (woken_with values) threads ne)
-    (ap awaited own ∙ awaited_woken values (pool_get threads t) free)
+    (ap awaited own ∙ woken_awaits values (pool_get threads t) free)
     (λ m e. ap is_alive own ∙ alive_woken values (pool_get threads t) ∙ are.owners_alive m t e) are
 
 -- ---- input
@@ -113,7 +103,7 @@ well_input_wait limits i s runs well =
       ended = ended_in_wait t InputWait s.threads (ready_alive (pool_get s.threads t) ready) well.ended_wait;
     } in
     well_scheduled limits s after s.line s.mutexes None (s.console.waiters ++ t ∷ []) (length-changed t (in_wait InputWait) s.threads) refl
-    (lined_others t s.threads after s.line None (λ u ne. changed_other t u (in_wait InputWait) s.threads ne) (well.running_out t runs) (stopped t) (lined_stopped s.threads s.line s.running (lined_of limits s well)))
+    (lined_others t s.threads after s.line None (λ u ne. changed_other t u (in_wait InputWait) s.threads ne) (well.running_out t runs) (none-some t) (lined_stopped s.threads s.line s.running (lined_of limits s well)))
     (listed_input t s.threads after s.console.waiters change (ready_waits (pool_get s.threads t) ready) (ap wait_of (changed_own t (in_wait InputWait) s.threads) ∙ in_wait_waits InputWait (pool_get s.threads t) ready) (waiting_of limits s well))
     (exclusion_in_wait t InputWait s.threads s.mutexes refl (ready_waits (pool_get s.threads t) ready) well.exclusion)
     (conditions_input t s.threads s.mutexes s.conditions ready well.conditional)
@@ -205,7 +195,7 @@ well_join_wait limits i u target s runs there free well =
       ended = ended_in_wait t (JoinWait u) middle (middle_alive t ∙ ready_alive (pool_get s.threads t) ready) (λ v e. middle_waits v ∙ well.ended_wait v (sym (middle_alive v) ∙ e));
     } in
     well_scheduled limits s after s.line s.mutexes None s.console.waiters (length-changed t (in_wait (JoinWait u)) middle ∙ length-changed u (joined_by t) s.threads) refl
-    (lined_others t middle after s.line None (λ v ne. changed_other t v (in_wait (JoinWait u)) middle ne) (well.running_out t runs) (stopped t)
+    (lined_others t middle after s.line None (λ v ne. changed_other t v (in_wait (JoinWait u)) middle ne) (well.running_out t runs) (none-some t)
     (lined_alike s.threads middle s.line None middle_ready (lined_stopped s.threads s.line s.running (lined_of limits s well))))
     (listed_join t u s.threads after s.console.waiters change (ready_waits (pool_get s.threads t) ready) single
     (ap wait_of (changed_own t (in_wait (JoinWait u)) middle) ∙ in_wait_waits (JoinWait u) (pool_get middle t) (middle_ready t ∙ ready)) (after_joiner u ∙ joined) (waiting_of limits s well))

@@ -26,9 +26,10 @@ use Rattle.ptk_words_invariant.specs.Well.{IsWell}
 use Rattle.ptk_words_invariant.proofs.Whole.{lined_of, waiting_of, well_scheduled}
 use Rattle.ptk_words_invariant.proofs.Exclusion.{awaits_other, exclusion_waits, conditions_waits}
 use Rattle.ptk_words_invariant.proofs.Threads.{used_changed_at}
-use Rattle.ptk_words_invariant.proofs.Waits.{waits_not_ready, waits_alive, woken_ready, woken_waits, joiner_woken, exclusion_woken, ended_woken, well_answered}
+use Rattle.ptk_words_invariant.proofs.Waits.{woken_ready, woken_waits, joiner_woken, exclusion_woken, ended_woken, well_answered}
 use Rattle.ptk_words_invariant.proofs.Unwindings.{well_cancellation}
 use Rattle.ptk_words_invariant.proofs.Timeouts.{well_sleep_end, well_wait_end}
+use Rattle.ptk_words_sync_invariant.proofs.Wakings.{waits_not_ready, waits_alive}
 
 -- the next step of the thread begins its unwinding
 pub well_mark : (limits : Limits) (t : ℕ) (s : Part) → IsWell limits s → IsWell limits (with_mark t s)

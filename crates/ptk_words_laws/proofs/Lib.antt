@@ -1,5 +1,4 @@
 pub mod CallLaws
-pub mod ChainLaws
 pub mod PriorityLaws
 pub mod ArrivalLaws
 pub mod ExpiryLaws

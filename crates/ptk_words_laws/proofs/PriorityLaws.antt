@@ -1,89 +1,19 @@
 -- The effective priority is the greatest held priority of the threads whose chain holds the thread.
-use Rattle.std.proofs.Common.{arith, ◌≡◌, ℕ, zero, suc, ◌<◌, ◌≤◌, max, Bool, true, false, ◌&&◌, List, [], ◌∷◌, ◌++◌, length, sym, ◌∙◌, ap, refl, subst, inl, inr, le_refl}
-use Rattle.std.specs.Prelude.{nat_eq, Option, Some, None, IsSome, is_some, ◌⊎◌, fold, filter, option_and_then, unwrap_or}
+use Rattle.std.proofs.Common.{arith, ◌≡◌, ℕ, zero, suc, ◌≤◌, true, ◌&&◌, List, length, sym, ◌∙◌, ap, refl, subst, inl, inr}
+use Rattle.std.specs.Prelude.{nat_eq, Option, Some, None, IsSome, is_some, filter, option_and_then, unwrap_or}
 use Rattle.std.specs.List.{list_any}
-use Rattle.std.specs.Option.{option_flatten}
-use Rattle.std.proofs.lemmas.Bool.{eqb-true, eq-eqb, or_left}
-use Rattle.std.proofs.lemmas.List.Folds.{list_any-append}
+use Rattle.std.proofs.lemmas.Bool.{eqb-true, and_from, and_parts}
 use Rattle.std.proofs.lemmas.Map.Views.{any-filter_same}
-use Rattle.std.proofs.lemmas.Option.{slice_get_within}
-use Rattle.std.specs.Prelude.{slice_get}
 use Rattle.ptk_words.specs.Pools.{numbers_to, pool_get}
 use Rattle.ptk_words.specs.declared.threads.Thread.{Thread}
 use Rattle.ptk_words_model.specs.State.{Mutex}
 use Rattle.ptk_words_model.specs.Chain.{steps_from, Leads, leads_to}
 use Rattle.ptk_words_model.specs.Priority.{awaited, inheritor_of, next_in_chain, held_of, effective_of}
 use Rattle.ptk_words_laws.specs.Laws.{ChainIsDecided, PriorityIsGreatest}
-use Rattle.ptk_words_laws.proofs.ChainLaws.{or_cases, or_right, false_true, none_some, chain_at-ended, reaches_sound, chain_complete, IsNumber, IsBounded}
-
--- ---- the greatest of a list
-
-abbrev top : (ℕ → ℕ) → ℕ → List ℕ → ℕ
-top rank a ks = fold (λ most k. max most (rank k)) a ks
-
-start_le : (rank : ℕ → ℕ) (a : ℕ) (ks : List ℕ) → a ≤ top rank a ks
-start_le rank a [] = le_refl a
-start_le rank a (k ∷ ks) = omega (arith, start_le rank (max a (rank k)) ks)
-
-member_cases : (rank : ℕ → ℕ) (a k q : ℕ) (ks : List ℕ) → ((b : ℕ) → list_any (nat_eq q) ks ≡ true → rank q ≤ top rank b ks) → (nat_eq q k ≡ true) ⊎ (list_any (nat_eq q) ks ≡ true) → rank q ≤ top rank a (k ∷ ks)
-member_cases rank a k q ks ih (inl e) =
-    let same : rank q ≡ rank k = ap rank (eqb-true q k e) in omega (arith, same, start_le rank (max a (rank k)) ks)
-member_cases rank a k q ks ih (inr h) = ih (max a (rank k)) h
-
-member_le : (rank : ℕ → ℕ) (q : ℕ) (ks : List ℕ) (a : ℕ) → list_any (nat_eq q) ks ≡ true → rank q ≤ top rank a ks
-member_le rank q [] a h = false_true h
-member_le rank q (k ∷ ks) a h = member_cases rank a k q ks (member_le rank q ks) (or_cases _ _ h)
-
-abbrev Attained : (ℕ → ℕ) → ℕ → List ℕ → Type 0
-Attained rank a ks = (top rank a ks ≡ a) ⊎ ((q : ℕ) × (list_any (nat_eq q) ks ≡ true) × (rank q ≡ top rank a ks))
-
-max_cases : (a b : ℕ) → (max a b ≡ a) ⊎ (max a b ≡ b)
-max_cases a b = grind arith
-
-self_eq : (k : ℕ) → nat_eq k k ≡ true
-self_eq k = eq-eqb k k refl
-
-attained_cases : (rank : ℕ → ℕ) (a k : ℕ) (ks : List ℕ) → (max a (rank k) ≡ a) ⊎ (max a (rank k) ≡ rank k) → Attained rank (max a (rank k)) ks → Attained rank a (k ∷ ks)
-attained_cases rank a k ks m (inr (q, h, e)) = inr (q, or_right _ _ h, e)
-attained_cases rank a k ks (inl m) (inl e) = inl (e ∙ m)
-attained_cases rank a k ks (inr m) (inl e) = inr (k, or_left _ _ (self_eq k), sym (e ∙ m))
-
-attained : (rank : ℕ → ℕ) (a : ℕ) (ks : List ℕ) → Attained rank a ks
-attained rank a [] = inl refl
-attained rank a (k ∷ ks) = attained_cases rank a k ks (max_cases a (rank k)) (attained rank (max a (rank k)) ks)
+use Rattle.ptk_words_sync_invariant.proofs.ChainLaws.{false_true, none_some, chain_at-ended, number_of, reaches_sound, chain_complete, IsNumber, IsBounded}
+use Rattle.ptk_words_sync_invariant.proofs.Greatest.{member_le, Attained, attained, numbers_member}
 
 -- ---- numbers of the pool
-
-last_or_before : (n q : ℕ) → q < suc (suc n) → (q < suc n) ⊎ (q ≡ suc n)
-last_or_before n q h = grind (arith, h)
-
-numbers_cases : (n q : ℕ) → ((q < suc n) → list_any (nat_eq q) (numbers_to n) ≡ true) → (q < suc n) ⊎ (q ≡ suc n) → list_any (nat_eq q) (numbers_to n ++ suc n ∷ []) ≡ true
-numbers_cases n q ih (inl h) = rw (list_any-append (nat_eq q) (numbers_to n) (suc n ∷ [])) (or_left _ _ (ih h))
-numbers_cases n q ih (inr e) = rw (list_any-append (nat_eq q) (numbers_to n) (suc n ∷ [])) (or_right _ _ (or_left _ _ (eq-eqb q (suc n) e)))
-
-numbers_member : (n q : ℕ) → 0 < q → q < suc n → list_any (nat_eq q) (numbers_to n) ≡ true
-numbers_member zero q z h = absurd (omega (arith, z, h))
-numbers_member (suc n) q z h = numbers_cases n q (numbers_member n q z) (last_or_before n q h)
-
-both_true : (a b : Bool) → a ≡ true → b ≡ true → (a && b) ≡ true
-both_true true b e f = f
-both_true false b e f = false_true e
-
-parts : (a b : Bool) → (a && b) ≡ true → (a ≡ true) × (b ≡ true)
-parts true b e = (refl, e)
-parts false b e = (e, false_true e)
-
-flat_some : {A : Type 0} (o : Option (Option A)) (a : A) → option_flatten o ≡ Some a → (x : Option A) × (o ≡ Some x)
-flat_some None a e = absurd (cc e)
-flat_some (Some x) a e = (x, refl)
-
--- the number of an entry in use lies within the pool
-pub number_of : {A : Type 0} (pool : List (Option A)) (q : ℕ) (a : A) → pool_get pool q ≡ Some a → IsNumber (length pool) q
-number_of pool zero a e = absurd (cc e)
-number_of pool (suc i) a e =
-    let f : (x : Option _) × (slice_get pool i ≡ Some x) = flat_some (slice_get pool i) a e in
-    let w : i < length pool = slice_get_within pool i f.0 f.1 in
-    (omega arith, omega (arith, w))
 
 number_if_some : {A : Type 0} (pool : List (Option A)) (q : ℕ) (o : Option A) → pool_get pool q ≡ o → is_some o ≡ true → IsNumber (length pool) q
 number_if_some pool q None e h = false_true h
@@ -121,7 +51,7 @@ is_leading : (threads : List (Option Thread)) (mutexes : List (Option Mutex)) (t
 is_leading threads mutexes t u s r =
     let n : IsNumber (length threads) u = number_if_some threads u (pool_get threads u) refl s in
     leading-any threads mutexes t u
-    ∙ both_true _ _ (chain_complete (length threads) (next_in_chain threads mutexes) (next_bounded threads mutexes) u t r) (numbers_member (length threads) u n.0 n.1)
+    ∙ and_from _ _ (chain_complete (length threads) (next_in_chain threads mutexes) (next_bounded threads mutexes) u t r) (numbers_member (length threads) u n.0 n.1)
 
 -- where u is no thread, its chain is u alone
 some_if_leads : (threads : List (Option Thread)) (mutexes : List (Option Mutex)) (u t n : ℕ) (o : Option Thread) → pool_get threads u ≡ o → steps_from (next_in_chain threads mutexes) u n ≡ Some t → is_some (pool_get threads t) ≡ true → is_some (pool_get threads u) ≡ true
@@ -140,7 +70,7 @@ reached_from threads mutexes t s (inl e) =
     let z : effective_of threads mutexes t ≡ 0 = e in
     (t, s, (0, refl), omega (arith, le, z))
 reached_from threads mutexes t s (inr (u, h, e)) =
-    let p : (leads_to (next_in_chain threads mutexes) t (length threads) u ≡ true) × (list_any (nat_eq u) (numbers_to (length threads)) ≡ true) = parts _ _ (sym (leading-any threads mutexes t u) ∙ h) in
+    let p : (leads_to (next_in_chain threads mutexes) t (length threads) u ≡ true) × (list_any (nat_eq u) (numbers_to (length threads)) ≡ true) = and_parts _ _ (sym (leading-any threads mutexes t u) ∙ h) in
     let r : Leads (next_in_chain threads mutexes) u t = reaches_sound (next_in_chain threads mutexes) t (length threads) u p.0 in
     (u, some_if_leads threads mutexes u t r.0 (pool_get threads u) refl r.1 s, r, e)
 

@@ -10,9 +10,9 @@
 //!
 //! They hold of the machine of one partition as it is defined, whatever code carries it. `rows` computes small guests
 //! and built states; `laws` says what holds of every state and every run. The weight of the proofs is in `sizes_stay`,
-//! with one lemma for each move, and in `chain_is_decided`, which shortens chains that go round. Below are `ptk_words`,
-//! `ptk_words_instructions`, `ptk_words_windows`, `ptk_words_model` and `ptk_words_invariant`; above are crates that
-//! need a law.
+//! whose calls are searched for by rules on lengths (`proofs/Sizes`), and in `chain_is_decided`, which shortens chains
+//! that go round (`proofs/ChainLaws` of `ptk_words_sync_invariant`). Below are `ptk_words`, `ptk_words_instructions`,
+//! `ptk_words_windows`, `ptk_words_model`, `ptk_words_sync_invariant` and `ptk_words_invariant`; nothing is above.
 
 pub mod laws;
 pub mod rows;

@@ -1,49 +1,41 @@
 -- A list of threads after a push or a removal, and the room that is left.
-use Rattle.std.proofs.Common.{◌≡◌, ℕ, ◌<◌, ◌≤◌, List, [], ◌∷◌, ◌++◌, length, Bool, true, false, cond, ◌||◌, not, refl, sym, ◌∙◌, arith, ◌⊎◌, inl, inr}
+use Rattle.std.proofs.Common.{◌≡◌, ℕ, ◌<◌, ◌≤◌, List, [], ◌∷◌, ◌++◌, length, Bool, true, false, cond, ◌||◌, not, sym, ◌∙◌, arith, ◌⊎◌, inl, inr}
 use Rattle.std.specs.Prelude.{nat_eq, filter, ◌==◌}
 use Rattle.std.specs.List.{IsDistinct, AllByRecursion}
 use Rattle.std.specs.Cmp.{nat_eq_equiv}
-use Rattle.std.proofs.lemmas.Bool.{eqb-true, or_left, or_right}
+use Rattle.std.proofs.lemmas.Bool.{eqb-true, or_left, or_right, or_parts, or_cases, cases_Bool}
 use Rattle.std.proofs.lemmas.List.Folds.{list_any-append}
 use Rattle.std.proofs.lemmas.Map.Keys.{IsDistinct-cons, IsDistinct-head, IsDistinct-tail, IsDistinct-push}
 use Rattle.std.proofs.lemmas.Map.Steps.{length-le_from_distinct_below}
 use Rattle.ptk_words.specs.Pools.{without, is_in}
 use Rattle.ptk_words_parted.specs.Lists.{IsLine}
 
-both_false : (a b : Bool) → (a || b) ≡ false → (a ≡ false) × (b ≡ false)
-both_false true b h = ((cc), (cc))
-both_false false b h = (refl, h)
-
-one_true : (a b : Bool) → (a || b) ≡ true → (a ≡ true) ⊎ (b ≡ true)
-one_true true b h = inl refl
-one_true false b h = inr h
-
-true_or_false : (b : Bool) → (b ≡ true) ⊎ (b ≡ false)
-true_or_false true = inl refl
-true_or_false false = inr refl
+pub none_distinct : IsDistinct nat_eq []
+unfolding IsDistinct
+none_distinct = tt
 
 -- no number of the list is this one
-apart_from_out : (k : ℕ) (ks : List ℕ) → is_in k ks ≡ false → AllByRecursion (λ y. nat_eq k y ≡ false) ks
+pub apart_from_out : (k : ℕ) (ks : List ℕ) → is_in k ks ≡ false → AllByRecursion (λ y. nat_eq k y ≡ false) ks
 apart_from_out k [] h = tt
-apart_from_out k (j ∷ ks) h = let both = both_false (nat_eq k j) (is_in k ks) h in (both.0, apart_from_out k ks both.1)
+apart_from_out k (j ∷ ks) h = let both = or_parts (nat_eq k j) (is_in k ks) h in (both.0, apart_from_out k ks both.1)
 
-in-front : (q k : ℕ) (ks : List ℕ) → is_in q (k ∷ ks) ≡ true → (q ≡ k) ⊎ (is_in q ks ≡ true)
-in-front q k ks h =
-    elim (one_true (nat_eq q k) (is_in q ks) h) as (λ _. (q ≡ k) ⊎ (is_in q ks ≡ true)) [ inl e ↦ inl (eqb-true q k e) | inr r ↦ inr r ]
+pub in_front : (q k : ℕ) (ks : List ℕ) → is_in q (k ∷ ks) ≡ true → (q ≡ k) ⊎ (is_in q ks ≡ true)
+in_front q k ks h =
+    elim (or_cases (nat_eq q k) (is_in q ks) h) as (λ _. (q ≡ k) ⊎ (is_in q ks ≡ true)) [ inl e ↦ inl (eqb-true q k e) | inr r ↦ inr r ]
 
 in-push : (q k : ℕ) (ks : List ℕ) → is_in q (ks ++ k ∷ []) ≡ true → (q ≡ k) ⊎ (is_in q ks ≡ true)
 in-push q k ks h =
     let split : (is_in q ks || is_in q (k ∷ [])) ≡ true = sym (list_any-append (nat_eq q) ks (k ∷ [])) ∙ h in
-    elim (one_true (is_in q ks) (is_in q (k ∷ [])) split) as (λ _. (q ≡ k) ⊎ (is_in q ks ≡ true)) [
+    elim (or_cases (is_in q ks) (is_in q (k ∷ [])) split) as (λ _. (q ≡ k) ⊎ (is_in q ks ≡ true)) [
       | inl r ↦ inr r
-      | inr s ↦ elim (in-front q k [] s) as (λ _. (q ≡ k) ⊎ (is_in q ks ≡ true)) [ inl e ↦ inl e | inr n ↦ inr (cc) ]
+      | inr s ↦ elim (in_front q k [] s) as (λ _. (q ≡ k) ⊎ (is_in q ks ≡ true)) [ inl e ↦ inl e | inr n ↦ inr (cc) ]
     ]
 
 -- a number that is not in the list, put first
 pub line_front : (k : ℕ) (ks : List ℕ) → 0 < k → k ≤ 32 → is_in k ks ≡ false → IsLine ks → IsLine (k ∷ ks)
 line_front k ks pos small out line = record {
   distinct = IsDistinct-cons nat_eq k ks (apart_from_out k ks out) line.distinct;
-  numbers = λ q h. elim (in-front q k ks h) as (λ _. (0 < q) × (q ≤ 32)) [ inl e ↦ (omega arith, omega arith) | inr r ↦ line.numbers q r ];
+  numbers = λ q h. elim (in_front q k ks h) as (λ _. (0 < q) × (q ≤ 32)) [ inl e ↦ (omega arith, omega arith) | inr r ↦ line.numbers q r ];
 }
 
 -- a number that is not in the list, put last
@@ -67,14 +59,14 @@ distinct-cond : (b : Bool) (x : ℕ) (ys : List ℕ) → AllByRecursion (λ y. n
 distinct-cond true x ys a h = IsDistinct-cons nat_eq x ys a h
 distinct-cond false x ys a h = h
 
-distinct-filter : (test : ℕ → Bool) (xs : List ℕ) → IsDistinct nat_eq xs → IsDistinct nat_eq (filter test xs)
+pub distinct-filter : (test : ℕ → Bool) (xs : List ℕ) → IsDistinct nat_eq xs → IsDistinct nat_eq (filter test xs)
 distinct-filter test [] h = h
 distinct-filter test (x ∷ xs) h =
     distinct-cond (test x) x (filter test xs) (apart-filter (λ y. nat_eq x y ≡ false) test xs (IsDistinct-head nat_eq x xs h)) (distinct-filter test xs (IsDistinct-tail nat_eq x xs h))
 
 in-cond : (q x : ℕ) (b : Bool) (ys xs : List ℕ) → (is_in q ys ≡ true → is_in q xs ≡ true) → is_in q (cond b (x ∷ ys) ys) ≡ true → is_in q (x ∷ xs) ≡ true
 in-cond q x true ys xs later h =
-    elim (one_true (nat_eq q x) (is_in q ys) h) as (λ _. is_in q (x ∷ xs) ≡ true) [ inl e ↦ or_left (nat_eq q x) (is_in q xs) e | inr r ↦ or_right (nat_eq q x) (is_in q xs) (later r) ]
+    elim (or_cases (nat_eq q x) (is_in q ys) h) as (λ _. is_in q (x ∷ xs) ≡ true) [ inl e ↦ or_left (nat_eq q x) (is_in q xs) e | inr r ↦ or_right (nat_eq q x) (is_in q xs) (later r) ]
 in-cond q x false ys xs later h = or_right (nat_eq q x) (is_in q xs) (later h)
 
 in-filter : (q : ℕ) (test : ℕ → Bool) (xs : List ℕ) → is_in q (filter test xs) ≡ true → is_in q xs ≡ true
@@ -91,24 +83,20 @@ line_without k ks line = record {
 
 zero_out : (ks : List ℕ) → IsLine ks → is_in 0 ks ≡ false
 zero_out ks line =
-    elim (true_or_false (is_in 0 ks)) as (λ _. is_in 0 ks ≡ false) [ inl t ↦ (let none : 0 < 0 = (line.numbers 0 t).0 in absurd (omega arith)) | inr f ↦ f ]
+    elim (cases_Bool (is_in 0 ks)) as (λ _. is_in 0 ks ≡ false) [ inl t ↦ (let none : 0 < 0 = (line.numbers 0 t).0 in absurd (omega arith)) | inr f ↦ f ]
 
 -- 32 numbers are all that there are
 few_distinct : (ks : List ℕ) → IsLine ks → length ks ≤ 32
 few_distinct ks line =
     let distinct : IsDistinct nat_eq (0 ∷ ks) = IsDistinct-cons nat_eq 0 ks (apart_from_out 0 ks (zero_out ks line)) line.distinct in
     let below : (q : ℕ) → is_in q (0 ∷ ks) ≡ true → q < 33 =
-    λ q h. elim (in-front q 0 ks h) as (λ _. q < 33) [ inl e ↦ omega arith | inr r ↦ (let small : q ≤ 32 = (line.numbers q r).1 in omega arith) ] in
+    λ q h. elim (in_front q 0 ks h) as (λ _. q < 33) [ inl e ↦ omega arith | inr r ↦ (let small : q ≤ 32 = (line.numbers q r).1 in omega arith) ] in
     let all : length (0 ∷ ks) ≤ 33 = length-le_from_distinct_below (0 ∷ ks) 33 distinct below in
     omega arith
 
 -- so there is room for one that is not in the list
 pub line_room : (k : ℕ) (ks : List ℕ) → 0 < k → k ≤ 32 → is_in k ks ≡ false → IsLine ks → length ks < 32
 line_room k ks pos small out line = let all : length (k ∷ ks) ≤ 32 = few_distinct (k ∷ ks) (line_front k ks pos small out line) in omega arith
-
-none_distinct : IsDistinct nat_eq []
-unfolding IsDistinct
-none_distinct = tt
 
 pub line_none : IsLine []
 line_none = record { distinct = none_distinct; numbers = λ q h. (let no : false ≡ true = h in absurd (cc)) }

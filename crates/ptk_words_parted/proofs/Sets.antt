@@ -1,5 +1,5 @@
 -- The bits of a set of threads, and sets of lists that grow.
-use Rattle.std.proofs.Common.{◌≡◌, ◌≢◌, ℕ, zero, suc, ◌-◌, ◌*◌, ◌^◌, ◌%◌, ◌<◌, ◌≤◌, Bool, true, false, ◌||◌, List, [], ◌∷◌, ◌++◌, refl, sym, ◌∙◌, ap, arith, max, inl, inr}
+use Rattle.std.proofs.Common.{◌≡◌, ◌≢◌, ℕ, zero, suc, ◌-◌, ◌*◌, ◌^◌, ◌%◌, ◌<◌, ◌≤◌, Bool, false, ◌||◌, List, [], ◌∷◌, ◌++◌, refl, sym, ◌∙◌, ap, arith, max, inl, inr}
 use Rattle.std.specs.Prelude.{◌==◌, nat_eq}
 use Rattle.std.specs.Int.{bit_at}
 use Rattle.std.specs.Int.Bits.{bit_or}
@@ -7,6 +7,7 @@ use Rattle.std.proofs.lemmas.Bool.{cases_eq, eq-eqb, ne_eqb}
 use Rattle.std.proofs.lemmas.List.Folds.{list_any-append}
 use Rattle.std.proofs.lemmas.Nat.{one_shl}
 use Rattle.std.proofs.lemmas.Nat.Bits.{bit_at_or, bit_at-lt, bit_at-zero, bit_at-pow_same, bit_at-pow_other, shr_and_one}
+use Rattle.std.proofs.Math.Bool.{or-false}
 use Rattle.ptk_words.specs.Pools.{is_in}
 use Rattle.ptk_words_parted.specs.Sets.{has, IsSetOf}
 
@@ -55,10 +56,6 @@ pub ruleset bits = (has_or, has_one, has_none, has_test, shr_and_one)
 
 -- ---- whose set it is
 
-or_no : (b : Bool) → (b || false) ≡ b
-or_no true = refl
-or_no false = refl
-
 or_same : (a b c d : Bool) → a ≡ c → b ≡ d → (a || b) ≡ (c || d)
 or_same a b c d e f = rw (e, f) refl
 
@@ -66,7 +63,7 @@ pub set_none : (a : ℕ) → ((u : ℕ) → has a u ≡ false) → IsSetOf a []
 set_none a e = record { same = λ u positive small. e u }
 
 pub set_one : (a t : ℕ) → ((u : ℕ) → has a u ≡ (u == t)) → IsSetOf a (t ∷ [])
-set_one a t e = record { same = λ u positive small. e u ∙ sym (or_no (u == t)) }
+set_one a t e = record { same = λ u positive small. e u ∙ sym (or-false (u == t)) }
 
 pub set_union : (a b c : ℕ) (ts us : List ℕ) → IsSetOf a ts → IsSetOf b us → ((u : ℕ) → has c u ≡ (has a u || has b u)) → IsSetOf c (ts ++ us)
 set_union a b c ts us first second e = record {
@@ -76,7 +73,7 @@ set_union a b c ts us first second e = record {
 -- one more, at the end of the list
 pub set_with : (a c t : ℕ) (ts : List ℕ) → IsSetOf a ts → ((u : ℕ) → has c u ≡ (has a u || u == t)) → IsSetOf c (ts ++ t ∷ [])
 set_with a c t ts first e = record {
-  same = λ u positive small. e u ∙ or_same (has a u) (u == t) (is_in u ts) (is_in u (t ∷ [])) (first.same u positive small) (sym (or_no (u == t))) ∙ sym (list_any-append (nat_eq u) ts (t ∷ []));
+  same = λ u positive small. e u ∙ or_same (has a u) (u == t) (is_in u ts) (is_in u (t ∷ [])) (first.same u positive small) (sym (or-false (u == t))) ∙ sym (list_any-append (nat_eq u) ts (t ∷ []));
 }
 
 pub ruleset sets = (set_none, set_one, set_union, set_with)

@@ -2,6 +2,7 @@
 use Rattle.std.proofs.Common.{◌≡◌, ℕ, ◌<◌, true, false, List, refl, sym, ◌∙◌, ap}
 use Rattle.std.specs.Prelude.{◌≢◌, Option, Some, None, option_map}
 use Rattle.std.proofs.lemmas.Bool.{false≢true, true≢false}
+use Rattle.std.proofs.lemmas.Option.{none-some}
 use Rattle.ptk_words.specs.Pools.{pool_get, pool_changed}
 use Rattle.ptk_words.specs.declared.threads.Thread.{Thread}
 use Rattle.ptk_words.specs.declared.threads.Wait.{Wait}
@@ -58,12 +59,9 @@ used_blocked n t wait threads each = used_changed n t (in_wait wait) threads (rw
 
 -- ---- the line
 
-stopped : (t : ℕ) → None ≢ Some t
-stopped t e = let no : ⊥ = cc in no
-
 pub lined_blocked : (t : ℕ) (wait : Wait) (threads : List (Option Thread)) (line : List ℕ) → AreLined threads line (Some t) → AreLined (pool_changed t (in_wait wait) threads) line None
 lined_blocked t wait threads line lined =
-    lined_others t threads (pool_changed t (in_wait wait) threads) line None (λ u ne. changed_other t u (in_wait wait) threads ne) (lined.running_out t refl) (stopped t) (lined_stopped threads line (Some t) lined)
+    lined_others t threads (pool_changed t (in_wait wait) threads) line None (λ u ne. changed_other t u (in_wait wait) threads ne) (lined.running_out t refl) (none-some t) (lined_stopped threads line (Some t) lined)
 
 -- ---- the mutexes
 

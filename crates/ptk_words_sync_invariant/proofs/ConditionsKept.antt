@@ -1,15 +1,11 @@
 -- The moves of threads that wait on no condition variable leave the condition variables whole: console, join, creation, a thread's end, changes of a thread.
-use Rattle.std.proofs.Common.{◌≡◌, ℕ, Bool, true, false, List, [], refl, sym, ◌∙◌, ap}
-use Rattle.std.specs.Prelude.{Option, Some, None, option_map, nat_eq, if◌then◌else◌}
-use Rattle.std.specs.List.{IsDistinct}
+use Rattle.std.proofs.Common.{◌≡◌, ℕ, true, List, [], refl, sym, ◌∙◌, ap}
+use Rattle.std.specs.Prelude.{Option, Some, None, option_map}
 use Rattle.ptk_words.specs.Pools.{pool_get, pool_set, pool_changed, is_in}
-use Rattle.ptk_words.specs.declared.threads.Phase.TheVariants.{Ended}
 use Rattle.ptk_words.specs.declared.threads.Thread.{Thread}
 use Rattle.ptk_words.specs.declared.threads.Wait.TheVariants.{InputWait, JoinWait}
-use Rattle.ptk_words_model.specs.State.{Mutex, Condition, Locks}
-use Rattle.ptk_words_model.specs.Schedule.{with_thread}
+use Rattle.ptk_words_model.specs.State.{Mutex, Condition}
 use Rattle.ptk_words_model.specs.Mutex.{wait_of}
-use Rattle.ptk_words_model.specs.Unwinding.{without_thread}
 use Rattle.ptk_words_sync_invariant.specs.Locks.{is_ready}
 use Rattle.ptk_words_model.specs.Condition.{waiters_on}
 use Rattle.ptk_words_sync_invariant.specs.Conditions.{condition_of_wait, AreConditions}
@@ -17,6 +13,7 @@ use Rattle.ptk_words_sync_invariant.proofs.Pools.{each_set}
 use Rattle.ptk_words_sync_invariant.proofs.Threads.{changed_same, in_wait}
 use Rattle.ptk_words_sync_invariant.proofs.Conditions.{waits_on, names, off_names, AreSameOn, conditions_same, same_on_waits}
 use Rattle.ptk_words_sync_invariant.proofs.Timed.{conditions_blocked}
+use Rattle.ptk_words_sync_invariant.proofs.Lines.{none_twice}
 
 -- ---- changes of a thread
 
@@ -73,20 +70,7 @@ conditions_join t u threads mutexes conditions ready are =
 
 -- ---- the end of a thread
 
-ended_waits : (o : Option Thread) → wait_of (option_map (λ (thread : Thread). record thread { phase = Ended }) o) ≡ wait_of o
-ended_waits None = refl
-ended_waits (Some thread) = refl
-
-released_by : (b : Bool) (t : ℕ) (locks taken : Locks) → AreSameOn locks.threads (without_thread t taken).threads → AreSameOn locks.threads (if b then without_thread t taken else with_thread t (λ thread. record thread { phase = Ended }) locks).threads
-released_by true t locks taken same = same
-released_by false t locks taken same = same_on_waits locks.threads (pool_changed t (λ (thread : Thread). record thread { phase = Ended }) locks.threads)
-    (changed_same wait_of t (λ (thread : Thread). record thread { phase = Ended }) locks.threads (ended_waits (pool_get locks.threads t)))
-
 -- ---- where nobody waits on a condition variable
-
-none_twice : IsDistinct nat_eq []
-unfolding IsDistinct
-none_twice = tt
 
 -- as at the start of a partition
 pub conditions_none : (threads : List (Option Thread)) (mutexes : List (Option Mutex)) (conditions : List (Option Condition)) → ((t : ℕ) → waits_on (pool_get threads t) ≡ None) → ((c : ℕ) → waiters_on (pool_get conditions c) ≡ [])

@@ -2,10 +2,10 @@
 use Rattle.std.proofs.Common.{◌≡◌, ℕ, zero, suc, ◌<◌, ◌≤◌, List, [], ◌∷◌, length, fold, refl, sym, ◌∙◌, ap, arith}
 use Rattle.std.specs.Prelude.{true, Option, Some, None, option_map, option_to_list, map}
 use Rattle.std.specs.Fn.{iterate}
+use Rattle.std.proofs.lemmas.List.{nil_from_length}
 use Rattle.ptk_words.specs.Pools.{pool_get, pool_set, without, first_of_greatest, is_in}
 use Rattle.ptk_words.specs.Faults.{errno_number}
 use Rattle.ptk_words.specs.declared.faults.Errno.TheVariants.{ETIMEDOUT}
-use Rattle.ptk_words.specs.declared.threads.Phase.TheVariants.{Ended}
 use Rattle.ptk_words.specs.declared.threads.Thread.{Thread}
 use Rattle.ptk_words.specs.declared.threads.Wait.{Wait}
 use Rattle.ptk_words.specs.declared.threads.Wait.TheVariants.{InputWait, SleepWait, JoinWait, MutexWait, ConditionWait, RelockWait}
@@ -31,10 +31,6 @@ use Rattle.ptk_words_sync_invariant.proofs.DeadlineLists.{free_again, without_fi
 use Rattle.ptk_words_sync_invariant.proofs.Deadlines.{deadlines-get, deadlines-wait, deadlines-woken, changed_deadline, deadlines-unlock}
 
 -- ---- one thread
-
-ended_waits : (o : Option Thread) → wait_of (option_map (λ (thread : Thread). record thread { phase = Ended }) o) ≡ wait_of o
-ended_waits None = refl
-ended_waits (Some thread) = refl
 
 -- a lock, a trylock and a timed lock
 pub deadlines-move : (move : LockMove) (t m : ℕ) (wait : Wait) (locks : Locks) → is_alive (thread_at locks t) ≡ true → deadlines_of (after_move move t m wait locks) ≡ deadlines_after_move move t wait (deadlines_of locks)
@@ -102,10 +98,6 @@ unblocked_left t c reply syncs on are =
 abbrev EndsAll : ℕ → ℕ → Syncs → Type 0
 EndsAll n c syncs = deadlines_of (iterate (after_signal c) n syncs).locks ≡ without_deadlines (condition_waiters syncs c) (deadlines_of syncs.locks)
 
-none_left : (ts : List ℕ) → length ts ≤ 0 → ts ≡ []
-none_left [] le = refl
-none_left (t ∷ ts) le = absurd (omega (arith, le))
-
 signal_ends : (interval : ℕ) (next : Option ℕ) (n c : ℕ) (running : Option ℕ) (waiters : List ℕ) (syncs : Syncs) → signalled c syncs ≡ next → AreSyncs interval running waiters syncs
     → ((after : Syncs) → AreSyncs interval running waiters after → length (condition_waiters after c) ≤ n → EndsAll n c after) → length (condition_waiters syncs c) ≤ suc n
     → deadlines_of (iterate (after_signal c) n (after_signal_to next c syncs)).locks ≡ without_deadlines (condition_waiters syncs c) (deadlines_of syncs.locks)
@@ -121,7 +113,7 @@ signal_ends interval (Some t) n c running waiters syncs e are each le =
     ∙ ap (without_deadlines (without t (condition_waiters syncs c))) (deadlines-unblock t c (Some 0) syncs on) ∙ without_first t (condition_waiters syncs c) (deadlines_of syncs.locks) here
 
 signals_end : (interval n c : ℕ) (running : Option ℕ) (waiters : List ℕ) (syncs : Syncs) → AreSyncs interval running waiters syncs → length (condition_waiters syncs c) ≤ n → EndsAll n c syncs
-signals_end interval zero c running waiters syncs are le = ap (λ ts. without_deadlines ts (deadlines_of syncs.locks)) (sym (none_left (condition_waiters syncs c) le))
+signals_end interval zero c running waiters syncs are le = ap (λ ts. without_deadlines ts (deadlines_of syncs.locks)) (sym (nil_from_length (condition_waiters syncs c) (omega (arith, le))))
 signals_end interval (suc n) c running waiters syncs are le = signal_ends interval (signalled c syncs) n c running waiters syncs refl are (λ after whole few. signals_end interval n c running waiters after whole few) le
 
 -- of all waiters that a broadcast unblocks

@@ -4,6 +4,7 @@ use Rattle.std.specs.Prelude.{◌-◌, Option, Some, None, option_map, option_to
 use Rattle.std.specs.Fn.{iterate}
 use Rattle.std.specs.Option.{option_flatten}
 use Rattle.std.proofs.lemmas.Bool.{false≢true}
+use Rattle.std.proofs.lemmas.List.{nil_from_length}
 use Rattle.ptk_words.specs.Pools.{pool_get, pool_set, pool_changed, numbers_of, without, is_in}
 use Rattle.ptk_words.specs.declared.faults.Errno.TheVariants.{ENOTRECOVERABLE}
 use Rattle.ptk_words.specs.declared.threads.Thread.{Thread}
@@ -75,10 +76,6 @@ deadlines-hand_over_to (Some t) m locks = deadlines-woken t (handed (free_move (
 abbrev EndsAll : ℕ → ℕ → Locks → Type 0
 EndsAll n m locks = deadlines_of (iterate (after_refusal m) n locks) ≡ without_deadlines (waiters_of (mutex_at locks m)) (deadlines_of locks)
 
-none_left : (ts : List ℕ) → length ts ≤ 0 → ts ≡ []
-none_left [] le = refl
-none_left (t ∷ ts) le = absurd (omega (arith, le))
-
 refusal_ends : (next : Option ℕ) (n m : ℕ) (locks : Locks) → heir m locks ≡ next → ((after : Locks) → length (waiters_of (mutex_at after m)) ≤ n → EndsAll n m after) → length (waiters_of (mutex_at locks m)) ≤ suc n
     → deadlines_of (iterate (after_refusal m) n (after_refusal_to next m locks)) ≡ without_deadlines (waiters_of (mutex_at locks m)) (deadlines_of locks)
 refusal_ends None n m locks e each le = each locks (let none : waiters_of (mutex_at locks m) ≡ [] = no_heir m locks e in rw none (omega arith))
@@ -92,7 +89,7 @@ refusal_ends (Some t) n m locks e each le =
     ∙ without_first t (waiters_of (mutex_at locks m)) (deadlines_of locks) here
 
 refusals_end : (n m : ℕ) (locks : Locks) → length (waiters_of (mutex_at locks m)) ≤ n → EndsAll n m locks
-refusals_end zero m locks le = ap (λ ts. without_deadlines ts (deadlines_of locks)) (sym (none_left (waiters_of (mutex_at locks m)) le))
+refusals_end zero m locks le = ap (λ ts. without_deadlines ts (deadlines_of locks)) (sym (nil_from_length (waiters_of (mutex_at locks m)) (omega (arith, le))))
 refusals_end (suc n) m locks le = refusal_ends (heir m locks) n m locks refl (λ after few. refusals_end n m after few) le
 
 lost_waiters : (o : Option Mutex) → waiters_of (option_map (λ (x : Mutex). record x { soundness = Unrecoverable }) (option_map (λ (x : Mutex). record x { owner = Free; count = 0 }) o)) ≡ waiters_of o

@@ -27,3 +27,5 @@ pub mod Raising
 pub mod MutexPlaces
 pub mod ConditionsKept
 pub mod Expiries
+pub mod ChainLaws
+pub mod Greatest

@@ -82,6 +82,10 @@ without_shorter t (x ∷ ts) here = elim (cases_eq x t) [
 
 -- ---- none twice
 
+pub none_twice : IsDistinct nat_eq []
+unfolding IsDistinct
+none_twice = tt
+
 none_is : (t : ℕ) (ts : List ℕ) → is_in t ts ≡ false → AllByRecursion (λ y. nat_eq t y ≡ false) ts
 none_is t [] out = tt
 none_is t (x ∷ ts) out = let parts = or_parts (nat_eq t x) (is_in t ts) out in (parts.0, none_is t ts parts.1)

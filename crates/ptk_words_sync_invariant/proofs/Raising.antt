@@ -1,5 +1,5 @@
 -- Who raises whom: a thread that sleeps or waits on a condition variable raises nobody, and such a wait changes no priority.
-use Rattle.std.proofs.Common.{◌≡◌, ℕ, Bool, true, false, ◌||◌, List, fold, max, refl, sym}
+use Rattle.std.proofs.Common.{◌≡◌, ℕ, List, fold, max, refl, sym}
 use Rattle.std.specs.Prelude.{Option, Some, None, option_map, option_and_then, unwrap_or}
 use Rattle.ptk_words.specs.Pools.{pool_get, pool_changed}
 use Rattle.ptk_words.specs.declared.threads.Thread.{Thread}
@@ -11,10 +11,6 @@ use Rattle.ptk_words_sync_invariant.proofs.Pools.{length-changed}
 use Rattle.ptk_words_sync_invariant.proofs.Threads.{changed_same}
 
 -- ---- who raises nobody
-
-or_none : (b : Bool) → (b || false) ≡ b
-or_none true = refl
-or_none false = refl
 
 -- ---- what changes no priority
 
@@ -33,10 +29,6 @@ effective-changed t f threads mutexes level waits =
     let held : held_of after mutexes ≡ held_of threads mutexes = λ i u. fold (λ most m. max most (ceiling_for u m)) (levels u i) mutexes in
     λ i u. greatest_leading (length-changed t f threads i) (next i) (held i) u
 
-woken_level : (values : List ℕ) (o : Option Thread) → level_of (option_map (woken_with values) o) ≡ level_of o
-woken_level values None = refl
-woken_level values (Some thread) = refl
-
-woken_awaits : (values : List ℕ) (o : Option Thread) → awaited o ≡ None → awaited (option_map (woken_with values) o) ≡ awaited o
+pub woken_awaits : (values : List ℕ) (o : Option Thread) → awaited o ≡ None → awaited (option_map (woken_with values) o) ≡ awaited o
 woken_awaits values None e = refl
 woken_awaits values (Some thread) e = sym e

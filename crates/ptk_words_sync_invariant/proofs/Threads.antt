@@ -14,6 +14,7 @@ use Rattle.ptk_words_model.specs.Unwinding.{is_alive}
 use Rattle.ptk_words_sync_invariant.specs.Locks.{is_ready, joiner_of, used_of}
 use Rattle.ptk_words_sync_invariant.proofs.Pools.{each_changed, changed_own, changed_other}
 use Rattle.ptk_words_sync_invariant.proofs.Lined.{ready_waits}
+use Rattle.ptk_words.specs.declared.threads.Phase.TheVariants.{Ended}
 
 -- ---- one thread changed
 
@@ -53,6 +54,11 @@ awaits_not_ready m o e = false_from_ne_true (is_ready o) (λ ready. none_awaits 
 
 pub awaits_alive : (m : ℕ) (o : Option Thread) → (is_alive o ≡ false → wait_of o ≡ None) → awaited o ≡ Some m → is_alive o ≡ true
 awaits_alive m o ended e = true_from_ne_false (is_alive o) (λ dead. none_awaits m o (idle_awaits o (ended dead)) e)
+
+-- a thread that has ended is in the wait that it was in
+pub ended_waits : (o : Option Thread) → wait_of (option_map (λ (thread : Thread). record thread { phase = Ended }) o) ≡ wait_of o
+ended_waits None = refl
+ended_waits (Some thread) = refl
 
 -- ---- a thread that begins to wait
 

@@ -1,8 +1,9 @@
 -- An unlock: a count less, a hand over, or the loss of a mutex that was not made consistent, whose waiters are refused one after the other.
-use Rattle.std.proofs.Common.{◌≡◌, ℕ, zero, suc, ◌<◌, ◌≤◌, Bool, true, false, List, [], ◌∷◌, length, refl, sym, ◌∙◌, ap, subst, arith, inl, inr}
+use Rattle.std.proofs.Common.{◌≡◌, ℕ, zero, suc, ◌<◌, ◌≤◌, Bool, true, false, [], length, refl, sym, ◌∙◌, ap, subst, arith, inl, inr}
 use Rattle.std.specs.Prelude.{◌-◌, ◌≢◌, Option, Some, None, option_map, nat_lt, if◌then◌else◌}
 use Rattle.std.specs.Fn.{iterate}
 use Rattle.std.proofs.lemmas.Bool.{cases_eq}
+use Rattle.std.proofs.lemmas.List.{nil_from_length}
 use Rattle.ptk_words.specs.Pools.{without, is_in}
 use Rattle.ptk_words.specs.declared.TheConstants.{COUNT_LIMIT}
 use Rattle.ptk_words.specs.declared.faults.Errno.TheVariants.{ENOTRECOVERABLE}
@@ -29,14 +30,10 @@ record AreRefused (interval m n : ℕ) (running : Option ℕ) (rest : Rest) (loc
   pub others : (k : ℕ) → k ≢ m → IsServed (mutex_at locks k)
   pub few : length (waiters_of (mutex_at locks m)) ≤ n
 
-none_left : (ts : List ℕ) → length ts ≤ 0 → ts ≡ []
-none_left [] le = refl
-none_left (t ∷ ts) le = absurd (omega (arith, le))
-
 served_all : (interval m : ℕ) (running : Option ℕ) (rest : Rest) (locks : Locks) → AreRefused interval m 0 running rest locks → AreHeld interval running rest locks
 served_all interval m running rest locks refused =
     held_from interval running rest locks refused.queued (λ k. elim (cases_eq k m) [
-      | inl same ↦ (λ e. ap (λ i. waiters_of (mutex_at locks i)) same ∙ none_left (waiters_of (mutex_at locks m)) refused.few)
+      | inl same ↦ (λ e. ap (λ i. waiters_of (mutex_at locks i)) same ∙ nil_from_length (waiters_of (mutex_at locks m)) (omega (arith, refused.few)))
       | inr ne ↦ refused.others k ne
     ])
 

@@ -1,11 +1,15 @@
 -- Chains: the test with so many steps and the relation agree.
-use Rattle.std.proofs.Common.{arith, ◌≡◌, ℕ, zero, suc, ◌<◌, ◌≤◌, Bool, true, false, ◌||◌, List, [], ◌∷◌, length, sym, ◌∙◌, ap, refl, subst, inl, inr}
-use Rattle.std.specs.Prelude.{◌==◌, nat_eq, Option, Some, None, option_map, option_and_then, unwrap_or, ◌⊎◌}
-use Rattle.std.specs.List.{IsDistinct, AllByRecursion, list_any}
-use Rattle.std.proofs.lemmas.Bool.{eqb-true, eq-eqb, or_left}
-use Rattle.std.proofs.lemmas.Map.Keys.{IsDistinct-cons}
+use Rattle.std.proofs.Common.{arith, ◌≡◌, ℕ, zero, suc, ◌<◌, ◌≤◌, Bool, true, false, List, [], ◌∷◌, length, sym, ◌∙◌, ap, refl, subst, inl, inr}
+use Rattle.std.specs.Prelude.{◌==◌, slice_get, nat_eq, Option, Some, None, option_map, option_and_then, unwrap_or, ◌⊎◌}
+use Rattle.std.specs.List.{IsDistinct, list_any}
+use Rattle.std.specs.Option.{option_flatten}
+use Rattle.std.proofs.lemmas.Option.{slice_get_within}
+use Rattle.std.proofs.lemmas.Bool.{eqb-true, eq-eqb, or_cases, or_left, or_right}
+use Rattle.std.proofs.lemmas.Map.Keys.{IsDistinct-tail}
 use Rattle.std.proofs.lemmas.Map.Steps.{length-le_from_distinct_below}
+use Rattle.ptk_words.specs.Pools.{pool_get}
 use Rattle.ptk_words_model.specs.Chain.{steps_from, Leads, leads_to}
+use Rattle.ptk_words_sync_invariant.proofs.Lines.{none_twice, distinct_head}
 
 -- ---- one step
 
@@ -25,14 +29,6 @@ none_some o t e f = absurd (cc (e, f))
 pub false_true : {A : Type 0} → false ≡ true → A
 false_true e = absurd (cc e)
 
-pub or_cases : (a b : Bool) → (a || b) ≡ true → (a ≡ true) ⊎ (b ≡ true)
-or_cases true b e = inl refl
-or_cases false b e = inr e
-
-pub or_right : (a b : Bool) → b ≡ true → (a || b) ≡ true
-or_right true b e = refl
-or_right false b e = e
-
 -- ---- sound: what the test finds, some number of steps reaches
 
 sound_step : (next : ℕ → Option ℕ) (t fuel u : ℕ) → ((v : ℕ) → leads_to next t fuel v ≡ true → Leads next v t) → (o : Option ℕ) → next u ≡ o → unwrap_or (option_map (leads_to next t fuel) o) false ≡ true → Leads next u t
@@ -49,17 +45,14 @@ reaches_sound next t (suc fuel) u e = sound_cases next t fuel u (reaches_sound n
 
 -- ---- complete: so many steps are found with that much fuel
 
-some_same : (u t : ℕ) → Some u ≡ Some t → u ≡ t
-some_same u t e = ap (λ o. unwrap_or o 0) e
-
 found_step : (next : ℕ → Option ℕ) (t fuel n u : ℕ) → ((v : ℕ) → steps_from next v n ≡ Some t → leads_to next t fuel v ≡ true) → (o : Option ℕ) → next u ≡ o → steps_from next u (suc n) ≡ Some t → unwrap_or (option_map (leads_to next t fuel) o) false ≡ true
 found_step next t fuel n u ih None e c = none_some (steps_from next u (suc n)) t (chain_at-ended next u n e) c
 found_step next t fuel n u ih (Some v) e c = ih v (sym (chain_at-next next u v n e) ∙ c)
 
 pub reaches_found : (next : ℕ → Option ℕ) (t fuel n u : ℕ) → n ≤ fuel → steps_from next u n ≡ Some t → leads_to next t fuel u ≡ true
-reaches_found next t zero zero u h c = eq-eqb u t (some_same u t c)
+reaches_found next t zero zero u h c = eq-eqb u t (ap (λ o. unwrap_or o 0) c)
 reaches_found next t zero (suc n) u h c = absurd (omega (arith, h))
-reaches_found next t (suc fuel) zero u h c = or_left _ _ (eq-eqb u t (some_same u t c))
+reaches_found next t (suc fuel) zero u h c = or_left _ _ (eq-eqb u t (ap (λ o. unwrap_or o 0) c))
 reaches_found next t (suc fuel) (suc n) u h c =
     or_right _ _ (found_step next t fuel n u (λ v. reaches_found next t fuel n v (omega (arith, h))) (next u) refl c)
 
@@ -78,28 +71,12 @@ pub record IsPath (next : ℕ → Option ℕ) (t n u : ℕ) : Type 0 where
   pub leads : steps_from next u n ≡ Some t
   pub distinct : IsDistinct nat_eq (visited next n u)
 
-IsDistinct-nil : IsDistinct nat_eq []
-unfolding IsDistinct
-IsDistinct-nil = tt
-
-distinct_tail : (x : ℕ) (xs : List ℕ) → IsDistinct nat_eq (x ∷ xs) → IsDistinct nat_eq xs
-unfolding IsDistinct
-distinct_tail x xs d = d.1
-
-both_false : (a b : Bool) → (a || b) ≡ false → (a ≡ false) × (b ≡ false)
-both_false true b e = false_true (sym e)
-both_false false b e = (refl, e)
-
-fresh : (x : ℕ) (xs : List ℕ) → list_any (nat_eq x) xs ≡ false → AllByRecursion (λ y. nat_eq x y ≡ false) xs
-fresh x [] e = tt
-fresh x (y ∷ ys) e = let h : (nat_eq x y ≡ false) × (list_any (nat_eq x) ys ≡ false) = both_false _ _ e in (h.0, fresh x ys h.1)
-
 -- the rest of a path, from a thread that it starts from again
 rest_of_path : (next : ℕ → Option ℕ) (t k v w : ℕ) → next v ≡ Some w → IsPath next t (suc k) v → IsPath next t k w
 rest_of_path next t k v w e p =
     record {
       leads = sym (chain_at-next next v w k e) ∙ p.leads;
-      distinct = distinct_tail v (visited next k w) (rw (visited-next next k v w e) at p.distinct);
+      distinct = IsDistinct-tail nat_eq v (visited next k w) (rw (visited-next next k v w e) at p.distinct);
     }
 
 suffix_step : (next : ℕ → Option ℕ) (t k v u : ℕ) → ((w : ℕ) → list_any (nat_eq u) (visited next k w) ≡ true → IsPath next t k w → (j : ℕ) × IsPath next t j u)
@@ -120,7 +97,7 @@ longer : (next : ℕ → Option ℕ) (t k u v : ℕ) → next u ≡ Some v → I
 longer next t k u v e p n =
     record {
       leads = chain_at-next next u v k e ∙ p.leads;
-      distinct = rw (visited-next next k u v e) (IsDistinct-cons nat_eq u (visited next k v) (fresh u (visited next k v) n) p.distinct);
+      distinct = rw (visited-next next k u v e) (distinct_head u (visited next k v) p.distinct n);
     }
 
 erased_cases : (next : ℕ → Option ℕ) (t k u v : ℕ) → next u ≡ Some v → IsPath next t k v → (b : Bool) → list_any (nat_eq u) (visited next k v) ≡ b → (j : ℕ) × IsPath next t j u
@@ -135,7 +112,7 @@ erased_step next t n u ih (Some v) e c =
 
 -- any number of steps can be made without repetition
 pub erased : (next : ℕ → Option ℕ) (t n u : ℕ) → steps_from next u n ≡ Some t → (k : ℕ) × IsPath next t k u
-erased next t zero u c = (0, record { leads = c; distinct = IsDistinct-nil })
+erased next t zero u c = (0, record { leads = c; distinct = none_twice })
 erased next t (suc n) u c = erased_step next t n u (erased next t n) (next u) refl c
 
 -- ---- such a chain is no longer than the pool
@@ -151,6 +128,18 @@ length-visited next t (suc n) u c = ap suc (length_step next t n u (length-visit
 -- a number of the pool
 abbrev pub IsNumber : ℕ → ℕ → Type 0
 IsNumber size q = (0 < q) × (q < suc size)
+
+flat_some : {A : Type 0} (o : Option (Option A)) (a : A) → option_flatten o ≡ Some a → (x : Option A) × (o ≡ Some x)
+flat_some None a e = absurd (cc e)
+flat_some (Some x) a e = (x, refl)
+
+-- the number of an entry in use lies within the pool
+pub number_of : {A : Type 0} (pool : List (Option A)) (q : ℕ) (a : A) → pool_get pool q ≡ Some a → IsNumber (length pool) q
+number_of pool zero a e = absurd (cc e)
+number_of pool (suc i) a e =
+    let f : (x : Option _) × (slice_get pool i ≡ Some x) = flat_some (slice_get pool i) a e in
+    let w : i < length pool = slice_get_within pool i f.0 f.1 in
+    (omega arith, omega (arith, w))
 
 -- only numbers of the pool lead on
 pub record IsBounded (size : ℕ) (next : ℕ → Option ℕ) : Type 0 where
@@ -180,7 +169,7 @@ path-le size next b t n u p =
     let zeros : list_any (nat_eq 0) (visited next n u) ≡ false = zero_fresh size next b t n u p.leads _ refl in
     let h : length (0 ∷ visited next n u) ≤ suc size =
     length-le_from_distinct_below (0 ∷ visited next n u) (suc size)
-    (IsDistinct-cons nat_eq 0 (visited next n u) (fresh 0 (visited next n u) zeros) p.distinct)
+    (distinct_head 0 (visited next n u) p.distinct zeros)
     (λ q e. below size next b t n u q p.leads (or_cases _ _ e)) in
     let l : length (visited next n u) ≡ n = length-visited next t n u p.leads in
     omega (arith, h, l)
