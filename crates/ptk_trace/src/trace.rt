@@ -9,6 +9,7 @@ ghost use Rattle.ptk_trace.specs.KeptSteps.{kept_steps};
 
 use crate::text::{Decimal, Word};
 use circular_buffer::HeapCircularBuffer;
+use ptk_rv32i_rows::{Note, UNNOTED};
 use ptk_words::{Entry, ThreadNo, Tick};
 use std::alloc::{AllocError, Global};
 use std::io;
@@ -18,13 +19,20 @@ use std::marker::Model;
 // How many of the newest steps are noted before they go into the ring.
 pub(crate) const BATCH: usize = 256;
 
+// For how many more entries the batch has room when a row begins.
+pub(crate) const ROOM: usize = 64;
+
+// How many steps of a long row are noted before the newest of them go into the batch.
+pub(crate) const LONG: usize = 512;
+
 /// The last steps of a partition, with room for as many as its section keeps: a ring of them, and after it the newest
-/// ones in a batch, which goes into the ring as one.
+/// ones in a batch, which goes into the ring as one. The notes are those of the steps of a long row, while it runs.
 #[derive(Drop)]
 pub struct Trace {
     pub(crate) ring: HeapCircularBuffer<Entry>,
     pub(crate) batch: [Entry; BATCH],
     pub(crate) noted: usize,
+    pub(crate) notes: [Note; LONG],
 }
 
 impl Model for Trace {
@@ -56,6 +64,7 @@ impl Trace {
             ring,
             batch: [unset; BATCH],
             noted: 0,
+            notes: [UNNOTED; LONG],
         })
     }
 
@@ -105,7 +114,7 @@ pub(crate) fn make_room(
     ensures room { result ≤ 192 }
     ensures kept { kept_steps ring.new.capacity ring.new.items result batch.now ≡ kept_steps ring.old.capacity ring.old.items noted batch.now }
 {
-    if noted <= BATCH - 64 {
+    if noted <= BATCH - ROOM {
         return noted;
     }
     hand_over(ring, &batch[..noted]);
