@@ -1,11 +1,13 @@
 //! The image that is assembled from the source of an image.
 
 ghost use Rattle.std.specs.Prelude.{◌≡◌, IfErr, IfOk};
+ghost use Rattle.ptk_asm_language.specs.declared.fault.FaultKind.TheVariants as FaultKind;
+ghost use Rattle.ptk_disasm.specs.declared.fault.DisasmFault.TheVariants.{Memory};
 ghost use Rattle.ptk_disasm.specs.Writing.{IsRefused};
 
 use crate::disassembly::disassemble;
 use crate::fault::DisasmFault;
-use ptk_asm::{AsmFault, FaultKind, assemble};
+use ptk_asm::{AsmFault, assemble};
 use ptk_image::Image;
 use std::alloc::Global;
 
@@ -18,12 +20,14 @@ pub fn assembled_again(alloc: Global, image: &Image) -> Result<Image, DisasmFaul
     let text = disassemble(alloc, image)?;
     match assemble(alloc, text.as_str()) {
         Ok(again) => Ok(again),
-        Err(
-            AsmFault {
-                kind: FaultKind::Memory,
-                ..
-            },
-        ) => Err(DisasmFault::Memory),
-        Err(_) => unreachable!(),
+        Err(fault) => Err(of_written(&fault)),
     }
+}
+
+/// Why the source of an image is not assembled: it is without fault, so memory ran out.
+fn of_written(fault: &AsmFault) -> DisasmFault
+    requires { fault.now.kind ≡ FaultKind.Memory }
+    ensures { result ≡ Memory }
+{
+    DisasmFault::Memory
 }

@@ -1,7 +1,6 @@
 //! The answer to the question how a partition stands.
 
-ghost use Rattle.std.specs.Prelude.{◌≡◌, ◌≢◌, ◌<◌, ◌≤◌, None, IfErr, IfSome, IsSome, MatchResult, OnOk, length, position};
-ghost use Rattle.std.specs.Str.{bytes_eq};
+ghost use Rattle.std.specs.Prelude.{◌≡◌, ◌≢◌, ◌<◌, ◌≤◌, None, IfErr, IsSome, MatchResult, OnOk, length};
 ghost use Rattle.ptk_words.specs.declared.TheConstants.{LAST_TICK};
 ghost use Rattle.ptk_system.specs.Missing.{first_missing, missing_in};
 ghost use Rattle.ptk_main_runs.specs.declared.runs.RunFault.TheVariants.{NoPartition};
@@ -11,8 +10,8 @@ ghost use Rattle.ptk_main_runs.specs.Parts.{part_named};
 use crate::document::push_document;
 use crate::history::histories;
 use crate::lines::push_lines;
-use ptk_config::{Config, Section};
-use ptk_main_runs::RunFault;
+use ptk_config::Config;
+use ptk_main_runs::{RunFault, part_named};
 use ptk_symbols::Symbols;
 use ptk_system::{BootFault, Files, System};
 use ptk_words::{PartId, Tick};
@@ -21,15 +20,15 @@ use std::io::Write;
 
 /// How an answer is written.
 #[derive(Clone, Copy)]
-enum Form {
+pub enum Form {
     /// As lines of text.
     Lines,
-    /// As one JSON object.
+    /// As one JSON object on one line, with `\n` behind it.
     Json,
 }
 
-/// Writes how the partition of a name stands after this many ticks, in words: its status; of a fault the instruction,
-/// its address and the registers; of a partition that goes on each thread, and each deadlock.
+/// Writes how the partition of a name is after this many ticks, in a form: its status; of a fault the instruction, its
+/// address and the registers; of a partition that goes on each thread, and each deadlock.
 ///
 /// That there is such a partition is tested before the system boots. A fault where there is none, where the system does
 /// not boot or memory ran out, each before the first byte, or where the writer fails.
@@ -40,51 +39,7 @@ pub fn explain_partition_with<W: Write>(
     ticks: Tick,
     name: &str,
     symbols: &Symbols<'_>,
-    out: &mut W,
-) -> Result<(), RunFault>
-    requires { ticks ≤ LAST_TICK }
-    ensures known { OnOk result (IsSome (part_named config.now name.now)) }
-    ensures unknown { IfErr result (λ fault. fault ≡ NoPartition → part_named config.now name.now ≡ None) }
-    ensures first { IfErr result (λ fault. part_named config.now name.now ≡ None → fault ≡ NoPartition) }
-    ensures missing { MatchResult result
-        (λ _. first_missing files.now config.now.sections ≡ None)
-        (λ fault. fault ≢ NoPartition → first_missing files.now config.now.sections ≡ missing_in_run fault) }
-    ensures silent { IfErr result (λ fault. fault ≢ RunFault.Write → out.new ≡ out.old) }
-{
-    explain_in(Form::Lines, alloc, config, files, ticks, name, symbols, out)
-}
-
-/// Writes the same as one JSON object on one line, with `\n` behind it. The same faults come.
-pub fn explain_partition_json_with<W: Write>(
-    alloc: Global,
-    config: &Config,
-    files: &Files,
-    ticks: Tick,
-    name: &str,
-    symbols: &Symbols<'_>,
-    out: &mut W,
-) -> Result<(), RunFault>
-    requires { ticks ≤ LAST_TICK }
-    ensures known { OnOk result (IsSome (part_named config.now name.now)) }
-    ensures unknown { IfErr result (λ fault. fault ≡ NoPartition → part_named config.now name.now ≡ None) }
-    ensures first { IfErr result (λ fault. part_named config.now name.now ≡ None → fault ≡ NoPartition) }
-    ensures missing { MatchResult result
-        (λ _. first_missing files.now config.now.sections ≡ None)
-        (λ fault. fault ≢ NoPartition → first_missing files.now config.now.sections ≡ missing_in_run fault) }
-    ensures silent { IfErr result (λ fault. fault ≢ RunFault.Write → out.new ≡ out.old) }
-{
-    explain_in(Form::Json, alloc, config, files, ticks, name, symbols, out)
-}
-
-/// Writes how the partition of a name stands, in a form.
-fn explain_in<W: Write>(
     form: Form,
-    alloc: Global,
-    config: &Config,
-    files: &Files,
-    ticks: Tick,
-    name: &str,
-    symbols: &Symbols<'_>,
     out: &mut W,
 ) -> Result<(), RunFault>
     requires { ticks ≤ LAST_TICK }
@@ -100,25 +55,6 @@ fn explain_in<W: Write>(
         Some(p) => put_answer(form, alloc, config, files, ticks, p, symbols, out),
         None => Err(RunFault::NoPartition),
     }
-}
-
-/// The partition of a name, None where no section has it.
-fn part_named(config: &Config, name: &str) -> Option<PartId>
-    ensures place { result ≡ part_named config.now name.now }
-    ensures within { IfSome result (λ p. p < length config.now.sections) }
-{
-    match place_named(config.sections(), name) {
-        Some(place) => Some(PartId::new(place as u8)),
-        None => None,
-    }
-}
-
-/// The place of the section of a name, None where no section has it.
-fn place_named(sections: &[Section], name: &str) -> Option<usize>
-    ensures place { result ≡ position (λ section. bytes_eq section.name name.now) sections.now }
-    ensures within { IfSome result (λ place. place < length sections.now) }
-{
-    sections.iter().position(|section| section.has_name(name))
 }
 
 /// Writes how a partition stands.

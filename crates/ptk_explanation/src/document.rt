@@ -4,12 +4,13 @@ ghost use Rattle.std.specs.Prelude.{◌<◌, length};
 
 use crate::cycles::{begins_cycle, following};
 use crate::facts::{Awaited, Stop, ThreadFacts, thread_count};
-use crate::history::{History, STACK_POINTER};
+use crate::history::History;
 use crate::status::standing;
-use crate::words::{cause_word, ceiling_of, policy_name, protocol_name, type_name};
+use crate::words::{ceiling_of, policy_name, protocol_name, type_name};
+use ptk_main_runs::{cause_word, status_word};
 use ptk_symbols::Symbols;
 use ptk_system::{Activity, PartStatus, System};
-use ptk_words::{Cpu, Owner, PartId, THREAD_LIMIT, ThreadNo, Tick, Wait};
+use ptk_words::{Cpu, Owner, PartId, SP, THREAD_LIMIT, ThreadNo, Tick, Wait};
 use std::alloc::{AllocError, Global};
 use std::fmt::Write;
 
@@ -231,15 +232,11 @@ impl MutexMembers {
     }
 }
 
-/// The word of a status.
-fn status_word(status: Option<PartStatus>) -> &'static str {
+/// The word of a status, None where the partition has no image.
+fn word_of(status: Option<PartStatus>) -> &'static str {
     match status {
+        Some(status) => status_word(status),
         None => "no image",
-        Some(PartStatus::Idle) => "idle",
-        Some(PartStatus::Running) => "running",
-        Some(PartStatus::Exited(_)) => "exit",
-        Some(PartStatus::Stopped(_, _)) => "fault",
-        Some(PartStatus::Refused(_)) => "refused",
     }
 }
 
@@ -286,7 +283,7 @@ fn push_head(
     out.push_str("{\"partition\":")?;
     push_text(alloc, out, system.config().sections()[p.index()].name())?;
     let (tick, steps, lost) = (system.tick().ticks(), system.steps(p), system.lost(p));
-    let status = status_word(standing(system, p));
+    let status = word_of(standing(system, p));
     write!(
         out,
         ",\"tick\":{tick},\"status\":\"{status}\",\"steps\":{steps},\"lost\":{lost}"
@@ -361,7 +358,7 @@ fn push_registers(out: &mut String, cpu: &Cpu) -> Result<(), AllocError> {
     out.push_str("]")
 }
 
-/// What stands before an item of a list.
+/// What is written before an item of a list.
 fn comma_unless(is_first: bool) -> &'static str {
     if is_first { "" } else { "," }
 }
@@ -401,7 +398,7 @@ fn push_thread(
     let pc = facts.pc();
     let place = Place::of(symbols, pc);
     let stack_pointer = match pc {
-        Some(_) => Some(facts.thread.cpu.register(STACK_POINTER)),
+        Some(_) => Some(facts.thread.cpu.register(SP)),
         None => None,
     };
     let mutex = MutexMembers::of(&facts.awaited);

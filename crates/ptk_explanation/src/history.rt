@@ -4,11 +4,8 @@ ghost use Rattle.std.specs.Prelude.{◌≡◌, ◌<◌, ◌≤◌, length};
 ghost use Rattle.ptk_words.specs.declared.TheConstants.{LAST_TICK};
 
 use ptk_system::{Activity, System};
-use ptk_words::{PartId, THREAD_LIMIT, ThreadNo, Tick};
+use ptk_words::{PartId, SP, THREAD_LIMIT, ThreadNo, Tick};
 use std::alloc::{AllocError, Global};
-
-/// The number of the stack pointer's register (RISC-V 25).
-pub(crate) const STACK_POINTER: u32 = 2;
 
 /// What was seen of a thread over a run.
 #[derive(Clone, Copy)]
@@ -43,7 +40,7 @@ impl History {
             self.least_stack = None;
         }
         self.activity = activity;
-        self.least_stack = lesser(self.least_stack, system.register(p, t, STACK_POINTER));
+        self.least_stack = lesser(self.least_stack, system.register(p, t, SP));
     }
 }
 

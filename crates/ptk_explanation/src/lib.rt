@@ -1,7 +1,7 @@
 #![tactic(auto)]
 
-//! How a partition is after n ticks, in words (`explain_partition_with`) or as one JSON object
-//! (`explain_partition_json_with`), on any writer.
+//! How a partition is after n ticks, in words or as one JSON object (`explain_partition_with`, by its `Form`), on any
+//! writer.
 //!
 //! - Nothing is written of a partition that no section names, or where the system does not boot (`known`, `unknown`,
 //!   `first`, `missing`, `silent`); what is written is tested.
@@ -30,4 +30,4 @@ mod refusal;
 mod status;
 mod words;
 
-pub use answer::{explain_partition_json_with, explain_partition_with};
+pub use answer::{Form, explain_partition_with};

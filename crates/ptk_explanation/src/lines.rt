@@ -4,14 +4,14 @@ ghost use Rattle.std.specs.Prelude.{◌<◌, ◌≤◌, length};
 
 use crate::cycles::{begins_cycle, following};
 use crate::facts::{Awaited, Stop, ThreadFacts, awaited_in, thread_count};
-use crate::history::{History, STACK_POINTER};
+use crate::history::History;
 use crate::status::standing;
 use crate::words::{
     Doing, Headline, ceiling_of, policy_name, protocol_name, refusal_words, type_name,
 };
 use ptk_symbols::Symbols;
 use ptk_system::{PartStatus, System};
-use ptk_words::{Cpu, PartId, THREAD_LIMIT, ThreadNo};
+use ptk_words::{Cpu, PartId, SP, THREAD_LIMIT, ThreadNo};
 use std::alloc::{AllocError, Global};
 use std::fmt::Write;
 
@@ -22,7 +22,7 @@ const REGISTERS: [&str; 32] = [
     "t5", "t6",
 ];
 
-/// How many registers stand in a line.
+/// How many registers are in a line.
 const REGISTERS_IN_LINE: usize = 4;
 
 /// Appends how a partition stands.
@@ -185,7 +185,7 @@ fn push_place(
     };
     write!(out, ", pc 0x{pc:08x}")?;
     symbols.push_place(out, pc)?;
-    let stack = facts.thread.cpu.register(STACK_POINTER);
+    let stack = facts.thread.cpu.register(SP);
     let least = facts.history.least_stack.unwrap_or(stack);
     write!(out, ", sp 0x{stack:08x}, least 0x{least:08x}")
 }

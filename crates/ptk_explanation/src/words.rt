@@ -1,6 +1,7 @@
 //! The words of an explanation.
 
 use crate::facts::Awaited;
+use ptk_main_runs::cause_word;
 use ptk_system::{Activity, PartStatus};
 use ptk_words::{Cause, FaultKind, LAST_TICK, MutexKind, Owner, Policy, Protocol, Tick, Wait};
 use std::fmt;
@@ -135,18 +136,6 @@ pub(crate) fn ceiling_of(protocol: Protocol) -> Option<u8> {
     match protocol {
         Protocol::NoProtocol | Protocol::Inherit => None,
         Protocol::Protect(ceiling) => Some(ceiling.level()),
-    }
-}
-
-/// The word of a cause, as the report spells it.
-pub(crate) fn cause_word(cause: Cause) -> &'static str {
-    match cause {
-        Cause::Break => "break",
-        Cause::Fault(FaultKind::Illegal) => "illegal",
-        Cause::Fault(FaultKind::Fetch) => "fetch",
-        Cause::Fault(FaultKind::Load) => "load",
-        Cause::Fault(FaultKind::Store) => "store",
-        Cause::Fault(FaultKind::Misaligned) => "misaligned",
     }
 }
 

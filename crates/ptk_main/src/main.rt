@@ -2,7 +2,7 @@
 
 //! The program `ptk`: the words of its command line, and its exit status.
 //!
-//! - It is proved to run to its end without an error of its own; what it does with the words stands in
+//! - It is proved to run to its end without an error of its own; what it does with the words is in
 //!   `ptk_main_commands`.
 //!
 //! Below is `ptk_main_commands`; nothing is above. What no contract can say of real files and streams is tested in

@@ -42,7 +42,7 @@ pub fn trace_answer<'a, W: Write>(
 }
 
 /// The lines of the last steps of the partition of this name that the filter shows, in words. Which of them it shows
-/// and what stands behind each is for `decoded_trace_with` to say.
+/// and what is behind each is for `decoded_trace_with` to say.
 pub fn decoded_answer<'a, W: Write>(
     alloc: Global,
     config: &'a Config,

@@ -1,8 +1,7 @@
 //! The trace of a partition in words.
 
-ghost use Rattle.std.specs.Prelude.{◌≡◌, ◌≢◌, ◌<◌, ◌≤◌, ◌++◌, None, IfErr, IfSome, MatchResult, OnOk, IsSome, codes, length, position};
+ghost use Rattle.std.specs.Prelude.{◌≡◌, ◌≢◌, ◌<◌, ◌≤◌, ◌++◌, None, IfErr, MatchResult, OnOk, IsSome, codes, length};
 ghost use Rattle.std.specs.Io.KnownBytes.{Appends};
-ghost use Rattle.std.specs.Str.{bytes_eq};
 ghost use Rattle.ptk_words.specs.declared.TheConstants.{LAST_TICK};
 ghost use Rattle.ptk_system.specs.Missing.{first_missing};
 ghost use Rattle.ptk_main_runs.specs.declared.runs.RunFault.TheVariants.{NoPartition};
@@ -14,8 +13,8 @@ use crate::entries::entry_in;
 use crate::filter::Filter;
 use crate::steps::push_step;
 use ptk_asm_language::{split_line, without_ending};
-use ptk_config::{Config, Section};
-use ptk_main_runs::{RunFault, trace_with};
+use ptk_config::Config;
+use ptk_main_runs::{RunFault, part_named, trace_with};
 use ptk_symbols::Symbols;
 use ptk_system::{BootFault, Files, System};
 use ptk_words::{PartId, Tick};
@@ -53,7 +52,7 @@ pub fn decoded_trace_with<W: Write>(
     ensures silent { IfErr result (λ fault. ¬ IsOfHost fault → out.new ≡ out.old) }
 {
     let lines = lines_of(alloc, config, files, ticks, name)?;
-    let Some(p) = partition_of(config, name) else {
+    let Some(p) = part_named(config, name) else {
         return Err(RunFault::NoPartition);
     };
     match System::boot(alloc, config, files) {
@@ -93,25 +92,6 @@ fn lines_of(
         Err(RunFault::Write) => Err(NO_MEMORY),
         Err(fault) => Err(fault),
     }
-}
-
-/// The partition of a name, `None` where no section has it.
-pub fn partition_of(config: &Config, name: &str) -> Option<PartId>
-    ensures place { result ≡ part_named config.now name.now }
-    ensures within { IfSome result (λ p. p < length config.now.sections) }
-{
-    match place_of(config.sections(), name) {
-        Some(place) => Some(PartId::new(place as u8)),
-        None => None,
-    }
-}
-
-/// The place of the section of a name, `None` where no section has it.
-fn place_of(sections: &[Section], name: &str) -> Option<usize>
-    ensures place { result ≡ position (λ section. bytes_eq section.name name.now) sections.now }
-    ensures within { IfSome result (λ place. place < length sections.now) }
-{
-    sections.iter().position(|section| section.has_name(name))
 }
 
 /// Writes the lines that the filter shows in words; the system goes on with them.

@@ -6,8 +6,9 @@ ghost use Rattle.json.specs.Print.{print};
 
 use base64::engine::general_purpose::STANDARD;
 use ptk_main_faults::Fault;
+use ptk_main_runs::{cause_word, status_word};
 use ptk_system::{PartStatus, System};
-use ptk_words::{Cause, FaultKind, PartId};
+use ptk_words::PartId;
 use serde::Serialize;
 use std::alloc::{AllocError, Global};
 use std::io;
@@ -94,17 +95,6 @@ fn json_of(alloc: Global, system: &System<'_>, p: PartId) -> Result<String, Faul
     }
 }
 
-/// The word of a status, as the report begins it.
-fn status_word(status: PartStatus) -> &'static str {
-    match status {
-        PartStatus::Idle => "idle",
-        PartStatus::Running => "running",
-        PartStatus::Exited(_) => "exit",
-        PartStatus::Stopped(..) => "fault",
-        PartStatus::Refused(_) => "refused",
-    }
-}
-
 /// The code that a partition exited with.
 fn code_of(status: PartStatus) -> Option<u8> {
     match status {
@@ -118,18 +108,6 @@ fn cause_of(status: PartStatus) -> Option<&'static str> {
     match status {
         PartStatus::Stopped(cause, _) => Some(cause_word(cause)),
         _ => None,
-    }
-}
-
-/// The word of a cause.
-fn cause_word(cause: Cause) -> &'static str {
-    match cause {
-        Cause::Break => "break",
-        Cause::Fault(FaultKind::Illegal) => "illegal",
-        Cause::Fault(FaultKind::Fetch) => "fetch",
-        Cause::Fault(FaultKind::Load) => "load",
-        Cause::Fault(FaultKind::Store) => "store",
-        Cause::Fault(FaultKind::Misaligned) => "misaligned",
     }
 }
 

@@ -13,9 +13,9 @@
 //!   if and only if they are the same.
 //! - `run_watched` ends at the last tick, or on request where every partition has halted, and `first_failure` is the
 //!   first partition of a kind to fail on.
-//! - Of pictures and JSON objects the clauses say only their form (an object is the compact text of its own tokens).
+//! - Of JSON objects the clauses say only their form (an object is the compact text of its own tokens).
 //! - `explain_with` returns a text's first fault with its place, and writes what `explain` does (`written`).
-//! - `decoded_answer`, `standing_answer`, `timeline_answer` and `named_timeline_answer` promise their refusals alone.
+//! - `decoded_answer` promises its refusals alone.
 //! - Of a trace in words `shows` is the definition's choice of steps (`is_shown`), and `push_decoded` appends the
 //!   definition's words of a pc and a word (`decoded_text`); `decoded_trace_with` refuses an unknown name as
 //!   `trace_with` does. The rest of a line is tested.
@@ -26,10 +26,10 @@
 //! boot goes on to each ECALL that is shown.
 //!
 //! That the answer to a request succeeds with ample memory is tested, and the bytes of all of them with it
-//! (`ptk_main_tests`). Below are the command line (`ptk_main_line`), the faults (`ptk_main_faults`), whole runs
-//! (`ptk_main_runs`), the system (`ptk_system`), symbols and the disassembler, and the words of a configuration
-//! (`ptk_config_explain`); above is the program, which reads the files and lends its standard output. No clause is
-//! costly to prove.
+//! (`ptk_main_tests`). What needs the figures, the pictures or the explanation of a run is in `ptk_main_commands`.
+//! Below are the command line (`ptk_main_line`), the faults (`ptk_main_faults`), whole runs (`ptk_main_runs`), the
+//! system (`ptk_system`), symbols and the disassembler, and the words of a configuration (`ptk_config_explain`); above
+//! is the program, which reads the files and lends its standard output. No clause is costly to prove.
 
 mod answer;
 mod check;
@@ -38,24 +38,19 @@ mod document;
 mod entries;
 mod expectation;
 mod explanation;
-mod figures;
 mod filter;
 mod naming;
-mod picture;
 mod replies;
 mod run;
-mod standing;
 mod steps;
 
 pub use answer::{decoded_answer, trace_answer};
 pub use check::check_with;
-pub use decoding::{decoded_trace_with, partition_of};
+pub use decoding::decoded_trace_with;
 pub use document::check_document;
 pub use expectation::difference;
 pub use explanation::explain_with;
-pub use figures::stats_answer;
 pub use filter::Filter;
-pub use picture::{named_timeline_answer, timeline_answer};
-pub use ptk_main_runs::{Files, RunFault, run_with, trace_with};
+pub use naming::{boot_fault, run_fault};
+pub use ptk_main_runs::{Files, RunFault, System, part_named, run_with, trace_with};
 pub use run::{RunQuestion, Watch, run_answer};
-pub use standing::standing_answer;

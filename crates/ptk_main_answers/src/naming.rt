@@ -30,7 +30,7 @@ pub(crate) fn part_name(config: &Config, p: PartId) -> &str {
 }
 
 /// The program's fault for a boot's.
-pub(crate) fn boot_fault(config: &Config, fault: BootFault) -> Fault<'_>
+pub fn boot_fault(config: &Config, fault: BootFault) -> Fault<'_>
     ensures { told result ≡ boot_fault config.now fault }
 {
     match fault {
@@ -40,7 +40,7 @@ pub(crate) fn boot_fault(config: &Config, fault: BootFault) -> Fault<'_>
 }
 
 /// The program's fault for a run's, where the partition of this name was asked for.
-pub(crate) fn run_fault<'a>(config: &'a Config, name: &'a str, fault: RunFault) -> Fault<'a>
+pub fn run_fault<'a>(config: &'a Config, name: &'a str, fault: RunFault) -> Fault<'a>
     ensures { told result ≡ run_fault config.now name.now fault }
 {
     match fault {

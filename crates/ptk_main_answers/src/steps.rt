@@ -6,7 +6,7 @@ ghost use Rattle.ptk_main_answers.specs.Decoded as is;
 
 use crate::replies::reply_name;
 use ptk_disasm::{push_target, push_word_statement, target_of};
-use ptk_statistics::call_name;
+use ptk_statistics_figures::call_name;
 use ptk_symbols::Symbols;
 use ptk_system::{Activity, System};
 use ptk_words::{A7, Call, ECALL, Entry, PartId, RETURN_GATE, Tick};
@@ -26,7 +26,7 @@ enum Reply {
     Never,
 }
 
-/// Appends the symbol that is nearest to a pc, and the step of a word that stands there.
+/// Appends the symbol that is nearest to a pc, and the step of the word there.
 fn push_decoded(
     text: &mut String,
     symbols: &Symbols<'_>,
@@ -91,8 +91,8 @@ fn reply_of(system: &System<'_>, p: PartId, entry: &Entry) -> Reply
     }
 }
 
-/// Appends the name of the call that a step makes, and its reply. The system goes on to the step, whose call stands in
-/// a7, and over it.
+/// Appends the name of the call that a step makes, and its reply. The system goes on to the step, whose call is in a7,
+/// and over it.
 fn push_made_call(
     text: &mut String,
     system: &mut System<'_>,

@@ -5,7 +5,8 @@ use Rattle.ptk_main_line.specs.CommandLine.{Asks}
 use Rattle.ptk_main_line.specs.declared.requests.Request.{Request}
 use Rattle.ptk_main_line.specs.declared.requests.Request.TheVariants.{Run, Trace, Timeline, Asm, Check, Disasm, Impact, Explain, Stats}
 use Rattle.ptk_main_line.specs.Values.{MayHaveNumber}
-use Rattle.ptk_main_commands.specs.Requests.{AreSteps, IsInRange, IsThread}
+use Rattle.ptk_main_files.specs.Traces.{AreSteps, IsThread}
+use Rattle.ptk_main_commands.specs.Requests.{IsInRange}
 
 positive : (n : ℕ) → 1 ≤ n → 0 < n
 positive n h = omega arith

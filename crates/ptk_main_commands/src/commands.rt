@@ -2,15 +2,10 @@
 
 ghost use Rattle.ptk_main_commands.specs.Requests.{IsInRange};
 
-use crate::assembling::asm;
-use crate::checking::check;
-use crate::comparing::impact;
 use crate::counting::stats;
-use crate::disassembling::disasm;
-use crate::running::{run, timeline};
+use crate::picture::timeline;
 use crate::standing::explain;
-use crate::telling::{end, usage};
-use crate::tracing::trace;
+use ptk_main_files::{asm, check, disasm, end, impact, run, trace, usage};
 use ptk_main_line::{Request, read_line};
 
 /// Does what the words of a command line ask for, the program's name the first of them, and gives the number of the

@@ -1,15 +1,20 @@
 //! `explain`: how a partition stands after a run.
 
-ghost use Rattle.std.specs.Prelude.{◌≤◌};
+ghost use Rattle.std.specs.Prelude.{◌≡◌, ◌≤◌, None, MatchResult};
 ghost use Rattle.ptk_words.specs.declared.TheConstants.{LAST_TICK};
+ghost use Rattle.ptk_main_runs.specs.Parts.{part_named};
+ghost use Rattle.ptk_main_answers.specs.Refusals.{IsFaultOf, refused_trace};
 
-use crate::reading::{config_in, images_of, symbols_of, symbols_text_in};
-use crate::telling::{end, tell};
 use ptk_config::Config;
-use ptk_main_answers::standing_answer;
+use ptk_explanation::{Form, explain_partition_with};
+use ptk_main_answers::{Files, run_fault};
 use ptk_main_faults::Fault;
-use ptk_main_line::ExplainOptions;
+use ptk_main_files::{config_in, end, images_of, symbols_of, symbols_text_in, tell};
+use ptk_main_line::{ExplainOptions, Format};
+use ptk_symbols::Symbols;
 use ptk_words::Tick;
+use std::alloc::Global;
+use std::io::Write;
 
 /// How a partition of the configuration in a file stands.
 pub(crate) fn explain(rt: &HostRuntime, options: ExplainOptions<'_>) -> u8
@@ -43,4 +48,29 @@ fn explain_config<'a>(
         options.format,
         &mut rt.stdout(),
     )
+}
+
+// Writes how the partition of this name stands after a run. What that says is for `ptk_explanation` to promise.
+fn standing_answer<'a, W: Write>(
+    alloc: Global,
+    config: &'a Config,
+    files: &Files,
+    ticks: Tick,
+    name: &'a str,
+    symbols: &Symbols<'_>,
+    format: Format,
+    out: &mut W,
+) -> Result<(), Fault<'a>>
+    requires { ticks ≤ LAST_TICK }
+    ensures refused { let refusal = refused_trace (part_named config.now name.now) config.now files.now name.now in
+        MatchResult result (λ _. refusal ≡ None) (IsFaultOf refusal refusal) }
+{
+    let form = match format {
+        Format::Text => Form::Lines,
+        Format::Json => Form::Json,
+    };
+    match explain_partition_with(alloc, config, files, ticks, name, symbols, form, out) {
+        Ok(()) => Ok(()),
+        Err(fault) => Err(run_fault(config, name, fault)),
+    }
 }

@@ -5,7 +5,8 @@
 //!
 //! Memory is ample there, so an answer that it ran out is one that fails. The functions promise nothing, and are
 //! between each row and the calls that it tests, so that a check does not compute the rows' runs. Below are the
-//! assembler (`ptk_asm`), whole runs and their system (`ptk_main_runs`); above are the crates of worked rows.
+//! assembler (`ptk_asm`), whole runs and their system (`ptk_main_runs`), and the slot table (`ptk_threads`), along
+//! whose links some rows go; above are the crates of worked rows.
 
 mod guests;
 mod rows;

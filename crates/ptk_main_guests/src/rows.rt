@@ -125,7 +125,7 @@ other:
     ecall               #  74  the gate at 80
 ";
 
-/// Timespecs, which stand behind a guest's other data: one long past, tick 100, tick 200, and one whose nanoseconds are
+/// Timespecs, which are behind a guest's other data: one long past, tick 100, tick 200, and one whose nanoseconds are
 /// none.
 pub const TIMES: &str = "
 past:
@@ -196,7 +196,7 @@ cleanup:
 ";
 
 /// Thread 2, at 20, ends with a value of a key whose destructor puts it and sets the key again, one greater. Main joins
-/// 2 and exits with its result. The destructor's end stands behind.
+/// 2 and exits with its result. The destructor's end is behind.
 pub const SET_AGAIN: &str = "
     la a1, target       #   0
     li a3, 20           #   2

@@ -3,7 +3,7 @@
 use crate::guests::{guest_of, is_report, is_text, is_trace, tick_of};
 use ptk_config::Config;
 use ptk_main_runs::{Files, System};
-use ptk_mutex::effective;
+use ptk_system::Activity;
 use ptk_threads::{QueueName, Slot};
 use ptk_words::{ConditionNo, MutexNo, PartId, Priority, SlotNo, ThreadNo, Wait};
 use std::alloc::Global;
@@ -28,7 +28,7 @@ pub enum Sight {
     Level(u8),
     /// The number of the mutex that a thread waits for.
     Awaited(u8),
-    /// How many threads lie in a queue, where the links of the slot table lead along these threads, in this order and
+    /// How many threads are in a queue, where the links of the slot table lead along these threads, in this order and
     /// no others.
     Linked(Queue, &'static [u8]),
     /// How many stored priorities the last call on mutexes read as it raised some, of whatever partition.
@@ -64,7 +64,7 @@ fn name_of(queue: Queue) -> Option<QueueName> {
     }
 }
 
-// Whether a slot's thread lies in a queue of this name.
+// Whether a slot's thread is in a queue of this name.
 fn lies_in(slot: &Slot, name: &QueueName) -> bool {
     match slot.queue() {
         Some(queue) => queue == *name,
@@ -92,7 +92,7 @@ fn is_along(slots: &[Slot], name: &QueueName, threads: &[u8]) -> Option<bool> {
     Some(promised.is_none())
 }
 
-// How many slots lie in a queue of the first partition, whose first slot is the table's first.
+// How many slots are in a queue of the first partition, whose first slot is the table's first.
 fn count_in(slots: &[Slot], name: &QueueName) -> usize {
     let mut count: usize = 0;
     for slot in slots.iter() {
@@ -103,7 +103,7 @@ fn count_in(slots: &[Slot], name: &QueueName) -> usize {
     count
 }
 
-// How many threads lie in a queue, None where the links do not lead along these threads and no others.
+// How many threads are in a queue, None where the links do not lead along these threads and no others.
 fn linked(slots: &[Slot], queue: Queue, threads: &[u8]) -> Option<u32> {
     let name = name_of(queue)?;
     let count = count_in(slots, &name);
@@ -113,13 +113,13 @@ fn linked(slots: &[Slot], queue: Queue, threads: &[u8]) -> Option<u32> {
     u32::try_from(count).ok()
 }
 
-// The number of the mutex that a wait is for.
-fn mutex_of(wait: Option<Wait>) -> Option<MutexNo> {
-    match wait? {
-        Wait::MutexWait(m, _) | Wait::RelockWait(m, _) => Some(m),
-        Wait::InputWait | Wait::SleepWait(_) | Wait::JoinWait(_) | Wait::ConditionWait(_, _, _) => {
-            None
+// The number of the mutex that a thread waits for.
+fn mutex_of(activity: &Activity) -> Option<u8> {
+    match activity {
+        Activity::Blocked(Wait::MutexWait(m, _)) | Activity::Blocked(Wait::RelockWait(m, _)) => {
+            Some(m.number())
         }
+        _ => None,
     }
 }
 
@@ -127,12 +127,11 @@ fn mutex_of(wait: Option<Wait>) -> Option<MutexNo> {
 fn seen(system: &System<'_>, sight: Sight) -> Option<u32> {
     let _parts = system.parts();
     let p = PartId::new(0);
-    let threads = system.tables().threads();
     match sight {
         Sight::Register(t, i) => system.register(p, thread_of(t)?, i),
-        Sight::Level(t) => Some(u32::from(effective(threads, p, thread_of(t)?)?)),
-        Sight::Awaited(t) => Some(u32::from(mutex_of(threads.wait(p, thread_of(t)?))?.number())),
-        Sight::Linked(queue, along) => linked(threads.slots(), queue, along),
+        Sight::Level(t) => Some(u32::from(system.effective_priority(p, thread_of(t)?)?)),
+        Sight::Awaited(t) => Some(u32::from(mutex_of(&system.activity(p, thread_of(t)?))?)),
+        Sight::Linked(queue, along) => linked(system.tables().threads().slots(), queue, along),
         Sight::Visited => Some(system.tables().visited()),
         Sight::Byte(address) => Some(u32::from(system.byte(p, address)?)),
         Sight::Steps => u32::try_from(system.steps(p)).ok(),
@@ -205,8 +204,8 @@ pub struct CutRow<'a> {
     pub cuts: &'a [(u64, &'a str)],
 }
 
-/// What of a row is not as wanted: the index of the first entry that is not what is seen after its ticks; as many as
-/// there are entries where there is no such guest, or its report after this many ticks is another. None where all is.
+/// What of a row is not as wanted: the index of the first entry that is not what is seen after its ticks; the number of
+/// entries where there is no such guest, or its report after this many ticks is another. None where all is.
 pub fn check_row(alloc: Global, row: &Row<'_>) -> Option<usize> {
     let count = row.sights.len();
     let Some((config, files)) = guest_of(alloc, row.parts, row.source) else {
@@ -280,8 +279,8 @@ fn first_other_report(
 }
 
 // Which of a row's reports is not as wanted: the first entry that is not the report after its ticks of one run, which
-// goes on from entry to entry, or of a run of its own. As many as there are entries where there is no such guest. None
-// where all are.
+// goes on from entry to entry, or of a run of its own. The number of entries where there is no such guest. None where
+// all are.
 fn check_cuts(alloc: Global, row: &CutRow<'_>) -> Option<usize> {
     let count = row.cuts.len();
     let Some((config, files)) = guest_of(alloc, row.parts, row.source) else {

@@ -5,8 +5,10 @@ ghost use Rattle.clap.specs.declared.builder.value_parser.ValueParser.TheVariant
 ghost use Rattle.clap.specs.declared.builder.command.Command.TheViews.{out-Command};
 ghost use Rattle.ptk_main_line.specs.CommandLine.{asm, check, disasm, explain, impact, ptk, run, stats, timeline, trace};
 ghost use Rattle.ptk_main_line.specs.CommandLine.{rule_for, run_rules, with_rules, with_subcommands};
+ghost use Rattle.ptk_main_line.specs.declared.line.TheConstants.{MOST_TICKS};
 
 use crate::help;
+use crate::line::{MOST_STEPS, MOST_THREADS, MOST_TICKS};
 use clap::{Arg, ArgAction, Command, value_parser};
 use std::alloc::{AllocError, Global};
 
@@ -489,19 +491,19 @@ impl Argument {
             Takes::RequiredTicks => ticks(arg, self.name).required(true),
             Takes::Thread => arg
                 .long(self.name)
-                .value_parser(value_parser!(u64).range(1..=32)),
+                .value_parser(value_parser!(u64).range(1..=MOST_THREADS as i64)),
             Takes::Steps => arg
                 .long(self.name)
-                .value_parser(value_parser!(u64).range(1..=1_048_576)),
+                .value_parser(value_parser!(u64).range(1..=MOST_STEPS as i64)),
         }
     }
 }
 
 /// The argument as an option of this name whose value is a number of ticks.
 fn ticks<'a>(arg: Arg<'a>, name: &'a str) -> Arg<'a>
-    ensures rule { rule_of result ≡ record (rule_of arg.entry) { long = Some name.entry.now; parser = Some (Unsigned 0 1099511627776) } }
+    ensures rule { rule_of result ≡ record (rule_of arg.entry) { long = Some name.entry.now; parser = Some (Unsigned 0 MOST_TICKS) } }
     ensures own { result.global ≡ arg.entry.global }
 {
     arg.long(name)
-        .value_parser(value_parser!(u64).range(0..=1_099_511_627_776))
+        .value_parser(value_parser!(u64).range(0..=MOST_TICKS as i64))
 }

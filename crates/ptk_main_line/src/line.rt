@@ -33,7 +33,7 @@ pub const MOST_STEPS: u64 = 1_048_576;
 /// An error has one of the kinds that `clap` gives the words: `DisplayHelp` where they ask for help, and otherwise what
 /// is wrong with them. Its kind is `InvalidValue` where `clap` takes the words and they ask for nothing: the value of
 /// `--format` or `--fail-on` is another word. It is `OutOfMemory` where memory runs out. An argument and its values are
-/// read as `clap` reads them, so options may stand before or after FILE, and `--ticks=N` is `--ticks N`.
+/// read as `clap` reads them, so options may be before or after FILE, and `--ticks=N` is `--ticks N`.
 pub fn read_line<'a>(alloc: Global, words: &'a [&'a str]) -> Result<Request<'a>, Error>
     ensures asked { IfOk result (λ r. Asks (map (λ w. w.now) words.entry.now) r) }
     ensures taken { OnOk result (fault_of ptk (map (λ w. w.now) words.entry.now) ≡ []) }
@@ -51,8 +51,8 @@ pub fn read_line<'a>(alloc: Global, words: &'a [&'a str]) -> Result<Request<'a>,
 fn no_request(alloc: Global) -> Result<Error, AllocError>
     ensures { IfOk result (λ e. kind_of e ≡ InvalidValue) }
 {
-    let mut command = ptk_command(alloc)?;
-    command.error(
+    refusal(
+        alloc,
         ErrorKind::InvalidValue,
         "the value of --format or --fail-on is none of the words that --help names",
     )
@@ -64,8 +64,7 @@ fn no_request(alloc: Global) -> Result<Error, AllocError>
 pub fn not_text(alloc: Global) -> Result<Error, AllocError>
     ensures { IfOk result (λ e. kind_of e ≡ ValueValidation) }
 {
-    let mut command = ptk_command(alloc)?;
-    command.error(ErrorKind::ValueValidation, "a word is not UTF-8")
+    refusal(alloc, ErrorKind::ValueValidation, "a word is not UTF-8")
 }
 
 /// The error of `asm` where two of its files are one, of which one would be written over: a usage error. An error where
@@ -73,8 +72,8 @@ pub fn not_text(alloc: Global) -> Result<Error, AllocError>
 pub fn one_file(alloc: Global) -> Result<Error, AllocError>
     ensures { IfOk result (λ e. kind_of e ≡ ArgumentConflict) }
 {
-    let mut command = ptk_command(alloc)?;
-    command.error(
+    refusal(
+        alloc,
         ErrorKind::ArgumentConflict,
         "two of IN, OUT and the file of --symbols are one file",
     )
@@ -85,11 +84,19 @@ pub fn one_file(alloc: Global) -> Result<Error, AllocError>
 pub fn undecoded(alloc: Global) -> Result<Error, AllocError>
     ensures { IfOk result (λ e. kind_of e ≡ MissingRequiredArgument) }
 {
-    let mut command = ptk_command(alloc)?;
-    command.error(
+    refusal(
+        alloc,
         ErrorKind::MissingRequiredArgument,
         "--symbols, --thread, --calls, --from and --to are options of --decode",
     )
+}
+
+/// The error of a kind, with this text and the command's usage. An error where memory runs out.
+fn refusal(alloc: Global, kind: ErrorKind, text: &str) -> Result<Error, AllocError>
+    ensures { IfOk result (λ e. kind_of e ≡ kind) }
+{
+    let mut command = ptk_command(alloc)?;
+    command.error(kind, text)
 }
 
 /// The request in the matches, if they have one.

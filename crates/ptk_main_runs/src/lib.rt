@@ -1,15 +1,19 @@
 #![tactic(auto)]
 
-//! Whole runs: `run_with` and `trace_with` make a report or a trace of a configuration, its files and ticks.
+//! Whole runs: `run_with` and `trace_with` make a report or a trace of a configuration, its files and ticks; and the
+//! words of a report, by themselves.
 //!
 //! - `run_with` and `trace_with` write the report, or the named partition's trace, of the booted configuration after
 //!   the given ticks.
 //! - Where they are refused the writer is as it was (`silent`).
+//! - `part_named` is the first section of a name; `cause_word` is the report's word for a cause.
 //!
 //! Below are the configuration (`ptk_config`), the system (`ptk_system`) and traces (`ptk_trace`); above are the
 //! answers to requests, and the worked rows, `ptk_main_rows`. No clause is costly to prove.
 
 mod runs;
+mod words;
 
 pub use ptk_system::{BootFault, Files, System};
-pub use runs::{RunFault, run_with, trace_with};
+pub use runs::{RunFault, part_named, run_with, trace_with};
+pub use words::{cause_word, status_word};

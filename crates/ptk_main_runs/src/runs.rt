@@ -87,8 +87,8 @@ pub fn trace_with<W: Write>(
     }
 }
 
-// The partition of a name, None where no section has it.
-fn part_named(config: &Config, name: &str) -> Option<PartId>
+/// The partition of a name, None where no section has it.
+pub fn part_named(config: &Config, name: &str) -> Option<PartId>
     ensures place { result ≡ part_named config.now name.now }
     ensures within { IfSome result (λ p. p < length config.now.sections) }
 {

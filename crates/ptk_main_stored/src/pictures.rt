@@ -7,7 +7,7 @@ use crate::{config_of, images_of, tick_of};
 use anyhow::{Context, Error, Result};
 use ptk_config::Config;
 use ptk_main_runs::{Files, System};
-use ptk_timeline::{PictureFault, picture_with};
+use ptk_timeline::{Names, PictureFault, Starts, Symbols, picture_with};
 use ptk_words::Tick;
 
 /// Prints the pictures. An error where a file can't be read, a configuration is refused, a system does not boot, or the
@@ -34,7 +34,13 @@ fn draw(rt: &HostRuntime, config: &Config, files: &Files, from: Tick, to: Tick) 
     let Some(mut system) = System::boot(rt.alloc(), config, files).ok() else {
         return Err(Error::msg("the system does not boot"));
     };
-    match picture_with(rt.alloc(), config, &mut system, from, to, &mut rt.stdout()) {
+    let (starts, symbols) = (Starts::none(rt.alloc()), Symbols::new(rt.alloc()));
+    let names = Names {
+        starts: &starts,
+        symbols: &symbols,
+    };
+    let out = &mut rt.stdout();
+    match picture_with(rt.alloc(), config, &mut system, &names, from, to, out) {
         Ok(()) => Ok(()),
         Err(PictureFault::Memory) => Err(Error::msg("out of memory")),
         Err(PictureFault::Write) => Err(Error::msg("the writer failed")),

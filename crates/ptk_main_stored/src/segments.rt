@@ -92,7 +92,7 @@ fn sums_up(column: &Cell, cells: &[Cell]) -> bool {
             .all(|cell| count_of(cells, cell.look.shade()) <= own)
 }
 
-/// Whether a row's columns tell of those of a row of the same ticks, whose columns are a tick each.
+/// Whether a row's columns agree with those of a row of the same ticks, whose columns are a tick each.
 fn row_sums_up(wide: &Row, each: usize, narrow: &Row) -> bool {
     let cells = narrow.cells();
     for (place, column) in wide.cells().iter().enumerate() {
@@ -105,7 +105,7 @@ fn row_sums_up(wide: &Row, each: usize, narrow: &Row) -> bool {
     true
 }
 
-/// Whether the rows of a recording of the first partition, in columns of many ticks, tell of those of a recording of
+/// Whether the rows of a recording of the first partition, in columns of many ticks, agree with those of a recording of
 /// the same ticks whose columns are a tick each.
 pub(crate) fn does_sum_up(wide: &Recording, narrow: &Recording) -> bool {
     let (Some(first), Some(second)) = (wide.lanes().first(), narrow.lanes().first()) else {

@@ -302,8 +302,7 @@ fn a_long_sleep_is_one_jump(rt: HostRuntime) {
     );
 }
 
-// Whether the first this many ticks of a guest's run are told alike by columns of one tick and, taken together, by at
-// most so many columns.
+// Whether columns of one tick show of the first ticks of a guest's run what `most` columns or fewer show of them.
 fn is_summed_up(alloc: Global, parts: &[&str], source: &[&str], ticks: u64, most: u32) -> bool {
     let wide = recorded(alloc, parts, source, 0, ticks, most);
     let narrow = recorded(alloc, parts, source, 0, ticks, 1000);

@@ -1,15 +1,15 @@
-//! The bytes that each request has written, for row hello with a trace of two steps, and what the configuration comes
-//! to, with its image and without; and that a check and the words end where their writer fails. What is wanted was
-//! worked out by hand. A helper that promises nothing stands between each row and the calls that it tests.
+//! The bytes that each request has written, for row hello with a trace of two steps, and the words of its
+//! configuration, with its image and without; and that a check and the words end where their writer fails. What is
+//! wanted was worked out by hand. A helper that promises nothing is between each row and the calls that it tests.
 
 use ptk_config::{Config, read_config};
 use ptk_main_answers::{
-    Files, RunQuestion, Watch, check_document, check_with, explain_with, named_timeline_answer,
-    run_answer, timeline_answer, trace_answer,
+    Files, RunQuestion, Watch, check_document, check_with, explain_with, run_answer, trace_answer,
 };
+use ptk_main_commands::timeline_answer;
 use ptk_main_faults::{FailureKind, Fault};
 use ptk_main_line::{FailOn, Format, PictureFormat};
-use ptk_symbols::read_symbols;
+use ptk_symbols::{Symbols, read_symbols};
 use ptk_words::Tick;
 use std::alloc::Global;
 use std::io::Write;
@@ -109,7 +109,17 @@ fn picture<'a, W: Write>(
     out: &mut W,
 ) -> Result<(), Fault<'a>> {
     let (from, to) = (Tick::new(u64::from(from)), Tick::new(20));
-    timeline_answer(alloc, config, files, PictureFormat::Svg, from, to, out)
+    let nameless = Symbols::new(alloc);
+    timeline_answer(
+        alloc,
+        config,
+        files,
+        &nameless,
+        PictureFormat::Svg,
+        from,
+        to,
+        out,
+    )
 }
 
 // What follows the number of a thread that starts at a routine of the name `a<b&c`.
@@ -128,7 +138,7 @@ fn named_picture<W: Write>(
         return false;
     };
     let (from, to) = (Tick::new(0), Tick::new(20));
-    named_timeline_answer(
+    timeline_answer(
         alloc,
         config,
         files,

@@ -1,7 +1,7 @@
 //! What the program does with the words of its command line, over real files: the status of each request, the files
 //! that it writes, and behind the statuses that several faults share the fault itself. What is wanted comes from the
 //! table of lines and statuses. Each test that has files is a process of its own, and works in a folder of its own,
-//! which it removes. A helper that promises nothing stands between the rows and the calls that it tests.
+//! which it removes. A helper that promises nothing is between the rows and the calls that it tests.
 
 use ptk_asm::assemble;
 use ptk_asm_language::Section;
@@ -42,33 +42,21 @@ const HELLO_SOURCE: &str =
 const HELLO_IMAGE: &[u8] =
     b"PTKI\x01\0\0\0\0\0\0\0\x24\0\0\0\0\0\0\0\0\0\0\0\x93\x08\x10\x00\x13\x05\x80\x06\x73\0\0\0\x93\x08\x10\x00\x13\x05\x90\x06\x73\0\0\0\x93\x08\0\0\x13\x05\0\0\x73\0\0\0";
 
-/// A file of text, in parts.
-struct Text {
-    name: &'static str,
-    parts: &'static [&'static str],
-}
-
-/// The texts that there are before the first command.
-const TEXTS: [Text; 14] = [
-    Text {
-        name: "alone.toml",
-        parts: &["frame = 20\n", P, NUMBERS, FIRST_20],
-    },
-    Text {
-        name: "two.toml",
-        parts: &["frame = 40\n", P, NUMBERS, Q, NUMBERS, FIRST_20, SECOND_20],
-    },
-    Text {
-        name: "folder.toml",
-        parts: &["frame = 20\n", FOLDER, NUMBERS, FIRST_20],
-    },
-    Text {
-        name: "missing.toml",
-        parts: &["frame = 20\n", MISSING, NUMBERS, FIRST_20],
-    },
-    Text {
-        name: "second.toml",
-        parts: &[
+/// The texts that there are before the first command: the name of the file, and its parts.
+const TEXTS: [(&str, &[&str]); 14] = [
+    ("alone.toml", &["frame = 20\n", P, NUMBERS, FIRST_20]),
+    (
+        "two.toml",
+        &["frame = 40\n", P, NUMBERS, Q, NUMBERS, FIRST_20, SECOND_20],
+    ),
+    ("folder.toml", &["frame = 20\n", FOLDER, NUMBERS, FIRST_20]),
+    (
+        "missing.toml",
+        &["frame = 20\n", MISSING, NUMBERS, FIRST_20],
+    ),
+    (
+        "second.toml",
+        &[
             "frame = 40\n",
             P,
             NUMBERS,
@@ -77,10 +65,10 @@ const TEXTS: [Text; 14] = [
             FIRST_20,
             SECOND_20,
         ],
-    },
-    Text {
-        name: "bad.toml",
-        parts: &[
+    ),
+    (
+        "bad.toml",
+        &[
             "frame = 40\n",
             P,
             NUMBERS,
@@ -89,75 +77,36 @@ const TEXTS: [Text; 14] = [
             FIRST_20,
             SECOND_20,
         ],
-    },
-    Text {
-        name: "empty.toml",
-        parts: &[],
-    },
-    Text {
-        name: "right",
-        parts: &["partition p exit 0 steps 9 lost 0\noutput 2\nhi\n"],
-    },
-    Text {
-        name: "wrong",
-        parts: &["partition p exit 0 steps 9 lost 0\noutput 2\nh\n"],
-    },
-    Text {
-        name: "hello.s",
-        parts: &[HELLO_SOURCE],
-    },
-    Text {
-        name: "named.s",
-        parts: &["_start:\n", HELLO_SOURCE, "end:\nnop\n"],
-    },
+    ),
+    ("empty.toml", &[]),
+    (
+        "right",
+        &["partition p exit 0 steps 9 lost 0\noutput 2\nhi\n"],
+    ),
+    (
+        "wrong",
+        &["partition p exit 0 steps 9 lost 0\noutput 2\nh\n"],
+    ),
+    ("hello.s", &[HELLO_SOURCE]),
+    ("named.s", &["_start:\n", HELLO_SOURCE, "end:\nnop\n"]),
     // Row operand-out-of-range.
-    Text {
-        name: "bad.s",
-        parts: &["nop\naddi a0, a0, 2048\n"],
-    },
-    Text {
-        name: "bad.sym",
-        parts: &["00000000 t _start\nend\n"],
-    },
-    Text {
-        name: "kept.img",
-        parts: &["kept"],
-    },
+    ("bad.s", &["nop\naddi a0, a0, 2048\n"]),
+    ("bad.sym", &["00000000 t _start\nend\n"]),
+    ("kept.img", &["kept"]),
 ];
 
-/// A file of bytes.
-struct Bytes {
-    name: &'static str,
-    bytes: &'static [u8],
-}
-
-/// The images and the texts that are none, before the first command. Of `long.img` the bss is 1,048,577 zeros, one more
-/// than a source may have.
-const BYTES: [Bytes; 6] = [
-    Bytes {
-        name: "p.img",
-        bytes: HELLO_IMAGE,
-    },
-    Bytes {
-        name: "q.img",
-        bytes: HELLO_IMAGE,
-    },
-    Bytes {
-        name: "short.img",
-        bytes: b"PTKI",
-    },
-    Bytes {
-        name: "long.img",
-        bytes: b"PTKI\x01\0\0\0\0\0\0\0\0\0\0\0\0\0\0\0\x01\0\x10\0",
-    },
-    Bytes {
-        name: "bytes.toml",
-        bytes: b"\xff",
-    },
-    Bytes {
-        name: "bytes.s",
-        bytes: b"\xff",
-    },
+/// The images and the texts that are none, before the first command: the name of the file, and its bytes. Of `long.img`
+/// the bss is 1,048,577 zeros, one more than a source may have.
+const BYTES: [(&str, &[u8]); 6] = [
+    ("p.img", HELLO_IMAGE),
+    ("q.img", HELLO_IMAGE),
+    ("short.img", b"PTKI"),
+    (
+        "long.img",
+        b"PTKI\x01\0\0\0\0\0\0\0\0\0\0\0\0\0\0\0\x01\0\x10\0",
+    ),
+    ("bytes.toml", b"\xff"),
+    ("bytes.s", b"\xff"),
 ];
 
 /// Command lines with their statuses, in this order: some read what others before them wrote.
@@ -300,24 +249,12 @@ const COMMANDS: [(&str, u8); 80] = [
 ];
 
 /// The files that the commands wrote or left, in the end.
-const WRITTEN: [Bytes; 4] = [
+const WRITTEN: [(&str, &[u8]); 4] = [
     // Row hello-source.
-    Bytes {
-        name: "hello.img",
-        bytes: HELLO_IMAGE,
-    },
-    Bytes {
-        name: "again.img",
-        bytes: HELLO_IMAGE,
-    },
-    Bytes {
-        name: "named.sym",
-        bytes: b"00000000 t _start\n00000024 t end\n",
-    },
-    Bytes {
-        name: "kept.img",
-        bytes: b"kept",
-    },
+    ("hello.img", HELLO_IMAGE),
+    ("again.img", HELLO_IMAGE),
+    ("named.sym", b"00000000 t _start\n00000024 t end\n"),
+    ("kept.img", b"kept"),
 ];
 
 /// Names that no command wrote a file for.
@@ -358,9 +295,9 @@ fn is_written(rt: &HostRuntime, name: &str, bytes: &[u8]) -> bool {
 }
 
 // Whether the text that these parts make was written into a file.
-fn is_text_written(rt: &HostRuntime, text: &Text) -> bool {
-    match text.parts.concat(rt.alloc()) {
-        Ok(bytes) => is_written(rt, text.name, bytes.as_bytes()),
+fn is_text_written(rt: &HostRuntime, name: &str, parts: &[&str]) -> bool {
+    match parts.concat(rt.alloc()) {
+        Ok(text) => is_written(rt, name, text.as_bytes()),
         Err(_) => false,
     }
 }
@@ -372,10 +309,12 @@ fn has_entered(rt: &HostRuntime, folder: &str) -> bool {
     fs::create_dir(rt, folder).is_ok()
         && env::set_current_dir(rt, folder).is_ok()
         && fs::create_dir(rt, "folder.img").is_ok()
-        && TEXTS.iter().all(|text| is_text_written(rt, text))
+        && TEXTS
+            .iter()
+            .all(|(name, parts)| is_text_written(rt, name, parts))
         && BYTES
             .iter()
-            .all(|file| is_written(rt, file.name, file.bytes))
+            .all(|(name, bytes)| is_written(rt, name, bytes))
 }
 
 // Whether the test is out of the folder again, and the folder is gone.
@@ -452,8 +391,8 @@ fn each_command_has_its_status(rt: HostRuntime) {
     for (line, status) in COMMANDS.iter() {
         assert!(rt; has_status(&rt, line, *status), "{line}");
     }
-    for file in WRITTEN.iter() {
-        assert!(rt; has_bytes(&rt, file.name, file.bytes));
+    for (name, bytes) in WRITTEN.iter() {
+        assert!(rt; has_bytes(&rt, name, bytes));
     }
     for name in UNWRITTEN.iter() {
         assert!(rt; is_unread(&rt, name, &Fault::MissingFile(name)));

@@ -1,7 +1,7 @@
 //! How partitions stand. What is wanted was worked out by hand; the ticks stand beside the guests, a column for each
 //! step's first tick.
 
-use ptk_explanation::{explain_partition_json_with, explain_partition_with};
+use ptk_explanation::{Form, explain_partition_with};
 use ptk_main_guests::{ALONE, guest_of};
 use ptk_symbols::read_symbols;
 use ptk_words::{LAST_TICK, Tick};
@@ -198,18 +198,34 @@ const CASES: [Case<'static>; 4] = [
     },
 ];
 
-// Whether this is told of a case, as lines and as JSON.
+// Whether this is written of a case, as lines and as JSON.
 fn is_told(alloc: Global, case: &Case<'_>) -> Result<bool, Fail> {
     let (config, files) = guest_of(alloc, &ALONE, &[case.source]).ok_or("no guest")?;
     let symbols = read_symbols(alloc, case.symbols)?;
     let ticks = Tick::new(case.ticks.min(LAST_TICK));
     let (mut lines, mut json) = (Vec::new(alloc), Vec::new(alloc));
     let is_told = explain_partition_with(
-        alloc, &config, &files, ticks, "p", &symbols, &mut lines,
-    ).is_ok();
-    let is_json = explain_partition_json_with(
-        alloc, &config, &files, ticks, "p", &symbols, &mut json,
-    ).is_ok();
+        alloc,
+        &config,
+        &files,
+        ticks,
+        "p",
+        &symbols,
+        Form::Lines,
+        &mut lines,
+    )
+    .is_ok();
+    let is_json = explain_partition_with(
+        alloc,
+        &config,
+        &files,
+        ticks,
+        "p",
+        &symbols,
+        Form::Json,
+        &mut json,
+    )
+    .is_ok();
     Ok(
         is_told
             && is_json
@@ -218,7 +234,7 @@ fn is_told(alloc: Global, case: &Case<'_>) -> Result<bool, Fail> {
     )
 }
 
-// The place of the first case of which another text is told.
+// The place of the first case of which another text is written.
 fn first_wrong(alloc: Global) -> Result<Option<usize>, Fail> {
     for (place, case) in CASES.iter().enumerate() {
         if !is_told(alloc, case)? {

@@ -4,8 +4,8 @@
 
 use ptk_config::{Config, read_config};
 use ptk_main_answers::Files;
-use ptk_symbols::read_symbols;
-use ptk_timeline_formats::{FormatFault, trace_events_with, vcd_with};
+use ptk_symbols::{Symbols, read_symbols};
+use ptk_timeline_formats::{Form, FormatFault, dump_with};
 use ptk_words::Tick;
 use std::alloc::Global;
 use std::process::Abort;
@@ -45,8 +45,9 @@ fn dump(
     from: u16,
     out: &mut Vec<u8>,
 ) -> Result<(), FormatFault> {
-    let from = Tick::new(u64::from(from));
-    vcd_with(alloc, config, files, from, Tick::new(40), out)
+    let (from, to) = (Tick::new(u64::from(from)), Tick::new(40));
+    let nameless = Symbols::new(alloc);
+    dump_with(alloc, config, files, &nameless, from, to, Form::Vcd, out)
 }
 
 // Writes the events up to tick 40.
@@ -60,14 +61,25 @@ fn events(
         return Err(FormatFault::Memory);
     };
     let (from, to) = (Tick::new(0), Tick::new(40));
-    trace_events_with(alloc, config, files, &symbols, from, to, out)
+    dump_with(alloc, config, files, &symbols, from, to, Form::Events, out)
 }
 
 // What a dump with a writer of 300 bytes returns.
 fn dump_into_little(alloc: Global, config: &Config, files: &Files) -> Result<(), FormatFault> {
     let mut bytes = [0u8; 300];
     let mut room = bytes.as_mut_slice();
-    vcd_with(alloc, config, files, Tick::new(0), Tick::new(40), &mut room)
+    let (from, to) = (Tick::new(0), Tick::new(40));
+    let nameless = Symbols::new(alloc);
+    dump_with(
+        alloc,
+        config,
+        files,
+        &nameless,
+        from,
+        to,
+        Form::Vcd,
+        &mut room,
+    )
 }
 
 fn check_formats(rt: &impl Abort, alloc: Global, config: &Config, files: &Files) {

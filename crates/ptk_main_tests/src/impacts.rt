@@ -1,5 +1,5 @@
-//! What is written of pairs of configurations. What is wanted was worked out by hand. A helper that promises nothing
-//! stands between each row and the calls that it tests.
+//! What is written of pairs of configurations. What is wanted was worked out by hand. A helper that promises nothing is
+//! between each row and the calls that it tests.
 
 use ptk_config::read_config;
 use ptk_image::Files;
@@ -41,7 +41,6 @@ struct Case<'a> {
     old: &'a [&'a str],
     new: &'a [&'a str],
     question: Question<'a>,
-    format: Format,
     answer: Answer<'a>,
 }
 
@@ -58,6 +57,18 @@ const ALL: Question<'static> = Question {
     rename: None,
 };
 
+/// The question for all partitions, of which p has the name pilot.
+const PILOT: Question<'static> = Question {
+    partition: None,
+    rename: Some("p=pilot"),
+};
+
+/// An input byte of p, and numbers with more memory and a key less.
+const BYTE: &str = "input = [{ at = 5, bytes = [65] }]\n";
+
+const OTHER_NUMBERS: &str =
+    "memory = 8192\nthreads = 4\nstack = 256\nmutexes = 4\nconds = 4\nkeys = 3\ninterval = 100\nring = 16\noutput = 64\ntrace = 16\n";
+
 // The images p.img, other.img, which has one other bit, the same under a name with a quotation mark, and bad.img, which
 // is none.
 fn files(alloc: Global) -> Result<Files, Fail> {
@@ -69,8 +80,13 @@ fn files(alloc: Global) -> Result<Files, Fail> {
     Ok(files)
 }
 
-// Whether this is the answer to the case.
-fn is_answered(alloc: Global, case: &Case<'_>, files: &Files) -> Result<bool, Fail> {
+// Whether this is the answer to the case, in a format.
+fn is_answered(
+    alloc: Global,
+    case: &Case<'_>,
+    format: Format,
+    files: &Files,
+) -> Result<bool, Fail> {
     let (old, new) = (case.old.concat(alloc)?, case.new.concat(alloc)?);
     let (old, new) = match (
         read_config(alloc, old.as_str()),
@@ -88,11 +104,11 @@ fn is_answered(alloc: Global, case: &Case<'_>, files: &Files) -> Result<bool, Fa
         files,
     };
     let mut out = Vec::new(alloc);
-    let told = match case.format {
+    let answer = match format {
         Format::Text => impact_with(alloc, before, after, case.question, &mut out),
         Format::Json => impact_json_with(alloc, before, after, case.question, &mut out),
     };
-    Ok(match (told, &case.answer) {
+    Ok(match (answer, &case.answer) {
         (Ok(tally), Answer::SameRun(text)) => {
             tally.is_same_run() && out.as_slice() == text.as_bytes()
         }
@@ -118,7 +134,6 @@ const TWICE_THE_FRAME: Case<'static> = Case {
         "[[window]]\nstart = 40\nlength = 20\npartition = \"p\"\n[[window]]\nstart = 60\nlength = 20\npartition = \"q\"\n",
     ],
     question: ALL,
-    format: Format::Text,
     answer: Answer::SameRun(
         "p: unchanged\nq: unchanged\n2 unchanged, 0 unchanged but for the trace kept, 0 changed, 0 new, 0 gone\n",
     ),
@@ -138,7 +153,6 @@ const REPEATED_STAGE: Case<'static> = Case {
         "[[plan]]\nfrom = 3\n[[plan.window]]\nstart = 20\nlength = 20\npartition = \"q\"\n[[plan.window]]\nstart = 0\nlength = 20\npartition = \"p\"\n",
     ],
     question: ALL,
-    format: Format::Text,
     answer: Answer::SameRun(
         "p: unchanged\nq: unchanged\n2 unchanged, 0 unchanged but for the trace kept, 0 changed, 0 new, 0 gone\n",
     ),
@@ -158,20 +172,19 @@ const SWAPPED_WINDOWS: Case<'static> = Case {
         "[[plan]]\nfrom = 2\n[[plan.window]]\nstart = 0\nlength = 20\npartition = \"q\"\n[[plan.window]]\nstart = 20\nlength = 20\npartition = \"p\"\n",
     ],
     question: ALL,
-    format: Format::Text,
     answer: Answer::OtherRun(
         "p: changed\n  windows: tick 80: its own until 100 -> not its own\nq: changed\n  windows: tick 80: not its own -> its own until 100\n0 unchanged, 0 unchanged but for the trace kept, 2 changed, 0 new, 0 gone\n",
     ),
 };
 
-/// A pair in which the answers and the differences are of each kind. Windows: old p 0..20, q 20..40, s 40..56, t
-/// 56..72; new pilot 0..16, q 20..40, r 40..56, t 56..72.
+/// A pair in which the answers and the differences are of each kind, with its answer as JSON. Windows: old p 0..20, q
+/// 20..40, s 40..56, t 56..72; new pilot 0..16, q 20..40, r 40..56, t 56..72.
 const EACH_KIND: Case<'static> = Case {
     old: &[
         "frame = 80\n",
         P,
         NUMBERS,
-        "input = [{ at = 5, bytes = [65] }]\n",
+        BYTE,
         Q,
         NUMBERS,
         "[[partition]]\nname = \"s\"\n",
@@ -188,7 +201,7 @@ const EACH_KIND: Case<'static> = Case {
         "[[partition]]\nname = \"r\"\n",
         NUMBERS,
         "[[partition]]\nname = \"pilot\"\nimage = 'a\".img'\n",
-        "memory = 8192\nthreads = 4\nstack = 256\nmutexes = 4\nconds = 4\nkeys = 3\ninterval = 100\nring = 16\noutput = 64\ntrace = 16\n",
+        OTHER_NUMBERS,
         "input = [{ at = 5, bytes = [65, 66] }]\n",
         "[[partition]]\nname = \"q\"\nimage = \"bad.img\"\n",
         NUMBERS,
@@ -199,18 +212,14 @@ const EACH_KIND: Case<'static> = Case {
         "[[window]]\nstart = 40\nlength = 16\npartition = \"r\"\n",
         "[[window]]\nstart = 56\nlength = 16\npartition = \"t\"\n",
     ],
-    question: Question {
-        partition: None,
-        rename: Some("p=pilot"),
-    },
-    format: Format::Json,
+    question: PILOT,
     answer: Answer::OtherRun(
         "{\"format\":\"ptk impact 1\",\"partitions\":[{\"name\":\"r\",\"answer\":\"new\"},{\"name\":\"pilot\",\"answer\":\"changed\",\"old_name\":\"p\",\"place\":{\"old\":0,\"new\":1},\"file\":{\"old\":\"p.img\",\"new\":\"a\\\".img\"},\"differences\":{\"windows\":{\"tick\":0,\"old_end\":20,\"new_end\":16},\"limits\":{\"memory\":{\"old\":4096,\"new\":8192},\"keys\":{\"old\":4,\"new\":3}},\"image\":{\"offset\":31},\"input\":{\"index\":1,\"old\":null,\"new\":{\"tick\":5,\"byte\":66}}}},{\"name\":\"q\",\"answer\":\"changed\",\"place\":{\"old\":1,\"new\":2},\"file\":{\"old\":\"p.img\",\"new\":\"bad.img\"},\"differences\":{\"image\":{\"offset\":0,\"fault\":{\"old\":null,\"new\":1}}}},{\"name\":\"t\",\"answer\":\"unchanged but for the trace kept\",\"differences\":{\"limits\":{\"trace\":{\"old\":16,\"new\":64}}}},{\"name\":\"s\",\"answer\":\"gone\"}],\"unchanged\":0,\"unchanged_but_for_trace\":1,\"changed\":2,\"new\":1,\"gone\":1}\n",
     ),
 };
 
-/// Questions with their answers: the same run, another one, and what is refused.
-const CASES: [Case<'static>; 21] = [
+/// Questions with their answers in words: the same run, another one, and what is refused.
+const CASES: [Case<'static>; 20] = [
     TWICE_THE_FRAME,
     REPEATED_STAGE,
     // the sections in another order
@@ -218,7 +227,6 @@ const CASES: [Case<'static>; 21] = [
         old: &BOTH,
         new: &["frame = 40\n", Q, NUMBERS, P, NUMBERS, P_FIRST, Q_SECOND],
         question: ALL,
-        format: Format::Text,
         answer: Answer::SameRun(
             "q: unchanged\n  place: 1 -> 0 (no change of behaviour)\np: unchanged\n  place: 0 -> 1 (no change of behaviour)\n2 unchanged, 0 unchanged but for the trace kept, 0 changed, 0 new, 0 gone\n",
         ),
@@ -234,7 +242,6 @@ const CASES: [Case<'static>; 21] = [
             P_FIRST,
         ],
         question: ALL,
-        format: Format::Text,
         answer: Answer::SameRun(
             "p: unchanged but for the trace kept\n  trace: 16 -> 64\n0 unchanged, 1 unchanged but for the trace kept, 0 changed, 0 new, 0 gone\n",
         ),
@@ -248,11 +255,7 @@ const CASES: [Case<'static>; 21] = [
             NUMBERS,
             "[[window]]\nstart = 0\nlength = 20\npartition = \"pilot\"\n",
         ],
-        question: Question {
-            partition: None,
-            rename: Some("p=pilot"),
-        },
-        format: Format::Text,
+        question: PILOT,
         answer: Answer::SameRun(
             "pilot: unchanged\n  name: p -> pilot (no change of behaviour)\n1 unchanged, 0 unchanged but for the trace kept, 0 changed, 0 new, 0 gone\n",
         ),
@@ -265,7 +268,6 @@ const CASES: [Case<'static>; 21] = [
             partition: Some("p"),
             rename: None,
         },
-        format: Format::Text,
         answer: Answer::SameRun(
             "p: unchanged\n1 unchanged, 0 unchanged but for the trace kept, 0 changed, 0 new, 0 gone\n",
         ),
@@ -285,7 +287,6 @@ const CASES: [Case<'static>; 21] = [
             "[[plan]]\nfrom = 1\n[[plan.window]]\nstart = 20\nlength = 20\npartition = \"p\"\n",
         ],
         question: ALL,
-        format: Format::Text,
         answer: Answer::OtherRun(
             "p: changed\n  windows: tick 40: its own until 60 -> not its own\nq: changed\n  windows: tick 60: its own until 80 -> not its own\n0 unchanged, 0 unchanged but for the trace kept, 2 changed, 0 new, 0 gone\n",
         ),
@@ -306,7 +307,6 @@ const CASES: [Case<'static>; 21] = [
             "[[window]]\nstart = 0\nlength = 40\npartition = \"p\"\n",
         ],
         question: ALL,
-        format: Format::Text,
         answer: Answer::OtherRun(
             "p: changed\n  windows: tick 0: its own until 20 -> its own until 40\n0 unchanged, 0 unchanged but for the trace kept, 1 changed, 0 new, 0 gone\n",
         ),
@@ -321,7 +321,6 @@ const CASES: [Case<'static>; 21] = [
             P_FIRST,
         ],
         question: ALL,
-        format: Format::Text,
         answer: Answer::OtherRun(
             "p: changed\n  image: other bytes from offset 31\n  file: p.img -> other.img (no change of behaviour)\n0 unchanged, 0 unchanged but for the trace kept, 1 changed, 0 new, 0 gone\n",
         ),
@@ -336,20 +335,13 @@ const CASES: [Case<'static>; 21] = [
             P_FIRST,
         ],
         question: ALL,
-        format: Format::Text,
         answer: Answer::OtherRun(
             "p: changed\n  image: other bytes from offset 0\n  image: not refused -> refused, fault 1\n  file: p.img -> bad.img (no change of behaviour)\n0 unchanged, 0 unchanged but for the trace kept, 1 changed, 0 new, 0 gone\n",
         ),
     },
     // an input byte one tick later
     Case {
-        old: &[
-            "frame = 40\n",
-            P,
-            NUMBERS,
-            "input = [{ at = 5, bytes = [65] }]\n",
-            P_FIRST,
-        ],
+        old: &["frame = 40\n", P, NUMBERS, BYTE, P_FIRST],
         new: &[
             "frame = 40\n",
             P,
@@ -358,29 +350,21 @@ const CASES: [Case<'static>; 21] = [
             P_FIRST,
         ],
         question: ALL,
-        format: Format::Text,
         answer: Answer::OtherRun(
             "p: changed\n  input: arrival 0: byte 65 at tick 5 -> byte 65 at tick 6\n0 unchanged, 0 unchanged but for the trace kept, 1 changed, 0 new, 0 gone\n",
         ),
     },
     // an input byte more, and less room
     Case {
-        old: &[
-            "frame = 40\n",
-            P,
-            NUMBERS,
-            "input = [{ at = 5, bytes = [65] }]\n",
-            P_FIRST,
-        ],
+        old: &["frame = 40\n", P, NUMBERS, BYTE, P_FIRST],
         new: &[
             "frame = 40\n",
             P,
-            "memory = 8192\nthreads = 4\nstack = 256\nmutexes = 4\nconds = 4\nkeys = 3\ninterval = 100\nring = 16\noutput = 64\ntrace = 16\n",
+            OTHER_NUMBERS,
             "input = [{ at = 5, bytes = [65, 66] }]\n",
             P_FIRST,
         ],
         question: ALL,
-        format: Format::Text,
         answer: Answer::OtherRun(
             "p: changed\n  memory: 4096 -> 8192\n  keys: 4 -> 3\n  input: arrival 1: none -> byte 66 at tick 5\n0 unchanged, 0 unchanged but for the trace kept, 1 changed, 0 new, 0 gone\n",
         ),
@@ -390,7 +374,6 @@ const CASES: [Case<'static>; 21] = [
         old: &BOTH,
         new: &ALONE,
         question: ALL,
-        format: Format::Text,
         answer: Answer::OtherRun(
             "p: unchanged\nq: gone\n1 unchanged, 0 unchanged but for the trace kept, 0 changed, 0 new, 1 gone\n",
         ),
@@ -400,7 +383,6 @@ const CASES: [Case<'static>; 21] = [
         old: &ALONE,
         new: &BOTH,
         question: ALL,
-        format: Format::Text,
         answer: Answer::OtherRun(
             "p: unchanged\nq: new\n1 unchanged, 0 unchanged but for the trace kept, 0 changed, 1 new, 0 gone\n",
         ),
@@ -418,12 +400,11 @@ const CASES: [Case<'static>; 21] = [
             Q_SECOND,
         ],
         question: ALL,
-        format: Format::Text,
         answer: Answer::OtherRun(
             "p: unchanged\nq: changed\n  image: one -> none\n1 unchanged, 0 unchanged but for the trace kept, 1 changed, 0 new, 0 gone\n",
         ),
     },
-    EACH_KIND,
+    // an image that is not there, and names that no partition has
     Case {
         old: &ALONE,
         new: &[
@@ -433,7 +414,6 @@ const CASES: [Case<'static>; 21] = [
             P_FIRST,
         ],
         question: ALL,
-        format: Format::Text,
         answer: Answer::Refused(Fault::MissingFile("none.img")),
     },
     Case {
@@ -443,7 +423,6 @@ const CASES: [Case<'static>; 21] = [
             partition: Some("z"),
             rename: None,
         },
-        format: Format::Text,
         answer: Answer::Refused(Fault::NoPartition("z")),
     },
     Case {
@@ -453,7 +432,6 @@ const CASES: [Case<'static>; 21] = [
             partition: None,
             rename: Some("z=q"),
         },
-        format: Format::Text,
         answer: Answer::Refused(Fault::NoPartition("z")),
     },
     Case {
@@ -463,7 +441,6 @@ const CASES: [Case<'static>; 21] = [
             partition: None,
             rename: Some("p=q,p"),
         },
-        format: Format::Text,
         answer: Answer::Refused(Fault::NoPartition("p")),
     },
 ];
@@ -472,8 +449,12 @@ const CASES: [Case<'static>; 21] = [
 fn a_question_is_answered(rt: HostRuntime) -> Result<(), Fail> {
     let files = files(rt.alloc())?;
     for (place, case) in CASES.iter().enumerate() {
-        assert!(rt; is_answered(rt.alloc(), case, &files)?, "{place}");
+        assert!(rt;
+            is_answered(rt.alloc(), case, Format::Text, &files)?,
+            "{place}"
+        );
     }
+    assert!(rt; is_answered(rt.alloc(), &EACH_KIND, Format::Json, &files)?);
     Ok(())
 }
 

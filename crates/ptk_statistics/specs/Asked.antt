@@ -1,15 +1,10 @@
 -- Which partitions are asked for.
-use Rattle.std.specs.Prelude.{ℕ, List, Option, Some, None, IsSome, position}
-use Rattle.std.specs.Str.{bytes_eq}
+use Rattle.std.specs.Prelude.{ℕ, List, Option, Some, None, IsSome}
 use denote.Ref.{Bor}
-use Rattle.ptk_config.specs.Sections.{Section}
 use Rattle.ptk_config.specs.Configuration.{Configuration}
+use Rattle.ptk_main_runs.specs.Parts.{part_named}
 
--- a section has the name that is asked for, or none is asked for (own)
-abbrev pub IsAskedIn : List Section → Option (Bor (List ℕ)) → Type 0
-IsAskedIn sections None = Unit {0}
-IsAskedIn sections (Some name) = IsSome (position (λ section. bytes_eq section.name name.now) sections)
-
--- the same of a configuration (own)
+-- a partition has the name that is asked for, or none is asked for (own)
 abbrev pub IsAsked : Configuration → Option (Bor (List ℕ)) → Type 0
-IsAsked config partition = IsAskedIn config.sections partition
+IsAsked config None = Unit {0}
+IsAsked config (Some name) = IsSome (part_named config name.now)

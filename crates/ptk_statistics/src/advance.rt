@@ -1,9 +1,8 @@
 //! The count of a partition over a system that goes on.
 
 ghost use Rattle.std.specs.Prelude.{◌≡◌, ◌<◌, ◌≤◌, length};
-ghost use Rattle.ptk_words.specs.declared.TheConstants.{LAST_TICK};
+ghost use Rattle.ptk_words.specs.declared.TheConstants.{LAST_TICK, THREAD_LIMIT};
 ghost use Rattle.ptk_statistics_figures.specs.Counts.{reached};
-ghost use Rattle.ptk_statistics_figures.specs.declared.counted.TheConstants.{THREADS};
 ghost use Rattle.ptk_statistics.specs.Sums.{AddsUp};
 
 use ptk_statistics_figures::{Counted, Seen};
@@ -43,7 +42,7 @@ pub(crate) fn advance(counted: &mut Counted, system: &System<'_>, p: PartId)
 /// The place among the threads of the one that made the partition's last step, the first before any step.
 fn last_place(system: &System<'_>, p: PartId) -> usize
     requires { p < length system.now.config.sections }
-    ensures { result < THREADS }
+    ensures { result < THREAD_LIMIT }
 {
     match system.last_step(p) {
         Some(entry) => entry.thread.place(),

@@ -1,18 +1,17 @@
 //! The answers to `stats`, as tables or as JSON.
 
-ghost use Rattle.std.specs.Prelude.{◌≡◌, ◌<◌, ◌≤◌, None, IsSome, IsTrue, OnOk, length, position};
-ghost use Rattle.std.specs.Str.{bytes_eq};
+ghost use Rattle.std.specs.Prelude.{◌≡◌, ◌<◌, ◌≤◌, None, IsTrue, OnOk, length};
 ghost use Rattle.ptk_words.specs.declared.TheConstants.{LAST_TICK};
 ghost use Rattle.ptk_system.specs.Missing.{first_missing};
-ghost use Rattle.ptk_statistics.specs.Asked.{IsAsked, IsAskedIn};
+ghost use Rattle.ptk_statistics.specs.Asked.{IsAsked};
 
 use crate::blocks::put_block;
 use crate::document::{Figures, json_of};
 use crate::fault::PutFault;
 use crate::part::PartStatistics;
 use crate::statistics::Statistics;
-use ptk_config::{Config, Section};
-use ptk_main_runs::{Files, RunFault};
+use ptk_config::Config;
+use ptk_main_runs::{Files, RunFault, part_named};
 use ptk_system::System;
 use ptk_words::{PartId, Tick};
 use std::alloc::Global;
@@ -21,15 +20,15 @@ use std::io::Write;
 
 /// The form of an answer.
 #[derive(Clone, Copy)]
-enum Form {
-    /// Tables.
+pub enum Form {
+    /// A block of tables for each partition.
     Tables,
-    /// One JSON object.
+    /// One JSON object on one line, with `\n` behind it.
     Json,
 }
 
-/// Boots the system of a configuration, runs it for this many ticks, at most 2^40, and writes the figures of the run: a
-/// block of tables for each partition, or for the one of this name alone. A fault where no partition has the name, the
+/// Boots the system of a configuration, runs it for this many ticks, at most 2^40, and writes the figures of the run in
+/// a form: those of each partition, or of the one of this name alone. A fault where no partition has the name, the
 /// system does not boot or memory is refused, or the writer fails. Nothing is written before another fault than the
 /// writer's, but for refused memory.
 pub fn stats_with<W: Write>(
@@ -38,46 +37,14 @@ pub fn stats_with<W: Write>(
     files: &Files,
     ticks: Tick,
     partition: Option<&str>,
-    out: &mut W,
-) -> Result<(), RunFault>
-    requires { ticks ≤ LAST_TICK }
-    ensures known { OnOk result (IsAsked config.now partition.entry) }
-    ensures missing { OnOk result (first_missing files.now config.now.sections ≡ None) }
-{
-    answer(Form::Tables, alloc, config, files, ticks, partition, out)
-}
-
-/// Writes the same as one JSON object on one line, with `\n` behind it. The same faults come.
-pub fn stats_json_with<W: Write>(
-    alloc: Global,
-    config: &Config,
-    files: &Files,
-    ticks: Tick,
-    partition: Option<&str>,
-    out: &mut W,
-) -> Result<(), RunFault>
-    requires { ticks ≤ LAST_TICK }
-    ensures known { OnOk result (IsAsked config.now partition.entry) }
-    ensures missing { OnOk result (first_missing files.now config.now.sections ≡ None) }
-{
-    answer(Form::Json, alloc, config, files, ticks, partition, out)
-}
-
-/// Writes the figures of a run in a form.
-fn answer<W: Write>(
     form: Form,
-    alloc: Global,
-    config: &Config,
-    files: &Files,
-    ticks: Tick,
-    partition: Option<&str>,
     out: &mut W,
 ) -> Result<(), RunFault>
     requires { ticks ≤ LAST_TICK }
     ensures known { OnOk result (IsAsked config.now partition.entry) }
     ensures missing { OnOk result (first_missing files.now config.now.sections ≡ None) }
 {
-    if !is_known(config.sections(), partition) {
+    if !is_known(config, partition) {
         return Err(RunFault::NoPartition);
     }
     let mut system = match System::boot(alloc, config, files) {
@@ -94,27 +61,13 @@ fn answer<W: Write>(
 }
 
 /// Whether a partition has the name that is asked for, or none is asked for.
-fn is_known(sections: &[Section], partition: Option<&str>) -> bool
-    ensures { IsTrue result → IsAskedIn sections.now partition.entry }
+fn is_known(config: &Config, partition: Option<&str>) -> bool
+    ensures { IsTrue result → IsAsked config.now partition.entry }
 {
     match partition {
-        Some(name) => has_name(sections, name),
+        Some(name) => part_named(config, name).is_some(),
         None => true,
     }
-}
-
-/// Whether a section has the name.
-fn has_name(sections: &[Section], name: &str) -> bool
-    ensures { IsTrue result → IsSome (position (λ section. bytes_eq section.name name.now) sections.now) }
-{
-    place_named(sections, name).is_some()
-}
-
-/// The place of the section of a name, None where no section has it.
-fn place_named(sections: &[Section], name: &str) -> Option<usize>
-    ensures { result ≡ position (λ section. bytes_eq section.name name.now) sections.now }
-{
-    sections.iter().position(|section| section.has_name(name))
 }
 
 /// Writes the figures of the partitions that are asked for.
@@ -140,7 +93,7 @@ fn put<W: Write>(
     Ok(())
 }
 
-/// Writes what stands before the partitions.
+/// Writes what is before the partitions.
 fn put_beginning<W: Write>(form: Form, ticks: Tick, out: &mut W) -> io::Result<()> {
     let ticks = ticks.ticks();
     match form {
@@ -152,7 +105,7 @@ fn put_beginning<W: Write>(form: Form, ticks: Tick, out: &mut W) -> io::Result<(
     }
 }
 
-/// Writes what stands behind the partitions.
+/// Writes what is behind the partitions.
 fn put_end<W: Write>(form: Form, out: &mut W) -> io::Result<()> {
     match form {
         Form::Tables => Ok(()),

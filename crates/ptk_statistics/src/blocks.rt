@@ -2,20 +2,17 @@
 
 use crate::document::Figures;
 use crate::part::PartStatistics;
-use crate::words::{CALLS, KINDS, call_name, doing_word, status_word};
+use crate::words::{KINDS, doing_word, outcome_word};
 use ptk_statistics_figures::{
-    CallCount, Counted, Longest, MutexStatistics, Span, Spread, ThreadStatistics,
+    CALLS, CallCount, Counted, Longest, MutexStatistics, Span, Spread, ThreadStatistics, call_name,
 };
-use ptk_words::ThreadNo;
+use ptk_words::{THREAD_LIMIT, ThreadNo};
 use std::io;
 use std::io::Write;
 
-/// How many threads a partition has at most.
-const THREADS: usize = 32;
-
 /// Writes the tables of a partition.
 pub(crate) fn put_block<W: Write>(figures: &Figures<'_>, out: &mut W) -> io::Result<()> {
-    let (name, word) = (figures.name, status_word(figures.status));
+    let (name, word) = (figures.name, outcome_word(figures.status));
     let part = figures.part;
     writeln!(out, "partition {name} {word}")?;
     put_counted(part.counted(), out)?;
@@ -62,7 +59,7 @@ fn put_threads<W: Write>(part: &PartStatistics, out: &mut W) -> io::Result<()> {
         "thread does            since       steps   preempted       to run    to run own  least stack"
     )?;
     let threads = part.threads();
-    for i in 0..threads.len().min(THREADS) {
+    for i in 0..threads.len().min(THREAD_LIMIT as usize) {
         if threads[i].is_used() {
             let t = ThreadNo::new(i as u8 + 1);
             put_thread(t, part.counted().steps_of(t), &threads[i], out)?;

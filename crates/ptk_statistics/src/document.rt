@@ -5,18 +5,15 @@ ghost use Rattle.json.specs.Lex.{tokens};
 ghost use Rattle.json.specs.Print.{print};
 
 use crate::part::PartStatistics;
-use crate::words::{CALLS, KINDS, call_name, doing_word, status_word};
+use crate::words::{KINDS, doing_word, outcome_word};
 use ptk_statistics_figures::{
-    CallCount, Counted, Longest, MutexStatistics, Span, Spread, ThreadStatistics,
+    CALLS, CallCount, Counted, Longest, MutexStatistics, Span, Spread, ThreadStatistics, call_name,
 };
 use ptk_system::PartStatus;
-use ptk_words::ThreadNo;
+use ptk_words::{THREAD_LIMIT, ThreadNo};
 use serde::{Described, Serialize, Serializer};
 use serde_json::Error;
 use std::alloc::Global;
-
-/// How many threads a partition has at most.
-const THREADS: usize = 32;
 
 /// A partition with its figures.
 #[derive(Clone, Copy)]
@@ -45,7 +42,7 @@ impl Serialize for Figures<'_> {
         out.key("name")?;
         out.str(self.name)?;
         out.key("status")?;
-        out.str(status_word(self.status))?;
+        out.str(outcome_word(self.status))?;
         put_counted(self.part.counted(), out)?;
         put_threads(self.part, out)?;
         put_mutexes(self.part.mutexes(), out)?;
@@ -93,7 +90,7 @@ fn put_threads<S: Serializer>(part: &PartStatistics, out: &mut S) -> Result<(), 
     out.key("threads")?;
     out.begin_seq(None)?;
     let threads = part.threads();
-    for i in 0..threads.len().min(THREADS) {
+    for i in 0..threads.len().min(THREAD_LIMIT as usize) {
         if threads[i].is_used() {
             let t = ThreadNo::new(i as u8 + 1);
             put_thread(t, part.counted().steps_of(t), &threads[i], out)?;

@@ -1,20 +1,20 @@
 #![tactic(auto)]
 
 //! The figures of a run, gathered as it goes on from decision to decision (`Statistics::of_run`), and what the program
-//! answers to `stats`: these figures as tables (`stats_with`) or as JSON (`stats_json_with`), on any writer.
+//! answers to `stats`: these figures as tables or as JSON (`stats_with`, by its `Form`), on any writer.
 //!
 //! - `Statistics::of_run` is a run to its tick (`run`), and the counts agree with the system then (`agrees`: `Agrees`):
 //!   its steps, its lost ticks, its own ticks.
 //! - Of the figures of threads and mutexes nothing is proved but that they are safe.
-//! - Where `stats_with` or `stats_json_with` succeeds, the partition that is asked for is there (`known`), and no
-//!   section's file is missing (`missing`).
+//! - Where `stats_with` succeeds, the partition that is asked for is there (`known`), and no section's file is missing
+//!   (`missing`).
 //! - What is written is tested.
 //!
 //! The run goes on by single decisions where a call or a change may come, by rows of plain steps between, and over
 //! ticks at which nothing is due at once. What each figure of a thread and of a mutex says is tested, and so are the
 //! bytes (`ptk_main_tests`). Nothing is written before a fault but the writer's own. Below are the count
-//! (`ptk_statistics_figures`), the system, and the faults of a run (`ptk_main_runs`); above are the answers to requests
-//! (`ptk_main_answers`). No clause is costly to prove.
+//! (`ptk_statistics_figures`), the system, and the faults of a run (`ptk_main_runs`); above is what the program does
+//! with a request (`ptk_main_commands`). No clause is costly to prove.
 
 mod advance;
 mod answer;
@@ -27,11 +27,10 @@ mod part;
 mod statistics;
 mod words;
 
-pub use answer::{stats_json_with, stats_with};
+pub use answer::{Form, stats_with};
 pub use part::PartStatistics;
 pub use ptk_statistics_figures::{
     CallCount, Counted, Doing, Longest, MutexStatistics, Span, Spread, ThreadStatistics,
 };
 pub use ptk_system::{Files, PartStatus, System};
 pub use statistics::Statistics;
-pub use words::call_name;

@@ -5,17 +5,16 @@ ghost use Rattle.ptk_words.specs.declared.TheConstants.{LAST_TICK};
 
 use crate::doing::{doing_of, mutex_of};
 use ptk_statistics_figures::{
-    Doing, Moment, MutexStatistics, Pending, THREADS, ThreadStatistics, free_mutexes, free_numbers,
+    Doing, Moment, MutexStatistics, Pending, ThreadStatistics, free_mutexes, free_numbers,
 };
 use ptk_system::{Activity, PartStatus, System};
-use ptk_words::{A0, A7, Call, ECALL, Entry, MutexNo, Owner, PartId, ThreadNo, Tick, cost};
+use ptk_words::{
+    A0, A7, Call, ECALL, Entry, MutexNo, Owner, PartId, SP, THREAD_LIMIT, ThreadNo, Tick, cost,
+};
 use std::alloc::{AllocError, Global};
 
 /// How many mutexes a partition has at most.
 const MUTEXES: usize = 64;
-
-/// The register that is the stack pointer (the calling convention's sp).
-const SP: u32 = 2;
 
 /// The figures of a partition's threads and mutexes, by number.
 #[derive(Drop)]
@@ -39,7 +38,7 @@ impl Observed {
     ) -> Result<Observed, AllocError>
         requires { p < length system.now.config.sections }
     {
-        let mut threads = free_numbers(alloc, (threads as usize).min(THREADS))?;
+        let mut threads = free_numbers(alloc, threads.min(THREAD_LIMIT) as usize)?;
         begin(threads.as_mut_slice(), system, p);
         let mutexes = free_mutexes(alloc, (mutexes as usize).min(MUTEXES))?;
         Ok(Observed {
@@ -201,7 +200,7 @@ fn look_at_threads(
     requires partition { p < length system.now.config.sections }
     requires early { at.tick ≤ LAST_TICK }
 {
-    for i in 0..threads.len().min(THREADS) {
+    for i in 0..threads.len().min(THREAD_LIMIT as usize) {
         let t = ThreadNo::new(i as u8 + 1);
         let activity = system.activity(p, t);
         match step {
@@ -224,7 +223,7 @@ fn look_at_threads(
 
 /// The run ends at a moment.
 fn finish_threads(threads: &mut [ThreadStatistics], mutexes: &mut [MutexStatistics], at: Moment) {
-    for i in 0..threads.len().min(THREADS) {
+    for i in 0..threads.len().min(THREAD_LIMIT as usize) {
         end_wait(&mut threads[i], mutexes, ThreadNo::new(i as u8 + 1), at);
         threads[i].finish(at);
     }
@@ -379,7 +378,7 @@ fn look_at_owners(mutexes: &mut [MutexStatistics], system: &System<'_>, p: PartI
 fn begin(threads: &mut [ThreadStatistics], system: &System<'_>, p: PartId)
     requires { p < length system.now.config.sections }
 {
-    for i in 0..threads.len().min(THREADS) {
+    for i in 0..threads.len().min(THREAD_LIMIT as usize) {
         let activity = system.activity(p, ThreadNo::new(i as u8 + 1));
         threads[i].begin(doing_of(&activity));
     }

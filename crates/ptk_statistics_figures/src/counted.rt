@@ -1,18 +1,14 @@
 //! What is counted of a partition: its own ticks by what became of them, and its steps by thread.
 
 ghost use Rattle.std.specs.Prelude.{◌≡◌, ◌+◌, ◌-◌, ◌<◌, ◌≤◌, slice_index, sum};
-ghost use Rattle.ptk_statistics_figures.specs.declared.counted.TheConstants.{THREADS};
-ghost use Rattle.ptk_words.specs.declared.TheConstants.{LAST_TICK};
+ghost use Rattle.ptk_words.specs.declared.TheConstants.{LAST_TICK, THREAD_LIMIT};
 ghost use Rattle.ptk_words_windows.specs.Windows.{OwnTicks, own_ticks};
 ghost use Rattle.ptk_statistics_figures.specs.Own.{IsOwnWindow, own_below};
 ghost use Rattle.ptk_statistics_figures.specs.Counts.{Adds, counted_ticks, lost_in, reached, steps_by_thread, steps_in};
 
 use crate::own::{OwnWindow, own_between};
 use ptk_window::{Near, WindowPlan};
-use ptk_words::{PartId, ThreadNo, Tick};
-
-/// How many threads a partition has at most.
-pub const THREADS: usize = 32;
+use ptk_words::{PartId, THREAD_LIMIT, ThreadNo, Tick};
 
 /// What became of a tick in a window of a partition, where it was not lost.
 #[derive(Clone, Copy)]
@@ -35,7 +31,7 @@ pub struct Counted {
     lost: u64,
     ahead: u64,
     halted: u64,
-    steps: [u64; THREADS],
+    steps: [u64; THREAD_LIMIT as usize],
     made: u64,
     tick: u64,
     next: Option<Tick>,
@@ -73,7 +69,7 @@ impl Counted {
             lost: 0,
             ahead: 0,
             halted: 0,
-            steps: [0; THREADS],
+            steps: [0; THREAD_LIMIT as usize],
             made: 0,
             tick: 0,
             next,
@@ -88,7 +84,7 @@ impl Counted {
     pub fn count(&mut self, plan: &WindowPlan, p: PartId, now: u64, seen: &Seen)
         requires order { reached self.old ≤ now }
         requires time { now ≤ LAST_TICK }
-        requires place { seen.now.place < THREADS }
+        requires place { seen.now.place < THREAD_LIMIT }
         requires steps { steps_in self.old ≤ seen.now.steps }
         requires lost { lost_in self.old ≤ seen.now.lost }
         requires adds { Adds (own_ticks plan.now p) self.old }
@@ -188,7 +184,7 @@ impl Counted {
 
     /// Counts the steps up to this many for the thread at this place.
     fn make(&mut self, steps: u64, place: usize)
-        requires place { place < THREADS }
+        requires place { place < THREAD_LIMIT }
         requires more { self.old.made ≤ steps }
         requires sum { sum self.old.steps ≡ self.old.made }
         ensures sum { sum self.new.steps ≡ steps }

@@ -1,15 +1,18 @@
 #![tactic(auto)]
 
 //! What is counted of a run, each of one thing: the ticks in a partition's windows by what became of them and its steps
-//! by thread (`Counted`), what a thread did (`ThreadStatistics`), and how long a mutex was held and waited for.
+//! by thread (`Counted`), what a thread did (`ThreadStatistics`), and how long a mutex was held and waited for; and the
+//! name of each call (`call_name`).
 //!
 //! - What `Counted` counts goes on adding up (`adds` of `count`): the steps of the threads make up all steps, and
 //!   `used`, `idle`, `lost` and `halted` make up the partition's own ticks below the tick counted to (`own_below`).
 //! - Its steps and its lost ticks, below that tick and ahead of it, are those shown (`steps`, `lost`).
+//! - A call has the name of the definition (`name_of`), that of its page in the standard.
 //!
 //! Which own tick was used, idle or after the halt is tested, and so is all of threads and mutexes. Below is the window
 //! plan; above are the figures of a run, `ptk_statistics`. No clause is costly to prove.
 
+mod calls;
 mod counted;
 mod doing;
 mod moment;
@@ -18,7 +21,8 @@ mod own;
 mod repeated;
 mod thread;
 
-pub use counted::{Counted, Seen, THREADS};
+pub use calls::{CALLS, call_name};
+pub use counted::{Counted, Seen};
 pub use doing::Doing;
 pub use moment::{Longest, Moment, Span, Spread};
 pub use mutex::{MutexStatistics, free_mutexes};

@@ -1,6 +1,6 @@
 //! A symbol table, and the symbol at an address.
 
-ghost use Rattle.std.specs.Prelude.{◌≡◌, ◌≤◌, ◌++◌, ◌==◌, ◌∷◌, [], find, map, option_map, IfSome, OnOk, codes, filter, if◌then◌else◌, string_bytes};
+ghost use Rattle.std.specs.Prelude.{◌≡◌, ◌≤◌, ◌↔◌, ◌++◌, ◌==◌, ◌∷◌, [], find, map, option_map, IfSome, IsTrue, OnOk, codes, filter, if◌then◌else◌, string_bytes};
 ghost use Rattle.ptk_symbols.specs.Tables as is;
 ghost use Rattle.ptk_symbols.specs.Looking as shown;
 
@@ -40,6 +40,13 @@ impl<'a> Symbols<'a> {
         Symbols {
             symbols: Vec::new(alloc),
         }
+    }
+
+    /// Whether there is no symbol.
+    pub fn is_empty(&self) -> bool
+        ensures { IsTrue result ↔ (self.now ≡ []) }
+    {
+        self.symbols.is_empty()
     }
 
     /// The symbol that begins last at or below an address, of those that begin there the first of the text, and the

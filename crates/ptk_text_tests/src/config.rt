@@ -41,7 +41,7 @@ fn good(alloc: Global) -> Result<String, AllocError> {
     joined(alloc, &[FRAME, SECTION, WINDOW])
 }
 
-/// The fault of the good document in which one text stands for another, `None` where memory ran out.
+/// The fault of the good document with one text in place of another, `None` where memory ran out.
 fn changed(alloc: Global, old: &str, new: &str) -> Option<(u8, u8)> {
     let text = good(alloc).ok()?.replace(alloc, old, new).ok()?;
     Some(fault(alloc, text.as_str()))
@@ -153,7 +153,7 @@ fn refuses_documents(rt: HostRuntime) {
     }
 }
 
-/// Texts of the good document, what stands for them, and the number of the fault then.
+/// Texts of the good document, what is in their place, and the number of the fault then.
 const VALUES: [(&str, &str, u8); 10] = [
     ("frame = 20", "frame = 20.0", 3),
     ("frame = 20", "frame = 9223372036854775808", 1),
@@ -174,7 +174,7 @@ fn refuses_values(rt: HostRuntime) {
     }
 }
 
-/// A document with a part that stands in it many times, and the numbers of its fault.
+/// A document in which a part is repeated many times, and the numbers of its fault.
 #[derive(Clone, Copy)]
 struct Many<'a> {
     head: [&'a str; 3],
@@ -232,7 +232,7 @@ fn refuses_too_many(rt: HostRuntime) {
     }
 }
 
-/// A document of a frame of 40 ticks, of which p has the first half, and what else stands in it.
+/// A document of a frame of 40 ticks, of which p has the first half, and what else is in it.
 fn with_plans(alloc: Global, plans: &str) -> Result<String, AllocError> {
     joined(alloc, &["frame = 40\n", plans, SECTION, WINDOW])
 }

@@ -39,13 +39,13 @@ fn written(alloc: Global, text: &str) -> Result<Vec<u8>, Fail> {
     Ok(out)
 }
 
-// What is written of the good document in which one text stands for another.
+// What is written of the good document with one text in place of another.
 fn changed(alloc: Global, old: &str, new: &str) -> Result<Vec<u8>, Fail> {
     let text = good(alloc)?.replace(alloc, old, new)?;
     written(alloc, text.as_str())
 }
 
-// The first of these rows whose line is another: what stands in the document then. None where there is none.
+// The first of these rows whose line is another: the text that was put into the document. None where there is none.
 fn first_other_line<'a>(
     alloc: Global,
     rows: &[(&'a str, &'a str, &'a str)],
@@ -85,7 +85,7 @@ fn accepted_text_has_no_line(rt: HostRuntime) -> Result<(), Fail> {
     Ok(())
 }
 
-/// Texts of the good document, what stands for them, and the line then.
+/// Texts of the good document, what is in their place, and the line then.
 const TOP_LINES: [(&str, &str, &str); 5] = [
     ("frame = 40", "frame =", "the text, line 1: not TOML\n"),
     ("frame = 40\n", "", "key frame: missing\n"),
@@ -137,7 +137,7 @@ fn a_text_that_is_no_document(rt: HostRuntime) -> Result<(), Fail> {
     Ok(())
 }
 
-/// Texts of the good document, what stands for them, and the line then.
+/// Texts of the good document, what is in their place, and the line then.
 const NAME_LINES: [(&str, &str, &str); 7] = [
     ("name = \"q\"\n", "", "section 2, key name: missing\n"),
     (
@@ -168,7 +168,7 @@ const NAME_LINES: [(&str, &str, &str); 7] = [
     ),
 ];
 
-/// Texts of the good document, what stands for them, and the line then.
+/// Texts of the good document, what is in their place, and the line then.
 const NUMBER_LINES: [(&str, &str, &str); 5] = [
     (
         "memory = 8192",
@@ -242,7 +242,7 @@ fn a_number_out_of_range(rt: HostRuntime) -> Result<(), Fail> {
     Ok(())
 }
 
-/// Texts of the good document, what stands for them, and the line then.
+/// Texts of the good document, what is in their place, and the line then.
 const INPUT_LINES: [(&str, &str, &str); 7] = [
     (
         "[{ at = 5, bytes = [1, 2] }, { at = 7, bytes = [3] }]",
@@ -292,7 +292,7 @@ fn too_many_bytes(rt: HostRuntime) -> Result<(), Fail> {
     Ok(())
 }
 
-/// Texts of the good document, what stands for them, and the line then.
+/// Texts of the good document, what is in their place, and the line then.
 const WINDOW_LINES: [(&str, &str, &str); 8] = [
     (
         "length = 18\npartition = \"q\"\n",
@@ -336,7 +336,7 @@ const WINDOW_LINES: [(&str, &str, &str); 8] = [
     ),
 ];
 
-/// Texts of the good document, what stands for them, and the line then.
+/// Texts of the good document, what is in their place, and the line then.
 const PLAN_LINES: [(&str, &str, &str); 3] = [
     (
         "from = 3",

@@ -11,7 +11,7 @@ const TEXT: &str =
 // Text of 4 bytes, data of 2, and 8 zeros behind them; its first pc is 0.
 const IMAGE: &[u8] = b"PTKI\x01\0\0\0\0\0\0\0\x04\0\0\0\x02\0\0\0\x08\0\0\0\x73\0\0\0\x01\x02";
 
-// An image of 3072 bytes with its zeros, as many as lie below p's stacks.
+// An image of 3072 bytes with its zeros, which are those below p's stacks.
 const WHOLE: &[u8] = b"PTKI\x01\0\0\0\0\0\0\0\x04\0\0\0\0\0\0\0\xfc\x0b\0\0\x73\0\0\0";
 
 // An image with one zero more.

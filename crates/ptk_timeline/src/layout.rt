@@ -1,4 +1,4 @@
-//! Where things stand in the picture, in pixels from its upper left corner.
+//! Where things are in the picture, in pixels from its upper left corner.
 
 ghost use Rattle.std.specs.Prelude.{◌<◌, ◌≤◌};
 

@@ -56,7 +56,7 @@ pub(crate) fn write_legend<W: Write>(
     )
 }
 
-/// Writes how many ticks a column stands for.
+/// Writes how many ticks a column has.
 fn write_columns<W: Write>(out: &mut W, scale: Scale, y: u32) -> io::Result<()> {
     let each = scale.each();
     if each == 1 {

@@ -70,54 +70,14 @@ pub enum PictureFault {
     NoTicks,
 }
 
-/// Runs the system of a configuration, which stands at no tick after `from` or `to`, to a tick of at most 2^40, and
-/// writes the picture of its ticks from `from` on. A fault where there is none of them, memory is refused or the writer
-/// fails. Of the picture's bytes no clause speaks; stored pictures are compared.
+/// Runs the system of a configuration, which is at no tick after `from` or `to`, to a tick of at most 2^40, and writes
+/// the picture of its ticks from `from` on, with these names of its threads. A fault where there is none of them,
+/// memory is refused or the writer fails. Of the picture's bytes no clause speaks; stored pictures are compared.
 pub fn picture_with<W: Write>(
     alloc: Global,
     config: &Config,
     system: &mut System<'_>,
-    from: Tick,
-    to: Tick,
-    out: &mut W,
-) -> Result<(), PictureFault>
-    requires last { to ≤ LAST_TICK }
-    requires begun { system.old.tick ≤ from }
-    requires order { system.old.tick ≤ to }
-    ensures some { IfOk result (λ _. from < to) }
-    ensures none { IfErr result (λ fault. fault ≡ PictureFault.NoTicks → to ≤ from) }
-    ensures ran { IfOk result (λ _. system.new ≡ at_tick to system.old) }
-{
-    put_picture(alloc, config, system, &None, from, to, out)
-}
-
-/// Writes the same picture with the names of its threads: that of the routine at which the last thread of a number
-/// started in the run of which the starts are, where a symbol begins there. The same faults come.
-pub fn named_picture_with<W: Write>(
-    alloc: Global,
-    config: &Config,
-    system: &mut System<'_>,
-    names: Names<'_, '_>,
-    from: Tick,
-    to: Tick,
-    out: &mut W,
-) -> Result<(), PictureFault>
-    requires last { to ≤ LAST_TICK }
-    requires begun { system.old.tick ≤ from }
-    requires order { system.old.tick ≤ to }
-    ensures some { IfOk result (λ _. from < to) }
-    ensures none { IfErr result (λ fault. fault ≡ PictureFault.NoTicks → to ≤ from) }
-    ensures ran { IfOk result (λ _. system.new ≡ at_tick to system.old) }
-{
-    put_picture(alloc, config, system, &Some(names), from, to, out)
-}
-
-/// Runs a system, and writes the picture of its ticks, with names where there are some.
-fn put_picture<W: Write>(
-    alloc: Global,
-    config: &Config,
-    system: &mut System<'_>,
-    names: &Option<Names<'_, '_>>,
+    names: &Names<'_, '_>,
     from: Tick,
     to: Tick,
     out: &mut W,
@@ -137,28 +97,18 @@ fn put_picture<W: Write>(
         Ok(recording) => recording,
         Err(_) => return Err(PictureFault::Memory),
     };
-    match put_timeline(out, config, &recording, names) {
+    match write_timeline(out, config, &recording, names) {
         Ok(()) => Ok(()),
         Err(_) => Err(PictureFault::Write),
     }
 }
 
-/// Writes the picture of a recording of a system. An error where the writer fails; nothing else changes, and what the
-/// writer got before is not known.
-pub fn write_timeline<W: Write>(
+/// Writes the picture of a recording of a system. An error where the writer fails; what it got before is not known.
+fn write_timeline<W: Write>(
     out: &mut W,
     config: &Config,
     recording: &Recording,
-) -> io::Result<()> {
-    put_timeline(out, config, recording, &None)
-}
-
-/// Writes the picture of a recording, with names where there are some.
-fn put_timeline<W: Write>(
-    out: &mut W,
-    config: &Config,
-    recording: &Recording,
-    names: &Option<Names<'_, '_>>,
+    names: &Names<'_, '_>,
 ) -> io::Result<()> {
     let scale = recording.scale();
     let (width, height) = (picture_width(scale), picture_height(recording));
@@ -173,27 +123,17 @@ fn put_timeline<W: Write>(
         out,
         "<rect width=\"{width}\" height=\"{height}\" fill=\"#ffffff\"/>"
     )?;
-    put_lanes(out, config, recording, names)?;
+    write_lanes(out, config, recording, names)?;
     write_legend(out, config, scale, lanes_end(recording))?;
     out.write_all(b"</svg>\n")
 }
 
-/// Writes the lanes, one below the other, with the axis and the lines of the plan, and without the style and the
-/// legend. An error where the writer fails.
-pub fn write_lanes<W: Write>(
+/// Writes the lanes, one below the other, with the axis and the lines of the plan.
+fn write_lanes<W: Write>(
     out: &mut W,
     config: &Config,
     recording: &Recording,
-) -> io::Result<()> {
-    put_lanes(out, config, recording, &None)
-}
-
-/// Writes the lanes with their axis, and with names where there are some.
-fn put_lanes<W: Write>(
-    out: &mut W,
-    config: &Config,
-    recording: &Recording,
-    names: &Option<Names<'_, '_>>,
+    names: &Names<'_, '_>,
 ) -> io::Result<()> {
     let mut top = TOP;
     for number in 0..config.parts() {
@@ -234,7 +174,7 @@ fn write_lane<W: Write>(
     lane: &Lane,
     name: &str,
     status: PartStatus,
-    names: &Option<Names<'_, '_>>,
+    names: &Names<'_, '_>,
     place: Place,
 ) -> io::Result<()> {
     write_windows(out, config, scale, place)?;

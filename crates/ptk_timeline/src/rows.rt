@@ -43,13 +43,13 @@ impl Stretch {
 }
 
 /// Writes the rows of the lane of a partition of a name, one below the other from `top` on, with the names of its
-/// threads where there are some.
+/// threads.
 pub(crate) fn write_rows<W: Write>(
     out: &mut W,
     scale: Scale,
     lane: &Lane,
     name: &str,
-    names: &Option<Names<'_, '_>>,
+    names: &Names<'_, '_>,
     part: PartId,
     top: u32,
 ) -> io::Result<()> {
@@ -72,14 +72,11 @@ pub(crate) fn write_rows<W: Write>(
 /// alone.
 fn write_name<W: Write>(
     out: &mut W,
-    names: &Option<Names<'_, '_>>,
+    names: &Names<'_, '_>,
     part: PartId,
     number: usize,
     y: u32,
 ) -> io::Result<()> {
-    let Some(names) = names else {
-        return Ok(());
-    };
     let Some(routine) = names.routine(part, number) else {
         return Ok(());
     };
@@ -126,7 +123,7 @@ fn write_row<W: Write>(
     write_steps(out, scale, row.cells(), marks, y)
 }
 
-/// Writes the bars: each all columns of one look, its owner and raised priority included, and as many as there are.
+/// Writes the bars: each all columns in a row that have one look, with its owner and its raised priority.
 fn write_bars<W: Write>(
     out: &mut W,
     scale: Scale,

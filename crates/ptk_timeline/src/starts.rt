@@ -5,11 +5,8 @@ ghost use Rattle.ptk_words.specs.declared.TheConstants.{LAST_TICK};
 
 use ptk_symbols::{Located, Symbols};
 use ptk_timeline_segments::{Activity, System};
-use ptk_words::{PartId, ThreadNo, Tick};
+use ptk_words::{PartId, THREAD_LIMIT, ThreadNo, Tick};
 use std::alloc::{AllocError, Global};
-
-/// How many threads a partition has at most.
-const THREADS: usize = 32;
 
 /// What was seen of a thread's number: whether a thread has it, and the pc at which the last one that had it started.
 #[derive(Clone, Copy)]
@@ -50,7 +47,7 @@ impl Numbers {
     /// No thread yet. An error where memory ran out.
     fn new(alloc: Global) -> Result<Numbers, AllocError> {
         let mut seen = Vec::new(alloc);
-        for _ in 0..THREADS {
+        for _ in 0..THREAD_LIMIT {
             seen.push(Seen::new())?;
         }
         Ok(Numbers { seen })
@@ -60,7 +57,7 @@ impl Numbers {
     fn look(&mut self, system: &System<'_>, p: PartId)
         requires { p < length system.now.config.sections }
     {
-        for i in 0..self.seen.len().min(THREADS) {
+        for i in 0..self.seen.len().min(THREAD_LIMIT as usize) {
             self.seen[i].look(system, p, ThreadNo::new(i as u8 + 1));
         }
     }
@@ -74,6 +71,13 @@ pub struct Starts {
 }
 
 impl Starts {
+    /// No thread starts.
+    pub fn none(alloc: Global) -> Starts {
+        Starts {
+            parts: Vec::new(alloc),
+        }
+    }
+
     /// Runs a system on to a tick of at most 2^40, and returns where its threads start on the way; those that it has
     /// already start where they are. An error where memory ran out.
     pub fn of_run(alloc: Global, system: &mut System<'_>, to: Tick) -> Result<Starts, AllocError>

@@ -80,7 +80,7 @@ impl Board {
         Ok(())
     }
 
-    /// Runs a system from the tick at which it stands to the last that is written, and writes what changes.
+    /// Runs a system from its tick to the last that is written, and writes what changes.
     pub(crate) fn run<W: Write>(
         &mut self,
         config: &Config,

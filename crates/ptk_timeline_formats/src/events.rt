@@ -15,7 +15,7 @@ use std::io::Write;
 /// The track of a partition's windows, beside those of its threads from 1 on.
 const WINDOWS: u8 = 0;
 
-/// Where an event stands: its process and thread.
+/// Where an event is: its process and thread.
 #[derive(Clone, Copy)]
 struct Track {
     process: usize,
@@ -161,7 +161,7 @@ fn mutex(m: MutexNo) -> Option<(&'static str, u64)> {
     Some(("mutex", u64::from(m.number())))
 }
 
-/// Writes what stands before the events, the names of the partitions and of the tracks of their windows, and the input
+/// Writes what is before the events, the names of the partitions and of the tracks of their windows, and the input
 /// that comes from a tick on and before another.
 pub(crate) fn put_events_head<W: Write>(
     alloc: Global,

@@ -1,11 +1,10 @@
 #![tactic(auto)]
 
-//! A run as a Value Change Dump (`vcd_with`) and as trace events in JSON (`trace_events_with`), written while it goes
-//! on.
+//! A run as a Value Change Dump and as trace events in JSON (`dump_with`, by its `Form`), written while it goes on.
 //!
 //! - What is kept of each thread at a change is what the system shows of it (`shown` of `show_threads`: `AreShown`,
 //!   `shown_in`); ticks never fall (`from`, `within` of `Sheet::put`).
-//! - The refusals are the definition's (`order` to `silent` of `vcd_with`). The bytes are tested.
+//! - The refusals are the definition's (`order` to `silent` of `dump_with`). The bytes are tested.
 //!
 //! GTKWave opens the first (IEEE 1364-2005, section 18), Perfetto and chrome://tracing the second. Both go from change
 //! to change and keep of each thread what was shown of it last, so memory does not grow with the run. Below are the
@@ -24,4 +23,5 @@ mod threads;
 mod vcd;
 
 pub use fault::FormatFault;
-pub use run::{trace_events_with, vcd_with};
+pub use run::dump_with;
+pub use sheet::Form;

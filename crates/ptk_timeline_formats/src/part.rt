@@ -12,12 +12,9 @@ use crate::shown::Shown;
 use crate::step::Step;
 use crate::threads::{first_threads, show_threads};
 use ptk_system::{PartStatus, System};
-use ptk_words::{PartId, ThreadNo, Tick};
+use ptk_words::{PartId, THREAD_LIMIT, ThreadNo, Tick};
 use std::alloc::{AllocError, Global};
 use std::io::Write;
-
-/// How many threads a partition has at most.
-const THREADS: usize = 32;
 
 /// What is shown of a partition: its status, the number of its running thread, 0 where none runs, its threads, and the
 /// step that takes up its ticks; and what it had lost and how many steps it had made at the last look.
@@ -74,7 +71,7 @@ impl Part {
             Some(Change::Runner(self.runner)),
         ];
         sheet.put_each(p, tick, &first, out)?;
-        for i in 0..self.threads.len().min(THREADS) {
+        for i in 0..self.threads.len().min(THREAD_LIMIT as usize) {
             let t = ThreadNo::new(i as u8 + 1);
             let start = start_of(system, p, t, tick);
             let shown = &self.threads[i].shown;
@@ -95,7 +92,7 @@ impl Part {
         ensures to { sheet.new.to ≡ sheet.old.to }
     {
         let to = sheet.to();
-        for i in 0..self.threads.len().min(THREADS) {
+        for i in 0..self.threads.len().min(THREAD_LIMIT as usize) {
             let t = ThreadNo::new(i as u8 + 1);
             let kept = &self.threads[i];
             sheet.put(p, to, &Change::Next(t, kept, &kept.shown), out)?;

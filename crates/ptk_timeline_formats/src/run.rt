@@ -16,74 +16,21 @@ use ptk_words::Tick;
 use std::alloc::Global;
 use std::io::Write;
 
-/// Boots the system of a configuration, runs it to a tick of at most 2^40, and writes its ticks from `from` on as a
-/// Value Change Dump (IEEE 1364-2005, section 18).
+/// Boots the system of a configuration, runs it to a tick of at most 2^40, and writes its ticks from `from` on in a
+/// format. A thread that starts in these ticks has the name of the symbol that begins at its first pc, where one does;
+/// a Value Change Dump has no names.
 ///
 /// `FormatFault::FromPastEnd` comes where `from` is not before `ticks`, and before the boot; `FormatFault::Boot` where
 /// the system does not boot. Nothing is written before either. Any other fault is one of memory or of the writer, which
 /// may have got a part.
-pub fn vcd_with<W: Write>(
-    alloc: Global,
-    config: &Config,
-    files: &Files,
-    from: Tick,
-    ticks: Tick,
-    out: &mut W,
-) -> Result<(), FormatFault>
-    requires { ticks ≤ LAST_TICK }
-    ensures order { OnOk result (from < ticks) }
-    ensures past { IfErr result (λ fault. fault ≡ FromPastEnd → ticks ≤ from) }
-    ensures first { ticks ≤ from → IfErr result (λ fault. fault ≡ FromPastEnd) }
-    ensures missing { MatchResult result
-        (λ _. first_missing files.now config.now.sections ≡ None)
-        (λ fault. fault ≢ FromPastEnd → first_missing files.now config.now.sections ≡ missing_in_format fault) }
-    ensures silent { IfErr result (λ fault. fault ≢ FormatFault.Write → fault ≢ FormatFault.Memory → out.new ≡ out.old) }
-{
-    let nameless = Symbols::new(alloc);
-    write_run(Form::Vcd, alloc, config, files, &nameless, from, ticks, out)
-}
-
-/// Writes the same ticks in the Trace Event Format. A thread that starts in these ticks has the name of the symbol that
-/// begins at its first pc, where one does. The same faults come.
-pub fn trace_events_with<W: Write>(
+pub fn dump_with<W: Write>(
     alloc: Global,
     config: &Config,
     files: &Files,
     symbols: &Symbols<'_>,
     from: Tick,
     ticks: Tick,
-    out: &mut W,
-) -> Result<(), FormatFault>
-    requires { ticks ≤ LAST_TICK }
-    ensures order { OnOk result (from < ticks) }
-    ensures past { IfErr result (λ fault. fault ≡ FromPastEnd → ticks ≤ from) }
-    ensures first { ticks ≤ from → IfErr result (λ fault. fault ≡ FromPastEnd) }
-    ensures missing { MatchResult result
-        (λ _. first_missing files.now config.now.sections ≡ None)
-        (λ fault. fault ≢ FromPastEnd → first_missing files.now config.now.sections ≡ missing_in_format fault) }
-    ensures silent { IfErr result (λ fault. fault ≢ FormatFault.Write → fault ≢ FormatFault.Memory → out.new ≡ out.old) }
-{
-    write_run(
-        Form::Events,
-        alloc,
-        config,
-        files,
-        symbols,
-        from,
-        ticks,
-        out,
-    )
-}
-
-/// Boots the system of a configuration, runs it, and writes its ticks from `from` on in a format.
-fn write_run<W: Write>(
     form: Form,
-    alloc: Global,
-    config: &Config,
-    files: &Files,
-    symbols: &Symbols<'_>,
-    from: Tick,
-    ticks: Tick,
     out: &mut W,
 ) -> Result<(), FormatFault>
     requires { ticks ≤ LAST_TICK }
@@ -129,7 +76,7 @@ fn system_at<'a>(
     }
 }
 
-/// Runs a system from the tick at which it stands to the last, and writes what it shows.
+/// Runs a system from its tick to the last, and writes what it shows.
 fn put_run<W: Write>(
     alloc: Global,
     config: &Config,
@@ -147,7 +94,7 @@ fn put_run<W: Write>(
     put_end(&mut board, sheet, out)
 }
 
-/// Writes what stands behind all that changes: the last tick, or the last events and the end of their list.
+/// Writes what is behind all that changes: the last tick, or the last events and the end of their list.
 fn put_end<W: Write>(
     board: &mut Board,
     sheet: &mut Sheet<'_, '_>,

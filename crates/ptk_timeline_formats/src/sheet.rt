@@ -12,8 +12,8 @@ use std::io::Write;
 
 /// The formats.
 #[derive(Clone, Copy)]
-pub(crate) enum Form {
-    /// The Value Change Dump.
+pub enum Form {
+    /// The Value Change Dump (IEEE 1364-2005, section 18).
     Vcd,
     /// The Trace Event Format.
     Events,
@@ -30,11 +30,14 @@ pub(crate) struct Sheet<'a, 's> {
     ghost last: { to ≤ LAST_TICK },
 }
 
-ghost use Rattle.std.specs.Prelude.{◌≡◌, ◌<◌, ◌≤◌};
+ghost use Rattle.std.specs.Prelude.{◌≡◌, ◌<◌, ◌≤◌, false, OnOk};
+ghost use Rattle.std.specs.Io.KnownBytes.{Appends};
 ghost use Rattle.ptk_words.specs.declared.TheConstants.{LAST_TICK};
+ghost use Rattle.ptk_timeline_formats.specs.declared.sheet.Form.TheVariants.{Vcd};
+ghost use Rattle.ptk_timeline_formats.specs.Signals.{is_signal, tick_line};
 
 impl Form {
-    /// What stands between the first values and what changes.
+    /// What is between the first values and what changes.
     pub(crate) fn behind_first(self) -> &'static [u8] {
         match self {
             Form::Vcd => b"$end\n",
@@ -85,7 +88,7 @@ impl<'a, 's> Sheet<'a, 's> {
         self.form
     }
 
-    /// Writes what stands before the first values.
+    /// Writes what is before the first values.
     pub(crate) fn put_head<W: Write>(&self, config: &Config, out: &mut W) -> Result<(), PutFault> {
         match self.form {
             Form::Vcd => Ok(put_vcd_head(config, self.at, out)?),
@@ -114,7 +117,8 @@ impl<'a, 's> Sheet<'a, 's> {
         Ok(())
     }
 
-    /// Writes what changes of a partition at a tick. A format that has no form for the change writes nothing.
+    /// Writes what changes of a partition at a tick, after the line of the tick where the format has one. A dump writes
+    /// nothing of a change that no signal shows. What it writes of the others is tested.
     pub(crate) fn put<W: Write>(
         &mut self,
         p: PartId,
@@ -127,6 +131,7 @@ impl<'a, 's> Sheet<'a, 's> {
         ensures from { self.old.at ≤ self.new.at }
         ensures within { self.new.at ≤ tick }
         ensures to { self.new.to ≡ self.old.to }
+        ensures unseen { self.old.form ≡ Vcd → is_signal change.now ≡ false → (out.new ≡ out.old) × (self.new ≡ self.old) }
     {
         match self.form {
             Form::Vcd => {
@@ -143,12 +148,14 @@ impl<'a, 's> Sheet<'a, 's> {
         }
     }
 
-    /// Writes that what follows is of a tick: none where the last was of it too (IEEE 1364-2005, 18.2.1).
+    /// Writes that what follows is of a tick: nothing where the last was of it too (IEEE 1364-2005, 18.2.1).
     pub(crate) fn reach<W: Write>(&mut self, tick: u64, out: &mut W) -> Result<(), PutFault>
         requires from { self.old.at ≤ tick }
         requires to { tick ≤ self.old.to }
         ensures at { self.new.at ≡ tick }
         ensures to { self.new.to ≡ self.old.to }
+        ensures line { self.old.at < tick → OnOk result (Appends (W.contents out.old) (W.contents out.new) (tick_line tick)) }
+        ensures none { tick ≤ self.old.at → out.new ≡ out.old }
     {
         let is_later = self.at < tick;
         self.at = tick;

@@ -11,12 +11,9 @@ use crate::sheet::Sheet;
 use crate::shown::{Doing, Shown, deadline_of};
 use crate::step::Step;
 use ptk_system::System;
-use ptk_words::{PartId, ThreadNo, Wait};
+use ptk_words::{PartId, THREAD_LIMIT, ThreadNo, Wait};
 use std::alloc::{AllocError, Global};
 use std::io::Write;
-
-/// How many threads a partition has at most.
-const THREADS: usize = 32;
 
 /// What the threads of a partition are shown as, from the system's tick on. An error where memory ran out.
 pub(crate) fn first_threads(
@@ -29,7 +26,7 @@ pub(crate) fn first_threads(
 {
     let since = system.tick().ticks();
     let mut kept = Vec::new(alloc);
-    for i in 0..threads.min(THREADS as u32) {
+    for i in 0..threads.min(THREAD_LIMIT) {
         let t = ThreadNo::new(i as u8 + 1);
         let shown = Shown::of(system, p, t, &None);
         kept.push(Kept { shown, since })?;
@@ -55,7 +52,7 @@ pub(crate) fn show_threads<W: Write>(
     ensures to { sheet.new.to ≡ sheet.old.to }
     ensures shown { OnOk result (AreShown step.now (state_of system.now p).part threads.new) }
 {
-    for i in 0..threads.len().min(THREADS) {
+    for i in 0..threads.len().min(THREAD_LIMIT as usize) {
         let t = ThreadNo::new(i as u8 + 1);
         threads[i] = show_thread(&threads[i], system, p, t, step, tick, sheet, out)?;
     }

@@ -1,10 +1,13 @@
 //! The Value Change Dump (IEEE 1364-2005, section 18).
 
+ghost use Rattle.std.specs.Prelude.{◌≡◌};
+ghost use Rattle.ptk_timeline_formats.specs.Signals.{is_signal};
+
 use crate::change::Change;
 use crate::shown::Shown;
 use ptk_config::{Config, Section};
 use ptk_system::PartStatus;
-use ptk_words::{PartId, ThreadNo};
+use ptk_words::{PartId, THREAD_LIMIT, ThreadNo};
 use std::io::Write;
 use std::{fmt, io};
 
@@ -17,8 +20,8 @@ const FIRST_CHARACTER: u8 = b'!';
 /// The signals of a partition before those of its threads.
 const PART_SIGNALS: usize = 3;
 
-/// The signals of a partition with 32 threads.
-const SIGNALS: usize = 67;
+/// The signals of a partition with the most threads, of which each has two.
+const SIGNALS: usize = PART_SIGNALS + 2 * THREAD_LIMIT as usize;
 
 /// A signal, by its number.
 #[derive(Clone, Copy)]
@@ -66,7 +69,7 @@ impl fmt::Display for Signal {
     }
 }
 
-/// Writes what stands before the first values: a scope for each partition, in it its signals, and the first tick.
+/// Writes what is before the first values: a scope for each partition, in it its signals, and the first tick.
 pub(crate) fn put_vcd_head<W: Write>(config: &Config, from: u64, out: &mut W) -> io::Result<()> {
     out.write_all(b"$version ptk timeline $end\n$timescale 1 us $end\n")?;
     for (place, section) in config.sections().iter().enumerate() {
@@ -83,7 +86,7 @@ fn put_scope<W: Write>(p: PartId, section: &Section, out: &mut W) -> io::Result<
         out,
         "$scope module {name} $end\n$var wire 1 {window} window $end\n$var wire 3 {status} status [2:0] $end\n$var wire 6 {runner} running [5:0] $end"
     )?;
-    for number in 1..section.limits().threads.min(32) as u8 + 1 {
+    for number in 1..section.limits().threads.min(THREAD_LIMIT) as u8 + 1 {
         let (state, priority) = (Signal::state(p, number), Signal::priority(p, number));
         writeln!(
             out,
@@ -94,7 +97,9 @@ fn put_scope<W: Write>(p: PartId, section: &Section, out: &mut W) -> io::Result<
 }
 
 /// Whether a signal shows the change.
-pub(crate) fn is_signal(change: &Change<'_>) -> bool {
+pub(crate) fn is_signal(change: &Change<'_>) -> bool
+    ensures { result ≡ is_signal change.now }
+{
     match change {
         Change::WindowBegins
         | Change::WindowEnds(_)

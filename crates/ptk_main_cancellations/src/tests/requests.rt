@@ -59,8 +59,8 @@ target:
     ecall               #  49  the gate at 51
 ";
 
-// Row bad-pointer-with-request. Main cancels itself, and waits with a bad third pointer, which is told first. Its next
-// point is a wait of two zero words, which it leaves as they are; then it ends as the last thread.
+// Row bad-pointer-with-request. Main cancels itself, and waits with a bad third pointer, which is the first reply. Its
+// next point is a wait of two zero words, which it leaves as they are; then it ends as the last thread.
 const BAD_POINTER: &str = "
     li a0, 1            #   0
     li a7, 40           #   1  pthread_cancel

@@ -65,7 +65,7 @@ fn is_told(alloc: Global, config: &Config, image: &[u8], place: usize, byte: u8)
     }
 }
 
-/// The bytes that stand in the place of another.
+/// The bytes in the place of another.
 const BYTES: [u8; 6] = [0, 1, 2, 127, 128, 255];
 
 // The first of the bytes that gives another report at the place.

@@ -41,7 +41,7 @@ const IDLE_PART: &str = "partition q idle steps 0 lost 0\noutput 0\n\n";
 /// The ticks at which both are compared. At the last one each guest of p that ends has ended.
 const CUTS: [u64; 7] = [1, 20, 39, 40, 41, 400, 4000];
 
-/// How p and q stand in the configuration.
+/// The sections of p and q in the configuration.
 #[derive(Clone, Copy)]
 enum World {
     /// The section of q is the last.
@@ -160,7 +160,7 @@ fn part_of_q<'a>(world: World, report: &'a [u8], part_of_p: &[u8]) -> Option<&'a
     }
 }
 
-// Whether p's part and p's trace are those that are told beside nobody.
+// Whether p's part of the report and p's trace are those that it has beside nobody.
 fn is_alike(world: World, beside_nobody: &Shown, beside: &Shown) -> bool {
     match part_of_p(world, &beside_nobody.report) {
         Some(part) => {

@@ -77,7 +77,7 @@ fn fits_trace(system: &System<'_>, most: usize) -> bool
 }
 
 // Asserts that a writer takes the report, or the trace, if and only if it has room for it, and that the system then
-// tells both.
+// shows both.
 fn check_writers(rt: &impl Abort, alloc: Global, system: &System<'_>) {
     assert_eq!(rt; parts_of(system), 1);
     // Row failing-report.

@@ -86,7 +86,7 @@ const SHORT_FRAME: &str = "frame = 16\nwindow = [{ start = 0, length = 16, parti
 const LAST: &str =
     "plan = [{ from = 68719476735, window = [{ start = 0, length = 16, partition = \"p\" }] }]\n";
 
-// Main sleeps until tick 50, which lies in a frame where it has no window, and goes on with its next one.
+// Main sleeps until tick 50, which is in a frame where it has no window, and goes on with its next one.
 const SLEEPER: &str = "
     li a0, 1            #   0
     la a1, time         #   1

@@ -219,7 +219,7 @@ later:
 ";
 
 // Row inherit-after-handover. O is main, 1, at 2; `x`, 2, at 5, `y`, 3, at 9 and `z`, 4, wait for its mutex in this
-// order. z begins at 10, so that it comes to wait, and O then sets it to 7. Each of them, once it has the mutex, puts
+// order. z begins at 10, so that it waits too, and O then sets it to 7. Each of them, once it has the mutex, puts
 // its letter, sets itself to 3 and unlocks; the ticks beside are those of x, y and z.
 const HANDOVER: &str = "
     li a0, 1            #   0

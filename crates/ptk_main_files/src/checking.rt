@@ -8,7 +8,7 @@ use ptk_main_faults::Fault;
 use ptk_main_line::{CheckOptions, Format};
 
 /// Checks the configuration in a file, and gives the number of the status.
-pub(crate) fn check(rt: &HostRuntime, options: CheckOptions<'_>) -> u8 {
+pub fn check(rt: &HostRuntime, options: CheckOptions<'_>) -> u8 {
     match text_in(rt, options.file) {
         Ok(text) => check_text(rt, text.as_str(), options),
         Err(fault) => tell(rt, &fault),

@@ -3,19 +3,19 @@
 ghost use Rattle.std.specs.Prelude.{◌≡◌, ◌<◌, ◌≤◌, ℕ, IfSome};
 ghost use Rattle.ptk_words.specs.declared.TheConstants.{LAST_TICK};
 ghost use Rattle.ptk_main_runs.specs.Parts.{part_named};
-ghost use Rattle.ptk_main_commands.specs.Requests.{AreSteps, IsThread, IsTraceInRange, keeping};
+ghost use Rattle.ptk_main_files.specs.Traces.{AreSteps, IsThread, IsTraceInRange, keeping};
 
 use crate::explaining::refused;
 use crate::reading::{config_of, images_of, symbols_of, symbols_text_in, text_in};
 use crate::telling::{end, tell, usage};
 use ptk_config::Config;
-use ptk_main_answers::{Files, Filter, decoded_answer, partition_of, trace_answer};
+use ptk_main_answers::{Files, Filter, decoded_answer, part_named, trace_answer};
 use ptk_main_faults::Fault;
 use ptk_main_line::{MOST_TICKS, TraceOptions, undecoded};
 use ptk_words::{ThreadNo, Tick};
 
 /// The last steps of a partition. A usage error where an option of a trace in words is there without `--decode`.
-pub(crate) fn trace(rt: &HostRuntime, options: TraceOptions<'_>) -> u8
+pub fn trace(rt: &HostRuntime, options: TraceOptions<'_>) -> u8
     requires { IsTraceInRange options }
 {
     if options.wants_words() && !options.decode {
@@ -49,7 +49,7 @@ fn keep_last(config: &mut Config, options: TraceOptions<'_>)
     requires { AreSteps options.last }
     ensures { config.new ≡ keeping options.entry.last (part_named config.old options.entry.partition.now) config.old }
 {
-    let place = partition_of(config, options.partition);
+    let place = part_named(config, options.partition);
     if let (Some(last), Some(p)) = (options.last, place) {
         config.keep_trace(p, last as u32);
     }

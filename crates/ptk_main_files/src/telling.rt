@@ -11,7 +11,7 @@ use ptk_main_line::not_text;
 use std::io;
 
 /// The status of an outcome. The line of a fault goes to standard error.
-pub(crate) fn end(rt: &HostRuntime, outcome: Result<(), Fault<'_>>) -> u8
+pub fn end(rt: &HostRuntime, outcome: Result<(), Fault<'_>>) -> u8
     ensures done { OnOk outcome.entry (result ≡ status_number Done) }
     ensures failed { IfErr outcome.entry (λ fault. result ≡ status_number (status_of fault)) }
 {

@@ -43,10 +43,7 @@ pub(crate) fn config_of(rt: &HostRuntime, text: &str) -> Result<Config, Fault<'s
 }
 
 /// The text of a file of symbols, the empty one where no file is named.
-pub(crate) fn symbols_text_in<'a>(
-    rt: &HostRuntime,
-    name: Option<&'a str>,
-) -> Result<String, Fault<'a>> {
+pub fn symbols_text_in<'a>(rt: &HostRuntime, name: Option<&'a str>) -> Result<String, Fault<'a>> {
     match name {
         Some(name) => text_in(rt, name),
         None => Ok(String::new(rt.alloc())),
@@ -54,7 +51,7 @@ pub(crate) fn symbols_text_in<'a>(
 }
 
 /// The symbols in the text of the file of this name. A fault where a line is no symbol, or memory ran out.
-pub(crate) fn symbols_of<'a, 't>(
+pub fn symbols_of<'a, 't>(
     rt: &HostRuntime,
     name: Option<&'a str>,
     text: &'t str,
@@ -69,7 +66,7 @@ pub(crate) fn symbols_of<'a, 't>(
 /// The images that the sections name, in their order, each looked up by its name behind the folder `root` and a slash,
 /// where one is given, and from the working directory otherwise. One that is not there is left out; a fault where
 /// another can't be read, or memory ran out.
-pub(crate) fn images_of<'a>(
+pub fn images_of<'a>(
     rt: &HostRuntime,
     config: &'a Config,
     root: Option<&str>,

@@ -8,7 +8,7 @@ use ptk_main_faults::{ExitStatus, Fault};
 use ptk_main_line::{Format, ImpactOptions};
 
 /// What stands between the configurations in two files, on standard output, and the number of the status.
-pub(crate) fn impact(rt: &HostRuntime, options: ImpactOptions<'_>) -> u8 {
+pub fn impact(rt: &HostRuntime, options: ImpactOptions<'_>) -> u8 {
     match config_in(rt, options.old) {
         Ok(config) => impact_from(rt, &config, options),
         Err(fault) => tell(rt, &fault),

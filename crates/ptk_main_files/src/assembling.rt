@@ -15,7 +15,7 @@ const MOST_SHOWN: usize = 32;
 /// Writes the image of a source into a file, and on request its labels into another, and gives the number of the
 /// status. Nothing is written where the source is refused, or two of the files are one. The labels are written first:
 /// where the image can't be written then, the labels stand.
-pub(crate) fn asm(rt: &HostRuntime, options: AsmOptions<'_>) -> u8 {
+pub fn asm(rt: &HostRuntime, options: AsmOptions<'_>) -> u8 {
     if are_mixed(rt, options) {
         return match one_file(rt.alloc()) {
             Ok(error) => usage(rt, &error),
@@ -106,7 +106,7 @@ fn refused(rt: &HostRuntime, text: &str, explain: bool, fault: &AsmFault) -> u8 
     status
 }
 
-/// Writes where a source is refused, the column counted in bytes from 1, what stands there, and why. An error where
+/// Writes where a source is refused, the column counted in bytes from 1, what is there, and why. An error where
 /// `out` refuses the bytes.
 pub fn put_place<W: Write>(source: &[u8], fault: &AsmFault, out: &mut W) -> io::Result<()> {
     let (line, kind) = (fault.line, fault.kind);

@@ -1,0 +1,174 @@
+//! `timeline`: the picture of a run.
+
+ghost use Rattle.std.specs.Prelude.{◌≡◌, ◌≢◌, ◌<◌, ◌≤◌, None, IfErr, MatchResult, OnOk};
+ghost use Rattle.ptk_words.specs.declared.TheConstants.{LAST_TICK};
+ghost use Rattle.ptk_system.specs.Missing.{first_missing};
+ghost use Rattle.ptk_timeline_formats.specs.declared.fault.FormatFault.TheVariants.{FromPastEnd};
+ghost use Rattle.ptk_timeline_formats.specs.Faults.{missing_in_format};
+ghost use Rattle.ptk_main_answers.specs.Refusals.{IsFaultOf, refused_picture};
+
+use ptk_config::Config;
+use ptk_main_answers::{Files, System, boot_fault};
+use ptk_main_faults::Fault;
+use ptk_main_files::{config_in, end, images_of, symbols_of, symbols_text_in, tell};
+use ptk_main_line::{PictureFormat, TimelineOptions};
+use ptk_symbols::Symbols;
+use ptk_timeline::{Names, PictureFault, Starts, picture_with};
+use ptk_timeline_formats::{Form, FormatFault, dump_with};
+use ptk_words::Tick;
+use std::alloc::Global;
+use std::io::Write;
+
+/// The picture of a run of the configuration in a file.
+pub(crate) fn timeline(rt: &HostRuntime, options: TimelineOptions<'_>) -> u8
+    requires { options.run.ticks ≤ LAST_TICK }
+{
+    match config_in(rt, options.run.file) {
+        Ok(config) => end(rt, timeline_config(rt, &config, options)),
+        Err(fault) => tell(rt, &fault),
+    }
+}
+
+// The picture of a run of a configuration, on standard output.
+fn timeline_config<'a>(
+    rt: &HostRuntime,
+    config: &'a Config,
+    options: TimelineOptions<'a>,
+) -> Result<(), Fault<'a>>
+    requires { options.run.ticks ≤ LAST_TICK }
+{
+    let files = images_of(rt, config, options.run.root)?;
+    let text = symbols_text_in(rt, options.symbols)?;
+    let symbols = symbols_of(rt, options.symbols, text.as_str())?;
+    let from = Tick::new(options.from.unwrap_or(0));
+    let to = Tick::new(options.run.ticks);
+    timeline_answer(
+        rt.alloc(),
+        config,
+        &files,
+        &symbols,
+        options.format,
+        from,
+        to,
+        &mut rt.stdout(),
+    )
+}
+
+/// Writes the picture of a run from a tick on, of whose bytes nothing is promised. A thread has the name of the symbol
+/// that begins where it starts, if one does: as SVG the last thread of each number, as trace events each that starts
+/// from the tick on; a Value Change Dump has no names. `Fault::NothingFrom` where the run ends at that tick or before
+/// it, which is looked at first.
+pub fn timeline_answer<'a, W: Write>(
+    alloc: Global,
+    config: &'a Config,
+    files: &Files,
+    symbols: &Symbols<'_>,
+    format: PictureFormat,
+    from: Tick,
+    to: Tick,
+    out: &mut W,
+) -> Result<(), Fault<'a>>
+    requires { to ≤ LAST_TICK }
+    ensures refused { let refusal = refused_picture config.now files.now from to in
+        MatchResult result (λ _. refusal ≡ None) (IsFaultOf refusal refusal) }
+{
+    match put_picture(alloc, config, files, symbols, format, from, to, out) {
+        Ok(()) => Ok(()),
+        Err(FormatFault::Boot(fault)) => Err(boot_fault(config, fault)),
+        Err(FormatFault::FromPastEnd) => Err(Fault::NothingFrom(from.ticks())),
+        Err(FormatFault::Memory) => Err(Fault::NoMemory),
+        Err(FormatFault::Write) => Err(Fault::WriteFailed),
+    }
+}
+
+// Writes the picture of a run in a form.
+fn put_picture<W: Write>(
+    alloc: Global,
+    config: &Config,
+    files: &Files,
+    symbols: &Symbols<'_>,
+    format: PictureFormat,
+    from: Tick,
+    to: Tick,
+    out: &mut W,
+) -> Result<(), FormatFault>
+    requires { to ≤ LAST_TICK }
+    ensures order { OnOk result (from < to) }
+    ensures past { IfErr result (λ fault. fault ≡ FromPastEnd → to ≤ from) }
+    ensures first { to ≤ from → IfErr result (λ fault. fault ≡ FromPastEnd) }
+    ensures missing { MatchResult result
+        (λ _. first_missing files.now config.now.sections ≡ None)
+        (λ fault. fault ≢ FromPastEnd → first_missing files.now config.now.sections ≡ missing_in_format fault) }
+{
+    match format {
+        PictureFormat::Svg => put_svg(alloc, config, files, symbols, from, to, out),
+        PictureFormat::Vcd => dump_with(alloc, config, files, symbols, from, to, Form::Vcd, out),
+        PictureFormat::Json => {
+            dump_with(alloc, config, files, symbols, from, to, Form::Events, out)
+        }
+    }
+}
+
+// Writes the picture of a run as SVG.
+fn put_svg<W: Write>(
+    alloc: Global,
+    config: &Config,
+    files: &Files,
+    symbols: &Symbols<'_>,
+    from: Tick,
+    to: Tick,
+    out: &mut W,
+) -> Result<(), FormatFault>
+    requires { to ≤ LAST_TICK }
+    ensures order { OnOk result (from < to) }
+    ensures past { IfErr result (λ fault. fault ≡ FromPastEnd → to ≤ from) }
+    ensures first { to ≤ from → IfErr result (λ fault. fault ≡ FromPastEnd) }
+    ensures missing { MatchResult result
+        (λ _. first_missing files.now config.now.sections ≡ None)
+        (λ fault. fault ≢ FromPastEnd → first_missing files.now config.now.sections ≡ missing_in_format fault) }
+{
+    if to.ticks() <= from.ticks() {
+        return Err(FormatFault::FromPastEnd);
+    }
+    let starts = starts_of(alloc, config, files, symbols, to)?;
+    let mut system = match System::boot(alloc, config, files) {
+        Ok(system) => system,
+        Err(fault) => return Err(FormatFault::Boot(fault)),
+    };
+    let names = Names {
+        starts: &starts,
+        symbols,
+    };
+    match picture_with(alloc, config, &mut system, &names, from, to, out) {
+        Ok(()) => Ok(()),
+        Err(PictureFault::Memory) => Err(FormatFault::Memory),
+        Err(PictureFault::Write) => Err(FormatFault::Write),
+        Err(PictureFault::NoTicks) => Err(FormatFault::FromPastEnd),
+    }
+}
+
+// Where the threads of a run to a tick start, which a run before the picture's shows; nowhere where no symbol could
+// name a thread.
+fn starts_of(
+    alloc: Global,
+    config: &Config,
+    files: &Files,
+    symbols: &Symbols<'_>,
+    to: Tick,
+) -> Result<Starts, FormatFault>
+    requires { to ≤ LAST_TICK }
+    ensures known { IfErr result (λ fault. fault ≢ FromPastEnd) }
+    ensures missing { IfErr result (λ fault. first_missing files.now config.now.sections ≡ missing_in_format fault) }
+{
+    if symbols.is_empty() {
+        return Ok(Starts::none(alloc));
+    }
+    let mut system = match System::boot(alloc, config, files) {
+        Ok(system) => system,
+        Err(fault) => return Err(FormatFault::Boot(fault)),
+    };
+    match Starts::of_run(alloc, &mut system, to) {
+        Ok(starts) => Ok(starts),
+        Err(_) => Err(FormatFault::Memory),
+    }
+}

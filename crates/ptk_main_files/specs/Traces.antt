@@ -1,0 +1,24 @@
+-- What holds of the request for a trace.
+use Rattle.std.specs.Prelude.{◌<◌, ◌≤◌, ℕ, Option, Some, None, IfSome}
+use Rattle.ptk_words.specs.declared.TheConstants.{LAST_TICK}
+use Rattle.ptk_config.specs.Configuration.{Configuration}
+use Rattle.ptk_config.specs.Sections.{with_trace_at}
+use Rattle.ptk_main_line.specs.declared.requests.TraceOptions.{TraceOptions}
+
+-- a thread's number, or none (own)
+abbrev pub IsThread : Option ℕ → Type 0
+IsThread thread = IfSome thread (λ n. (0 < n) × (n ≤ 32))
+
+-- a number of steps that a trace may keep, or none (own)
+abbrev pub AreSteps : Option ℕ → Type 0
+AreSteps steps = IfSome steps (λ k. k ≤ 1048576)
+
+-- the trace goes to no tick after the last, and its thread and its number of steps can be (own)
+abbrev pub IsTraceInRange : TraceOptions → Type 0
+IsTraceInRange o = (o.run.ticks ≤ LAST_TICK) × IsThread o.thread × AreSteps o.last
+
+-- a configuration whose trace of a partition keeps the last k steps, where both are there (own)
+abbrev pub keeping : Option ℕ → Option ℕ → Configuration → Configuration
+keeping None p config = config
+keeping (Some k) None config = config
+keeping (Some k) (Some p) config = record config { sections = with_trace_at k p config.sections }

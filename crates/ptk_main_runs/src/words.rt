@@ -1,0 +1,32 @@
+//! The words of a report.
+
+ghost use Rattle.std.specs.Prelude.{◌≡◌};
+ghost use Rattle.ptk_words_model.specs.Text.{cause_text};
+
+use ptk_system::PartStatus;
+use ptk_words::{Cause, FaultKind};
+
+/// The word with which a report begins a status.
+pub fn status_word(status: PartStatus) -> &'static str {
+    match status {
+        PartStatus::Idle => "idle",
+        PartStatus::Running => "running",
+        PartStatus::Exited(_) => "exit",
+        PartStatus::Stopped(_, _) => "fault",
+        PartStatus::Refused(_) => "refused",
+    }
+}
+
+/// The word of a cause, as the report spells it.
+pub fn cause_word(cause: Cause) -> &'static str
+    ensures { result.now ≡ cause_text cause }
+{
+    match cause {
+        Cause::Break => "break",
+        Cause::Fault(FaultKind::Illegal) => "illegal",
+        Cause::Fault(FaultKind::Fetch) => "fetch",
+        Cause::Fault(FaultKind::Load) => "load",
+        Cause::Fault(FaultKind::Store) => "store",
+        Cause::Fault(FaultKind::Misaligned) => "misaligned",
+    }
+}
