@@ -4,6 +4,5 @@ pub mod Loads
 pub mod Called
 pub mod Passing
 pub mod RowsWhole
-pub mod RepliesWhole
 pub use Rattle.ptk_gate_pools.proofs.Parted
 pub use Rattle.ptk_gate_pools.proofs.Ranks

@@ -1,16 +1,17 @@
--- Rows of plain steps leave the tables whole.
-use Rattle.std.proofs.Common.{◌≡◌, ℕ, zero, suc, ◌+◌, ◌≤◌, ◌<◌, length, sym, subst, arith}
+-- Steps of a quiet partition in a row leave the tables whole.
+use Rattle.std.proofs.Common.{◌≡◌, ◌∙◌, ℕ, ◌≤◌, ◌<◌, length, sym, ap, subst, arith}
 use Rattle.ptk_words.specs.Ranges.{IsWithinLimits}
 use Rattle.ptk_words.specs.declared.TheConstants.{RETURN_GATE}
 use Rattle.ptk_words.specs.declared.sections.Limits.{Limits}
-use Rattle.ptk_words.specs.declared.threads.Thread.{Thread}
 use Rattle.ptk_words_model.specs.State.{Part}
-use Rattle.ptk_words_invariant.specs.Well.{IsWell}
-use Rattle.ptk_words_batches.specs.Quiet.{IsQuiet, ArePlain, core_of, after_row}
-use Rattle.ptk_words_batches.proofs.RowsKept.{well_kept}
-use Rattle.ptk_words_batches.proofs.Sooner.{row_none}
 use Rattle.ptk_console.specs.ConsoleTable.{no_limits}
+use Rattle.ptk_trace.specs.KeptSteps.{KeptSteps}
 use Rattle.ptk_gate_pools.specs.Kept.{Kept, part_at, put_part, limits_at}
+use Rattle.ptk_gate_pools.specs.Held.{Held, held, all_of, limits_here}
+use Rattle.ptk_gate_pools.proofs.Hands.{all-done, raised}
+use Rattle.ptk_gate_pools.proofs.Parted.{part_at-put}
+use Rattle.ptk_gate_steps.specs.Stretches.{HasGone}
+use Rattle.ptk_gate_steps.proofs.StepsInARow.{gone_well}
 use Rattle.ptk_gate.specs.Whole.{AreWhole}
 use Rattle.ptk_gate.proofs.Wholes.{are_whole_put, well_at}
 
@@ -21,12 +22,28 @@ gate_far p kept are lt =
     let size : length (part_at p kept).memory ≡ (limits_at p kept).memory = (well_at p kept are lt).memory in
     omega (arith, size, range.memory_to)
 
-row_well : (tick stop t n : ℕ) (thread : Thread) (limits : Limits) (s : Part) → IsWell limits s → IsQuiet limits tick stop t thread s → tick + n ≤ stop → ArePlain n (core_of thread s) → IsWell limits (after_row tick t n thread s)
-row_well tick stop t zero thread limits s well quiet le plain = subst (IsWell limits) (sym (row_none tick t thread s quiet.in_use)) well
-row_well tick stop t (suc n) thread limits s well quiet le plain = well_kept limits tick stop t (suc n) thread s quiet (omega arith) le plain well
+-- ---- steps of a quiet partition in a row
 
--- a row of plain steps leaves the tables whole
-pub row_whole : (p tick stop t n : ℕ) (thread : Thread) (kept new : Kept) → AreWhole kept → p < length kept.limits → IsQuiet (limits_at p kept) tick stop t thread (part_at p kept) → tick + n ≤ stop
-    → ArePlain n (core_of thread (part_at p kept)) → new ≡ put_part p (after_row tick t n thread (part_at p kept)) kept → AreWhole new
-row_whole p tick stop t n thread kept new are lt quiet le plain e =
-    are_whole_put p (after_row tick t n thread (part_at p kept)) kept new e are lt (row_well tick stop t n thread (limits_at p kept) (part_at p kept) (well_at p kept are lt) quiet le plain)
+-- what was made of the part in hand is made of it in the tables
+pub rows_put : (p : ℕ) (kept : Kept) (taken new : Held) → taken ≡ held p kept → new ≡ record taken { here = new.here } → all_of new ≡ put_part p new.here kept
+rows_put p kept taken new e moved =
+    ap all_of (moved ∙ ap (λ (h : Held). record h { here = new.here }) e) ∙ all-done p new.here kept
+
+-- and is its part of them
+pub rows_here : (p : ℕ) (kept : Kept) (taken new : Held) → AreWhole kept → p < length kept.limits → taken ≡ held p kept → new ≡ record taken { here = new.here } → part_at p (all_of new) ≡ new.here
+rows_here p kept taken new are lt e moved = ap (part_at p) (rows_put p kept taken new e moved) ∙ part_at-put (length kept.limits) p new.here kept are.wells.parts lt
+
+-- it leaves the tables whole
+pub rows_whole : (p t tick n reached : ℕ) (kept : Kept) (taken new : Held) (before after : KeptSteps) → AreWhole kept → p < length kept.limits → taken ≡ held p kept → new ≡ record taken { here = new.here }
+    → HasGone (limits_here taken) t tick n reached taken.here new.here before after → AreWhole (all_of new)
+rows_whole p t tick n reached kept taken new before after are lt e moved gone =
+    are_whole_put p new.here kept (all_of new) (rows_put p kept taken new e moved) are lt
+    (gone_well (limits_at p kept) t tick n reached (part_at p kept) new.here before after
+    (raised p (λ limits s. HasGone limits t tick n reached s new.here before after) kept taken e gone) (well_at p kept are lt))
+
+-- and is so many decisions of the partition
+pub rows_gone : (p t tick n reached : ℕ) (kept : Kept) (taken new : Held) (before after : KeptSteps) → AreWhole kept → p < length kept.limits → taken ≡ held p kept → new ≡ record taken { here = new.here }
+    → HasGone (limits_here taken) t tick n reached taken.here new.here before after → HasGone (limits_at p kept) t tick n reached (part_at p kept) (part_at p (all_of new)) before after
+rows_gone p t tick n reached kept taken new before after are lt e moved gone =
+    subst (λ (s : Part). HasGone (limits_at p kept) t tick n reached (part_at p kept) s before after) (sym (rows_here p kept taken new are lt e moved))
+    (raised p (λ limits s. HasGone limits t tick n reached s new.here before after) kept taken e gone)

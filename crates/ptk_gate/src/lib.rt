@@ -1,14 +1,14 @@
 #![tactic(auto)]
 
 //! The tables of all partitions, `Tables`: the pools with what holds of them between calls, the loading of images, the
-//! calls by the call table, and rows of plain steps of a quiet partition.
+//! calls by the call table, and steps of a quiet partition in a row.
 //!
 //! - `Tables::new`, `load` and `refuse_image` make each partition's start.
 //! - `call` is the call table's row for p (reply and state), and every other partition's part stays.
 //! - That each partition's part is whole (`IsWell`) is the invariant of `Tables`, kept by every call.
 //! - It requires that p is not halted and a thread of it runs.
-//! - `Tables::quiet_until` returns the tick up to which a partition is quiet, `Tables::run_row` makes its plain steps
-//!   in a row, and `Tables::make_reply` a quiet call, of which it misses none.
+//! - `Tables::quiet_until` returns the tick up to which a partition is quiet, and `Tables::run_quiet` makes its plain
+//!   steps and quiet calls in a row.
 //! - `effective_priority` and `owner` return these of a thread and of a mutex.
 //!
 //! Each public call names its partition, takes it in hand and makes the model's move on the part in hand. This is the

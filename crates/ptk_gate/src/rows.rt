@@ -1,23 +1,18 @@
-//! Rows of plain steps, and ticks at which nothing happens.
+//! Steps of a quiet partition in a row, and ticks at which nothing happens.
 
-ghost use Rattle.std.specs.Prelude.{◌≡◌, ℕ, ◌+◌, ◌-◌, ◌^◌, ◌<◌, ◌≤◌, true, false, length, min, Some, IfSome};
+ghost use Rattle.std.specs.Prelude.{◌≡◌, ℕ, ◌+◌, ◌^◌, ◌<◌, ◌≤◌, true, length, Some, IfSome};
 ghost use Rattle.std.specs.Option.{IsSomeAnd};
-ghost use Rattle.ptk_words.specs.Calls.{cost_of};
-ghost use Rattle.ptk_words.specs.Processor.{register};
-ghost use Rattle.ptk_words.specs.declared.TheConstants.{A7};
 ghost use Rattle.ptk_words.specs.declared.threads.Thread.{Thread};
-ghost use Rattle.ptk_words_instructions.specs.PlainSteps.{is_plain, plain_steps};
 ghost use Rattle.ptk_words_model.specs.Priority.{thread_at};
 ghost use Rattle.ptk_words_model.specs.Run.{is_active};
-ghost use Rattle.ptk_words_batches.specs.Quiet.{IsQuiet, ArePlain, core_of, after_row};
+ghost use Rattle.ptk_words_batches.specs.Quiet.{IsQuiet};
 ghost use Rattle.ptk_words_batches.specs.Idle.{IsIdle};
-ghost use Rattle.ptk_trace.specs.TracedRows.{traced};
 ghost use Rattle.ptk_gate_pools.specs.Kept.{part_at, put_part, limits_at};
-ghost use Rattle.ptk_gate_steps.specs.QuietCalls.{is_quiet_call};
-ghost use Rattle.ptk_gate_steps.specs.Replies.{IsMade};
+ghost use Rattle.ptk_gate_steps.specs.Decisions.{IsQuietTo};
+ghost use Rattle.ptk_gate_steps.specs.Stretches.{HasEnded, HasGone};
 
 use crate::tables::Tables;
-use ptk_gate_steps::{Quiet, idle_until, make_reply, quiet_until};
+use ptk_gate_steps::{Quiet, Reached, idle_until, quiet_until, run_quiet};
 use ptk_trace::Trace;
 use ptk_words::{PartId, Tick};
 
@@ -37,43 +32,31 @@ impl Tables {
         quiet_until(&self.pools.look(p), tick, stop)
     }
 
-    /// Plain steps of the running thread of a quiet partition in a row, the first of them at the tick, as many as come
-    /// before the partition's stop, at most 2^31, and before a step that is not plain; how many. They are its next
-    /// steps, and the trace has them as the newest.
-    pub fn run_row(&mut self, p: PartId, quiet: Quiet, tick: Tick, trace: &mut Trace) -> u32
+    /// Steps of the running thread of a quiet partition in a row, the first of them at the tick: plain ones, and quiet
+    /// calls that end at its stop or before; behind the first plain ones and the call that follows them, only such as
+    /// begin before `until`. Each is in place of a decision, and the trace has them as the newest. Returns the tick of
+    /// the next decision and how many steps there were. It ends before its stop and before `until` only where the next
+    /// step is neither of the two.
+    pub fn run_quiet(
+        &mut self,
+        p: PartId,
+        quiet: Quiet,
+        tick: Tick,
+        until: Tick,
+        trace: &mut Trace,
+    ) -> Reached
         requires partition { p < length self.old.limits }
         requires order { tick < quiet.stop }
+        requires near { quiet.stop ≤ tick + 2 ^ 31 }
         requires time { quiet.stop ≤ 2 ^ 41 }
-        requires quiet { (thread : Thread) × IsQuiet (limits_at p self.old) tick quiet.stop quiet.thread thread (part_at p self.old) }
-        ensures few { tick + result ≤ quiet.stop }
-        ensures plain { (thread : Thread) → thread_at (part_at p self.old).locks quiet.thread ≡ Some thread → ArePlain result (core_of thread (part_at p self.old)) }
-        ensures moved { (thread : Thread) → thread_at (part_at p self.old).locks quiet.thread ≡ Some thread → self.new ≡ put_part p (after_row tick quiet.thread result thread (part_at p self.old)) self.old }
-        ensures traced { (thread : Thread) → thread_at (part_at p self.old).locks quiet.thread ≡ Some thread → trace.new ≡ traced tick quiet.thread result (core_of thread (part_at p self.old)) trace.old }
-        ensures ended { (thread : Thread) → thread_at (part_at p self.old).locks quiet.thread ≡ Some thread → tick + result < quiet.stop → result < 2 ^ 31 → is_plain (plain_steps result (core_of thread (part_at p self.old))) ≡ false }
+        requires quiet { IsQuietTo (limits_at p self.old) tick quiet.stop quiet.thread (part_at p self.old) }
+        ensures within { result.tick ≤ quiet.stop }
+        ensures moved { self.new ≡ put_part p (part_at p self.new) self.old }
+        ensures gone { HasGone (limits_at p self.old) quiet.thread tick result.steps result.tick (part_at p self.old) (part_at p self.new) trace.old trace.new }
+        ensures ended { result.tick < quiet.stop → (tick < result.tick → result.tick < until) → HasEnded quiet.stop quiet.thread result.tick (part_at p self.new) }
     {
-        let most = ticks_between(tick, quiet.stop);
         self.pools.take(p);
-        self.pools.run_row(quiet.thread, tick, most, trace)
-    }
-
-    /// The next step of a quiet partition's running thread at the tick, where that is a quiet call and ends at the
-    /// partition's stop or before. How many ticks it took: it was the partition's decision, and the partition is as
-    /// quiet as it was. 0, and nothing changes, of any other step: where the step is a quiet call, only if it ends
-    /// after the stop.
-    pub fn make_reply(&mut self, p: PartId, quiet: Quiet, tick: Tick) -> u32
-        requires partition { p < length self.old.limits }
-        requires order { tick < quiet.stop }
-        requires quiet { (thread : Thread) × IsQuiet (limits_at p self.old) tick quiet.stop quiet.thread thread (part_at p self.old) }
-        ensures none { result ≡ 0 → self.new ≡ self.old }
-        ensures few { tick + result ≤ quiet.stop }
-        ensures short { result ≤ 16 }
-        ensures made { (thread : Thread) → thread_at (part_at p self.old).locks quiet.thread ≡ Some thread → 0 < result → IsMade p tick quiet.thread result thread self.old self.new }
-        ensures missed { (thread : Thread) → thread_at (part_at p self.old).locks quiet.thread ≡ Some thread → is_quiet_call quiet.thread thread (part_at p self.old) ≡ true
-            → tick + cost_of (register thread.cpu A7) ≤ quiet.stop → 0 < result }
-    {
-        let room = quiet.stop.ticks() - tick.ticks();
-        self.pools.take(p);
-        make_reply(&mut self.pools, quiet.thread, tick, room)
+        run_quiet(&mut self.pools, quiet, tick, until, trace)
     }
 
     /// The tick up to which the partition has nothing to do, at most `stop`: no thread runs or is ready, and no input
@@ -86,12 +69,4 @@ impl Tables {
     {
         idle_until(&self.pools.look(p), stop)
     }
-}
-
-/// The ticks from one to a later one, at most 2^31.
-fn ticks_between(tick: Tick, stop: Tick) -> u32
-    requires { tick < stop }
-    ensures { result ≡ min (stop - tick) (2 ^ 31) }
-{
-    (stop.ticks() - tick.ticks()).min(0x8000_0000) as u32
 }

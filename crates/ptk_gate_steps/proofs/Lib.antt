@@ -6,3 +6,6 @@ pub mod RepliesMade
 pub mod LocksMade
 pub mod QuietCalls
 pub mod IdleStops
+pub mod Steady
+pub mod Decisions
+pub mod StepsInARow

@@ -32,7 +32,8 @@ use Rattle.ptk_words_invariant.specs.Rests.{lock_by, unlock_named}
 use Rattle.ptk_mutex_priorities.specs.Plain.{is_sound, is_takeable, is_releasable}
 use Rattle.ptk_mutex_priorities.proofs.Plain.{takeable_plain, releasable_plain}
 use Rattle.ptk_gate_steps.specs.declared.quiet_calls.QuietEffect.TheVariants.{Takes, Releases}
-use Rattle.ptk_gate_steps.specs.Replies.{IsPut, is_contended}
+use Rattle.ptk_gate_steps.specs.Replies.{IsPut}
+use Rattle.ptk_gate_steps.specs.Steady.{is_contended}
 
 -- ---- the moves
 

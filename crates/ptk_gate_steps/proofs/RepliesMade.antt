@@ -1,5 +1,5 @@
 -- How a quiet call is made: its reply and ticks put, its effect made, and the last step noted.
-use Rattle.std.proofs.Common.{◌≡◌, ℕ, ◌+◌, Bool, true, false, refl, sym, ap, subst, ◌∙◌}
+use Rattle.std.proofs.Common.{◌≡◌, ℕ, ◌+◌, Bool, true, false, [], ◌∷◌, refl, sym, ap, subst, ◌∙◌}
 use Rattle.std.specs.Prelude.{Option, Some, if◌then◌else◌}
 use Rattle.std.proofs.lemmas.Bool.{false≢true}
 use Rattle.ptk_words.specs.Pools.{pool_changed, pool_get, pool_set}
@@ -24,13 +24,14 @@ use Rattle.ptk_words_batches.specs.Replies.{Outcome, outcome_of, with_outcome, r
 use Rattle.ptk_words_batches.proofs.PlainDecisions.{with_registers_of}
 use Rattle.ptk_words_batches.proofs.ReplyDecisions.{fifo_entry, robin_entry}
 use Rattle.ptk_console.specs.ConsoleTable.{after_put}
-use Rattle.ptk_gate_moves.specs.Kept.{Kept, part_at}
-use Rattle.ptk_gate_moves.specs.Held.{Held, held, all_of, limits_here}
-use Rattle.ptk_gate_pools.proofs.Hands.{all-done}
+use Rattle.ptk_trace.specs.KeptSteps.{KeptSteps}
+use Rattle.ptk_gate_moves.specs.Held.{Held, limits_here}
 use Rattle.ptk_gate_moves.proofs.PlainMutexes.{effective-plain}
 use Rattle.ptk_gate_steps.specs.declared.quiet_calls.QuietEffect.{QuietEffect}
 use Rattle.ptk_gate_steps.specs.declared.quiet_calls.QuietEffect.TheVariants.{Keeps, Takes, Releases, Puts, Sets}
-use Rattle.ptk_gate_steps.specs.Replies.{IsPut, IsPlainEffect, IsMadeHere, IsMade, KeepsContended, after_quiet_effect, is_contended}
+use Rattle.ptk_gate_steps.specs.Steady.{KeepsContended, is_contended}
+use Rattle.ptk_gate_steps.specs.Stretches.{with_newest}
+use Rattle.ptk_gate_steps.specs.Replies.{IsPut, IsPlainEffect, IsMadeHere, after_quiet_effect}
 
 -- ---- the registers and the ticks put
 
@@ -98,15 +99,16 @@ effect_left (Puts byte) t ticks after s = refl
 effect_left (Sets k value) t ticks after s = refl
 
 -- the registers and the ticks put, the effect made, and then the last step
-pub made : (tick t ticks : ℕ) (thread : Thread) (cpu after : Processor) (effect : QuietEffect) (entry : Entry) (old mid left new : Held)
+pub made : (tick t ticks : ℕ) (thread : Thread) (cpu after : Processor) (effect : QuietEffect) (entry : Entry) (old mid left new : Held) (before traced : KeptSteps)
     → word_fetched old.here.memory thread.cpu.pc ≡ ECALL → cpu ≡ with_next_pc thread.cpu
     → IsPut (limits_here old) ticks t cpu after effect old.here
     → mid ≡ record old { here = with_locks (with_thread t (computed ticks after)) old.here }
     → left ≡ record mid { here = after_quiet_effect effect t mid.here }
     → entry ≡ reply_entry tick t thread after
     → new ≡ record left { here = record left.here { last = Some entry } }
-    → IsMadeHere tick t ticks thread old new
-made tick t ticks thread cpu after effect entry old mid left new word past put first next_is is second =
+    → traced ≡ with_newest (entry ∷ []) before
+    → IsMadeHere tick t ticks thread old new before traced
+made tick t ticks thread cpu after effect entry old mid left new before traced word past put first next_is is second kept =
     let s : Part = old.here in
     let next : IsPut (limits_here old) ticks t (with_next_pc thread.cpu) after effect s = subst (λ (c : Processor). IsPut (limits_here old) ticks t c after effect s) past put in
     let o : Outcome = outcome_of (after_quiet_effect effect t s) in
@@ -118,13 +120,8 @@ made tick t ticks thread cpu after effect entry old mid left new word past put f
       record { word = word; cost = next.cost; values = next.values; replies = next.replies; left = next.left; priorities = λ w. effect_plain effect t w (limits_here old) s next.plain },
       second ∙ (ap (λ (k : Held). record k { here = record k.here { last = Some entry } }) both ∙ ap (λ (e : Entry). record old { here = record v { last = Some e } }) is),
       effect_keeps effect t (limits_here old) s next.plain,
+      kept ∙ ap (λ (e : Entry). with_newest (e ∷ []) before) is,
     )
-
--- what was made of the partition in hand is made of it in the tables
-pub made_in_tables : (p tick t ticks : ℕ) (thread : Thread) (kept : Kept) (taken new : Held) → taken ≡ held p kept → IsMadeHere tick t ticks thread taken new → IsMade p tick t ticks thread kept (all_of new)
-made_in_tables p tick t ticks thread kept taken new e here =
-    let is : IsMadeHere tick t ticks thread (held p kept) new = subst (λ (pools : Held). IsMadeHere tick t ticks thread pools new) e here in
-    (is.0, is.1, is.2, ap all_of is.3 ∙ all-done p (after_reply tick t ticks thread is.0 is.1 (part_at p kept)) kept, is.4)
 
 pub ruleset effects = (put_open)
 

@@ -1,15 +1,16 @@
 #![tactic(auto)]
 
 //! The running thread's next step, its cost and what the trace keeps of it; up to which tick nothing but its steps can
-//! come, or that there is nothing to do; and quiet calls, made beside rows of steps.
+//! come, or that there is nothing to do; and plain steps and quiet calls in a row.
 //!
 //! - The step of an instruction is one equation over the pools (`instruct`).
 //! - By a `Look` at one partition: what the next step is and costs, the registers that it starts from, and what the
 //!   trace keeps of it (`next_step`, `step_cost`, `registers`, `a0_after`).
 //! - The ticks up to which the partition only computes (`quiet_until`) or has nothing to do (`idle_until`); both are
 //!   the latest such tick.
-//! - `make_reply` makes a quiet call in its caller's registers, and its effect: a mutex taken or given, a byte put, or
-//!   a value of a key set. It misses none that fits its room (`missed`, by `is_quiet_call`).
+//! - `run_quiet` makes plain steps of a quiet partition in a row and the quiet calls between them, each with its effect:
+//!   a mutex taken or given, a byte put, or a value of a key set. They are so many decisions one after the other, each a
+//!   step (`HasGone`), and it ends early only where the next step is neither (`HasEnded`).
 //!
 //! What the gate's tables ask without a change takes a `Look` at one partition, whichever is in hand, and its clauses
 //! speak of that partition's numbers and part alone. Below are the pools and the instructions; above are the gate's
@@ -21,11 +22,12 @@ mod kinds;
 mod quiet_calls;
 mod quiet_stops;
 mod replies;
+mod stretches;
 mod turns;
 
 pub use idle_stops::idle_until;
 pub use instructions::instruct;
 pub use kinds::step_cost;
 pub use quiet_stops::{Quiet, quiet_until};
-pub use replies::make_reply;
+pub use stretches::{Reached, run_quiet};
 pub use turns::{NextStep, a0_after, next_step, registers, runner};

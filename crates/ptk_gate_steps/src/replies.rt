@@ -4,7 +4,7 @@
 ghost use Rattle.std.specs.Prelude.{◌≡◌, ◌+◌, ◌^◌, ◌<◌, ◌≤◌, true, Some};
 ghost use Rattle.ptk_words.specs.Calls.{cost_of};
 ghost use Rattle.ptk_words.specs.Processor.{register};
-ghost use Rattle.ptk_words.specs.declared.TheConstants.{A7};
+ghost use Rattle.ptk_words.specs.declared.TheConstants.{A7, ECALL};
 ghost use Rattle.ptk_words.specs.declared.threads.Thread.{Thread};
 ghost use Rattle.ptk_words_model.specs.Priority.{thread_at};
 ghost use Rattle.ptk_words_model.specs.Schedule.{with_thread};
@@ -17,18 +17,25 @@ ghost use Rattle.ptk_gate_steps.specs.Replies.{IsMadeHere, IsPlainEffect, after_
 use crate::kinds::word_fetched;
 use crate::quiet_calls::{QuietEffect, may_be_quiet, put_reply};
 use ptk_gate_moves::Pools;
+use ptk_trace::Trace;
 use ptk_words::{A0, A7, Call, Cpu, ECALL, Entry, Policy, ThreadNo, Tick};
 
 /// Makes the next step of a thread of the partition in hand, where that is a quiet call that takes at most `room`
-/// ticks: the thread has the reply, its ticks are counted, the call's effect is made, and it is the last step. Returns
-/// its ticks; 0, and nothing changes, of any other step: where the step is a quiet call, only if it takes more than
-/// `room` ticks.
-pub fn make_reply(pools: &mut Pools, t: ThreadNo, tick: Tick, room: u64) -> u32
+/// ticks: the thread has the reply, its ticks are counted, the call's effect is made, and it is the last step, which
+/// the trace has as the newest. Returns its ticks; 0, and nothing changes, of any other step: where the step is a quiet
+/// call, only if it takes more than `room` ticks.
+pub(crate) fn make_reply(
+    pools: &mut Pools,
+    t: ThreadNo,
+    tick: Tick,
+    room: u64,
+    trace: &mut Trace,
+) -> u32
     requires used { (thread : Thread) → thread_at pools.old.here.locks t ≡ Some thread → thread.used + 16 < 2 ^ 32 }
-    ensures none { result ≡ 0 → pools.new ≡ pools.old }
+    ensures none { result ≡ 0 → (pools.new ≡ pools.old) × (trace.new ≡ trace.old) }
     ensures fits { result ≤ room }
     ensures short { result ≤ 16 }
-    ensures made { (thread : Thread) → thread_at pools.old.here.locks t ≡ Some thread → 0 < result → IsMadeHere tick t result thread pools.old pools.new }
+    ensures made { (thread : Thread) → thread_at pools.old.here.locks t ≡ Some thread → 0 < result → IsMadeHere tick t result thread pools.old pools.new trace.old trace.new }
     ensures missed { (thread : Thread) → thread_at pools.old.here.locks t ≡ Some thread → is_quiet_call t thread pools.old.here ≡ true → cost_of (register thread.cpu A7) ≤ room → 0 < result }
 {
     let Some(thread) = pools.thread_ref(t) else {
@@ -55,14 +62,23 @@ pub fn make_reply(pools: &mut Pools, t: ThreadNo, tick: Tick, room: u64) -> u32
     let a0 = cpu.register(A0);
     leave(pools, t, policy, used, ticks, cpu);
     take_effect(pools, t, call.effect);
-    pools.note_last(Entry {
+    pools.note_last(entry_of(tick, t, pc, a0));
+    trace.push(entry_of(tick, t, pc, a0));
+    ticks
+}
+
+/// The trace entry of an ECALL of the thread at the tick and this pc, which leaves this a0.
+#[inline]
+fn entry_of(tick: Tick, thread: ThreadNo, pc: u32, a0: u32) -> Entry
+    ensures { result ≡ record { tick = tick; thread = thread; pc = pc; word = ECALL; a0 = a0 } }
+{
+    Entry {
         tick,
-        thread: t,
+        thread,
         pc,
         word: ECALL,
         a0,
-    });
-    ticks
+    }
 }
 
 /// The call's effect on the rest of the part in hand is made; no priority changes.

@@ -4,3 +4,4 @@ pub mod Rows
 pub mod Steady
 pub use Rattle.ptk_gate.specs.Kept
 pub mod Events
+pub use Rattle.ptk_gate_steps.specs.Decisions

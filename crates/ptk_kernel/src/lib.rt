@@ -1,25 +1,23 @@
 #![tactic(auto)]
 
 //! One decision of one partition at a tick of its own (`decide`), its two halves (`prepare`, `take_turn`), and in place
-//! of decisions plain steps in a row (`compute`), quiet calls (`reply`) and the ticks over which a partition has
-//! nothing to do (`stays_idle_until`).
+//! of decisions plain steps and quiet calls in a row (`run_quiet`) and the ticks over which a partition has nothing to
+//! do (`stays_idle_until`).
 //!
 //! - `decide` is the model's decision for p, spends what it says, at most 16 ticks a step, and leaves every other part.
 //! - It requires that p is not halted and room is at least 1.
 //! - `quiet_until` returns the tick up to which a partition is quiet.
-//! - `compute` makes plain steps of a quiet partition in a row in place of decisions, up to that tick, with the part
-//!   and the trace after these plain steps.
-//! - It ends early only before a step that is not plain, or after 2^31 steps.
-//! - `reply` makes the decision of a quiet partition whose next step is a quiet call, and misses none that ends in
-//!   time.
-//! - Both leave it as quiet as it was, and each thread and each mutex that threads wait for as they were (`IsSteady`).
+//! - `run_quiet` makes plain steps and quiet calls of a quiet partition in a row in place of decisions, up to that tick:
+//!   so many decisions one after the other, each a step (`HasGone`), with the trace after them.
+//! - It ends early only before a step that is neither a plain one nor a quiet call that ends in time.
+//! - It leaves the partition as quiet as it was, and each thread and each mutex that threads wait for as they were
+//!   (`IsQuietStep`, `IsSteady`).
 //! - `prepare` is its part up to the choice of the running thread (`ready_at`), and `take_turn` the rest (`after_turn`,
 //!   `spent_in_turn`), of whatever state p is in.
 //!
 //! `prepare` and `take_turn` are public, since between the two a caller may find that the partition is quiet.
-//! `last_step` returns the trace's entry. `compute` tests once that nothing else can come, and its clause
-//! (`specs/Rows`) is in the words of `ptk_words_batches`, whose laws make ticks of it. `idle_until` returns when the
-//! partition's next deadline or input comes. Below are the gate's tables, which carry out each part of a decision, and
+//! `last_step` returns the trace's entry. `quiet_until` tests once that nothing else can come. `idle_until` returns when
+//! the partition's next deadline or input comes. Below are the gate's tables, which carry out each part of a decision, and
 //! the gate's `call`, through which every ECALL goes; above is the system. Costly to prove is that two moves one after
 //! another are the model's one: `tables.parts()` is read first there, for its clause that every component of the tables
 //! has an entry for each partition.
@@ -32,6 +30,6 @@ mod steps;
 pub use decisions::{decide, last_step, prepare, take_turn};
 pub use events::idle_until;
 pub use ptk_gate::Tables;
-pub use ptk_gate_steps::Quiet;
+pub use ptk_gate_steps::{Quiet, Reached};
 pub use ptk_words_model::Spent;
-pub use rows::{compute, quiet_until, reply, stays_idle_until};
+pub use rows::{quiet_until, run_quiet, stays_idle_until};

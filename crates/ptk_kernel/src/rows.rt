@@ -1,25 +1,18 @@
-//! Plain steps in a row, and ticks at which nothing happens.
+//! Steps of a quiet partition in a row, and ticks at which nothing happens.
 
-ghost use Rattle.std.specs.Prelude.{◌≡◌, ℕ, ◌+◌, ◌^◌, ◌<◌, ◌≤◌, true, false, length, Some, IfSome};
+ghost use Rattle.std.specs.Prelude.{◌≡◌, ℕ, ◌+◌, ◌^◌, ◌<◌, ◌≤◌, true, length, Some, IfSome};
 ghost use Rattle.std.specs.Option.{IsSomeAnd};
-ghost use Rattle.ptk_words.specs.Calls.{cost_of};
-ghost use Rattle.ptk_words.specs.Processor.{register};
-ghost use Rattle.ptk_words.specs.declared.TheConstants.{A7};
 ghost use Rattle.ptk_words.specs.declared.threads.Thread.{Thread};
-ghost use Rattle.ptk_words_instructions.specs.PlainSteps.{is_plain, plain_steps};
-ghost use Rattle.ptk_words_model.specs.declared.Spent.TheVariants.{Step};
-ghost use Rattle.ptk_words_model.specs.Decision.{after_decision, spent_by_decision};
 ghost use Rattle.ptk_words_model.specs.Priority.{thread_at};
 ghost use Rattle.ptk_words_model.specs.Run.{is_active};
-ghost use Rattle.ptk_words_batches.specs.Quiet.{IsQuiet, core_of};
+ghost use Rattle.ptk_words_batches.specs.Quiet.{IsQuiet};
 ghost use Rattle.ptk_words_batches.specs.Idle.{IsIdle};
 ghost use Rattle.ptk_gate.specs.Kept.{part_at, put_part, limits_at};
-ghost use Rattle.ptk_gate_steps.specs.QuietCalls.{is_quiet_call};
-ghost use Rattle.ptk_kernel.specs.Rows.{IsRow, IsStill, IsStillTo};
-ghost use Rattle.ptk_kernel.specs.Steady.{IsOfRunning, IsSteady};
+ghost use Rattle.ptk_gate_steps.specs.Stretches.{HasEnded, HasGone};
+ghost use Rattle.ptk_kernel.specs.Rows.{IsStill, IsStillTo};
 
 use ptk_gate::Tables;
-use ptk_gate_steps::Quiet;
+use ptk_gate_steps::{Quiet, Reached};
 use ptk_trace::Trace;
 use ptk_words::{PartId, Tick};
 
@@ -37,48 +30,36 @@ pub fn quiet_until(tables: &Tables, p: PartId, tick: Tick, stop: Tick) -> Option
     tables.quiet_until(p, tick, stop)
 }
 
-/// Plain steps of a quiet partition in a row, the first of them at the tick, each in place of a decision: as many as
-/// come before the partition's stop and before a step that is not plain, and no fewer up to 2^31. How many ticks they
-/// took, one each; 0, and nothing changes, where its next step isn't plain. The partition is as quiet as it was, up to
-/// that stop or a later one. The trace has the steps as the newest. No other partition changes.
-pub fn compute(tables: &mut Tables, p: PartId, quiet: Quiet, tick: Tick, trace: &mut Trace) -> u32
+/// Steps of a quiet partition in a row, the first of them at the tick, each in place of a decision: plain ones, and
+/// quiet calls that end at its stop or before. Such a call replies at once, wakes nobody and changes no priority.
+/// Behind the first plain steps and the call that follows them, only such as begin before `until`. Returns the tick of
+/// the next decision and how many steps there were; the first tick, and nothing changes, where its next step is neither
+/// of the two. It ends before its stop and before `until` only there. The partition is as quiet as it was, up to that
+/// stop or a later one: the same thread runs, each thread waits as before, and a mutex that threads wait for keeps its
+/// owner. The trace has the steps as the newest. No other partition changes.
+pub fn run_quiet(
+    tables: &mut Tables,
+    p: PartId,
+    quiet: Quiet,
+    tick: Tick,
+    until: Tick,
+    trace: &mut Trace,
+) -> Reached
     requires partition { p < length tables.old.limits }
     requires order { tick < quiet.stop }
+    requires near { quiet.stop ≤ tick + 2 ^ 31 }
     requires time { quiet.stop ≤ 2 ^ 41 }
     requires quiet { IsStill p tick quiet tables.old }
-    ensures within { tick + result ≤ quiet.stop }
-    ensures none { result ≡ 0 → (tables.new ≡ tables.old) × (trace.new ≡ trace.old) }
-    ensures ended { (thread : Thread) → thread_at (part_at p tables.old).locks quiet.thread ≡ Some thread → tick + result < quiet.stop → result < 2 ^ 31 → is_plain (plain_steps result (core_of thread (part_at p tables.old))) ≡ false }
-    ensures row { 0 < result → (t : ℕ) × (thread : Thread) × IsRow p tick result t thread tables.old tables.new trace.old trace.new }
-    ensures still { (stop : ℕ) → quiet.stop ≤ stop → IsStillTo p tick stop quiet.thread tables.old → IsStillTo p (tick + result) stop quiet.thread tables.new }
+    ensures from { tick + result.steps ≤ result.tick }
+    ensures within { result.tick ≤ quiet.stop }
+    ensures none { result.steps ≡ 0 → (result.tick ≡ tick) × (tables.new ≡ tables.old) × (trace.new ≡ trace.old) }
+    ensures moved { tables.new ≡ put_part p (part_at p tables.new) tables.old }
+    ensures gone { HasGone (limits_at p tables.old) quiet.thread tick result.steps result.tick (part_at p tables.old) (part_at p tables.new) trace.old trace.new }
+    ensures ended { result.tick < quiet.stop → (tick < result.tick → result.tick < until) → HasEnded quiet.stop quiet.thread result.tick (part_at p tables.new) }
+    ensures still { (stop : ℕ) → quiet.stop ≤ stop → IsStillTo p tick stop quiet.thread tables.old → IsStillTo p result.tick stop quiet.thread tables.new }
 {
     let _kept = trace.kept();
-    let _parts = tables.parts();
-    tables.run_row(p, quiet, tick, trace)
-}
-
-/// The decision of a quiet partition at the tick, where its next step is a quiet call, which replies at once, wakes
-/// nobody and changes no priority, and ends at the partition's stop or before. How many ticks it took; the partition is
-/// as quiet as it was, up to that stop or a later one: the same thread runs, each thread waits as before, and a mutex
-/// that threads wait for keeps its owner. 0, and nothing changes, where the next step is any other; where it is a quiet
-/// call, only if that ends after the stop. No other partition changes.
-pub fn reply(tables: &mut Tables, p: PartId, quiet: Quiet, tick: Tick) -> u32
-    requires partition { p < length tables.old.limits }
-    requires order { tick < quiet.stop }
-    requires quiet { IsStill p tick quiet tables.old }
-    ensures none { result ≡ 0 → tables.new ≡ tables.old }
-    ensures within { tick + result ≤ quiet.stop }
-    ensures short { result ≤ 16 }
-    ensures missed { (thread : Thread) → thread_at (part_at p tables.old).locks quiet.thread ≡ Some thread → is_quiet_call quiet.thread thread (part_at p tables.old) ≡ true
-        → tick + cost_of (register thread.cpu A7) ≤ quiet.stop → 0 < result }
-    ensures told { (room : ℕ) → 0 < result → result ≤ room → Step result ≡ spent_by_decision (limits_at p tables.old) tick room (part_at p tables.old) }
-    ensures steady { 0 < result → IsSteady (part_at p tables.old) (part_at p tables.new) }
-    ensures last { 0 < result → IsOfRunning (part_at p tables.new) }
-    ensures moved { (room : ℕ) → 0 < result → result ≤ room → tables.new ≡ put_part p (after_decision (limits_at p tables.old) tick room (part_at p tables.old)) tables.old }
-    ensures still { (stop : ℕ) → quiet.stop ≤ stop → IsStillTo p tick stop quiet.thread tables.old → IsStillTo p (tick + result) stop quiet.thread tables.new }
-{
-    let _parts = tables.parts();
-    tables.make_reply(p, quiet, tick)
+    tables.run_quiet(p, quiet, tick, until, trace)
 }
 
 /// The tick up to which the partition has nothing to do, at most `stop`: no thread runs or is ready, and no input comes

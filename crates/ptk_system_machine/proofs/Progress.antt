@@ -1,19 +1,15 @@
 -- A run of rows goes on where the next decision is a plain step.
-use Rattle.std.proofs.Common.{All, ◌≡◌, ◌≢◌, ℕ, zero, suc, ◌+◌, ◌-◌, ◌<◌, ◌≤◌, ◌^◌, false, List, length, Option, Some, ◌⊎◌, inl, inr, sym, ap, subst, ◌∙◌, arith, lit<}
-use Rattle.std.specs.Prelude.{min}
+use Rattle.std.proofs.Common.{All, ◌≡◌, ◌≢◌, ℕ, zero, suc, ◌+◌, ◌-◌, ◌<◌, ◌≤◌, Bool, true, false, List, length, Option, Some, ◌⊎◌, inl, inr, refl, sym, ap, subst, ◌∙◌, arith}
+use Rattle.std.specs.Prelude.{min, unwrap_or, if◌then◌else◌}
 use Rattle.std.proofs.Math.ListN.{take}
 use Rattle.std.proofs.lemmas.Bool.{cases_lt, cases_order, false≢true}
 use Rattle.std.proofs.lemmas.Option.{MatchOption-at_some}
-use Rattle.ptk_words.specs.declared.sections.Limits.{Limits}
-use Rattle.ptk_words.specs.declared.threads.Thread.{Thread}
-use Rattle.ptk_words_instructions.specs.PlainSteps.{is_plain, plain_steps}
 use Rattle.ptk_words_windows.specs.Windows.{WindowPlan, OwnTicks, IsOwn, IsOwnUntil, IsPlan, own_ticks}
 use Rattle.ptk_words_windows.proofs.OwnLaws.{end_of_window, own_apart, own_from}
-use Rattle.ptk_words_model.specs.State.{Part}
 use Rattle.ptk_words_model.specs.Priority.{thread_at}
-use Rattle.ptk_words_batches.specs.Quiet.{core_of}
 use Rattle.ptk_window.specs.declared.near.Turn.{Turn}
-use Rattle.ptk_kernel.specs.Kept.{limits_at, part_at}
+use Rattle.ptk_kernel.specs.Kept.{Kept, limits_at, part_at}
+use Rattle.ptk_kernel.specs.Rows.{HasEnded}
 use Rattle.ptk_system_machine.specs.Turns.{IsComing, IsInWindow, IsPlainAt, turn_at}
 use Rattle.ptk_system_machine.specs.Whole.{Whole, account_at, gone_on}
 use Rattle.ptk_system_machine.proofs.Ticks.{gone_start}
@@ -21,16 +17,17 @@ use Rattle.ptk_system_machine.proofs.Coming.{among, none_before, turn_taken}
 
 -- ---- one row
 
--- of a quiet partition whose next step is plain, a row has at least one step
-pub plain_on : (limits : Limits) (tick stop n t : ℕ) (s : Part) → IsPlainAt limits tick s → s.running ≡ Some t
-    → ((thread : Thread) → thread_at s.locks t ≡ Some thread → tick + n < stop → n < 2 ^ 31 → is_plain (plain_steps n (core_of thread s)) ≡ false) → tick < stop → 0 < n
-unfolding plain_steps
-plain_on limits tick stop zero t s at runs ended lt =
-    let same : Some at.t ≡ Some t = sym at.quiet.running ∙ runs in
-    let here : at.t ≡ t = cc in
-    let in_use : thread_at s.locks t ≡ Some at.thread = subst (λ (u : ℕ). thread_at s.locks u ≡ Some at.thread) here at.quiet.in_use in
-    absurd (false≢true (sym (ended at.thread in_use (omega (arith, lt)) (lit< tt)) ∙ at.plain))
-plain_on limits tick stop (suc n) t s at runs ended lt = omega arith
+-- of a quiet partition whose next step is plain, steps in a row are one at least
+pub plain_on : (p tick stop until n reached t : ℕ) (old new : Kept) (same : Type 0) → IsPlainAt (limits_at p old) tick (part_at p old) → (part_at p old).running ≡ Some t → tick + n ≤ reached → (n ≡ 0 → (reached ≡ tick) × (new ≡ old) × same)
+    → (reached < stop → (tick < reached → reached < until) → HasEnded stop t reached (part_at p new)) → tick < stop → tick < reached
+plain_on p tick stop until zero reached t old new same at runs later none ended lt =
+    let still = none refl in
+    let here : reached ≡ tick = still.0 in
+    let number : at.t ≡ t = ap (λ (o : Option ℕ). unwrap_or o t) (sym at.quiet.running ∙ runs) in
+    let in_use : thread_at (part_at p old).locks t ≡ Some at.thread = subst (λ (u : ℕ). thread_at (part_at p old).locks u ≡ Some at.thread) number at.quiet.in_use in
+    let end : HasEnded stop t reached (part_at p old) = subst (λ (kept : Kept). HasEnded stop t reached (part_at p kept)) still.1 (ended (omega (arith, here, lt)) (λ less. absurd (omega (arith, here, less)))) in
+    absurd (false≢true (sym (end.plain at.thread in_use) ∙ at.plain))
+plain_on p tick stop until (suc n) reached t old new same at runs later none ended lt = omega (arith, later)
 
 -- where rows began with a plain step, each later tick is after the first
 pub plain_later : (ticks : OwnTicks) (p from mid to : ℕ) (old whole : Whole) → from ≤ mid → mid ≤ to → whole ≡ gone_on ticks p from (mid - from) old
@@ -45,6 +42,12 @@ plain_later ticks p from mid to old whole le on gone at plain = by (cases_lt fro
         let moved : IsPlainAt (limits_at p whole.kept) from (part_at p whole.kept) = subst (λ (w : Whole). IsPlainAt (limits_at p w.kept) from (part_at p w.kept)) still at in
         let later : mid < to = plain (subst (λ (k : ℕ). IsPlainAt (limits_at p whole.kept) k (part_at p whole.kept)) same moved) in
         omega (arith, later, le)
+
+-- a window that was gone through comes closer to the stop
+pub closer : (going on : Bool) (stop now next : ℕ) → going ≡ true → now < stop → (on ≡ true → now < next) → (if on then stop - next + 1 else 0) < (if going then stop - now + 1 else 0)
+closer true true stop now next e lt later = let less : now < next = later refl in omega (arith, lt, less)
+closer true false stop now next e lt later = omega arith
+closer false on stop now next e lt later = absurd (false≢true e)
 
 -- ---- the turn that comes first
 

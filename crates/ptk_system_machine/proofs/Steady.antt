@@ -2,23 +2,20 @@
 use Rattle.std.proofs.Common.{◌≡◌, ◌≢◌, ℕ, zero, suc, ◌+◌, ◌-◌, ◌<◌, ◌≤◌, Bool, true, false, ◌==◌, List, length, Some, ◌⊎◌, inl, inr, refl, sym, ap, subst, ◌∙◌, eqb-true, eq-eqb, arith}
 use Rattle.std.proofs.lemmas.Bool.{cases_lt, false≢true}
 use Rattle.ptk_words.specs.declared.sections.Limits.{Limits}
-use Rattle.ptk_words.specs.declared.threads.Thread.{Thread}
 use Rattle.ptk_words_windows.specs.Windows.{OwnTicks, WindowPlan, own_ticks}
 use Rattle.ptk_words_model.specs.State.{Part, State}
-use Rattle.ptk_words_batches.specs.Quiet.{AreOwn, ArePlain, IsQuiet, after_ticks, core_of, row_state}
-use Rattle.ptk_words_batches.proofs.TicksInARow.{join, row_ticks}
-use Rattle.ptk_trace.specs.KeptSteps.{KeptSteps}
-use Rattle.ptk_kernel.specs.Kept.{Kept, limits_at, part_at}
-use Rattle.ptk_kernel.specs.Rows.{IsRow}
+use Rattle.ptk_words_batches.specs.Quiet.{after_ticks}
+use Rattle.ptk_words_batches.proofs.TicksInARow.{join}
+use Rattle.ptk_kernel.specs.Kept.{limits_at, part_at}
 use Rattle.ptk_kernel.specs.Steady.{IsOfRunning, IsSteady}
-use Rattle.ptk_kernel.proofs.Steady.{row_last, row_steady, steady_on, steady_same}
+use Rattle.ptk_kernel.proofs.Steady.{steady_on, steady_same}
 pub use Rattle.ptk_kernel.proofs.Steady.{awaited_contended}
 use Rattle.ptk_window.specs.declared.near.Turn.{Turn}
 use Rattle.ptk_system_machine.specs.Steady.{AreSteady, states_from}
 use Rattle.ptk_system_machine.specs.Turns.{IsStillUntil, turn_at}
 use Rattle.ptk_system_machine.specs.Whole.{IsWhole, Whole, account_at, gone_on, state_at}
 use Rattle.ptk_system_machine.proofs.States.{state_at-put}
-use Rattle.ptk_system_machine.proofs.Ticks.{not_due, own_within, still_on}
+use Rattle.ptk_system_machine.proofs.Ticks.{not_due, still_on}
 
 -- ---- the ticks
 
@@ -28,7 +25,7 @@ unfolding after_ticks
 no_ticks ticks limits tick n s none = ap (λ (k : ℕ). after_ticks ticks limits tick k s) none
 
 -- the states from a later tick on are those from the first one on
-states_later : (ticks : OwnTicks) (limits : Limits) (from mid k : ℕ) (s : State) → from ≤ mid → mid ≤ k → states_from ticks limits mid (states_from ticks limits from s mid) k ≡ states_from ticks limits from s k
+pub states_later : (ticks : OwnTicks) (limits : Limits) (from mid k : ℕ) (s : State) → from ≤ mid → mid ≤ k → states_from ticks limits mid (states_from ticks limits from s mid) k ≡ states_from ticks limits from s k
 states_later ticks limits from mid k s le on =
     let at : from + (mid - from) ≡ mid = omega (arith, le) in
     let all : mid - from + (k - mid) ≡ k - from = omega (arith, le, on) in
@@ -96,36 +93,7 @@ steady_gone ticks p from mid to old new is lt le later gone first then =
     steady_further (part_at p old.kept) (states_from ticks (limits_at p old.kept) from (state_at p old)) (states_from ticks (limits_at p old.kept) mid (states_from ticks (limits_at p old.kept) from (state_at p old) mid)) from mid to le later first at
     (λ k on within. sym (states_later ticks (limits_at p old.kept) from mid k (state_at p old) le on))
 
--- ---- a row
-
-row_steady_some : (ticks : OwnTicks) (limits : Limits) (tick n t : ℕ) (thread : Thread) (s : State) → IsQuiet limits tick (tick + n) t thread s.part → s.account.next ≡ Some tick → AreOwn ticks tick (tick + n) → ArePlain n (core_of thread s.part)
-    → AreSteady s.part (states_from ticks limits tick s) tick (tick + n)
-row_steady_some ticks limits tick n t thread s quiet due own plain = record { parts = λ k le within. part_by (k - tick) (omega (arith, within)); steps = λ k le lt more. step_by k le lt }
-  where
-    made : (m : ℕ) → 1 ≤ m → m ≤ n → after_ticks ticks limits tick m s ≡ row_state ticks limits tick t m thread s
-    made m some few = row_ticks ticks limits tick (tick + n) t m thread s quiet due own some (omega (arith, few)) (λ j lt. plain j (omega (arith, lt, few)))
-
-    part_by : (m : ℕ) → m ≤ n → IsSteady s.part (after_ticks ticks limits tick m s).part
-    part_by zero few = subst (λ (u : State). IsSteady s.part u.part) (sym (no_ticks ticks limits tick 0 s refl)) (steady_same s.part)
-    part_by (suc m) few = subst (λ (u : State). IsSteady s.part u.part) (sym (made (suc m) (omega arith) few)) (row_steady tick t (suc m) thread s.part)
-
-    step_by : (k : ℕ) → tick ≤ k → k < tick + n → IsOfRunning (after_ticks ticks limits tick (k + 1 - tick) s).part
-    step_by k le lt =
-        let some : 1 ≤ k + 1 - tick = omega (arith, le) in
-        subst (λ (u : State). IsOfRunning u.part) (sym (made (k + 1 - tick) some (omega (arith, le, lt)))) (row_last tick t (k + 1 - tick) thread s.part quiet.running some)
-
--- the ticks of a row are steady
-pub steady_row : (ticks : OwnTicks) (p tick stop n : ℕ) (old new : Kept) (whole : Whole) (before after : KeptSteps) → whole.kept ≡ old → (account_at p whole).account.next ≡ Some tick → AreOwn ticks tick stop → tick + n ≤ stop
-    → (0 < n → (t : ℕ) × (thread : Thread) × IsRow p tick n t thread old new before after)
-    → AreSteady (part_at p whole.kept) (states_from ticks (limits_at p whole.kept) tick (state_at p whole)) tick (tick + n)
-steady_row ticks p tick stop zero old new whole before after same due own within row =
-    subst (AreSteady (part_at p whole.kept) (states_from ticks (limits_at p whole.kept) tick (state_at p whole)) tick) (let at : tick ≡ tick + 0 = omega arith in at) (steady_start ticks (limits_at p whole.kept) tick (state_at p whole))
-steady_row ticks p tick stop (suc n) old new whole before after same due own within row =
-    let made = row (omega arith) in
-    row_steady_some ticks (limits_at p whole.kept) tick (suc n) made.0 made.1 (state_at p whole)
-    (subst (λ (kept : Kept). IsQuiet (limits_at p kept) tick (tick + suc n) made.0 made.1 (part_at p kept)) (sym same) made.2.quiet)
-    due (own_within ticks tick stop tick (tick + suc n) own (omega arith) within)
-    (subst (λ (kept : Kept). ArePlain (suc n) (core_of made.1 (part_at p kept))) (sym same) made.2.plain)
+-- ---- a partition of the tables
 
 -- so many steady ticks, and then ticks at which it decides nothing
 pub steady_up : (ticks : OwnTicks) (p tick n to : ℕ) (old new : Whole) → IsWhole old.kept old.accounts → p < length old.accounts → tick + n ≤ to → ((k : ℕ) → (account_at p new).account.next ≡ Some k → to ≤ k)

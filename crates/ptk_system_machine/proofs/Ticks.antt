@@ -125,7 +125,7 @@ pub gone_parts : (ticks : OwnTicks) (p tick n : ℕ) (old new : Whole) → new �
 gone_parts ticks p tick n old new gone = ap (λ (w : Whole). length w.accounts) gone ∙ length-set old.accounts p (record (account_at p old) { account = (after_ticks ticks (limits_at p old.kept) tick n (state_at p old)).account })
 
 -- a decision is one tick
-decided_tick : (ticks : OwnTicks) (limits : Limits) (tick end : ℕ) (s : State) → ticks.end_at tick ≡ Some end → is_at tick s.account.next ≡ true → after_ticks ticks limits tick 1 s ≡ decided ticks limits tick (end - tick) s
+pub decided_tick : (ticks : OwnTicks) (limits : Limits) (tick end : ℕ) (s : State) → ticks.end_at tick ≡ Some end → is_at tick s.account.next ≡ true → after_ticks ticks limits tick 1 s ≡ decided ticks limits tick (end - tick) s
 unfolding after_ticks
 decided_tick ticks limits tick end s ends due =
     let at : tick + 0 ≡ tick = omega arith in
@@ -134,7 +134,7 @@ decided_tick ticks limits tick end s ends due =
     by : (k : ℕ) → ticks.end_at k ≡ Some end → is_at k s.account.next ≡ true → after_tick ticks limits k s ≡ decided ticks limits k (end - k) s
     by k e d = rw (e, d) refl
 
-is_due : (tick : ℕ) (o : Option ℕ) → o ≡ Some tick → is_at tick o ≡ true
+pub is_due : (tick : ℕ) (o : Option ℕ) → o ≡ Some tick → is_at tick o ≡ true
 is_due tick o e = rw e (eq-eqb tick tick refl)
 
 -- ---- windows

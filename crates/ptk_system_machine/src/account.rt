@@ -97,12 +97,13 @@ impl Account {
 
     /// Counts this many steps of a row, whose entries are in the trace, each as a decision: the tick of the next one,
     /// and the steps.
-    pub(crate) fn count_row(&mut self, next: Option<Tick>, steps: u32)
-        requires { self.old.account.steps ≤ LAST_TICK }
+    pub(crate) fn count_row(&mut self, next: Option<Tick>, steps: u64)
+        requires steps { self.old.account.steps ≤ LAST_TICK }
+        requires more { steps ≤ 2 ^ 41 }
         ensures { self.new ≡ record self.old { account = record self.old.account { next = next; steps = self.old.account.steps + steps } } }
     {
         self.next = next;
-        self.steps += u64::from(steps);
+        self.steps += steps;
     }
 }
 

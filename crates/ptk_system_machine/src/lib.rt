@@ -13,8 +13,8 @@
 //!   lead from the state before (`quiet_is_prepared`, `prepared_goes_on` of `ptk_words_batches`).
 //!
 //! Below are the kernel and the window plan; above is the system. Costly to prove are that a decision and the ticks up
-//! to the next one are as many ticks as the definition says (`proofs/Ticks`), that a row is counted as that many
-//! decisions (`proofs/CountedRows`), and, for pictures, where partitions go on side by side, that each may be at a tick
+//! to the next one are as many ticks as the definition says (`proofs/Ticks`), that steps in a row are counted as the
+//! decisions that they are (`proofs/Decisions`, `proofs/CountedRows`), and, for pictures, where partitions go on side by side, that each may be at a tick
 //! of its own (`proofs/Coming`).
 
 mod account;

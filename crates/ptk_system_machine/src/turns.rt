@@ -1,7 +1,7 @@
 //! How all partitions go on: one after the other, each from turn to turn, by rows of plain steps and quiet calls and by
 //! the turns of single threads.
 
-ghost use Rattle.std.specs.Prelude.{◌≡◌, ◌<◌, ◌≤◌, ◌≢◌, ◌^◌, ◌+◌, ◌-◌, ℕ, All, None, Some, IfSome, IsSome, IsTrue, MatchOption, length, min};
+ghost use Rattle.std.specs.Prelude.{◌≡◌, ◌<◌, ◌≤◌, ◌≢◌, ◌^◌, ◌+◌, ◌-◌, ℕ, true, All, None, Some, IfSome, IsSome, MatchOption, length, min};
 ghost use Rattle.ptk_words.specs.declared.TheConstants.{LAST_TICK};
 ghost use Rattle.ptk_words_windows.specs.Windows.{own_ticks};
 ghost use Rattle.ptk_words_model.specs.Decision.{ready_at};
@@ -23,7 +23,7 @@ mod calls;
 use crate::account::duration;
 use crate::machine::{Machine, is_active};
 use ptk_kernel::{
-    Quiet, Tables, compute, last_step, prepare, quiet_until, reply, stays_idle_until, take_turn,
+    Quiet, Tables, last_step, prepare, quiet_until, run_quiet, stays_idle_until, take_turn,
 };
 use ptk_window::{Near, Turn, Walk, WindowPlan};
 use ptk_words::{PartId, Status, Tick};
@@ -363,8 +363,9 @@ impl Machine {
         let mut now = turn;
         let mut is_going = true;
         while is_going {
-            let (next, goes_on) = self.row_and_reply(plan, p, now, &quiet, to, &mut walk);
-            is_going = goes_on && next.start.ticks() < until.ticks();
+            let end = now.end;
+            let next = self.run_window(plan, p, now, &quiet, to, until, &mut walk);
+            is_going = goes_on(end, next.start, until);
             now = next;
         }
         self.keep_near(p, walk.near());
@@ -380,18 +381,19 @@ impl Machine {
         self.accounts[p.index()].near = near;
     }
 
-    /// Plain steps of a quiet partition in a row, in the turn's window, and the quiet call behind them, where one
-    /// follows in this window. Returns the next turn, and whether the window was gone through or such a call made.
+    /// Steps of a quiet partition in the turn's window, the first at its next decision, with which the turn begins:
+    /// plain ones, and the quiet calls between them. Returns the next turn.
     #[inline(always)]
-    fn row_and_reply(
+    fn run_window(
         &mut self,
         plan: &WindowPlan,
         p: PartId,
         turn: Turn,
         quiet: &Quiet,
         to: Tick,
+        until: Tick,
         walk: &mut Walk<'_>,
-    ) -> (Turn, bool)
+    ) -> Turn
         requires partition { p < length self.old.accounts }
         requires windows { AreWindowsOf (length self.old.accounts) plan.now }
         requires time { to ≤ LAST_TICK }
@@ -401,41 +403,34 @@ impl Machine {
         requires coming { IsComing (own_ticks plan.now p) to (account_at p self.old).account.next turn }
         requires behind { IsBehind turn.start (state_at p self.old) }
         requires walk { IsAt plan.now p turn.end walk.old }
-        ensures from { turn.start ≤ result.0.start }
-        ensures on { IsTrue result.1 → turn.start < result.0.start }
-        ensures plain { IsPlainAt (limits_at p self.old.kept) turn.start (part_at p self.old.kept) → turn.start < result.0.start }
-        ensures coming { IsComing (own_ticks plan.now p) to (account_at p self.new).account.next result.0 }
-        ensures gone { self.new ≡ gone_on (own_ticks plan.now p) p turn.start (result.0.start - turn.start) self.old }
-        ensures steady { AreSteady (part_at p self.old.kept) (states_from (own_ticks plan.now p) (limits_at p self.old.kept) turn.start (state_at p self.old)) turn.start result.0.start }
-        ensures still { IsStill p result.0.start quiet.now self.new.kept }
-        ensures walk { result.0.start < to → IsAt plan.now p result.0.end walk.new }
+        ensures from { turn.start ≤ result.start }
+        ensures on { turn.end ≤ result.start → turn.start < result.start }
+        ensures plain { IsPlainAt (limits_at p self.old.kept) turn.start (part_at p self.old.kept) → turn.start < result.start }
+        ensures coming { IsComing (own_ticks plan.now p) to (account_at p self.new).account.next result }
+        ensures gone { self.new ≡ gone_on (own_ticks plan.now p) p turn.start (result.start - turn.start) self.old }
+        ensures steady { AreSteady (part_at p self.old.kept) (states_from (own_ticks plan.now p) (limits_at p self.old.kept) turn.start (state_at p self.old)) turn.start result.start }
+        ensures still { IsStill p result.start quiet.now self.new.kept }
+        ensures walk { result.start < to → IsAt plan.now p result.end walk.new }
     {
-        let _parts = self.parts();
-        plan.is_plan();
-        let end = turn.end.ticks();
         let within = quiet_within(quiet, turn.end);
-        let next = self.row(plan, p, turn, &within, to, walk);
-        let reached = next.start.ticks();
-        if end <= reached {
-            return (next, true);
-        }
-        let after = self.reply(plan, p, next, &within, to, walk);
-        let goes_on = reached < after.start.ticks();
-        (after, goes_on)
+        self.run_within(plan, p, turn, &within, to, until, walk)
     }
 
-    /// Plain steps of a quiet partition in a row, the first at its next decision, with which the turn begins, each in
-    /// place of a decision and counted as one: as many as come before its stop. Returns the next turn, which is the
-    /// same, and nothing changes, where the next step is not plain. The partition is as quiet as it was, up to that
-    /// stop or a later one.
+    /// Steps of a quiet partition in a row, the first at its next decision, with which the turn begins, each in place
+    /// of a decision and counted as one: plain ones, and quiet calls that end at its stop or before; behind the first
+    /// plain ones and the call that follows them, only such as begin before `until`. Returns the next turn, which is
+    /// the same, and nothing changes, where the next step is neither of the two. The partition is as quiet as it was,
+    /// up to that stop or a later one.
+    #[inline(always)]
     #[tactic(auto, using(crate::proofs::States::states))]
-    fn row(
+    fn run_within(
         &mut self,
         plan: &WindowPlan,
         p: PartId,
         turn: Turn,
         quiet: &Quiet,
         to: Tick,
+        until: Tick,
         walk: &mut Walk<'_>,
     ) -> Turn
         requires partition { p < length self.old.accounts }
@@ -456,61 +451,29 @@ impl Machine {
         ensures still { (stop : ℕ) → quiet.now.stop ≤ stop → IsStillTo p turn.start stop quiet.now.thread self.old.kept → IsStillTo p result.start stop quiet.now.thread self.new.kept }
         ensures walk { result.start < to → IsAt plan.now p result.end walk.new }
     {
-        let Turn { start, end } = turn;
-        let account = &mut self.accounts[p.index()];
-        let steps = compute(&mut self.tables, p, *quiet, start, &mut account.trace);
-        let reached = Tick::new(start.ticks() + u64::from(steps));
-        let (next, end) = turn_on(plan, p, reached, end, walk);
-        account.count_row(next, steps);
-        coming(account.next(), end, to)
-    }
-
-    /// The decision of a quiet partition with which its turn begins, where that is a quiet call and ends at the
-    /// partition's stop or before. Returns the next turn, which is the same, and nothing changes, where it is any other
-    /// or the turn begins at that stop or later. The partition is as quiet as it was, up to that stop or a later one.
-    #[tactic(auto, using(crate::proofs::States::states))]
-    fn reply(
-        &mut self,
-        plan: &WindowPlan,
-        p: PartId,
-        turn: Turn,
-        quiet: &Quiet,
-        to: Tick,
-        walk: &mut Walk<'_>,
-    ) -> Turn
-        requires partition { p < length self.old.accounts }
-        requires frame { plan.now.frame ≤ 1000000 }
-        requires time { to ≤ LAST_TICK }
-        requires end { turn.start < quiet.now.stop → quiet.now.stop ≤ turn.end }
-        requires within { quiet.now.stop ≤ to }
-        requires quiet { turn.start < quiet.now.stop → IsStill p turn.start quiet.now self.old.kept }
-        requires coming { IsComing (own_ticks plan.now p) to (account_at p self.old).account.next turn }
-        requires behind { IsBehind turn.start (state_at p self.old) }
-        requires walk { turn.start < to → IsAt plan.now p turn.end walk.old }
-        ensures from { turn.start ≤ result.start }
-        ensures coming { IsComing (own_ticks plan.now p) to (account_at p self.new).account.next result }
-        ensures gone { self.new ≡ gone_on (own_ticks plan.now p) p turn.start (result.start - turn.start) self.old }
-        ensures steady { AreSteady (part_at p self.old.kept) (states_from (own_ticks plan.now p) (limits_at p self.old.kept) turn.start (state_at p self.old)) turn.start result.start }
-        ensures still { (stop : ℕ) → quiet.now.stop ≤ stop → IsStillTo p turn.start stop quiet.now.thread self.old.kept → IsStillTo p result.start stop quiet.now.thread self.new.kept }
-        ensures walk { result.start < to → IsAt plan.now p result.end walk.new }
-    {
         plan.is_plan();
         let Turn { start, end } = turn;
-        if quiet.stop.ticks() <= start.ticks() {
-            return turn;
-        }
-        let ticks = reply(&mut self.tables, p, *quiet, start);
-        if ticks == 0 {
-            return turn;
-        }
-        let last = last_step(&self.tables, p);
-        let room = (end.ticks() - start.ticks()) as u32;
         let account = &mut self.accounts[p.index()];
-        let reached = Tick::new(start.ticks() + u64::from(ticks));
-        let (next, end) = turn_on(plan, p, reached, end, walk);
-        account.count(next, room, Spent::Step(ticks), last);
+        let reached = run_quiet(
+            &mut self.tables,
+            p,
+            *quiet,
+            start,
+            until,
+            &mut account.trace,
+        );
+        let (next, end) = turn_on(plan, p, reached.tick, end, walk);
+        account.count_row(next, reached.steps);
         coming(account.next(), end, to)
     }
+}
+
+/// Whether the window with this end was gone through, and the tick that was reached is before `until`.
+#[inline(always)]
+fn goes_on(end: Tick, reached: Tick, until: Tick) -> bool
+    ensures { result ≡ true → (end ≤ reached) × (reached < until) }
+{
+    end.ticks() <= reached.ticks() && reached.ticks() < until.ticks()
 }
 
 /// The quiet partition up to the end of a window at most.

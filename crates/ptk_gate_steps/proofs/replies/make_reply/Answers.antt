@@ -1,4 +1,4 @@
-use Rattle.std.proofs.Common.{◌≡◌, ℕ, ◌+◌, ◌<◌, List, sym, ap, subst, ◌∙◌, arith}
+use Rattle.std.proofs.Common.{◌≡◌, ℕ, ◌+◌, ◌<◌, List, [], ◌∷◌, sym, ap, subst, ◌∙◌, arith}
 use Rattle.std.specs.Prelude.{Option, unwrap_or}
 use Rattle.ptk_words.specs.Words.{word_of}
 use Rattle.ptk_words.specs.declared.TheConstants.{ECALL}
@@ -8,6 +8,7 @@ use Rattle.ptk_words_instructions.specs.Instructions.{with_next_pc}
 use Rattle.ptk_words_model.specs.Decision.{word_fetched}
 use Rattle.ptk_words_batches.specs.Replies.{reply_entry}
 use Rattle.ptk_gate_steps.specs.Replies.{IsMadeHere}
+use Rattle.ptk_gate_steps.specs.Stretches.{with_newest}
 use Rattle.ptk_gate_steps.proofs.RepliesMade.{made, plain_still}
 use Rattle.ptk_gate_steps.proofs.replies.make_reply.Goals as goal
 
@@ -20,12 +21,13 @@ returns-clause-made c = λ thread found some.
     ∙ c.if-word_fetched-ne-ECALL.false in
     let past : c.set_pc.new.self ≡ with_next_pc seen.cpu = c.set_pc.ensures ∙ ap (λ (pc : ℕ). record seen.cpu { pc = word_of (pc + 4) }) c.pc-pc.ensures in
     let noted : ℕ → ℕ → Entry = λ pc a0. record { tick = c.args.tick; thread = c.args.t; pc = pc; word = ECALL; a0 = a0 } in
-    let entry : noted c.pc-pc.result c.register-a0.result ≡ reply_entry c.args.tick c.args.t seen c.put_reply-call.new.cpu =
-    ap (λ (pc : ℕ). noted pc c.register-a0.result) c.pc-pc.ensures ∙ ap (noted seen.cpu.pc) c.register-a0.ensures.value in
-    subst (λ (it : Thread). IsMadeHere c.args.tick c.args.t c.put_reply-call.result.ticks it c.args.pools.now c.note_last.new.self) same
-    (made c.args.tick c.args.t c.put_reply-call.result.ticks seen c.set_pc.new.self c.put_reply-call.new.cpu c.put_reply-call.result.effect (noted c.pc-pc.result c.register-a0.result)
-    c.args.pools.now c.leave.new.pools c.take_effect.new.pools c.note_last.new.self
-    word past (c.put_reply-call.ensures.put some) c.leave.ensures c.take_effect.ensures entry c.note_last.ensures)
+    let entry : c.entry_of.result ≡ reply_entry c.args.tick c.args.t seen c.put_reply-call.new.cpu =
+    c.entry_of.ensures ∙ (ap (λ (pc : ℕ). noted pc c.register-a0.result) c.pc-pc.ensures ∙ ap (noted seen.cpu.pc) c.register-a0.ensures.value) in
+    let again : c.entry_of-2.result ≡ c.entry_of.result = c.entry_of-2.ensures ∙ sym c.entry_of.ensures in
+    subst (λ (it : Thread). IsMadeHere c.args.tick c.args.t c.put_reply-call.result.ticks it c.args.pools.now c.note_last.new.self c.args.trace.now c.push.new.self) same
+    (made c.args.tick c.args.t c.put_reply-call.result.ticks seen c.set_pc.new.self c.put_reply-call.new.cpu c.put_reply-call.result.effect c.entry_of.result
+    c.args.pools.now c.leave.new.pools c.take_effect.new.pools c.note_last.new.self c.args.trace.now c.push.new.self
+    word past (c.put_reply-call.ensures.put some) c.leave.ensures c.take_effect.ensures entry c.note_last.ensures (c.push.ensures ∙ ap (λ (e : Entry). with_newest (e ∷ []) c.args.trace.now) again))
 
 pub take_effect-requires : goal.take_effect-requires
 take_effect-requires c =

@@ -1,8 +1,8 @@
 use Rattle.std.proofs.Common.{◌-◌, ◌<◌, ◌≤◌, sym, ◌∙◌, arith}
-use Rattle.std.proofs.lemmas.Bool.{false≢true, ltb-true}
+use Rattle.std.proofs.lemmas.Bool.{false≢true}
 use Rattle.ptk_words_windows.specs.Windows.{own_ticks}
 use Rattle.ptk_system_machine.proofs.Coming.{at_none}
-use Rattle.ptk_system_machine.proofs.Progress.{plain_later}
+use Rattle.ptk_system_machine.proofs.Progress.{closer, plain_later}
 use Rattle.ptk_kernel.specs.Kept.{limits_at}
 use Rattle.ptk_system_machine.specs.Whole.{state_at}
 use Rattle.ptk_system_machine.proofs.Steady.{steady_gone, steady_start}
@@ -21,50 +21,35 @@ loop-is_going-init c = record {
   walk = λ within. at_none c.args.plan.now c.args.p c.args.turn.end c.walk-walk.result c.walk-walk.ensures;
 }
 
-pub row_and_reply-goes_on-requires-clause-behind : goal.row_and_reply-goes_on-requires-clause-behind
-row_and_reply-goes_on-requires-clause-behind c =
+pub run_window-next-requires-clause-behind : goal.run_window-next-requires-clause-behind
+run_window-next-requires-clause-behind c =
     gone_behind c.args.plan.now c.args.p c.args.turn.start c.loop-is_going.now.start c.args.self.now c.loop-is_going.self c.is_plan.ensures c.requires.windows.frame c.parts-parts.ensures.whole c.requires.partition
     c.loop-is_going.invariant.from c.loop-is_going.invariant.gone c.requires.behind
-
-pub loop-is_going-preserved-then-goes_on : goal.loop-is_going-preserved-then-goes_on
-loop-is_going-preserved-then-goes_on c =
-    let from : c.args.turn.start ≤ c.loop-is_going.now.start = c.loop-is_going.invariant.from in
-    let on : c.loop-is_going.now.start ≤ c.row_and_reply-goes_on.result.0.start = c.row_and_reply-goes_on.ensures.from in
-    record {
-      from = omega (arith, from, on);
-      coming = c.row_and_reply-goes_on.ensures.coming;
-      gone =
-          gone_further (own_ticks c.args.plan.now c.args.p) c.args.p c.args.turn.start c.loop-is_going.now.start c.row_and_reply-goes_on.result.0.start c.args.self.now c.loop-is_going.self c.row_and_reply-goes_on.new.self c.parts-parts.ensures.whole c.requires.partition
-          from on c.loop-is_going.invariant.gone c.row_and_reply-goes_on.ensures.gone;
-      steady =
-          steady_gone (own_ticks c.args.plan.now c.args.p) c.args.p c.args.turn.start c.loop-is_going.now.start c.row_and_reply-goes_on.result.0.start c.args.self.now c.loop-is_going.self c.parts-parts.ensures.whole c.requires.partition
-          from on c.loop-is_going.invariant.gone c.loop-is_going.invariant.steady c.row_and_reply-goes_on.ensures.steady;
-      plain = λ stopped at.
-          plain_later (own_ticks c.args.plan.now c.args.p) c.args.p c.args.turn.start c.loop-is_going.now.start c.row_and_reply-goes_on.result.0.start c.args.self.now c.loop-is_going.self from on c.loop-is_going.invariant.gone at c.row_and_reply-goes_on.ensures.plain;
-      before = λ e. let lt : c.ticks.result < c.ticks-then-goes_on.result = ltb-true c.ticks.result c.ticks-then-goes_on.result e in omega (arith, lt, c.ticks.ensures, c.ticks-then-goes_on.ensures, c.requires.until);
-      still = c.row_and_reply-goes_on.ensures.still;
-      walk = c.row_and_reply-goes_on.ensures.walk;
-    }
 
 pub loop-is_going-preserved : goal.loop-is_going-preserved
 loop-is_going-preserved c =
     let from : c.args.turn.start ≤ c.loop-is_going.now.start = c.loop-is_going.invariant.from in
-    let on : c.loop-is_going.now.start ≤ c.row_and_reply-goes_on.result.0.start = c.row_and_reply-goes_on.ensures.from in
+    let on : c.loop-is_going.now.start ≤ c.run_window-next.result.start = c.run_window-next.ensures.from in
     record {
       from = omega (arith, from, on);
-      coming = c.row_and_reply-goes_on.ensures.coming;
+      coming = c.run_window-next.ensures.coming;
       gone =
-          gone_further (own_ticks c.args.plan.now c.args.p) c.args.p c.args.turn.start c.loop-is_going.now.start c.row_and_reply-goes_on.result.0.start c.args.self.now c.loop-is_going.self c.row_and_reply-goes_on.new.self c.parts-parts.ensures.whole c.requires.partition
-          from on c.loop-is_going.invariant.gone c.row_and_reply-goes_on.ensures.gone;
+          gone_further (own_ticks c.args.plan.now c.args.p) c.args.p c.args.turn.start c.loop-is_going.now.start c.run_window-next.result.start c.args.self.now c.loop-is_going.self c.run_window-next.new.self c.parts-parts.ensures.whole c.requires.partition
+          from on c.loop-is_going.invariant.gone c.run_window-next.ensures.gone;
       steady =
-          steady_gone (own_ticks c.args.plan.now c.args.p) c.args.p c.args.turn.start c.loop-is_going.now.start c.row_and_reply-goes_on.result.0.start c.args.self.now c.loop-is_going.self c.parts-parts.ensures.whole c.requires.partition
-          from on c.loop-is_going.invariant.gone c.loop-is_going.invariant.steady c.row_and_reply-goes_on.ensures.steady;
+          steady_gone (own_ticks c.args.plan.now c.args.p) c.args.p c.args.turn.start c.loop-is_going.now.start c.run_window-next.result.start c.args.self.now c.loop-is_going.self c.parts-parts.ensures.whole c.requires.partition
+          from on c.loop-is_going.invariant.gone c.loop-is_going.invariant.steady c.run_window-next.ensures.steady;
       plain = λ stopped at.
-          plain_later (own_ticks c.args.plan.now c.args.p) c.args.p c.args.turn.start c.loop-is_going.now.start c.row_and_reply-goes_on.result.0.start c.args.self.now c.loop-is_going.self from on c.loop-is_going.invariant.gone at c.row_and_reply-goes_on.ensures.plain;
-      before = λ e. absurd (false≢true (sym c.if-goes_on.false ∙ e));
-      still = c.row_and_reply-goes_on.ensures.still;
-      walk = c.row_and_reply-goes_on.ensures.walk;
+          plain_later (own_ticks c.args.plan.now c.args.p) c.args.p c.args.turn.start c.loop-is_going.now.start c.run_window-next.result.start c.args.self.now c.loop-is_going.self from on c.loop-is_going.invariant.gone at c.run_window-next.ensures.plain;
+      before = λ e. (let before_until : c.run_window-next.result.start < c.args.until = (c.goes_on-is_going.ensures e).1 in omega (arith, before_until, c.requires.until));
+      still = c.run_window-next.ensures.still;
+      walk = c.run_window-next.ensures.walk;
     }
 
-pub row_and_reply-goes_on-requires-clause-walk : goal.row_and_reply-goes_on-requires-clause-walk
-row_and_reply-goes_on-requires-clause-walk c = c.loop-is_going.invariant.walk (omega (arith, c.loop-is_going.invariant.before c.loop-is_going-test.true, c.requires.within))
+pub run_window-next-requires-clause-walk : goal.run_window-next-requires-clause-walk
+run_window-next-requires-clause-walk c = c.loop-is_going.invariant.walk (omega (arith, c.loop-is_going.invariant.before c.loop-is_going-test.true, c.requires.within))
+
+pub loop-is_going-smaller : goal.loop-is_going-smaller
+loop-is_going-smaller c =
+    closer c.loop-is_going.is_going c.goes_on-is_going.result c.args.quiet.stop c.loop-is_going.now.start c.run_window-next.result.start c.loop-is_going-test.true (c.loop-is_going.invariant.before c.loop-is_going-test.true)
+    (λ e. c.run_window-next.ensures.on (c.goes_on-is_going.ensures e).0)
