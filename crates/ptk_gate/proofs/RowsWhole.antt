@@ -41,7 +41,7 @@ rows_whole p t tick n reached kept taken new before after are lt e moved gone =
     (gone_well (limits_at p kept) t tick n reached (part_at p kept) new.here before after
     (raised p (λ limits s. HasGone limits t tick n reached s new.here before after) kept taken e gone) (well_at p kept are lt))
 
--- and is so many decisions of the partition
+-- and is that number of decisions of the partition
 pub rows_gone : (p t tick n reached : ℕ) (kept : Kept) (taken new : Held) (before after : KeptSteps) → AreWhole kept → p < length kept.limits → taken ≡ held p kept → new ≡ record taken { here = new.here }
     → HasGone (limits_here taken) t tick n reached taken.here new.here before after → HasGone (limits_at p kept) t tick n reached (part_at p kept) (part_at p (all_of new)) before after
 rows_gone p t tick n reached kept taken new before after are lt e moved gone =

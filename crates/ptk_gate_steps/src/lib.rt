@@ -9,8 +9,8 @@
 //! - The ticks up to which the partition only computes (`quiet_until`) or has nothing to do (`idle_until`); both are
 //!   the latest such tick.
 //! - `run_quiet` makes plain steps of a quiet partition in a row and the quiet calls between them, each with its effect:
-//!   a mutex taken or given, a byte put, or a value of a key set. They are so many decisions one after the other, each a
-//!   step (`HasGone`), and it ends early only where the next step is neither (`HasEnded`).
+//!   a mutex taken or given, a byte put, or a value of a key set. Each is one decision, and a step (`HasGone`), and
+//!   it ends early only where the next step is neither (`HasEnded`).
 //!
 //! What the gate's tables ask without a change takes a `Look` at one partition, whichever is in hand, and its clauses
 //! speak of that partition's numbers and part alone. Below are the pools and the instructions; above are the gate's

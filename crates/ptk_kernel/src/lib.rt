@@ -8,7 +8,7 @@
 //! - It requires that p is not halted and room is at least 1.
 //! - `quiet_until` returns the tick up to which a partition is quiet.
 //! - `run_quiet` makes plain steps and quiet calls of a quiet partition in a row in place of decisions, up to that tick:
-//!   so many decisions one after the other, each a step (`HasGone`), with the trace after them.
+//!   each is one decision, and a step (`HasGone`), with the trace after them.
 //! - It ends early only before a step that is neither a plain one nor a quiet call that ends in time.
 //! - It leaves the partition as quiet as it was, and each thread and each mutex that threads wait for as they were
 //!   (`IsQuietStep`, `IsSteady`).
