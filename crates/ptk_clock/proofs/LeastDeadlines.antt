@@ -8,7 +8,7 @@ use Rattle.ptk_words.specs.Names.{Tick}
 use Rattle.ptk_words.specs.Pools.{pool_get, pool_set}
 use Rattle.ptk_words_sync_invariant.specs.Expiries.{next_expiry}
 use Rattle.ptk_words_sync_invariant.proofs.Expiries.{next_only}
-use Rattle.ptk_words_sync_invariant.proofs.DeadlineLists.{free_again}
+use Rattle.ptk_words_sync_invariant.proofs.Deadlines.{free_again}
 use Rattle.ptk_clock.specs.Pairs.{Pair, is_before, IsLeast, is_among, is_due, least_among, least_due}
 use Rattle.ptk_clock.specs.BySlot.{deadline_at, deadlines_from}
 use Rattle.ptk_clock.specs.ByThread.{earlier, least_deadline, is_reached}

@@ -7,7 +7,8 @@ use Rattle.ptk_words.specs.declared.threads.Thread.{Thread}
 use Rattle.ptk_words.specs.declared.threads.Wait.{Wait}
 use Rattle.ptk_words_model.specs.State.{Locks, Mutex}
 use Rattle.ptk_words_model.specs.Chain.{greatest_leading}
-use Rattle.ptk_words_model.specs.Priority.{awaited, mutex_of_wait, thread_at, ceiling_for, held_of, inheritor_of, next_in_chain, effective_priorities}
+use Rattle.ptk_words_model.specs.Priority.{awaited, thread_at, ceiling_for, held_of, inheritor_of, next_in_chain, effective_priorities}
+use Rattle.ptk_words.specs.Threads.{mutex_of_wait}
 use Rattle.ptk_words_model.specs.Schedule.{with_thread}
 use Rattle.ptk_threads.specs.Table.{ThreadTable, with_changed, with_wait}
 use Rattle.ptk_threads.proofs.Pools.{part_of-set}

@@ -6,7 +6,7 @@ use Rattle.std.proofs.lemmas.List.{length-set}
 use Rattle.ptk_words.specs.Pools.{pool_get, pool_set, is_in, least_free}
 use Rattle.ptk_words_parted.specs.Parts.{part_of}
 use Rattle.ptk_words_parted.proofs.Cuts.{set_part-same}
-use Rattle.ptk_words_model.specs.State.{Condition, Locks, Mutex}
+use Rattle.ptk_words_model.specs.State.{Condition, Mutex}
 use Rattle.ptk_words_model.specs.Condition.{waiters_on}
 use Rattle.ptk_threads.specs.Table.{ThreadTable}
 use Rattle.ptk_threads.proofs.Pools.{part_of-set}
@@ -15,10 +15,9 @@ use Rattle.ptk_syncs.specs.Waiters.{condition_of}
 use Rattle.ptk_mutex.proofs.Pool.{least_free_is}
 use Rattle.ptk_words_sync_invariant.proofs.MutexPlaces.{pool_set_same}
 use Rattle.ptk_mutex.specs.Sound.{IsSound}
-use Rattle.ptk_mutex.proofs.Sound.{of_part, AreSyncedAt, sound_moved}
-use Rattle.ptk_mutex.proofs.Steps.{AreMoved, moved_none}
+use Rattle.ptk_cond.proofs.Steps.{of_part, AreSyncedAt, put_none, sound_put}
 use Rattle.ptk_cond.specs.Pool.{with_new_condition}
-use Rattle.ptk_cond.specs.Tables.{AreSyncedBy}
+use Rattle.ptk_cond.specs.Tables.{put_syncs, AreSyncedBy}
 
 -- ---- one entry without waiters in another's place
 
@@ -59,13 +58,9 @@ synced_destroy p c table lines mutexes conditions unused synced = synced_set p c
 sound_set : (p : ℕ) (row : List (Option Condition)) (a b : Rostered) → b ≡ record a { conditions = set a.conditions p row } → p < length a.table.threads → (AreSyncedAt p a → AreSyncedBy p a.table a.lines a.mutexes (set a.conditions p row)) → IsSound a → IsSound b
 sound_set p row a b e lt keeps sound =
     let synced : AreSyncedAt p a = sound.synced p lt in
-    let locks : Locks = (of_part p a).locks in
-    sound_moved p a b (record { locks = locks; conditions = row })
-    (record {
-      of_locks = subst (λ (r : Rostered). AreMoved p a.table a.lines a.mutexes r.table r.lines r.mutexes locks) (sym e) (moved_none p a.table a.lines a.mutexes synced.ready);
-      of_conditions = ap (λ (r : Rostered). r.conditions) e;
-    })
-    (subst (λ (r : Rostered). AreSyncedAt p r) (sym e) (keeps synced)) sound
+    let here : record a { conditions = set a.conditions p row } ≡ record (put_syncs p (of_part p a) a) { conditions = set a.conditions p row } =
+    ap (λ (r : Rostered). record r { conditions = set a.conditions p row }) (put_none p a synced) in
+    sound_put p a b (record { locks = (of_part p a).locks; conditions = row }) (e ∙ here) (subst (λ (r : Rostered). AreSyncedAt p r) (sym e) (keeps synced)) sound
 
 pub sound_init : (p : ℕ) (a b : Rostered) → b ≡ record a { conditions = set a.conditions p (with_new_condition (part_of a.conditions p)) } → p < length a.table.threads → IsSound a → IsSound b
 sound_init p a b e lt sound = sound_set p (with_new_condition (part_of a.conditions p)) a b e lt (synced_init p a.table a.lines a.mutexes a.conditions) sound

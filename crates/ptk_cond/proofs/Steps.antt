@@ -10,7 +10,8 @@ use Rattle.ptk_words_parted.proofs.Cuts.{set_part-same}
 use Rattle.ptk_words_model.specs.State.{Condition, Locks, Mutex, Syncs}
 use Rattle.ptk_words.specs.declared.threads.Wait.{Wait}
 use Rattle.ptk_words.specs.declared.threads.Wait.TheVariants.{ConditionWait}
-use Rattle.ptk_words_model.specs.Priority.{awaited, mutex_of_wait, thread_at}
+use Rattle.ptk_words_model.specs.Priority.{awaited, thread_at}
+use Rattle.ptk_words.specs.Threads.{mutex_of_wait}
 use Rattle.ptk_words_model.specs.Schedule.{with_thread}
 use Rattle.ptk_words_model.specs.Mutex.{wait_of, after_unlock, after_relock}
 use Rattle.ptk_words_model.specs.Condition.{condition_waiters, mutex_of_condition_wait, after_condition_wait, after_unblock_for, after_signal, waiters_on}
@@ -20,13 +21,13 @@ use Rattle.ptk_threads.specs.Table.{ThreadTable, stored_of, with_changed, with_w
 use Rattle.ptk_threads.proofs.Pools.{pool_get-changed, pool_changed-changed, part_of-set}
 use Rattle.ptk_syncs.specs.Rosters.{Rostered}
 use Rattle.ptk_syncs.specs.Waiters.{condition_of}
-use Rattle.ptk_mutex.specs.Tables.{locks_by, with_threads, HasPartBy, MayWait, AreLocked, AreReadyBy}
+use Rattle.ptk_mutex.specs.Tables.{locks_by, put_locks, with_threads, HasPartBy, MayWait, AreLocked, AreReadyBy}
 use Rattle.ptk_mutex.proofs.Moved.{stays}
-use Rattle.ptk_mutex.proofs.Steps.{AreMoved, moved_locks, moved_ready, moved_more}
+use Rattle.ptk_mutex.proofs.Steps.{AreMoved, moved_locks, moved_ready}
 use Rattle.ptk_mutex.proofs.Apart.{calm_unlock, may_relock}
 use Rattle.ptk_mutex.proofs.Awake.{awake_none, awake_free}
-pub use Rattle.ptk_mutex.proofs.Sound.{of_part, AreSyncedAt, AreSyncsMoved, syncs_moved, moved_synced, sound_moved}
-use Rattle.ptk_cond.specs.Tables.{syncs_by, AreWaiting, AreSyncedBy, IsAwake, MayLeave, next_waiter}
+pub use Rattle.ptk_mutex.proofs.Sound.{of_part, AreSyncedAt, put_locked, syncs_put, put_synced, sound_put}
+use Rattle.ptk_cond.specs.Tables.{syncs_by, put_syncs, AreWaiting, AreSyncedBy, IsAwake, MayLeave, next_waiter}
 use Rattle.ptk_cond.proofs.Asleep.{asleep-is}
 use Rattle.ptk_cond.proofs.Waiters.{locked_sleep, waiting_unblock, stored_next, next_may_leave}
 
@@ -72,14 +73,24 @@ pub ruleset choices = (next-is, next_may, has_part, has_conditions)
 
 -- ---- the roster after a move
 
--- one more move
-syncs_more : (p : ℕ) (f : Syncs → Syncs) (a b after : Rostered) (syncs : Syncs) → AreSyncedAt p a → AreSyncsMoved p a b syncs → AreSyncsMoved p b after (f (of_part p b)) → AreSyncsMoved p a after (f syncs)
-syncs_more p f a b after syncs synced moved more =
-    let now : AreSyncsMoved p b after (f syncs) = subst (λ (s : Syncs). AreSyncsMoved p b after (f s)) (syncs_moved p a b syncs synced moved) more in
-    record {
-      of_locks = moved_more p (λ (l : Locks). (f syncs).locks) a.table b.table after.table a.lines b.lines after.lines a.mutexes b.mutexes after.mutexes syncs.locks synced.ready.part moved.of_locks now.of_locks;
-      of_conditions = now.of_conditions ∙ rw (moved.of_conditions, set-set) refl;
+-- nothing moved
+pub put_none : (p : ℕ) (a : Rostered) → AreSyncedAt p a → a ≡ put_syncs p (of_part p a) a
+put_none p a synced =
+    let table : a.table ≡ with_threads p (of_part p a).locks a.table = sym (stays p a.table a.lines a.mutexes synced.ready) in
+    λ i. record {
+      table = table i;
+      lines = sym (set_part-same a.lines p) i;
+      mutexes = sym (set_part-same a.mutexes p) i;
+      conditions = sym (set_part-same a.conditions p) i;
     }
+
+put_twice : (p : ℕ) (syncs more : Syncs) (a : Rostered) → put_syncs p more (put_syncs p syncs a) ≡ put_syncs p more a
+put_twice p syncs more a = rw (set-set, set-set, set-set, set-set, set-set) refl
+
+-- one more move
+put_more : (p : ℕ) (f : Syncs → Syncs) (a b after : Rostered) (syncs : Syncs) → AreSyncedAt p a → b ≡ put_syncs p syncs a → after ≡ put_syncs p (f (of_part p b)) b → after ≡ put_syncs p (f syncs) a
+put_more p f a b after syncs synced e more =
+    more ∙ ap (λ (s : Syncs). put_syncs p (f s) b) (syncs_put p a b syncs synced e) ∙ ap (put_syncs p (f syncs)) e ∙ put_twice p syncs (f syncs) a
 
 -- ---- the waiters of a condition variable changed first
 
@@ -95,20 +106,16 @@ pub same_waiters : (p c : ℕ) (ks : List ℕ) (a b : Rostered) → b ≡ with_w
 same_waiters p c ks a b e = ap (λ (r : Rostered). locks_by p r.table r.lines r.mutexes) e
 
 -- and then the rest moved
-pub moved_waiters : (p c : ℕ) (ks : List ℕ) (f : Locks → Locks) (a b after : Rostered) → b ≡ with_waiters_on p c ks a → AreMoved p b.table b.lines b.mutexes after.table after.lines after.mutexes (f (locks_by p b.table b.lines b.mutexes))
-    → AreMoved p a.table a.lines a.mutexes after.table after.lines after.mutexes (f (locks_by p a.table a.lines a.mutexes))
-moved_waiters p c ks f a b after e moved = subst (λ (r : Rostered). AreMoved p r.table r.lines r.mutexes after.table after.lines after.mutexes (f (locks_by p r.table r.lines r.mutexes))) e moved
+pub put_waiters : (p c : ℕ) (ks : List ℕ) (f : Locks → Locks) (a b after : Rostered) → b ≡ with_waiters_on p c ks a → after ≡ put_locks p (f (locks_by p b.table b.lines b.mutexes)) b
+    → after ≡ put_locks p (f (locks_by p a.table a.lines a.mutexes)) (with_waiters_on p c ks a)
+put_waiters p c ks f a b after e moved = moved ∙ ap (λ (r : Rostered). put_locks p (f (locks_by p r.table r.lines r.mutexes)) r) e
 
 -- a waiter left, and re-locked the mutex that it named
 pub unblocked : (p t c m : ℕ) (reply named : Option ℕ) (a b after : Rostered) → named ≡ Some m → b ≡ with_waiters_on p c (without t (waiters_on (pool_get (part_of a.conditions p) c))) a
-    → AreMoved p b.table b.lines b.mutexes after.table after.lines after.mutexes (after_relock t m reply (locks_by p b.table b.lines b.mutexes)) → after.conditions ≡ b.conditions
-    → AreSyncsMoved p a after (after_unblock_for t c reply named (of_part p a))
-unblocked p t c m reply named a b after is e moved kept =
-    subst (λ (o : Option ℕ). AreSyncsMoved p a after (after_unblock_for t c reply o (of_part p a))) (sym is)
-    (record {
-      of_locks = moved_waiters p c (without t (waiters_on (pool_get (part_of a.conditions p) c))) (after_relock t m reply) a b after e moved;
-      of_conditions = kept ∙ ap (λ (r : Rostered). r.conditions) e;
-    })
+    → after ≡ put_locks p (after_relock t m reply (locks_by p b.table b.lines b.mutexes)) b → after ≡ put_syncs p (after_unblock_for t c reply named (of_part p a)) a
+unblocked p t c m reply named a b after is e moved =
+    subst (λ (o : Option ℕ). after ≡ put_syncs p (after_unblock_for t c reply o (of_part p a)) a) (sym is)
+    (put_waiters p c (without t (waiters_on (pool_get (part_of a.conditions p) c))) (after_relock t m reply) a b after e moved)
 
 -- and waiters still wait
 pub unblocked_waiting : (t c m : ℕ) (reply named : Option ℕ) (syncs : Syncs) → named ≡ Some m → is_in t (condition_waiters syncs c) ≡ true → AreWaiting syncs → AreWaiting (after_unblock_for t c reply named syncs)
@@ -134,55 +141,43 @@ sleep-is p t m wait table table' new lines mutexes ready may unawaited e changed
     let still : awaited (thread_at (after_unlock m locks) t) ≡ None = ap awaited ((calm_unlock m locks ready.locked).threads t none) ∙ none in
     changed ∙ ap (with_changed p t (with_wait wait)) e ∙ asleep-is p t wait (after_unlock m locks) table ready.part.of_threads unawaited still
 
--- the fields of a thread's wait changed
-pub record IsWaitSet (p t : ℕ) (wait : Option Wait) (a b : Rostered) : Type 0 where
-  pub table : b.table ≡ with_changed p t (with_wait wait) a.table
-  pub lines : b.lines ≡ a.lines
-  pub mutexes : b.mutexes ≡ a.mutexes
-  pub conditions : b.conditions ≡ a.conditions
+-- a thread that is awake joined the waiters, and the mutex was unlocked
+abbrev joined : ℕ → ℕ → ℕ → ℕ → Rostered → Rostered
+joined p t c m a = put_locks p (after_unlock m (locks_by p a.table a.lines a.mutexes)) (with_waiters_on p c (waiters_on (pool_get (part_of a.conditions p) c) ++ t ∷ []) a)
 
--- a thread that is awake joined the waiters, the mutex was unlocked, and the thread's wait began
-pub asleep : (p t c m : ℕ) (deadline : Option ℕ) (a b unlocked after : Rostered) → AreSyncedAt p a → IsAwake (locks_by p a.table a.lines a.mutexes) t → b ≡ with_waiters_on p c (waiters_on (pool_get (part_of a.conditions p) c) ++ t ∷ []) a
-    → AreMoved p b.table b.lines b.mutexes unlocked.table unlocked.lines unlocked.mutexes (after_unlock m (locks_by p b.table b.lines b.mutexes)) → unlocked.conditions ≡ b.conditions → IsWaitSet p t (Some (ConditionWait c m deadline)) unlocked after
-    → AreSyncsMoved p a after (after_condition_wait t c m deadline (of_part p a))
-asleep p t c m deadline a b unlocked after synced may e moved kept waits =
-    let ks : List ℕ = waiters_on (pool_get (part_of a.conditions p) c) ++ t ∷ [] in
-    let first : AreMoved p a.table a.lines a.mutexes unlocked.table unlocked.lines unlocked.mutexes (after_unlock m (locks_by p a.table a.lines a.mutexes)) = moved_waiters p c ks (after_unlock m) a b unlocked e moved in
-    record {
-      of_locks = record {
-        of_threads = sleep-is p t m (Some (ConditionWait c m deadline)) a.table unlocked.table after.table a.lines a.mutexes synced.ready may refl first.of_threads waits.table;
-        of_lines = waits.lines ∙ first.of_lines;
-        of_mutexes = waits.mutexes ∙ first.of_mutexes;
-      };
-      of_conditions = waits.conditions ∙ kept ∙ ap (λ (r : Rostered). r.conditions) e;
-    }
+-- then its wait began
+pub asleep : (p t c m : ℕ) (deadline : Option ℕ) (a unlocked after : Rostered) → AreSyncedAt p a → IsAwake (locks_by p a.table a.lines a.mutexes) t → unlocked ≡ joined p t c m a
+    → after ≡ record unlocked { table = with_changed p t (with_wait (Some (ConditionWait c m deadline))) unlocked.table } → after ≡ put_syncs p (after_condition_wait t c m deadline (of_part p a)) a
+asleep p t c m deadline a unlocked after synced may e waits =
+    let wait : Option Wait = Some (ConditionWait c m deadline) in
+    waits ∙ ap (λ (r : Rostered). record r { table = with_changed p t (with_wait wait) r.table }) e
+    ∙ ap (λ (table : ThreadTable). record (joined p t c m a) { table = table })
+    (sleep-is p t m wait a.table (with_threads p (after_unlock m (locks_by p a.table a.lines a.mutexes)) a.table) _ a.lines a.mutexes synced.ready may refl refl refl)
 
 -- and the mutex calls find the roster as they need it
-pub asleep_ready : (p t c m : ℕ) (deadline : Option ℕ) (a b unlocked after : Rostered) → AreSyncedAt p a → IsAwake (locks_by p a.table a.lines a.mutexes) t → b ≡ with_waiters_on p c (waiters_on (pool_get (part_of a.conditions p) c) ++ t ∷ []) a
-    → AreMoved p b.table b.lines b.mutexes unlocked.table unlocked.lines unlocked.mutexes (after_unlock m (locks_by p b.table b.lines b.mutexes)) → AreReadyBy p unlocked.table unlocked.lines unlocked.mutexes → AreSyncsMoved p a after (after_condition_wait t c m deadline (of_part p a))
-    → AreReadyBy p after.table after.lines after.mutexes
-asleep_ready p t c m deadline a b unlocked after synced may e moved ready done =
-    let ks : List ℕ = waiters_on (pool_get (part_of a.conditions p) c) ++ t ∷ [] in
-    let first : AreMoved p a.table a.lines a.mutexes unlocked.table unlocked.lines unlocked.mutexes (after_unlock m (locks_by p a.table a.lines a.mutexes)) = moved_waiters p c ks (after_unlock m) a b unlocked e moved in
-    let then : Locks = (after_condition_wait t c m deadline (of_part p a)).locks in
-    moved_ready p a.table after.table a.lines after.lines a.mutexes after.mutexes then synced.ready.part
-    (locked_wait p t m (Some (ConditionWait c m deadline)) a.table unlocked.table a.lines unlocked.lines a.mutexes unlocked.mutexes synced.ready may first ready) done.of_locks
+pub asleep_ready : (p t c m : ℕ) (deadline : Option ℕ) (a unlocked after : Rostered) → AreSyncedAt p a → IsAwake (locks_by p a.table a.lines a.mutexes) t → unlocked ≡ joined p t c m a
+    → AreReadyBy p unlocked.table unlocked.lines unlocked.mutexes → after ≡ put_syncs p (after_condition_wait t c m deadline (of_part p a)) a → AreReadyBy p after.table after.lines after.mutexes
+asleep_ready p t c m deadline a unlocked after synced may e ready done =
+    let first : AreMoved p a.table a.lines a.mutexes unlocked.table unlocked.lines unlocked.mutexes (after_unlock m (locks_by p a.table a.lines a.mutexes)) =
+    record { of_threads = ap (λ (r : Rostered). r.table) e; of_lines = ap (λ (r : Rostered). r.lines) e; of_mutexes = ap (λ (r : Rostered). r.mutexes) e } in
+    let then : Syncs = after_condition_wait t c m deadline (of_part p a) in
+    moved_ready p a.table after.table a.lines after.lines a.mutexes after.mutexes then.locks synced.ready.part
+    (locked_wait p t m (Some (ConditionWait c m deadline)) a.table unlocked.table a.lines unlocked.lines a.mutexes unlocked.mutexes synced.ready may first ready) (put_locked p a after then done)
 
 -- ---- all waiters unblocked, one after the other
 
 -- so many signals are left of all
 pub record AreSignalled (p c left total : ℕ) (a b : Rostered) : Type 0 where
   pub synced : AreSyncedAt p b
-  pub moved : AreSyncsMoved p a b (of_part p b)
+  pub moved : b ≡ put_syncs p (of_part p b) a
   pub same : iterate (after_signal c) left (of_part p b) ≡ iterate (after_signal c) total (of_part p a)
 
-pub signalled_more : (p c left rest total : ℕ) (a b after : Rostered) → AreSyncedAt p a → rest ≡ suc left → AreSignalled p c rest total a b → AreSyncsMoved p b after (after_signal c (of_part p b)) → AreSyncedAt p after → AreSignalled p c left total a after
+pub signalled_more : (p c left rest total : ℕ) (a b after : Rostered) → AreSyncedAt p a → rest ≡ suc left → AreSignalled p c rest total a b → after ≡ put_syncs p (after_signal c (of_part p b)) b → AreSyncedAt p after → AreSignalled p c left total a after
 signalled_more p c left rest total a b after start e signalled more synced =
-    let at : of_part p after ≡ after_signal c (of_part p b) = syncs_moved p b after (after_signal c (of_part p b)) signalled.synced more in
-    let moved : AreSyncsMoved p a after (after_signal c (of_part p b)) = syncs_more p (after_signal c) a b after (of_part p b) start signalled.moved more in
+    let at : of_part p after ≡ after_signal c (of_part p b) = syncs_put p b after (after_signal c (of_part p b)) signalled.synced more in
     record {
       synced = synced;
-      moved = subst (λ (s : Syncs). AreSyncsMoved p a after s) (sym at) moved;
+      moved = put_more p (after_signal c) a b after (of_part p b) start signalled.moved more ∙ ap (λ (s : Syncs). put_syncs p s a) (sym at);
       same = ap (iterate (after_signal c) left) at ∙ ap (λ (n : ℕ). iterate (after_signal c) n (of_part p b)) (sym e) ∙ signalled.same;
     }
 

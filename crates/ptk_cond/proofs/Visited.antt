@@ -10,8 +10,8 @@ use Rattle.ptk_words_sync_invariant.proofs.Lines.{first_none}
 use Rattle.ptk_syncs.specs.Rosters.{Rostered}
 use Rattle.ptk_mutex.specs.Visits.{IsVisited}
 use Rattle.ptk_mutex.specs.declared.mutexes.Mutexes.{Mutexes}
-use Rattle.ptk_mutex.proofs.Sound.{of_part, AreSyncedAt, AreSyncsMoved, syncs_moved}
-use Rattle.ptk_cond.specs.Tables.{next_waiter}
+use Rattle.ptk_mutex.proofs.Sound.{of_part, AreSyncedAt, syncs_put}
+use Rattle.ptk_cond.specs.Tables.{put_syncs, next_waiter}
 use Rattle.ptk_cond.specs.Visits.{priorities_after, IsVisitedBySignal}
 
 iterate_last : {A : Type 0} (f : A → A) (n : ℕ) (x : A) → iterate f (suc n) x ≡ f (iterate f n x)
@@ -21,8 +21,8 @@ iterate_last f (suc n) x = iterate_last f n (f x)
 -- ---- the state reached
 
 -- after one signal more
-pub reached_more : (p c i : ℕ) (a b after : Rostered) → of_part p b ≡ iterate (after_signal c) i (of_part p a) → AreSyncedAt p b → AreSyncsMoved p b after (after_signal c (of_part p b)) → of_part p after ≡ iterate (after_signal c) (suc i) (of_part p a)
-reached_more p c i a b after reached synced moved = syncs_moved p b after (after_signal c (of_part p b)) synced moved ∙ ap (after_signal c) reached ∙ sym (iterate_last (after_signal c) i (of_part p a))
+pub reached_more : (p c i : ℕ) (a b after : Rostered) → of_part p b ≡ iterate (after_signal c) i (of_part p a) → AreSyncedAt p b → after ≡ put_syncs p (after_signal c (of_part p b)) b → of_part p after ≡ iterate (after_signal c) (suc i) (of_part p a)
+reached_more p c i a b after reached synced moved = syncs_put p b after (after_signal c (of_part p b)) synced moved ∙ ap (after_signal c) reached ∙ sym (iterate_last (after_signal c) i (of_part p a))
 
 stored_reached : (p c i : ℕ) (a b : Rostered) → of_part p b ≡ iterate (after_signal c) i (of_part p a) → AreSyncedAt p b → part_of b.table.stored p ≡ priorities_after i c (of_part p a)
 stored_reached p c i a b reached synced = synced.ready.stored ∙ ap (λ (s : Syncs). effective_priorities s.threads s.mutexes) reached
@@ -55,7 +55,7 @@ signalled_by c i None syncs old now new lt e read same was = unsignalled c i syn
 signalled_by c i (Some t) syncs old now new lt e read same was = record { earlier = i; within = omega arith; read = read refl }
 
 -- one signal more
-pub visited_more : (p c i : ℕ) (a b after : Rostered) (old now new : Mutexes) → 0 < length (condition_waiters (of_part p a) c) → of_part p b ≡ iterate (after_signal c) i (of_part p a) → AreSyncedAt p b → AreSyncsMoved p b after (after_signal c (of_part p b)) → AreSyncedAt p after
+pub visited_more : (p c i : ℕ) (a b after : Rostered) (old now new : Mutexes) → 0 < length (condition_waiters (of_part p a) c) → of_part p b ≡ iterate (after_signal c) i (of_part p a) → AreSyncedAt p b → after ≡ put_syncs p (after_signal c (of_part p b)) b → AreSyncedAt p after
     → (IsSome (next_waiter c (of_part p b)) → IsVisited new.visited (part_of b.table.stored p) (part_of after.table.stored p)) → (next_waiter c (of_part p b) ≡ None → new ≡ now)
     → AreVisited c i (of_part p a) old now → AreVisited c (suc i) (of_part p a) old new
 visited_more p c i a b after old now new lt reached synced moved then read same was =

@@ -13,7 +13,8 @@ use Rattle.ptk_words_model.specs.Priority.{awaited, thread_at, effective_priorit
 use Rattle.ptk_words_model.specs.Schedule.{with_thread}
 use Rattle.ptk_words_model.specs.Mutex.{mutex_at, wait_of, after_unlock, after_relock}
 use Rattle.ptk_words_model.specs.Condition.{condition_waiters, mutex_of_condition_wait, after_condition_wait, after_unblock_for, waiters_on}
-use Rattle.ptk_words_sync_invariant.specs.Conditions.{condition_of_wait, HasRoom}
+use Rattle.ptk_words_sync_invariant.specs.Conditions.{HasRoom}
+use Rattle.ptk_words.specs.Threads.{condition_of_wait}
 use Rattle.ptk_words_sync_invariant.proofs.Lines.{in_push, in_without, first_in}
 use Rattle.ptk_threads.specs.Table.{stored_of}
 use Rattle.ptk_threads.proofs.Pools.{pool_get-changed, pool_get-changed_other, pool_get-set_other}

@@ -6,7 +6,7 @@ use Rattle.ptk_words.specs.declared.threads.Thread.{Thread}
 use Rattle.ptk_words_model.specs.State.{Condition, Syncs, locks_of}
 use Rattle.ptk_words_model.specs.Priority.{effective_priority}
 use Rattle.ptk_words_model.specs.Condition.{condition_waiters}
-pub use Rattle.ptk_mutex.specs.Sound.{syncs_by, syncs_at, IsOnCondition, AreWaiting, AreSyncedBy, AreSynced, IsAwake}
+pub use Rattle.ptk_mutex.specs.Sound.{syncs_by, syncs_at, put_syncs, IsOnCondition, AreWaiting, AreSyncedBy, AreSynced, IsAwake}
 
 -- threads and condition variables without a line or mutexes, on which no mutex that is named depends (own)
 abbrev pub syncs_of : List (Option Thread) → List (Option Condition) → Syncs

@@ -3,8 +3,7 @@
 //! The moves on condition variables over the roster: a wait, a signal or a broadcast moves waiters through `ptk_mutex`.
 //!
 //! - Over the roster, which has the condition variables with their waiters: wait, signal, broadcast and what ends a
-//!   wait at its deadline or at a cancellation are the model's moves for p, one equation for threads with their stored
-//!   priorities, line, mutexes and condition variables each.
+//!   wait at its deadline or at a cancellation are the model's moves for p, one equation over the roster (`put_syncs`).
 //! - Each choice of a broadcast is made in the state that the one before left.
 //! - Every call keeps what the calls ask (`ready`, and `sound` for all partitions), and says what it leaves of the
 //!   number of reads: that of its re-lock, of one of its signals, 0, or what it was.

@@ -1,6 +1,6 @@
 //! The calls that end condition waits: signal, broadcast, and what a deadline or a cancellation does to a waiter.
 
-ghost use Rattle.std.specs.Prelude.{◌≡◌, ◌<◌, true, Some, None, IsSome, length, slice_set};
+ghost use Rattle.std.specs.Prelude.{◌≡◌, ◌<◌, true, Some, None, IsSome, length};
 ghost use Rattle.ptk_words.specs.Pools.{is_in};
 ghost use Rattle.ptk_words_parted.specs.Parts.{part_of};
 ghost use Rattle.ptk_words_model.specs.Mutex.{wait_of};
@@ -8,8 +8,7 @@ ghost use Rattle.ptk_words_model.specs.Priority.{thread_at};
 ghost use Rattle.ptk_words_model.specs.Condition.{condition_waiters, mutex_of_condition_wait, after_unblock, after_unblock_for, after_signal, after_signal_to, after_broadcast};
 ghost use Rattle.ptk_mutex.specs.Visits.{IsVisited};
 ghost use Rattle.ptk_mutex.specs.Sound.{IsSound};
-ghost use Rattle.ptk_mutex.specs.Tables.{with_threads};
-ghost use Rattle.ptk_cond.specs.Tables.{syncs_at, AreSynced, MayLeave, next_waiter};
+ghost use Rattle.ptk_cond.specs.Tables.{syncs_at, put_syncs, AreSynced, MayLeave, next_waiter};
 ghost use Rattle.ptk_cond.specs.Visits.{IsVisitedBySignal};
 
 use crate::naming::mutex_of_condition_wait;
@@ -22,10 +21,7 @@ use ptk_words::{ConditionNo, MutexNo, PartId, ThreadNo};
 #[tactic(auto, using(crate::proofs::Steps::steps))]
 pub fn signal(roster: &mut Roster, mutexes: &mut Mutexes, p: PartId, c: ConditionNo)
     requires ready { AreSynced p roster.old }
-    ensures threads { roster.new.table ≡ with_threads p (after_signal c (syncs_at p roster.old)).locks roster.old.table }
-    ensures line { roster.new.lines ≡ slice_set roster.old.lines p (after_signal c (syncs_at p roster.old)).line }
-    ensures mutexes { roster.new.mutexes ≡ slice_set roster.old.mutexes p (after_signal c (syncs_at p roster.old)).mutexes }
-    ensures conditions { roster.new.conditions ≡ slice_set roster.old.conditions p (after_signal c (syncs_at p roster.old)).conditions }
+    ensures roster { roster.new ≡ put_syncs p (after_signal c (syncs_at p roster.old)) roster.old }
     ensures visited { IsSome (next_waiter c (syncs_at p roster.old)) → IsVisited mutexes.new.visited (part_of roster.old.table.stored p) (part_of roster.new.table.stored p) }
     ensures unvisited { next_waiter c (syncs_at p roster.old) ≡ None → mutexes.new ≡ mutexes.old }
     ensures ready { AreSynced p roster.new }
@@ -39,10 +35,7 @@ pub fn signal(roster: &mut Roster, mutexes: &mut Mutexes, p: PartId, c: Conditio
 /// (pthread_cond_broadcast).
 pub fn broadcast(roster: &mut Roster, mutexes: &mut Mutexes, p: PartId, c: ConditionNo)
     requires ready { AreSynced p roster.old }
-    ensures threads { roster.new.table ≡ with_threads p (after_broadcast c (syncs_at p roster.old)).locks roster.old.table }
-    ensures line { roster.new.lines ≡ slice_set roster.old.lines p (after_broadcast c (syncs_at p roster.old)).line }
-    ensures mutexes { roster.new.mutexes ≡ slice_set roster.old.mutexes p (after_broadcast c (syncs_at p roster.old)).mutexes }
-    ensures conditions { roster.new.conditions ≡ slice_set roster.old.conditions p (after_broadcast c (syncs_at p roster.old)).conditions }
+    ensures roster { roster.new ≡ put_syncs p (after_broadcast c (syncs_at p roster.old)) roster.old }
     ensures visited { 0 < length (condition_waiters (syncs_at p roster.old) c) → IsVisitedBySignal mutexes.new.visited (length (condition_waiters (syncs_at p roster.old) c)) c (syncs_at p roster.old) }
     ensures unvisited { length (condition_waiters (syncs_at p roster.old) c) ≡ 0 → mutexes.new ≡ mutexes.old }
     ensures ready { AreSynced p roster.new }
@@ -68,10 +61,7 @@ pub fn withdraw(
 )
     requires ready { AreSynced p roster.old }
     requires waiter { is_in t (condition_waiters (syncs_at p roster.old) c) ≡ true }
-    ensures threads { roster.new.table ≡ with_threads p (after_unblock t c reply (syncs_at p roster.old)).locks roster.old.table }
-    ensures line { roster.new.lines ≡ slice_set roster.old.lines p (after_unblock t c reply (syncs_at p roster.old)).line }
-    ensures mutexes { roster.new.mutexes ≡ slice_set roster.old.mutexes p (after_unblock t c reply (syncs_at p roster.old)).mutexes }
-    ensures conditions { roster.new.conditions ≡ slice_set roster.old.conditions p (after_unblock t c reply (syncs_at p roster.old)).conditions }
+    ensures roster { roster.new ≡ put_syncs p (after_unblock t c reply (syncs_at p roster.old)) roster.old }
     ensures visited { IsVisited mutexes.new.visited (part_of roster.old.table.stored p) (part_of roster.new.table.stored p) }
     ensures ready { AreSynced p roster.new }
     ensures sound { IsSound roster.old → IsSound roster.new }
@@ -94,10 +84,7 @@ fn unblock(
     requires ready { AreSynced p roster.old }
     requires waiter { is_in t (condition_waiters (syncs_at p roster.old) c) ≡ true }
     requires named { named ≡ mutex_of_condition_wait (wait_of (thread_at (syncs_at p roster.old).locks t)) }
-    ensures threads { roster.new.table ≡ with_threads p (after_unblock_for t c reply named (syncs_at p roster.old)).locks roster.old.table }
-    ensures line { roster.new.lines ≡ slice_set roster.old.lines p (after_unblock_for t c reply named (syncs_at p roster.old)).line }
-    ensures mutexes { roster.new.mutexes ≡ slice_set roster.old.mutexes p (after_unblock_for t c reply named (syncs_at p roster.old)).mutexes }
-    ensures conditions { roster.new.conditions ≡ slice_set roster.old.conditions p (after_unblock_for t c reply named (syncs_at p roster.old)).conditions }
+    ensures roster { roster.new ≡ put_syncs p (after_unblock_for t c reply named (syncs_at p roster.old)) roster.old }
     ensures visited { IsVisited mutexes.new.visited (part_of roster.old.table.stored p) (part_of roster.new.table.stored p) }
     ensures ready { AreSynced p roster.new }
     ensures sound { IsSound roster.old → IsSound roster.new }
@@ -119,10 +106,7 @@ fn signal_to(
 )
     requires ready { AreSynced p roster.old }
     requires may { MayLeave next (syncs_at p roster.old) c }
-    ensures threads { roster.new.table ≡ with_threads p (after_signal_to next c (syncs_at p roster.old)).locks roster.old.table }
-    ensures line { roster.new.lines ≡ slice_set roster.old.lines p (after_signal_to next c (syncs_at p roster.old)).line }
-    ensures mutexes { roster.new.mutexes ≡ slice_set roster.old.mutexes p (after_signal_to next c (syncs_at p roster.old)).mutexes }
-    ensures conditions { roster.new.conditions ≡ slice_set roster.old.conditions p (after_signal_to next c (syncs_at p roster.old)).conditions }
+    ensures roster { roster.new ≡ put_syncs p (after_signal_to next c (syncs_at p roster.old)) roster.old }
     ensures visited { IsSome next → IsVisited mutexes.new.visited (part_of roster.old.table.stored p) (part_of roster.new.table.stored p) }
     ensures unvisited { next ≡ None → mutexes.new ≡ mutexes.old }
     ensures ready { AreSynced p roster.new }

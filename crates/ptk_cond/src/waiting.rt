@@ -1,12 +1,12 @@
 //! The beginning of a condition wait.
 
-ghost use Rattle.std.specs.Prelude.{◌≡◌, IsSome, slice_set};
+ghost use Rattle.std.specs.Prelude.{◌≡◌, IsSome};
 ghost use Rattle.ptk_words.specs.Pools.{pool_get};
 ghost use Rattle.ptk_words_parted.specs.Parts.{part_of};
 ghost use Rattle.ptk_words_model.specs.Condition.{after_condition_wait};
 ghost use Rattle.ptk_mutex.specs.Sound.{IsSound};
-ghost use Rattle.ptk_mutex.specs.Tables.{locks_at, with_threads};
-ghost use Rattle.ptk_cond.specs.Tables.{syncs_at, AreSynced, IsAwake};
+ghost use Rattle.ptk_mutex.specs.Tables.{locks_at};
+ghost use Rattle.ptk_cond.specs.Tables.{syncs_at, put_syncs, AreSynced, IsAwake};
 
 use ptk_mutex::Mutexes;
 use ptk_syncs::Roster;
@@ -28,10 +28,7 @@ pub fn wait(
     requires ready { AreSynced p roster.old }
     requires caller { IsAwake (locks_at p roster.old) t }
     requires used { IsSome (pool_get (part_of roster.old.conditions p) c) }
-    ensures threads { roster.new.table ≡ with_threads p (after_condition_wait t c m deadline (syncs_at p roster.old)).locks roster.old.table }
-    ensures line { roster.new.lines ≡ slice_set roster.old.lines p (after_condition_wait t c m deadline (syncs_at p roster.old)).line }
-    ensures mutexes { roster.new.mutexes ≡ slice_set roster.old.mutexes p (after_condition_wait t c m deadline (syncs_at p roster.old)).mutexes }
-    ensures conditions { roster.new.conditions ≡ slice_set roster.old.conditions p (after_condition_wait t c m deadline (syncs_at p roster.old)).conditions }
+    ensures roster { roster.new ≡ put_syncs p (after_condition_wait t c m deadline (syncs_at p roster.old)) roster.old }
     ensures ready { AreSynced p roster.new }
     ensures visited { mutexes.new.visited ≡ 0 }
     ensures sound { IsSound roster.old → IsSound roster.new }

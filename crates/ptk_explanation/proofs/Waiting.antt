@@ -4,7 +4,7 @@ use Rattle.std.specs.Prelude.{◌↔◌, Option, Some, None, IsTrue}
 use Rattle.ptk_words.specs.Pools.{pool_get}
 use Rattle.ptk_words.specs.declared.threads.Thread.{Thread}
 use Rattle.ptk_words_model.specs.State.{Part}
-use Rattle.ptk_words_model.specs.Run.{is_active}
+use Rattle.ptk_words.specs.Faults.{is_active}
 use Rattle.ptk_words_model.specs.Chain.{Leads, leads_to}
 use Rattle.ptk_words_sync_invariant.proofs.ChainLaws.{IsNumber, IsBounded, chain_at-next, chain_at-ended, chain_complete, false_true, none_some, number_of, reaches_sound}
 use Rattle.ptk_words_model.specs.Schedule.{is_running}

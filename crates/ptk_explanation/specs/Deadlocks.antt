@@ -1,26 +1,13 @@
 -- Threads that wait for one another in a cycle.
-use Rattle.std.specs.Prelude.{◌≡◌, ℕ, suc, Option, Some, None, option_map, option_and_then}
-use Rattle.ptk_words.specs.Names.{MutexNumber, ThreadNumber}
+use Rattle.std.specs.Prelude.{◌≡◌, ℕ, suc, Option, Some, None}
+use Rattle.ptk_words.specs.Names.{ThreadNumber}
 use Rattle.ptk_words.specs.declared.threads.Wait.{Wait}
 use Rattle.ptk_words.specs.declared.threads.Wait.TheVariants.{InputWait, SleepWait, JoinWait, MutexWait, ConditionWait, RelockWait}
-use Rattle.ptk_words.specs.declared.mutexes.Owner.{Owner}
-use Rattle.ptk_words.specs.declared.mutexes.Owner.TheVariants as owner
 use Rattle.ptk_words_model.specs.State.{Locks, Part}
-use Rattle.ptk_words_model.specs.Mutex.{mutex_at}
 use Rattle.ptk_words_model.specs.Chain.{steps_from}
 use Rattle.ptk_system.specs.declared.activity.Activity.{Activity}
 use Rattle.ptk_system.specs.declared.activity.Activity.TheVariants as activity
-use Rattle.ptk_system.specs.Activities.{activity_in}
-
--- the owner, where it is a thread (pthread_mutex_lock)
-abbrev pub thread_of_owner : Owner → Option ThreadNumber
-thread_of_owner owner.Free = None
-thread_of_owner owner.Abandoned = None
-thread_of_owner (owner.OwnedBy u) = Some u
-
--- the thread that owns the mutex of a number, if one does (pthread_mutex_lock)
-abbrev pub owner_thread : Locks → MutexNumber → Option ThreadNumber
-owner_thread locks m = option_and_then thread_of_owner (option_map (λ mutex. mutex.owner) (mutex_at locks m))
+use Rattle.ptk_system.specs.Activities.{activity_in, owner_thread}
 
 -- the thread for which a wait is: the owner of its mutex, or the thread whose end it is for; of none where it has a deadline, at which it ends by itself (pthread_mutex_lock, pthread_mutex_timedlock, pthread_join)
 abbrev pub blocker_of_wait : Locks → Wait → Option ThreadNumber

@@ -41,14 +41,6 @@ pub(crate) fn following(
 ) -> Option<ThreadNo>
     requires { p < length system.now.config.sections }
 {
-    match blocker(system, p, at) {
-        Some(next) => {
-            if next.number() == first.number() {
-                None
-            } else {
-                Some(next)
-            }
-        }
-        None => None,
-    }
+    let next = blocker(system, p, at)?;
+    (next.number() != first.number()).then_some(next)
 }

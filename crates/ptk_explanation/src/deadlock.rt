@@ -3,10 +3,10 @@
 ghost use Rattle.std.specs.Prelude.{◌≡◌, ◌<◌, ◌↔◌, length, IsTrue};
 ghost use Rattle.ptk_words_model.specs.Chain.{leads_to};
 ghost use Rattle.ptk_system.specs.World.{state_of};
-ghost use Rattle.ptk_explanation.specs.Deadlocks.{IsDeadlocked, blocker_in, blocker_of_wait, owner_thread, thread_of_owner};
+ghost use Rattle.ptk_explanation.specs.Deadlocks.{IsDeadlocked, blocker_in, blocker_of_wait};
 
 use ptk_system::{Activity, System};
-use ptk_words::{MutexNo, Owner, PartId, ThreadNo, Wait};
+use ptk_words::{PartId, ThreadNo, Wait};
 
 /// The thread for which a thread waits: the owner of the mutex that it waits for, or the thread whose end it waits for.
 /// None where it waits for no thread, or has a deadline, at which its wait ends by itself (pthread_mutex_lock,
@@ -59,30 +59,8 @@ fn blocker_of_wait(system: &System<'_>, p: PartId, wait: &Wait) -> Option<Thread
 {
     match wait {
         Wait::JoinWait(u) => Some(*u),
-        Wait::MutexWait(m, None) | Wait::RelockWait(m, _) => owner_thread(system, p, *m),
+        Wait::MutexWait(m, None) | Wait::RelockWait(m, _) => system.owner_thread(p, *m),
         Wait::MutexWait(_, Some(_)) => None,
         Wait::InputWait | Wait::SleepWait(_) | Wait::ConditionWait(_, _, _) => None,
-    }
-}
-
-/// The thread that owns a mutex; None where nobody does.
-fn owner_thread(system: &System<'_>, p: PartId, m: MutexNo) -> Option<ThreadNo>
-    requires { p < length system.now.config.sections }
-    ensures { result ≡ owner_thread (state_of system.now p).part.locks m }
-{
-    let owner = system.owner(p, m);
-    match &owner {
-        Some(owner) => thread_of_owner(owner),
-        None => None,
-    }
-}
-
-/// The owner, where it is a thread.
-fn thread_of_owner(owner: &Owner) -> Option<ThreadNo>
-    ensures { result ≡ thread_of_owner owner.now }
-{
-    match owner {
-        Owner::OwnedBy(u) => Some(*u),
-        Owner::Free | Owner::Abandoned => None,
     }
 }

@@ -10,7 +10,7 @@ use crate::words::{ceiling_of, policy_name, protocol_name, type_name};
 use ptk_main_runs::{cause_word, status_word};
 use ptk_symbols::Symbols;
 use ptk_system::{Activity, PartStatus, System};
-use ptk_words::{Cpu, Owner, PartId, SP, THREAD_LIMIT, ThreadNo, Tick, Wait};
+use ptk_words::{Cpu, Owner, PartId, SP, THREAD_LIMIT, ThreadNo, Wait};
 use std::alloc::{AllocError, Global};
 use std::fmt::Write;
 
@@ -67,10 +67,7 @@ impl<'a> Member<'a> {
     fn number(name: &'static str, number: Option<u64>) -> Member<'a> {
         Member {
             name,
-            value: match number {
-                Some(number) => Some(Value::Number(number)),
-                None => None,
-            },
+            value: number.map(|number| Value::Number(number)),
         }
     }
 
@@ -78,10 +75,7 @@ impl<'a> Member<'a> {
     fn byte(name: &'static str, byte: Option<u8>) -> Member<'a> {
         Member {
             name,
-            value: match byte {
-                Some(byte) => Some(Value::Number(u64::from(byte))),
-                None => None,
-            },
+            value: byte.map(|byte| Value::Number(u64::from(byte))),
         }
     }
 
@@ -89,10 +83,7 @@ impl<'a> Member<'a> {
     fn word(name: &'static str, word: Option<u32>) -> Member<'a> {
         Member {
             name,
-            value: match word {
-                Some(word) => Some(Value::Number(u64::from(word))),
-                None => None,
-            },
+            value: word.map(|word| Value::Number(u64::from(word))),
         }
     }
 
@@ -100,10 +91,7 @@ impl<'a> Member<'a> {
     fn text(name: &'static str, text: Option<&'a str>) -> Member<'a> {
         Member {
             name,
-            value: match text {
-                Some(text) => Some(Value::Text(text)),
-                None => None,
-            },
+            value: text.map(|text| Value::Text(text)),
         }
     }
 
@@ -111,7 +99,7 @@ impl<'a> Member<'a> {
     fn fact(name: &'static str, holds: bool) -> Member<'a> {
         Member {
             name,
-            value: if holds { Some(Value::Yes) } else { None },
+            value: holds.then_some(Value::Yes),
         }
     }
 }
@@ -153,26 +141,22 @@ impl Target {
     /// Of a wait.
     fn of_wait(wait: &Wait) -> Target {
         let mut target = Target::none("input");
+        target.deadline = wait.deadline().map(|tick| tick.ticks());
         match wait {
             Wait::InputWait => {}
-            Wait::SleepWait(deadline) => {
-                target.activity = "sleep";
-                target.deadline = Some(deadline.ticks());
-            }
+            Wait::SleepWait(_) => target.activity = "sleep",
             Wait::JoinWait(u) => {
                 target.activity = "join";
                 target.joins = Some(u.number());
             }
-            Wait::MutexWait(m, deadline) => {
+            Wait::MutexWait(m, _) => {
                 target.activity = "mutex";
                 target.mutex = Some(m.number());
-                target.deadline = ticks_of(deadline);
             }
-            Wait::ConditionWait(c, m, deadline) => {
+            Wait::ConditionWait(c, m, _) => {
                 target.activity = "condition";
                 target.condition = Some(c.number());
                 target.mutex = Some(m.number());
-                target.deadline = ticks_of(deadline);
             }
             Wait::RelockWait(m, _) => {
                 target.activity = "relock";
@@ -180,14 +164,6 @@ impl Target {
             }
         }
         target
-    }
-}
-
-/// The ticks of a deadline, if there is one.
-fn ticks_of(deadline: &Option<Tick>) -> Option<u64> {
-    match deadline {
-        Some(tick) => Some(tick.ticks()),
-        None => None,
     }
 }
 
@@ -397,10 +373,7 @@ fn push_thread(
     let target = Target::of(&facts.activity);
     let pc = facts.pc();
     let place = Place::of(symbols, pc);
-    let stack_pointer = match pc {
-        Some(_) => Some(facts.thread.cpu.register(SP)),
-        None => None,
-    };
+    let stack_pointer = pc.map(|_| facts.thread.cpu.register(SP));
     let mutex = MutexMembers::of(&facts.awaited);
     let members = [
         Member::byte("thread", Some(facts.number.number())),

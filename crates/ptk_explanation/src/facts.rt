@@ -7,9 +7,7 @@ use crate::refusal::refused_address;
 use ptk_disasm::push_word_statement;
 use ptk_mutex_priorities::MutexState;
 use ptk_system::{Activity, System};
-use ptk_words::{
-    Cause, Cpu, Entry, FaultKind, MutexNo, Owner, PartId, Phase, Thread, ThreadNo, Wait,
-};
+use ptk_words::{Cause, Cpu, Entry, FaultKind, MutexNo, Owner, PartId, Phase, Thread, ThreadNo};
 use std::alloc::{AllocError, Global};
 
 /// How many numbers of threads a partition has, at most 32.
@@ -77,10 +75,7 @@ impl ThreadFacts {
 
     /// Its pc, None where it has ended.
     pub(crate) fn pc(&self) -> Option<u32> {
-        match self.thread.phase {
-            Phase::Ended => None,
-            Phase::Normal | Phase::Unwinding => Some(self.thread.cpu.pc()),
-        }
+        (!self.thread.phase.is_ended()).then_some(self.thread.cpu.pc())
     }
 }
 
@@ -89,25 +84,16 @@ impl ThreadFacts {
 fn is_cancel_pending(system: &System<'_>, p: PartId, t: ThreadNo, phase: Phase) -> bool
     requires { p < length system.now.config.sections }
 {
-    match phase {
-        Phase::Normal => system.is_cancel_pending(p, t),
-        Phase::Unwinding | Phase::Ended => false,
-    }
+    phase.is_normal() && system.is_cancel_pending(p, t)
 }
 
 /// The mutex that a thread waits for, None where it waits for none.
 pub(crate) fn awaited_in(system: &System<'_>, p: PartId, activity: &Activity) -> Option<Awaited>
     requires { p < length system.now.config.sections }
 {
-    match activity {
-        Activity::Blocked(Wait::MutexWait(m, _)) | Activity::Blocked(Wait::RelockWait(m, _)) => {
-            Some(Awaited {
-                mutex: *m,
-                state: system.mutex(p, *m),
-            })
-        }
-        _ => None,
-    }
+    let mutex = activity.mutex()?;
+    let state = system.mutex(p, mutex);
+    Some(Awaited { mutex, state })
 }
 
 /// What stopped a partition at an instruction.

@@ -44,10 +44,7 @@ pub(crate) fn refused_address(kind: FaultKind, cpu: &Cpu, word: u32) -> Option<u
 fn address_in(cpu: &Cpu, word: u32) -> Option<u32>
     ensures { result ≡ is.address_in cpu.now (decoded word) }
 {
-    match decode(word) {
-        Some(instruction) => address_of(cpu, instruction),
-        None => None,
-    }
+    address_of(cpu, decode(word)?)
 }
 
 /// The address that an instruction goes to, loads from or stores to (RISC-V 2.5, 2.6).

@@ -12,8 +12,6 @@ pub(crate) fn standing(system: &System<'_>, p: PartId) -> Option<PartStatus>
     requires { p < length system.now.config.sections }
     ensures { result ≡ standing_of (section_at system.now.config p) (state_of system.now p).part }
 {
-    match system.config().sections()[p.index()].image() {
-        Some(_) => Some(system.status(p)),
-        None => None,
-    }
+    system.config().sections()[p.index()].image()?;
+    Some(system.status(p))
 }

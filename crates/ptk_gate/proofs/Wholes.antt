@@ -17,7 +17,7 @@ use Rattle.ptk_words_model.specs.Decision.{after_arrivals}
 use Rattle.ptk_words_model.specs.Schedule.{after_choice, after_interval}
 use Rattle.ptk_words_model.specs.Unwinding.{after_unwinding_start, after_gate_step}
 use Rattle.ptk_words_model.specs.Withdrawal.{after_expiries}
-use Rattle.ptk_words_model.specs.Run.{is_active}
+use Rattle.ptk_words.specs.Faults.{is_active}
 use Rattle.ptk_words_sync_invariant.proofs.Lined.{ready_alive}
 use Rattle.ptk_words_invariant.proofs.Effects.{HasLength, effect_length}
 use Rattle.ptk_words_invariant.proofs.Parts.{well_last, well_memory, well_halt}

@@ -3,7 +3,7 @@
 ghost use Rattle.std.specs.Prelude.{◌≡◌, ◌<◌, true, length, Some, IsSome};
 ghost use Rattle.ptk_words_model.specs.CallTable.{answer_of};
 ghost use Rattle.ptk_words_model.specs.Decision.{invocation};
-ghost use Rattle.ptk_words_model.specs.Run.{is_active};
+ghost use Rattle.ptk_words.specs.Faults.{is_active};
 ghost use Rattle.ptk_words_invariant.specs.Well.{IsWell};
 ghost use Rattle.ptk_gate_pools.specs.Kept.{part_at, put_part, limits_at};
 ghost use Rattle.ptk_gate_pools.specs.Held.{limits_here};

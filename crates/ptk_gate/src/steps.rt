@@ -8,7 +8,7 @@ ghost use Rattle.ptk_words_model.specs.Schedule.{after_choice, after_interval, w
 ghost use Rattle.ptk_words_model.specs.Unwinding.{after_unwinding_start, after_gate_step};
 ghost use Rattle.ptk_words_model.specs.Withdrawal.{after_expiries};
 ghost use Rattle.ptk_words_model.specs.Decision.{after_arrivals, runner_of};
-ghost use Rattle.ptk_words_model.specs.Run.{is_active};
+ghost use Rattle.ptk_words.specs.Faults.{is_active};
 ghost use Rattle.ptk_gate_pools.specs.Kept.{part_at, put_part, limits_at};
 ghost use Rattle.ptk_gate_steps.specs.Instructions.{after_instruction};
 ghost use Rattle.ptk_gate_steps.specs.NextSteps.{a0_kept, cpu_of, next_step_in};

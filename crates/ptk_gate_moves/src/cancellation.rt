@@ -7,7 +7,7 @@ ghost use Rattle.ptk_words_model.specs.Decision.{is_to_unwind};
 
 use crate::unwinding::start_unwinding;
 use ptk_gate_pools::{Look, Pools};
-use ptk_words::{CANCELED, Phase, Thread, ThreadNo};
+use ptk_words::{CANCELED, Thread, ThreadNo};
 use ptk_words_model::{Invocation, Reply};
 
 /// A cancellation point at which a pending request is acted on: the call is not carried out (XSH 2.9.5.2).
@@ -24,7 +24,7 @@ pub fn is_cancelled(pools: &Pools, t: ThreadNo) -> bool
     ensures { result ≡ is_cancelled pools.now.here t }
 {
     match pools.thread_ref(t) {
-        Some(thread) => is_normal(thread.phase) && pools.is_point_acting(t),
+        Some(thread) => thread.phase.is_normal() && pools.is_point_acting(t),
         None => false,
     }
 }
@@ -33,15 +33,5 @@ pub fn is_cancelled(pools: &Pools, t: ThreadNo) -> bool
 pub fn is_to_unwind(look: &Look<'_>, t: ThreadNo, thread: &Thread) -> bool
     ensures { result ≡ is_to_unwind look.now.part t thread.now }
 {
-    is_normal(thread.phase) && look.is_acting(t)
-}
-
-/// The thread does not unwind and has not ended.
-fn is_normal(phase: Phase) -> bool
-    ensures { result ≡ is_normal phase }
-{
-    match phase {
-        Phase::Normal => true,
-        Phase::Unwinding | Phase::Ended => false,
-    }
+    thread.phase.is_normal() && look.is_acting(t)
 }

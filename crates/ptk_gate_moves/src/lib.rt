@@ -1,10 +1,10 @@
 #![tactic(auto)]
 
-//! The moves composed of several: reply, refuse, block, wake, halt, the end of a turn, a round-robin interval, the
+//! The moves composed of several: reply, refuse, block, halt, the end of a turn, a round-robin interval, the
 //! beginning of a thread and of an unwinding, and cancellation points.
 //!
 //! - The model's moves that write several components, each one equation over the pools: `reply`, `refuse`, `succeed`,
-//!   `block`, `wake`, `halt`, `push_tail`, `end_turn`, `step_back`, `count_interval`, `begin` (a thread),
+//!   `block`, `halt`, `push_tail`, `end_turn`, `step_back`, `count_interval`, `begin` (a thread),
 //!   `start_unwinding`, `call_routine`, `cancel` (at a cancellation point).
 //! - Calls 0, 11 and 14: `exit`, `leave`, `own_number`.
 //!
@@ -25,7 +25,7 @@ mod times;
 mod unwinding;
 mod words;
 
-pub use blocking::{block, halt, wake};
+pub use blocking::{block, halt};
 pub use calls::{exit, leave, own_number};
 pub use cancellation::{cancel, is_cancelled, is_to_unwind};
 pub use creation::begin;
@@ -33,7 +33,7 @@ pub use intervals::count_interval;
 pub use places::{end_turn, push_tail, step_back};
 pub use ptk_gate_pools::{Look, Pools};
 pub use replies::{refuse, reply, succeed, succeed_with, succeed_with_two};
-pub use targets::{is_ended, is_taken, named_thread, target};
+pub use targets::{named_thread, target};
 pub use times::asked_deadline;
 pub use unwinding::{call_routine, start_unwinding};
 pub use words::{is_pointer, named_priority, policy_number};

@@ -4,13 +4,12 @@ ghost use Rattle.std.specs.Prelude.{◌≡◌, ◌<◌, ◌≤◌, length, IfSom
 ghost use Rattle.std.specs.Option.{option_copied};
 ghost use Rattle.ptk_words.specs.Pools.{pool_get};
 ghost use Rattle.ptk_words_model.specs.Decision.{runner_at};
-ghost use Rattle.ptk_words.specs.Threads.{is_ended, is_taken};
 ghost use Rattle.ptk_words_model.specs.Priority.{thread_at};
 ghost use Rattle.ptk_threads_slots.specs.Links.{threads_of};
 
 use ptk_gate_pools::Pools;
 use ptk_threads::Slot;
-use ptk_words::{Phase, Thread, ThreadNo};
+use ptk_words::{Thread, ThreadNo};
 use ptk_words_model::Runner;
 
 /// The thread that a guest names by a word, if that is the number of one in use.
@@ -66,21 +65,4 @@ fn thread_named(slots: &[Slot], word: u32) -> Option<&Thread>
         return None;
     }
     slots[index].thread_ref()
-}
-
-/// A thread that can be neither joined nor detached any more.
-pub fn is_taken(thread: &Thread) -> bool
-    ensures { result ≡ is_taken thread.now }
-{
-    thread.is_detached || thread.joiner.is_some()
-}
-
-/// Whether the thread has ended.
-pub fn is_ended(phase: Phase) -> bool
-    ensures { result ≡ is_ended phase }
-{
-    match phase {
-        Phase::Normal | Phase::Unwinding => false,
-        Phase::Ended => true,
-    }
 }

@@ -1,15 +1,10 @@
 -- What the moves on mutexes need of the pools, and that they leave stored priorities the effective ones.
-use Rattle.std.proofs.Common.{arith, ◌≡◌, ◌≢◌, ℕ, ◌<◌, List, [], length, sym, ◌∙◌, ap, ◌⊎◌, inl, inr, subst}
+use Rattle.std.proofs.Common.{arith, ◌≡◌, ◌≢◌, ℕ, ◌<◌, List, length, sym, ◌∙◌, ap, ◌⊎◌, inl, inr, subst}
 use Rattle.std.specs.Prelude.{Option}
 use Rattle.std.proofs.Math.ListN.{set}
 use Rattle.std.proofs.lemmas.Bool.{cases_eq}
-use Rattle.std.proofs.lemmas.List.{set-get_or}
 use Rattle.ptk_words.specs.declared.threads.Thread.{Thread}
-use Rattle.ptk_words.specs.declared.threads.Wait.{Wait}
 use Rattle.ptk_words_parted.specs.Parts.{part_of}
-use Rattle.ptk_words_model.specs.declared.LockMove.{LockMove}
-use Rattle.ptk_words_model.specs.declared.LockMove.TheVariants.{Takes, Recovers, Counts, Waits, Refuses}
-use Rattle.ptk_words_model.specs.Mutex.{after_move}
 use Rattle.ptk_words_model.specs.State.{Mutex, Locks}
 use Rattle.ptk_words_model.specs.Priority.{effective_priorities}
 use Rattle.ptk_threads.specs.Table.{ThreadTable}
@@ -43,13 +38,5 @@ pub stored_moved : (p n : ℕ) (locks : Locks) (table new : ThreadTable) (mutexe
     → p < n → length table.threads ≡ n → length table.stored ≡ n → length mutexes ≡ n → AreStored table.stored table.threads mutexes → AreStored new.stored new.threads others
 stored_moved p n locks table new mutexes others e f lt threads stored pool are =
     rw (e, f) (record { each = λ q. moved_row p q locks table mutexes (omega arith) (omega arith) (omega arith) are (cases_eq q p) })
-
--- the line stays
-pub line_stays : (p t m : ℕ) (move : LockMove) (wait : Wait) (table : ThreadTable) (lines : List (List ℕ)) (mutexes : List (List (Option Mutex))) → lines ≡ set lines p (after_move move t m wait (locks_by p table lines mutexes)).line
-line_stays p t m Takes wait table lines mutexes = sym (set-get_or lines p [])
-line_stays p t m Recovers wait table lines mutexes = sym (set-get_or lines p [])
-line_stays p t m Counts wait table lines mutexes = sym (set-get_or lines p [])
-line_stays p t m Waits wait table lines mutexes = sym (set-get_or lines p [])
-line_stays p t m (Refuses e) wait table lines mutexes = sym (set-get_or lines p [])
 
 pub ruleset moved = (ready_is, stored_moved)

@@ -8,11 +8,12 @@ use Rattle.ptk_words.specs.declared.threads.Thread.{Thread}
 use Rattle.ptk_words.specs.declared.threads.Wait.{Wait}
 use Rattle.ptk_words.specs.declared.threads.Wait.TheVariants.{InputWait, SleepWait, JoinWait}
 use Rattle.ptk_words_model.specs.State.{Mutex, Condition, Part}
-use Rattle.ptk_words_model.specs.Priority.{thread_at, mutex_of_wait}
+use Rattle.ptk_words_model.specs.Priority.{thread_at}
+use Rattle.ptk_words.specs.Threads.{mutex_of_wait, condition_of_wait}
 use Rattle.ptk_words_model.specs.Mutex.{wait_of, waiters_of}
 use Rattle.ptk_words_sync_invariant.specs.Locks.{AreMutexes}
 use Rattle.ptk_words_model.specs.Condition.{waiters_on}
-use Rattle.ptk_words_sync_invariant.specs.Conditions.{condition_of_wait, AreConditions}
+use Rattle.ptk_words_sync_invariant.specs.Conditions.{AreConditions}
 use Rattle.ptk_words_sync_invariant.proofs.Lined.{ready_waits}
 use Rattle.ptk_words_sync_invariant.proofs.Threads.{awaits_wait}
 use Rattle.ptk_words_invariant.specs.Well.{IsWell}

@@ -9,8 +9,9 @@ use Rattle.ptk_words.specs.declared.threads.Thread.{Thread}
 use Rattle.ptk_words.specs.declared.threads.Wait.{Wait}
 use Rattle.ptk_words_parted.specs.Parts.{part_of}
 use Rattle.ptk_words_model.specs.State.{Mutex}
-use Rattle.ptk_words_model.specs.Priority.{mutex_of_wait, awaited, effective_priorities}
-use Rattle.ptk_threads.specs.Table.{ThreadTable, thread_in, stored_left, with_changed, with_slot, with_left, with_wait}
+use Rattle.ptk_words_model.specs.Priority.{awaited, effective_priorities}
+use Rattle.ptk_words.specs.Threads.{mutex_of_wait}
+use Rattle.ptk_threads.specs.Table.{ThreadTable, thread_in, stored_left, with_changed, with_slot, with_left}
 use Rattle.ptk_threads.proofs.Pools.{part_of-set}
 use Rattle.ptk_gate_waits.proofs.Priorities.{level, priorities_changed, level_kept, awaited_kept}
 use Rattle.ptk_gate_pools.specs.Kept.{AreStored}
@@ -53,21 +54,20 @@ pub stored_with : (p k : ℕ) (f : Thread → Thread) (table : ThreadTable) (mut
     → AreStored table.stored table.threads mutexes → AreStored table.stored (set table.threads p (pool_changed k f (part_of table.threads p))) mutexes
 stored_with p k f table mutexes priority wait are = stored_changed p k f table (with_changed p k f table) mutexes refl priority wait are
 
-not_some : (o : Option ℕ) → is_some o ≡ false → o ≡ None
+pub not_some : (o : Option ℕ) → is_some o ≡ false → o ≡ None
 not_some None e = refl
 not_some (Some m) e = absurd (cc e)
 
-wait_entry : (wait : Option Wait) (x : Option Thread) → mutex_of_wait wait ≡ None → mutex_of_wait (option_and_then (λ (thread : Thread). thread.wait) x) ≡ None → awaited (option_map (with_wait wait) x) ≡ awaited x
-wait_entry wait None e was = refl
-wait_entry wait (Some thread) e was = e ∙ sym was
+wait_entry : (f : Thread → Thread) (x : Option Thread) → ((thread : Thread) → mutex_of_wait (f thread).wait ≡ None) → mutex_of_wait (option_and_then (λ (thread : Thread). thread.wait) x) ≡ None → awaited (option_map f x) ≡ awaited x
+wait_entry f None wait was = refl
+wait_entry f (Some thread) wait was = wait thread ∙ sym was
 
 -- a thread waits for something else, neither time for a mutex
-pub stored_wait : (p k : ℕ) (wait old : Option Wait) (table new : ThreadTable) (mutexes : List (List (Option Mutex))) → new ≡ with_changed p k (with_wait wait) table → old ≡ option_and_then (λ (thread : Thread). thread.wait) (thread_in table p k)
-    → is_some (mutex_of_wait old) ≡ false → is_some (mutex_of_wait wait) ≡ false → AreStored table.stored table.threads mutexes → AreStored new.stored new.threads mutexes
-stored_wait p k wait old table new mutexes e was before after are =
+pub stored_wait : (p k : ℕ) (f : Thread → Thread) (old : Option Wait) (table new : ThreadTable) (mutexes : List (List (Option Mutex))) → new ≡ with_changed p k f table → ((thread : Thread) → (f thread).priority ≡ thread.priority) → ((thread : Thread) → mutex_of_wait (f thread).wait ≡ None)
+    → old ≡ option_and_then (λ (thread : Thread). thread.wait) (thread_in table p k) → is_some (mutex_of_wait old) ≡ false → AreStored table.stored table.threads mutexes → AreStored new.stored new.threads mutexes
+stored_wait p k f old table new mutexes e priority wait was before are =
     let none : mutex_of_wait (option_and_then (λ (thread : Thread). thread.wait) (thread_in table p k)) ≡ None = ap mutex_of_wait (sym was) ∙ not_some (mutex_of_wait old) before in
-    stored_same p k (with_wait wait) table new mutexes e (level_kept (with_wait wait) (thread_in table p k) (λ thread. refl))
-    (wait_entry wait (thread_in table p k) (not_some (mutex_of_wait wait) after) none) are
+    stored_same p k f table new mutexes e (level_kept f (thread_in table p k) priority) (wait_entry f (thread_in table p k) wait none) are
 
 pub ruleset stored = (stored_changed, stored_with)
 

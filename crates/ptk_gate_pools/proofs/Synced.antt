@@ -8,7 +8,7 @@ use Rattle.ptk_words_model.specs.State.{Mutex, Condition, Part, Syncs}
 use Rattle.ptk_words_model.specs.Priority.{thread_at, awaited}
 use Rattle.ptk_words_model.specs.Mutex.{wait_of}
 use Rattle.ptk_words_sync_invariant.specs.Locks.{is_ready, AreLined}
-use Rattle.ptk_words_sync_invariant.specs.Conditions.{condition_of_wait}
+use Rattle.ptk_words.specs.Threads.{condition_of_wait}
 use Rattle.ptk_words_sync_invariant.proofs.Lined.{ready_waits, not_ready_out}
 use Rattle.ptk_words_sync_invariant.proofs.Threads.{awaits_not_ready}
 use Rattle.ptk_words_sync_invariant.proofs.Wakings.{waits_not_ready}

@@ -1,14 +1,14 @@
 //! Condition variables: their numbers, what is shown of them, and the moves of wait, signal, broadcast and
 //! withdrawal (pthread_cond_wait, pthread_cond_signal).
 
-ghost use Rattle.std.specs.Prelude.{◌≡◌, ◌<◌, true, [], length, nat_lt, if◌then◌else◌, Some, None, IsSome, is_some};
+ghost use Rattle.std.specs.Prelude.{◌≡◌, ◌<◌, true, [], length, nat_lt, Some, None, IsSome, is_some, if◌then◌else◌};
 ghost use Rattle.ptk_words.specs.Pools.{least_free, pool_get};
 ghost use Rattle.ptk_words_model.specs.State.{with_syncs};
 ghost use Rattle.ptk_words_model.specs.Priority.{thread_at};
 ghost use Rattle.ptk_words_model.specs.Mutex.{mutex_at, owns, wait_of};
 ghost use Rattle.ptk_words_model.specs.Condition.{condition_waiters, names_another, after_condition_wait, after_signal, after_broadcast, after_unblock};
 ghost use Rattle.ptk_words_model.specs.Calls.{with_pool_condition};
-ghost use Rattle.ptk_words_sync_invariant.specs.Conditions.{condition_of_wait};
+ghost use Rattle.ptk_words.specs.Threads.{condition_of_wait};
 ghost use Rattle.ptk_words_invariant.specs.Well.{IsWell};
 ghost use Rattle.ptk_gate_pools.specs.Held.{limits_here};
 

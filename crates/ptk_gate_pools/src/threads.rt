@@ -1,21 +1,22 @@
 //! A thread's number, and the fields of its entry. A move of a field leaves a free number free. Where a move may change
 //! who raises whom, the partition's stored priorities are computed again.
 
-ghost use Rattle.std.specs.Prelude.{◌≡◌, ◌<◌, false, length, Some, None, option_and_then};
+ghost use Rattle.std.specs.Prelude.{◌≡◌, ◌<◌, false, length, Some, None, IsSome, is_some, option_and_then};
 ghost use Rattle.ptk_words.specs.Pools.{least_free, is_in};
-ghost use Rattle.ptk_words.specs.Threads.{left_at_end, left_at_detach};
+ghost use Rattle.ptk_words.specs.Threads.{left_at_end, left_at_detach, mutex_of_wait};
 ghost use Rattle.ptk_words_model.specs.State.{with_locks};
 ghost use Rattle.ptk_words_model.specs.Priority.{thread_at};
-ghost use Rattle.ptk_words_model.specs.Schedule.{with_thread, with_used};
+ghost use Rattle.ptk_words_model.specs.Schedule.{with_thread, with_used, after_wake};
 ghost use Rattle.ptk_words_model.specs.Unwinding.{without_thread};
 ghost use Rattle.ptk_words_model.specs.Withdrawal.{without_joiner};
 ghost use Rattle.ptk_words_model.specs.Decision.{with_cpu};
 ghost use Rattle.ptk_threads.specs.Table.{with_policy, with_priority, with_joiner, with_result, with_phase, with_wait};
+ghost use Rattle.ptk_words_sync_invariant.specs.Conditions.{IsNoWaiter};
 ghost use Rattle.ptk_mutex.specs.Tables.{AreLocked};
 ghost use Rattle.ptk_gate_pools.specs.Moves.{with_number, with_left};
 
 use crate::pools::Pools;
-use ptk_gate_waits::is_for_mutex;
+use ptk_mutex::wake;
 use ptk_threads::ThreadChange;
 use ptk_words::{Cpu, Phase, Policy, Priority, Thread, ThreadNo, Wait};
 
@@ -94,6 +95,25 @@ impl Pools {
         self.mutexes.refresh(&mut self.roster, p);
     }
 
+    /// A blocked thread, in no list of waiters any more, is ready, at the tail, with these values in a0 and so on (XSH
+    /// 2.8.4).
+    #[tactic(auto, using(crate::proofs::Hands::handed, crate::proofs::Stored::refreshed))]
+    pub fn wake(&mut self, t: ThreadNo, values: &[u32])
+        requires few { length values.now < 4 }
+        requires in_use { IsSome (thread_at self.old.here.locks t) }
+        requires fresh { is_in t self.old.here.line ≡ false }
+        requires free { IsNoWaiter t self.old.here.mutexes self.old.here.conditions }
+        ensures { self.new ≡ record self.old { here = with_locks (after_wake t values.now) self.old.here } }
+    {
+        let p = self.hand;
+        let had_mutex = is_for_mutex(&self.roster.threads().wait(p, t));
+        wake(&mut self.roster, p, t, values);
+        if !had_mutex {
+            return;
+        }
+        self.mutexes.refresh(&mut self.roster, p);
+    }
+
     /// The thread is this far (pthread_exit).
     #[tactic(auto, using(crate::proofs::Hands::handed, crate::proofs::Stored::stored))]
     pub fn give_phase(&mut self, t: ThreadNo, phase: Phase)
@@ -151,5 +171,15 @@ impl Pools {
         let p = self.hand;
         self.roster.end(p, t);
         self.mutexes.refresh(&mut self.roster, p);
+    }
+}
+
+/// Whether a thread in this wait, if it is one, waits for a mutex (pthread_mutex_lock, pthread_cond_wait).
+fn is_for_mutex(wait: &Option<Wait>) -> bool
+    ensures { result ≡ is_some (mutex_of_wait wait.now) }
+{
+    match wait {
+        Some(wait) => wait.mutex().is_some(),
+        None => false,
     }
 }

@@ -13,7 +13,7 @@ ghost use Rattle.ptk_gate_moves.specs.Held.{limits_here};
 ghost use Rattle.ptk_words_sync_invariant.specs.Conditions.{IsNoWaiter};
 ghost use Rattle.ptk_gate_services.specs.Arrivals.{after_next};
 
-use ptk_gate_moves::{Pools, wake};
+use ptk_gate_moves::Pools;
 use ptk_words::{ThreadNo, Tick};
 
 /// The waiter is ready, with the byte in a1.
@@ -25,7 +25,7 @@ fn hand_byte(pools: &mut Pools, t: ThreadNo, byte: u8)
     ensures { pools.new ≡ record pools.old { here = with_locks (after_wake t (0 ∷ byte ∷ [])) (with_console (without_waiter t) pools.old.here) } }
 {
     pools.leave_waiters(t);
-    wake(pools, t, &[0, byte as u32]);
+    pools.wake(t, &[0, byte as u32]);
 }
 
 /// Hands the next input byte, if it comes at the tick or before, to the first waiter; whether one came.

@@ -9,7 +9,7 @@ ghost use Rattle.ptk_gate_moves.specs.Held.{limits_here};
 ghost use Rattle.ptk_gate_services.specs.Requests.{after_request};
 
 use crate::withdrawal::withdraw;
-use ptk_gate_moves::{Pools, is_cancelled, is_ended, refuse, succeed, target};
+use ptk_gate_moves::{Pools, is_cancelled, refuse, succeed, target};
 use ptk_words::{Errno, ThreadNo, Wait};
 use ptk_words_model::{Invocation, Reply};
 
@@ -27,7 +27,7 @@ pub fn cancel(pools: &mut Pools, i: Invocation) -> Reply
     let Some(target) = target(pools, i.a0) else {
         return refuse(pools, i, Errno::ESRCH);
     };
-    if is_ended(target.thread.phase) {
+    if target.thread.phase.is_ended() {
         return succeed(pools, i);
     }
     request(pools, target.number, target.thread.wait);

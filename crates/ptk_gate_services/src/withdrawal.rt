@@ -12,7 +12,7 @@ ghost use Rattle.ptk_words_invariant.specs.Well.{IsWell};
 ghost use Rattle.ptk_gate_moves.specs.Held.{limits_here};
 ghost use Rattle.ptk_words_sync_invariant.specs.Conditions.{IsNoWaiter};
 
-use ptk_gate_moves::{Pools, wake};
+use ptk_gate_moves::Pools;
 use ptk_words::{ThreadNo, Wait};
 
 /// A thread blocked at a cancellation point is taken out of its wait with no reply, a condition waiter re-locks its
@@ -42,7 +42,7 @@ fn wake_marked(pools: &mut Pools, t: ThreadNo)
     requires free { IsNoWaiter t pools.old.here.mutexes pools.old.here.conditions }
     ensures { pools.new ≡ record pools.old { here = with_mark t (with_locks (after_wake t []) pools.old.here) } }
 {
-    wake(pools, t, &[]);
+    pools.wake(t, &[]);
     pools.mark(t);
 }
 

@@ -4,6 +4,7 @@ pub mod QuietStops
 pub mod RepliesPut
 pub mod RepliesMade
 pub mod LocksMade
+pub mod SignalsMade
 pub mod QuietCalls
 pub mod IdleStops
 pub mod Steady

@@ -2,7 +2,7 @@
 use Rattle.std.proofs.Common.{◌≡◌, ℕ, ◌-◌, ◌<◌, Bool, true, false, not, ◌&&◌, List, [], ◌∷◌, length, refl, sym, ap, ◌∙◌, arith}
 use Rattle.std.specs.Prelude.{◌==◌, Option, Some, None, is_some, option_map, unwrap_or, nat_lt, if◌then◌else◌}
 use Rattle.std.proofs.lemmas.Bool.{ne_eqb, eqb-true}
-use Rattle.ptk_words.specs.Calls.{call_of, ticks_of}
+use Rattle.ptk_words.specs.Calls.{call_of}
 use Rattle.ptk_words.specs.Pools.{first_of_greatest}
 use Rattle.ptk_words.specs.Processor.{Processor, register, with_register}
 use Rattle.ptk_words.specs.Words.{word_at}
@@ -165,19 +165,14 @@ unlock_row m i s is free =
     ∙ (ap (λ (b : Bool). (if not b then refusal EPERM i s else success [] i (with_locks (after_unlock m) s)).part) known.owned
     ∙ ap (λ (locks : Locks). replied i.caller (0 ∷ []) (with_locks (λ _. locks) s)) (freed i.caller m s.locks known))
 
--- the ticks of a number by the call that it is
-abbrev cost_by : Option Call → ℕ
-cost_by o = unwrap_or (option_map ticks_of o) 2
-
 -- the state that the thread's registers are of names the same mutex
 named_with : (t m pointer : ℕ) (cpu : Processor) (s : Part) → IsNamed pointer m s → IsNamed pointer m (with_cpu t cpu s)
 named_with t m pointer cpu s is = record { pointed = is.pointed; word = is.word; some = is.some; used = is.used }
 
 -- pthread_mutex_lock
 pub lock_put : (limits : Limits) (t m : ℕ) (before after : Processor) (s : Part) → call_of (register before A7) ≡ Some MutexLock → is_pointer s (register before A0) 4 ≡ true → word_at s.memory (register before A0) ≡ m → 0 < m
-    → is_takeable (mutex_at s.locks m) ≡ true → after ≡ with_register before A0 0 → IsPut limits 8 t before after (Takes m) s
+    → is_takeable (mutex_at s.locks m) ≡ true → after ≡ with_register before A0 0 → IsPut limits t before after (Takes m) s
 lock_put limits t m before after s e pointed word some free left = record {
-  cost = ap (λ (o : Option Call). cost_by o) (sym e);
   values = 0 ∷ [];
   replies = λ tick.
       let named : IsNamed (register before A0) m s = record { pointed = pointed; word = word; some = some; used = used_by (mutex_at s.locks m) free } in
@@ -189,9 +184,8 @@ lock_put limits t m before after s e pointed word some free left = record {
 
 -- pthread_mutex_unlock
 pub unlock_put : (limits : Limits) (t m : ℕ) (before after : Processor) (s : Part) → call_of (register before A7) ≡ Some MutexUnlock → is_pointer s (register before A0) 4 ≡ true → word_at s.memory (register before A0) ≡ m → 0 < m
-    → is_releasable t (mutex_at s.locks m) ≡ true → after ≡ with_register before A0 0 → IsPut limits 10 t before after (Releases m) s
+    → is_releasable t (mutex_at s.locks m) ≡ true → after ≡ with_register before A0 0 → IsPut limits t before after (Releases m) s
 unlock_put limits t m before after s e pointed word some free left = record {
-  cost = ap (λ (o : Option Call). cost_by o) (sym e);
   values = 0 ∷ [];
   replies = λ tick.
       let named : IsNamed (register before A0) m s = record { pointed = pointed; word = word; some = some; used = used_last t (mutex_at s.locks m) free } in

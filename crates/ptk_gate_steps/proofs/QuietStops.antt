@@ -15,7 +15,7 @@ use Rattle.ptk_words_model.specs.Priority.{thread_at, effective_priority}
 use Rattle.ptk_words_model.specs.Schedule.{first_ready, is_round_robin}
 use Rattle.ptk_words_model.specs.Decision.{is_to_unwind}
 use Rattle.ptk_words_model.specs.Unwinding.{is_alive}
-use Rattle.ptk_words_model.specs.Run.{is_active}
+use Rattle.ptk_words.specs.Faults.{is_active}
 use Rattle.ptk_words_sync_invariant.specs.Locks.{used_of}
 use Rattle.ptk_words_sync_invariant.proofs.Lined.{ready_alive}
 use Rattle.ptk_words_sync_invariant.proofs.Lines.{first_in}

@@ -3,8 +3,9 @@ use Rattle.std.proofs.Common.{◌≡◌, ℕ, ◌+◌, Bool, true, false, [], �
 use Rattle.std.specs.Prelude.{Option, Some, if◌then◌else◌}
 use Rattle.std.proofs.lemmas.Bool.{false≢true}
 use Rattle.ptk_words.specs.Pools.{pool_changed, pool_get, pool_set}
-use Rattle.ptk_words.specs.Processor.{Processor}
-use Rattle.ptk_words.specs.declared.TheConstants.{ECALL}
+use Rattle.ptk_words.specs.Calls.{cost_of}
+use Rattle.ptk_words.specs.Processor.{Processor, register}
+use Rattle.ptk_words.specs.declared.TheConstants.{A7, ECALL}
 use Rattle.ptk_words.specs.declared.mutexes.Owner.TheVariants.{Free, OwnedBy}
 use Rattle.ptk_words.specs.declared.sections.Entry.{Entry}
 use Rattle.ptk_words.specs.declared.sections.Limits.{Limits}
@@ -100,24 +101,24 @@ effect_left (Sets k value) t ticks after s = refl
 
 -- the registers and the ticks put, the effect made, and then the last step
 pub made : (tick t ticks : ℕ) (thread : Thread) (cpu after : Processor) (effect : QuietEffect) (entry : Entry) (old mid left new : Held) (before traced : KeptSteps)
-    → word_fetched old.here.memory thread.cpu.pc ≡ ECALL → cpu ≡ with_next_pc thread.cpu
-    → IsPut (limits_here old) ticks t cpu after effect old.here
+    → word_fetched old.here.memory thread.cpu.pc ≡ ECALL → cpu ≡ with_next_pc thread.cpu → ticks ≡ cost_of (register thread.cpu A7)
+    → IsPut (limits_here old) t cpu after effect old.here
     → mid ≡ record old { here = with_locks (with_thread t (computed ticks after)) old.here }
     → left ≡ record mid { here = after_quiet_effect effect t mid.here }
     → entry ≡ reply_entry tick t thread after
     → new ≡ record left { here = record left.here { last = Some entry } }
     → traced ≡ with_newest (entry ∷ []) before
     → IsMadeHere tick t ticks thread old new before traced
-made tick t ticks thread cpu after effect entry old mid left new before traced word past put first next_is is second kept =
+made tick t ticks thread cpu after effect entry old mid left new before traced word past cost put first next_is is second kept =
     let s : Part = old.here in
-    let next : IsPut (limits_here old) ticks t (with_next_pc thread.cpu) after effect s = subst (λ (c : Processor). IsPut (limits_here old) ticks t c after effect s) past put in
+    let next : IsPut (limits_here old) t (with_next_pc thread.cpu) after effect s = subst (λ (c : Processor). IsPut (limits_here old) t c after effect s) past put in
     let o : Outcome = outcome_of (after_quiet_effect effect t s) in
     let v : Part = with_locks (with_thread t (computed ticks after)) (with_outcome o s) in
     let both : left ≡ record old { here = v } =
     next_is ∙ (ap (λ (k : Held). record k { here = after_quiet_effect effect t k.here }) first ∙ ap (λ (q : Part). record old { here = q }) (effect_left effect t ticks after s)) in (
       after,
       o,
-      record { word = word; cost = next.cost; values = next.values; replies = next.replies; left = next.left; priorities = λ w. effect_plain effect t w (limits_here old) s next.plain },
+      record { word = word; cost = cost; values = next.values; replies = next.replies; left = next.left; priorities = λ w. effect_plain effect t w (limits_here old) s next.plain },
       second ∙ (ap (λ (k : Held). record k { here = record k.here { last = Some entry } }) both ∙ ap (λ (e : Entry). record old { here = record v { last = Some e } }) is),
       effect_keeps effect t (limits_here old) s next.plain,
       kept ∙ ap (λ (e : Entry). with_newest (e ∷ []) before) is,

@@ -2,7 +2,7 @@
 use Rattle.std.proofs.Common.{◌≡◌, ℕ, ◌%◌, Bool, true, false, not, ◌&&◌, [], ◌∷◌, refl, sym, ap, ◌∙◌}
 use Rattle.std.specs.Prelude.{Option, Some, None, option_map, unwrap_or, if◌then◌else◌}
 use Rattle.std.proofs.Math.Bool.{and-false}
-use Rattle.ptk_words.specs.Calls.{call_of, ticks_of}
+use Rattle.ptk_words.specs.Calls.{call_of}
 use Rattle.ptk_words.specs.Faults.{errno_number}
 use Rattle.ptk_words.specs.Pools.{pool_get, pool_set, numbered}
 use Rattle.ptk_words.specs.Processor.{Processor, register, with_register}
@@ -30,14 +30,9 @@ use Rattle.ptk_gate_steps.specs.Replies.{IsPut}
 
 -- ---- the calls
 
--- the ticks of a number by the call that it is
-abbrev cost_by : Option Call → ℕ
-cost_by o = unwrap_or (option_map ticks_of o) 2
-
 -- a number that is no call
-pub unknown_put : (limits : Limits) (t : ℕ) (before after : Processor) (s : Part) → call_of (register before A7) ≡ None → after ≡ with_register before A0 (errno_number ENOSYS) → IsPut limits 2 t before after Keeps s
+pub unknown_put : (limits : Limits) (t : ℕ) (before after : Processor) (s : Part) → call_of (register before A7) ≡ None → after ≡ with_register before A0 (errno_number ENOSYS) → IsPut limits t before after Keeps s
 unknown_put limits t before after s e left = record {
-  cost = ap (λ (o : Option Call). cost_by o) (sym e);
   values = errno_number ENOSYS ∷ [];
   replies = λ tick.
       ap (λ (o : Option Call). (answer_to o (invocation limits tick t before) (with_cpu t before s)).part) e;
@@ -46,9 +41,8 @@ unknown_put limits t before after s e left = record {
 }
 
 -- pthread_self
-pub self_put : (limits : Limits) (t : ℕ) (before after : Processor) (s : Part) → call_of (register before A7) ≡ Some PthreadSelf → after ≡ with_register (with_register before A0 0) A1 t → IsPut limits 2 t before after Keeps s
+pub self_put : (limits : Limits) (t : ℕ) (before after : Processor) (s : Part) → call_of (register before A7) ≡ Some PthreadSelf → after ≡ with_register (with_register before A0 0) A1 t → IsPut limits t before after Keeps s
 self_put limits t before after s e left = record {
-  cost = ap (λ (o : Option Call). cost_by o) (sym e);
   values = 0 ∷ t ∷ [];
   replies = λ tick.
       ap (λ (o : Option Call). (answer_to o (invocation limits tick t before) (with_cpu t before s)).part) e;
@@ -94,9 +88,8 @@ taken_by f i u (Some thread) e =
 -- pthread_getschedparam of a thread in use
 pub told_put : (limits : Limits) (t policy priority : ℕ) (target : Thread) (before after : Processor) (s : Part) → call_of (register before A7) ≡ Some PthreadGetschedparam
     → Some target ≡ thread_at s.locks (register before A0) → policy ≡ policy_number target.policy → priority ≡ target.priority
-    → after ≡ with_register (with_register (with_register before A0 0) A1 policy) A2 priority → IsPut limits 4 t before after Keeps s
+    → after ≡ with_register (with_register (with_register before A0 0) A1 policy) A2 priority → IsPut limits t before after Keeps s
 told_put limits t policy priority target before after s e found is-policy is-priority left = record {
-  cost = ap (λ (o : Option Call). cost_by o) (sym e);
   values = 0 ∷ policy_number target.policy ∷ target.priority ∷ [];
   replies = λ tick.
       ap (λ (o : Option Call). (answer_to o (invocation limits tick t before) (with_cpu t before s)).part) e
@@ -110,9 +103,8 @@ told_put limits t policy priority target before after s e found is-policy is-pri
 
 -- pthread_getschedparam of a number that is not in use
 pub missing_put : (limits : Limits) (t : ℕ) (before after : Processor) (s : Part) → call_of (register before A7) ≡ Some PthreadGetschedparam → None ≡ thread_at s.locks (register before A0)
-    → after ≡ with_register before A0 (errno_number ESRCH) → IsPut limits 4 t before after Keeps s
+    → after ≡ with_register before A0 (errno_number ESRCH) → IsPut limits t before after Keeps s
 missing_put limits t before after s e found left = record {
-  cost = ap (λ (o : Option Call). cost_by o) (sym e);
   values = errno_number ESRCH ∷ [];
   replies = λ tick.
       ap (λ (o : Option Call). (answer_to o (invocation limits tick t before) (with_cpu t before s)).part) e
@@ -124,9 +116,8 @@ missing_put limits t before after s e found left = record {
 
 -- pthread_detach of a number that is not in use
 pub undetached_put : (limits : Limits) (t : ℕ) (before after : Processor) (s : Part) → call_of (register before A7) ≡ Some PthreadDetach → None ≡ thread_at s.locks (register before A0)
-    → after ≡ with_register before A0 (errno_number ESRCH) → IsPut limits 6 t before after Keeps s
+    → after ≡ with_register before A0 (errno_number ESRCH) → IsPut limits t before after Keeps s
 undetached_put limits t before after s e found left = record {
-  cost = ap (λ (o : Option Call). cost_by o) (sym e);
   values = errno_number ESRCH ∷ [];
   replies = λ tick.
       ap (λ (o : Option Call). (answer_to o (invocation limits tick t before) (with_cpu t before s)).part) e
@@ -138,9 +129,8 @@ undetached_put limits t before after s e found left = record {
 
 -- pthread_detach of a thread that is detached or has a joiner
 pub taken_put : (limits : Limits) (t : ℕ) (target : Thread) (before after : Processor) (s : Part) → call_of (register before A7) ≡ Some PthreadDetach → Some target ≡ thread_at s.locks (register before A0) → is_taken target ≡ true
-    → after ≡ with_register before A0 (errno_number EINVAL) → IsPut limits 6 t before after Keeps s
+    → after ≡ with_register before A0 (errno_number EINVAL) → IsPut limits t before after Keeps s
 taken_put limits t target before after s e found taken left = record {
-  cost = ap (λ (o : Option Call). cost_by o) (sym e);
   values = errno_number EINVAL ∷ [];
   replies = λ tick.
       ap (λ (o : Option Call). (answer_to o (invocation limits tick t before) (with_cpu t before s)).part) e
@@ -168,9 +158,8 @@ put_answer i u full = if full then refusal EAGAIN i u else success [] i (with_co
 
 -- a byte more
 pub output_put : (limits : Limits) (t byte : ℕ) (before after : Processor) (s : Part) → call_of (register before A7) ≡ Some ConsolePut → acts s t ≡ false → is_full limits.output s.console ≡ false → byte ≡ register before A0 % 256
-    → after ≡ with_register before A0 0 → IsPut limits 4 t before after (Puts byte) s
+    → after ≡ with_register before A0 0 → IsPut limits t before after (Puts byte) s
 output_put limits t byte before after s e none room is left = record {
-  cost = ap (λ (o : Option Call). cost_by o) (sym e);
   values = 0 ∷ [];
   replies = λ tick.
       let i : Invocation = invocation limits tick t before in
@@ -185,9 +174,8 @@ output_put limits t byte before after s e none room is left = record {
 
 -- no room for it
 pub refused_put : (limits : Limits) (t : ℕ) (before after : Processor) (s : Part) → call_of (register before A7) ≡ Some ConsolePut → acts s t ≡ false → is_full limits.output s.console ≡ true
-    → after ≡ with_register before A0 (errno_number EAGAIN) → IsPut limits 4 t before after Keeps s
+    → after ≡ with_register before A0 (errno_number EAGAIN) → IsPut limits t before after Keeps s
 refused_put limits t before after s e none full left = record {
-  cost = ap (λ (o : Option Call). cost_by o) (sym e);
   values = errno_number EAGAIN ∷ [];
   replies = λ tick.
       let i : Invocation = invocation limits tick t before in
@@ -203,9 +191,8 @@ refused_put limits t before after s e none full left = record {
 
 -- pthread_getspecific
 pub value_put : (limits : Limits) (t value : ℕ) (before after : Processor) (s : Part) → call_of (register before A7) ≡ Some PthreadGetspecific → value ≡ specific s.keys t (register before A0)
-    → after ≡ with_register (with_register before A0 0) A1 value → IsPut limits 2 t before after Keeps s
+    → after ≡ with_register (with_register before A0 0) A1 value → IsPut limits t before after Keeps s
 value_put limits t value before after s e is left = record {
-  cost = ap (λ (o : Option Call). cost_by o) (sym e);
   values = 0 ∷ value ∷ [];
   replies = λ tick.
       ap (λ (o : Option Call). (answer_to o (invocation limits tick t before) (with_cpu t before s)).part) e
@@ -220,9 +207,8 @@ set_answer i u known = if not known then refusal EINVAL i u else success [] i (w
 
 -- of a key
 pub set_put : (limits : Limits) (t k value : ℕ) (before after : Processor) (s : Part) → call_of (register before A7) ≡ Some PthreadSetspecific → is_key s.keys (register before A0) ≡ true → k ≡ register before A0
-    → value ≡ register before A1 → after ≡ with_register before A0 0 → IsPut limits 2 t before after (Sets k value) s
+    → value ≡ register before A1 → after ≡ with_register before A0 0 → IsPut limits t before after (Sets k value) s
 set_put limits t k value before after s e known key is left = record {
-  cost = ap (λ (o : Option Call). cost_by o) (sym e);
   values = 0 ∷ [];
   replies = λ tick.
       let i : Invocation = invocation limits tick t before in
@@ -237,9 +223,8 @@ set_put limits t k value before after s e known key is left = record {
 
 -- of an unknown one
 pub unset_put : (limits : Limits) (t : ℕ) (before after : Processor) (s : Part) → call_of (register before A7) ≡ Some PthreadSetspecific → is_key s.keys (register before A0) ≡ false
-    → after ≡ with_register before A0 (errno_number EINVAL) → IsPut limits 2 t before after Keeps s
+    → after ≡ with_register before A0 (errno_number EINVAL) → IsPut limits t before after Keeps s
 unset_put limits t before after s e unknown left = record {
-  cost = ap (λ (o : Option Call). cost_by o) (sym e);
   values = errno_number EINVAL ∷ [];
   replies = λ tick.
       let i : Invocation = invocation limits tick t before in

@@ -1,17 +1,18 @@
 -- Which calls are quiet: they reply at once, wake nobody, begin no unwinding and change no priority.
-use Rattle.std.specs.Prelude.{◌==◌, ◌&&◌, nat_le, if◌then◌else◌, Bool, true, false, not, Option, Some, None, option_map, unwrap_or}
+use Rattle.std.specs.Prelude.{◌==◌, ◌&&◌, nat_le, nat_lt, length, if◌then◌else◌, Bool, true, false, not, Option, Some, None, is_some, option_map, unwrap_or}
 use Rattle.ptk_words.specs.Names.{ThreadNumber, Word}
 use Rattle.ptk_words.specs.Calls.{call_of}
-use Rattle.ptk_words.specs.Pools.{numbered}
+use Rattle.ptk_words.specs.Pools.{pool_get, numbered}
 use Rattle.ptk_words.specs.Processor.{register}
 use Rattle.ptk_words.specs.Threads.{is_taken}
 use Rattle.ptk_words.specs.Words.{word_at}
 use Rattle.ptk_words.specs.declared.TheConstants.{A0, A7, ECALL}
 use Rattle.ptk_words.specs.declared.calls.Call.{Call}
-use Rattle.ptk_words.specs.declared.calls.Call.TheVariants.{ConsolePut, PthreadDetach, PthreadGetschedparam, PthreadGetspecific, PthreadSelf, PthreadSetspecific, MutexLock, MutexUnlock}
+use Rattle.ptk_words.specs.declared.calls.Call.TheVariants.{ConsolePut, PthreadDetach, PthreadGetschedparam, PthreadGetspecific, PthreadSelf, PthreadSetspecific, MutexLock, MutexUnlock, CondSignal, CondBroadcast}
 use Rattle.ptk_words.specs.declared.threads.Thread.{Thread}
 use Rattle.ptk_words_model.specs.State.{Mutex, Part}
 use Rattle.ptk_words_model.specs.Mutex.{mutex_at}
+use Rattle.ptk_words_model.specs.Condition.{condition_waiters}
 use Rattle.ptk_words_model.specs.Priority.{thread_at}
 use Rattle.ptk_words_model.specs.Calls.{is_pointer}
 use Rattle.ptk_words_model.specs.Decision.{word_fetched}
@@ -21,6 +22,11 @@ use Rattle.ptk_mutex_priorities.specs.Plain.{is_takeable, is_releasable}
 abbrev pub mutex_pointed : Word → Part → Option Mutex
 mutex_pointed pointer s =
     if is_pointer s pointer 4 && nat_le (word_at s.memory pointer) 64 then mutex_at s.locks (word_at s.memory pointer) else None
+
+-- the word at the pointer is the number of a condition variable that nobody waits on (pthread_cond_signal; own)
+abbrev pub is_unwaited_at : Word → Part → Bool
+is_unwaited_at pointer s =
+    is_pointer s pointer 4 && is_some (pool_get s.conditions (word_at s.memory pointer)) && not (nat_lt 0 (length (condition_waiters s.syncs (word_at s.memory pointer))))
 
 -- a request is pending for the thread, with ENABLE, in whatever phase the thread is (XSH 2.9.5.2; own)
 abbrev pub has_request : ThreadNumber → Part → Bool
@@ -35,6 +41,8 @@ is_quiet_with (Some PthreadDetach) t a0 s = unwrap_or (option_map (λ (thread : 
 is_quiet_with (Some ConsolePut) t a0 s = not (has_request t s)
 is_quiet_with (Some MutexLock) t a0 s = is_takeable (mutex_pointed a0 s)
 is_quiet_with (Some MutexUnlock) t a0 s = is_releasable t (mutex_pointed a0 s)
+is_quiet_with (Some CondSignal) t a0 s = is_unwaited_at a0 s
+is_quiet_with (Some CondBroadcast) t a0 s = is_unwaited_at a0 s
 is_quiet_with (Some PthreadSetspecific) t a0 s = true
 is_quiet_with (Some PthreadGetspecific) t a0 s = true
 is_quiet_with (Some call) t a0 s = false

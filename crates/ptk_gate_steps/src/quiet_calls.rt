@@ -1,16 +1,16 @@
 //! Which calls are quiet, and what each puts into its caller's registers: pthread_self, pthread_getschedparam, a
-//! pthread_detach that is refused, a number that is no call, lock and unlock of a mutex that nobody else wants,
-//! console_put, pthread_setspecific and pthread_getspecific. None of them changes anything here but the registers: its
-//! effect is returned.
+//! pthread_detach that is refused, a number that is no call, lock and unlock of a mutex that nobody else wants, signal and
+//! broadcast of a condition variable that nobody waits on, console_put, pthread_setspecific and pthread_getspecific. None
+//! of them changes anything here but the registers: its effect is returned.
 
-ghost use Rattle.std.specs.Prelude.{◌≡◌, ℕ, ◌<◌, ◌≤◌, true, false, None, Some, IfSome, option_and_then, option_map, unwrap_or};
+ghost use Rattle.std.specs.Prelude.{◌≡◌, ℕ, ◌<◌, ◌≤◌, true, false, None, Some, IfSome, IsSome, option_and_then, option_map, unwrap_or};
 ghost use Rattle.ptk_words.specs.Calls.{call_of};
 ghost use Rattle.ptk_words.specs.Faults.{errno_number};
 ghost use Rattle.ptk_words.specs.Processor.{register, with_register};
 ghost use Rattle.ptk_words.specs.Threads.{is_taken};
 ghost use Rattle.ptk_words.specs.declared.TheConstants.{A0, A1, A7};
 ghost use Rattle.ptk_words.specs.Words.{word_at};
-ghost use Rattle.ptk_words.specs.declared.calls.Call.TheVariants.{ConsolePut, PthreadDetach, PthreadGetschedparam, PthreadGetspecific, PthreadSetspecific, MutexLock, MutexUnlock};
+ghost use Rattle.ptk_words.specs.declared.calls.Call.TheVariants.{ConsolePut, PthreadDetach, PthreadGetschedparam, PthreadGetspecific, PthreadSetspecific, MutexLock, MutexUnlock, CondSignal, CondBroadcast};
 ghost use Rattle.ptk_words.specs.declared.threads.Thread.{Thread};
 ghost use Rattle.ptk_words_model.specs.Calls.{is_pointer};
 ghost use Rattle.ptk_words_model.specs.Mutex.{mutex_at};
@@ -18,11 +18,11 @@ ghost use Rattle.ptk_words_model.specs.Priority.{thread_at};
 ghost use Rattle.ptk_words_model.specs.State.{Part};
 ghost use Rattle.ptk_mutex_priorities.specs.Plain.{is_releasable, is_takeable};
 ghost use Rattle.ptk_gate_moves.specs.Held.{limits_here};
-ghost use Rattle.ptk_gate_steps.specs.QuietCalls.{has_request, is_quiet_with, mutex_pointed};
+ghost use Rattle.ptk_gate_steps.specs.QuietCalls.{has_request, is_quiet_with, is_unwaited_at, mutex_pointed};
 ghost use Rattle.ptk_gate_steps.specs.Replies.{IsPut};
 ghost use Rattle.ptk_gate_steps.specs.declared.quiet_calls.QuietEffect.TheVariants.{Keeps};
 
-use ptk_gate_moves::{Pools, is_pointer, is_taken, named_thread, policy_number};
+use ptk_gate_moves::{Pools, is_pointer, named_thread, policy_number};
 use ptk_keys::KeyNo;
 use ptk_words::{A0, A1, A2, Call, Cpu, Errno, MutexNo, ThreadNo, read_word};
 
@@ -41,52 +41,44 @@ pub(crate) enum QuietEffect {
     Sets(KeyNo, u32),
 }
 
-/// A quiet call: its ticks, 0 of any other call, and its effect.
-#[derive(Clone, Copy)]
-pub(crate) struct QuietCall {
-    pub(crate) ticks: u32,
-    pub(crate) effect: QuietEffect,
-}
-
-/// Puts the reply into the caller's registers, whose pc is past the ECALL, where the call that they state is quiet; its
-/// ticks and its effect. 0 ticks of any other call.
+/// Puts the reply into the caller's registers, whose pc is past the ECALL, where the call that they state is quiet, and
+/// returns its effect. None of any other call.
 #[inline(always)]
 #[tactic(auto, using(crate::proofs::RepliesPut::replies))]
-pub(crate) fn put_reply(pools: &Pools, t: ThreadNo, known: Option<Call>, cpu: &mut Cpu) -> QuietCall
+pub(crate) fn put_reply(
+    pools: &Pools,
+    t: ThreadNo,
+    known: Option<Call>,
+    cpu: &mut Cpu,
+) -> Option<QuietEffect>
     requires known { known ≡ call_of (register cpu.old A7) }
-    ensures short { result.ticks ≤ 16 }
-    ensures put { 0 < result.ticks → IsPut (limits_here pools.now) result.ticks t cpu.old cpu.new result.effect pools.now.here }
-    ensures missed { is_quiet_with known t (register cpu.old A0) pools.now.here ≡ true → 0 < result.ticks }
+    ensures put { IfSome result (λ effect. IsPut (limits_here pools.now) t cpu.old cpu.new effect pools.now.here) }
+    ensures missed { is_quiet_with known t (register cpu.old A0) pools.now.here ≡ true → IsSome result }
 {
     match known {
         None => {
             refuse(cpu, Errno::ENOSYS);
-            replied(2)
+            Some(QuietEffect::Keeps)
         }
         Some(Call::PthreadSelf) => {
             tell(cpu, t.number() as u32);
-            replied(2)
+            Some(QuietEffect::Keeps)
         }
         Some(Call::PthreadGetschedparam) => {
             tell_scheduling(pools, cpu);
-            replied(4)
+            Some(QuietEffect::Keeps)
         }
-        Some(Call::PthreadDetach) => {
-            if refuse_detachment(pools, cpu) {
-                replied(6)
-            } else {
-                replied(0)
-            }
-        }
+        Some(Call::PthreadDetach) => refuse_detachment(pools, cpu),
         Some(Call::ConsolePut) => put_out(pools, t, cpu),
         Some(Call::MutexLock) => lock(pools, cpu),
         Some(Call::MutexUnlock) => unlock(pools, t, cpu),
-        Some(Call::PthreadSetspecific) => set_specific(pools, cpu),
+        Some(Call::CondSignal | Call::CondBroadcast) => signal(pools, cpu),
+        Some(Call::PthreadSetspecific) => Some(set_specific(pools, cpu)),
         Some(Call::PthreadGetspecific) => {
             tell_specific(pools, t, cpu);
-            replied(2)
+            Some(QuietEffect::Keeps)
         }
-        Some(_) => replied(0),
+        Some(_) => None,
     }
 }
 
@@ -104,6 +96,8 @@ pub(crate) fn may_be_quiet(known: Option<Call>) -> bool
             | Call::ConsolePut
             | Call::MutexLock
             | Call::MutexUnlock
+            | Call::CondSignal
+            | Call::CondBroadcast
             | Call::PthreadSetspecific
             | Call::PthreadGetspecific,
         ) => true,
@@ -111,63 +105,36 @@ pub(crate) fn may_be_quiet(known: Option<Call>) -> bool
     }
 }
 
-/// A call of this number of ticks that changes nothing but registers.
-#[inline]
-fn replied(ticks: u32) -> QuietCall
-    ensures { result ≡ record { ticks = ticks; effect = Keeps } }
-{
-    QuietCall {
-        ticks,
-        effect: QuietEffect::Keeps,
-    }
-}
-
-/// The lock of a mutex that its caller takes with no change of priority: 0 in a0. 0 ticks of any other, and the
-/// registers stay.
+/// The lock of a mutex that its caller takes with no change of priority: 0 in a0. None of any other, and the registers
+/// stay.
 #[inline]
 #[tactic(auto, using(crate::proofs::LocksMade::locks))]
-fn lock(pools: &Pools, cpu: &mut Cpu) -> QuietCall
-    ensures short { result.ticks ≤ 16 }
-    ensures put { (t : ℕ) → call_of (register cpu.old A7) ≡ Some MutexLock → 0 < result.ticks → IsPut (limits_here pools.now) result.ticks t cpu.old cpu.new result.effect pools.now.here }
-    ensures missed { is_takeable (mutex_pointed (register cpu.old A0) pools.now.here) ≡ true → 0 < result.ticks }
+fn lock(pools: &Pools, cpu: &mut Cpu) -> Option<QuietEffect>
+    ensures put { (t : ℕ) → call_of (register cpu.old A7) ≡ Some MutexLock → IfSome result (λ effect. IsPut (limits_here pools.now) t cpu.old cpu.new effect pools.now.here) }
+    ensures missed { is_takeable (mutex_pointed (register cpu.old A0) pools.now.here) ≡ true → IsSome result }
 {
-    match mutex_numbered(pools, cpu.register(A0)) {
-        Some(m) => {
-            if !pools.is_takeable(m) {
-                return replied(0);
-            }
-            cpu.set_register(A0, 0);
-            QuietCall {
-                ticks: 8,
-                effect: QuietEffect::Takes(m),
-            }
-        }
-        None => replied(0),
+    let m = mutex_numbered(pools, cpu.register(A0))?;
+    if !pools.is_takeable(m) {
+        return None;
     }
+    cpu.set_register(A0, 0);
+    Some(QuietEffect::Takes(m))
 }
 
-/// The unlock of a mutex that its caller locked once, which wakes nobody and changes no priority: 0 in a0. 0 ticks of
-/// any other, and the registers stay.
+/// The unlock of a mutex that its caller locked once, which wakes nobody and changes no priority: 0 in a0. None of any
+/// other, and the registers stay.
 #[inline]
 #[tactic(auto, using(crate::proofs::LocksMade::locks))]
-fn unlock(pools: &Pools, t: ThreadNo, cpu: &mut Cpu) -> QuietCall
-    ensures short { result.ticks ≤ 16 }
-    ensures put { call_of (register cpu.old A7) ≡ Some MutexUnlock → 0 < result.ticks → IsPut (limits_here pools.now) result.ticks t cpu.old cpu.new result.effect pools.now.here }
-    ensures missed { is_releasable t (mutex_pointed (register cpu.old A0) pools.now.here) ≡ true → 0 < result.ticks }
+fn unlock(pools: &Pools, t: ThreadNo, cpu: &mut Cpu) -> Option<QuietEffect>
+    ensures put { call_of (register cpu.old A7) ≡ Some MutexUnlock → IfSome result (λ effect. IsPut (limits_here pools.now) t cpu.old cpu.new effect pools.now.here) }
+    ensures missed { is_releasable t (mutex_pointed (register cpu.old A0) pools.now.here) ≡ true → IsSome result }
 {
-    match mutex_numbered(pools, cpu.register(A0)) {
-        Some(m) => {
-            if !pools.is_releasable(t, m) {
-                return replied(0);
-            }
-            cpu.set_register(A0, 0);
-            QuietCall {
-                ticks: 10,
-                effect: QuietEffect::Releases(m),
-            }
-        }
-        None => replied(0),
+    let m = mutex_numbered(pools, cpu.register(A0))?;
+    if !pools.is_releasable(t, m) {
+        return None;
     }
+    cpu.set_register(A0, 0);
+    Some(QuietEffect::Releases(m))
 }
 
 /// The number of a mutex that the word at a pointer is, whether one has it or not; None of a pointer to no word, of 0
@@ -188,57 +155,80 @@ fn mutex_numbered(pools: &Pools, pointer: u32) -> Option<MutexNo>
     Some(MutexNo::new(word as u8))
 }
 
+/// The signal or the broadcast of a condition variable that nobody waits on: 0 in a0. None of any other, and the
+/// registers stay.
+#[inline]
+#[tactic(auto, using(crate::proofs::SignalsMade::signals))]
+fn signal(pools: &Pools, cpu: &mut Cpu) -> Option<QuietEffect>
+    ensures signal { (t : ℕ) → call_of (register cpu.old A7) ≡ Some CondSignal → IfSome result (λ effect. IsPut (limits_here pools.now) t cpu.old cpu.new effect pools.now.here) }
+    ensures broadcast { (t : ℕ) → call_of (register cpu.old A7) ≡ Some CondBroadcast → IfSome result (λ effect. IsPut (limits_here pools.now) t cpu.old cpu.new effect pools.now.here) }
+    ensures missed { is_unwaited_at (register cpu.old A0) pools.now.here ≡ true → IsSome result }
+{
+    if !is_unwaited(pools, cpu.register(A0)) {
+        return None;
+    }
+    cpu.set_register(A0, 0);
+    Some(QuietEffect::Keeps)
+}
+
+/// Whether the word at a pointer is the number of a condition variable that nobody waits on; false of a pointer to no
+/// word, and of the word 0.
+#[inline]
+#[tactic(auto, using(ptk_gate_moves::proofs::Pointers::pointers, crate::proofs::SignalsMade::unwaited))]
+fn is_unwaited(pools: &Pools, pointer: u32) -> bool
+    ensures { result ≡ is_unwaited_at pointer pools.now.here }
+{
+    if !is_pointer(pools, pointer, 4) {
+        return false;
+    }
+    match pools.condition_numbered(read_word(pools.memory(), pointer as usize)) {
+        Some(c) => !pools.has_condition_waiters(c),
+        None => false,
+    }
+}
+
 /// The console_put of a caller with no pending request: the low 8 bits of a0 at the end of the output and 0 in a0, or
-/// EAGAIN where the output is full. 0 ticks of one that may be cancelled, and the registers stay.
+/// EAGAIN where the output is full. None of one that may be cancelled, and the registers stay.
 #[inline]
 #[tactic(auto, using(crate::proofs::RepliesPut::outputs))]
-fn put_out(pools: &Pools, t: ThreadNo, cpu: &mut Cpu) -> QuietCall
-    ensures short { result.ticks ≤ 16 }
-    ensures put { call_of (register cpu.old A7) ≡ Some ConsolePut → 0 < result.ticks → IsPut (limits_here pools.now) result.ticks t cpu.old cpu.new result.effect pools.now.here }
-    ensures missed { has_request t pools.now.here ≡ false → 0 < result.ticks }
+fn put_out(pools: &Pools, t: ThreadNo, cpu: &mut Cpu) -> Option<QuietEffect>
+    ensures put { call_of (register cpu.old A7) ≡ Some ConsolePut → IfSome result (λ effect. IsPut (limits_here pools.now) t cpu.old cpu.new effect pools.now.here) }
+    ensures missed { has_request t pools.now.here ≡ false → IsSome result }
 {
     if pools.is_point_acting(t) {
-        return replied(0);
+        return None;
     }
     if pools.is_output_full() {
         refuse(cpu, Errno::EAGAIN);
-        return replied(4);
+        return Some(QuietEffect::Keeps);
     }
     let byte = (cpu.register(A0) % 256) as u8;
     cpu.set_register(A0, 0);
-    QuietCall {
-        ticks: 4,
-        effect: QuietEffect::Puts(byte),
-    }
+    Some(QuietEffect::Puts(byte))
 }
 
 /// pthread_setspecific: the caller's value of the key of a0 is to be the word of a1, and 0 in a0; EINVAL of an unknown
 /// key.
 #[inline]
 #[tactic(auto, using(crate::proofs::RepliesPut::values))]
-fn set_specific(pools: &Pools, cpu: &mut Cpu) -> QuietCall
-    ensures short { result.ticks ≤ 16 }
-    ensures put { (t : ℕ) → call_of (register cpu.old A7) ≡ Some PthreadSetspecific → IsPut (limits_here pools.now) result.ticks t cpu.old cpu.new result.effect pools.now.here }
-    ensures made { 0 < result.ticks }
+fn set_specific(pools: &Pools, cpu: &mut Cpu) -> QuietEffect
+    ensures { (t : ℕ) → call_of (register cpu.old A7) ≡ Some PthreadSetspecific → IsPut (limits_here pools.now) t cpu.old cpu.new result pools.now.here }
 {
     let key = KeyNo::new(cpu.register(A0));
     if !pools.is_key(key) {
         refuse(cpu, Errno::EINVAL);
-        return replied(2);
+        return QuietEffect::Keeps;
     }
     let value = cpu.register(A1);
     cpu.set_register(A0, 0);
-    QuietCall {
-        ticks: 2,
-        effect: QuietEffect::Sets(key, value),
-    }
+    QuietEffect::Sets(key, value)
 }
 
 /// The reply of pthread_getspecific: the caller's value of the key of a0, 0 of an unknown key.
 #[inline]
 #[tactic(auto, using(crate::proofs::RepliesPut::values))]
 fn tell_specific(pools: &Pools, t: ThreadNo, cpu: &mut Cpu)
-    ensures { call_of (register cpu.old A7) ≡ Some PthreadGetspecific → IsPut (limits_here pools.now) 2 t cpu.old cpu.new Keeps pools.now.here }
+    ensures { call_of (register cpu.old A7) ≡ Some PthreadGetspecific → IsPut (limits_here pools.now) t cpu.old cpu.new Keeps pools.now.here }
 {
     let value = pools.value(t, KeyNo::new(cpu.register(A0)));
     tell(cpu, value);
@@ -263,7 +253,7 @@ fn tell(cpu: &mut Cpu, value: u32)
 /// The reply of pthread_getschedparam: the policy and the assigned priority of the thread of a0, or ESRCH.
 #[tactic(auto, using(crate::proofs::RepliesPut::replies))]
 fn tell_scheduling(pools: &Pools, cpu: &mut Cpu)
-    ensures { (t : ℕ) → call_of (register cpu.old A7) ≡ Some PthreadGetschedparam → IsPut (limits_here pools.now) 4 t cpu.old cpu.new Keeps pools.now.here }
+    ensures { (t : ℕ) → call_of (register cpu.old A7) ≡ Some PthreadGetschedparam → IsPut (limits_here pools.now) t cpu.old cpu.new Keeps pools.now.here }
 {
     match named_thread(pools, cpu.register(A0)) {
         Some(target) => {
@@ -276,19 +266,19 @@ fn tell_scheduling(pools: &Pools, cpu: &mut Cpu)
 }
 
 /// The reply of a pthread_detach that is refused: ESRCH of a number that is not in use, EINVAL of a thread that is
-/// detached or has a joiner. False of one that detaches, and the registers stay.
+/// detached or has a joiner. None of one that detaches, and the registers stay.
 #[tactic(auto, using(crate::proofs::RepliesPut::replies))]
-fn refuse_detachment(pools: &Pools, cpu: &mut Cpu) -> bool
-    ensures put { (t : ℕ) → result ≡ true → call_of (register cpu.old A7) ≡ Some PthreadDetach → IsPut (limits_here pools.now) 6 t cpu.old cpu.new Keeps pools.now.here }
-    ensures refused { result ≡ unwrap_or (option_map (λ (thread : Thread). is_taken thread) (thread_at pools.now.here.locks (register cpu.old A0))) true }
+fn refuse_detachment(pools: &Pools, cpu: &mut Cpu) -> Option<QuietEffect>
+    ensures put { (t : ℕ) → call_of (register cpu.old A7) ≡ Some PthreadDetach → IfSome result (λ effect. IsPut (limits_here pools.now) t cpu.old cpu.new effect pools.now.here) }
+    ensures refused { unwrap_or (option_map (λ (thread : Thread). is_taken thread) (thread_at pools.now.here.locks (register cpu.old A0))) true ≡ true → IsSome result }
 {
     let Some(target) = named_thread(pools, cpu.register(A0)) else {
         refuse(cpu, Errno::ESRCH);
-        return true;
+        return Some(QuietEffect::Keeps);
     };
-    if !is_taken(target) {
-        return false;
+    if !target.is_taken() {
+        return None;
     }
     refuse(cpu, Errno::EINVAL);
-    true
+    Some(QuietEffect::Keeps)
 }

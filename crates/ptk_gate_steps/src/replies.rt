@@ -1,7 +1,7 @@
 //! Quiet calls, which reply at once, wake nobody and change no priority, made on their caller's registers where they
 //! stand (`make_reply`); `quiet_calls` says which calls they are.
 
-ghost use Rattle.std.specs.Prelude.{◌≡◌, ◌+◌, ◌^◌, ◌<◌, ◌≤◌, true, Some};
+ghost use Rattle.std.specs.Prelude.{◌≡◌, ◌+◌, ◌^◌, ◌<◌, ◌≤◌, true, None, Some, IfSome, IsSome};
 ghost use Rattle.ptk_words.specs.Calls.{cost_of};
 ghost use Rattle.ptk_words.specs.Processor.{register};
 ghost use Rattle.ptk_words.specs.declared.TheConstants.{A7, ECALL};
@@ -14,7 +14,7 @@ ghost use Rattle.ptk_gate_moves.specs.Held.{limits_here};
 ghost use Rattle.ptk_gate_steps.specs.QuietCalls.{is_quiet_call};
 ghost use Rattle.ptk_gate_steps.specs.Replies.{IsMadeHere, IsPlainEffect, after_quiet_effect};
 
-use crate::kinds::word_fetched;
+use crate::kinds::{call_cost, word_fetched};
 use crate::quiet_calls::{QuietEffect, may_be_quiet, put_reply};
 use ptk_gate_moves::Pools;
 use ptk_trace::Trace;
@@ -22,49 +22,46 @@ use ptk_words::{A0, A7, Call, Cpu, ECALL, Entry, Policy, ThreadNo, Tick};
 
 /// Makes the next step of a thread of the partition in hand, where that is a quiet call that takes at most `room`
 /// ticks: the thread has the reply, its ticks are counted, the call's effect is made, and it is the last step, which
-/// the trace has as the newest. Returns its ticks; 0, and nothing changes, of any other step: where the step is a quiet
-/// call, only if it takes more than `room` ticks.
+/// the trace has as the newest. Returns its ticks; None, and nothing changes, of any other step: where the step is a
+/// quiet call, only if it takes more than `room` ticks.
 pub(crate) fn make_reply(
     pools: &mut Pools,
     t: ThreadNo,
     tick: Tick,
     room: u64,
     trace: &mut Trace,
-) -> u32
+) -> Option<u32>
     requires used { (thread : Thread) → thread_at pools.old.here.locks t ≡ Some thread → thread.used + 16 < 2 ^ 32 }
-    ensures none { result ≡ 0 → (pools.new ≡ pools.old) × (trace.new ≡ trace.old) }
-    ensures fits { result ≤ room }
-    ensures short { result ≤ 16 }
-    ensures made { (thread : Thread) → thread_at pools.old.here.locks t ≡ Some thread → 0 < result → IsMadeHere tick t result thread pools.old pools.new trace.old trace.new }
-    ensures missed { (thread : Thread) → thread_at pools.old.here.locks t ≡ Some thread → is_quiet_call t thread pools.old.here ≡ true → cost_of (register thread.cpu A7) ≤ room → 0 < result }
+    ensures none { result ≡ None → (pools.new ≡ pools.old) × (trace.new ≡ trace.old) }
+    ensures fits { IfSome result (λ ticks. (0 < ticks) × (ticks ≤ room) × (ticks ≤ 16)) }
+    ensures made { (thread : Thread) → thread_at pools.old.here.locks t ≡ Some thread → IfSome result (λ ticks. IsMadeHere tick t ticks thread pools.old pools.new trace.old trace.new) }
+    ensures missed { (thread : Thread) → thread_at pools.old.here.locks t ≡ Some thread → is_quiet_call t thread pools.old.here ≡ true → cost_of (register thread.cpu A7) ≤ room → IsSome result }
 {
-    let Some(thread) = pools.thread_ref(t) else {
-        return 0;
-    };
+    let thread = pools.thread_ref(t)?;
     let registers = &thread.cpu;
     let pc = registers.pc();
     if word_fetched(pools.memory(), pc) != ECALL {
-        return 0;
+        return None;
     }
     let known = Call::of_number(registers.register(A7));
     if !may_be_quiet(known) {
-        return 0;
+        return None;
     }
+    let ticks = call_cost(known);
     let mut cpu = thread.cpu;
     let policy = thread.policy;
     let used = thread.used;
     cpu.set_pc(pc.wrapping_add(4));
-    let call = put_reply(pools, t, known, &mut cpu);
-    let ticks = call.ticks;
-    if ticks == 0 || room < u64::from(ticks) {
-        return 0;
+    let effect = put_reply(pools, t, known, &mut cpu)?;
+    if room < u64::from(ticks) {
+        return None;
     }
     let a0 = cpu.register(A0);
     leave(pools, t, policy, used, ticks, cpu);
-    take_effect(pools, t, call.effect);
+    take_effect(pools, t, effect);
     pools.note_last(entry_of(tick, t, pc, a0));
     trace.push(entry_of(tick, t, pc, a0));
-    ticks
+    Some(ticks)
 }
 
 /// The trace entry of an ECALL of the thread at the tick and this pc, which leaves this a0.

@@ -6,7 +6,7 @@ ghost use Rattle.ptk_words_model.specs.Priority.{thread_at};
 ghost use Rattle.ptk_gate_steps.specs.NextSteps.{a0_kept, cpu_of, next_step_in, next_step_of};
 
 use crate::kinds::word_fetched;
-use ptk_gate_moves::{Look, is_ended, is_to_unwind};
+use ptk_gate_moves::{Look, is_to_unwind};
 use ptk_words::{A0, A7, Cpu, ECALL, RETURN_GATE, Thread, ThreadNo};
 use ptk_words_model::{Runner, StepKind};
 
@@ -107,7 +107,7 @@ pub fn a0_after(look: &Look<'_>, t: ThreadNo, before: u32) -> u32
     ensures { result ≡ a0_kept before (thread_at look.now.part.locks t) }
 {
     match look.thread_ref(t) {
-        Some(thread) if !is_ended(thread.phase) => {
+        Some(thread) if !thread.phase.is_ended() => {
             let cpu = &thread.cpu;
             cpu.register(A0)
         }

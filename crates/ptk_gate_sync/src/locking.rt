@@ -4,9 +4,8 @@ ghost use Rattle.std.specs.Prelude.{◌≡◌, ◌<◌, ◌≤◌, ◌+◌, leng
 ghost use Rattle.ptk_words_model.specs.Calls.{told};
 ghost use Rattle.ptk_words_model.specs.MutexCalls.{mutex_lock, mutex_trylock, mutex_timedlock};
 ghost use Rattle.ptk_words_model.specs.declared.LockMove.TheVariants.{Waits};
-ghost use Rattle.ptk_words_model.specs.Mutex.{mutex_at, lock_move};
+ghost use Rattle.ptk_words_model.specs.Mutex.{mutex_at, lock_move, is_waiting};
 ghost use Rattle.ptk_words_invariant.specs.Well.{IsWell};
-ghost use Rattle.ptk_mutex.specs.Rises.{is_waiting};
 ghost use Rattle.ptk_gate_moves.specs.Held.{limits_here};
 ghost use Rattle.ptk_words_invariant.specs.Rests.{lock_by, trylock_named, timedlock_named, timed_wait_named};
 
@@ -14,7 +13,7 @@ use crate::naming::named_mutex;
 use ptk_gate_moves::{Pools, asked_deadline, is_pointer, refuse, reply};
 use ptk_mutex_priorities::reply_of;
 use ptk_words::{Errno, MutexNo, Tick};
-use ptk_words_model::{Invocation, LockMove, Reply};
+use ptk_words_model::{Invocation, Reply};
 
 /// pthread_mutex_lock: the caller owns the mutex that the word at the pointer of a0 names, or counts up its own
 /// recursive one, or blocks as the last waiter. EOWNERDEAD where the caller now owns a robust mutex whose owner ended.
@@ -103,20 +102,10 @@ fn timedlock_named(pools: &mut Pools, i: Invocation, m: MutexNo) -> Reply
     ensures told { result ≡ (timedlock_named m i pools.old.here).reply }
     ensures moved { pools.new ≡ record pools.old { here = (timedlock_named m i pools.old.here).part } }
 {
-    if is_waiting(pools.lock_move(i.caller, m)) {
+    if pools.lock_move(i.caller, m).is_waiting() {
         wait_timed(pools, i, m)
     } else {
         lock_by(pools, i, m, None)
-    }
-}
-
-/// Whether the move waits.
-fn is_waiting(made: LockMove) -> bool
-    ensures { result ≡ is_waiting made }
-{
-    match made {
-        LockMove::Waits => true,
-        LockMove::Takes | LockMove::Recovers | LockMove::Counts | LockMove::Refuses(_) => false,
     }
 }
 

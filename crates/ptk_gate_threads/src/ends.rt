@@ -13,7 +13,7 @@ ghost use Rattle.ptk_gate_moves.specs.Held.{limits_here};
 ghost use Rattle.ptk_words_sync_invariant.specs.Conditions.{IsNoWaiter};
 ghost use Rattle.ptk_gate_moves.specs.Moves.{stopped};
 
-use ptk_gate_moves::{Pools, halt, is_ended, wake};
+use ptk_gate_moves::{Pools, halt};
 use ptk_threads::Slot;
 use ptk_words::{Status, Thread, ThreadNo};
 
@@ -85,7 +85,7 @@ fn tell_joiner(pools: &mut Pools, joiner: Option<ThreadNo>, value: u32)
     ensures { pools.new ≡ record pools.old { here = with_locks (after_join_by joiner value) pools.old.here } }
 {
     match joiner {
-        Some(u) => wake(pools, u, &[0, value]),
+        Some(u) => pools.wake(u, &[0, value]),
         None => {}
     }
 }
@@ -105,7 +105,7 @@ fn is_alive(slot: &Slot) -> bool
     ensures { result ≡ is_alive slot.now.thread }
 {
     match slot.thread() {
-        Some(thread) => !is_ended(thread.phase),
+        Some(thread) => !thread.phase.is_ended(),
         None => false,
     }
 }

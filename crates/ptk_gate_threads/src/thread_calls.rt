@@ -6,9 +6,7 @@ ghost use Rattle.ptk_words_model.specs.ThreadCalls as calls;
 ghost use Rattle.ptk_words_invariant.specs.Well.{IsWell};
 ghost use Rattle.ptk_gate_moves.specs.Held.{limits_here};
 
-use ptk_gate_moves::{
-    Pools, is_taken, named_thread, policy_number, refuse, succeed, succeed_with_two,
-};
+use ptk_gate_moves::{Pools, named_thread, policy_number, refuse, succeed, succeed_with_two};
 use ptk_words::{Errno, ThreadNo};
 use ptk_words_model::{Invocation, Reply};
 
@@ -39,7 +37,7 @@ pub fn detach(pools: &mut Pools, i: Invocation) -> Reply
     let Some(target) = named_thread(pools, i.a0) else {
         return refuse(pools, i, Errno::ESRCH);
     };
-    if is_taken(target) {
+    if target.is_taken() {
         return refuse(pools, i, Errno::EINVAL);
     }
     pools.detach(ThreadNo::new(i.a0 as u8));

@@ -1,22 +1,17 @@
 -- A thread that is told to be blocked is where its wait puts it.
-use Rattle.std.proofs.Common.{◌≡◌, ℕ, ◌<◌, ◌≤◌, List, refl, sym, ◌∙◌, ap, true, false}
+use Rattle.std.proofs.Common.{◌≡◌, ℕ, refl, sym, ◌∙◌, ap, true, false}
 use Rattle.std.specs.Prelude.{Bool, not, ◌&&◌, Option, Some, None}
 use Rattle.ptk_words.specs.Pools.{is_in}
 use Rattle.ptk_words.specs.declared.threads.Wait.{Wait}
 use Rattle.ptk_words_model.specs.State.{Syncs}
-use Rattle.ptk_words_model.specs.Priority.{mutex_of_wait, thread_at}
+use Rattle.ptk_words_model.specs.Priority.{thread_at}
+use Rattle.ptk_words.specs.Threads.{mutex_of_wait, condition_of_wait}
 use Rattle.ptk_words_model.specs.Mutex.{wait_of}
-use Rattle.ptk_words_sync_invariant.specs.Conditions.{condition_of_wait}
 use Rattle.ptk_syncs.specs.Rosters.{Rostered}
-use Rattle.ptk_words_parted.specs.Sets.{has, IsSetOf}
 use Rattle.ptk_mutex.specs.Sound.{syncs_by}
 use Rattle.ptk_gate_waits.specs.Timeouts.{IsBlocked, is_out, is_queued, is_listed, is_blocked_in}
 use Rattle.ptk_gate_waits.proofs.TimedOut.{awaits_by_wait}
 use Rattle.ptk_cond.proofs.Waits.{wait_of-is}
-
--- a set of threads has those of the list
-pub set_in : (bits t : ℕ) (ts : List ℕ) → IsSetOf bits ts → 0 < t → t ≤ 32 → has bits t ≡ is_in t ts
-set_in bits t ts of above below = of.same t above below
 
 both_first : (a b : Bool) → (a && b) ≡ true → a ≡ true
 both_first true b e = refl

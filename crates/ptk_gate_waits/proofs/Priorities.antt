@@ -6,8 +6,8 @@ use Rattle.ptk_words.specs.Pools.{pool_get, pool_changed, numbers_to}
 use Rattle.ptk_words.specs.declared.threads.Thread.{Thread}
 use Rattle.ptk_words_model.specs.State.{Mutex}
 use Rattle.ptk_words_model.specs.Chain.{greatest_leading}
-use Rattle.ptk_words_model.specs.Priority.{ceiling_for, held_of, mutex_of_wait, awaited, inheritor_of, next_in_chain, effective_priorities}
-use Rattle.ptk_words_model.specs.Schedule.{woken_with}
+use Rattle.ptk_words_model.specs.Priority.{ceiling_for, held_of, awaited, inheritor_of, next_in_chain, effective_priorities}
+use Rattle.ptk_words.specs.Threads.{mutex_of_wait}
 use Rattle.ptk_threads.proofs.Slots.{length-pool_changed}
 use Rattle.ptk_threads.proofs.Pools.{pool_get-changed, pool_get-changed_other}
 
@@ -48,13 +48,3 @@ level_kept f (Some thread) keeps = keeps thread
 pub awaited_kept : (f : Thread → Thread) (x : Option Thread) → ((thread : Thread) → mutex_of_wait (f thread).wait ≡ mutex_of_wait thread.wait) → awaited (option_map f x) ≡ awaited x
 awaited_kept f None keeps = refl
 awaited_kept f (Some thread) keeps = keeps thread
-
-woken_awaits : (values : List ℕ) (x : Option Thread) → awaited (option_map (woken_with values) x) ≡ None
-woken_awaits values None = refl
-woken_awaits values (Some thread) = refl
-
--- a thread that waits for no mutex is woken
-pub priorities_woken : (k : ℕ) (values : List ℕ) (threads : List (Option Thread)) (mutexes : List (Option Mutex)) → awaited (pool_get threads k) ≡ None
-    → effective_priorities (pool_changed k (woken_with values) threads) mutexes ≡ effective_priorities threads mutexes
-priorities_woken k values threads mutexes free =
-    priorities_changed k (woken_with values) threads mutexes (level_kept (woken_with values) (pool_get threads k) (λ thread. refl)) (woken_awaits values (pool_get threads k) ∙ sym free)

@@ -7,11 +7,11 @@ use Rattle.ptk_words.specs.declared.faults.Errno.TheVariants.{ETIMEDOUT}
 use Rattle.ptk_words.specs.declared.threads.Wait.{Wait}
 use Rattle.ptk_words.specs.declared.threads.Wait.TheVariants.{InputWait, SleepWait, JoinWait, MutexWait, ConditionWait, RelockWait}
 use Rattle.ptk_words_model.specs.State.{Syncs}
-use Rattle.ptk_words_model.specs.Priority.{awaited, mutex_of_wait, thread_at}
+use Rattle.ptk_words_model.specs.Priority.{awaited, thread_at}
+use Rattle.ptk_words.specs.Threads.{mutex_of_wait, condition_of_wait}
 use Rattle.ptk_words_model.specs.Schedule.{after_wake}
 use Rattle.ptk_words_model.specs.Mutex.{mutex_at, wait_of, waiters_of}
 use Rattle.ptk_words_model.specs.Condition.{condition_waiters, after_unblock}
-use Rattle.ptk_words_sync_invariant.specs.Conditions.{condition_of_wait}
 use Rattle.ptk_mutex.specs.Moves.{after_withdrawal}
 
 -- the deadline of a wait comes, as `after_timeout` has it, of what it reads and changes (clock_nanosleep, pthread_mutex_timedlock, pthread_cond_timedwait)
@@ -29,16 +29,6 @@ pub record IsBlocked (syncs : Syncs) (t : ℕ) : Type 0 where
   pub out : (wait : Wait) → wait_of (thread_at syncs.locks t) ≡ Some wait → is_in t syncs.line ≡ false
   pub queued : (m : ℕ) → awaited (thread_at syncs.locks t) ≡ Some m → is_in t (waiters_of (mutex_at syncs.locks m)) ≡ true
   pub listed : (c : ℕ) → condition_of_wait (wait_of (thread_at syncs.locks t)) ≡ Some c → is_in t (condition_waiters syncs c) ≡ true
-
--- the wait is a sleep (clock_nanosleep)
-abbrev pub is_sleep : Option Wait → Bool
-is_sleep None = false
-is_sleep (Some InputWait) = false
-is_sleep (Some (SleepWait deadline)) = true
-is_sleep (Some (JoinWait u)) = false
-is_sleep (Some (MutexWait m deadline)) = false
-is_sleep (Some (ConditionWait c m deadline)) = false
-is_sleep (Some (RelockWait m reply)) = false
 
 -- the mutex that a wait is to lock first (pthread_mutex_lock, pthread_mutex_timedlock)
 abbrev pub mutex_locked : Option Wait → Option MutexNumber

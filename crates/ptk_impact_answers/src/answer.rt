@@ -7,7 +7,6 @@ ghost use Rattle.ptk_impact_answers.specs.Matching.{Renamed, is_asked, place_aft
 ghost use Rattle.ptk_impact_answers.specs.SameRuns.{AreSameRuns, AreSeenAlike, WasSeenAlike};
 
 use crate::comparison::{Comparison, Pair, file_of};
-use crate::fault::PutFault;
 use crate::form::{Form, put_alone, put_beginning, put_comparison, put_counts};
 use crate::refusal::refusal_of;
 use crate::release::Release;
@@ -15,6 +14,7 @@ use crate::renames::Renames;
 use crate::tally::Tally;
 use ptk_impact::Impact;
 use ptk_main_faults::Fault;
+use ptk_main_runs::PutFault;
 use std::alloc::Global;
 use std::io::Write;
 
@@ -195,20 +195,14 @@ impl<'a, 'f> Releases<'a, 'f> {
         ensures place { result ≡ place_before self.now.renames self.now.old.config.now name.now }
         ensures within { IfSome result (λ place. place < length self.now.old.config.now.sections) }
     {
-        match self.renames.old_name(name) {
-            Some(old) => self.old.place_of(old),
-            None => None,
-        }
+        self.old.place_of(self.renames.old_name(name)?)
     }
 
     /// The place of the new partition that the old one of this name is.
     fn after(&self, name: &str) -> Option<usize>
         ensures { result ≡ place_after self.now.renames self.now.new.config.now name.now }
     {
-        match self.renames.new_name(name) {
-            Some(new) => self.new.place_of(new),
-            None => None,
-        }
+        self.new.place_of(self.renames.new_name(name)?)
     }
 
     /// Writes what stands between the old and the new partition at these places.

@@ -2,9 +2,9 @@
 
 use crate::comparison::Comparison;
 use crate::document::{json_of, json_of_alone};
-use crate::fault::PutFault;
 use crate::lines::put_lines;
 use crate::tally::Tally;
+use ptk_main_runs::PutFault;
 use std::alloc::Global;
 use std::io;
 use std::io::Write;

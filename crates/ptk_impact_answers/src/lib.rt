@@ -12,13 +12,12 @@
 //!
 //! There is a line for each partition of the new configuration, by name, with what differs beneath, then one for each
 //! that is gone, and a last line that counts. Below are `ptk_impact`, the configuration (`ptk_config`), images
-//! (`ptk_image`) and the faults (`ptk_main_faults`); above is the program, which reads the files and lends its standard
-//! output. The bytes are tested (`ptk_main_tests`).
+//! (`ptk_image`) and the faults (`ptk_main_faults`, of writing `ptk_main_runs`); above is the program, which reads the
+//! files and lends its standard output. The bytes are tested (`ptk_main_tests`).
 
 mod answer;
 mod comparison;
 mod document;
-mod fault;
 mod form;
 mod lines;
 mod refusal;

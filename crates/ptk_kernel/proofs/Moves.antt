@@ -5,7 +5,7 @@ use Rattle.ptk_words_model.specs.State.{Part}
 use Rattle.ptk_words_model.specs.Decision.{after_arrivals, ready_at, runner_of, after_turn, after_decision}
 use Rattle.ptk_words_model.specs.Schedule.{after_choice}
 use Rattle.ptk_words_model.specs.Withdrawal.{after_expiries}
-use Rattle.ptk_words_model.specs.Run.{is_active}
+use Rattle.ptk_words.specs.Faults.{is_active}
 use Rattle.ptk_words_invariant.proofs.Decisions.{arrivals_status}
 use Rattle.ptk_words_invariant.proofs.Timeouts.{expiries_status}
 use Rattle.ptk_gate.specs.Kept.{Kept, AreParts, part_at, put_part, limits_at}

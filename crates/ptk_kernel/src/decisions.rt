@@ -2,7 +2,7 @@
 
 ghost use Rattle.std.specs.Prelude.{◌≡◌, ◌<◌, ◌≤◌, true, length, Some};
 ghost use Rattle.ptk_words_model.specs.Decision.{runner_of, ready_at, after_turn, spent_in_turn, after_decision, spent_by_decision};
-ghost use Rattle.ptk_words_model.specs.Run.{is_active};
+ghost use Rattle.ptk_words.specs.Faults.{is_active};
 ghost use Rattle.ptk_gate.specs.Kept.{part_at, put_part, limits_at};
 ghost use Rattle.ptk_gate_steps.specs.NextSteps.{next_step_in};
 ghost use Rattle.ptk_kernel.specs.Spending.{cost_in};

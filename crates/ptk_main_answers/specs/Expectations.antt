@@ -1,6 +1,6 @@
 -- Whether a run is as it is expected to be.
-use Rattle.std.specs.Prelude.{◌≡◌, ◌≢◌, ◌<◌, ◌+◌, ◌==◌, ℕ, Bool, List, Option, Some, None, true, false, count_by, length, min, slice_get, take, if◌then◌else◌}
-use Rattle.ptk_system.specs.Told.{status_in}
+use Rattle.std.specs.Prelude.{◌≡◌, ◌≢◌, ◌<◌, ◌+◌, ◌==◌, ℕ, List, Option, Some, None, true, count_by, length, min, slice_get, take, if◌then◌else◌}
+use Rattle.ptk_system.specs.Told.{is_halted, status_in}
 use Rattle.ptk_system.specs.World.{World, state_of}
 use Rattle.ptk_system.specs.declared.status.PartStatus.{PartStatus}
 use Rattle.ptk_system.specs.declared.status.PartStatus.TheVariants as status
@@ -37,14 +37,6 @@ pub record IsFailure (kinds : FailOn) (world : World) (p : ℕ) (kind : FailureK
   pub within : p < length world.config.sections
   pub is : failure_of kinds (status_in (state_of world p).part) ≡ Some kind
   pub before : (q : ℕ) → q < p → failure_of kinds (status_in (state_of world q).part) ≡ None
-
--- whether a status is that of a halted partition: it exited, was stopped, or its image was refused
-abbrev pub is_halted : PartStatus → Bool
-is_halted status.Idle = false
-is_halted status.Running = false
-is_halted (status.Exited code) = true
-is_halted (status.Stopped cause pc) = true
-is_halted (status.Refused fault) = true
 
 -- every partition has halted (own)
 abbrev pub AreHalted : World → Type 0

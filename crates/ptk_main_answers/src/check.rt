@@ -55,10 +55,8 @@ fn refused_image<'a>(config: &'a Config, system: &System<'_>) -> Option<Fault<'a
     requires start { system.now.tick ≡ 0 }
     ensures { option_map told result ≡ refused_image config.now system.now.files }
 {
-    match first_refused(system) {
-        Some((p, fault)) => Some(Fault::of_image(image_name(config, p), fault)),
-        None => None,
-    }
+    let (p, fault) = first_refused(system)?;
+    Some(Fault::of_image(image_name(config, p), fault))
 }
 
 /// The first partition whose image is refused, with its fault, of a system at tick 0.

@@ -6,7 +6,7 @@ ghost use Rattle.ptk_words.specs.declared.TheConstants.{LAST_TICK};
 ghost use Rattle.ptk_system.specs.Shown.{report_of};
 ghost use Rattle.ptk_system.specs.Told.{status_in};
 ghost use Rattle.ptk_system.specs.World.{at_tick, state_of, world_at};
-ghost use Rattle.ptk_main_answers.specs.Expectations.{AreHalted, is_halted};
+ghost use Rattle.ptk_main_answers.specs.Expectations.{AreHalted};
 ghost use Rattle.ptk_main_answers.specs.Refusals.{IsFaultOf, missing_image};
 
 use crate::document::put_document;
@@ -15,7 +15,7 @@ use crate::naming::{boot_fault, part_name};
 use ptk_config::Config;
 use ptk_main_faults::Fault;
 use ptk_main_line::{FailOn, Format};
-use ptk_system::{Files, PartStatus, System};
+use ptk_system::{Files, System};
 use ptk_words::{PartId, Tick};
 use std::alloc::Global;
 use std::io::Write;
@@ -120,21 +120,11 @@ fn all_halted(system: &System<'_>) -> bool
     ensures { IsTrue result → AreHalted system.now }
 {
     for i in 0..system.parts() {
-        if !is_halted(system.status(PartId::new(i as u8))) {
+        if !system.status(PartId::new(i as u8)).is_halted() {
             return false;
         }
     }
     true
-}
-
-/// Whether a status is that of a halted partition.
-fn is_halted(status: PartStatus) -> bool
-    ensures { result ≡ is_halted status }
-{
-    match status {
-        PartStatus::Idle | PartStatus::Running => false,
-        PartStatus::Exited(_) | PartStatus::Stopped(..) | PartStatus::Refused(_) => true,
-    }
 }
 
 /// Writes the report of a system, and compares it where one is expected.

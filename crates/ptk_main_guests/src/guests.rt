@@ -81,10 +81,7 @@ pub fn files_with(alloc: Global, p: &[u8], q: &[u8]) -> Result<Files, AllocError
 
 // The files with the image of a source, None where there are none.
 fn files_of(alloc: Global, source: &[&str]) -> Option<Files> {
-    match image_of(alloc, source) {
-        Some(image) => files_with(alloc, &image, &[]).ok(),
-        None => None,
-    }
+    files_with(alloc, &image_of(alloc, source)?, &[]).ok()
 }
 
 /// The configuration, and the files with the guest's image.

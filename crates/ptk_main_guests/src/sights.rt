@@ -3,9 +3,8 @@
 use crate::guests::{guest_of, is_report, is_text, is_trace, tick_of};
 use ptk_config::Config;
 use ptk_main_runs::{Files, System};
-use ptk_system::Activity;
 use ptk_threads::{QueueName, Slot};
-use ptk_words::{ConditionNo, MutexNo, PartId, Priority, SlotNo, ThreadNo, Wait};
+use ptk_words::{ConditionNo, MutexNo, PartId, Priority, SlotNo, ThreadNo};
 use std::alloc::Global;
 
 /// A queue of the first partition, by the number of what its threads are ready at or wait for.
@@ -113,16 +112,6 @@ fn linked(slots: &[Slot], queue: Queue, threads: &[u8]) -> Option<u32> {
     u32::try_from(count).ok()
 }
 
-// The number of the mutex that a thread waits for.
-fn mutex_of(activity: &Activity) -> Option<u8> {
-    match activity {
-        Activity::Blocked(Wait::MutexWait(m, _)) | Activity::Blocked(Wait::RelockWait(m, _)) => {
-            Some(m.number())
-        }
-        _ => None,
-    }
-}
-
 // What is seen, None where there is no such thing.
 fn seen(system: &System<'_>, sight: Sight) -> Option<u32> {
     let _parts = system.parts();
@@ -130,7 +119,7 @@ fn seen(system: &System<'_>, sight: Sight) -> Option<u32> {
     match sight {
         Sight::Register(t, i) => system.register(p, thread_of(t)?, i),
         Sight::Level(t) => Some(u32::from(system.effective_priority(p, thread_of(t)?)?)),
-        Sight::Awaited(t) => Some(u32::from(mutex_of(&system.activity(p, thread_of(t)?))?)),
+        Sight::Awaited(t) => Some(u32::from(system.activity(p, thread_of(t)?).mutex()?.number())),
         Sight::Linked(queue, along) => linked(system.tables().threads().slots(), queue, along),
         Sight::Visited => Some(system.tables().visited()),
         Sight::Byte(address) => Some(u32::from(system.byte(p, address)?)),

@@ -51,12 +51,10 @@ pub fn run_with<W: Write>(
     ensures no_name { IfErr result (λ fault. fault ≢ NoPartition) }
     ensures silent { IfErr result (λ fault. fault ≢ RunFault.Write → out.new ≡ out.old) }
 {
-    match system_at(alloc, config, files, ticks) {
-        Ok(system) => match system.report(out) {
-            Ok(()) => Ok(()),
-            Err(_) => Err(RunFault::Write),
-        },
-        Err(fault) => Err(fault),
+    let system = system_at(alloc, config, files, ticks)?;
+    match system.report(out) {
+        Ok(()) => Ok(()),
+        Err(_) => Err(RunFault::Write),
     }
 }
 
@@ -92,10 +90,8 @@ pub fn part_named(config: &Config, name: &str) -> Option<PartId>
     ensures place { result ≡ part_named config.now name.now }
     ensures within { IfSome result (λ p. p < length config.now.sections) }
 {
-    match place_named(config.sections(), name) {
-        Some(place) => Some(PartId::new(place as u8)),
-        None => None,
-    }
+    let place = place_named(config.sections(), name)?;
+    Some(PartId::new(place as u8))
 }
 
 // The place of the section of a name, None where no section has it.
@@ -125,12 +121,10 @@ fn traced<W: Write>(
         (λ fault. first_missing files.now config.now.sections ≡ missing_in_run fault) }
     ensures silent { IfErr result (λ fault. fault ≢ RunFault.Write → out.new ≡ out.old) }
 {
-    match system_at(alloc, config, files, ticks) {
-        Ok(system) => match system.trace(p).lines(out) {
-            Ok(()) => Ok(()),
-            Err(_) => Err(RunFault::Write),
-        },
-        Err(fault) => Err(fault),
+    let system = system_at(alloc, config, files, ticks)?;
+    match system.trace(p).lines(out) {
+        Ok(()) => Ok(()),
+        Err(_) => Err(RunFault::Write),
     }
 }
 

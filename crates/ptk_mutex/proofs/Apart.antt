@@ -18,11 +18,12 @@ use Rattle.ptk_words.specs.declared.mutexes.Soundness.TheVariants.{Consistent, I
 use Rattle.ptk_words_model.specs.State.{Mutex, Condition, Locks}
 use Rattle.ptk_words_model.specs.declared.LockMove.{LockMove}
 use Rattle.ptk_words_model.specs.declared.LockMove.TheVariants.{Takes, Recovers, Counts, Waits, Refuses}
-use Rattle.ptk_words_model.specs.Priority.{assigned_priority, awaited, is_owner, mutex_of_wait, thread_at}
+use Rattle.ptk_words_model.specs.Priority.{assigned_priority, awaited, is_owner, thread_at}
+use Rattle.ptk_words.specs.Threads.{mutex_of_wait, condition_of_wait}
 use Rattle.ptk_words_model.specs.Schedule.{with_thread, at_tail_with, woken_with}
 use Rattle.ptk_words_model.specs.Mutex.{mutex_at, with_mutex, waiters_of, wait_of, count_of, soundness_of, with_soundness, new_mutex, owns, owner_move, own_lock_move, own_trylock_move, is_above_ceiling, lock_move, trylock_move, free_move, handed, heir, move_reply, relock_move, without_mutex_waiter, after_take, after_count, after_free, after_move, after_hand_over_to, after_hand_over, after_refusal_to, after_refusal, after_loss, after_last_unlock, after_unlock, after_relock, after_relock_move, after_bequest, after_abandonment, after_mutex_end}
 use Rattle.ptk_words_model.specs.Condition.{mutex_of_condition_wait, waiters_on}
-use Rattle.ptk_words_sync_invariant.specs.Conditions.{condition_of_wait, HasRoom, IsNoWaiter}
+use Rattle.ptk_words_sync_invariant.specs.Conditions.{HasRoom, IsNoWaiter}
 use Rattle.ptk_words_sync_invariant.proofs.Lines.{out_push}
 use Rattle.ptk_words_sync_invariant.proofs.Conditions.{condition_wait, room_map}
 use Rattle.ptk_words_sync_invariant.proofs.MutexPlaces.{pool_set_same}

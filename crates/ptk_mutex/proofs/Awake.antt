@@ -9,7 +9,8 @@ use Rattle.ptk_words_model.specs.State.{Locks, Syncs}
 use Rattle.ptk_words_model.specs.Priority.{awaited, thread_at}
 use Rattle.ptk_words_model.specs.Mutex.{mutex_at, wait_of, waiters_of}
 use Rattle.ptk_words_model.specs.Condition.{condition_waiters}
-use Rattle.ptk_words_sync_invariant.specs.Conditions.{condition_of_wait, IsNoWaiter}
+use Rattle.ptk_words_sync_invariant.specs.Conditions.{IsNoWaiter}
+use Rattle.ptk_words.specs.Threads.{condition_of_wait}
 use Rattle.ptk_words_sync_invariant.proofs.Threads.{idle_awaits, none_awaits}
 use Rattle.ptk_syncs.specs.Rosters.{Rostered}
 use Rattle.ptk_mutex.specs.Tables.{locks_by, AreLocked, MayWait}

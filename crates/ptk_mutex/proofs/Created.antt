@@ -13,13 +13,13 @@ use Rattle.ptk_threads.specs.Table.{ThreadTable, with_new, with_new_at}
 use Rattle.ptk_threads.proofs.Pools.{part_of-set, pool_get-set_other}
 use Rattle.ptk_syncs.specs.Rosters.{Rostered}
 use Rattle.ptk_mutex.specs.Moves.{after_creation}
-use Rattle.ptk_mutex.specs.Tables.{locks_by, with_threads, AreLocked, AreReadyBy, IsWaiter}
+use Rattle.ptk_mutex.specs.Tables.{locks_by, put_locks, with_threads, AreLocked, AreReadyBy, IsWaiter}
 use Rattle.ptk_mutex.specs.Sound.{IsSound}
 use Rattle.ptk_mutex.proofs.Apart.{IsApart, apart_created, apart_none, waiting_kept}
 use Rattle.ptk_mutex.proofs.Locked.{waiter_used}
 use Rattle.ptk_mutex.proofs.Pool.{least_free_is}
 use Rattle.ptk_mutex.proofs.Sound.{sound_locks}
-use Rattle.ptk_mutex.proofs.Steps.{AreMoved, moved_ready}
+use Rattle.ptk_mutex.proofs.Steps.{put-is, put_ready}
 
 -- ---- the slot table
 
@@ -37,7 +37,7 @@ created_at p None thread mutexes table lt = rw (set_part-same table.threads p) r
 created_at p (Some k) thread mutexes table lt = rw (part_of-set table.threads p (pool_set (part_of table.threads p) k (Some thread)) lt, set-set) refl
 
 -- a thread created, and priorities stored
-pub created_is : (p : ℕ) (thread : Thread) (a b after : Rostered) → p < length a.table.threads → b.table ≡ with_new p thread a.table → b.mutexes ≡ a.mutexes
+created_is : (p : ℕ) (thread : Thread) (a b after : Rostered) → p < length a.table.threads → b.table ≡ with_new p thread a.table → b.mutexes ≡ a.mutexes
     → after.table ≡ record b.table { stored = set b.table.stored p (effective_priorities (part_of b.table.threads p) (part_of b.mutexes p)) } → after.table ≡ with_threads p (after_creation thread (locks_by p a.table a.lines a.mutexes)) a.table
 created_is p thread a b after lt e same stored =
     stored ∙ rw (e, same) (created_at p (least_free (part_of a.table.threads p)) thread (part_of a.mutexes p) a.table lt)
@@ -65,18 +65,18 @@ apart_at : (o : Option ℕ) (thread : Thread) (k : ℕ) (locks : Locks) → leas
 apart_at None thread k locks e used = apart_none k locks
 apart_at (Some n) thread k locks e used = apart_created n k (Some thread) locks (other_number n k locks.threads (least_free_is locks.threads n e) used)
 
-pub sound_created : (p : ℕ) (thread : Thread) (a b : Rostered) → p < length a.table.threads → b.table ≡ with_threads p (after_creation thread (locks_by p a.table a.lines a.mutexes)) a.table → b.lines ≡ a.lines → b.mutexes ≡ a.mutexes → b.conditions ≡ a.conditions → IsSound a → IsSound b
-sound_created p thread a b lt of_table of_lines of_mutexes of_conditions sound =
+-- the roster then, lines, mutexes and condition variables as they were
+pub created_put : (p : ℕ) (thread : Thread) (a b after : Rostered) → p < length a.table.threads → b.table ≡ with_new p thread a.table → b.mutexes ≡ a.mutexes
+    → after.table ≡ record b.table { stored = set b.table.stored p (effective_priorities (part_of b.table.threads p) (part_of b.mutexes p)) } → after.lines ≡ a.lines → after.mutexes ≡ a.mutexes → after.conditions ≡ a.conditions
+    → after ≡ put_locks p (after_creation thread (locks_by p a.table a.lines a.mutexes)) a
+created_put p thread a b after lt e same stored of_lines of_mutexes of_conditions =
+    put-is p a after (after_creation thread (locks_by p a.table a.lines a.mutexes))
+    (record { of_threads = created_is p thread a b after lt e same stored; of_lines = of_lines ∙ sym (set_part-same a.lines p); of_mutexes = of_mutexes ∙ sym (set_part-same a.mutexes p) }) of_conditions
+
+pub sound_created : (p : ℕ) (thread : Thread) (a b : Rostered) → p < length a.table.threads → b ≡ put_locks p (after_creation thread (locks_by p a.table a.lines a.mutexes)) a → IsSound a → IsSound b
+sound_created p thread a b lt e sound =
     let locks : Locks = locks_by p a.table a.lines a.mutexes in
     let after : Locks = after_creation thread locks in
     let ready : AreReadyBy p a.table a.lines a.mutexes = (sound.synced p lt).ready in
-    let moved : AreMoved p a.table a.lines a.mutexes b.table b.lines b.mutexes after =
-    record { of_threads = of_table; of_lines = of_lines ∙ sym (set_part-same a.lines p); of_mutexes = of_mutexes ∙ sym (set_part-same a.mutexes p) } in
-    sound_locks p a b after
-    (record {
-      before = ready;
-      moved = moved;
-      conditions = of_conditions;
-      after = moved_ready p a.table b.table a.lines b.lines a.mutexes b.mutexes after ready.part (locked_at (least_free locks.threads) thread locks refl ready.locked) moved;
-    })
+    sound_locks p a b after (record { before = ready; moved = e; after = put_ready p a b after ready.part (locked_at (least_free locks.threads) thread locks refl ready.locked) e })
     (waiting_kept locks after (part_of a.conditions p) (λ c k there may. apart_at (least_free locks.threads) thread k locks refl may.used)) sound

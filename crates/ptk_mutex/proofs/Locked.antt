@@ -8,7 +8,7 @@ use Rattle.ptk_words.specs.Pools.{pool_get, pool_changed, numbers_to, greatest, 
 use Rattle.ptk_words.specs.declared.TheConstants.{COUNT_LIMIT}
 use Rattle.ptk_words.specs.declared.threads.Thread.{Thread}
 use Rattle.ptk_words.specs.declared.threads.Wait.{Wait}
-use Rattle.ptk_words_model.specs.Priority.{mutex_of_wait}
+use Rattle.ptk_words.specs.Threads.{mutex_of_wait}
 use Rattle.ptk_words_model.specs.Mutex.{after_wait, after_count}
 use Rattle.ptk_mutex.specs.Moves.{after_assignment}
 use Rattle.ptk_words_model.specs.State.{Mutex, Locks}

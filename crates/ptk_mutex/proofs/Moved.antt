@@ -1,25 +1,23 @@
 -- What the calls need of the tables, and what the tables are after a move of one partition.
-use Rattle.std.proofs.Common.{◌≡◌, ℕ, ◌-◌, ◌<◌, ◌≤◌, List, refl, ◌∙◌, ap, arith, true, false}
+use Rattle.std.proofs.Common.{◌≡◌, ℕ, ◌-◌, ◌<◌, ◌≤◌, List, length, refl, ◌∙◌, ap, arith, true, false}
 use Rattle.std.specs.Prelude.{Option, Some, None, option_map}
-use Rattle.std.proofs.Math.ListN.{set}
 use Rattle.std.proofs.lemmas.List.{length-set, set-set, set-get_or}
 use Rattle.ptk_words.specs.Pools.{pool_get}
 use Rattle.ptk_words.specs.declared.TheConstants.{COUNT_LIMIT}
 use Rattle.ptk_words_model.specs.State.{Mutex, Locks}
 use Rattle.ptk_words_model.specs.Mutex.{waiters_of, count_of}
 use Rattle.ptk_words_parted.specs.Parts.{part_of}
-use Rattle.ptk_threads.specs.Table.{ThreadTable, thread_in}
+use Rattle.ptk_threads.specs.Table.{ThreadTable}
 use Rattle.ptk_threads.proofs.Pools.{pool_get-changed, pool_changed-changed, part_of-set}
 use Rattle.ptk_mutex_priorities.specs.declared.slot.Change.TheVariants.{CountUp, CountDown}
 use Rattle.ptk_mutex_priorities.specs.Changes.{SlotMayChange}
 use Rattle.std.specs.Prelude.{option_and_then, option_to_list}
-use Rattle.ptk_words.specs.Pools.{pool_set}
+use Rattle.ptk_words.specs.Pools.{pool_set, pool_changed}
 use Rattle.ptk_words.specs.declared.threads.Thread.{Thread}
 use Rattle.ptk_words_model.specs.declared.LockMove.{LockMove}
-use Rattle.ptk_words_model.specs.Schedule.{woken_with}
+use Rattle.ptk_words_model.specs.Schedule.{with_reply, woken_with}
 use Rattle.ptk_words_model.specs.Mutex.{move_reply, kept_reply, handed}
-use Rattle.ptk_threads.specs.Table.{with_changed, replaced_by}
-use Rattle.ptk_threads.proofs.Pools.{pool_changed-free}
+use Rattle.ptk_threads.specs.Table.{with_changed, with_used, with_wait}
 use Rattle.ptk_words.specs.Pools.{first_of_greatest}
 use Rattle.ptk_words_parted.proofs.Cuts.{set_part-same}
 use Rattle.ptk_words_model.specs.Mutex.{heir, owns, after_mutex_end, after_bequest, after_abandonment}
@@ -45,17 +43,15 @@ has_part p table lines mutexes ready = ready.part
 
 -- ---- a thread woken
 
-replaced_row : (t : ℕ) (f : Thread → Thread) (thread : Thread) (row : List (Option Thread)) (o : Option Thread) → o ≡ Some thread → pool_set row t (option_map (replaced_by (f thread)) o) ≡ pool_set row t (option_map f o)
-replaced_row t f thread row o e = rw e refl
+-- a thread changed twice
+changed-twice : (p t : ℕ) (f g : Thread → Thread) (table : ThreadTable) → p < length table.threads → with_changed p t g (with_changed p t f table) ≡ with_changed p t (λ (thread : Thread). g (f thread)) table
+changed-twice p t f g table lt = rw (part_of-set table.threads p (pool_changed t f (part_of table.threads p)) lt, set-set, pool_changed-changed) refl
 
--- the thread of a number replaced by what f makes of it
-pub replaced-is : (p t : ℕ) (f : Thread → Thread) (thread new : Thread) (table : ThreadTable) → thread_in table p t ≡ Some thread → new ≡ f thread → with_changed p t (replaced_by new) table ≡ with_changed p t f table
-replaced-is p t f thread new table e same =
-    rw same (ap (λ (row : List (Option Thread)). record table { threads = set table.threads p row }) (replaced_row t f thread (part_of table.threads p) (thread_in table p t) e))
-
--- a free number stays free
-pub free-is : (p t : ℕ) (f : Thread → Thread) (table : ThreadTable) → thread_in table p t ≡ None → with_changed p t f table ≡ table
-free-is p t f table e = rw (pool_changed-free t f (part_of table.threads p) e, set-get_or) refl
+-- a thread that has its values, and then waits for nothing and has used no tick, is woken
+pub woken-is : (p t : ℕ) (values : List ℕ) (table : ThreadTable) → p < length table.threads → with_changed p t (with_used 0) (with_changed p t (with_wait None) (with_changed p t (with_reply values) table)) ≡ with_changed p t (woken_with values) table
+woken-is p t values table lt =
+    ap (with_changed p t (with_used 0)) (changed-twice p t (with_reply values) (with_wait None) table lt)
+    ∙ changed-twice p t (λ (thread : Thread). with_wait None (with_reply values thread)) (with_used 0) table lt
 
 handed_entry : (made : LockMove) (x : Option Thread) → option_map (woken_with (option_to_list (move_reply made (kept_reply (option_and_then (λ (thread : Thread). thread.wait) x))))) x ≡ option_map (handed made) x
 handed_entry made None = refl
@@ -104,4 +100,4 @@ pub ruleset ends = (end-other, end-robust, end-plain, stays, has_part, set_part-
 
 pub ruleset moves = (set_part-same, count_down_room, waiter_used, countable, has_part, pool_get-changed, pool_changed-changed, part_of-set, set-set, set-get_or, length-set)
 
-pub ruleset wakes = (replaced-is, free-is, handed-is, pool_get-changed, pool_changed-changed, part_of-set, set-set, set-get_or, length-set)
+pub ruleset wakes = (woken-is, handed-is, pool_get-changed, pool_changed-changed, part_of-set, set-set, set-get_or, length-set)

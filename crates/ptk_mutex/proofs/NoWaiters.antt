@@ -9,7 +9,7 @@ use Rattle.ptk_words_parted.specs.Parts.{part_of}
 use Rattle.ptk_words_model.specs.declared.LockMove.{LockMove}
 use Rattle.ptk_words_model.specs.declared.LockMove.TheVariants.{Takes, Recovers, Counts, Waits, Refuses}
 use Rattle.ptk_words_model.specs.State.{Mutex, Condition, Locks}
-use Rattle.ptk_words_model.specs.Mutex.{waiters_of, after_move}
+use Rattle.ptk_words_model.specs.Mutex.{waiters_of, after_move, is_waiting}
 use Rattle.ptk_words_sync_invariant.specs.Conditions.{IsNoWaiter}
 use Rattle.ptk_words_sync_invariant.proofs.Pools.{changed_own, changed_other}
 use Rattle.ptk_threads.specs.Table.{ThreadTable}
@@ -17,7 +17,6 @@ use Rattle.ptk_threads.proofs.Pools.{part_of-set}
 use Rattle.ptk_mutex_priorities.specs.declared.slot.Change.TheVariants.{Take, CountUp}
 use Rattle.ptk_mutex_priorities.specs.Changes.{mutex_changed}
 use Rattle.ptk_mutex.specs.Tables.{locks_by, HasPartBy}
-use Rattle.ptk_mutex.specs.Rises.{is_waiting}
 
 -- ---- a mutex changed
 

@@ -15,7 +15,7 @@ use Rattle.ptk_words_model.specs.declared.LockMove.TheVariants.{Takes, Recovers,
 use Rattle.ptk_words_model.specs.State.{Mutex, Locks}
 use Rattle.ptk_words_model.specs.Priority.{awaited, thread_at, assigned_of, inheritor, inheritor_of, ceiling_for, effective_priorities}
 use Rattle.ptk_words_model.specs.Schedule.{woken_with, after_wake}
-use Rattle.ptk_words_model.specs.Mutex.{owns, move_reply, after_count, after_move, after_relock_move}
+use Rattle.ptk_words_model.specs.Mutex.{owns, move_reply, after_count, after_move, after_relock_move, is_waiting}
 use Rattle.ptk_words_sync_invariant.proofs.Pools.{changed_twice, changed_own}
 use Rattle.ptk_words_sync_invariant.proofs.Raising.{level_of}
 use Rattle.ptk_threads.specs.Table.{ThreadTable, thread_in, with_changed, with_wait, with_priority}
@@ -28,7 +28,7 @@ use Rattle.ptk_mutex.specs.Visits.{IsVisited}
 use Rattle.ptk_mutex.proofs.Changes.{effective_mutex, effective_thread}
 use Rattle.ptk_mutex.proofs.Visits.{unvisited}
 use Rattle.ptk_mutex.specs.Tables.{locks_by, with_threads, AreReadyBy}
-use Rattle.ptk_mutex.specs.Rises.{IsFree, is_waiting}
+use Rattle.ptk_mutex.specs.Rises.{IsFree}
 use Rattle.ptk_mutex.proofs.Moved.{stays}
 
 -- ---- a free mutex taken

@@ -20,14 +20,15 @@ use Rattle.ptk_words_model.specs.Mutex.{mutex_at, new_mutex, owns, waiters_of, w
 use Rattle.ptk_words_model.specs.MutexCalls.{is_locked}
 use Rattle.ptk_words_model.specs.Condition.{waiters_on}
 use Rattle.ptk_words_sync_invariant.specs.Conditions.{IsNoWaiter}
-use Rattle.ptk_threads.specs.Table.{ThreadTable, free_table}
+use Rattle.ptk_threads.specs.Table.{free_table}
 use Rattle.ptk_threads.proofs.Pools.{part_of-set, part_of-set_other}
 use Rattle.ptk_syncs.specs.Rosters.{Rostered, seen}
 use Rattle.ptk_mutex_priorities.specs.Plain.{is_raising_at}
 use Rattle.ptk_mutex.specs.Moves.{after_assignment, after_withdrawal}
 use Rattle.ptk_mutex.specs.Pool.{with_new_mutex}
-use Rattle.ptk_mutex.specs.Tables.{IsWaiter, AreReadyBy}
-use Rattle.ptk_mutex.specs.Sound.{syncs_by, AreWaiting, AreSyncedBy, IsSound}
+use Rattle.ptk_mutex.specs.Rosters.{with_priorities}
+use Rattle.ptk_mutex.specs.Tables.{put_locks, IsWaiter, AreReadyBy}
+use Rattle.ptk_mutex.specs.Sound.{syncs_by, put_syncs, AreWaiting, AreSyncedBy, IsSound}
 use Rattle.ptk_mutex.proofs.Apart.{IsApart, apart_closed, apart_ends, apart_free, apart_made, apart_opened, apart_relock, apart_soundness, apart_take, apart_unlock, apart_withdrawal, other_waiter, waiting_assigned, waiting_kept}
 use Rattle.ptk_mutex.proofs.Unraised.{ready_freed, ready_taken}
 use Rattle.ptk_mutex.proofs.Ready.{pool_blank, ready_blank, ready_destroy, ready_init, row_blank}
@@ -45,22 +46,24 @@ AreReadyAt p a = AreReadyBy p a.table a.lines a.mutexes
 abbrev pub AreSyncedAt : ℕ → Rostered → Type 0
 AreSyncedAt p a = AreSyncedBy p a.table a.lines a.mutexes a.conditions
 
--- the roster b is the roster a with these syncs at p
-pub record AreSyncsMoved (p : ℕ) (a b : Rostered) (syncs : Syncs) : Type 0 where
-  pub of_locks : AreMoved p a.table a.lines a.mutexes b.table b.lines b.mutexes syncs.locks
-  pub of_conditions : b.conditions ≡ set a.conditions p syncs.conditions
+-- what the tables of the mutex calls are with these syncs at p
+pub put_locked : (p : ℕ) (a b : Rostered) (syncs : Syncs) → b ≡ put_syncs p syncs a → AreMoved p a.table a.lines a.mutexes b.table b.lines b.mutexes syncs.locks
+put_locked p a b syncs e = record { of_threads = ap (λ (r : Rostered). r.table) e; of_lines = ap (λ (r : Rostered). r.lines) e; of_mutexes = ap (λ (r : Rostered). r.mutexes) e }
+
+put_conditions : (p : ℕ) (a b : Rostered) (syncs : Syncs) → b ≡ put_syncs p syncs a → b.conditions ≡ set a.conditions p syncs.conditions
+put_conditions p a b syncs e = ap (λ (r : Rostered). r.conditions) e
 
 -- what p then has
-pub syncs_moved : (p : ℕ) (a b : Rostered) (syncs : Syncs) → AreSyncedAt p a → AreSyncsMoved p a b syncs → of_part p b ≡ syncs
-syncs_moved p a b syncs synced moved =
-    rw (moved_locks p a.table b.table a.lines b.lines a.mutexes b.mutexes syncs.locks synced.ready.part moved.of_locks, moved.of_conditions, part_of-set a.conditions p syncs.conditions synced.of_conditions) refl
+pub syncs_put : (p : ℕ) (a b : Rostered) (syncs : Syncs) → AreSyncedAt p a → b ≡ put_syncs p syncs a → of_part p b ≡ syncs
+syncs_put p a b syncs synced e =
+    rw (moved_locks p a.table b.table a.lines b.lines a.mutexes b.mutexes syncs.locks synced.ready.part (put_locked p a b syncs e), put_conditions p a b syncs e, part_of-set a.conditions p syncs.conditions synced.of_conditions) refl
 
--- a moved roster is as the calls need it, where the mutex calls find it so and waiters wait
-pub moved_synced : (p : ℕ) (a b : Rostered) (syncs : Syncs) → AreSyncedAt p a → AreSyncsMoved p a b syncs → AreReadyAt p b → AreWaiting syncs → AreSyncedAt p b
-moved_synced p a b syncs synced moved ready waiting = record {
+-- such a roster is as the calls need it, where the mutex calls find it so and waiters wait
+pub put_synced : (p : ℕ) (a b : Rostered) (syncs : Syncs) → AreSyncedAt p a → b ≡ put_syncs p syncs a → AreReadyAt p b → AreWaiting syncs → AreSyncedAt p b
+put_synced p a b syncs synced e ready waiting = record {
   ready = ready;
-  of_conditions = rw (moved.of_conditions, length-set) synced.of_conditions;
-  waiting = subst (λ (s : Syncs). AreWaiting s) (sym (syncs_moved p a b syncs synced moved)) waiting;
+  of_conditions = rw (put_conditions p a b syncs e, length-set) synced.of_conditions;
+  waiting = subst (λ (s : Syncs). AreWaiting s) (sym (syncs_put p a b syncs synced e)) waiting;
 }
 
 -- ---- the other partitions
@@ -116,15 +119,15 @@ sound_otherwise p a b other here sound = record {
 }
 
 -- the roster is sound after a move of one partition that leaves that one so
-pub sound_moved : (p : ℕ) (a b : Rostered) (syncs : Syncs) → AreSyncsMoved p a b syncs → AreSyncedAt p b → IsSound a → IsSound b
-sound_moved p a b syncs moved here sound =
+pub sound_put : (p : ℕ) (a b : Rostered) (syncs : Syncs) → b ≡ put_syncs p syncs a → AreSyncedAt p b → IsSound a → IsSound b
+sound_put p a b syncs e here sound =
     sound_otherwise p a b
     (record {
-      threads = elsewhere_set p a.table.threads b.table.threads syncs.threads (ap (λ (t : ThreadTable). t.threads) moved.of_locks.of_threads);
-      stored = elsewhere_set p a.table.stored b.table.stored (effective_priorities syncs.threads syncs.mutexes) (ap (λ (t : ThreadTable). t.stored) moved.of_locks.of_threads);
-      lines = elsewhere_set p a.lines b.lines syncs.line moved.of_locks.of_lines;
-      mutexes = elsewhere_set p a.mutexes b.mutexes syncs.mutexes moved.of_locks.of_mutexes;
-      conditions = elsewhere_set p a.conditions b.conditions syncs.conditions moved.of_conditions;
+      threads = elsewhere_set p a.table.threads b.table.threads syncs.threads (ap (λ (r : Rostered). r.table.threads) e);
+      stored = elsewhere_set p a.table.stored b.table.stored (effective_priorities syncs.threads syncs.mutexes) (ap (λ (r : Rostered). r.table.stored) e);
+      lines = elsewhere_set p a.lines b.lines syncs.line (ap (λ (r : Rostered). r.lines) e);
+      mutexes = elsewhere_set p a.mutexes b.mutexes syncs.mutexes (ap (λ (r : Rostered). r.mutexes) e);
+      conditions = elsewhere_set p a.conditions b.conditions syncs.conditions (put_conditions p a b syncs e);
     }) here sound
 
 -- ---- the mutex calls
@@ -132,22 +135,24 @@ sound_moved p a b syncs moved here sound =
 -- the roster b is the roster a with these locks at p, as the mutex calls need it
 pub record IsLocksMove (p : ℕ) (a b : Rostered) (locks : Locks) : Type 0 where
   pub before : AreReadyAt p a
-  pub moved : AreMoved p a.table a.lines a.mutexes b.table b.lines b.mutexes locks
-  pub conditions : b.conditions ≡ a.conditions
+  pub moved : b ≡ put_locks p locks a
   pub after : AreReadyAt p b
 
-locks_moved : (p : ℕ) (a b : Rostered) (locks : Locks) → IsLocksMove p a b locks → AreSyncsMoved p a b (record { locks = locks; conditions = part_of a.conditions p })
-locks_moved p a b locks move = record { of_locks = move.moved; of_conditions = move.conditions ∙ sym (set_part-same a.conditions p) }
+-- with condition variables as they were
+abbrev pub with_locks_of : ℕ → Rostered → Locks → Syncs
+with_locks_of p a locks = record { locks = locks; conditions = part_of a.conditions p }
+
+pub as_syncs : (p : ℕ) (a b : Rostered) (locks : Locks) → b ≡ put_locks p locks a → b ≡ put_syncs p (with_locks_of p a locks) a
+as_syncs p a b locks e = e ∙ ap (λ (l : List (List (Option Condition))). record (put_locks p locks a) { conditions = l }) (sym (set_part-same a.conditions p))
 
 -- such a move after which waiters wait, for the partition
-pub synced_locks : (p : ℕ) (a b : Rostered) (locks : Locks) → IsLocksMove p a b locks → (AreWaiting (of_part p a) → AreWaiting (record { locks = locks; conditions = part_of a.conditions p })) → AreSyncedAt p a → AreSyncedAt p b
-synced_locks p a b locks move waits synced =
-    moved_synced p a b (record { locks = locks; conditions = part_of a.conditions p }) synced (locks_moved p a b locks move) move.after (waits synced.waiting)
+pub synced_locks : (p : ℕ) (a b : Rostered) (locks : Locks) → IsLocksMove p a b locks → (AreWaiting (of_part p a) → AreWaiting (with_locks_of p a locks)) → AreSyncedAt p a → AreSyncedAt p b
+synced_locks p a b locks move waits synced = put_synced p a b (with_locks_of p a locks) synced (as_syncs p a b locks move.moved) move.after (waits synced.waiting)
 
 -- and for the roster
-pub sound_locks : (p : ℕ) (a b : Rostered) (locks : Locks) → IsLocksMove p a b locks → (AreWaiting (of_part p a) → AreWaiting (record { locks = locks; conditions = part_of a.conditions p })) → IsSound a → IsSound b
+pub sound_locks : (p : ℕ) (a b : Rostered) (locks : Locks) → IsLocksMove p a b locks → (AreWaiting (of_part p a) → AreWaiting (with_locks_of p a locks)) → IsSound a → IsSound b
 sound_locks p a b locks move waits sound =
-    sound_moved p a b (record { locks = locks; conditions = part_of a.conditions p }) (locks_moved p a b locks move) (synced_locks p a b locks move waits (sound.synced p move.before.part.of_threads)) sound
+    sound_put p a b (with_locks_of p a locks) (as_syncs p a b locks move.moved) (synced_locks p a b locks move waits (sound.synced p move.before.part.of_threads)) sound
 
 -- lock, trylock and a running thread's re-lock
 pub sound_made : (made : LockMove) (p t m : ℕ) (wait : Wait) (a b : Rostered) → (made ≡ Counts → owns t (mutex_at (of_part p a).locks m) ≡ true) → IsNoWaiter t (part_of a.mutexes p) (part_of a.conditions p)
@@ -250,15 +255,17 @@ sound_freed p m a b plain e lt sound =
 -- ---- stored priorities computed again
 
 -- the roster with the effective priorities of a partition stored
-abbrev pub with_refreshed : ℕ → Rostered → ThreadTable
-with_refreshed p a = record a.table { stored = set a.table.stored p (effective_priorities (part_of a.table.threads p) (part_of a.mutexes p)) }
+abbrev pub with_refreshed : ℕ → Rostered → Rostered
+with_refreshed p a = with_priorities p (effective_priorities (part_of a.table.threads p) (part_of a.mutexes p)) a
 
--- which it has, where it is sound
-pub sound_refreshed : (p : ℕ) (a b : Rostered) → p < length a.table.threads → b.table ≡ with_refreshed p a → b.lines ≡ a.lines → b.mutexes ≡ a.mutexes → b.conditions ≡ a.conditions → IsSound a → IsSound b
-sound_refreshed p a b lt of_table of_lines of_mutexes of_conditions sound =
-    let kept : with_refreshed p a ≡ a.table = ap (λ (l : List (List ℕ)). record a.table { stored = l }) (ap (set a.table.stored p) (sym (sound.synced p lt).ready.stored) ∙ set_part-same a.table.stored p) in
-    let same : a ≡ b = λ i. record { table = sym (of_table ∙ kept) i; lines = sym of_lines i; mutexes = sym of_mutexes i; conditions = sym of_conditions i } in
-    subst (λ (r : Rostered). IsSound r) same sound
+pub refreshed-is : (p : ℕ) (a b : Rostered) → b.table ≡ (with_refreshed p a).table → b.lines ≡ a.lines → b.mutexes ≡ a.mutexes → b.conditions ≡ a.conditions → b ≡ with_refreshed p a
+refreshed-is p a b of_table of_lines of_mutexes of_conditions = λ i. record { table = of_table i; lines = of_lines i; mutexes = of_mutexes i; conditions = of_conditions i }
+
+-- which a sound roster has
+pub sound_refreshed : (p : ℕ) (a b : Rostered) → p < length a.table.threads → b ≡ with_refreshed p a → IsSound a → IsSound b
+sound_refreshed p a b lt e sound =
+    let kept : set a.table.stored p (effective_priorities (part_of a.table.threads p) (part_of a.mutexes p)) ≡ a.table.stored = ap (set a.table.stored p) (sym (sound.synced p lt).ready.stored) ∙ set_part-same a.table.stored p in
+    subst (λ (r : Rostered). IsSound r) (sym (e ∙ ap (λ (l : List (List ℕ)). record a { table = record a.table { stored = l } }) kept)) sound
 
 -- ---- a fresh roster
 

@@ -28,7 +28,8 @@ use Rattle.ptk_words.specs.declared.threads.Wait.{Wait}
 use Rattle.std.proofs.Common.{Bool, true, false}
 use Rattle.std.specs.Prelude.{nat_lt, ◌==◌, if◌then◌else◌}
 use Rattle.std.proofs.lemmas.Bool.{ltb-true}
-use Rattle.ptk_words_model.specs.Priority.{assigned_priority, mutex_of_wait}
+use Rattle.ptk_words_model.specs.Priority.{assigned_priority}
+use Rattle.ptk_words.specs.Threads.{mutex_of_wait}
 use Rattle.ptk_words_model.specs.Mutex.{count_of, own_lock_move, own_trylock_move, owner_move, is_above_ceiling, lock_move, trylock_move, after_move}
 use Rattle.ptk_mutex.specs.Tables.{MayWait}
 use Rattle.ptk_mutex.proofs.Locked.{locked_wait, locked_count, locked_wake}
@@ -41,7 +42,8 @@ use Rattle.ptk_threads.proofs.Pools.{part_of-set}
 use Rattle.ptk_mutex_priorities.specs.declared.slot.Change.{Change}
 use Rattle.ptk_mutex_priorities.specs.declared.slot.Change.TheVariants.{Take, CountUp, CountDown, Release, Abandon, Mark}
 use Rattle.ptk_mutex_priorities.specs.Changes.{mutex_changed, IsQuiet}
-use Rattle.ptk_mutex.specs.Tables.{locks_by, with_threads, HasPartBy, AreLocked, AreReadyBy, IsWaiter, MayGet}
+use Rattle.ptk_syncs.specs.Rosters.{Rostered}
+use Rattle.ptk_mutex.specs.Tables.{locks_by, put_locks, with_threads, HasPartBy, AreLocked, AreReadyBy, IsWaiter, MayGet}
 use Rattle.ptk_mutex.specs.Moves.{after_change}
 use Rattle.ptk_mutex.proofs.Locked.{IsMild, locked_mild, locked_left, heir_may_get}
 use Rattle.ptk_mutex.proofs.NoWaiters.{changed_waiters}
@@ -51,6 +53,13 @@ pub record AreMoved (p : ℕ) (table : ThreadTable) (lines : List (List ℕ)) (m
   pub of_threads : table' ≡ with_threads p locks table
   pub of_lines : lines' ≡ set lines p locks.line
   pub of_mutexes : mutexes' ≡ set mutexes p locks.mutexes
+
+-- so is the roster
+pub put-is : (p : ℕ) (a b : Rostered) (locks : Locks) → AreMoved p a.table a.lines a.mutexes b.table b.lines b.mutexes locks → b.conditions ≡ a.conditions → b ≡ put_locks p locks a
+put-is p a b locks moved kept = λ i. record { table = moved.of_threads i; lines = moved.of_lines i; mutexes = moved.of_mutexes i; conditions = kept i }
+
+pub put_moved : (p : ℕ) (a b : Rostered) (locks : Locks) → b ≡ put_locks p locks a → AreMoved p a.table a.lines a.mutexes b.table b.lines b.mutexes locks
+put_moved p a b locks e = record { of_threads = ap (λ (r : Rostered). r.table) e; of_lines = ap (λ (r : Rostered). r.lines) e; of_mutexes = ap (λ (r : Rostered). r.mutexes) e }
 
 -- nothing moved yet
 pub moved_none : (p : ℕ) (table : ThreadTable) (lines : List (List ℕ)) (mutexes : List (List (Option Mutex))) → AreReadyBy p table lines mutexes → AreMoved p table lines mutexes table lines mutexes (locks_by p table lines mutexes)
@@ -92,6 +101,9 @@ moved_ready p table table' lines lines' mutexes mutexes' locks has locked moved 
   locked = subst (λ (l : Locks). AreLocked l) (sym (moved_locks p table table' lines lines' mutexes mutexes' locks has moved)) locked;
   stored = rw (moved.of_threads, moved.of_mutexes) (stored_put p table mutexes locks has.of_threads has.of_stored has.of_mutexes);
 }
+
+pub put_ready : (p : ℕ) (a b : Rostered) (locks : Locks) → HasPartBy p a.table a.lines a.mutexes → AreLocked locks → b ≡ put_locks p locks a → AreReadyBy p b.table b.lines b.mutexes
+put_ready p a b locks has locked e = moved_ready p a.table b.table a.lines b.lines a.mutexes b.mutexes locks has locked (put_moved p a b locks e)
 
 -- one more move
 pub moved_more : (p : ℕ) (f : Locks → Locks) (table table' new : ThreadTable) (lines lines' after : List (List ℕ)) (mutexes mutexes' others : List (List (Option Mutex))) (locks : Locks) → HasPartBy p table lines mutexes → AreMoved p table lines mutexes table' lines' mutexes' locks
@@ -256,6 +268,14 @@ line_after_move Recovers t m wait locks = refl
 line_after_move Counts t m wait locks = refl
 line_after_move Waits t m wait locks = refl
 line_after_move (Refuses e) t m wait locks = refl
+
+-- so the roster is as the move leaves it
+pub made_put : (made : LockMove) (p t m : ℕ) (wait : Wait) (a b : Rostered) → b.table ≡ with_threads p (after_move made t m wait (locks_by p a.table a.lines a.mutexes)) a.table → b.lines ≡ a.lines
+    → b.mutexes ≡ set a.mutexes p (after_move made t m wait (locks_by p a.table a.lines a.mutexes)).mutexes → b.conditions ≡ a.conditions → b ≡ put_locks p (after_move made t m wait (locks_by p a.table a.lines a.mutexes)) a
+made_put made p t m wait a b of_threads of_lines of_mutexes of_conditions =
+    let locks : Locks = locks_by p a.table a.lines a.mutexes in
+    let line : b.lines ≡ set a.lines p (after_move made t m wait locks).line = of_lines ∙ sym (set_part-same a.lines p) ∙ ap (set a.lines p) (sym (line_after_move made t m wait locks)) in
+    put-is p a b (after_move made t m wait locks) (record { of_threads = of_threads; of_lines = line; of_mutexes = of_mutexes }) of_conditions
 
 -- a re-lock of one that may wait
 pub locked_relock : (made : LockMove) (t m : ℕ) (reply : Option ℕ) (locks : Locks) → (made ≡ Counts → count_of (mutex_at locks m) < COUNT_LIMIT) → MayWait locks t → AreLocked locks → AreLocked (after_relock_move made t m reply locks)

@@ -1,8 +1,8 @@
 -- Moves that take a mutex.
-use Rattle.std.specs.Prelude.{◌≡◌, Bool, true, false, Option, Some, None}
+use Rattle.std.specs.Prelude.{◌≡◌, Option, Some, None}
 use Rattle.ptk_words.specs.declared.mutexes.Owner.TheVariants.{Free}
 use Rattle.ptk_words_model.specs.declared.LockMove.{LockMove}
-use Rattle.ptk_words_model.specs.declared.LockMove.TheVariants.{Takes, Recovers, Waits}
+use Rattle.ptk_words_model.specs.declared.LockMove.TheVariants.{Takes, Recovers}
 use Rattle.ptk_words_model.specs.State.{Mutex}
 
 -- the number is of a mutex that is not locked (pthread_mutex_lock)
@@ -15,8 +15,3 @@ abbrev pub MayTake : LockMove → Option Mutex → Type 0
 MayTake Takes mutex = IsFree mutex
 MayTake Recovers mutex = IsFree mutex
 MayTake move mutex = Unit {0}
-
--- the move begins a wait (pthread_mutex_lock)
-abbrev pub is_waiting : LockMove → Bool
-is_waiting Waits = true
-is_waiting move = false

@@ -1,5 +1,5 @@
 -- What the calls on mutexes and condition variables ask of the roster, and each of them keeps.
-use Rattle.std.specs.Prelude.{IsSome, ◌≡◌, ℕ, ◌<◌, Bool, true, false, ◌&&◌, not, List, length, Option, Some, None, is_none}
+use Rattle.std.specs.Prelude.{IsSome, ◌≡◌, ℕ, ◌<◌, Bool, true, false, ◌&&◌, not, List, length, Option, Some, None, is_none, slice_set}
 use Rattle.ptk_words.specs.Names.{ThreadNumber}
 use Rattle.ptk_words.specs.Pools.{is_in}
 use Rattle.ptk_words.specs.declared.threads.Thread.{Thread}
@@ -8,10 +8,11 @@ use Rattle.ptk_words_model.specs.State.{Condition, Locks, Mutex, Syncs}
 use Rattle.ptk_words_model.specs.Priority.{thread_at}
 use Rattle.ptk_words_model.specs.Mutex.{mutex_at, wait_of}
 use Rattle.ptk_words_model.specs.Condition.{condition_waiters, mutex_of_condition_wait}
-use Rattle.ptk_words_sync_invariant.specs.Conditions.{condition_of_wait, HasRoom}
+use Rattle.ptk_words_sync_invariant.specs.Conditions.{HasRoom}
+use Rattle.ptk_words.specs.Threads.{condition_of_wait}
 use Rattle.ptk_threads.specs.Table.{ThreadTable}
 use Rattle.ptk_syncs.specs.Rosters.{Rostered}
-use Rattle.ptk_mutex.specs.Tables.{locks_by, AreReadyBy}
+use Rattle.ptk_mutex.specs.Tables.{locks_by, put_locks, AreReadyBy}
 
 -- what the condition calls read and change of a partition (own)
 abbrev pub syncs_by : ℕ → ThreadTable → List (List ℕ) → List (List (Option Mutex)) → List (List (Option Condition)) → Syncs
@@ -20,6 +21,10 @@ syncs_by p table lines mutexes conditions = record { locks = locks_by p table li
 -- the same of the roster
 abbrev pub syncs_at : ℕ → Rostered → Syncs
 syncs_at p roster = syncs_by p roster.table roster.lines roster.mutexes roster.conditions
+
+-- the roster with these threads, line, mutexes and condition variables of a partition; all else is as it was (own)
+abbrev pub put_syncs : ℕ → Syncs → Rostered → Rostered
+put_syncs p syncs roster = record (put_locks p syncs.locks roster) { conditions = slice_set roster.conditions p syncs.conditions }
 
 -- who waits on condition variable c: a thread whose wait is on it, which is not in the line, and whose re-lock has room (pthread_cond_wait)
 pub record IsOnCondition (locks : Locks) (c k : ℕ) : Type 0 where

@@ -25,6 +25,15 @@ with_threads p locks table =
       stored = slice_set table.stored p (effective_priorities locks.threads locks.mutexes);
     }
 
+-- the roster with these locks of a partition; all else is as it was (own)
+abbrev pub put_locks : ℕ → Locks → Rostered → Rostered
+put_locks p locks roster =
+    record roster {
+      table = with_threads p locks roster.table;
+      lines = slice_set roster.lines p locks.line;
+      mutexes = slice_set roster.mutexes p locks.mutexes;
+    }
+
 -- the threads of a partition; the stored priorities stay (own)
 abbrev pub with_threads_alone : ℕ → Locks → ThreadTable → ThreadTable
 with_threads_alone p locks table = record table { threads = slice_set table.threads p locks.threads }

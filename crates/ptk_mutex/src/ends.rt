@@ -6,7 +6,7 @@ ghost use Rattle.ptk_words_parted.specs.Parts.{part_of};
 ghost use Rattle.ptk_words_model.specs.Mutex.{after_bequest, after_mutex_end, after_owner_end};
 ghost use Rattle.ptk_mutex_priorities.specs.Slots.{is_robust_at};
 ghost use Rattle.ptk_mutex.specs.Sound.{IsSound};
-ghost use Rattle.ptk_mutex.specs.Tables.{locks_at, with_threads, AreReady};
+ghost use Rattle.ptk_mutex.specs.Tables.{locks_at, put_locks, with_threads, AreReady};
 
 use crate::locking::is_owner;
 use crate::mutexes::Mutexes;
@@ -21,10 +21,7 @@ impl Mutexes {
     /// own choice).
     pub fn abandon(&mut self, roster: &mut Roster, p: PartId, t: ThreadNo)
         requires ready { AreReady p roster.old }
-        ensures threads { roster.new.table ≡ with_threads p (after_owner_end t (locks_at p roster.old)) roster.old.table }
-        ensures line { roster.new.lines ≡ slice_set roster.old.lines p (after_owner_end t (locks_at p roster.old)).line }
-        ensures mutexes { roster.new.mutexes ≡ slice_set roster.old.mutexes p (after_owner_end t (locks_at p roster.old)).mutexes }
-        ensures conditions { roster.new.conditions ≡ roster.old.conditions }
+        ensures roster { roster.new ≡ put_locks p (after_owner_end t (locks_at p roster.old)) roster.old }
         ensures visited { self.new.visited ≡ 0 }
         ensures ready { AreReady p roster.new }
         ensures sound { IsSound roster.old → IsSound roster.new }

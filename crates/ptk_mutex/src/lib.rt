@@ -4,7 +4,7 @@
 //! the stored priorities are the effective ones.
 //!
 //! - Over the roster, which has the mutexes with their waiters, robust ones among them: each call is the model's move
-//!   for p, one equation for threads with their stored priorities, line and mutexes each.
+//!   for p, one equation over the roster (`put_locks`).
 //! - After each call that takes the threads the stored priorities are the effective ones (`ready`), and set-up,
 //!   destruction of a mutex that is not locked, and lock and unlock of one that raises nobody (`take_plain`,
 //!   `release_plain`) leave them so (`ready`).

@@ -1,7 +1,7 @@
 //! The calls after which nobody is woken: lock, trylock, a running thread's re-lock, a change of a mutex, and a changed
 //! assigned priority.
 
-ghost use Rattle.std.specs.Prelude.{◌≡◌, ◌+◌, ◌<◌, ◌≤◌, [], Some, None, length, slice_set};
+ghost use Rattle.std.specs.Prelude.{◌≡◌, ◌+◌, ◌<◌, ◌≤◌, [], Some, None, length};
 ghost use Rattle.std.specs.List.{list_any};
 ghost use Rattle.ptk_words.specs.Pools.{pool_get};
 ghost use Rattle.ptk_words.specs.declared.TheConstants.{COUNT_LIMIT};
@@ -15,7 +15,7 @@ ghost use Rattle.ptk_words_model.specs.Priority.{assigned_of};
 ghost use Rattle.ptk_words_model.specs.Mutex.{mutex_at, lock_move, trylock_move, relock_move, count_of, owns, owns_raising, is_raising_for, after_move, with_soundness};
 ghost use Rattle.ptk_words_sync_invariant.specs.Conditions.{IsNoWaiter};
 ghost use Rattle.ptk_mutex.specs.Visits.{IsVisited};
-ghost use Rattle.ptk_mutex.specs.Tables.{locks_at, with_threads, MayWait, AreReady};
+ghost use Rattle.ptk_mutex.specs.Tables.{locks_at, put_locks, with_threads, MayWait, AreReady};
 ghost use Rattle.ptk_mutex.specs.Moves.{after_lock, after_trylock, after_assignment};
 ghost use Rattle.ptk_mutex.specs.Sound.{IsSound};
 
@@ -49,10 +49,7 @@ impl Mutexes {
         requires caller { MayWait (locks_at p roster.old) t }
         requires free { IsNoWaiter t (part_of roster.old.mutexes p) (part_of roster.old.conditions p) }
         ensures told { result ≡ lock_move (locks_at p roster.old) t (mutex_at (locks_at p roster.old) m) }
-        ensures threads { roster.new.table ≡ with_threads p (after_lock t m deadline (locks_at p roster.old)) roster.old.table }
-        ensures line { roster.new.lines ≡ roster.old.lines }
-        ensures mutexes { roster.new.mutexes ≡ slice_set roster.old.mutexes p (after_lock t m deadline (locks_at p roster.old)).mutexes }
-        ensures conditions { roster.new.conditions ≡ roster.old.conditions }
+        ensures roster { roster.new ≡ put_locks p (after_lock t m deadline (locks_at p roster.old)) roster.old }
         ensures visited { IsVisited self.new.visited (part_of roster.old.table.stored p) (part_of roster.new.table.stored p) }
         ensures ready { AreReady p roster.new }
         ensures sound { IsSound roster.old → IsSound roster.new }
@@ -72,10 +69,7 @@ impl Mutexes {
         requires caller { MayWait (locks_at p roster.old) t }
         requires free { IsNoWaiter t (part_of roster.old.mutexes p) (part_of roster.old.conditions p) }
         ensures told { result ≡ trylock_move (locks_at p roster.old) t (mutex_at (locks_at p roster.old) m) }
-        ensures threads { roster.new.table ≡ with_threads p (after_trylock t m (locks_at p roster.old)) roster.old.table }
-        ensures line { roster.new.lines ≡ roster.old.lines }
-        ensures mutexes { roster.new.mutexes ≡ slice_set roster.old.mutexes p (after_trylock t m (locks_at p roster.old)).mutexes }
-        ensures conditions { roster.new.conditions ≡ roster.old.conditions }
+        ensures roster { roster.new ≡ put_locks p (after_trylock t m (locks_at p roster.old)) roster.old }
         ensures visited { IsVisited self.new.visited (part_of roster.old.table.stored p) (part_of roster.new.table.stored p) }
         ensures ready { AreReady p roster.new }
         ensures sound { IsSound roster.old → IsSound roster.new }
@@ -115,10 +109,7 @@ impl Mutexes {
         requires free { IsNoWaiter t (part_of roster.old.mutexes p) (part_of roster.old.conditions p) }
         requires countable { relock_move t (mutex_at (locks_at p roster.old) m) ≡ Counts → count_of (mutex_at (locks_at p roster.old) m) < COUNT_LIMIT }
         ensures told { result ≡ relock_move t (mutex_at (locks_at p roster.old) m) }
-        ensures threads { roster.new.table ≡ with_threads p (after_move (relock_move t (mutex_at (locks_at p roster.old) m)) t m (RelockWait m reply) (locks_at p roster.old)) roster.old.table }
-        ensures line { roster.new.lines ≡ roster.old.lines }
-        ensures mutexes { roster.new.mutexes ≡ slice_set roster.old.mutexes p (after_move (relock_move t (mutex_at (locks_at p roster.old) m)) t m (RelockWait m reply) (locks_at p roster.old)).mutexes }
-        ensures conditions { roster.new.conditions ≡ roster.old.conditions }
+        ensures roster { roster.new ≡ put_locks p (after_move (relock_move t (mutex_at (locks_at p roster.old) m)) t m (RelockWait m reply) (locks_at p roster.old)) roster.old }
         ensures visited { IsVisited self.new.visited (part_of roster.old.table.stored p) (part_of roster.new.table.stored p) }
         ensures ready { AreReady p roster.new }
         ensures sound { IsSound roster.old → IsSound roster.new }
@@ -148,10 +139,7 @@ impl Mutexes {
     #[tactic(auto, using(crate::proofs::Moved::moves))]
     pub fn consistent(&mut self, roster: &mut Roster, p: PartId, m: MutexNo)
         requires ready { AreReady p roster.old }
-        ensures threads { roster.new.table ≡ with_threads p (with_soundness Consistent m (locks_at p roster.old)) roster.old.table }
-        ensures line { roster.new.lines ≡ roster.old.lines }
-        ensures mutexes { roster.new.mutexes ≡ slice_set roster.old.mutexes p (with_soundness Consistent m (locks_at p roster.old)).mutexes }
-        ensures conditions { roster.new.conditions ≡ roster.old.conditions }
+        ensures roster { roster.new ≡ put_locks p (with_soundness Consistent m (locks_at p roster.old)) roster.old }
         ensures visited { self.new.visited ≡ 0 }
         ensures ready { AreReady p roster.new }
         ensures sound { IsSound roster.old → IsSound roster.new }
@@ -165,10 +153,7 @@ impl Mutexes {
     #[tactic(auto, using(crate::proofs::Moved::moves))]
     pub fn assign(&mut self, roster: &mut Roster, p: PartId, t: ThreadNo, priority: Priority)
         requires ready { AreReady p roster.old }
-        ensures threads { roster.new.table ≡ with_threads p (after_assignment t priority (locks_at p roster.old)) roster.old.table }
-        ensures line { roster.new.lines ≡ roster.old.lines }
-        ensures mutexes { roster.new.mutexes ≡ roster.old.mutexes }
-        ensures conditions { roster.new.conditions ≡ roster.old.conditions }
+        ensures roster { roster.new ≡ put_locks p (after_assignment t priority (locks_at p roster.old)) roster.old }
         ensures visited { assigned_of (part_of roster.old.table.threads p) t ≤ priority → IsVisited self.new.visited (part_of roster.old.table.stored p) (part_of roster.new.table.stored p) }
         ensures fallen { priority < assigned_of (part_of roster.old.table.threads p) t → self.new.visited ≡ 0 }
         ensures ready { AreReady p roster.new }

@@ -9,6 +9,7 @@ ghost use Rattle.ptk_words_model.specs.Priority.{effective_priorities};
 ghost use Rattle.ptk_words_parted.specs.Parts.{part_of};
 ghost use Rattle.ptk_mutex_priorities.specs.Slots.{state_of};
 ghost use Rattle.ptk_mutex.specs.Pool.{with_new_mutex};
+ghost use Rattle.ptk_mutex.specs.Rosters.{with_priorities};
 ghost use Rattle.ptk_mutex.specs.Sound.{IsSound};
 ghost use Rattle.ptk_mutex.specs.Tables.{AreReady};
 
@@ -91,10 +92,7 @@ impl Mutexes {
     /// every other partition's stay (pthread_mutexattr_getprotocol).
     pub fn refresh(&mut self, roster: &mut Roster, p: PartId)
         requires { p < length roster.old.table.threads }
-        ensures threads { roster.new.table ≡ record roster.old.table { stored = slice_set roster.old.table.stored p (effective_priorities (part_of roster.old.table.threads p) (part_of roster.old.mutexes p)) } }
-        ensures line { roster.new.lines ≡ roster.old.lines }
-        ensures mutexes { roster.new.mutexes ≡ roster.old.mutexes }
-        ensures conditions { roster.new.conditions ≡ roster.old.conditions }
+        ensures roster { roster.new ≡ with_priorities p (effective_priorities (part_of roster.old.table.threads p) (part_of roster.old.mutexes p)) roster.old }
         ensures visited { self.new.visited ≡ 0 }
         ensures sound { IsSound roster.old → IsSound roster.new }
     {

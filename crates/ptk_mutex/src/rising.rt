@@ -1,11 +1,11 @@
 //! The moves after which priorities only rise: each stores what its walk along the chain raises, and returns how many
 //! stored priorities that read.
 
-ghost use Rattle.std.specs.Prelude.{◌≡◌, ◌≤◌, ◌+◌, ◌<◌, false, None, Some, length, IsSome, slice_set};
-ghost use Rattle.ptk_words.specs.Pools.{pool_get, is_in};
+ghost use Rattle.std.specs.Prelude.{◌≡◌, ◌≤◌, ◌+◌, ◌<◌, Some, IsSome, slice_set};
+ghost use Rattle.ptk_words.specs.Pools.{pool_get};
 ghost use Rattle.ptk_words.specs.declared.TheConstants.{THREAD_LIMIT};
 ghost use Rattle.ptk_words_parted.specs.Parts.{part_of};
-ghost use Rattle.ptk_words_model.specs.Priority.{awaited, mutex_of_wait};
+ghost use Rattle.ptk_words.specs.Threads.{mutex_of_wait};
 ghost use Rattle.ptk_words_model.specs.Mutex.{after_take, after_count, after_wait, after_move};
 ghost use Rattle.ptk_words_sync_invariant.specs.Conditions.{IsNoWaiter};
 ghost use Rattle.ptk_threads.specs.Table.{thread_in};

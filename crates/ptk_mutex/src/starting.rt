@@ -8,7 +8,7 @@ ghost use Rattle.ptk_threads.specs.Table.{free_table};
 ghost use Rattle.ptk_syncs.specs.Rosters.{seen};
 ghost use Rattle.ptk_mutex.specs.Moves.{after_creation};
 ghost use Rattle.ptk_mutex.specs.Sound.{is_idle, is_awake, IsAwake, IsSound};
-ghost use Rattle.ptk_mutex.specs.Tables.{locks_at, with_threads, MayWait};
+ghost use Rattle.ptk_mutex.specs.Tables.{locks_at, put_locks, MayWait};
 
 use crate::mutexes::{Mutexes, refresh_priorities};
 use ptk_syncs::Roster;
@@ -44,10 +44,7 @@ impl Mutexes {
     pub fn create(&mut self, roster: &mut Roster, p: PartId, thread: Thread) -> Option<ThreadNo>
         requires { p < length roster.old.table.threads }
         ensures told { result ≡ least_free (part_of roster.old.table.threads p) }
-        ensures threads { roster.new.table ≡ with_threads p (after_creation thread (locks_at p roster.old)) roster.old.table }
-        ensures line { roster.new.lines ≡ roster.old.lines }
-        ensures mutexes { roster.new.mutexes ≡ roster.old.mutexes }
-        ensures conditions { roster.new.conditions ≡ roster.old.conditions }
+        ensures roster { roster.new ≡ put_locks p (after_creation thread (locks_at p roster.old)) roster.old }
         ensures visited { self.new.visited ≡ 0 }
         ensures sound { IsSound roster.old → IsSound roster.new }
     {

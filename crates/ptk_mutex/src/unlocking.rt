@@ -6,7 +6,7 @@ ghost use Rattle.ptk_words_parted.specs.Parts.{part_of};
 ghost use Rattle.ptk_words_model.specs.Mutex.{heir, soundness_of, count_of, after_hand_over, after_hand_over_to, after_refusal, after_refusal_to, after_refusals, after_loss, after_last_unlock, after_unlock};
 ghost use Rattle.ptk_mutex_priorities.specs.Changes.{SlotMayChange, IsQuiet};
 ghost use Rattle.ptk_mutex.specs.Sound.{IsSound};
-ghost use Rattle.ptk_mutex.specs.Tables.{locks_at, with_threads, with_threads_alone, HasPart, MayGet, AreReady};
+ghost use Rattle.ptk_mutex.specs.Tables.{locks_at, put_locks, with_threads, with_threads_alone, HasPart, MayGet, AreReady};
 ghost use Rattle.ptk_mutex.specs.Moves.{after_change};
 
 use crate::mutexes::{Mutexes, refresh_priorities};
@@ -23,10 +23,7 @@ impl Mutexes {
     /// pthread_mutex_consistent).
     pub fn unlock(&mut self, roster: &mut Roster, p: PartId, m: MutexNo)
         requires ready { AreReady p roster.old }
-        ensures threads { roster.new.table ≡ with_threads p (after_unlock m (locks_at p roster.old)) roster.old.table }
-        ensures line { roster.new.lines ≡ slice_set roster.old.lines p (after_unlock m (locks_at p roster.old)).line }
-        ensures mutexes { roster.new.mutexes ≡ slice_set roster.old.mutexes p (after_unlock m (locks_at p roster.old)).mutexes }
-        ensures conditions { roster.new.conditions ≡ roster.old.conditions }
+        ensures roster { roster.new ≡ put_locks p (after_unlock m (locks_at p roster.old)) roster.old }
         ensures visited { self.new.visited ≡ 0 }
         ensures ready { AreReady p roster.new }
         ensures sound { IsSound roster.old → IsSound roster.new }

@@ -13,15 +13,16 @@ ghost use Rattle.ptk_words_sync_invariant.specs.Conditions.{IsNoWaiter};
 ghost use Rattle.ptk_threads.specs.Table.{thread_in, with_changed};
 ghost use Rattle.ptk_mutex.specs.Visits.{IsVisited};
 ghost use Rattle.ptk_mutex.specs.Sound.{IsSound};
-ghost use Rattle.ptk_mutex.specs.Tables.{locks_at, with_threads, with_threads_alone, HasPart, IsWaiter, MayWait, AreReady};
+ghost use Rattle.ptk_mutex.specs.Tables.{locks_at, put_locks, with_threads, with_threads_alone, HasPart, IsWaiter, MayWait, AreReady};
 ghost use Rattle.ptk_mutex.specs.Moves.{after_withdrawal};
-ghost use Rattle.ptk_mutex.specs.Rises.{MayTake, is_waiting};
+ghost use Rattle.ptk_mutex.specs.Rises.{MayTake};
 
 use crate::mutexes::{Mutexes, refresh_priorities};
 use crate::rising::make;
 use ptk_mutex_priorities::{kept_reply, reply_of, slot_in};
 use ptk_syncs::Roster;
-use ptk_words::{A0, MutexNo, PartId, Thread, ThreadNo, Wait};
+use ptk_threads::ThreadChange;
+use ptk_words::{MutexNo, PartId, ThreadNo, Wait};
 use ptk_words_model::LockMove;
 
 impl Mutexes {
@@ -43,10 +44,7 @@ impl Mutexes {
         requires free { IsNoWaiter t (part_of roster.old.mutexes p) (part_of roster.old.conditions p) }
         requires countable { relock_move t (mutex_at (locks_at p roster.old) m) ≡ Counts → count_of (mutex_at (locks_at p roster.old) m) < COUNT_LIMIT }
         ensures told { result ≡ relock_move t (mutex_at (locks_at p roster.old) m) }
-        ensures threads { roster.new.table ≡ with_threads p (after_relock t m reply (locks_at p roster.old)) roster.old.table }
-        ensures line { roster.new.lines ≡ slice_set roster.old.lines p (after_relock t m reply (locks_at p roster.old)).line }
-        ensures mutexes { roster.new.mutexes ≡ slice_set roster.old.mutexes p (after_relock t m reply (locks_at p roster.old)).mutexes }
-        ensures conditions { roster.new.conditions ≡ roster.old.conditions }
+        ensures roster { roster.new ≡ put_locks p (after_relock t m reply (locks_at p roster.old)) roster.old }
         ensures visited { IsVisited self.new.visited (part_of roster.old.table.stored p) (part_of roster.new.table.stored p) }
         ensures ready { AreReady p roster.new }
         ensures sound { IsSound roster.old → IsSound roster.new }
@@ -68,10 +66,7 @@ impl Mutexes {
     )
         requires ready { AreReady p roster.old }
         requires waiter { IsWaiter (locks_at p roster.old) m t }
-        ensures threads { roster.new.table ≡ with_threads p (after_withdrawal t m reply (locks_at p roster.old)) roster.old.table }
-        ensures line { roster.new.lines ≡ slice_set roster.old.lines p (after_withdrawal t m reply (locks_at p roster.old)).line }
-        ensures mutexes { roster.new.mutexes ≡ slice_set roster.old.mutexes p (after_withdrawal t m reply (locks_at p roster.old)).mutexes }
-        ensures conditions { roster.new.conditions ≡ roster.old.conditions }
+        ensures roster { roster.new ≡ put_locks p (after_withdrawal t m reply (locks_at p roster.old)) roster.old }
         ensures visited { self.new.visited ≡ 0 }
         ensures ready { AreReady p roster.new }
         ensures sound { IsSound roster.old → IsSound roster.new }
@@ -104,10 +99,10 @@ fn make_relock(
     ensures few { result ≤ THREAD_LIMIT + 1 }
 {
     let visited = make(roster, p, t, m, Wait::RelockWait(m, reply), made);
-    if is_waiting(made) {
+    if made.is_waiting() {
         return visited;
     }
-    wake(roster, p, t, reply_of(made, reply));
+    wake_with(roster, p, t, reply_of(made, reply));
     visited
 }
 
@@ -137,7 +132,7 @@ fn take_out(roster: &mut Roster, p: PartId, t: ThreadNo, m: MutexNo, reply: Opti
     ensures conditions { roster.new.conditions ≡ roster.old.conditions }
 {
     roster.leave_mutex(p, m, t);
-    wake(roster, p, t, reply);
+    wake_with(roster, p, t, reply);
 }
 
 /// The move of a re-lock.
@@ -152,59 +147,43 @@ pub(crate) fn relock_move(roster: &Roster, p: PartId, t: ThreadNo, m: MutexNo) -
     }
 }
 
-/// Whether the move begins a wait.
-fn is_waiting(made: LockMove) -> bool
-    ensures { result ≡ is_waiting made }
-{
-    match made {
-        LockMove::Waits => true,
-        LockMove::Takes | LockMove::Recovers | LockMove::Counts | LockMove::Refuses(_) => false,
-    }
-}
-
-/// A blocked thread is ready, at the tail, and waits for nothing any more; it has used no tick, and has this reply if
-/// there is one. The stored priorities stay (XSH 2.8.4).
-#[tactic(auto, using(crate::proofs::Moved::wakes))]
-pub fn wake(roster: &mut Roster, p: PartId, t: ThreadNo, reply: Option<u32>)
+/// A blocked thread is ready, at the tail, with this reply if there is one. The stored priorities stay.
+fn wake_with(roster: &mut Roster, p: PartId, t: ThreadNo, reply: Option<u32>)
     requires partition { p < length roster.old.table.threads }
     requires in_use { IsSome (thread_in roster.old.table p t) }
     requires out { is_in t (part_of roster.old.lines p) ≡ false }
     requires free { IsNoWaiter t (part_of roster.old.mutexes p) (part_of roster.old.conditions p) }
-    ensures threads { roster.new.table ≡ with_changed p t (woken_with (option_to_list reply)) roster.old.table }
-    ensures line { roster.new.lines ≡ slice_set roster.old.lines p (part_of roster.old.lines p ++ t ∷ []) }
-    ensures mutexes { roster.new.mutexes ≡ roster.old.mutexes }
-    ensures conditions { roster.new.conditions ≡ roster.old.conditions }
+    ensures { roster.new ≡ record roster.old { table = with_changed p t (woken_with (option_to_list reply)) roster.old.table; lines = slice_set roster.old.lines p (part_of roster.old.lines p ++ t ∷ []) } }
+{
+    match reply {
+        Some(value) => wake(roster, p, t, &[value]),
+        None => wake(roster, p, t, &[]),
+    }
+}
+
+/// A blocked thread is ready, at the tail, and waits for nothing any more; it has used no tick, and has these values in
+/// a0 and so on. The stored priorities stay (XSH 2.8.4).
+pub fn wake(roster: &mut Roster, p: PartId, t: ThreadNo, values: &[u32])
+    requires partition { p < length roster.old.table.threads }
+    requires few { length values.now < 4 }
+    requires in_use { IsSome (thread_in roster.old.table p t) }
+    requires out { is_in t (part_of roster.old.lines p) ≡ false }
+    requires free { IsNoWaiter t (part_of roster.old.mutexes p) (part_of roster.old.conditions p) }
+    ensures { roster.new ≡ record roster.old { table = with_changed p t (woken_with values.now) roster.old.table; lines = slice_set roster.old.lines p (part_of roster.old.lines p ++ t ∷ []) } }
 {
     roster.push_tail(p, t);
-    rouse(roster, p, t, reply);
+    rouse(roster, p, t, values);
 }
 
-/// A thread waits for nothing any more, with this reply if any.
+/// The thread waits for nothing any more, has these values in a0 and so on, and has used no tick; a free number stays
+/// free.
 #[tactic(auto, using(crate::proofs::Moved::wakes))]
-fn rouse(roster: &mut Roster, p: PartId, t: ThreadNo, reply: Option<u32>)
-    requires { p < length roster.old.table.threads }
-    ensures threads { roster.new.table ≡ with_changed p t (woken_with (option_to_list reply)) roster.old.table }
-    ensures line { roster.new.lines ≡ roster.old.lines }
-    ensures mutexes { roster.new.mutexes ≡ roster.old.mutexes }
-    ensures conditions { roster.new.conditions ≡ roster.old.conditions }
+fn rouse(roster: &mut Roster, p: PartId, t: ThreadNo, values: &[u32])
+    requires partition { p < length roster.old.table.threads }
+    requires few { length values.now < 4 }
+    ensures { roster.new ≡ record roster.old { table = with_changed p t (woken_with values.now) roster.old.table } }
 {
-    if let Some(thread) = roster.threads().thread(p, t) {
-        roster.set_thread(p, t, woken(thread, reply));
-    }
-}
-
-/// The thread that waits for nothing any more and has used no tick, with this reply if any.
-fn woken(thread: Thread, reply: Option<u32>) -> Thread
-    ensures { result ≡ woken_with (option_to_list reply) thread }
-{
-    let mut cpu = thread.cpu;
-    if let Some(value) = reply {
-        cpu.set_register(A0, value);
-    }
-    Thread {
-        cpu,
-        used: 0,
-        wait: None,
-        ..thread
-    }
+    roster.set_values(p, t, values);
+    roster.change(p, t, ThreadChange::Wait(None));
+    roster.change(p, t, ThreadChange::Used(0));
 }

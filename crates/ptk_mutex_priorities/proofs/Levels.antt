@@ -13,7 +13,8 @@ use Rattle.ptk_words_model.specs.Chain.{leads_to, greatest_leading}
 use Rattle.std.specs.Prelude.{slice_set, slice_index, option_and_then}
 use Rattle.std.proofs.lemmas.List.{set_past, get_or_past}
 use Rattle.ptk_words.specs.declared.threads.Thread.{Thread}
-use Rattle.ptk_words_model.specs.Priority.{mutex_of_wait, awaited}
+use Rattle.ptk_words_model.specs.Priority.{awaited}
+use Rattle.ptk_words.specs.Threads.{mutex_of_wait}
 use Rattle.ptk_threads.specs.Table.{stored_of, AreLevelsOf}
 use Rattle.ptk_mutex_priorities.specs.Raised.{raised, raised_along}
 

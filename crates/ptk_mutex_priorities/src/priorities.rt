@@ -3,7 +3,8 @@
 ghost use Rattle.std.specs.Prelude.{◌≡◌, ◌<◌, ◌≤◌, length, option_map, IsSome};
 ghost use Rattle.std.specs.Option.{option_flatten};
 ghost use Rattle.ptk_words.specs.Pools.{pool_get};
-ghost use Rattle.ptk_words_model.specs.Priority.{mutex_of_wait, awaited, assigned_of, next_in_chain, held_of, inheritor_of, effective_priorities};
+ghost use Rattle.ptk_words_model.specs.Priority.{awaited, assigned_of, next_in_chain, held_of, inheritor_of, effective_priorities};
+ghost use Rattle.ptk_words.specs.Threads.{mutex_of_wait};
 ghost use Rattle.ptk_words_parted.specs.Parts.{part_of};
 ghost use Rattle.ptk_threads_slots.specs.Links.{threads_of};
 ghost use Rattle.ptk_threads.specs.Table.{thread_in, stored_of, AreLevelsOf};

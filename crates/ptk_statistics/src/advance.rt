@@ -6,7 +6,7 @@ ghost use Rattle.ptk_statistics_figures.specs.Counts.{reached};
 ghost use Rattle.ptk_statistics.specs.Sums.{AddsUp};
 
 use ptk_statistics_figures::{Counted, Seen};
-use ptk_system::{PartStatus, System};
+use ptk_system::System;
 use ptk_words::PartId;
 
 /// The count of a partition of a system that has just booted.
@@ -15,7 +15,7 @@ pub(crate) fn first_count(system: &System<'_>, p: PartId) -> Counted
     ensures tick { reached result ≡ 0 }
     ensures adds { AddsUp system.now p result }
 {
-    Counted::new(system.next(p), is_halted(system.status(p)))
+    Counted::new(system.next(p), system.status(p).is_halted())
 }
 
 /// Counts the ticks up to the one that the system has reached, and the steps made since.
@@ -34,7 +34,7 @@ pub(crate) fn advance(counted: &mut Counted, system: &System<'_>, p: PartId)
         lost: system.lost(p),
         place: last_place(system, p),
         next: system.next(p),
-        is_halted: is_halted(system.status(p)),
+        is_halted: system.status(p).is_halted(),
     };
     counted.count(config.plan(), p, system.tick().ticks(), &seen);
 }
@@ -47,13 +47,5 @@ fn last_place(system: &System<'_>, p: PartId) -> usize
     match system.last_step(p) {
         Some(entry) => entry.thread.place(),
         None => 0,
-    }
-}
-
-/// Whether this is the status of a halted partition.
-fn is_halted(status: PartStatus) -> bool {
-    match status {
-        PartStatus::Idle | PartStatus::Running => false,
-        PartStatus::Exited(_) | PartStatus::Stopped(_, _) | PartStatus::Refused(_) => true,
     }
 }

@@ -1,17 +1,16 @@
 //! The answers to `stats`, as tables or as JSON.
 
-ghost use Rattle.std.specs.Prelude.{◌≡◌, ◌<◌, ◌≤◌, None, IsTrue, OnOk, length};
+ghost use Rattle.std.specs.Prelude.{◌≡◌, ◌<◌, ◌≤◌, ◌↔◌, None, IsTrue, OnOk, length};
 ghost use Rattle.ptk_words.specs.declared.TheConstants.{LAST_TICK};
 ghost use Rattle.ptk_system.specs.Missing.{first_missing};
 ghost use Rattle.ptk_statistics.specs.Asked.{IsAsked};
 
 use crate::blocks::put_block;
 use crate::document::{Figures, json_of};
-use crate::fault::PutFault;
 use crate::part::PartStatistics;
 use crate::statistics::Statistics;
 use ptk_config::Config;
-use ptk_main_runs::{Files, RunFault, part_named};
+use ptk_main_runs::{Files, PutFault, RunFault, part_named};
 use ptk_system::System;
 use ptk_words::{PartId, Tick};
 use std::alloc::Global;
@@ -52,17 +51,15 @@ pub fn stats_with<W: Write>(
         Err(fault) => return Err(RunFault::Boot(fault)),
     };
     let Ok(statistics) = Statistics::of_run(alloc, &mut system, ticks) else {
-        return Err(PutFault::Memory.of_run());
+        return Err(RunFault::from(PutFault::Memory));
     };
-    match put(form, alloc, &system, &statistics, ticks, partition, out) {
-        Ok(()) => Ok(()),
-        Err(fault) => Err(fault.of_run()),
-    }
+    put(form, alloc, &system, &statistics, ticks, partition, out)?;
+    Ok(())
 }
 
 /// Whether a partition has the name that is asked for, or none is asked for.
 fn is_known(config: &Config, partition: Option<&str>) -> bool
-    ensures { IsTrue result → IsAsked config.now partition.entry }
+    ensures { IsTrue result ↔ IsAsked config.now partition.entry }
 {
     match partition {
         Some(name) => part_named(config, name).is_some(),

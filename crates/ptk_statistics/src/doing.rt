@@ -2,7 +2,7 @@
 
 use ptk_statistics_figures::Doing;
 use ptk_system::Activity;
-use ptk_words::{MutexNo, Wait};
+use ptk_words::Wait;
 
 /// The kind of what a thread does.
 pub(crate) fn doing_of(activity: &Activity) -> Doing {
@@ -25,15 +25,5 @@ fn doing_of_wait(wait: &Wait) -> Doing {
         Wait::MutexWait(_, _) => Doing::Mutex,
         Wait::ConditionWait(_, _, _) => Doing::Condition,
         Wait::RelockWait(_, _) => Doing::Relock,
-    }
-}
-
-/// The mutex that a thread waits for, None where it waits for none.
-pub(crate) fn mutex_of(activity: &Activity) -> Option<MutexNo> {
-    match activity {
-        Activity::Blocked(Wait::MutexWait(m, _)) | Activity::Blocked(Wait::RelockWait(m, _)) => {
-            Some(*m)
-        }
-        _ => None,
     }
 }

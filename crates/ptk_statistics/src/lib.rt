@@ -21,7 +21,6 @@ mod answer;
 mod blocks;
 mod document;
 mod doing;
-mod fault;
 mod observed;
 mod part;
 mod statistics;

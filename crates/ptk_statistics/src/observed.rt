@@ -3,13 +3,13 @@
 ghost use Rattle.std.specs.Prelude.{◌<◌, ◌≤◌, length};
 ghost use Rattle.ptk_words.specs.declared.TheConstants.{LAST_TICK};
 
-use crate::doing::{doing_of, mutex_of};
+use crate::doing::doing_of;
 use ptk_statistics_figures::{
     Doing, Moment, MutexStatistics, Pending, ThreadStatistics, free_mutexes, free_numbers,
 };
 use ptk_system::{Activity, PartStatus, System};
 use ptk_words::{
-    A0, A7, Call, ECALL, Entry, MutexNo, Owner, PartId, SP, THREAD_LIMIT, ThreadNo, Tick, cost,
+    A0, A7, Call, ECALL, Entry, MutexNo, PartId, SP, THREAD_LIMIT, ThreadNo, Tick, cost,
 };
 use std::alloc::{AllocError, Global};
 
@@ -253,7 +253,7 @@ fn turn(
         thread.preempt();
     }
     thread.turn_to(doing, at);
-    thread.wait_for(mutex_of(activity));
+    thread.wait_for(activity.mutex());
 }
 
 /// The thread of the step that the decision began runs for the ticks of the step, and then does this.
@@ -288,7 +288,7 @@ fn make_step(
         thread.preempt();
     }
     thread.turn_to(doing, at.after(step_ticks(system, p, at.tick, to)));
-    thread.wait_for(mutex_of(activity));
+    thread.wait_for(activity.mutex());
 }
 
 /// The thread's step is a call of this number, and it then does this.
@@ -367,7 +367,7 @@ fn look_at_owners(mutexes: &mut [MutexStatistics], system: &System<'_>, p: PartI
     requires { p < length system.now.config.sections }
 {
     for i in 0..mutexes.len().min(MUTEXES) {
-        let owner = owner_of(system, p, MutexNo::new(i as u8 + 1));
+        let owner = system.owner_thread(p, MutexNo::new(i as u8 + 1));
         if mutexes[i].owner() != owner {
             mutexes[i].own_by(owner, at);
         }
@@ -478,23 +478,4 @@ fn step_ticks(system: &System<'_>, p: PartId, tick: u64, to: u64) -> u64
         _ => tick.saturating_add(1),
     };
     end.min(to).saturating_sub(tick)
-}
-
-/// The thread that owns a mutex, None where no thread does.
-fn owner_of(system: &System<'_>, p: PartId, m: MutexNo) -> Option<ThreadNo>
-    requires { p < length system.now.config.sections }
-{
-    let owner = system.owner(p, m);
-    match &owner {
-        Some(owner) => thread_of(owner),
-        None => None,
-    }
-}
-
-/// The owner, where it is a thread.
-fn thread_of(owner: &Owner) -> Option<ThreadNo> {
-    match owner {
-        Owner::OwnedBy(thread) => Some(*thread),
-        Owner::Free | Owner::Abandoned => None,
-    }
 }

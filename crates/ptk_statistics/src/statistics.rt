@@ -98,8 +98,7 @@ impl Statistics {
         self.look(system, Sight::Coming, to);
         system.run_to(Tick::new(tick + 1));
         self.look(system, Sight::Decided(tick), to);
-        let next = next_change(system, to);
-        system.run_to(next);
+        system.run_to(system.all_stay_until(to));
     }
 
     /// Looks at what the system has done, or will do, of each partition.
@@ -189,18 +188,4 @@ fn is_behind_plain_step(system: &System<'_>, tick: Tick) -> bool {
         }
     }
     false
-}
-
-/// The tick up to which no partition changes but for the tick of its next decision, at most `to`.
-fn next_change(system: &System<'_>, to: Tick) -> Tick
-    ensures { result ≤ to }
-{
-    let mut next = to;
-    for i in 0..system.parts() {
-        let until = system.stays_until(PartId::new(i as u8), to);
-        if until.ticks() < next.ticks() {
-            next = until;
-        }
-    }
-    next
 }

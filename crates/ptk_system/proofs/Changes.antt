@@ -20,7 +20,8 @@ use Rattle.ptk_words_model.specs.Schedule.{after_choice_between, after_dispatch,
 use Rattle.ptk_words_model.specs.Withdrawal.{Expiry, after_expiries, after_timeout, deadlines_of, due, in_order, in_order_with, is_before}
 use Rattle.ptk_words_model.specs.Console.{arriving, is_due_at, without_arriving}
 use Rattle.ptk_words_model.specs.Decision.{after_arrival, after_arrival_for, after_arrivals, after_decision, after_turn, first_waiter, ready_at, runner_at, runner_in, runner_of, spent_by_decision, spent_in_turn, step_cost, step_kind}
-use Rattle.ptk_words_model.specs.Run.{accounted, decided, is_active}
+use Rattle.ptk_words_model.specs.Run.{accounted, decided}
+use Rattle.ptk_words.specs.Faults.{is_active}
 use Rattle.ptk_words_sync_invariant.specs.Expiries.{IsLeastDue, IsNoneDue, after_expiry, after_next, next_expiry}
 use Rattle.ptk_words_sync_invariant.proofs.Expiries.{in_turn, next_least, next_only, one_at_a_time}
 use Rattle.ptk_words_sync_invariant.proofs.Lines.{first_none}

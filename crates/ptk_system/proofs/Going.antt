@@ -3,15 +3,15 @@ use Rattle.std.proofs.Common.{◌≡◌, ℕ, ◌+◌, ◌-◌, ◌<◌, ◌≤�
 use Rattle.std.specs.Prelude.{Option, Some, None, option_map, if◌then◌else◌}
 use Rattle.std.proofs.lemmas.Bool.{false≢true}
 use Rattle.ptk_words.specs.Processor.{Processor}
-use Rattle.ptk_words.specs.Threads.{is_ended}
+use Rattle.ptk_words.specs.Threads.{is_ended, mutex_of_wait}
 use Rattle.ptk_words.specs.declared.faults.Status.{Status}
 use Rattle.ptk_words.specs.declared.sections.Limits.{Limits}
 use Rattle.ptk_words.specs.declared.threads.Thread.{Thread}
 use Rattle.ptk_words.specs.declared.threads.Wait.{Wait}
 use Rattle.ptk_words_windows.specs.Windows.{WindowPlan, own_ticks}
 use Rattle.ptk_words_model.specs.State.{Part, State}
-use Rattle.ptk_words_model.specs.Priority.{awaited, mutex_of_wait, thread_at}
-use Rattle.ptk_words_model.specs.Run.{is_active}
+use Rattle.ptk_words_model.specs.Priority.{awaited, thread_at}
+use Rattle.ptk_words.specs.Faults.{is_active}
 use Rattle.ptk_words_model.specs.Schedule.{is_running}
 use Rattle.ptk_words_sync_invariant.specs.Locks.{is_ready}
 use Rattle.ptk_words_invariant.specs.Well.{IsWell}

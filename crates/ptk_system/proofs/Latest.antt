@@ -11,7 +11,8 @@ use Rattle.ptk_words_windows.proofs.NextLaws.{next_first, next_one}
 use Rattle.ptk_words_windows.proofs.OwnLaws.{end_of_window, own_from, window_whole}
 use Rattle.ptk_words_model.specs.State.{State}
 use Rattle.ptk_words_model.specs.Decision.{after_decision, spent_by_decision}
-use Rattle.ptk_words_model.specs.Run.{after_tick_until, alone, decided, is_active, is_at, next_from, start}
+use Rattle.ptk_words_model.specs.Run.{after_tick_until, alone, decided, is_at, next_from, start}
+use Rattle.ptk_words.specs.Faults.{is_active}
 use Rattle.ptk_words_invariant.specs.Well.{IsWell}
 use Rattle.ptk_words_batches.specs.Quiet.{after_ticks}
 use Rattle.ptk_words_batches.specs.Idle.{IsIdle, waiting_from}

@@ -8,7 +8,8 @@ use Rattle.ptk_words_windows.specs.Windows.{OwnTicks, WindowPlan, IsPlan, own_ti
 use Rattle.ptk_words_model.specs.declared.Spent.{Spent}
 use Rattle.ptk_words_model.specs.State.{Part, State}
 use Rattle.ptk_words_model.specs.Decision.{spent_by_decision}
-use Rattle.ptk_words_model.specs.Run.{accounted, after_tick_until, decided, is_active, is_at, next_from}
+use Rattle.ptk_words_model.specs.Run.{accounted, after_tick_until, decided, is_at, next_from}
+use Rattle.ptk_words.specs.Faults.{is_active}
 use Rattle.ptk_words_invariant.specs.Well.{IsWell}
 use Rattle.ptk_words_invariant.proofs.Runs.{sound_alone}
 use Rattle.ptk_words_batches.specs.Quiet.{after_ticks}

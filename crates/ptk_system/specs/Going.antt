@@ -5,7 +5,8 @@ use Rattle.ptk_words.specs.declared.threads.Thread.{Thread}
 use Rattle.ptk_words.specs.declared.threads.Wait.{Wait}
 use Rattle.ptk_words_model.specs.State.{Part}
 use Rattle.ptk_words_model.specs.Mutex.{mutex_at}
-use Rattle.ptk_words_model.specs.Priority.{effective_priority, mutex_of_wait, thread_at}
+use Rattle.ptk_words_model.specs.Priority.{effective_priority, thread_at}
+use Rattle.ptk_words.specs.Threads.{mutex_of_wait}
 use Rattle.ptk_system.specs.declared.activity.Activity.TheVariants.{Blocked, Running}
 use Rattle.ptk_system.specs.Activities.{activity_in}
 use Rattle.ptk_system.specs.World.{World, at_tick, state_of}

@@ -36,6 +36,14 @@ told_status (Exited code) busy = told.Exited code
 told_status (Stopped cause pc) busy = told.Stopped cause pc
 told_status (Refused fault) busy = told.Refused fault
 
+-- whether a status is that of a halted partition: it exited, was stopped, or its image was refused
+abbrev pub is_halted : PartStatus → Bool
+is_halted told.Idle = false
+is_halted told.Running = false
+is_halted (told.Exited code) = true
+is_halted (told.Stopped cause pc) = true
+is_halted (told.Refused fault) = true
+
 -- the status of a partition
 abbrev pub status_in : Part → PartStatus
 status_in s = told_status s.status (has_runnable s)

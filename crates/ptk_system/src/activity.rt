@@ -10,17 +10,15 @@ ghost use Rattle.ptk_words_windows.specs.Windows.{own_ticks};
 ghost use Rattle.ptk_words_model.specs.State.{Mutex};
 ghost use Rattle.ptk_words_model.specs.Priority.{effective_priority, thread_at};
 ghost use Rattle.ptk_words_model.specs.Mutex.{mutex_at};
-ghost use Rattle.ptk_words_model.specs.Run.{is_active};
+ghost use Rattle.ptk_words.specs.Faults.{is_active};
 ghost use Rattle.ptk_words_model.specs.Schedule.{is_running};
-ghost use Rattle.ptk_system.specs.Activities.{activity_in, activity_of_thread, activity_of_wait};
+ghost use Rattle.ptk_system.specs.Activities.{activity_in, activity_of_thread, activity_of_wait, mutex_of_activity, owner_thread};
 ghost use Rattle.ptk_system.specs.World.{at_tick, but_next, state_of};
 
 use crate::system::System;
 use ptk_mutex_priorities::MutexState;
 use ptk_system_machine::idle_from;
-use ptk_words::{
-    Entry, LAST_TICK, MutexNo, Owner, PartId, Phase, Priority, Status, Thread, ThreadNo, Tick, Wait,
-};
+use ptk_words::{Entry, LAST_TICK, MutexNo, Owner, PartId, Priority, Thread, ThreadNo, Tick, Wait};
 
 /// What a thread does: it is running, ready, blocked or ended (XSH 2.8.4), its partition is halted, or its number is
 /// free.
@@ -38,6 +36,23 @@ pub enum Activity {
     Ended,
     /// It has not ended, and does nothing any more, since its partition is halted.
     Halted,
+}
+
+impl Activity {
+    /// The mutex that a blocked thread waits for, as a lock or after a condition wait; None of any other
+    /// (pthread_mutex_lock, pthread_cond_wait).
+    pub fn mutex(self) -> Option<MutexNo>
+        ensures { result ≡ mutex_of_activity self }
+    {
+        match self {
+            Activity::Blocked(wait) => wait.mutex(),
+            Activity::Free
+            | Activity::Running
+            | Activity::Ready
+            | Activity::Ended
+            | Activity::Halted => None,
+        }
+    }
 }
 
 impl<'a> System<'a> {
@@ -75,7 +90,7 @@ impl<'a> System<'a> {
         requires { p < length self.now.config.sections }
         ensures { result ≡ is_active (state_of self.now p).part.status }
     {
-        is_active(self.kept().tables().status(p))
+        self.kept().tables().status(p).is_active()
     }
 
     /// The assigned priority of a thread, None of a free number.
@@ -101,6 +116,17 @@ impl<'a> System<'a> {
         ensures { result ≡ option_map (λ (mutex : Mutex). mutex.owner) (mutex_at (state_of self.now p).part.locks m) }
     {
         self.kept().tables().owner(p, m)
+    }
+
+    /// The thread that owns a mutex, None where no thread does (pthread_mutex_lock).
+    pub fn owner_thread(&self, p: PartId, m: MutexNo) -> Option<ThreadNo>
+        requires { p < length self.now.config.sections }
+        ensures { result ≡ owner_thread (state_of self.now p).part.locks m }
+    {
+        match self.owner(p, m)? {
+            Owner::OwnedBy(t) => Some(t),
+            Owner::Free | Owner::Abandoned => None,
+        }
     }
 
     /// What a mutex is, but for its waiters; None of a free number (pthread_mutex_init).
@@ -163,6 +189,23 @@ impl<'a> System<'a> {
         }
     }
 
+    /// The latest tick, at most `stop`, up to which nothing of any partition changes but the ticks of the next decisions.
+    pub fn all_stay_until(&self, stop: Tick) -> Tick
+        ensures within { result ≤ stop }
+        ensures stay { (p : ℕ) → p < length self.now.config.sections → (k : ℕ) → self.now.tick ≤ k → k ≤ result →
+            but_next (state_of (at_tick k self.now) p) ≡ but_next (state_of self.now p) }
+        ensures latest { stop ≤ LAST_TICK → (k : ℕ) → k ≤ stop →
+            ((p : ℕ) → p < length self.now.config.sections → (j : ℕ) → self.now.tick ≤ j → j ≤ k →
+            but_next (state_of (at_tick j self.now) p) ≡ but_next (state_of self.now p)) → k ≤ result }
+    {
+        let mut until = stop;
+        for i in 0..self.parts() {
+            let p = PartId::new(i as u8);
+            until = self.stays_until(p, until);
+        }
+        until
+    }
+
     /// The partition's first own tick from this one on, where that is before `stop`, else `stop`. A tick above 2^40, to
     /// which no system goes, is returned as it is.
     fn first_own(&self, p: PartId, tick: Tick, stop: Tick) -> Tick
@@ -190,15 +233,13 @@ fn activity_of(is_active: bool, is_running: bool, thread: Thread) -> Activity
     if is_running {
         return Activity::Running;
     }
-    match thread.phase {
-        Phase::Ended => Activity::Ended,
-        Phase::Normal | Phase::Unwinding => {
-            if is_active {
-                activity_of_wait(thread.wait)
-            } else {
-                Activity::Halted
-            }
-        }
+    if thread.phase.is_ended() {
+        return Activity::Ended;
+    }
+    if is_active {
+        activity_of_wait(thread.wait)
+    } else {
+        Activity::Halted
     }
 }
 
@@ -220,11 +261,4 @@ fn is_running(t: ThreadNo, running: Option<ThreadNo>) -> bool
         Some(u) => u.number() == t.number(),
         None => false,
     }
-}
-
-/// Whether a partition of this status is not halted.
-fn is_active(status: Status) -> bool
-    ensures { result ≡ is_active status }
-{
-    matches!(status, Status::Active)
 }

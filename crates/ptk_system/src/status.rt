@@ -2,7 +2,7 @@
 
 ghost use Rattle.std.specs.Prelude.{◌≡◌, Some};
 ghost use Rattle.ptk_words_model.specs.Text.{cause_text, fault_text};
-ghost use Rattle.ptk_system.specs.Told.{told_status};
+ghost use Rattle.ptk_system.specs.Told.{is_halted, told_status};
 ghost use Rattle.ptk_system.specs.Shown.{shown_status};
 
 use ptk_trace::{Decimal, Word};
@@ -35,6 +35,16 @@ impl PartStatus {
             Status::Exited(code) => PartStatus::Exited(code),
             Status::Stopped(cause, pc) => PartStatus::Stopped(cause, pc),
             Status::Refused(fault) => PartStatus::Refused(fault),
+        }
+    }
+
+    /// Whether it is that of a halted partition: it exited, was stopped, or its image was refused.
+    pub fn is_halted(self) -> bool
+        ensures { result ≡ is_halted self }
+    {
+        match self {
+            PartStatus::Idle | PartStatus::Running => false,
+            PartStatus::Exited(_) | PartStatus::Stopped(_, _) | PartStatus::Refused(_) => true,
         }
     }
 }

@@ -12,7 +12,7 @@ use crate::status::PartStatus;
 use crate::system::System;
 use ptk_system_machine::{Machine, Tables};
 use ptk_trace::Trace;
-use ptk_words::{Cpu, PartId, Phase, ThreadNo};
+use ptk_words::{Cpu, PartId, ThreadNo};
 
 impl<'a> System<'a> {
     /// How many partitions there are, 1 to 8. It opens the invariant: the configuration is one without a fault.
@@ -86,11 +86,8 @@ impl<'a> System<'a> {
         ensures { result ≡ live_cpu (thread_at (state_of self.now p).part.locks thread) }
     {
         match self.kept().tables().threads().thread(p, thread) {
-            Some(thread) => match thread.phase {
-                Phase::Ended => None,
-                Phase::Normal | Phase::Unwinding => Some(thread.cpu),
-            },
-            None => None,
+            Some(thread) if !thread.phase.is_ended() => Some(thread.cpu),
+            _ => None,
         }
     }
 

@@ -9,7 +9,8 @@ use Rattle.ptk_words_model.specs.declared.Spent.{Spent}
 use Rattle.ptk_words_model.specs.declared.Spent.TheVariants.{Step, Idle, Lost}
 use Rattle.ptk_words_model.specs.State.{Part, Account, State}
 use Rattle.ptk_words_model.specs.Decision.{after_decision, spent_by_decision}
-use Rattle.ptk_words_model.specs.Run.{is_active, next_from, accounted, decided, is_at, after_tick_until}
+use Rattle.ptk_words_model.specs.Run.{next_from, accounted, decided, is_at, after_tick_until}
+use Rattle.ptk_words.specs.Faults.{is_active}
 use Rattle.ptk_words_batches.specs.Quiet.{after_ticks}
 use Rattle.ptk_system_machine.specs.Accounts.{IsBehind}
 

@@ -7,7 +7,8 @@ use Rattle.ptk_words.specs.declared.sections.Entry.{Entry}
 use Rattle.ptk_words.specs.declared.sections.Limits.{Limits}
 use Rattle.ptk_words_windows.specs.Windows.{OwnTicks, WindowPlan, IsPlan, own_ticks}
 use Rattle.ptk_words_model.specs.State.{State}
-use Rattle.ptk_words_model.specs.Run.{is_active, last_of, next_from}
+use Rattle.ptk_words_model.specs.Run.{last_of, next_from}
+use Rattle.ptk_words.specs.Faults.{is_active}
 use Rattle.ptk_trace.specs.KeptSteps.{KeptSteps}
 use Rattle.ptk_kernel.specs.Decisions.{Progress, begun, decisions, entries_of}
 use Rattle.ptk_kernel.specs.Rows.{HasGone, with_newest}

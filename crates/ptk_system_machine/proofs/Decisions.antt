@@ -10,7 +10,8 @@ use Rattle.ptk_words_windows.proofs.NextLaws.{next_first}
 use Rattle.ptk_words_model.specs.declared.Spent.{Spent}
 use Rattle.ptk_words_model.specs.State.{Part, Account, State}
 use Rattle.ptk_words_model.specs.Decision.{after_decision, spent_by_decision}
-use Rattle.ptk_words_model.specs.Run.{accounted, decided, is_active, is_at, last_of, next_from}
+use Rattle.ptk_words_model.specs.Run.{accounted, decided, is_at, last_of, next_from}
+use Rattle.ptk_words.specs.Faults.{is_active}
 use Rattle.ptk_words_batches.specs.Quiet.{after_ticks}
 use Rattle.ptk_words_batches.proofs.TicksInARow.{join, last_more, next_own}
 use Rattle.ptk_kernel.specs.Decisions.{AreQuietSteps, IsQuietStep, Progress, begun, decided_on, decisions, entries_of}

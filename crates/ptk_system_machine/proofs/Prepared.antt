@@ -13,7 +13,7 @@ use Rattle.ptk_words_model.specs.Schedule.{at_head, first_ready, after_choice_be
 use Rattle.ptk_words_model.specs.Priority.{effective_priority}
 use Rattle.ptk_words_model.specs.Withdrawal.{after_expiries}
 use Rattle.ptk_words_model.specs.Decision.{after_arrivals, after_turn, after_decision, ready_at, runner_of, spent_by_decision, spent_in_turn}
-use Rattle.ptk_words_model.specs.Run.{is_active}
+use Rattle.ptk_words.specs.Faults.{is_active}
 use Rattle.ptk_words_invariant.proofs.Decisions.{arrivals_status}
 use Rattle.ptk_words_invariant.proofs.Timeouts.{expiries_status}
 use Rattle.ptk_words_batches.specs.Quiet.{after_ticks}

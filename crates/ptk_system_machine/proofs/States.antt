@@ -61,16 +61,6 @@ spent_is ticks limits tick room from part after spent came kept account e told t
     ∙ (ap (λ (s : Part). record (accounted ticks limits tick room s spent account) { next = next_from ticks s.status from }) e
     ∙ ap (λ (s : Spent). record (accounted ticks limits tick room after s account) { next = next_from ticks after.status from }) told))
 
--- what was told of a decision has an entry
-pub entry_told : (n p tick room : ℕ) (limits : Limits) (kept new : Kept) (spent : Spent) (last : Option Entry) → AreParts n kept → p < n
-    → spent ≡ spent_by_decision limits tick room (part_at p kept) → new ≡ put_part p (after_decision limits tick room (part_at p kept)) kept → last ≡ (part_at p new).last → HasEntry spent last
-entry_told n p tick room limits kept new spent last parts lt told moved at =
-    let after : Part = after_decision limits tick room (part_at p kept) in
-    let now : part_at p new ≡ after_decision limits tick room (part_at p kept) = ap (part_at p) moved ∙ part_at-put n p _ kept parts lt in
-    let is : last ≡ (after_decision limits tick room (part_at p kept)).last = at ∙ ap (λ (s : Part). s.last) now in
-    subst (λ (s : Spent). HasEntry s last) (sym told)
-    (subst (λ (l : Option Entry). HasEntry (spent_by_decision limits tick room (part_at p kept)) l) (sym is) (decision_entry limits tick room (part_at p kept)))
-
 -- from when on a partition goes on, by what was told of its decision
 pub free_told : (n p tick room to from : ℕ) (kept new : Kept) (spent : Spent) → AreParts n kept → p < n → spent ≡ spent_by_decision (limits_at p kept) tick room (part_at p kept)
     → new ≡ put_part p (after_decision (limits_at p kept) tick room (part_at p kept)) kept → IsFreeFrom (limits_at p new) tick room spent to (part_at p new) from

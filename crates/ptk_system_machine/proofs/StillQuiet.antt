@@ -36,14 +36,3 @@ pub still_beyond : (p tick later stop sooner t u : ℕ) (old new : Kept) → soo
     → ((k : ℕ) → sooner ≤ k → IsStillTo p tick k u old → IsStillTo p later k u new) → IsStillTo p tick stop t old → IsStillTo p later stop t new
 still_beyond p tick later stop sooner t u old new le same on still =
     subst (λ (v : ℕ). IsStillTo p later stop v new) same (on stop le (subst (λ (v : ℕ). IsStillTo p tick stop v old) (sym same) still))
-
--- windows of one partition that share a tick end together
-pub same_end : (ticks : OwnTicks) (a b first second : ℕ) → IsInWindow ticks a first → IsInWindow ticks b second → a ≤ b → b < first → first ≡ second
-same_end ticks a b first second one two le lt =
-    ap (λ (o : Option ℕ). unwrap_or o first) (sym (one.ends b le lt) ∙ two.ends b (omega arith) two.before)
-
--- a stop within one window is within that of the next turn, if this begins before it
-pub stop_within : (ticks : OwnTicks) (a b first second stop : ℕ) → IsInWindow ticks a first → IsInWindow ticks b second → a ≤ b → b < stop → stop ≤ first → stop ≤ second
-stop_within ticks a b first second stop one two le lt within =
-    let same : first ≡ second = same_end ticks a b first second one two le (omega (arith, lt, within)) in
-    omega (arith, within, same)

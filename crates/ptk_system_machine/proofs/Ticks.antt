@@ -150,12 +150,6 @@ in_window plan p tick end is frame ends =
       near = omega arith;
     }
 
-pub own_within : (ticks : OwnTicks) (from to a b : ℕ) → AreOwn ticks from to → from ≤ a → b ≤ to → AreOwn ticks a b
-own_within ticks from to a b own le within = record {
-  end = λ k h lt. own.end k (omega (arith, h, le)) (omega (arith, lt, within));
-  next = λ k h lt. own.next k (omega (arith, h, le)) (omega (arith, lt, within));
-}
-
 -- ---- a decision
 
 -- where a decision's next one comes behind the ticks that it takes up, that one is its own

@@ -4,7 +4,8 @@ use Rattle.ptk_words.specs.declared.sections.Entry.{Entry}
 use Rattle.ptk_words_model.specs.declared.Spent.{Spent}
 use Rattle.ptk_words_model.specs.declared.Spent.TheVariants.{Step, Idle, Lost}
 use Rattle.ptk_words_model.specs.State.{Account, State}
-use Rattle.ptk_words_model.specs.Run.{is_active, last_of}
+use Rattle.ptk_words_model.specs.Run.{last_of}
+use Rattle.ptk_words.specs.Faults.{is_active}
 use Rattle.ptk_system_machine.specs.declared.account.Account.TheInside.{Inside}
 
 -- an account, and how many steps its trace keeps

@@ -2,7 +2,8 @@
 
 ghost use Rattle.std.specs.Prelude.{◌≡◌, ◌<◌, ◌≤◌, ◌^◌, ℕ, IfOk, length, slice_index_or};
 ghost use Rattle.ptk_words_windows.specs.Windows.{own_ticks};
-ghost use Rattle.ptk_words_model.specs.Run.{is_active, next_from};
+ghost use Rattle.ptk_words_model.specs.Run.{next_from};
+ghost use Rattle.ptk_words.specs.Faults.{is_active};
 ghost use Rattle.ptk_kernel.specs.Kept.{AreParts, limits_at};
 ghost use Rattle.ptk_system_machine.specs.Whole.{IsWhole, account_at, first_account_of, no_account};
 
@@ -121,7 +122,7 @@ pub(crate) fn next_from(
     requires { tick ≤ 2 ^ 41 }
     ensures { result ≡ next_from (own_ticks plan.now p) status tick }
 {
-    if is_active(status) {
+    if status.is_active() {
         match plan.turn_from(p, tick, near) {
             Some(turn) => Some(turn.start),
             None => None,
@@ -129,11 +130,4 @@ pub(crate) fn next_from(
     } else {
         None
     }
-}
-
-/// Whether the partition is not halted.
-pub(crate) fn is_active(status: Status) -> bool
-    ensures { result ≡ is_active status }
-{
-    matches!(status, Status::Active)
 }

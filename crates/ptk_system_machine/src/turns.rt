@@ -21,7 +21,7 @@ ghost use Rattle.ptk_system_machine.specs.Whole.{AreWindowsOf, account_at, gone_
 mod calls;
 
 use crate::account::duration;
-use crate::machine::{Machine, is_active};
+use crate::machine::Machine;
 use ptk_kernel::{
     Quiet, Tables, last_step, prepare, quiet_until, run_quiet, stays_idle_until, take_turn,
 };
@@ -586,7 +586,7 @@ fn next_turn(
     ensures window { IfSome result.0 (λ next. IsInWindow (own_ticks plan.now p) next result.1) }
 {
     plan.is_plan();
-    if !is_active(status) {
+    if !status.is_active() {
         return (None, end);
     }
     if tick.ticks() < end.ticks() {

@@ -3,7 +3,7 @@ use Rattle.std.specs.Prelude.{◌≡◌, ℕ, List, map, Option}
 use Rattle.ptk_words.specs.Names.{Tick}
 use Rattle.ptk_words.specs.declared.threads.Thread.{Thread}
 use Rattle.ptk_words_model.specs.Mutex.{wait_of}
-use Rattle.ptk_words_model.specs.Withdrawal.{deadline_of_wait}
+use Rattle.ptk_words.specs.Threads.{deadline_of_wait}
 use Rattle.ptk_threads.specs.Table.{IsTable}
 
 -- by thread number: the deadline of its wait, of a thread that is in a timed one (clock_nanosleep, pthread_mutex_timedlock, pthread_cond_timedwait)

@@ -4,7 +4,7 @@ ghost use Rattle.std.specs.Prelude.{◌≡◌, ℕ, ◌<◌, true, false, length
 ghost use Rattle.ptk_words.specs.Pools.{pool_get, pool_set};
 ghost use Rattle.ptk_words_parted.specs.Parts.{part_of};
 ghost use Rattle.ptk_words_model.specs.Mutex.{wait_of};
-ghost use Rattle.ptk_words_model.specs.Withdrawal.{deadline_of_wait};
+ghost use Rattle.ptk_words.specs.Threads.{deadline_of_wait};
 ghost use Rattle.ptk_words_sync_invariant.specs.Expiries.{next_expiry};
 ghost use Rattle.ptk_clock.specs.BySlot.{deadlines_from};
 ghost use Rattle.ptk_clock.specs.ByThread.{first_slot, least_deadline};
@@ -87,10 +87,5 @@ fn deadline_at(slots: &[Slot], k: ThreadNo) -> Option<Tick>
 fn deadline_of(wait: Option<Wait>) -> Option<Tick>
     ensures { result ≡ deadline_of_wait wait }
 {
-    match wait? {
-        Wait::SleepWait(deadline) => Some(deadline),
-        Wait::MutexWait(_, deadline) => deadline,
-        Wait::ConditionWait(_, _, deadline) => deadline,
-        Wait::InputWait | Wait::JoinWait(_) | Wait::RelockWait(_, _) => None,
-    }
+    wait?.deadline()
 }

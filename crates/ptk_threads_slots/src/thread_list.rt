@@ -1,6 +1,7 @@
 //! The threads of one queue, read into a list.
 
 ghost use Rattle.std.specs.Prelude.{◌≡◌, ◌↔◌, true, Some, ◌<◌, ◌≤◌, [], ◌∷◌, ◌++◌, ◌==◌, not, length};
+ghost use Rattle.ptk_words.specs.Pools.{is_in};
 ghost use Rattle.ptk_words_parted.specs.Parts.{part_of};
 ghost use Rattle.ptk_threads_slots.specs.Links.{AreQueues, queues, links_of, mark_of, place_of};
 
@@ -45,6 +46,13 @@ impl ThreadList {
     {
         self.numbers[self.count] = k;
         self.count += 1;
+    }
+
+    /// Whether a thread is among them.
+    pub fn contains(&self, k: ThreadNo) -> bool
+        ensures { result ≡ is_in k self.now }
+    {
+        self.as_slice().iter().any(|j| k.number() == j.number())
     }
 
     /// The threads, in their order.

@@ -106,14 +106,12 @@ impl Starts {
         requires { to ≤ LAST_TICK }
     {
         let end = to.ticks();
-        let mut tick = next_change(system, to).ticks();
+        let mut tick = system.all_stay_until(to).ticks();
         while tick < end {
             system.run_to(Tick::new(tick + 1));
             self.look(system);
             system.compute_to(to);
-            let next = next_change(system, to).ticks();
-            let after = next.max(tick + 1);
-            tick = after;
+            tick = system.all_stay_until(to).ticks().max(tick + 1);
         }
     }
 
@@ -123,20 +121,6 @@ impl Starts {
         let seen = numbers.seen.get(number.saturating_sub(1))?;
         seen.start
     }
-}
-
-/// The first tick, up to this one, at which something of some partition can change.
-fn next_change(system: &System<'_>, to: Tick) -> Tick
-    ensures { result ≤ to }
-{
-    let mut next = to;
-    for i in 0..system.parts() {
-        let until = system.stays_until(PartId::new(i as u8), to);
-        if until.ticks() < next.ticks() {
-            next = until;
-        }
-    }
-    next
 }
 
 /// What the threads of a picture are named by: where they start, and the symbols there.

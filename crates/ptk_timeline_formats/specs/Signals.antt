@@ -1,5 +1,13 @@
 -- What a Value Change Dump has a form for.
-use Rattle.std.specs.Prelude.{ℕ, List, [], ◌∷◌, ◌++◌, Bool, true, false, codes, decimal}
+use Rattle.std.specs.Prelude.{ℕ, nat_lt, ◌+◌, ◌-◌, ◌*◌, ◌/◌, ◌%◌, ◌==◌, List, [], ◌∷◌, ◌++◌, Bool, true, false, if◌then◌else◌, Option, Some, None, unwrap_or, codes, decimal}
+use Rattle.std.specs.Fmt.{digits}
+use Rattle.ptk_system.specs.declared.status.PartStatus.{PartStatus}
+use Rattle.ptk_system.specs.declared.status.PartStatus.TheVariants as status
+use Rattle.ptk_words.specs.declared.threads.Wait.{Wait}
+use Rattle.ptk_words.specs.declared.threads.Wait.TheVariants.{InputWait, SleepWait, JoinWait, MutexWait, ConditionWait, RelockWait}
+use Rattle.ptk_timeline_formats.specs.declared.shown.Doing.{Doing}
+use Rattle.ptk_timeline_formats.specs.declared.shown.Doing.TheVariants as doing
+use Rattle.ptk_timeline_formats.specs.declared.shown.Shown.{Shown}
 use Rattle.ptk_timeline_formats.specs.declared.change.Change.{Change}
 use Rattle.ptk_timeline_formats.specs.declared.change.Change.TheVariants.{WindowBegins, WindowEnds, Status, Runner, First, Next, Woken, Lost, Dropped}
 
@@ -18,3 +26,81 @@ is_signal (Dropped bytes) = false
 -- the line that what follows is of a tick (IEEE 1364-2005, 18.2.1)
 abbrev pub tick_line : ℕ → List ℕ
 tick_line tick = codes "#" ++ (decimal tick ++ 10 ∷ [])
+
+-- the identifier of the signal of a number: two of the 94 printable characters (IEEE 1364-2005, 18.2.1)
+abbrev pub identifier : ℕ → List ℕ
+identifier n = (n / 94 % 94 + 33) ∷ (n % 94 + 33) ∷ []
+
+-- the line of a signal of one bit (IEEE 1364-2005, 18.2.1)
+abbrev pub bit_line : ℕ → ℕ → List ℕ
+bit_line bit n = decimal bit ++ (identifier n ++ 10 ∷ [])
+
+-- the line of a signal of several bits, as a binary number and a blank (IEEE 1364-2005, 18.2.1)
+abbrev pub vector_line : ℕ → ℕ → List ℕ
+vector_line number n = codes "b" ++ (digits 2 false number ++ (codes " " ++ (identifier n ++ 10 ∷ [])))
+
+-- the number of a status (own)
+abbrev pub status_number : PartStatus → ℕ
+status_number status.Idle = 0
+status_number status.Running = 1
+status_number (status.Exited code) = 2
+status_number (status.Stopped cause pc) = 3
+status_number (status.Refused fault) = 4
+
+-- the number of a wait (own)
+abbrev pub wait_number : Wait → ℕ
+wait_number InputWait = 4
+wait_number (SleepWait tick) = 5
+wait_number (JoinWait thread) = 6
+wait_number (MutexWait m deadline) = 7
+wait_number (ConditionWait c m deadline) = 8
+wait_number (RelockWait m reply) = 9
+
+-- the number of what a thread does (own)
+abbrev pub state_number : Doing → ℕ
+state_number doing.Free = 0
+state_number doing.Running = 1
+state_number doing.Suspended = 2
+state_number doing.Ready = 3
+state_number (doing.Blocked wait) = wait_number wait
+state_number doing.Ended = 10
+state_number doing.Halted = 11
+
+-- the line of what a thread does, and that of its effective priority, 0 of a free number; a partition has 67 signals (own)
+abbrev pub state_line : ℕ → ℕ → Shown → List ℕ
+state_line p t shown = vector_line (state_number shown.doing) (p * 67 + 3 + 2 * (t - 1))
+
+abbrev pub priority_line : ℕ → ℕ → Shown → List ℕ
+priority_line p t shown = vector_line (unwrap_or shown.priority 0) (p * 67 + 4 + 2 * (t - 1))
+
+-- the lines of a thread that was shown so: of what is another than before (own)
+abbrev pub thread_lines : ℕ → ℕ → Shown → Shown → List ℕ
+thread_lines p t before shown =
+    (if state_number before.doing == state_number shown.doing then [] else state_line p t shown)
+    ++ (if unwrap_or before.priority 0 == unwrap_or shown.priority 0 then [] else priority_line p t shown)
+
+-- the lines of the values that change (own)
+abbrev pub value_lines : ℕ → Change → List ℕ
+value_lines p WindowBegins = bit_line 1 (p * 67)
+value_lines p (WindowEnds since) = bit_line 0 (p * 67)
+value_lines p (Status status) = vector_line (status_number status) (p * 67 + 1)
+value_lines p (Runner number) = vector_line number (p * 67 + 2)
+value_lines p (First t shown start) = state_line p t shown.now ++ priority_line p t shown.now
+value_lines p (Next t kept shown) = thread_lines p t kept.now.shown shown.now
+value_lines p (Woken by t) = []
+value_lines p (Lost ticks) = []
+value_lines p (Dropped bytes) = []
+
+-- what a dump has of a change at a tick, whose last line is of tick `at`: first the line of the tick, where it is later (IEEE 1364-2005, 18.2.1)
+abbrev pub change_lines : ℕ → ℕ → ℕ → Change → List ℕ
+change_lines at tick p change = if is_signal change then (if nat_lt at tick then tick_line tick else []) ++ value_lines p change else []
+
+-- the tick of which a dump's last line is behind a change
+abbrev pub tick_behind : ℕ → ℕ → Change → ℕ
+tick_behind at tick change = if is_signal change then tick else at
+
+-- the same of changes in their order
+abbrev pub changes_lines : ℕ → ℕ → ℕ → List (Option Change) → List ℕ
+changes_lines at tick p [] = []
+changes_lines at tick p (None ∷ rest) = changes_lines at tick p rest
+changes_lines at tick p (Some change ∷ rest) = change_lines at tick p change ++ changes_lines (tick_behind at tick change) tick p rest

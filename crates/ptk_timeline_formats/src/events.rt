@@ -1,10 +1,9 @@
 //! The Trace Event Format.
 
 use crate::change::{Change, Kept};
-use crate::fault::PutFault;
-use crate::shown::{Doing, Shown, deadline_of};
-use crate::step::is_halted;
+use crate::shown::{Doing, Shown};
 use ptk_config::{Config, Section};
+use ptk_main_runs::PutFault;
 use ptk_symbols::Symbols;
 use ptk_system::PartStatus;
 use ptk_words::{MutexNo, PartId, ThreadNo, Wait};
@@ -152,7 +151,7 @@ fn arguments_of(shown: &Shown) -> Numbers {
             (condition, mutex(*m))
         }
     };
-    let until = deadline_of(wait).map(|deadline| ("until", deadline.ticks()));
+    let until = wait.deadline().map(|deadline| ("until", deadline.ticks()));
     [priority, first, second, until]
 }
 
@@ -245,7 +244,7 @@ fn put_halt<W: Write>(
     status: PartStatus,
     out: &mut W,
 ) -> Result<(), PutFault> {
-    if is_halted(status) {
+    if status.is_halted() {
         let Track { process, thread } = Track::windows(p);
         write!(
             out,

@@ -1,8 +1,6 @@
 //! Why a run is not written.
 
 use ptk_system::BootFault;
-use std::alloc::AllocError;
-use std::io;
 use thiserror::Error;
 
 /// Why a run is not written, or not to its end.
@@ -20,31 +18,4 @@ pub enum FormatFault {
     /// The writer failed.
     #[error("the writer failed")]
     Write,
-}
-
-/// Why what has begun is not written to its end.
-#[derive(Clone, Copy)]
-pub(crate) enum PutFault {
-    /// Memory was refused.
-    Memory,
-    /// The writer failed.
-    Write,
-}
-
-impl From<AllocError> for PutFault {
-    fn from(_error: AllocError) -> PutFault {
-        PutFault::Memory
-    }
-}
-
-impl From<io::Error> for PutFault {
-    fn from(_error: io::Error) -> PutFault {
-        PutFault::Write
-    }
-}
-
-impl From<serde_json::Error> for PutFault {
-    fn from(_error: serde_json::Error) -> PutFault {
-        PutFault::Memory
-    }
 }

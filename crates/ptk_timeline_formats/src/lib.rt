@@ -4,11 +4,13 @@
 //!
 //! - What is kept of each thread at a change is what the system shows of it (`shown` of `show_threads`: `AreShown`,
 //!   `shown_in`); ticks never fall (`from`, `within` of `Sheet::put`).
-//! - The refusals are the definition's (`order` to `silent` of `dump_with`). The bytes are tested.
+//! - The refusals are the definition's (`order` to `silent` of `dump_with`).
+//! - What a Value Change Dump has of changes is the definition's, tick by tick (`dump` of `Sheet::put_each`). What is
+//!   before the first of them is tested, and so are the bytes of trace events.
 //!
 //! GTKWave opens the first (IEEE 1364-2005, section 18), Perfetto and chrome://tracing the second. Both go from change
 //! to change and keep of each thread what was shown of it last, so memory does not grow with the run. Below are the
-//! system (`ptk_system`) and the configuration; the program's answers are above.
+//! system (`ptk_system`), the configuration and the faults of writing (`ptk_main_runs`); the program's answers are above.
 
 mod board;
 mod change;

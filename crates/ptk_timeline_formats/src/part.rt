@@ -6,11 +6,11 @@ ghost use Rattle.ptk_system.specs.World.{state_of};
 ghost use Rattle.ptk_timeline_formats.specs.Shown.{AreShown};
 
 use crate::change::{Change, Kept};
-use crate::fault::PutFault;
 use crate::sheet::Sheet;
 use crate::shown::Shown;
 use crate::step::Step;
 use crate::threads::{first_threads, show_threads};
+use ptk_main_runs::PutFault;
 use ptk_system::{PartStatus, System};
 use ptk_words::{PartId, THREAD_LIMIT, ThreadNo, Tick};
 use std::alloc::{AllocError, Global};

@@ -7,9 +7,10 @@ ghost use Rattle.ptk_timeline_formats.specs.declared.fault.FormatFault.TheVarian
 ghost use Rattle.ptk_timeline_formats.specs.Faults.{missing_in_format};
 
 use crate::board::Board;
-use crate::fault::{FormatFault, PutFault};
+use crate::fault::FormatFault;
 use crate::sheet::{Form, Sheet};
 use ptk_config::Config;
+use ptk_main_runs::PutFault;
 use ptk_symbols::Symbols;
 use ptk_system::{Files, System};
 use ptk_words::Tick;

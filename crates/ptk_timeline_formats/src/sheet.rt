@@ -2,9 +2,9 @@
 
 use crate::change::Change;
 use crate::events::{put_event, put_events_head};
-use crate::fault::PutFault;
-use crate::vcd::{is_signal, put_value, put_vcd_head};
+use crate::vcd::{is_signal, put_values, put_vcd_head};
 use ptk_config::Config;
+use ptk_main_runs::PutFault;
 use ptk_symbols::Symbols;
 use ptk_words::PartId;
 use std::alloc::Global;
@@ -34,7 +34,7 @@ ghost use Rattle.std.specs.Prelude.{◌≡◌, ◌<◌, ◌≤◌, false, OnOk};
 ghost use Rattle.std.specs.Io.KnownBytes.{Appends};
 ghost use Rattle.ptk_words.specs.declared.TheConstants.{LAST_TICK};
 ghost use Rattle.ptk_timeline_formats.specs.declared.sheet.Form.TheVariants.{Vcd};
-ghost use Rattle.ptk_timeline_formats.specs.Signals.{is_signal, tick_line};
+ghost use Rattle.ptk_timeline_formats.specs.Signals.{change_lines, changes_lines, is_signal, tick_behind, tick_line};
 
 impl Form {
     /// What is between the first values and what changes.
@@ -96,7 +96,8 @@ impl<'a, 's> Sheet<'a, 's> {
         }
     }
 
-    /// Writes what changes of a partition at a tick, in this order.
+    /// Writes what changes of a partition at a tick, in this order. What it writes of events is tested.
+    #[tactic(auto, using(crate::proofs::Lines::one_more, crate::proofs::Lines::none_more))]
     pub(crate) fn put_each<W: Write>(
         &mut self,
         p: PartId,
@@ -108,6 +109,9 @@ impl<'a, 's> Sheet<'a, 's> {
         requires to { tick ≤ self.old.to }
         ensures within { self.new.at ≤ tick }
         ensures to { self.new.to ≡ self.old.to }
+        ensures form { self.new.form ≡ self.old.form }
+        ensures dump { self.old.form ≡ Vcd → OnOk result (Appends (W.contents out.old) (W.contents out.new)
+            (changes_lines self.old.at tick p changes.now)) }
     {
         for change in changes.iter() {
             if let Some(change) = change {
@@ -118,7 +122,7 @@ impl<'a, 's> Sheet<'a, 's> {
     }
 
     /// Writes what changes of a partition at a tick, after the line of the tick where the format has one. A dump writes
-    /// nothing of a change that no signal shows. What it writes of the others is tested.
+    /// nothing of a change that no signal shows. What it writes of events is tested.
     pub(crate) fn put<W: Write>(
         &mut self,
         p: PartId,
@@ -131,13 +135,17 @@ impl<'a, 's> Sheet<'a, 's> {
         ensures from { self.old.at ≤ self.new.at }
         ensures within { self.new.at ≤ tick }
         ensures to { self.new.to ≡ self.old.to }
+        ensures form { self.new.form ≡ self.old.form }
+        ensures behind { self.old.form ≡ Vcd → self.new.at ≡ tick_behind self.old.at tick change.now }
+        ensures dump { self.old.form ≡ Vcd → OnOk result (Appends (W.contents out.old) (W.contents out.new)
+            (change_lines self.old.at tick p change.now)) }
         ensures unseen { self.old.form ≡ Vcd → is_signal change.now ≡ false → (out.new ≡ out.old) × (self.new ≡ self.old) }
     {
         match self.form {
             Form::Vcd => {
                 if is_signal(change) {
                     self.reach(tick, out)?;
-                    put_value(p, change, out)?;
+                    put_values(p, change, out)?;
                 }
                 Ok(())
             }
@@ -154,6 +162,7 @@ impl<'a, 's> Sheet<'a, 's> {
         requires to { tick ≤ self.old.to }
         ensures at { self.new.at ≡ tick }
         ensures to { self.new.to ≡ self.old.to }
+        ensures form { self.new.form ≡ self.old.form }
         ensures line { self.old.at < tick → OnOk result (Appends (W.contents out.old) (W.contents out.new) (tick_line tick)) }
         ensures none { tick ≤ self.old.at → out.new ≡ out.old }
     {

@@ -3,10 +3,11 @@
 ghost use Rattle.std.specs.Prelude.{◌≡◌, ◌<◌, length};
 ghost use Rattle.ptk_system.specs.World.{state_of};
 ghost use Rattle.ptk_timeline_formats.specs.Shown.{doing_of, is_step_of, shown_in};
+ghost use Rattle.ptk_timeline_formats.specs.Signals.{state_number, wait_number};
 
 use crate::step::Step;
 use ptk_system::{Activity, System};
-use ptk_words::{PartId, ThreadNo, Tick, Wait};
+use ptk_words::{PartId, ThreadNo, Wait};
 
 /// What a thread does.
 #[derive(Clone, Copy, PartialEq, Eq)]
@@ -37,7 +38,9 @@ pub(crate) struct Label {
 
 impl Doing {
     /// Its word and number.
-    pub(crate) fn label(&self) -> Label {
+    pub(crate) fn label(&self) -> Label
+        ensures { result.number ≡ state_number self.now }
+    {
         let (number, word) = match self {
             Doing::Free => (0, "free"),
             Doing::Running => (1, "running"),
@@ -52,7 +55,9 @@ impl Doing {
 }
 
 /// The number and the word of a wait.
-fn wait_label(wait: &Wait) -> (u8, &'static str) {
+fn wait_label(wait: &Wait) -> (u8, &'static str)
+    ensures { result.0 ≡ wait_number wait.now }
+{
     match wait {
         Wait::InputWait => (4, "console"),
         Wait::SleepWait(_) => (5, "sleep"),
@@ -60,15 +65,6 @@ fn wait_label(wait: &Wait) -> (u8, &'static str) {
         Wait::MutexWait(_, _) => (7, "mutex"),
         Wait::ConditionWait(_, _, _) => (8, "condition"),
         Wait::RelockWait(_, _) => (9, "relock"),
-    }
-}
-
-/// The tick at which a wait ends by itself, None where it does not.
-pub(crate) fn deadline_of(wait: &Wait) -> Option<Tick> {
-    match wait {
-        Wait::SleepWait(tick) => Some(*tick),
-        Wait::MutexWait(_, deadline) | Wait::ConditionWait(_, _, deadline) => *deadline,
-        Wait::InputWait | Wait::JoinWait(_) | Wait::RelockWait(_, _) => None,
     }
 }
 

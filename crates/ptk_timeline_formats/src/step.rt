@@ -5,7 +5,7 @@ ghost use Rattle.ptk_words.specs.declared.TheConstants.{LAST_TICK};
 ghost use Rattle.ptk_system.specs.World.{state_of};
 ghost use Rattle.ptk_timeline_formats.specs.Shown.{is_step_of};
 
-use ptk_system::{PartStatus, System};
+use ptk_system::System;
 use ptk_words::{PartId, ThreadNo};
 
 /// A step that takes up its ticks: its thread, and the tick behind its last.
@@ -71,19 +71,11 @@ fn step_end(system: &System<'_>, p: PartId, tick: u64, end: u64) -> u64
     ensures from { tick < result }
     ensures to { result ≤ end }
 {
-    if is_halted(system.status(p)) {
+    if system.status(p).is_halted() {
         return tick + 1;
     }
     match system.next(p) {
         Some(next) => next.ticks().max(tick + 1).min(end),
         None => end,
-    }
-}
-
-/// Whether this is the status of a halted partition.
-pub(crate) fn is_halted(status: PartStatus) -> bool {
-    match status {
-        PartStatus::Idle | PartStatus::Running => false,
-        PartStatus::Exited(_) | PartStatus::Stopped(_, _) | PartStatus::Refused(_) => true,
     }
 }

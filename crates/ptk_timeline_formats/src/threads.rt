@@ -6,10 +6,10 @@ ghost use Rattle.ptk_system.specs.World.{state_of};
 ghost use Rattle.ptk_timeline_formats.specs.Shown.{AreShown, is_step_of, shown_in};
 
 use crate::change::{Change, Kept};
-use crate::fault::PutFault;
 use crate::sheet::Sheet;
-use crate::shown::{Doing, Shown, deadline_of};
+use crate::shown::{Doing, Shown};
 use crate::step::Step;
+use ptk_main_runs::PutFault;
 use ptk_system::System;
 use ptk_words::{PartId, THREAD_LIMIT, ThreadNo, Wait};
 use std::alloc::{AllocError, Global};
@@ -125,7 +125,7 @@ fn is_woken(before: &Doing, after: &Doing, tick: u64) -> bool {
 
 /// Whether a wait's deadline has come by a tick.
 fn is_over(wait: &Wait, tick: u64) -> bool {
-    match deadline_of(wait) {
+    match wait.deadline() {
         Some(deadline) => deadline.ticks() <= tick,
         None => false,
     }

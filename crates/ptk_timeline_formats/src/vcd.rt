@@ -1,7 +1,8 @@
 //! The Value Change Dump (IEEE 1364-2005, section 18).
 
-ghost use Rattle.std.specs.Prelude.{◌≡◌};
-ghost use Rattle.ptk_timeline_formats.specs.Signals.{is_signal};
+ghost use Rattle.std.specs.Prelude.{◌≡◌, ◌+◌, ◌-◌, ◌*◌, OnOk, Some};
+ghost use Rattle.std.specs.Io.KnownBytes.{Appends};
+ghost use Rattle.ptk_timeline_formats.specs.Signals.{bit_line, identifier, is_signal, status_number, thread_lines, value_lines, vector_line};
 
 use crate::change::Change;
 use crate::shown::Shown;
@@ -29,39 +30,45 @@ struct Signal(usize);
 
 impl Signal {
     /// The partition's window, 1 bit.
-    fn window(p: PartId) -> Signal {
-        Signal(p.index().saturating_mul(SIGNALS))
+    fn window(p: PartId) -> Signal
+        ensures { result.0 ≡ p * 67 }
+    {
+        Signal(p.index() * SIGNALS)
     }
 
     /// The partition's status, 3 bits.
-    fn status(p: PartId) -> Signal {
-        Signal::window(p).after(1)
+    fn status(p: PartId) -> Signal
+        ensures { result.0 ≡ p * 67 + 1 }
+    {
+        Signal(p.index() * SIGNALS + 1)
     }
 
     /// The partition's running thread, 6 bits.
-    fn runner(p: PartId) -> Signal {
-        Signal::window(p).after(2)
+    fn runner(p: PartId) -> Signal
+        ensures { result.0 ≡ p * 67 + 2 }
+    {
+        Signal(p.index() * SIGNALS + 2)
     }
 
     /// The state of the thread of a number, 4 bits.
-    fn state(p: PartId, number: u8) -> Signal {
-        let place = usize::from(number).saturating_sub(1).saturating_mul(2);
-        Signal::window(p).after(place.saturating_add(PART_SIGNALS))
+    fn state(p: PartId, number: u8) -> Signal
+        ensures { result.0 ≡ p * 67 + 3 + 2 * (number - 1) }
+    {
+        Signal(p.index() * SIGNALS + PART_SIGNALS + 2 * usize::from(number.saturating_sub(1)))
     }
 
     /// The effective priority of the thread of a number, 6 bits.
-    fn priority(p: PartId, number: u8) -> Signal {
-        Signal::state(p, number).after(1)
-    }
-
-    /// The signal this many after it.
-    fn after(self, places: usize) -> Signal {
-        Signal(self.0.saturating_add(places))
+    fn priority(p: PartId, number: u8) -> Signal
+        ensures { result.0 ≡ p * 67 + 4 + 2 * (number - 1) }
+    {
+        Signal(p.index() * SIGNALS + PART_SIGNALS + 2 * usize::from(number.saturating_sub(1)) + 1)
     }
 }
 
 /// A signal's identifier, of two characters.
 impl fmt::Display for Signal {
+    ghost output = { λ s. Some (identifier s.0) };
+
     fn fmt<W: fmt::Write>(&self, f: &mut fmt::Formatter<W>) -> fmt::Result {
         let first = (self.0 / CHARACTERS % CHARACTERS) as u8 + FIRST_CHARACTER;
         let second = (self.0 % CHARACTERS) as u8 + FIRST_CHARACTER;
@@ -111,93 +118,71 @@ pub(crate) fn is_signal(change: &Change<'_>) -> bool
     }
 }
 
-/// A signal's value as it is written: of one bit right before its signal, of several as a binary number and a blank
-/// (18.2.1).
-#[derive(Clone, Copy)]
-struct Value {
-    before: &'static str,
-    number: u8,
-    behind: &'static str,
-    signal: Signal,
-}
-
-impl Value {
-    /// That of a signal of one bit.
-    fn bit(number: u8, signal: Signal) -> Value {
-        Value {
-            before: "",
-            number,
-            behind: "",
-            signal,
-        }
-    }
-
-    /// That of a signal of several bits, without leading zeros.
-    fn vector(number: u8, signal: Signal) -> Value {
-        Value {
-            before: "b",
-            number,
-            behind: " ",
-            signal,
-        }
-    }
-}
-
 /// Writes the values that change.
-pub(crate) fn put_value<W: Write>(p: PartId, change: &Change<'_>, out: &mut W) -> io::Result<()> {
-    for value in values_of(p, change).iter() {
-        if let Some(value) = value {
-            let Value {
-                before,
-                number,
-                behind,
-                signal,
-            } = *value;
-            writeln!(out, "{before}{number:b}{behind}{signal}")?;
+pub(crate) fn put_values<W: Write>(p: PartId, change: &Change<'_>, out: &mut W) -> io::Result<()>
+    ensures { OnOk result (Appends (W.contents out.old) (W.contents out.new) (value_lines p change.now)) }
+{
+    match change {
+        Change::WindowBegins => put_bit(1, Signal::window(p), out),
+        Change::WindowEnds(_) => put_bit(0, Signal::window(p), out),
+        Change::Status(status) => put_vector(status_number(*status), Signal::status(p), out),
+        Change::Runner(number) => put_vector(*number, Signal::runner(p), out),
+        Change::First(t, shown, _) => {
+            put_vector(
+                shown.doing.label().number,
+                Signal::state(p, t.number()),
+                out,
+            )?;
+            put_vector(
+                shown.priority.unwrap_or(0),
+                Signal::priority(p, t.number()),
+                out,
+            )
         }
+        Change::Next(t, kept, shown) => put_thread(p, *t, &kept.shown, shown, out),
+        Change::Woken(_, _) | Change::Lost(_) | Change::Dropped(_) => Ok(()),
+    }
+}
+
+/// Writes the value of a signal of one bit, right before the signal (18.2.1).
+fn put_bit<W: Write>(bit: u8, signal: Signal, out: &mut W) -> io::Result<()>
+    ensures { OnOk result (Appends (W.contents out.old) (W.contents out.new) (bit_line bit signal.0)) }
+{
+    writeln!(out, "{bit}{signal}")
+}
+
+/// Writes the value of a signal of several bits, as a binary number without leading zeros and a blank (18.2.1).
+fn put_vector<W: Write>(number: u8, signal: Signal, out: &mut W) -> io::Result<()>
+    ensures { OnOk result (Appends (W.contents out.old) (W.contents out.new) (vector_line number signal.0)) }
+{
+    writeln!(out, "b{number:b} {signal}")
+}
+
+/// Writes which of a thread's state and effective priority, 0 of a free number, is another than before.
+fn put_thread<W: Write>(
+    p: PartId,
+    t: ThreadNo,
+    before: &Shown,
+    shown: &Shown,
+    out: &mut W,
+) -> io::Result<()>
+    ensures { OnOk result (Appends (W.contents out.old) (W.contents out.new) (thread_lines p t before.now shown.now)) }
+{
+    let state = shown.doing.label().number;
+    if before.doing.label().number != state {
+        put_vector(state, Signal::state(p, t.number()), out)?;
+    }
+    let priority = shown.priority.unwrap_or(0);
+    if before.priority.unwrap_or(0) != priority {
+        put_vector(priority, Signal::priority(p, t.number()), out)?;
     }
     Ok(())
 }
 
-/// The values that change.
-fn values_of(p: PartId, change: &Change<'_>) -> [Option<Value>; 2] {
-    let value = match change {
-        Change::WindowBegins => Value::bit(1, Signal::window(p)),
-        Change::WindowEnds(_) => Value::bit(0, Signal::window(p)),
-        Change::Status(status) => Value::vector(status_number(*status), Signal::status(p)),
-        Change::Runner(number) => Value::vector(*number, Signal::runner(p)),
-        Change::First(t, shown, _) => return thread_values(p, *t, None, shown),
-        Change::Next(t, kept, shown) => return thread_values(p, *t, Some(&kept.shown), shown),
-        Change::Woken(_, _) | Change::Lost(_) | Change::Dropped(_) => return [None; 2],
-    };
-    [Some(value), None]
-}
-
-/// Which of a thread's state and effective priority, 0 of a free number, is another than before.
-fn thread_values(
-    p: PartId,
-    t: ThreadNo,
-    before: Option<&Shown>,
-    shown: &Shown,
-) -> [Option<Value>; 2] {
-    let (state, priority) = (shown.doing.label().number, shown.priority.unwrap_or(0));
-    let (is_same_state, is_same_priority) = match before {
-        Some(before) => (
-            before.doing.label().number == state,
-            before.priority == shown.priority,
-        ),
-        None => (false, false),
-    };
-    let state = Value::vector(state, Signal::state(p, t.number()));
-    let priority = Value::vector(priority, Signal::priority(p, t.number()));
-    [
-        (!is_same_state).then_some(state),
-        (!is_same_priority).then_some(priority),
-    ]
-}
-
 /// The number of a status.
-fn status_number(status: PartStatus) -> u8 {
+fn status_number(status: PartStatus) -> u8
+    ensures { result ≡ status_number status }
+{
     match status {
         PartStatus::Idle => 0,
         PartStatus::Running => 1,

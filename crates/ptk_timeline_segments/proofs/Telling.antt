@@ -4,7 +4,7 @@ use Rattle.std.proofs.lemmas.Bool.{cases_lt, le-ltb}
 use Rattle.ptk_words.specs.declared.sections.Entry.{Entry}
 use Rattle.ptk_words_windows.specs.Windows.{OwnTicks, own_ticks}
 use Rattle.ptk_words_model.specs.State.{State}
-use Rattle.ptk_words_model.specs.Run.{is_active}
+use Rattle.ptk_words.specs.Faults.{is_active}
 use Rattle.ptk_system.specs.World.{World, but_next, state_of}
 use Rattle.ptk_timeline_segments.specs.declared.look.Look.{Look}
 use Rattle.ptk_timeline_segments.specs.declared.lane.Lane.{Lane}

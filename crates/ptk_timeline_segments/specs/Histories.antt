@@ -1,40 +1,24 @@
 -- What a thread looks like at each tick, by the states of its partition.
-use Rattle.std.specs.Prelude.{ℕ, zero, suc, ◌+◌, ◌-◌, ◌==◌, nat_lt, min, Bool, false, ◌&&◌, if◌then◌else◌, Option, Some, None, option_map, unwrap_or}
+use Rattle.std.specs.Prelude.{ℕ, zero, suc, ◌+◌, ◌-◌, ◌==◌, nat_lt, min, Bool, false, ◌&&◌, if◌then◌else◌, Option, Some, None, option_and_then, option_map, unwrap_or}
 use Rattle.ptk_words.specs.declared.mutexes.Owner.{Owner}
 use Rattle.ptk_words.specs.declared.sections.Entry.{Entry}
 use Rattle.ptk_words.specs.declared.threads.Thread.{Thread}
-use Rattle.ptk_words.specs.declared.threads.Wait.{Wait}
-use Rattle.ptk_words.specs.declared.threads.Wait.TheVariants.{InputWait, SleepWait, JoinWait, MutexWait, ConditionWait, RelockWait}
 use Rattle.ptk_words_windows.specs.Windows.{OwnTicks}
 use Rattle.ptk_words_model.specs.State.{Locks, Mutex, Part, State}
 use Rattle.ptk_words_model.specs.Mutex.{mutex_at}
 use Rattle.ptk_words_model.specs.Priority.{effective_priority, thread_at}
-use Rattle.ptk_words_model.specs.Run.{is_active}
+use Rattle.ptk_words.specs.Faults.{is_active}
 use Rattle.ptk_system.specs.declared.activity.Activity.{Activity}
-use Rattle.ptk_system.specs.declared.activity.Activity.TheVariants.{Free, Running, Ready, Blocked, Ended, Halted}
-use Rattle.ptk_system.specs.Activities.{activity_in}
+use Rattle.ptk_system.specs.declared.activity.Activity.TheVariants.{Running}
+use Rattle.ptk_system.specs.Activities.{activity_in, mutex_of_activity}
 use Rattle.ptk_system.specs.World.{World, at_tick, state_of}
 use Rattle.ptk_timeline_segments.specs.declared.look.Look.{Look}
 
 -- ---- at a state
 
--- the owner of the mutex that a wait is for, None of another wait (pthread_mutex_lock, pthread_cond_wait)
-abbrev pub owner_for_wait : Wait → Part → Option Owner
-owner_for_wait InputWait s = None
-owner_for_wait (SleepWait tick) s = None
-owner_for_wait (JoinWait thread) s = None
-owner_for_wait (MutexWait m deadline) s = option_map (λ (mutex : Mutex). mutex.owner) (mutex_at s.locks m)
-owner_for_wait (ConditionWait c m deadline) s = None
-owner_for_wait (RelockWait m error) s = option_map (λ (mutex : Mutex). mutex.owner) (mutex_at s.locks m)
-
--- the owner of the mutex that a blocked thread waits for
+-- the owner of the mutex that a blocked thread waits for (pthread_mutex_lock, pthread_cond_wait)
 abbrev pub owner_for : Activity → Part → Option Owner
-owner_for Free s = None
-owner_for Running s = None
-owner_for Ready s = None
-owner_for (Blocked wait) s = owner_for_wait wait s
-owner_for Ended s = None
-owner_for Halted s = None
+owner_for activity s = option_and_then (λ m. option_map (λ (mutex : Mutex). mutex.owner) (mutex_at s.locks m)) (mutex_of_activity activity)
 
 -- the effective priority of a thread, where it is above the assigned one (pthread_mutexattr_getprotocol)
 abbrev pub raised_of : Locks → ℕ → Option Thread → Option ℕ

@@ -1,12 +1,10 @@
 -- What a lane tells of a partition.
-use Rattle.std.specs.Prelude.{◌≡◌, ℕ, ◌+◌, ◌-◌, ◌<◌, ◌≤◌, ◌==◌, nat_lt, min, max, Bool, true, false, ◌&&◌, if◌then◌else◌, Option, Some, None, length, slice_index_or}
+use Rattle.std.specs.Prelude.{◌≡◌, ℕ, ◌+◌, ◌-◌, ◌<◌, ◌≤◌, ◌==◌, nat_lt, min, max, Bool, false, ◌&&◌, if◌then◌else◌, Option, Some, None, length, slice_index_or}
 use Rattle.ptk_words.specs.declared.sections.Entry.{Entry}
 use Rattle.ptk_words_windows.specs.Windows.{OwnTicks, own_ticks}
 use Rattle.ptk_words_model.specs.State.{State}
-use Rattle.ptk_system.specs.declared.status.PartStatus.{PartStatus}
 use Rattle.ptk_system.specs.Going.{GoesOnAsIs}
 use Rattle.ptk_system.specs.World.{World, at_tick, but_next, state_of}
-use Rattle.ptk_system.specs.declared.status.PartStatus.TheVariants.{Idle, Running, Exited, Stopped, Refused}
 use Rattle.ptk_timeline_segments.specs.declared.look.Look.{Look}
 use Rattle.ptk_timeline_segments.specs.declared.row.Row.{Row}
 use Rattle.ptk_timeline_segments.specs.declared.scale.Scale.{Scale}
@@ -15,14 +13,6 @@ use Rattle.ptk_timeline_segments.specs.declared.lane.Lane.{Lane}
 use Rattle.ptk_timeline_segments.specs.Histories.{history, last_begun, look_at, step_end, stepping}
 use Rattle.ptk_timeline_segments.specs.Marked.{IsMarkedTo}
 use Rattle.ptk_timeline_segments.specs.Rows.{HoldsOver, IsRowOf}
-
--- the partition is halted: it exited, was stopped or has a refused image
-abbrev pub is_halted : PartStatus → Bool
-is_halted Idle = false
-is_halted Running = false
-is_halted (Exited code) = true
-is_halted (Stopped cause pc) = true
-is_halted (Refused fault) = true
 
 -- the thread of the last step, with the tick behind it
 abbrev pub busy_by : ℕ → Option Entry → Option Busy

@@ -1,7 +1,7 @@
 -- What the marks of a lane tell of its partition.
 use Rattle.std.specs.Prelude.{◌≡◌, ℕ, ◌+◌, ◌-◌, ◌<◌, ◌≤◌, nat_lt, Bool, not, ◌&&◌, List, length, slice_index_or}
 use Rattle.ptk_words_model.specs.State.{State}
-use Rattle.ptk_words_model.specs.Run.{is_active}
+use Rattle.ptk_words.specs.Faults.{is_active}
 use Rattle.ptk_timeline_segments.specs.declared.marks.Brought.{Brought}
 use Rattle.ptk_timeline_segments.specs.declared.marks.Marked.{Marked}
 use Rattle.ptk_timeline_segments.specs.declared.marks.Marks.{Marks}

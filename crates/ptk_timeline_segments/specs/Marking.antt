@@ -1,7 +1,7 @@
 -- What a decision brings to the ticks of a picture.
 use Rattle.std.specs.Prelude.{ℕ, zero, suc, ◌+◌, ◌-◌, ◌==◌, nat_lt, nat_le, Bool, false, not, ◌&&◌, ◌||◌}
 use Rattle.ptk_words_model.specs.State.{State}
-use Rattle.ptk_words_model.specs.Run.{is_active}
+use Rattle.ptk_words.specs.Faults.{is_active}
 use Rattle.ptk_timeline_segments.specs.declared.marks.Brought.{Brought}
 use Rattle.ptk_timeline_segments.specs.declared.marks.Marks.{Marks}
 

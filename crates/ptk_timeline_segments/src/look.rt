@@ -152,12 +152,7 @@ fn owner_for(system: &System<'_>, p: PartId, activity: &Activity) -> Option<Owne
     requires { p < length system.now.config.sections }
     ensures { result ≡ owner_for activity.now (state_of system.now p).part }
 {
-    match activity {
-        Activity::Blocked(Wait::MutexWait(m, _)) | Activity::Blocked(Wait::RelockWait(m, _)) => {
-            system.owner(p, *m)
-        }
-        _ => None,
-    }
+    system.owner(p, activity.mutex()?)
 }
 
 /// The effective priority of a thread, where it is above the assigned one.

@@ -3,12 +3,12 @@
 ghost use Rattle.std.specs.Prelude.{◌≡◌, ℕ, ◌+◌, ◌<◌, ◌≤◌, length, nat_lt, not, unwrap_or};
 ghost use Rattle.ptk_words.specs.declared.TheConstants.{LAST_TICK};
 ghost use Rattle.ptk_words_windows.specs.Windows.{own_ticks};
-ghost use Rattle.ptk_words_model.specs.Run.{is_active};
+ghost use Rattle.ptk_words.specs.Faults.{is_active};
 ghost use Rattle.ptk_system.specs.World.{state_of};
 ghost use Rattle.ptk_timeline_segments.specs.Histories.{step_end};
-ghost use Rattle.ptk_timeline_segments.specs.Lanes.{busy_of, is_busy, is_halted};
+ghost use Rattle.ptk_timeline_segments.specs.Lanes.{busy_of, is_busy};
 
-use ptk_system::{PartStatus, System};
+use ptk_system::System;
 use ptk_words::{PartId, ThreadNo, Tick};
 
 /// A step that takes up its ticks: its thread, and the tick behind its last.
@@ -95,15 +95,5 @@ pub(crate) fn is_halted_now(system: &System<'_>, p: PartId) -> bool
     requires { p < length system.now.config.sections }
     ensures { result ≡ not (is_active (state_of system.now p).part.status) }
 {
-    is_halted(system.status(p))
-}
-
-/// Whether this is the status of a halted partition.
-fn is_halted(status: PartStatus) -> bool
-    ensures { result ≡ is_halted status }
-{
-    match status {
-        PartStatus::Idle | PartStatus::Running => false,
-        PartStatus::Exited(_) | PartStatus::Stopped(_, _) | PartStatus::Refused(_) => true,
-    }
+    system.status(p).is_halted()
 }

@@ -1,8 +1,11 @@
--- How far a thread is, and what it leaves at its number.
+-- How far a thread is, what it waits for, and what it leaves at its number.
 use Rattle.std.specs.Prelude.{Bool, true, false, ◌||◌, if◌then◌else◌, Option, Some, None, is_some}
+use Rattle.ptk_words.specs.Names.{ConditionNumber, MutexNumber, Tick}
 use Rattle.ptk_words.specs.declared.threads.Thread.{Thread}
 use Rattle.ptk_words.specs.declared.threads.Phase.{Phase}
 use Rattle.ptk_words.specs.declared.threads.Phase.TheVariants.{Normal, Unwinding, Ended}
+use Rattle.ptk_words.specs.declared.threads.Wait.{Wait}
+use Rattle.ptk_words.specs.declared.threads.Wait.TheVariants.{SleepWait, MutexWait, ConditionWait, RelockWait}
 
 -- the thread does not unwind and has not ended
 abbrev pub is_normal : Phase → Bool
@@ -15,6 +18,24 @@ abbrev pub is_ended : Phase → Bool
 is_ended Normal = false
 is_ended Unwinding = false
 is_ended Ended = true
+
+-- the condition variable that a wait is on (pthread_cond_wait)
+abbrev pub condition_of_wait : Option Wait → Option ConditionNumber
+condition_of_wait (Some (ConditionWait c m deadline)) = Some c
+condition_of_wait wait = None
+
+-- the mutex that a wait is for; a condition wait is for none (pthread_mutex_lock, pthread_cond_wait)
+abbrev pub mutex_of_wait : Option Wait → Option MutexNumber
+mutex_of_wait (Some (MutexWait m deadline)) = Some m
+mutex_of_wait (Some (RelockWait m reply)) = Some m
+mutex_of_wait wait = None
+
+-- the deadline of a timed wait (clock_nanosleep, pthread_mutex_timedlock, pthread_cond_timedwait)
+abbrev pub deadline_of_wait : Option Wait → Option Tick
+deadline_of_wait (Some (SleepWait deadline)) = Some deadline
+deadline_of_wait (Some (MutexWait m deadline)) = deadline
+deadline_of_wait (Some (ConditionWait c m deadline)) = deadline
+deadline_of_wait wait = None
 
 -- the thread can be neither joined nor detached any more: it is detached or has a joiner (pthread_join, pthread_detach)
 abbrev pub is_taken : Thread → Bool

@@ -1,7 +1,7 @@
 //! Error numbers, faults and statuses.
 
 ghost use Rattle.std.specs.Prelude.{◌≡◌};
-ghost use Rattle.ptk_words.specs.Faults.{errno_number, image_fault_number};
+ghost use Rattle.ptk_words.specs.Faults.{errno_number, image_fault_number, is_active};
 
 use thiserror::Error;
 
@@ -117,4 +117,13 @@ pub enum Status {
     Stopped(Cause, u32),
     /// Its image was refused.
     Refused(ImageFault),
+}
+
+impl Status {
+    /// Whether the partition goes on.
+    pub fn is_active(self) -> bool
+        ensures { result ≡ is_active self }
+    {
+        matches!(self, Status::Active)
+    }
 }

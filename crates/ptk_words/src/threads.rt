@@ -1,5 +1,8 @@
 //! Threads as plain data.
 
+ghost use Rattle.std.specs.Prelude.{◌≡◌, Some};
+ghost use Rattle.ptk_words.specs.Threads.{condition_of_wait, deadline_of_wait, is_ended, is_normal, is_taken, mutex_of_wait};
+
 use crate::numbers::{ConditionNo, MutexNo, Priority, ThreadNo, Tick};
 use crate::processor::Cpu;
 
@@ -18,6 +21,28 @@ pub enum Phase {
     Ended,
 }
 
+impl Phase {
+    /// Whether the thread does not unwind and has not ended.
+    pub fn is_normal(self) -> bool
+        ensures { result ≡ is_normal self }
+    {
+        match self {
+            Phase::Normal => true,
+            Phase::Unwinding | Phase::Ended => false,
+        }
+    }
+
+    /// Whether the thread has ended (pthread_exit).
+    pub fn is_ended(self) -> bool
+        ensures { result ≡ is_ended self }
+    {
+        match self {
+            Phase::Normal | Phase::Unwinding => false,
+            Phase::Ended => true,
+        }
+    }
+}
+
 /// What a blocked thread waits for, a timed one with its deadline (pthread_join, pthread_mutex_timedlock,
 /// pthread_cond_timedwait, clock_nanosleep).
 #[derive(Clone, Copy, PartialEq, Eq)]
@@ -34,6 +59,47 @@ pub enum Wait {
     ConditionWait(ConditionNo, MutexNo, Option<Tick>),
     /// The mutex to have again after a condition wait, and the reply that is then given, none to a cancelled thread.
     RelockWait(MutexNo, Option<u32>),
+}
+
+impl Wait {
+    /// The deadline of a timed wait; None of any other.
+    pub fn deadline(self) -> Option<Tick>
+        ensures { result ≡ deadline_of_wait (Some self) }
+    {
+        match self {
+            Wait::SleepWait(deadline) => Some(deadline),
+            Wait::MutexWait(_, deadline) | Wait::ConditionWait(_, _, deadline) => deadline,
+            Wait::InputWait | Wait::JoinWait(_) | Wait::RelockWait(_, _) => None,
+        }
+    }
+
+    /// The mutex that it is for, as a lock or after a condition wait; None of any other, that on a condition variable
+    /// among them (pthread_mutex_lock, pthread_cond_wait).
+    pub fn mutex(self) -> Option<MutexNo>
+        ensures { result ≡ mutex_of_wait (Some self) }
+    {
+        match self {
+            Wait::MutexWait(m, _) | Wait::RelockWait(m, _) => Some(m),
+            Wait::InputWait
+            | Wait::SleepWait(_)
+            | Wait::JoinWait(_)
+            | Wait::ConditionWait(_, _, _) => None,
+        }
+    }
+
+    /// The condition variable that it is on; None of any other (pthread_cond_wait).
+    pub fn condition(self) -> Option<ConditionNo>
+        ensures { result ≡ condition_of_wait (Some self) }
+    {
+        match self {
+            Wait::ConditionWait(c, _, _) => Some(c),
+            Wait::InputWait
+            | Wait::SleepWait(_)
+            | Wait::JoinWait(_)
+            | Wait::MutexWait(_, _)
+            | Wait::RelockWait(_, _) => None,
+        }
+    }
 }
 
 /// A thread: its registers and what scheduling keeps of it (XSH 2.8.4, 2.9.2).
@@ -59,6 +125,16 @@ pub struct Thread {
     pub phase: Phase,
     /// What it waits for.
     pub wait: Option<Wait>,
+}
+
+impl Thread {
+    /// Whether it can be neither joined nor detached any more: it is detached or has a joiner (pthread_join,
+    /// pthread_detach).
+    pub fn is_taken(&self) -> bool
+        ensures { result ≡ is_taken self.now }
+    {
+        self.is_detached || self.joiner.is_some()
+    }
 }
 
 /// A cleanup handler (pthread_cleanup_push).

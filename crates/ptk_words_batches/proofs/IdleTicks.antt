@@ -17,7 +17,8 @@ use Rattle.ptk_words_model.specs.Priority.{effective_priority}
 use Rattle.ptk_words_model.specs.Schedule.{after_choice, after_choice_between}
 use Rattle.ptk_words_model.specs.Withdrawal.{after_expiries}
 use Rattle.ptk_words_model.specs.Decision.{runner_in, runner_of, after_turn, spent_in_turn, ready_at, after_decision, spent_by_decision}
-use Rattle.ptk_words_model.specs.Run.{is_active, accounted, next_from, is_at, decided, after_tick, after_tick_until}
+use Rattle.ptk_words_model.specs.Run.{accounted, next_from, is_at, decided, after_tick, after_tick_until}
+use Rattle.ptk_words.specs.Faults.{is_active}
 use Rattle.ptk_words_batches.specs.Quiet.{after_ticks}
 use Rattle.ptk_words_batches.specs.Idle.{IsIdle, waiting_from}
 use Rattle.ptk_words_batches.specs.IdleLaws.{IdleIsDecided, IdleIsTicks}

@@ -6,7 +6,8 @@ use Rattle.ptk_words_windows.specs.Windows.{OwnTicks}
 use Rattle.ptk_words_model.specs.State.{Part, State}
 use Rattle.ptk_words_model.specs.Withdrawal.{due}
 use Rattle.ptk_words_model.specs.Console.{arriving}
-use Rattle.ptk_words_model.specs.Run.{is_active, next_from}
+use Rattle.ptk_words_model.specs.Run.{next_from}
+use Rattle.ptk_words.specs.Faults.{is_active}
 
 -- no thread runs and none is ready; up to the tick stop no input comes and no deadline is due (own)
 pub record IsIdle (limits : Limits) (stop : ℕ) (s : Part) : Type 0 where

@@ -9,9 +9,8 @@
 //!   counted as a decision (`row_is_ticks`), under SCHED_RR too.
 //! - Ticks in a row join, leave other partitions, and are those of the partition alone (`rows_join`, `others_stay`,
 //!   `alone_goes_on`, `window_is_own`).
-//! - A quiet call (pthread_self, pthread_getschedparam, a refused pthread_detach, a number that is no call, lock and
-//!   unlock of a mutex that nobody else wants, console_put, pthread_setspecific and pthread_getspecific) is the whole
-//!   decision of a quiet partition (`reply_is_decided`) and leaves it quiet (`reply_stays_quiet`).
+//! - A quiet call, which replies at once, wakes nobody and changes no priority, is the whole decision of a quiet
+//!   partition (`reply_is_decided`) and leaves it quiet (`reply_stays_quiet`).
 //! - Where no thread runs or is ready and no input or deadline comes before a tick, a decision changes nothing
 //!   (`idle_is_decided`), and ticks in a row change only the tick of the next decision (`idle_is_ticks`).
 //! - The arrivals, the expiries and the choice of a tick change nothing of a quiet partition (`quiet_is_prepared`), and

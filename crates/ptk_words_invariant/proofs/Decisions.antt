@@ -22,7 +22,7 @@ use Rattle.ptk_words_model.specs.Unwinding.{after_unwinding_start, after_destruc
 use Rattle.ptk_words_model.specs.Withdrawal.{after_expiries}
 use Rattle.ptk_words_model.specs.Console.{arriving, without_arriving}
 use Rattle.ptk_words_model.specs.Decision.{after_arrival_for, first_waiter, after_arrival, after_arrivals, runner_at, runner_in, runner_of, step_kind, step_cost, with_cpu, invocation, after_call, after_effect, after_step, entry_of, after_whole_step, after_turn, ready_at, after_decision}
-use Rattle.ptk_words_model.specs.Run.{is_active}
+use Rattle.ptk_words.specs.Faults.{is_active}
 use Rattle.ptk_words_invariant.specs.Well.{IsWell}
 use Rattle.ptk_words_sync_invariant.proofs.Lined.{ready_alive}
 use Rattle.ptk_words_invariant.proofs.Threads.{well_cpu, well_routine_call}

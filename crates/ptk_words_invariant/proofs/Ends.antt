@@ -16,7 +16,8 @@ use Rattle.ptk_words_model.specs.Mutex.{mutex_at, wait_of, owns, after_owner_end
 use Rattle.ptk_words_model.specs.Schedule.{with_thread, woken_with, after_wake}
 use Rattle.ptk_words_model.specs.Unwinding.{is_alive, after_join_by, without_thread, after_release, after_last_end, after_end}
 use Rattle.ptk_words_sync_invariant.specs.Locks.{is_ready, joiner_of, used_of, AreMutexes}
-use Rattle.ptk_words_sync_invariant.specs.Conditions.{condition_of_wait, AreListed, AreConditions, AreSyncs}
+use Rattle.ptk_words_sync_invariant.specs.Conditions.{AreListed, AreConditions, AreSyncs}
+use Rattle.ptk_words.specs.Threads.{condition_of_wait}
 use Rattle.ptk_words_invariant.specs.Well.{IsWell}
 use Rattle.ptk_words_sync_invariant.proofs.Pools.{get-set_other, free_own, length-pool_set, changed_own, changed_other, length-changed}
 use Rattle.ptk_words_sync_invariant.proofs.Lines.{out_push}

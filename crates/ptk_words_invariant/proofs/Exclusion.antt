@@ -6,7 +6,8 @@ use Rattle.ptk_words.specs.Pools.{pool_get}
 use Rattle.ptk_words.specs.declared.threads.Thread.{Thread}
 use Rattle.ptk_words.specs.declared.threads.Wait.{Wait}
 use Rattle.ptk_words_model.specs.State.{Mutex, Condition}
-use Rattle.ptk_words_model.specs.Priority.{mutex_of_wait, awaited}
+use Rattle.ptk_words_model.specs.Priority.{awaited}
+use Rattle.ptk_words.specs.Threads.{mutex_of_wait}
 use Rattle.ptk_words_model.specs.Mutex.{wait_of, owns}
 use Rattle.ptk_words_model.specs.Unwinding.{is_alive}
 use Rattle.ptk_words_sync_invariant.specs.Locks.{AreMutexes}

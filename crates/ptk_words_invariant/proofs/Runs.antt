@@ -10,7 +10,8 @@ use Rattle.ptk_words_model.specs.declared.Spent.{Spent}
 use Rattle.ptk_words_model.specs.declared.Spent.TheVariants.{Step, Idle, Lost}
 use Rattle.ptk_words_model.specs.State.{Part, Account, State}
 use Rattle.ptk_words_model.specs.Decision.{after_decision, spent_by_decision}
-use Rattle.ptk_words_model.specs.Run.{is_active, next_from, start_part, start, accounted, decided, is_at, after_tick_until, after_tick, alone}
+use Rattle.ptk_words_model.specs.Run.{next_from, start_part, start, accounted, decided, is_at, after_tick_until, after_tick, alone}
+use Rattle.ptk_words.specs.Faults.{is_active}
 use Rattle.ptk_words_invariant.specs.Well.{IsWell}
 use Rattle.ptk_words_invariant.proofs.Starts.{well_start}
 use Rattle.ptk_words_invariant.proofs.Decisions.{well_decision}

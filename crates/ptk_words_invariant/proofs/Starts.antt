@@ -16,16 +16,16 @@ use Rattle.ptk_words.specs.declared.TheConstants.{CLEANUP_LIMIT}
 use Rattle.ptk_words.specs.declared.threads.Cleanup.{Cleanup}
 use Rattle.ptk_words.specs.declared.threads.Thread.{Thread}
 use Rattle.ptk_words_model.specs.State.{Mutex, Part, with_locks, with_cancellation, with_cleanups, with_keys}
-use Rattle.ptk_words_model.specs.Priority.{thread_at, mutex_of_wait, awaited}
+use Rattle.ptk_words_model.specs.Priority.{thread_at, awaited}
 use Rattle.ptk_words_model.specs.Mutex.{wait_of, waiters_of, count_of, owns}
 use Rattle.ptk_words_model.specs.Keys.{no_values, no_rounds, with_rounds, with_values}
 use Rattle.ptk_words_model.specs.Unwinding.{is_alive}
-use Rattle.ptk_words.specs.Threads.{is_ended}
+use Rattle.ptk_words.specs.Threads.{is_ended, mutex_of_wait, condition_of_wait}
 use Rattle.ptk_words_model.specs.ThreadCreation.{new_cancellation, with_new_thread}
 use Rattle.ptk_words_model.specs.Run.{empty_part, main_thread, fits, memory_of, with_image, start_part}
 use Rattle.ptk_words_sync_invariant.specs.Locks.{is_ready, joiner_of, used_of, AreMutexes}
 use Rattle.ptk_words_model.specs.Condition.{waiters_on}
-use Rattle.ptk_words_sync_invariant.specs.Conditions.{condition_of_wait, AreConditions}
+use Rattle.ptk_words_sync_invariant.specs.Conditions.{AreConditions}
 use Rattle.ptk_words_invariant.specs.Well.{AreHandlers, AreValues, IsWell}
 use Rattle.ptk_words_sync_invariant.proofs.Pools.{get-set_own, get-set_other, length-pool_set, get-replicate, numbered-replicate}
 use Rattle.ptk_words_sync_invariant.proofs.Lined.{AreOthers, not_ready_out, not_ready_stopped, lined_others, lined_push}

@@ -3,7 +3,7 @@ use Rattle.std.proofs.Common.{◌≡◌, ℕ, false, List, length, refl, ◌∙�
 use Rattle.std.specs.Prelude.{Option, Some, None}
 use Rattle.ptk_words.specs.declared.sections.Limits.{Limits}
 use Rattle.ptk_words_model.specs.State.{Syncs, Part, with_syncs}
-use Rattle.ptk_words_model.specs.Run.{is_active}
+use Rattle.ptk_words.specs.Faults.{is_active}
 use Rattle.ptk_words_sync_invariant.specs.Locks.{AreLined}
 use Rattle.ptk_words_sync_invariant.specs.Conditions.{AreListed, AreSyncs}
 use Rattle.ptk_words_invariant.specs.Well.{IsWell}

@@ -12,7 +12,7 @@ use Rattle.ptk_words_model.specs.Schedule.{after_wake}
 use Rattle.ptk_words_model.specs.Mutex.{wait_of, without_mutex_waiter}
 use Rattle.ptk_words_model.specs.Condition.{after_unblock}
 use Rattle.ptk_words_model.specs.Withdrawal.{Expiry, in_order, due, after_timeout, after_expiries}
-use Rattle.ptk_words_sync_invariant.specs.Conditions.{condition_of_wait}
+use Rattle.ptk_words.specs.Threads.{condition_of_wait}
 use Rattle.ptk_words_sync_invariant.proofs.Pools.{length-changed}
 use Rattle.ptk_words_sync_invariant.proofs.Relocks.{syncs_unblock}
 use Rattle.ptk_words_sync_invariant.proofs.Timeouts.{syncs_sleep_end, syncs_lock_end}

@@ -12,7 +12,7 @@ use Rattle.ptk_words_model.specs.Priority.{thread_at, effective_priority}
 use Rattle.ptk_words_model.specs.Mutex.{owns_raising}
 use Rattle.ptk_words_model.specs.Schedule.{unused, at_tail, at_head, first_ready, after_dispatch, after_choice_between, after_choice, is_round_robin, is_running, after_turn_end, with_used, after_interval}
 use Rattle.ptk_words_model.specs.ThreadCalls.{after_placing, after_placing_at_tail}
-use Rattle.ptk_words_model.specs.Run.{is_active}
+use Rattle.ptk_words.specs.Faults.{is_active}
 use Rattle.ptk_words_sync_invariant.specs.Locks.{is_ready}
 use Rattle.ptk_words_invariant.specs.Well.{IsWell}
 use Rattle.ptk_words_sync_invariant.proofs.Pools.{length-changed}

@@ -10,7 +10,8 @@ use Rattle.ptk_words.specs.declared.threads.Thread.{Thread}
 use Rattle.ptk_words.specs.declared.threads.Wait.{Wait}
 use Rattle.ptk_words.specs.declared.threads.Wait.TheVariants.{InputWait, JoinWait}
 use Rattle.ptk_words_model.specs.State.{Mutex, Part, with_locks, with_console}
-use Rattle.ptk_words_model.specs.Priority.{thread_at, effective_priority, mutex_of_wait, awaited}
+use Rattle.ptk_words_model.specs.Priority.{thread_at, effective_priority, awaited}
+use Rattle.ptk_words.specs.Threads.{mutex_of_wait, condition_of_wait}
 use Rattle.ptk_words_model.specs.Mutex.{wait_of}
 use Rattle.ptk_words_model.specs.Schedule.{with_thread, woken_with, after_wake}
 use Rattle.ptk_words_model.specs.Console.{with_waiter, without_waiter, without_arriving, arriving}
@@ -19,7 +20,6 @@ use Rattle.ptk_words_model.specs.Unwinding.{is_alive}
 use Rattle.ptk_words_model.specs.declared.Invocation.{Invocation}
 use Rattle.ptk_words_model.specs.Calls.{blocked_in}
 use Rattle.ptk_words_sync_invariant.specs.Locks.{is_ready, joiner_of, used_of, AreMutexes}
-use Rattle.ptk_words_sync_invariant.specs.Conditions.{condition_of_wait}
 use Rattle.ptk_words_invariant.specs.Well.{IsWell}
 use Rattle.ptk_words_sync_invariant.proofs.Pools.{changed_own, changed_other, length-changed}
 use Rattle.ptk_words_sync_invariant.proofs.Lines.{first_in}

@@ -16,7 +16,7 @@ use Rattle.ptk_words_model.specs.Schedule.{woken_with, after_wake}
 use Rattle.ptk_words_model.specs.Unwinding.{is_alive}
 use Rattle.ptk_words_model.specs.Withdrawal.{with_mark, without_joiner, after_cancelled_wait}
 use Rattle.ptk_words_sync_invariant.specs.Locks.{is_ready, joiner_of, used_of}
-use Rattle.ptk_words_sync_invariant.specs.Conditions.{condition_of_wait}
+use Rattle.ptk_words.specs.Threads.{condition_of_wait}
 use Rattle.ptk_words_sync_invariant.proofs.Pools.{changed_own, changed_other, length-changed}
 use Rattle.ptk_words_sync_invariant.proofs.Lined.{AreLined, not_ready_out, not_ready_stopped, lined_alike, lined_others, lined_push}
 use Rattle.ptk_words_sync_invariant.proofs.Threads.{changed_same, waking_woken}

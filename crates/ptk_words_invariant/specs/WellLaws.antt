@@ -8,7 +8,8 @@ use Rattle.ptk_words_model.specs.declared.Invocation.{Invocation}
 use Rattle.ptk_words.specs.Calls.{call_of}
 use Rattle.ptk_words_model.specs.CallTable.{answer_to}
 use Rattle.ptk_words_model.specs.Decision.{after_decision}
-use Rattle.ptk_words_model.specs.Run.{is_active, start_part, alone}
+use Rattle.ptk_words_model.specs.Run.{start_part, alone}
+use Rattle.ptk_words.specs.Faults.{is_active}
 use Rattle.ptk_words_invariant.specs.Well.{IsWell}
 
 -- a partition with room for a thread and an interval starts whole, whatever its image and input

@@ -95,6 +95,14 @@ is_above_ceiling priority NoProtocol = false
 is_above_ceiling priority Inherit = false
 is_above_ceiling priority (Protect ceiling) = nat_lt ceiling priority
 
+-- the move begins a wait (pthread_mutex_lock)
+abbrev pub is_waiting : LockMove → Bool
+is_waiting Takes = false
+is_waiting Recovers = false
+is_waiting Counts = false
+is_waiting Waits = true
+is_waiting (Refuses e) = false
+
 -- a recursive mutex counts up to a limit (pthread_mutex_lock, EAGAIN)
 abbrev pub count_move : ℕ → LockMove
 count_move count = if nat_lt count COUNT_LIMIT then Counts else Refuses EAGAIN

@@ -2,9 +2,8 @@
 use Rattle.std.specs.Prelude.{◌≡◌, ◌≤◌, ℕ, Bool, false, List, fold, length, map, max, ◌==◌, if◌then◌else◌, Option, Some, None, option_map, option_and_then, unwrap_or, IsSome}
 use Rattle.ptk_words.specs.Names.{MutexNumber, Priority, ThreadNumber}
 use Rattle.ptk_words.specs.Pools.{pool_get, numbers_of}
+use Rattle.ptk_words.specs.Threads.{mutex_of_wait}
 use Rattle.ptk_words.specs.declared.threads.Thread.{Thread}
-use Rattle.ptk_words.specs.declared.threads.Wait.{Wait}
-use Rattle.ptk_words.specs.declared.threads.Wait.TheVariants.{MutexWait, RelockWait}
 use Rattle.ptk_words.specs.declared.mutexes.Protocol.{Protocol}
 use Rattle.ptk_words.specs.declared.mutexes.Protocol.TheVariants.{NoProtocol, Inherit, Protect}
 use Rattle.ptk_words.specs.declared.mutexes.Owner.{Owner}
@@ -44,12 +43,6 @@ ceiling_for t (Some m) = if is_owner t m.owner then ceiling_of m.protocol else 0
 -- held priority: the greatest of the assigned priority and the ceilings of the PROTECT mutexes that the thread owns (pthread_mutexattr_getprotocol)
 abbrev pub held_of : List (Option Thread) → List (Option Mutex) → ThreadNumber → Priority
 held_of threads mutexes t = fold (λ most m. max most (ceiling_for t m)) (assigned_of threads t) mutexes
-
--- the mutex that a wait is for; a condition wait is for none (pthread_mutex_lock, pthread_cond_wait)
-abbrev pub mutex_of_wait : Option Wait → Option MutexNumber
-mutex_of_wait (Some (MutexWait m deadline)) = Some m
-mutex_of_wait (Some (RelockWait m reply)) = Some m
-mutex_of_wait wait = None
 
 -- the mutex that a thread waits for (pthread_mutex_lock, pthread_cond_wait)
 abbrev pub awaited : Option Thread → Option MutexNumber

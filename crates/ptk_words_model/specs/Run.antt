@@ -1,11 +1,12 @@
 -- A partition alone: from its own ticks, its section's numbers, its image and its input, its state after every number of ticks (own).
 use Rattle.std.specs.Prelude.{ℕ, zero, suc, ◌+◌, ◌-◌, Bool, true, false, List, [], ◌++◌, length, drop, replicate, not, ◌==◌, nat_lt, if◌then◌else◌, Option, Some, None, option_to_list, Result, Ok, Err, ◌*◌}
 use Rattle.ptk_words.specs.Names.{Byte, Tick, Ticks}
+use Rattle.ptk_words.specs.Faults.{is_active}
 use Rattle.ptk_words.specs.Image.{ImageParts, image_of}
 use Rattle.ptk_words.specs.declared.faults.ImageFault.{ImageFault}
 use Rattle.ptk_words.specs.declared.faults.ImageFault.TheVariants.{Unfit}
 use Rattle.ptk_words.specs.declared.faults.Status.{Status}
-use Rattle.ptk_words.specs.declared.faults.Status.TheVariants.{Active, Exited, Stopped, Refused}
+use Rattle.ptk_words.specs.declared.faults.Status.TheVariants.{Active, Refused}
 use Rattle.ptk_words.specs.declared.sections.Arrival.{Arrival}
 use Rattle.ptk_words.specs.declared.sections.Limits.{Limits}
 use Rattle.ptk_words.specs.declared.threads.Thread.{Thread}
@@ -70,13 +71,6 @@ with_image limits (Ok image) s =
 abbrev pub with_image_bytes : Limits → Option (List Byte) → Part → Part
 with_image_bytes limits None s = s
 with_image_bytes limits (Some bytes) s = with_image limits (image_of bytes) s
-
--- not halted
-abbrev pub is_active : Status → Bool
-is_active Active = true
-is_active (Exited code) = false
-is_active (Stopped cause pc) = false
-is_active (Refused fault) = false
 
 -- the next decision is at the first own tick not before this one; a halted partition has none (own)
 abbrev pub next_from : OwnTicks → Status → Tick → Option Tick

@@ -3,10 +3,13 @@
 //! The machine of one partition as definitions: state, priorities, places, mutexes, condition variables, console, keys,
 //! unwinding, calls, decision, the partition alone, and the texts of reports and traces.
 //!
-//! - No code: definitions that contracts cite.
+//! - No code but `LockMove::is_waiting`: definitions that contracts cite.
 //!
 //! The code declares the few plain types that these definitions use. Below are `ptk_words`, `ptk_words_instructions`
 //! and `ptk_words_windows`; every pool, the gate, the kernel and the system cite these definitions.
+
+ghost use Rattle.std.specs.Prelude.{◌≡◌};
+ghost use Rattle.ptk_words_model.specs.Mutex.{is_waiting};
 
 use ptk_words::{Errno, Limits, Policy, Priority, Thread, ThreadNo, Tick};
 
@@ -129,4 +132,16 @@ pub enum LockMove {
     Waits,
     /// The call is refused.
     Refuses(Errno),
+}
+
+impl LockMove {
+    /// Whether the caller begins a wait.
+    pub fn is_waiting(self) -> bool
+        ensures { result ≡ is_waiting self }
+    {
+        match self {
+            LockMove::Waits => true,
+            LockMove::Takes | LockMove::Recovers | LockMove::Counts | LockMove::Refuses(_) => false,
+        }
+    }
 }

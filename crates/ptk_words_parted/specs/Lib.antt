@@ -2,4 +2,3 @@ pub mod Parts
 pub mod Cuts
 pub mod Lending
 pub mod Lists
-pub mod Sets

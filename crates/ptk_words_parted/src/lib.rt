@@ -1,22 +1,21 @@
 #![tactic(auto)]
 
-//! Lists by partition: `Parted<T>` is one vector that holds a list for each partition, with its lemmas; `Queue` and
-//! `ThreadSet` are an order and a set of one partition's threads.
+//! Lists by partition: `Parted<T>` is one vector that holds a list for each partition, with its lemmas; a
+//! `Queue` is an order of one partition's threads.
 //!
 //! - A `Parted` is a list for each partition: `get`, `part`, `whole` read it, `set` and `lend` change one list and
 //!   leave every other.
-//! - A `Queue` is the list of its threads, none twice, and a `ThreadSet` is its members (`IsSetOf`).
+//! - A `Queue` is the list of its threads, none twice.
 //!
 //! The memory, the slot table and what is kept of each thread number are in such vectors, so that offsets occur here
 //! alone; the line and the consoles are vectors with an entry for each partition. A `Queue` has room for all 32 threads
-//! from the start (`proofs/Lists`), and a `ThreadSet` is the bits of a number. The ruleset `loans` of `proofs/Cuts` is
+//! from the start (`proofs/Lists`). The ruleset `loans` of `proofs/Cuts` is
 //! for the crates above: a loan that keeps its length is a `slice_set`. Costly to prove is `writes_back` of `lend`.
 //! Below is `ptk_words`; above are the crates that keep such lists.
 
 mod queue;
-mod thread_set;
 
-ghost use Rattle.std.specs.Prelude.{◌≡◌, ℕ, ◌<◌, ◌≤◌, List, [], ◌∷◌, ◌++◌, length, slice_get, slice_set, IfOk, OnOk, OnErr, slice_index, slice_range, map};
+ghost use Rattle.std.specs.Prelude.{◌≡◌, ◌<◌, ◌≤◌, List, [], ◌∷◌, ◌++◌, length, slice_get, slice_set, IfOk, OnOk, OnErr, slice_range, map};
 ghost use Rattle.std.specs.Borrow.{sem};
 ghost use Rattle.ptk_words_parted.specs.Parts.{part_of, joined, filled};
 ghost use Rattle.ptk_words_parted.specs.Cuts.{sums_from, last_end, ends_in, AreInTurn};
@@ -26,7 +25,6 @@ use ptk_words::PartId;
 pub use queue::Queue;
 use std::alloc::{AllocError, Global};
 use std::marker::Model;
-pub use thread_set::ThreadSet;
 
 /// A list for each partition, in the order of the partitions.
 #[derive(Drop)]

@@ -8,14 +8,15 @@ use Rattle.ptk_words.specs.declared.threads.Thread.{Thread}
 use Rattle.ptk_words.specs.declared.threads.Wait.{Wait}
 use Rattle.ptk_words.specs.declared.threads.Wait.TheVariants.{SleepWait, ConditionWait, RelockWait}
 use Rattle.ptk_words_model.specs.State.{Mutex, Condition, Locks, Syncs}
-use Rattle.ptk_words_model.specs.Priority.{mutex_of_wait, awaited, thread_at}
+use Rattle.ptk_words_model.specs.Priority.{awaited, thread_at}
+use Rattle.ptk_words.specs.Threads.{mutex_of_wait, condition_of_wait}
 use Rattle.ptk_words_model.specs.Schedule.{with_thread}
 use Rattle.ptk_words_model.specs.Mutex.{mutex_at, with_mutex, wait_of, owns, count_of, soundness_of, relock_move, after_move, after_last_unlock, after_unlock}
 use Rattle.ptk_words_model.specs.Condition.{after_condition_wait, waiters_on}
 use Rattle.ptk_words_model.specs.Unwinding.{is_alive}
 use Rattle.ptk_words_sync_invariant.specs.Locks.{is_ready}
 use Rattle.ptk_words_sync_invariant.specs.LockLaws.{running_after}
-use Rattle.ptk_words_sync_invariant.specs.Conditions.{condition_of_wait, HasRoom, AreConditions, AreSyncs}
+use Rattle.ptk_words_sync_invariant.specs.Conditions.{HasRoom, AreConditions, AreSyncs}
 use Rattle.ptk_words_sync_invariant.proofs.Pools.{each_changed, changed_own, changed_other}
 use Rattle.ptk_words_sync_invariant.proofs.Lined.{ready_waits, ready_alive}
 use Rattle.ptk_words_sync_invariant.proofs.Listed.{IsElsewhere}

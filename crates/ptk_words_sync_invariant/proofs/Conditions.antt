@@ -11,10 +11,11 @@ use Rattle.ptk_words.specs.declared.threads.Wait.TheVariants.{InputWait, SleepWa
 use Rattle.ptk_words.specs.declared.mutexes.Owner.{Owner}
 use Rattle.ptk_words.specs.declared.mutexes.Owner.TheVariants.{Free, Abandoned, OwnedBy}
 use Rattle.ptk_words_model.specs.State.{Mutex, Condition, Locks}
-use Rattle.ptk_words_model.specs.Priority.{mutex_of_wait, is_owner, thread_at}
+use Rattle.ptk_words_model.specs.Priority.{is_owner, thread_at}
+use Rattle.ptk_words.specs.Threads.{mutex_of_wait, condition_of_wait}
 use Rattle.ptk_words_model.specs.Mutex.{wait_of, owns}
 use Rattle.ptk_words_model.specs.Condition.{mutex_of_condition_wait, is_named, names_mutex, waiters_on}
-use Rattle.ptk_words_sync_invariant.specs.Conditions.{condition_of_wait, HasRoom}
+use Rattle.ptk_words_sync_invariant.specs.Conditions.{HasRoom}
 pub use Rattle.ptk_words_sync_invariant.specs.Conditions.{AreConditions}
 use Rattle.ptk_words_sync_invariant.proofs.Pools.{each_changed, get-set_other}
 use Rattle.ptk_words_sync_invariant.proofs.Held.{IsRoomy}

@@ -8,7 +8,8 @@ use Rattle.ptk_words_model.specs.State.{Mutex, Condition}
 use Rattle.ptk_words_model.specs.Mutex.{wait_of}
 use Rattle.ptk_words_sync_invariant.specs.Locks.{is_ready}
 use Rattle.ptk_words_model.specs.Condition.{waiters_on}
-use Rattle.ptk_words_sync_invariant.specs.Conditions.{condition_of_wait, AreConditions}
+use Rattle.ptk_words_sync_invariant.specs.Conditions.{AreConditions}
+use Rattle.ptk_words.specs.Threads.{condition_of_wait}
 use Rattle.ptk_words_sync_invariant.proofs.Pools.{each_set}
 use Rattle.ptk_words_sync_invariant.proofs.Threads.{changed_same, in_wait}
 use Rattle.ptk_words_sync_invariant.proofs.Conditions.{waits_on, names, off_names, AreSameOn, conditions_same, same_on_waits}

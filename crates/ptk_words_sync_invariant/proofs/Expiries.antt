@@ -9,8 +9,7 @@ use Rattle.ptk_words.specs.Pools.{pool_get, pool_set}
 use Rattle.ptk_words_model.specs.State.{Part}
 use Rattle.ptk_words_model.specs.Withdrawal.{Expiry, is_before, in_order_with, in_order, due, deadlines_of, after_expiries}
 use Rattle.ptk_words_sync_invariant.specs.Expiries.{due_among, next_expiry, IsLeastDue, IsNoneDue, IsNextExpiry, after_expiry, after_next, AreExpiriesInTurn}
-use Rattle.ptk_words_sync_invariant.proofs.DeadlineLists.{due_of}
-use Rattle.ptk_words_sync_invariant.proofs.DeadlineMoves.{deadlines-timeout}
+use Rattle.ptk_words_sync_invariant.proofs.Deadlines.{due_of, deadlines-timeout}
 
 -- ---- of deadlines whose first is that of thread k
 

@@ -9,7 +9,8 @@ use Rattle.ptk_words.specs.declared.threads.Wait.TheVariants.{ConditionWait}
 use Rattle.ptk_words_model.specs.State.{Mutex, Condition}
 use Rattle.ptk_words_model.specs.Mutex.{wait_of}
 use Rattle.ptk_words_model.specs.Condition.{mutex_of_condition_wait, waiters_on}
-use Rattle.ptk_words_sync_invariant.specs.Conditions.{condition_of_wait, HasRoom, AreConditions}
+use Rattle.ptk_words_sync_invariant.specs.Conditions.{HasRoom, AreConditions}
+use Rattle.ptk_words.specs.Threads.{condition_of_wait}
 use Rattle.ptk_words_sync_invariant.proofs.Pools.{each_set, each_changed, changed_own}
 use Rattle.ptk_words_sync_invariant.proofs.Lines.{in_push, own_push, still_push, without_other, in_without, distinct_push, distinct_without}
 use Rattle.ptk_words_sync_invariant.proofs.Conditions.{waits_on, names, off_names, IsGathered, AreReturnable, gathered_at, returnable_of, conditions_from, AreOtherWaits}
@@ -27,15 +28,6 @@ gathering_some g (Some x) e = refl
 -- the waiters of a condition variable in use replaced, as a change of it
 set_gathering : (g : List ℕ → List ℕ) (c : ℕ) (conditions : List (Option Condition)) → IsSome (pool_get conditions c) → pool_changed c (gathering g) conditions ≡ pool_set conditions c (Some (record { waiters = g (waiters_on (pool_get conditions c)) }))
 set_gathering g c conditions used = ap (λ (o : Option Condition). pool_set conditions c o) (sym (gathering_some g (pool_get conditions c) used))
-
-gathering_waiters : (g : List ℕ → List ℕ) (o : Option Condition) → IsSome o → waiters_on (option_map (gathering g) o) ≡ g (waiters_on o)
-gathering_waiters g None e = absurd (false≢true e)
-gathering_waiters g (Some x) e = refl
-
--- it then has them
-pub gathered_own : (g : List ℕ → List ℕ) (c : ℕ) (conditions : List (Option Condition)) → IsSome (pool_get conditions c) → waiters_on (pool_get (pool_set conditions c (Some (record { waiters = g (waiters_on (pool_get conditions c)) }))) c) ≡ g (waiters_on (pool_get conditions c))
-gathered_own g c conditions used =
-    ap (λ (pool : List (Option Condition)). waiters_on (pool_get pool c)) (sym (set_gathering g c conditions used)) ∙ ap waiters_on (changed_own c (gathering g) conditions) ∙ gathering_waiters g (pool_get conditions c) used
 
 gathered_map : (g : List ℕ → List ℕ) (threads : List (Option Thread)) (c : ℕ) (o : Option Condition) → IsSome o → IsGathered threads c (Some (record { waiters = g (waiters_on o) })) → IsGathered threads c (option_map (gathering g) o)
 gathered_map g threads c None used own = absurd (false≢true used)

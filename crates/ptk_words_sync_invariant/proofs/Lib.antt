@@ -20,9 +20,7 @@ pub mod Timed
 pub mod ConditionWaits
 pub mod Relocks
 pub mod Timeouts
-pub mod DeadlineLists
 pub mod Deadlines
-pub mod DeadlineMoves
 pub mod Raising
 pub mod MutexPlaces
 pub mod ConditionsKept

@@ -6,7 +6,7 @@ use Rattle.ptk_words.specs.Pools.{pool_get, without, is_in}
 use Rattle.ptk_words.specs.declared.threads.Thread.{Thread}
 use Rattle.ptk_words.specs.declared.threads.Wait.{Wait}
 use Rattle.ptk_words.specs.declared.threads.Wait.TheVariants.{InputWait, JoinWait}
-use Rattle.ptk_words_model.specs.Priority.{mutex_of_wait}
+use Rattle.ptk_words.specs.Threads.{mutex_of_wait}
 use Rattle.ptk_words_model.specs.Mutex.{wait_of}
 use Rattle.ptk_words_model.specs.Unwinding.{is_alive}
 use Rattle.ptk_words_sync_invariant.specs.Locks.{joiner_of}

@@ -11,7 +11,8 @@ use Rattle.ptk_words.specs.declared.mutexes.Protocol.{Protocol}
 use Rattle.ptk_words_model.specs.declared.LockMove.{LockMove}
 use Rattle.ptk_words_model.specs.declared.LockMove.TheVariants.{Takes, Recovers, Counts, Waits, Refuses}
 use Rattle.ptk_words_model.specs.State.{Mutex, Locks}
-use Rattle.ptk_words_model.specs.Priority.{mutex_of_wait, thread_at}
+use Rattle.ptk_words_model.specs.Priority.{thread_at}
+use Rattle.ptk_words.specs.Threads.{mutex_of_wait}
 use Rattle.ptk_words_model.specs.MutexCalls.{is_locked}
 use Rattle.ptk_words_model.specs.Mutex.{mutex_at, new_mutex, waiters_of, count_of, owns, after_wait, after_count, after_move}
 use Rattle.ptk_words_sync_invariant.specs.Locks.{is_ready, AreMutexes}

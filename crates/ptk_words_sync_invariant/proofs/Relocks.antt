@@ -10,13 +10,14 @@ use Rattle.ptk_words.specs.declared.threads.Wait.TheVariants.{ConditionWait, Rel
 use Rattle.ptk_words_model.specs.declared.LockMove.{LockMove}
 use Rattle.ptk_words_model.specs.declared.LockMove.TheVariants.{Takes, Recovers, Counts, Waits, Refuses}
 use Rattle.ptk_words_model.specs.State.{Condition, Locks, Syncs}
-use Rattle.ptk_words_model.specs.Priority.{mutex_of_wait, awaited, thread_at, effective_priority}
+use Rattle.ptk_words_model.specs.Priority.{awaited, thread_at, effective_priority}
+use Rattle.ptk_words.specs.Threads.{mutex_of_wait, condition_of_wait}
 use Rattle.ptk_words_model.specs.Schedule.{at_tail_with, woken_with}
 use Rattle.ptk_words_model.specs.Mutex.{mutex_at, wait_of, move_reply, relock_move, after_wait, after_take, after_count, after_relock_move, after_relock}
 use Rattle.ptk_words_model.specs.Condition.{condition_waiters, mutex_of_condition_wait, after_unblock_for, after_unblock, after_signal_to, after_signal, after_broadcast, waiters_on}
 use Rattle.ptk_words_model.specs.Unwinding.{is_alive}
 use Rattle.ptk_words_sync_invariant.specs.Locks.{is_ready}
-use Rattle.ptk_words_sync_invariant.specs.Conditions.{condition_of_wait, AreConditions, AreSyncs}
+use Rattle.ptk_words_sync_invariant.specs.Conditions.{AreConditions, AreSyncs}
 use Rattle.ptk_words_sync_invariant.proofs.Pools.{changed_own, changed_other}
 use Rattle.ptk_words_sync_invariant.proofs.Lines.{first_in}
 use Rattle.ptk_words_sync_invariant.proofs.Lined.{not_ready_out, not_ready_stopped, lined_others}

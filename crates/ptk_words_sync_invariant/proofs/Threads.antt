@@ -3,11 +3,11 @@ use Rattle.std.proofs.Common.{◌≡◌, ℕ, ◌<◌, true, false, not, ◌&&�
 use Rattle.std.specs.Prelude.{◌≢◌, Option, Some, None, option_map, is_none}
 use Rattle.std.proofs.lemmas.Bool.{cases_eq, false≢true, false_from_ne_true, true_from_ne_false}
 use Rattle.ptk_words.specs.Pools.{pool_get, pool_changed}
-use Rattle.ptk_words.specs.Threads.{is_ended}
+use Rattle.ptk_words.specs.Threads.{is_ended, mutex_of_wait}
 use Rattle.ptk_words.specs.declared.threads.Thread.{Thread}
 use Rattle.ptk_words.specs.declared.threads.Wait.{Wait}
 use Rattle.ptk_words_model.specs.declared.LockMove.{LockMove}
-use Rattle.ptk_words_model.specs.Priority.{mutex_of_wait, awaited}
+use Rattle.ptk_words_model.specs.Priority.{awaited}
 use Rattle.ptk_words_model.specs.Schedule.{woken_with}
 use Rattle.ptk_words_model.specs.Mutex.{wait_of, handed}
 use Rattle.ptk_words_model.specs.Unwinding.{is_alive}
@@ -54,11 +54,6 @@ awaits_not_ready m o e = false_from_ne_true (is_ready o) (λ ready. none_awaits 
 
 pub awaits_alive : (m : ℕ) (o : Option Thread) → (is_alive o ≡ false → wait_of o ≡ None) → awaited o ≡ Some m → is_alive o ≡ true
 awaits_alive m o ended e = true_from_ne_false (is_alive o) (λ dead. none_awaits m o (idle_awaits o (ended dead)) e)
-
--- a thread that has ended is in the wait that it was in
-pub ended_waits : (o : Option Thread) → wait_of (option_map (λ (thread : Thread). record thread { phase = Ended }) o) ≡ wait_of o
-ended_waits None = refl
-ended_waits (Some thread) = refl
 
 -- ---- a thread that begins to wait
 

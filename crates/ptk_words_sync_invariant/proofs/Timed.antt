@@ -10,7 +10,8 @@ use Rattle.ptk_words.specs.declared.mutexes.Protocol.{Protocol}
 use Rattle.ptk_words.specs.declared.mutexes.Soundness.{Soundness}
 use Rattle.ptk_words_model.specs.declared.LockMove.{LockMove}
 use Rattle.ptk_words_model.specs.State.{Mutex, Condition, Locks, Syncs}
-use Rattle.ptk_words_model.specs.Priority.{mutex_of_wait, awaited, thread_at}
+use Rattle.ptk_words_model.specs.Priority.{awaited, thread_at}
+use Rattle.ptk_words.specs.Threads.{mutex_of_wait, condition_of_wait}
 use Rattle.ptk_words_model.specs.Time.{Timespec}
 use Rattle.ptk_words_model.specs.Mutex.{mutex_at, wait_of, owns, new_mutex, with_soundness, lock_move, trylock_move, after_move, after_unlock, after_hand_over, after_abandonment, after_owner_end}
 use Rattle.ptk_words_model.specs.MutexCalls.{is_locked, timed_move}
@@ -18,7 +19,6 @@ use Rattle.ptk_words_model.specs.Condition.{names_mutex}
 use Rattle.ptk_words_model.specs.Unwinding.{is_alive}
 use Rattle.ptk_words_sync_invariant.specs.Locks.{is_ready}
 use Rattle.ptk_words_sync_invariant.specs.LockLaws.{running_after}
-use Rattle.ptk_words_sync_invariant.specs.Conditions.{condition_of_wait}
 pub use Rattle.ptk_words_sync_invariant.specs.Conditions.{AreListed, AreConditions, AreSyncs}
 use Rattle.ptk_words_sync_invariant.proofs.Pools.{changed_other}
 use Rattle.ptk_words_sync_invariant.proofs.Lined.{ready_waits, ready_alive}

@@ -8,12 +8,13 @@ use Rattle.ptk_words.specs.declared.faults.Errno.TheVariants.{ETIMEDOUT}
 use Rattle.ptk_words.specs.declared.threads.Wait.{Wait}
 use Rattle.ptk_words.specs.declared.threads.Wait.TheVariants.{InputWait, SleepWait, JoinWait, MutexWait, ConditionWait, RelockWait}
 use Rattle.ptk_words_model.specs.State.{Syncs, Part}
-use Rattle.ptk_words_model.specs.Priority.{mutex_of_wait, thread_at}
+use Rattle.ptk_words_model.specs.Priority.{thread_at}
+use Rattle.ptk_words.specs.Threads.{mutex_of_wait, condition_of_wait}
 use Rattle.ptk_words_model.specs.Schedule.{woken_with, after_wake}
 use Rattle.ptk_words_model.specs.Mutex.{wait_of, without_mutex_waiter}
 use Rattle.ptk_words_model.specs.Condition.{condition_waiters, waiters_on}
 use Rattle.ptk_words_model.specs.Withdrawal.{Expiry, in_order, due, after_timeout, after_expiries}
-use Rattle.ptk_words_sync_invariant.specs.Conditions.{condition_of_wait, AreSyncs}
+use Rattle.ptk_words_sync_invariant.specs.Conditions.{AreSyncs}
 use Rattle.ptk_words_sync_invariant.proofs.Threads.{waking_woken, awaits_by}
 use Rattle.ptk_words_sync_invariant.proofs.Handovers.{woken_out, held_leave}
 use Rattle.ptk_words_sync_invariant.proofs.Gathered.{conditions_empty}

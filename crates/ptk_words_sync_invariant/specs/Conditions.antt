@@ -1,12 +1,12 @@
 -- What holds of a partition's threads, mutexes and condition variables between moves, where waits may have deadlines.
 use Rattle.std.specs.Prelude.{IsSome, ◌≡◌, ℕ, ◌<◌, true, false, List, nat_eq, Option, Some, None}
 use Rattle.std.specs.List.{IsDistinct}
-use Rattle.ptk_words.specs.Names.{ConditionNumber, ThreadNumber}
+use Rattle.ptk_words.specs.Names.{ThreadNumber}
 use Rattle.ptk_words.specs.Pools.{pool_get, is_in}
+use Rattle.ptk_words.specs.Threads.{condition_of_wait}
 use Rattle.ptk_words.specs.declared.TheConstants.{COUNT_LIMIT}
 use Rattle.ptk_words.specs.declared.threads.Thread.{Thread}
-use Rattle.ptk_words.specs.declared.threads.Wait.{Wait}
-use Rattle.ptk_words.specs.declared.threads.Wait.TheVariants.{InputWait, JoinWait, ConditionWait}
+use Rattle.ptk_words.specs.declared.threads.Wait.TheVariants.{InputWait, JoinWait}
 use Rattle.ptk_words_model.specs.declared.LockMove.TheVariants.{Counts}
 use Rattle.ptk_words_model.specs.State.{Mutex, Condition, Syncs}
 use Rattle.ptk_words_model.specs.Priority.{thread_at}
@@ -14,11 +14,6 @@ use Rattle.ptk_words_model.specs.Mutex.{wait_of, waiters_of, count_of, relock_mo
 use Rattle.ptk_words_model.specs.Condition.{mutex_of_condition_wait, waiters_on}
 use Rattle.ptk_words_model.specs.Unwinding.{is_alive}
 use Rattle.ptk_words_sync_invariant.specs.Locks.{joiner_of, used_of, AreMutexes, AreLined}
-
--- the condition variable that a wait is on (pthread_cond_wait)
-abbrev pub condition_of_wait : Option Wait → Option ConditionNumber
-condition_of_wait (Some (ConditionWait c m deadline)) = Some c
-condition_of_wait wait = None
 
 -- where a re-lock of the thread counts up, the count is below the limit (pthread_cond_wait, PTHREAD_MUTEX_RECURSIVE)
 abbrev pub HasRoom : ThreadNumber → Option Mutex → Type 0

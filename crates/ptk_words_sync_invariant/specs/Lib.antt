@@ -1,6 +1,5 @@
 pub mod Locks
 pub mod Conditions
-pub mod Deadlines
 pub mod LockLaws
 pub mod SyncLaws
 pub mod Expiries

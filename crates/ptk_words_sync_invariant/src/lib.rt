@@ -1,18 +1,16 @@
 #![tactic(auto)]
 
-//! What holds of a partition's threads, line, waits, mutexes and condition variables between moves; that the moves keep
-//! it; and whose deadlines each move begins and ends.
+//! What holds of a partition's threads, line, waits, mutexes and condition variables between moves, and that the moves
+//! keep it.
 //!
 //! - `mutex_moves_keep_syncs`, `owner_end_keeps_syncs`: lock, trylock, unlock and an owner's end leave a partition's
 //!   threads, line, waits, mutexes and condition variables whole, and an ended owner owns no mutex.
-//! - `waits_keep_syncs`, `wakings_keep_syncs`, `expiries_keep_syncs` (sleeps, timed locks, waits on condition
-//!   variables, signals, broadcasts and deadlines leave these and condition variables whole, and whose deadlines each
-//!   begins and ends), `expiries_one_at_a_time` (the expiries of a tick are the least due one and then those of the
-//!   state after it).
+//! - `waits_keep_syncs`, `wakings_keep_syncs`, `expiries_keep_syncs`: so do sleeps, timed locks, waits on condition
+//!   variables, signals, broadcasts and deadlines.
+//! - `expiries_one_at_a_time`: the expiries of a tick are the least due one and then those of the state after it.
 //!
 //! `specs/Locks` says it of the line and the mutexes, `specs/Conditions` of the other waits and of the condition
-//! variables, and of all together (`AreSyncs`); `specs/Deadlines` says whose deadlines a move ends, and
-//! `specs/Expiries` which deadline is next. `proofs/` has the same for each move of the mutexes and of the condition
+//! variables, and of all together (`AreSyncs`); `specs/Expiries` says which deadline is next. `proofs/` has the same for each move of the mutexes and of the condition
 //! variables, those of the mutexes with whatever else holds of threads and mutexes (`Rest` in `proofs/Held`); and what
 //! several crates above need of chains and of greatest ranks (`ChainLaws`, `Greatest`). Below is `ptk_words_model`;
 //! above, `ptk_words_invariant` composes them to what holds of a whole partition.
@@ -37,19 +35,18 @@ pub fn owner_end_keeps_syncs()
 {}
 
 /// A sleep, a timed lock and a condition wait of the running thread keep threads, line, mutexes and condition variables
-/// whole, and of the deadlines change the thread's own, and those of threads that the wait wakes.
+/// whole; where it waits, no thread runs.
 pub fn waits_keep_syncs()
     ensures { (interval : ℕ) → (waiters : List ℕ) → (syncs : Syncs) → WaitsKeepSyncs interval waiters syncs }
 {}
 
 /// An unlock, a signal, a broadcast and the end of a thread that waits for no mutex keep threads, line, mutexes and
-/// condition variables whole, and end the deadlines of those whom they wake or unblock, and no others.
+/// condition variables whole.
 pub fn wakings_keep_syncs()
     ensures { (interval : ℕ) → (running : Option ℕ) → (waiters : List ℕ) → (syncs : Syncs) → WakingsKeepSyncs interval running waiters syncs }
 {}
 
-/// The expiries of a tick keep threads, line, mutexes and condition variables whole, and end the deadlines up to the
-/// tick, and no others.
+/// The expiries of a tick keep threads, line, mutexes and condition variables whole.
 pub fn expiries_keep_syncs()
     ensures { (interval : ℕ) → (s : Part) → ExpiriesKeepSyncs interval s }
 {}

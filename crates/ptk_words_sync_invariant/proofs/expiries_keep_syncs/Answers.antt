@@ -1,6 +1,5 @@
 use Rattle.ptk_words_sync_invariant.proofs.Timeouts.{syncs_expiries}
-use Rattle.ptk_words_sync_invariant.proofs.DeadlineMoves.{deadlines-expiries}
 use Rattle.ptk_words_sync_invariant.proofs.expiries_keep_syncs.Goals as goal
 
 pub returns : goal.returns
-returns c = λ interval s tick are. record { whole = syncs_expiries interval tick s are; deadlines = deadlines-expiries tick s }
+returns c = λ interval s tick are. syncs_expiries interval tick s are

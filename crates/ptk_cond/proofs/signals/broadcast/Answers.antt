@@ -2,7 +2,7 @@ use Rattle.std.proofs.Common.{◌≡◌, ◌+◌, ◌-◌, ◌<◌, ◌∙◌, l
 use Rattle.std.specs.Fn.{iterate}
 use Rattle.ptk_words_model.specs.Condition.{after_signal, condition_waiters}
 use Rattle.ptk_syncs.specs.Rosters.{Rostered}
-use Rattle.ptk_cond.proofs.Steps.{of_part, AreSyncsMoved, signalled_more}
+use Rattle.ptk_cond.proofs.Steps.{of_part, signalled_more}
 use Rattle.ptk_cond.proofs.Visited.{AreVisited, reached_more, visited_more}
 use Rattle.ptk_cond.proofs.signals.broadcast.Goals as goal
 
@@ -15,14 +15,10 @@ loop-i-preserved c =
     let step : suc c.loop-i.i ≡ c.loop-i.i + 1 = omega arith in
     let many : length (condition_waiters (of_part c.args.p a) c.args.c) ≡ length c.as_slice-count.result.now = ap length (sym (c.as_slice-count.ensures.value ∙ c.condition_waiters-waiters.ensures)) in
     let some : 0 < length (condition_waiters (of_part c.args.p a) c.args.c) = omega (arith, many) in
-    let moved : AreSyncsMoved c.args.p b after (after_signal c.args.c (of_part c.args.p b)) = record {
-      of_locks = record { of_threads = c.signal.ensures.threads; of_lines = c.signal.ensures.line; of_mutexes = c.signal.ensures.mutexes };
-      of_conditions = c.signal.ensures.conditions;
-    } in
     record {
-      signalled = signalled_more c.args.p c.args.c _ _ _ a b after c.requires.ready more c.loop-i.invariant.signalled moved c.signal.ensures.ready;
-      reached = reached_more c.args.p c.args.c c.loop-i.i a b after c.loop-i.invariant.reached c.loop-i.invariant.signalled.synced moved ∙ ap (λ (n : ℕ). iterate (after_signal c.args.c) n (of_part c.args.p a)) step;
+      signalled = signalled_more c.args.p c.args.c _ _ _ a b after c.requires.ready more c.loop-i.invariant.signalled c.signal.ensures.roster c.signal.ensures.ready;
+      reached = reached_more c.args.p c.args.c c.loop-i.i a b after c.loop-i.invariant.reached c.loop-i.invariant.signalled.synced c.signal.ensures.roster ∙ ap (λ (n : ℕ). iterate (after_signal c.args.c) n (of_part c.args.p a)) step;
       visited = subst (λ (n : ℕ). AreVisited c.args.c n (of_part c.args.p a) c.args.mutexes.now c.signal.new.mutexes) step
-          (visited_more c.args.p c.args.c c.loop-i.i a b after c.args.mutexes.now c.loop-i.mutexes c.signal.new.mutexes some c.loop-i.invariant.reached c.loop-i.invariant.signalled.synced moved c.signal.ensures.ready c.signal.ensures.visited c.signal.ensures.unvisited c.loop-i.invariant.visited);
+          (visited_more c.args.p c.args.c c.loop-i.i a b after c.args.mutexes.now c.loop-i.mutexes c.signal.new.mutexes some c.loop-i.invariant.reached c.loop-i.invariant.signalled.synced c.signal.ensures.roster c.signal.ensures.ready c.signal.ensures.visited c.signal.ensures.unvisited c.loop-i.invariant.visited);
       sound = λ sound. c.signal.ensures.sound (c.loop-i.invariant.sound sound);
     }

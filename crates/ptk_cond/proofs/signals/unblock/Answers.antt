@@ -1,13 +1,14 @@
-use Rattle.std.proofs.Common.{sym, ◌∙◌, subst}
+use Rattle.std.proofs.Common.{◌≡◌, sym, ◌∙◌, subst}
 use Rattle.ptk_words.specs.Pools.{pool_get, without}
 use Rattle.ptk_words_parted.specs.Parts.{part_of}
-use Rattle.ptk_words_model.specs.State.{Locks}
+use Rattle.ptk_words_model.specs.State.{Locks, Syncs}
 use Rattle.ptk_words_model.specs.Condition.{after_unblock_for, waiters_on}
 use Rattle.ptk_words_sync_invariant.specs.Conditions.{HasRoom}
 use Rattle.ptk_syncs.specs.Rosters.{Rostered}
 use Rattle.ptk_mutex.specs.Visits.{IsVisited}
 use Rattle.ptk_mutex.specs.Tables.{MayWait}
-use Rattle.ptk_cond.proofs.Steps.{of_part, AreSyncsMoved, ready_waiters, same_waiters, waiter_may, waiter_room, unblocked, unblocked_waiting, moved_synced, AreSyncedAt, sound_moved}
+use Rattle.ptk_cond.specs.Tables.{put_syncs}
+use Rattle.ptk_cond.proofs.Steps.{of_part, ready_waiters, same_waiters, waiter_may, waiter_room, unblocked, unblocked_waiting, put_synced, AreSyncedAt, sound_put}
 use Rattle.ptk_cond.proofs.signals.unblock.Goals as goal
 
 pub relock-requires-clause-ready : goal.relock-requires-clause-ready
@@ -34,17 +35,14 @@ returns-in-Some c =
     let a : Rostered = c.args.roster.now in
     let left : Rostered = c.leave_condition.new.self in
     let after : Rostered = c.relock.new.roster in
-    let moved : AreSyncsMoved c.args.p a after (after_unblock_for c.args.t c.args.c c.args.reply c.args.named (of_part c.args.p a)) =
-    unblocked c.args.p c.args.t c.args.c c.in-Some.m c.args.reply c.args.named a left after c.in-Some.is c.leave_condition.ensures.roster
-    (record { of_threads = c.relock.ensures.threads; of_lines = c.relock.ensures.line; of_mutexes = c.relock.ensures.mutexes }) c.relock.ensures.conditions in
-    let ready : AreSyncedAt c.args.p after = moved_synced c.args.p a after (after_unblock_for c.args.t c.args.c c.args.reply c.args.named (of_part c.args.p a)) c.requires.ready moved c.relock.ensures.ready
+    let syncs : Syncs = after_unblock_for c.args.t c.args.c c.args.reply c.args.named (of_part c.args.p a) in
+    let moved : after ≡ put_syncs c.args.p syncs a =
+    unblocked c.args.p c.args.t c.args.c c.in-Some.m c.args.reply c.args.named a left after c.in-Some.is c.leave_condition.ensures.roster c.relock.ensures.roster in
+    let ready : AreSyncedAt c.args.p after = put_synced c.args.p a after syncs c.requires.ready moved c.relock.ensures.ready
     (unblocked_waiting c.args.t c.args.c c.in-Some.m c.args.reply c.args.named (of_part c.args.p a) c.in-Some.is c.requires.waiter c.requires.ready.waiting) in
     record {
-      threads = moved.of_locks.of_threads;
-      line = moved.of_locks.of_lines;
-      mutexes = moved.of_locks.of_mutexes;
-      conditions = moved.of_conditions;
+      roster = moved;
       visited = subst (λ (r : Rostered). IsVisited c.relock.new.self.visited (part_of r.table.stored c.args.p) (part_of after.table.stored c.args.p)) c.leave_condition.ensures.roster c.relock.ensures.visited;
       ready = ready;
-      sound = λ sound. sound_moved c.args.p a after (after_unblock_for c.args.t c.args.c c.args.reply c.args.named (of_part c.args.p a)) moved ready sound;
+      sound = λ sound. sound_put c.args.p a after syncs moved ready sound;
     }

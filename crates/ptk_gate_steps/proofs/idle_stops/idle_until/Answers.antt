@@ -2,7 +2,7 @@ use Rattle.std.proofs.Common.{◌≤◌, sym, ◌∙◌, ap, subst}
 use Rattle.std.specs.Prelude.{ℕ}
 use Rattle.ptk_words.specs.declared.sections.Limits.{Limits}
 use Rattle.ptk_words_model.specs.State.{Part}
-use Rattle.ptk_words_model.specs.Run.{is_active}
+use Rattle.ptk_words.specs.Faults.{is_active}
 use Rattle.ptk_words_batches.specs.Idle.{IsIdle}
 use Rattle.ptk_gate_steps.proofs.QuietStops.{event_stop_le}
 use Rattle.ptk_gate_steps.proofs.IdleStops.{idle_up, idle_no_later}

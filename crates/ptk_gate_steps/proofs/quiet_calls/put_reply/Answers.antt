@@ -14,4 +14,4 @@ returns-in-Some-MutexLock-clause-put c =
 pub returns-in-Some-PthreadSetspecific-clause-put : goal.returns-in-Some-PthreadSetspecific-clause-put
 returns-in-Some-PthreadSetspecific-clause-put c =
     let is : call_of (register c.args.cpu.now A7) ≡ Some PthreadSetspecific = search rules in
-    λ some. c.set_specific.ensures.put c.args.t is
+    c.set_specific.ensures c.args.t is

@@ -1,5 +1,5 @@
 use Rattle.std.proofs.Common.{◌≡◌, ◌<◌, true, length, sym, subst}
-use Rattle.ptk_words_model.specs.Run.{is_active}
+use Rattle.ptk_words.specs.Faults.{is_active}
 use Rattle.ptk_words_model.specs.Schedule.{after_choice}
 use Rattle.ptk_gate_pools.specs.Kept.{Kept, part_at}
 use Rattle.ptk_gate_pools.specs.Held.{all_of}

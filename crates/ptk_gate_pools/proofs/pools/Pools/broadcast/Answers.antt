@@ -17,11 +17,11 @@ broadcast-requires c =
 pub invariant_of-self : goal.invariant_of-self
 invariant_of-self c =
     tables_pooled c.self.inside.hand (after_broadcast c.args.c (syncs_by c.self.inside.hand c.self.inside.roster.table c.self.inside.roster.lines c.self.inside.roster.mutexes c.self.inside.roster.conditions)) c.self.inside c.broadcast.new.roster c.broadcast.new.mutexes c.self.invariant.in_hand
-    (record { of_threads = c.broadcast.ensures.threads; of_lines = c.broadcast.ensures.line; of_mutexes = c.broadcast.ensures.mutexes; of_conditions = c.broadcast.ensures.conditions })
+    c.broadcast.ensures.roster
     c.self.invariant
 
 pub returns : goal.returns
 returns c =
     rw (← c.self.view_is)
     (tables_held c.self.inside.hand (after_broadcast c.args.c (syncs_by c.self.inside.hand c.self.inside.roster.table c.self.inside.roster.lines c.self.inside.roster.mutexes c.self.inside.roster.conditions)) c.self.inside c.broadcast.new.roster c.broadcast.new.mutexes
-    (record { of_threads = c.broadcast.ensures.threads; of_lines = c.broadcast.ensures.line; of_mutexes = c.broadcast.ensures.mutexes; of_conditions = c.broadcast.ensures.conditions }) c.self.invariant c.self.invariant.in_hand)
+    c.broadcast.ensures.roster c.self.invariant c.self.invariant.in_hand)

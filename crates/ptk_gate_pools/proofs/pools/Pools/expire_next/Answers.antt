@@ -18,7 +18,7 @@ pub invariant_of-self : goal.invariant_of-self
 invariant_of-self c =
     tables_pooled c.self.inside.hand (expired_syncs c.self.inside.hand c.in-Some.t c.self.inside) c.self.inside c.time_out.new.roster c.time_out.new.mutexes
     c.self.invariant.in_hand
-    (record { of_threads = c.time_out.ensures.threads; of_lines = c.time_out.ensures.line; of_mutexes = c.time_out.ensures.mutexes; of_conditions = c.time_out.ensures.conditions })
+    c.time_out.ensures.roster
     c.self.invariant
 
 pub returns-in-Some-clause-moved : goal.returns-in-Some-clause-moved
@@ -28,6 +28,6 @@ returns-in-Some-clause-moved c =
     rw (← c.self.view_is)
     (
     ap (held c.self.inside.hand) (tables_put c.self.inside.hand (expired_syncs c.self.inside.hand c.in-Some.t c.self.inside) c.self.inside c.time_out.new.roster c.time_out.new.mutexes
-    (record { of_threads = c.time_out.ensures.threads; of_lines = c.time_out.ensures.line; of_mutexes = c.time_out.ensures.mutexes; of_conditions = c.time_out.ensures.conditions })
+    c.time_out.ensures.roster
     ∙ ap (λ (s : Part). put_part c.self.inside.hand s (kept_of c.self.inside)) (expired_move c.self.inside.hand c.in-Some.t c.args.tick c.self.inside (sym c.in-Some.is ∙ due)))
     ∙ held-put (length c.self.inside.limits.items) c.self.inside.hand _ (kept_of c.self.inside) (parts_of c.self.inside c.self.invariant) c.self.invariant.in_hand)

@@ -1,18 +1,16 @@
-use Rattle.std.proofs.Common.{◌∙◌}
 use Rattle.ptk_words.specs.declared.threads.Wait.TheVariants.{MutexWait}
-use Rattle.ptk_words_parted.specs.Parts.{part_of}
 use Rattle.ptk_words_model.specs.State.{Locks}
 use Rattle.ptk_words_model.specs.Mutex.{mutex_at, lock_move, after_move}
 use Rattle.ptk_mutex.specs.Tables.{locks_by}
-use Rattle.ptk_gate_pools.proofs.Changed.{tables_pooled, stay}
-use Rattle.ptk_gate_pools.proofs.Locking.{line_stays}
+use Rattle.ptk_mutex.proofs.Sound.{as_syncs, with_locks_of}
+use Rattle.ptk_gate_pools.proofs.Changed.{tables_pooled}
 use Rattle.ptk_gate_pools.proofs.pools.Pools.lock.Goals as goal
 
 pub invariant_of-self : goal.invariant_of-self
 invariant_of-self c =
     let a = c.self.inside in
     let locks : Locks = locks_by c.self.inside.hand a.roster.table a.roster.lines a.roster.mutexes in
-    tables_pooled c.self.inside.hand (record { locks = after_move (lock_move locks c.args.t (mutex_at locks c.args.m)) c.args.t c.args.m (MutexWait c.args.m c.args.deadline) locks; conditions = part_of a.roster.conditions c.self.inside.hand }) a c.lock.new.roster c.lock.new.self
+    tables_pooled c.self.inside.hand (with_locks_of c.self.inside.hand a.roster (after_move (lock_move locks c.args.t (mutex_at locks c.args.m)) c.args.t c.args.m (MutexWait c.args.m c.args.deadline) locks)) a c.lock.new.roster c.lock.new.self
     c.self.invariant.in_hand
-    (record { of_threads = c.lock.ensures.threads; of_lines = c.lock.ensures.line ∙ line_stays c.self.inside.hand c.args.t c.args.m (lock_move locks c.args.t (mutex_at locks c.args.m)) (MutexWait c.args.m c.args.deadline) a.roster.table a.roster.lines a.roster.mutexes; of_mutexes = c.lock.ensures.mutexes; of_conditions = c.lock.ensures.conditions ∙ stay c.self.inside.hand a.roster.conditions })
+    (as_syncs c.self.inside.hand a.roster c.lock.new.roster (after_move (lock_move locks c.args.t (mutex_at locks c.args.m)) c.args.t c.args.m (MutexWait c.args.m c.args.deadline) locks) c.lock.ensures.roster)
     c.self.invariant

@@ -17,11 +17,11 @@ signal-requires c =
 pub invariant_of-self : goal.invariant_of-self
 invariant_of-self c =
     tables_pooled c.self.inside.hand (after_signal c.args.c (syncs_by c.self.inside.hand c.self.inside.roster.table c.self.inside.roster.lines c.self.inside.roster.mutexes c.self.inside.roster.conditions)) c.self.inside c.signal.new.roster c.signal.new.mutexes c.self.invariant.in_hand
-    (record { of_threads = c.signal.ensures.threads; of_lines = c.signal.ensures.line; of_mutexes = c.signal.ensures.mutexes; of_conditions = c.signal.ensures.conditions })
+    c.signal.ensures.roster
     c.self.invariant
 
 pub returns : goal.returns
 returns c =
     rw (← c.self.view_is)
     (tables_held c.self.inside.hand (after_signal c.args.c (syncs_by c.self.inside.hand c.self.inside.roster.table c.self.inside.roster.lines c.self.inside.roster.mutexes c.self.inside.roster.conditions)) c.self.inside c.signal.new.roster c.signal.new.mutexes
-    (record { of_threads = c.signal.ensures.threads; of_lines = c.signal.ensures.line; of_mutexes = c.signal.ensures.mutexes; of_conditions = c.signal.ensures.conditions }) c.self.invariant c.self.invariant.in_hand)
+    c.signal.ensures.roster c.self.invariant c.self.invariant.in_hand)

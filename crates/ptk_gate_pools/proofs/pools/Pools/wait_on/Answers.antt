@@ -19,11 +19,11 @@ wait-requires-clause-caller c =
 pub invariant_of-self : goal.invariant_of-self
 invariant_of-self c =
     tables_pooled c.self.inside.hand (after_condition_wait c.args.t c.args.c c.args.m c.args.deadline (syncs_by c.self.inside.hand c.self.inside.roster.table c.self.inside.roster.lines c.self.inside.roster.mutexes c.self.inside.roster.conditions)) c.self.inside c.wait.new.roster c.wait.new.mutexes c.self.invariant.in_hand
-    (record { of_threads = c.wait.ensures.threads; of_lines = c.wait.ensures.line; of_mutexes = c.wait.ensures.mutexes; of_conditions = c.wait.ensures.conditions })
+    c.wait.ensures.roster
     c.self.invariant
 
 pub returns : goal.returns
 returns c =
     rw (← c.self.view_is)
     (tables_held c.self.inside.hand (after_condition_wait c.args.t c.args.c c.args.m c.args.deadline (syncs_by c.self.inside.hand c.self.inside.roster.table c.self.inside.roster.lines c.self.inside.roster.mutexes c.self.inside.roster.conditions)) c.self.inside c.wait.new.roster c.wait.new.mutexes
-    (record { of_threads = c.wait.ensures.threads; of_lines = c.wait.ensures.line; of_mutexes = c.wait.ensures.mutexes; of_conditions = c.wait.ensures.conditions }) c.self.invariant c.self.invariant.in_hand)
+    c.wait.ensures.roster c.self.invariant c.self.invariant.in_hand)

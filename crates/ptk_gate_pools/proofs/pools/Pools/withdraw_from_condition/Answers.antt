@@ -7,5 +7,5 @@ use Rattle.ptk_gate_pools.proofs.pools.Pools.withdraw_from_condition.Goals as go
 pub invariant_of-self : goal.invariant_of-self
 invariant_of-self c =
     tables_pooled c.self.inside.hand (after_unblock c.args.t c.args.c None (syncs_by c.self.inside.hand c.self.inside.roster.table c.self.inside.roster.lines c.self.inside.roster.mutexes c.self.inside.roster.conditions)) c.self.inside c.withdraw.new.roster c.withdraw.new.mutexes c.self.invariant.in_hand
-    (record { of_threads = c.withdraw.ensures.threads; of_lines = c.withdraw.ensures.line; of_mutexes = c.withdraw.ensures.mutexes; of_conditions = c.withdraw.ensures.conditions })
+    c.withdraw.ensures.roster
     c.self.invariant

@@ -4,29 +4,29 @@ use Rattle.ptk_words_model.specs.State.{Locks}
 use Rattle.ptk_words_model.specs.Mutex.{mutex_at, relock_move, after_relock}
 use Rattle.ptk_mutex.specs.Tables.{locks_by, with_threads}
 use Rattle.ptk_mutex.proofs.Moved.{moves}
-use Rattle.ptk_mutex.proofs.Steps.{moved_ready, locked_relock}
+use Rattle.ptk_mutex.proofs.Steps.{put-is, put_ready, locked_relock}
 use Rattle.ptk_syncs.specs.Rosters.{Rostered}
 use Rattle.ptk_mutex.proofs.Sound.{sound_relock}
 use Rattle.ptk_mutex.proofs.mutexes.Mutexes.relock.Goals as goal
 
-pub returns-clause-ready : goal.returns-clause-ready
-returns-clause-ready c =
-    let locks : Locks = locks_by c.args.p c.args.roster.now.table c.args.roster.now.lines c.args.roster.now.mutexes in
-    let after : Locks = after_relock c.args.t c.args.m c.args.reply locks in
-    let threads : c.make_relock-self.new.roster.table ≡ with_threads c.args.p after c.args.roster.now.table = grind (arith, moves) in
-    let lines : c.make_relock-self.new.roster.lines ≡ slice_set c.args.roster.now.lines c.args.p after.line = grind (arith, moves) in
-    let mutexes : c.make_relock-self.new.roster.mutexes ≡ slice_set c.args.roster.now.mutexes c.args.p after.mutexes = grind (arith, moves) in
-    moved_ready c.args.p c.args.roster.now.table c.make_relock-self.new.roster.table c.args.roster.now.lines c.make_relock-self.new.roster.lines c.args.roster.now.mutexes c.make_relock-self.new.roster.mutexes after c.requires.ready.part
-    (locked_relock (relock_move c.args.t (mutex_at locks c.args.m)) c.args.t c.args.m c.args.reply locks c.requires.countable c.requires.caller c.requires.ready.locked)
-    (record { of_threads = threads; of_lines = lines; of_mutexes = mutexes })
-
-pub returns-clause-sound : goal.returns-clause-sound
-returns-clause-sound c = λ sound.
+pub returns-clause-roster : goal.returns-clause-roster
+returns-clause-roster c =
     let a : Rostered = c.args.roster.now in
     let b : Rostered = c.make_relock-self.new.roster in
     let after : Locks = after_relock c.args.t c.args.m c.args.reply (locks_by c.args.p a.table a.lines a.mutexes) in
     let threads : b.table ≡ with_threads c.args.p after a.table = grind (arith, moves) in
     let lines : b.lines ≡ slice_set a.lines c.args.p after.line = grind (arith, moves) in
     let mutexes : b.mutexes ≡ slice_set a.mutexes c.args.p after.mutexes = grind (arith, moves) in
-    sound_relock c.args.p c.args.t c.args.m c.args.reply a b c.requires.free
-    (record { before = c.requires.ready; moved = record { of_threads = threads; of_lines = lines; of_mutexes = mutexes }; conditions = c.make_relock-self.ensures.conditions; after = returns-clause-ready c }) sound
+    put-is c.args.p a b after (record { of_threads = threads; of_lines = lines; of_mutexes = mutexes }) c.make_relock-self.ensures.conditions
+
+pub returns-clause-ready : goal.returns-clause-ready
+returns-clause-ready c =
+    let a : Rostered = c.args.roster.now in
+    let locks : Locks = locks_by c.args.p a.table a.lines a.mutexes in
+    put_ready c.args.p a c.make_relock-self.new.roster (after_relock c.args.t c.args.m c.args.reply locks) c.requires.ready.part
+    (locked_relock (relock_move c.args.t (mutex_at locks c.args.m)) c.args.t c.args.m c.args.reply locks c.requires.countable c.requires.caller c.requires.ready.locked) (returns-clause-roster c)
+
+pub returns-clause-sound : goal.returns-clause-sound
+returns-clause-sound c = λ sound.
+    sound_relock c.args.p c.args.t c.args.m c.args.reply c.args.roster.now c.make_relock-self.new.roster c.requires.free
+    (record { before = c.requires.ready; moved = returns-clause-roster c; after = returns-clause-ready c }) sound

@@ -1,7 +1,7 @@
 use Rattle.std.proofs.Common.{◌≡◌, ℕ, ◌+◌, ◌-◌, ◌<◌, ◌≤◌, ◌^◌, true, Some, length, get_or, subst, sym, ap, ◌∙◌, arith, refl}
 use Rattle.std.proofs.Math.ListN.{set}
 use Rattle.ptk_words_windows.specs.Windows.{own_ticks}
-use Rattle.ptk_words_model.specs.Run.{is_active}
+use Rattle.ptk_words.specs.Faults.{is_active}
 use Rattle.ptk_kernel.specs.Kept.{limits_at, part_at}
 use Rattle.ptk_kernel.specs.Rows.{IsStillTo}
 use Rattle.ptk_system_machine.specs.Accounts.{KeptAccount, kept_account_of}

@@ -1,6 +1,6 @@
 use Rattle.std.proofs.Common.{ℕ, ◌-◌, nat_lt, Bool, not, ◌&&◌, refl, ap, subst, ◌∙◌}
 use Rattle.ptk_words_model.specs.State.{State}
-use Rattle.ptk_words_model.specs.Run.{is_active}
+use Rattle.ptk_words.specs.Faults.{is_active}
 use Rattle.ptk_system.specs.World.{state_of}
 use Rattle.ptk_timeline_segments.specs.declared.marks.Brought.{Brought}
 use Rattle.ptk_timeline_segments.specs.Marked.{AreMarked}

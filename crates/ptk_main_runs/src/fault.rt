@@ -1,11 +1,13 @@
-//! Why the lines were not all written.
+//! Why an answer is not written to its end.
 
+use crate::runs::RunFault;
+use ptk_system::BootFault;
 use std::alloc::AllocError;
 use std::io;
 
-/// Why the lines were not all written.
+/// Why an answer that was begun is not written to its end.
 #[derive(Clone, Copy)]
-pub(crate) enum PutFault {
+pub enum PutFault {
     /// Memory was refused.
     Memory,
     /// The writer failed.
@@ -27,5 +29,14 @@ impl From<io::Error> for PutFault {
 impl From<serde_json::Error> for PutFault {
     fn from(_error: serde_json::Error) -> PutFault {
         PutFault::Memory
+    }
+}
+
+impl From<PutFault> for RunFault {
+    fn from(fault: PutFault) -> RunFault {
+        match fault {
+            PutFault::Memory => RunFault::Boot(BootFault::Memory),
+            PutFault::Write => RunFault::Write,
+        }
     }
 }

@@ -1,0 +1,24 @@
+use Rattle.std.proofs.Common.{List, ◌++◌, [], ◌∷◌, ◌∙◌, ap, refl, sym}
+use Rattle.std.specs.Prelude.{Option, option_and_then, slice_set}
+use Rattle.std.proofs.lemmas.List.{length-set}
+use Rattle.ptk_words.specs.Pools.{pool_get}
+use Rattle.ptk_words.specs.declared.threads.Thread.{Thread}
+use Rattle.ptk_words_parted.specs.Parts.{part_of}
+use Rattle.ptk_words_model.specs.Schedule.{woken_with}
+use Rattle.ptk_gate_pools.proofs.Changed.{kept_pooled, wait_pooled}
+use Rattle.ptk_gate_pools.proofs.pools.Pools.wake.Goals as goal
+
+-- it waited for no mutex
+pub invariant_of-self : goal.invariant_of-self
+invariant_of-self c =
+    let a = c.self.inside in
+    kept_pooled a.hand c.args.t (woken_with c.args.values.now) (slice_set a.roster.lines a.hand (part_of a.roster.lines a.hand ++ c.args.t ∷ [])) c.wait.result a c.wake.new.roster a.mutexes (length-set a.roster.lines a.hand _) c.wake.ensures (λ thread. refl) (λ thread. refl)
+    (c.wait.ensures ∙ ap (λ (l : List (List (Option Thread))). option_and_then (λ thread. thread.wait) (pool_get (part_of l a.hand) c.args.t)) c.threads.ensures.threads)
+    (sym c.is_for_mutex-had_mutex.ensures ∙ c.if-not-had_mutex.true) c.self.invariant
+
+-- the priorities are made again
+pub invariant_of-self-2 : goal.invariant_of-self-2
+invariant_of-self-2 c =
+    let a = c.self.inside in
+    wait_pooled a.hand c.args.t (woken_with c.args.values.now) (slice_set a.roster.lines a.hand (part_of a.roster.lines a.hand ++ c.args.t ∷ [])) a c.wake.new.roster c.refresh.new.roster c.refresh.new.self c.self.invariant.in_hand (length-set a.roster.lines a.hand _) c.wake.ensures
+    c.refresh.ensures.roster c.self.invariant
