@@ -3,6 +3,7 @@ pub mod Blanks
 pub mod Loads
 pub mod Called
 pub mod Passing
+pub mod CallSteps
 pub mod RowsWhole
 pub use Rattle.ptk_gate_pools.proofs.Parted
 pub use Rattle.ptk_gate_pools.proofs.Ranks

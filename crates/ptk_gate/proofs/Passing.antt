@@ -35,11 +35,15 @@ well_passed_by limits t pc s None e runs well = absurd (let no : ⊥ = cc (well.
 well_passed_by limits t pc s (Some thread) e runs well =
     subst (λ (after : Part). IsWell limits after) (sym (passed_as t pc thread s e)) (well_cpu limits t (record thread.cpu { pc = pc }) s well)
 
+-- a running thread that goes on at the address leaves the partition whole
+pub well_passed : (limits : Limits) (t pc : ℕ) (s : Part) → s.running ≡ Some t → IsWell limits s → IsWell limits (with_locks (with_thread t (with_pc pc)) s)
+well_passed limits t pc s runs well = well_passed_by limits t pc s (thread_at s.locks t) refl runs well
+
 pub whole_passed : (p t pc : ℕ) (pools taken new : Held) → taken ≡ held p (all_of pools) → new ≡ record taken { here = with_locks (with_thread t (with_pc pc)) taken.here } → AreWhole (all_of pools) → p < length pools.elsewhere.limits → (part_at p (all_of pools)).running ≡ Some t → AreWhole (all_of new)
 whole_passed p t pc pools taken new e moved are lt runs =
     let s : Part = part_at p (all_of pools) in
     whole_lifted p (λ limits u. with_locks (with_thread t (with_pc pc)) u) pools taken new e moved are lt
-    (well_passed_by (limits_at p (all_of pools)) t pc s (thread_at s.locks t) refl runs (well_at p (all_of pools) are lt))
+    (well_passed (limits_at p (all_of pools)) t pc s runs (well_at p (all_of pools) are lt))
 
 -- the part that is left
 passed_part : (p t pc : ℕ) (pools taken new : Held) → taken ≡ held p (all_of pools) → new ≡ record taken { here = with_locks (with_thread t (with_pc pc)) taken.here } → AreWhole (all_of pools) → p < length pools.elsewhere.limits

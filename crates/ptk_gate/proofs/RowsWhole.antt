@@ -2,7 +2,6 @@
 use Rattle.std.proofs.Common.{◌≡◌, ◌∙◌, ℕ, ◌≤◌, ◌<◌, length, sym, ap, subst, arith}
 use Rattle.ptk_words.specs.Ranges.{IsWithinLimits}
 use Rattle.ptk_words.specs.declared.TheConstants.{RETURN_GATE}
-use Rattle.ptk_words.specs.declared.sections.Limits.{Limits}
 use Rattle.ptk_words_model.specs.State.{Part}
 use Rattle.ptk_console.specs.ConsoleTable.{no_limits}
 use Rattle.ptk_trace.specs.KeptSteps.{KeptSteps}

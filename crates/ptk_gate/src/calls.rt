@@ -1,7 +1,7 @@
 //! The calls of the running thread, by the call table.
 
 ghost use Rattle.std.specs.Prelude.{◌≡◌, ◌<◌, true, length, Some, IsSome};
-ghost use Rattle.ptk_words_model.specs.CallTable.{answer_of};
+ghost use Rattle.ptk_words_model.specs.CallTable.{answer_of, answer_to};
 ghost use Rattle.ptk_words_model.specs.Decision.{invocation};
 ghost use Rattle.ptk_words.specs.Faults.{is_active};
 ghost use Rattle.ptk_words_invariant.specs.Well.{IsWell};
@@ -71,6 +71,17 @@ fn answer(pools: &mut Pools, tick: Tick, caller: ThreadNo) -> Reply
     let cpu = &thread.cpu;
     let i = invocation(pools.limits(), tick, caller, cpu);
     let known = Call::of_number(cpu.register(A7));
+    reply_to(pools, known, i)
+}
+
+/// Carries out this call of the running thread; ENOSYS of a number that is no call.
+pub(crate) fn reply_to(pools: &mut Pools, known: Option<Call>, i: Invocation) -> Reply
+    requires limits { i.limits ≡ limits_here pools.old }
+    requires well { IsWell (limits_here pools.old) pools.old.here }
+    requires running { pools.old.here.running ≡ Some i.caller }
+    ensures told { result ≡ (answer_to known i pools.old.here).reply }
+    ensures moved { pools.new ≡ record pools.old { here = (answer_to known i pools.old.here).part } }
+{
     match known {
         Some(call) => carry_out(pools, call, i),
         None => refuse(pools, i, Errno::ENOSYS),
@@ -78,7 +89,7 @@ fn answer(pools: &mut Pools, tick: Tick, caller: ThreadNo) -> Reply
 }
 
 /// The arguments of a call, from the caller's registers.
-fn invocation(limits: Limits, at: Tick, t: ThreadNo, cpu: &Cpu) -> Invocation
+pub(crate) fn invocation(limits: Limits, at: Tick, t: ThreadNo, cpu: &Cpu) -> Invocation
     ensures { result ≡ invocation limits at t cpu.now }
 {
     Invocation {

@@ -8,11 +8,13 @@ ghost use Rattle.ptk_words.specs.Faults.{is_active};
 ghost use Rattle.ptk_words_batches.specs.Quiet.{IsQuiet};
 ghost use Rattle.ptk_words_batches.specs.Idle.{IsIdle};
 ghost use Rattle.ptk_gate_pools.specs.Kept.{part_at, put_part, limits_at};
+ghost use Rattle.ptk_gate_steps.specs.Chosen.{IsChosen};
 ghost use Rattle.ptk_gate_steps.specs.Decisions.{IsQuietTo};
+ghost use Rattle.ptk_gate_steps.specs.NextSteps.{IsCallNext};
 ghost use Rattle.ptk_gate_steps.specs.Stretches.{HasEnded, HasGone};
 
 use crate::tables::Tables;
-use ptk_gate_steps::{Quiet, Reached, idle_until, quiet_until, run_quiet};
+use ptk_gate_steps::{Quiet, Reached, idle_until, prepared_until, quiet_until, run_quiet};
 use ptk_trace::Trace;
 use ptk_words::{PartId, Tick};
 
@@ -32,11 +34,27 @@ impl Tables {
         quiet_until(&self.pools.look(p), tick, stop)
     }
 
+    /// `quiet_until` of a partition whose running thread is chosen: it stays before those of the line, and that is not
+    /// tested.
+    #[inline(always)]
+    #[tactic(auto, using(crate::proofs::Wholes::moves, crate::proofs::RowsWhole::gate_far))]
+    pub fn prepared_until(&self, p: PartId, tick: Tick, stop: Tick) -> Option<Quiet>
+        requires partition { p < length self.now.limits }
+        requires active { is_active (part_at p self.now).status ≡ true }
+        requires order { tick < stop }
+        requires time { stop ≤ 2 ^ 41 }
+        requires chosen { IsChosen (part_at p self.now) }
+        ensures quiet { IfSome result (λ q. (tick < q.stop) × (q.stop ≤ stop) × ((thread : Thread) × (thread_at (part_at p self.now).locks q.thread ≡ Some thread) × IsQuiet (limits_at p self.now) tick q.stop q.thread thread (part_at p self.now))) }
+        ensures full { (t k : ℕ) → (thread : Thread) → tick < k → k ≤ stop → IsQuiet (limits_at p self.now) tick k t thread (part_at p self.now) → IsSomeAnd result (λ q. k ≤ q.stop) }
+    {
+        prepared_until(&self.pools.look(p), tick, stop)
+    }
+
     /// Steps of the running thread of a quiet partition in a row, the first of them at the tick: plain ones, and quiet
     /// calls that end at its stop or before; behind the first plain ones and the call that follows them, only such as
     /// begin before `until`. Each is in place of a decision, and the trace has them as the newest. Returns the tick of
-    /// the next decision and how many steps there were. It ends before its stop and before `until` only where the next
-    /// step is neither of the two.
+    /// the next decision, how many steps there were, and whether the step at that tick is known to be a call. It ends
+    /// before its stop and before `until` only where the next step is neither of the two.
     pub fn run_quiet(
         &mut self,
         p: PartId,
@@ -54,6 +72,7 @@ impl Tables {
         ensures moved { self.new ≡ put_part p (part_at p self.new) self.old }
         ensures gone { HasGone (limits_at p self.old) quiet.thread tick result.steps result.tick (part_at p self.old) (part_at p self.new) trace.old trace.new }
         ensures ended { result.tick < quiet.stop → (tick < result.tick → result.tick < until) → HasEnded quiet.stop quiet.thread result.tick (part_at p self.new) }
+        ensures call { result.is_call ≡ true → IsCallNext quiet.thread (part_at p self.new) }
     {
         self.pools.take(p);
         run_quiet(&mut self.pools, quiet, tick, until, trace)

@@ -6,6 +6,7 @@ use Rattle.ptk_words.specs.declared.sections.Entry.{Entry}
 use Rattle.ptk_words.specs.declared.threads.Thread.{Thread}
 use Rattle.ptk_words.specs.Pools.{pool_set, pool_left, without}
 use Rattle.ptk_words_model.specs.State.{Locks, Part, with_console}
+use Rattle.ptk_ready.specs.Lines.{without_one}
 use Rattle.ptk_console.specs.ConsoleTable.{without_next}
 
 -- the number is the thread's (pthread_create)
@@ -23,6 +24,10 @@ with_last t locks = record locks { line = locks.line ++ t ∷ [] }
 -- the line without a thread (XSH 2.8.4)
 abbrev pub out_of_line : ThreadNumber → Locks → Locks
 out_of_line t locks = record locks { line = without t locks.line }
+
+-- the line without this thread, if it is one (XSH 2.8.4)
+abbrev pub out_of_line_if : Option ThreadNumber → Locks → Locks
+out_of_line_if t locks = record locks { line = without_one t locks.line }
 
 -- no thread runs
 abbrev pub stopped : Part → Part

@@ -6,7 +6,7 @@ ghost use Rattle.ptk_words_model.specs.Priority.{thread_at, effective_priority};
 ghost use Rattle.ptk_words_model.specs.Schedule.{at_head, first_ready};
 ghost use Rattle.ptk_words.specs.Pools.{is_in};
 ghost use Rattle.ptk_gate_pools.specs.Kept.{AreInUse};
-ghost use Rattle.ptk_gate_pools.specs.Moves.{with_last, out_of_line};
+ghost use Rattle.ptk_gate_pools.specs.Moves.{with_last, out_of_line, out_of_line_if};
 ghost use Rattle.ptk_words_sync_invariant.specs.Conditions.{IsNoWaiter};
 
 use crate::pools::Pools;
@@ -64,6 +64,18 @@ impl Pools {
     {
         let p = self.hand;
         self.roster.first_of_greatest(p)
+    }
+
+    /// Takes the first thread of the line's greatest effective priority, where all of them are in use, out of the line
+    /// and returns it; None of an empty line, where nothing changes.
+    #[tactic(auto, using(crate::proofs::Hands::handed, crate::proofs::Stored::stored))]
+    pub fn take_first(&mut self) -> Option<ThreadNo>
+        requires in_use { AreInUse self.old.here.threads self.old.here.line }
+        ensures told { result ≡ first_ready self.old.here.locks }
+        ensures moved { self.new ≡ record self.old { here = with_locks (out_of_line_if result) self.old.here } }
+    {
+        let p = self.hand;
+        self.roster.take_first(p)
     }
 
     /// The effective priority of a thread that is in use.

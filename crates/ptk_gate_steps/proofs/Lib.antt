@@ -1,11 +1,13 @@
 pub mod StepEffects
 pub mod DeadlineStops
 pub mod QuietStops
+pub mod Chosen
 pub mod RepliesPut
 pub mod RepliesMade
 pub mod LocksMade
 pub mod SignalsMade
 pub mod QuietCalls
+pub mod CallsNext
 pub mod IdleStops
 pub mod Steady
 pub mod Decisions

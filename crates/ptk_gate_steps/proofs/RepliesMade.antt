@@ -21,7 +21,7 @@ use Rattle.ptk_words_model.specs.Console.{is_full, with_output}
 use Rattle.ptk_words_model.specs.Decision.{with_cpu, word_fetched}
 use Rattle.ptk_words_sync_invariant.proofs.Pools.{changed_other, changed_twice}
 use Rattle.ptk_words_batches.specs.Quiet.{computed}
-use Rattle.ptk_words_batches.specs.Replies.{Outcome, outcome_of, with_outcome, reply_entry, after_reply}
+use Rattle.ptk_words_batches.specs.Replies.{Outcome, outcome_of, with_outcome, reply_entry}
 use Rattle.ptk_words_batches.proofs.PlainDecisions.{with_registers_of}
 use Rattle.ptk_words_batches.proofs.ReplyDecisions.{fifo_entry, robin_entry}
 use Rattle.ptk_console.specs.ConsoleTable.{after_put}

@@ -14,7 +14,7 @@ use Rattle.ptk_words.specs.declared.calls.Call.TheVariants.{CondSignal, CondBroa
 use Rattle.ptk_words.specs.declared.faults.Errno.TheVariants.{EFAULT, EINVAL}
 use Rattle.ptk_words.specs.declared.sections.Limits.{Limits}
 use Rattle.ptk_words_model.specs.declared.Invocation.{Invocation}
-use Rattle.ptk_words_model.specs.State.{Condition, Syncs, Part, with_syncs}
+use Rattle.ptk_words_model.specs.State.{Condition, Part, with_syncs}
 use Rattle.ptk_words_model.specs.Priority.{effective_priority}
 use Rattle.ptk_words_model.specs.Condition.{condition_waiters, after_signal, after_signal_to, after_broadcast}
 use Rattle.ptk_words_model.specs.ConditionCalls.{cond_signal, cond_broadcast}

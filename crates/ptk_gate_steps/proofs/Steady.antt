@@ -1,19 +1,14 @@
 -- Plain steps and quiet calls leave the threads and what they wait for.
-use Rattle.std.proofs.Common.{◌≡◌, ◌∙◌, ℕ, zero, suc, ◌<◌, ◌≤◌, Bool, true, ◌&&◌, nat_lt, List, [], ◌∷◌, length, refl, sym, ap, subst, arith}
+use Rattle.std.proofs.Common.{◌≡◌, ◌∙◌, ℕ, zero, suc, ◌≤◌, refl, ap, arith}
 use Rattle.std.specs.Prelude.{Option, Some, None, option_map, unwrap_or}
-use Rattle.std.proofs.lemmas.Bool.{lt-ltb, true_from_ne_false}
-use Rattle.ptk_words.specs.Pools.{is_in, pool_get}
+use Rattle.ptk_words.specs.Pools.{pool_get}
 use Rattle.ptk_words.specs.Processor.{Processor}
 use Rattle.ptk_words.specs.declared.sections.Entry.{Entry}
 use Rattle.ptk_words.specs.declared.sections.Limits.{Limits}
 use Rattle.ptk_words.specs.declared.threads.Thread.{Thread}
 use Rattle.ptk_words_instructions.specs.PlainSteps.{Core, core}
 use Rattle.ptk_words_model.specs.State.{Part}
-use Rattle.ptk_words_model.specs.Mutex.{mutex_at, waiters_of}
-use Rattle.ptk_words_model.specs.MutexCalls.{is_locked}
-use Rattle.ptk_words_model.specs.Priority.{awaited, thread_at}
 use Rattle.ptk_words_sync_invariant.proofs.Threads.{changed_same}
-use Rattle.ptk_words_invariant.specs.Well.{IsWell}
 use Rattle.ptk_words_batches.specs.Quiet.{computed, with_row, after_row}
 use Rattle.ptk_words_batches.specs.Replies.{IsReply, Outcome, after_reply, reply_entry, with_outcome}
 use Rattle.ptk_words_batches.proofs.QuietRows.{same_rank}

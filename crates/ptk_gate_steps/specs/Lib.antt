@@ -1,5 +1,6 @@
 pub mod Instructions
 pub mod NextSteps
+pub mod Chosen
 pub mod QuietStops
 pub mod QuietCalls
 pub mod Steady

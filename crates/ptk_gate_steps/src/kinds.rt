@@ -39,7 +39,7 @@ pub fn step_cost(kind: StepKind) -> u32
 
 /// The ticks of a call, or of a number that is no call.
 #[inline(always)]
-pub(crate) fn call_cost(known: Option<Call>) -> u32
+pub fn call_cost(known: Option<Call>) -> u32
     ensures value { (number : ℕ) → known ≡ call_of number → result ≡ cost_of number }
     ensures some { 0 < result }
     ensures short { result ≤ 16 }

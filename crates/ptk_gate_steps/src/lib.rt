@@ -6,11 +6,12 @@
 //! - The step of an instruction is one equation over the pools (`instruct`).
 //! - By a `Look` at one partition: what the next step is and costs, the registers that it starts from, and what the
 //!   trace keeps of it (`next_step`, `step_cost`, `registers`, `a0_after`).
-//! - The ticks up to which the partition only computes (`quiet_until`) or has nothing to do (`idle_until`); both are
-//!   the latest such tick.
+//! - The ticks up to which the partition only computes (`quiet_until`; `prepared_until` where the running thread is
+//!   known to be chosen) or has nothing to do (`idle_until`); each is the latest such tick.
 //! - `run_quiet` makes plain steps of a quiet partition in a row and the quiet calls between them, each with its effect:
 //!   a mutex taken or given, a byte put, or a value of a key set. Each is one decision, and a step (`HasGone`), and
-//!   it ends early only where the next step is neither (`HasEnded`).
+//!   it ends early only where the next step is neither (`HasEnded`). Where it says that the next step is a call, it is
+//!   one (`IsCallNext`).
 //!
 //! What the gate's tables ask without a change takes a `Look` at one partition, whichever is in hand, and its clauses
 //! speak of that partition's numbers and part alone. Below are the pools and the instructions; above are the gate's
@@ -27,7 +28,7 @@ mod turns;
 
 pub use idle_stops::idle_until;
 pub use instructions::instruct;
-pub use kinds::step_cost;
-pub use quiet_stops::{Quiet, quiet_until};
+pub use kinds::{call_cost, step_cost};
+pub use quiet_stops::{Quiet, prepared_until, quiet_until};
 pub use stretches::{Reached, run_quiet};
 pub use turns::{NextStep, a0_after, next_step, registers, runner};

@@ -9,6 +9,7 @@ ghost use Rattle.ptk_words_model.specs.Schedule.{first_ready};
 ghost use Rattle.ptk_words.specs.Faults.{is_active};
 ghost use Rattle.ptk_words_invariant.specs.Well.{IsWell};
 ghost use Rattle.ptk_words_batches.specs.Quiet.{stays_before, IsQuiet};
+ghost use Rattle.ptk_gate_steps.specs.Chosen.{IsChosen};
 ghost use Rattle.ptk_gate_steps.specs.QuietStops.{before_event, quiet_stop};
 
 use ptk_gate_moves::{Look, is_to_unwind};
@@ -44,7 +45,29 @@ pub fn quiet_until(look: &Look<'_>, tick: Tick, stop: Tick) -> Option<Quiet>
     }
 }
 
-/// Whether the running thread goes on computing, and up to which tick.
+/// `quiet_until` of a partition whose running thread is chosen: it stays before those of the line, and that is not
+/// tested.
+#[inline(always)]
+pub fn prepared_until(look: &Look<'_>, tick: Tick, stop: Tick) -> Option<Quiet>
+    requires active { is_active look.now.part.status ≡ true }
+    requires well { IsWell look.now.limits look.now.part }
+    requires gate { length look.now.part.memory ≤ RETURN_GATE }
+    requires order { tick < stop }
+    requires time { stop ≤ 2 ^ 41 }
+    requires chosen { IsChosen look.now.part }
+    ensures quiet { IfSome result (λ q. (tick < q.stop) × (q.stop ≤ stop) × ((thread : Thread) × (thread_at look.now.part.locks q.thread ≡ Some thread) × IsQuiet look.now.limits tick q.stop q.thread thread look.now.part)) }
+    ensures full { (t k : ℕ) → (thread : Thread) → tick < k → k ≤ stop → IsQuiet look.now.limits tick k t thread look.now.part → IsSomeAnd result (λ q. k ≤ q.stop) }
+{
+    match look.running() {
+        Some(number) => match look.thread_ref(number) {
+            Some(thread) => chosen_thread(look, number, thread, tick, stop),
+            None => None,
+        },
+        None => None,
+    }
+}
+
+/// Whether the running thread stays and goes on computing, and up to which tick.
 fn quiet_thread(
     look: &Look<'_>,
     t: ThreadNo,
@@ -62,10 +85,33 @@ fn quiet_thread(
     ensures quiet { IfSome result (λ q. (q.thread ≡ t) × (tick < q.stop) × (q.stop ≤ stop) × IsQuiet look.now.limits tick q.stop t thread.now look.now.part) }
     ensures full { (k : ℕ) → tick < k → k ≤ stop → IsQuiet look.now.limits tick k t thread.now look.now.part → IsSomeAnd result (λ q. k ≤ q.stop) }
 {
-    if is_to_unwind(look, t, thread) {
+    if !stays(look, t) {
         return None;
     }
-    if !stays(look, t) {
+    chosen_thread(look, t, thread, tick, stop)
+}
+
+/// Whether the running thread, which stays, goes on computing, and up to which tick.
+#[inline(always)]
+fn chosen_thread(
+    look: &Look<'_>,
+    t: ThreadNo,
+    thread: &Thread,
+    tick: Tick,
+    stop: Tick,
+) -> Option<Quiet>
+    requires active { is_active look.now.part.status ≡ true }
+    requires well { IsWell look.now.limits look.now.part }
+    requires gate { length look.now.part.memory ≤ RETURN_GATE }
+    requires order { tick < stop }
+    requires time { stop ≤ 2 ^ 41 }
+    requires runs { look.now.part.running ≡ Some t }
+    requires in_use { thread_at look.now.part.locks t ≡ Some thread.now }
+    requires stays { stays_before (effective_priority look.now.part.locks) t (first_ready look.now.part.locks) ≡ true }
+    ensures quiet { IfSome result (λ q. (q.thread ≡ t) × (tick < q.stop) × (q.stop ≤ stop) × IsQuiet look.now.limits tick q.stop t thread.now look.now.part) }
+    ensures full { (k : ℕ) → tick < k → k ≤ stop → IsQuiet look.now.limits tick k t thread.now look.now.part → IsSomeAnd result (λ q. k ≤ q.stop) }
+{
+    if is_to_unwind(look, t, thread) {
         return None;
     }
     let stop = stop_of(look, thread, tick, stop);

@@ -1,9 +1,9 @@
 //! The choice of the running thread (XSH 2.8.4).
 
-ghost use Rattle.std.specs.Prelude.{◌≡◌, false, Some, IsSome};
+ghost use Rattle.std.specs.Prelude.{◌≡◌, false, Some, None, IsSome};
 ghost use Rattle.ptk_words_model.specs.Priority.{thread_at};
 ghost use Rattle.ptk_words_model.specs.State.{with_locks};
-ghost use Rattle.ptk_words_model.specs.Schedule.{at_head, after_dispatch, after_choice_between, after_choice};
+ghost use Rattle.ptk_words_model.specs.Schedule.{at_head, first_ready, after_dispatch, after_choice_between, after_choice};
 ghost use Rattle.ptk_words_invariant.specs.Well.{IsWell};
 ghost use Rattle.ptk_words.specs.Pools.{is_in};
 ghost use Rattle.ptk_gate_moves.specs.Held.{limits_here};
@@ -46,6 +46,18 @@ fn choose_over(pools: &mut Pools, running: ThreadNo, t: ThreadNo)
     }
 }
 
+/// The first thread of the line's greatest effective priority leaves the line and runs; nothing changes where the line
+/// is empty.
+#[tactic(auto, using(ptk_gate_moves::proofs::Ready::ready))]
+fn run_first(pools: &mut Pools)
+    requires well { IsWell (limits_here pools.old) pools.old.here }
+    ensures { pools.new ≡ record pools.old { here = after_choice_between None (first_ready pools.old.here.locks) pools.old.here } }
+{
+    if let Some(t) = pools.take_first() {
+        pools.run(t);
+    }
+}
+
 /// The running thread is chosen: the first of the line's greatest effective priority, unless one runs whose
 /// effective priority is as great.
 #[tactic(auto, using(ptk_gate_moves::proofs::Ready::ready, crate::proofs::Chosen::chosen_in_use))]
@@ -53,11 +65,13 @@ pub fn choose(pools: &mut Pools)
     requires well { IsWell (limits_here pools.old) pools.old.here }
     ensures { pools.new ≡ record pools.old { here = after_choice pools.old.here } }
 {
-    let next = pools.first_ready();
-    if let Some(t) = next {
-        match pools.running() {
-            Some(running) => choose_over(pools, running, t),
-            None => dispatch(pools, t),
+    match pools.running() {
+        Some(running) => {
+            let next = pools.first_ready();
+            if let Some(t) = next {
+                choose_over(pools, running, t);
+            }
         }
+        None => run_first(pools),
     }
 }

@@ -1,6 +1,6 @@
 -- An instruction's effect is its own, and that of an ECALL its call's.
 use Rattle.std.proofs.Common.{◌≡◌, ℕ, false, sym, ◌∙◌, ap, refl}
-use Rattle.std.specs.Prelude.{Option, Some, None, option_map}
+use Rattle.std.specs.Prelude.{Option, Some, option_map}
 use Rattle.std.proofs.lemmas.Bool.{false≢true}
 use Rattle.ptk_words.specs.Processor.{Processor}
 use Rattle.ptk_words.specs.declared.sections.Limits.{Limits}
@@ -14,18 +14,10 @@ use Rattle.ptk_words_sync_invariant.proofs.Pools.{changed_own}
 use Rattle.ptk_words_invariant.proofs.Decisions.{runner_runs}
 use Rattle.ptk_gate_steps.specs.Instructions.{after_instruction}
 use Rattle.ptk_gate.specs.Answers.{call_answer, runner_answer}
+use Rattle.ptk_gate.proofs.CallSteps.{runner_found}
 use Rattle.ptk_kernel.proofs.NoCalls.{calls}
 
 -- ---- the runner, whose registers change
-
-runner_thread : (t : ℕ) (o : Option Thread) (r : Runner) → runner_at t o ≡ Some r → o ≡ Some r.thread
-runner_thread t None r e = absurd (let no : ⊥ = cc in no)
-runner_thread t (Some thread) r e =
-    let same : record { number = t; thread = thread } ≡ r = cc in
-    ap (λ (x : Runner). Some x.thread) same
-
-pub runner_found : (running : Option ℕ) (s : Part) (r : Runner) → running ≡ Some r.number → runner_in running s ≡ Some r → thread_at s.locks r.number ≡ Some r.thread
-runner_found running s r runs e = runner_thread r.number (thread_at s.locks r.number) r (sym (ap (λ (o : Option ℕ). runner_in o s) runs) ∙ e)
 
 -- the runner has the registers that are put
 runner_of-with_cpu : (cpu : Processor) (r : Runner) (s : Part) → runner_of s ≡ Some r → runner_of (with_cpu r.number cpu s) ≡ Some (record { number = r.number; thread = record r.thread { cpu = cpu } })

@@ -1,5 +1,5 @@
 -- One move of a partition after another, and what a move leaves for the next.
-use Rattle.std.proofs.Common.{◌≡◌, ℕ, ◌<◌, true, ◌∙◌, ap}
+use Rattle.std.proofs.Common.{◌≡◌, ℕ, ◌<◌, true, sym, ◌∙◌, ap, subst}
 use Rattle.ptk_words.specs.declared.sections.Limits.{Limits}
 use Rattle.ptk_words_model.specs.State.{Part}
 use Rattle.ptk_words_model.specs.Decision.{after_arrivals, ready_at, runner_of, after_turn, after_decision}
@@ -10,6 +10,8 @@ use Rattle.ptk_words_invariant.proofs.Decisions.{arrivals_status}
 use Rattle.ptk_words_invariant.proofs.Timeouts.{expiries_status}
 use Rattle.ptk_gate.specs.Kept.{Kept, AreParts, part_at, put_part, limits_at}
 use Rattle.ptk_gate_steps.specs.declared.turns.NextStep.{NextStep}
+use Rattle.ptk_gate_steps.specs.Chosen.{IsChosen}
+use Rattle.ptk_gate_steps.proofs.Chosen.{choice_is_chosen}
 use Rattle.ptk_gate.specs.Answers.{call_answer}
 use Rattle.ptk_kernel.specs.StepParts.{passed}
 use Rattle.ptk_gate.proofs.Parted.{part_at-put, put_part-put}
@@ -50,6 +52,15 @@ pub made_ready : (n p tick : ℕ) (old arrived expired new : Kept) → AreParts 
 made_ready n p tick old arrived expired new parts lt first second third =
     moved_then n p (after_expiries tick (after_arrivals (limits_at p old) tick (part_at p old))) (λ limits s. after_choice s) old expired new parts lt
     (events_come n p tick old arrived expired parts lt first second) third
+
+-- and then the running thread is chosen
+pub ready_chosen : (n p tick : ℕ) (old arrived expired new : Kept) → AreParts n old → p < n
+    → arrived ≡ put_part p (after_arrivals (limits_at p old) tick (part_at p old)) old → expired ≡ put_part p (after_expiries tick (part_at p arrived)) arrived
+    → new ≡ put_part p (after_choice (part_at p expired)) expired → IsChosen (part_at p new)
+ready_chosen n p tick old arrived expired new parts lt first second third =
+    let ready : Part = ready_at (limits_at p old) tick (part_at p old) in
+    subst IsChosen (sym (part_after n p ready old new parts lt (made_ready n p tick old arrived expired new parts lt first second third)))
+    (choice_is_chosen (after_expiries tick (after_arrivals (limits_at p old) tick (part_at p old))))
 
 -- the readying and then the turn
 pub decision_made : (n p tick room : ℕ) (old mid new : Kept) → AreParts n old → p < n

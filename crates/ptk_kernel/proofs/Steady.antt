@@ -1,6 +1,6 @@
 -- The mutex that a thread waits for stays where its threads do.
-use Rattle.std.proofs.Common.{◌≡◌, ◌∙◌, ℕ, ◌<◌, Bool, true, ◌&&◌, nat_lt, List, [], ◌∷◌, length, refl, sym, ap, subst, arith}
-use Rattle.std.specs.Prelude.{Option, Some}
+use Rattle.std.proofs.Common.{◌≡◌, ◌∙◌, ℕ, Bool, true, ◌&&◌, nat_lt, List, [], ◌∷◌, length, ap, subst, arith}
+use Rattle.std.specs.Prelude.{Some}
 use Rattle.std.proofs.lemmas.Bool.{lt-ltb, true_from_ne_false}
 use Rattle.ptk_words.specs.Pools.{is_in}
 use Rattle.ptk_words.specs.declared.sections.Limits.{Limits}

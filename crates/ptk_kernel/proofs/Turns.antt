@@ -1,14 +1,12 @@
 -- The running thread's next step, read where the thread lies, is the step that the model makes.
-use Rattle.std.proofs.Common.{arith, length, ◌≡◌, ℕ, ◌+◌, ◌%◌, ◌^◌, ◌<◌, ◌≤◌, Bool, true, false, List, refl, sym, ◌∙◌, ap, subst, rules}
-use Rattle.std.specs.Prelude.{Option, Some, None, not, ◌&&◌, ◌==◌, option_map, unwrap_or, nat_lt, if◌then◌else◌}
-use Rattle.std.proofs.lemmas.Bool.{eqb-true}
+use Rattle.std.proofs.Common.{length, ◌≡◌, ℕ, ◌+◌, ◌^◌, ◌<◌, ◌≤◌, Bool, true, false, refl, sym, ◌∙◌, ap, subst, rules}
+use Rattle.std.specs.Prelude.{Option, Some, None, ◌==◌, option_map, unwrap_or, nat_lt, if◌then◌else◌}
 use Rattle.ptk_words.specs.Processor.{Processor, register}
-use Rattle.ptk_words.specs.Words.{word_of, word_at}
+use Rattle.ptk_words.specs.Words.{word_of}
 use Rattle.ptk_words.specs.declared.TheConstants.{A0, A7, ECALL, RETURN_GATE}
-use Rattle.ptk_words.specs.declared.faults.FaultKind.TheVariants.{Fetch, Misaligned}
 use Rattle.ptk_words.specs.declared.sections.Limits.{Limits}
 use Rattle.ptk_words.specs.declared.threads.Thread.{Thread}
-use Rattle.ptk_words_instructions.specs.Instructions.{Effect, Call, Fault, can_fetch, decode_of, effect_at, effect_of_word, with_next_pc}
+use Rattle.ptk_words_instructions.specs.Instructions.{Effect, effect_at, with_next_pc}
 use Rattle.ptk_words_model.specs.declared.Runner.{Runner}
 use Rattle.ptk_words_model.specs.declared.Spent.TheVariants.{Step, Idle, Lost}
 use Rattle.ptk_words_model.specs.declared.StepKind.{StepKind}
@@ -16,7 +14,7 @@ use Rattle.ptk_words_model.specs.declared.StepKind.TheVariants.{UnwindingStart, 
 use Rattle.ptk_words_model.specs.State.{Part}
 use Rattle.ptk_words_model.specs.Priority.{thread_at}
 use Rattle.ptk_words_model.specs.Schedule.{after_interval}
-use Rattle.ptk_words_model.specs.Decision.{a0_after, after_effect, after_step, after_turn, after_whole_step, is_to_unwind, runner_of, spent_in_turn, step_cost, step_kind, traced_word, with_cpu, word_fetched}
+use Rattle.ptk_words_model.specs.Decision.{after_effect, after_step, after_turn, after_whole_step, is_to_unwind, runner_of, spent_in_turn, step_cost, step_kind, traced_word, with_cpu, word_fetched}
 use Rattle.ptk_words_invariant.proofs.Decisions.{runner_runs}
 use Rattle.ptk_gate.specs.Kept.{Kept, part_at, put_part, limits_at}
 use Rattle.ptk_gate.proofs.Ranks.{put_same}
@@ -24,9 +22,10 @@ use Rattle.ptk_gate_steps.specs.declared.turns.NextStep.{NextStep}
 use Rattle.ptk_gate_steps.specs.Instructions.{after_instruction}
 use Rattle.ptk_gate_steps.specs.NextSteps.{a0_kept, cpu_of, next_step_in, next_step_of}
 use Rattle.ptk_gate.specs.Answers.{call_answer}
+use Rattle.ptk_gate.proofs.CallSteps.{a0_is, call_fetched, ecall_calls, runner_found}
 use Rattle.ptk_gate.proofs.Passing.{passed_as}
 use Rattle.ptk_kernel.specs.StepParts.{passed, stepped}
-use Rattle.ptk_kernel.proofs.Instructions.{call_parts, effect_alone, runner_found}
+use Rattle.ptk_kernel.proofs.Instructions.{call_parts, effect_alone}
 use Rattle.ptk_kernel.proofs.NoCalls.{no_call_at}
 
 -- the thread's step of so many ticks counts in its round-robin interval (XSH 2.8.4, SCHED_RR)
@@ -135,34 +134,7 @@ pub step_told : (p tick room cost : ℕ) (old new : Kept) (next : NextStep) → 
     → Step cost ≡ spent_in_turn room (runner_of (part_at p old)) (part_at p old)
 step_told p tick room cost old new next e paid le moved = (made_by p tick room cost old new next (runner_of (part_at p old)) e paid le moved).1
 
--- ---- the entry
-
--- a0 as it is kept is the model's
-pub a0_is : (before : Thread) (after : Option Thread) → a0_kept (register before.cpu A0) after ≡ a0_after before after
-a0_is before None = refl
-a0_is before (Some thread) = refl
-
 -- ---- an ECALL
-
-ecall_effect : (cpu : Processor) (memory : List ℕ) (word : ℕ) → word ≡ ECALL → effect_of_word cpu memory word (decode_of word) ≡ Call (with_next_pc cpu)
-ecall_effect cpu memory word e = rw e refl
-
-fetched_call : (cpu : Processor) (memory : List ℕ) (aligned inside : Bool) → (if aligned && inside then word_at memory cpu.pc else 0) ≡ ECALL
-    → (if not aligned then Fault Misaligned else (if inside then effect_of_word cpu memory (word_at memory cpu.pc) (decode_of (word_at memory cpu.pc)) else Fault Fetch)) ≡ Call (with_next_pc cpu)
-fetched_call cpu memory true true e = ecall_effect cpu memory (word_at memory cpu.pc) e
-fetched_call cpu memory true false e = absurd (omega (arith, e))
-fetched_call cpu memory false inside e = absurd (omega (arith, e))
-
--- the word of an ECALL makes a call
-ecall_calls : (cpu : Processor) (memory : List ℕ) → word_fetched memory cpu.pc ≡ ECALL → effect_at cpu memory ≡ Call (with_next_pc cpu)
-ecall_calls cpu memory e = fetched_call cpu memory (cpu.pc % 4 == 0) (can_fetch memory cpu.pc) e
-
-kind_calls : (unwinds gate : Bool) (word a7 number : ℕ) (calls : Bool) → (word == ECALL) ≡ calls
-    → (if unwinds then UnwindingStart else if gate then GateStep else if calls then CallStep a7 else InstructionStep) ≡ CallStep number → word ≡ ECALL
-kind_calls true gate word a7 number calls is e = absurd (let no : ⊥ = cc in no)
-kind_calls false true word a7 number calls is e = absurd (let no : ⊥ = cc in no)
-kind_calls false false word a7 number true is e = eqb-true word ECALL is
-kind_calls false false word a7 number false is e = absurd (let no : ⊥ = cc in no)
 
 -- the pc passed, and then the call, are the step of an ECALL
 pub call_stepped : (limits : Limits) (tick number : ℕ) (next : NextStep) (r : Runner) (s : Part) → next_step_in s ≡ Some next → runner_of s ≡ Some r → next.kind ≡ CallStep number
@@ -171,9 +143,7 @@ call_stepped limits tick number next r s e runs kind =
     let cpu : Processor = r.thread.cpu in
     let after : Processor = with_next_pc cpu in
     let is : next ≡ next_step_of s r = next_is s next r e runs in
-    let word : word_fetched s.memory cpu.pc ≡ ECALL =
-    kind_calls (is_to_unwind s r.number r.thread) (cpu.pc == RETURN_GATE) (word_fetched s.memory cpu.pc) (register cpu A7) number (word_fetched s.memory cpu.pc == ECALL) refl
-    (sym (ap (λ (n : NextStep). n.kind) is) ∙ kind) in
+    let word : word_fetched s.memory cpu.pc ≡ ECALL = call_fetched r.number number r.thread s (sym (ap (λ (n : NextStep). n.kind) is) ∙ kind) in
     let found : thread_at s.locks r.number ≡ Some r.thread = runner_found s.running s r (runner_runs s r runs) runs in
     let gone : passed next s ≡ with_cpu r.number after s = ap (λ (n : NextStep). passed n s) is ∙ passed_as r.number (word_of (cpu.pc + 4)) r.thread s found in
     ap (λ (q : Part). (call_answer limits tick q).part) gone

@@ -4,13 +4,14 @@ ghost use Rattle.std.specs.Prelude.{◌≡◌, ◌<◌, ◌≤◌, true, length,
 ghost use Rattle.ptk_words_model.specs.Decision.{runner_of, ready_at, after_turn, spent_in_turn, after_decision, spent_by_decision};
 ghost use Rattle.ptk_words.specs.Faults.{is_active};
 ghost use Rattle.ptk_gate.specs.Kept.{part_at, put_part, limits_at};
-ghost use Rattle.ptk_gate_steps.specs.NextSteps.{next_step_in};
+ghost use Rattle.ptk_gate_steps.specs.Chosen.{IsChosen};
+ghost use Rattle.ptk_gate_steps.specs.NextSteps.{IsCallNext, next_step_in};
 ghost use Rattle.ptk_kernel.specs.Spending.{cost_in};
 
 use crate::steps::whole_step;
 use ptk_gate::Tables;
 use ptk_gate_steps::{NextStep, step_cost};
-use ptk_words::{Entry, PartId, Tick};
+use ptk_words::{Entry, PartId, ThreadNo, Tick};
 use ptk_words_model::Spent;
 
 /// A decision of the partition, which has not halted, at a tick of its own with this number of ticks to its window's
@@ -30,12 +31,13 @@ pub fn decide(tables: &mut Tables, p: PartId, tick: Tick, room: u32) -> Spent
 }
 
 /// The first half of a decision of the partition, which has not halted, at the tick: what has come by that tick
-/// arrives, the deadlines that are due expire, and the running thread is chosen. The partition's part is `ready_at` of
-/// what it was; no tick is spent, and no other partition changes.
+/// arrives, the deadlines that are due expire, and the running thread is chosen: it stays before those of the line. The
+/// partition's part is `ready_at` of what it was; no tick is spent, and no other partition changes.
 pub fn prepare(tables: &mut Tables, p: PartId, tick: Tick)
     requires partition { p < length tables.old.limits }
     requires active { is_active (part_at p tables.old).status ≡ true }
-    ensures { tables.new ≡ put_part p (ready_at (limits_at p tables.old) tick (part_at p tables.old)) tables.old }
+    ensures moved { tables.new ≡ put_part p (ready_at (limits_at p tables.old) tick (part_at p tables.old)) tables.old }
+    ensures chosen { IsChosen (part_at p tables.new) }
 {
     let _parts = tables.parts();
     tables.arrive_due(p, tick);
@@ -58,6 +60,20 @@ pub fn take_turn(tables: &mut Tables, p: PartId, tick: Tick, room: u32) -> Spent
         Some(next) => begin_step(tables, p, tick, room, &next),
         None => Spent::Idle,
     }
+}
+
+/// The second half of a decision, of a partition that is prepared for it and whose running thread's next step is known
+/// to be a call: the call is made at the tick, if its whole cost fits into the room, the ticks to the window's end. What
+/// it spent: the ticks of the call; Lost where the cost does not fit, and nothing changes. No other partition changes.
+#[inline(always)]
+pub fn take_call(tables: &mut Tables, p: PartId, t: ThreadNo, tick: Tick, room: u32) -> Spent
+    requires partition { p < length tables.old.limits }
+    requires call { IsCallNext t (part_at p tables.old) }
+    ensures told { result ≡ spent_in_turn room (runner_of (part_at p tables.old)) (part_at p tables.old) }
+    ensures moved { tables.new ≡ put_part p (after_turn (limits_at p tables.old) tick room (runner_of (part_at p tables.old)) (part_at p tables.old)) tables.old }
+    ensures short { cost_in result ≤ 16 }
+{
+    tables.take_call(p, t, tick, room)
 }
 
 /// The step of the running thread, if its whole cost fits; Lost where it does not, and nothing changes.

@@ -14,22 +14,26 @@
 //!   (`IsQuietStep`, `IsSteady`).
 //! - `prepare` is its part up to the choice of the running thread (`ready_at`), and `take_turn` the rest (`after_turn`,
 //!   `spent_in_turn`), of whatever state p is in.
+//! - `take_call` is `take_turn` of a partition whose next step is known to be a call, as `run_quiet` may say of the
+//!   step before which it ends (`IsCallNext`).
+//! - `prepare` leaves the running thread chosen (`IsChosen`), and then `prepared_until` is `quiet_until`.
 //!
-//! `prepare` and `take_turn` are public, since between the two a caller may find that the partition is quiet.
-//! `last_step` returns the trace's entry. `quiet_until` tests once that nothing else can come. `idle_until` returns when
-//! the partition's next deadline or input comes. Below are the gate's tables, which carry out each part of a decision, and
-//! the gate's `call`, through which every ECALL goes; above is the system. Costly to prove is that two moves one after
-//! another are the model's one: `tables.parts()` is read first there, for its clause that every component of the tables
-//! has an entry for each partition.
+//! `prepare`, `take_turn` and `take_call` are public, since between the two halves a caller may find that the
+//! partition is quiet. `last_step` returns the trace's entry. `quiet_until` tests once that nothing else can come.
+//! `idle_until` returns when the partition's next deadline or input comes. Below are the gate's tables, which carry out
+//! each part of a decision, and `call` and `take_call` of the gate, one of which makes every call that is not a quiet
+//! one of a row; above is the system. Costly to prove is that two moves one after another are the model's one:
+//! `tables.parts()` is read first there, for its clause that every component of the tables has an entry for each
+//! partition.
 
 mod decisions;
 mod events;
 mod rows;
 mod steps;
 
-pub use decisions::{decide, last_step, prepare, take_turn};
+pub use decisions::{decide, last_step, prepare, take_call, take_turn};
 pub use events::idle_until;
 pub use ptk_gate::Tables;
 pub use ptk_gate_steps::{Quiet, Reached};
 pub use ptk_words_model::Spent;
-pub use rows::{quiet_until, run_quiet, stays_idle_until};
+pub use rows::{prepared_until, quiet_until, run_quiet, stays_idle_until};

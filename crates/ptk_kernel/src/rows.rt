@@ -8,6 +8,8 @@ ghost use Rattle.ptk_words.specs.Faults.{is_active};
 ghost use Rattle.ptk_words_batches.specs.Quiet.{IsQuiet};
 ghost use Rattle.ptk_words_batches.specs.Idle.{IsIdle};
 ghost use Rattle.ptk_gate.specs.Kept.{part_at, put_part, limits_at};
+ghost use Rattle.ptk_gate_steps.specs.Chosen.{IsChosen};
+ghost use Rattle.ptk_gate_steps.specs.NextSteps.{IsCallNext};
 ghost use Rattle.ptk_gate_steps.specs.Stretches.{HasEnded, HasGone};
 ghost use Rattle.ptk_kernel.specs.Rows.{IsStill, IsStillTo};
 
@@ -30,11 +32,26 @@ pub fn quiet_until(tables: &Tables, p: PartId, tick: Tick, stop: Tick) -> Option
     tables.quiet_until(p, tick, stop)
 }
 
+/// `quiet_until` of a partition whose running thread is chosen, as `prepare` leaves it: it stays before those of the
+/// line, and that is not tested.
+#[inline(always)]
+pub fn prepared_until(tables: &Tables, p: PartId, tick: Tick, stop: Tick) -> Option<Quiet>
+    requires partition { p < length tables.now.limits }
+    requires active { is_active (part_at p tables.now).status ≡ true }
+    requires order { tick < stop }
+    requires time { stop ≤ 2 ^ 41 }
+    requires chosen { IsChosen (part_at p tables.now) }
+    ensures quiet { IfSome result (λ q. (tick < q.stop) × (q.stop ≤ stop) × ((thread : Thread) × (thread_at (part_at p tables.now).locks q.thread ≡ Some thread) × IsQuiet (limits_at p tables.now) tick q.stop q.thread thread (part_at p tables.now))) }
+    ensures full { (t k : ℕ) → (thread : Thread) → tick < k → k ≤ stop → IsQuiet (limits_at p tables.now) tick k t thread (part_at p tables.now) → IsSomeAnd result (λ q. k ≤ q.stop) }
+{
+    tables.prepared_until(p, tick, stop)
+}
+
 /// Steps of a quiet partition in a row, the first of them at the tick, each in place of a decision: plain ones, and
 /// quiet calls that end at its stop or before. Such a call replies at once, wakes nobody and changes no priority.
 /// Behind the first plain steps and the call that follows them, only such as begin before `until`. Returns the tick of
-/// the next decision and how many steps there were; the first tick, and nothing changes, where its next step is neither
-/// of the two. It ends before its stop and before `until` only there. The partition is as quiet as it was, up to that
+/// the next decision, how many steps there were, and whether the step at that tick is known to be a call; the first
+/// tick, and nothing changes, where its next step is neither of the two. It ends before its stop and before `until` only there. The partition is as quiet as it was, up to that
 /// stop or a later one: the same thread runs, each thread waits as before, and a mutex that threads wait for keeps its
 /// owner. The trace has the steps as the newest. No other partition changes.
 pub fn run_quiet(
@@ -56,6 +73,7 @@ pub fn run_quiet(
     ensures moved { tables.new ≡ put_part p (part_at p tables.new) tables.old }
     ensures gone { HasGone (limits_at p tables.old) quiet.thread tick result.steps result.tick (part_at p tables.old) (part_at p tables.new) trace.old trace.new }
     ensures ended { result.tick < quiet.stop → (tick < result.tick → result.tick < until) → HasEnded quiet.stop quiet.thread result.tick (part_at p tables.new) }
+    ensures call { result.is_call ≡ true → IsCallNext quiet.thread (part_at p tables.new) }
     ensures still { (stop : ℕ) → quiet.stop ≤ stop → IsStillTo p tick stop quiet.thread tables.old → IsStillTo p result.tick stop quiet.thread tables.new }
 {
     let _kept = trace.kept();

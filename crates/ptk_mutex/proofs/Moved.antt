@@ -1,10 +1,12 @@
 -- What the calls need of the tables, and what the tables are after a move of one partition.
-use Rattle.std.proofs.Common.{◌≡◌, ℕ, ◌-◌, ◌<◌, ◌≤◌, List, length, refl, ◌∙◌, ap, arith, true, false}
-use Rattle.std.specs.Prelude.{Option, Some, None, option_map}
+use Rattle.std.proofs.Common.{◌≡◌, ℕ, ◌-◌, ◌<◌, ◌≤◌, List, [], ◌∷◌, length, refl, ◌∙◌, ap, arith, true, false, not}
+use Rattle.std.specs.Prelude.{◌==◌, Option, Some, None, option_map}
+use Rattle.std.proofs.lemmas.Bool.Decides.{nat_tests}
 use Rattle.std.proofs.lemmas.List.{length-set, set-set, set-get_or}
 use Rattle.ptk_words.specs.Pools.{pool_get}
 use Rattle.ptk_words.specs.declared.TheConstants.{COUNT_LIMIT}
 use Rattle.ptk_words_model.specs.State.{Mutex, Locks}
+use Rattle.ptk_words_model.specs.Priority.{effective_priority}
 use Rattle.ptk_words_model.specs.Mutex.{waiters_of, count_of}
 use Rattle.ptk_words_parted.specs.Parts.{part_of}
 use Rattle.ptk_threads.specs.Table.{ThreadTable}
@@ -71,7 +73,15 @@ choice-is p m o table lines mutexes ready e = e ∙ stored_heir m (locks_by p ta
 pub choice_may : (p m : ℕ) (o : Option ℕ) (table : ThreadTable) (lines : List (List ℕ)) (mutexes : List (List (Option Mutex))) → AreReadyBy p table lines mutexes → o ≡ first_of_greatest (stored_of (part_of table.stored p)) (waiters_of (pool_get (part_of mutexes p) m)) → MayGet o (locks_by p table lines mutexes) m
 choice_may p m o table lines mutexes ready e = heir_may_get m (locks_by p table lines mutexes) o ready.locked (choice-is p m o table lines mutexes ready e)
 
-pub ruleset choices = (choice-is, choice_may, has_part)
+-- without waiters there is no heir
+no_heir : (rank : ℕ → ℕ) (ks : List ℕ) → not (length ks == 0) ≡ false → None ≡ first_of_greatest rank ks
+no_heir rank [] e = refl
+no_heir rank (k ∷ ks) e = grind (arith, nat_tests)
+
+pub nobody-is : (p m : ℕ) (table : ThreadTable) (lines : List (List ℕ)) (mutexes : List (List (Option Mutex))) → not (length (waiters_of (pool_get (part_of mutexes p) m)) == 0) ≡ false → None ≡ heir m (locks_by p table lines mutexes)
+nobody-is p m table lines mutexes e = no_heir (effective_priority (locks_by p table lines mutexes)) (waiters_of (pool_get (part_of mutexes p) m)) e
+
+pub ruleset choices = (choice-is, choice_may, nobody-is, has_part)
 
 -- a count above 1 can go down
 pub count_down_room : (x : Option Mutex) → 1 < count_of x → SlotMayChange CountDown x

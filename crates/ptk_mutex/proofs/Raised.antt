@@ -15,13 +15,16 @@ use Rattle.ptk_words_model.specs.declared.LockMove.TheVariants.{Takes, Recovers,
 use Rattle.ptk_words_model.specs.State.{Mutex, Locks}
 use Rattle.ptk_words_model.specs.Priority.{awaited, thread_at, assigned_of, inheritor, inheritor_of, ceiling_for, effective_priorities}
 use Rattle.ptk_words_model.specs.Schedule.{woken_with, after_wake}
-use Rattle.ptk_words_model.specs.Mutex.{owns, move_reply, after_count, after_move, after_relock_move, is_waiting}
+use Rattle.ptk_words_model.specs.Mutex.{owns, move_reply, after_move, after_relock_move, is_waiting}
 use Rattle.ptk_words_sync_invariant.proofs.Pools.{changed_twice, changed_own}
 use Rattle.ptk_words_sync_invariant.proofs.Raising.{level_of}
 use Rattle.ptk_threads.specs.Table.{ThreadTable, thread_in, with_changed, with_wait, with_priority}
 use Rattle.ptk_threads.proofs.Pools.{part_of-set}
-use Rattle.ptk_mutex_priorities.specs.declared.slot.Change.TheVariants.{Take, CountUp}
-use Rattle.ptk_mutex_priorities.specs.Changes.{mutex_changed}
+use Rattle.ptk_mutex_priorities.specs.declared.slot.Change.TheVariants.{Take, CountUp, CountDown, Release, Abandon, Mark}
+use Rattle.ptk_mutex_priorities.specs.declared.slot.Change.{Change}
+use Rattle.ptk_mutex_priorities.specs.Changes.{mutex_changed, KeepsOwner}
+use Rattle.ptk_mutex_priorities.proofs.Raising.{same_owner_raises_alike, keeps_protocol}
+use Rattle.ptk_mutex.specs.Moves.{after_change}
 use Rattle.ptk_syncs.specs.Waiters.{waited_by}
 use Rattle.ptk_mutex.specs.Before.{awake, freed, IsBeforeWait, IsBeforeTake, IsBeforeAssignment}
 use Rattle.ptk_mutex.specs.Visits.{IsVisited}
@@ -66,21 +69,21 @@ take_before p t m table table' lines mutexes mutexes' ready free same e =
     ready.stored ∙ sym (ap (λ l. effective_priorities (part_of table.threads p) (pool_changed m freed l)) here ∙ take_effective t m (part_of table.threads p) row free) in
     subst (λ (l : ThreadTable). IsBeforeTake m (part_of l.threads p) (part_of mutexes' p) (part_of l.stored p)) (sym same) before
 
--- ---- a count more
+-- ---- a mutex that keeps its owner
 
-counted_inheritor : (x : Option Mutex) → inheritor_of (option_map (mutex_changed CountUp) x) ≡ inheritor_of x
-counted_inheritor None = refl
-counted_inheritor (Some a) = refl
+keeps_owner : (change : Change) → KeepsOwner change → (mutex : Mutex) → (mutex_changed change mutex).owner ≡ mutex.owner
+keeps_owner (Take t) keeps mutex = absurd keeps
+keeps_owner CountUp keeps mutex = refl
+keeps_owner CountDown keeps mutex = refl
+keeps_owner Release keeps mutex = absurd keeps
+keeps_owner Abandon keeps mutex = absurd keeps
+keeps_owner (Mark soundness) keeps mutex = refl
 
-counted_ceiling : (u : ℕ) (x : Option Mutex) → ceiling_for u (option_map (mutex_changed CountUp) x) ≡ ceiling_for u x
-counted_ceiling u None = refl
-counted_ceiling u (Some a) = refl
-
--- it raises nobody
-pub count_stays : (p m : ℕ) (table : ThreadTable) (lines : List (List ℕ)) (mutexes : List (List (Option Mutex))) → AreReadyBy p table lines mutexes → table ≡ with_threads p (after_count m (locks_by p table lines mutexes)) table
-count_stays p m table lines mutexes ready =
-    let same : effective_priorities (part_of table.threads p) (pool_changed m (mutex_changed CountUp) (part_of mutexes p)) ≡ part_of table.stored p =
-    effective_mutex m (mutex_changed CountUp) (part_of table.threads p) (part_of mutexes p) (counted_inheritor (pool_get (part_of mutexes p) m)) (λ u. counted_ceiling u (pool_get (part_of mutexes p) m)) ∙ sym ready.stored in
+-- it raises whom it raised
+pub amended_stays : (change : Change) (p m : ℕ) (table : ThreadTable) (lines : List (List ℕ)) (mutexes : List (List (Option Mutex))) → KeepsOwner change → AreReadyBy p table lines mutexes → table ≡ with_threads p (after_change change m (locks_by p table lines mutexes)) table
+amended_stays change p m table lines mutexes keeps ready =
+    let same : effective_priorities (part_of table.threads p) (pool_changed m (mutex_changed change) (part_of mutexes p)) ≡ part_of table.stored p =
+    same_owner_raises_alike (part_of table.threads p) (part_of mutexes p) m (mutex_changed change) (keeps_protocol change) (keeps_owner change keeps) ∙ sym ready.stored in
     rw (same, set_part-same, set_part-same) refl
 
 -- ---- a thread that begins to wait

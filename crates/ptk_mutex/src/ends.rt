@@ -10,7 +10,7 @@ ghost use Rattle.ptk_mutex.specs.Tables.{locks_at, put_locks, with_threads, AreR
 
 use crate::locking::is_owner;
 use crate::mutexes::Mutexes;
-use crate::unlocking::{alter, hand_over};
+use crate::unlocking::{alter, amend, hand_over};
 use ptk_mutex_priorities::{Change, slot_in};
 use ptk_syncs::Roster;
 use ptk_words::{MutexNo, PartId, Soundness, ThreadNo};
@@ -76,7 +76,7 @@ fn bequeath(roster: &mut Roster, p: PartId, m: MutexNo)
     ensures ready { AreReady p roster.new }
 {
     let marked = Change::Mark(Soundness::Inconsistent);
-    alter(roster, p, m, marked);
+    amend(roster, p, m, marked);
     hand_over(roster, p, m);
 }
 

@@ -25,11 +25,13 @@
 //! goes to the tail of the line. No call but `build` takes memory. A `Rise` says what raised a thread: it began to
 //! wait, took a mutex, or got a higher assigned priority. After any other change on which they may depend, the
 //! partition's priorities are all computed again, and `visited` of `Mutexes`, the number of stored priorities that the
-//! walk read, is 0. Costly to prove are that stopping early changes nothing, on cycles too (`proofs/Rises`), and what a
-//! rise adds to the priorities (`proofs/Joins`, `proofs/Gains`), which speak of lists alone (`proofs/Rosters` puts a
-//! list into the roster); that the stored priorities choose the heir (`proofs/Locked`), the calls of many moves
-//! (`proofs/Steps`), and that a call leaves other waiters alone (`proofs/Apart`). Below are `ptk_syncs` and
-//! `ptk_mutex_priorities`; above are `ptk_cond` and `ptk_gate_pools`.
+//! walk read, is 0. None depends on a mutex that is neither INHERIT nor PROTECT (`refresh_after`), or on a change of
+//! any mutex that keeps its owner (`amend`): `ptk_mutex_priorities` has the laws. Costly to prove are that stopping
+//! early changes nothing, on cycles too (`proofs/Rises`), and what a rise adds to the priorities (`proofs/Joins`,
+//! `proofs/Gains`), which speak of lists alone (`proofs/Rosters` puts a list into the roster); that the stored
+//! priorities choose the heir (`proofs/Locked`), the calls of many moves (`proofs/Steps`), and that a call leaves other
+//! waiters alone (`proofs/Apart`). Below are `ptk_syncs` and `ptk_mutex_priorities`; above are `ptk_cond` and
+//! `ptk_gate_pools`.
 
 mod ends;
 mod locking;

@@ -22,7 +22,7 @@ ghost use Rattle.ptk_mutex.specs.Sound.{IsSound};
 use crate::mutexes::{Mutexes, refresh_priorities};
 use crate::rise::{Rise, raise};
 use crate::rising::make;
-use crate::unlocking::alter;
+use crate::unlocking::amend;
 use crate::waking::relock_move;
 use ptk_mutex_priorities::{Change, MutexSlot, assigned, slot_in};
 use ptk_syncs::Roster;
@@ -146,7 +146,7 @@ impl Mutexes {
     {
         self.visited = 0;
         let marked = Change::Mark(Soundness::Consistent);
-        alter(roster, p, m, marked);
+        amend(roster, p, m, marked);
     }
 
     /// A thread has this assigned priority (pthread_setschedprio).

@@ -7,6 +7,7 @@ ghost use Rattle.ptk_words_model.specs.Mutex.{new_mutex, waiters_of};
 ghost use Rattle.ptk_words_model.specs.MutexCalls.{is_locked};
 ghost use Rattle.ptk_words_model.specs.Priority.{effective_priorities};
 ghost use Rattle.ptk_words_parted.specs.Parts.{part_of};
+ghost use Rattle.ptk_mutex_priorities.specs.Plain.{is_raising_at};
 ghost use Rattle.ptk_mutex_priorities.specs.Slots.{state_of};
 ghost use Rattle.ptk_mutex.specs.Pool.{with_new_mutex};
 ghost use Rattle.ptk_mutex.specs.Rosters.{with_priorities};
@@ -135,4 +136,31 @@ pub(crate) fn refresh_priorities(roster: &mut Roster, p: PartId)
     let priorities = &mut room[..n];
     recompute(slots, roster.mutex_slots(p), priorities);
     roster.store(p, priorities);
+}
+
+/// After a change of a mutex, of its owner or of its waiters: computes the stored priorities of the partition again
+/// where the mutex is INHERIT or PROTECT; any other raises nobody, so they stay (pthread_mutexattr_getprotocol).
+pub(crate) fn refresh_after(roster: &mut Roster, p: PartId, m: MutexNo)
+    requires partition { p < length roster.old.table.threads }
+    requires plain { is_raising_at (pool_get (part_of roster.old.mutexes p) m) ≡ false → part_of roster.old.table.stored p ≡ effective_priorities (part_of roster.old.table.threads p) (part_of roster.old.mutexes p) }
+    ensures threads { roster.new.table ≡ record roster.old.table { stored = slice_set roster.old.table.stored p (effective_priorities (part_of roster.old.table.threads p) (part_of roster.old.mutexes p)) } }
+    ensures line { roster.new.lines ≡ roster.old.lines }
+    ensures mutexes { roster.new.mutexes ≡ roster.old.mutexes }
+    ensures conditions { roster.new.conditions ≡ roster.old.conditions }
+{
+    if is_raising(roster, p, m) {
+        refresh_priorities(roster, p);
+    }
+}
+
+/// Whether a mutex is INHERIT or PROTECT.
+#[tactic(auto, using(ptk_mutex_priorities::proofs::Bare::bares))]
+fn is_raising(roster: &Roster, p: PartId, m: MutexNo) -> bool
+    requires { p < length roster.now.table.threads }
+    ensures { result ≡ is_raising_at (pool_get (part_of roster.now.mutexes p) m) }
+{
+    match slot_in(roster.mutex_slots(p), m) {
+        Some(slot) => slot.is_raising(),
+        None => false,
+    }
 }

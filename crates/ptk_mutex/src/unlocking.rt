@@ -4,12 +4,12 @@ ghost use Rattle.std.specs.Prelude.{◌≡◌, ◌<◌, length, slice_set};
 ghost use Rattle.ptk_words.specs.Pools.{pool_get};
 ghost use Rattle.ptk_words_parted.specs.Parts.{part_of};
 ghost use Rattle.ptk_words_model.specs.Mutex.{heir, soundness_of, count_of, after_hand_over, after_hand_over_to, after_refusal, after_refusal_to, after_refusals, after_loss, after_last_unlock, after_unlock};
-ghost use Rattle.ptk_mutex_priorities.specs.Changes.{SlotMayChange, IsQuiet};
+ghost use Rattle.ptk_mutex_priorities.specs.Changes.{SlotMayChange, IsQuiet, KeepsOwner};
 ghost use Rattle.ptk_mutex.specs.Sound.{IsSound};
 ghost use Rattle.ptk_mutex.specs.Tables.{locks_at, put_locks, with_threads, with_threads_alone, HasPart, MayGet, AreReady};
 ghost use Rattle.ptk_mutex.specs.Moves.{after_change};
 
-use crate::mutexes::{Mutexes, refresh_priorities};
+use crate::mutexes::{Mutexes, refresh_after};
 use crate::waking::leave;
 use ptk_mutex_priorities::{Change, free_move, slot_in};
 use ptk_syncs::Roster;
@@ -44,7 +44,7 @@ fn unlock_once(roster: &mut Roster, p: PartId, m: MutexNo)
     ensures ready { AreReady p roster.new }
 {
     if count(roster, p, m) > 1 {
-        alter(roster, p, m, Change::CountDown);
+        amend(roster, p, m, Change::CountDown);
     } else {
         unlock_last(roster, p, m);
     }
@@ -77,7 +77,7 @@ fn lose(roster: &mut Roster, p: PartId, m: MutexNo)
 {
     alter(roster, p, m, Change::Release);
     let lost = Change::Mark(Soundness::Unrecoverable);
-    alter(roster, p, m, lost);
+    amend(roster, p, m, lost);
     refuse_all(roster, p, m);
 }
 
@@ -109,7 +109,7 @@ pub(crate) fn hand_over(roster: &mut Roster, p: PartId, m: MutexNo)
 {
     let next = choose(roster, p, m);
     hand_to(roster, p, m, next);
-    refresh_priorities(roster, p);
+    refresh_after(roster, p, m);
 }
 
 /// The mutex goes to a waiter, with its reply (EOWNERDEAD after a dead owner), or to nobody; the stored priorities
@@ -145,7 +145,7 @@ fn refuse_next(roster: &mut Roster, p: PartId, m: MutexNo)
 {
     let next = choose(roster, p, m);
     refuse_to(roster, p, m, next);
-    refresh_priorities(roster, p);
+    refresh_after(roster, p, m);
 }
 
 /// A waiter, if there is one, leaves without the mutex; the stored priorities stay.
@@ -174,11 +174,25 @@ fn choose(roster: &Roster, p: PartId, m: MutexNo) -> Option<ThreadNo>
     ensures told { result ≡ heir m (locks_at p roster.now) }
     ensures may { MayGet result (locks_at p roster.now) m }
 {
+    if roster.has_mutex_waiters(p, m) {
+        first_waiter(roster, p, m)
+    } else {
+        None
+    }
+}
+
+/// The same, by a list of all waiters.
+#[tactic(auto, using(crate::proofs::Moved::choices))]
+fn first_waiter(roster: &Roster, p: PartId, m: MutexNo) -> Option<ThreadNo>
+    requires ready { AreReady p roster.now }
+    ensures told { result ≡ heir m (locks_at p roster.now) }
+    ensures may { MayGet result (locks_at p roster.now) m }
+{
     let waiters = roster.mutex_waiters(p, m);
     roster.first_among(p, waiters.as_slice())
 }
 
-/// A quiet change of a mutex.
+/// A quiet change of a mutex, its owner too.
 #[tactic(auto, using(crate::proofs::Moved::moves))]
 pub(crate) fn alter(roster: &mut Roster, p: PartId, m: MutexNo, change: Change)
     requires ready { AreReady p roster.old }
@@ -191,7 +205,22 @@ pub(crate) fn alter(roster: &mut Roster, p: PartId, m: MutexNo, change: Change)
     ensures ready { AreReady p roster.new }
 {
     roster.change_mutex(p, m, change);
-    refresh_priorities(roster, p);
+    refresh_after(roster, p, m);
+}
+
+/// A quiet change of a mutex that keeps its owner, which changes no priority.
+pub(crate) fn amend(roster: &mut Roster, p: PartId, m: MutexNo, change: Change)
+    requires ready { AreReady p roster.old }
+    requires quiet { IsQuiet change }
+    requires owner { KeepsOwner change }
+    requires possible { SlotMayChange change (pool_get (part_of roster.old.mutexes p) m) }
+    ensures threads { roster.new.table ≡ with_threads p (after_change change m (locks_at p roster.old)) roster.old.table }
+    ensures line { roster.new.lines ≡ roster.old.lines }
+    ensures mutexes { roster.new.mutexes ≡ slice_set roster.old.mutexes p (after_change change m (locks_at p roster.old)).mutexes }
+    ensures conditions { roster.new.conditions ≡ roster.old.conditions }
+    ensures ready { AreReady p roster.new }
+{
+    roster.change_mutex(p, m, change);
 }
 
 /// The state of what a mutex guards.

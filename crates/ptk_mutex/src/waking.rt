@@ -17,7 +17,7 @@ ghost use Rattle.ptk_mutex.specs.Tables.{locks_at, put_locks, with_threads, with
 ghost use Rattle.ptk_mutex.specs.Moves.{after_withdrawal};
 ghost use Rattle.ptk_mutex.specs.Rises.{MayTake};
 
-use crate::mutexes::{Mutexes, refresh_priorities};
+use crate::mutexes::{Mutexes, refresh_after};
 use crate::rising::make;
 use ptk_mutex_priorities::{kept_reply, reply_of, slot_in};
 use ptk_syncs::Roster;
@@ -73,7 +73,7 @@ impl Mutexes {
     {
         self.visited = 0;
         take_out(roster, p, t, m, reply);
-        refresh_priorities(roster, p);
+        refresh_after(roster, p, m);
     }
 }
 

@@ -2,3 +2,4 @@ pub mod Slots
 pub mod Plain
 pub mod Levels
 pub mod Bare
+pub mod Raising

@@ -33,10 +33,14 @@ pub plain_ceiling : (u : ℕ) (x : Option Mutex) → is_raising_at x ≡ false �
 plain_ceiling u None e = refl
 plain_ceiling u (Some m) e = either_zero (is_owner u m.owner) (ceiling_of m.protocol) (ceiling_by m.protocol e)
 
+-- the protocol that stays
+pub raising-kept : (f : Mutex → Mutex) (x : Option Mutex) → ((m : Mutex) → (f m).protocol ≡ m.protocol) → is_raising_at (option_map f x) ≡ is_raising_at x
+raising-kept f None same = refl
+raising-kept f (Some m) same = ap is_raising (same m)
+
 -- so with another owner
 pub plain_kept : (f : Mutex → Mutex) (x : Option Mutex) → ((m : Mutex) → (f m).protocol ≡ m.protocol) → is_raising_at x ≡ false → is_raising_at (option_map f x) ≡ false
-plain_kept f None same e = refl
-plain_kept f (Some m) same e = ap is_raising (same m) ∙ e
+plain_kept f x same e = raising-kept f x same ∙ e
 
 plain_by : (raises sound rest : Bool) → (not raises && sound && rest) ≡ true → raises ≡ false
 plain_by false sound rest e = refl

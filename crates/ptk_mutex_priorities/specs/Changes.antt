@@ -37,3 +37,12 @@ IsQuiet CountDown = Unit {0}
 IsQuiet Release = Unit {0}
 IsQuiet Abandon = Unit {0}
 IsQuiet (Mark soundness) = Unit {0}
+
+-- the change is not one of the owner (own)
+abbrev pub KeepsOwner : Change → Type 0
+KeepsOwner (Take t) = ⊥
+KeepsOwner CountUp = Unit {0}
+KeepsOwner CountDown = Unit {0}
+KeepsOwner Release = ⊥
+KeepsOwner Abandon = ⊥
+KeepsOwner (Mark soundness) = Unit {0}

@@ -5,13 +5,16 @@
 //! - One mutex's place: each change of it is the definition's, whoever waits, and so are the moves of lock, trylock and
 //!   re-lock with their replies.
 //! - `recompute` gives a partition's effective priorities, on cycles too.
+//! - `plain_raises_nobody`: a change of a mutex that is neither INHERIT nor PROTECT, of its owner or its waiters, keeps
+//!   every effective priority. `same_owner_raises_alike`: so does one of any mutex that keeps its protocol and owner.
 //!
 //! `MutexSlot` is the place of a number: a contract sees it as the mutex at it without its waiters, which the slot
 //! table keeps. `Change` is all else that becomes of a mutex. What reads no waiters is the same of the mutex with them
 //! (`proofs/Bare`). In `recompute` each thread raises its chain; that this leaves the greatest held priority, within
 //! the range that `ptk_syncs` asks of what it stores, is what is costly to prove (`proofs/Levels`). No call takes
-//! memory. Below is `ptk_threads`; above are `ptk_syncs` and `ptk_mutex`.
+//! memory. Below are `ptk_words_sync_invariant` and `ptk_threads`; above are `ptk_syncs` and `ptk_mutex`.
 
+pub mod laws;
 mod moves;
 mod priorities;
 mod slot;

@@ -11,7 +11,7 @@ ghost use Rattle.ptk_words_model.specs.Priority.{inheritor, inheritor_of, ceilin
 ghost use Rattle.ptk_threads_slots.specs.Links.{threads_of};
 ghost use Rattle.ptk_mutex_priorities.specs.Slots.{state_of, is_robust_at};
 ghost use Rattle.ptk_mutex_priorities.specs.Changes.{mutex_changed, SlotMayChange};
-ghost use Rattle.ptk_mutex_priorities.specs.Plain.{is_sound, is_takeable, is_releasable};
+ghost use Rattle.ptk_mutex_priorities.specs.Plain.{is_raising_at, is_sound, is_takeable, is_releasable};
 
 use crate::moves::{
     OwnerMoves, free_move, is_above_ceiling, own_lock_move, own_trylock_move, owner_move,
@@ -276,6 +276,17 @@ impl MutexSlot {
     {
         match &self.state {
             Some(state) => is_owner(t, state.owner) && is_raising(state.protocol),
+            None => false,
+        }
+    }
+
+    /// Whether its mutex is INHERIT or PROTECT; false at a free place (pthread_mutexattr_getprotocol).
+    #[inline]
+    pub fn is_raising(&self) -> bool
+        ensures { result ≡ is_raising_at self.now }
+    {
+        match &self.state {
+            Some(state) => is_raising(state.protocol),
             None => false,
         }
     }

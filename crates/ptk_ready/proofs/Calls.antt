@@ -1,6 +1,6 @@
 -- What each call makes of the line, told by the queues' lists.
 use Rattle.std.proofs.Common.{◌≡◌, ℕ, zero, suc, ◌-◌, ◌<◌, ◌≤◌, List, [], ◌∷◌, ◌++◌, length, drop, true, false, refl, sym, ◌∙◌, ap, subst, arith, inl, inr}
-use Rattle.std.specs.Prelude.{ℤ, pos, neg_ℤ, ◌<ℤ◌, ◌≤ℤ◌, int_lt, ◌==◌, ◌||◌, Bool, find, is_some, option_map, Option, Some, None}
+use Rattle.std.specs.Prelude.{ℤ, ◌<ℤ◌, int_lt, ◌==◌, ◌||◌, Bool, find, is_some, option_map, Option, Some, None}
 use Rattle.std.proofs.Math.ListN.{set, get_or-map}
 use Rattle.std.proofs.lemmas.Bool.{cases_eq, cases_Bool, eq-eqb, ne_eqb}
 use Rattle.std.proofs.lemmas.List.{get_or-set_same, length-map, length-set}
@@ -18,9 +18,10 @@ use Rattle.ptk_threads_slots.specs.Changes.{put_before, linked_between, end_betw
 use Rattle.ptk_threads_slots.proofs.Along.{not_true, length_next, length_previous, along_marked, marked_within}
 use Rattle.ptk_threads_slots.proofs.Lists.{AreTurned, list_at, appended, prepended, inserted}
 use Rattle.ptk_threads_slots.proofs.Lists.{went as left_links}
+use Rattle.ptk_ready.specs.declared.stamps.StampRange.{StampRange}
 use Rattle.ptk_ready.specs.Bits.{has_bit, IsBitChanged}
 use Rattle.ptk_ready.specs.Orders.{placed}
-use Rattle.ptk_ready.specs.Entries.{is_ready, stamp_of, entries, has_any, AreStamps, IsSound}
+use Rattle.ptk_ready.specs.Entries.{IsInRange, is_ready, stamp_of, entries, has_any, AreStamps, IsSound}
 use Rattle.ptk_ready.specs.Lines.{line_of, with_refiled, IsFiled}
 use Rattle.ptk_ready.proofs.Orders.{no_less, less_test}
 use Rattle.ptk_ready.proofs.Ready.{in_entries, ready_mark}
@@ -31,12 +32,12 @@ use Rattle.ptk_ready.proofs.Lists.{line_same, filed_line, sound_line}
 use Rattle.ptk_ready.proofs.Moves.{IsDone, done, any_first, pushed_tail, pushed_head, refiled, taken_free}
 
 -- the queues with these lists are filed, the line is this list, and those of waiters are as before
-pub record IsListed (limit : ℕ) (was lists : List (List ℕ)) (stored : List ℕ) (stamps : List ℤ) (bitmap : ℕ) (xs : List ℕ) : Type 0 where
-  pub sound : IsFiled limit lists stored stamps bitmap
+pub record IsListed (limit : ℕ) (range : StampRange) (was lists : List (List ℕ)) (stored : List ℕ) (stamps : List ℤ) (bitmap : ℕ) (xs : List ℕ) : Type 0 where
+  pub sound : IsFiled limit range lists stored stamps bitmap
   pub line : line_of lists stamps ≡ xs
   pub waiters : drop 32 lists ≡ drop 32 was
 
-drop_agree : (n : ℕ) (xs ys : List (List ℕ)) → length xs ≡ length ys → ((i : ℕ) → n ≤ i → part_of xs i ≡ part_of ys i) → drop n xs ≡ drop n ys
+pub drop_agree : (n : ℕ) (xs ys : List (List ℕ)) → length xs ≡ length ys → ((i : ℕ) → n ≤ i → part_of xs i ≡ part_of ys i) → drop n xs ≡ drop n ys
 drop_agree n [] [] long h = refl
 drop_agree n [] (y ∷ ys) long h = absurd (omega (arith, long))
 drop_agree n (x ∷ xs) [] long h = absurd (omega (arith, long))
@@ -44,11 +45,11 @@ drop_agree zero (x ∷ xs) (y ∷ ys) long h =
     ap (λ l. l ∷ xs) (h 0 (omega arith)) ∙ ap (λ l. y ∷ l) (drop_agree zero xs ys (omega (arith, long)) (λ i le. h (suc i) (omega arith)))
 drop_agree (suc n) (x ∷ xs) (y ∷ ys) long h = drop_agree n xs ys (omega (arith, long)) (λ i le. h (suc i) (omega (arith, le)))
 
-as_lists : (limit : ℕ) (links new : List Link) (ends late : List Ends) (stored : List ℕ) (stamps : List ℤ) (bitmap : ℕ) (xs ys : List ℕ) (lists : List (List ℕ)) → length new ≤ 32 → length late ≡ length ends → queues new late ≡ lists → xs ≡ ys
-    → IsDone limit links new ends late stored stamps bitmap xs → IsListed limit (queues links ends) lists stored stamps bitmap ys
-as_lists limit links new ends late stored stamps bitmap xs ys lists few wide e same is =
-    subst (λ l. IsListed limit (queues links ends) l stored stamps bitmap ys) e (record {
-      sound = filed_line limit new late stored stamps bitmap few is.sound;
+as_lists : (limit : ℕ) (range : StampRange) (links new : List Link) (ends late : List Ends) (stored : List ℕ) (stamps : List ℤ) (bitmap : ℕ) (xs ys : List ℕ) (lists : List (List ℕ)) → length new ≤ 32 → length late ≡ length ends → queues new late ≡ lists → xs ≡ ys
+    → IsDone limit range links new ends late stored stamps bitmap xs → IsListed limit range (queues links ends) lists stored stamps bitmap ys
+as_lists limit range links new ends late stored stamps bitmap xs ys lists few wide e same is =
+    subst (λ l. IsListed limit range (queues links ends) l stored stamps bitmap ys) e (record {
+      sound = filed_line limit range new late stored stamps bitmap few is.sound;
       line = sym (line_same new late stamps is.sound.queues few) ∙ (is.line ∙ same);
       waiters = drop_agree 32 (queues new late) (queues links ends) (length-map late (queue_from new) ∙ (wide ∙ sym (length-map ends (queue_from links))))
           (λ i far. list_at new late i ∙ (is.waiters i far ∙ sym (list_at links ends i)));
@@ -65,12 +66,12 @@ both_long links o u v w k link = pool_long (with_previous u w (with_next o v lin
 
 -- ---- a thread is pushed
 
-pub pushed_last : (limit : ℕ) (links : List Link) (ends : List Ends) (stored : List ℕ) (stamps mid anew : List ℤ) (bitmap bits k i : ℕ) (stamp : ℤ) (name : QueueName)
-    → AreQueues links ends → length links ≤ 32 → IsFiled limit (queues links ends) stored stamps bitmap → AreStamps limit links mid → entries links mid ≡ entries links stamps
+pub pushed_last : (limit : ℕ) (was range : StampRange) (links : List Link) (ends : List Ends) (stored : List ℕ) (stamps mid anew : List ℤ) (bitmap bits k i : ℕ) (stamp : ℤ) (name : QueueName)
+    → AreQueues links ends → length links ≤ 32 → IsFiled limit was (queues links ends) stored stamps bitmap → AreStamps limit range links mid → entries links mid ≡ entries links stamps
     → IsUnqueued k (queues links ends) → 0 < k → k ≤ length links → length mid ≡ 32 → anew ≡ set mid (k - 1) stamp → stored_of stored k ≡ suc i → i < 32 → place_of name ≡ i
-    → ((j : ℕ) → is_ready links j ≡ true → stamp_of mid j <ℤ stamp) → (neg_ℤ (pos limit) ≤ℤ stamp) × (stamp ≤ℤ pos limit) → length ends ≡ 128 → IsBitChanged bitmap bits i true
-    → IsListed limit (queues links ends) (with_last name k (queues links ends)) stored anew bits (line_of (queues links ends) stamps ++ k ∷ [])
-pushed_last limit links ends stored stamps mid anew bitmap bits k i stamp name queued few filed are line free some within long made level low place last bounds wide bit =
+    → ((j : ℕ) → is_ready links j ≡ true → stamp_of mid j <ℤ stamp) → IsInRange range stamp → length ends ≡ 128 → IsBitChanged bitmap bits i true
+    → IsListed limit range (queues links ends) (with_last name k (queues links ends)) stored anew bits (line_of (queues links ends) stamps ++ k ∷ [])
+pushed_last limit was range links ends stored stamps mid anew bitmap bits k i stamp name queued few filed are line free some within long made level low place last bounds wide bit =
     let end = ends_at ends i in
     let link : Link = record { previous = end.last; next = None; queue = Some name } in
     let new = linked_between k link links in
@@ -78,19 +79,19 @@ pushed_last limit links ends stored stamps mid anew bitmap bits k i stamp name q
     let none = unqueued_mark links ends k queued free in
     let turned : AreTurned links new ends late i (part_of (queues links ends) i ++ k ∷ []) =
     appended links new ends late i k name end queued (omega (arith, low, wide)) some within none place refl refl refl in
-    as_lists limit links new ends late stored anew bits (entries links stamps ++ k ∷ []) (line_of (queues links ends) stamps ++ k ∷ []) (with_last name k (queues links ends))
+    as_lists limit range links new ends late stored anew bits (entries links stamps ++ k ∷ []) (line_of (queues links ends) stamps ++ k ∷ []) (with_last name k (queues links ends))
     (omega (arith, few, both_long links end.last None (Some k) (Some k) k link))
     (length-set ends i _) (turned.lists ∙ ap (λ j. set (queues links ends) j (part_of (queues links ends) j ++ k ∷ [])) (sym place))
     (ap (λ l. l ++ k ∷ []) (line_same links ends stamps queued few))
-    (pushed_tail limit links new ends late stored stamps mid anew bitmap bits k i stamp (sound_line limit links ends stored stamps bitmap queued few filed) are line
+    (pushed_tail limit was range links new ends late stored stamps mid anew bitmap bits k i stamp (sound_line limit was links ends stored stamps bitmap queued few filed) are line
     none some (omega (arith, few, within)) long made level low last bounds wide turned.sound turned.lists bit)
 
-pub pushed_first : (limit : ℕ) (links : List Link) (ends : List Ends) (stored : List ℕ) (stamps mid anew : List ℤ) (bitmap bits k i : ℕ) (stamp : ℤ) (name : QueueName)
-    → AreQueues links ends → length links ≤ 32 → IsFiled limit (queues links ends) stored stamps bitmap → AreStamps limit links mid → entries links mid ≡ entries links stamps
+pub pushed_first : (limit : ℕ) (was range : StampRange) (links : List Link) (ends : List Ends) (stored : List ℕ) (stamps mid anew : List ℤ) (bitmap bits k i : ℕ) (stamp : ℤ) (name : QueueName)
+    → AreQueues links ends → length links ≤ 32 → IsFiled limit was (queues links ends) stored stamps bitmap → AreStamps limit range links mid → entries links mid ≡ entries links stamps
     → IsUnqueued k (queues links ends) → 0 < k → k ≤ length links → length mid ≡ 32 → anew ≡ set mid (k - 1) stamp → stored_of stored k ≡ suc i → i < 32 → place_of name ≡ i
-    → ((j : ℕ) → is_ready links j ≡ true → stamp <ℤ stamp_of mid j) → (neg_ℤ (pos limit) ≤ℤ stamp) × (stamp ≤ℤ pos limit) → length ends ≡ 128 → IsBitChanged bitmap bits i true
-    → IsListed limit (queues links ends) (with_first name k (queues links ends)) stored anew bits (k ∷ line_of (queues links ends) stamps)
-pushed_first limit links ends stored stamps mid anew bitmap bits k i stamp name queued few filed are line free some within long made level low place first bounds wide bit =
+    → ((j : ℕ) → is_ready links j ≡ true → stamp <ℤ stamp_of mid j) → IsInRange range stamp → length ends ≡ 128 → IsBitChanged bitmap bits i true
+    → IsListed limit range (queues links ends) (with_first name k (queues links ends)) stored anew bits (k ∷ line_of (queues links ends) stamps)
+pushed_first limit was range links ends stored stamps mid anew bitmap bits k i stamp name queued few filed are line free some within long made level low place first bounds wide bit =
     let end = ends_at ends i in
     let link : Link = record { previous = None; next = end.first; queue = Some name } in
     let new = linked_between k link links in
@@ -98,11 +99,11 @@ pushed_first limit links ends stored stamps mid anew bitmap bits k i stamp name 
     let none = unqueued_mark links ends k queued free in
     let turned : AreTurned links new ends late i (k ∷ part_of (queues links ends) i) =
     prepended links new ends late i k name end queued (omega (arith, low, wide)) some within none place refl refl refl in
-    as_lists limit links new ends late stored anew bits (k ∷ entries links stamps) (k ∷ line_of (queues links ends) stamps) (with_first name k (queues links ends))
+    as_lists limit range links new ends late stored anew bits (k ∷ entries links stamps) (k ∷ line_of (queues links ends) stamps) (with_first name k (queues links ends))
     (omega (arith, few, both_long links None end.first (Some k) (Some k) k link))
     (length-set ends i _) (turned.lists ∙ ap (λ j. set (queues links ends) j (k ∷ part_of (queues links ends) j)) (sym place))
     (ap (λ l. k ∷ l) (line_same links ends stamps queued few))
-    (pushed_head limit links new ends late stored stamps mid anew bitmap bits k i stamp (sound_line limit links ends stored stamps bitmap queued few filed) are line
+    (pushed_head limit was range links new ends late stored stamps mid anew bitmap bits k i stamp (sound_line limit was links ends stored stamps bitmap queued few filed) are line
     none some (omega (arith, few, within)) long made level low first bounds wide turned.sound turned.lists bit)
 
 -- ---- a thread leaves
@@ -121,8 +122,8 @@ some_left None n f h = refl
 some_left (Some p) n f h = h
 
 -- the links once k is gone, which lies in queue i
-record IsGone (limit : ℕ) (links new : List Link) (ends late : List Ends) (stored : List ℕ) (stamps : List ℤ) (bits k : ℕ) : Type 0 where
-  done : IsDone limit links new ends late stored stamps bits (without k (entries links stamps))
+record IsGone (limit : ℕ) (range : StampRange) (links new : List Link) (ends late : List Ends) (stored : List ℕ) (stamps : List ℤ) (bits k : ℕ) : Type 0 where
+  done : IsDone limit range links new ends late stored stamps bits (without k (entries links stamps))
   lists : queues new late ≡ with_none k (queues links ends)
   few : length new ≡ length links
   wide : length late ≡ length ends
@@ -133,10 +134,10 @@ gone_links k links = unlinked k (link_in links k) links
 abbrev gone_ends : ℕ → ℕ → List Link → List Ends → List Ends
 gone_ends k i links ends = set ends i (end_without (link_in links k).previous (link_in links k).next (ends_at ends i))
 
-gone : (limit : ℕ) (links : List Link) (ends : List Ends) (stored : List ℕ) (stamps : List ℤ) (bitmap bits k i : ℕ) → IsSound limit links ends stored stamps bitmap → length ends ≡ 128
+gone : (limit : ℕ) (range : StampRange) (links : List Link) (ends : List Ends) (stored : List ℕ) (stamps : List ℤ) (bitmap bits k i : ℕ) → IsSound limit range links ends stored stamps bitmap → length ends ≡ 128
     → i < 32 → mark_of links k ≡ Some i → IsBitChanged bitmap bits i (is_some (link_in links k).previous || is_some (link_in links k).next)
-    → IsGone limit links (gone_links k links) ends (gone_ends k i links ends) stored stamps bits k
-gone limit links ends stored stamps bitmap bits k i sound wide low mark bit =
+    → IsGone limit range links (gone_links k links) ends (gone_ends k i links ends) stored stamps bits k
+gone limit range links ends stored stamps bitmap bits k i sound wide low mark bit =
     let are = sound.queues in
     let lt : i < length ends = omega (arith, low, wide) in
     let link = link_in links k in
@@ -151,8 +152,8 @@ gone limit links ends stored stamps bitmap bits k i sound wide low mark bit =
     sym (some_left link.previous link.next (ends_at ends i).first was)
     ∙ (ap (λ (e : Ends). is_some e.first) (sym (get_or-set_same ends i end no_ends lt)) ∙ (ap is_some (turned.sound.each i).first ∙ any_first (queue_at new late i))) in
     record {
-      done = done limit links new ends late stored stamps bits (without k (entries links stamps)) i (without k (part_of (queues links ends) i)) low turned.lists
-          (went limit links new ends late stored stamps bitmap bits (entries links stamps) k i (sound_kept limit links ends stored stamps bitmap sound) low wide mark turned.sound turned.lists
+      done = done limit range links new ends late stored stamps bits (without k (entries links stamps)) i (without k (part_of (queues links ends) i)) low turned.lists
+          (went limit range links new ends late stored stamps bitmap bits (entries links stamps) k i (sound_kept limit range links ends stored stamps bitmap sound) low wide mark turned.sound turned.lists
           (subst (IsBitChanged bitmap bits i) any bit));
       lists = turned.lists ∙ (rw mark at (taken_all links ends k are));
       few = both_long links link.previous link.next link.next link.previous k no_link;
@@ -166,28 +167,28 @@ member_ready links ends stamps k are few inside = sym (in_entries links stamps k
 abbrev pub IsCleared : List Link → ℕ → ℕ → ℕ → Type 0
 IsCleared links bitmap bits k = (i : ℕ) → mark_of links k ≡ Some i → has_bit bitmap i ≡ true → IsBitChanged bitmap bits i (is_some (link_in links k).previous || is_some (link_in links k).next)
 
-record IsLeft (limit : ℕ) (links : List Link) (ends : List Ends) (stored : List ℕ) (stamps : List ℤ) (bits k : ℕ) : Type 0 where
+record IsLeft (limit : ℕ) (range : StampRange) (links : List Link) (ends : List Ends) (stored : List ℕ) (stamps : List ℤ) (bits k : ℕ) : Type 0 where
   new : List Link
   late : List Ends
-  is : IsGone limit links new ends late stored stamps bits k
+  is : IsGone limit range links new ends late stored stamps bits k
 
-left : (limit : ℕ) (links : List Link) (ends : List Ends) (stored : List ℕ) (stamps : List ℤ) (bitmap bits k : ℕ) → IsSound limit links ends stored stamps bitmap → length ends ≡ 128
-    → is_ready links k ≡ true → IsCleared links bitmap bits k → IsLeft limit links ends stored stamps bits k
-left limit links ends stored stamps bitmap bits k sound wide ready cleared =
+left : (limit : ℕ) (range : StampRange) (links : List Link) (ends : List Ends) (stored : List ℕ) (stamps : List ℤ) (bitmap bits k : ℕ) → IsSound limit range links ends stored stamps bitmap → length ends ≡ 128
+    → is_ready links k ≡ true → IsCleared links bitmap bits k → IsLeft limit range links ends stored stamps bits k
+left limit range links ends stored stamps bitmap bits k sound wide ready cleared =
     let at = ready_mark links k ready in
     let set : has_bit bitmap at.place ≡ true = sound.bits at.place at.low ∙ any_member k (queue_at links ends at.place) (sound.queues.marked k at.place at.mark) in
     record {
       new = gone_links k links;
       late = gone_ends k at.place links ends;
-      is = gone limit links ends stored stamps bitmap bits k at.place sound wide at.low at.mark (cleared at.place at.mark set);
+      is = gone limit range links ends stored stamps bitmap bits k at.place sound wide at.low at.mark (cleared at.place at.mark set);
     }
 
-pub removed_lists : (limit : ℕ) (links : List Link) (ends : List Ends) (stored : List ℕ) (stamps : List ℤ) (bitmap bits k : ℕ) → AreQueues links ends → length links ≤ 32 → IsFiled limit (queues links ends) stored stamps bitmap → length ends ≡ 128
+pub removed_lists : (limit : ℕ) (range : StampRange) (links : List Link) (ends : List Ends) (stored : List ℕ) (stamps : List ℤ) (bitmap bits k : ℕ) → AreQueues links ends → length links ≤ 32 → IsFiled limit range (queues links ends) stored stamps bitmap → length ends ≡ 128
     → is_in k (line_of (queues links ends) stamps) ≡ true → IsCleared links bitmap bits k
-    → IsListed limit (queues links ends) (with_none k (queues links ends)) stored stamps bits (without k (line_of (queues links ends) stamps))
-removed_lists limit links ends stored stamps bitmap bits k are few filed wide inside cleared =
-    let at = left limit links ends stored stamps bitmap bits k (sound_line limit links ends stored stamps bitmap are few filed) wide (member_ready links ends stamps k are few inside) cleared in
-    as_lists limit links at.new ends at.late stored stamps bits (without k (entries links stamps)) (without k (line_of (queues links ends) stamps)) (with_none k (queues links ends))
+    → IsListed limit range (queues links ends) (with_none k (queues links ends)) stored stamps bits (without k (line_of (queues links ends) stamps))
+removed_lists limit range links ends stored stamps bitmap bits k are few filed wide inside cleared =
+    let at = left limit range links ends stored stamps bitmap bits k (sound_line limit range links ends stored stamps bitmap are few filed) wide (member_ready links ends stamps k are few inside) cleared in
+    as_lists limit range links at.new ends at.late stored stamps bits (without k (entries links stamps)) (without k (line_of (queues links ends) stamps)) (with_none k (queues links ends))
     (omega (arith, few, at.is.few)) at.is.wide at.is.lists (ap (without k) (line_same links ends stamps are few)) at.is.done
 
 -- ---- a thread is filed anew
@@ -276,16 +277,16 @@ back links ends stamps k i priority (Some b) was e are lt some within free level
 never_less : (a : ℤ) → int_lt a a ≡ false
 never_less a = not_true (int_lt a a) (λ e. no_less a (less_test a a e))
 
-pub refiled_lists : (limit : ℕ) (links : List Link) (ends : List Ends) (stored : List ℕ) (stamps : List ℤ) (bitmap bits after k i priority : ℕ) (found : Option ℕ) → AreQueues links ends → length links ≤ 32 → IsFiled limit (queues links ends) stored stamps bitmap → length ends ≡ 128
+pub refiled_lists : (limit : ℕ) (range : StampRange) (links : List Link) (ends : List Ends) (stored : List ℕ) (stamps : List ℤ) (bitmap bits after k i priority : ℕ) (found : Option ℕ) → AreQueues links ends → length links ≤ 32 → IsFiled limit range (queues links ends) stored stamps bitmap → length ends ≡ 128
     → is_in k (line_of (queues links ends) stamps) ≡ true → IsCleared links bitmap bits k → priority ≡ suc i → i < 32 → IsBitChanged bits after i true
     → find (λ j. int_lt (stamp_of stamps k) (stamp_of stamps j)) (queue_at links ends i) ≡ found
-    → IsListed limit (queues links ends) (with_refiled found priority k (queues links ends)) (pool_set stored k priority) stamps after (line_of (queues links ends) stamps)
-refiled_lists limit links ends stored stamps bitmap bits after k i priority found are few filed wide inside cleared level low bit is =
-    let sound = sound_line limit links ends stored stamps bitmap are few filed in
+    → IsListed limit range (queues links ends) (with_refiled found priority k (queues links ends)) (pool_set stored k priority) stamps after (line_of (queues links ends) stamps)
+refiled_lists limit range links ends stored stamps bitmap bits after k i priority found are few filed wide inside cleared level low bit is =
+    let sound = sound_line limit range links ends stored stamps bitmap are few filed in
     let ready = member_ready links ends stamps k are few inside in
     let at = ready_mark links k ready in
     let within = marked_within links k at.place at.mark in
-    let mid = left limit links ends stored stamps bitmap bits k sound wide ready cleared in
+    let mid = left limit range links ends stored stamps bitmap bits k sound wide ready cleared in
     let then = mid.is in
     let free : mark_of mid.new k ≡ None = taken_free links mid.new ends mid.late stamps k are then.done.sound.queues ready then.done.waiters then.done.line in
     let own : part_of (queues mid.new mid.late) i ≡ without k (queue_at links ends i) =
@@ -293,9 +294,9 @@ refiled_lists limit links ends stored stamps bitmap bits after k i priority foun
     let first : find (λ j. int_lt (stamp_of stamps k) (stamp_of stamps j)) (part_of (queues mid.new mid.late) i) ≡ found =
     ap (find (λ j. int_lt (stamp_of stamps k) (stamp_of stamps j))) own ∙ (find_without (λ j. int_lt (stamp_of stamps k) (stamp_of stamps j)) k (queue_at links ends i) (never_less (stamp_of stamps k)) ∙ is) in
     let there = back mid.new mid.late stamps k i priority found (queues links ends) then.lists then.done.sound.queues (omega (arith, low, then.wide, wide)) within.0 (omega (arith, within.1, then.few)) free level first in
-    let whole = refiled limit links mid.new there.new ends mid.late there.late stored stamps bitmap bits after k i priority sound (in_entries links stamps k ∙ ready) then.done.sound then.done.line then.done.waiters low level
+    let whole = refiled limit range links mid.new there.new ends mid.late there.late stored stamps bitmap bits after k i priority sound (in_entries links stamps k ∙ ready) then.done.sound then.done.line then.done.waiters low level
     (omega (arith, then.wide, wide)) there.is.sound there.is.placed bit in
-    as_lists limit links there.new ends there.late (pool_set stored k priority) stamps after (entries links stamps) (line_of (queues links ends) stamps) (with_refiled found priority k (queues links ends))
+    as_lists limit range links there.new ends there.late (pool_set stored k priority) stamps after (entries links stamps) (line_of (queues links ends) stamps) (with_refiled found priority k (queues links ends))
     (omega (arith, few, there.is.few, then.few)) (omega (arith, there.is.wide, then.wide))
     there.is.lists (line_same links ends stamps are few) whole
 

@@ -1,19 +1,18 @@
 -- The first thread of the greatest priority, by the greatest bit.
-use Rattle.std.proofs.Common.{◌≡◌, ℕ, suc, ◌-◌, ◌<◌, ◌≤◌, List, [], ◌∷◌, length, Bool, true, refl, sym, ◌∙◌, ap, subst, arith, get_or, max, inl, inr}
+use Rattle.std.proofs.Common.{◌≡◌, ℕ, suc, ◌-◌, ◌<◌, ◌≤◌, List, [], ◌∷◌, Bool, true, refl, sym, ◌∙◌, ap, subst, arith, max, inl, inr}
 use Rattle.std.specs.Prelude.{ℤ, find, filter, fold, ◌==◌, Some, None}
-use Rattle.std.proofs.lemmas.List.{get_or_default}
 use Rattle.std.proofs.lemmas.Bool.{cases_Bool}
+use Rattle.ptk_words_parted.specs.Parts.{part_of}
 use Rattle.ptk_words.specs.Pools.{is_in, greatest, first_of_greatest}
 use Rattle.ptk_threads.specs.Table.{stored_of}
-use Rattle.ptk_threads_slots.specs.declared.link.Link.{Link}
-use Rattle.ptk_threads_slots.specs.declared.link.Ends.{Ends}
-use Rattle.ptk_threads_slots.specs.Links.{no_ends, ends_at, first_or, queue_at}
+use Rattle.ptk_threads_slots.specs.Links.{first_or}
 use Rattle.ptk_threads_slots.proofs.Along.{in_front, in_here, in_later, le_or_gt}
+use Rattle.ptk_ready.specs.declared.stamps.StampRange.{StampRange}
 use Rattle.ptk_ready.specs.Bits.{has_bit, IsGreatestBit}
-use Rattle.ptk_ready.specs.Entries.{entries, has_any, IsSound}
+use Rattle.ptk_ready.specs.Entries.{has_any}
+use Rattle.ptk_ready.specs.Lines.{line_of, IsFiled}
 use Rattle.ptk_ready.specs.Laws.{in_priority}
-use Rattle.ptk_ready.proofs.Kept.{IsKept, sound_kept, of_its_priority}
-use Rattle.ptk_ready.proofs.Lists.{no_members}
+use Rattle.ptk_ready.proofs.Lists.{placed_in, member_queued, no_members}
 
 -- ---- the greatest of a list
 
@@ -63,42 +62,37 @@ any_member k [] h = absurd (cc)
 any_member k (j ∷ ks) h = refl
 
 -- a thread of the line has its priority's bit
-member_bit : (limit : ℕ) (links : List Link) (ends : List Ends) (stored : List ℕ) (stamps : List ℤ) (bitmap : ℕ) (xs : List ℕ) → IsKept limit links ends stored stamps bitmap xs
-    → (k : ℕ) → is_in k xs ≡ true → has_bit bitmap (stored_of stored k - 1) ≡ true
-member_bit limit links ends stored stamps bitmap xs kept k inside =
-    let level = kept.levels k inside in
-    let j = stored_of stored k - 1 in
-    let lt : j < 32 = omega (arith, level.0, level.1) in
-    let there : is_in k (queue_at links ends j) ≡ true = rw (kept.lines j lt) (of_its_priority stored (suc j) k xs (omega (arith, level.0)) inside) in
-    kept.bits j lt ∙ any_member k (queue_at links ends j) there
+member_bit : (limit : ℕ) (range : StampRange) (lists : List (List ℕ)) (stored : List ℕ) (stamps : List ℤ) (bitmap : ℕ) → IsFiled limit range lists stored stamps bitmap
+    → (k : ℕ) → is_in k (line_of lists stamps) ≡ true → (0 < stored_of stored k) × (stored_of stored k ≤ 32) × (has_bit bitmap (stored_of stored k - 1) ≡ true)
+member_bit limit range lists stored stamps bitmap filed k inside =
+    let at = placed_in lists k (member_queued lists stamps k inside) in
+    let low : at.place < 32 = at.low in
+    let level = (in_priority stored (suc at.place) k (line_of lists stamps) (subst (λ l. is_in k l ≡ true) (filed.lines at.place at.low) at.inside)).0 in
+    let same : at.place ≡ stored_of stored k - 1 = omega (arith, level) in
+    (omega (arith, level), omega (arith, level, low), ap (has_bit bitmap) (sym same) ∙ (filed.bits at.place at.low ∙ any_member k (part_of lists at.place) at.inside))
 
-pub first_found : (limit : ℕ) (links : List Link) (ends : List Ends) (stored : List ℕ) (stamps : List ℤ) (bitmap i : ℕ) (end : Ends) → IsSound limit links ends stored stamps bitmap → IsGreatestBit bitmap (Some i)
-    → length ends ≡ 128 → (get_or ends i end).first ≡ first_of_greatest (stored_of stored) (entries links stamps)
-first_found limit links ends stored stamps bitmap i end sound top long =
-    let xs = entries links stamps in
-    let kept = sound_kept limit links ends stored stamps bitmap sound in
+pub first_found : (limit : ℕ) (range : StampRange) (lists : List (List ℕ)) (stored : List ℕ) (stamps : List ℤ) (bitmap i : ℕ) → IsFiled limit range lists stored stamps bitmap → IsGreatestBit bitmap (Some i)
+    → first_or None (part_of lists i) ≡ first_of_greatest (stored_of stored) (line_of lists stamps)
+first_found limit range lists stored stamps bitmap i filed top =
+    let xs = line_of lists stamps in
     let low : i < 32 = top.0 in
-    let lt : i < length ends = omega (arith, long, low) in
-    let at : get_or ends i end ≡ ends_at ends i = get_or_default ends i end no_ends lt in
-    let member = some_member (queue_at links ends i) (sym (kept.bits i low) ∙ top.1) in
-    let own = in_priority stored (suc i) member.one xs (subst (λ l. is_in member.one l ≡ true) (kept.lines i low) member.inside) in
+    let member = some_member (part_of lists i) (sym (filed.bits i low) ∙ top.1) in
+    let own = in_priority stored (suc i) member.one xs (subst (λ l. is_in member.one l ≡ true) (filed.lines i low) member.inside) in
     let all : (k : ℕ) → is_in k xs ≡ true → stored_of stored k ≤ suc i = λ k inside.
-    (let level = kept.levels k inside in
+    (let level = member_bit limit range lists stored stamps bitmap filed k inside in
     elim (le_or_gt (stored_of stored k) (suc i)) as (λ _. stored_of stored k ≤ suc i) [
       | inl le ↦ le
-      | inr gt ↦ (let set = member_bit limit links ends stored stamps bitmap xs kept k inside in
-          let clear = top.2 (stored_of stored k - 1) (omega (arith, level.0, level.1)) (omega (arith, gt)) in absurd (cc))
+      | inr gt ↦ (let set = level.2 in let clear = top.2 (stored_of stored k - 1) (omega (arith, level.0, level.1)) (omega (arith, gt)) in absurd (cc))
     ]) in
     let most : greatest (stored_of stored) xs ≡ suc i = greatest_is (stored_of stored) (suc i) member.one xs all own.1 own.0 in
-    ap (λ (e : Ends). e.first) at ∙ (sound.queues.each i).first ∙ ap (first_or None) (kept.lines i low)
+    ap (first_or None) (filed.lines i low)
     ∙ sym (ap (λ n. find (λ k. stored_of stored k == n) xs) most ∙ first_kept (λ k. stored_of stored k == suc i) xs)
 
-pub none_found : (limit : ℕ) (links : List Link) (ends : List Ends) (stored : List ℕ) (stamps : List ℤ) (bitmap : ℕ) → IsSound limit links ends stored stamps bitmap → IsGreatestBit bitmap None
-    → None ≡ first_of_greatest (stored_of stored) (entries links stamps)
-none_found limit links ends stored stamps bitmap sound none =
-    let kept = sound_kept limit links ends stored stamps bitmap sound in
-    let empty : entries links stamps ≡ [] = no_members (entries links stamps) (λ k inside.
-    (let level = kept.levels k inside in
-    let set = member_bit limit links ends stored stamps bitmap (entries links stamps) kept k inside in
+pub none_found : (limit : ℕ) (range : StampRange) (lists : List (List ℕ)) (stored : List ℕ) (stamps : List ℤ) (bitmap : ℕ) → IsFiled limit range lists stored stamps bitmap → IsGreatestBit bitmap None
+    → None ≡ first_of_greatest (stored_of stored) (line_of lists stamps)
+none_found limit range lists stored stamps bitmap filed none =
+    let empty : line_of lists stamps ≡ [] = no_members (line_of lists stamps) (λ k inside.
+    (let level = member_bit limit range lists stored stamps bitmap filed k inside in
+    let set = level.2 in
     let clear = none (stored_of stored k - 1) (omega (arith, level.0, level.1)) in absurd (cc))) in
     sym (ap (first_of_greatest (stored_of stored)) empty)

@@ -1,6 +1,6 @@
 -- The line read from the queues' lists is the line read from the links.
 use Rattle.std.proofs.Common.{◌≡◌, ℕ, zero, suc, ◌+◌, ◌-◌, ◌<◌, ◌≤◌, List, [], ◌∷◌, ◌++◌, length, take, true, false, refl, sym, ◌∙◌, ap, subst, arith, inl, inr, length-take}
-use Rattle.std.specs.Prelude.{Bool, ℤ, None, filter, ◌==◌, ◌↔◌}
+use Rattle.std.specs.Prelude.{Bool, ◌&&◌, ℤ, None, filter, ◌==◌, ◌↔◌}
 use Rattle.std.proofs.lemmas.List.{get_or-take, append-nil}
 use Rattle.std.proofs.lemmas.Nat.Bits.{bit_at-zero}
 use Rattle.std.proofs.lemmas.List.Elements.{filter-append}
@@ -12,8 +12,9 @@ use Rattle.ptk_threads_slots.specs.declared.link.Ends.{Ends}
 use Rattle.ptk_threads_slots.specs.Links.{queue_at, queues, AreQueues}
 use Rattle.ptk_threads_slots.proofs.Along.{in_here, in_left, in_right, in_parts, not_true, marked_within, along_marked}
 use Rattle.ptk_threads_slots.proofs.Lists.{list_at}
+use Rattle.ptk_ready.specs.declared.stamps.StampRange.{StampRange}
 use Rattle.ptk_ready.specs.Orders.{in_order}
-use Rattle.ptk_ready.specs.Entries.{is_ready, ready_of, stamp_of, entries, of_priority, has_any, IsSound}
+use Rattle.ptk_ready.specs.Entries.{IsRange, is_ready, ready_of, stamp_of, entries, of_priority, has_any, IsSound}
 use Rattle.ptk_ready.specs.Lines.{queued, line_of, IsFiled}
 use Rattle.ptk_ready.proofs.Orders.{same_test, in_kept, in_sorted}
 use Rattle.ptk_ready.proofs.Ready.{ready_mark, marked_ready}
@@ -73,55 +74,74 @@ line_same links ends stamps are few =
 
 -- ---- soundness in both words
 
-pub filed_line : (limit : ℕ) (links : List Link) (ends : List Ends) (stored : List ℕ) (stamps : List ℤ) (bitmap : ℕ) → length links ≤ 32 → IsSound limit links ends stored stamps bitmap → IsFiled limit (queues links ends) stored stamps bitmap
-filed_line limit links ends stored stamps bitmap few sound =
+pub filed_line : (limit : ℕ) (range : StampRange) (links : List Link) (ends : List Ends) (stored : List ℕ) (stamps : List ℤ) (bitmap : ℕ) → length links ≤ 32 → IsSound limit range links ends stored stamps bitmap → IsFiled limit range (queues links ends) stored stamps bitmap
+filed_line limit range links ends stored stamps bitmap few sound =
     let same = ready_same links ends in
     let are = sound.queues in
     record {
       apart = λ j k a b e. sound.stamped.apart j k (sym (same j are) ∙ a) (sym (same k are) ∙ b) e;
       within = λ k inside. sound.stamped.within k (sym (same k are) ∙ inside);
+      limits = sound.stamped.limits;
       lines = λ i lt. list_at links ends i ∙ (sound.lines i lt ∙ ap (of_priority stored (suc i)) (line_same links ends stamps are few));
       bits = λ i lt. sound.bits i lt ∙ sym (ap has_any (list_at links ends i));
     }
 
-pub sound_line : (limit : ℕ) (links : List Link) (ends : List Ends) (stored : List ℕ) (stamps : List ℤ) (bitmap : ℕ) → AreQueues links ends → length links ≤ 32 → IsFiled limit (queues links ends) stored stamps bitmap → IsSound limit links ends stored stamps bitmap
-sound_line limit links ends stored stamps bitmap are few filed =
+pub sound_line : (limit : ℕ) (range : StampRange) (links : List Link) (ends : List Ends) (stored : List ℕ) (stamps : List ℤ) (bitmap : ℕ) → AreQueues links ends → length links ≤ 32 → IsFiled limit range (queues links ends) stored stamps bitmap → IsSound limit range links ends stored stamps bitmap
+sound_line limit range links ends stored stamps bitmap are few filed =
     let same = ready_same links ends in
     record {
       queues = are;
       stamped = record {
         apart = λ j k a b e. filed.apart j k (same j are ∙ a) (same k are ∙ b) e;
         within = λ k ready. filed.within k (same k are ∙ ready);
+        limits = filed.limits;
       };
       lines = λ i lt. sym (list_at links ends i) ∙ (filed.lines i lt ∙ ap (of_priority stored (suc i)) (sym (line_same links ends stamps are few)));
       bits = λ i lt. filed.bits i lt ∙ ap has_any (list_at links ends i);
     }
 
-pub filed_sound : (limit : ℕ) (links : List Link) (ends : List Ends) (stored : List ℕ) (stamps : List ℤ) (bitmap : ℕ) → AreQueues links ends → length links ≤ 32 → IsSound limit links ends stored stamps bitmap ↔ IsFiled limit (queues links ends) stored stamps bitmap
-filed_sound limit links ends stored stamps bitmap are few =
-    (filed_line limit links ends stored stamps bitmap few, sound_line limit links ends stored stamps bitmap are few)
+pub filed_sound : (limit : ℕ) (range : StampRange) (links : List Link) (ends : List Ends) (stored : List ℕ) (stamps : List ℤ) (bitmap : ℕ) → AreQueues links ends → length links ≤ 32 → IsSound limit range links ends stored stamps bitmap ↔ IsFiled limit range (queues links ends) stored stamps bitmap
+filed_sound limit range links ends stored stamps bitmap are few =
+    (filed_line limit range links ends stored stamps bitmap few, sound_line limit range links ends stored stamps bitmap are few)
 
--- ---- no thread
+-- ---- the line's threads
 
 pub no_members : (ks : List ℕ) → ((k : ℕ) → is_in k ks ≡ true → ⊥) → ks ≡ []
 no_members [] h = refl
 no_members (k ∷ ks) h = absurd (h k (in_here k ks))
 
-none_queued : (lists : List (List ℕ)) → ((i : ℕ) → i < 32 → part_of lists i ≡ []) → (k : ℕ) → is_in k (queued lists) ≡ true → ⊥
-none_queued lists none k inside =
+-- the queue of a thread that is in one of the first 32
+pub record IsPlaced (k : ℕ) (lists : List (List ℕ)) : Type 0 where
+  pub place : ℕ
+  pub low : place < 32
+  pub inside : is_in k (part_of lists place) ≡ true
+
+pub placed_in : (lists : List (List ℕ)) (k : ℕ) → is_in k (queued lists) ≡ true → IsPlaced k lists
+placed_in lists k inside =
     let at = among k (take 32 lists) inside in
     let lt : at.place < 32 = omega (arith, at.low, length-take 32 lists) in
-    let there : is_in k [] ≡ true = subst (λ l. is_in k l ≡ true) (get_or-take 32 lists at.place [] lt ∙ none at.place lt) at.inside in absurd (cc)
+    record { place = at.place; low = lt; inside = subst (λ l. is_in k l ≡ true) (get_or-take 32 lists at.place [] lt) at.inside }
+
+pub queued_in : (lists : List (List ℕ)) (k i : ℕ) → i < 32 → is_in k (part_of lists i) ≡ true → is_in k (queued lists) ≡ true
+queued_in lists k i lt inside = joined_in k (take 32 lists) i (subst (λ l. is_in k l ≡ true) (sym (get_or-take 32 lists i [] lt)) inside)
+
+pub in_line : (lists : List (List ℕ)) (stamps : List ℤ) (k : ℕ) → is_in k (line_of lists stamps) ≡ (is_in k (queued lists) && is_in k (numbers_to 32))
+in_line lists stamps k = in_sorted (stamp_of stamps) k (filter (λ j. is_in j (queued lists)) (numbers_to 32)) ∙ in_kept (λ j. is_in j (queued lists)) k (numbers_to 32)
+
+pub member_queued : (lists : List (List ℕ)) (stamps : List ℤ) (k : ℕ) → is_in k (line_of lists stamps) ≡ true → is_in k (queued lists) ≡ true
+member_queued lists stamps k inside = (and_parts (is_in k (queued lists)) (is_in k (numbers_to 32)) (sym (in_line lists stamps k) ∙ inside)).0
+
+none_queued : (lists : List (List ℕ)) → ((i : ℕ) → i < 32 → part_of lists i ≡ []) → (k : ℕ) → is_in k (queued lists) ≡ true → ⊥
+none_queued lists none k inside = (let at = placed_in lists k inside in let there : is_in k [] ≡ true = subst (λ l. is_in k l ≡ true) (none at.place at.low) at.inside in absurd (cc))
 
 pub none_line : (lists : List (List ℕ)) (stamps : List ℤ) → ((i : ℕ) → i < 32 → part_of lists i ≡ []) → line_of lists stamps ≡ []
-none_line lists stamps none = no_members (line_of lists stamps) (λ k inside.
-    none_queued lists none k (and_parts (is_in k (queued lists)) (is_in k (numbers_to 32))
-    (sym (in_sorted (stamp_of stamps) k (filter (λ j. is_in j (queued lists)) (numbers_to 32)) ∙ in_kept (λ j. is_in j (queued lists)) k (numbers_to 32)) ∙ inside)).0)
+none_line lists stamps none = no_members (line_of lists stamps) (λ k inside. none_queued lists none k (member_queued lists stamps k inside))
 
-pub none_filed : (limit : ℕ) (lists : List (List ℕ)) (stored : List ℕ) (stamps : List ℤ) → ((i : ℕ) → i < 32 → part_of lists i ≡ []) → IsFiled limit lists stored stamps 0
-none_filed limit lists stored stamps none = record {
+pub none_filed : (limit : ℕ) (range : StampRange) (lists : List (List ℕ)) (stored : List ℕ) (stamps : List ℤ) → ((i : ℕ) → i < 32 → part_of lists i ≡ []) → IsRange limit range → IsFiled limit range lists stored stamps 0
+none_filed limit range lists stored stamps none limits = record {
   apart = λ j k a b e. absurd (none_queued lists none j a);
   within = λ k inside. absurd (none_queued lists none k inside);
+  limits = limits;
   lines = λ i lt. none i lt ∙ sym (ap (of_priority stored (suc i)) (none_line lists stamps none));
   bits = λ i lt. ap (λ b. b == 1) (bit_at-zero i) ∙ sym (ap has_any (none i lt));
 }

@@ -1,13 +1,13 @@
 -- Bits set, cleared and found.
-use Rattle.std.proofs.Common.{◌≡◌, ◌≢◌, ℕ, suc, ◌+◌, ◌-◌, ◌*◌, ◌/◌, ◌%◌, ◌^◌, ◌<◌, ◌≤◌, true, false, sym, ◌∙◌, ap, arith}
+use Rattle.std.proofs.Common.{◌≡◌, ℕ, suc, ◌+◌, ◌-◌, ◌*◌, ◌/◌, ◌%◌, ◌^◌, ◌<◌, ◌≤◌, true, false, sym, ◌∙◌, ap, arith}
 use Rattle.std.specs.Prelude.{Some, bit_or, ◌==◌}
 use Rattle.std.specs.Int.{bit_at, bit_not, w32}
 use Rattle.std.specs.Int.Bits.{bit_and}
 use Rattle.std.specs.Int.Count.{count_leading_zeros}
-use Rattle.std.proofs.lemmas.Nat.{leading_top, shr_high, and_le_l}
+use Rattle.std.proofs.lemmas.Nat.{leading_top, shr_high}
 use Rattle.std.proofs.lemmas.Nat.Bits.{bit_at_set_same, bit_at_set_other, bit_at_clear_same, bit_at_clear_other, bit_at_above}
 use Rattle.std.proofs.Math.Nat.{pow-suc}
-use Rattle.ptk_ready.specs.Bits.{has_bit, IsBitChanged, IsGreatestBit}
+use Rattle.ptk_ready.specs.Bits.{IsBitChanged, IsGreatestBit}
 
 pub set_bit : (bits i : ℕ) → i < 32 → IsBitChanged bits (bit_or bits (1 * 2 ^ i % 2 ^ 32)) i true
 set_bit bits i lt = record {
@@ -20,12 +20,6 @@ clear_bit bits i lt = record {
   own = ap (λ b. b == 1) (bit_at_clear_same w32 bits i lt);
   others = λ j within ne. ap (λ b. b == 1) (bit_at_clear_other w32 bits i lt j within ne);
 }
-
-pub cleared_less : (bits i : ℕ) → i < 32 → has_bit bits i ≡ true → bit_and bits (bit_not w32 (1 * 2 ^ i % 2 ^ 32)) < bits
-cleared_less bits i lt set =
-    let le = and_le_l bits (bit_not w32 (1 * 2 ^ i % 2 ^ 32)) in
-    let ne : bit_and bits (bit_not w32 (1 * 2 ^ i % 2 ^ 32)) ≢ bits = λ e. (let clear = sym (ap (λ n. has_bit n i) e) ∙ (clear_bit bits i lt).own in absurd (cc)) in
-    omega (arith, le, ne)
 
 -- a number between two powers has that bit
 top_bit : (bits j : ℕ) → 2 ^ j ≤ bits → bits < 2 ^ suc j → bit_at bits j ≡ 1

@@ -1,6 +1,6 @@
 -- What each call makes of a sound line.
 use Rattle.std.proofs.Common.{◌≡◌, ◌≢◌, ℕ, zero, suc, ◌-◌, ◌<◌, ◌≤◌, List, [], ◌∷◌, ◌++◌, length, true, false, not, refl, sym, ◌∙◌, ap, subst, arith, get_or, inl, inr}
-use Rattle.std.specs.Prelude.{ℤ, pos, neg_ℤ, ◌<ℤ◌, ◌≤ℤ◌, int_lt, ◌==◌, ◌↔◌, is_some, Option, Some, None}
+use Rattle.std.specs.Prelude.{ℤ, pos, ◌<ℤ◌, int_lt, ◌==◌, ◌↔◌, is_some, Option, Some, None}
 use Rattle.std.proofs.Math.ListN.{set}
 use Rattle.std.proofs.lemmas.Bool.Decides.{nat_tests}
 use Rattle.std.proofs.lemmas.List.{get_or_past, get_or-set_same, get_or-set_other}
@@ -13,13 +13,12 @@ use Rattle.ptk_threads_slots.specs.Links.{mark_of, first_or, queue_at, queues, A
 use Rattle.ptk_threads_slots.proofs.Along.{in_front, in_here, in_later, not_true, le_or_gt, along_marked}
 use Rattle.ptk_threads_slots.proofs.Lists.{list_at}
 use Rattle.std.proofs.lemmas.Int.{ints}
+use Rattle.ptk_ready.specs.declared.stamps.StampRange.{StampRange}
 use Rattle.ptk_ready.specs.Bits.{IsBitChanged}
-use Rattle.ptk_ready.specs.Orders.{placed, IsInOrder}
-use Rattle.ptk_ready.specs.Entries.{is_ready, stamp_of, entries, of_priority, has_any, AreStamps, IsSound}
-use Rattle.ptk_ready.specs.Stamps.{AreOrdered}
-use Rattle.ptk_ready.proofs.Ranks.{IsRenumbered}
-use Rattle.ptk_ready.proofs.Ready.{in_entries, marked_ready, entries_order}
-use Rattle.ptk_ready.proofs.Orders.{no_less, less_test, test_less, in_placed, in_kept, order_kept, order_placed, order_apart, same_list}
+use Rattle.ptk_ready.specs.Orders.{placed}
+use Rattle.ptk_ready.specs.Entries.{IsInRange, is_ready, stamp_of, entries, of_priority, has_any, AreStamps, IsSound}
+use Rattle.ptk_ready.proofs.Ready.{in_entries, marked_ready}
+use Rattle.ptk_ready.proofs.Orders.{IsInOrder, no_less, less_test, test_less, in_placed, in_kept, order_kept, order_placed, order_apart, same_list}
 use Rattle.std.proofs.lemmas.Bool.{cases_eq, eq-eqb, ne_eqb}
 use Rattle.ptk_ready.specs.Laws.{in_priority}
 use Rattle.ptk_ready.proofs.Kept.{IsKept, IsComing, sound_kept, kept_sound, kept_entries, queue_other, member_apart, in_without, came}
@@ -29,16 +28,16 @@ abbrev pub KeepsWaiters : List Link → List Ends → List Link → List Ends �
 KeepsWaiters links ends new after = (i : ℕ) → 32 ≤ i → queue_at new after i ≡ queue_at links ends i
 
 -- the line is sound, and is this list; the queues of waiters are as before
-pub record IsDone (limit : ℕ) (links new : List Link) (ends late : List Ends) (stored : List ℕ) (stamps : List ℤ) (bitmap : ℕ) (xs : List ℕ) : Type 0 where
-  pub sound : IsSound limit new late stored stamps bitmap
+pub record IsDone (limit : ℕ) (range : StampRange) (links new : List Link) (ends late : List Ends) (stored : List ℕ) (stamps : List ℤ) (bitmap : ℕ) (xs : List ℕ) : Type 0 where
+  pub sound : IsSound limit range new late stored stamps bitmap
   pub line : entries new stamps ≡ xs
   pub waiters : KeepsWaiters links ends new late
 
-pub done : (limit : ℕ) (links new : List Link) (ends late : List Ends) (stored : List ℕ) (stamps : List ℤ) (bitmap : ℕ) (xs : List ℕ) (i : ℕ) (line : List ℕ) → i < 32 → queues new late ≡ set (queues links ends) i line
-    → IsKept limit new late stored stamps bitmap xs → IsDone limit links new ends late stored stamps bitmap xs
-done limit links new ends late stored stamps bitmap xs i line low lists kept = record {
-  sound = kept_sound limit new late stored stamps bitmap xs kept;
-  line = kept_entries limit new late stored stamps bitmap xs kept;
+pub done : (limit : ℕ) (range : StampRange) (links new : List Link) (ends late : List Ends) (stored : List ℕ) (stamps : List ℤ) (bitmap : ℕ) (xs : List ℕ) (i : ℕ) (line : List ℕ) → i < 32 → queues new late ≡ set (queues links ends) i line
+    → IsKept limit range new late stored stamps bitmap xs → IsDone limit range links new ends late stored stamps bitmap xs
+done limit range links new ends late stored stamps bitmap xs i line low lists kept = record {
+  sound = kept_sound limit range new late stored stamps bitmap xs kept;
+  line = kept_entries limit range new late stored stamps bitmap xs kept;
   waiters = λ j far. queue_other links new ends late i j line (omega (arith, low, far)) lists;
 }
 
@@ -104,9 +103,9 @@ stored_same stored (suc i) v some = elim (le_or_gt (length stored) i) as (λ _. 
   | inr lt ↦ get_or-set_same stored i v 0 lt
 ]
 
-coming_back : (limit : ℕ) (links : List Link) (ends : List Ends) (stored : List ℕ) (stamps : List ℤ) (bitmap k i priority : ℕ) (xs : List ℕ) → IsKept limit links ends stored stamps bitmap xs → is_in k xs ≡ true
-    → i < 32 → priority ≡ suc i → IsComing limit stored (pool_set stored k priority) stamps stamps (without k xs) k i
-coming_back limit links ends stored stamps bitmap k i priority xs kept inside low e = record {
+coming_back : (limit : ℕ) (range : StampRange) (links : List Link) (ends : List Ends) (stored : List ℕ) (stamps : List ℤ) (bitmap k i priority : ℕ) (xs : List ℕ) → IsKept limit range links ends stored stamps bitmap xs → is_in k xs ≡ true
+    → i < 32 → priority ≡ suc i → IsComing range stored (pool_set stored k priority) stamps stamps (without k xs) k i
+coming_back limit range links ends stored stamps bitmap k i priority xs kept inside low e = record {
   out = not_true (is_in k (without k xs)) (out_without k xs);
   place = low;
   others = λ j ne. refl;
@@ -118,31 +117,31 @@ coming_back limit links ends stored stamps bitmap k i priority xs kept inside lo
 }
 
 -- k, which was taken out, comes back at the place of its stamp with another stored priority
-pub refiled : (limit : ℕ) (links mid new : List Link) (ends then late : List Ends) (stored : List ℕ) (stamps : List ℤ) (bitmap bits after : ℕ) (k i priority : ℕ)
-    → IsSound limit links ends stored stamps bitmap → is_in k (entries links stamps) ≡ true → IsSound limit mid then stored stamps bits → entries mid stamps ≡ without k (entries links stamps)
+pub refiled : (limit : ℕ) (range : StampRange) (links mid new : List Link) (ends then late : List Ends) (stored : List ℕ) (stamps : List ℤ) (bitmap bits after : ℕ) (k i priority : ℕ)
+    → IsSound limit range links ends stored stamps bitmap → is_in k (entries links stamps) ≡ true → IsSound limit range mid then stored stamps bits → entries mid stamps ≡ without k (entries links stamps)
     → KeepsWaiters links ends mid then → i < 32 → priority ≡ suc i → length then ≡ 128 → AreQueues new late
     → queues new late ≡ set (queues mid then) i (placed (stamp_of stamps) k (part_of (queues mid then) i)) → IsBitChanged bits after i true
-    → IsDone limit links new ends late (pool_set stored k priority) stamps after (entries links stamps)
-refiled limit links mid new ends then late stored stamps bitmap bits after k i priority sound inside left line keeps low e long are lists bit =
+    → IsDone limit range links new ends late (pool_set stored k priority) stamps after (entries links stamps)
+refiled limit range links mid new ends then late stored stamps bitmap bits after k i priority sound inside left line keeps low e long are lists bit =
     let xs = entries links stamps in
     let stored' = pool_set stored k priority in
-    let was = sound_kept limit links ends stored stamps bitmap sound in
-    let kept : IsKept limit mid then stored stamps bits (without k xs) =
-    subst (IsKept limit mid then stored stamps bits) line (sound_kept limit mid then stored stamps bits left) in
-    let back : IsKept limit new late stored' stamps after (placed (stamp_of stamps) k (without k xs)) =
-    came limit mid new then late stored stored' stamps stamps bits after (without k xs) k i kept
-    (coming_back limit links ends stored stamps bitmap k i priority xs was inside low e) long are lists bit in
-    let whole : IsKept limit new late stored' stamps after xs =
-    subst (IsKept limit new late stored' stamps after) (placed_back (stamp_of stamps) k xs was.order inside) back in
-    let there = done limit mid new then late stored' stamps after xs i (placed (stamp_of stamps) k (part_of (queues mid then) i)) low lists whole in
+    let was = sound_kept limit range links ends stored stamps bitmap sound in
+    let kept : IsKept limit range mid then stored stamps bits (without k xs) =
+    subst (IsKept limit range mid then stored stamps bits) line (sound_kept limit range mid then stored stamps bits left) in
+    let back : IsKept limit range new late stored' stamps after (placed (stamp_of stamps) k (without k xs)) =
+    came limit range mid new then late stored stored' stamps stamps bits after (without k xs) k i kept
+    (coming_back limit range links ends stored stamps bitmap k i priority xs was inside low e) long are lists bit in
+    let whole : IsKept limit range new late stored' stamps after xs =
+    subst (IsKept limit range new late stored' stamps after) (placed_back (stamp_of stamps) k xs was.order inside) back in
+    let there = done limit range mid new then late stored' stamps after xs i (placed (stamp_of stamps) k (part_of (queues mid then) i)) low lists whole in
     record { sound = there.sound; line = there.line; waiters = λ j far. there.waiters j far ∙ keeps j far }
 
 -- ---- a thread that is pushed
 
 -- the same threads with other stamps, in the same order
-restamped : (limit : ℕ) (links : List Link) (ends : List Ends) (stored : List ℕ) (stamps mid : List ℤ) (bitmap : ℕ) → IsSound limit links ends stored stamps bitmap → AreStamps limit links mid → entries links mid ≡ entries links stamps
-    → IsSound limit links ends stored mid bitmap
-restamped limit links ends stored stamps mid bitmap sound are line = record {
+restamped : (limit : ℕ) (was range : StampRange) (links : List Link) (ends : List Ends) (stored : List ℕ) (stamps mid : List ℤ) (bitmap : ℕ) → IsSound limit was links ends stored stamps bitmap → AreStamps limit range links mid → entries links mid ≡ entries links stamps
+    → IsSound limit range links ends stored mid bitmap
+restamped limit was range links ends stored stamps mid bitmap sound are line = record {
   queues = sound.queues;
   stamped = are;
   lines = λ i lt. sound.lines i lt ∙ ap (of_priority stored (suc i)) (sym line);
@@ -154,11 +153,11 @@ stamp_other stamps anew stamp n is zero ne = refl
 stamp_other stamps anew stamp n is (suc m) ne = rw is (get_or-set_other stamps n m stamp (pos 0) (λ e. ne (ap suc e)))
 
 -- a thread gets a stamp of its own
-pub coming_new : (limit : ℕ) (links : List Link) (stored : List ℕ) (stamps anew : List ℤ) (stamp : ℤ) (k i : ℕ) → mark_of links k ≡ None → 0 < k → k ≤ 32 → length stamps ≡ 32 → anew ≡ set stamps (k - 1) stamp
-    → stored_of stored k ≡ suc i → i < 32 → ((j : ℕ) → is_ready links j ≡ true → stamp ≢ stamp_of stamps j) → (neg_ℤ (pos limit) ≤ℤ stamp) × (stamp ≤ℤ pos limit)
-    → IsComing limit stored stored stamps anew (entries links stamps) k i
-coming_new limit links stored stamps anew stamp zero i free some small long made level low apart within = absurd (omega (arith, some))
-coming_new limit links stored stamps anew stamp (suc n) i free some small long made level low apart within =
+pub coming_new : (range : StampRange) (links : List Link) (stored : List ℕ) (stamps anew : List ℤ) (stamp : ℤ) (k i : ℕ) → mark_of links k ≡ None → 0 < k → k ≤ 32 → length stamps ≡ 32 → anew ≡ set stamps (k - 1) stamp
+    → stored_of stored k ≡ suc i → i < 32 → ((j : ℕ) → is_ready links j ≡ true → stamp ≢ stamp_of stamps j) → IsInRange range stamp
+    → IsComing range stored stored stamps anew (entries links stamps) k i
+coming_new range links stored stamps anew stamp zero i free some small long made level low apart within = absurd (omega (arith, some))
+coming_new range links stored stamps anew stamp (suc n) i free some small long made level low apart within =
     let out = unmarked links stamps (suc n) free in
     let place : suc n - 1 ≡ n = omega arith in
     let is : anew ≡ set stamps n stamp = made ∙ ap (λ m. set stamps m stamp) place in
@@ -176,22 +175,22 @@ coming_new limit links stored stamps anew stamp (suc n) i free some small long m
     }
 
 -- whether first or last, k goes to its place by stamp among any of the line's threads
-pub pushed : (limit : ℕ) (links new : List Link) (ends late : List Ends) (stored : List ℕ) (stamps mid anew : List ℤ) (bitmap bits k i : ℕ) (put : List ℕ → List ℕ)
-    → IsSound limit links ends stored stamps bitmap → AreStamps limit links mid → entries links mid ≡ entries links stamps → IsComing limit stored stored mid anew (entries links mid) k i
+pub pushed : (limit : ℕ) (was range : StampRange) (links new : List Link) (ends late : List Ends) (stored : List ℕ) (stamps mid anew : List ℤ) (bitmap bits k i : ℕ) (put : List ℕ → List ℕ)
+    → IsSound limit was links ends stored stamps bitmap → AreStamps limit range links mid → entries links mid ≡ entries links stamps → IsComing range stored stored mid anew (entries links mid) k i
     → ((ks : List ℕ) → ((j : ℕ) → is_in j ks ≡ true → is_in j (entries links mid) ≡ true) → placed (stamp_of anew) k ks ≡ put ks)
     → length ends ≡ 128 → AreQueues new late → queues new late ≡ set (queues links ends) i (put (part_of (queues links ends) i)) → IsBitChanged bitmap bits i true
-    → IsDone limit links new ends late stored anew bits (put (entries links stamps))
-pushed limit links new ends late stored stamps mid anew bitmap bits k i put sound are line coming puts long queued lists bit =
+    → IsDone limit range links new ends late stored anew bits (put (entries links stamps))
+pushed limit was range links new ends late stored stamps mid anew bitmap bits k i put sound are line coming puts long queued lists bit =
     let xs = entries links mid in
-    let kept = sound_kept limit links ends stored mid bitmap (restamped limit links ends stored stamps mid bitmap sound are line) in
+    let kept = sound_kept limit range links ends stored mid bitmap (restamped limit was range links ends stored stamps mid bitmap sound are line) in
     let part = part_of (queues links ends) i in
     let own : part ≡ of_priority stored (suc i) xs = list_at links ends i ∙ kept.lines i coming.place in
     let among : (j : ℕ) → is_in j part ≡ true → is_in j xs ≡ true = λ j inside. (in_priority stored (suc i) j xs (subst (λ l. is_in j l ≡ true) own inside)).1 in
     let made : queues new late ≡ set (queues links ends) i (placed (stamp_of anew) k part) = lists ∙ ap (set (queues links ends) i) (sym (puts part among)) in
-    let back = came limit links new ends late stored stored mid anew bitmap bits xs k i kept coming long queued made bit in
-    let whole : IsKept limit new late stored anew bits (put (entries links stamps)) =
-    subst (IsKept limit new late stored anew bits) (puts xs (λ j inside. inside) ∙ ap put line) back in
-    done limit links new ends late stored anew bits (put (entries links stamps)) i (placed (stamp_of anew) k part) coming.place made whole
+    let back = came limit range links new ends late stored stored mid anew bitmap bits xs k i kept coming long queued made bit in
+    let whole : IsKept limit range new late stored anew bits (put (entries links stamps)) =
+    subst (IsKept limit range new late stored anew bits) (puts xs (λ j inside. inside) ∙ ap put line) back in
+    done limit range links new ends late stored anew bits (put (entries links stamps)) i (placed (stamp_of anew) k part) coming.place made whole
 
 -- k has the greatest stamp
 pub placed_last : (stamp : ℕ → ℤ) (k : ℕ) (ks : List ℕ) → ((j : ℕ) → is_in j ks ≡ true → stamp j <ℤ stamp k) → placed stamp k ks ≡ ks ++ k ∷ []
@@ -212,34 +211,34 @@ stamp_own stamps anew stamp (suc n) some small long made =
     let place : suc n - 1 ≡ n = omega arith in
     rw (made ∙ ap (λ m. set stamps m stamp) place) (get_or-set_same stamps n stamp (pos 0) (omega (arith, small, long)))
 
-pub pushed_tail : (limit : ℕ) (links new : List Link) (ends late : List Ends) (stored : List ℕ) (stamps mid anew : List ℤ) (bitmap bits k i : ℕ) (stamp : ℤ)
-    → IsSound limit links ends stored stamps bitmap → AreStamps limit links mid → entries links mid ≡ entries links stamps
+pub pushed_tail : (limit : ℕ) (was range : StampRange) (links new : List Link) (ends late : List Ends) (stored : List ℕ) (stamps mid anew : List ℤ) (bitmap bits k i : ℕ) (stamp : ℤ)
+    → IsSound limit was links ends stored stamps bitmap → AreStamps limit range links mid → entries links mid ≡ entries links stamps
     → mark_of links k ≡ None → 0 < k → k ≤ 32 → length mid ≡ 32 → anew ≡ set mid (k - 1) stamp → stored_of stored k ≡ suc i → i < 32
-    → ((j : ℕ) → is_ready links j ≡ true → stamp_of mid j <ℤ stamp) → (neg_ℤ (pos limit) ≤ℤ stamp) × (stamp ≤ℤ pos limit)
+    → ((j : ℕ) → is_ready links j ≡ true → stamp_of mid j <ℤ stamp) → IsInRange range stamp
     → length ends ≡ 128 → AreQueues new late → queues new late ≡ set (queues links ends) i (part_of (queues links ends) i ++ k ∷ []) → IsBitChanged bitmap bits i true
-    → IsDone limit links new ends late stored anew bits (entries links stamps ++ k ∷ [])
-pushed_tail limit links new ends late stored stamps mid anew bitmap bits k i stamp sound are line free some small long made level low last within wide queued lists bit =
-    let coming : IsComing limit stored stored mid anew (entries links mid) k i =
-    coming_new limit links stored mid anew stamp k i free some small long made level low (λ j ready e. no_less stamp (subst (λ z. z <ℤ stamp) (sym e) (last j ready))) within in
+    → IsDone limit range links new ends late stored anew bits (entries links stamps ++ k ∷ [])
+pushed_tail limit was range links new ends late stored stamps mid anew bitmap bits k i stamp sound are line free some small long made level low last within wide queued lists bit =
+    let coming : IsComing range stored stored mid anew (entries links mid) k i =
+    coming_new range links stored mid anew stamp k i free some small long made level low (λ j ready e. no_less stamp (subst (λ z. z <ℤ stamp) (sym e) (last j ready))) within in
     let own = stamp_own mid anew stamp k some small long made in
     let after : (j : ℕ) → is_in j (entries links mid) ≡ true → stamp_of anew j <ℤ stamp_of anew k =
     λ j inside. rw (coming.others j (member_apart k j (entries links mid) coming.out inside), own) (last j (sym (in_entries links mid j) ∙ inside)) in
-    pushed limit links new ends late stored stamps mid anew bitmap bits k i (λ ks. ks ++ k ∷ []) sound are line coming
+    pushed limit was range links new ends late stored stamps mid anew bitmap bits k i (λ ks. ks ++ k ∷ []) sound are line coming
     (λ ks among. placed_last (stamp_of anew) k ks (λ j inside. after j (among j inside))) wide queued lists bit
 
-pub pushed_head : (limit : ℕ) (links new : List Link) (ends late : List Ends) (stored : List ℕ) (stamps mid anew : List ℤ) (bitmap bits k i : ℕ) (stamp : ℤ)
-    → IsSound limit links ends stored stamps bitmap → AreStamps limit links mid → entries links mid ≡ entries links stamps
+pub pushed_head : (limit : ℕ) (was range : StampRange) (links new : List Link) (ends late : List Ends) (stored : List ℕ) (stamps mid anew : List ℤ) (bitmap bits k i : ℕ) (stamp : ℤ)
+    → IsSound limit was links ends stored stamps bitmap → AreStamps limit range links mid → entries links mid ≡ entries links stamps
     → mark_of links k ≡ None → 0 < k → k ≤ 32 → length mid ≡ 32 → anew ≡ set mid (k - 1) stamp → stored_of stored k ≡ suc i → i < 32
-    → ((j : ℕ) → is_ready links j ≡ true → stamp <ℤ stamp_of mid j) → (neg_ℤ (pos limit) ≤ℤ stamp) × (stamp ≤ℤ pos limit)
+    → ((j : ℕ) → is_ready links j ≡ true → stamp <ℤ stamp_of mid j) → IsInRange range stamp
     → length ends ≡ 128 → AreQueues new late → queues new late ≡ set (queues links ends) i (k ∷ part_of (queues links ends) i) → IsBitChanged bitmap bits i true
-    → IsDone limit links new ends late stored anew bits (k ∷ entries links stamps)
-pushed_head limit links new ends late stored stamps mid anew bitmap bits k i stamp sound are line free some small long made level low first within wide queued lists bit =
-    let coming : IsComing limit stored stored mid anew (entries links mid) k i =
-    coming_new limit links stored mid anew stamp k i free some small long made level low (λ j ready e. no_less stamp (subst (λ z. stamp <ℤ z) (sym e) (first j ready))) within in
+    → IsDone limit range links new ends late stored anew bits (k ∷ entries links stamps)
+pushed_head limit was range links new ends late stored stamps mid anew bitmap bits k i stamp sound are line free some small long made level low first within wide queued lists bit =
+    let coming : IsComing range stored stored mid anew (entries links mid) k i =
+    coming_new range links stored mid anew stamp k i free some small long made level low (λ j ready e. no_less stamp (subst (λ z. stamp <ℤ z) (sym e) (first j ready))) within in
     let own = stamp_own mid anew stamp k some small long made in
     let after : (j : ℕ) → is_in j (entries links mid) ≡ true → stamp_of anew k <ℤ stamp_of anew j =
     λ j inside. rw (coming.others j (member_apart k j (entries links mid) coming.out inside), own) (first j (sym (in_entries links mid j) ∙ inside)) in
-    pushed limit links new ends late stored stamps mid anew bitmap bits k i (λ ks. k ∷ ks) sound are line coming
+    pushed limit was range links new ends late stored stamps mid anew bitmap bits k i (λ ks. k ∷ ks) sound are line coming
     (λ ks among. placed_first (stamp_of anew) k ks (λ j inside. after j (among j inside))) wide queued lists bit
 
 -- ---- marks and queues
@@ -255,16 +254,3 @@ unqueued_free links ends k are = (
       (let mark = along_marked links i None None (queue_at links ends i) k (are.each i).along inside in
       let none : None ≡ Some i = sym free ∙ mark in absurd (cc))),
 )
-
--- ---- what the search for an extreme stamp goes by
-
-pub filed_of : (limit : ℕ) (links : List Link) (ends : List Ends) (stored : List ℕ) (stamps : List ℤ) (bitmap : ℕ) → IsSound limit links ends stored stamps bitmap → AreOrdered links ends stamps bitmap
-filed_of limit links ends stored stamps bitmap sound = record {
-  queues = sound.queues;
-  order = λ i lt. rw (sound.lines i lt) (order_kept (stamp_of stamps) (λ k. stored_of stored k == suc i) (entries links stamps) (entries_order limit links stamps sound.stamped));
-  bits = sound.bits;
-}
-
-pub anew_filed : (limit : ℕ) (links : List Link) (ends : List Ends) (stored : List ℕ) (stamps anew : List ℤ) (bitmap : ℕ) → IsSound limit links ends stored stamps bitmap → IsRenumbered limit links stamps anew → AreOrdered links ends anew bitmap
-anew_filed limit links ends stored stamps anew bitmap sound new =
-    filed_of limit links ends stored anew bitmap (restamped limit links ends stored stamps anew bitmap sound new.stamped new.line)

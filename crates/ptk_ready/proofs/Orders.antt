@@ -7,7 +7,7 @@ use Rattle.std.proofs.lemmas.Int.{ints}
 use Rattle.std.proofs.lemmas.Map.Keys.{IsDistinct-tail}
 use Rattle.ptk_words.specs.Pools.{is_in}
 use Rattle.ptk_threads_slots.proofs.Along.{in_front, in_here, in_later, head_out, distinct_cons, not_true}
-use Rattle.ptk_ready.specs.Orders.{placed, in_order, IsInOrder}
+use Rattle.ptk_ready.specs.Orders.{placed, in_order}
 
 -- ---- tests
 
@@ -67,6 +67,11 @@ in_kept p q (k ∷ ks) = elim (cases_Bool (p k)) as (λ _. is_in q (filter p (k 
 ]
 
 -- ---- lists in order
+
+-- each number's stamp is less than those of all numbers after it
+abbrev pub IsInOrder : (ℕ → ℤ) → List ℕ → Type 0
+IsInOrder stamp [] = Unit {0}
+IsInOrder stamp (k ∷ ks) = ((j : ℕ) → is_in j ks ≡ true → stamp k <ℤ stamp j) × IsInOrder stamp ks
 
 pub order_same : (stamp after : ℕ → ℤ) (ks : List ℕ) → ((j k : ℕ) → is_in j ks ≡ true → is_in k ks ≡ true → stamp j <ℤ stamp k → after j <ℤ after k) → IsInOrder stamp ks → IsInOrder after ks
 order_same stamp after [] same h = tt

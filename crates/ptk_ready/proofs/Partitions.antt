@@ -1,6 +1,6 @@
 -- What each call makes of the lines of all partitions.
 use Rattle.std.proofs.Common.{◌≡◌, ◌≢◌, ℕ, zero, suc, ◌<◌, ◌≤◌, List, [], ◌∷◌, length, drop, map, true, false, refl, sym, ◌∙◌, ap, subst, arith, get_or, inl, inr}
-use Rattle.std.specs.Prelude.{ℤ, IsSome, Option, replicate, slice_get}
+use Rattle.std.specs.Prelude.{ℤ, pos, IsSome, Option, replicate, slice_get}
 use Rattle.std.proofs.Math.ListN.{set, get_or-map}
 use Rattle.std.proofs.Math.Seq.{map-set_same}
 use Rattle.std.proofs.lemmas.Bool.{cases_eq}
@@ -43,18 +43,18 @@ lines_set (x ∷ line) (y ∷ queues) (suc p) entries lists lt same =
 
 pub moved : (limit : ℕ) (line : List (LinkedEntries limit)) (table now : ThreadTable) (p : ℕ) (entries : LinkedEntries limit) (lists : List (List ℕ)) (xs : List ℕ) → AreFiled limit line table → p < length line
     → now.queues ≡ set table.queues p lists → ((q : ℕ) → q ≢ p → part_of now.stored q ≡ part_of table.stored q)
-    → IsFiled limit lists (part_of now.stored p) entries.stamps entries.bitmap → line_of lists entries.stamps ≡ xs → drop 32 lists ≡ drop 32 (part_of table.queues p)
+    → IsFiled limit entries.range lists (part_of now.stored p) entries.stamps entries.bitmap → line_of lists entries.stamps ≡ xs → drop 32 lists ≡ drop 32 (part_of table.queues p)
     → IsMoved limit line (set line p entries) table now p xs
 moved limit line table now p entries lists xs filed lt is others own to waiters =
-    let none : LinkedEntries limit = record { stamps = []; bitmap = 0 } in
+    let none : LinkedEntries limit = record { stamps = []; bitmap = 0; range = record { first = pos 0; last = pos 0 } } in
     let within : p < length table.queues = omega (arith, lt, filed.parts) in
     let here : part_of now.queues p ≡ lists = ap (λ queues. part_of queues p) is ∙ get_or-set_same table.queues p lists [] within in
     let kept : entries_at (set line p entries) p ≡ entries = get_or-set_same line p entries none lt in
     record {
       sound = record {
         parts = length-set line p entries ∙ (filed.parts ∙ sym (ap length is ∙ length-set table.queues p lists));
-        each = λ q below. elim (cases_eq q p) as (λ _. IsFiled limit (part_of now.queues q) (part_of now.stored q) (entries_at (set line p entries) q).stamps (entries_at (set line p entries) q).bitmap) [
-          | inl e ↦ subst (λ z. IsFiled limit (part_of now.queues z) (part_of now.stored z) (entries_at (set line p entries) z).stamps (entries_at (set line p entries) z).bitmap) (sym e) (rw (here, kept) own)
+        each = λ q below. elim (cases_eq q p) as (λ _. IsFiled limit (entries_at (set line p entries) q).range (part_of now.queues q) (part_of now.stored q) (entries_at (set line p entries) q).stamps (entries_at (set line p entries) q).bitmap) [
+          | inl e ↦ subst (λ z. IsFiled limit (entries_at (set line p entries) z).range (part_of now.queues z) (part_of now.stored z) (entries_at (set line p entries) z).stamps (entries_at (set line p entries) z).bitmap) (sym e) (rw (here, kept) own)
           | inr ne ↦ (let there : part_of now.queues q ≡ part_of table.queues q = ap (λ queues. part_of queues q) is ∙ get_or-set_other table.queues p q lists [] ne in
               let same : entries_at (set line p entries) q ≡ entries_at line q = get_or-set_other line p q entries none ne in
               rw (there, others q ne, same) (filed.each q (omega (arith, below, length-set line p entries))))
@@ -69,7 +69,7 @@ moved limit line table now p entries lists xs filed lt is others own to waiters 
 -- a partition's entries, and its queues and stored priorities as they were lent
 pub record IsRead (limit : ℕ) (line : List (LinkedEntries limit)) (table : ThreadTable) (p : ℕ) (lists : List (List ℕ)) (stored : List ℕ) (entries : LinkedEntries limit) : Type 0 where
   pub within : p < length line
-  pub filed : IsFiled limit lists stored entries.stamps entries.bitmap
+  pub filed : IsFiled limit entries.range lists stored entries.stamps entries.bitmap
   pub same : line_of lists entries.stamps ≡ part_of (lines_by line table.queues) p
 
 pub read : (limit : ℕ) (items line : List (LinkedEntries limit)) (table : ThreadTable) (p i : ℕ) (lists : List (List ℕ)) (stored : List ℕ) (entries : LinkedEntries limit) → items ≡ line → i ≡ p → AreFiled limit line table → p < length (lines_by line table.queues)
@@ -77,7 +77,7 @@ pub read : (limit : ℕ) (items line : List (LinkedEntries limit)) (table : Thre
 read limit items line table p i lists stored entries view at filed lt value told kept =
     let within : p < length line = omega (arith, lt, lines_long line table.queues) in
     let is : entries ≡ entries_at line p =
-    get_or_read line p entries within (value ∙ (ap (λ xs. get_or xs i entries) view ∙ ap (λ n. get_or line n entries) at)) (record { stamps = []; bitmap = 0 }) in
+    get_or_read line p entries within (value ∙ (ap (λ xs. get_or xs i entries) view ∙ ap (λ n. get_or line n entries) at)) (record { stamps = []; bitmap = 0; range = record { first = pos 0; last = pos 0 } }) in
     record {
       within = within;
       filed = rw (told, kept, is) (filed.each p within);
@@ -167,13 +167,13 @@ built_empty limit parts items entries table is unused =
     ∙ (none_line (part_of table.queues p) (entries_at items p).stamps (unused p) ∙ sym (get_or-replicate parts p [] [] (omega (arith, below, long))))))
 
 pub built_filed : (limit parts : ℕ) (items : List (LinkedEntries limit)) (entries : LinkedEntries limit) (table : ThreadTable) → items ≡ replicate parts entries → length table.queues ≡ parts → AreUnused table.queues
-    → ((lists : List (List ℕ)) (stored : List ℕ) → ((i : ℕ) → i < 32 → part_of lists i ≡ []) → IsFiled limit lists stored entries.stamps entries.bitmap)
+    → ((lists : List (List ℕ)) (stored : List ℕ) → ((i : ℕ) → i < 32 → part_of lists i ≡ []) → IsFiled limit entries.range lists stored entries.stamps entries.bitmap)
     → AreFiled limit items table
 built_filed limit parts items entries table is same unused new =
     let long : length items ≡ parts = ap length is ∙ length-replicate parts entries in
     record {
       parts = long ∙ sym same;
       each = λ p lt.
-          (let own : entries_at items p ≡ entries = ap (λ l. entries_at l p) is ∙ get_or-replicate parts p entries (record { stamps = []; bitmap = 0 }) (omega (arith, lt, long)) in
+          (let own : entries_at items p ≡ entries = ap (λ l. entries_at l p) is ∙ get_or-replicate parts p entries (record { stamps = []; bitmap = 0; range = record { first = pos 0; last = pos 0 } }) (omega (arith, lt, long)) in
           rw own (new (part_of table.queues p) (part_of table.stored p) (unused p)));
     }

@@ -1,18 +1,20 @@
 -- Stamps numbered anew in their order.
 use Rattle.std.proofs.Common.{◌≡◌, ℕ, zero, suc, ◌+◌, ◌<◌, ◌≤◌, List, [], ◌∷◌, ◌++◌, length, Bool, true, false, cond, ◌&&◌, refl, sym, ◌∙◌, ap, arith, get_or, inl, inr}
-use Rattle.std.specs.Prelude.{ℤ, pos, neg_ℤ, ◌<ℤ◌, ◌≤ℤ◌, int_lt, filter, map, Option, Some, None, MatchOption, ⊤}
+use Rattle.std.specs.Prelude.{ℤ, pos, neg_ℤ, ◌+ℤ◌, ◌-ℤ◌, ◌<ℤ◌, int_lt, filter, map, option_map}
 use Rattle.ptk_words.specs.Pools.{is_in, numbers_to}
 use Rattle.ptk_threads_slots.specs.declared.link.Link.{Link}
-use Rattle.ptk_ready.specs.Entries.{is_ready, ready_of, stamp_of, entries, AreStamps}
-use Rattle.ptk_ready.specs.Stamps.{IsGreatestStamp, IsLeastStamp, above, below, rank, renumbered}
+use Rattle.ptk_threads_slots.specs.declared.slot.Slot.{Slot}
+use Rattle.ptk_threads_slots.specs.Links.{links_of, own_link, no_link, place_of}
+use Rattle.ptk_ready.specs.Entries.{is_ready, is_ready_place, ready_of, stamp_of, entries, AreStamps}
+use Rattle.ptk_ready.specs.declared.stamps.StampRange.{StampRange}
+use Rattle.ptk_ready.specs.Stamps.{rank, renumbered}
 use Rattle.ptk_threads_slots.proofs.Along.{in_front, not_true, marked_within}
 use Rattle.std.proofs.Math.ListN.{set}
 use Rattle.std.proofs.lemmas.Bool.{cases_eq, cases_Bool}
 use Rattle.std.proofs.lemmas.Int.{ints}
 use Rattle.std.proofs.lemmas.List.{get_or-map, get_or-set_same, get_or-set_other, length-map}
-use Rattle.ptk_ready.specs.Orders.{IsInOrder}
 use Rattle.ptk_ready.proofs.Ready.{ready_mark, in_ready, in_entries, entries_order, entries_are}
-use Rattle.ptk_ready.proofs.Orders.{no_less, less_test, test_less, order_same, order_apart}
+use Rattle.ptk_ready.proofs.Orders.{IsInOrder, no_less, less_test, test_less, order_same, order_apart}
 
 -- ---- counts
 
@@ -71,6 +73,11 @@ count_less p q (k ∷ ks) b h inside out within = elim (in_front b k ks inside) 
 
 -- ---- the stamps
 
+-- a slot's mark, as the code reads it
+pub read_ready : (slots : List Slot) (i : ℕ) (slot : Slot) (answer : Bool) → i < length slots → slot ≡ get_or slots i slot → answer ≡ is_ready_place (option_map place_of slot.link.queue) → answer ≡ is_ready (links_of slots) (suc i)
+read_ready slots i slot answer lt read e =
+    e ∙ ap (λ (l : Link). is_ready_place (option_map place_of l.queue)) (ap (λ (s : Slot). own_link s.link) read ∙ sym (get_or-map (λ (s : Slot). own_link s.link) slots i slot no_link lt))
+
 -- the count after one number more
 pub rank_more : (links : List Link) (stamps : List ℤ) (stamp : ℤ) (i count : ℕ) (b : Bool) → count ≡ length (filter (λ k. int_lt (stamp_of stamps k) stamp) (filter (is_ready links) (numbers_to i)))
     → b ≡ (is_ready links (suc i) && int_lt (stamp_of stamps (suc i)) stamp)
@@ -116,13 +123,24 @@ ranks_rise links stamps j k ready less =
     (not_true (int_lt (stamp_of stamps j) (stamp_of stamps j)) (λ h. no_less (stamp_of stamps j) (less_test (stamp_of stamps j) (stamp_of stamps j) h)))
     (test_less (stamp_of stamps j) (stamp_of stamps k) less)
 
-pub record IsRenumbered (limit : ℕ) (links : List Link) (stamps anew : List ℤ) : Type 0 where
-  pub stamped : AreStamps limit links anew
+-- the stamps numbered anew are from 0 to 31, and the line is the same
+pub record IsRenumbered (limit : ℕ) (range : StampRange) (links : List Link) (stamps anew : List ℤ) : Type 0 where
+  pub stamped : AreStamps limit range links anew
   pub line : entries links anew ≡ entries links stamps
-  pub small : (k : ℕ) → is_ready links k ≡ true → (pos 0 ≤ℤ stamp_of anew k) × (stamp_of anew k ≤ℤ pos 32)
 
-pub numbered_anew : (limit : ℕ) (links : List Link) (stamps : List ℤ) → AreStamps limit links stamps → length links ≤ 32 → length stamps ≡ 32 → 64 ≤ limit → IsRenumbered limit links stamps (renumbered links stamps)
-numbered_anew limit links stamps are few long large =
+abbrev from_zero : StampRange
+from_zero = record { first = pos 0; last = pos 31 }
+
+rank_small : (links : List Link) (stamps : List ℤ) (k : ℕ) → length links ≤ 32 → is_ready links k ≡ true → rank links stamps (stamp_of stamps k) < 32
+rank_small links stamps k few h =
+    let less = count_less (λ i. int_lt (stamp_of stamps i) (stamp_of stamps k)) (λ i. true) (ready_of links) k (λ i lower. refl) (in_ready links k ∙ h)
+    (not_true (int_lt (stamp_of stamps k) (stamp_of stamps k)) (λ e. no_less (stamp_of stamps k) (less_test (stamp_of stamps k) (stamp_of stamps k) e))) refl in
+    let all = count_small (is_ready links) (λ i. true) (length links) in
+    omega (arith, less, all, few)
+
+pub numbered_anew : (limit : ℕ) (range : StampRange) (links : List Link) (stamps : List ℤ) → AreStamps limit range links stamps → length links ≤ 32 → length stamps ≡ 32 → 64 ≤ limit
+    → IsRenumbered limit from_zero links stamps (renumbered links stamps)
+numbered_anew limit range links stamps are few long large =
     let xs = entries links stamps in
     let anew = renumbered links stamps in
     let ready : (k : ℕ) → is_in k xs ≡ true → is_ready links k ≡ true = λ k inside. sym (in_entries links stamps k) ∙ inside in
@@ -131,52 +149,32 @@ numbered_anew limit links stamps are few long large =
     let one = anew_at links stamps j few long (ready j a) in
     let two = anew_at links stamps k few long (ready k b) in
     rw (one, two) (omega (arith, ints, rise))))
-    (entries_order limit links stamps are) in
-    let small : (k : ℕ) → is_ready links k ≡ true → (pos 0 ≤ℤ stamp_of anew k) × (stamp_of anew k ≤ℤ pos 32) = λ k h.
-    (let at = anew_at links stamps k few long h in
-    let count = count_small (is_ready links) (λ i. int_lt (stamp_of stamps i) (stamp_of stamps k)) (length links) in
-    let bound : rank links stamps (stamp_of stamps k) ≤ 32 = omega (arith, count, few) in
-    rw at (omega (arith, ints), omega (arith, ints, bound))) in
+    (entries_order limit range links stamps are) in
     record {
       stamped = record {
         apart = λ j k a b e. order_apart (stamp_of anew) xs order j k (in_entries links stamps j ∙ a) (in_entries links stamps k ∙ b) e;
-        within = λ k h. (let bounds = small k h in (omega (arith, ints, bounds.0), omega (arith, ints, bounds.1, large)));
+        within = λ k h. (let at = anew_at links stamps k few long h in
+            let bound = rank_small links stamps k few h in
+            rw at (omega (arith, ints), omega (arith, ints, bound)));
+        limits = (omega (arith, ints), omega (arith, ints), omega (arith, ints, large));
       };
       line = entries_are links anew xs order (in_entries links stamps);
-      small = small;
     }
 
--- ---- the next stamp after that
+-- ---- a range that has one stamp more
 
-pub greatest_small : (links : List Link) (stamps : List ℤ) (o : Option ℤ) (n : ℕ) → IsGreatestStamp links stamps o → ((k : ℕ) → is_ready links k ≡ true → (pos 0 ≤ℤ stamp_of stamps k) × (stamp_of stamps k ≤ℤ pos 32)) → 32 ≤ n
-    → MatchOption o ⊤ (λ stamp. stamp ≤ℤ pos n)
-greatest_small links stamps None n is small le = tt
-greatest_small links stamps (Some s) n is small le = (let bounds = small is.1.0 is.1.1 in let same : stamp_of stamps is.1.0 ≡ s = is.1.2 in omega (arith, ints, bounds.1, same, le))
+pub longer : (limit : ℕ) (range : StampRange) (links : List Link) (stamps : List ℤ) (last : ℤ) → AreStamps limit range links stamps → range.last <ℤ pos limit → last ≡ range.last +ℤ pos 1
+    → AreStamps limit (record { first = range.first; last = last }) links stamps
+longer limit range links stamps last are room e = record {
+  apart = are.apart;
+  within = λ k ready. (let in_range = are.within k ready in (in_range.0, omega (arith, ints, in_range.1, e)));
+  limits = (are.limits.0, omega (arith, ints, are.limits.1, e), omega (arith, ints, room, e));
+}
 
-pub least_small : (links : List Link) (stamps : List ℤ) (o : Option ℤ) (n : ℕ) → IsLeastStamp links stamps o → ((k : ℕ) → is_ready links k ≡ true → (pos 0 ≤ℤ stamp_of stamps k) × (stamp_of stamps k ≤ℤ pos 32))
-    → MatchOption o ⊤ (λ stamp. neg_ℤ (pos n) ≤ℤ stamp)
-least_small links stamps None n is small = tt
-least_small links stamps (Some s) n is small = (let bounds = small is.1.0 is.1.1 in let same : stamp_of stamps is.1.0 ≡ s = is.1.2 in omega (arith, ints, bounds.0, same))
-
-pub above_within : (links : List Link) (stamps : List ℤ) (o : Option ℤ) (limit : ℕ) (result : ℤ) → IsGreatestStamp links stamps o → ((k : ℕ) → is_ready links k ≡ true → (pos 0 ≤ℤ stamp_of stamps k) × (stamp_of stamps k ≤ℤ pos 32)) → 64 ≤ limit
-    → result ≡ above o → (neg_ℤ (pos limit) ≤ℤ result) × (result ≤ℤ pos limit)
-above_within links stamps None limit result is small le e = rw e (omega (arith, ints), omega (arith, ints))
-above_within links stamps (Some s) limit result is small le e =
-    (let bounds = small is.1.0 is.1.1 in let same : stamp_of stamps is.1.0 ≡ s = is.1.2 in
-    rw e (omega (arith, ints, bounds.0, same), omega (arith, ints, bounds.1, same, le)))
-
-pub below_within : (links : List Link) (stamps : List ℤ) (o : Option ℤ) (limit : ℕ) (result : ℤ) → IsLeastStamp links stamps o → ((k : ℕ) → is_ready links k ≡ true → (pos 0 ≤ℤ stamp_of stamps k) × (stamp_of stamps k ≤ℤ pos 32)) → 64 ≤ limit
-    → result ≡ below o → (neg_ℤ (pos limit) ≤ℤ result) × (result ≤ℤ pos limit)
-below_within links stamps None limit result is small le e = rw e (omega (arith, ints), omega (arith, ints))
-below_within links stamps (Some s) limit result is small le e =
-    (let bounds = small is.1.0 is.1.1 in let same : stamp_of stamps is.1.0 ≡ s = is.1.2 in
-    rw e (omega (arith, ints, bounds.0, same, le), omega (arith, ints, bounds.1, same)))
-
--- each ready thread's stamp is less than the one above all, and greater than the one below all
-pub above_all : (links : List Link) (stamps : List ℤ) (o : Option ℤ) (result : ℤ) → IsGreatestStamp links stamps o → result ≡ above o → (k : ℕ) → is_ready links k ≡ true → stamp_of stamps k <ℤ result
-above_all links stamps None result is e k ready = (let none = is k in absurd (cc))
-above_all links stamps (Some s) result is e k ready = (let le = is.0 k ready in rw e (omega (arith, ints)))
-
-pub below_all : (links : List Link) (stamps : List ℤ) (o : Option ℤ) (result : ℤ) → IsLeastStamp links stamps o → result ≡ below o → (k : ℕ) → is_ready links k ≡ true → result <ℤ stamp_of stamps k
-below_all links stamps None result is e k ready = (let none = is k in absurd (cc))
-below_all links stamps (Some s) result is e k ready = (let le = is.0 k ready in rw e (omega (arith, ints)))
+pub lower : (limit : ℕ) (range : StampRange) (links : List Link) (stamps : List ℤ) (first : ℤ) → AreStamps limit range links stamps → neg_ℤ (pos limit) <ℤ range.first → first ≡ range.first -ℤ pos 1
+    → AreStamps limit (record { first = first; last = range.last }) links stamps
+lower limit range links stamps first are room e = record {
+  apart = are.apart;
+  within = λ k ready. (let in_range = are.within k ready in (omega (arith, ints, in_range.0, e), in_range.1));
+  limits = (omega (arith, ints, room, e), omega (arith, ints, are.limits.1, e), are.limits.2);
+}

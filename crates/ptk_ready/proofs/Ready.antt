@@ -10,9 +10,9 @@ use Rattle.ptk_words.specs.Pools.{is_in, numbers_to}
 use Rattle.ptk_threads_slots.specs.declared.link.Link.{Link}
 use Rattle.ptk_threads_slots.specs.Links.{mark_of}
 use Rattle.ptk_threads_slots.proofs.Along.{in_front, in_here, in_left, in_right, in_parts, not_true, le_or_gt, marked_within}
-use Rattle.ptk_ready.specs.Orders.{IsInOrder}
+use Rattle.ptk_ready.specs.declared.stamps.StampRange.{StampRange}
 use Rattle.ptk_ready.specs.Entries.{is_ready_place, is_ready, ready_of, stamp_of, entries, AreStamps}
-use Rattle.ptk_ready.proofs.Orders.{same_test, in_sorted, in_kept, order_sorted, order_apart, same_list, distinct_kept}
+use Rattle.ptk_ready.proofs.Orders.{IsInOrder, same_test, in_sorted, in_kept, order_sorted, order_apart, same_list, distinct_kept}
 
 -- ---- numbers
 
@@ -34,7 +34,7 @@ none_distinct : IsDistinct nat_eq []
 unfolding IsDistinct
 none_distinct = tt
 
-numbers_distinct : (n : ℕ) → IsDistinct nat_eq (numbers_to n)
+pub numbers_distinct : (n : ℕ) → IsDistinct nat_eq (numbers_to n)
 numbers_distinct zero = none_distinct
 numbers_distinct (suc n) =
     IsDistinct-push nat_eq_equiv (numbers_to n) (suc n) (numbers_distinct n)
@@ -72,8 +72,8 @@ ready_distinct links = distinct_kept (is_ready links) (numbers_to (length links)
 pub in_entries : (links : List Link) (stamps : List ℤ) (k : ℕ) → is_in k (entries links stamps) ≡ is_ready links k
 in_entries links stamps k = in_sorted (stamp_of stamps) k (ready_of links) ∙ in_ready links k
 
-pub entries_order : (limit : ℕ) (links : List Link) (stamps : List ℤ) → AreStamps limit links stamps → IsInOrder (stamp_of stamps) (entries links stamps)
-entries_order limit links stamps are =
+pub entries_order : (limit : ℕ) (range : StampRange) (links : List Link) (stamps : List ℤ) → AreStamps limit range links stamps → IsInOrder (stamp_of stamps) (entries links stamps)
+entries_order limit range links stamps are =
     order_sorted (stamp_of stamps) (ready_of links) (ready_distinct links)
     (λ j k a b e. are.apart j k (sym (in_ready links j) ∙ a) (sym (in_ready links k) ∙ b) e)
 

@@ -5,6 +5,7 @@ use Rattle.ptk_threads.specs.Table.{stored_of}
 use Rattle.ptk_threads_slots.specs.declared.link.Link.{Link}
 use Rattle.ptk_threads_slots.specs.declared.link.Ends.{Ends}
 use Rattle.ptk_threads_slots.specs.Links.{mark_of, queue_at, AreQueues}
+use Rattle.ptk_ready.specs.declared.stamps.StampRange.{StampRange}
 use Rattle.ptk_ready.specs.Orders.{in_order}
 use Rattle.ptk_ready.specs.Bits.{has_bit}
 
@@ -42,14 +43,23 @@ abbrev pub has_any : List ℕ → Bool
 has_any [] = false
 has_any (k ∷ ks) = true
 
--- ready threads have stamps of their own, of at most this magnitude
-pub record AreStamps (limit : ℕ) (links : List Link) (stamps : List ℤ) : Type 0 where
+-- the stamp is in the range
+abbrev pub IsInRange : StampRange → ℤ → Type 0
+IsInRange range stamp = (range.first ≤ℤ stamp) × (stamp ≤ℤ range.last)
+
+-- the range's ends are in their order, and of at most this magnitude
+abbrev pub IsRange : ℕ → StampRange → Type 0
+IsRange limit range = (neg_ℤ (pos limit) ≤ℤ range.first) × (range.first ≤ℤ range.last) × (range.last ≤ℤ pos limit)
+
+-- ready threads have stamps of their own, all in this range
+pub record AreStamps (limit : ℕ) (range : StampRange) (links : List Link) (stamps : List ℤ) : Type 0 where
   pub apart : (j k : ℕ) → is_ready links j ≡ true → is_ready links k ≡ true → stamp_of stamps j ≡ stamp_of stamps k → j ≡ k
-  pub within : (k : ℕ) → is_ready links k ≡ true → (neg_ℤ (pos limit) ≤ℤ stamp_of stamps k) × (stamp_of stamps k ≤ℤ pos limit)
+  pub within : (k : ℕ) → is_ready links k ≡ true → IsInRange range (stamp_of stamps k)
+  pub limits : IsRange limit range
 
 -- queue i is the line's threads of priority i + 1 in the line's order, and bit i tells whether it has any
-pub record IsSound (limit : ℕ) (links : List Link) (ends : List Ends) (stored : List ℕ) (stamps : List ℤ) (bitmap : ℕ) : Type 0 where
+pub record IsSound (limit : ℕ) (range : StampRange) (links : List Link) (ends : List Ends) (stored : List ℕ) (stamps : List ℤ) (bitmap : ℕ) : Type 0 where
   pub queues : AreQueues links ends
-  pub stamped : AreStamps limit links stamps
+  pub stamped : AreStamps limit range links stamps
   pub lines : (i : ℕ) → i < 32 → queue_at links ends i ≡ of_priority stored (suc i) (entries links stamps)
   pub bits : (i : ℕ) → i < 32 → has_bit bitmap i ≡ has_any (queue_at links ends i)

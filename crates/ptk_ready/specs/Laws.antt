@@ -11,6 +11,7 @@ use Rattle.ptk_threads.specs.Table.{ThreadTable, stored_of}
 use Rattle.ptk_threads_slots.proofs.Along.{in_here, in_later, le_or_gt, not_true}
 use Rattle.ptk_ready.specs.Queues.{ready_queues}
 use Rattle.ptk_ready.specs.declared.entries.LinkedEntries.{LinkedEntries}
+use Rattle.ptk_ready.specs.declared.stamps.StampRange.{StampRange}
 use Rattle.ptk_ready.specs.Orders.{in_order}
 use Rattle.ptk_ready.specs.Entries.{stamp_of, of_priority, has_any}
 use Rattle.ptk_ready.specs.Lines.{line_of, IsFiled}
@@ -42,19 +43,20 @@ list_take : (a b : List (List ℕ)) (i : ℕ) → take 32 a ≡ take 32 b → i 
 list_take a b i same lt = sym (get_or-take 32 b i [] lt) ∙ (ap (λ lists. part_of lists i) (sym same) ∙ get_or-take 32 a i [] lt)
 
 -- the stored priorities of threads in the line alone
-filed_take : (limit : ℕ) (a b : List (List ℕ)) (stored after : List ℕ) (stamps : List ℤ) (bitmap : ℕ) → take 32 a ≡ take 32 b → ((k : ℕ) → is_in k (line_of a stamps) ≡ true → stored_of after k ≡ stored_of stored k)
-    → IsFiled limit a stored stamps bitmap → IsFiled limit b after stamps bitmap
-filed_take limit a b stored after stamps bitmap same levels filed = record {
+filed_take : (limit : ℕ) (range : StampRange) (a b : List (List ℕ)) (stored after : List ℕ) (stamps : List ℤ) (bitmap : ℕ) → take 32 a ≡ take 32 b → ((k : ℕ) → is_in k (line_of a stamps) ≡ true → stored_of after k ≡ stored_of stored k)
+    → IsFiled limit range a stored stamps bitmap → IsFiled limit range b after stamps bitmap
+filed_take limit range a b stored after stamps bitmap same levels filed = record {
   apart = λ j k x y e. filed.apart j k (subst (λ lists. is_in j (joined lists) ≡ true) (sym same) x) (subst (λ lists. is_in k (joined lists) ≡ true) (sym same) y) e;
   within = λ k inside. filed.within k (subst (λ lists. is_in k (joined lists) ≡ true) (sym same) inside);
+  limits = filed.limits;
   lines = λ i lt. list_take a b i same lt ∙ (filed.lines i lt
       ∙ (filter_agree (λ k. stored_of stored k == suc i) (λ k. stored_of after k == suc i) (line_of a stamps) (λ k inside. ap (λ n. n == suc i) (sym (levels k inside)))
       ∙ ap (of_priority after (suc i)) (line_take a b stamps same)));
   bits = λ i lt. filed.bits i lt ∙ sym (ap has_any (list_take a b i same lt));
 }
 
-filed_member : (limit : ℕ) (lists : List (List ℕ)) (stored : List ℕ) (stamps : List ℤ) (bitmap k i : ℕ) → IsFiled limit lists stored stamps bitmap → i < 32 → is_in k (part_of lists i) ≡ true → is_in k (line_of lists stamps) ≡ true
-filed_member limit lists stored stamps bitmap k i filed lt inside = (in_priority stored (suc i) k (line_of lists stamps) (subst (λ l. is_in k l ≡ true) (filed.lines i lt) inside)).1
+filed_member : (limit : ℕ) (range : StampRange) (lists : List (List ℕ)) (stored : List ℕ) (stamps : List ℤ) (bitmap k i : ℕ) → IsFiled limit range lists stored stamps bitmap → i < 32 → is_in k (part_of lists i) ≡ true → is_in k (line_of lists stamps) ≡ true
+filed_member limit range lists stored stamps bitmap k i filed lt inside = (in_priority stored (suc i) k (line_of lists stamps) (subst (λ l. is_in k l ≡ true) (filed.lines i lt) inside)).1
 
 -- ---- the lines of all partitions
 
@@ -84,7 +86,7 @@ pub filed_same : (limit : ℕ) (line : List (LinkedEntries limit)) (a b : Thread
     → ready_queues a.queues ≡ ready_queues b.queues → AreFiled limit line a → AreFiled limit line b
 filed_same limit line a b levels same filed = record {
   parts = filed.parts ∙ (sym (length-map a.queues (take 32)) ∙ (ap length same ∙ length-map b.queues (take 32)));
-  each = λ p lt. filed_take limit (part_of a.queues p) (part_of b.queues p) (part_of a.stored p) (part_of b.stored p) (entries_at line p).stamps (entries_at line p).bitmap (first_same a.queues b.queues p same)
+  each = λ p lt. filed_take limit (entries_at line p).range (part_of a.queues p) (part_of b.queues p) (part_of a.stored p) (part_of b.stored p) (entries_at line p).stamps (entries_at line p).bitmap (first_same a.queues b.queues p same)
       (λ k inside. levels p k (ap (is_in k) (lines_at line a.queues p lt) ∙ inside)) (filed.each p lt);
 }
 
@@ -92,6 +94,6 @@ pub filed_apart : (limit : ℕ) (line : List (LinkedEntries limit)) (a : ThreadT
 filed_apart limit line a p k i filed out lt = elim (le_or_gt (length line) p) as (λ _. is_in k (part_of (part_of a.queues p) i) ≡ false) [
   | inl past ↦ ap (λ lists. is_in k (part_of lists i)) (get_or_past a.queues p [] (omega (arith, past, filed.parts)))
   | inr below ↦ not_true (is_in k (part_of (part_of a.queues p) i)) (λ inside.
-      (let there = filed_member limit (part_of a.queues p) (part_of a.stored p) (entries_at line p).stamps (entries_at line p).bitmap k i (filed.each p below) lt inside in
+      (let there = filed_member limit (entries_at line p).range (part_of a.queues p) (part_of a.stored p) (entries_at line p).stamps (entries_at line p).bitmap k i (filed.each p below) lt inside in
       let here = ap (is_in k) (lines_at line a.queues p below) ∙ there in absurd (cc)))
 ]

@@ -1,7 +1,7 @@
 //! Single bits of a number.
 
-ghost use Rattle.std.specs.Prelude.{◌≡◌, ◌<◌, true, false};
-ghost use Rattle.ptk_ready.specs.Bits.{has_bit, IsBitChanged, IsGreatestBit};
+ghost use Rattle.std.specs.Prelude.{◌<◌, true, false};
+ghost use Rattle.ptk_ready.specs.Bits.{IsBitChanged, IsGreatestBit};
 
 /// These bits with bit i set.
 pub(crate) fn with_bit(bits: u32, i: usize) -> u32
@@ -14,8 +14,7 @@ pub(crate) fn with_bit(bits: u32, i: usize) -> u32
 /// These bits with bit i clear.
 pub(crate) fn without_bit(bits: u32, i: usize) -> u32
     requires { i < 32 }
-    ensures changed { IsBitChanged bits result i false }
-    ensures fewer { has_bit bits i ≡ true → result < bits }
+    ensures { IsBitChanged bits result i false }
 {
     bits & !(1 << i)
 }

@@ -5,6 +5,7 @@ ghost use Rattle.ptk_words.specs.Pools.{is_in};
 ghost use Rattle.ptk_threads_slots.specs.declared.link.Ends.{Ends};
 ghost use Rattle.ptk_threads_slots.specs.declared.link.Link.{Link};
 ghost use Rattle.ptk_threads_slots.specs.Links.{mark_of, queue_at, queues, AreQueues};
+ghost use Rattle.ptk_ready.specs.declared.stamps.StampRange.{StampRange};
 ghost use Rattle.ptk_ready.specs.Entries.{entries, is_ready, IsSound};
 ghost use Rattle.ptk_ready.specs.Lines.{line_of, IsFiled};
 
@@ -20,11 +21,10 @@ pub fn marks_tell_queues()
 
 /// The queues' lists alone determine the line and its soundness: whatever links lead along the same lists, both
 /// are the same.
-#[tactic(auto, using(crate::proofs::Lists::filed_sound))]
 pub fn lists_tell_line()
     ensures line { (links : List Link) (ends : List Ends) (stamps : List ℤ) → AreQueues links ends → length links ≤ 32
         → entries links stamps ≡ line_of (queues links ends) stamps }
-    ensures sound { (limit : ℕ) (links : List Link) (ends : List Ends) (stored : List ℕ) (stamps : List ℤ) (bitmap : ℕ)
+    ensures sound { (limit : ℕ) (range : StampRange) (links : List Link) (ends : List Ends) (stored : List ℕ) (stamps : List ℤ) (bitmap : ℕ)
         → AreQueues links ends → length links ≤ 32
-        → (IsSound limit links ends stored stamps bitmap ↔ IsFiled limit (queues links ends) stored stamps bitmap) }
+        → (IsSound limit range links ends stored stamps bitmap ↔ IsFiled limit range (queues links ends) stored stamps bitmap) }
 {}

@@ -6,6 +6,7 @@ ghost use Rattle.ptk_words_parted.specs.Parts.{part_of};
 ghost use Rattle.ptk_threads.specs.Table.{ThreadTable, thread_in, stored_of};
 ghost use Rattle.ptk_threads.specs.Queues.{IsUnqueued};
 ghost use Rattle.ptk_ready.specs.Queues.{ready_queues, waiters_of};
+ghost use Rattle.ptk_ready.specs.Lines.{without_one};
 
 use ptk_threads::Threads;
 use ptk_words::{PartId, Priority, ThreadNo};
@@ -65,6 +66,20 @@ pub trait Line {
         requires sound { is_sound self.now threads.now }
         ensures { result
             ≡ first_of_greatest (stored_of (part_of threads.now.stored p)) (part_of (entries self.now threads.now) p) };
+
+    /// Takes the first thread of the greatest stored priority out and returns it; None of an empty line, where nothing
+    /// changes.
+    fn take_first(&mut self, threads: &mut Threads, p: PartId) -> Option<ThreadNo>
+        requires partition { (p < length (entries self.old threads.old)) × (p < length threads.old.threads) }
+        requires sound { is_sound self.old threads.old }
+        ensures first { result
+            ≡ first_of_greatest (stored_of (part_of threads.old.stored p)) (part_of (entries self.old threads.old) p) }
+        ensures sound { is_sound self.new threads.new }
+        ensures waiters { waiters_of threads.new.queues ≡ waiters_of threads.old.queues }
+        ensures line { entries self.new threads.new
+            ≡ slice_set (entries self.old threads.old) p (without_one result (part_of (entries self.old threads.old) p)) }
+        ensures threads { threads.new.threads ≡ threads.old.threads }
+        ensures stored { threads.new.stored ≡ threads.old.stored };
 
     /// Whether a thread is in the line.
     fn contains(&self, threads: &Threads, p: PartId, k: ThreadNo) -> bool

@@ -98,6 +98,19 @@ impl<const LIMIT: u64> Line for LinkedLine<LIMIT> {
         entries.first_of_greatest(part.slots, part.ends, threads.stored(p))
     }
 
+    #[inline(always)]
+    fn take_first(&mut self, threads: &mut Threads, p: PartId) -> Option<ThreadNo> {
+        let entries = &mut self.entries[p.index()];
+        let Some(priority) = entries.greatest_priority() else {
+            return None;
+        };
+        let Some(first) = threads.take_first(p, QueueName::Ready(priority)) else {
+            return None;
+        };
+        entries.first_left(priority, first.is_alone);
+        Some(first.thread)
+    }
+
     fn contains(&self, threads: &Threads, p: PartId, k: ThreadNo) -> bool {
         let part = threads.linked(p);
         let entries = &self.entries[p.index()];

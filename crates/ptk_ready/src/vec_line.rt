@@ -1,10 +1,11 @@
 //! The form with a list of its own for each partition.
 
 ghost use Rattle.std.specs.Prelude.{◌≡◌, ℕ, ◌<◌, false, List, [], ◌∷◌, ◌++◌, length, slice_set, IfOk, IsSome, replicate};
-ghost use Rattle.ptk_words.specs.Pools.{without, is_in};
+ghost use Rattle.ptk_words.specs.Pools.{without, first_of_greatest, is_in};
 ghost use Rattle.ptk_words_parted.specs.Parts.{part_of};
-ghost use Rattle.ptk_threads.specs.Table.{free_table, thread_in, with_stored};
+ghost use Rattle.ptk_threads.specs.Table.{free_table, thread_in, stored_of, with_stored};
 ghost use Rattle.ptk_ready.specs.Queues.{AreUnused};
+ghost use Rattle.ptk_ready.specs.Lines.{without_one};
 
 use crate::choice::first_of_greatest;
 use crate::line::Line;
@@ -108,6 +109,24 @@ impl Line for VecLine {
     fn first_of_greatest(&self, threads: &Threads, p: PartId) -> Option<ThreadNo> {
         let line = &self.lines[p.index()];
         first_of_greatest(threads, p, line.threads())
+    }
+
+    /// Takes the first thread of the greatest stored priority out and returns it; None of an empty line, where nothing
+    /// changes.
+    fn take_first(&mut self, threads: &mut Threads, p: PartId) -> Option<ThreadNo>
+        requires partition { (p < length self.old) × (p < length threads.old.threads) }
+        requires sound { AreUnused threads.old.queues }
+        ensures first { result ≡ first_of_greatest (stored_of (part_of threads.old.stored p)) (part_of self.old p) }
+        ensures sound { AreUnused threads.new.queues }
+        ensures line { self.new ≡ slice_set self.old p (without_one result (part_of self.old p)) }
+        ensures same { threads.new ≡ threads.old }
+    {
+        let line = &mut self.lines[p.index()];
+        let first = first_of_greatest(threads, p, line.threads());
+        if let Some(k) = first {
+            line.remove(k);
+        }
+        first
     }
 
     fn contains(&self, threads: &Threads, p: PartId, k: ThreadNo) -> bool {

@@ -318,6 +318,17 @@ mutexes_seen line a b mutexes marks now is same = (
   conditions_same b.queues a.queues marks same ∙ ap (λ (n : Rostered). n.conditions) is,
 )
 
+-- one partition's line is changed by f, and all else that is seen stays
+pub line_seen : {limit : ℕ} (line late : List (LinkedEntries limit)) (a b : ThreadTable) (mutexes : List (List (Option Mutex))) (marks : List (List Bool)) (now : Rostered) (p : ℕ) (f : List ℕ → List ℕ) → seen_of line a mutexes marks ≡ now → ready.waiters_of b.queues ≡ ready.waiters_of a.queues
+    → lines_by late b.queues ≡ set (lines_by line a.queues) p (f (part_of (lines_by line a.queues) p)) → b.threads ≡ a.threads → b.stored ≡ a.stored → seen_of late b mutexes marks ≡ record now { lines = set now.lines p (f (part_of now.lines p)) }
+line_seen line late a b mutexes marks now p f is waiters lines threads stored =
+    ap (λ (z : List (List (Option Thread))). record { table = record { threads = z; stored = b.stored; queues = [] }; lines = lines_by late b.queues; mutexes = mutexes_by b.queues mutexes; conditions = conditions_by b.queues marks }) threads
+    ∙ (ap (λ (z : List (List ℕ)). record { table = record { threads = a.threads; stored = z; queues = [] }; lines = lines_by late b.queues; mutexes = mutexes_by b.queues mutexes; conditions = conditions_by b.queues marks }) stored
+    ∙ (ap (λ (z : List (List ℕ)). record { table = seen a; lines = z; mutexes = mutexes_by b.queues mutexes; conditions = conditions_by b.queues marks }) lines
+    ∙ (ap (λ (z : List (List (Option Mutex))). record { table = seen a; lines = set (lines_by line a.queues) p (f (part_of (lines_by line a.queues) p)); mutexes = z; conditions = conditions_by b.queues marks }) (mutexes_same b.queues a.queues mutexes waiters)
+    ∙ (ap (λ (z : List (List (Option Condition))). record { table = seen a; lines = set (lines_by line a.queues) p (f (part_of (lines_by line a.queues) p)); mutexes = mutexes_by a.queues mutexes; conditions = z }) (conditions_same b.queues a.queues marks waiters)
+    ∙ ap (λ (n : Rostered). record n { lines = set n.lines p (f (part_of n.lines p)) }) is))))
+
 pub stored_seen : {limit : ℕ} (line late : List (LinkedEntries limit)) (a b : ThreadTable) (mutexes : List (List (Option Mutex))) (marks : List (List Bool)) (now : Rostered) (p k level : ℕ) → seen_of line a mutexes marks ≡ now → ready.waiters_of b.queues ≡ ready.waiters_of a.queues → lines_by late b.queues ≡ lines_by line a.queues
     → b.threads ≡ a.threads → b.stored ≡ set a.stored p (pool_set (part_of a.stored p) k level) → seen_of late b mutexes marks ≡ record now { table = with_stored p k level now.table }
 stored_seen line late a b mutexes marks now p k level is waiters lines threads stored =

@@ -15,6 +15,7 @@ use Rattle.ptk_threads.specs.Table.{ThreadTable, AreLevelsOf, free_table, thread
 use Rattle.ptk_threads.proofs.Pools.{pool_get-changed, pool_get-changed_other, pool_get-set_other, part_of-set, part_of-set_other}
 use Rattle.ptk_threads_slots.proofs.Along.{le_or_gt, not_true, in_front, in_here, in_later}
 use Rattle.ptk_ready.specs.declared.entries.LinkedEntries.{LinkedEntries}
+use Rattle.ptk_ready.specs.Lines.{without_one}
 use Rattle.ptk_ready.proofs.Kept.{in_without, member_apart}
 use Rattle.ptk_ready.proofs.Moves.{stored_other}
 use Rattle.ptk_ready.specs.Partitions.{lines_by, AreFiled}
@@ -115,6 +116,10 @@ last_used a p k (x ∷ xs) own rest = λ j inside. elim (in_front j x (xs ++ k �
 
 pub without_used : (a : ThreadTable) (p k : ℕ) (xs : List ℕ) → ((j : ℕ) → is_in j xs ≡ true → IsSome (thread_in a p j)) → (j : ℕ) → is_in j (without k xs) ≡ true → IsSome (thread_in a p j)
 without_used a p k xs rest = λ j inside. rest j (in_without j k xs inside)
+
+pub without_one_used : (a : ThreadTable) (p : ℕ) (k : Option ℕ) (xs : List ℕ) → ((j : ℕ) → is_in j xs ≡ true → IsSome (thread_in a p j)) → (j : ℕ) → is_in j (without_one k xs) ≡ true → IsSome (thread_in a p j)
+without_one_used a p None xs rest = rest
+without_one_used a p (Some k) xs rest = without_used a p k xs rest
 
 -- ---- an entry of the table changed with its stored priority
 

@@ -8,6 +8,7 @@ ghost use Rattle.ptk_words_parted.specs.Parts.{part_of, filled};
 ghost use Rattle.ptk_words_model.specs.Schedule.{with_reply};
 ghost use Rattle.ptk_threads.specs.Table.{free_table, thread_in, stored_of, with_stored, with_new, with_left, with_free};
 ghost use Rattle.ptk_words_sync_invariant.specs.Conditions.{IsNoWaiter};
+ghost use Rattle.ptk_ready.specs.Lines.{without_one};
 ghost use Rattle.ptk_syncs.specs.Rosters.{seen, AreQueuesOf};
 
 use ptk_mutex_priorities::MutexSlot;
@@ -150,6 +151,16 @@ impl Roster {
         ensures { result ≡ first_of_greatest (stored_of (part_of self.now.table.stored p)) (part_of self.now.lines p) }
     {
         self.line.first_of_greatest(&self.threads, p)
+    }
+
+    /// Takes the line's first thread of the greatest stored priority out and returns it; None of an empty line, where
+    /// nothing changes.
+    pub fn take_first(&mut self, p: PartId) -> Option<ThreadNo>
+        requires { p < length self.old.table.threads }
+        ensures told { result ≡ first_of_greatest (stored_of (part_of self.old.table.stored p)) (part_of self.old.lines p) }
+        ensures moved { self.new ≡ record self.old { lines = slice_set self.old.lines p (without_one result (part_of self.old.lines p)) } }
+    {
+        self.line.take_first(&mut self.threads, p)
     }
 
     /// The first of these threads of the greatest stored priority; None of none.

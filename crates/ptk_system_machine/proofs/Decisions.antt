@@ -1,5 +1,5 @@
 -- Decisions one after the other, each a step, are the ticks that they take, and leave the threads as they are and wait.
-use Rattle.std.proofs.Common.{◌≡◌, ℕ, zero, suc, ◌+◌, ◌-◌, ◌<◌, ◌≤◌, Bool, true, false, List, ◌++◌, append_assoc, Option, Some, None, refl, sym, ap, subst, ◌∙◌, arith}
+use Rattle.std.proofs.Common.{◌≡◌, ℕ, zero, suc, ◌+◌, ◌-◌, ◌<◌, ◌≤◌, Bool, true, false, List, ◌++◌, append_assoc, Some, None, sym, ap, subst, ◌∙◌, arith}
 use Rattle.std.specs.Prelude.{option_to_list, if◌then◌else◌}
 use Rattle.std.proofs.lemmas.Option.{MatchOption-at_some}
 use Rattle.ptk_words.specs.declared.faults.Status.{Status}
@@ -8,9 +8,9 @@ use Rattle.ptk_words.specs.declared.sections.Limits.{Limits}
 use Rattle.ptk_words_windows.specs.Windows.{OwnTicks, WindowPlan, IsFirstOwn, IsOwn, IsPlan, own_ticks}
 use Rattle.ptk_words_windows.proofs.NextLaws.{next_first}
 use Rattle.ptk_words_model.specs.declared.Spent.{Spent}
-use Rattle.ptk_words_model.specs.State.{Part, Account, State}
+use Rattle.ptk_words_model.specs.State.{Part, State}
 use Rattle.ptk_words_model.specs.Decision.{after_decision, spent_by_decision}
-use Rattle.ptk_words_model.specs.Run.{accounted, decided, is_at, last_of, next_from}
+use Rattle.ptk_words_model.specs.Run.{accounted, decided, last_of, next_from}
 use Rattle.ptk_words.specs.Faults.{is_active}
 use Rattle.ptk_words_batches.specs.Quiet.{after_ticks}
 use Rattle.ptk_words_batches.proofs.TicksInARow.{join, last_more, next_own}

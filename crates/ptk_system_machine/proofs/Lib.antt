@@ -1,7 +1,6 @@
 pub mod Behind
 pub mod CountedRows
 pub mod Decisions
-pub mod Entries
 pub mod States
 pub mod Ticks
 pub mod Coming

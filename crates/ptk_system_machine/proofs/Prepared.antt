@@ -4,7 +4,6 @@ use Rattle.std.specs.Prelude.{IsSome, if◌then◌else◌}
 use Rattle.std.specs.Option.{IsSomeAnd}
 use Rattle.std.proofs.Math.ListN.{set}
 use Rattle.std.proofs.lemmas.List.{set-get_or}
-use Rattle.ptk_words.specs.declared.sections.Entry.{Entry}
 use Rattle.ptk_words.specs.declared.sections.Limits.{Limits}
 use Rattle.ptk_words_windows.specs.Windows.{OwnTicks}
 use Rattle.ptk_words_model.specs.declared.Spent.{Spent}
@@ -23,10 +22,10 @@ use Rattle.ptk_words_batches.proofs.PreparedTicks.{prepared_on}
 use Rattle.ptk_kernel.specs.Kept.{Kept, AreParts, limits_at, part_at, put_part}
 use Rattle.ptk_kernel.specs.Rows.{IsStillTo}
 use Rattle.ptk_kernel.proofs.Parted.{part_at-put, parts_put, put_part-put}
-use Rattle.ptk_system_machine.specs.Accounts.{HasEntry, IsBehind, KeptAccount}
+use Rattle.ptk_system_machine.specs.Accounts.{IsBehind, KeptAccount}
 use Rattle.ptk_system_machine.specs.Whole.{Whole, IsWhole, no_account, account_at, state_at, put_state, gone_on}
-use Rattle.ptk_system_machine.proofs.Entries.{turn_entry}
-use Rattle.ptk_system_machine.proofs.States.{state_at-put}
+use Rattle.ptk_system_machine.specs.Turns.{HasDecided, IsFreeFrom}
+use Rattle.ptk_system_machine.proofs.States.{put_part-same, state_at-put}
 use Rattle.ptk_system_machine.proofs.Ticks.{put_state-put}
 
 -- ---- the first half
@@ -128,33 +127,19 @@ prepared_gone ticks p tick end n stop t old mid new is lt due ends some moved ke
 abbrev pub kept_before : ℕ → State → Kept → Kept
 kept_before p s kept = put_part p s.part kept
 
--- what was told of a turn has an entry
-pub turn_told : (n p tick room : ℕ) (kept new : Kept) (spent : Spent) (last : Option Entry) → AreParts n kept → p < n
-    → spent ≡ spent_in_turn room (runner_of (part_at p kept)) (part_at p kept)
-    → new ≡ put_part p (after_turn (limits_at p kept) tick room (runner_of (part_at p kept)) (part_at p kept)) kept → last ≡ (part_at p new).last → HasEntry spent last
-turn_told n p tick room kept new spent last parts lt told moved at =
-    let now : part_at p new ≡ after_turn (limits_at p kept) tick room (runner_of (part_at p kept)) (part_at p kept) = ap (part_at p) moved ∙ part_at-put n p _ kept parts lt in
-    let is : last ≡ (after_turn (limits_at p kept) tick room (runner_of (part_at p kept)) (part_at p kept)).last = at ∙ ap (λ (u : Part). u.last) now in
-    subst (λ (came : Spent). HasEntry came last) (sym told)
-    (subst (λ (l : Option Entry). HasEntry (spent_in_turn room (runner_of (part_at p kept)) (part_at p kept)) l) (sym is) (turn_entry (limits_at p kept) tick room (runner_of (part_at p kept)) (part_at p kept)))
-
 before_part : (n p : ℕ) (s : State) (kept : Kept) → AreParts n kept → p < n → part_at p (kept_before p s kept) ≡ s.part
 before_part n p s kept parts lt = part_at-put n p s.part kept parts lt
 
--- the turn spends what the decision from the state before spends
-pub turn_spent : (n p tick room : ℕ) (s : State) (kept : Kept) (spent : Spent) → AreParts n kept → p < n → part_at p kept ≡ ready_at (limits_at p kept) tick s.part
-    → spent ≡ spent_in_turn room (runner_of (part_at p kept)) (part_at p kept)
+-- what a decision from the state before spent, and what it left, by the tables before
+pub told_before : (n p tick room : ℕ) (s : State) (kept : Kept) (spent : Spent) → AreParts n kept → p < n → spent ≡ spent_by_decision (limits_at p kept) tick room s.part
     → spent ≡ spent_by_decision (limits_at p (kept_before p s kept)) tick room (part_at p (kept_before p s kept))
-turn_spent n p tick room s kept spent parts lt ready told =
-    told ∙ (ap (λ (u : Part). spent_in_turn room (runner_of u) u) ready ∙ ap (spent_by_decision (limits_at p kept) tick room) (sym (before_part n p s kept parts lt)))
+told_before n p tick room s kept spent parts lt told = told ∙ ap (spent_by_decision (limits_at p kept) tick room) (sym (before_part n p s kept parts lt))
 
--- and leaves what that decision leaves
-pub turn_moved : (n p tick room : ℕ) (s : State) (kept new : Kept) → AreParts n kept → p < n → part_at p kept ≡ ready_at (limits_at p kept) tick s.part
-    → new ≡ put_part p (after_turn (limits_at p kept) tick room (runner_of (part_at p kept)) (part_at p kept)) kept
-    → new ≡ put_part p (after_decision (limits_at p (kept_before p s kept)) tick room (part_at p (kept_before p s kept))) (kept_before p s kept)
-turn_moved n p tick room s kept new parts lt ready moved =
-    moved
-    ∙ (ap (λ (u : Part). put_part p (after_turn (limits_at p kept) tick room (runner_of u) u) kept) ready
+pub moved_before : (n p tick room : ℕ) (s : State) (kept : Kept) → AreParts n kept → p < n → part_at p kept ≡ after_decision (limits_at p kept) tick room s.part
+    → kept ≡ put_part p (after_decision (limits_at p (kept_before p s kept)) tick room (part_at p (kept_before p s kept))) (kept_before p s kept)
+moved_before n p tick room s kept parts lt moved =
+    sym (put_part-same p kept)
+    ∙ (ap (λ (u : Part). put_part p u kept) moved
     ∙ (ap (λ (u : Part). put_part p (after_decision (limits_at p kept) tick room u) kept) (sym (before_part n p s kept parts lt))
     ∙ sym (put_part-put p (after_decision (limits_at p kept) tick room (part_at p (kept_before p s kept))) s.part kept)))
 
@@ -170,3 +155,34 @@ gone_before ticks p tick n s kept accounts new is lt account gone =
     ∙ (ap (λ (u : State). put_state p (after_ticks ticks (limits_at p kept) tick n u) (record { kept = kept_before p s kept; accounts = accounts })) here
     ∙ ap (λ (k : Kept). record { kept = k; accounts = set accounts p (record (account_at p (record { kept = kept; accounts = accounts })) { account = (after_ticks ticks (limits_at p kept) tick n s).account }) })
     (put_part-put p (after_ticks ticks (limits_at p kept) tick n s).part s.part kept))
+
+-- the turn of what is prepared is the decision from the state before
+turn_decided : (n p tick room : ℕ) (s : State) (kept new : Kept) (spent : Spent) → AreParts n kept → p < n → part_at p kept ≡ ready_at (limits_at p kept) tick s.part
+    → spent ≡ spent_in_turn room (runner_of (part_at p kept)) (part_at p kept)
+    → new ≡ put_part p (after_turn (limits_at p kept) tick room (runner_of (part_at p kept)) (part_at p kept)) kept
+    → HasDecided (limits_at p new) tick room spent s.part (part_at p new)
+turn_decided n p tick room s kept new spent parts lt ready told moved =
+    let same : limits_at p kept ≡ limits_at p new = sym (ap (λ (k : Kept). limits_at p k) moved) in
+    record {
+      told = told ∙ (ap (λ (u : Part). spent_in_turn room (runner_of u) u) ready ∙ ap (λ (l : Limits). spent_by_decision l tick room s.part) same);
+      moved =
+          ap (part_at p) moved
+          ∙ (part_at-put n p (after_turn (limits_at p kept) tick room (runner_of (part_at p kept)) (part_at p kept)) kept parts lt
+          ∙ (ap (λ (u : Part). after_turn (limits_at p kept) tick room (runner_of u) u) ready
+          ∙ ap (λ (l : Limits). after_decision l tick room s.part) same));
+    }
+
+-- so what is put into the tables after the turn, by what such a decision leads to, is put into those before it
+pub turn_ended : (ticks : OwnTicks) (p tick room n to from : ℕ) (s : State) (kept mid : Kept) (accounts : List KeptAccount) (new : Whole) (spent : Spent) → IsWhole kept accounts → p < length accounts
+    → state_at p (record { kept = kept; accounts = accounts }) ≡ prepared (limits_at p kept) tick s
+    → spent ≡ spent_in_turn room (runner_of (part_at p kept)) (part_at p kept)
+    → mid ≡ put_part p (after_turn (limits_at p kept) tick room (runner_of (part_at p kept)) (part_at p kept)) kept
+    → IsFreeFrom (limits_at p mid) tick room spent to (part_at p mid) from
+    → ((account_at p (record { kept = mid; accounts = accounts })).account ≡ s.account → HasDecided (limits_at p mid) tick room spent s.part (part_at p mid) → IsFreeFrom (limits_at p mid) tick room spent to (part_at p mid) from
+    → new ≡ put_state p (after_ticks ticks (limits_at p mid) tick n s) (record { kept = mid; accounts = accounts }))
+    → new ≡ put_state p (after_ticks ticks (limits_at p kept) tick n s) (record { kept = kept; accounts = accounts })
+turn_ended ticks p tick room n to from s kept mid accounts new spent is lt ready told moved free gone =
+    gone (ap (λ (u : State). u.account) ready) (turn_decided (length accounts) p tick room s kept mid spent is.parts lt (ap (λ (u : State). u.part) ready) told moved) free
+    ∙ (ap (λ (l : Limits). put_state p (after_ticks ticks l tick n s) (record { kept = mid; accounts = accounts })) (ap (λ (k : Kept). limits_at p k) moved)
+    ∙ ap (λ (k : Kept). record { kept = k; accounts = set accounts p (record (account_at p (record { kept = kept; accounts = accounts })) { account = (after_ticks ticks (limits_at p kept) tick n s).account }) })
+    (ap (put_part p (after_ticks ticks (limits_at p kept) tick n s).part) moved ∙ put_part-put p (after_ticks ticks (limits_at p kept) tick n s).part (after_turn (limits_at p kept) tick room (runner_of (part_at p kept)) (part_at p kept)) kept))

@@ -1,5 +1,5 @@
 -- What one partition's state is after another was put.
-use Rattle.std.proofs.Common.{◌≡◌, ◌≢◌, ℕ, ◌<◌, ◌+◌, List, Option, length, get_or, Bool, true, false, ◌==◌, eqb-true, eq-eqb, refl, sym, ap, subst, ◌∙◌}
+use Rattle.std.proofs.Common.{◌≡◌, ◌≢◌, ℕ, ◌<◌, ◌+◌, List, Option, length, get_or, Bool, true, false, ◌==◌, eqb-true, eq-eqb, refl, sym, ap, subst, ◌∙◌, arith}
 use Rattle.std.proofs.lemmas.Bool.{false≢true}
 use Rattle.std.proofs.Math.ListN.{set}
 use Rattle.std.proofs.lemmas.List.{set-get_or, get_or-set_same, get_or-set_other, get_or_read, length-set}
@@ -14,10 +14,9 @@ use Rattle.ptk_words_model.specs.Decision.{after_decision, spent_by_decision}
 use Rattle.ptk_words_batches.specs.Idle.{waiting_from}
 use Rattle.ptk_kernel.specs.Kept.{Kept, AreParts, limits_at, part_at, put_part}
 use Rattle.ptk_kernel.proofs.Parted.{part_at-put, part_at-other, parts_put}
-use Rattle.ptk_system_machine.specs.Accounts.{HasEntry, KeptAccount, duration_of, spent_account}
+use Rattle.ptk_system_machine.specs.Accounts.{KeptAccount, duration_of, spent_account}
 use Rattle.ptk_system_machine.specs.Turns.{IsFreeFrom}
 use Rattle.ptk_system_machine.specs.Whole.{Whole, IsWhole, no_account, account_at, state_at, put_state}
-use Rattle.ptk_system_machine.proofs.Entries.{decision_entry}
 
 pub state_at-put : (p : ℕ) (state : State) (whole : Whole) → IsWhole whole.kept whole.accounts → p < length whole.accounts → state_at p (put_state p state whole) ≡ state
 state_at-put p state whole is lt =
@@ -70,6 +69,10 @@ free_told n p tick room to from kept new spent parts lt told moved free =
     subst (λ (s : Spent). IsFreeFrom (limits_at p kept) tick room s to (after_decision (limits_at p kept) tick room (part_at p kept)) from) told
     (subst (λ (s : Part). IsFreeFrom (limits_at p kept) tick room spent to s from) now
     (subst (λ (l : Limits). IsFreeFrom l tick room spent to (part_at p new) from) (ap (limits_at p) moved) free))
+
+-- from behind the ticks of a decision on it is free to go on
+pub free_behind : (limits : Limits) (tick room : ℕ) (spent : Spent) (to : ℕ) (part : Part) (from : ℕ) → from ≡ tick + duration_of room spent → IsFreeFrom limits tick room spent to part from
+free_behind limits tick room spent to part from at = record { behind = omega (arith, at); idle = λ later. absurd (omega (arith, at, later)) }
 
 -- the tables and the account after a decision are the state after it, with the next decision from a tick on
 pub decided_whole : (ticks : OwnTicks) (tick room from p : ℕ) (kept new : Kept) (accounts : List KeptAccount) (account : KeptAccount) (spent : Spent) (next : Option ℕ) (last : Option Entry)
@@ -128,4 +131,4 @@ still_whole p s kept new accounts account is moved same =
 
 pub ruleset same_part = (put_part-same)
 
-pub ruleset states = (state_at-put, put_state-same, decision_entry, still_whole)
+pub ruleset states = (state_at-put, put_state-same, still_whole)

@@ -1,11 +1,8 @@
 -- How quiet a partition is at its next turn in a row.
-use Rattle.std.proofs.Common.{◌≡◌, ℕ, ◌<◌, ◌≤◌, sym, ap, subst, ◌∙◌, arith}
-use Rattle.std.specs.Prelude.{Option, unwrap_or}
-use Rattle.ptk_words_windows.specs.Windows.{OwnTicks}
+use Rattle.std.proofs.Common.{◌≡◌, ℕ, ◌≤◌, sym, subst, arith}
 use Rattle.ptk_words_batches.proofs.Sooner.{quiet_sooner}
 use Rattle.ptk_kernel.specs.Kept.{Kept, limits_at, part_at}
 use Rattle.ptk_kernel.specs.Rows.{IsStillTo}
-use Rattle.ptk_system_machine.specs.Turns.{IsInWindow}
 
 -- what is quiet from a tick on is so from a later one on
 pub still_later : (p tick later stop t : ℕ) (kept : Kept) → tick ≤ later → IsStillTo p tick stop t kept → IsStillTo p later stop t kept

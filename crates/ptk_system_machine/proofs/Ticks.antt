@@ -11,7 +11,7 @@ use Rattle.ptk_words_model.specs.declared.Spent.TheVariants.{Idle}
 use Rattle.ptk_words_model.specs.State.{State}
 use Rattle.ptk_words_model.specs.Decision.{after_decision, spent_by_decision}
 use Rattle.ptk_words_model.specs.Run.{after_tick, after_tick_until, decided, is_at, next_from}
-use Rattle.ptk_words_batches.specs.Quiet.{AreOwn, after_ticks}
+use Rattle.ptk_words_batches.specs.Quiet.{after_ticks}
 use Rattle.ptk_words_batches.specs.Idle.{IsIdle, waiting_from}
 use Rattle.ptk_words_batches.proofs.IdleTicks.{idle_ticks}
 use Rattle.ptk_words_batches.proofs.TicksInARow.{join, window_own}

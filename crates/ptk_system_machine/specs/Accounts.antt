@@ -38,12 +38,6 @@ spent_account next kept room Lost last account = record account { next = next; l
 spent_account next kept room (Step cost) last account =
     record account { next = next; steps = account.steps + 1; trace = last_of kept (account.trace ++ option_to_list last) }
 
--- the step of a decision has an entry
-abbrev pub HasEntry : Spent → Option Entry → Type 0
-HasEntry Idle last = Unit {0}
-HasEntry Lost last = Unit {0}
-HasEntry (Step cost) last = IsSome last
-
 -- so many ticks are behind the state: at most as many steps, for each tick at most a frame's lost ones, and a partition that has a decision to come is not halted (own)
 pub record IsBehind (n : ℕ) (state : State) : Type 0 where
   pub steps : state.account.steps ≤ n

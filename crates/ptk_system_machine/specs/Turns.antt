@@ -7,6 +7,7 @@ use Rattle.ptk_words_windows.specs.Windows.{WindowPlan, OwnTicks}
 use Rattle.ptk_words_model.specs.declared.Spent.{Spent}
 use Rattle.ptk_words_model.specs.declared.Spent.TheVariants.{Idle}
 use Rattle.ptk_words_model.specs.State.{Part, State}
+use Rattle.ptk_words_model.specs.Decision.{after_decision, spent_by_decision}
 use Rattle.ptk_words_batches.specs.Quiet.{AreOwn, IsQuiet, after_ticks, core_of}
 use Rattle.ptk_words_batches.specs.Idle.{IsIdle}
 use Rattle.ptk_window.specs.Walks.{Way}
@@ -31,6 +32,11 @@ pub record IsAt (plan : WindowPlan) (p end : ℕ) (way : Way) : Type 0 where
   pub of_plan : way.plan ≡ plan
   pub of_partition : way.partition ≡ p
   pub at : IfSome way.end (λ known. known ≡ end)
+
+-- a decision at the tick with this room spent this of a partition in the one state, and led to the other (own)
+pub record HasDecided (limits : Limits) (tick room : ℕ) (spent : Spent) (old new : Part) : Type 0 where
+  pub told : spent ≡ spent_by_decision limits tick room old
+  pub moved : new ≡ after_decision limits tick room old
 
 -- in a run to a tick the next decision comes at this one or later: behind the ticks of a decision with this room that came to this and left the partition so; after an idle one the partition may have nothing to do up to then (own)
 pub record IsFreeFrom (limits : Limits) (tick room : ℕ) (spent : Spent) (to : ℕ) (part : Part) (from : ℕ) : Type 0 where

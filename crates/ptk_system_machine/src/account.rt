@@ -1,13 +1,16 @@
 //! What is counted of one partition.
 
-ghost use Rattle.std.specs.Prelude.{◌≡◌, ◌≤◌, ◌^◌, ◌+◌, IfOk};
+ghost use Rattle.std.specs.Prelude.{◌≡◌, ◌<◌, ◌≤◌, ◌^◌, ◌+◌, ◌++◌, IfOk, length, option_to_list};
 ghost use Rattle.ptk_words.specs.declared.TheConstants.{LAST_TICK};
+ghost use Rattle.ptk_words_model.specs.Run.{last_of};
+ghost use Rattle.ptk_kernel.specs.Kept.{part_at};
 ghost use Rattle.ptk_kernel.specs.Spending.{cost_in};
-ghost use Rattle.ptk_system_machine.specs.Accounts.{HasEntry, first_account, spent_account, duration_of};
+ghost use Rattle.ptk_system_machine.specs.Accounts.{first_account, spent_account, duration_of};
 
+use ptk_kernel::{Tables, last_step};
 use ptk_trace::Trace;
 use ptk_window::Near;
-use ptk_words::{Entry, Tick};
+use ptk_words::{PartId, Tick};
 use ptk_words_model::Spent;
 use std::alloc::{AllocError, Global};
 use std::marker::Model;
@@ -74,13 +77,21 @@ impl Account {
         &self.trace
     }
 
-    /// Counts a decision with this room whose outcome is `spent`: the tick of the next one, a step and its entry, or
-    /// the lost ticks.
-    pub(crate) fn count(&mut self, next: Option<Tick>, room: u32, spent: Spent, last: Option<Entry>)
+    /// Counts a decision of the partition with this room, whose outcome is `spent` and which left the tables so: the
+    /// tick of the next one, a step and its entry, or the lost ticks.
+    #[inline(always)]
+    pub(crate) fn count(
+        &mut self,
+        next: Option<Tick>,
+        room: u32,
+        spent: Spent,
+        tables: &Tables,
+        p: PartId,
+    )
+        requires partition { p < length tables.now.limits }
         requires steps { self.old.account.steps ≤ LAST_TICK }
         requires lost { self.old.account.lost ≤ 2 ^ 60 }
-        requires entry { HasEntry spent last }
-        ensures { self.new ≡ record self.old { account = spent_account next self.old.kept room spent last self.old.account } }
+        ensures { self.new ≡ record self.old { account = spent_account next self.old.kept room spent (part_at p tables.now).last self.old.account } }
     {
         self.next = next;
         match spent {
@@ -88,10 +99,23 @@ impl Account {
             Spent::Lost => self.lost += u64::from(room),
             Spent::Step(_) => {
                 self.steps += 1;
-                if let Some(entry) = last {
-                    self.trace.push(entry);
-                }
+                self.keep_last(tables, p);
             }
+        }
+    }
+
+    /// Puts the partition's last step, if there is one, into the trace as the newest. Where the trace keeps none, the
+    /// step is not read.
+    #[inline(always)]
+    fn keep_last(&mut self, tables: &Tables, p: PartId)
+        requires { p < length tables.now.limits }
+        ensures { self.new ≡ record self.old { account = record self.old.account { trace = last_of self.old.kept (self.old.account.trace ++ option_to_list (part_at p tables.now).last) } } }
+    {
+        if self.trace.kept() == 0 {
+            return;
+        }
+        if let Some(entry) = last_step(tables, p) {
+            self.trace.push(entry);
         }
     }
 

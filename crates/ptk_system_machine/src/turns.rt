@@ -11,11 +11,11 @@ ghost use Rattle.ptk_words_batches.specs.Quiet.{after_ticks};
 ghost use Rattle.ptk_words_batches.specs.Prepared.{prepared};
 ghost use Rattle.ptk_words_batches.specs.Idle.{IsIdle};
 ghost use Rattle.ptk_kernel.specs.Kept.{limits_at, part_at, put_part};
-ghost use Rattle.ptk_kernel.specs.Rows.{IsStill, IsStillTo};
+ghost use Rattle.ptk_kernel.specs.Rows.{IsCallNext, IsChosen, IsStill, IsStillTo};
 ghost use Rattle.ptk_kernel.specs.Spending.{cost_in};
 ghost use Rattle.ptk_system_machine.specs.Accounts.{IsBehind};
 ghost use Rattle.ptk_system_machine.specs.Steady.{AreSteady, states_from};
-ghost use Rattle.ptk_system_machine.specs.Turns.{IsAt, IsComing, IsFreeFrom, IsInWindow, IsPlainAt, IsStillUntil, IsUpTo, turn_at};
+ghost use Rattle.ptk_system_machine.specs.Turns.{HasDecided, IsAt, IsComing, IsFreeFrom, IsInWindow, IsPlainAt, IsStillUntil, IsUpTo, turn_at};
 ghost use Rattle.ptk_system_machine.specs.Whole.{AreWindowsOf, account_at, gone_on, put_state, state_at};
 
 mod calls;
@@ -23,14 +23,24 @@ mod calls;
 use crate::account::duration;
 use crate::machine::Machine;
 use ptk_kernel::{
-    Quiet, Tables, last_step, prepare, quiet_until, run_quiet, stays_idle_until, take_turn,
+    Quiet, Tables, prepare, prepared_until, quiet_until, run_quiet, stays_idle_until, take_call,
+    take_turn,
 };
 use ptk_window::{Near, Turn, Walk, WindowPlan};
-use ptk_words::{PartId, Status, Tick};
+use ptk_words::{PartId, Status, ThreadNo, Tick};
 use ptk_words_model::Spent;
 
 /// How many partitions there are at most.
 const PARTS: usize = 8;
+
+/// Where a row of a partition ends.
+#[derive(Clone, Copy)]
+struct RowEnd {
+    /// The partition's next turn.
+    turn: Turn,
+    /// Whether the running thread's next step is known to be a call.
+    is_call: bool,
+}
 
 impl Machine {
     /// Goes on from a tick to `to`: with one partition after the other, in the order of sections, since none sees how
@@ -52,7 +62,7 @@ impl Machine {
         }
     }
 
-    /// Goes on with one partition from a tick to `to`, turn after turn.
+    /// Goes on with one partition from a tick to `to`, turn after turn, by one walk through its windows.
     fn run_partition(&mut self, plan: &WindowPlan, p: PartId, tick: Tick, to: Tick)
         requires partition { p < length self.old.accounts }
         requires windows { AreWindowsOf (length self.old.accounts) plan.now }
@@ -64,9 +74,11 @@ impl Machine {
         let _parts = self.parts();
         plan.is_plan();
         let mut now = self.first_turn(plan, p, tick, to);
+        let mut walk = plan.walk(p, self.accounts[p.index()].near);
         while now.start.ticks() < to.ticks() {
-            now = self.go_on(plan, p, now, to);
+            now = self.go_on(plan, p, now, to, &mut walk);
         }
+        self.keep_near(p, walk.near());
     }
 
     /// Goes on from a tick by plain steps and quiet calls of the partition that decides next, up to `to` at most,
@@ -170,24 +182,35 @@ impl Machine {
 
     /// Goes on from the partition's next decision, with which the turn begins: what comes at its tick arrives and
     /// expires, a thread is chosen, and then, from that very tick on, come plain steps in a row and quiet calls while
-    /// the partition is quiet, or else the turn of that thread. Returns the partition's next turn.
-    fn go_on(&mut self, plan: &WindowPlan, p: PartId, turn: Turn, to: Tick) -> Turn
+    /// the partition is quiet, or else the turn of that thread. Returns the partition's next turn, at whose window the
+    /// walk then is.
+    #[inline(always)]
+    fn go_on(
+        &mut self,
+        plan: &WindowPlan,
+        p: PartId,
+        turn: Turn,
+        to: Tick,
+        walk: &mut Walk<'_>,
+    ) -> Turn
         requires partition { p < length self.old.accounts }
         requires windows { AreWindowsOf (length self.old.accounts) plan.now }
         requires time { to ≤ LAST_TICK }
         requires due { turn.start < to }
         requires coming { IsComing (own_ticks plan.now p) to (account_at p self.old).account.next turn }
         requires behind { IsBehind turn.start (state_at p self.old) }
+        requires walk { IsAt plan.now p turn.end walk.old }
         ensures on { turn.start < result.start }
         ensures coming { IsComing (own_ticks plan.now p) to (account_at p self.new).account.next result }
         ensures gone { self.new ≡ gone_on (own_ticks plan.now p) p turn.start (result.start - turn.start) self.old }
+        ensures walk { result.start < to → IsAt plan.now p result.end walk.new }
     {
         let _parts = self.parts();
         plan.is_plan();
         self.prepare(p, turn.start);
-        match self.quiet_until(p, turn.start, to) {
-            Some(quiet) => self.go_quiet(plan, p, turn, quiet, to),
-            None => self.take_turn(plan, p, turn, to),
+        match self.prepared_until(p, turn.start, to) {
+            Some(quiet) => self.go_quiet(plan, p, turn, quiet, to, walk),
+            None => self.take_turn(plan, p, turn, to, walk),
         }
     }
 
@@ -200,8 +223,23 @@ impl Machine {
         ensures tables { self.new.kept ≡ put_part p (ready_at (limits_at p self.old.kept) tick (part_at p self.old.kept)) self.old.kept }
         ensures accounts { self.new.accounts ≡ self.old.accounts }
         ensures behind { IsBehind tick (state_at p self.new) }
+        ensures chosen { IsChosen (part_at p self.new.kept) }
     {
         prepare(&mut self.tables, p, tick);
+    }
+
+    /// `quiet_until` of a partition that is prepared for its next decision, so that its running thread is chosen.
+    fn prepared_until(&self, p: PartId, tick: Tick, to: Tick) -> Option<Quiet>
+        requires partition { p < length self.now.accounts }
+        requires order { tick < to }
+        requires time { to ≤ LAST_TICK }
+        requires due { (account_at p self.now).account.next ≡ Some tick }
+        requires behind { IsBehind tick (state_at p self.now) }
+        requires chosen { IsChosen (part_at p self.now.kept) }
+        ensures { IfSome result (λ q. (tick < q.stop) × (q.stop ≤ to) × IsStill p tick q self.now.kept) }
+    {
+        let _parts = self.parts();
+        prepared_until(&self.tables, p, tick, to)
     }
 
     /// Whether the partition is quiet from its next decision on, which is at the tick, and up to which tick, at most
@@ -220,9 +258,18 @@ impl Machine {
     }
 
     /// Goes on with a quiet partition, whose next decision begins the turn and needs no preparation: by plain steps in
-    /// a row and quiet calls, and by the turn of its thread where another step of it comes before the partition's stop.
-    /// Returns the next turn.
-    fn go_quiet(&mut self, plan: &WindowPlan, p: PartId, turn: Turn, quiet: Quiet, to: Tick) -> Turn
+    /// a row and quiet calls, and by the turn of its thread where another step of it comes before the partition's stop;
+    /// where that is known to be a call, the call is made at once. Returns the next turn.
+    #[inline(always)]
+    fn go_quiet(
+        &mut self,
+        plan: &WindowPlan,
+        p: PartId,
+        turn: Turn,
+        quiet: Quiet,
+        to: Tick,
+        walk: &mut Walk<'_>,
+    ) -> Turn
         requires partition { p < length self.old.accounts }
         requires windows { AreWindowsOf (length self.old.accounts) plan.now }
         requires time { to ≤ LAST_TICK }
@@ -231,46 +278,133 @@ impl Machine {
         requires quiet { IsStill p turn.start quiet self.old.kept }
         requires coming { IsComing (own_ticks plan.now p) to (account_at p self.old).account.next turn }
         requires behind { IsBehind turn.start (state_at p self.old) }
+        requires walk { IsAt plan.now p turn.end walk.old }
         ensures on { turn.start < result.start }
         ensures coming { IsComing (own_ticks plan.now p) to (account_at p self.new).account.next result }
         ensures gone { self.new ≡ gone_on (own_ticks plan.now p) p turn.start (result.start - turn.start) self.old }
+        ensures walk { result.start < to → IsAt plan.now p result.end walk.new }
     {
         let _parts = self.parts();
         plan.is_plan();
-        let stop = quiet.stop.ticks();
-        let next = self.rows_on(plan, p, turn, quiet, to, quiet.stop);
-        if next.start.ticks() < stop {
-            self.take_turn(plan, p, next, to)
+        let (stop, thread) = (quiet.stop.ticks(), quiet.thread);
+        let RowEnd {
+            turn: next,
+            is_call,
+        } = self.rows_before(plan, p, turn, quiet, to, quiet.stop, walk);
+        if stop <= next.start.ticks() {
+            return next;
+        }
+        if is_call {
+            self.take_call(plan, p, next, thread, to, walk)
         } else {
-            next
+            self.take_turn(plan, p, next, to, walk)
         }
     }
 
     /// The second half of the partition's next decision, with which its turn begins: the turn of the thread that was
     /// chosen. Returns its next turn. From every state that the first half leads to where the partition is, it leads to
     /// where the ticks up to that turn lead.
-    #[tactic(auto, using(crate::proofs::States::states))]
-    fn take_turn(&mut self, plan: &WindowPlan, p: PartId, turn: Turn, to: Tick) -> Turn
+    fn take_turn(
+        &mut self,
+        plan: &WindowPlan,
+        p: PartId,
+        turn: Turn,
+        to: Tick,
+        walk: &mut Walk<'_>,
+    ) -> Turn
         requires partition { p < length self.old.accounts }
         requires frame { plan.now.frame ≤ 1000000 }
         requires time { to ≤ LAST_TICK }
         requires due { turn.start < to }
         requires coming { IsComing (own_ticks plan.now p) to (account_at p self.old).account.next turn }
         requires behind { IsBehind turn.start (state_at p self.old) }
+        requires walk { IsAt plan.now p turn.end walk.old }
         ensures on { turn.start < result.start }
         ensures coming { IsComing (own_ticks plan.now p) to (account_at p self.new).account.next result }
         ensures gone { (s : State) → state_at p self.old ≡ prepared (limits_at p self.old.kept) turn.start s →
             self.new ≡ put_state p (after_ticks (own_ticks plan.now p) (limits_at p self.old.kept) turn.start (result.start - turn.start) s) self.old }
+        ensures walk { result.start < to → IsAt plan.now p result.end walk.new }
     {
-        plan.is_plan();
         let Turn { start, end } = turn;
         let room = (end.ticks() - start.ticks()) as u32;
         let spent = take_turn(&mut self.tables, p, start, room);
         let from = free_from(&self.tables, p, start, room, spent, to);
-        let (status, last) = (self.tables.status(p), last_step(&self.tables, p));
+        self.end_turn(plan, p, turn, spent, from, to, walk)
+    }
+
+    /// As `take_turn`, where the step of the thread that was chosen is known to be a call. Since a thread runs, no idle
+    /// ticks follow, and the next decision is looked for behind the ticks that the call takes up.
+    #[inline(always)]
+    fn take_call(
+        &mut self,
+        plan: &WindowPlan,
+        p: PartId,
+        turn: Turn,
+        thread: ThreadNo,
+        to: Tick,
+        walk: &mut Walk<'_>,
+    ) -> Turn
+        requires partition { p < length self.old.accounts }
+        requires frame { plan.now.frame ≤ 1000000 }
+        requires time { to ≤ LAST_TICK }
+        requires due { turn.start < to }
+        requires call { IsCallNext thread (part_at p self.old.kept) }
+        requires coming { IsComing (own_ticks plan.now p) to (account_at p self.old).account.next turn }
+        requires behind { IsBehind turn.start (state_at p self.old) }
+        requires walk { IsAt plan.now p turn.end walk.old }
+        ensures on { turn.start < result.start }
+        ensures coming { IsComing (own_ticks plan.now p) to (account_at p self.new).account.next result }
+        ensures gone { (s : State) → state_at p self.old ≡ prepared (limits_at p self.old.kept) turn.start s →
+            self.new ≡ put_state p (after_ticks (own_ticks plan.now p) (limits_at p self.old.kept) turn.start (result.start - turn.start) s) self.old }
+        ensures walk { result.start < to → IsAt plan.now p result.end walk.new }
+    {
+        let Turn { start, end } = turn;
+        let room = (end.ticks() - start.ticks()) as u32;
+        let spent = take_call(&mut self.tables, p, thread, start, room);
+        let from = Tick::new(start.ticks() + u64::from(duration(room, spent)));
+        self.end_turn(plan, p, turn, spent, from, to, walk)
+    }
+
+    /// Counts the decision with which the partition's turn begins, which spent this and led to where the partition is,
+    /// and looks for the next one from a tick on. Returns the next turn, at whose window the walk then is. From every
+    /// state from which that decision was made, all is then as the ticks up to that turn leave it, if the partition has
+    /// nothing to do before the tick.
+    #[inline(always)]
+    #[tactic(auto, using(crate::proofs::States::states))]
+    fn end_turn(
+        &mut self,
+        plan: &WindowPlan,
+        p: PartId,
+        turn: Turn,
+        spent: Spent,
+        from: Tick,
+        to: Tick,
+        walk: &mut Walk<'_>,
+    ) -> Turn
+        requires partition { p < length self.old.accounts }
+        requires frame { plan.now.frame ≤ 1000000 }
+        requires time { to ≤ LAST_TICK }
+        requires due { turn.start < to }
+        requires coming { IsComing (own_ticks plan.now p) to (account_at p self.old).account.next turn }
+        requires from { turn.start ≤ from }
+        requires near { from ≤ 2 ^ 41 }
+        requires steps { (account_at p self.old).account.steps ≤ LAST_TICK }
+        requires lost { (account_at p self.old).account.lost ≤ 2 ^ 60 }
+        requires walk { IsAt plan.now p turn.end walk.old }
+        ensures on { turn.start < from → turn.start < result.start }
+        ensures coming { IsComing (own_ticks plan.now p) to (account_at p self.new).account.next result }
+        ensures gone { (s : State) → (account_at p self.old).account ≡ s.account →
+            HasDecided (limits_at p self.old.kept) turn.start (turn.end - turn.start) spent s.part (part_at p self.old.kept) →
+            IsFreeFrom (limits_at p self.old.kept) turn.start (turn.end - turn.start) spent to (part_at p self.old.kept) from →
+            self.new ≡ put_state p (after_ticks (own_ticks plan.now p) (limits_at p self.old.kept) turn.start (result.start - turn.start) s) self.old }
+        ensures walk { result.start < to → IsAt plan.now p result.end walk.new }
+    {
+        plan.is_plan();
+        let room = (turn.end.ticks() - turn.start.ticks()) as u32;
+        let status = self.tables.status(p);
         let account = &mut self.accounts[p.index()];
-        let (next, end) = next_turn(plan, p, status, from, end, &mut account.near);
-        account.count(next, room, spent, last);
+        let (next, end) = next_turn(plan, p, status, from, turn.end, walk);
+        account.count(next, room, spent, &self.tables, p);
         coming(account.next(), end, to)
     }
 
@@ -301,8 +435,7 @@ impl Machine {
 
     /// Plain steps of a quiet partition and quiet calls, as `rows` says of them, before its stop; behind the first row
     /// and the call that ends it, only such as begin before `until`. The partition is as quiet as it was, up to that
-    /// stop. It has several callers, so it is compiled as a function of its own; what it calls has one, and so all of
-    /// `rows_before` is compiled into it.
+    /// stop. It is `rows_before` with a walk of its own.
     fn rows_on(
         &mut self,
         plan: &WindowPlan,
@@ -328,10 +461,19 @@ impl Machine {
         ensures steady { AreSteady (part_at p self.old.kept) (states_from (own_ticks plan.now p) (limits_at p self.old.kept) turn.start (state_at p self.old)) turn.start result.start }
         ensures still { IsStill p result.start quiet self.new.kept }
     {
-        self.rows_before(plan, p, turn, quiet, to, until)
+        let _parts = self.parts();
+        let mut walk = plan.walk(p, self.accounts[p.index()].near);
+        let RowEnd { turn: next, .. } = self.rows_before(
+            plan, p, turn, quiet, to, until, &mut walk,
+        );
+        self.keep_near(p, walk.near());
+        next
     }
 
-    /// The rows and calls of `rows_on`.
+    /// The rows and calls of `rows_on`, by a walk that is at the turn's window and then at the next turn's. Returns the
+    /// next turn, and whether its step is known to be a call. It has several callers, so it is compiled as a function of
+    /// its own, and what it calls is compiled into it.
+    #[inline(never)]
     fn rows_before(
         &mut self,
         plan: &WindowPlan,
@@ -340,7 +482,8 @@ impl Machine {
         quiet: Quiet,
         to: Tick,
         until: Tick,
-    ) -> Turn
+        walk: &mut Walk<'_>,
+    ) -> RowEnd
         requires partition { p < length self.old.accounts }
         requires windows { AreWindowsOf (length self.old.accounts) plan.now }
         requires time { to ≤ LAST_TICK }
@@ -350,26 +493,32 @@ impl Machine {
         requires quiet { IsStill p turn.start quiet self.old.kept }
         requires coming { IsComing (own_ticks plan.now p) to (account_at p self.old).account.next turn }
         requires behind { IsBehind turn.start (state_at p self.old) }
-        ensures from { turn.start ≤ result.start }
-        ensures plain { IsPlainAt (limits_at p self.old.kept) turn.start (part_at p self.old.kept) → turn.start < result.start }
-        ensures coming { IsComing (own_ticks plan.now p) to (account_at p self.new).account.next result }
-        ensures gone { self.new ≡ gone_on (own_ticks plan.now p) p turn.start (result.start - turn.start) self.old }
-        ensures steady { AreSteady (part_at p self.old.kept) (states_from (own_ticks plan.now p) (limits_at p self.old.kept) turn.start (state_at p self.old)) turn.start result.start }
-        ensures still { IsStill p result.start quiet self.new.kept }
+        requires walk { IsAt plan.now p turn.end walk.old }
+        ensures from { turn.start ≤ result.turn.start }
+        ensures plain { IsPlainAt (limits_at p self.old.kept) turn.start (part_at p self.old.kept) → turn.start < result.turn.start }
+        ensures coming { IsComing (own_ticks plan.now p) to (account_at p self.new).account.next result.turn }
+        ensures gone { self.new ≡ gone_on (own_ticks plan.now p) p turn.start (result.turn.start - turn.start) self.old }
+        ensures steady { AreSteady (part_at p self.old.kept) (states_from (own_ticks plan.now p) (limits_at p self.old.kept) turn.start (state_at p self.old)) turn.start result.turn.start }
+        ensures still { IsStill p result.turn.start quiet self.new.kept }
+        ensures walk { result.turn.start < to → IsAt plan.now p result.turn.end walk.new }
+        ensures call { result.is_call ≡ true → IsCallNext quiet.thread (part_at p self.new.kept) }
     {
         let _parts = self.parts();
         plan.is_plan();
-        let mut walk = plan.walk(p, self.accounts[p.index()].near);
         let mut now = turn;
+        let mut is_call = false;
         let mut is_going = true;
         while is_going {
             let end = now.end;
-            let next = self.run_window(plan, p, now, &quiet, to, until, &mut walk);
+            let RowEnd {
+                turn: next,
+                is_call: is_known,
+            } = self.run_window(plan, p, now, &quiet, to, until, walk);
             is_going = goes_on(end, next.start, until);
             now = next;
+            is_call = is_known;
         }
-        self.keep_near(p, walk.near());
-        now
+        RowEnd { turn: now, is_call }
     }
 
     /// Keeps where the partition was last found among its windows, which changes nothing that is said of it.
@@ -382,7 +531,7 @@ impl Machine {
     }
 
     /// Steps of a quiet partition in the turn's window, the first at its next decision, with which the turn begins:
-    /// plain ones, and the quiet calls between them. Returns the next turn.
+    /// plain ones, and the quiet calls between them. Returns the next turn, and whether its step is known to be a call.
     #[inline(always)]
     fn run_window(
         &mut self,
@@ -393,7 +542,7 @@ impl Machine {
         to: Tick,
         until: Tick,
         walk: &mut Walk<'_>,
-    ) -> Turn
+    ) -> RowEnd
         requires partition { p < length self.old.accounts }
         requires windows { AreWindowsOf (length self.old.accounts) plan.now }
         requires time { to ≤ LAST_TICK }
@@ -403,14 +552,15 @@ impl Machine {
         requires coming { IsComing (own_ticks plan.now p) to (account_at p self.old).account.next turn }
         requires behind { IsBehind turn.start (state_at p self.old) }
         requires walk { IsAt plan.now p turn.end walk.old }
-        ensures from { turn.start ≤ result.start }
-        ensures on { turn.end ≤ result.start → turn.start < result.start }
-        ensures plain { IsPlainAt (limits_at p self.old.kept) turn.start (part_at p self.old.kept) → turn.start < result.start }
-        ensures coming { IsComing (own_ticks plan.now p) to (account_at p self.new).account.next result }
-        ensures gone { self.new ≡ gone_on (own_ticks plan.now p) p turn.start (result.start - turn.start) self.old }
-        ensures steady { AreSteady (part_at p self.old.kept) (states_from (own_ticks plan.now p) (limits_at p self.old.kept) turn.start (state_at p self.old)) turn.start result.start }
-        ensures still { IsStill p result.start quiet.now self.new.kept }
-        ensures walk { result.start < to → IsAt plan.now p result.end walk.new }
+        ensures from { turn.start ≤ result.turn.start }
+        ensures on { turn.end ≤ result.turn.start → turn.start < result.turn.start }
+        ensures plain { IsPlainAt (limits_at p self.old.kept) turn.start (part_at p self.old.kept) → turn.start < result.turn.start }
+        ensures coming { IsComing (own_ticks plan.now p) to (account_at p self.new).account.next result.turn }
+        ensures gone { self.new ≡ gone_on (own_ticks plan.now p) p turn.start (result.turn.start - turn.start) self.old }
+        ensures steady { AreSteady (part_at p self.old.kept) (states_from (own_ticks plan.now p) (limits_at p self.old.kept) turn.start (state_at p self.old)) turn.start result.turn.start }
+        ensures still { IsStill p result.turn.start quiet.now self.new.kept }
+        ensures walk { result.turn.start < to → IsAt plan.now p result.turn.end walk.new }
+        ensures call { result.is_call ≡ true → IsCallNext quiet.now.thread (part_at p self.new.kept) }
     {
         let within = quiet_within(quiet, turn.end);
         self.run_within(plan, p, turn, &within, to, until, walk)
@@ -419,8 +569,8 @@ impl Machine {
     /// Steps of a quiet partition in a row, the first at its next decision, with which the turn begins, each in place
     /// of a decision and counted as one: plain ones, and quiet calls that end at its stop or before; behind the first
     /// plain ones and the call that follows them, only such as begin before `until`. Returns the next turn, which is
-    /// the same, and nothing changes, where the next step is neither of the two. The partition is as quiet as it was,
-    /// up to that stop or a later one.
+    /// the same, and nothing changes, where the next step is neither of the two, and whether its step is known to be a
+    /// call. The partition is as quiet as it was, up to that stop or a later one.
     #[inline(always)]
     #[tactic(auto, using(crate::proofs::States::states))]
     fn run_within(
@@ -432,7 +582,7 @@ impl Machine {
         to: Tick,
         until: Tick,
         walk: &mut Walk<'_>,
-    ) -> Turn
+    ) -> RowEnd
         requires partition { p < length self.old.accounts }
         requires frame { plan.now.frame ≤ 1000000 }
         requires time { to ≤ LAST_TICK }
@@ -443,13 +593,14 @@ impl Machine {
         requires coming { IsComing (own_ticks plan.now p) to (account_at p self.old).account.next turn }
         requires behind { IsBehind turn.start (state_at p self.old) }
         requires walk { IsAt plan.now p turn.end walk.old }
-        ensures from { turn.start ≤ result.start }
-        ensures plain { IsPlainAt (limits_at p self.old.kept) turn.start (part_at p self.old.kept) → turn.start < result.start }
-        ensures coming { IsComing (own_ticks plan.now p) to (account_at p self.new).account.next result }
-        ensures gone { self.new ≡ gone_on (own_ticks plan.now p) p turn.start (result.start - turn.start) self.old }
-        ensures steady { AreSteady (part_at p self.old.kept) (states_from (own_ticks plan.now p) (limits_at p self.old.kept) turn.start (state_at p self.old)) turn.start result.start }
-        ensures still { (stop : ℕ) → quiet.now.stop ≤ stop → IsStillTo p turn.start stop quiet.now.thread self.old.kept → IsStillTo p result.start stop quiet.now.thread self.new.kept }
-        ensures walk { result.start < to → IsAt plan.now p result.end walk.new }
+        ensures from { turn.start ≤ result.turn.start }
+        ensures plain { IsPlainAt (limits_at p self.old.kept) turn.start (part_at p self.old.kept) → turn.start < result.turn.start }
+        ensures coming { IsComing (own_ticks plan.now p) to (account_at p self.new).account.next result.turn }
+        ensures gone { self.new ≡ gone_on (own_ticks plan.now p) p turn.start (result.turn.start - turn.start) self.old }
+        ensures steady { AreSteady (part_at p self.old.kept) (states_from (own_ticks plan.now p) (limits_at p self.old.kept) turn.start (state_at p self.old)) turn.start result.turn.start }
+        ensures still { (stop : ℕ) → quiet.now.stop ≤ stop → IsStillTo p turn.start stop quiet.now.thread self.old.kept → IsStillTo p result.turn.start stop quiet.now.thread self.new.kept }
+        ensures walk { result.turn.start < to → IsAt plan.now p result.turn.end walk.new }
+        ensures call { result.is_call ≡ true → IsCallNext quiet.now.thread (part_at p self.new.kept) }
     {
         plan.is_plan();
         let Turn { start, end } = turn;
@@ -464,7 +615,10 @@ impl Machine {
         );
         let (next, end) = turn_on(plan, p, reached.tick, end, walk);
         account.count_row(next, reached.steps);
-        coming(account.next(), end, to)
+        RowEnd {
+            turn: coming(account.next(), end, to),
+            is_call: reached.is_call,
+        }
     }
 }
 
@@ -567,8 +721,8 @@ fn coming(next: Option<Tick>, end: Tick, to: Tick) -> Turn
 }
 
 /// The partition's first own tick from this one on, none where it is halted, and the end of the window that holds it.
-/// Where the tick lies before `end`, it is in the partition's window with that end. `near` is where the partition was
-/// last found among its windows.
+/// Where the tick lies before `end`, it is in the partition's window with that end. The walk is at that window, where
+/// it is known to be at one, and then at the one that was answered.
 #[inline(always)]
 fn next_turn(
     plan: &WindowPlan,
@@ -576,23 +730,25 @@ fn next_turn(
     status: Status,
     tick: Tick,
     end: Tick,
-    near: &mut Near,
+    walk: &mut Walk<'_>,
 ) -> (Option<Tick>, Tick)
     requires frame { plan.now.frame ≤ 1000000 }
     requires time { tick ≤ 2 ^ 41 }
     requires window { tick < end → IsInWindow (own_ticks plan.now p) tick end }
+    requires walk { IsAt plan.now p end walk.old }
     ensures next { result.0 ≡ next_from (own_ticks plan.now p) status tick }
     ensures from { IfSome result.0 (λ next. tick ≤ next) }
     ensures window { IfSome result.0 (λ next. IsInWindow (own_ticks plan.now p) next result.1) }
+    ensures walk { IfSome result.0 (λ next. IsAt plan.now p result.1 walk.new) }
 {
     plan.is_plan();
     if !status.is_active() {
         return (None, end);
     }
-    if tick.ticks() < end.ticks() {
-        return (Some(tick), end);
+    if tick.ticks() <= end.ticks() {
+        return turn_on(plan, p, tick, end, walk);
     }
-    match plan.turn_from(p, tick, near) {
+    match walk.turn_from(tick) {
         Some(turn) => (Some(turn.start), turn.end),
         None => (None, end),
     }

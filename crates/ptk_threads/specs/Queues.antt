@@ -1,5 +1,5 @@
 -- The queues of each partition's threads, and what each call makes of those of one partition (own).
-use Rattle.std.specs.Prelude.{◌≡◌, ℕ, ◌+◌, ◌<◌, false, List, [], ◌∷◌, ◌++◌, length, Option, slice_set, map, replicate}
+use Rattle.std.specs.Prelude.{◌≡◌, ℕ, ◌+◌, ◌<◌, false, List, [], ◌∷◌, ◌++◌, length, drop, Option, slice_set, map, replicate}
 use Rattle.ptk_words.specs.Pools.{is_in, without}
 use Rattle.ptk_words.specs.declared.threads.Thread.{Thread}
 use Rattle.ptk_words_parted.specs.Parts.{part_of, filled}
@@ -39,6 +39,10 @@ with_none k lists = map (without k) lists
 -- k is not in this queue
 abbrev pub with_out : QueueName → ℕ → List (List ℕ) → List (List ℕ)
 with_out name k lists = slice_set lists (place_of name) (without k (part_of lists (place_of name)))
+
+-- a queue has lost its first thread
+abbrev pub without_first : QueueName → List (List ℕ) → List (List ℕ)
+without_first name lists = slice_set lists (place_of name) (drop 1 (part_of lists (place_of name)))
 
 -- ---- all partitions' slots
 

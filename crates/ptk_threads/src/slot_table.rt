@@ -5,17 +5,20 @@ ghost use Rattle.ptk_words.specs.Pools.{pool_get, pool_set, pool_changed};
 ghost use Rattle.ptk_words.specs.declared.threads.Thread.{Thread};
 ghost use Rattle.ptk_words_model.specs.Schedule.{with_reply};
 ghost use Rattle.ptk_words_parted.specs.Parts.{part_of, joined, filled};
-ghost use Rattle.ptk_threads_slots.specs.Links.{links_of, threads_of, no_ends, queues, AreQueues};
+ghost use Rattle.ptk_threads_slots.specs.Changes.{first_in};
+ghost use Rattle.ptk_threads_slots.specs.Links.{links_of, threads_of, no_ends, place_of, queues, AreQueues};
 ghost use Rattle.ptk_threads.specs.Table.{with_cpu, replaced_by};
 ghost use Rattle.ptk_threads.specs.Changes.{thread_changed};
 ghost use Rattle.ptk_threads.specs.Shared.{AreAlongLinks, StayInPartitions};
-ghost use Rattle.ptk_threads.specs.Queues.{no_queues, free_parts, AreListed, IsUnqueued, with_last, with_first, with_before, with_none};
+ghost use Rattle.ptk_threads.specs.Queues.{no_queues, free_parts, AreListed, IsUnqueued, with_last, with_first, with_before, with_none, without_first};
 
 use crate::changes::{
     ThreadChange, change_in, put_in, replace_in, set_cpu_in, set_values_in, work_in,
 };
 use crate::work::Work;
-use ptk_threads_slots::{Ends, PLACES, QueueName, Slot, append, insert, prepend, take};
+use ptk_threads_slots::{
+    Ends, FirstThread, PLACES, QueueName, Slot, append, insert, prepend, take, take_first,
+};
 use ptk_words::{Cpu, PartId, Thread, ThreadNo};
 use ptk_words_parted::Parted;
 use std::alloc::{AllocError, Global};
@@ -195,6 +198,16 @@ impl SlotTable {
         ensures { self.new ≡ record self.old { queues = slice_set self.old.queues p (with_none k (part_of self.old.queues p)) } }
     {
         take(self.slots.lend(p), self.ends.lend(p), k);
+    }
+
+    /// The first thread of a queue leaves it; the function returns it, and None of an empty queue, where nothing
+    /// changes.
+    pub(crate) fn take_first(&mut self, p: PartId, name: QueueName) -> Option<FirstThread>
+        requires { p < length self.old.threads }
+        ensures first { result ≡ first_in (part_of (part_of self.old.queues p) (place_of name)) }
+        ensures queues { self.new ≡ record self.old { queues = slice_set self.old.queues p (without_first name (part_of self.old.queues p)) } }
+    {
+        take_first(self.slots.lend(p), self.ends.lend(p), name)
     }
 }
 

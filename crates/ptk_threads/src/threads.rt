@@ -8,9 +8,10 @@ ghost use Rattle.ptk_words_parted.specs.Parts.{part_of, joined};
 ghost use Rattle.ptk_threads.specs.Table.{free_table, thread_in, stored_of, with_slot, with_changed, with_stored, with_queues, with_free, with_new, with_rest, with_left, with_cpu, replaced_by};
 ghost use Rattle.ptk_words_model.specs.Schedule.{with_reply};
 ghost use Rattle.ptk_threads.specs.Changes.{thread_changed};
-ghost use Rattle.ptk_threads.specs.Queues.{AreListed, IsUnqueued, with_last, with_first, with_before, with_none, with_out};
+ghost use Rattle.ptk_threads.specs.Queues.{AreListed, IsUnqueued, with_last, with_first, with_before, with_none, with_out, without_first};
 ghost use Rattle.ptk_threads.specs.Shared.{AreAlongLinks, StayInPartitions};
 ghost use Rattle.ptk_threads_slots.specs.declared.slot.Slot.{Slot};
+ghost use Rattle.ptk_threads_slots.specs.Changes.{first_in};
 ghost use Rattle.ptk_threads_slots.specs.Links.{links_of, threads_of, place_of, queues, AreQueues};
 
 use crate::changes::{ThreadChange, sets_wait};
@@ -18,7 +19,9 @@ use crate::slot_table::{LinkedSlots, SlotTable};
 use crate::waits::{follow, follow_if};
 use crate::work::Work;
 use ptk_clock::ThreadDeadlines;
-use ptk_threads_slots::{QueueName, Slot, ThreadList, has_members, is_marked, link_of, members};
+use ptk_threads_slots::{
+    FirstThread, QueueName, Slot, ThreadList, has_members, is_marked, link_of, members,
+};
 use ptk_words::{Cpu, PartId, Phase, Policy, Priority, Thread, ThreadNo, Wait};
 use ptk_words_parted::Parted;
 use std::alloc::{AllocError, Global};
@@ -376,6 +379,16 @@ impl Threads {
         ensures { self.new ≡ with_queues p (with_none k) self.old }
     {
         self.slots.take(p, k);
+    }
+
+    /// The first thread of a queue leaves it; the function returns it, and None of an empty queue, where nothing
+    /// changes.
+    pub fn take_first(&mut self, p: PartId, name: QueueName) -> Option<FirstThread>
+        requires { p < length self.old.threads }
+        ensures first { result ≡ first_in (part_of (part_of self.old.queues p) (place_of name)) }
+        ensures table { self.new ≡ with_queues p (without_first name) self.old }
+    {
+        self.slots.take_first(p, name)
     }
 
     /// A thread leaves this queue; nothing changes where it lies in another one, or in none. One that lay in it lies in

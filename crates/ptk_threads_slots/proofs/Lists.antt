@@ -1,18 +1,18 @@
 -- The lists of the queues after each call.
-use Rattle.std.proofs.Common.{◌≡◌, ℕ, ◌<◌, ◌≤◌, List, [], ◌∷◌, ◌++◌, length, true, false, refl, sym, ◌∙◌, ap, subst, arith, inl, inr}
-use Rattle.std.specs.Prelude.{Some, None, option_map, nat_eq, ◌==◌}
+use Rattle.std.proofs.Common.{◌≡◌, ℕ, ◌<◌, ◌≤◌, ◌≢◌, zero, suc, List, [], ◌∷◌, ◌++◌, length, drop, true, false, refl, sym, ◌∙◌, ap, subst, arith, inl, inr}
+use Rattle.std.specs.Prelude.{Option, Some, None, option_map, is_some, nat_eq, ◌==◌, Bool, not}
 use Rattle.std.proofs.Math.ListN.{set, get_or-map}
 use Rattle.std.proofs.lemmas.Bool.{cases_eq, eq-eqb}
 use Rattle.std.proofs.lemmas.Bool.Decides.{nat_tests}
-use Rattle.std.proofs.lemmas.List.{append-nil}
-use Rattle.ptk_words.specs.Pools.{is_in, without}
+use Rattle.std.proofs.lemmas.List.{append-nil, set_comm, get_or-set_other}
+use Rattle.ptk_words.specs.Pools.{pool_set, is_in, without}
 use Rattle.ptk_words_parted.specs.Parts.{part_of}
 use Rattle.ptk_threads_slots.specs.declared.link.Link.{Link}
 use Rattle.ptk_threads_slots.specs.declared.link.Ends.{Ends}
 use Rattle.ptk_threads_slots.specs.declared.link.QueueName.{QueueName}
-use Rattle.ptk_threads_slots.specs.Links.{place_of, link_in, no_ends, ends_at, mark_of, first_or, last_or, IsAlong, IsQueue, AreQueues, queue_from, queue_at, queues}
-use Rattle.ptk_threads_slots.specs.Changes.{put_before, linked_between, end_between, unlinked, end_without}
-use Rattle.ptk_threads_slots.proofs.Along.{in_front, out_parts, along_right}
+use Rattle.ptk_threads_slots.specs.Links.{place_of, link_in, no_link, no_ends, ends_at, mark_of, with_previous, first_or, last_or, IsLink, IsAlong, IsQueue, AreQueues, queue_from, queue_at, queues}
+use Rattle.ptk_threads_slots.specs.Changes.{first_in, put_before, linked_between, end_between, unlinked, end_without}
+use Rattle.ptk_threads_slots.proofs.Along.{in_front, head_out, out_parts, marked_within, first_out, along_right}
 use Rattle.ptk_threads_slots.proofs.Turns.{IsMoved, queues_moved, are_moved, between, taken, out_middle}
 
 -- the queues are these, with this list at place i
@@ -137,3 +137,58 @@ went links new ends after i k name link are lt place is named made ended =
     let moved : IsMoved links (unlinked k link links) ends i (end_without link.previous link.next (ends_at ends i)) (at.before ++ at.after) = taken links ends i k link at.before at.after are lt is mark at.is in
     let done = turned links (unlinked k link links) ends after i (end_without link.previous link.next (ends_at ends i)) (at.before ++ at.after) are moved ended in
     rw (list_at links ends i, at.is, without_split k at.before at.after out, made) done
+
+-- ---- the first thread of a queue
+
+-- the first thread of a list, as its queue's ends and its link say
+pub record IsFirst (links : List Link) (i k : ℕ) (line : List ℕ) : Type 0 where
+  pub is : line ≡ k ∷ drop 1 line
+  pub link : IsLink links i None (first_or None (drop 1 line)) k
+
+first_is : (links : List Link) (end : Ends) (i k : ℕ) (line : List ℕ) → IsQueue links end i line → end.first ≡ Some k → IsFirst links i k line
+first_is links end i k [] queue first = (let none : None ≡ Some k = sym queue.first ∙ first in absurd (cc))
+first_is links end i k (x ∷ xs) queue first =
+    let same : x ≡ k = (let here : Some x ≡ Some k = sym queue.first ∙ first in cc) in
+    record { is = ap (λ y. y ∷ xs) same; link = subst (λ y. IsLink links i None (first_or None xs) y) same queue.along.0 }
+
+-- the first thread has a slot
+pub first_within : (links : List Link) (ends : List Ends) (i k : ℕ) (end : Ends) → AreQueues links ends → end ≡ ends_at ends i → end.first ≡ Some k → k ≤ length links
+first_within links ends i k end are read named =
+    let first : (ends_at ends i).first ≡ Some k = ap (λ (e : Ends). e.first) (sym read) ∙ named in
+    (marked_within links k i (first_is links (ends_at ends i) i k (queue_at links ends i) (are.each i) first).link.queue).1
+
+alone_is : (ys : List ℕ) (next : Option ℕ) (b : Bool) → next ≡ first_or None ys → is_some next ≡ not b → b ≡ (length ys == 0)
+alone_is [] next true e told = refl
+alone_is [] next false e told = (let none : is_some next ≡ false = ap is_some e in absurd (cc))
+alone_is (y ∷ ys) next true e told = (let some : is_some next ≡ true = ap is_some e in absurd (cc))
+alone_is (y ∷ ys) next false e told = grind (arith, nat_tests)
+
+first_here : (k : ℕ) (line : List ℕ) (next : Option ℕ) (b : Bool) → line ≡ k ∷ drop 1 line → next ≡ first_or None (drop 1 line) → is_some next ≡ not b → Some (record { thread = k; is_alone = b }) ≡ first_in line
+first_here k line next b is e told = ap (λ a. Some (record { thread = k; is_alone = a })) (alone_is (drop 1 line) next b e told) ∙ ap first_in (sym is)
+
+-- the links, whichever of the two is written first
+order : (links : List Link) (k : ℕ) (next : Option ℕ) → next ≢ Some k → with_previous next None (pool_set links k no_link) ≡ pool_set (with_previous next None links) k no_link
+order links k None ne = refl
+order links zero (Some z) ne = refl
+order links (suc i) (Some zero) ne = refl
+order links (suc i) (Some (suc j)) ne =
+    let apart : i ≢ j = λ e. ne (ap (λ n. Some (suc n)) (sym e)) in
+    let other : link_in (pool_set links (suc i) no_link) (suc j) ≡ link_in links (suc j) = get_or-set_other links i j no_link no_link (λ e. apart (sym e)) in
+    ap (λ (l : Link). set (set links i no_link) j (record l { previous = None })) other ∙ set_comm links i j no_link (record (link_in links (suc j)) { previous = None }) apart
+
+pub first_went : (links mid new : List Link) (ends after : List Ends) (i k : ℕ) (end : Ends) (next : Option ℕ) (b : Bool) → AreQueues links ends → i < length ends → end ≡ ends_at ends i → end.first ≡ Some k
+    → next ≡ (link_in links k).next → is_some next ≡ not b → mid ≡ pool_set links k no_link → new ≡ with_previous next None mid → after ≡ set ends i (end_without None next end)
+    → AreTurned links new ends after i (drop 1 (part_of (queues links ends) i)) × (Some (record { thread = k; is_alone = b }) ≡ first_in (part_of (queues links ends) i))
+first_went links mid new ends after i k end next b are lt read named is alone freed made ended =
+    let first : (ends_at ends i).first ≡ Some k = ap (λ (e : Ends). e.first) (sym read) ∙ named in
+    let line = queue_at links ends i in
+    let at = first_is links (ends_at ends i) i k line (are.each i) first in
+    let link = link_in links k in
+    let was : IsQueue links (ends_at ends i) i (k ∷ drop 1 line) = subst (λ l. IsQueue links (ends_at ends i) i l) at.is (are.each i) in
+    let told : next ≡ first_or None (drop 1 line) = is ∙ at.link.next in
+    let apart : next ≢ Some k = λ e. first_out (drop 1 line) k (head_out k (drop 1 line) was.distinct) (sym told ∙ e) in
+    let links_are : new ≡ unlinked k link links = made ∙ (ap (with_previous next None) freed ∙ order links k next apart ∙ rw (at.link.previous, ← is) refl) in
+    let ends_are : after ≡ set ends i (end_without link.previous link.next (ends_at ends i)) = ended ∙ rw (read, at.link.previous, ← is) refl in
+    let moved : IsMoved links (unlinked k link links) ends i (end_without link.previous link.next (ends_at ends i)) (drop 1 line) = taken links ends i k link [] (drop 1 line) are lt refl at.link.queue at.is in
+    let done = turned links (unlinked k link links) ends after i (end_without link.previous link.next (ends_at ends i)) (drop 1 line) are moved ends_are in
+    (rw (list_at links ends i, links_are) done, rw (list_at links ends i) (first_here k line next b at.is told alone))

@@ -1,12 +1,18 @@
 -- The links and ends of a partition after one thread came between two neighbours, or went.
-use Rattle.std.specs.Prelude.{ℕ, List, [], ◌∷◌, Option, Some, None, slice_set, nat_eq, if◌then◌else◌}
+use Rattle.std.specs.Prelude.{ℕ, List, [], ◌∷◌, length, ◌==◌, Option, Some, None, slice_set, nat_eq, if◌then◌else◌}
 use Rattle.ptk_words.specs.Pools.{pool_set, without}
 use Rattle.ptk_words_parted.specs.Parts.{part_of}
 use Rattle.ptk_threads_slots.specs.declared.link.Link.{Link}
 use Rattle.ptk_threads_slots.specs.declared.link.Ends.{Ends}
+use Rattle.ptk_threads_slots.specs.declared.queues.FirstThread.{FirstThread}
 use Rattle.ptk_threads_slots.specs.Links.{no_link, with_next, with_previous, first_after, last_before}
 
 -- ---- lists
+
+-- the first thread of a list, None of an empty one
+abbrev pub first_in : List ℕ → Option FirstThread
+first_in [] = None
+first_in (k ∷ ks) = Some (record { thread = k; is_alone = length ks == 0 })
 
 -- the list with k before another thread
 abbrev pub put_before : ℕ → ℕ → List ℕ → List ℕ

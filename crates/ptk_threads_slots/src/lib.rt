@@ -3,8 +3,9 @@
 //! One partition's slots with their links, which are slot numbers of the table that all partitions share, and its
 //! linked queues: a list for each priority's ready threads, and each mutex's and each condition variable's waiters.
 //!
-//! - The queues linked through one partition's slots: `append`, `prepend`, `insert` and `take` each change the 128
-//!   lists by one equation, the links go on to lead along them, and who is in none has no link (`AreQueues`).
+//! - The queues linked through one partition's slots: `append`, `prepend`, `insert`, `take` and `take_first` each
+//!   change the 128 lists by one equation, the links go on to lead along them, and who is in none has no link
+//!   (`AreQueues`).
 //! - What is kept are slot numbers of the table that all partitions share, those of the partition's own numbers
 //!   (`AreLinksFrom`).
 //!
@@ -20,6 +21,6 @@ mod slot;
 mod thread_list;
 
 pub use link::{Ends, Link, PLACES, QueueName, SlotLink};
-pub use queues::{append, ends_of, insert, prepend, take};
+pub use queues::{FirstThread, append, ends_of, insert, prepend, take, take_first};
 pub use slot::{Slot, link_of};
 pub use thread_list::{ThreadList, has_members, is_marked, members};

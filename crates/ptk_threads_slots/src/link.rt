@@ -1,6 +1,6 @@
 //! What a slot keeps of the queue that its thread lies in.
 
-ghost use Rattle.std.specs.Prelude.{◌≡◌, ◌<◌, option_map};
+ghost use Rattle.std.specs.Prelude.{◌≡◌, ◌<◌, option_map, None};
 ghost use Rattle.ptk_threads_slots.specs.Links.{place_of, no_link, no_ends, number_at, slot_at, own_link, shared_link};
 ghost use Rattle.ptk_threads_slots.specs.Changes.{end_between, end_without};
 
@@ -199,5 +199,15 @@ impl Ends {
             None => link.previous,
         };
         Ends { first, last }
+    }
+    /// The ends once the first thread, which this one follows, is gone.
+    pub(crate) fn without_first(self, next: &Option<ThreadNo>) -> Ends
+        ensures { result ≡ end_without None next.now self }
+    {
+        let last = match next {
+            Some(_) => self.last,
+            None => None,
+        };
+        Ends { first: *next, last }
     }
 }

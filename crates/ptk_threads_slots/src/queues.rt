@@ -1,13 +1,22 @@
 //! The queues of one partition.
 
-ghost use Rattle.std.specs.Prelude.{◌≡◌, ℕ, ◌<◌, ◌≤◌, [], ◌∷◌, ◌++◌, length, Some, None, slice_set};
+ghost use Rattle.std.specs.Prelude.{◌≡◌, ℕ, ◌<◌, ◌≤◌, [], ◌∷◌, ◌++◌, length, drop, Some, None, slice_set};
 ghost use Rattle.ptk_words_parted.specs.Parts.{part_of};
 ghost use Rattle.ptk_threads_slots.specs.Links.{AreQueues, AreLinksFrom, queues, links_of, threads_of, mark_of, place_of, ends_at};
-ghost use Rattle.ptk_threads_slots.specs.Changes.{with_inserted, with_taken, linked_between, end_between, unlinked, end_without};
+ghost use Rattle.ptk_threads_slots.specs.Changes.{first_in, with_inserted, with_taken, linked_between, end_between, unlinked, end_without};
 
 use crate::link::{Ends, Link, QueueName};
-use crate::slot::{Slot, link_of, set_link, set_next, set_previous};
+use crate::slot::{Slot, link_of, set_link, set_next, set_previous, take_next};
 use ptk_words::ThreadNo;
+
+/// The first thread of a queue.
+#[derive(Clone, Copy)]
+pub struct FirstThread {
+    /// The thread.
+    pub thread: ThreadNo,
+    /// Whether no other thread is in the queue.
+    pub is_alone: bool,
+}
 
 /// The first and the last thread of a queue.
 pub fn ends_of(ends: &[Ends], name: QueueName) -> Ends
@@ -100,6 +109,31 @@ pub fn take(slots: &mut [Slot], ends: &mut [Ends], k: ThreadNo)
         let i = name.place();
         unlink(slots, ends, i, k, &link);
     }
+}
+
+/// The first thread of a queue leaves it; the function returns it, and None of an empty queue, where nothing changes.
+/// The threads stay.
+pub fn take_first(slots: &mut [Slot], ends: &mut [Ends], name: QueueName) -> Option<FirstThread>
+    requires queues { AreQueues (links_of slots.old) ends.old }
+    requires places { length ends.old ≡ 128 }
+    ensures first { result ≡ first_in (part_of (queues (links_of slots.old) ends.old) (place_of name)) }
+    ensures queues { AreQueues (links_of slots.new) ends.new }
+    ensures lists { queues (links_of slots.new) ends.new
+        ≡ slice_set (queues (links_of slots.old) ends.old) (place_of name)
+        (drop 1 (part_of (queues (links_of slots.old) ends.old) (place_of name))) }
+    ensures threads { threads_of slots.new ≡ threads_of slots.old }
+    ensures shared { (first : ℕ) → AreLinksFrom first slots.old → AreLinksFrom first slots.new }
+{
+    let i = name.place();
+    let end = ends[i];
+    let Some(thread) = end.first else {
+        return None;
+    };
+    let next = take_next(slots, thread);
+    set_previous(slots, &next, &None);
+    ends[i] = end.without_first(&next);
+    let is_alone = next.is_none();
+    Some(FirstThread { thread, is_alone })
 }
 
 /// Gives a thread a link in the queue at place i, and its neighbours theirs to it.

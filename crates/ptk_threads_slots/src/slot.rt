@@ -1,10 +1,10 @@
 //! The slots of one partition, read and written at a thread's number.
 
-ghost use Rattle.std.specs.Prelude.{◌≡◌, ℕ, ◌<◌, is_none, option_map, option_and_then};
+ghost use Rattle.std.specs.Prelude.{◌≡◌, ℕ, ◌<◌, ◌≤◌, length, is_none, option_map, option_and_then};
 ghost use Rattle.std.specs.Option.{option_copied};
 ghost use Rattle.ptk_words.specs.Pools.{pool_set};
 ghost use Rattle.ptk_words.specs.declared.threads.Thread.{Thread};
-ghost use Rattle.ptk_threads_slots.specs.Links.{links_of, threads_of, link_in, free_slot, with_next, with_previous, AreLinksFrom};
+ghost use Rattle.ptk_threads_slots.specs.Links.{links_of, threads_of, link_in, no_link, free_slot, with_next, with_previous, AreLinksFrom};
 
 use crate::link::{Link, QueueName, SlotLink};
 use ptk_words::{Cpu, Phase, Policy, Priority, SlotNo, Thread, ThreadNo, Wait};
@@ -201,6 +201,22 @@ pub(crate) fn set_link(slots: &mut [Slot], k: ThreadNo, link: Link)
         let slot = &mut slots[i];
         slot.link.set(&link);
     }
+}
+
+/// Gives a thread, which has a slot, the link of no queue, and returns the thread that came after it.
+#[tactic(auto, using(crate::proofs::Slots::slots))]
+pub(crate) fn take_next(slots: &mut [Slot], k: ThreadNo) -> Option<ThreadNo>
+    requires { k ≤ length slots.old }
+    ensures next { result ≡ (link_in (links_of slots.old) k).next }
+    ensures links { links_of slots.new ≡ pool_set (links_of slots.old) k no_link }
+    ensures threads { threads_of slots.new ≡ threads_of slots.old }
+    ensures shared { (first : ℕ) → AreLinksFrom first slots.old → AreLinksFrom first slots.new }
+{
+    let i = k.place();
+    let slot = &mut slots[i];
+    let link = slot.link.own();
+    slot.link.set(&Link::none());
+    link.next
 }
 
 /// Says who comes after this thread, if it is one.

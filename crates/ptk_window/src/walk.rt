@@ -12,8 +12,8 @@ use crate::table::Table;
 use ptk_words::{PartId, Tick};
 use std::marker::Model;
 
-/// The way of a partition through its windows in a plan. It finds the first of them as any look-up does; from then on
-/// it knows at which window it is, and goes to the next one without a search or a test.
+/// The way of a partition through its windows in a plan. It finds the first of them, and one that is farther on, as any
+/// look-up does; from then on it knows at which window it is, and goes to the next one without a search or a test.
 #[derive(Drop)]
 pub struct Walk<'a> {
     tables: &'a [Table],
@@ -85,14 +85,14 @@ impl<'a> Walk<'a> {
                 return Some(self.near.turn(self.tables, end));
             }
         }
-        self.look_up(end)
+        self.turn_from(end)
     }
 
-    /// The partition's first own tick that is not before the tick, and the end of the window that holds it. None where
-    /// the partition has no tick from this one on.
+    /// The partition's first own tick that is not before the tick, which is at most 2^57, and the end of the window
+    /// that holds it, wherever the way is: by a look-up. None where the partition has no tick from this one on.
     #[cold]
     #[inline(never)]
-    fn look_up(&mut self, tick: Tick) -> Option<Turn>
+    pub fn turn_from(&mut self, tick: Tick) -> Option<Turn>
         requires { tick ≤ 2 ^ 57 }
         ensures same { (self.new.plan ≡ self.old.plan) × (self.new.partition ≡ self.old.partition) }
         ensures turn { MatchOption result

@@ -1,11 +1,6 @@
-use Rattle.std.proofs.Common.{◌≡◌, ◌≢◌, ℕ, ◌+◌, ◌-◌, ◌^◌, ◌<◌, ◌≤◌, ◌⊎◌, inl, inr, true, false, length, refl, sym, ap, subst, ◌∙◌, arith}
-use Rattle.std.proofs.lemmas.Bool.{cases_lt, false≢true}
-use Rattle.ptk_words.specs.declared.sections.Limits.{Limits}
-use Rattle.ptk_words.specs.declared.threads.Thread.{Thread}
-use Rattle.ptk_words_invariant.specs.Well.{IsWell}
-use Rattle.ptk_gate_moves.specs.Held.{Held, limits_here}
-use Rattle.ptk_gate_steps.specs.Decisions.{IsQuietTo}
-use Rattle.ptk_gate_steps.specs.Stretches.{HasEnded, HasGone}
+use Rattle.std.proofs.Common.{◌+◌, ◌-◌, ◌<◌, ◌≤◌, length, refl, sym, arith}
+use Rattle.std.proofs.lemmas.Bool.{false≢true}
+use Rattle.ptk_gate_moves.specs.Held.{limits_here}
 use Rattle.ptk_gate_steps.proofs.StepsInARow.{at_end, closer, go_further, gone_later, gone_none, interval_here, quiet_here, well_here}
 use Rattle.ptk_gate_steps.proofs.stretches.run_quiet.Goals as goal
 
@@ -18,6 +13,7 @@ loop-is_going-init c =
       gone = gone_none (limits_here c.args.pools.now) c.args.quiet.thread c.args.tick c.args.pools.now.here c.args.trace.now within;
       going = λ on. c.requires.order;
       ended = λ off. absurd (false≢true (sym off));
+      call = λ known. absurd (false≢true known);
     }
 
 pub run_row-row-requires : goal.run_row-row-requires
@@ -48,6 +44,7 @@ make_call-next-requires c =
       well = well_here c.args.quiet.thread c.loop-is_going.now.tick (c.run_row-row.result.steps - c.loop-is_going.now.steps) c.run_row-row.result.tick c.loop-is_going.pools c.run_row-row.new.pools c.loop-is_going.trace c.run_row-row.new.trace c.run_row-row.ensures.moved c.run_row-row.ensures.gone (well_here c.args.quiet.thread c.args.tick c.loop-is_going.now.steps c.loop-is_going.now.tick c.args.pools.now c.loop-is_going.pools c.args.trace.now c.loop-is_going.trace c.loop-is_going.invariant.moved c.loop-is_going.invariant.gone c.requires.well);
       interval = interval_here 1000000 c.loop-is_going.pools c.run_row-row.new.pools c.run_row-row.ensures.moved (interval_here 1000000 c.args.pools.now c.loop-is_going.pools c.loop-is_going.invariant.moved c.requires.interval);
       counted = omega (arith, later, start);
+      unknown = c.run_row-row.ensures.unknown;
     }
 
 pub loop-is_going-smaller : goal.loop-is_going-smaller
@@ -69,6 +66,9 @@ returns-clause-gone c = c.loop-is_going.invariant.gone
 pub returns-clause-ended : goal.returns-clause-ended
 returns-clause-ended c = c.loop-is_going.invariant.ended c.loop-is_going-test.false
 
+pub returns-clause-call : goal.returns-clause-call
+returns-clause-call c = c.loop-is_going.invariant.call
+
 pub loop-is_going-preserved : goal.loop-is_going-preserved
 loop-is_going-preserved c =
     let lt : c.loop-is_going.now.tick < c.args.quiet.stop = c.loop-is_going.invariant.going c.loop-is_going-test.true in
@@ -87,4 +87,5 @@ loop-is_going-preserved c =
       ended = λ off before until.
           at_end c.args.tick c.args.quiet.stop c.args.until c.args.quiet.thread c.run_row-row.result.tick c.make_call-next.result.tick c.run_row-row.new.pools c.make_call-next.new.pools (omega (arith, first, start)) c.make_call-next.ensures.from
           (λ at. (c.make_call-next.ensures.none at).0) c.run_row-row.ensures.ended (λ thread at begun found quiet. c.make_call-next.ensures.missed thread at begun found quiet) (λ less past. c.goes_on-is_going.ensures.ended off less past) before until;
+      call = c.make_call-next.ensures.call;
     }

@@ -3,8 +3,7 @@ use Rattle.std.specs.Prelude.{int_lt, ◌&&◌, option_map}
 use Rattle.std.proofs.lemmas.Int.{to_z-of_z}
 use Rattle.ptk_threads_slots.specs.Links.{links_of, place_of}
 use Rattle.ptk_ready.specs.Entries.{is_ready, is_ready_place, stamp_of}
-use Rattle.ptk_ready.proofs.Extremes.{read_ready}
-use Rattle.ptk_ready.proofs.Ranks.{rank_more, count_small}
+use Rattle.ptk_ready.proofs.Ranks.{read_ready, rank_more, count_small}
 use Rattle.ptk_ready.proofs.stamps.rank.Goals as goal
 use Rattle.ptk_ready.proofs.stamps.rank.Goals.{then-is_ready_before, else-is_ready_before}
 

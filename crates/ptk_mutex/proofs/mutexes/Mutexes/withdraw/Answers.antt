@@ -9,25 +9,34 @@ use Rattle.ptk_mutex.proofs.Moved.{moves}
 use Rattle.ptk_mutex.proofs.Steps.{put-is, put_ready}
 use Rattle.ptk_syncs.specs.Rosters.{Rostered}
 use Rattle.ptk_mutex.proofs.Sound.{sound_withdrawal}
+use Rattle.ptk_mutex.proofs.Unraised.{unraised_withdrawal, unraised_stored}
 use Rattle.ptk_mutex.proofs.mutexes.Mutexes.withdraw.Goals as goal
+
+pub refresh_after-requires-clause-plain : goal.refresh_after-requires-clause-plain
+refresh_after-requires-clause-plain c = λ plain.
+    let a : Rostered = c.args.roster.now in
+    let b : Rostered = c.take_out.new.roster in
+    let locks : Locks = locks_by c.args.p a.table a.lines a.mutexes in
+    unraised_stored c.args.p c.args.m a.table b.table a.lines a.mutexes b.mutexes (after_withdrawal c.args.t c.args.m c.args.reply locks) c.requires.ready (unraised_withdrawal c.args.m c.args.t c.args.reply locks c.requires.waiter)
+    c.take_out.ensures.threads c.take_out.ensures.mutexes plain
 
 pub returns-clause-roster : goal.returns-clause-roster
 returns-clause-roster c =
     let a : Rostered = c.args.roster.now in
-    let b : Rostered = c.refresh_priorities.new.roster in
+    let b : Rostered = c.refresh_after.new.roster in
     let after : Locks = after_withdrawal c.args.t c.args.m c.args.reply (locks_by c.args.p a.table a.lines a.mutexes) in
     let threads : b.table ≡ with_threads c.args.p after a.table = grind (arith, moves) in
-    put-is c.args.p a b after (record { of_threads = threads; of_lines = c.refresh_priorities.ensures.line ∙ c.take_out.ensures.line; of_mutexes = c.refresh_priorities.ensures.mutexes ∙ c.take_out.ensures.mutexes })
-    (c.refresh_priorities.ensures.conditions ∙ c.take_out.ensures.conditions)
+    put-is c.args.p a b after (record { of_threads = threads; of_lines = c.refresh_after.ensures.line ∙ c.take_out.ensures.line; of_mutexes = c.refresh_after.ensures.mutexes ∙ c.take_out.ensures.mutexes })
+    (c.refresh_after.ensures.conditions ∙ c.take_out.ensures.conditions)
 
 pub returns-clause-ready : goal.returns-clause-ready
 returns-clause-ready c =
     let a : Rostered = c.args.roster.now in
     let locks : Locks = locks_by c.args.p a.table a.lines a.mutexes in
-    put_ready c.args.p a c.refresh_priorities.new.roster (after_withdrawal c.args.t c.args.m c.args.reply locks) c.requires.ready.part
+    put_ready c.args.p a c.refresh_after.new.roster (after_withdrawal c.args.t c.args.m c.args.reply locks) c.requires.ready.part
     (locked_left c.args.m c.args.t (woken_with (option_to_list c.args.reply)) locks c.requires.waiter c.requires.ready.locked) (returns-clause-roster c)
 
 pub returns-clause-sound : goal.returns-clause-sound
 returns-clause-sound c = λ sound.
-    sound_withdrawal c.args.p c.args.t c.args.m c.args.reply c.args.roster.now c.refresh_priorities.new.roster c.requires.waiter
+    sound_withdrawal c.args.p c.args.t c.args.m c.args.reply c.args.roster.now c.refresh_after.new.roster c.requires.waiter
     (record { before = c.requires.ready; moved = returns-clause-roster c; after = returns-clause-ready c }) sound

@@ -1,45 +1,27 @@
-use Rattle.std.proofs.Common.{◌≡◌, ◌≤◌, ◌^◌, length, refl, sym, ◌∙◌, subst, rules, arith, w64, FitsSigned}
-use Rattle.std.proofs.lemmas.Int.{to_z-of_z}
+use Rattle.std.proofs.Common.{rules, ◌≡◌, refl, pos, neg_ℤ, ◌-ℤ◌, ◌<ℤ◌, FitsSigned, to_z, of_z, w64, arith}
+use Rattle.std.proofs.lemmas.Int.{ints}
 use Rattle.ptk_threads_slots.specs.Links.{links_of}
-use Rattle.ptk_threads_slots.proofs.Slots.{links_count}
-use Rattle.ptk_ready.proofs.Ranks.{IsRenumbered, numbered_anew, least_small, below_within, below_all}
-use Rattle.ptk_ready.proofs.Moves.{filed_of, anew_filed}
+use Rattle.ptk_ready.specs.Entries.{AreStamps}
+use Rattle.ptk_ready.proofs.Ranks.{lower}
 use Rattle.ptk_ready.proofs.entries.LinkedEntries.head_stamp.Goals as goal
-
-pub least_stamp-requires-clause-filed : goal.least_stamp-requires-clause-filed
-least_stamp-requires-clause-filed g c = filed_of g.row.LIMIT (links_of c.args.slots.now) c.args.ends.now c.args.stored.now c.args.self.now.stamps c.args.self.now.bitmap c.requires.sound
-
-pub least_stamp-requires-2-clause-filed : goal.least_stamp-requires-2-clause-filed
-least_stamp-requires-2-clause-filed g c =
-    let links = links_of c.args.slots.now in
-    let few : length links ≤ 32 = omega (arith, links_count c.args.slots.now, c.requires.places.0) in
-    let long : length c.args.self.now.stamps ≡ 32 = search rules in
-    let anew = subst (IsRenumbered g.row.LIMIT links c.args.self.now.stamps) (sym c.renumbered-self.ensures)
-    (numbered_anew g.row.LIMIT links c.args.self.now.stamps c.requires.sound.stamped few long c.requires.limit.0) in
-    anew_filed g.row.LIMIT links c.args.ends.now c.args.stored.now c.args.self.now.stamps c.renumbered-self.result c.args.self.now.bitmap c.requires.sound anew
-
-pub stamp_below-requires : goal.stamp_below-requires
-stamp_below-requires g c =
-    let links = links_of c.args.slots.now in
-    let few : length links ≤ 32 = omega (arith, links_count c.args.slots.now, c.requires.places.0) in
-    let long : length c.args.self.now.stamps ≡ 32 = search rules in
-    let anew = subst (IsRenumbered g.row.LIMIT links c.args.self.now.stamps) (sym c.renumbered-self.ensures)
-    (numbered_anew g.row.LIMIT links c.args.self.now.stamps c.requires.sound.stamped few long c.requires.limit.0) in
-    least_small links c.renumbered-self.result c.least_stamp-2.result (2 ^ 62) c.least_stamp-2.ensures anew.small
+use Rattle.ptk_ready.proofs.entries.LinkedEntries.head_stamp.Goals.{then-self, else-self}
 
 pub returns : goal.returns
 returns g c =
-    let links = links_of c.args.slots.now in
-    let few : length links ≤ 32 = omega (arith, links_count c.args.slots.now, c.requires.places.0) in
-    let long : length c.args.self.now.stamps ≡ 32 = search rules in
-    let anew = subst (IsRenumbered g.row.LIMIT links c.args.self.now.stamps) (sym c.renumbered-self.ensures)
-    (numbered_anew g.row.LIMIT links c.args.self.now.stamps c.requires.sound.stamped few long c.requires.limit.0) in
-    let fits : FitsSigned w64 c.stamp_below.result = search rules in
-    let next = to_z-of_z w64 c.stamp_below.result fits ∙ c.stamp_below.ensures in
+    let mid : AreStamps g.row.LIMIT c.if-self.self.range (links_of c.args.slots.now) c.if-self.self.stamps =
+    elim c.if-self.branch [ then-self w ↦ rw (w.self-is) (w.number_anew.ensures.stamps) | else-self w ↦ rw (w.self-is) (c.requires.stamps) ] in
+    let room : neg_ℤ (pos g.row.LIMIT) <ℤ c.if-self.self.range.first = elim c.if-self.branch [
+      | then-self w ↦ rw (w.self-is, w.number_anew.ensures.range) (omega (arith, ints, c.requires.limit.0))
+      | else-self w ↦ (let fits : FitsSigned w64 c.args.self.now.range.first = search rules in rw (w.self-is) (grind (arith, ints, w.if-self.false)))
+    ] in
+    let fits : FitsSigned w64 c.if-self.self.range.first = search rules in
+    let first = to_z w64 (of_z w64 (to_z w64 (of_z w64 c.if-self.self.range.first) -ℤ pos 1)) in
+    let next : first ≡ c.if-self.self.range.first -ℤ pos 1 = omega (arith, ints, room, c.requires.limit.1, mid.limits) in
+    let same : to_z w64 (of_z w64 first) ≡ first = omega (arith, ints) in
     record {
-      stamps = anew.stamped;
-      line = anew.line;
-      bitmap = refl;
-      first = below_all links c.renumbered-self.result c.least_stamp-2.result _ c.least_stamp-2.ensures next;
-      within = below_within links c.renumbered-self.result c.least_stamp-2.result g.row.LIMIT _ c.least_stamp-2.ensures anew.small c.requires.limit.0 next;
+      stamps = lower g.row.LIMIT c.if-self.self.range (links_of c.args.slots.now) c.if-self.self.stamps first mid room next;
+      line = elim c.if-self.branch [ then-self w ↦ rw (w.self-is) (w.number_anew.ensures.line) | else-self w ↦ rw (w.self-is) refl ];
+      bitmap = elim c.if-self.branch [ then-self w ↦ rw (w.self-is) (w.number_anew.ensures.bitmap) | else-self w ↦ rw (w.self-is) refl ];
+      first = λ k ready. (let in_range = mid.within k ready in omega (arith, ints, in_range.0, same, next));
+      within = (omega (arith, ints, same), omega (arith, ints, same, next, mid.limits.1));
     }

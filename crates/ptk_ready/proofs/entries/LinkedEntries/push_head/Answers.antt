@@ -13,7 +13,8 @@ use Rattle.ptk_ready.proofs.entries.LinkedEntries.push_head.Goals as goal
 pub head_stamp-stamp-requires : goal.head_stamp-stamp-requires
 head_stamp-stamp-requires g c =
     let few : length (links_of c.args.slots.now) ≤ 32 = omega (arith, links_count c.args.slots.now, c.requires.places.0) in
-    (lit< tt, (sound_line g.row.LIMIT (links_of c.args.slots.now) c.args.ends.now c.args.stored.now c.args.self.now.stamps c.args.self.now.bitmap c.requires.queues few c.requires.sound, (c.requires.limit, c.requires.places)))
+    let sound = sound_line g.row.LIMIT c.args.self.now.range (links_of c.args.slots.now) c.args.ends.now c.args.stored.now c.args.self.now.stamps c.args.self.now.bitmap c.requires.queues few c.requires.sound in
+    (lit< tt, (sound.stamped, (c.requires.limit, c.requires.places.0)))
 
 pub returns : goal.returns
 returns g c =
@@ -30,7 +31,7 @@ returns g c =
     let bit = subst (λ b. IsBitChanged b c.with_bit-self.result (c.new-priority.result - 1) true) c.head_stamp-stamp.ensures.bitmap
     (subst (λ n. IsBitChanged c.head_stamp-stamp.new.self.bitmap c.with_bit-self.result (n - 1) true) c.level.ensures.value c.with_bit-self.ensures) in
     let first : (j : ℕ) → is_ready links j ≡ true → stamp <ℤ stamp_of mid j = λ j ready. rw same (c.head_stamp-stamp.ensures.first j ready) in
-    let done = pushed_first g.row.LIMIT links c.args.ends.now c.args.stored.now c.args.self.now.stamps mid (set mid c.place.result stamp) c.args.self.now.bitmap c.with_bit-self.result
+    let done = pushed_first g.row.LIMIT c.args.self.now.range c.head_stamp-stamp.new.self.range links c.args.ends.now c.args.stored.now c.args.self.now.stamps mid (set mid c.place.result stamp) c.args.self.now.bitmap c.with_bit-self.result
     c.args.k (c.new-priority.result - 1) stamp (Ready c.new-priority.result) c.requires.queues few c.requires.sound c.head_stamp-stamp.ensures.stamps c.head_stamp-stamp.ensures.line
     c.requires.free c.place.ensures.positive within long (ap (λ n. set mid n stamp) c.place.ensures.value) level low refl
     first (rw same c.head_stamp-stamp.ensures.within) c.requires.places.1 bit in

@@ -31,6 +31,6 @@ returns g c =
     let cleared = subst (λ (l : Link). (i : ℕ) → option_map place_of l.queue ≡ Some i → has_bit bitmap i ≡ true → IsBitChanged bitmap bits i (is_some l.previous || is_some l.next)) c.link_of.ensures c.bitmap_without-left.ensures in
     let found = first_later links c.args.ends.now c.args.self.now.stamps c.args.k i (length c.args.slots.now) (to_z w64 (of_z w64 c.stamp_in.result)) c.index-ends-i.result c.first_after.result
     long lt c.index-ends-i.is (to_z-of_z w64 c.stamp_in.result fits ∙ c.stamp_in.ensures) c.first_after.ensures in
-    let done = refiled_lists g.row.LIMIT links c.args.ends.now c.args.stored.now c.args.self.now.stamps bitmap bits c.with_bit-self.result c.args.k i c.args.priority c.first_after.result c.requires.queues few c.requires.sound c.requires.places.1 c.requires.ready
+    let done = refiled_lists g.row.LIMIT c.args.self.now.range links c.args.ends.now c.args.stored.now c.args.self.now.stamps bitmap bits c.with_bit-self.result c.args.k i c.args.priority c.first_after.result c.requires.queues few c.requires.sound c.requires.places.1 c.requires.ready
     cleared priority low c.with_bit-self.ensures found in
     record { sound = done.sound; line = done.line; waiters = done.waiters }

@@ -21,5 +21,5 @@ returns g c =
     let bitmap = c.args.self.now.bitmap in
     let bits = c.bitmap_without-self.result in
     let cleared = subst (λ (l : Link). (i : ℕ) → option_map place_of l.queue ≡ Some i → has_bit bitmap i ≡ true → IsBitChanged bitmap bits i (is_some l.previous || is_some l.next)) c.link_of.ensures c.bitmap_without-self.ensures in
-    let done = removed_lists g.row.LIMIT links c.args.ends.now c.args.stored.now c.args.self.now.stamps bitmap bits c.args.k c.requires.queues few c.requires.sound c.requires.places.1 c.requires.ready cleared in
+    let done = removed_lists g.row.LIMIT c.args.self.now.range links c.args.ends.now c.args.stored.now c.args.self.now.stamps bitmap bits c.args.k c.requires.queues few c.requires.sound c.requires.places.1 c.requires.ready cleared in
     record { sound = done.sound; line = done.line; waiters = done.waiters }

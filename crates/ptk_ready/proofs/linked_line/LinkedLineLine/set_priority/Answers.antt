@@ -43,8 +43,8 @@ returns g c =
     let done = moved g.row.LIMIT c.args.self.now c.args.threads.now c.refile.new.threads c.args.p c.refile-before.new.self after (part_of (lines_by c.args.self.now c.args.threads.now.queues) c.args.p)
     c.requires.sound was.within (ap (λ (t : ThreadTable). t.queues) is)
     (λ q ne. ap (λ (t : ThreadTable). part_of t.stored q) is ∙ get_or-set_other c.args.threads.now.stored c.args.p q _ [] ne)
-    (subst (λ s. IsFiled g.row.LIMIT after s c.refile-before.new.self.stamps c.refile-before.new.self.bitmap) levels
-    (subst (λ l. IsFiled g.row.LIMIT l (pool_set c.stored.result.now c.args.k c.args.priority) c.refile-before.new.self.stamps c.refile-before.new.self.bitmap) same c.refile-before.ensures.sound))
+    (subst (λ s. IsFiled g.row.LIMIT c.refile-before.new.self.range after s c.refile-before.new.self.stamps c.refile-before.new.self.bitmap) levels
+    (subst (λ l. IsFiled g.row.LIMIT c.refile-before.new.self.range l (pool_set c.stored.result.now c.args.k c.args.priority) c.refile-before.new.self.stamps c.refile-before.new.self.bitmap) same c.refile-before.ensures.sound))
     (ap (λ l. line_of l c.refile-before.new.self.stamps) (sym same) ∙ (c.refile-before.ensures.line ∙ was.same))
     (ap (drop 32) (sym same) ∙ (c.refile-before.ensures.waiters ∙ ap (drop 32) c.linked-part.ensures.lists)) in
     rw (c.self.view_is, c.index.ensures) (record {

@@ -11,7 +11,7 @@ returns-in-Some-clause-gone c =
     let on : c.args.turn.start < c.go_quiet.result.start = c.go_quiet.ensures.on in
     prepared_gone (own_ticks c.args.plan.now c.args.p) c.args.p c.args.turn.start c.args.turn.end (c.go_quiet.result.start - c.args.turn.start) c.in-Some.quiet.stop c.in-Some.quiet.thread
     c.args.self.now c.prepare.new.self c.go_quiet.new.self c.parts-parts.ensures.whole c.requires.partition
-    (c.requires.coming.due c.requires.due) (window.ends c.args.turn.start (omega arith) window.before) (omega (arith, on)) c.prepare.ensures.tables c.prepare.ensures.accounts c.in-Some.ensures.quiet.2 c.in-Some.ensures.quiet.0 c.go_quiet.ensures.gone
+    (c.requires.coming.due c.requires.due) (window.ends c.args.turn.start (omega arith) window.before) (omega (arith, on)) c.prepare.ensures.tables c.prepare.ensures.accounts c.in-Some.ensures.2 c.in-Some.ensures.0 c.go_quiet.ensures.gone
 
 pub returns-in-None-clause-gone : goal.returns-in-None-clause-gone
 returns-in-None-clause-gone c =

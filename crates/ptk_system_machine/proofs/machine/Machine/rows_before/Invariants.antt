@@ -2,7 +2,7 @@ use Rattle.std.proofs.Common.{◌≡◌, ◌+◌, ◌-◌, ◌≤◌, ◌<◌, t
 use Rattle.std.specs.Prelude.{if◌then◌else◌}
 use Rattle.ptk_words_windows.specs.Windows.{own_ticks}
 use Rattle.ptk_kernel.specs.Kept.{limits_at, part_at}
-use Rattle.ptk_kernel.specs.Rows.{IsStill}
+use Rattle.ptk_kernel.specs.Rows.{IsCallNext, IsStill}
 use Rattle.ptk_system_machine.specs.Steady.{AreSteady, states_from}
 use Rattle.ptk_system_machine.specs.Turns.{IsAt, IsComing, IsPlainAt}
 use Rattle.ptk_system_machine.specs.Whole.{account_at, gone_on, state_at}
@@ -18,6 +18,7 @@ invariant-loop-is_going l = record {
   before : l.is_going ≡ true → l.now.start < l.quiet.stop;
   still : IsStill l.p l.now.start l.quiet l.self.kept;
   walk : l.now.start < l.to → IsAt l.plan l.p l.now.end l.walk;
+  call : l.is_call ≡ true → IsCallNext l.quiet.thread (part_at l.p l.self.kept);
 }
 
 abbrev pub decreases-loop-is_going : goal.decreases-loop-is_going

@@ -1,4 +1,4 @@
-use Rattle.std.proofs.Common.{◌<◌, ◌≤◌, arith}
+use Rattle.std.proofs.Common.{◌≤◌, arith}
 use Rattle.ptk_words_windows.specs.Windows.{own_ticks}
 use Rattle.ptk_system_machine.specs.Turns.{IsInWindow}
 use Rattle.ptk_system_machine.proofs.StillQuiet.{still_beyond, still_within}
@@ -12,7 +12,7 @@ returns-clause-on c = λ past.
 pub returns-clause-still : goal.returns-clause-still
 returns-clause-still c =
     let sooner : c.quiet_within-within.result.stop ≤ c.args.quiet.now.stop = omega (arith, c.quiet_within-within.ensures.stop) in
-    still_beyond c.args.p c.args.turn.start c.run_within.result.start c.args.quiet.now.stop c.quiet_within-within.result.stop c.args.quiet.now.thread c.quiet_within-within.result.thread c.args.self.now.kept c.run_within.new.self.kept
+    still_beyond c.args.p c.args.turn.start c.run_within.result.turn.start c.args.quiet.now.stop c.quiet_within-within.result.stop c.args.quiet.now.thread c.quiet_within-within.result.thread c.args.self.now.kept c.run_within.new.self.kept
     sooner c.quiet_within-within.ensures.thread c.run_within.ensures.still c.requires.quiet
 
 pub run_within-requires-clause-quiet : goal.run_within-requires-clause-quiet

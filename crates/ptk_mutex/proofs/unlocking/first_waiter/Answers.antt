@@ -3,7 +3,7 @@ use Rattle.ptk_words.specs.Pools.{first_of_greatest}
 use Rattle.ptk_words_parted.specs.Parts.{part_of}
 use Rattle.ptk_threads.specs.Table.{stored_of}
 use Rattle.ptk_mutex.proofs.Moved.{choice-is}
-use Rattle.ptk_mutex.proofs.unlocking.choose.Goals as goal
+use Rattle.ptk_mutex.proofs.unlocking.first_waiter.Goals as goal
 
 pub returns-clause-told : goal.returns-clause-told
 returns-clause-told c =

@@ -3,7 +3,7 @@ use Rattle.ptk_words.specs.declared.sections.Limits.{Limits}
 use Rattle.ptk_words_model.specs.State.{Part}
 use Rattle.ptk_gate_steps.specs.QuietStops.{quiet_stop}
 use Rattle.ptk_gate_steps.proofs.QuietStops.{stop_le, quiet_up, quiet_no_later}
-use Rattle.ptk_gate_steps.proofs.quiet_stops.quiet_thread.Goals as goal
+use Rattle.ptk_gate_steps.proofs.quiet_stops.chosen_thread.Goals as goal
 
 pub returns-then-ticks-clause-quiet : goal.returns-then-ticks-clause-quiet
 returns-then-ticks-clause-quiet c =
@@ -14,7 +14,7 @@ returns-then-ticks-clause-quiet c =
       omega (arith, c.if-ticks.true, c.ticks.ensures, c.ticks-2.ensures),
       subst (λ (n : ℕ). n ≤ c.args.stop) (sym c.stop_of-stop.ensures) up,
       quiet_up limits c.args.tick c.args.stop c.stop_of-stop.result c.args.t c.args.thread.now s c.requires.active c.requires.well c.requires.gate c.requires.runs c.requires.in_use
-          (sym c.is_to_unwind.ensures ∙ c.if-is_to_unwind.false) (sym c.stays.ensures ∙ c.if-not-stays.false) c.stop_of-stop.ensures,
+          (sym c.is_to_unwind.ensures ∙ c.if-is_to_unwind.false) c.requires.stays c.stop_of-stop.ensures,
     )
 
 pub returns-then-ticks-clause-full : goal.returns-then-ticks-clause-full

@@ -3,7 +3,7 @@ use Rattle.ptk_words_windows.specs.Windows.{own_ticks}
 use Rattle.ptk_window.specs.Walks.{Way}
 use Rattle.ptk_window.proofs.Nexts.{IsTurn-at, IsShort-at, turn_room, no_turn}
 use Rattle.ptk_window.proofs.Ways.{here_known, turn_seen, short_seen}
-use Rattle.ptk_window.proofs.walk.Walk.look_up.Goals as goal
+use Rattle.ptk_window.proofs.walk.Walk.turn_from.Goals as goal
 
 pub returns-then-not-look_up-clause-turn : goal.returns-then-not-look_up-clause-turn
 returns-then-not-look_up-clause-turn c =
