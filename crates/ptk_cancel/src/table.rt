@@ -242,6 +242,7 @@ fn cancellations_of(alloc: Global, limits: &[Limits]) -> Result<Parted<Cancellat
 /// No handler.
 #[tactic(auto, using(crate::proofs::Tables::built))]
 fn cleanups_of(alloc: Global, limits: &[Limits]) -> Result<Parted<Stack>, AllocError>
+    requires { length limits.now ≤ 8 }
     ensures { IfOk result (λ parted. parted ≡ map (λ l. replicate l.threads []) limits.now) }
 {
     let mut cleanups = Parted::new(alloc);

@@ -1,7 +1,7 @@
 -- What the calls need of the roster, what it is after a move of one partition, and several moves one after the other.
 use Rattle.std.specs.Fn.{iterate}
-use Rattle.std.proofs.Common.{◌≡◌, ℕ, suc, ◌<◌, List, [], ◌∷◌, ◌++◌, length, refl, sym, ◌∙◌, ap, subst, true}
-use Rattle.std.specs.Prelude.{Option, Some, None, IsSome}
+use Rattle.std.proofs.Common.{◌≡◌, ℕ, suc, ◌<◌, List, [], ◌∷◌, ◌++◌, length, refl, sym, ◌∙◌, ap, subst, true, false, not}
+use Rattle.std.specs.Prelude.{Option, Some, None, IsSome, ◌==◌}
 use Rattle.std.proofs.Math.ListN.{set}
 use Rattle.std.proofs.lemmas.List.{length-set, set-set, set-get_or}
 use Rattle.ptk_words.specs.Pools.{pool_get, pool_set, is_in, without, first_of_greatest}
@@ -10,18 +10,20 @@ use Rattle.ptk_words_parted.proofs.Cuts.{set_part-same}
 use Rattle.ptk_words_model.specs.State.{Condition, Locks, Mutex, Syncs}
 use Rattle.ptk_words.specs.declared.threads.Wait.{Wait}
 use Rattle.ptk_words.specs.declared.threads.Wait.TheVariants.{ConditionWait}
-use Rattle.ptk_words_model.specs.Priority.{awaited, thread_at}
+use Rattle.ptk_words_model.specs.Priority.{awaited, effective_priority, thread_at}
 use Rattle.ptk_words.specs.Threads.{mutex_of_wait}
 use Rattle.ptk_words_model.specs.Schedule.{with_thread}
 use Rattle.ptk_words_model.specs.Mutex.{wait_of, after_unlock, after_relock}
 use Rattle.ptk_words_model.specs.Condition.{condition_waiters, mutex_of_condition_wait, after_condition_wait, after_unblock_for, after_signal, waiters_on}
 use Rattle.ptk_words_sync_invariant.specs.Conditions.{HasRoom, IsNoWaiter}
 use Rattle.ptk_words_sync_invariant.proofs.Gathered.{waiter_used}
+use Rattle.ptk_threads_slots.specs.Changes.{only_of}
 use Rattle.ptk_threads.specs.Table.{ThreadTable, stored_of, with_changed, with_wait}
 use Rattle.ptk_threads.proofs.Pools.{pool_get-changed, pool_changed-changed, part_of-set}
 use Rattle.ptk_syncs.specs.Rosters.{Rostered}
 use Rattle.ptk_syncs.specs.Waiters.{condition_of}
 use Rattle.ptk_mutex.specs.Tables.{locks_by, put_locks, with_threads, HasPartBy, MayWait, AreLocked, AreReadyBy}
+use Rattle.ptk_mutex.proofs.Locked.{none_first, only_first}
 use Rattle.ptk_mutex.proofs.Moved.{stays}
 use Rattle.ptk_mutex.proofs.Steps.{AreMoved, moved_locks, moved_ready}
 use Rattle.ptk_mutex.proofs.Apart.{calm_unlock, may_relock}
@@ -69,7 +71,19 @@ next-is p c o table lines mutexes conditions synced e = e ∙ stored_next c (syn
 pub next_may : (p c : ℕ) (o : Option ℕ) (table : ThreadTable) (lines : List (List ℕ)) (mutexes : List (List (Option Mutex))) (conditions : List (List (Option Condition))) → AreSyncedBy p table lines mutexes conditions → o ≡ first_of_greatest (stored_of (part_of table.stored p)) (waiters_on (pool_get (part_of conditions p) c)) → MayLeave o (syncs_by p table lines mutexes conditions) c
 next_may p c o table lines mutexes conditions synced e = next_may_leave c (syncs_by p table lines mutexes conditions) o (next-is p c o table lines mutexes conditions synced e)
 
-pub ruleset choices = (next-is, next_may, has_part, has_conditions)
+-- without waiters there is none
+pub unwaited-is : (p c : ℕ) (table : ThreadTable) (lines : List (List ℕ)) (mutexes : List (List (Option Mutex))) (conditions : List (List (Option Condition))) → not (length (waiters_on (pool_get (part_of conditions p) c)) == 0) ≡ false → None ≡ next_waiter c (syncs_by p table lines mutexes conditions)
+unwaited-is p c table lines mutexes conditions e = none_first (effective_priority (syncs_by p table lines mutexes conditions).locks) (waiters_on (pool_get (part_of conditions p) c)) e
+
+-- the only waiter is the next one
+pub sole-is : (p c t : ℕ) (o : Option ℕ) (table : ThreadTable) (lines : List (List ℕ)) (mutexes : List (List (Option Mutex))) (conditions : List (List (Option Condition))) → o ≡ only_of (waiters_on (pool_get (part_of conditions p) c)) → o ≡ Some t → Some t ≡ next_waiter c (syncs_by p table lines mutexes conditions)
+sole-is p c t o table lines mutexes conditions e some = only_first (effective_priority (syncs_by p table lines mutexes conditions).locks) (waiters_on (pool_get (part_of conditions p) c)) t (sym e ∙ some)
+
+-- and waits
+pub sole_may : (p c t : ℕ) (o : Option ℕ) (table : ThreadTable) (lines : List (List ℕ)) (mutexes : List (List (Option Mutex))) (conditions : List (List (Option Condition))) → o ≡ only_of (waiters_on (pool_get (part_of conditions p) c)) → o ≡ Some t → MayLeave (Some t) (syncs_by p table lines mutexes conditions) c
+sole_may p c t o table lines mutexes conditions e some = next_may_leave c (syncs_by p table lines mutexes conditions) (Some t) (sole-is p c t o table lines mutexes conditions e some)
+
+pub ruleset choices = (next-is, next_may, unwaited-is, sole-is, sole_may, has_part, has_conditions)
 
 -- ---- the roster after a move
 

@@ -24,10 +24,14 @@ pub fn names(roster: &Roster, p: PartId, m: MutexNo) -> bool
 }
 
 /// Whether a waiter of a condition variable is to have another mutex again (pthread_cond_wait, EINVAL).
+#[tactic(auto, using(crate::proofs::Waits::none_passes))]
 pub fn names_another(roster: &Roster, p: PartId, c: ConditionNo, m: MutexNo) -> bool
     requires { p < length roster.now.table.threads }
     ensures { result ≡ names_another (syncs_of (part_of roster.now.table.threads p) (part_of roster.now.conditions p)) c m }
 {
+    if !roster.has_condition_waiters(p, c) {
+        return false;
+    }
     let waiters = roster.condition_waiters(p, c);
     is_any_naming_another(roster.threads().part(p), waiters.as_slice(), m)
 }

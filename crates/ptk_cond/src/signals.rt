@@ -125,6 +125,22 @@ fn choose(roster: &Roster, p: PartId, c: ConditionNo) -> Option<ThreadNo>
     ensures told { result ≡ next_waiter c (syncs_at p roster.now) }
     ensures may { MayLeave result (syncs_at p roster.now) c }
 {
+    if !roster.has_condition_waiters(p, c) {
+        return None;
+    }
+    match roster.only_condition_waiter(p, c) {
+        Some(t) => Some(t),
+        None => first_waiter(roster, p, c),
+    }
+}
+
+/// The same, by a list of all waiters.
+#[tactic(auto, using(crate::proofs::Steps::choices))]
+fn first_waiter(roster: &Roster, p: PartId, c: ConditionNo) -> Option<ThreadNo>
+    requires ready { AreSynced p roster.now }
+    ensures told { result ≡ next_waiter c (syncs_at p roster.now) }
+    ensures may { MayLeave result (syncs_at p roster.now) c }
+{
     let waiters = roster.condition_waiters(p, c);
     roster.first_among(p, waiters.as_slice())
 }

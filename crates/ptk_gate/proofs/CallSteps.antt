@@ -1,6 +1,6 @@
 -- The pc passed, the call, its entry and its ticks in the interval are the step of an ECALL.
 use Rattle.std.proofs.Common.{◌≡◌, ℕ, ◌+◌, ◌%◌, ◌<◌, ◌≤◌, Bool, true, false, not, List, length, refl, sym, ◌∙◌, ap, subst, arith}
-use Rattle.std.specs.Prelude.{Option, Some, None, ◌&&◌, ◌==◌, nat_le, nat_lt, option_map, unwrap_or, if◌then◌else◌}
+use Rattle.std.specs.Prelude.{Option, Some, None, IsSome, ◌&&◌, ◌==◌, nat_le, nat_lt, option_map, unwrap_or, if◌then◌else◌}
 use Rattle.std.proofs.lemmas.Bool.{eqb-true, le-ltb, lt-ltb}
 use Rattle.std.proofs.Math.Bool.{and-false}
 use Rattle.ptk_words.specs.Calls.{call_of, cost_of}
@@ -56,6 +56,9 @@ runner t thread = record { number = t; thread = thread }
 -- the thread that runs, and whose next step is a call, is in use
 next_found : (t : ℕ) (s : Part) (next : IsCallNext t s) → thread_at s.locks t ≡ Some next.0
 next_found t s next = runner_found s.running s (runner t next.0) (runner_runs s (runner t next.0) next.1) next.1
+
+pub next_in_use : (t : ℕ) (s : Part) → IsCallNext t s → IsSome (thread_at s.locks t)
+next_in_use t s next = subst (λ (o : Option Thread). IsSome o) (sym (next_found t s next)) refl
 
 -- it is the one that was looked at
 next_seen : (t : ℕ) (seen : Thread) (s : Part) → Some seen ≡ thread_at s.locks t → IsCallNext t s

@@ -4,6 +4,7 @@ pub mod Loads
 pub mod Called
 pub mod Passing
 pub mod CallSteps
+pub mod Yields
 pub mod RowsWhole
 pub use Rattle.ptk_gate_pools.proofs.Parted
 pub use Rattle.ptk_gate_pools.proofs.Ranks

@@ -75,6 +75,7 @@ fn answer(pools: &mut Pools, tick: Tick, caller: ThreadNo) -> Reply
 }
 
 /// Carries out this call of the running thread; ENOSYS of a number that is no call.
+#[inline(always)]
 pub(crate) fn reply_to(pools: &mut Pools, known: Option<Call>, i: Invocation) -> Reply
     requires limits { i.limits ≡ limits_here pools.old }
     requires well { IsWell (limits_here pools.old) pools.old.here }

@@ -1,8 +1,10 @@
 //! The turn of a thread whose next step is known to be a call (`Tables::take_call`): the step is not looked up, and the
 //! thread is looked at once before its call and once after it.
 
-ghost use Rattle.std.specs.Prelude.{◌≡◌, ◌<◌, ◌≤◌, false, length, Some, option_map, unwrap_or};
+ghost use Rattle.std.specs.Prelude.{◌≡◌, ℕ, ◌<◌, ◌≤◌, false, length, Some, option_map, unwrap_or};
+ghost use Rattle.ptk_words.specs.declared.calls.Call.TheVariants.{SchedYield};
 ghost use Rattle.ptk_words.specs.declared.threads.Thread.{Thread};
+ghost use Rattle.ptk_words_model.specs.declared.Invocation.{Invocation};
 ghost use Rattle.ptk_words_model.specs.CallTable.{answer_to};
 ghost use Rattle.ptk_words_model.specs.Decision.{after_turn, runner_of, spent_in_turn};
 ghost use Rattle.ptk_words_model.specs.Priority.{thread_at};
@@ -51,10 +53,7 @@ fn take_turn(pools: &mut Pools, t: ThreadNo, tick: Tick, room: u32) -> Spent
     ensures moved { pools.new ≡ record pools.old { here = after_turn (limits_here pools.old) tick room (runner_of pools.old.here) pools.old.here } }
     ensures short { cost_in result ≤ 16 }
 {
-    let Some(thread) = pools.thread_ref(t) else {
-        // never met: a thread that runs is in use
-        return Spent::Idle;
-    };
+    let thread = pools.used_thread(t);
     let cpu = &thread.cpu;
     let known = Call::of_number(cpu.register(A7));
     let cost = call_cost(known);
@@ -62,9 +61,34 @@ fn take_turn(pools: &mut Pools, t: ThreadNo, tick: Tick, room: u32) -> Spent
         return Spent::Lost;
     }
     let pc = cpu.pc();
-    let i = invocation(pools.limits(), tick, t, cpu);
-    make_step(pools, known, i, pc, cost);
+    if let Some(Call::SchedYield) = known {
+        make_yield(pools, t, tick, pc);
+    } else {
+        let i = invocation(pools.limits(), tick, t, cpu);
+        make_step(pools, known, i, pc, cost);
+    }
     Spent::Step(cost)
+}
+
+/// The step of a sched_yield whose ECALL is at this pc: the caller goes to the tail with 0 in a0, and no thread runs, so
+/// that no ticks count in an interval. It is what `make_step` makes of this call, without the frame that the others
+/// need.
+#[inline(always)]
+#[tactic(auto, using(crate::proofs::Yields::yields))]
+fn make_yield(pools: &mut Pools, t: ThreadNo, tick: Tick, pc: u32)
+    requires well { IsWell (limits_here pools.old) pools.old.here }
+    requires running { pools.old.here.running ≡ Some t }
+    ensures { (i : Invocation) (cost : ℕ) → i.caller ≡ t → i.tick ≡ tick → pools.new ≡ record pools.old { here = finished (limits_here pools.old) (ecall_entry pc i) cost (answer_to (Some SchedYield) i (past_ecall t pc pools.old.here)).part } }
+{
+    pools.give_pc(t, pc.wrapping_add(4));
+    pools.end_turn_with(t, &[0]);
+    pools.note_last(Entry {
+        tick,
+        thread: t,
+        pc,
+        word: ECALL,
+        a0: 0,
+    });
 }
 
 /// The step of the call, of these ticks, whose ECALL is at this pc.

@@ -3,7 +3,8 @@
 ghost use Rattle.std.specs.Prelude.{◌≡◌, ◌<◌, false, length, nat_lt, IsSome};
 ghost use Rattle.ptk_words_model.specs.State.{with_locks};
 ghost use Rattle.ptk_words_model.specs.Priority.{thread_at, effective_priority};
-ghost use Rattle.ptk_words_model.specs.Schedule.{at_head, first_ready};
+ghost use Rattle.ptk_words_model.specs.Schedule.{after_turn_end, at_head, first_ready};
+ghost use Rattle.ptk_words_model.specs.Calls.{replied};
 ghost use Rattle.ptk_words.specs.Pools.{is_in};
 ghost use Rattle.ptk_gate_pools.specs.Kept.{AreInUse};
 ghost use Rattle.ptk_gate_pools.specs.Moves.{with_last, out_of_line, out_of_line_if};
@@ -32,6 +33,22 @@ impl Pools {
     {
         let p = self.hand;
         self.roster.push_tail(p, t);
+    }
+
+    /// A thread that is in use, not in the line and no waiter goes to the tail, where it has used no tick, with these
+    /// values in a0 and so on, and no thread runs (XSH 2.8.4).
+    #[tactic(auto, using(crate::proofs::Hands::handed, crate::proofs::Stored::stored, ptk_words_sync_invariant::proofs::Pools::changed_twice))]
+    pub fn end_turn_with(&mut self, t: ThreadNo, values: &[u32])
+        requires few { length values.now < 4 }
+        requires in_use { IsSome (thread_at self.old.here.locks t) }
+        requires fresh { is_in t self.old.here.line ≡ false }
+        requires free { IsNoWaiter t self.old.here.mutexes self.old.here.conditions }
+        ensures { self.new ≡ record self.old { here = replied t values.now (after_turn_end t self.old.here) } }
+    {
+        let p = self.hand;
+        self.roster.push_tail(p, t);
+        self.roster.renew(p, t, values);
+        self.running[p.index()] = None;
     }
 
     /// Puts a thread that is in use, not in the line and no waiter first.

@@ -1,6 +1,6 @@
 //! What is read of the partition in hand.
 
-ghost use Rattle.std.specs.Prelude.{◌≡◌, ◌≤◌, false, length, option_map, unwrap_or};
+ghost use Rattle.std.specs.Prelude.{◌≡◌, IsSome, Some, ◌≤◌, false, length, option_map, unwrap_or};
 ghost use Rattle.std.specs.Option.{option_copied};
 ghost use Rattle.ptk_words.specs.Pools.{numbered, least_free};
 ghost use Rattle.ptk_words.specs.declared.threads.Thread.{Thread};
@@ -21,6 +21,14 @@ impl Pools {
         ensures { option_copied result ≡ thread_at self.now.here.locks t }
     {
         self.roster.threads().thread_ref(self.hand, t)
+    }
+
+    /// The thread of a number in use, where it lies.
+    pub fn used_thread(&self, t: ThreadNo) -> &Thread
+        requires in_use { IsSome (thread_at self.now.here.locks t) }
+        ensures { Some result.now ≡ thread_at self.now.here.locks t }
+    {
+        self.roster.threads().used_thread(self.hand, t)
     }
 
     /// The thread of a number, if it is in use.

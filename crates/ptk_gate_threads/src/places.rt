@@ -12,7 +12,7 @@ ghost use Rattle.ptk_gate_moves.specs.Held.{limits_here};
 ghost use Rattle.ptk_words_sync_invariant.specs.Conditions.{IsNoWaiter};
 ghost use Rattle.ptk_gate_moves.specs.Moves.{with_scheduling};
 
-use ptk_gate_moves::{Pools, end_turn, push_tail, step_back, succeed};
+use ptk_gate_moves::{Pools, end_turn, push_tail, step_back};
 use ptk_words::{Policy, Priority, ThreadNo};
 use ptk_words_model::{Invocation, Reply};
 
@@ -58,8 +58,8 @@ pub fn yield_turn(pools: &mut Pools, i: Invocation) -> Reply
     ensures told { result ≡ (yield i pools.old.here).reply }
     ensures moved { pools.new ≡ record pools.old { here = (yield i pools.old.here).part } }
 {
-    place_at_tail(pools, i.caller);
-    succeed(pools, i)
+    pools.end_turn_with(i.caller, &[0]);
+    Reply::Done(0)
 }
 
 /// A running or ready thread goes to the tail, and a running one no longer runs; an owner of an INHERIT or PROTECT

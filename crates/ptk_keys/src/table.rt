@@ -232,6 +232,7 @@ fn destructors_of(alloc: Global, limits: &[Limits]) -> Result<Parted<Option<u32>
 /// Every value is 0.
 #[tactic(auto, using(crate::proofs::Tables::built))]
 fn values_of(alloc: Global, limits: &[Limits]) -> Result<Parted<Row>, AllocError>
+    requires { length limits.now ≤ 8 }
     ensures { IfOk result (λ parted. parted ≡ map (λ l. replicate l.threads (no_values l.keys)) limits.now) }
 {
     let mut values = Parted::new(alloc);

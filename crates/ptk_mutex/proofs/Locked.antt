@@ -1,8 +1,9 @@
 -- Whom a hand over chooses, and that every move leaves waiters that wait and counts within their limit.
-use Rattle.std.proofs.Common.{◌≡◌, ◌≢◌, ℕ, zero, suc, ◌+◌, ◌<◌, ◌≤◌, List, [], ◌∷◌, ◌++◌, length, map, get_or, max, refl, sym, ◌∙◌, ap, subst, arith, true, false, ◌⊎◌, inl, inr}
+use Rattle.std.proofs.Common.{◌≡◌, ◌≢◌, ℕ, zero, suc, ◌+◌, ◌<◌, ◌≤◌, List, [], ◌∷◌, ◌++◌, length, map, get_or, max, refl, sym, ◌∙◌, ap, subst, arith, true, false, not, ◌⊎◌, inl, inr}
 use Rattle.std.specs.Prelude.{Option, Some, None, IsSome, option_map, slice_get, fold, find, ◌==◌}
 use Rattle.std.specs.Option.{option_flatten}
 use Rattle.std.proofs.lemmas.Bool.{cases_eq, or_right}
+use Rattle.std.proofs.lemmas.Bool.Decides.{nat_tests}
 use Rattle.std.proofs.lemmas.List.{get_or-map}
 use Rattle.ptk_words.specs.Pools.{pool_get, pool_changed, numbers_to, greatest, first_of_greatest, is_in, without}
 use Rattle.ptk_words.specs.declared.TheConstants.{COUNT_LIMIT}
@@ -16,6 +17,7 @@ use Rattle.ptk_words_model.specs.Priority.{awaited, thread_at, effective_of, eff
 use Rattle.ptk_words_model.specs.Schedule.{at_tail_with}
 use Rattle.ptk_words_model.specs.Mutex.{mutex_at, with_mutex, waiters_of, count_of, heir, without_mutex_waiter}
 use Rattle.ptk_words_sync_invariant.proofs.Lines.{in_push, in_without, out_push, own_head, first_in}
+use Rattle.ptk_threads_slots.specs.Changes.{only_of}
 use Rattle.ptk_threads.specs.Table.{stored_of}
 use Rattle.ptk_threads.proofs.Pools.{pool_get-changed, pool_get-changed_other}
 use Rattle.ptk_mutex.specs.Tables.{IsWaiter, AreLocked, MayGet}
@@ -77,6 +79,17 @@ ranks_same f g (k ∷ ks) h =
     let here : f k ≡ g k = h k (own_head k ks) in
     let rest : map f ks ≡ map g ks = ranks_same f g ks (λ j e. h j (in_tail k j ks e)) in
     ap (λ x. x ∷ map f ks) here ∙ ap (λ xs. g k ∷ xs) rest
+
+-- of none none is first
+pub none_first : (rank : ℕ → ℕ) (ks : List ℕ) → not (length ks == 0) ≡ false → None ≡ first_of_greatest rank ks
+none_first rank [] e = refl
+none_first rank (k ∷ ks) e = grind (arith, nat_tests)
+
+-- and the only one is first
+pub only_first : (rank : ℕ → ℕ) (ks : List ℕ) (t : ℕ) → only_of ks ≡ Some t → Some t ≡ first_of_greatest rank ks
+only_first rank [] t e = absurd (cc)
+only_first rank (k ∷ []) t e = let greatest : (rank k == max 0 (rank k)) ≡ true = grind (arith, nat_tests) in rw greatest (sym e)
+only_first rank (k ∷ j ∷ ks) t e = absurd (cc)
 
 -- the stored priorities choose among threads as the effective ones do
 pub stored_first : (threads : List (Option Thread)) (mutexes : List (Option Mutex)) (stored ks : List ℕ) → stored ≡ effective_priorities threads mutexes → ((k : ℕ) → is_in k ks ≡ true → IsSome (pool_get threads k)) → first_of_greatest (stored_of stored) ks ≡ first_of_greatest (effective_of threads mutexes) ks

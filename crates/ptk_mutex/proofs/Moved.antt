@@ -1,7 +1,6 @@
 -- What the calls need of the tables, and what the tables are after a move of one partition.
-use Rattle.std.proofs.Common.{◌≡◌, ℕ, ◌-◌, ◌<◌, ◌≤◌, List, [], ◌∷◌, length, refl, ◌∙◌, ap, arith, true, false, not}
+use Rattle.std.proofs.Common.{◌≡◌, ℕ, ◌-◌, ◌<◌, ◌≤◌, List, length, refl, sym, ◌∙◌, ap, arith, true, false, not}
 use Rattle.std.specs.Prelude.{◌==◌, Option, Some, None, option_map}
-use Rattle.std.proofs.lemmas.Bool.Decides.{nat_tests}
 use Rattle.std.proofs.lemmas.List.{length-set, set-set, set-get_or}
 use Rattle.ptk_words.specs.Pools.{pool_get}
 use Rattle.ptk_words.specs.declared.TheConstants.{COUNT_LIMIT}
@@ -14,12 +13,12 @@ use Rattle.ptk_threads.proofs.Pools.{pool_get-changed, pool_changed-changed, par
 use Rattle.ptk_mutex_priorities.specs.declared.slot.Change.TheVariants.{CountUp, CountDown}
 use Rattle.ptk_mutex_priorities.specs.Changes.{SlotMayChange}
 use Rattle.std.specs.Prelude.{option_and_then, option_to_list}
-use Rattle.ptk_words.specs.Pools.{pool_set, pool_changed}
+use Rattle.ptk_words.specs.Pools.{pool_set}
 use Rattle.ptk_words.specs.declared.threads.Thread.{Thread}
 use Rattle.ptk_words_model.specs.declared.LockMove.{LockMove}
-use Rattle.ptk_words_model.specs.Schedule.{with_reply, woken_with}
+use Rattle.ptk_words_model.specs.Schedule.{woken_with}
 use Rattle.ptk_words_model.specs.Mutex.{move_reply, kept_reply, handed}
-use Rattle.ptk_threads.specs.Table.{with_changed, with_used, with_wait}
+use Rattle.ptk_threads_slots.specs.Changes.{only_of}
 use Rattle.ptk_words.specs.Pools.{first_of_greatest}
 use Rattle.ptk_words_parted.proofs.Cuts.{set_part-same}
 use Rattle.ptk_words_model.specs.Mutex.{heir, owns, after_mutex_end, after_bequest, after_abandonment}
@@ -27,7 +26,7 @@ use Rattle.ptk_mutex_priorities.specs.Slots.{is_robust_at}
 use Rattle.ptk_mutex.specs.Tables.{with_threads}
 use Rattle.ptk_threads.specs.Table.{stored_of}
 use Rattle.ptk_mutex.specs.Tables.{MayGet}
-use Rattle.ptk_mutex.proofs.Locked.{waiter_used, stored_heir, heir_may_get}
+use Rattle.ptk_mutex.proofs.Locked.{waiter_used, none_first, only_first, stored_heir, heir_may_get}
 use Rattle.ptk_mutex.specs.Tables.{locks_by, HasPartBy, AreReadyBy}
 
 -- ---- room
@@ -44,16 +43,6 @@ pub has_part : (p : ℕ) (table : ThreadTable) (lines : List (List ℕ)) (mutexe
 has_part p table lines mutexes ready = ready.part
 
 -- ---- a thread woken
-
--- a thread changed twice
-changed-twice : (p t : ℕ) (f g : Thread → Thread) (table : ThreadTable) → p < length table.threads → with_changed p t g (with_changed p t f table) ≡ with_changed p t (λ (thread : Thread). g (f thread)) table
-changed-twice p t f g table lt = rw (part_of-set table.threads p (pool_changed t f (part_of table.threads p)) lt, set-set, pool_changed-changed) refl
-
--- a thread that has its values, and then waits for nothing and has used no tick, is woken
-pub woken-is : (p t : ℕ) (values : List ℕ) (table : ThreadTable) → p < length table.threads → with_changed p t (with_used 0) (with_changed p t (with_wait None) (with_changed p t (with_reply values) table)) ≡ with_changed p t (woken_with values) table
-woken-is p t values table lt =
-    ap (with_changed p t (with_used 0)) (changed-twice p t (with_reply values) (with_wait None) table lt)
-    ∙ changed-twice p t (λ (thread : Thread). with_wait None (with_reply values thread)) (with_used 0) table lt
 
 handed_entry : (made : LockMove) (x : Option Thread) → option_map (woken_with (option_to_list (move_reply made (kept_reply (option_and_then (λ (thread : Thread). thread.wait) x))))) x ≡ option_map (handed made) x
 handed_entry made None = refl
@@ -74,14 +63,18 @@ pub choice_may : (p m : ℕ) (o : Option ℕ) (table : ThreadTable) (lines : Lis
 choice_may p m o table lines mutexes ready e = heir_may_get m (locks_by p table lines mutexes) o ready.locked (choice-is p m o table lines mutexes ready e)
 
 -- without waiters there is no heir
-no_heir : (rank : ℕ → ℕ) (ks : List ℕ) → not (length ks == 0) ≡ false → None ≡ first_of_greatest rank ks
-no_heir rank [] e = refl
-no_heir rank (k ∷ ks) e = grind (arith, nat_tests)
-
 pub nobody-is : (p m : ℕ) (table : ThreadTable) (lines : List (List ℕ)) (mutexes : List (List (Option Mutex))) → not (length (waiters_of (pool_get (part_of mutexes p) m)) == 0) ≡ false → None ≡ heir m (locks_by p table lines mutexes)
-nobody-is p m table lines mutexes e = no_heir (effective_priority (locks_by p table lines mutexes)) (waiters_of (pool_get (part_of mutexes p) m)) e
+nobody-is p m table lines mutexes e = none_first (effective_priority (locks_by p table lines mutexes)) (waiters_of (pool_get (part_of mutexes p) m)) e
 
-pub ruleset choices = (choice-is, choice_may, nobody-is, has_part)
+-- the only waiter is the heir
+pub sole-is : (p m t : ℕ) (o : Option ℕ) (table : ThreadTable) (lines : List (List ℕ)) (mutexes : List (List (Option Mutex))) → o ≡ only_of (waiters_of (pool_get (part_of mutexes p) m)) → o ≡ Some t → Some t ≡ heir m (locks_by p table lines mutexes)
+sole-is p m t o table lines mutexes e some = only_first (effective_priority (locks_by p table lines mutexes)) (waiters_of (pool_get (part_of mutexes p) m)) t (sym e ∙ some)
+
+-- and may get the mutex
+pub sole_may : (p m t : ℕ) (o : Option ℕ) (table : ThreadTable) (lines : List (List ℕ)) (mutexes : List (List (Option Mutex))) → AreReadyBy p table lines mutexes → o ≡ only_of (waiters_of (pool_get (part_of mutexes p) m)) → o ≡ Some t → MayGet (Some t) (locks_by p table lines mutexes) m
+sole_may p m t o table lines mutexes ready e some = heir_may_get m (locks_by p table lines mutexes) (Some t) ready.locked (sole-is p m t o table lines mutexes e some)
+
+pub ruleset choices = (choice-is, choice_may, nobody-is, sole-is, sole_may, has_part)
 
 -- a count above 1 can go down
 pub count_down_room : (x : Option Mutex) → 1 < count_of x → SlotMayChange CountDown x
@@ -110,4 +103,4 @@ pub ruleset ends = (end-other, end-robust, end-plain, stays, has_part, set_part-
 
 pub ruleset moves = (set_part-same, count_down_room, waiter_used, countable, has_part, pool_get-changed, pool_changed-changed, part_of-set, set-set, set-get_or, length-set)
 
-pub ruleset wakes = (woken-is, handed-is, pool_get-changed, pool_changed-changed, part_of-set, set-set, set-get_or, length-set)
+pub ruleset wakes = (handed-is, pool_get-changed, pool_changed-changed, part_of-set, set-set, set-get_or, length-set)

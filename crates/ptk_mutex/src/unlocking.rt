@@ -174,10 +174,12 @@ fn choose(roster: &Roster, p: PartId, m: MutexNo) -> Option<ThreadNo>
     ensures told { result ≡ heir m (locks_at p roster.now) }
     ensures may { MayGet result (locks_at p roster.now) m }
 {
-    if roster.has_mutex_waiters(p, m) {
-        first_waiter(roster, p, m)
-    } else {
-        None
+    if !roster.has_mutex_waiters(p, m) {
+        return None;
+    }
+    match roster.only_mutex_waiter(p, m) {
+        Some(t) => Some(t),
+        None => first_waiter(roster, p, m),
     }
 }
 

@@ -21,7 +21,6 @@ use crate::mutexes::{Mutexes, refresh_after};
 use crate::rising::make;
 use ptk_mutex_priorities::{kept_reply, reply_of, slot_in};
 use ptk_syncs::Roster;
-use ptk_threads::ThreadChange;
 use ptk_words::{MutexNo, PartId, ThreadNo, Wait};
 use ptk_words_model::LockMove;
 
@@ -172,18 +171,5 @@ pub fn wake(roster: &mut Roster, p: PartId, t: ThreadNo, values: &[u32])
     ensures { roster.new ≡ record roster.old { table = with_changed p t (woken_with values.now) roster.old.table; lines = slice_set roster.old.lines p (part_of roster.old.lines p ++ t ∷ []) } }
 {
     roster.push_tail(p, t);
-    rouse(roster, p, t, values);
-}
-
-/// The thread waits for nothing any more, has these values in a0 and so on, and has used no tick; a free number stays
-/// free.
-#[tactic(auto, using(crate::proofs::Moved::wakes))]
-fn rouse(roster: &mut Roster, p: PartId, t: ThreadNo, values: &[u32])
-    requires partition { p < length roster.old.table.threads }
-    requires few { length values.now < 4 }
-    ensures { roster.new ≡ record roster.old { table = with_changed p t (woken_with values.now) roster.old.table } }
-{
-    roster.set_values(p, t, values);
-    roster.change(p, t, ThreadChange::Wait(None));
-    roster.change(p, t, ThreadChange::Used(0));
+    roster.rouse(p, t, values);
 }

@@ -3,3 +3,4 @@ pub mod Plain
 pub mod Levels
 pub mod Bare
 pub mod Raising
+pub mod Nexts

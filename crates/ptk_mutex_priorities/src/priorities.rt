@@ -13,7 +13,7 @@ ghost use Rattle.ptk_mutex_priorities.specs.Tables.{effective_at};
 
 use crate::slot::{MutexSlot, slot_in};
 use ptk_threads::{Slot, Threads};
-use ptk_words::{MutexNo, PartId, Phase, ThreadNo, Wait};
+use ptk_words::{MutexNo, PartId, Phase, THREAD_LIMIT, ThreadNo, Wait};
 
 /// The stored effective priority of a thread; None where the number names no thread or an ended one
 /// (pthread_mutexattr_getprotocol; own choice).
@@ -37,12 +37,12 @@ pub fn recompute(threads: &[Slot], mutexes: &[MutexSlot], stored: &mut [u8])
     ensures stored { stored.new ≡ effective_priorities (threads_of threads.now) mutexes.now }
     ensures levels { AreLevelsOf (threads_of threads.now) stored.new }
 {
+    let nexts = nexts_of(threads, mutexes);
     stored.fill(0);
     for k in 0..threads.len() {
         let u = ThreadNo::new((k + 1) as u8);
         raise_chain(
-            threads,
-            mutexes,
+            &nexts,
             stored,
             u,
             held_of(threads, mutexes, u),
@@ -51,24 +51,35 @@ pub fn recompute(threads: &[Slot], mutexes: &[MutexSlot], stored: &mut [u8])
     }
 }
 
+/// The next thread in the chain of each number; one past the partition's has none.
+fn nexts_of(threads: &[Slot], mutexes: &[MutexSlot]) -> [Option<ThreadNo>; THREAD_LIMIT as usize]
+    requires { length threads.now ≤ 32 }
+    ensures { pool_get result ≡ next_in_chain (threads_of threads.now) mutexes.now }
+{
+    let mut nexts = [None; THREAD_LIMIT as usize];
+    for k in 0..threads.len() {
+        nexts[k] = next_in_chain(threads, mutexes, ThreadNo::new((k + 1) as u8));
+    }
+    nexts
+}
+
 /// Each thread of the chain has at least this priority; the chain has at most this many steps.
-#[tactic(auto, using(crate::proofs::Levels::walks))]
+#[tactic(auto, using(crate::proofs::Levels::walks, crate::proofs::Nexts::places))]
 fn raise_chain(
-    threads: &[Slot],
-    mutexes: &[MutexSlot],
+    nexts: &[Option<ThreadNo>; THREAD_LIMIT as usize],
     stored: &mut [u8],
     u: ThreadNo,
     priority: u8,
     fuel: usize,
 )
-    ensures { stored.new ≡ raised_along (next_in_chain (threads_of threads.now) mutexes.now) priority fuel u stored.old }
+    ensures { stored.new ≡ raised_along (pool_get nexts.now) priority fuel u stored.old }
 {
     raise(stored, u, priority);
     if fuel == 0 {
         return;
     }
-    match next_in_chain(threads, mutexes, u) {
-        Some(v) => raise_chain(threads, mutexes, stored, v, priority, fuel - 1),
+    match nexts[u.place()] {
+        Some(v) => raise_chain(nexts, stored, v, priority, fuel - 1),
         None => {}
     }
 }

@@ -6,6 +6,7 @@ ghost use Rattle.ptk_words.specs.Pools.{pool_get, pool_set, least_free, without,
 ghost use Rattle.ptk_words_parted.specs.Parts.{part_of};
 ghost use Rattle.ptk_words_model.specs.Condition.{waiters_on};
 ghost use Rattle.ptk_words_sync_invariant.specs.Conditions.{IsNoWaiter};
+ghost use Rattle.ptk_threads_slots.specs.Changes.{only_of};
 ghost use Rattle.ptk_threads.specs.Table.{thread_in};
 ghost use Rattle.ptk_syncs.specs.Waiters.{condition_of};
 
@@ -50,6 +51,15 @@ impl Roster {
     {
         let _number = c.number();
         self.threads.members(p, QueueName::ConditionWaiters(c))
+    }
+
+    /// The only waiter on a condition variable; None where there is none or there are more.
+    pub fn only_condition_waiter(&self, p: PartId, c: ConditionNo) -> Option<ThreadNo>
+        requires { p < length self.now.table.threads }
+        ensures { result ≡ only_of (waiters_on (pool_get (part_of self.now.conditions p) c)) }
+    {
+        let _number = c.number();
+        self.threads.only_member(p, QueueName::ConditionWaiters(c))
     }
 
     /// Whether any thread waits on a condition variable (pthread_cond_destroy, EBUSY).

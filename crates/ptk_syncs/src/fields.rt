@@ -2,9 +2,9 @@
 
 ghost use Rattle.std.specs.Prelude.{◌≡◌, ◌<◌, length, IfSome, IsSome};
 ghost use Rattle.ptk_words.specs.declared.threads.Thread.{Thread};
-ghost use Rattle.ptk_words_model.specs.Schedule.{with_reply};
+ghost use Rattle.ptk_words_model.specs.Schedule.{with_reply, woken_with};
 ghost use Rattle.ptk_threads.specs.Table.{thread_in, with_changed, with_cpu, replaced_by};
-ghost use Rattle.ptk_threads.specs.Changes.{thread_changed};
+ghost use Rattle.ptk_threads.specs.Changes.{renewed_with, thread_changed};
 
 use crate::roster::Roster;
 use ptk_threads::{ThreadChange, Work};
@@ -12,6 +12,7 @@ use ptk_words::{Cpu, PartId, Thread, ThreadNo};
 
 impl Roster {
     /// Changes one field of a thread; a free number stays free. Where that is its wait, its deadline follows.
+    #[inline(always)]
     pub fn change(&mut self, p: PartId, k: ThreadNo, change: ThreadChange)
         requires { p < length self.old.table.threads }
         ensures { self.new ≡ record self.old { table = with_changed p k (thread_changed change) self.old.table } }
@@ -34,6 +35,25 @@ impl Roster {
         ensures { self.new ≡ record self.old { table = with_changed p k (with_reply values.now) self.old.table } }
     {
         self.threads.set_values(p, k, values);
+    }
+
+    /// A thread waits for nothing any more, has these values in a0 and so on, and has used no tick of its interval; a
+    /// free number stays free.
+    pub fn rouse(&mut self, p: PartId, k: ThreadNo, values: &[u32])
+        requires partition { p < length self.old.table.threads }
+        requires few { length values.now < 4 }
+        ensures { self.new ≡ record self.old { table = with_changed p k (woken_with values.now) self.old.table } }
+    {
+        self.threads.rouse(p, k, values);
+    }
+
+    /// Puts at most 3 values into the thread's a0, a1 and so on, and it has used no tick of its interval; its pc stays.
+    pub fn renew(&mut self, p: PartId, k: ThreadNo, values: &[u32])
+        requires partition { p < length self.old.table.threads }
+        requires few { length values.now < 4 }
+        ensures { self.new ≡ record self.old { table = with_changed p k (renewed_with values.now) self.old.table } }
+    {
+        self.threads.renew(p, k, values);
     }
 
     /// Puts this thread in place of the one of a number; a free number stays free.

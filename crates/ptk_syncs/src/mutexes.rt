@@ -5,6 +5,7 @@ ghost use Rattle.ptk_words.specs.Pools.{pool_get, pool_set, pool_changed, least_
 ghost use Rattle.ptk_words_parted.specs.Parts.{part_of};
 ghost use Rattle.ptk_words_model.specs.Mutex.{new_mutex, waiters_of};
 ghost use Rattle.ptk_words_sync_invariant.specs.Conditions.{IsNoWaiter};
+ghost use Rattle.ptk_threads_slots.specs.Changes.{only_of};
 ghost use Rattle.ptk_threads.specs.Table.{thread_in};
 ghost use Rattle.ptk_mutex_priorities.specs.Slots.{bare};
 ghost use Rattle.ptk_mutex_priorities.specs.Changes.{mutex_changed, SlotMayChange};
@@ -43,6 +44,15 @@ impl Roster {
     {
         let _number = m.number();
         self.threads.members(p, QueueName::MutexWaiters(m))
+    }
+
+    /// The only waiter of a mutex; None where there is none or there are more.
+    pub fn only_mutex_waiter(&self, p: PartId, m: MutexNo) -> Option<ThreadNo>
+        requires { p < length self.now.table.threads }
+        ensures { result ≡ only_of (waiters_of (pool_get (part_of self.now.mutexes p) m)) }
+    {
+        let _number = m.number();
+        self.threads.only_member(p, QueueName::MutexWaiters(m))
     }
 
     /// Whether any thread waits for a mutex (pthread_mutex_destroy, EBUSY).

@@ -1,20 +1,24 @@
 -- Kept deadlines stay those of the threads' waits where threads change.
 use Rattle.std.proofs.Common.{◌≡◌, ℕ, zero, suc, List, [], ◌∷◌, map, Bool, true, false, refl, sym, ◌∙◌, ap, replicate, All, ◌≤◌}
 use Rattle.std.specs.Prelude.{Option, Some, None, IfSome, option_map, slice_get, slice_set}
-use Rattle.std.specs.Option.{option_flatten}
+use Rattle.std.specs.Option.{option_flatten, is_some}
 use Rattle.std.proofs.Math.ListN.{set}
 use Rattle.std.proofs.lemmas.List.{map-set, set-get_or}
 use Rattle.ptk_words.specs.Pools.{pool_get, pool_set, pool_changed}
 use Rattle.ptk_words.specs.declared.threads.Thread.{Thread}
+use Rattle.ptk_words.specs.declared.threads.Wait.{Wait as ThreadWait}
+use Rattle.ptk_words.specs.Threads.{deadline_of_wait}
 use Rattle.ptk_words_parted.specs.Parts.{part_of, filled}
 use Rattle.ptk_words_model.specs.State.{locks_of}
 use Rattle.ptk_words_model.specs.Mutex.{wait_of}
-use Rattle.ptk_words_sync_invariant.proofs.Deadlines.{deadline_at, deadlines-kept}
+use Rattle.ptk_words_sync_invariant.proofs.Deadlines.{deadline_at, deadlines-kept, changed_deadline, get-map}
+use Rattle.ptk_clock.specs.ByThread.{least_deadline}
+use Rattle.ptk_clock.proofs.LeastDeadlines.{none_set}
 use Rattle.ptk_threads.specs.declared.changes.ThreadChange.{ThreadChange}
-use Rattle.ptk_threads.specs.declared.changes.ThreadChange.TheVariants.{Address, Policy, AssignedPriority, Used, Phase, Joiner, Result, Wait}
+use Rattle.ptk_threads.specs.declared.changes.ThreadChange.TheVariants.{Wait}
 use Rattle.ptk_threads.specs.Table.{IsTable, replaced_by}
-use Rattle.ptk_threads.specs.Changes.{thread_changed, sets_wait}
-use Rattle.ptk_threads.specs.Timed.{AreTimed, IsKept, deadlines_in}
+use Rattle.ptk_threads.specs.Changes.{thread_changed}
+use Rattle.ptk_threads.specs.Timed.{AreTimed, IsKept, KeepsDeadlines, deadlines_in}
 use Rattle.ptk_threads.proofs.Slots.{table_threads, table_filled, length-pool_set}
 
 -- ---- one partition's deadlines
@@ -41,7 +45,7 @@ timed_same p row deadlines threads e timed = record {
   all = sym (set-get_or deadlines p []) ∙ (timed_put p row (part_of deadlines p) deadlines threads (timed_row p deadlines threads timed ∙ sym e) timed).all;
 }
 
--- ---- a thread changed whose wait stays
+-- ---- a thread changed whose wait stays, or its deadline
 
 timed_kept : (p k : ℕ) (f : Thread → Thread) (deadlines : List (List (Option ℕ))) (threads : List (List (Option Thread))) → wait_of (option_map f (pool_get (part_of threads p) k)) ≡ wait_of (pool_get (part_of threads p) k)
     → AreTimed deadlines threads → AreTimed deadlines (set threads p (pool_changed k f (part_of threads p)))
@@ -51,6 +55,13 @@ timed_kept p k f deadlines threads same timed =
 waits_kept : (f : Thread → Thread) (x : Option Thread) → ((thread : Thread) → (f thread).wait ≡ thread.wait) → wait_of (option_map f x) ≡ wait_of x
 waits_kept f None keeps = refl
 waits_kept f (Some thread) keeps = keeps thread
+
+same_deadlines : (k : ℕ) (f : Thread → Thread) (row : List (Option Thread)) → deadline_at (option_map f (pool_get row k)) ≡ deadline_at (pool_get row k) → deadlines_in (pool_changed k f row) ≡ deadlines_in row
+same_deadlines k f row same =
+    let slot = pool_get row k in
+    let stays : Thread → Thread = λ (thread : Thread). thread in
+    let kept : wait_of (option_map stays slot) ≡ wait_of slot = waits_kept stays slot (λ thread. refl) in
+    changed_deadline k f (deadline_at slot) row same ∙ sym (changed_deadline k stays (deadline_at slot) row (ap deadline_of_wait kept)) ∙ deadlines-kept k stays (locks_of row []) kept
 
 waits_made : (made : Thread) (x : Option Thread) → IfSome x (λ thread. made.wait ≡ thread.wait) → wait_of (option_map (replaced_by made) x) ≡ wait_of x
 waits_made made None h = refl
@@ -85,6 +96,27 @@ timed_read p k x deadlines after threads new e f timed =
           ∙ ap (set deadlines p) (follow k x row) ∙ (timed_put p (pool_set row k x) (deadlines_in (pool_set row k x)) deadlines threads refl timed).all ∙ ap (map deadlines_in) (sym e);
     }
 
+-- ---- a change that no kept deadline follows
+
+freed_at : (i : ℕ) (kept : List (Option ℕ)) → option_flatten (slice_get (slice_set kept i None) i) ≡ None
+freed_at i [] = refl
+freed_at zero (d ∷ kept) = refl
+freed_at (suc i) (d ∷ kept) = freed_at i kept
+
+freed : (k : ℕ) (kept : List (Option ℕ)) → pool_get (pool_set kept k None) k ≡ None
+freed zero kept = refl
+freed (suc i) kept = freed_at i kept
+
+not_some : (o : Option ℕ) → is_some o ≡ false → o ≡ None
+not_some None e = refl
+not_some (Some d) e = let no : true ≡ false = e in absurd (cc)
+
+-- where no thread has a deadline, a wait without one changes none
+pub keeps_none : (wait : Option ThreadWait) (is_timed : Bool) (least : Option ℕ) (kept : List (Option ℕ)) → is_timed ≡ is_some (deadline_of_wait wait) → least ≡ least_deadline kept → is_timed ≡ false → is_some least ≡ false → KeepsDeadlines (Wait wait) kept
+keeps_none wait is_timed least kept told is untimed none k thread e =
+    let free : pool_get kept k ≡ None = sym (ap (λ (ds : List (Option ℕ)). pool_get ds k) (none_set k least None kept is refl none)) ∙ freed k kept in
+    not_some (deadline_of_wait wait) (sym told ∙ untimed) ∙ sym free ∙ e
+
 -- ---- what always holds
 
 table_set : (p k : ℕ) (x : Option Thread) (threads : List (List (Option Thread))) (stored : List (List ℕ)) → IsTable threads stored → IsTable (set threads p (pool_set (part_of threads p) k x)) stored
@@ -98,29 +130,41 @@ kept_put p k x threads new stored deadlines after e f kept = record {
   timed = timed_read p k x deadlines after threads new e f kept.timed;
 }
 
-wait_stays : (change : ThreadChange) (thread : Thread) → sets_wait change ≡ false → (thread_changed change thread).wait ≡ thread.wait
-wait_stays (Address pc) thread e = refl
-wait_stays (Policy policy) thread e = refl
-wait_stays (AssignedPriority priority) thread e = refl
-wait_stays (Used used) thread e = refl
-wait_stays (Phase phase) thread e = refl
-wait_stays (Joiner joiner) thread e = refl
-wait_stays (Result result) thread e = refl
-wait_stays (Wait wait) thread e = let no : true ≡ false = e in absurd (cc)
+deadline_stays : (change : ThreadChange) (k : ℕ) (kept : List (Option ℕ)) (slot : Option Thread) → KeepsDeadlines change kept → pool_get kept k ≡ deadline_at slot → deadline_at (option_map (thread_changed change) slot) ≡ deadline_at slot
+deadline_stays change k kept None keeps e = refl
+deadline_stays change k kept (Some thread) keeps e = keeps k thread e
 
-timed_change : (b : Bool) (p k : ℕ) (change : ThreadChange) (threads new : List (List (Option Thread))) (deadlines after : List (List (Option ℕ))) → b ≡ sets_wait change → new ≡ set threads p (pool_changed k (thread_changed change) (part_of threads p))
+timed_change : (b : Bool) (p k : ℕ) (change : ThreadChange) (threads new : List (List (Option Thread))) (deadlines after : List (List (Option ℕ))) → (b ≡ false → KeepsDeadlines change (part_of deadlines p)) → new ≡ set threads p (pool_changed k (thread_changed change) (part_of threads p))
     → (b ≡ true → after ≡ set deadlines p (pool_set (part_of deadlines p) k (deadline_at (pool_get (part_of new p) k)))) → (b ≡ false → after ≡ deadlines) → AreTimed deadlines threads → AreTimed after new
-timed_change true p k change threads new deadlines after is e sets keeps timed = timed_read p k (option_map (thread_changed change) (pool_get (part_of threads p) k)) deadlines after threads new e (sets refl) timed
-timed_change false p k change threads new deadlines after is e sets keeps timed =
-    rw (e, keeps refl) (timed_kept p k (thread_changed change) deadlines threads (waits_kept (thread_changed change) (pool_get (part_of threads p) k) (λ thread. wait_stays change thread (sym is))) timed)
+timed_change true p k change threads new deadlines after stay e sets keeps timed = timed_read p k (option_map (thread_changed change) (pool_get (part_of threads p) k)) deadlines after threads new e (sets refl) timed
+timed_change false p k change threads new deadlines after stay e sets keeps timed =
+    let row : List (Option Thread) = part_of threads p in
+    let own : pool_get (part_of deadlines p) k ≡ deadline_at (pool_get row k) = ap (λ (ds : List (Option ℕ)). pool_get ds k) (timed_row p deadlines threads timed) ∙ get-map deadline_at k row refl in
+    rw (e, keeps refl) (timed_same p (pool_changed k (thread_changed change) row) deadlines threads (same_deadlines k (thread_changed change) row (deadline_stays change k (part_of deadlines p) (pool_get row k) (stay refl) own)) timed)
 
 -- a field of a thread was changed
-pub kept_change : (b : Bool) (p k : ℕ) (change : ThreadChange) (threads new : List (List (Option Thread))) (stored : List (List ℕ)) (deadlines after : List (List (Option ℕ))) → b ≡ sets_wait change → new ≡ set threads p (pool_changed k (thread_changed change) (part_of threads p))
+pub kept_change : (b : Bool) (p k : ℕ) (change : ThreadChange) (threads new : List (List (Option Thread))) (stored : List (List ℕ)) (deadlines after : List (List (Option ℕ))) → (b ≡ false → KeepsDeadlines change (part_of deadlines p)) → new ≡ set threads p (pool_changed k (thread_changed change) (part_of threads p))
     → (b ≡ true → after ≡ set deadlines p (pool_set (part_of deadlines p) k (deadline_at (pool_get (part_of new p) k)))) → (b ≡ false → after ≡ deadlines) → IsKept threads stored deadlines → IsKept new stored after
-kept_change b p k change threads new stored deadlines after is e sets keeps kept = record {
+kept_change b p k change threads new stored deadlines after stay e sets keeps kept = record {
   table = rw e (table_set p k (option_map (thread_changed change) (pool_get (part_of threads p) k)) threads stored kept.table);
-  timed = timed_change b p k change threads new deadlines after is e sets keeps kept.timed;
+  timed = timed_change b p k change threads new deadlines after stay e sets keeps kept.timed;
 }
+
+no_wait : (f : Thread → Thread) (slot : Option Thread) → ((thread : Thread) → (f thread).wait ≡ None) → deadline_at (option_map f slot) ≡ None
+no_wait f None ends = refl
+no_wait f (Some thread) ends = ap deadline_of_wait (ends thread)
+
+-- a thread waits for nothing any more, and its deadline ended
+pub kept_ended : (p k : ℕ) (f : Thread → Thread) (threads new : List (List (Option Thread))) (stored : List (List ℕ)) (deadlines after : List (List (Option ℕ))) → new ≡ set threads p (pool_changed k f (part_of threads p))
+    → after ≡ set deadlines p (pool_set (part_of deadlines p) k None) → ((thread : Thread) → (f thread).wait ≡ None) → IsKept threads stored deadlines → IsKept new stored after
+kept_ended p k f threads new stored deadlines after e g ends kept =
+    let row : List (Option Thread) = part_of threads p in
+    let ended : pool_set (part_of deadlines p) k None ≡ deadlines_in (pool_changed k f row) =
+    ap (λ (ds : List (Option ℕ)). pool_set ds k None) (timed_row p deadlines threads kept.timed) ∙ sym (changed_deadline k f None row (no_wait f (pool_get row k) ends)) in
+    rw (e, g) (record {
+      table = table_set p k (option_map f (pool_get row k)) threads stored kept.table;
+      timed = timed_put p (pool_changed k f row) (pool_set (part_of deadlines p) k None) deadlines threads ended kept.timed;
+    })
 
 -- a thread was changed, and its wait stays
 pub kept_changed : (p k : ℕ) (f : Thread → Thread) (threads new : List (List (Option Thread))) (stored : List (List ℕ)) (deadlines : List (List (Option ℕ))) → new ≡ set threads p (pool_changed k f (part_of threads p))

@@ -1,6 +1,8 @@
 -- A change of one field of a thread.
-use Rattle.std.specs.Prelude.{Bool, true, false}
+use Rattle.std.specs.Prelude.{List}
+use Rattle.ptk_words.specs.Names.{Word}
 use Rattle.ptk_words.specs.declared.threads.Thread.{Thread}
+use Rattle.ptk_words_model.specs.Schedule.{unused, with_reply}
 use Rattle.ptk_threads.specs.declared.changes.ThreadChange.{ThreadChange}
 use Rattle.ptk_threads.specs.declared.changes.ThreadChange.TheVariants.{Address, Policy, AssignedPriority, Used, Phase, Joiner, Result, Wait}
 use Rattle.ptk_threads.specs.Table.{with_policy, with_priority, with_used, with_phase, with_joiner, with_result, with_wait}
@@ -17,13 +19,6 @@ thread_changed (Joiner joiner) = with_joiner joiner
 thread_changed (Result result) = with_result result
 thread_changed (Wait wait) = with_wait wait
 
--- the field is what the thread waits for (XSH 2.8.4)
-abbrev pub sets_wait : ThreadChange → Bool
-sets_wait (Address pc) = false
-sets_wait (Policy policy) = false
-sets_wait (AssignedPriority priority) = false
-sets_wait (Used used) = false
-sets_wait (Phase phase) = false
-sets_wait (Joiner joiner) = false
-sets_wait (Result result) = false
-sets_wait (Wait wait) = true
+-- the thread with these values in a0 and so on, which has used no tick of its interval (XSH 2.8.4, SCHED_RR)
+abbrev pub renewed_with : List Word → Thread → Thread
+renewed_with values thread = unused (with_reply values thread)

@@ -1,10 +1,13 @@
 -- The deadlines of the waits of threads, which are kept beside the slots.
 use Rattle.std.specs.Prelude.{◌≡◌, ℕ, List, map, Option}
 use Rattle.ptk_words.specs.Names.{Tick}
+use Rattle.ptk_words.specs.Pools.{pool_get}
 use Rattle.ptk_words.specs.declared.threads.Thread.{Thread}
 use Rattle.ptk_words_model.specs.Mutex.{wait_of}
 use Rattle.ptk_words.specs.Threads.{deadline_of_wait}
 use Rattle.ptk_threads.specs.Table.{IsTable}
+use Rattle.ptk_threads.specs.Changes.{thread_changed}
+use Rattle.ptk_threads.specs.declared.changes.ThreadChange.{ThreadChange}
 
 -- by thread number: the deadline of its wait, of a thread that is in a timed one (clock_nanosleep, pthread_mutex_timedlock, pthread_cond_timedwait)
 abbrev pub deadlines_in : List (Option Thread) → List (Option Tick)
@@ -18,3 +21,7 @@ pub record AreTimed (deadlines : List (List (Option Tick))) (threads : List (Lis
 pub record IsKept (threads : List (List (Option Thread))) (stored : List (List ℕ)) (deadlines : List (List (Option Tick))) : Type 0 where
   pub table : IsTable threads stored
   pub timed : AreTimed deadlines threads
+
+-- a thread with the deadline that is kept at its number has the same one after this change (own)
+abbrev pub KeepsDeadlines : ThreadChange → List (Option Tick) → Type 0
+KeepsDeadlines change kept = (k : ℕ) (thread : Thread) → pool_get kept k ≡ deadline_of_wait thread.wait → deadline_of_wait (thread_changed change thread).wait ≡ deadline_of_wait thread.wait

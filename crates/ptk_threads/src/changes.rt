@@ -5,8 +5,8 @@ ghost use Rattle.ptk_words.specs.Pools.{pool_get, pool_set, pool_changed};
 ghost use Rattle.ptk_words.specs.declared.threads.Thread.{Thread};
 ghost use Rattle.ptk_threads_slots.specs.Links.{shared_links, threads_of};
 ghost use Rattle.ptk_threads.specs.Table.{with_cpu, replaced_by};
-ghost use Rattle.ptk_threads.specs.Changes.{thread_changed, sets_wait};
-ghost use Rattle.ptk_words_model.specs.Schedule.{with_registers, with_reply};
+ghost use Rattle.ptk_threads.specs.Changes.{renewed_with, thread_changed};
+ghost use Rattle.ptk_words_model.specs.Schedule.{with_registers, with_reply, woken_with};
 
 use crate::work::Work;
 use ptk_threads_slots::Slot;
@@ -86,6 +86,34 @@ pub(crate) fn set_values_in(slots: &mut [Slot], k: ThreadNo, values: &[u32])
     }
 }
 
+/// Wakes the thread of a number, if there is one.
+#[tactic(auto, using(crate::proofs::Slots::changes))]
+pub(crate) fn rouse_in(slots: &mut [Slot], k: ThreadNo, values: &[u32])
+    requires { length values.now < 4 }
+    ensures threads { threads_of slots.new ≡ pool_changed k (woken_with values.now) (threads_of slots.old) }
+    ensures links { shared_links slots.new ≡ shared_links slots.old }
+{
+    let i = k.place();
+    if i < slots.len() {
+        let slot = &mut slots[i];
+        rouse_at(&mut slot.thread, values);
+    }
+}
+
+/// Puts the values into a0, a1 and so on of the thread of a number, if there is one, and it has used no tick.
+#[tactic(auto, using(crate::proofs::Slots::changes))]
+pub(crate) fn renew_in(slots: &mut [Slot], k: ThreadNo, values: &[u32])
+    requires { length values.now < 4 }
+    ensures threads { threads_of slots.new ≡ pool_changed k (renewed_with values.now) (threads_of slots.old) }
+    ensures links { shared_links slots.new ≡ shared_links slots.old }
+{
+    let i = k.place();
+    if i < slots.len() {
+        let slot = &mut slots[i];
+        renew_at(&mut slot.thread, values);
+    }
+}
+
 /// Sets the entry of a number.
 #[tactic(auto, using(crate::proofs::Slots::changes))]
 pub(crate) fn put_in(slots: &mut [Slot], k: ThreadNo, thread: Option<Thread>)
@@ -151,6 +179,31 @@ fn set_values_at(place: &mut Option<Thread>, values: &[u32])
     }
 }
 
+/// Wakes a thread, if it is one: it waits for nothing, has these values in a0 and so on, and has used no tick.
+fn rouse_at(place: &mut Option<Thread>, values: &[u32])
+    requires { length values.now < 4 }
+    ensures { place.new ≡ option_map (woken_with values.now) place.old }
+{
+    if let Some(thread) = place {
+        let cpu = &mut thread.cpu;
+        write_values(cpu, values);
+        thread.wait = None;
+        thread.used = 0;
+    }
+}
+
+/// Puts the values into a0, a1 and so on of a thread, if it is one, and it has used no tick.
+fn renew_at(place: &mut Option<Thread>, values: &[u32])
+    requires { length values.now < 4 }
+    ensures { place.new ≡ option_map (renewed_with values.now) place.old }
+{
+    if let Some(thread) = place {
+        let cpu = &mut thread.cpu;
+        write_values(cpu, values);
+        thread.used = 0;
+    }
+}
+
 /// Gives a thread, if it is one, these registers.
 fn set_cpu_at(place: &mut Option<Thread>, cpu: Cpu)
     ensures { place.new ≡ option_map (with_cpu cpu) place.old }
@@ -188,11 +241,4 @@ fn write_values(cpu: &mut Cpu, values: &[u32])
     for (i, value) in values.iter().enumerate() {
         cpu.set_register(A0 + i as u32, *value);
     }
-}
-
-/// Whether the change says what the thread waits for.
-pub(crate) fn sets_wait(change: &ThreadChange) -> bool
-    ensures { result ≡ sets_wait change.now }
-{
-    matches!(change, ThreadChange::Wait(_))
 }

@@ -1,6 +1,6 @@
 //! A thread where it lies in the table, for readers of few of its fields.
 
-ghost use Rattle.std.specs.Prelude.{◌≡◌, ◌<◌, length};
+ghost use Rattle.std.specs.Prelude.{◌≡◌, ◌<◌, length, IsSome, Some};
 ghost use Rattle.std.specs.Option.{option_copied};
 ghost use Rattle.ptk_words.specs.Pools.{pool_get};
 ghost use Rattle.ptk_threads_slots.specs.Links.{threads_of};
@@ -19,6 +19,26 @@ impl Threads {
     {
         thread_among(self.part(p), k)
     }
+
+    /// The thread of a number in use, where it lies. Nothing of it is copied.
+    #[inline]
+    pub fn used_thread(&self, p: PartId, k: ThreadNo) -> &Thread
+        requires partition { p < length self.now.threads }
+        requires in_use { IsSome (thread_in self.now p k) }
+        ensures { Some result.now ≡ thread_in self.now p k }
+    {
+        used_among(self.part(p), k)
+    }
+}
+
+/// The thread of a number in use among a partition's slots.
+#[inline]
+#[tactic(auto, using(crate::proofs::Slots::reads))]
+fn used_among(slots: &[Slot], k: ThreadNo) -> &Thread
+    requires { IsSome (pool_get (threads_of slots.now) k) }
+    ensures { Some result.now ≡ pool_get (threads_of slots.now) k }
+{
+    slots[k.place()].used_thread()
 }
 
 /// The thread of a number among a partition's slots, None of a free one.

@@ -3,17 +3,18 @@
 ghost use Rattle.std.specs.Prelude.{◌≡◌, ◌<◌, ◌≤◌, All, length, map, replicate, slice_set, None, IsSome, IfSome, IfOk};
 ghost use Rattle.ptk_words.specs.Pools.{pool_get, pool_set, pool_changed};
 ghost use Rattle.ptk_words.specs.declared.threads.Thread.{Thread};
-ghost use Rattle.ptk_words_model.specs.Schedule.{with_reply};
+ghost use Rattle.ptk_words_model.specs.Schedule.{with_reply, woken_with};
 ghost use Rattle.ptk_words_parted.specs.Parts.{part_of, joined, filled};
 ghost use Rattle.ptk_threads_slots.specs.Changes.{first_in};
 ghost use Rattle.ptk_threads_slots.specs.Links.{links_of, threads_of, no_ends, place_of, queues, AreQueues};
 ghost use Rattle.ptk_threads.specs.Table.{with_cpu, replaced_by};
-ghost use Rattle.ptk_threads.specs.Changes.{thread_changed};
+ghost use Rattle.ptk_threads.specs.Changes.{renewed_with, thread_changed};
 ghost use Rattle.ptk_threads.specs.Shared.{AreAlongLinks, StayInPartitions};
 ghost use Rattle.ptk_threads.specs.Queues.{no_queues, free_parts, AreListed, IsUnqueued, with_last, with_first, with_before, with_none, without_first};
 
 use crate::changes::{
-    ThreadChange, change_in, put_in, replace_in, set_cpu_in, set_values_in, work_in,
+    ThreadChange, change_in, put_in, renew_in, replace_in, rouse_in, set_cpu_in, set_values_in,
+    work_in,
 };
 use crate::work::Work;
 use ptk_threads_slots::{
@@ -140,6 +141,26 @@ impl SlotTable {
         ensures { self.new ≡ record self.old { threads = slice_set self.old.threads p (pool_changed k (with_reply values.now) (part_of self.old.threads p)) } }
     {
         set_values_in(self.slots.lend(p), k, values);
+    }
+
+    /// Wakes a thread.
+    #[tactic(auto, using(crate::proofs::Linked::lifts))]
+    pub(crate) fn rouse(&mut self, p: PartId, k: ThreadNo, values: &[u32])
+        requires partition { p < length self.old.threads }
+        requires few { length values.now < 4 }
+        ensures { self.new ≡ record self.old { threads = slice_set self.old.threads p (pool_changed k (woken_with values.now) (part_of self.old.threads p)) } }
+    {
+        rouse_in(self.slots.lend(p), k, values);
+    }
+
+    /// Puts the values into a thread's a0, a1 and so on, and it has used no tick of its interval.
+    #[tactic(auto, using(crate::proofs::Linked::lifts))]
+    pub(crate) fn renew(&mut self, p: PartId, k: ThreadNo, values: &[u32])
+        requires partition { p < length self.old.threads }
+        requires few { length values.now < 4 }
+        ensures { self.new ≡ record self.old { threads = slice_set self.old.threads p (pool_changed k (renewed_with values.now) (part_of self.old.threads p)) } }
+    {
+        renew_in(self.slots.lend(p), k, values);
     }
 
     /// Sets the entry of a number.

@@ -6,21 +6,21 @@ ghost use Rattle.ptk_words.specs.Threads.{left_at_end, left_at_detach};
 ghost use Rattle.ptk_words.specs.declared.threads.Thread.{Thread};
 ghost use Rattle.ptk_words_parted.specs.Parts.{part_of, joined};
 ghost use Rattle.ptk_threads.specs.Table.{free_table, thread_in, stored_of, with_slot, with_changed, with_stored, with_queues, with_free, with_new, with_rest, with_left, with_cpu, replaced_by};
-ghost use Rattle.ptk_words_model.specs.Schedule.{with_reply};
-ghost use Rattle.ptk_threads.specs.Changes.{thread_changed};
+ghost use Rattle.ptk_words_model.specs.Schedule.{with_reply, woken_with};
+ghost use Rattle.ptk_threads.specs.Changes.{renewed_with, thread_changed};
 ghost use Rattle.ptk_threads.specs.Queues.{AreListed, IsUnqueued, with_last, with_first, with_before, with_none, with_out, without_first};
 ghost use Rattle.ptk_threads.specs.Shared.{AreAlongLinks, StayInPartitions};
 ghost use Rattle.ptk_threads_slots.specs.declared.slot.Slot.{Slot};
-ghost use Rattle.ptk_threads_slots.specs.Changes.{first_in};
+ghost use Rattle.ptk_threads_slots.specs.Changes.{first_in, only_of};
 ghost use Rattle.ptk_threads_slots.specs.Links.{links_of, threads_of, place_of, queues, AreQueues};
 
-use crate::changes::{ThreadChange, sets_wait};
+use crate::changes::ThreadChange;
 use crate::slot_table::{LinkedSlots, SlotTable};
-use crate::waits::{follow, follow_if};
+use crate::waits::{follow, follow_if, needs_following};
 use crate::work::Work;
 use ptk_clock::ThreadDeadlines;
 use ptk_threads_slots::{
-    FirstThread, QueueName, Slot, ThreadList, has_members, is_marked, link_of, members,
+    FirstThread, QueueName, Slot, ThreadList, has_members, is_marked, link_of, members, only_member,
 };
 use ptk_words::{Cpu, PartId, Phase, Policy, Priority, Thread, ThreadNo, Wait};
 use ptk_words_parted::Parted;
@@ -254,14 +254,15 @@ impl Threads {
     }
 
     /// Changes one field of a thread; a free number stays free. Where that is its wait, its deadline follows.
+    #[inline(always)]
     #[tactic(auto, using(crate::proofs::Slots::pools))]
     pub fn change(&mut self, p: PartId, k: ThreadNo, change: ThreadChange)
         requires { p < length self.old.threads }
         ensures { self.new ≡ with_changed p k (thread_changed change) self.old }
     {
-        let is_wait = sets_wait(&change);
+        let is_followed = needs_following(&self.deadlines, p, &change);
         self.slots.change(p, k, change);
-        follow_if(&mut self.deadlines, &self.slots, p, k, is_wait);
+        follow_if(&mut self.deadlines, &self.slots, p, k, is_followed);
     }
 
     /// Gives the thread these registers and pc.
@@ -281,6 +282,28 @@ impl Threads {
         ensures { self.new ≡ with_changed p k (with_reply values.now) self.old }
     {
         self.slots.set_values(p, k, values);
+    }
+
+    /// A thread waits for nothing any more, has these values in a0 and so on, and has used no tick of its interval; a
+    /// free number stays free.
+    #[tactic(auto, using(crate::proofs::Slots::pools))]
+    pub fn rouse(&mut self, p: PartId, k: ThreadNo, values: &[u32])
+        requires partition { p < length self.old.threads }
+        requires few { length values.now < 4 }
+        ensures { self.new ≡ with_changed p k (woken_with values.now) self.old }
+    {
+        self.slots.rouse(p, k, values);
+        self.deadlines.set(p, k, None);
+    }
+
+    /// Puts at most 3 values into the thread's a0, a1 and so on, and it has used no tick of its interval; its pc stays.
+    #[tactic(auto, using(crate::proofs::Slots::pools))]
+    pub fn renew(&mut self, p: PartId, k: ThreadNo, values: &[u32])
+        requires partition { p < length self.old.threads }
+        requires few { length values.now < 4 }
+        ensures { self.new ≡ with_changed p k (renewed_with values.now) self.old }
+    {
+        self.slots.renew(p, k, values);
     }
 
     /// Puts this thread in place of the one of a number; a free number stays free.
@@ -411,6 +434,15 @@ impl Threads {
     {
         let part = self.linked(p);
         members(part.slots, part.ends, name)
+    }
+
+    /// The only thread of a queue; None of an empty one, and of one that has more.
+    pub fn only_member(&self, p: PartId, name: QueueName) -> Option<ThreadNo>
+        requires { p < length self.now.threads }
+        ensures { result ≡ only_of (part_of (part_of self.now.queues p) (place_of name)) }
+    {
+        let part = self.linked(p);
+        only_member(part.slots, part.ends, name)
     }
 
     /// Whether any thread lies in a queue.

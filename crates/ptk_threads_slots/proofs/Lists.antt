@@ -1,6 +1,7 @@
 -- The lists of the queues after each call.
 use Rattle.std.proofs.Common.{◌≡◌, ℕ, ◌<◌, ◌≤◌, ◌≢◌, zero, suc, List, [], ◌∷◌, ◌++◌, length, drop, true, false, refl, sym, ◌∙◌, ap, subst, arith, inl, inr}
 use Rattle.std.specs.Prelude.{Option, Some, None, option_map, is_some, nat_eq, ◌==◌, Bool, not}
+use Rattle.std.specs.List.{IsDistinct}
 use Rattle.std.proofs.Math.ListN.{set, get_or-map}
 use Rattle.std.proofs.lemmas.Bool.{cases_eq, eq-eqb}
 use Rattle.std.proofs.lemmas.Bool.Decides.{nat_tests}
@@ -11,8 +12,8 @@ use Rattle.ptk_threads_slots.specs.declared.link.Link.{Link}
 use Rattle.ptk_threads_slots.specs.declared.link.Ends.{Ends}
 use Rattle.ptk_threads_slots.specs.declared.link.QueueName.{QueueName}
 use Rattle.ptk_threads_slots.specs.Links.{place_of, link_in, no_link, no_ends, ends_at, mark_of, with_previous, first_or, last_or, IsLink, IsAlong, IsQueue, AreQueues, queue_from, queue_at, queues}
-use Rattle.ptk_threads_slots.specs.Changes.{first_in, put_before, linked_between, end_between, unlinked, end_without}
-use Rattle.ptk_threads_slots.proofs.Along.{in_front, head_out, out_parts, marked_within, first_out, along_right}
+use Rattle.ptk_threads_slots.specs.Changes.{first_in, only_of, put_before, linked_between, end_between, unlinked, end_without}
+use Rattle.ptk_threads_slots.proofs.Along.{in_front, head_out, out_parts, marked_within, first_out, last_out, along_right}
 use Rattle.ptk_threads_slots.proofs.Turns.{IsMoved, queues_moved, are_moved, between, taken, out_middle}
 
 -- the queues are these, with this list at place i
@@ -192,3 +193,19 @@ first_went links mid new ends after i k end next b are lt read named is alone fr
     let moved : IsMoved links (unlinked k link links) ends i (end_without link.previous link.next (ends_at ends i)) (drop 1 line) = taken links ends i k link [] (drop 1 line) are lt refl at.link.queue at.is in
     let done = turned links (unlinked k link links) ends after i (end_without link.previous link.next (ends_at ends i)) (drop 1 line) are moved ends_are in
     (rw (list_at links ends i, links_are) done, rw (list_at links ends i) (first_here k line next b at.is told alone))
+
+-- ---- the only thread of a queue
+
+-- a list without a thread twice whose first thread is its last has no other
+only_in : (k : ℕ) (line : List ℕ) → IsDistinct nat_eq line → first_or None line ≡ Some k → last_or None line ≡ Some k → Some k ≡ only_of line
+only_in k [] distinct first last = absurd (cc)
+only_in k (x ∷ []) distinct first last = sym first
+only_in k (x ∷ y ∷ ys) distinct first last = absurd (last_out (y ∷ ys) x (head_out x (y ∷ ys) distinct) (last ∙ sym first))
+
+-- the first thread of a queue is its last
+pub only_read : (links : List Link) (ends : List Ends) (i k j : ℕ) (end : Ends) → AreQueues links ends → end ≡ ends_at ends i → end.first ≡ Some k → end.last ≡ Some j → k ≡ j → Some k ≡ only_of (part_of (queues links ends) i)
+only_read links ends i k j end are read first last same =
+    let line = queue_at links ends i in
+    let head : first_or None line ≡ Some k = sym (are.each i).first ∙ (ap (λ (e : Ends). e.first) (sym read) ∙ first) in
+    let tail : last_or None line ≡ Some k = sym (are.each i).last ∙ (ap (λ (e : Ends). e.last) (sym read) ∙ (last ∙ ap Some (sym same))) in
+    rw (list_at links ends i) (only_in k line (are.each i).distinct head tail)

@@ -14,6 +14,12 @@ abbrev pub first_in : List ℕ → Option FirstThread
 first_in [] = None
 first_in (k ∷ ks) = Some (record { thread = k; is_alone = length ks == 0 })
 
+-- the only one of these, None of none and of several (own)
+abbrev pub only_of : List ℕ → Option ℕ
+only_of [] = None
+only_of (k ∷ []) = Some k
+only_of (k ∷ j ∷ ks) = None
+
 -- the list with k before another thread
 abbrev pub put_before : ℕ → ℕ → List ℕ → List ℕ
 put_before k before [] = []

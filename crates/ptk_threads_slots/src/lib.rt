@@ -12,8 +12,9 @@
 //! Each slot has a link to the slot before it and to the one after it in its queue, and a mark that names the queue;
 //! the ends of every queue are beside the slots. A slot has one mark, so a thread is in at most one queue. Contracts
 //! see links and queues in the partition's own numbers (`links_of`), each queue as the list that its links lead along,
-//! by place. `members` reads a queue into a `ThreadList`. Below are `ptk_words` and `ptk_words_parted`. Costly to prove
-//! is what two changed links do to a list (`proofs/Along`), once for a thread that comes and once for one that goes.
+//! by place. `members` reads a queue into a `ThreadList`, `only_member` its only thread. Below are `ptk_words` and
+//! `ptk_words_parted`. Costly to prove is what two changed links do to a list (`proofs/Along`), once for a thread that
+//! comes and once for one that goes.
 
 mod link;
 mod queues;
@@ -23,4 +24,4 @@ mod thread_list;
 pub use link::{Ends, Link, PLACES, QueueName, SlotLink};
 pub use queues::{FirstThread, append, ends_of, insert, prepend, take, take_first};
 pub use slot::{Slot, link_of};
-pub use thread_list::{ThreadList, has_members, is_marked, members};
+pub use thread_list::{ThreadList, has_members, is_marked, members, only_member};

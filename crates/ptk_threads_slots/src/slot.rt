@@ -1,6 +1,6 @@
 //! The slots of one partition, read and written at a thread's number.
 
-ghost use Rattle.std.specs.Prelude.{◌≡◌, ℕ, ◌<◌, ◌≤◌, length, is_none, option_map, option_and_then};
+ghost use Rattle.std.specs.Prelude.{◌≡◌, ℕ, ◌<◌, ◌≤◌, length, is_none, option_map, option_and_then, IsSome, Some};
 ghost use Rattle.std.specs.Option.{option_copied};
 ghost use Rattle.ptk_words.specs.Pools.{pool_set};
 ghost use Rattle.ptk_words.specs.declared.threads.Thread.{Thread};
@@ -42,6 +42,18 @@ impl Slot {
         match &self.thread {
             Some(thread) => Some(thread),
             None => None,
+        }
+    }
+
+    /// The thread where it lies, of a slot that is not free.
+    #[inline]
+    pub fn used_thread(&self) -> &Thread
+        requires { IsSome self.now.thread }
+        ensures { Some result.now ≡ self.now.thread }
+    {
+        match &self.thread {
+            Some(thread) => thread,
+            None => unreachable!(),
         }
     }
 

@@ -4,6 +4,7 @@ ghost use Rattle.std.specs.Prelude.{◌≡◌, ◌↔◌, true, Some, ◌<◌, �
 ghost use Rattle.ptk_words.specs.Pools.{is_in};
 ghost use Rattle.ptk_words_parted.specs.Parts.{part_of};
 ghost use Rattle.ptk_threads_slots.specs.Links.{AreQueues, queues, links_of, mark_of, place_of};
+ghost use Rattle.ptk_threads_slots.specs.Changes.{only_of};
 
 use crate::link::{Ends, QueueName};
 use crate::queues::ends_of;
@@ -83,6 +84,22 @@ pub fn members(slots: &[Slot], ends: &[Ends], name: QueueName) -> ThreadList
         at = link.next;
     }
     found
+}
+
+/// The only thread of a queue; None of an empty one, and of one that has more.
+pub fn only_member(slots: &[Slot], ends: &[Ends], name: QueueName) -> Option<ThreadNo>
+    requires queues { AreQueues (links_of slots.now) ends.now }
+    requires places { length ends.now ≡ 128 }
+    ensures { result ≡ only_of (part_of (queues (links_of slots.now) ends.now) (place_of name)) }
+{
+    let end = ends_of(ends, name);
+    let first = end.first?;
+    let last = end.last?;
+    if first.number() == last.number() {
+        Some(first)
+    } else {
+        None
+    }
 }
 
 /// Whether any thread lies in a queue.

@@ -88,6 +88,7 @@ pub type CallNo = Call;
 
 impl Call {
     /// The call of a number, None of a number that is no call (own choice of the numbers).
+    #[inline(always)]
     pub fn of_number(number: u32) -> Option<Call>
         ensures { result ≡ call_of number }
     {

@@ -1,12 +1,13 @@
 -- What a cut is after a write to one of its lists.
 use Rattle.std.proofs.Common.{◌≡◌, ℕ, zero, suc, ◌+◌, ◌-◌, ◌<◌, ◌≤◌, List, [], ◌∷◌, ◌++◌, length, get_or, take, drop, refl, sym, ◌∙◌, ap, arith, length-append, length-drop, length-take, append_assoc, map}
 use Rattle.std.proofs.Math.ListN.{set}
-use Rattle.std.specs.Prelude.{slice_range}
+use Rattle.std.specs.Prelude.{slice_range, slice_get, Some}
 use Rattle.std.proofs.Math.Seq.{take-length, drop-cons}
 use Rattle.std.proofs.lemmas.List.{take_more, length-replicate, take-replicate, drop-replicate, set-get_or, length-set, set_past, append-nil, drop-drop, drop_at, take_at, take-take, take-append-le, drop-take, drop_all, take-append-drop, length-take-le}
+use Rattle.std.proofs.lemmas.Option.{get_or_from_slice_get, slice_get_within}
 use Rattle.ptk_words_parted.specs.Parts.{part_of, filled, joined}
 use Rattle.ptk_words_parted.specs.Cuts.{cut, IsCut, start_at, ends_in, AreInTurn, ends_of, over, refilled, lent, sums_from, last_end}
-use Rattle.ptk_words_parted.specs.declared.Extent.{Extent}
+use Rattle.ptk_words_parted.specs.declared.extents.Extent.{Extent}
 
 pub length-cut : {X : Type 0} (a : ℕ) (ends : List ℕ) (bytes : List X) → length (cut a ends bytes) ≡ length ends
 length-cut a [] bytes = refl
@@ -204,10 +205,15 @@ part_lies ends bytes parts p e h lt = lies 0 ends bytes p h (in_ends ends bytes 
 pub in_extents : {X : Type 0} (extents : List Extent) (bytes : List X) (parts : List (List X)) (p : ℕ) → cut 0 (ends_in extents) bytes ≡ parts → p < length parts → p < length extents
 in_extents extents bytes parts p e lt = rw (← length-ends_in extents) (in_ends (ends_in extents) bytes parts p e lt)
 
+-- there are as many extents as partitions
+pub length-parts : {X : Type 0} (extents : List Extent) (bytes : List X) (parts : List (List X)) → cut 0 (ends_in extents) bytes ≡ parts → length extents ≡ length parts
+length-parts extents bytes parts e = sym (length-cut 0 (ends_in extents) bytes ∙ length-ends_in extents) ∙ ap length e
+
 -- the extent that is found at the place of a partition
-pub placed : (extents : List Extent) (i p : ℕ) (x : Extent) → x ≡ get_or extents i x → i ≡ p → AreInTurn 0 extents → p < length extents → (x.start ≡ start_at 0 (ends_in extents) p) × (x.end ≡ get_or (ends_in extents) p 0)
-placed extents i p x found at h lt =
-    let here : x ≡ get_or extents p x = found ∙ ap (λ (k : ℕ). get_or extents k x) at in
+pub placed : (extents : List Extent) (p : ℕ) (x : Extent) → slice_get extents p ≡ Some x → AreInTurn 0 extents → (x.start ≡ start_at 0 (ends_in extents) p) × (x.end ≡ get_or (ends_in extents) p 0)
+placed extents p x found h =
+    let here : x ≡ get_or extents p x = sym (get_or_from_slice_get extents p x x found) in
+    let lt : p < length extents = slice_get_within extents p x found in
     (ap (λ (e : Extent). e.start) here ∙ start-in_turn 0 extents p x h lt, ap (λ (e : Extent). e.end) here ∙ end-in_turn extents p x lt)
 
 pub part-is : {X : Type 0} (ends : List ℕ) (bytes : List X) (parts : List (List X)) (p : ℕ) → cut 0 ends bytes ≡ parts → p < length parts → slice_range bytes (start_at 0 ends p) (get_or ends p 0) ≡ part_of parts p

@@ -1,7 +1,7 @@
 -- One vector cut at ends into a list for each partition.
 use Rattle.std.specs.Prelude.{◌≡◌, ℕ, ◌+◌, ◌≤◌, List, [], ◌∷◌, ◌++◌, length, take, drop, slice_range, slice_index}
 use Rattle.ptk_words_parted.specs.Parts.{joined}
-use Rattle.ptk_words_parted.specs.declared.Extent.{Extent}
+use Rattle.ptk_words_parted.specs.declared.extents.Extent.{Extent}
 
 -- the lists that begin at a and at each end but the last
 abbrev pub cut : {X : Type 0} → ℕ → List ℕ → List X → List (List X)

@@ -8,19 +8,22 @@
 //! - A `Queue` is the list of its threads, none twice.
 //!
 //! The memory, the slot table and what is kept of each thread number are in such vectors, so that offsets occur here
-//! alone; the line and the consoles are vectors with an entry for each partition. A `Queue` has room for all 32 threads
-//! from the start (`proofs/Lists`). The ruleset `loans` of `proofs/Cuts` is
-//! for the crates above: a loan that keeps its length is a `slice_set`. Costly to prove is `writes_back` of `lend`.
+//! alone; the line and the consoles are vectors with an entry for each partition. Where each list lies, `Extents` says:
+//! it is part of the `Parted` itself, for at most 8 partitions, so that a look-up of a list reads no second vector. A
+//! `Queue` has room for all 32 threads from the start (`proofs/Lists`). The ruleset `loans` of `proofs/Cuts` is for the
+//! crates above: a loan that keeps its length is a `slice_set`. Costly to prove is `writes_back` of `lend`.
 //! Below is `ptk_words`; above are the crates that keep such lists.
 
+mod extents;
 mod queue;
 
 ghost use Rattle.std.specs.Prelude.{◌≡◌, ◌<◌, ◌≤◌, List, [], ◌∷◌, ◌++◌, length, slice_get, slice_set, IfOk, OnOk, OnErr, slice_range, map};
 ghost use Rattle.std.specs.Borrow.{sem};
 ghost use Rattle.ptk_words_parted.specs.Parts.{part_of, joined, filled};
-ghost use Rattle.ptk_words_parted.specs.Cuts.{sums_from, last_end, ends_in, AreInTurn};
+ghost use Rattle.ptk_words_parted.specs.Cuts.{sums_from, ends_in, AreInTurn};
 ghost use Rattle.ptk_words_parted.specs.Lending.{LendsPart};
 
+use crate::extents::{Extent, Extents};
 use ptk_words::PartId;
 pub use queue::Queue;
 use std::alloc::{AllocError, Global};
@@ -30,7 +33,7 @@ use std::marker::Model;
 #[derive(Drop)]
 pub struct Parted<T> {
     items: Vec<T>,
-    extents: Vec<Extent>,
+    extents: Extents,
 }
 
 impl<T> Model for Parted<T> {
@@ -39,16 +42,9 @@ impl<T> Model for Parted<T> {
 
     ghost Value = { List (List T) };
 
-    ghost view = { λ a. cut 0 (ends_in a.extents.items) a.items.items };
+    ghost view = { λ a. cut 0 (ends_in a.extents) a.items.items };
 
-    ghost invariant = { λ a. AreInTurn 0 a.extents.items × IsCut 0 (ends_in a.extents.items) a.items.items };
-}
-
-/// Where a partition's items lie.
-#[derive(Clone, Copy)]
-struct Extent {
-    start: usize,
-    end: usize,
+    ghost invariant = { λ a. AreInTurn 0 a.extents × IsCut 0 (ends_in a.extents) a.items.items };
 }
 
 impl<T: Copy> Parted<T> {
@@ -57,8 +53,8 @@ impl<T: Copy> Parted<T> {
         requires { length lengths.now ≤ 8 }
         ensures { IfOk result (λ parted. parted ≡ map (filled item) lengths.now) }
     {
-        let extents = extents_of(alloc, lengths)?;
-        let items = repeated(alloc, item, last_end(&extents))?;
+        let extents = extents_of(lengths);
+        let items = repeated(alloc, item, extents.last_end())?;
         Ok(Parted { items, extents })
     }
 
@@ -90,20 +86,21 @@ impl<T: Drop> Parted<T> {
     {
         Parted {
             items: Vec::new(alloc),
-            extents: Vec::new(alloc),
+            extents: Extents::none(),
         }
     }
 
-    /// One more partition, the last, with this list. An error where memory ran out; then nothing changed.
+    /// One more partition, the last, with this list, where there are fewer than 8. An error where memory ran out; then
+    /// nothing changed.
     pub fn add_part(&mut self, mut items: Vec<T>) -> Result<(), AllocError>
+        requires room { length self.old < 8 }
         ensures ok { OnOk result (self.new ≡ self.old ++ items.items ∷ []) }
         ensures err { OnErr result (self.new ≡ self.old) }
     {
-        self.extents.reserve(1)?;
         let start = self.items.len();
         self.items.append(&mut items)?;
         let end = self.items.len();
-        self.extents.push(Extent { start, end })?;
+        self.extents.push(Extent { start, end });
         Ok(())
     }
 }
@@ -120,7 +117,7 @@ impl<T> Parted<T> {
     pub fn parts(&self) -> usize
         ensures { result ≡ length self.now }
     {
-        self.extents.len()
+        self.extents.count()
     }
 
     /// The list of a partition.
@@ -128,7 +125,7 @@ impl<T> Parted<T> {
         requires { p < length self.now }
         ensures { result.now ≡ part_of self.now p }
     {
-        let extent = self.extents[p.index()];
+        let extent = self.extents.at(p);
         within(&self.items, extent)
     }
 
@@ -138,25 +135,25 @@ impl<T> Parted<T> {
         ensures* writes_back { sem 𝓛 (LendsPart T.row self.entry p result) }
         ensures value { result.now ≡ part_of self.old p }
     {
-        let extent = self.extents[p.index()];
+        let extent = self.extents.at(p);
         self.items.slice_mut(extent.start..extent.end)
     }
 }
 
-/// The extents of lists of these lengths, one after another. An error where memory ran out.
-fn extents_of(alloc: Global, lengths: &[u32]) -> Result<Vec<Extent>, AllocError>
+/// The extents of lists of these lengths, one after another.
+fn extents_of(lengths: &[u32]) -> Extents
     requires { length lengths.now ≤ 8 }
-    ensures in_turn { IfOk result (λ extents. AreInTurn 0 extents.items) }
-    ensures ends { IfOk result (λ extents. ends_in extents.items ≡ sums_from 0 lengths.now) }
+    ensures in_turn { AreInTurn 0 result }
+    ensures ends { ends_in result ≡ sums_from 0 lengths.now }
 {
-    let mut extents = Vec::new(alloc);
+    let mut extents = Extents::none();
     let mut start = 0;
     for length in lengths {
         let end = start + *length as usize;
-        extents.push(Extent { start, end })?;
+        extents.push(Extent { start, end });
         start = end;
     }
-    Ok(extents)
+    extents
 }
 
 /// The items of an extent.
@@ -166,17 +163,6 @@ fn within<T>(items: &[T], extent: Extent) -> &[T]
     ensures { result.now ≡ slice_range items.now extent.start extent.end }
 {
     &items[extent.start..extent.end]
-}
-
-/// Where the last extent ends, or 0 where there is none.
-fn last_end(extents: &[Extent]) -> usize
-    ensures { result ≡ last_end 0 (ends_in extents.now) }
-{
-    let mut end = 0;
-    for extent in extents {
-        end = extent.end;
-    }
-    end
 }
 
 /// An item n times. An error where memory ran out.

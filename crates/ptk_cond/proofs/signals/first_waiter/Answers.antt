@@ -3,7 +3,7 @@ use Rattle.ptk_words.specs.Pools.{first_of_greatest}
 use Rattle.ptk_words_parted.specs.Parts.{part_of}
 use Rattle.ptk_threads.specs.Table.{stored_of}
 use Rattle.ptk_cond.proofs.Steps.{next-is, next_may}
-use Rattle.ptk_cond.proofs.signals.choose.Goals as goal
+use Rattle.ptk_cond.proofs.signals.first_waiter.Goals as goal
 
 pub returns-clause-told : goal.returns-clause-told
 returns-clause-told c =
