@@ -43,3 +43,4 @@ mod threads;
 
 pub use look::Look;
 pub use pools::Pools;
+pub use ptk_gate_boot::place_of;

@@ -33,4 +33,13 @@ impl Pools {
         let p = self.hand;
         self.lasts[p.index()] = Some(entry);
     }
+
+    /// The last step is this one, or there is none.
+    #[tactic(auto, using(crate::proofs::Hands::handed))]
+    pub fn set_last(&mut self, last: Option<Entry>)
+        ensures { self.new ≡ record self.old { here = record self.old.here { last = last } } }
+    {
+        let p = self.hand;
+        self.lasts[p.index()] = last;
+    }
 }

@@ -11,7 +11,7 @@ use ptk_words::{MutexNo, ThreadNo};
 impl Pools {
     /// Whether a lock takes the mutex and changes no priority: it is free and sound, and neither INHERIT nor PROTECT
     /// (pthread_mutex_lock).
-    #[inline]
+    #[inline(always)]
     pub fn is_takeable(&self, m: MutexNo) -> bool
         ensures { result ≡ is_takeable (mutex_at self.now.here.locks m) }
     {
@@ -21,7 +21,7 @@ impl Pools {
 
     /// Whether an unlock by the thread frees the mutex, wakes nobody and changes no priority: the thread locked it
     /// once, it is sound and neither INHERIT nor PROTECT, and nobody waits for it (pthread_mutex_unlock).
-    #[inline]
+    #[inline(always)]
     pub fn is_releasable(&self, t: ThreadNo, m: MutexNo) -> bool
         ensures { result ≡ is_releasable t (mutex_at self.now.here.locks m) }
     {
@@ -30,7 +30,7 @@ impl Pools {
     }
 
     /// The thread owns a mutex that is neither INHERIT nor PROTECT, counted once (pthread_mutex_lock).
-    #[inline]
+    #[inline(always)]
     #[tactic(auto, using(crate::proofs::Hands::handed, crate::proofs::PlainMutexes::plain))]
     pub fn take_plain(&mut self, t: ThreadNo, m: MutexNo)
         requires plain { is_raising_at (mutex_at self.old.here.locks m) ≡ false }
@@ -41,7 +41,7 @@ impl Pools {
     }
 
     /// Nobody owns a mutex that is neither INHERIT nor PROTECT, and nobody is woken (pthread_mutex_unlock).
-    #[inline]
+    #[inline(always)]
     #[tactic(auto, using(crate::proofs::Hands::handed, crate::proofs::PlainMutexes::plain))]
     pub fn release_plain(&mut self, m: MutexNo)
         requires plain { is_raising_at (mutex_at self.old.here.locks m) ≡ false }

@@ -13,7 +13,7 @@ ghost use Rattle.ptk_threads_slots.specs.Links.{threads_of};
 use crate::pools::Pools;
 use ptk_keys::{DestructorCall, KeyNo};
 use ptk_threads::Slot;
-use ptk_words::{Cpu, Thread, ThreadNo};
+use ptk_words::{Cpu, Entry, Thread, ThreadNo};
 
 impl Pools {
     /// The thread of a number, where it lies, if it is in use.
@@ -58,6 +58,13 @@ impl Pools {
         ensures { result.now ≡ self.now.here.memory }
     {
         self.memories.regions().part(self.hand)
+    }
+
+    /// The last step, None before the first.
+    pub fn last_step(&self) -> Option<Entry>
+        ensures { result ≡ self.now.here.last }
+    {
+        self.lasts[self.hand.index()]
     }
 
     /// Whether a cancellation point acts on the thread's request (XSH 2.9.5.2).

@@ -12,3 +12,4 @@ pub mod IdleStops
 pub mod Steady
 pub mod Decisions
 pub mod StepsInARow
+pub mod StepsApart

@@ -31,8 +31,9 @@ use Rattle.ptk_words_model.specs.Decision.{with_cpu, invocation}
 use Rattle.ptk_words_invariant.specs.Rests.{lock_by, unlock_named}
 use Rattle.ptk_mutex_priorities.specs.Plain.{is_sound, is_takeable, is_releasable}
 use Rattle.ptk_mutex_priorities.proofs.Plain.{takeable_plain, releasable_plain}
-use Rattle.ptk_gate_steps.specs.declared.quiet_calls.QuietEffect.TheVariants.{Takes, Releases}
-use Rattle.ptk_gate_steps.specs.Replies.{IsPut}
+use Rattle.ptk_rv32i.specs.Effects.{at_pc}
+use Rattle.ptk_gate_moves.specs.Held.{Held, limits_here}
+use Rattle.ptk_gate_steps.specs.Replies.{Takes, Releases, IsMade, IsPut, caught_up}
 use Rattle.ptk_gate_steps.specs.Steady.{is_contended}
 
 -- ---- the moves
@@ -170,7 +171,7 @@ named_with : (t m pointer : ℕ) (cpu : Processor) (s : Part) → IsNamed pointe
 named_with t m pointer cpu s is = record { pointed = is.pointed; word = is.word; some = is.some; used = is.used }
 
 -- pthread_mutex_lock
-pub lock_put : (limits : Limits) (t m : ℕ) (before after : Processor) (s : Part) → call_of (register before A7) ≡ Some MutexLock → is_pointer s (register before A0) 4 ≡ true → word_at s.memory (register before A0) ≡ m → 0 < m
+lock_put : (limits : Limits) (t m : ℕ) (before after : Processor) (s : Part) → call_of (register before A7) ≡ Some MutexLock → is_pointer s (register before A0) 4 ≡ true → word_at s.memory (register before A0) ≡ m → 0 < m
     → is_takeable (mutex_at s.locks m) ≡ true → after ≡ with_register before A0 0 → IsPut limits t before after (Takes m) s
 lock_put limits t m before after s e pointed word some free left = record {
   values = 0 ∷ [];
@@ -183,7 +184,7 @@ lock_put limits t m before after s e pointed word some free left = record {
 }
 
 -- pthread_mutex_unlock
-pub unlock_put : (limits : Limits) (t m : ℕ) (before after : Processor) (s : Part) → call_of (register before A7) ≡ Some MutexUnlock → is_pointer s (register before A0) 4 ≡ true → word_at s.memory (register before A0) ≡ m → 0 < m
+unlock_put : (limits : Limits) (t m : ℕ) (before after : Processor) (s : Part) → call_of (register before A7) ≡ Some MutexUnlock → is_pointer s (register before A0) 4 ≡ true → word_at s.memory (register before A0) ≡ m → 0 < m
     → is_releasable t (mutex_at s.locks m) ≡ true → after ≡ with_register before A0 0 → IsPut limits t before after (Releases m) s
 unlock_put limits t m before after s e pointed word some free left = record {
   values = 0 ∷ [];
@@ -195,4 +196,22 @@ unlock_put limits t m before after s e pointed word some free left = record {
   plain = (releasable_plain t (mutex_at s.locks m) free, releasable_alone t (mutex_at s.locks m) free);
 }
 
-pub ruleset locks = (lock_put, unlock_put)
+-- ---- the calls made, whatever the registers, the used ticks and the last step are
+
+pub lock_made : (t m : ℕ) (before after : Processor) (h g : Held) → call_of (register before A7) ≡ Some MutexLock → is_pointer h.here (register before A0) 4 ≡ true → word_at h.here.memory (register before A0) ≡ m → 0 < m
+    → is_takeable (mutex_at h.here.locks m) ≡ true → after ≡ with_register before A0 0 → g ≡ record h { here = with_locks (after_take t m) h.here } → IsMade t before after h g
+lock_made t m before after h g e pointed word some free left moved = record {
+  effect = Takes m;
+  moved = moved;
+  put = λ pc n cpu last. lock_put (limits_here h) t m (at_pc pc before) (at_pc pc after) (caught_up t n cpu last h.here) e pointed word some free (ap (at_pc pc) left);
+}
+
+pub unlock_made : (t m : ℕ) (before after : Processor) (h g : Held) → call_of (register before A7) ≡ Some MutexUnlock → is_pointer h.here (register before A0) 4 ≡ true → word_at h.here.memory (register before A0) ≡ m → 0 < m
+    → is_releasable t (mutex_at h.here.locks m) ≡ true → after ≡ with_register before A0 0 → g ≡ record h { here = with_locks (after_free m) h.here } → IsMade t before after h g
+unlock_made t m before after h g e pointed word some free left moved = record {
+  effect = Releases m;
+  moved = moved;
+  put = λ pc n cpu last. unlock_put (limits_here h) t m (at_pc pc before) (at_pc pc after) (caught_up t n cpu last h.here) e pointed word some free (ap (at_pc pc) left);
+}
+
+pub ruleset locks = (lock_made, unlock_made, takeable_plain, releasable_plain)

@@ -1,38 +1,29 @@
--- How a quiet call is made: its reply and ticks put, its effect made, and the last step noted.
-use Rattle.std.proofs.Common.{◌≡◌, ℕ, ◌+◌, Bool, true, false, [], ◌∷◌, refl, sym, ap, subst, ◌∙◌}
+-- What quiet calls leave: the registers and the ticks put, and the effect made.
+use Rattle.std.proofs.Common.{◌≡◌, ℕ, ◌+◌, Bool, true, false, refl, sym, ap, ◌∙◌}
 use Rattle.std.specs.Prelude.{Option, Some, if◌then◌else◌}
 use Rattle.std.proofs.lemmas.Bool.{false≢true}
 use Rattle.ptk_words.specs.Pools.{pool_changed, pool_get, pool_set}
-use Rattle.ptk_words.specs.Calls.{cost_of}
-use Rattle.ptk_words.specs.Processor.{Processor, register}
-use Rattle.ptk_words.specs.declared.TheConstants.{A7, ECALL}
+use Rattle.ptk_words.specs.Processor.{Processor}
 use Rattle.ptk_words.specs.declared.mutexes.Owner.TheVariants.{Free, OwnedBy}
-use Rattle.ptk_words.specs.declared.sections.Entry.{Entry}
 use Rattle.ptk_words.specs.declared.sections.Limits.{Limits}
 use Rattle.ptk_words.specs.declared.threads.Policy.{Policy}
 use Rattle.ptk_words.specs.declared.threads.Policy.TheVariants.{Fifo, RoundRobin}
 use Rattle.ptk_words.specs.declared.threads.Thread.{Thread}
-use Rattle.ptk_words_instructions.specs.Instructions.{with_next_pc}
 use Rattle.ptk_words_model.specs.State.{Mutex, Part, with_locks, with_console}
 use Rattle.ptk_words_model.specs.Mutex.{mutex_at}
 use Rattle.ptk_words_model.specs.Priority.{thread_at, effective_priority}
 use Rattle.ptk_words_model.specs.Schedule.{with_thread, with_used, is_round_robin}
 use Rattle.ptk_words_model.specs.Console.{is_full, with_output}
-use Rattle.ptk_words_model.specs.Decision.{with_cpu, word_fetched}
+use Rattle.ptk_words_model.specs.Decision.{with_cpu}
 use Rattle.ptk_words_sync_invariant.proofs.Pools.{changed_other, changed_twice}
 use Rattle.ptk_words_batches.specs.Quiet.{computed}
-use Rattle.ptk_words_batches.specs.Replies.{Outcome, outcome_of, with_outcome, reply_entry}
+use Rattle.ptk_words_batches.specs.Replies.{outcome_of, with_outcome}
 use Rattle.ptk_words_batches.proofs.PlainDecisions.{with_registers_of}
 use Rattle.ptk_words_batches.proofs.ReplyDecisions.{fifo_entry, robin_entry}
 use Rattle.ptk_console.specs.ConsoleTable.{after_put}
-use Rattle.ptk_trace.specs.KeptSteps.{KeptSteps}
-use Rattle.ptk_gate_moves.specs.Held.{Held, limits_here}
 use Rattle.ptk_gate_moves.proofs.PlainMutexes.{effective-plain}
-use Rattle.ptk_gate_steps.specs.declared.quiet_calls.QuietEffect.{QuietEffect}
-use Rattle.ptk_gate_steps.specs.declared.quiet_calls.QuietEffect.TheVariants.{Keeps, Takes, Releases, Puts, Sets}
 use Rattle.ptk_gate_steps.specs.Steady.{KeepsContended, is_contended}
-use Rattle.ptk_gate_steps.specs.Stretches.{with_newest}
-use Rattle.ptk_gate_steps.specs.Replies.{IsPut, IsPlainEffect, IsMadeHere, after_quiet_effect}
+use Rattle.ptk_gate_steps.specs.Replies.{QuietEffect, Keeps, Takes, Releases, Puts, Sets, IsPlainEffect, after_quiet_effect}
 
 -- ---- the registers and the ticks put
 
@@ -55,7 +46,7 @@ left_robin t n used cpu thread policy s found same robin counted =
 -- ---- the step made
 
 -- the outcome of an effect changes no priority
-effect_plain : (effect : QuietEffect) (t u : ℕ) (limits : Limits) (s : Part) → IsPlainEffect effect limits s → effective_priority (with_outcome (outcome_of (after_quiet_effect effect t s)) s).locks u ≡ effective_priority s.locks u
+pub effect_plain : (effect : QuietEffect) (t u : ℕ) (limits : Limits) (s : Part) → IsPlainEffect effect limits s → effective_priority (with_outcome (outcome_of (after_quiet_effect effect t s)) s).locks u ≡ effective_priority s.locks u
 effect_plain Keeps t u limits s plain = refl
 effect_plain (Takes m) t u limits s plain = ap (λ (rank : ℕ → ℕ). rank u) (effective-plain m (λ mutex. record mutex { owner = OwnedBy t; count = 1 }) s.threads s.mutexes (λ mutex. refl) plain.0)
 effect_plain (Releases m) t u limits s plain = ap (λ (rank : ℕ → ℕ). rank u) (effective-plain m (λ mutex. record mutex { owner = Free; count = 0 }) s.threads s.mutexes (λ mutex. refl) plain.0)
@@ -67,63 +58,15 @@ contended_other : (k m : ℕ) (f : Mutex → Mutex) (s : Part) → is_contended 
 contended_other k m f s none some = changed_other m k f s.mutexes (λ same. false≢true (sym none ∙ (ap (λ (j : ℕ). is_contended (mutex_at s.locks j)) (sym same) ∙ some)))
 
 -- the outcome of an effect leaves each mutex that threads wait for
-effect_keeps : (effect : QuietEffect) (t : ℕ) (limits : Limits) (s : Part) → IsPlainEffect effect limits s → KeepsContended (outcome_of (after_quiet_effect effect t s)) s
+pub effect_keeps : (effect : QuietEffect) (t : ℕ) (limits : Limits) (s : Part) → IsPlainEffect effect limits s → KeepsContended (outcome_of (after_quiet_effect effect t s)) s
 effect_keeps Keeps t limits s plain = λ k some. refl
 effect_keeps (Takes m) t limits s plain = λ k some. contended_other k m (λ mutex. record mutex { owner = OwnedBy t; count = 1 }) s plain.1 some
 effect_keeps (Releases m) t limits s plain = λ k some. contended_other k m (λ mutex. record mutex { owner = Free; count = 0 }) s plain.1 some
 effect_keeps (Puts byte) t limits s plain = λ k some. refl
 effect_keeps (Sets k value) t limits s plain = λ j some. refl
 
--- once the registers and the ticks are put, the effect is as plain
-pub plain_still : (t ticks : ℕ) (after : Processor) (effect : QuietEffect) (old mid : Held) → mid ≡ record old { here = with_locks (with_thread t (computed ticks after)) old.here }
-    → IsPlainEffect effect (limits_here old) old.here → IsPlainEffect effect (limits_here mid) mid.here
-plain_still t ticks after effect old mid first plain = subst (λ (k : Held). IsPlainEffect effect (limits_here k) k.here) (sym first) (same effect plain)
-  where
-    same : (e : QuietEffect) → IsPlainEffect e (limits_here old) old.here → IsPlainEffect e (limits_here old) (with_locks (with_thread t (computed ticks after)) old.here)
-    same Keeps h = h
-    same (Takes m) h = h
-    same (Releases m) h = h
-    same (Puts byte) h = h
-    same (Sets k value) h = h
-
 -- a byte put where there is room
 pub put_open : (limit byte : ℕ) (s : Part) → is_full limit s.console ≡ false → with_console (after_put limit byte) s ≡ with_console (with_output byte) s
 put_open limit byte s room = ap (λ (b : Bool). with_console (λ console. if b then console else with_output byte console) s) room
-
--- its outcome is the same whether the registers are put before or after
-effect_left : (effect : QuietEffect) (t ticks : ℕ) (after : Processor) (s : Part) → after_quiet_effect effect t (with_locks (with_thread t (computed ticks after)) s)
-    ≡ with_locks (with_thread t (computed ticks after)) (with_outcome (outcome_of (after_quiet_effect effect t s)) s)
-effect_left Keeps t ticks after s = refl
-effect_left (Takes m) t ticks after s = refl
-effect_left (Releases m) t ticks after s = refl
-effect_left (Puts byte) t ticks after s = refl
-effect_left (Sets k value) t ticks after s = refl
-
--- the registers and the ticks put, the effect made, and then the last step
-pub made : (tick t ticks : ℕ) (thread : Thread) (cpu after : Processor) (effect : QuietEffect) (entry : Entry) (old mid left new : Held) (before traced : KeptSteps)
-    → word_fetched old.here.memory thread.cpu.pc ≡ ECALL → cpu ≡ with_next_pc thread.cpu → ticks ≡ cost_of (register thread.cpu A7)
-    → IsPut (limits_here old) t cpu after effect old.here
-    → mid ≡ record old { here = with_locks (with_thread t (computed ticks after)) old.here }
-    → left ≡ record mid { here = after_quiet_effect effect t mid.here }
-    → entry ≡ reply_entry tick t thread after
-    → new ≡ record left { here = record left.here { last = Some entry } }
-    → traced ≡ with_newest (entry ∷ []) before
-    → IsMadeHere tick t ticks thread old new before traced
-made tick t ticks thread cpu after effect entry old mid left new before traced word past cost put first next_is is second kept =
-    let s : Part = old.here in
-    let next : IsPut (limits_here old) t (with_next_pc thread.cpu) after effect s = subst (λ (c : Processor). IsPut (limits_here old) t c after effect s) past put in
-    let o : Outcome = outcome_of (after_quiet_effect effect t s) in
-    let v : Part = with_locks (with_thread t (computed ticks after)) (with_outcome o s) in
-    let both : left ≡ record old { here = v } =
-    next_is ∙ (ap (λ (k : Held). record k { here = after_quiet_effect effect t k.here }) first ∙ ap (λ (q : Part). record old { here = q }) (effect_left effect t ticks after s)) in (
-      after,
-      o,
-      record { word = word; cost = cost; values = next.values; replies = next.replies; left = next.left; priorities = λ w. effect_plain effect t w (limits_here old) s next.plain },
-      second ∙ (ap (λ (k : Held). record k { here = record k.here { last = Some entry } }) both ∙ ap (λ (e : Entry). record old { here = record v { last = Some e } }) is),
-      effect_keeps effect t (limits_here old) s next.plain,
-      kept ∙ ap (λ (e : Entry). with_newest (e ∷ []) before) is,
-    )
-
-pub ruleset effects = (put_open)
 
 pub ruleset leavings = (left_fifo, left_robin)

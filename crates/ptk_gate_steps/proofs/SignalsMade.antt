@@ -23,9 +23,11 @@ use Rattle.ptk_words_model.specs.CallTable.{answer_to}
 use Rattle.ptk_words_model.specs.Steps.{Row, readable, condition_named}
 use Rattle.ptk_words_model.specs.Decision.{with_cpu, invocation}
 use Rattle.ptk_words_invariant.specs.Rests.{signal_named, broadcast_named}
-use Rattle.ptk_gate_steps.specs.declared.quiet_calls.QuietEffect.TheVariants.{Keeps}
+use Rattle.ptk_rv32i.specs.Effects.{at_pc}
+use Rattle.ptk_gate_moves.specs.Held.{Held, limits_here}
 use Rattle.ptk_gate_steps.specs.QuietCalls.{is_unwaited_at}
-use Rattle.ptk_gate_steps.specs.Replies.{IsPut}
+use Rattle.ptk_gate_steps.specs.Replies.{Keeps, IsMade, IsPut, caught_up}
+use Rattle.ptk_gate_steps.proofs.RepliesPut.{keeps_made}
 
 -- ---- whether nobody waits
 
@@ -129,7 +131,7 @@ alone_with : (t pointer : ℕ) (cpu : Processor) (s : Part) → IsAlone pointer 
 alone_with t pointer cpu s is = record { pointed = is.pointed; used = is.used; alone = is.alone }
 
 -- pthread_cond_signal
-pub signal_put : (limits : Limits) (t : ℕ) (before after : Processor) (s : Part) → call_of (register before A7) ≡ Some CondSignal → is_unwaited_at (register before A0) s ≡ true → after ≡ with_register before A0 0
+signal_put : (limits : Limits) (t : ℕ) (before after : Processor) (s : Part) → call_of (register before A7) ≡ Some CondSignal → is_unwaited_at (register before A0) s ≡ true → after ≡ with_register before A0 0
     → IsPut limits t before after Keeps s
 signal_put limits t before after s e unwaited left = record {
   values = 0 ∷ [];
@@ -141,7 +143,7 @@ signal_put limits t before after s e unwaited left = record {
 }
 
 -- pthread_cond_broadcast
-pub broadcast_put : (limits : Limits) (t : ℕ) (before after : Processor) (s : Part) → call_of (register before A7) ≡ Some CondBroadcast → is_unwaited_at (register before A0) s ≡ true → after ≡ with_register before A0 0
+broadcast_put : (limits : Limits) (t : ℕ) (before after : Processor) (s : Part) → call_of (register before A7) ≡ Some CondBroadcast → is_unwaited_at (register before A0) s ≡ true → after ≡ with_register before A0 0
     → IsPut limits t before after Keeps s
 broadcast_put limits t before after s e unwaited left = record {
   values = 0 ∷ [];
@@ -152,6 +154,14 @@ broadcast_put limits t before after s e unwaited left = record {
   plain = tt;
 }
 
+-- ---- the calls made, whatever the registers, the used ticks and the last step are
+
+pub signal_made : (t : ℕ) (before after : Processor) (h : Held) → call_of (register before A7) ≡ Some CondSignal → is_unwaited_at (register before A0) h.here ≡ true → after ≡ with_register before A0 0 → IsMade t before after h h
+signal_made t before after h e unwaited left = keeps_made t before after h (λ pc n cpu last. signal_put (limits_here h) t (at_pc pc before) (at_pc pc after) (caught_up t n cpu last h.here) e unwaited (ap (at_pc pc) left))
+
+pub broadcast_made : (t : ℕ) (before after : Processor) (h : Held) → call_of (register before A7) ≡ Some CondBroadcast → is_unwaited_at (register before A0) h.here ≡ true → after ≡ with_register before A0 0 → IsMade t before after h h
+broadcast_made t before after h e unwaited left = keeps_made t before after h (λ pc n cpu last. broadcast_put (limits_here h) t (at_pc pc before) (at_pc pc after) (caught_up t n cpu last h.here) e unwaited (ap (at_pc pc) left))
+
 pub ruleset unwaited = (unwaited_nowhere, unwaited_none, unwaited_some)
 
-pub ruleset signals = (signal_put, broadcast_put)
+pub ruleset signals = (signal_made, broadcast_made)

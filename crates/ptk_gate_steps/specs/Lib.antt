@@ -7,3 +7,4 @@ pub mod Steady
 pub mod Replies
 pub mod Decisions
 pub mod Stretches
+pub mod StepsApart

@@ -12,11 +12,14 @@
 //!   a mutex taken or given, a byte put, or a value of a key set. Each is one decision, and a step (`HasGone`), and
 //!   it ends early only where the next step is neither (`HasEnded`). Where it says that the next step is a call, it is
 //!   one (`IsCallNext`).
+//! - From the first quiet call on the thread's registers are apart from its slot and put back once (`caught_up`); what a
+//!   call makes does not hang on what the slot says meanwhile (`IsMade`).
 //!
 //! What the gate's tables ask without a change takes a `Look` at one partition, whichever is in hand, and its clauses
 //! speak of that partition's numbers and part alone. Below are the pools and the instructions; above are the gate's
 //! tables and the kernel. Costly to prove is `instruct`, which brings what is seen of a step and its effect together.
 
+mod apart;
 mod idle_stops;
 mod instructions;
 mod kinds;
@@ -24,6 +27,7 @@ mod quiet_calls;
 mod quiet_stops;
 mod replies;
 mod stretches;
+mod traced;
 mod turns;
 
 pub use idle_stops::idle_until;

@@ -4,7 +4,7 @@ use Rattle.ptk_words.specs.declared.TheConstants.{LAST_TICK}
 use Rattle.ptk_system.specs.World.{World}
 use Rattle.ptk_statistics.specs.declared.part.PartStatistics.{PartStatistics}
 use Rattle.ptk_statistics.specs.declared.part.Sight.{Sight}
-use Rattle.ptk_statistics.specs.declared.part.Sight.TheVariants.{Coming, Decided, Gone}
+use Rattle.ptk_statistics.specs.declared.part.Sight.TheVariants.{Coming, Decided}
 use Rattle.ptk_statistics.specs.declared.statistics.Statistics.{Statistics}
 use Rattle.ptk_statistics_figures.specs.Counts.{reached}
 use Rattle.ptk_statistics.specs.Sums.{AddsUp, Agrees}
@@ -13,7 +13,6 @@ use Rattle.ptk_statistics.specs.Sums.{AddsUp, Agrees}
 abbrev pub IsBefore : Sight → Type 0
 IsBefore Coming = Unit {0}
 IsBefore (Decided tick) = tick ≤ LAST_TICK
-IsBefore Gone = Unit {0}
 
 -- the figures of a partition add up at a tick that the system has reached
 pub record IsKept (world : World) (p : ℕ) (part : PartStatistics) : Type 0 where

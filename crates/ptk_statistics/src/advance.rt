@@ -19,6 +19,7 @@ pub(crate) fn first_count(system: &System<'_>, p: PartId) -> Counted
 }
 
 /// Counts the ticks up to the one that the system has reached, and the steps made since.
+#[inline(always)]
 pub(crate) fn advance(counted: &mut Counted, system: &System<'_>, p: PartId)
     requires partition { p < length system.now.config.sections }
     requires early { system.now.tick ≤ LAST_TICK }

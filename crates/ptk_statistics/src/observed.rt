@@ -16,6 +16,15 @@ use std::alloc::{AllocError, Global};
 /// How many mutexes a partition has at most.
 const MUTEXES: usize = 64;
 
+/// A call that can give a mutex another owner.
+#[derive(Clone, Copy)]
+pub(crate) struct OwnerCall {
+    /// The tick at which it began.
+    pub(crate) tick: u64,
+    /// How many ticks it took.
+    pub(crate) cost: u64,
+}
+
 /// The figures of a partition's threads and mutexes, by number.
 #[derive(Drop)]
 pub struct Observed {
@@ -151,30 +160,38 @@ impl Observed {
         look_at_owners(self.mutexes.as_mut_slice(), system, p, at);
     }
 
-    /// The partition's running thread made plain steps, and maybe a quiet call behind them, up to a tick below which
-    /// this many ticks are the partition's own. No other thread did anything.
-    pub(crate) fn look_at_row(&mut self, system: &System<'_>, p: PartId, own: u64)
+    /// The partition's running thread made plain steps, and maybe a quiet call behind them. No other thread did
+    /// anything. Returns the call, where it can give a mutex another owner: its tick and its cost.
+    #[inline(always)]
+    pub(crate) fn look_at_row(&mut self, system: &System<'_>, p: PartId) -> Option<OwnerCall>
         requires { p < length system.now.config.sections }
     {
-        let Some(entry) = system.last_step(p) else {
-            return;
-        };
+        let entry = system.last_step(p)?;
         let place = entry.thread.place();
         if self.threads.len() <= place {
-            return;
+            return None;
         }
+        let pointer = system.register(p, entry.thread, SP);
+        let call = call_of(system, p, &entry);
+        let is_refused = is_refused(system, p, &entry);
         self.last = Some(entry.thread);
         let thread = &mut self.threads[place];
-        look_at_stack(thread, system, p, entry.thread);
-        let Some(number) = call_of(system, p, &entry) else {
-            return;
-        };
-        make_call(thread, system, p, &entry, number, Doing::Running);
-        if changes_an_owner(number) {
-            let own = own.saturating_sub(u64::from(cost(number)));
-            let tick = entry.tick.ticks();
-            look_at_owners(self.mutexes.as_mut_slice(), system, p, Moment { own, tick });
+        if let Some(pointer) = pointer {
+            thread.see_stack(pointer);
         }
+        let number = call?;
+        thread.call(number);
+        if is_refused {
+            thread.refuse(number);
+        }
+        owner_call(&entry, number)
+    }
+
+    /// Who owns each mutex, from a moment on.
+    pub(crate) fn look_at_owners(&mut self, system: &System<'_>, p: PartId, at: Moment)
+        requires { p < length system.now.config.sections }
+    {
+        look_at_owners(self.mutexes.as_mut_slice(), system, p, at);
     }
 
     /// The run ends at a moment.
@@ -302,13 +319,26 @@ fn make_call(
 )
     requires { p < length system.now.config.sections }
 {
-    let pc = entry.pc.wrapping_add(4);
     thread.call(number);
     if doing.is_blocked() {
+        let pc = pc_behind(entry);
         thread.await_reply(Some(Pending { number, pc }));
-    } else if doing != Doing::Halted && system.pc(p, entry.thread) == Some(pc) && entry.a0 != 0 {
+    } else if doing != Doing::Halted && is_refused(system, p, entry) {
         thread.refuse(number);
     }
+}
+
+/// The pc behind a step that is a call.
+fn pc_behind(entry: &Entry) -> u32 {
+    entry.pc.wrapping_add(4)
+}
+
+/// Whether the reply to the call that a step is, where it is one, is an error, and its thread goes on behind it.
+#[inline(always)]
+fn is_refused(system: &System<'_>, p: PartId, entry: &Entry) -> bool
+    requires { p < length system.now.config.sections }
+{
+    entry.a0 != 0 && system.pc(p, entry.thread) == Some(pc_behind(entry))
 }
 
 /// The reply that a woken thread got to the call with which it blocked, if it got one.
@@ -444,6 +474,18 @@ fn is_apart(system: &System<'_>, p: PartId, entry: &Entry) -> bool
                     | Call::CondBroadcast
             )
         )
+}
+
+/// The call of this number that a step is, where it can give a mutex another owner.
+fn owner_call(entry: &Entry, number: u32) -> Option<OwnerCall> {
+    if changes_an_owner(number) {
+        Some(OwnerCall {
+            tick: entry.tick.ticks(),
+            cost: u64::from(cost(number)),
+        })
+    } else {
+        None
+    }
 }
 
 /// Whether a call of this number can give a mutex another owner while its caller goes on.

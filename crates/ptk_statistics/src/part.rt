@@ -6,7 +6,7 @@ ghost use Rattle.ptk_statistics_figures.specs.Counts.{reached};
 ghost use Rattle.ptk_statistics.specs.Parts.{IsBefore, IsKept};
 
 use crate::advance::{advance, first_count};
-use crate::observed::Observed;
+use crate::observed::{Observed, OwnerCall};
 use ptk_statistics_figures::{Counted, Moment, MutexStatistics, ThreadStatistics};
 use ptk_system::System;
 use ptk_words::PartId;
@@ -19,8 +19,6 @@ pub(crate) enum Sight {
     Coming,
     /// It made the decisions at this tick, and stands at the next.
     Decided(u64),
-    /// It went on over plain steps and a quiet call behind them.
-    Gone,
 }
 
 /// The figures of a partition: its ticks and steps, and what its threads and mutexes did.
@@ -28,6 +26,8 @@ pub(crate) enum Sight {
 pub struct PartStatistics {
     counted: Counted,
     observed: Observed,
+    // how many of its steps were looked at
+    seen: u64,
     is_due: bool,
 }
 
@@ -49,6 +49,7 @@ impl PartStatistics {
         Ok(PartStatistics {
             counted: first_count(system, p),
             observed,
+            seen: 0,
             is_due: false,
         })
     }
@@ -64,7 +65,6 @@ impl PartStatistics {
         match sight {
             Sight::Coming => self.look_ahead(system, p),
             Sight::Decided(tick) => self.look_at_decision(system, p, tick, to),
-            Sight::Gone => self.look_at_row(system, p),
         }
     }
 
@@ -99,21 +99,42 @@ impl PartStatistics {
         }
     }
 
-    /// Looks at the plain steps that the partition made, and the quiet call behind them, if it made some.
-    fn look_at_row(&mut self, system: &System<'_>, p: PartId)
+    /// Looks at the plain steps that the partition made, and the quiet call behind them, if it made some. It counts them
+    /// later, with those that follow them up to the partition's next decision.
+    #[inline(always)]
+    pub(crate) fn look_at_row(&mut self, system: &System<'_>, p: PartId)
         requires partition { p < length system.now.config.sections }
         requires early { system.now.tick ≤ LAST_TICK }
         requires kept { IsKept system.now p self.old }
         ensures { IsKept system.now p self.new }
     {
-        if self.counted.steps() != system.steps(p) {
-            self.count(system, p);
-            let own = self.counted.own();
-            self.observed.look_at_row(system, p, own);
+        let steps = system.steps(p);
+        if steps == self.seen {
+            return;
+        }
+        self.seen = steps;
+        if let Some(call) = self.observed.look_at_row(system, p) {
+            self.look_at_owners(system, p, call);
         }
     }
 
+    /// Looks at the owners of the mutexes behind a call that can give one of them another.
+    #[inline(always)]
+    fn look_at_owners(&mut self, system: &System<'_>, p: PartId, call: OwnerCall)
+        requires partition { p < length system.now.config.sections }
+        requires early { system.now.tick ≤ LAST_TICK }
+        requires kept { IsKept system.now p self.old }
+        ensures { IsKept system.now p self.new }
+    {
+        self.count(system, p);
+        let own = self.counted.own().saturating_sub(call.cost);
+        let tick = call.tick;
+        self.observed
+            .look_at_owners(system, p, Moment { own, tick });
+    }
+
     /// Counts up to the system's tick.
+    #[inline(always)]
     fn count(&mut self, system: &System<'_>, p: PartId)
         requires partition { p < length system.now.config.sections }
         requires early { system.now.tick ≤ LAST_TICK }
@@ -122,6 +143,7 @@ impl PartStatistics {
         ensures tick { reached self.new.counted ≡ system.now.tick }
     {
         advance(&mut self.counted, system, p);
+        self.seen = self.counted.steps();
     }
 
     /// The run ends where the system stands.

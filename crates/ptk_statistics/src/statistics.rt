@@ -74,7 +74,7 @@ impl Statistics {
         let tick = system.tick();
         if is_running(system, tick) {
             system.call_to(to);
-            self.look(system, Sight::Gone, to);
+            self.look_at_rows(system);
         }
         let reached = system.tick();
         if reached == tick
@@ -111,6 +111,15 @@ impl Statistics {
         look_all(self.parts.as_mut_slice(), system, sight, to);
     }
 
+    /// Looks at the plain steps and the quiet calls that the system went on over, of each partition.
+    fn look_at_rows(&mut self, system: &System<'_>)
+        requires early { system.now.tick ≤ LAST_TICK }
+        requires kept { AreKept system.now self.old.parts.items }
+        ensures { AreKept system.now self.new.parts.items }
+    {
+        look_at_all_rows(self.parts.as_mut_slice(), system);
+    }
+
     /// The run ends where the system stands.
     fn finish(&mut self, system: &System<'_>)
         requires early { system.now.tick ≤ LAST_TICK }
@@ -131,6 +140,17 @@ fn look_all(parts: &mut [PartStatistics], system: &System<'_>, sight: Sight, to:
 {
     for i in 0..parts.len().min(system.parts()) {
         parts[i].look(system, PartId::new(i as u8), sight, to.ticks());
+    }
+}
+
+/// Looks at the plain steps and the quiet calls that the system went on over, of each partition.
+fn look_at_all_rows(parts: &mut [PartStatistics], system: &System<'_>)
+    requires early { system.now.tick ≤ LAST_TICK }
+    requires kept { AreKept system.now parts.old }
+    ensures { AreKept system.now parts.new }
+{
+    for i in 0..parts.len().min(system.parts()) {
+        parts[i].look_at_row(system, PartId::new(i as u8));
     }
 }
 

@@ -81,6 +81,7 @@ impl Counted {
 
     /// Counts the ticks up to this one, at which a partition with these windows shows this: the ticks since the last
     /// count in its windows, each once, and the steps made since, which are of one thread.
+    #[inline(always)]
     pub fn count(&mut self, plan: &WindowPlan, p: PartId, now: u64, seen: &Seen)
         requires order { reached self.old ≤ now }
         requires time { now ≤ LAST_TICK }
@@ -94,7 +95,9 @@ impl Counted {
         ensures adds { Adds (own_ticks plan.now p) self.new }
     {
         let going = self.going_until(now);
-        self.pass(plan, p, going, Share::Used);
+        if self.tick < going {
+            self.pass(plan, p, going, Share::Used);
+        }
         self.ahead = seen.lost - self.lost;
         let share = self.share_of(seen.steps);
         self.pass(plan, p, now, share);
@@ -130,6 +133,7 @@ impl Counted {
     }
 
     /// Counts the ticks up to one.
+    #[inline(always)]
     fn pass(&mut self, plan: &WindowPlan, p: PartId, to: u64, share: Share)
         requires order { self.old.tick ≤ to }
         requires time { to ≤ LAST_TICK }

@@ -18,6 +18,7 @@ pub(crate) struct OwnWindow {
 /// How many ticks from one on and before another lie in the partition's windows. There is nothing to look up where all
 /// lie in the window at hand, which the last one looked up is then. Else it goes from window to window; `near` is where
 /// the partition was last found among them.
+#[inline(always)]
 pub(crate) fn own_between(
     plan: &WindowPlan,
     p: PartId,
@@ -35,6 +36,26 @@ pub(crate) fn own_between(
     if window.start <= from && to <= window.end {
         return to - from;
     }
+    own_apart(plan, p, near, window, from, to)
+}
+
+/// As `own_between`, where some of the ticks lie outside the window at hand.
+#[cold]
+#[inline(never)]
+fn own_apart(
+    plan: &WindowPlan,
+    p: PartId,
+    near: &mut Near,
+    window: &mut OwnWindow,
+    from: u64,
+    to: u64,
+) -> u64
+    requires order { from ≤ to }
+    requires time { to ≤ LAST_TICK }
+    requires window { IsOwnWindow (own_ticks plan.now p) window.old }
+    ensures own { own_below (own_ticks plan.now p) from + result ≡ own_below (own_ticks plan.now p) to }
+    ensures window { IsOwnWindow (own_ticks plan.now p) window.new }
+{
     plan.is_plan();
     let mut own = 0;
     let mut tick = from;

@@ -34,6 +34,13 @@ still_behind n s is =
     let lost : s.account.lost ≤ 1000000 * n = is.lost in
     record { steps = omega arith; lost = omega arith; active = is.active }
 
+-- a later tick
+pub behind_later : (n later : ℕ) (s : State) → n ≤ later → IsBehind n s → IsBehind later s
+behind_later n later s le is =
+    let steps : s.account.steps ≤ n = is.steps in
+    let lost : s.account.lost ≤ 1000000 * n = is.lost in
+    record { steps = omega (arith, steps, le); lost = omega (arith, lost, le); active = is.active }
+
 -- one more tick
 pub until_behind : (ticks : OwnTicks) (limits : Limits) (n : ℕ) (o : Option ℕ) (s : State) → ((end : ℕ) → o ≡ Some end → end ≤ n + 1000000) → IsBehind n s → IsBehind (suc n) (after_tick_until o ticks limits n s)
 until_behind ticks limits n None s near is = still_behind n s is

@@ -1,9 +1,7 @@
 -- The turns of a run, and how far each partition has come.
-use Rattle.std.proofs.Common.{All, ◌≡◌, ◌≢◌, ℕ, ◌+◌, ◌-◌, ◌<◌, ◌≤◌, Bool, true, false, ◌==◌, List, length, Option, Some, None, ◌⊎◌, inl, inr, refl, sym, ap, subst, ◌∙◌, eqb-true, eq-eqb, arith}
+use Rattle.std.proofs.Common.{◌≡◌, ◌≢◌, ℕ, ◌+◌, ◌-◌, ◌<◌, ◌≤◌, Bool, true, false, ◌==◌, List, length, Option, Some, None, ◌⊎◌, inl, inr, refl, sym, ap, subst, ◌∙◌, eqb-true, eq-eqb, arith}
 use Rattle.std.specs.Prelude.{IfSome, MatchOption}
 use Rattle.std.proofs.lemmas.Bool.{false≢true, cases_lt}
-use Rattle.std.proofs.lemmas.List.{get_or-set_same, get_or-set_other, get_or-take, get_or_default, length-take}
-use Rattle.std.proofs.Math.ListN.{set, take}
 use Rattle.ptk_words.specs.declared.sections.Limits.{Limits}
 use Rattle.ptk_words_windows.specs.Windows.{WindowPlan, OwnTicks, IsPlan, own_ticks}
 use Rattle.ptk_words_model.specs.State.{State}
@@ -14,7 +12,7 @@ use Rattle.ptk_window.specs.declared.near.Turn.{Turn}
 use Rattle.ptk_window.specs.Turn.{IsTurn}
 use Rattle.ptk_window.specs.Walks.{Way}
 use Rattle.ptk_kernel.specs.Kept.{limits_at}
-use Rattle.ptk_system_machine.specs.Turns.{IsAt, IsComing, IsInWindow, IsStillUntil, IsUpTo, turn_at, no_turn}
+use Rattle.ptk_system_machine.specs.Turns.{IsAt, IsComing, IsInWindow, IsStillUntil, IsUpTo}
 use Rattle.ptk_system_machine.specs.Whole.{Whole, IsWhole, state_at, gone_on}
 use Rattle.ptk_system_machine.proofs.States.{state_at-put, state_at-other}
 use Rattle.ptk_system_machine.proofs.Ticks.{not_due, still_never, still_on}
@@ -37,37 +35,6 @@ not_own plan p tick is other = by ((own_ticks plan p).end_at tick) refl
     by None e = e
     by (Some end) e = absurd (other ((window_own plan p tick end is e).next tick (omega arith) (window_whole plan p tick end is e).0))
 
--- ---- the turn that comes first
-
--- after all turns were looked at: the first one, or none begins in the run
-pub due_first : (turns : List Turn) (to due place : ℕ) (first : Option ℕ) → length turns ≤ place → MatchOption first (due ≡ to) (λ p. (p < place) × ((turn_at p turns).start ≡ due) × (due < to))
-    → place ≤ length turns → ((k : ℕ) → k < place → due ≤ (turn_at k turns).start)
-    → MatchOption first (All (λ turn. to ≤ turn.start) turns) (λ p. (p < length turns) × ((turn_at p turns).start < to) × All (λ turn. (turn_at p turns).start ≤ turn.start) turns)
-due_first turns to due place None all found within least = λ k d lt.
-    let last : due ≡ to = found in
-    subst (λ (turn : Turn). to ≤ turn.start) (get_or_default turns k no_turn d lt) (omega (arith, least k (omega (arith, lt, all))))
-due_first turns to due place (Some p) all found within least =
-    let at : (turn_at p turns).start ≡ due = found.1 in (
-      omega (arith, found.0),
-      omega (arith, found.2),
-      λ k d lt.
-          subst (λ (turn : Turn). (turn_at p turns).start ≤ turn.start) (get_or_default turns k no_turn d lt) (omega (arith, at, least k (omega (arith, lt, all)))),
-    )
-
--- a turn among the first so many
-pub among : (turns : List Turn) (n p : ℕ) → p < length (take n turns) → (p < n) × (p < length turns)
-among turns n p lt = (omega (arith, lt, length-take n turns), omega (arith, lt, length-take n turns))
-
--- a turn among the first so many is that of the partition
-pub turn_taken : (turns : List Turn) (n q : ℕ) → q < n → turn_at q (take n turns) ≡ turn_at q turns
-turn_taken turns n q lt = get_or-take n turns q no_turn lt
-
--- no turn begins before the one that comes first
-pub none_before : (turns : List Turn) (n p q : ℕ) → p < n → All (λ turn. (turn_at p (take n turns)).start ≤ turn.start) (take n turns) → q < n → q < length turns → (turn_at p turns).start ≤ (turn_at q turns).start
-none_before turns n p q here all lt within =
-    subst (λ (turn : Turn). turn.start ≤ (turn_at q turns).start) (turn_taken turns n p here)
-    (subst (λ (turn : Turn). (turn_at p (take n turns)).start ≤ turn.start) (turn_taken turns n q lt) (all q no_turn (omega (arith, lt, within, length-take n turns))))
-
 -- a turn that begins in a run begins in a shorter one, or comes at its end
 pub coming_before : (ticks : OwnTicks) (to stop : ℕ) (next : Option ℕ) (turn : Turn) → stop ≤ to → turn.start ≤ stop → IsComing ticks to next turn → IsComing ticks stop next turn
 coming_before ticks to stop next turn le within coming = record {
@@ -89,18 +56,6 @@ never_found plan p next k (Some turn) is found other at =
     let one : Some turn.start ≡ Some k = sym found.0 ∙ (ap (own_ticks plan p).next_of at ∙ e) in
     let start : turn.start ≡ k = cc in
     other turn refl (start ∙ sym at))
-
--- one more partition's first turn
-pub more_first : (P : ℕ → Turn → Type 0) (turns : List Turn) (i : ℕ) (turn : Turn) → i < length turns → ((q : ℕ) → q < i → P q (turn_at q turns)) → P i turn → (q : ℕ) → q < i + 1 → P q (turn_at q (set turns i turn))
-more_first P turns i turn lt before here q below = by (q == i) refl
-  where
-    by : (b : Bool) → (q == i) ≡ b → P q (turn_at q (set turns i turn))
-    by true e =
-        let one : q ≡ i = eqb-true q i e in
-        subst (λ (r : ℕ). P r (turn_at r (set turns i turn))) (sym one) (subst (P i) (sym (get_or-set_same turns i turn no_turn lt)) here)
-    by false e =
-        let differ : q ≢ i = λ one. false≢true (sym e ∙ eq-eqb q i one) in
-        subst (P q) (sym (get_or-set_other turns i q turn no_turn differ)) (before q (omega (arith, below, differ)))
 
 -- the first turn begins with the next decision
 pub first_due : (ticks : OwnTicks) (limits : Limits) (tick to : ℕ) (turn : Turn) (s : State) → tick ≤ turn.start → turn.start < to → s.account.next ≡ Some turn.start → IsInWindow ticks turn.start turn.end → IsUpTo ticks limits tick to turn s s
@@ -142,18 +97,18 @@ gone_late ticks limits tick start reached s from on still =
     ∙ (sym (join ticks limits tick (start - tick) (reached - start) s)
     ∙ ap (λ (n : ℕ). after_ticks ticks limits tick n s) all))
 
--- a row of one partition up to a tick at which none of the others' turns has begun is so many ticks of each partition
-pub row_each : (plan : WindowPlan) (p tick reached : ℕ) (turns : List Turn) (old new : Whole) → IsWhole old.kept old.accounts → p < length old.accounts
-    → ((q : ℕ) → q < length old.accounts → IsStillUntil (own_ticks plan q) (limits_at q old.kept) tick (turn_at q turns).start (state_at q old))
-    → tick ≤ (turn_at p turns).start → (turn_at p turns).start ≤ reached → ((q : ℕ) → q < length old.accounts → q ≢ p → reached ≤ (turn_at q turns).start)
-    → new ≡ gone_on (own_ticks plan p) p (turn_at p turns).start (reached - (turn_at p turns).start) old
+-- a row of one partition up to a tick before which nothing happens to the others is so many ticks of each partition
+pub row_each : (plan : WindowPlan) (p tick start reached : ℕ) (old new : Whole) → IsWhole old.kept old.accounts → p < length old.accounts
+    → IsStillUntil (own_ticks plan p) (limits_at p old.kept) tick start (state_at p old) → tick ≤ start → start ≤ reached
+    → ((q : ℕ) → q < length old.accounts → q ≢ p → IsStillUntil (own_ticks plan q) (limits_at q old.kept) tick reached (state_at q old))
+    → new ≡ gone_on (own_ticks plan p) p start (reached - start) old
     → (q : ℕ) → q < length old.accounts → state_at q new ≡ after_ticks (own_ticks plan q) (limits_at q old.kept) tick (reached - tick) (state_at q old)
-row_each plan p tick reached turns old new is lt still from on others gone q below = by (q == p) refl
+row_each plan p tick start reached old new is lt still from on others gone q below = by (q == p) refl
   where
     own : state_at p new ≡ after_ticks (own_ticks plan p) (limits_at p old.kept) tick (reached - tick) (state_at p old)
     own =
         ap (state_at p) gone
-        ∙ (state_at-put p _ old is lt ∙ gone_late (own_ticks plan p) (limits_at p old.kept) tick (turn_at p turns).start reached (state_at p old) from on (still p lt))
+        ∙ (state_at-put p _ old is lt ∙ gone_late (own_ticks plan p) (limits_at p old.kept) tick start reached (state_at p old) from on still)
 
     by : (b : Bool) → (q == p) ≡ b → state_at q new ≡ after_ticks (own_ticks plan q) (limits_at q old.kept) tick (reached - tick) (state_at q old)
     by true e =
@@ -162,7 +117,7 @@ row_each plan p tick reached turns old new is lt still from on others gone q bel
     by false e =
         let differ : q ≢ p = λ one. false≢true (sym e ∙ eq-eqb q p one) in
         let after : tick ≤ reached = omega (arith, from, on) in
-        ap (state_at q) gone ∙ (state_at-other p q _ old differ ∙ sym (still q below reached after (others q below differ)))
+        ap (state_at q) gone ∙ (state_at-other p q _ old differ ∙ sym (others q below differ reached after (omega arith)))
 
 -- ---- the run
 

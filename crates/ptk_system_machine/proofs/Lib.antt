@@ -9,3 +9,4 @@ pub mod StillQuiet
 pub mod Progress
 pub mod Prepared
 pub mod Steady
+pub mod First

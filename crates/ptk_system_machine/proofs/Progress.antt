@@ -1,8 +1,7 @@
 -- A run of rows goes on where the next decision is a plain step.
-use Rattle.std.proofs.Common.{All, ◌≡◌, ◌≢◌, ℕ, zero, suc, ◌+◌, ◌-◌, ◌<◌, ◌≤◌, Bool, true, false, List, length, Option, Some, ◌⊎◌, inl, inr, refl, sym, ap, subst, ◌∙◌, arith}
-use Rattle.std.specs.Prelude.{min, unwrap_or, if◌then◌else◌}
-use Rattle.std.proofs.Math.ListN.{take}
-use Rattle.std.proofs.lemmas.Bool.{cases_lt, cases_order, false≢true}
+use Rattle.std.proofs.Common.{◌≡◌, ◌≢◌, ℕ, zero, suc, ◌+◌, ◌-◌, ◌<◌, ◌≤◌, Bool, true, false, Option, Some, ◌⊎◌, inl, inr, refl, sym, ap, subst, ◌∙◌, arith}
+use Rattle.std.specs.Prelude.{unwrap_or, if◌then◌else◌}
+use Rattle.std.proofs.lemmas.Bool.{cases_lt, false≢true}
 use Rattle.std.proofs.lemmas.Option.{MatchOption-at_some}
 use Rattle.ptk_words_windows.specs.Windows.{WindowPlan, OwnTicks, IsOwn, IsOwnUntil, IsPlan, own_ticks}
 use Rattle.ptk_words_windows.proofs.OwnLaws.{end_of_window, own_apart, own_from}
@@ -10,10 +9,9 @@ use Rattle.ptk_words_model.specs.Priority.{thread_at}
 use Rattle.ptk_window.specs.declared.near.Turn.{Turn}
 use Rattle.ptk_kernel.specs.Kept.{Kept, limits_at, part_at}
 use Rattle.ptk_kernel.specs.Rows.{HasEnded}
-use Rattle.ptk_system_machine.specs.Turns.{IsComing, IsInWindow, IsPlainAt, turn_at}
+use Rattle.ptk_system_machine.specs.Turns.{IsComing, IsInWindow, IsPlainAt}
 use Rattle.ptk_system_machine.specs.Whole.{Whole, account_at, gone_on}
 use Rattle.ptk_system_machine.proofs.Ticks.{gone_start}
-use Rattle.ptk_system_machine.proofs.Coming.{among, none_before, turn_taken}
 
 -- ---- one row
 
@@ -51,40 +49,12 @@ closer false on stop now next e lt later = absurd (false≢true e)
 
 -- ---- the turn that comes first
 
--- the tick is the earliest of stop and of the beginnings of the first turns but partition p's (own)
-pub record IsEarliest (turns : List Turn) (p count stop tick : ℕ) : Type 0 where
-  pub within : tick ≤ stop
-  pub each : (q : ℕ) → q < count → q ≢ p → tick ≤ (turn_at q turns).start
-  pub latest : (k : ℕ) → k ≤ stop → ((q : ℕ) → q < count → q ≢ p → k ≤ (turn_at q turns).start) → k ≤ tick
-
--- one more turn begins earlier
-pub earlier_turn : (turns : List Turn) (p place stop tick next : ℕ) → IsEarliest turns p place stop tick → place ≢ p → (turn_at place turns).start < tick → next ≡ (turn_at place turns).start → IsEarliest turns p (place + 1) stop next
-earlier_turn turns p place stop tick next is other less at = record {
-  within = omega (arith, is.within, less, at);
-  each = λ q lt differ. elim (cases_order q place) [
-    | inl last ↦ subst (λ (r : ℕ). next ≤ (turn_at r turns).start) (sym last) (omega (arith, at))
-    | inr order ↦ elim order [ inl sooner ↦ omega (arith, is.each q sooner differ, less, at) | inr later ↦ absurd (omega (arith, lt, later)) ]
-  ];
-  latest = λ k le all. omega (arith, all place (omega arith) other, at);
-}
-
--- one more turn is partition p's, or begins no earlier
-pub same_turn : (turns : List Turn) (p place stop tick next : ℕ) → IsEarliest turns p place stop tick → (place ≢ p → tick ≤ (turn_at place turns).start) → next ≡ tick → IsEarliest turns p (place + 1) stop next
-same_turn turns p place stop tick next is later same = record {
-  within = omega (arith, is.within, same);
-  each = λ q lt differ. elim (cases_order q place) [
-    | inl last ↦ subst (λ (r : ℕ). next ≤ (turn_at r turns).start) (sym last) (omega (arith, later (λ e. differ (last ∙ e)), same))
-    | inr order ↦ elim order [ inl sooner ↦ omega (arith, is.each q sooner differ, same) | inr beyond ↦ absurd (omega (arith, lt, beyond)) ]
-  ];
-  latest = λ k le all. omega (arith, is.latest k le (λ q lt differ. all q (omega (arith, lt)) differ), same);
-}
-
 -- a tick with an end is the partition's own
 own_at : (plan : WindowPlan) (p tick end : ℕ) → (own_ticks plan p).end_at tick ≡ Some end → IsOwn plan p tick
 own_at plan p tick end e = own_from plan p tick end (MatchOption-at_some (¬ IsOwn plan p tick) (IsOwnUntil plan p tick) end e (end_of_window plan p tick))
 
 -- the turns of two partitions never begin together, since no tick is both's
-begins_before : (plan : WindowPlan) (p q to : ℕ) (a b : Option ℕ) (one other : Turn) → IsPlan plan → q ≢ p → one.start < to → one.start ≤ other.start
+pub begins_before : (plan : WindowPlan) (p q to : ℕ) (a b : Option ℕ) (one other : Turn) → IsPlan plan → q ≢ p → one.start < to → one.start ≤ other.start
     → IsComing (own_ticks plan p) to a one → IsComing (own_ticks plan q) to b other → one.start < other.start
 begins_before plan p q to a b one other is differ due le mine theirs = by (cases_lt one.start other.start)
   where
@@ -97,34 +67,6 @@ begins_before plan p q to a b one other is differ due le mine theirs = by (cases
         let own_p : IsOwn plan p one.start = own_at plan p one.start one.end (first.ends one.start (omega arith) first.before) in
         let own_q : IsOwn plan q other.start = own_at plan q other.start other.end (second.ends other.start (omega arith) second.before) in
         absurd (own_apart plan q p one.start is differ (subst (IsOwn plan q) same own_q) own_p)
-
--- a row of the partition whose turn begins first ends after that turn's beginning
-pub row_due : (plan : WindowPlan) (p to stop count parts : ℕ) (next : ℕ → Option ℕ) (turns : List Turn) (turn : Turn) → IsPlan plan → count ≡ parts
-    → p < length (take count turns) → (turn_at p (take count turns)).start < to → All (λ other. (turn_at p (take count turns)).start ≤ other.start) (take count turns)
-    → turn ≡ turn_at p turns → ((q : ℕ) → q < parts → IsComing (own_ticks plan q) to (next q) (turn_at q turns))
-    → ((k : ℕ) → k ≤ min to turn.end → ((q : ℕ) → q < length (take parts turns) → q ≢ p → k ≤ (turn_at q (take parts turns)).start) → k ≤ stop)
-    → turn.start < stop
-row_due plan p to stop count parts next turns turn is counted here due first at comings latest = let up : turn.start + 1 ≤ stop = latest (turn.start + 1) within others in omega arith
-  where
-    place : (p < count) × (p < length turns)
-    place = among turns count p here
-
-    begins : turn.start < to
-    begins = subst (λ (t : Turn). t.start < to) (turn_taken turns count p place.0 ∙ sym at) due
-
-    coming : IsComing (own_ticks plan p) to (next p) turn
-    coming = subst (IsComing (own_ticks plan p) to (next p)) (sym at) (comings p (omega (arith, place.0, counted)))
-
-    within : turn.start + 1 ≤ min to turn.end
-    within = omega (arith, begins, (coming.window begins).before)
-
-    others : (q : ℕ) → q < length (take parts turns) → q ≢ p → turn.start + 1 ≤ (turn_at q (take parts turns)).start
-    others q lt differ =
-        let other = among turns parts q lt in
-        let after : (turn_at p turns).start ≤ (turn_at q turns).start = none_before turns count p q place.0 first (omega (arith, other.0, counted)) other.1 in
-        let le : turn.start ≤ (turn_at q turns).start = subst (λ (t : Turn). t.start ≤ (turn_at q turns).start) (sym at) after in
-        let before : turn.start < (turn_at q turns).start = begins_before plan p q to (next p) (next q) turn (turn_at q turns) is differ begins le coming (comings q other.0) in
-        subst (λ (t : Turn). turn.start + 1 ≤ t.start) (sym (turn_taken turns parts q other.0)) (omega (arith, before))
 
 -- a run of rows goes on, where its first decision comes later or is a plain step
 pub goes_on : (p tick to reached : ℕ) (turn : Turn) (whole : Whole) → tick ≤ turn.start → (turn.start < to → (account_at p whole).account.next ≡ Some turn.start) → tick < to

@@ -1,5 +1,5 @@
 -- Over which ticks a partition's threads stay as they are.
-use Rattle.std.proofs.Common.{◌≡◌, ◌≢◌, ℕ, ◌+◌, ◌-◌, ◌<◌, ◌≤◌, Bool, true, false, ◌==◌, List, length, Some, ◌⊎◌, inl, inr, refl, sym, ap, subst, ◌∙◌, eqb-true, eq-eqb, arith}
+use Rattle.std.proofs.Common.{◌≡◌, ◌≢◌, ℕ, ◌+◌, ◌-◌, ◌<◌, ◌≤◌, Bool, true, false, ◌==◌, length, Some, ◌⊎◌, inl, inr, refl, sym, ap, subst, ◌∙◌, eqb-true, eq-eqb, arith}
 use Rattle.std.proofs.lemmas.Bool.{cases_lt, false≢true}
 use Rattle.ptk_words.specs.declared.sections.Limits.{Limits}
 use Rattle.ptk_words_windows.specs.Windows.{OwnTicks, WindowPlan, own_ticks}
@@ -10,9 +10,8 @@ use Rattle.ptk_kernel.specs.Kept.{limits_at, part_at}
 use Rattle.ptk_kernel.specs.Steady.{IsOfRunning, IsSteady}
 use Rattle.ptk_kernel.proofs.Steady.{steady_on, steady_same}
 pub use Rattle.ptk_kernel.proofs.Steady.{awaited_contended}
-use Rattle.ptk_window.specs.declared.near.Turn.{Turn}
 use Rattle.ptk_system_machine.specs.Steady.{AreSteady, states_from}
-use Rattle.ptk_system_machine.specs.Turns.{IsStillUntil, turn_at}
+use Rattle.ptk_system_machine.specs.Turns.{IsStillUntil}
 use Rattle.ptk_system_machine.specs.Whole.{IsWhole, Whole, account_at, gone_on, state_at}
 use Rattle.ptk_system_machine.proofs.States.{state_at-put}
 use Rattle.ptk_system_machine.proofs.Ticks.{not_due, still_on}
@@ -128,28 +127,25 @@ states_first ticks limits tick s = no_ticks ticks limits tick (tick - tick) s (o
 
 -- ---- each partition
 
--- a row of one partition up to a tick at which none of the others' turns has begun is steady for each partition
-pub steady_each : (plan : WindowPlan) (p tick reached : ℕ) (turns : List Turn) (old : Whole) → p < length old.accounts
-    → ((q : ℕ) → q < length old.accounts → IsStillUntil (own_ticks plan q) (limits_at q old.kept) tick (turn_at q turns).start (state_at q old))
-    → tick ≤ (turn_at p turns).start → (turn_at p turns).start ≤ reached → ((q : ℕ) → q < length old.accounts → q ≢ p → reached ≤ (turn_at q turns).start)
-    → AreSteady (part_at p old.kept) (states_from (own_ticks plan p) (limits_at p old.kept) (turn_at p turns).start (state_at p old)) (turn_at p turns).start reached
+-- a row of one partition up to a tick before which nothing happens to the others is steady for each partition
+pub steady_each : (plan : WindowPlan) (p tick start reached : ℕ) (old : Whole) → p < length old.accounts
+    → IsStillUntil (own_ticks plan p) (limits_at p old.kept) tick start (state_at p old) → tick ≤ start → start ≤ reached
+    → ((q : ℕ) → q < length old.accounts → q ≢ p → IsStillUntil (own_ticks plan q) (limits_at q old.kept) tick reached (state_at q old))
+    → AreSteady (part_at p old.kept) (states_from (own_ticks plan p) (limits_at p old.kept) start (state_at p old)) start reached
     → (q : ℕ) → q < length old.accounts → AreSteady (part_at q old.kept) (states_from (own_ticks plan q) (limits_at q old.kept) tick (state_at q old)) tick reached
-steady_each plan p tick reached turns old lt still from on others rows q below = by (q == p) refl
+steady_each plan p tick start reached old lt still from on others rows q below = by (q == p) refl
   where
-    start : ℕ
-    start = (turn_at p turns).start
-
-    at_start : states_from (own_ticks plan p) (limits_at p old.kept) tick (state_at p old) (turn_at p turns).start ≡ state_at p old
-    at_start = still p lt (turn_at p turns).start from (omega arith)
+    at_start : states_from (own_ticks plan p) (limits_at p old.kept) tick (state_at p old) start ≡ state_at p old
+    at_start = still start from (omega arith)
 
     own : AreSteady (part_at p old.kept) (states_from (own_ticks plan p) (limits_at p old.kept) tick (state_at p old)) tick reached
     own =
-        steady_further (part_at p old.kept) (states_from (own_ticks plan p) (limits_at p old.kept) tick (state_at p old)) (states_from (own_ticks plan p) (limits_at p old.kept) (turn_at p turns).start (state_at p old)) tick (turn_at p turns).start reached from on
-        (steady_still (state_at p old) (states_from (own_ticks plan p) (limits_at p old.kept) tick (state_at p old)) tick (turn_at p turns).start (λ k le within. still p lt k le within))
-        (subst (λ (u : State). AreSteady u.part (states_from (own_ticks plan p) (limits_at p old.kept) (turn_at p turns).start (state_at p old)) (turn_at p turns).start reached) (sym at_start) rows)
+        steady_further (part_at p old.kept) (states_from (own_ticks plan p) (limits_at p old.kept) tick (state_at p old)) (states_from (own_ticks plan p) (limits_at p old.kept) start (state_at p old)) tick start reached from on
+        (steady_still (state_at p old) (states_from (own_ticks plan p) (limits_at p old.kept) tick (state_at p old)) tick start (λ k le within. still k le within))
+        (subst (λ (u : State). AreSteady u.part (states_from (own_ticks plan p) (limits_at p old.kept) start (state_at p old)) start reached) (sym at_start) rows)
         (λ k le within.
-        sym (states_later (own_ticks plan p) (limits_at p old.kept) tick (turn_at p turns).start k (state_at p old) from le)
-        ∙ ap (λ (u : State). states_from (own_ticks plan p) (limits_at p old.kept) (turn_at p turns).start u k) at_start)
+        sym (states_later (own_ticks plan p) (limits_at p old.kept) tick start k (state_at p old) from le)
+        ∙ ap (λ (u : State). states_from (own_ticks plan p) (limits_at p old.kept) start u k) at_start)
 
     by : (b : Bool) → (q == p) ≡ b → AreSteady (part_at q old.kept) (states_from (own_ticks plan q) (limits_at q old.kept) tick (state_at q old)) tick reached
     by true e =
@@ -157,13 +153,9 @@ steady_each plan p tick reached turns old lt still from on others rows q below =
         subst (λ (r : ℕ). AreSteady (part_at r old.kept) (states_from (own_ticks plan r) (limits_at r old.kept) tick (state_at r old)) tick reached) (sym one) own
     by false e =
         let differ : q ≢ p = λ one. false≢true (sym e ∙ eq-eqb q p one) in
-        steady_still (state_at q old) (states_from (own_ticks plan q) (limits_at q old.kept) tick (state_at q old)) tick reached
-        (λ k le within. still q below k le (omega (arith, within, others q below differ)))
+        steady_still (state_at q old) (states_from (own_ticks plan q) (limits_at q old.kept) tick (state_at q old)) tick reached (others q below differ)
 
--- up to a tick before which no turn begins each partition is steady
-pub steady_none : (plan : WindowPlan) (tick to : ℕ) (turns : List Turn) (old : Whole)
-    → ((q : ℕ) → q < length old.accounts → IsStillUntil (own_ticks plan q) (limits_at q old.kept) tick (turn_at q turns).start (state_at q old))
-    → ((q : ℕ) → q < length old.accounts → to ≤ (turn_at q turns).start)
-    → (q : ℕ) → q < length old.accounts → AreSteady (part_at q old.kept) (states_from (own_ticks plan q) (limits_at q old.kept) tick (state_at q old)) tick to
-steady_none plan tick to turns old still none q below =
-    steady_still (state_at q old) (states_from (own_ticks plan q) (limits_at q old.kept) tick (state_at q old)) tick to (λ k le within. still q below k le (omega (arith, within, none q below)))
+-- a partition to which nothing happens is steady
+pub steady_stays : (ticks : OwnTicks) (p tick to : ℕ) (old : Whole) → IsStillUntil ticks (limits_at p old.kept) tick to (state_at p old)
+    → AreSteady (part_at p old.kept) (states_from ticks (limits_at p old.kept) tick (state_at p old)) tick to
+steady_stays ticks p tick to old still = steady_still (state_at p old) (states_from ticks (limits_at p old.kept) tick (state_at p old)) tick to still

@@ -1,9 +1,9 @@
 -- How a run goes on: each partition by its turns, in which it is at a tick of its own.
-use Rattle.std.specs.Prelude.{◌≡◌, ℕ, ◌+◌, ◌-◌, ◌<◌, ◌≤◌, true, List, Option, Some, IfSome, slice_index_or}
+use Rattle.std.specs.Prelude.{◌≡◌, ◌≢◌, ℕ, ◌+◌, ◌-◌, ◌<◌, ◌≤◌, true, Option, Some, IfSome}
 use Rattle.ptk_words.specs.declared.sections.Limits.{Limits}
 use Rattle.ptk_words.specs.declared.threads.Thread.{Thread}
 use Rattle.ptk_words_instructions.specs.PlainSteps.{is_plain}
-use Rattle.ptk_words_windows.specs.Windows.{WindowPlan, OwnTicks}
+use Rattle.ptk_words_windows.specs.Windows.{WindowPlan, OwnTicks, own_ticks}
 use Rattle.ptk_words_model.specs.declared.Spent.{Spent}
 use Rattle.ptk_words_model.specs.declared.Spent.TheVariants.{Idle}
 use Rattle.ptk_words_model.specs.State.{Part, State}
@@ -12,7 +12,10 @@ use Rattle.ptk_words_batches.specs.Quiet.{AreOwn, IsQuiet, after_ticks, core_of}
 use Rattle.ptk_words_batches.specs.Idle.{IsIdle}
 use Rattle.ptk_window.specs.Walks.{Way}
 use Rattle.ptk_window.specs.declared.near.Turn.{Turn}
+use Rattle.ptk_kernel.specs.Kept.{limits_at}
+use Rattle.ptk_system_machine.specs.declared.turns.First.{First}
 use Rattle.ptk_system_machine.specs.Accounts.{duration_of}
+use Rattle.ptk_system_machine.specs.Whole.{Whole, state_at}
 
 -- from the tick on each tick is a partition's own, in one window that ends there, at most a frame later
 pub record IsInWindow (ticks : OwnTicks) (tick end : ℕ) : Type 0 where
@@ -60,10 +63,10 @@ pub record IsPlainAt (limits : Limits) (tick : ℕ) (s : Part) : Type 0 where
   pub quiet : IsQuiet limits tick (tick + 1) t thread s
   pub plain : is_plain (core_of thread s) ≡ true
 
--- the turn past the last partition's
-abbrev pub no_turn : Turn
-no_turn = record { start = 0; end = 0 }
-
--- the turn of a partition
-abbrev pub turn_at : ℕ → List Turn → Turn
-turn_at p turns = slice_index_or turns p no_turn
+-- of so many partitions, in a run from a tick to another, that one's turn begins first, if one begins before the run's last tick; up to there nothing happens to any of them, and up to the stop, which is later, to no other one (own)
+pub record ComesFirst (plan : WindowPlan) (tick to count : ℕ) (whole : Whole) (first : First) : Type 0 where
+  pub order : first.turn.start ≤ first.stop
+  pub within : first.stop ≤ to
+  pub due : first.turn.start < to → (first.p < count) × (first.turn.start < first.stop) × IsUpTo (own_ticks plan first.p) (limits_at first.p whole.kept) tick to first.turn (state_at first.p whole) (state_at first.p whole)
+  pub still : (q : ℕ) → q < count → IsStillUntil (own_ticks plan q) (limits_at q whole.kept) tick first.turn.start (state_at q whole)
+  pub others : (q : ℕ) → q < count → q ≢ first.p → IsStillUntil (own_ticks plan q) (limits_at q whole.kept) tick first.stop (state_at q whole)

@@ -1,7 +1,7 @@
 //! How all partitions go on: one after the other, each from turn to turn, by rows of plain steps and quiet calls and by
 //! the turns of single threads.
 
-ghost use Rattle.std.specs.Prelude.{◌≡◌, ◌<◌, ◌≤◌, ◌≢◌, ◌^◌, ◌+◌, ◌-◌, ℕ, true, All, None, Some, IfSome, IsSome, MatchOption, length, min};
+ghost use Rattle.std.specs.Prelude.{◌≡◌, ◌<◌, ◌≤◌, ◌^◌, ◌+◌, ◌-◌, ℕ, true, None, Some, IfSome, IsSome, MatchOption, length, min};
 ghost use Rattle.ptk_words.specs.declared.TheConstants.{LAST_TICK};
 ghost use Rattle.ptk_words_windows.specs.Windows.{own_ticks};
 ghost use Rattle.ptk_words_model.specs.Decision.{ready_at};
@@ -15,7 +15,7 @@ ghost use Rattle.ptk_kernel.specs.Rows.{IsCallNext, IsChosen, IsStill, IsStillTo
 ghost use Rattle.ptk_kernel.specs.Spending.{cost_in};
 ghost use Rattle.ptk_system_machine.specs.Accounts.{IsBehind};
 ghost use Rattle.ptk_system_machine.specs.Steady.{AreSteady, states_from};
-ghost use Rattle.ptk_system_machine.specs.Turns.{HasDecided, IsAt, IsComing, IsFreeFrom, IsInWindow, IsPlainAt, IsStillUntil, IsUpTo, turn_at};
+ghost use Rattle.ptk_system_machine.specs.Turns.{ComesFirst, HasDecided, IsAt, IsComing, IsFreeFrom, IsInWindow, IsPlainAt, IsStillUntil, IsUpTo};
 ghost use Rattle.ptk_system_machine.specs.Whole.{AreWindowsOf, account_at, gone_on, put_state, state_at};
 
 mod calls;
@@ -30,9 +30,6 @@ use ptk_window::{Near, Turn, Walk, WindowPlan};
 use ptk_words::{PartId, Status, ThreadNo, Tick};
 use ptk_words_model::Spent;
 
-/// How many partitions there are at most.
-const PARTS: usize = 8;
-
 /// Where a row of a partition ends.
 #[derive(Clone, Copy)]
 struct RowEnd {
@@ -40,6 +37,17 @@ struct RowEnd {
     turn: Turn,
     /// Whether the running thread's next step is known to be a call.
     is_call: bool,
+}
+
+/// The partition that decides first.
+#[derive(Clone, Copy)]
+struct First {
+    /// The partition.
+    p: PartId,
+    /// Its turn.
+    turn: Turn,
+    /// Before which tick no other partition decides.
+    stop: Tick,
 }
 
 impl Machine {
@@ -101,40 +109,42 @@ impl Machine {
         ensures steady { (q : ℕ) → q < length self.old.accounts →
             AreSteady (part_at q self.old.kept) (states_from (own_ticks plan.now q) (limits_at q self.old.kept) tick (state_at q self.old)) tick result }
     {
-        plan.is_plan();
-        let turns = self.first_turns(plan, tick, to);
-        let Some(p) = next_due(&turns[..self.parts()], to) else {
+        let _parts = self.parts();
+        let Some(first) = self.first_due(plan, tick, to) else {
             return to;
         };
-        let first = turns[p.index()];
-        let stop = first_other(
-            &turns[..self.parts()],
-            p,
-            Tick::new(to.ticks().min(first.end.ticks())),
-        );
-        self.rows(plan, p, first, stop).start
+        self.rows(plan, first.p, first.turn, first.stop).start
     }
 
-    /// Each partition's first turn in a run, which goes on from a tick to `to`.
-    fn first_turns(&mut self, plan: &WindowPlan, tick: Tick, to: Tick) -> [Turn; PARTS]
-        requires order { tick ≤ to }
+    /// The partition that decides first in a run, which goes on from a tick to `to`, and up to which tick it does so
+    /// alone and in one window. None where no partition decides.
+    #[inline(always)]
+    fn first_due(&mut self, plan: &WindowPlan, tick: Tick, to: Tick) -> Option<First>
         requires time { to ≤ LAST_TICK }
         requires windows { AreWindowsOf (length self.old.accounts) plan.now }
         ensures same { self.new ≡ self.old }
-        ensures each { (q : ℕ) → q < length self.old.accounts →
-            IsUpTo (own_ticks plan.now q) (limits_at q self.old.kept) tick to (turn_at q result) (state_at q self.old) (state_at q self.old) }
-        ensures still { (q : ℕ) → q < length self.old.accounts →
-            IsStillUntil (own_ticks plan.now q) (limits_at q self.old.kept) tick (turn_at q result).start (state_at q self.old) }
+        ensures first { MatchOption result
+            ((q : ℕ) → q < length self.old.accounts → IsStillUntil (own_ticks plan.now q) (limits_at q self.old.kept) tick to (state_at q self.old))
+            (λ first. (first.turn.start < to) × ComesFirst plan.now tick to (length self.old.accounts) self.old first) }
     {
-        let mut turns = [Turn { start: to, end: to }; PARTS];
+        plan.is_plan();
         let parts = self.parts();
+        let mut first = none_yet(to);
         for i in 0..parts {
-            turns[i] = self.first_turn(plan, PartId::new(i as u8), tick, to);
+            let p = PartId::new(i as u8);
+            let due = self.due_turn(plan, p, tick, to);
+            first = first_of(first, p, due);
         }
-        turns
+        let First { p, turn, stop } = first;
+        if to.ticks() <= turn.start.ticks() {
+            return None;
+        }
+        let stop = Tick::new(stop.ticks().min(turn.end.ticks()));
+        Some(First { p, turn, stop })
     }
 
     /// The partition's first turn in a run, which goes on from a tick to `to`.
+    #[inline(never)]
     fn first_turn(&mut self, plan: &WindowPlan, p: PartId, tick: Tick, to: Tick) -> Turn
         requires partition { p < length self.old.accounts }
         requires order { tick ≤ to }
@@ -152,6 +162,7 @@ impl Machine {
 
     /// The turn that begins with the partition's next decision, where that is from the tick on and before `to`. None
     /// where it is not, or is at a tick that is not the partition's own, at which it never takes place.
+    #[inline(always)]
     fn due_turn(&mut self, plan: &WindowPlan, p: PartId, tick: Tick, to: Tick) -> Option<Turn>
         requires partition { p < length self.old.accounts }
         requires time { to ≤ LAST_TICK }
@@ -673,38 +684,46 @@ pub fn idle_from(tables: &Tables, p: PartId, tick: Tick, to: Tick) -> Tick
     }
 }
 
-/// The partition whose turn begins first, where that is before `to`.
-fn next_due(turns: &[Turn], to: Tick) -> Option<PartId>
-    requires { length turns.now ≤ 8 }
-    ensures { MatchOption result
-        (All (λ turn. to ≤ turn.start) turns.now)
-        (λ p. (p < length turns.now) × ((turn_at p turns.now).start < to)
-        × All (λ turn. (turn_at p turns.now).start ≤ turn.start) turns.now) }
+/// What is known before any partition is looked at, in a run that goes on to this tick.
+#[inline(always)]
+fn none_yet(to: Tick) -> First
+    ensures turn { result.turn ≡ record { start = to; end = to } }
+    ensures stop { result.stop ≡ to }
 {
-    let mut due = to.ticks();
-    let mut first = None;
-    for (place, turn) in turns.iter().enumerate() {
-        if turn.start.ticks() < due {
-            due = turn.start.ticks();
-            first = Some(PartId::new(place as u8));
-        }
+    First {
+        p: PartId::new(0),
+        turn: Turn { start: to, end: to },
+        stop: to,
     }
-    first
 }
 
-/// The tick at which the first of the other partitions' turns begins, `stop` where none begins before.
-fn first_other(turns: &[Turn], p: PartId, stop: Tick) -> Tick
-    ensures within { result ≤ stop }
-    ensures each { (q : ℕ) → q < length turns.now → q ≢ p → result ≤ (turn_at q turns.now).start }
-    ensures latest { (k : ℕ) → k ≤ stop → ((q : ℕ) → q < length turns.now → q ≢ p → k ≤ (turn_at q turns.now).start) → k ≤ result }
+/// The partition that decides first, of those so far and one more, whose turn this is, if it has one.
+#[inline(always)]
+fn first_of(so_far: First, p: PartId, due: Option<Turn>) -> First
+    ensures none { due ≡ None → result ≡ so_far }
+    ensures sooner { (turn : Turn) → due ≡ Some turn → turn.start < so_far.turn.start → result ≡ record { p = p; turn = turn; stop = so_far.turn.start } }
+    ensures later { (turn : Turn) → due ≡ Some turn → so_far.turn.start ≤ turn.start → result ≡ record so_far { stop = min so_far.stop turn.start } }
 {
-    let mut first = stop;
-    for (place, turn) in turns.iter().enumerate() {
-        if place != p.index() && turn.start.ticks() < first.ticks() {
-            first = turn.start;
-        }
+    let Some(turn) = due else {
+        return so_far;
+    };
+    let First {
+        p: first,
+        turn: so_far,
+        stop,
+    } = so_far;
+    if turn.start.ticks() < so_far.start.ticks() {
+        return First {
+            p,
+            turn,
+            stop: so_far.start,
+        };
     }
-    first
+    First {
+        p: first,
+        turn: so_far,
+        stop: Tick::new(stop.ticks().min(turn.start.ticks())),
+    }
 }
 
 /// The turn that begins with this next decision, in a window with this end, where that is before `to`.

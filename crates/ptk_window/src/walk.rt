@@ -17,10 +17,10 @@ use std::marker::Model;
 #[derive(Drop)]
 pub struct Walk<'a> {
     tables: &'a [Table],
-    frame: u32,
-    partition: PartId,
     near: Near,
     stay: Option<Stay>,
+    frame: u32,
+    partition: PartId,
 }
 
 /// What is kept of the stage whose windows the frame here has.
@@ -51,10 +51,10 @@ impl<'a> Walk<'a> {
     {
         Walk {
             tables,
-            frame,
-            partition,
             near,
             stay: None,
+            frame,
+            partition,
         }
     }
 

@@ -10,7 +10,6 @@ ghost use Rattle.ptk_system_machine.specs.Accounts.{IsBehind};
 ghost use Rattle.ptk_system_machine.specs.Turns.{IsComing, IsPlainAt};
 ghost use Rattle.ptk_system_machine.specs.Whole.{AreWindowsOf, account_at, gone_on, state_at};
 
-use super::{first_other, next_due};
 use crate::machine::Machine;
 use ptk_kernel::{Quiet, quiet_until};
 use ptk_window::{Turn, WindowPlan};
@@ -35,18 +34,11 @@ impl Machine {
         ensures each { (q : ℕ) → q < length self.old.accounts →
             state_at q self.new ≡ after_ticks (own_ticks plan.now q) (limits_at q self.old.kept) tick (result - tick) (state_at q self.old) }
     {
-        plan.is_plan();
-        let turns = self.first_turns(plan, tick, to);
-        let Some(p) = next_due(&turns[..self.parts()], to) else {
+        let _parts = self.parts();
+        let Some(first) = self.first_due(plan, tick, to) else {
             return to;
         };
-        let first = turns[p.index()];
-        let stop = first_other(
-            &turns[..self.parts()],
-            p,
-            Tick::new(to.ticks().min(first.end.ticks())),
-        );
-        self.call_rows(plan, p, first, stop).start
+        self.call_rows(plan, first.p, first.turn, first.stop).start
     }
 
     /// Plain steps of the partition and the quiet call behind them, the first at its next decision, with which the turn
