@@ -1,5 +1,5 @@
 -- The least of deadlines by thread number: of the slots it is found among, what it says of expiries, and of none.
-use Rattle.std.proofs.Common.{◌≡◌, ◌≢◌, ℕ, zero, suc, ◌+◌, ◌-◌, ◌<◌, ◌≤◌, List, [], ◌∷◌, min, Bool, true, false, cond, not, refl, sym, ◌∙◌, ap, subst, arith, Option, Some, None, inl, inr}
+use Rattle.std.proofs.Common.{◌≡◌, ◌≢◌, ℕ, zero, suc, ◌+◌, ◌<◌, ◌≤◌, List, [], ◌∷◌, min, Bool, true, false, cond, not, refl, sym, ◌∙◌, ap, subst, arith, Option, Some, None, inl, inr}
 use Rattle.std.specs.Prelude.{◌==◌, option_map, slice_get, IfSome}
 use Rattle.std.specs.Option.{option_flatten, is_some}
 use Rattle.std.proofs.lemmas.Bool.Decides.{nat_tests}
@@ -161,7 +161,7 @@ some_least : (d : ℕ) (o : Option Tick) → o ≡ None → IsTo d o → ⊥
 some_least d None e h = h
 some_least d (Some x) e h = none-some x (sym e)
 
-all_free : (t : ℕ) (ds : List (Option Tick)) → least_deadline ds ≡ None → pool_get ds t ≡ None
+pub all_free : (t : ℕ) (ds : List (Option Tick)) → least_deadline ds ≡ None → pool_get ds t ≡ None
 all_free t ds e = no_deadline (pool_get ds t) (λ d at. some_least d (least_deadline ds) e (to_number t d ds at))
 
 not_some : (o : Option Tick) → is_some o ≡ false → o ≡ None

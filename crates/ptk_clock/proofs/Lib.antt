@@ -7,3 +7,4 @@ pub mod Expiries
 pub mod SlotMoves
 pub mod LeastDeadlines
 pub mod ByThread
+pub mod Onlys

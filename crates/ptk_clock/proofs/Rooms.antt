@@ -1,7 +1,7 @@
 -- A queue of deadlines after a pair came or left: in order, of each slot at most once, and with room.
-use Rattle.std.proofs.Common.{◌≡◌, ℕ, suc, ◌<◌, ◌≤◌, List, [], ◌∷◌, length, Bool, true, false, cond, not, refl, ap, arith, ◌⊎◌, inl, inr, Result, Ok, Err}
+use Rattle.std.proofs.Common.{◌++◌, ◌∙◌, sym, ◌≡◌, ℕ, suc, ◌<◌, ◌≤◌, List, [], ◌∷◌, length, Bool, true, false, cond, not, refl, ap, arith, ◌⊎◌, inl, inr, Result, Ok, Err}
 use Rattle.std.specs.Prelude.{nat_eq, filter, ◌==◌, IsOk, is_ok}
-use Rattle.std.specs.List.{IsDistinct, AllByRecursion}
+use Rattle.std.specs.List.{insert, IsDistinct, AllByRecursion}
 use Rattle.std.proofs.lemmas.Bool.Decides.{nat_tests}
 use Rattle.std.proofs.lemmas.Map.Keys.{IsDistinct-cons, IsDistinct-head, IsDistinct-tail}
 use Rattle.std.proofs.lemmas.Map.Steps.{length-le_from_distinct_below}
@@ -130,6 +130,14 @@ deadlines_room n k xs lt out all =
     omega (arith, length-slots xs)
 
 -- a growth that was not refused
+insert_at_end : (a : Pair) (xs : List Pair) → insert xs (length xs) a ≡ xs ++ a ∷ []
+insert_at_end a [] = refl
+insert_at_end a (x ∷ xs) = ap (λ (rest : List Pair). x ∷ rest) (insert_at_end a xs)
+
+-- a pair whose place is the end is put there
+pub put_at_end : (a : Pair) (place : ℕ) (xs ys : List Pair) → place ≡ length xs → insert xs place a ≡ with_pair a xs → ys ≡ xs ++ a ∷ [] → ys ≡ with_pair a xs
+put_at_end a place xs ys at placed e = e ∙ sym (insert_at_end a xs) ∙ ap (λ i. insert xs i a) (sym at) ∙ placed
+
 pub when_ok : {T E : Type 0} (r : Result T E) (xs ys : List Pair) → IsOk r → cond (is_ok r) xs ys ≡ xs
 when_ok (Ok v) xs ys h = refl
 when_ok (Err e) xs ys h = absurd (cc)

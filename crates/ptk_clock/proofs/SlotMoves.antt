@@ -37,7 +37,7 @@ pub set_no_slot : (first n t : ℕ) (o : Option Tick) (xs : List Pair) → n < t
 set_no_slot first n zero o xs lt = refl
 set_no_slot first n (suc i) o xs lt = sym (set_past (deadlines_from first n xs) i o (omega (arith, lt, length-deadlines_from first n xs)))
 
-away : (first n t start m : ℕ) → 0 < t → t ≤ n → (start + m ≤ first) ⊎ (first + n ≤ start) → (first + (t - 1) < start) ⊎ (start + m ≤ first + (t - 1))
+pub away : (first n t start m : ℕ) → 0 < t → t ≤ n → (start + m ≤ first) ⊎ (first + n ≤ start) → (first + (t - 1) < start) ⊎ (start + m ≤ first + (t - 1))
 away first n t start m pos le apart = elim apart [ inl before ↦ inr (omega (arith, before)) | inr behind ↦ inl (omega (arith, behind, pos, le)) ]
 
 pub elsewhere_none : (first n t : ℕ) (xs : List Pair) → 0 < t → t ≤ n → IsElsewhereSame first n xs (without_slot (first + (t - 1)) xs)

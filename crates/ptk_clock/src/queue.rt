@@ -55,7 +55,11 @@ impl Queue {
         ensures slots { self.new.slots ≡ self.old.slots }
     {
         // it has room, so this takes no memory
-        let _ = self.pairs.insert(place, (deadline, slot));
+        if place == self.pairs.len() {
+            self.pairs.push_reserved((deadline, slot));
+        } else {
+            let _ = self.pairs.insert(place, (deadline, slot));
+        }
     }
 
     /// The pair of a slot leaves, if there is one.

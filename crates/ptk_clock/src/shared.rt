@@ -48,6 +48,7 @@ impl Deadlines for SharedDeadlines {
 
     ghost slots = { λ deadlines. deadlines.slots };
 
+    #[inline(always)]
     fn add(&mut self, deadline: Tick, slot: SlotNo) {
         let place = place_of(self.queue.pairs(), (deadline, slot));
         self.queue.insert(place, deadline, slot);

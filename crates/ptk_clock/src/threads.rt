@@ -5,7 +5,7 @@ ghost use Rattle.ptk_words.specs.Pools.{pool_set};
 ghost use Rattle.ptk_words_parted.specs.Parts.{part_of, filled};
 ghost use Rattle.ptk_words_sync_invariant.specs.Expiries.{next_expiry};
 ghost use Rattle.ptk_clock.specs.BySlot.{deadlines_from};
-ghost use Rattle.ptk_clock.specs.ByThread.{least_deadline, is_reached, first_slot, laid_from, end_from, AreLaid, IsElsewhereSame, with_least};
+ghost use Rattle.ptk_clock.specs.ByThread.{least_deadline, is_reached, first_slot, laid_from, end_from, AreLaid, AreThreadDeadlines, IsElsewhereSame, with_least};
 
 use crate::deadlines::Deadlines;
 use crate::shared::SharedDeadlines;
@@ -73,6 +73,7 @@ impl ThreadDeadlines {
 
     /// Sets or ends the deadline of a thread; nothing changes past the partition's last thread. Where no thread of the
     /// partition has a deadline, there is none to end, and the queue is not gone through.
+    #[inline(always)]
     pub fn set(&mut self, p: PartId, t: ThreadNo, deadline: Option<Tick>)
         requires { p < length self.old }
         ensures { self.new ≡ slice_set self.old p (pool_set (part_of self.old p) t deadline) }
@@ -82,14 +83,22 @@ impl ThreadDeadlines {
         }
     }
 
-    /// The same, by a pass over the queue.
+    /// The same, by a pass over the queue where the partition has deadlines.
+    #[inline(never)]
     fn put(&mut self, p: PartId, t: ThreadNo, deadline: Option<Tick>)
         requires { p < length self.old }
         ensures { self.new ≡ slice_set self.old p (pool_set (part_of self.old p) t deadline) }
     {
         let slots = slots_at(&self.partitions, p);
-        set_in(&mut self.queue, slots, t, deadline);
-        keep_least(&self.queue, &mut self.partitions, p);
+        match deadline {
+            Some(deadline) if slots.next.is_none() => {
+                put_only(&mut self.queue, &mut self.partitions, p, slots, t, deadline);
+            }
+            _ => {
+                set_in(&mut self.queue, slots, t, deadline);
+                keep_least(&self.queue, &mut self.partitions, p);
+            }
+        }
     }
 
     /// The least deadline of a partition's threads, None where none has one.
@@ -142,6 +151,33 @@ fn slots_at(partitions: &[PartitionSlots], p: PartId) -> PartitionSlots
     ensures { slice_get partitions.now p ≡ Some result }
 {
     partitions[p.index()]
+}
+
+/// Sets the deadline of one of a partition's slots, none of which has one, and keeps it as the least; nothing changes
+/// past the last.
+fn put_only(
+    queue: &mut SharedDeadlines,
+    partitions: &mut [PartitionSlots],
+    p: PartId,
+    slots: PartitionSlots,
+    t: ThreadNo,
+    deadline: Tick,
+)
+    requires kept { AreThreadDeadlines queue.old.slots queue.old.pairs partitions.old }
+    requires read { slice_get partitions.old p ≡ Some slots }
+    requires none { slots.next ≡ None }
+    ensures own { deadlines_from slots.first slots.count queue.new.pairs ≡ pool_set (deadlines_from slots.first slots.count queue.old.pairs) t (Some deadline) }
+    ensures elsewhere { IsElsewhereSame slots.first slots.count queue.old.pairs queue.new.pairs }
+    ensures slots { queue.new.slots ≡ queue.old.slots }
+    ensures least { partitions.new ≡ with_least p queue.new.pairs partitions.old }
+{
+    if t.number() > slots.count {
+        return;
+    }
+    let slot = SlotNo::new(slots.first + u16::from(t.number() - 1));
+    queue.add(deadline, slot);
+    let kept = &mut partitions[p.index()];
+    kept.next = Some(deadline);
 }
 
 /// Makes the least deadline of a partition's slots again, after a change of its pairs.

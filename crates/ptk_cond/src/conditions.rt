@@ -28,12 +28,9 @@ pub fn numbered(roster: &Roster, p: PartId, word: u32) -> Option<ConditionNo>
     if word == 0 {
         return None;
     }
-    if word as usize > roster.condition_limit(p) {
-        return None;
-    }
-    let c = ConditionNo::new(word as u8);
-    if is_there(roster, p, c) {
-        Some(c)
+    let _limit = roster.condition_limit(p);
+    if roster.is_condition_word(p, word) {
+        Some(ConditionNo::new(word as u8))
     } else {
         None
     }

@@ -9,12 +9,12 @@
 //!   number of reads: that of its re-lock, of one of its signals, 0, or what it was.
 //!
 //! Mutexes change by calls of `ptk_mutex` alone: a wait unlocks one once, and who is unblocked re-locks the one that it
-//! named. What a call needs of its partition, and leaves of it, is `AreSynced` of `ptk_mutex/specs/Sound`: what the
-//! mutex calls need, and waiters that wait, from which it follows that a thread that waits for nothing is among no
-//! waiters. No call takes memory. Costly to prove is that waiters still wait after one of them was unblocked
-//! (`proofs/Waiters`). Below are `ptk_mutex`, `ptk_syncs`, which has the waiters as linked queues, and
-//! `ptk_words_sync_invariant`, which says what a wait on a condition variable is; above are `ptk_gate_waits` and the
-//! pools of `ptk_gate_pools`.
+//! named; where it has to wait for that one, it passes from one queue of waiters to the other (`pass_on`). What a call
+//! needs of its partition, and leaves of it, is `AreSynced` of `ptk_mutex/specs/Sound`: what the mutex calls need, and
+//! waiters that wait, from which it follows that a thread that waits for nothing is among no waiters. No call takes
+//! memory. Costly to prove is that waiters still wait after one of them was unblocked (`proofs/Waiters`). Below are
+//! `ptk_mutex`, `ptk_syncs`, which has the waiters as linked queues, and `ptk_words_sync_invariant`, which says what a
+//! wait on a condition variable is; above are `ptk_gate_waits` and the pools of `ptk_gate_pools`.
 
 mod conditions;
 mod naming;

@@ -24,6 +24,7 @@ pub fn names(roster: &Roster, p: PartId, m: MutexNo) -> bool
 }
 
 /// Whether a waiter of a condition variable is to have another mutex again (pthread_cond_wait, EINVAL).
+#[inline(always)]
 #[tactic(auto, using(crate::proofs::Waits::none_passes))]
 pub fn names_another(roster: &Roster, p: PartId, c: ConditionNo, m: MutexNo) -> bool
     requires { p < length roster.now.table.threads }
@@ -32,6 +33,15 @@ pub fn names_another(roster: &Roster, p: PartId, c: ConditionNo, m: MutexNo) -> 
     if !roster.has_condition_waiters(p, c) {
         return false;
     }
+    is_any_waiter_naming_another(roster, p, c, m)
+}
+
+/// The same, by a list of all waiters.
+#[inline(never)]
+fn is_any_waiter_naming_another(roster: &Roster, p: PartId, c: ConditionNo, m: MutexNo) -> bool
+    requires { p < length roster.now.table.threads }
+    ensures { result ≡ names_another (syncs_of (part_of roster.now.table.threads p) (part_of roster.now.conditions p)) c m }
+{
     let waiters = roster.condition_waiters(p, c);
     is_any_naming_another(roster.threads().part(p), waiters.as_slice(), m)
 }

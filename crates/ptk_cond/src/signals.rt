@@ -12,12 +12,14 @@ ghost use Rattle.ptk_cond.specs.Tables.{syncs_at, put_syncs, AreSynced, MayLeave
 ghost use Rattle.ptk_cond.specs.Visits.{IsVisitedBySignal};
 
 use crate::naming::mutex_of_condition_wait;
-use ptk_mutex::Mutexes;
+use ptk_mutex::{Mutexes, relock_move};
 use ptk_syncs::Roster;
+use ptk_threads::Members;
 use ptk_words::{ConditionNo, MutexNo, PartId, ThreadNo};
 
 /// The waiter of greatest effective priority, the earliest among equals, is unblocked: it re-locks the mutex that it
 /// named, with reply 0 (pthread_cond_signal). Nothing changes without waiters.
+#[inline(always)]
 #[tactic(auto, using(crate::proofs::Steps::steps))]
 pub fn signal(roster: &mut Roster, mutexes: &mut Mutexes, p: PartId, c: ConditionNo)
     requires ready { AreSynced p roster.old }
@@ -50,6 +52,7 @@ pub fn broadcast(roster: &mut Roster, mutexes: &mut Mutexes, p: PartId, c: Condi
 
 /// A waiter leaves the condition variable and re-locks the mutex that it named, with this reply if there is one, as at
 /// its deadline or at a cancellation (pthread_cond_timedwait; XSH 2.9.5).
+#[inline(always)]
 #[tactic(auto, using(crate::proofs::Waits::waits))]
 pub fn withdraw(
     roster: &mut Roster,
@@ -71,6 +74,7 @@ pub fn withdraw(
 }
 
 /// A waiter leaves the condition variable and re-locks the mutex, which is the one that it named.
+#[inline(always)]
 #[tactic(auto, using(crate::proofs::Steps::steps))]
 fn unblock(
     roster: &mut Roster,
@@ -90,12 +94,17 @@ fn unblock(
     ensures sound { IsSound roster.old → IsSound roster.new }
 {
     if let Some(m) = named {
-        roster.leave_condition(p, c, t);
-        mutexes.relock(roster, p, t, m, reply);
+        if relock_move(roster, p, t, m).is_waiting() {
+            mutexes.pass_on(roster, p, t, c, m, reply);
+        } else {
+            roster.leave_condition(p, c, t);
+            mutexes.relock(roster, p, t, m, reply);
+        }
     }
 }
 
 /// A waiter, if there is one, is unblocked with reply 0.
+#[inline(always)]
 #[tactic(auto, using(crate::proofs::Steps::steps))]
 fn signal_to(
     roster: &mut Roster,
@@ -119,22 +128,22 @@ fn signal_to(
 }
 
 /// The first waiter of the greatest effective priority, None without waiters.
+#[inline(always)]
 #[tactic(auto, using(crate::proofs::Steps::choices))]
 fn choose(roster: &Roster, p: PartId, c: ConditionNo) -> Option<ThreadNo>
     requires ready { AreSynced p roster.now }
     ensures told { result ≡ next_waiter c (syncs_at p roster.now) }
     ensures may { MayLeave result (syncs_at p roster.now) c }
 {
-    if !roster.has_condition_waiters(p, c) {
-        return None;
-    }
-    match roster.only_condition_waiter(p, c) {
-        Some(t) => Some(t),
-        None => first_waiter(roster, p, c),
+    match roster.few_condition_waiters(p, c) {
+        Members::NoMember => None,
+        Members::OnlyMember(t) => Some(t),
+        Members::MoreMembers => first_waiter(roster, p, c),
     }
 }
 
 /// The same, by a list of all waiters.
+#[inline(never)]
 #[tactic(auto, using(crate::proofs::Steps::choices))]
 fn first_waiter(roster: &Roster, p: PartId, c: ConditionNo) -> Option<ThreadNo>
     requires ready { AreSynced p roster.now }

@@ -10,11 +10,11 @@ ghost use Rattle.ptk_cond.specs.Tables.{syncs_at, put_syncs, AreSynced, IsAwake}
 
 use ptk_mutex::Mutexes;
 use ptk_syncs::Roster;
-use ptk_threads::ThreadChange;
 use ptk_words::{ConditionNo, MutexNo, PartId, ThreadNo, Tick, Wait};
 
 /// A thread that waits for nothing unlocks the mutex once, as unlock does, and is then the last waiter of the condition
 /// variable, until the deadline (a tick) if there is one (pthread_cond_wait, pthread_cond_timedwait).
+#[inline(always)]
 #[tactic(auto, using(crate::proofs::Steps::waits))]
 pub fn wait(
     roster: &mut Roster,
@@ -36,5 +36,5 @@ pub fn wait(
     roster.await_condition(p, c, t);
     mutexes.unlock(roster, p, m);
     let wait = Wait::ConditionWait(c, m, deadline);
-    roster.change(p, t, ThreadChange::Wait(Some(wait)));
+    roster.set_wait(p, t, Some(wait));
 }

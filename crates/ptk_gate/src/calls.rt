@@ -71,21 +71,21 @@ fn answer(pools: &mut Pools, tick: Tick, caller: ThreadNo) -> Reply
     let cpu = &thread.cpu;
     let i = invocation(pools.limits(), tick, caller, cpu);
     let known = Call::of_number(cpu.register(A7));
-    reply_to(pools, known, i)
+    reply_to(pools, known, &i)
 }
 
 /// Carries out this call of the running thread; ENOSYS of a number that is no call.
 #[inline(always)]
-pub(crate) fn reply_to(pools: &mut Pools, known: Option<Call>, i: Invocation) -> Reply
-    requires limits { i.limits ≡ limits_here pools.old }
+pub(crate) fn reply_to(pools: &mut Pools, known: Option<Call>, i: &Invocation) -> Reply
+    requires limits { i.now.limits ≡ limits_here pools.old }
     requires well { IsWell (limits_here pools.old) pools.old.here }
-    requires running { pools.old.here.running ≡ Some i.caller }
-    ensures told { result ≡ (answer_to known i pools.old.here).reply }
-    ensures moved { pools.new ≡ record pools.old { here = (answer_to known i pools.old.here).part } }
+    requires running { pools.old.here.running ≡ Some i.now.caller }
+    ensures told { result ≡ (answer_to known i.now pools.old.here).reply }
+    ensures moved { pools.new ≡ record pools.old { here = (answer_to known i.now pools.old.here).part } }
 {
     match known {
         Some(call) => carry_out(pools, call, i),
-        None => refuse(pools, i, Errno::ENOSYS),
+        None => refuse(pools, *i, Errno::ENOSYS),
     }
 }
 
@@ -105,52 +105,78 @@ pub(crate) fn invocation(limits: Limits, at: Tick, t: ThreadNo, cpu: &Cpu) -> In
     }
 }
 
-/// Carries out the call of the running thread.
+/// Carries out the call of the running thread. Those that lock, unlock, wait and signal, which threads make most, are
+/// made from here on the arguments where they are; all others by the whole table.
+#[inline(always)]
 #[tactic(auto, using(crate::proofs::Called::called))]
-fn carry_out(pools: &mut Pools, call: Call, i: Invocation) -> Reply
-    requires limits { i.limits ≡ limits_here pools.old }
+fn carry_out(pools: &mut Pools, call: Call, i: &Invocation) -> Reply
+    requires limits { i.now.limits ≡ limits_here pools.old }
     requires well { IsWell (limits_here pools.old) pools.old.here }
-    requires running { pools.old.here.running ≡ Some i.caller }
-    ensures told { result ≡ (answer_of call i pools.old.here).reply }
-    ensures moved { pools.new ≡ record pools.old { here = (answer_of call i pools.old.here).part } }
+    requires running { pools.old.here.running ≡ Some i.now.caller }
+    ensures told { result ≡ (answer_of call i.now pools.old.here).reply }
+    ensures moved { pools.new ≡ record pools.old { here = (answer_of call i.now pools.old.here).part } }
 {
     match call {
-        Call::Exit => exit(pools, i),
-        Call::ConsolePut => put(pools, i),
-        Call::ConsoleGet => get(pools, i),
-        Call::ClockGettime => clock_gettime(pools, i),
-        Call::ClockNanosleep => clock_nanosleep(pools, i),
-        Call::PthreadCreate => create(pools, i),
-        Call::PthreadExit => leave(pools, i),
-        Call::PthreadJoin => join(pools, i),
-        Call::PthreadDetach => detach(pools, i),
-        Call::PthreadSelf => own_number(pools, i),
-        Call::SchedYield => yield_turn(pools, i),
-        Call::PthreadSetschedparam => setschedparam(pools, i),
-        Call::PthreadGetschedparam => getschedparam(pools, i),
-        Call::PthreadSetschedprio => setschedprio(pools, i),
-        Call::MutexInit => mutex_init(pools, i),
-        Call::MutexDestroy => mutex_destroy(pools, i),
         Call::MutexLock => mutex_lock(pools, i),
         Call::MutexTrylock => mutex_trylock(pools, i),
         Call::MutexTimedlock => mutex_timedlock(pools, i),
         Call::MutexUnlock => mutex_unlock(pools, i),
-        Call::MutexConsistent => mutex_consistent(pools, i),
-        Call::CondInit => cond_init(pools, i),
-        Call::CondDestroy => cond_destroy(pools, i),
         Call::CondWait => cond_wait(pools, i),
         Call::CondTimedwait => cond_timedwait(pools, i),
         Call::CondSignal => cond_signal(pools, i),
         Call::CondBroadcast => cond_broadcast(pools, i),
-        Call::PthreadCancel => cancel(pools, i),
-        Call::PthreadSetcancelstate => setcancelstate(pools, i),
-        Call::PthreadSetcanceltype => setcanceltype(pools, i),
-        Call::PthreadTestcancel => testcancel(pools, i),
-        Call::CleanupPush => cleanup_push(pools, i),
-        Call::CleanupPop => cleanup_pop(pools, i),
-        Call::KeyCreate => key_create(pools, i),
-        Call::KeyDelete => key_delete(pools, i),
-        Call::PthreadSetspecific => setspecific(pools, i),
-        Call::PthreadGetspecific => getspecific(pools, i),
+        _ => carry_out_any(pools, call, i),
+    }
+}
+
+/// Carries out any call of the running thread: the whole call table. Most of its arms copy the arguments, so it is not
+/// compiled into its callers, whose frames need no room for that.
+#[inline(never)]
+#[tactic(auto, using(crate::proofs::Called::called))]
+fn carry_out_any(pools: &mut Pools, call: Call, i: &Invocation) -> Reply
+    requires limits { i.now.limits ≡ limits_here pools.old }
+    requires well { IsWell (limits_here pools.old) pools.old.here }
+    requires running { pools.old.here.running ≡ Some i.now.caller }
+    ensures told { result ≡ (answer_of call i.now pools.old.here).reply }
+    ensures moved { pools.new ≡ record pools.old { here = (answer_of call i.now pools.old.here).part } }
+{
+    match call {
+        Call::Exit => exit(pools, *i),
+        Call::ConsolePut => put(pools, *i),
+        Call::ConsoleGet => get(pools, *i),
+        Call::ClockGettime => clock_gettime(pools, *i),
+        Call::ClockNanosleep => clock_nanosleep(pools, *i),
+        Call::PthreadCreate => create(pools, *i),
+        Call::PthreadExit => leave(pools, *i),
+        Call::PthreadJoin => join(pools, *i),
+        Call::PthreadDetach => detach(pools, *i),
+        Call::PthreadSelf => own_number(pools, *i),
+        Call::SchedYield => yield_turn(pools, *i),
+        Call::PthreadSetschedparam => setschedparam(pools, *i),
+        Call::PthreadGetschedparam => getschedparam(pools, *i),
+        Call::PthreadSetschedprio => setschedprio(pools, *i),
+        Call::MutexInit => mutex_init(pools, *i),
+        Call::MutexDestroy => mutex_destroy(pools, *i),
+        Call::MutexLock => mutex_lock(pools, i),
+        Call::MutexTrylock => mutex_trylock(pools, i),
+        Call::MutexTimedlock => mutex_timedlock(pools, i),
+        Call::MutexUnlock => mutex_unlock(pools, i),
+        Call::MutexConsistent => mutex_consistent(pools, *i),
+        Call::CondInit => cond_init(pools, *i),
+        Call::CondDestroy => cond_destroy(pools, *i),
+        Call::CondWait => cond_wait(pools, i),
+        Call::CondTimedwait => cond_timedwait(pools, i),
+        Call::CondSignal => cond_signal(pools, i),
+        Call::CondBroadcast => cond_broadcast(pools, i),
+        Call::PthreadCancel => cancel(pools, *i),
+        Call::PthreadSetcancelstate => setcancelstate(pools, *i),
+        Call::PthreadSetcanceltype => setcanceltype(pools, *i),
+        Call::PthreadTestcancel => testcancel(pools, *i),
+        Call::CleanupPush => cleanup_push(pools, *i),
+        Call::CleanupPop => cleanup_pop(pools, *i),
+        Call::KeyCreate => key_create(pools, *i),
+        Call::KeyDelete => key_delete(pools, *i),
+        Call::PthreadSetspecific => setspecific(pools, *i),
+        Call::PthreadGetspecific => getspecific(pools, *i),
     }
 }

@@ -65,7 +65,7 @@ fn take_turn(pools: &mut Pools, t: ThreadNo, tick: Tick, room: u32) -> Spent
         make_yield(pools, t, tick, pc);
     } else {
         let i = invocation(pools.limits(), tick, t, cpu);
-        make_step(pools, known, i, pc, cost);
+        make_step(pools, known, &i, pc, cost);
     }
     Spent::Step(cost)
 }
@@ -80,7 +80,7 @@ fn make_yield(pools: &mut Pools, t: ThreadNo, tick: Tick, pc: u32)
     requires running { pools.old.here.running ≡ Some t }
     ensures { (i : Invocation) (cost : ℕ) → i.caller ≡ t → i.tick ≡ tick → pools.new ≡ record pools.old { here = finished (limits_here pools.old) (ecall_entry pc i) cost (answer_to (Some SchedYield) i (past_ecall t pc pools.old.here)).part } }
 {
-    pools.give_pc(t, pc.wrapping_add(4));
+    pools.put_pc(t, pc.wrapping_add(4));
     pools.end_turn_with(t, &[0]);
     pools.note_last(Entry {
         tick,
@@ -93,14 +93,14 @@ fn make_yield(pools: &mut Pools, t: ThreadNo, tick: Tick, pc: u32)
 
 /// The step of the call, of these ticks, whose ECALL is at this pc.
 #[inline(always)]
-fn make_step(pools: &mut Pools, known: Option<Call>, i: Invocation, pc: u32, cost: u32)
-    requires limits { i.limits ≡ limits_here pools.old }
+fn make_step(pools: &mut Pools, known: Option<Call>, i: &Invocation, pc: u32, cost: u32)
+    requires limits { i.now.limits ≡ limits_here pools.old }
     requires well { IsWell (limits_here pools.old) pools.old.here }
-    requires running { pools.old.here.running ≡ Some i.caller }
-    ensures { pools.new ≡ record pools.old { here = finished (limits_here pools.old) (ecall_entry pc i) cost (answer_to known i (past_ecall i.caller pc pools.old.here)).part } }
+    requires running { pools.old.here.running ≡ Some i.now.caller }
+    ensures { pools.new ≡ record pools.old { here = finished (limits_here pools.old) (ecall_entry pc i.now) cost (answer_to known i.now (past_ecall i.now.caller pc pools.old.here)).part } }
 {
-    let entry = entry_of(&i, pc);
-    pools.give_pc(i.caller, pc.wrapping_add(4));
+    let entry = entry_of(i, pc);
+    pools.put_pc(i.caller, pc.wrapping_add(4));
     let _told = reply_to(pools, known, i);
     finish(pools, &entry, cost);
 }

@@ -1,9 +1,10 @@
 //! Cancellation points (XSH 2.9.5.2).
 
-ghost use Rattle.std.specs.Prelude.{◌≡◌};
+ghost use Rattle.std.specs.Prelude.{◌≡◌, IsSome};
 ghost use Rattle.ptk_words.specs.Threads.{is_normal};
 ghost use Rattle.ptk_words_model.specs.Calls.{is_cancelled, cancellation_answer};
 ghost use Rattle.ptk_words_model.specs.Decision.{is_to_unwind};
+ghost use Rattle.ptk_words_model.specs.Priority.{thread_at};
 
 use crate::unwinding::start_unwinding;
 use ptk_gate_pools::{Look, Pools};
@@ -27,6 +28,16 @@ pub fn is_cancelled(pools: &Pools, t: ThreadNo) -> bool
         Some(thread) => thread.phase.is_normal() && pools.is_point_acting(t),
         None => false,
     }
+}
+
+/// `is_cancelled` of a thread that is in use.
+#[inline(always)]
+pub fn is_used_cancelled(pools: &Pools, t: ThreadNo) -> bool
+    requires in_use { IsSome (thread_at pools.now.here.locks t) }
+    ensures { result ≡ is_cancelled pools.now.here t }
+{
+    let thread = pools.used_thread(t);
+    thread.phase.is_normal() && pools.is_point_acting(t)
 }
 
 /// Whether the thread's next step begins its unwinding (XSH 2.9.5.2).

@@ -27,7 +27,7 @@ mod words;
 
 pub use blocking::{block, halt};
 pub use calls::{exit, leave, own_number};
-pub use cancellation::{cancel, is_cancelled, is_to_unwind};
+pub use cancellation::{cancel, is_cancelled, is_to_unwind, is_used_cancelled};
 pub use creation::begin;
 pub use intervals::count_interval;
 pub use places::{end_turn, push_tail, step_back};

@@ -1,8 +1,9 @@
 //! The registers of a caller, written where they lie, and whether input is due.
 
-ghost use Rattle.std.specs.Prelude.{◌≡◌, ◌<◌, length, is_some};
+ghost use Rattle.std.specs.Prelude.{◌≡◌, ◌<◌, length, IsSome, is_some};
 ghost use Rattle.ptk_threads.specs.Registers.{with_pc};
 ghost use Rattle.ptk_words_model.specs.State.{with_locks};
+ghost use Rattle.ptk_words_model.specs.Priority.{thread_at};
 ghost use Rattle.ptk_words_model.specs.Schedule.{with_thread};
 ghost use Rattle.ptk_words_model.specs.Calls.{replied};
 ghost use Rattle.ptk_console.specs.ConsoleTable.{next_byte};
@@ -12,6 +13,17 @@ use ptk_threads::ThreadChange;
 use ptk_words::{ThreadNo, Tick};
 
 impl Pools {
+    /// The thread, which is in use, goes on at this address.
+    #[inline(always)]
+    #[tactic(auto, using(crate::proofs::Hands::handed, crate::proofs::Stored::stored))]
+    pub fn put_pc(&mut self, t: ThreadNo, pc: u32)
+        requires in_use { IsSome (thread_at self.old.here.locks t) }
+        ensures { self.new ≡ record self.old { here = with_locks (with_thread t (with_pc pc)) self.old.here } }
+    {
+        let p = self.hand;
+        self.roster.set_pc(p, t, pc);
+    }
+
     /// The thread goes on at this address; a free number stays free.
     #[tactic(auto, using(crate::proofs::Hands::handed, crate::proofs::Stored::stored))]
     pub fn give_pc(&mut self, t: ThreadNo, pc: u32)

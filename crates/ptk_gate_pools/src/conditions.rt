@@ -42,6 +42,7 @@ impl Pools {
     }
 
     /// Whether a waiter of the condition variable is to have another mutex again (pthread_cond_wait, EINVAL).
+    #[inline(always)]
     pub fn names_another(&self, c: ConditionNo, m: MutexNo) -> bool
         ensures { result ≡ names_another self.now.here.syncs c m }
     {
@@ -72,6 +73,7 @@ impl Pools {
     /// The running thread unlocks its mutex once, as unlock does, and is then the last waiter of the condition
     /// variable, until the deadline (a tick) if there is one (pthread_cond_wait, pthread_cond_timedwait). It still
     /// runs, and a deadline already reached is the caller's to refuse before.
+    #[inline(always)]
     #[tactic(auto, using(crate::proofs::Hands::handed))]
     pub fn wait_on(&mut self, t: ThreadNo, c: ConditionNo, m: MutexNo, deadline: Option<Tick>)
         requires well { IsWell (limits_here self.old) self.old.here }
@@ -88,6 +90,7 @@ impl Pools {
 
     /// The waiter of greatest effective priority, the earliest among equals, is unblocked: it re-locks the mutex that
     /// it named, with reply 0 (pthread_cond_signal). Nothing changes without waiters.
+    #[inline(always)]
     #[tactic(auto, using(crate::proofs::Hands::handed))]
     pub fn signal(&mut self, c: ConditionNo)
         requires well { IsWell (limits_here self.old) self.old.here }

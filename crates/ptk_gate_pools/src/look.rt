@@ -101,6 +101,16 @@ impl Look<'_> {
         pools.roster.threads().thread_ref(self.p, t)
     }
 
+    /// The thread of a number in use, where it lies.
+    #[tactic(auto, using(crate::proofs::Hands::taken))]
+    pub fn used_thread(&self, t: ThreadNo) -> &Thread
+        requires in_use { IsSome (thread_at self.now.part.locks t) }
+        ensures { Some result.now ≡ thread_at self.now.part.locks t }
+    {
+        let pools = self.pools;
+        pools.roster.threads().used_thread(self.p, t)
+    }
+
     /// The thread of a number, if it is in use.
     #[tactic(auto, using(crate::proofs::Hands::taken))]
     pub fn thread(&self, t: ThreadNo) -> Option<Thread>

@@ -6,7 +6,7 @@ ghost use Rattle.ptk_words.specs.Pools.{least_free, pool_get};
 ghost use Rattle.ptk_words.specs.declared.mutexes.Soundness.TheVariants.{Consistent};
 ghost use Rattle.ptk_words.specs.declared.TheConstants.{COUNT_LIMIT};
 ghost use Rattle.ptk_words.specs.declared.threads.Wait.TheVariants.{MutexWait, RelockWait};
-ghost use Rattle.ptk_words_model.specs.declared.LockMove.TheVariants.{Counts};
+ghost use Rattle.ptk_words_model.specs.declared.LockMove.TheVariants.{Counts, Waits};
 ghost use Rattle.ptk_words_model.specs.State.{with_locks};
 ghost use Rattle.ptk_words_model.specs.Mutex.{mutex_at, new_mutex, waiters_of, owns, owns_raising, count_of, lock_move, trylock_move, relock_move, after_move, after_unlock, after_owner_end, with_soundness};
 ghost use Rattle.ptk_words_model.specs.MutexCalls.{is_locked};
@@ -114,6 +114,20 @@ impl Pools {
     {
         let p = self.hand;
         self.mutexes.lock(&mut self.roster, p, t, m, deadline)
+    }
+
+    /// A thread that waits for no mutex waits for this one, where `lock` would wait, until the deadline (a tick) if
+    /// there is one (pthread_mutex_timedlock). A deadline already reached is the caller's to refuse before.
+    #[tactic(auto, using(crate::proofs::Hands::handed, crate::proofs::Locking::moved))]
+    pub fn wait_for(&mut self, t: ThreadNo, m: MutexNo, deadline: Option<Tick>)
+        requires locked { AreLocked self.old.here.locks }
+        requires caller { MayWait self.old.here.locks t }
+        requires free { IsNoWaiter t self.old.here.mutexes self.old.here.conditions }
+        requires waits { lock_move self.old.here.locks t (mutex_at self.old.here.locks m) ≡ Waits }
+        ensures { self.new ≡ record self.old { here = with_locks (after_move Waits t m (MutexWait m deadline)) self.old.here } }
+    {
+        let p = self.hand;
+        self.mutexes.wait_for(&mut self.roster, p, t, m, deadline);
     }
 
     /// A thread that waits for no mutex re-locks this one, or waits for it with this reply if it gets any, or goes on

@@ -75,10 +75,6 @@ pub ruleset next_steps = (next_other, next_call)
 
 -- ---- what is known of the next step
 
-quiet_by : (word quiet : Bool) → (if word then (if quiet then nexts.Quiet else nexts.Call) else nexts.Other) ≡ nexts.Quiet → word ≡ true
-quiet_by true quiet e = refl
-quiet_by false quiet e = absurd (let no : ⊥ = cc in no)
-
 call_by : (word quiet : Bool) → (if word then (if quiet then nexts.Quiet else nexts.Call) else nexts.Other) ≡ nexts.Call → (word ≡ true) × ((word && quiet) ≡ false)
 call_by true true e = absurd (let no : ⊥ = cc in no)
 call_by true false e = (refl, refl)
@@ -88,10 +84,6 @@ other_by : (word quiet : Bool) → (if word then (if quiet then nexts.Quiet else
 other_by true true e = absurd (let no : ⊥ = cc in no)
 other_by true false e = absurd (let no : ⊥ = cc in no)
 other_by false quiet e = refl
-
--- a quiet call is an ECALL
-pub quiet_is : (t : ℕ) (thread : Thread) (s : Part) → next_of t thread s ≡ nexts.Quiet → word_fetched s.memory thread.cpu.pc ≡ ECALL
-quiet_is t thread s e = eqb-true (word_fetched s.memory thread.cpu.pc) ECALL (quiet_by (word_fetched s.memory thread.cpu.pc == ECALL) (is_quiet_with (call_of (register thread.cpu A7)) t (register thread.cpu A0) s) e)
 
 -- another call is an ECALL that is not quiet
 pub call_is : (t : ℕ) (thread : Thread) (s : Part) → next_of t thread s ≡ nexts.Call → (word_fetched s.memory thread.cpu.pc ≡ ECALL) × (is_quiet_call t thread s ≡ false)

@@ -48,6 +48,7 @@ pub fn quiet_until(look: &Look<'_>, tick: Tick, stop: Tick) -> Option<Quiet>
 /// `quiet_until` of a partition whose running thread is chosen: it stays before those of the line, and that is not
 /// tested.
 #[inline(always)]
+#[tactic(auto, using(ptk_gate_moves::proofs::Ready::ready))]
 pub fn prepared_until(look: &Look<'_>, tick: Tick, stop: Tick) -> Option<Quiet>
     requires active { is_active look.now.part.status ≡ true }
     requires well { IsWell look.now.limits look.now.part }
@@ -59,10 +60,7 @@ pub fn prepared_until(look: &Look<'_>, tick: Tick, stop: Tick) -> Option<Quiet>
     ensures full { (t k : ℕ) → (thread : Thread) → tick < k → k ≤ stop → IsQuiet look.now.limits tick k t thread look.now.part → IsSomeAnd result (λ q. k ≤ q.stop) }
 {
     match look.running() {
-        Some(number) => match look.thread_ref(number) {
-            Some(thread) => chosen_thread(look, number, thread, tick, stop),
-            None => None,
-        },
+        Some(number) => chosen_thread(look, number, look.used_thread(number), tick, stop),
         None => None,
     }
 }

@@ -1,6 +1,6 @@
 -- The mutex and the condition variable of a word.
-use Rattle.std.proofs.Common.{◌≡◌, ◌≢◌, ℕ, ◌+◌, ◌≤◌, Bool, true, false, [], length, refl, ◌∙◌, ap}
-use Rattle.std.specs.Prelude.{◌==◌, not, Some, None, is_some, option_map, unwrap_or, Result, Ok, Err, IfOk, if◌then◌else◌}
+use Rattle.std.proofs.Common.{◌≡◌, ◌≢◌, ℕ, zero, suc, ◌+◌, ◌≤◌, Bool, true, false, [], length, refl, sym, ◌∙◌, ap, subst}
+use Rattle.std.specs.Prelude.{◌==◌, not, Option, Some, None, is_some, option_map, unwrap_or, Result, Ok, Err, IfOk, if◌then◌else◌}
 use Rattle.std.proofs.lemmas.Bool.{eq-eqb, ne_eqb}
 use Rattle.ptk_words.specs.Names.{MutexNumber, ConditionNumber}
 use Rattle.ptk_words.specs.Words.{word_at}
@@ -74,12 +74,12 @@ by_zero word made other e = rw (eq-eqb word 0 e) refl
 -- ---- mutexes
 
 -- the mutex of a word of 0 is set up at the least free number
-pub mutex_made : (limits : Limits) (pointer : ℕ) (s u : Part) (m : ℕ) → IsWell limits s → is_pointer s pointer 4 ≡ true → word_at s.memory pointer ≡ 0 → least_free s.mutexes ≡ Some m
+mutex_made : (limits : Limits) (pointer : ℕ) (s u : Part) (m : ℕ) → IsWell limits s → is_pointer s pointer 4 ≡ true → word_at s.memory pointer ≡ 0 → least_free s.mutexes ≡ Some m
     → u ≡ with_stored pointer m (with_pool_mutex m (Some (new_mutex Normal NoProtocol false)) s) → IsMutexOfWord limits pointer s (Ok m) u
-mutex_made limits pointer s u m well within zero found e =
+mutex_made limits pointer s u m well within blank found e =
     rw e
     (record {
-      call = λ i rest. by_zero (word_at s.memory pointer) _ _ zero ∙ ap (λ o. unwrap_or (option_map (λ m. rest m i (with_stored pointer m (with_pool_mutex m (Some (new_mutex Normal NoProtocol false)) s))) o) (refusal ENOMEM i s)) found;
+      call = λ i rest. by_zero (word_at s.memory pointer) _ _ blank ∙ ap (λ o. unwrap_or (option_map (λ m. rest m i (with_stored pointer m (with_pool_mutex m (Some (new_mutex Normal NoProtocol false)) s))) o) (refusal ENOMEM i s)) found;
       well = well_set_up limits m pointer s found within well;
       running = refl;
       memory = length-stored s pointer m within;
@@ -87,14 +87,24 @@ mutex_made limits pointer s u m well within zero found e =
     })
 
 -- no number is free for it
-pub mutex_unmade : (limits : Limits) (pointer : ℕ) (s : Part) → IsWell limits s → word_at s.memory pointer ≡ 0 → least_free s.mutexes ≡ None → IsMutexOfWord limits pointer s (Err ENOMEM) s
-mutex_unmade limits pointer s well zero none = record {
-  call = λ i rest. by_zero (word_at s.memory pointer) _ _ zero ∙ ap (λ o. unwrap_or (option_map (λ m. rest m i (with_stored pointer m (with_pool_mutex m (Some (new_mutex Normal NoProtocol false)) s))) o) (refusal ENOMEM i s)) none;
+mutex_unmade : (limits : Limits) (pointer : ℕ) (s : Part) → IsWell limits s → word_at s.memory pointer ≡ 0 → least_free s.mutexes ≡ None → IsMutexOfWord limits pointer s (Err ENOMEM) s
+mutex_unmade limits pointer s well blank none = record {
+  call = λ i rest. by_zero (word_at s.memory pointer) _ _ blank ∙ ap (λ o. unwrap_or (option_map (λ m. rest m i (with_stored pointer m (with_pool_mutex m (Some (new_mutex Normal NoProtocol false)) s))) o) (refusal ENOMEM i s)) none;
   well = well;
   running = refl;
   memory = refl;
   conditions = refl;
 }
+
+-- what stands at a pointer to 0 is set up at the least free number, if one is
+pub mutex_set_up : (limits : Limits) (pointer : ℕ) (s u : Part) (named : Result MutexNumber Errno) (o : Option ℕ) → IsWell limits s → is_pointer s pointer 4 ≡ true → word_at s.memory pointer ≡ 0 → least_free s.mutexes ≡ o
+    → named ≡ unwrap_or (option_map Ok o) (Err ENOMEM) → u ≡ unwrap_or (option_map (λ m. with_stored pointer m (with_pool_mutex m (Some (new_mutex Normal NoProtocol false)) s)) o) s → IsMutexOfWord limits pointer s named u
+mutex_set_up limits pointer s u named None well within blank none told made =
+    let P : Result MutexNumber Errno → Part → Type 0 = λ (r : Result MutexNumber Errno) (v : Part). IsMutexOfWord limits pointer s r v in
+    subst (λ (r : Result MutexNumber Errno). P r u) (sym told) (subst (P (Err ENOMEM)) (sym made) (mutex_unmade limits pointer s well blank none))
+mutex_set_up limits pointer s u named (Some m) well within blank found told made =
+    let P : Result MutexNumber Errno → Type 0 = λ (r : Result MutexNumber Errno). IsMutexOfWord limits pointer s r u in
+    subst P (sym told) (mutex_made limits pointer s u m well within blank found made)
 
 known_call : (b : Bool) (m pointer : ℕ) (i : Invocation) (s : Part) (rest : MutexNumber → Row) → is_some (mutex_at s.locks m) ≡ b → word_at s.memory pointer ≡ m → m ≢ 0
     → mutex_named pointer rest i s ≡ (if not b then refusal EINVAL i s else rest m i s)
@@ -106,9 +116,20 @@ known_at limits true m pointer s well used e ne =
 known_at limits false m pointer s well used e ne =
     record { call = λ i rest. known_call false m pointer i s rest used e ne; well = well; running = refl; memory = refl; conditions = refl }
 
--- the word is a number, of a mutex in use or not
-pub mutex_known : (limits : Limits) (m pointer : ℕ) (s : Part) → IsWell limits s → word_at s.memory pointer ≡ m → m ≢ 0 → IsMutexOfWord limits pointer s (if is_some (mutex_at s.locks m) then Ok m else Err EINVAL) s
-mutex_known limits m pointer s well e ne = known_at limits (is_some (mutex_at s.locks m)) m pointer s well refl e ne
+numbered_at : (limits : Limits) (b : Bool) (w m pointer : ℕ) (s : Part) → IsWell limits s → is_some (mutex_at s.locks w) ≡ b → w ≡ word_at s.memory pointer → w ≢ 0 → (if b then Some w else None) ≡ Some m → IsMutexOfWord limits pointer s (Ok m) s
+numbered_at limits true w m pointer s well used e ne is =
+    let same : w ≡ m = cc in
+    subst (λ (n : ℕ). IsMutexOfWord limits pointer s (Ok n) s) same (known_at limits true w pointer s well used (sym e) ne)
+numbered_at limits false w m pointer s well used e ne is = absurd cc
+
+-- the word is the number of a mutex in use
+pub mutex_numbered : (limits : Limits) (w m pointer : ℕ) (s : Part) → IsWell limits s → w ≡ word_at s.memory pointer → (if is_some (mutex_at s.locks w) then Some w else None) ≡ Some m → IsMutexOfWord limits pointer s (Ok m) s
+mutex_numbered limits zero m pointer s well e is = absurd cc
+mutex_numbered limits (suc w) m pointer s well e is = numbered_at limits (is_some (mutex_at s.locks (suc w))) (suc w) m pointer s well refl e (λ z. absurd cc) is
+
+-- it is a number, of none in use
+pub mutex_unnumbered : (limits : Limits) (w pointer : ℕ) (s : Part) → IsWell limits s → w ≡ word_at s.memory pointer → is_some (mutex_at s.locks w) ≡ false → w ≢ 0 → IsMutexOfWord limits pointer s (Err EINVAL) s
+mutex_unnumbered limits w pointer s well e unused ne = known_at limits false w pointer s well unused (sym e) ne
 
 -- of a pointer whose word lies in memory
 pub mutex_read : (limits : Limits) (i : Invocation) (s u : Part) (named : Result MutexNumber Errno) → is_pointer s i.a0 4 ≡ true → IsMutexOfWord limits i.a0 s named u → IsNamed limits i s named u
@@ -132,14 +153,14 @@ mutex_unread limits i s outside well =
 -- ---- condition variables
 
 -- the condition variable of a word of 0 is set up at the least free number
-pub condition_made : (limits : Limits) (pointer : ℕ) (s u : Part) (c : ℕ) → IsWell limits s → is_pointer s pointer 4 ≡ true → word_at s.memory pointer ≡ 0 → least_free s.conditions ≡ Some c
+condition_made : (limits : Limits) (pointer : ℕ) (s u : Part) (c : ℕ) → IsWell limits s → is_pointer s pointer 4 ≡ true → word_at s.memory pointer ≡ 0 → least_free s.conditions ≡ Some c
     → u ≡ with_stored pointer c (with_pool_condition c (Some (record { waiters = [] })) s) → IsConditionOfWord limits pointer s (Ok c) u
-condition_made limits pointer s u c well within zero found e =
+condition_made limits pointer s u c well within blank found e =
     let free : IsFree s.conditions c = least_free_is s.conditions c found in
     let made : Part = with_pool_condition c (Some (record { waiters = [] })) s in
     rw e
     (record {
-      call = λ i rest. by_zero (word_at s.memory pointer) _ _ zero ∙ ap (λ o. unwrap_or (option_map (λ c. rest c i (with_stored pointer c (with_pool_condition c (Some (record { waiters = [] })) s))) o) (refusal ENOMEM i s)) found;
+      call = λ i rest. by_zero (word_at s.memory pointer) _ _ blank ∙ ap (λ o. unwrap_or (option_map (λ c. rest c i (with_stored pointer c (with_pool_condition c (Some (record { waiters = [] })) s))) o) (refusal ENOMEM i s)) found;
       well = well_stored limits pointer c made within (well_new_condition limits c s found well);
       running = refl;
       memory = length-stored s pointer c within;
@@ -147,14 +168,24 @@ condition_made limits pointer s u c well within zero found e =
     })
 
 -- no number is free for it
-pub condition_unmade : (limits : Limits) (pointer : ℕ) (s : Part) → IsWell limits s → word_at s.memory pointer ≡ 0 → least_free s.conditions ≡ None → IsConditionOfWord limits pointer s (Err ENOMEM) s
-condition_unmade limits pointer s well zero none = record {
-  call = λ i rest. by_zero (word_at s.memory pointer) _ _ zero ∙ ap (λ o. unwrap_or (option_map (λ c. rest c i (with_stored pointer c (with_pool_condition c (Some (record { waiters = [] })) s))) o) (refusal ENOMEM i s)) none;
+condition_unmade : (limits : Limits) (pointer : ℕ) (s : Part) → IsWell limits s → word_at s.memory pointer ≡ 0 → least_free s.conditions ≡ None → IsConditionOfWord limits pointer s (Err ENOMEM) s
+condition_unmade limits pointer s well blank none = record {
+  call = λ i rest. by_zero (word_at s.memory pointer) _ _ blank ∙ ap (λ o. unwrap_or (option_map (λ c. rest c i (with_stored pointer c (with_pool_condition c (Some (record { waiters = [] })) s))) o) (refusal ENOMEM i s)) none;
   well = well;
   running = refl;
   memory = refl;
   in_use = tt;
 }
+
+-- what stands at a pointer to 0 is set up at the least free number, if one is
+pub condition_set_up : (limits : Limits) (pointer : ℕ) (s u : Part) (named : Result ConditionNumber Errno) (o : Option ℕ) → IsWell limits s → is_pointer s pointer 4 ≡ true → word_at s.memory pointer ≡ 0 → least_free s.conditions ≡ o
+    → named ≡ unwrap_or (option_map Ok o) (Err ENOMEM) → u ≡ unwrap_or (option_map (λ c. with_stored pointer c (with_pool_condition c (Some (record { waiters = [] })) s)) o) s → IsConditionOfWord limits pointer s named u
+condition_set_up limits pointer s u named None well within blank none told made =
+    let P : Result ConditionNumber Errno → Part → Type 0 = λ (r : Result ConditionNumber Errno) (v : Part). IsConditionOfWord limits pointer s r v in
+    subst (λ (r : Result ConditionNumber Errno). P r u) (sym told) (subst (P (Err ENOMEM)) (sym made) (condition_unmade limits pointer s well blank none))
+condition_set_up limits pointer s u named (Some c) well within blank found told made =
+    let P : Result ConditionNumber Errno → Type 0 = λ (r : Result ConditionNumber Errno). IsConditionOfWord limits pointer s r u in
+    subst P (sym told) (condition_made limits pointer s u c well within blank found made)
 
 known_condition_call : (b : Bool) (c pointer : ℕ) (i : Invocation) (s : Part) (rest : ConditionNumber → Row) → is_some (pool_get s.conditions c) ≡ b → word_at s.memory pointer ≡ c → c ≢ 0
     → condition_named pointer rest i s ≡ (if not b then refusal EINVAL i s else rest c i s)
@@ -166,9 +197,20 @@ known_condition_at limits true c pointer s well used e ne =
 known_condition_at limits false c pointer s well used e ne =
     record { call = λ i rest. known_condition_call false c pointer i s rest used e ne; well = well; running = refl; memory = refl; in_use = tt }
 
--- the word is a number, of a condition variable in use or not
-pub condition_known : (limits : Limits) (c pointer : ℕ) (s : Part) → IsWell limits s → word_at s.memory pointer ≡ c → c ≢ 0 → IsConditionOfWord limits pointer s (if is_some (pool_get s.conditions c) then Ok c else Err EINVAL) s
-condition_known limits c pointer s well e ne = known_condition_at limits (is_some (pool_get s.conditions c)) c pointer s well refl e ne
+numbered_condition_at : (limits : Limits) (b : Bool) (w c pointer : ℕ) (s : Part) → IsWell limits s → is_some (pool_get s.conditions w) ≡ b → w ≡ word_at s.memory pointer → w ≢ 0 → (if b then Some w else None) ≡ Some c → IsConditionOfWord limits pointer s (Ok c) s
+numbered_condition_at limits true w c pointer s well used e ne is =
+    let same : w ≡ c = cc in
+    subst (λ (n : ℕ). IsConditionOfWord limits pointer s (Ok n) s) same (known_condition_at limits true w pointer s well used (sym e) ne)
+numbered_condition_at limits false w c pointer s well used e ne is = absurd cc
+
+-- the word is the number of a condition variable in use
+pub condition_numbered : (limits : Limits) (w c pointer : ℕ) (s : Part) → IsWell limits s → w ≡ word_at s.memory pointer → (if is_some (pool_get s.conditions w) then Some w else None) ≡ Some c → IsConditionOfWord limits pointer s (Ok c) s
+condition_numbered limits zero c pointer s well e is = absurd cc
+condition_numbered limits (suc w) c pointer s well e is = numbered_condition_at limits (is_some (pool_get s.conditions (suc w))) (suc w) c pointer s well refl e (λ z. absurd cc) is
+
+-- it is a number, of none in use
+pub condition_unnumbered : (limits : Limits) (w pointer : ℕ) (s : Part) → IsWell limits s → w ≡ word_at s.memory pointer → is_some (pool_get s.conditions w) ≡ false → w ≢ 0 → IsConditionOfWord limits pointer s (Err EINVAL) s
+condition_unnumbered limits w pointer s well e unused ne = known_condition_at limits false w pointer s well unused (sym e) ne
 
 -- of a pointer whose word lies in memory
 pub condition_read : (limits : Limits) (i : Invocation) (s u : Part) (named : Result ConditionNumber Errno) → is_pointer s i.a0 4 ≡ true → IsConditionOfWord limits i.a0 s named u → IsConditionNamed limits i s named u
@@ -186,4 +228,4 @@ condition_read limits i s u named within of = record {
 pub condition_unread : (limits : Limits) (i : Invocation) (s : Part) → is_pointer s i.a0 4 ≡ false → IsWell limits s → IsConditionNamed limits i s (Err EFAULT) s
 condition_unread limits i s outside well = record { call = λ rest. readable_off i.a0 4 (condition_named i.a0 rest) i s outside; well = well; word = tt }
 
-pub ruleset naming = (mutex_unmade, mutex_known, mutex_read, mutex_unread, condition_unmade, condition_known, condition_read, condition_unread)
+pub ruleset naming = (mutex_numbered, mutex_unnumbered, mutex_read, mutex_unread, condition_numbered, condition_unnumbered, condition_read, condition_unread)

@@ -61,14 +61,15 @@ fn destroy_condition_named(pools: &mut Pools, i: Invocation, c: ConditionNo) -> 
 /// pthread_cond_signal: of the threads that wait on the condition variable that the word at the pointer of a0 names,
 /// the one of greatest effective priority, the earliest among equals, is unblocked and re-locks its mutex; without
 /// waiters nobody is. EFAULT, EINVAL or ENOMEM of the word; a refusal changes nothing but a0.
-pub fn cond_signal(pools: &mut Pools, i: Invocation) -> Reply
+#[inline(never)]
+pub fn cond_signal(pools: &mut Pools, i: &Invocation) -> Reply
     requires well { IsWell (limits_here pools.old) pools.old.here }
-    ensures told { result ≡ (cond_signal i pools.old.here).reply }
-    ensures moved { pools.new ≡ record pools.old { here = (cond_signal i pools.old.here).part } }
+    ensures told { result ≡ (cond_signal i.now pools.old.here).reply }
+    ensures moved { pools.new ≡ record pools.old { here = (cond_signal i.now pools.old.here).part } }
 {
-    match named_condition(pools, &i) {
-        Ok(c) => signal_named(pools, i, c),
-        Err(errno) => refuse(pools, i, errno),
+    match named_condition(pools, i) {
+        Ok(c) => signal_named(pools, *i, c),
+        Err(errno) => refuse(pools, *i, errno),
     }
 }
 
@@ -85,14 +86,15 @@ fn signal_named(pools: &mut Pools, i: Invocation, c: ConditionNo) -> Reply
 /// pthread_cond_broadcast: every thread that waits on the condition variable that the word at the pointer of a0 names
 /// is unblocked and re-locks its mutex, in the order in which as many signals would unblock them. EFAULT, EINVAL or
 /// ENOMEM of the word; a refusal changes nothing but a0.
-pub fn cond_broadcast(pools: &mut Pools, i: Invocation) -> Reply
+#[inline(never)]
+pub fn cond_broadcast(pools: &mut Pools, i: &Invocation) -> Reply
     requires well { IsWell (limits_here pools.old) pools.old.here }
-    ensures told { result ≡ (cond_broadcast i pools.old.here).reply }
-    ensures moved { pools.new ≡ record pools.old { here = (cond_broadcast i pools.old.here).part } }
+    ensures told { result ≡ (cond_broadcast i.now pools.old.here).reply }
+    ensures moved { pools.new ≡ record pools.old { here = (cond_broadcast i.now pools.old.here).part } }
 {
-    match named_condition(pools, &i) {
-        Ok(c) => broadcast_named(pools, i, c),
-        Err(errno) => refuse(pools, i, errno),
+    match named_condition(pools, i) {
+        Ok(c) => broadcast_named(pools, *i, c),
+        Err(errno) => refuse(pools, *i, errno),
     }
 }
 

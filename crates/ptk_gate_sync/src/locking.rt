@@ -1,6 +1,6 @@
 //! Calls 22 to 24: lock, trylock and a lock with a deadline.
 
-ghost use Rattle.std.specs.Prelude.{◌≡◌, ◌<◌, ◌≤◌, ◌+◌, length, Some};
+ghost use Rattle.std.specs.Prelude.{◌≡◌, ◌<◌, ◌≤◌, ◌+◌, length, None, Some};
 ghost use Rattle.ptk_words_model.specs.Calls.{told};
 ghost use Rattle.ptk_words_model.specs.MutexCalls.{mutex_lock, mutex_trylock, mutex_timedlock};
 ghost use Rattle.ptk_words_model.specs.declared.LockMove.TheVariants.{Waits};
@@ -20,27 +20,29 @@ use ptk_words_model::{Invocation, Reply};
 /// EFAULT, EINVAL or ENOMEM of the word, then EINVAL of a PROTECT mutex whose ceiling is below the caller's assigned
 /// priority, ENOTRECOVERABLE of a mutex that was lost, EDEADLK of one's own that checks errors, EAGAIN of a recursive
 /// one at its limit; a refusal changes nothing but a0 and what a static initialiser set up.
-pub fn mutex_lock(pools: &mut Pools, i: Invocation) -> Reply
+#[inline(never)]
+pub fn mutex_lock(pools: &mut Pools, i: &Invocation) -> Reply
     requires well { IsWell (limits_here pools.old) pools.old.here }
-    requires running { pools.old.here.running ≡ Some i.caller }
-    ensures told { result ≡ (mutex_lock i pools.old.here).reply }
-    ensures moved { pools.new ≡ record pools.old { here = (mutex_lock i pools.old.here).part } }
+    requires running { pools.old.here.running ≡ Some i.now.caller }
+    ensures told { result ≡ (mutex_lock i.now pools.old.here).reply }
+    ensures moved { pools.new ≡ record pools.old { here = (mutex_lock i.now pools.old.here).part } }
 {
-    match named_mutex(pools, &i) {
-        Ok(m) => lock_by(pools, i, m, None),
-        Err(errno) => refuse(pools, i, errno),
+    match named_mutex(pools, i) {
+        Ok(m) => lock_by(pools, *i, m),
+        Err(errno) => refuse(pools, *i, errno),
     }
 }
 
-/// The caller's lock of the mutex named; where it waits, until the deadline if there is one.
+/// The caller's lock of the mutex named.
+#[inline(always)]
 #[tactic(auto, using(ptk_gate_moves::proofs::Locked::locked))]
-fn lock_by(pools: &mut Pools, i: Invocation, m: MutexNo, deadline: Option<Tick>) -> Reply
+fn lock_by(pools: &mut Pools, i: Invocation, m: MutexNo) -> Reply
     requires well { IsWell (limits_here pools.old) pools.old.here }
     requires running { pools.old.here.running ≡ Some i.caller }
-    ensures told { result ≡ (lock_by deadline m i pools.old.here).reply }
-    ensures moved { pools.new ≡ record pools.old { here = (lock_by deadline m i pools.old.here).part } }
+    ensures told { result ≡ (lock_by None m i pools.old.here).reply }
+    ensures moved { pools.new ≡ record pools.old { here = (lock_by None m i pools.old.here).part } }
 {
-    let made = pools.lock(i.caller, m, deadline);
+    let made = pools.lock(i.caller, m, None);
     tell(pools, i, reply_of(made, Some(0)))
 }
 
@@ -49,15 +51,16 @@ fn lock_by(pools: &mut Pools, i: Invocation, m: MutexNo, deadline: Option<Tick>)
 /// ENOMEM of the word, then EINVAL of a PROTECT mutex whose ceiling is below the caller's assigned priority,
 /// ENOTRECOVERABLE, EAGAIN of one's own recursive mutex at its limit, EBUSY of any other that is locked; a refusal
 /// changes nothing but a0 and what a static initialiser set up.
-pub fn mutex_trylock(pools: &mut Pools, i: Invocation) -> Reply
+#[inline(never)]
+pub fn mutex_trylock(pools: &mut Pools, i: &Invocation) -> Reply
     requires well { IsWell (limits_here pools.old) pools.old.here }
-    requires running { pools.old.here.running ≡ Some i.caller }
-    ensures told { result ≡ (mutex_trylock i pools.old.here).reply }
-    ensures moved { pools.new ≡ record pools.old { here = (mutex_trylock i pools.old.here).part } }
+    requires running { pools.old.here.running ≡ Some i.now.caller }
+    ensures told { result ≡ (mutex_trylock i.now pools.old.here).reply }
+    ensures moved { pools.new ≡ record pools.old { here = (mutex_trylock i.now pools.old.here).part } }
 {
-    match named_mutex(pools, &i) {
-        Ok(m) => trylock_named(pools, i, m),
-        Err(errno) => refuse(pools, i, errno),
+    match named_mutex(pools, i) {
+        Ok(m) => trylock_named(pools, *i, m),
+        Err(errno) => refuse(pools, *i, errno),
     }
 }
 
@@ -78,23 +81,25 @@ fn trylock_named(pools: &mut Pools, i: Invocation, m: MutexNo) -> Reply
 /// EFAULT where a1 is no multiple of 4 or its 12 bytes lie outside memory, then the refusals of `mutex_lock`, and where
 /// it would wait EINVAL of nanoseconds that are none from 0 to 999,999,999, and ETIMEDOUT of a deadline that has come;
 /// a refusal changes nothing but a0 and what a static initialiser set up.
+#[inline(never)]
 #[tactic(auto, using(ptk_gate_moves::proofs::Pointers::pointers))]
-pub fn mutex_timedlock(pools: &mut Pools, i: Invocation) -> Reply
+pub fn mutex_timedlock(pools: &mut Pools, i: &Invocation) -> Reply
     requires well { IsWell (limits_here pools.old) pools.old.here }
-    requires running { pools.old.here.running ≡ Some i.caller }
-    ensures told { result ≡ (mutex_timedlock i pools.old.here).reply }
-    ensures moved { pools.new ≡ record pools.old { here = (mutex_timedlock i pools.old.here).part } }
+    requires running { pools.old.here.running ≡ Some i.now.caller }
+    ensures told { result ≡ (mutex_timedlock i.now pools.old.here).reply }
+    ensures moved { pools.new ≡ record pools.old { here = (mutex_timedlock i.now pools.old.here).part } }
 {
     if !is_pointer(pools, i.a1, 12) {
-        return refuse(pools, i, Errno::EFAULT);
+        return refuse(pools, *i, Errno::EFAULT);
     }
-    match named_mutex(pools, &i) {
-        Ok(m) => timedlock_named(pools, i, m),
-        Err(errno) => refuse(pools, i, errno),
+    match named_mutex(pools, i) {
+        Ok(m) => timedlock_named(pools, *i, m),
+        Err(errno) => refuse(pools, *i, errno),
     }
 }
 
 /// The caller's lock of the mutex named, with the deadline of a1's timespec where it waits.
+#[inline(always)]
 fn timedlock_named(pools: &mut Pools, i: Invocation, m: MutexNo) -> Reply
     requires well { IsWell (limits_here pools.old) pools.old.here }
     requires running { pools.old.here.running ≡ Some i.caller }
@@ -105,11 +110,13 @@ fn timedlock_named(pools: &mut Pools, i: Invocation, m: MutexNo) -> Reply
     if pools.lock_move(i.caller, m).is_waiting() {
         wait_timed(pools, i, m)
     } else {
-        lock_by(pools, i, m, None)
+        lock_by(pools, i, m)
     }
 }
 
 /// The caller's lock that waits, with the deadline of a1's timespec: EINVAL, ETIMEDOUT, or the wait.
+#[inline(always)]
+#[tactic(auto, using(ptk_gate_moves::proofs::Locked::locked))]
 fn wait_timed(pools: &mut Pools, i: Invocation, m: MutexNo) -> Reply
     requires well { IsWell (limits_here pools.old) pools.old.here }
     requires running { pools.old.here.running ≡ Some i.caller }
@@ -124,7 +131,9 @@ fn wait_timed(pools: &mut Pools, i: Invocation, m: MutexNo) -> Reply
             if deadline.ticks() <= i.tick.ticks() {
                 refuse(pools, i, Errno::ETIMEDOUT)
             } else {
-                lock_by(pools, i, m, Some(deadline))
+                pools.wait_for(i.caller, m, Some(deadline));
+                pools.stop();
+                Reply::Blocked
             }
         }
     }

@@ -1,9 +1,13 @@
 //! The mutex of the word that a call points to.
 
-ghost use Rattle.std.specs.Prelude.{◌≡◌, ◌<◌, true, length, is_some, Ok, Err, if◌then◌else◌};
-ghost use Rattle.ptk_words.specs.Pools.{pool_get};
-ghost use Rattle.ptk_words.specs.declared.faults.Errno.TheVariants.{EINVAL};
-ghost use Rattle.ptk_words_model.specs.Calls.{is_pointer};
+ghost use Rattle.std.specs.Prelude.{◌≡◌, ◌<◌, ◌≤◌, ◌+◌, true, false, length, is_some, option_map, unwrap_or, Some, Ok, Err};
+ghost use Rattle.ptk_words.specs.Pools.{least_free, pool_get};
+ghost use Rattle.ptk_words.specs.declared.faults.Errno.TheVariants.{ENOMEM};
+ghost use Rattle.ptk_words.specs.declared.mutexes.MutexKind.TheVariants.{Normal};
+ghost use Rattle.ptk_words.specs.declared.mutexes.Protocol.TheVariants.{NoProtocol};
+ghost use Rattle.ptk_words.specs.Words.{word_at};
+ghost use Rattle.ptk_words_model.specs.Mutex.{new_mutex};
+ghost use Rattle.ptk_words_model.specs.Calls.{is_pointer, with_stored, with_pool_mutex};
 ghost use Rattle.ptk_words_invariant.specs.Well.{IsWell};
 ghost use Rattle.ptk_gate_moves.specs.Held.{limits_here};
 ghost use Rattle.ptk_gate_sync.specs.Named.{IsNamed, IsMutexOfWord};
@@ -33,6 +37,7 @@ pub(crate) fn named_mutex(pools: &mut Pools, i: &Invocation) -> Result<MutexNo, 
 
 /// The mutex that the word at a pointer names; a word of 0 sets it up, as for `named_mutex`. ENOMEM and EINVAL as
 /// there.
+#[inline(always)]
 #[tactic(auto, using(crate::proofs::Namings::naming))]
 pub(crate) fn mutex_of_word(pools: &mut Pools, pointer: u32) -> Result<MutexNo, Errno>
     requires well { IsWell (limits_here pools.old) pools.old.here }
@@ -41,9 +46,38 @@ pub(crate) fn mutex_of_word(pools: &mut Pools, pointer: u32) -> Result<MutexNo, 
     ensures moved { pools.new ≡ record pools.old { here = pools.new.here } }
 {
     let word = read_word(pools.memory(), pointer as usize);
-    if word != 0 {
-        return known_mutex(pools, word);
+    match pools.mutex_numbered(word) {
+        Some(number) => Ok(number),
+        None => unnumbered_mutex(pools, pointer, word),
     }
+}
+
+/// The mutex of the word at the pointer, which is not the number of one in use: 0 (PTHREAD_MUTEX_INITIALIZER) sets one up,
+/// as for `mutex_of_word`. EINVAL of any other word (own choice), ENOMEM where no number is free: nothing changes then.
+#[inline(never)]
+#[tactic(auto, using(crate::proofs::Namings::naming))]
+fn unnumbered_mutex(pools: &mut Pools, pointer: u32, word: u32) -> Result<MutexNo, Errno>
+    requires well { IsWell (limits_here pools.old) pools.old.here }
+    requires readable { is_pointer pools.old.here pointer 4 ≡ true }
+    requires read { word ≡ word_at pools.old.here.memory pointer }
+    requires unnumbered { is_some (pool_get pools.old.here.mutexes word) ≡ false }
+    ensures named { IsMutexOfWord (limits_here pools.old) pointer pools.old.here result pools.new.here }
+    ensures moved { pools.new ≡ record pools.old { here = pools.new.here } }
+{
+    if word != 0 {
+        return Err(Errno::EINVAL);
+    }
+    new_mutex_at(pools, pointer)
+}
+
+/// A mutex of default attributes is set up at the least free number, which the word at the pointer then holds
+/// (PTHREAD_MUTEX_INITIALIZER). ENOMEM where no number is free; nothing changes then.
+#[inline(never)]
+fn new_mutex_at(pools: &mut Pools, pointer: u32) -> Result<MutexNo, Errno>
+    requires room { pointer + 4 ≤ length pools.old.here.memory }
+    ensures told { result ≡ unwrap_or (option_map Ok (least_free pools.old.here.mutexes)) (Err ENOMEM) }
+    ensures moved { pools.new ≡ record pools.old { here = unwrap_or (option_map (λ m. with_stored pointer m (with_pool_mutex m (Some (new_mutex Normal NoProtocol false)) pools.old.here)) (least_free pools.old.here.mutexes)) pools.old.here } }
+{
     let Some(number) = pools.first_free_mutex() else {
         return Err(Errno::ENOMEM);
     };
@@ -55,14 +89,4 @@ pub(crate) fn mutex_of_word(pools: &mut Pools, pointer: u32) -> Result<MutexNo, 
     };
     make(pools, pointer, new);
     Ok(number)
-}
-
-/// The mutex of a word that is the number of one in use; else EINVAL (own choice).
-fn known_mutex(pools: &Pools, word: u32) -> Result<MutexNo, Errno>
-    ensures { result ≡ (if is_some (pool_get pools.now.here.mutexes word) then Ok word else Err EINVAL) }
-{
-    match pools.mutex_numbered(word) {
-        Some(m) => Ok(m),
-        None => Err(Errno::EINVAL),
-    }
 }

@@ -18,14 +18,15 @@ use ptk_words_model::{Invocation, Reply};
 /// of greatest effective priority, the earliest among equals, or is free; an inconsistent one is lost, and its waiters
 /// are refused with ENOTRECOVERABLE. EFAULT, EINVAL or ENOMEM of the word, then EPERM of a mutex that the caller does
 /// not own (own choice for NORMAL); a refusal changes nothing but a0 and what a static initialiser set up.
-pub fn mutex_unlock(pools: &mut Pools, i: Invocation) -> Reply
+#[inline(never)]
+pub fn mutex_unlock(pools: &mut Pools, i: &Invocation) -> Reply
     requires well { IsWell (limits_here pools.old) pools.old.here }
-    ensures told { result ≡ (mutex_unlock i pools.old.here).reply }
-    ensures moved { pools.new ≡ record pools.old { here = (mutex_unlock i pools.old.here).part } }
+    ensures told { result ≡ (mutex_unlock i.now pools.old.here).reply }
+    ensures moved { pools.new ≡ record pools.old { here = (mutex_unlock i.now pools.old.here).part } }
 {
-    match named_mutex(pools, &i) {
-        Ok(m) => unlock_named(pools, i, m),
-        Err(errno) => refuse(pools, i, errno),
+    match named_mutex(pools, i) {
+        Ok(m) => unlock_named(pools, *i, m),
+        Err(errno) => refuse(pools, *i, errno),
     }
 }
 

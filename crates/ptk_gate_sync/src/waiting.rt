@@ -13,7 +13,7 @@ ghost use Rattle.ptk_words_invariant.specs.Rests.{block_on, wait_named, wait_unt
 use crate::condition_naming::condition_of_word;
 use crate::locking::tell;
 use crate::naming::mutex_of_word;
-use ptk_gate_moves::{Pools, asked_deadline, cancel, is_cancelled, is_pointer, refuse};
+use ptk_gate_moves::{Pools, asked_deadline, cancel, is_pointer, is_used_cancelled, refuse};
 use ptk_mutex_priorities::reply_of;
 use ptk_words::{ConditionNo, Errno, MutexNo, Tick};
 use ptk_words_model::{Invocation, Reply};
@@ -31,24 +31,25 @@ struct Named {
 /// a cancellation point: a cancelled caller begins its unwinding; then EINVAL or ENOMEM of the words, EPERM of a mutex
 /// that the caller does not own, EINVAL where another waiter named another mutex. A refusal changes nothing but a0 and
 /// what static initialisers set up.
-pub fn cond_wait(pools: &mut Pools, i: Invocation) -> Reply
+#[inline(never)]
+pub fn cond_wait(pools: &mut Pools, i: &Invocation) -> Reply
     requires well { IsWell (limits_here pools.old) pools.old.here }
-    requires running { pools.old.here.running ≡ Some i.caller }
-    ensures told { result ≡ (cond_wait i pools.old.here).reply }
-    ensures moved { pools.new ≡ record pools.old { here = (cond_wait i pools.old.here).part } }
+    requires running { pools.old.here.running ≡ Some i.now.caller }
+    ensures told { result ≡ (cond_wait i.now pools.old.here).reply }
+    ensures moved { pools.new ≡ record pools.old { here = (cond_wait i.now pools.old.here).part } }
 {
     if !is_pointer(pools, i.a0, 4) {
-        return refuse(pools, i, Errno::EFAULT);
+        return refuse(pools, *i, Errno::EFAULT);
     }
     if !is_pointer(pools, i.a1, 4) {
-        return refuse(pools, i, Errno::EFAULT);
+        return refuse(pools, *i, Errno::EFAULT);
     }
-    if is_cancelled(pools, i.caller) {
-        return cancel(pools, i);
+    if is_used_cancelled(pools, i.caller) {
+        return cancel(pools, *i);
     }
-    match named_both(pools, &i) {
-        Ok(named) => wait_named(pools, i, named),
-        Err(errno) => refuse(pools, i, errno),
+    match named_both(pools, i) {
+        Ok(named) => wait_named(pools, *i, named),
+        Err(errno) => refuse(pools, *i, errno),
     }
 }
 
@@ -56,32 +57,34 @@ pub fn cond_wait(pools: &mut Pools, i: Invocation) -> Reply
 /// tick: where that comes first, the reply is ETIMEDOUT, once the caller has the mutex again. A deadline that has come
 /// releases the mutex all the same and locks it again. EFAULT of a2's 12 bytes too; EINVAL of nanoseconds that are none
 /// from 0 to 999,999,999 comes after the other refusals, which are as for `cond_wait`.
-pub fn cond_timedwait(pools: &mut Pools, i: Invocation) -> Reply
+#[inline(never)]
+pub fn cond_timedwait(pools: &mut Pools, i: &Invocation) -> Reply
     requires well { IsWell (limits_here pools.old) pools.old.here }
-    requires running { pools.old.here.running ≡ Some i.caller }
-    ensures told { result ≡ (cond_timedwait i pools.old.here).reply }
-    ensures moved { pools.new ≡ record pools.old { here = (cond_timedwait i pools.old.here).part } }
+    requires running { pools.old.here.running ≡ Some i.now.caller }
+    ensures told { result ≡ (cond_timedwait i.now pools.old.here).reply }
+    ensures moved { pools.new ≡ record pools.old { here = (cond_timedwait i.now pools.old.here).part } }
 {
     if !is_pointer(pools, i.a0, 4) {
-        return refuse(pools, i, Errno::EFAULT);
+        return refuse(pools, *i, Errno::EFAULT);
     }
     if !is_pointer(pools, i.a1, 4) {
-        return refuse(pools, i, Errno::EFAULT);
+        return refuse(pools, *i, Errno::EFAULT);
     }
     if !is_pointer(pools, i.a2, 12) {
-        return refuse(pools, i, Errno::EFAULT);
+        return refuse(pools, *i, Errno::EFAULT);
     }
-    if is_cancelled(pools, i.caller) {
-        return cancel(pools, i);
+    if is_used_cancelled(pools, i.caller) {
+        return cancel(pools, *i);
     }
-    match named_both(pools, &i) {
-        Ok(named) => timedwait_named(pools, i, named),
-        Err(errno) => refuse(pools, i, errno),
+    match named_both(pools, i) {
+        Ok(named) => timedwait_named(pools, *i, named),
+        Err(errno) => refuse(pools, *i, errno),
     }
 }
 
 /// The condition variable of a0's word, then the mutex of a1's; words of 0 set them up, and the condition variable
 /// stays so where the mutex's word is refused. EINVAL and ENOMEM as for `condition_of_word` and `mutex_of_word`.
+#[inline(always)]
 fn named_both(pools: &mut Pools, i: &Invocation) -> Result<Named, Errno>
     requires well { IsWell (limits_here pools.old) pools.old.here }
     requires condition { is_pointer pools.old.here i.now.a0 4 ≡ true }
@@ -104,6 +107,7 @@ fn named_both(pools: &mut Pools, i: &Invocation) -> Result<Named, Errno>
 }
 
 /// The wait without a deadline on what is named, or EPERM, or EINVAL.
+#[inline(always)]
 fn wait_named(pools: &mut Pools, i: Invocation, named: Named) -> Reply
     requires well { IsWell (limits_here pools.old) pools.old.here }
     requires running { pools.old.here.running ≡ Some i.caller }
@@ -171,6 +175,7 @@ fn wait_until(pools: &mut Pools, i: Invocation, named: Named, deadline: Tick) ->
 }
 
 /// The mutex's owner releases it and blocks on the condition variable, and no thread runs.
+#[inline(always)]
 fn block_on(pools: &mut Pools, i: Invocation, named: Named, deadline: Option<Tick>) -> Reply
     requires well { IsWell (limits_here pools.old) pools.old.here }
     requires running { pools.old.here.running ≡ Some i.caller }
@@ -186,6 +191,7 @@ fn block_on(pools: &mut Pools, i: Invocation, named: Named, deadline: Option<Tic
 
 /// The mutex's owner releases it and locks it again, or waits for it; the reply is ETIMEDOUT, or that of the lock where
 /// it is no success.
+#[inline(never)]
 #[tactic(auto, using(crate::proofs::Waits::released))]
 fn wait_late(pools: &mut Pools, i: Invocation, m: MutexNo) -> Reply
     requires well { IsWell (limits_here pools.old) pools.old.here }

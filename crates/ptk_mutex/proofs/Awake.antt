@@ -7,14 +7,15 @@ use Rattle.ptk_words.specs.declared.threads.Wait.{Wait}
 use Rattle.ptk_words_parted.specs.Parts.{part_of}
 use Rattle.ptk_words_model.specs.State.{Locks, Syncs}
 use Rattle.ptk_words_model.specs.Priority.{awaited, thread_at}
-use Rattle.ptk_words_model.specs.Mutex.{mutex_at, wait_of, waiters_of}
+use Rattle.ptk_words_model.specs.Mutex.{wait_of}
 use Rattle.ptk_words_model.specs.Condition.{condition_waiters}
 use Rattle.ptk_words_sync_invariant.specs.Conditions.{IsNoWaiter}
 use Rattle.ptk_words.specs.Threads.{condition_of_wait}
-use Rattle.ptk_words_sync_invariant.proofs.Threads.{idle_awaits, none_awaits}
+use Rattle.ptk_words_sync_invariant.proofs.Threads.{idle_awaits}
 use Rattle.ptk_syncs.specs.Rosters.{Rostered}
 use Rattle.ptk_mutex.specs.Tables.{locks_by, AreLocked, MayWait}
 use Rattle.ptk_mutex.specs.Sound.{AreWaiting, IsOnCondition, IsAwake, IsSound, is_idle, is_awake}
+use Rattle.ptk_mutex.proofs.NoWaiters.{out_of_mutex}
 use Rattle.ptk_mutex.proofs.Sound.{of_part}
 
 -- who is awake waits for no mutex
@@ -32,13 +33,9 @@ out_by : (t c : ℕ) (syncs : Syncs) → IsAwake syncs.locks t → AreWaiting sy
 out_by t c syncs may waiting true e = absurd (awake_other t c t syncs.locks may (waiting.waiters c t e) refl)
 out_by t c syncs may waiting false e = e
 
-out_of_mutex : (t m : ℕ) (locks : Locks) → IsAwake locks t → AreLocked locks → (b : Bool) → is_in t (waiters_of (mutex_at locks m)) ≡ b → is_in t (waiters_of (mutex_at locks m)) ≡ false
-out_of_mutex t m locks may locked true e = absurd (none_awaits m (thread_at locks t) (awake_none t locks may) (locked.waiters m t e).waits)
-out_of_mutex t m locks may locked false e = e
-
 pub awake_free : (t : ℕ) (syncs : Syncs) → IsAwake syncs.locks t → AreLocked syncs.locks → AreWaiting syncs → IsNoWaiter t syncs.mutexes syncs.conditions
 awake_free t syncs may locked waiting = record {
-  of_mutexes = λ m. out_of_mutex t m syncs.locks may locked (is_in t (waiters_of (mutex_at syncs.locks m))) refl;
+  of_mutexes = λ m. out_of_mutex t m syncs.locks (awake_none t syncs.locks may) locked;
   of_conditions = λ c. out_by t c syncs may waiting (is_in t (condition_waiters syncs c)) refl;
 }
 

@@ -9,21 +9,9 @@ use Rattle.ptk_words_model.specs.Chain.{greatest_leading}
 use Rattle.ptk_words_model.specs.Priority.{awaited, inheritor_of, ceiling_for, assigned_of, next_in_chain, held_of, effective_of, effective_priorities}
 use Rattle.ptk_words_sync_invariant.proofs.Pools.{changed_own, changed_other, length-changed, get_beyond}
 use Rattle.ptk_words_sync_invariant.proofs.Raising.{level_of, effective-changed}
-use Rattle.ptk_words_sync_invariant.proofs.ChainLaws.{none_some, IsNumber, IsBounded}
+use Rattle.ptk_words_sync_invariant.proofs.ChainLaws.{IsNumber}
 
--- ---- only threads of the pool lead on
-
-next_free : (w : ℕ) (threads : List (Option Thread)) (mutexes : List (Option Mutex)) → pool_get threads w ≡ None → next_in_chain threads mutexes w ≡ None
-next_free w threads mutexes e = ap (λ x. option_and_then (λ m. inheritor_of (pool_get mutexes m)) (awaited x)) e
-
-number_cases : (w v : ℕ) (threads : List (Option Thread)) (mutexes : List (Option Mutex)) → next_in_chain threads mutexes w ≡ Some v → (0 < w) ⊎ (w ≤ 0) → (length threads < w) ⊎ (w ≤ length threads) → IsNumber (length threads) w
-number_cases w v threads mutexes e (inr le) at =
-    let z : w ≡ 0 = omega (arith, le) in none_some (next_in_chain threads mutexes w) v (next_free w threads mutexes (ap (pool_get threads) z)) e
-number_cases w v threads mutexes e (inl h) (inl past) = none_some (next_in_chain threads mutexes w) v (next_free w threads mutexes (get_beyond w threads past)) e
-number_cases w v threads mutexes e (inl h) (inr le) = (h, omega (arith, le))
-
-pub bounded : (threads : List (Option Thread)) (mutexes : List (Option Mutex)) → IsBounded (length threads) (next_in_chain threads mutexes)
-bounded threads mutexes = record { each = λ w v e. number_cases w v threads mutexes e (cases_lt 0 w) (cases_lt (length threads) w) }
+-- ---- a thread in use
 
 used_cases : (t : ℕ) (threads : List (Option Thread)) → IsSome (pool_get threads t) → (0 < t) ⊎ (t ≤ 0) → (length threads < t) ⊎ (t ≤ length threads) → IsNumber (length threads) t
 used_cases t threads used (inr le) at =

@@ -3,12 +3,14 @@ use Rattle.std.proofs.Common.{arith, ◌≡◌, ◌≢◌, ℕ, suc, ◌<◌, �
 use Rattle.std.specs.Prelude.{Option, ◌⊎◌, if◌then◌else◌}
 use Rattle.std.proofs.lemmas.Bool.{cases_eq}
 use Rattle.ptk_words_model.specs.Chain.{Leads, leads_to, greatest_leading}
-use Rattle.ptk_mutex_priorities.specs.Raised.{raised_along}
-use Rattle.ptk_mutex.specs.Risen.{risen}
+use Rattle.ptk_mutex_priorities.specs.Raised.{risen}
 use Rattle.ptk_words_sync_invariant.proofs.ChainLaws.{false_true, reaches_sound, chain_complete, IsNumber, IsBounded}
-use Rattle.ptk_mutex_priorities.proofs.Levels.{raised_along_at, length-raised_along, swept_all}
+use Rattle.ptk_words_sync_invariant.proofs.Greatest.{max_cases}
+use Rattle.ptk_mutex_priorities.proofs.Levels.{numbered_all}
+use Rattle.ptk_mutex_priorities.proofs.Tops.{IsTop, top-unique, greatest_leading-top}
+use Rattle.ptk_mutex.proofs.Along.{raised_along, raised_along_at, length-raised_along}
 use Rattle.ptk_mutex.proofs.Rises.{risen-is}
-use Rattle.ptk_mutex.proofs.Joins.{IsTop, top-unique, greatest_leading-top, priorities, length-priorities, priority_at, within_priorities, step_up, max_cases, ReachedBy}
+use Rattle.ptk_mutex.proofs.Joins.{priorities, length-priorities, priority_at, within_priorities, step_up, ReachedBy}
 
 -- the rank of c is at least h, and the others' stay
 pub record IsGain (rank after : ℕ → ℕ) (c h : ℕ) : Type 0 where
@@ -68,14 +70,10 @@ gain-is size next rank after c h bounded n gain =
     let long : length stored ≡ size = length-priorities size next rank in
     risen-is next h size c stored (within_priorities size next next rank bounded)
     (record { each = λ w v e place le. inl (step_up size next rank w v h bounded e place le) })
-    ∙ swept_all size next after (raised_along next h size c stored)
-    (record {
-      long = length-raised_along next h size c stored ∙ long;
-      each = λ i lt.
-          let in_stored : i < length stored = rw long lt in
-          raised_along_at next h size c i stored in_stored
-          ∙ rw (priority_at size next rank i lt)
-          (top-unique size next after (suc i) _ _
-          (gained_by size next rank after c h (suc i) (greatest_leading size next rank (suc i)) bounded n gain (greatest_leading-top size next rank (suc i) bounded) (leads_to next (suc i) size c) refl)
-          (greatest_leading-top size next after (suc i) bounded));
-    })
+    ∙ numbered_all size (greatest_leading size next after) (raised_along next h size c stored) (length-raised_along next h size c stored ∙ long) (λ i lt.
+    let in_stored : i < length stored = rw long lt in
+    raised_along_at next h size c i stored in_stored
+    ∙ rw (priority_at size next rank i lt)
+    (top-unique size next after (suc i) _ _
+    (gained_by size next rank after c h (suc i) (greatest_leading size next rank (suc i)) bounded n gain (greatest_leading-top size next rank (suc i) bounded) (leads_to next (suc i) size c) refl)
+    (greatest_leading-top size next after (suc i) bounded)))

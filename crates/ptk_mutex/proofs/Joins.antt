@@ -1,136 +1,17 @@
 -- When numbers that led nowhere lead to one, its chain rises to their greatest priority, and nothing else changes.
-use Rattle.std.proofs.Common.{arith, ◌≡◌, ℕ, zero, suc, ◌<◌, ◌≤◌, max, Bool, true, false, ◌&&◌, List, [], ◌∷◌, ◌++◌, length, map, get_or, sym, ◌∙◌, ap, refl, subst, inl, inr, le_refl}
-use Rattle.std.specs.Prelude.{nat_eq, Option, Some, None, ◌⊎◌, fold, filter, option_and_then, if◌then◌else◌}
-use Rattle.std.specs.List.{list_any}
-use Rattle.std.proofs.lemmas.Bool.{eqb-true, eq-eqb, or_cases, or_left, or_right}
-use Rattle.std.proofs.lemmas.List.Folds.{list_any-append}
-use Rattle.std.proofs.lemmas.List.{length-map, get_or-map}
-use Rattle.std.proofs.lemmas.Map.Views.{any-filter_same}
+use Rattle.std.proofs.Common.{arith, ◌≡◌, ℕ, zero, suc, ◌<◌, ◌≤◌, max, Bool, true, false, List, length, map, get_or, sym, ◌∙◌, ap, refl, subst, inl, inr}
+use Rattle.std.specs.Prelude.{Option, Some, None, ◌⊎◌, option_and_then, if◌then◌else◌}
 use Rattle.ptk_words.specs.Pools.{numbers_to}
 use Rattle.ptk_words_model.specs.Chain.{steps_from, Leads, leads_to, greatest_leading}
-use Rattle.ptk_mutex_priorities.specs.Raised.{raised_along}
-use Rattle.ptk_mutex.specs.Risen.{risen}
+use Rattle.ptk_mutex_priorities.specs.Raised.{risen}
 use Rattle.ptk_threads.specs.Table.{stored_of}
 use Rattle.ptk_words_sync_invariant.proofs.ChainLaws.{false_true, none_some, reaches_sound, chain_complete, IsNumber, IsBounded}
-use Rattle.ptk_mutex_priorities.proofs.Levels.{raised_along_at, length-raised_along, swept_all, length-numbers_to, get_or-numbers_to}
-use Rattle.ptk_mutex.proofs.Rises.{IsPlace, IsWithin, risen-is}
-
--- ---- the greatest of a list
-
-abbrev top : (ℕ → ℕ) → ℕ → List ℕ → ℕ
-top rank a ks = fold (λ most k. max most (rank k)) a ks
-
-start_le : (rank : ℕ → ℕ) (a : ℕ) (ks : List ℕ) → a ≤ top rank a ks
-start_le rank a [] = le_refl a
-start_le rank a (k ∷ ks) = omega (arith, start_le rank (max a (rank k)) ks)
-
-member_cases : (rank : ℕ → ℕ) (a k q : ℕ) (ks : List ℕ) → ((b : ℕ) → list_any (nat_eq q) ks ≡ true → rank q ≤ top rank b ks) → (nat_eq q k ≡ true) ⊎ (list_any (nat_eq q) ks ≡ true) → rank q ≤ top rank a (k ∷ ks)
-member_cases rank a k q ks ih (inl e) =
-    let same : rank q ≡ rank k = ap rank (eqb-true q k e) in omega (arith, same, start_le rank (max a (rank k)) ks)
-member_cases rank a k q ks ih (inr h) = ih (max a (rank k)) h
-
-pub member_le : (rank : ℕ → ℕ) (q : ℕ) (ks : List ℕ) (a : ℕ) → list_any (nat_eq q) ks ≡ true → rank q ≤ top rank a ks
-member_le rank q [] a h = false_true h
-member_le rank q (k ∷ ks) a h = member_cases rank a k q ks (member_le rank q ks) (or_cases _ _ h)
-
-abbrev pub Attained : (ℕ → ℕ) → ℕ → List ℕ → Type 0
-Attained rank a ks = (top rank a ks ≡ a) ⊎ ((q : ℕ) × (list_any (nat_eq q) ks ≡ true) × (rank q ≡ top rank a ks))
-
-pub max_cases : (a b : ℕ) → (max a b ≡ a) ⊎ (max a b ≡ b)
-max_cases a b = grind arith
-
-self_eq : (k : ℕ) → nat_eq k k ≡ true
-self_eq k = eq-eqb k k refl
-
-attained_cases : (rank : ℕ → ℕ) (a k : ℕ) (ks : List ℕ) → (max a (rank k) ≡ a) ⊎ (max a (rank k) ≡ rank k) → Attained rank (max a (rank k)) ks → Attained rank a (k ∷ ks)
-attained_cases rank a k ks m (inr (q, h, e)) = inr (q, or_right _ _ h, e)
-attained_cases rank a k ks (inl m) (inl e) = inl (e ∙ m)
-attained_cases rank a k ks (inr m) (inl e) = inr (k, or_left _ _ (self_eq k), sym (e ∙ m))
-
-pub attained : (rank : ℕ → ℕ) (a : ℕ) (ks : List ℕ) → Attained rank a ks
-attained rank a [] = inl refl
-attained rank a (k ∷ ks) = attained_cases rank a k ks (max_cases a (rank k)) (attained rank (max a (rank k)) ks)
-
--- ---- the threads of the pool whose chain holds t
-
-last_or_before : (n q : ℕ) → q < suc (suc n) → (q < suc n) ⊎ (q ≡ suc n)
-last_or_before n q h = grind (arith, h)
-
-numbers_cases : (n q : ℕ) → ((q < suc n) → list_any (nat_eq q) (numbers_to n) ≡ true) → (q < suc n) ⊎ (q ≡ suc n) → list_any (nat_eq q) (numbers_to n ++ suc n ∷ []) ≡ true
-numbers_cases n q ih (inl h) = rw (list_any-append (nat_eq q) (numbers_to n) (suc n ∷ [])) (or_left _ _ (ih h))
-numbers_cases n q ih (inr e) = rw (list_any-append (nat_eq q) (numbers_to n) (suc n ∷ [])) (or_right _ _ (or_left _ _ (eq-eqb q (suc n) e)))
-
-pub numbers_member : (n q : ℕ) → 0 < q → q < suc n → list_any (nat_eq q) (numbers_to n) ≡ true
-numbers_member zero q z h = absurd (omega (arith, z, h))
-numbers_member (suc n) q z h = numbers_cases n q (numbers_member n q z) (last_or_before n q h)
-
-pub both_true : (a b : Bool) → a ≡ true → b ≡ true → (a && b) ≡ true
-both_true true b e f = f
-both_true false b e f = false_true e
-
-pub parts : (a b : Bool) → (a && b) ≡ true → (a ≡ true) × (b ≡ true)
-parts true b e = (refl, e)
-parts false b e = (e, false_true e)
-
--- ---- the greatest rank whose chain holds t, as a relation
-
--- x is the greatest rank of the numbers that lead to t, or 0
-pub record IsTop (size : ℕ) (next : ℕ → Option ℕ) (rank : ℕ → ℕ) (t x : ℕ) : Type 0 where
-  pub greatest : (u : ℕ) → IsNumber size u → Leads next u t → rank u ≤ x
-  pub reached : (x ≡ 0) ⊎ ((u : ℕ) × IsNumber size u × Leads next u t × (rank u ≡ x))
-
-top_le : (size : ℕ) (next : ℕ → Option ℕ) (rank : ℕ → ℕ) (t x y : ℕ) → ((x ≡ 0) ⊎ ((u : ℕ) × IsNumber size u × Leads next u t × (rank u ≡ x))) → IsTop size next rank t y → x ≤ y
-top_le size next rank t x y (inl z) top = omega (arith, z)
-top_le size next rank t x y (inr (u, n, l, e)) top = omega (arith, e, top.greatest u n l)
-
-pub top-unique : (size : ℕ) (next : ℕ → Option ℕ) (rank : ℕ → ℕ) (t x y : ℕ) → IsTop size next rank t x → IsTop size next rank t y → x ≡ y
-top-unique size next rank t x y a b = omega (arith, top_le size next rank t x y a.reached b, top_le size next rank t y x b.reached a)
-
-abbrev leading : ℕ → (ℕ → Option ℕ) → ℕ → List ℕ
-leading size next t = filter (λ u. leads_to next t size u) (numbers_to size)
-
-leading-any : (size : ℕ) (next : ℕ → Option ℕ) (t u : ℕ) → list_any (nat_eq u) (leading size next t) ≡ (leads_to next t size u && list_any (nat_eq u) (numbers_to size))
-leading-any size next t u =
-    any-filter_same (nat_eq u) (λ v. leads_to next t size v) (leads_to next t size u)
-    (λ k e. ap (λ v. leads_to next t size v) (sym (eqb-true u k e))) (numbers_to size)
-
-last_number : (n u : ℕ) → (nat_eq u (suc n) ≡ true) ⊎ (false ≡ true) → IsNumber (suc n) u
-last_number n u (inl e) = let s : u ≡ suc n = eqb-true u (suc n) e in (omega (arith, s), omega (arith, s))
-last_number n u (inr e) = false_true e
-
-number_member_cases : (n u : ℕ) → (list_any (nat_eq u) (numbers_to n) ≡ true → IsNumber n u) → (list_any (nat_eq u) (numbers_to n) ≡ true) ⊎ (list_any (nat_eq u) (suc n ∷ []) ≡ true) → IsNumber (suc n) u
-number_member_cases n u ih (inl h) = let b : IsNumber n u = ih h in (b.0, omega (arith, b.1))
-number_member_cases n u ih (inr h) = last_number n u (or_cases _ _ h)
-
-pub number_member : (size u : ℕ) → list_any (nat_eq u) (numbers_to size) ≡ true → IsNumber size u
-number_member zero u h = false_true h
-number_member (suc n) u h = number_member_cases n u (λ e. number_member n u e) (or_cases _ _ (sym (list_any-append (nat_eq u) (numbers_to n) (suc n ∷ [])) ∙ h))
-
-reached_by : (size : ℕ) (next : ℕ → Option ℕ) (rank : ℕ → ℕ) (t : ℕ) → Attained rank 0 (leading size next t)
-    → (greatest_leading size next rank t ≡ 0) ⊎ ((u : ℕ) × IsNumber size u × Leads next u t × (rank u ≡ greatest_leading size next rank t))
-reached_by size next rank t (inl e) = inl e
-reached_by size next rank t (inr (u, h, e)) =
-    let p : (leads_to next t size u ≡ true) × (list_any (nat_eq u) (numbers_to size) ≡ true) = parts _ _ (sym (leading-any size next t u) ∙ h) in
-    inr (u, number_member size u p.1, reaches_sound next t size u p.0, e)
-
-pub greatest_leading-top : (size : ℕ) (next : ℕ → Option ℕ) (rank : ℕ → ℕ) (t : ℕ) → IsBounded size next → IsTop size next rank t (greatest_leading size next rank t)
-greatest_leading-top size next rank t bounded =
-    record {
-      greatest = λ u n l. member_le rank u (leading size next t) 0 (leading-any size next t u ∙ both_true _ _ (chain_complete size next bounded u t l) (numbers_member size u n.0 n.1));
-      reached = reached_by size next rank t (attained rank 0 (leading size next t));
-    }
-
--- ---- along a chain the priority does not fall
-
-led_on : (next : ℕ → Option ℕ) (u w v : ℕ) → Leads next u w → next w ≡ Some v → Leads next u v
-led_on next u w v r e = (suc r.0, ap (option_and_then next) r.1 ∙ e)
-
-rising_by : (size : ℕ) (next : ℕ → Option ℕ) (rank : ℕ → ℕ) (w v x y : ℕ) → ((x ≡ 0) ⊎ ((u : ℕ) × IsNumber size u × Leads next u w × (rank u ≡ x))) → IsTop size next rank v y → next w ≡ Some v → x ≤ y
-rising_by size next rank w v x y (inl z) b e = omega (arith, z)
-rising_by size next rank w v x y (inr (u, n, l, r)) b e = omega (arith, r, b.greatest u n (led_on next u w v l e))
-
-pub rising : (size : ℕ) (next : ℕ → Option ℕ) (rank : ℕ → ℕ) (w v x y : ℕ) → IsTop size next rank w x → IsTop size next rank v y → next w ≡ Some v → x ≤ y
-rising size next rank w v x y a b e = rising_by size next rank w v x y a.reached b e
+use Rattle.ptk_words_sync_invariant.proofs.Greatest.{max_cases}
+use Rattle.ptk_mutex_priorities.proofs.Levels.{length-numbered, numbered_at, numbered_of, numbered_all}
+use Rattle.ptk_mutex_priorities.proofs.Tops.{IsTop, top-unique, greatest_leading-top, led_on, rising}
+use Rattle.ptk_mutex_priorities.proofs.Risen.{IsPlace, IsWithin}
+use Rattle.ptk_mutex.proofs.Along.{raised_along, raised_along_at, length-raised_along}
+use Rattle.ptk_mutex.proofs.Rises.{risen-is}
 
 -- ---- numbers that begin to lead
 
@@ -263,16 +144,13 @@ abbrev pub priorities : ℕ → (ℕ → Option ℕ) → (ℕ → ℕ) → List 
 priorities size next rank = map (greatest_leading size next rank) (numbers_to size)
 
 pub length-priorities : (size : ℕ) (next : ℕ → Option ℕ) (rank : ℕ → ℕ) → length (priorities size next rank) ≡ size
-length-priorities size next rank = length-map (numbers_to size) (greatest_leading size next rank) ∙ length-numbers_to size
+length-priorities size next rank = length-numbered size (greatest_leading size next rank)
 
 pub priority_at : (size : ℕ) (next : ℕ → Option ℕ) (rank : ℕ → ℕ) (i : ℕ) → i < size → get_or (priorities size next rank) i 0 ≡ greatest_leading size next rank (suc i)
-priority_at size next rank i lt =
-    let long : i < length (numbers_to size) = rw (length-numbers_to size) lt in
-    get_or-map (greatest_leading size next rank) (numbers_to size) i 0 0 long ∙ ap (greatest_leading size next rank) (get_or-numbers_to size i lt)
+priority_at size next rank i lt = numbered_at size (greatest_leading size next rank) i lt
 
 pub stored_as : (size : ℕ) (next : ℕ → Option ℕ) (rank : ℕ → ℕ) (t : ℕ) → IsNumber size t → stored_of (priorities size next rank) t ≡ greatest_leading size next rank t
-stored_as size next rank zero n = absurd (omega (arith, n.0))
-stored_as size next rank (suc i) n = priority_at size next rank i (omega (arith, n.1))
+stored_as size next rank t n = numbered_of size (greatest_leading size next rank) t n
 
 place_number : (size : ℕ) (stored : List ℕ) (t : ℕ) → length stored ≡ size → IsPlace stored t → IsNumber size t
 place_number size stored t long place = (place.0, omega (arith, place.1, long))
@@ -305,14 +183,10 @@ join-is size next after rank joins o h bounded bounded_after join passed =
     let long : length stored ≡ size = length-priorities size next rank in
     risen-is after h size o stored (within_priorities size next after rank bounded_after)
     (record { each = λ w v e place le. closed_by size next after rank joins o w v h bounded join e place le (joins w) refl })
-    ∙ swept_all size after rank (raised_along after h size o stored)
-    (record {
-      long = length-raised_along after h size o stored ∙ long;
-      each = λ i lt.
-          let in_stored : i < length stored = rw long lt in
-          raised_along_at after h size o i stored in_stored
-          ∙ rw (priority_at size next rank i lt)
-          (top-unique size after rank (suc i) _ _
-          (joined_by size next after rank joins o (suc i) h bounded bounded_after join passed (leads_to after (suc i) size o) refl)
-          (greatest_leading-top size after rank (suc i) bounded_after));
-    })
+    ∙ numbered_all size (greatest_leading size after rank) (raised_along after h size o stored) (length-raised_along after h size o stored ∙ long) (λ i lt.
+    let in_stored : i < length stored = rw long lt in
+    raised_along_at after h size o i stored in_stored
+    ∙ rw (priority_at size next rank i lt)
+    (top-unique size after rank (suc i) _ _
+    (joined_by size next after rank joins o (suc i) h bounded bounded_after join passed (leads_to after (suc i) size o) refl)
+    (greatest_leading-top size after rank (suc i) bounded_after)))

@@ -1,3 +1,4 @@
+pub mod Along
 pub mod Rises
 pub mod Joins
 pub mod Gains
@@ -18,4 +19,5 @@ pub mod Apart
 pub mod Unraised
 pub mod Sound
 pub mod Awake
+pub mod Passed
 pub mod Created

@@ -1,5 +1,5 @@
 -- Whom a hand over chooses, and that every move leaves waiters that wait and counts within their limit.
-use Rattle.std.proofs.Common.{◌≡◌, ◌≢◌, ℕ, zero, suc, ◌+◌, ◌<◌, ◌≤◌, List, [], ◌∷◌, ◌++◌, length, map, get_or, max, refl, sym, ◌∙◌, ap, subst, arith, true, false, not, ◌⊎◌, inl, inr}
+use Rattle.std.proofs.Common.{◌≡◌, ◌≢◌, ℕ, zero, suc, ◌+◌, ◌<◌, ◌≤◌, List, [], ◌∷◌, ◌++◌, length, map, get_or, max, refl, sym, ◌∙◌, ap, subst, arith, true, false, ◌⊎◌, inl, inr}
 use Rattle.std.specs.Prelude.{Option, Some, None, IsSome, option_map, slice_get, fold, find, ◌==◌}
 use Rattle.std.specs.Option.{option_flatten}
 use Rattle.std.proofs.lemmas.Bool.{cases_eq, or_right}
@@ -17,7 +17,8 @@ use Rattle.ptk_words_model.specs.Priority.{awaited, thread_at, effective_of, eff
 use Rattle.ptk_words_model.specs.Schedule.{at_tail_with}
 use Rattle.ptk_words_model.specs.Mutex.{mutex_at, with_mutex, waiters_of, count_of, heir, without_mutex_waiter}
 use Rattle.ptk_words_sync_invariant.proofs.Lines.{in_push, in_without, out_push, own_head, first_in}
-use Rattle.ptk_threads_slots.specs.Changes.{only_of}
+use Rattle.ptk_threads_slots.specs.Changes.{few_of}
+use Rattle.ptk_threads_slots.specs.declared.thread_list.Members.TheVariants.{NoMember, OnlyMember}
 use Rattle.ptk_threads.specs.Table.{stored_of}
 use Rattle.ptk_threads.proofs.Pools.{pool_get-changed, pool_get-changed_other}
 use Rattle.ptk_mutex.specs.Tables.{IsWaiter, AreLocked, MayGet}
@@ -81,15 +82,19 @@ ranks_same f g (k ∷ ks) h =
     ap (λ x. x ∷ map f ks) here ∙ ap (λ xs. g k ∷ xs) rest
 
 -- of none none is first
-pub none_first : (rank : ℕ → ℕ) (ks : List ℕ) → not (length ks == 0) ≡ false → None ≡ first_of_greatest rank ks
+pub none_first : (rank : ℕ → ℕ) (ks : List ℕ) → few_of ks ≡ NoMember → None ≡ first_of_greatest rank ks
 none_first rank [] e = refl
-none_first rank (k ∷ ks) e = grind (arith, nat_tests)
+none_first rank (k ∷ []) e = let no : ⊥ = cc in absurd no
+none_first rank (k ∷ j ∷ ks) e = let no : ⊥ = cc in absurd no
 
 -- and the only one is first
-pub only_first : (rank : ℕ → ℕ) (ks : List ℕ) (t : ℕ) → only_of ks ≡ Some t → Some t ≡ first_of_greatest rank ks
-only_first rank [] t e = absurd (cc)
-only_first rank (k ∷ []) t e = let greatest : (rank k == max 0 (rank k)) ≡ true = grind (arith, nat_tests) in rw greatest (sym e)
-only_first rank (k ∷ j ∷ ks) t e = absurd (cc)
+pub only_first : (rank : ℕ → ℕ) (ks : List ℕ) (t : ℕ) → few_of ks ≡ OnlyMember t → Some t ≡ first_of_greatest rank ks
+only_first rank [] t e = let no : ⊥ = cc in absurd no
+only_first rank (k ∷ []) t e =
+    let greatest : (rank k == max 0 (rank k)) ≡ true = grind (arith, nat_tests) in
+    let same : t ≡ k = cc in
+    rw greatest (ap Some same)
+only_first rank (k ∷ j ∷ ks) t e = let no : ⊥ = cc in absurd no
 
 -- the stored priorities choose among threads as the effective ones do
 pub stored_first : (threads : List (Option Thread)) (mutexes : List (Option Mutex)) (stored ks : List ℕ) → stored ≡ effective_priorities threads mutexes → ((k : ℕ) → is_in k ks ≡ true → IsSome (pool_get threads k)) → first_of_greatest (stored_of stored) ks ≡ first_of_greatest (effective_of threads mutexes) ks
@@ -204,7 +209,7 @@ more_in m n t k mutexes (inl e) h =
     ]
 more_in m n t k mutexes (inr ne) h = inr (subst (λ (x : Option Mutex). is_in k (waiters_of x) ≡ true) (pool_get-changed_other m n (λ (mutex : Mutex). record mutex { waiters = mutex.waiters ++ t ∷ [] }) mutexes ne) h)
 
-waiting_entry : (m : ℕ) (wait : Wait) (x : Option Thread) → mutex_of_wait (Some wait) ≡ Some m → IsSome x → awaited (option_map (λ (thread : Thread). record thread { wait = Some wait }) x) ≡ Some m
+pub waiting_entry : (m : ℕ) (wait : Wait) (x : Option Thread) → mutex_of_wait (Some wait) ≡ Some m → IsSome x → awaited (option_map (λ (thread : Thread). record thread { wait = Some wait }) x) ≡ Some m
 waiting_entry m wait None e used = let no : ⊥ = cc in absurd no
 waiting_entry m wait (Some thread) e used = e
 

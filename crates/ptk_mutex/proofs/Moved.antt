@@ -1,24 +1,28 @@
 -- What the calls need of the tables, and what the tables are after a move of one partition.
-use Rattle.std.proofs.Common.{◌≡◌, ℕ, ◌-◌, ◌<◌, ◌≤◌, List, length, refl, sym, ◌∙◌, ap, arith, true, false, not}
-use Rattle.std.specs.Prelude.{◌==◌, Option, Some, None, option_map}
+use Rattle.std.proofs.Common.{◌≡◌, ℕ, ◌-◌, ◌<◌, ◌≤◌, List, refl, sym, ◌∙◌, ap, arith, true, false}
+use Rattle.std.specs.Prelude.{IsSome, Option, Some, None, option_map}
 use Rattle.std.proofs.lemmas.List.{length-set, set-set, set-get_or}
 use Rattle.ptk_words.specs.Pools.{pool_get}
 use Rattle.ptk_words.specs.declared.TheConstants.{COUNT_LIMIT}
 use Rattle.ptk_words_model.specs.State.{Mutex, Locks}
 use Rattle.ptk_words_model.specs.Priority.{effective_priority}
-use Rattle.ptk_words_model.specs.Mutex.{waiters_of, count_of}
+use Rattle.ptk_words_model.specs.Mutex.{waiters_of, count_of, soundness_of, free_move}
 use Rattle.ptk_words_parted.specs.Parts.{part_of}
 use Rattle.ptk_threads.specs.Table.{ThreadTable}
 use Rattle.ptk_threads.proofs.Pools.{pool_get-changed, pool_changed-changed, part_of-set}
-use Rattle.ptk_mutex_priorities.specs.declared.slot.Change.TheVariants.{CountUp, CountDown}
-use Rattle.ptk_mutex_priorities.specs.Changes.{SlotMayChange}
+use Rattle.ptk_mutex_priorities.specs.declared.slot.Change.TheVariants.{CountUp, CountDown, Mark}
+use Rattle.ptk_mutex_priorities.specs.Changes.{mutex_changed, SlotMayChange}
 use Rattle.std.specs.Prelude.{option_and_then, option_to_list}
 use Rattle.ptk_words.specs.Pools.{pool_set}
 use Rattle.ptk_words.specs.declared.threads.Thread.{Thread}
+use Rattle.ptk_words.specs.declared.mutexes.Soundness.TheVariants.{Inconsistent}
 use Rattle.ptk_words_model.specs.declared.LockMove.{LockMove}
+use Rattle.ptk_words_model.specs.declared.LockMove.TheVariants.{Recovers}
 use Rattle.ptk_words_model.specs.Schedule.{woken_with}
 use Rattle.ptk_words_model.specs.Mutex.{move_reply, kept_reply, handed}
-use Rattle.ptk_threads_slots.specs.Changes.{only_of}
+use Rattle.ptk_threads_slots.specs.Changes.{few_of}
+use Rattle.ptk_threads_slots.specs.declared.thread_list.Members.{Members}
+use Rattle.ptk_threads_slots.specs.declared.thread_list.Members.TheVariants.{NoMember, OnlyMember}
 use Rattle.ptk_words.specs.Pools.{first_of_greatest}
 use Rattle.ptk_words_parted.proofs.Cuts.{set_part-same}
 use Rattle.ptk_words_model.specs.Mutex.{heir, owns, after_mutex_end, after_bequest, after_abandonment}
@@ -63,16 +67,16 @@ pub choice_may : (p m : ℕ) (o : Option ℕ) (table : ThreadTable) (lines : Lis
 choice_may p m o table lines mutexes ready e = heir_may_get m (locks_by p table lines mutexes) o ready.locked (choice-is p m o table lines mutexes ready e)
 
 -- without waiters there is no heir
-pub nobody-is : (p m : ℕ) (table : ThreadTable) (lines : List (List ℕ)) (mutexes : List (List (Option Mutex))) → not (length (waiters_of (pool_get (part_of mutexes p) m)) == 0) ≡ false → None ≡ heir m (locks_by p table lines mutexes)
-nobody-is p m table lines mutexes e = none_first (effective_priority (locks_by p table lines mutexes)) (waiters_of (pool_get (part_of mutexes p) m)) e
+pub nobody-is : (p m : ℕ) (few : Members) (table : ThreadTable) (lines : List (List ℕ)) (mutexes : List (List (Option Mutex))) → few ≡ few_of (waiters_of (pool_get (part_of mutexes p) m)) → few ≡ NoMember → None ≡ heir m (locks_by p table lines mutexes)
+nobody-is p m few table lines mutexes e none = none_first (effective_priority (locks_by p table lines mutexes)) (waiters_of (pool_get (part_of mutexes p) m)) (sym e ∙ none)
 
 -- the only waiter is the heir
-pub sole-is : (p m t : ℕ) (o : Option ℕ) (table : ThreadTable) (lines : List (List ℕ)) (mutexes : List (List (Option Mutex))) → o ≡ only_of (waiters_of (pool_get (part_of mutexes p) m)) → o ≡ Some t → Some t ≡ heir m (locks_by p table lines mutexes)
-sole-is p m t o table lines mutexes e some = only_first (effective_priority (locks_by p table lines mutexes)) (waiters_of (pool_get (part_of mutexes p) m)) t (sym e ∙ some)
+pub sole-is : (p m t : ℕ) (few : Members) (table : ThreadTable) (lines : List (List ℕ)) (mutexes : List (List (Option Mutex))) → few ≡ few_of (waiters_of (pool_get (part_of mutexes p) m)) → few ≡ OnlyMember t → Some t ≡ heir m (locks_by p table lines mutexes)
+sole-is p m t few table lines mutexes e some = only_first (effective_priority (locks_by p table lines mutexes)) (waiters_of (pool_get (part_of mutexes p) m)) t (sym e ∙ some)
 
 -- and may get the mutex
-pub sole_may : (p m t : ℕ) (o : Option ℕ) (table : ThreadTable) (lines : List (List ℕ)) (mutexes : List (List (Option Mutex))) → AreReadyBy p table lines mutexes → o ≡ only_of (waiters_of (pool_get (part_of mutexes p) m)) → o ≡ Some t → MayGet (Some t) (locks_by p table lines mutexes) m
-sole_may p m t o table lines mutexes ready e some = heir_may_get m (locks_by p table lines mutexes) (Some t) ready.locked (sole-is p m t o table lines mutexes e some)
+pub sole_may : (p m t : ℕ) (few : Members) (table : ThreadTable) (lines : List (List ℕ)) (mutexes : List (List (Option Mutex))) → AreReadyBy p table lines mutexes → few ≡ few_of (waiters_of (pool_get (part_of mutexes p) m)) → few ≡ OnlyMember t → MayGet (Some t) (locks_by p table lines mutexes) m
+sole_may p m t few table lines mutexes ready e some = heir_may_get m (locks_by p table lines mutexes) (Some t) ready.locked (sole-is p m t few table lines mutexes e some)
 
 pub ruleset choices = (choice-is, choice_may, nobody-is, sole-is, sole_may, has_part)
 
@@ -91,6 +95,16 @@ pub end-robust : (t m : ℕ) (x : Option Mutex) (locks : Locks) → owns t x ≡
 end-robust t m None locks e r = cc
 end-robust t m (Some x) locks e r = rw (e, r) refl
 
+-- what is owned is there
+pub owned_used : (t : ℕ) (x : Option Mutex) → owns t x ≡ true → IsSome x
+owned_used t None e = let no : ⊥ = cc in absurd no
+owned_used t (Some x) e = refl
+
+-- a mutex that a dead owner left is taken with notice
+pub left_recovers : (x : Option Mutex) → IsSome x → Recovers ≡ free_move (soundness_of (option_map (mutex_changed (Mark Inconsistent)) x))
+left_recovers None used = let no : ⊥ = cc in absurd no
+left_recovers (Some x) used = refl
+
 pub end-plain : (t m : ℕ) (x : Option Mutex) (locks : Locks) → owns t x ≡ true → is_robust_at x ≡ false → after_mutex_end t x m locks ≡ after_abandonment m locks
 end-plain t m None locks e r = cc
 end-plain t m (Some x) locks e r = rw (e, r) refl
@@ -99,7 +113,7 @@ end-plain t m (Some x) locks e r = rw (e, r) refl
 pub stays : (p : ℕ) (table : ThreadTable) (lines : List (List ℕ)) (mutexes : List (List (Option Mutex))) → AreReadyBy p table lines mutexes → with_threads p (locks_by p table lines mutexes) table ≡ table
 stays p table lines mutexes ready = rw (← ready.stored, set_part-same, set_part-same) refl
 
-pub ruleset ends = (end-other, end-robust, end-plain, stays, has_part, set_part-same)
+pub ruleset ends = (owned_used, end-other, end-robust, end-plain, stays, has_part, set_part-same)
 
 pub ruleset moves = (set_part-same, count_down_room, waiter_used, countable, has_part, pool_get-changed, pool_changed-changed, part_of-set, set-set, set-get_or, length-set)
 

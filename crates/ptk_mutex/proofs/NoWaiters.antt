@@ -1,5 +1,5 @@
 -- Who is no waiter stays none, where lists of waiters stay.
-use Rattle.std.proofs.Common.{◌≡◌, ◌≢◌, ℕ, List, refl, sym, ◌∙◌, ap, subst, false, ◌⊎◌, inl, inr}
+use Rattle.std.proofs.Common.{◌≡◌, ◌≢◌, ℕ, List, refl, sym, ◌∙◌, ap, subst, Bool, true, false, ◌⊎◌, inl, inr}
 use Rattle.std.specs.Prelude.{Option, Some, None, option_map}
 use Rattle.std.proofs.Math.ListN.{set}
 use Rattle.std.proofs.lemmas.Bool.{cases_eq}
@@ -9,14 +9,26 @@ use Rattle.ptk_words_parted.specs.Parts.{part_of}
 use Rattle.ptk_words_model.specs.declared.LockMove.{LockMove}
 use Rattle.ptk_words_model.specs.declared.LockMove.TheVariants.{Takes, Recovers, Counts, Waits, Refuses}
 use Rattle.ptk_words_model.specs.State.{Mutex, Condition, Locks}
-use Rattle.ptk_words_model.specs.Mutex.{waiters_of, after_move, is_waiting}
+use Rattle.ptk_words_model.specs.Priority.{awaited, thread_at}
+use Rattle.ptk_words_model.specs.Mutex.{mutex_at, waiters_of, after_move, is_waiting}
 use Rattle.ptk_words_sync_invariant.specs.Conditions.{IsNoWaiter}
+use Rattle.ptk_words_sync_invariant.proofs.Threads.{none_awaits}
 use Rattle.ptk_words_sync_invariant.proofs.Pools.{changed_own, changed_other}
 use Rattle.ptk_threads.specs.Table.{ThreadTable}
 use Rattle.ptk_threads.proofs.Pools.{part_of-set}
 use Rattle.ptk_mutex_priorities.specs.declared.slot.Change.TheVariants.{Take, CountUp}
 use Rattle.ptk_mutex_priorities.specs.Changes.{mutex_changed}
-use Rattle.ptk_mutex.specs.Tables.{locks_by, HasPartBy}
+use Rattle.ptk_mutex.specs.Tables.{locks_by, HasPartBy, AreLocked}
+
+-- ---- a thread that waits for no mutex
+
+out_by : (t m : ℕ) (locks : Locks) → awaited (thread_at locks t) ≡ None → AreLocked locks → (b : Bool) → is_in t (waiters_of (mutex_at locks m)) ≡ b → is_in t (waiters_of (mutex_at locks m)) ≡ false
+out_by t m locks awake locked true e = absurd (none_awaits m (thread_at locks t) awake (locked.waiters m t e).waits)
+out_by t m locks awake locked false e = e
+
+-- is among no mutex's waiters
+pub out_of_mutex : (t m : ℕ) (locks : Locks) → awaited (thread_at locks t) ≡ None → AreLocked locks → is_in t (waiters_of (mutex_at locks m)) ≡ false
+out_of_mutex t m locks awake locked = out_by t m locks awake locked (is_in t (waiters_of (mutex_at locks m))) refl
 
 -- ---- a mutex changed
 

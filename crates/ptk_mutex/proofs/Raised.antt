@@ -1,6 +1,6 @@
 -- What a rise needs of the tables before it, and what the moves leave that raise a thread or nobody.
-use Rattle.std.proofs.Common.{◌≡◌, ℕ, ◌<◌, ◌≤◌, List, length, refl, sym, ◌∙◌, ap, subst, arith, true, false}
-use Rattle.std.specs.Prelude.{Option, Some, None, option_map, option_to_list}
+use Rattle.std.proofs.Common.{◌≡◌, ℕ, ◌<◌, ◌≤◌, List, [], length, map, refl, sym, ◌∙◌, ap, subst, arith, true, false}
+use Rattle.std.specs.Prelude.{IsSome, Option, Some, None, option_map, option_and_then, option_to_list}
 use Rattle.std.proofs.Math.ListN.{set}
 use Rattle.std.proofs.lemmas.Bool.{eq-eqb}
 use Rattle.std.proofs.lemmas.List.{set-set}
@@ -8,14 +8,15 @@ use Rattle.ptk_words.specs.Pools.{pool_get, pool_changed}
 use Rattle.ptk_words.specs.declared.threads.Thread.{Thread}
 use Rattle.ptk_words.specs.declared.threads.Wait.{Wait}
 use Rattle.ptk_words.specs.declared.threads.Wait.TheVariants.{RelockWait}
+use Rattle.ptk_words.specs.Threads.{mutex_of_wait}
 use Rattle.ptk_words_parted.specs.Parts.{part_of}
 use Rattle.ptk_words_parted.proofs.Cuts.{set_part-same}
 use Rattle.ptk_words_model.specs.declared.LockMove.{LockMove}
 use Rattle.ptk_words_model.specs.declared.LockMove.TheVariants.{Takes, Recovers, Counts, Waits, Refuses}
 use Rattle.ptk_words_model.specs.State.{Mutex, Locks}
-use Rattle.ptk_words_model.specs.Priority.{awaited, thread_at, assigned_of, inheritor, inheritor_of, ceiling_for, effective_priorities}
+use Rattle.ptk_words_model.specs.Priority.{awaited, thread_at, assigned_of, inheritor, inheritor_of, ceiling_for, next_in_chain, effective_priorities}
 use Rattle.ptk_words_model.specs.Schedule.{woken_with, after_wake}
-use Rattle.ptk_words_model.specs.Mutex.{owns, move_reply, after_move, after_relock_move, is_waiting}
+use Rattle.ptk_words_model.specs.Mutex.{owns, move_reply, after_move, after_wait, after_relock_move, is_waiting}
 use Rattle.ptk_words_sync_invariant.proofs.Pools.{changed_twice, changed_own}
 use Rattle.ptk_words_sync_invariant.proofs.Raising.{level_of}
 use Rattle.ptk_threads.specs.Table.{ThreadTable, thread_in, with_changed, with_wait, with_priority}
@@ -23,15 +24,20 @@ use Rattle.ptk_threads.proofs.Pools.{part_of-set}
 use Rattle.ptk_mutex_priorities.specs.declared.slot.Change.TheVariants.{Take, CountUp, CountDown, Release, Abandon, Mark}
 use Rattle.ptk_mutex_priorities.specs.declared.slot.Change.{Change}
 use Rattle.ptk_mutex_priorities.specs.Changes.{mutex_changed, KeepsOwner}
+use Rattle.ptk_mutex_priorities.specs.Slots.{bare}
+use Rattle.ptk_mutex_priorities.proofs.Bare.{pool_get-bare, inheritor_of-waiters}
 use Rattle.ptk_mutex_priorities.proofs.Raising.{same_owner_raises_alike, keeps_protocol}
 use Rattle.ptk_mutex.specs.Moves.{after_change}
+use Rattle.ptk_syncs.specs.Rosters.{Rostered}
 use Rattle.ptk_syncs.specs.Waiters.{waited_by}
 use Rattle.ptk_mutex.specs.Before.{awake, freed, IsBeforeWait, IsBeforeTake, IsBeforeAssignment}
 use Rattle.ptk_mutex.specs.Visits.{IsVisited}
 use Rattle.ptk_mutex.proofs.Changes.{effective_mutex, effective_thread}
 use Rattle.ptk_mutex.proofs.Visits.{unvisited}
-use Rattle.ptk_mutex.specs.Tables.{locks_by, with_threads, AreReadyBy}
+use Rattle.ptk_mutex.specs.Tables.{locks_by, put_locks, with_threads, HasPartBy, AreReadyBy}
+use Rattle.ptk_mutex.specs.Rosters.{with_priorities}
 use Rattle.ptk_mutex.specs.Rises.{IsFree}
+use Rattle.ptk_mutex.proofs.Locked.{waiting_entry}
 use Rattle.ptk_mutex.proofs.Moved.{stays}
 
 -- ---- a free mutex taken
@@ -123,6 +129,35 @@ block_before p t m wait table table' lines mutexes mutexes' ready none e f =
     stored ∙ ready.stored
     ∙ sym (ap (λ l. effective_priorities (pool_changed t awake l) (part_of mutexes' p)) there ∙ ap (effective_priorities (pool_changed t awake (pool_changed t (with_wait (Some wait)) threads))) here
     ∙ block_effective t m wait threads row none)
+
+-- what is read of the mutex without its waiters
+pub inheritor-read : (m : ℕ) (o : Option ℕ) (row slots : List (Option Mutex)) → slots ≡ map bare row → o ≡ inheritor_of (pool_get slots m) → o ≡ inheritor_of (pool_get row m)
+inheritor-read m o row slots e told = told ∙ ap (λ l. inheritor_of (pool_get l m)) e ∙ ap inheritor_of (pool_get-bare row m) ∙ inheritor_of-waiters [] (pool_get row m)
+
+-- the owner of an INHERIT mutex is then the next one of the thread's chain
+pub block_next : (p t m : ℕ) (wait : Wait) (o : Option ℕ) (table table' : ThreadTable) (lines : List (List ℕ)) (mutexes mutexes' : List (List (Option Mutex))) → AreReadyBy p table lines mutexes → mutex_of_wait (Some wait) ≡ Some m → IsSome (thread_in table p t)
+    → o ≡ inheritor_of (pool_get (part_of mutexes p) m) → mutexes' ≡ set mutexes p (pool_changed m (waited_by t) (part_of mutexes p)) → table' ≡ with_changed p t (with_wait (Some wait)) table → o ≡ next_in_chain (part_of table'.threads p) (part_of mutexes' p) t
+block_next p t m wait o table table' lines mutexes mutexes' ready named used told e f =
+    let row : List (Option Mutex) = part_of mutexes p in
+    let threads : List (Option Thread) = part_of table.threads p in
+    let here : part_of mutexes' p ≡ pool_changed m (waited_by t) row = ap (λ l. part_of l p) e ∙ part_of-set mutexes p (pool_changed m (waited_by t) row) ready.part.of_mutexes in
+    let there : part_of table'.threads p ≡ pool_changed t (with_wait (Some wait)) threads = ap (λ (l : ThreadTable). part_of l.threads p) f ∙ part_of-set table.threads p (pool_changed t (with_wait (Some wait)) threads) ready.part.of_threads in
+    let waits : awaited (pool_get (part_of table'.threads p) t) ≡ Some m = ap (λ l. awaited (pool_get l t)) there ∙ ap awaited (changed_own t (with_wait (Some wait)) threads) ∙ waiting_entry m wait (pool_get threads t) named used in
+    let owner : inheritor_of (pool_get (part_of mutexes' p) m) ≡ inheritor_of (pool_get row m) = ap (λ l. inheritor_of (pool_get l m)) here ∙ ap inheritor_of (changed_own m (waited_by t) row) ∙ joined_inheritor t (pool_get row m) in
+    told ∙ sym (ap (option_and_then (λ n. inheritor_of (pool_get (part_of mutexes' p) n))) waits ∙ owner)
+
+-- and with the effective priorities stored the roster is as the wait leaves it
+pub block_put : (p t m : ℕ) (wait : Wait) (a mid b : Rostered) → HasPartBy p a.table a.lines a.mutexes
+    → mid ≡ record a { table = with_changed p t (with_wait (Some wait)) a.table; mutexes = set a.mutexes p (pool_changed m (waited_by t) (part_of a.mutexes p)) }
+    → b ≡ with_priorities p (effective_priorities (part_of mid.table.threads p) (part_of mid.mutexes p)) mid → b ≡ put_locks p (after_wait t m wait (locks_by p a.table a.lines a.mutexes)) a
+block_put p t m wait a mid b has e f =
+    let threads : List (Option Thread) = pool_changed t (with_wait (Some wait)) (part_of a.table.threads p) in
+    let row : List (Option Mutex) = pool_changed m (waited_by t) (part_of a.mutexes p) in
+    let there : part_of (set a.table.threads p threads) p ≡ threads = part_of-set a.table.threads p threads has.of_threads in
+    let here : part_of (set a.mutexes p row) p ≡ row = part_of-set a.mutexes p row has.of_mutexes in
+    let lines : a.lines ≡ set a.lines p (part_of a.lines p) = sym (set_part-same a.lines p) in
+    f ∙ ap (λ (r : Rostered). with_priorities p (effective_priorities (part_of r.table.threads p) (part_of r.mutexes p)) r) e
+    ∙ (λ i. record a { table = record a.table { threads = set a.table.threads p threads; stored = set a.table.stored p (effective_priorities (there i) (here i)) }; lines = lines i; mutexes = set a.mutexes p row })
 
 -- ---- a higher assigned priority
 

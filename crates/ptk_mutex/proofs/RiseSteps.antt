@@ -1,15 +1,11 @@
 -- The steps of the walk that stops early, and of its count.
-use Rattle.std.proofs.Common.{◌≡◌, ℕ, zero, suc, ◌-◌, ◌<◌, ◌≤◌, List, get_or, max, true, false, refl, arith}
+use Rattle.std.proofs.Common.{◌≡◌, ℕ, zero, suc, ◌-◌, ◌<◌, List, get_or, max, false, refl, arith}
 use Rattle.std.specs.Prelude.{nat_le, Option, Some}
 use Rattle.std.proofs.lemmas.Bool.Decides.{nat_tests}
 use Rattle.ptk_words.specs.Pools.{pool_set}
 use Rattle.ptk_threads.specs.Table.{stored_of}
-use Rattle.ptk_mutex_priorities.specs.Raised.{raised}
-use Rattle.ptk_mutex.specs.Risen.{risen, reads}
-use Rattle.ptk_mutex.proofs.Rises.{raised-same}
-
-le_true : (a b : ℕ) → a ≤ b → nat_le a b ≡ true
-le_true a b h = grind (arith, nat_tests)
+use Rattle.ptk_mutex_priorities.specs.Raised.{raised, risen}
+use Rattle.ptk_mutex.specs.Visits.{reads}
 
 le_false : (a b : ℕ) → b < a → nat_le a b ≡ false
 le_false a b h = grind (arith, nat_tests)
@@ -20,10 +16,6 @@ raised-set priority zero stored new h e = e
 raised-set priority (suc i) stored new h e =
     let m : max (get_or stored i 0) priority ≡ priority = omega (arith, h) in
     rw m e
-
-pub risen_stop : (next : ℕ → Option ℕ) (priority fuel u : ℕ) (stored : List ℕ) → priority ≤ stored_of stored u → stored ≡ risen next priority fuel u stored
-risen_stop next priority zero u stored h = rw (raised-same priority u stored h) refl
-risen_stop next priority (suc fuel) u stored h = rw (le_true priority (stored_of stored u) h) refl
 
 pub risen_some : (next : ℕ → Option ℕ) (priority fuel u v : ℕ) (stored mid new : List ℕ) → 0 < fuel → stored_of stored u < priority → next u ≡ Some v → mid ≡ pool_set stored u priority → new ≡ risen next priority (fuel - 1) v mid
     → new ≡ risen next priority fuel u stored

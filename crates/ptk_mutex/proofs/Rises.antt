@@ -1,49 +1,19 @@
 -- A rise along a chain, up to the first thread that is at least as high, is a rise of the whole chain.
-use Rattle.std.proofs.Common.{◌≡◌, ◌≢◌, ℕ, zero, suc, ◌<◌, ◌≤◌, List, length, get_or, max, Bool, true, false, refl, sym, ap, arith, subst, ◌⊎◌, inl, inr}
+use Rattle.std.proofs.Common.{◌≡◌, ◌≢◌, ℕ, zero, suc, ◌≤◌, List, Bool, true, false, refl, sym, arith, subst, ◌⊎◌, inl, inr}
 use Rattle.std.specs.Prelude.{nat_le, if◌then◌else◌, Option, Some, None, option_map, unwrap_or}
-use Rattle.std.proofs.lemmas.Bool.{cases_eq, cases_lt}
+use Rattle.std.proofs.lemmas.Bool.{cases_eq}
 use Rattle.std.proofs.lemmas.Bool.Decides.{nat_tests}
-use Rattle.std.proofs.lemmas.List.{get_or-set_same, get_or-set_other, set-get_or, set_past}
-use Rattle.ptk_mutex_priorities.specs.Raised.{raised, raised_along}
-use Rattle.ptk_mutex.specs.Risen.{risen}
+use Rattle.ptk_mutex_priorities.specs.Raised.{raised, risen}
 use Rattle.ptk_threads.specs.Table.{stored_of}
 use Rattle.ptk_mutex_priorities.proofs.Levels.{length-raised}
-
--- a number of the list
-abbrev pub IsPlace : List ℕ → ℕ → Type 0
-IsPlace stored w = (0 < w) × (w ≤ length stored)
-
--- only numbers of the list lead on
-pub record IsWithin (next : ℕ → Option ℕ) (stored : List ℕ) : Type 0 where
-  pub each : (w v : ℕ) → next w ≡ Some v → IsPlace stored w
+use Rattle.ptk_mutex_priorities.proofs.Risen.{IsPlace, IsWithin, raised-same, raised_past, place_or_past, stored-raised_same, stored-raised_other}
+use Rattle.ptk_mutex.proofs.Along.{raised_along}
 
 -- where a number is at least this high, so is the next one of the list, but maybe c
 pub record IsClosedBut (next : ℕ → Option ℕ) (priority c : ℕ) (stored : List ℕ) : Type 0 where
   pub each : (w v : ℕ) → next w ≡ Some v → IsPlace stored v → priority ≤ stored_of stored w → (priority ≤ stored_of stored v) ⊎ (v ≡ c)
 
-pub raised-same : (priority u : ℕ) (stored : List ℕ) → priority ≤ stored_of stored u → raised priority u stored ≡ stored
-raised-same priority zero stored h = refl
-raised-same priority (suc i) stored h =
-    let m : max (get_or stored i 0) priority ≡ get_or stored i 0 = omega (arith, h) in
-    rw m (set-get_or stored i 0)
-
 -- ---- past the list there is nothing to raise
-
-place_cases : (stored : List ℕ) (i : ℕ) → (i < length stored) ⊎ (length stored ≤ i) → IsPlace stored (suc i) ⊎ (IsPlace stored (suc i) → ⊥)
-place_cases stored i (inl lt) = inl (omega arith, omega (arith, lt))
-place_cases stored i (inr le) = inr (λ h. omega (arith, le, h.1))
-
-pub place_or_past : (stored : List ℕ) (w : ℕ) → IsPlace stored w ⊎ (IsPlace stored w → ⊥)
-place_or_past stored zero = inr (λ h. omega (arith, h.0))
-place_or_past stored (suc i) = place_cases stored i (cases_lt i (length stored))
-
-raised_cases : (priority i : ℕ) (stored : List ℕ) → (IsPlace stored (suc i) → ⊥) → (i < length stored) ⊎ (length stored ≤ i) → raised priority (suc i) stored ≡ stored
-raised_cases priority i stored past (inl lt) = absurd (past (omega arith, omega (arith, lt)))
-raised_cases priority i stored past (inr le) = set_past stored i _ le
-
-pub raised_past : (priority u : ℕ) (stored : List ℕ) → (IsPlace stored u → ⊥) → raised priority u stored ≡ stored
-raised_past priority zero stored past = refl
-raised_past priority (suc i) stored past = raised_cases priority i stored past (cases_lt i (length stored))
 
 past_step : (next : ℕ → Option ℕ) (priority fuel u : ℕ) (stored : List ℕ) → IsWithin next stored → (IsPlace stored u → ⊥) → (o : Option ℕ) → next u ≡ o
     → unwrap_or (option_map (λ v. raised_along next priority fuel v stored) o) stored ≡ stored
@@ -81,17 +51,6 @@ stopped next priority (suc fuel) u stored within closed h =
     rw (raised-same priority u stored h) (after_stop next priority fuel u stored within (λ v le. stopped next priority fuel v stored within closed le) closed h (next u) refl)
 
 -- ---- a step that raises
-
-stored-raised_same : (priority u : ℕ) (stored : List ℕ) → 0 < u → u ≤ length stored → priority ≤ stored_of (raised priority u stored) u
-stored-raised_same priority zero stored h le = absurd (omega (arith, h))
-stored-raised_same priority (suc i) stored h le =
-    let lt : i < length stored = omega (arith, le) in
-    rw (get_or-set_same stored i (max (get_or stored i 0) priority) 0 lt) (omega arith)
-
-stored-raised_other : (priority u w : ℕ) (stored : List ℕ) → w ≢ u → stored_of (raised priority u stored) w ≡ stored_of stored w
-stored-raised_other priority zero w stored ne = refl
-stored-raised_other priority (suc i) zero stored ne = refl
-stored-raised_other priority (suc i) (suc j) stored ne = let differ : j ≢ i = λ e. ne (ap suc e) in get_or-set_other stored i j _ 0 differ
 
 not_less_by : (priority u w : ℕ) (stored : List ℕ) → priority ≤ stored_of stored w → priority ≤ stored_of (raised priority u stored) u → (w ≡ u) ⊎ (w ≢ u) → priority ≤ stored_of (raised priority u stored) w
 not_less_by priority u w stored h own (inl e) = rw e own

@@ -8,10 +8,11 @@ use Rattle.ptk_words.specs.Pools.{pool_set}
 use Rattle.ptk_words_parted.specs.Parts.{part_of}
 use Rattle.ptk_threads.specs.Table.{stored_of, with_stored}
 use Rattle.ptk_syncs.specs.Rosters.{Rostered}
-use Rattle.ptk_mutex.specs.Risen.{risen, reads}
+use Rattle.ptk_mutex_priorities.specs.Raised.{risen}
+use Rattle.ptk_mutex_priorities.proofs.Risen.{risen_stop, length-risen}
+use Rattle.ptk_mutex.specs.Visits.{reads}
 use Rattle.ptk_mutex.specs.Rosters.{with_priorities}
-use Rattle.ptk_mutex.proofs.RiseSteps.{risen_stop, risen_some, reads_some}
-use Rattle.ptk_mutex.proofs.Visits.{length-risen}
+use Rattle.ptk_mutex.proofs.RiseSteps.{risen_some, reads_some}
 
 -- ---- a partition's priorities written
 

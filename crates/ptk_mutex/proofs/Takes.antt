@@ -1,9 +1,11 @@
 -- A thread that took a free mutex, or got a higher assigned priority: the rise from it on gives the effective priorities.
-use Rattle.std.proofs.Common.{◌≡◌, ◌≢◌, ℕ, suc, ◌+◌, ◌≤◌, Bool, true, false, ◌&&◌, List, [], length, map, max, refl, sym, ◌∙◌, ap, arith, ◌⊎◌, inl, inr}
+use Rattle.std.proofs.Common.{◌∷◌, ◌++◌, fold, ◌≡◌, ◌≢◌, ℕ, suc, ◌+◌, ◌≤◌, Bool, true, false, ◌&&◌, List, [], length, map, max, refl, sym, ◌∙◌, ap, arith, ◌⊎◌, inl, inr}
 use Rattle.std.specs.Prelude.{filter, nat_eq, ◌==◌, Option, Some, None, IsSome, option_map, option_and_then, if◌then◌else◌}
 use Rattle.std.specs.List.{list_any}
-use Rattle.std.proofs.lemmas.Bool.{eqb-true, eq-eqb}
+use Rattle.std.proofs.lemmas.Bool.{and_parts, and_from, eqb-true, eq-eqb}
 use Rattle.std.proofs.lemmas.Map.Views.{any-filter_same}
+use Rattle.std.proofs.lemmas.List.Elements.{filter-append}
+use Rattle.std.proofs.lemmas.List.Sums.{fold-append}
 use Rattle.ptk_words.specs.Pools.{pool_get, pool_changed, numbers_to, greatest}
 use Rattle.ptk_words.specs.declared.threads.Thread.{Thread}
 use Rattle.ptk_words.specs.declared.mutexes.Protocol.{Protocol}
@@ -21,16 +23,19 @@ use Rattle.ptk_threads.specs.Table.{stored_of}
 use Rattle.ptk_threads.proofs.Pools.{pool_changed-free}
 use Rattle.ptk_mutex_priorities.specs.Slots.{bare, with_waiters}
 use Rattle.ptk_mutex_priorities.proofs.Bare.{pool_get-bare}
-use Rattle.ptk_mutex_priorities.proofs.Levels.{greatest_more}
-use Rattle.ptk_mutex.specs.Risen.{risen, reads}
+use Rattle.ptk_words_sync_invariant.proofs.Greatest.{Attained, attained, member_le, numbers_member}
+use Rattle.ptk_mutex_priorities.proofs.Tops.{number_member}
+use Rattle.ptk_mutex_priorities.proofs.Nexts.{bounded}
+use Rattle.ptk_mutex_priorities.proofs.Risen.{risen_stop}
+use Rattle.ptk_mutex_priorities.specs.Raised.{risen}
+use Rattle.ptk_mutex.specs.Visits.{reads}
 use Rattle.ptk_mutex.specs.Visits.{IsVisited}
 use Rattle.ptk_mutex.specs.Before.{freed, with_priority, IsBeforeTake, IsBeforeAssignment}
 use Rattle.ptk_mutex.specs.Gained.{is_for, awaiting, gained_by, gained_of}
 use Rattle.ptk_words_sync_invariant.proofs.ChainLaws.{false_true, none_some, IsNumber}
-use Rattle.ptk_mutex.proofs.Joins.{IsJoin, IsPassed, Attained, attained, member_le, numbers_member, number_member, both_true, parts, priorities, length-priorities, stored_as, join-is}
+use Rattle.ptk_mutex.proofs.Joins.{IsJoin, IsPassed, priorities, length-priorities, stored_as, join-is}
 use Rattle.ptk_mutex.proofs.Gains.{IsGain, gain-is}
-use Rattle.ptk_mutex.proofs.RiseSteps.{risen_stop}
-use Rattle.ptk_mutex.proofs.Changes.{bounded, used_number, next_mutex, held_mutex, effective_mutex, held_gain, ceilings, ceilings_max}
+use Rattle.ptk_mutex.proofs.Changes.{used_number, next_mutex, held_mutex, effective_mutex, held_gain, ceilings, ceilings_max}
 use Rattle.ptk_mutex.proofs.Waits.{rise_visited}
 
 -- ---- what it gives is read without its waiters
@@ -115,7 +120,7 @@ passed_by : (m h : ℕ) (threads : List (Option Thread)) (stored : List ℕ) (be
     → Attained (stored_of stored) 0 (awaiting m threads) → (h ≡ 0) ⊎ ((b : ℕ) × (is_for m (awaited (pool_get threads b)) ≡ true) × (before b ≡ h))
 passed_by m h threads stored before tells e (inl z) = inl (e ∙ z)
 passed_by m h threads stored before tells e (inr (q, a, r)) =
-    let both : (is_for m (awaited (pool_get threads q)) ≡ true) × (list_any (nat_eq q) (numbers_to (length threads)) ≡ true) = parts _ _ (sym (awaiting-any m q threads) ∙ a) in
+    let both : (is_for m (awaited (pool_get threads q)) ≡ true) × (list_any (nat_eq q) (numbers_to (length threads)) ≡ true) = and_parts _ _ (sym (awaiting-any m q threads) ∙ a) in
     inr (q, both.0, sym (tells q (number_member (length threads) q both.1)) ∙ r ∙ sym e)
 
 passes : (m h : ℕ) (threads : List (Option Thread)) (stored : List ℕ) (before : ℕ → ℕ) → ((w : ℕ) → IsNumber (length threads) w → stored_of stored w ≡ before w) → h ≡ greatest (stored_of stored) (awaiting m threads)
@@ -123,7 +128,7 @@ passes : (m h : ℕ) (threads : List (Option Thread)) (stored : List ℕ) (befor
 passes m h threads stored before tells e = record {
   least = λ w j.
       let n : IsNumber (length threads) w = number_of m w threads j in
-      let member : list_any (nat_eq w) (awaiting m threads) ≡ true = awaiting-any m w threads ∙ both_true _ _ j (numbers_member (length threads) w n.0 n.1) in
+      let member : list_any (nat_eq w) (awaiting m threads) ≡ true = awaiting-any m w threads ∙ and_from _ _ j (numbers_member (length threads) w n.0 n.1) in
       let le : stored_of stored w ≤ greatest (stored_of stored) (awaiting m threads) = member_le (stored_of stored) w (awaiting m threads) 0 member in
       let same : stored_of stored w ≡ before w = tells w n in
       omega (arith, le, same, e);
@@ -267,6 +272,15 @@ greatest_of m threads stored n = greatest (stored_of stored) (filter (λ u. is_f
 max_if : (b : Bool) (most x : ℕ) → max most (if b then x else 0) ≡ (if b then max most x else most)
 max_if true most x = refl
 max_if false most x = omega arith
+
+greatest_cases : (rank : ℕ → ℕ) (most k : ℕ) (b : Bool) → fold (λ most k. max most (rank k)) most (if b then k ∷ [] else []) ≡ (if b then max most (rank k) else most)
+greatest_cases rank most k true = refl
+greatest_cases rank most k false = refl
+
+greatest_more : (rank : ℕ → ℕ) (p : ℕ → Bool) (ks : List ℕ) (k : ℕ) → greatest rank (filter p (ks ++ k ∷ [])) ≡ (if p k then max (greatest rank (filter p ks)) (rank k) else greatest rank (filter p ks))
+greatest_more rank p ks k =
+    ap (greatest rank) (filter-append p ks (k ∷ [])) ∙ fold-append (λ most k. max most (rank k)) 0 (filter p ks) (filter p (k ∷ []))
+    ∙ greatest_cases rank (greatest rank (filter p ks)) k (p k)
 
 one_more : (m k : ℕ) (threads : List (Option Thread)) (stored : List ℕ)
     → greatest_of m threads stored (suc k) ≡ (if is_for m (awaited (pool_get threads (suc k))) then max (greatest_of m threads stored k) (stored_of stored (suc k)) else greatest_of m threads stored k)

@@ -6,11 +6,10 @@ use Rattle.std.proofs.lemmas.Bool.{cases_eq, cases_lt}
 use Rattle.std.proofs.lemmas.Bool.Decides.{nat_tests}
 use Rattle.std.proofs.lemmas.List.{get_or-set_same, get_or-set_other}
 use Rattle.ptk_threads.specs.Table.{stored_of}
-use Rattle.ptk_mutex_priorities.specs.Raised.{raised}
+use Rattle.ptk_mutex_priorities.specs.Raised.{raised, risen}
 use Rattle.ptk_mutex_priorities.proofs.Levels.{length-raised}
-use Rattle.ptk_mutex.specs.Risen.{risen, reads}
-use Rattle.ptk_mutex.specs.Visits.{risen_count, IsVisited}
-use Rattle.ptk_mutex.proofs.Rises.{IsPlace, IsWithin, raised-same, raised_past, place_or_past}
+use Rattle.ptk_mutex.specs.Visits.{reads, risen_count, IsVisited}
+use Rattle.ptk_mutex_priorities.proofs.Risen.{IsPlace, IsWithin, raised-same, raised_past, place_or_past, length-risen}
 
 -- ---- a priority at least as high stays
 
@@ -39,22 +38,6 @@ high next priority (suc fuel) u i stored h =
     let still : priority ≤ get_or (raised priority u stored) i 0 = rw here h in
     high_test stored (unwrap_or (option_map (λ v. risen next priority fuel v (raised priority u stored)) (next u)) (raised priority u stored)) i (nat_le priority (stored_of stored u))
     (high_next next priority fuel i (raised priority u stored) (λ v. high next priority fuel v i (raised priority u stored) still) (next u) ∙ here)
-
--- ---- nothing is left out
-
-length_next : (next : ℕ → Option ℕ) (priority fuel : ℕ) (s : List ℕ) → ((v : ℕ) → length (risen next priority fuel v s) ≡ length s) → (o : Option ℕ) → length (unwrap_or (option_map (λ v. risen next priority fuel v s) o) s) ≡ length s
-length_next next priority fuel s ih None = refl
-length_next next priority fuel s ih (Some v) = ih v
-
-length_test : (stored more : List ℕ) (b : Bool) → length more ≡ length stored → length (if b then stored else more) ≡ length stored
-length_test stored more true e = refl
-length_test stored more false e = e
-
-pub length-risen : (next : ℕ → Option ℕ) (priority fuel u : ℕ) (stored : List ℕ) → length (risen next priority fuel u stored) ≡ length stored
-length-risen next priority zero u stored = length-raised priority u stored
-length-risen next priority (suc fuel) u stored =
-    length_test stored (unwrap_or (option_map (λ v. risen next priority fuel v (raised priority u stored)) (next u)) (raised priority u stored)) (nat_le priority (stored_of stored u))
-    (length_next next priority fuel (raised priority u stored) (λ v. length-risen next priority fuel v (raised priority u stored)) (next u) ∙ length-raised priority u stored)
 
 -- ---- how many rose
 

@@ -11,14 +11,15 @@ use Rattle.ptk_words_sync_invariant.proofs.Pools.{changed_own, changed_other, le
 use Rattle.ptk_words_sync_invariant.proofs.Threads.{changed_same}
 use Rattle.ptk_words_sync_invariant.proofs.Raising.{level_of}
 use Rattle.ptk_threads.specs.Table.{stored_of}
-use Rattle.ptk_mutex.specs.Risen.{risen, reads}
+use Rattle.ptk_mutex_priorities.specs.Raised.{risen}
+use Rattle.ptk_mutex.specs.Visits.{reads}
 use Rattle.ptk_mutex.specs.Visits.{IsVisited}
 use Rattle.ptk_mutex.specs.Before.{awake, IsBeforeWait}
 use Rattle.ptk_words_sync_invariant.proofs.ChainLaws.{false_true, IsNumber, IsBounded}
-use Rattle.ptk_mutex.proofs.Rises.{IsWithin}
+use Rattle.ptk_mutex_priorities.proofs.Risen.{IsWithin}
+use Rattle.ptk_mutex_priorities.proofs.Nexts.{bounded}
 use Rattle.ptk_mutex.proofs.Joins.{IsJoin, IsPassed, priorities, length-priorities, stored_as, join-is}
 use Rattle.ptk_mutex.proofs.Visits.{visits}
-use Rattle.ptk_mutex.proofs.Changes.{bounded}
 
 -- ---- the thread before it waited
 

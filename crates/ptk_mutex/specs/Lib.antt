@@ -1,4 +1,3 @@
-pub mod Risen
 pub mod Rosters
 pub mod Visits
 pub mod Before

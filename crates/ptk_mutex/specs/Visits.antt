@@ -1,5 +1,15 @@
--- How many priorities rose, and how many may be read for it.
-use Rattle.std.specs.Prelude.{ℕ, suc, ◌≤◌, List, [], ◌∷◌, nat_lt, if◌then◌else◌}
+-- How many priorities a walk reads, how many rose, and how many may be read for it.
+use Rattle.std.specs.Prelude.{ℕ, zero, suc, ◌≤◌, List, [], ◌∷◌, nat_le, nat_lt, Option, option_map, unwrap_or, if◌then◌else◌}
+use Rattle.ptk_threads.specs.Table.{stored_of}
+use Rattle.ptk_mutex_priorities.specs.Raised.{raised}
+
+-- how many priorities a walk from u reads: of each number that it raises, and of the one that it stops at (own)
+abbrev pub reads : (ℕ → Option ℕ) → ℕ → ℕ → ℕ → List ℕ → ℕ
+reads next priority zero u stored = 1
+reads next priority (suc fuel) u stored =
+    if nat_le priority (stored_of stored u)
+    then 1
+    else suc (unwrap_or (option_map (λ v. reads next priority fuel v (raised priority u stored)) (next u)) 0)
 
 -- of how many numbers the priority is greater after than before (own)
 abbrev pub risen_count : List ℕ → List ℕ → ℕ

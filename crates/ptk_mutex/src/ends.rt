@@ -1,6 +1,6 @@
 //! The end of a thread: what becomes of the mutexes that it owns.
 
-ghost use Rattle.std.specs.Prelude.{◌≡◌, ◌<◌, length, slice_set};
+ghost use Rattle.std.specs.Prelude.{◌≡◌, ◌<◌, length, slice_set, IsSome};
 ghost use Rattle.ptk_words.specs.Pools.{pool_get};
 ghost use Rattle.ptk_words_parted.specs.Parts.{part_of};
 ghost use Rattle.ptk_words_model.specs.Mutex.{after_bequest, after_mutex_end, after_owner_end};
@@ -14,6 +14,7 @@ use crate::unlocking::{alter, amend, hand_over};
 use ptk_mutex_priorities::{Change, slot_in};
 use ptk_syncs::Roster;
 use ptk_words::{MutexNo, PartId, Soundness, ThreadNo};
+use ptk_words_model::LockMove;
 
 impl Mutexes {
     /// Does to a thread's mutexes what the thread's end does, in ascending number: a robust one goes, inconsistent, to
@@ -69,6 +70,7 @@ fn end_mutex(roster: &mut Roster, p: PartId, t: ThreadNo, m: MutexNo)
 /// A robust mutex is inconsistent and goes to its heir.
 fn bequeath(roster: &mut Roster, p: PartId, m: MutexNo)
     requires ready { AreReady p roster.old }
+    requires used { IsSome (pool_get (part_of roster.old.mutexes p) m) }
     ensures threads { roster.new.table ≡ with_threads p (after_bequest m (locks_at p roster.old)) roster.old.table }
     ensures line { roster.new.lines ≡ slice_set roster.old.lines p (after_bequest m (locks_at p roster.old)).line }
     ensures mutexes { roster.new.mutexes ≡ slice_set roster.old.mutexes p (after_bequest m (locks_at p roster.old)).mutexes }
@@ -77,7 +79,7 @@ fn bequeath(roster: &mut Roster, p: PartId, m: MutexNo)
 {
     let marked = Change::Mark(Soundness::Inconsistent);
     amend(roster, p, m, marked);
-    hand_over(roster, p, m);
+    hand_over(roster, p, m, LockMove::Recovers);
 }
 
 /// Whether a mutex is robust.

@@ -12,26 +12,27 @@
 //!   and `build` gives it.
 //! - `create` adds a thread, and `is_awake` returns whether a thread may make a call that can block, so a caller proves
 //!   nothing.
-//! - `wake` makes a blocked thread ready; whoever is woken here or in a crate above is woken by it.
-//! - Each call says what it leaves of the number of reads (`visited`): after `lock`, `trylock`, `lock_again`, `relock`
-//!   and a rise by `assign` the number that rose or one more, and 0 after any other.
-//! - `raise`, the walk along a thread's chain after a change that can only raise: it raises each thread, stops at the
-//!   first that is already at least as high, and leaves the effective priorities, on cycles too (`stored`). The number
-//!   of priorities that it reads is that of those that rose, or one more (`visited`), at most one more than a partition
-//!   has threads (`few`).
+//! - `wake` makes a blocked thread ready; whoever is woken here or in a crate above is woken by it, but for a mutex's
+//!   waiter, which leaves its queue with the same step.
+//! - Each call says what it leaves of the number of reads (`visited`): after `lock`, `wait_for`, `trylock`,
+//!   `lock_again`, `relock`, `pass_on` and a rise by `assign` the number that rose or one more, and 0 after any other.
+//! - `raise` and `rise_behind`, the walk along a thread's chain after a change that can only raise: it raises each
+//!   thread, stops at the first that is already at least as high, and leaves the effective priorities, on cycles too
+//!   (`stored`). The number of priorities that it reads is that of those that rose, or one more (`visited`), at most
+//!   one more than a partition has threads (`few`).
 //!
 //! What a call needs of its partition is `AreReady` of `specs/Tables`; one that may queue its caller also needs a
 //! caller that is no waiter (`IsNoWaiter`), since a thread has one link. A refused lock changes nothing; who is woken
-//! goes to the tail of the line. No call but `build` takes memory. A `Rise` says what raised a thread: it began to
-//! wait, took a mutex, or got a higher assigned priority. After any other change on which they may depend, the
-//! partition's priorities are all computed again, and `visited` of `Mutexes`, the number of stored priorities that the
-//! walk read, is 0. None depends on a mutex that is neither INHERIT nor PROTECT (`refresh_after`), or on a change of
-//! any mutex that keeps its owner (`amend`): `ptk_mutex_priorities` has the laws. Costly to prove are that stopping
-//! early changes nothing, on cycles too (`proofs/Rises`), and what a rise adds to the priorities (`proofs/Joins`,
-//! `proofs/Gains`), which speak of lists alone (`proofs/Rosters` puts a list into the roster); that the stored
-//! priorities choose the heir (`proofs/Locked`), the calls of many moves (`proofs/Steps`), and that a call leaves other
-//! waiters alone (`proofs/Apart`). Below are `ptk_syncs` and `ptk_mutex_priorities`; above are `ptk_cond` and
-//! `ptk_gate_pools`.
+//! goes to the tail of the line. No call but `build` takes memory. A thread that begins to wait raises whoever inherits
+//! from the mutex (`rise_behind`); a `Rise` says what else raised a thread: it took a mutex, or got a higher assigned
+//! priority. After any other change on which they may depend, the partition's priorities are all computed again, and
+//! `visited` of `Mutexes`, the number of stored priorities that the walk read, is 0. None depends on a mutex that is
+//! neither INHERIT nor PROTECT (`refresh_after`), or on a change of any mutex that keeps its owner (`amend`):
+//! `ptk_mutex_priorities` has the laws. Costly to prove are that stopping early changes nothing, on cycles too
+//! (`proofs/Rises`), and what a rise adds to the priorities (`proofs/Joins`, `proofs/Gains`), which speak of lists
+//! alone (`proofs/Rosters` puts a list into the roster); that the stored priorities choose the heir (`proofs/Locked`),
+//! the calls of many moves (`proofs/Steps`), and that a call leaves other waiters alone (`proofs/Apart`). Below are
+//! `ptk_syncs` and `ptk_mutex_priorities`; above are `ptk_cond` and `ptk_gate_pools`.
 
 mod ends;
 mod locking;
@@ -47,4 +48,4 @@ mod walk;
 pub use mutexes::Mutexes;
 pub use ptk_mutex_priorities::{MutexSlot, MutexState, effective, reply_of};
 pub use starting::build;
-pub use waking::wake;
+pub use waking::{relock_move, wake};

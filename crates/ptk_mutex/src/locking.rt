@@ -9,7 +9,7 @@ ghost use Rattle.ptk_words.specs.declared.threads.Wait.TheVariants.{RelockWait};
 ghost use Rattle.ptk_words.specs.declared.mutexes.Soundness.TheVariants.{Consistent};
 ghost use Rattle.ptk_words.specs.declared.TheConstants.{THREAD_LIMIT};
 ghost use Rattle.ptk_words_parted.specs.Parts.{part_of};
-ghost use Rattle.ptk_words_model.specs.declared.LockMove.TheVariants.{Counts};
+ghost use Rattle.ptk_words_model.specs.declared.LockMove.TheVariants.{Counts, Waits};
 ghost use Rattle.ptk_words_model.specs.State.{locks_of};
 ghost use Rattle.ptk_words_model.specs.Priority.{assigned_of};
 ghost use Rattle.ptk_words_model.specs.Mutex.{mutex_at, lock_move, trylock_move, relock_move, count_of, owns, owns_raising, is_raising_for, after_move, with_soundness};
@@ -59,6 +59,35 @@ impl Mutexes {
         made
     }
 
+    /// A thread that waits for no mutex waits for this one, until the deadline (a tick) if there is one, as its lock
+    /// does where it begins a wait (pthread_mutex_timedlock). The line stays.
+    pub fn wait_for(
+        &mut self,
+        roster: &mut Roster,
+        p: PartId,
+        t: ThreadNo,
+        m: MutexNo,
+        deadline: Option<Tick>,
+    )
+        requires ready { AreReady p roster.old }
+        requires caller { MayWait (locks_at p roster.old) t }
+        requires free { IsNoWaiter t (part_of roster.old.mutexes p) (part_of roster.old.conditions p) }
+        requires waits { lock_move (locks_at p roster.old) t (mutex_at (locks_at p roster.old) m) ≡ Waits }
+        ensures roster { roster.new ≡ put_locks p (after_lock t m deadline (locks_at p roster.old)) roster.old }
+        ensures visited { IsVisited self.new.visited (part_of roster.old.table.stored p) (part_of roster.new.table.stored p) }
+        ensures ready { AreReady p roster.new }
+        ensures sound { IsSound roster.old → IsSound roster.new }
+    {
+        self.visited = make(
+            roster,
+            p,
+            t,
+            m,
+            Wait::MutexWait(m, deadline),
+            LockMove::Waits,
+        );
+    }
+
     /// A thread that waits for no mutex locks this one, or is refused (pthread_mutex_trylock). Returns which of these.
     /// Refused, nothing changes: EINVAL of a free number and of a PROTECT mutex whose ceiling is below the thread's
     /// assigned priority, ENOTRECOVERABLE of a lost mutex, EBUSY of a locked one, EAGAIN of one's own recursive one at
@@ -80,6 +109,7 @@ impl Mutexes {
     }
 
     /// What a lock by the thread would do now; nothing changes (pthread_mutex_timedlock).
+    #[inline(always)]
     #[tactic(auto, using(ptk_mutex_priorities::proofs::Bare::bares))]
     pub fn lock_move(&self, roster: &Roster, p: PartId, t: ThreadNo, m: MutexNo) -> LockMove
         requires { p < length roster.now.table.threads }

@@ -123,6 +123,7 @@ fn open_free(
 }
 
 /// Computes the stored priorities of a partition again.
+#[inline(never)]
 pub(crate) fn refresh_priorities(roster: &mut Roster, p: PartId)
     requires { p < length roster.old.table.threads }
     ensures threads { roster.new.table ≡ record roster.old.table { stored = slice_set roster.old.table.stored p (effective_priorities (part_of roster.old.table.threads p) (part_of roster.old.mutexes p)) } }
@@ -140,6 +141,7 @@ pub(crate) fn refresh_priorities(roster: &mut Roster, p: PartId)
 
 /// After a change of a mutex, of its owner or of its waiters: computes the stored priorities of the partition again
 /// where the mutex is INHERIT or PROTECT; any other raises nobody, so they stay (pthread_mutexattr_getprotocol).
+#[inline(always)]
 pub(crate) fn refresh_after(roster: &mut Roster, p: PartId, m: MutexNo)
     requires partition { p < length roster.old.table.threads }
     requires plain { is_raising_at (pool_get (part_of roster.old.mutexes p) m) ≡ false → part_of roster.old.table.stored p ≡ effective_priorities (part_of roster.old.table.threads p) (part_of roster.old.mutexes p) }
@@ -154,6 +156,7 @@ pub(crate) fn refresh_after(roster: &mut Roster, p: PartId, m: MutexNo)
 }
 
 /// Whether a mutex is INHERIT or PROTECT.
+#[inline(always)]
 #[tactic(auto, using(ptk_mutex_priorities::proofs::Bare::bares))]
 fn is_raising(roster: &Roster, p: PartId, m: MutexNo) -> bool
     requires { p < length roster.now.table.threads }

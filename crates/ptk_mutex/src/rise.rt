@@ -10,10 +10,10 @@ ghost use Rattle.ptk_threads.specs.Table.{thread_in, stored_of};
 ghost use Rattle.ptk_mutex.specs.Risings.{IsBefore};
 ghost use Rattle.ptk_mutex.specs.Before.{IsBeforeWait, IsBeforeTake, IsBeforeAssignment};
 ghost use Rattle.ptk_mutex.specs.Gained.{is_for, awaiting, gained_by, gained_of};
-ghost use Rattle.ptk_mutex.specs.Rosters.{with_priorities};
+ghost use Rattle.ptk_mutex.specs.Rosters.{with_priorities, next_at};
 ghost use Rattle.ptk_mutex.specs.Visits.{IsVisited};
 
-use crate::walk::{next_in, rise, slots_of};
+use crate::walk::{rise, slots_of};
 use ptk_mutex_priorities::{MutexSlot, assigned, awaited, slot_in};
 use ptk_syncs::Roster;
 use ptk_words::{MutexNo, PartId, Protocol, ThreadNo};
@@ -21,8 +21,6 @@ use ptk_words::{MutexNo, PartId, Protocol, ThreadNo};
 /// What raised a thread.
 #[derive(Clone, Copy)]
 pub enum Rise {
-    /// The thread, which waited for no mutex, waits.
-    Wait(ThreadNo),
     /// The thread has locked the mutex, which was free.
     Take(ThreadNo, MutexNo),
     /// The thread has an assigned priority no less than before.
@@ -42,22 +40,29 @@ pub fn raise(roster: &mut Roster, p: PartId, rise: Rise) -> u32
     ensures few { result ≤ THREAD_LIMIT + 1 }
 {
     match rise {
-        Rise::Wait(t) => rise_after_wait(roster, p, t),
         Rise::Take(t, m) => rise_after_take(roster, p, t, m),
         Rise::Assignment(t) => rise_after_assignment(roster, p, t),
     }
 }
 
-/// A thread that waited for no mutex waits for one: where it is INHERIT, its owner's chain rises to the thread's
-/// priority, and else nothing does (pthread_mutexattr_getprotocol). Returns how many stored priorities the walk read.
-fn rise_after_wait(roster: &mut Roster, p: PartId, t: ThreadNo) -> u32
+/// A thread that waited for no mutex waits for one with this inheritor, which is the owner of an INHERIT mutex: the
+/// owner's chain rises to the thread's priority, and without one nothing does (pthread_mutexattr_getprotocol). Returns
+/// how many stored priorities the walk read.
+#[inline(always)]
+pub(crate) fn rise_behind(
+    roster: &mut Roster,
+    p: PartId,
+    t: ThreadNo,
+    inheritor: Option<ThreadNo>,
+) -> u32
     requires partition { p < length roster.old.table.threads }
     requires before { IsBeforeWait t (part_of roster.old.table.threads p) (part_of roster.old.mutexes p) (part_of roster.old.table.stored p) }
+    requires next { inheritor ≡ next_at p roster.old t }
     ensures stored { roster.new ≡ with_priorities p (effective_priorities (part_of roster.old.table.threads p) (part_of roster.old.mutexes p)) roster.old }
     ensures visited { IsVisited result (part_of roster.old.table.stored p) (part_of roster.new.table.stored p) }
     ensures few { result ≤ THREAD_LIMIT + 1 }
 {
-    match next_in(roster, p, t) {
+    match inheritor {
         Some(owner) => {
             let priority = roster.stored_priority(p, t);
             rise(roster, p, owner, priority)

@@ -14,14 +14,14 @@ ghost use Rattle.ptk_mutex.specs.Visits.{IsVisited};
 ghost use Rattle.ptk_mutex.specs.Tables.{locks_at, with_threads, MayWait, AreReady};
 ghost use Rattle.ptk_mutex.specs.Rises.{IsFree, MayTake};
 
-use crate::rise::{Rise, raise};
-use ptk_mutex_priorities::Change;
+use crate::rise::{Rise, raise, rise_behind};
+use ptk_mutex_priorities::{Change, inheritor_of};
 use ptk_syncs::Roster;
-use ptk_threads::ThreadChange;
 use ptk_words::{MutexNo, PartId, ThreadNo, Wait};
 use ptk_words_model::LockMove;
 
 /// A thread makes a move; the chain that it raises is stored.
+#[inline(always)]
 #[tactic(auto, using(crate::proofs::Raised::makes))]
 pub(crate) fn make(
     roster: &mut Roster,
@@ -52,6 +52,7 @@ pub(crate) fn make(
 }
 
 /// A thread has locked a free mutex.
+#[inline(always)]
 #[tactic(auto, using(crate::proofs::Moved::moves))]
 fn take(roster: &mut Roster, p: PartId, t: ThreadNo, m: MutexNo) -> u32
     requires ready { AreReady p roster.old }
@@ -84,11 +85,13 @@ fn count_up(roster: &mut Roster, p: PartId, m: MutexNo) -> u32
 }
 
 /// A thread that waited for no mutex waits for one, as its last waiter.
+#[inline(always)]
 #[tactic(auto, using(crate::proofs::Moved::moves))]
 fn block(roster: &mut Roster, p: PartId, t: ThreadNo, m: MutexNo, wait: Wait) -> u32
     requires ready { AreReady p roster.old }
     requires caller { MayWait (locks_at p roster.old) t }
     requires free { IsNoWaiter t (part_of roster.old.mutexes p) (part_of roster.old.conditions p) }
+    requires named { mutex_of_wait (Some wait) ≡ Some m }
     ensures threads { roster.new.table ≡ with_threads p (after_wait t m wait (locks_at p roster.old)) roster.old.table }
     ensures line { roster.new.lines ≡ roster.old.lines }
     ensures mutexes { roster.new.mutexes ≡ slice_set roster.old.mutexes p (after_wait t m wait (locks_at p roster.old)).mutexes }
@@ -96,7 +99,7 @@ fn block(roster: &mut Roster, p: PartId, t: ThreadNo, m: MutexNo, wait: Wait) ->
     ensures visited { IsVisited result (part_of roster.old.table.stored p) (part_of roster.new.table.stored p) }
     ensures few { result ≤ THREAD_LIMIT + 1 }
 {
-    roster.await_mutex(p, m, t);
-    roster.change(p, t, ThreadChange::Wait(Some(wait)));
-    raise(roster, p, Rise::Wait(t))
+    let inheritor = inheritor_of(roster.mutex_slots(p), m);
+    roster.wait_for_mutex(p, m, t, wait);
+    rise_behind(roster, p, t, inheritor)
 }

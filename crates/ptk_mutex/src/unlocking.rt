@@ -3,7 +3,7 @@
 ghost use Rattle.std.specs.Prelude.{◌≡◌, ◌<◌, length, slice_set};
 ghost use Rattle.ptk_words.specs.Pools.{pool_get};
 ghost use Rattle.ptk_words_parted.specs.Parts.{part_of};
-ghost use Rattle.ptk_words_model.specs.Mutex.{heir, soundness_of, count_of, after_hand_over, after_hand_over_to, after_refusal, after_refusal_to, after_refusals, after_loss, after_last_unlock, after_unlock};
+ghost use Rattle.ptk_words_model.specs.Mutex.{heir, soundness_of, free_move, count_of, after_hand_over, after_hand_over_to, after_refusal, after_refusal_to, after_refusals, after_loss, after_last_unlock, after_unlock};
 ghost use Rattle.ptk_mutex_priorities.specs.Changes.{SlotMayChange, IsQuiet, KeepsOwner};
 ghost use Rattle.ptk_mutex.specs.Sound.{IsSound};
 ghost use Rattle.ptk_mutex.specs.Tables.{locks_at, put_locks, with_threads, with_threads_alone, HasPart, MayGet, AreReady};
@@ -11,8 +11,9 @@ ghost use Rattle.ptk_mutex.specs.Moves.{after_change};
 
 use crate::mutexes::{Mutexes, refresh_after};
 use crate::waking::leave;
-use ptk_mutex_priorities::{Change, free_move, slot_in};
+use ptk_mutex_priorities::{Change, slot_in};
 use ptk_syncs::Roster;
+use ptk_threads::Members;
 use ptk_words::{Errno, MutexNo, PartId, Soundness, ThreadNo};
 use ptk_words_model::LockMove;
 
@@ -21,6 +22,7 @@ impl Mutexes {
     /// the waiter of greatest effective priority, the earliest among equals, who is woken; but a mutex that was not
     /// made consistent is lost, and every waiter is woken with the reply ENOTRECOVERABLE (pthread_mutex_unlock,
     /// pthread_mutex_consistent).
+    #[inline(always)]
     pub fn unlock(&mut self, roster: &mut Roster, p: PartId, m: MutexNo)
         requires ready { AreReady p roster.old }
         ensures roster { roster.new ≡ put_locks p (after_unlock m (locks_at p roster.old)) roster.old }
@@ -34,6 +36,7 @@ impl Mutexes {
 }
 
 /// A count above 1 goes down by 1, else this is the last unlock.
+#[inline(always)]
 #[tactic(auto, using(crate::proofs::Moved::moves))]
 fn unlock_once(roster: &mut Roster, p: PartId, m: MutexNo)
     requires ready { AreReady p roster.old }
@@ -51,6 +54,7 @@ fn unlock_once(roster: &mut Roster, p: PartId, m: MutexNo)
 }
 
 /// The last unlock, by what the mutex guards.
+#[inline(always)]
 #[tactic(auto, using(crate::proofs::Moved::moves))]
 fn unlock_last(roster: &mut Roster, p: PartId, m: MutexNo)
     requires ready { AreReady p roster.old }
@@ -61,12 +65,13 @@ fn unlock_last(roster: &mut Roster, p: PartId, m: MutexNo)
     ensures ready { AreReady p roster.new }
 {
     match soundness(roster, p, m) {
-        Soundness::Consistent => hand_over(roster, p, m),
+        Soundness::Consistent => hand_over(roster, p, m, LockMove::Takes),
         Soundness::Inconsistent | Soundness::Unrecoverable => lose(roster, p, m),
     }
 }
 
 /// The mutex is free for good, and every waiter leaves without it.
+#[inline(never)]
 fn lose(roster: &mut Roster, p: PartId, m: MutexNo)
     requires ready { AreReady p roster.old }
     ensures threads { roster.new.table ≡ with_threads p (after_loss m (locks_at p roster.old)) roster.old.table }
@@ -82,6 +87,7 @@ fn lose(roster: &mut Roster, p: PartId, m: MutexNo)
 }
 
 /// Every waiter leaves without the mutex, each choice in the state that the one before left.
+#[inline(never)]
 fn refuse_all(roster: &mut Roster, p: PartId, m: MutexNo)
     requires ready { AreReady p roster.old }
     ensures threads { roster.new.table ≡ with_threads p (after_refusals m (locks_at p roster.old)) roster.old.table }
@@ -97,10 +103,13 @@ fn refuse_all(roster: &mut Roster, p: PartId, m: MutexNo)
     }
 }
 
-/// The mutex goes to the waiter of greatest effective priority, the earliest among equals; without one it is free.
+/// The mutex goes to the waiter of greatest effective priority, the earliest among equals, whose move this is; without
+/// one it is free.
+#[inline(always)]
 #[tactic(auto, using(crate::proofs::Moved::moves))]
-pub(crate) fn hand_over(roster: &mut Roster, p: PartId, m: MutexNo)
+pub(crate) fn hand_over(roster: &mut Roster, p: PartId, m: MutexNo, made: LockMove)
     requires ready { AreReady p roster.old }
+    requires made { made ≡ free_move (soundness_of (pool_get (part_of roster.old.mutexes p) m)) }
     ensures threads { roster.new.table ≡ with_threads p (after_hand_over m (locks_at p roster.old)) roster.old.table }
     ensures line { roster.new.lines ≡ slice_set roster.old.lines p (after_hand_over m (locks_at p roster.old)).line }
     ensures mutexes { roster.new.mutexes ≡ slice_set roster.old.mutexes p (after_hand_over m (locks_at p roster.old)).mutexes }
@@ -108,16 +117,18 @@ pub(crate) fn hand_over(roster: &mut Roster, p: PartId, m: MutexNo)
     ensures ready { AreReady p roster.new }
 {
     let next = choose(roster, p, m);
-    hand_to(roster, p, m, next);
+    hand_to(roster, p, m, next, made);
     refresh_after(roster, p, m);
 }
 
-/// The mutex goes to a waiter, with its reply (EOWNERDEAD after a dead owner), or to nobody; the stored priorities
-/// stay.
+/// The mutex goes to a waiter, with the reply of this move (EOWNERDEAD after a dead owner), or to nobody; the stored
+/// priorities stay.
+#[inline(always)]
 #[tactic(auto, using(crate::proofs::Moved::moves))]
-fn hand_to(roster: &mut Roster, p: PartId, m: MutexNo, next: Option<ThreadNo>)
+fn hand_to(roster: &mut Roster, p: PartId, m: MutexNo, next: Option<ThreadNo>, made: LockMove)
     requires part { HasPart p roster.old }
     requires may { MayGet next (locks_at p roster.old) m }
+    requires made { made ≡ free_move (soundness_of (pool_get (part_of roster.old.mutexes p) m)) }
     ensures threads { roster.new.table ≡ with_threads_alone p (after_hand_over_to next m (locks_at p roster.old)) roster.old.table }
     ensures line { roster.new.lines ≡ slice_set roster.old.lines p (after_hand_over_to next m (locks_at p roster.old)).line }
     ensures mutexes { roster.new.mutexes ≡ slice_set roster.old.mutexes p (after_hand_over_to next m (locks_at p roster.old)).mutexes }
@@ -125,7 +136,6 @@ fn hand_to(roster: &mut Roster, p: PartId, m: MutexNo, next: Option<ThreadNo>)
 {
     match next {
         Some(t) => {
-            let made = free_move(soundness(roster, p, m));
             roster.change_mutex(p, m, Change::Take(t));
             leave(roster, p, t, m, made);
         }
@@ -168,22 +178,22 @@ fn refuse_to(roster: &mut Roster, p: PartId, m: MutexNo, next: Option<ThreadNo>)
 }
 
 /// The first waiter of the greatest effective priority, None without waiters.
+#[inline(always)]
 #[tactic(auto, using(crate::proofs::Moved::choices))]
 fn choose(roster: &Roster, p: PartId, m: MutexNo) -> Option<ThreadNo>
     requires ready { AreReady p roster.now }
     ensures told { result ≡ heir m (locks_at p roster.now) }
     ensures may { MayGet result (locks_at p roster.now) m }
 {
-    if !roster.has_mutex_waiters(p, m) {
-        return None;
-    }
-    match roster.only_mutex_waiter(p, m) {
-        Some(t) => Some(t),
-        None => first_waiter(roster, p, m),
+    match roster.few_mutex_waiters(p, m) {
+        Members::NoMember => None,
+        Members::OnlyMember(t) => Some(t),
+        Members::MoreMembers => first_waiter(roster, p, m),
     }
 }
 
 /// The same, by a list of all waiters.
+#[inline(never)]
 #[tactic(auto, using(crate::proofs::Moved::choices))]
 fn first_waiter(roster: &Roster, p: PartId, m: MutexNo) -> Option<ThreadNo>
     requires ready { AreReady p roster.now }

@@ -1,15 +1,17 @@
 //! The calls after which a waiter is ready: the reply to a thread that leaves a mutex's waiters, and the end of a
 //! condition wait.
 
-ghost use Rattle.std.specs.Prelude.{◌≡◌, ◌≤◌, ◌+◌, ◌<◌, false, None, [], ◌∷◌, ◌++◌, length, IsSome, slice_set, option_to_list};
-ghost use Rattle.ptk_words.specs.Pools.{pool_get, is_in};
+ghost use Rattle.std.specs.Prelude.{◌≡◌, ◌≤◌, ◌+◌, ◌<◌, true, false, None, Some, [], ◌∷◌, ◌++◌, length, IsSome, slice_set, option_to_list};
+ghost use Rattle.ptk_words.specs.Pools.{pool_get, pool_set, is_in, without};
 ghost use Rattle.ptk_words.specs.declared.TheConstants.{COUNT_LIMIT};
 ghost use Rattle.ptk_words.specs.declared.TheConstants.{THREAD_LIMIT};
 ghost use Rattle.ptk_words_parted.specs.Parts.{part_of};
 ghost use Rattle.ptk_words_model.specs.Schedule.{woken_with};
-ghost use Rattle.ptk_words_model.specs.declared.LockMove.TheVariants.{Counts};
+ghost use Rattle.ptk_words_model.specs.declared.LockMove.TheVariants.{Counts, Waits};
 ghost use Rattle.ptk_words_model.specs.Mutex.{mutex_at, count_of, relock_move, after_relock, after_relock_move, after_leave};
+ghost use Rattle.ptk_words_model.specs.Condition.{waiters_on};
 ghost use Rattle.ptk_words_sync_invariant.specs.Conditions.{IsNoWaiter};
+ghost use Rattle.ptk_syncs.specs.Waiters.{condition_of};
 ghost use Rattle.ptk_threads.specs.Table.{thread_in, with_changed};
 ghost use Rattle.ptk_mutex.specs.Visits.{IsVisited};
 ghost use Rattle.ptk_mutex.specs.Sound.{IsSound};
@@ -18,10 +20,11 @@ ghost use Rattle.ptk_mutex.specs.Moves.{after_withdrawal};
 ghost use Rattle.ptk_mutex.specs.Rises.{MayTake};
 
 use crate::mutexes::{Mutexes, refresh_after};
+use crate::rise::rise_behind;
 use crate::rising::make;
-use ptk_mutex_priorities::{kept_reply, reply_of, slot_in};
+use ptk_mutex_priorities::{inheritor_of, kept_reply, reply_of, slot_in};
 use ptk_syncs::Roster;
-use ptk_words::{MutexNo, PartId, ThreadNo, Wait};
+use ptk_words::{ConditionNo, MutexNo, PartId, ThreadNo, Wait};
 use ptk_words_model::LockMove;
 
 impl Mutexes {
@@ -29,6 +32,7 @@ impl Mutexes {
     /// without it where it can't be locked any more; unless it waits it is woken, with this reply if there is one
     /// (pthread_cond_wait; own choice). Where it still owns the mutex, the count is below the limit, since its wait
     /// unlocked it once.
+    #[inline(never)]
     #[tactic(auto, using(crate::proofs::Moved::moves))]
     pub fn relock(
         &mut self,
@@ -53,7 +57,37 @@ impl Mutexes {
         made
     }
 
+    /// A waiter on a condition variable waits on it no more and waits for a mutex, as its last waiter, as its re-lock
+    /// does where it begins a wait; it has this reply, if there is one, once it has the mutex (pthread_cond_signal). The
+    /// line stays.
+    #[inline(always)]
+    pub fn pass_on(
+        &mut self,
+        roster: &mut Roster,
+        p: PartId,
+        t: ThreadNo,
+        c: ConditionNo,
+        m: MutexNo,
+        reply: Option<u32>,
+    )
+        requires ready { AreReady p roster.old }
+        requires caller { MayWait (locks_at p roster.old) t }
+        requires used { IsSome (pool_get (part_of roster.old.conditions p) c) }
+        requires inside { is_in t (waiters_on (pool_get (part_of roster.old.conditions p) c)) ≡ true }
+        requires waits { relock_move t (mutex_at (locks_at p roster.old) m) ≡ Waits }
+        ensures roster { roster.new ≡ put_locks p (after_relock t m reply (locks_at p roster.old)) (record roster.old { conditions = slice_set roster.old.conditions p (pool_set (part_of roster.old.conditions p) c (Some (condition_of (without t (waiters_on (pool_get (part_of roster.old.conditions p) c)))))) }) }
+        ensures visited { IsVisited self.new.visited (part_of roster.old.table.stored p) (part_of roster.new.table.stored p) }
+        ensures ready { AreReady p roster.new }
+        ensures sound { IsSound (record roster.old { conditions = slice_set roster.old.conditions p (pool_set (part_of roster.old.conditions p) c (Some (condition_of (without t (waiters_on (pool_get (part_of roster.old.conditions p) c)))))) }) → IsSound roster.new }
+    {
+        let inheritor = inheritor_of(roster.mutex_slots(p), m);
+        let _part = roster.threads().linked(p);
+        roster.pass_to_mutex(p, c, m, t, Wait::RelockWait(m, reply));
+        self.visited = rise_behind(roster, p, t, inheritor);
+    }
+
     /// A waiter leaves without the mutex and is woken, with this reply if there is one (pthread_mutex_timedlock).
+    #[inline(always)]
     #[tactic(auto, using(crate::proofs::Moved::moves))]
     pub fn withdraw(
         &mut self,
@@ -77,6 +111,7 @@ impl Mutexes {
 }
 
 /// A thread makes its move of a re-lock; the chain that it raises is stored.
+#[inline(always)]
 #[tactic(auto, using(crate::proofs::Moved::moves))]
 fn make_relock(
     roster: &mut Roster,
@@ -107,6 +142,7 @@ fn make_relock(
 
 /// A waiter leaves and is woken, with the reply that this move makes of the one that its wait kept; the stored
 /// priorities stay.
+#[inline(always)]
 #[tactic(auto, using(crate::proofs::Moved::wakes))]
 pub(crate) fn leave(roster: &mut Roster, p: PartId, t: ThreadNo, m: MutexNo, made: LockMove)
     requires part { HasPart p roster.old }
@@ -121,6 +157,7 @@ pub(crate) fn leave(roster: &mut Roster, p: PartId, t: ThreadNo, m: MutexNo, mad
 }
 
 /// A waiter leaves and is woken; the stored priorities stay.
+#[inline(always)]
 #[tactic(auto, using(crate::proofs::Moved::moves))]
 fn take_out(roster: &mut Roster, p: PartId, t: ThreadNo, m: MutexNo, reply: Option<u32>)
     requires part { HasPart p roster.old }
@@ -130,13 +167,15 @@ fn take_out(roster: &mut Roster, p: PartId, t: ThreadNo, m: MutexNo, reply: Opti
     ensures mutexes { roster.new.mutexes ≡ slice_set roster.old.mutexes p (after_withdrawal t m reply (locks_at p roster.old)).mutexes }
     ensures conditions { roster.new.conditions ≡ roster.old.conditions }
 {
-    roster.leave_mutex(p, m, t);
-    wake_with(roster, p, t, reply);
+    match reply {
+        Some(value) => roster.rouse_from_mutex(p, m, t, &[value]),
+        None => roster.rouse_from_mutex(p, m, t, &[]),
+    }
 }
 
 /// The move of a re-lock.
 #[tactic(auto, using(ptk_mutex_priorities::proofs::Bare::bares))]
-pub(crate) fn relock_move(roster: &Roster, p: PartId, t: ThreadNo, m: MutexNo) -> LockMove
+pub fn relock_move(roster: &Roster, p: PartId, t: ThreadNo, m: MutexNo) -> LockMove
     requires { p < length roster.now.table.threads }
     ensures { result ≡ relock_move t (pool_get (part_of roster.now.mutexes p) m) }
 {
@@ -147,6 +186,7 @@ pub(crate) fn relock_move(roster: &Roster, p: PartId, t: ThreadNo, m: MutexNo) -
 }
 
 /// A blocked thread is ready, at the tail, with this reply if there is one. The stored priorities stay.
+#[inline(always)]
 fn wake_with(roster: &mut Roster, p: PartId, t: ThreadNo, reply: Option<u32>)
     requires partition { p < length roster.old.table.threads }
     requires in_use { IsSome (thread_in roster.old.table p t) }
@@ -162,6 +202,7 @@ fn wake_with(roster: &mut Roster, p: PartId, t: ThreadNo, reply: Option<u32>)
 
 /// A blocked thread is ready, at the tail, and waits for nothing any more; it has used no tick, and has these values in
 /// a0 and so on. The stored priorities stay (XSH 2.8.4).
+#[inline(always)]
 pub fn wake(roster: &mut Roster, p: PartId, t: ThreadNo, values: &[u32])
     requires partition { p < length roster.old.table.threads }
     requires few { length values.now < 4 }

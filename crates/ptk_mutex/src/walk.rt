@@ -5,7 +5,8 @@ ghost use Rattle.ptk_words.specs.declared.TheConstants.{THREAD_LIMIT};
 ghost use Rattle.ptk_words_parted.specs.Parts.{part_of};
 ghost use Rattle.ptk_threads_slots.specs.Links.{threads_of};
 ghost use Rattle.ptk_threads.specs.Table.{stored_of};
-ghost use Rattle.ptk_mutex.specs.Risen.{risen, reads};
+ghost use Rattle.ptk_mutex_priorities.specs.Raised.{risen};
+ghost use Rattle.ptk_mutex.specs.Visits.{reads};
 ghost use Rattle.ptk_mutex.specs.Rosters.{with_priorities, next_at};
 
 use ptk_mutex_priorities::next_in_chain;
@@ -33,6 +34,7 @@ pub(crate) fn next_in(roster: &Roster, p: PartId, t: ThreadNo) -> Option<ThreadN
 
 /// Each thread of the chain, up to the first that is at least as high, has at least this priority. Returns how many
 /// stored priorities that read.
+#[inline(never)]
 pub(crate) fn rise(roster: &mut Roster, p: PartId, u: ThreadNo, priority: u8) -> u32
     requires partition { p < length roster.old.table.threads }
     requires in_range { priority ≤ 32 }

@@ -4,3 +4,7 @@ pub mod Levels
 pub mod Bare
 pub mod Raising
 pub mod Nexts
+pub mod Tops
+pub mod Risen
+pub mod Sweeps
+pub mod Held

@@ -10,9 +10,10 @@
 //!
 //! `MutexSlot` is the place of a number: a contract sees it as the mutex at it without its waiters, which the slot
 //! table keeps. `Change` is all else that becomes of a mutex. What reads no waiters is the same of the mutex with them
-//! (`proofs/Bare`). In `recompute` each thread raises its chain; that this leaves the greatest held priority, within
-//! the range that `ptk_syncs` asks of what it stores, is what is costly to prove (`proofs/Levels`). No call takes
-//! memory. Below are `ptk_words_sync_invariant` and `ptk_threads`; above are `ptk_syncs` and `ptk_mutex`.
+//! (`proofs/Bare`). `recompute` stores the held priorities, and then each thread that waits raises the chain of the owner
+//! that it waits for, up to the first thread that is at least as high. That this leaves the greatest held priority, on
+//! cycles too, and that no walk ends too early, is what is costly to prove (`proofs/Risen`, `proofs/Sweeps`). No call
+//! takes memory. Below are `ptk_words_sync_invariant` and `ptk_threads`; above are `ptk_syncs` and `ptk_mutex`.
 
 pub mod laws;
 mod moves;
@@ -20,5 +21,7 @@ mod priorities;
 mod slot;
 
 pub use moves::{free_move, kept_reply, reply_of};
-pub use priorities::{assigned, awaited, effective, next_in_chain, recompute, thread_slot};
+pub use priorities::{
+    assigned, awaited, effective, inheritor_of, next_in_chain, recompute, thread_slot,
+};
 pub use slot::{Change, MutexSlot, MutexState, slot_in};

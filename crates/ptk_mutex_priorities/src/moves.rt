@@ -87,6 +87,7 @@ fn count_move(count: u32) -> LockMove
 
 /// What the move makes of this reply: itself, an error in its place, or none yet (pthread_mutex_lock, EOWNERDEAD,
 /// ENOTRECOVERABLE).
+#[inline(always)]
 pub fn reply_of(made: LockMove, reply: Option<u32>) -> Option<u32>
     ensures { result ≡ move_reply made reply }
 {
@@ -109,6 +110,7 @@ fn in_place_of(reply: Option<u32>, e: Errno) -> Option<u32>
 }
 
 /// The reply that a mutex's waiter is to have once it has the mutex: of a lock 0, of a re-lock what its wait keeps.
+#[inline(always)]
 pub fn kept_reply(wait: Option<Wait>) -> Option<u32>
     ensures { result ≡ kept_reply wait }
 {

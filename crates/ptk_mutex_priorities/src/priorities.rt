@@ -1,19 +1,20 @@
 //! Stored effective priorities: those of one partition computed again, and what is stored of a thread.
 
-ghost use Rattle.std.specs.Prelude.{◌≡◌, ◌<◌, ◌≤◌, length, option_map, IsSome};
+ghost use Rattle.std.specs.Prelude.{◌≡◌, ◌<◌, ◌≤◌, List, length, map, Option, option_map, option_and_then, unwrap_or, IsSome};
 ghost use Rattle.std.specs.Option.{option_flatten};
-ghost use Rattle.ptk_words.specs.Pools.{pool_get};
-ghost use Rattle.ptk_words_model.specs.Priority.{awaited, assigned_of, next_in_chain, held_of, inheritor_of, effective_priorities};
+ghost use Rattle.ptk_words.specs.Pools.{pool_get, numbers_of};
+ghost use Rattle.ptk_words.specs.declared.threads.Thread.{Thread};
+ghost use Rattle.ptk_words_model.specs.Priority.{awaited, assigned_of, next_in_chain, inheritor_of, effective_priorities};
 ghost use Rattle.ptk_words.specs.Threads.{mutex_of_wait};
 ghost use Rattle.ptk_words_parted.specs.Parts.{part_of};
 ghost use Rattle.ptk_threads_slots.specs.Links.{threads_of};
 ghost use Rattle.ptk_threads.specs.Table.{thread_in, stored_of, AreLevelsOf};
-ghost use Rattle.ptk_mutex_priorities.specs.Raised.{raised, raised_along};
+ghost use Rattle.ptk_mutex_priorities.specs.Raised.{raised, risen, with_ceilings};
 ghost use Rattle.ptk_mutex_priorities.specs.Tables.{effective_at};
 
 use crate::slot::{MutexSlot, slot_in};
 use ptk_threads::{Slot, Threads};
-use ptk_words::{MutexNo, PartId, Phase, THREAD_LIMIT, ThreadNo, Wait};
+use ptk_words::{MutexNo, PartId, Phase, ThreadNo, Wait};
 
 /// The stored effective priority of a thread; None where the number names no thread or an ended one
 /// (pthread_mutexattr_getprotocol; own choice).
@@ -28,59 +29,93 @@ pub fn effective(threads: &Threads, p: PartId, t: ThreadNo) -> Option<u8>
     }
 }
 
-/// Computes the priorities again: each thread raises its chain (pthread_mutexattr_getprotocol). None is above 32, and
-/// that of a thread is at least 1.
-#[tactic(auto, using(crate::proofs::Levels::sweeps))]
+/// Computes the priorities again: each thread has its held priority, and then each one raises the chain of the thread
+/// that it waits for (pthread_mutexattr_getprotocol). None is above 32, and that of a thread is at least 1.
 pub fn recompute(threads: &[Slot], mutexes: &[MutexSlot], stored: &mut [u8])
     requires same { length stored.old ≡ length threads.now }
     requires few { length threads.now ≤ 32 }
     ensures stored { stored.new ≡ effective_priorities (threads_of threads.now) mutexes.now }
     ensures levels { AreLevelsOf (threads_of threads.now) stored.new }
 {
-    let nexts = nexts_of(threads, mutexes);
-    stored.fill(0);
-    for k in 0..threads.len() {
-        let u = ThreadNo::new((k + 1) as u8);
-        raise_chain(
-            &nexts,
-            stored,
-            u,
-            held_of(threads, mutexes, u),
-            threads.len(),
-        );
+    put_assigned(threads, stored);
+    raise_owners(mutexes, stored);
+    for (k, slot) in threads.iter().enumerate() {
+        if let Some(v) = next_of(slot, mutexes) {
+            let priority = stored[k];
+            raise_chain(threads, mutexes, stored, v, priority, threads.len());
+        }
     }
 }
 
-/// The next thread in the chain of each number; one past the partition's has none.
-fn nexts_of(threads: &[Slot], mutexes: &[MutexSlot]) -> [Option<ThreadNo>; THREAD_LIMIT as usize]
-    requires { length threads.now ≤ 32 }
-    ensures { pool_get result ≡ next_in_chain (threads_of threads.now) mutexes.now }
+/// Stores each thread's assigned priority (XSH 2.8.4).
+fn put_assigned(threads: &[Slot], stored: &mut [u8])
+    requires same { length stored.old ≡ length threads.now }
+    ensures stored { stored.new ≡ map (assigned_of (threads_of threads.now)) (numbers_of (threads_of threads.now)) }
+    ensures levels { AreLevelsOf (threads_of threads.now) stored.new }
 {
-    let mut nexts = [None; THREAD_LIMIT as usize];
     for k in 0..threads.len() {
-        nexts[k] = next_in_chain(threads, mutexes, ThreadNo::new((k + 1) as u8));
+        stored[k] = level_at(&threads[k]);
     }
-    nexts
 }
 
-/// Each thread of the chain has at least this priority; the chain has at most this many steps.
-#[tactic(auto, using(crate::proofs::Levels::walks, crate::proofs::Nexts::places))]
+/// The owner of each PROTECT mutex has at least its ceiling (pthread_mutexattr_getprotocol).
+fn raise_owners(mutexes: &[MutexSlot], stored: &mut [u8])
+    ensures stored { stored.new ≡ with_ceilings mutexes.now stored.old }
+    ensures levels { (threads : List (Option Thread)) → AreLevelsOf threads stored.old → AreLevelsOf threads stored.new }
+{
+    for slot in mutexes {
+        if let Some((u, ceiling)) = slot.protected() {
+            raise(stored, u, ceiling);
+        }
+    }
+}
+
+/// Each thread of the chain, up to the first that is at least as high, has at least this priority; the chain has at most
+/// this many steps.
 fn raise_chain(
-    nexts: &[Option<ThreadNo>; THREAD_LIMIT as usize],
+    threads: &[Slot],
+    mutexes: &[MutexSlot],
     stored: &mut [u8],
     u: ThreadNo,
     priority: u8,
     fuel: usize,
 )
-    ensures { stored.new ≡ raised_along (pool_get nexts.now) priority fuel u stored.old }
+    requires same { length stored.old ≡ length threads.now }
+    ensures { stored.new ≡ risen (next_in_chain (threads_of threads.now) mutexes.now) priority fuel u stored.old }
 {
-    raise(stored, u, priority);
+    let i = u.place();
+    if i >= stored.len() || stored[i] >= priority {
+        return;
+    }
+    stored[i] = priority;
     if fuel == 0 {
         return;
     }
-    match nexts[u.place()] {
-        Some(v) => raise_chain(nexts, stored, v, priority, fuel - 1),
-        None => {}
+    if let Some(v) = next_in_chain(threads, mutexes, u) {
+        raise_chain(threads, mutexes, stored, v, priority, fuel - 1);
+    }
+}
+
+/// The owner of the INHERIT mutex that a slot's thread waits for.
+#[tactic(auto, using(crate::proofs::Levels::readings))]
+fn next_of(slot: &Slot, mutexes: &[MutexSlot]) -> Option<ThreadNo>
+    ensures { result ≡ option_and_then (λ m. inheritor_of (pool_get mutexes.now m)) (awaited slot.now.thread) }
+{
+    match mutex_of_wait(slot.wait()) {
+        Some(m) => inheritor_of(mutexes, m),
+        None => None,
+    }
+}
+
+/// The assigned priority of a slot's thread, 0 of a free one (XSH 2.8.4).
+fn level_at(slot: &Slot) -> u8
+    ensures value { result ≡ unwrap_or (option_map (λ (thread : Thread). thread.priority) slot.now.thread) 0 }
+    ensures in_range { result ≤ 32 }
+    ensures positive { IsSome slot.now.thread → 0 < result }
+{
+    match slot.assigned_priority() {
+        Some(priority) => priority.level(),
+        None => 0,
     }
 }
 
@@ -129,26 +164,13 @@ fn mutex_of_wait(wait: Option<Wait>) -> Option<MutexNo>
 }
 
 /// The thread that inherits from the waiters of a mutex.
-fn inheritor_of(mutexes: &[MutexSlot], m: MutexNo) -> Option<ThreadNo>
+pub fn inheritor_of(mutexes: &[MutexSlot], m: MutexNo) -> Option<ThreadNo>
     ensures { result ≡ inheritor_of (pool_get mutexes.now m) }
 {
     match slot_in(mutexes, m) {
         Some(slot) => slot.inheritor(),
         None => None,
     }
-}
-
-/// The greatest of a thread's assigned priority and the ceilings of the PROTECT mutexes that it owns.
-fn held_of(threads: &[Slot], mutexes: &[MutexSlot], t: ThreadNo) -> u8
-    ensures value { result ≡ held_of (threads_of threads.now) mutexes.now t }
-    ensures in_range { result ≤ 32 }
-    ensures positive { IsSome (pool_get (threads_of threads.now) t) → 0 < result }
-{
-    let mut most = assigned(threads, t);
-    for slot in mutexes {
-        most = most.max(slot.ceiling_for(t));
-    }
-    most
 }
 
 /// The assigned priority of a thread, 1 to 32; 0 of a free number (XSH 2.8.4).

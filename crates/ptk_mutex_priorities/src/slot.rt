@@ -1,16 +1,17 @@
 //! One place of the pool, what becomes of the mutex at it, but for its waiters, and the place of a number.
 
-ghost use Rattle.std.specs.Prelude.{◌≡◌, ◌≤◌, ◌&&◌, [], Some, None, IfOk, not, is_none, option_map, if◌then◌else◌};
+ghost use Rattle.std.specs.Prelude.{◌≡◌, ◌≤◌, ◌&&◌, [], Some, None, IfOk, IfSome, not, is_none, option_map, if◌then◌else◌};
 ghost use Rattle.std.specs.Option.{option_flatten};
 ghost use Rattle.ptk_words.specs.Pools.{pool_get};
 ghost use Rattle.ptk_words.specs.declared.faults.Errno.TheVariants.{EINVAL};
 ghost use Rattle.ptk_words_model.specs.State.{locks_of};
 ghost use Rattle.ptk_words_model.specs.declared.LockMove.TheVariants.{Refuses};
 ghost use Rattle.ptk_words_model.specs.Mutex.{new_mutex, lock_move, trylock_move, relock_move, owns, is_free, is_raising_for, is_raising, soundness_of, count_of, is_above_ceiling, owner_move, free_move};
-ghost use Rattle.ptk_words_model.specs.Priority.{inheritor, inheritor_of, ceiling_for, ceiling_of, is_owner};
+ghost use Rattle.ptk_words_model.specs.Priority.{assigned_of, inheritor, inheritor_of, is_owner};
 ghost use Rattle.ptk_threads_slots.specs.Links.{threads_of};
 ghost use Rattle.ptk_mutex_priorities.specs.Slots.{state_of, is_robust_at};
 ghost use Rattle.ptk_mutex_priorities.specs.Changes.{mutex_changed, SlotMayChange};
+ghost use Rattle.ptk_mutex_priorities.specs.Raised.{protected, protected_at};
 ghost use Rattle.ptk_mutex_priorities.specs.Plain.{is_raising_at, is_sound, is_takeable, is_releasable};
 
 use crate::moves::{
@@ -161,22 +162,30 @@ impl MutexSlot {
         }
     }
 
-    /// The ceiling that it gives the thread, 0 where the thread doesn't own a PROTECT mutex there
+    /// The thread that owns its PROTECT mutex, with the ceiling; None where no thread owns a PROTECT mutex there
     /// (pthread_mutexattr_getprotocol).
-    pub(crate) fn ceiling_for(&self, t: ThreadNo) -> u8
-        ensures value { result ≡ ceiling_for t self.now }
-        ensures in_range { result ≤ 32 }
+    pub(crate) fn protected(&self) -> Option<(ThreadNo, u8)>
+        ensures value { result ≡ protected_at self.now }
+        ensures in_range { IfSome result (λ x. x.1 ≤ 32) }
     {
         match &self.state {
-            Some(state) => {
-                if is_owner(t, state.owner) {
-                    ceiling_of(state.protocol)
-                } else {
-                    0
-                }
-            }
-            None => 0,
+            Some(state) => protected(state.protocol, state.owner),
+            None => None,
         }
+    }
+}
+
+/// The owner of a PROTECT mutex with its ceiling, where it is a thread.
+fn protected(protocol: Protocol, owner: Owner) -> Option<(ThreadNo, u8)>
+    ensures value { result ≡ protected protocol owner }
+    ensures in_range { IfSome result (λ x. x.1 ≤ 32) }
+{
+    match protocol {
+        Protocol::Protect(ceiling) => match owner {
+            Owner::OwnedBy(u) => Some((u, ceiling.level())),
+            Owner::Free | Owner::Abandoned => None,
+        },
+        Protocol::NoProtocol | Protocol::Inherit => None,
     }
 }
 
@@ -203,17 +212,6 @@ fn inheritor(protocol: Protocol, owner: Owner) -> Option<ThreadNo>
     }
 }
 
-/// The ceiling of a PROTECT mutex, 0 of any other.
-fn ceiling_of(protocol: Protocol) -> u8
-    ensures value { result ≡ ceiling_of protocol }
-    ensures in_range { result ≤ 32 }
-{
-    match protocol {
-        Protocol::Protect(ceiling) => ceiling.level(),
-        Protocol::NoProtocol | Protocol::Inherit => 0,
-    }
-}
-
 impl MutexSlot {
     /// The move of lock; the ceiling is tested first (pthread_mutex_lock).
     pub fn lock_move(&self, threads: &[Slot], t: ThreadNo) -> LockMove
@@ -222,7 +220,7 @@ impl MutexSlot {
         match &self.state {
             Some(state) => {
                 let of_own = own_lock_move(state.kind, state.count);
-                move_of_state(state, assigned(threads, t), t, of_own, LockMove::Waits)
+                move_of_state(state, threads, t, of_own, LockMove::Waits)
             }
             None => LockMove::Refuses(Errno::EINVAL),
         }
@@ -236,7 +234,7 @@ impl MutexSlot {
             Some(state) => {
                 let busy = LockMove::Refuses(Errno::EBUSY);
                 let of_own = own_trylock_move(state.kind, state.count);
-                move_of_state(state, assigned(threads, t), t, of_own, busy)
+                move_of_state(state, threads, t, of_own, busy)
             }
             None => LockMove::Refuses(Errno::EINVAL),
         }
@@ -384,14 +382,14 @@ fn is_sound(soundness: Soundness) -> bool
 /// The move of a lock of this mutex: the ceiling is tested first, against the assigned priority.
 fn move_of_state(
     state: &MutexState,
-    priority: u8,
+    threads: &[Slot],
     t: ThreadNo,
     of_own: LockMove,
     of_another: LockMove,
 ) -> LockMove
-    ensures { result ≡ (if is_above_ceiling priority state.now.protocol then Refuses EINVAL else owner_move state.now.owner t (record { of_free = free_move state.now.soundness; of_own = of_own; of_another = of_another })) }
+    ensures { result ≡ (if is_above_ceiling (assigned_of (threads_of threads.now) t) state.now.protocol then Refuses EINVAL else owner_move state.now.owner t (record { of_free = free_move state.now.soundness; of_own = of_own; of_another = of_another })) }
 {
-    if is_above_ceiling(priority, state.protocol) {
+    if is_barred(state.protocol, threads, t) {
         return LockMove::Refuses(Errno::EINVAL);
     }
     let of_free = free_move(state.soundness);
@@ -404,6 +402,17 @@ fn move_of_state(
             of_another,
         },
     )
+}
+
+/// Whether the thread's assigned priority is above the ceiling of a PROTECT mutex.
+#[inline(always)]
+fn is_barred(protocol: Protocol, threads: &[Slot], t: ThreadNo) -> bool
+    ensures { result ≡ is_above_ceiling (assigned_of (threads_of threads.now) t) protocol }
+{
+    match protocol {
+        Protocol::Protect(_) => is_above_ceiling(assigned(threads, t), protocol),
+        Protocol::NoProtocol | Protocol::Inherit => false,
+    }
 }
 
 /// INHERIT or PROTECT.

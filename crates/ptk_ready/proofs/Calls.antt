@@ -1,30 +1,32 @@
 -- What each call makes of the line, told by the queues' lists.
-use Rattle.std.proofs.Common.{◌≡◌, ℕ, zero, suc, ◌-◌, ◌<◌, ◌≤◌, List, [], ◌∷◌, ◌++◌, length, drop, true, false, refl, sym, ◌∙◌, ap, subst, arith, inl, inr}
-use Rattle.std.specs.Prelude.{ℤ, ◌<ℤ◌, int_lt, ◌==◌, ◌||◌, Bool, find, is_some, option_map, Option, Some, None}
+use Rattle.std.proofs.Common.{◌≡◌, ℕ, zero, suc, ◌-◌, ◌<◌, ◌≤◌, List, [], ◌∷◌, ◌++◌, length, drop, true, false, refl, sym, ◌∙◌, ap, subst, arith, ◌⊎◌, inl, inr, take}
+use Rattle.std.specs.Prelude.{ℤ, ◌<ℤ◌, int_lt, ◌==◌, ◌||◌, Bool, find, filter, is_some, option_map, Option, Some, None}
 use Rattle.std.proofs.Math.ListN.{set, get_or-map}
 use Rattle.std.proofs.lemmas.Bool.{cases_eq, cases_Bool, eq-eqb, ne_eqb}
-use Rattle.std.proofs.lemmas.List.{get_or-set_same, length-map, length-set}
-use Rattle.ptk_words.specs.Pools.{is_in, without, pool_set}
+use Rattle.std.proofs.lemmas.List.{get_or-set_same, length-map, length-set, get_or_past, take-set-le, drop-set-lt}
+use Rattle.std.proofs.Math.Seq.{take-set-lt}
+use Rattle.ptk_words.specs.Pools.{is_in, without, pool_set, numbers_to}
 use Rattle.ptk_words_parted.specs.Parts.{part_of}
 use Rattle.ptk_threads.specs.Table.{stored_of}
 use Rattle.ptk_threads.specs.Queues.{IsUnqueued, with_last, with_first, with_before, with_none}
-use Rattle.ptk_threads.proofs.Linked.{unqueued_mark, inserted_all, taken_all}
+use Rattle.ptk_threads.proofs.Linked.{inserted_all, taken_all}
 use Rattle.ptk_threads_slots.specs.declared.link.Link.{Link}
 use Rattle.ptk_threads_slots.specs.declared.link.Ends.{Ends}
 use Rattle.ptk_threads_slots.specs.declared.link.QueueName.{QueueName}
 use Rattle.ptk_threads_slots.specs.declared.link.QueueName.TheVariants.{Ready}
 use Rattle.ptk_threads_slots.specs.Links.{place_of, mark_of, link_in, no_ends, no_link, ends_at, first_after, queue_from, queue_at, queues, with_next, with_previous, AreQueues}
 use Rattle.ptk_threads_slots.specs.Changes.{put_before, linked_between, end_between, unlinked, end_without}
-use Rattle.ptk_threads_slots.proofs.Along.{not_true, length_next, length_previous, along_marked, marked_within}
-use Rattle.ptk_threads_slots.proofs.Lists.{AreTurned, list_at, appended, prepended, inserted}
+use Rattle.ptk_threads_slots.proofs.Along.{not_true, le_or_gt, link_same, length_next, length_previous, along_marked, marked_within}
+use Rattle.ptk_threads_slots.proofs.Lists.{AreTurned, list_at, appended, prepended, inserted, unqueued_mark}
 use Rattle.ptk_threads_slots.proofs.Lists.{went as left_links}
 use Rattle.ptk_ready.specs.declared.stamps.StampRange.{StampRange}
 use Rattle.ptk_ready.specs.Bits.{has_bit, IsBitChanged}
-use Rattle.ptk_ready.specs.Orders.{placed}
+use Rattle.ptk_ready.specs.Orders.{in_order, placed}
 use Rattle.ptk_ready.specs.Entries.{IsInRange, is_ready, stamp_of, entries, has_any, AreStamps, IsSound}
 use Rattle.ptk_ready.specs.Lines.{line_of, with_refiled, IsFiled}
-use Rattle.ptk_ready.proofs.Orders.{no_less, less_test}
-use Rattle.ptk_ready.proofs.Ready.{in_entries, ready_mark}
+use Rattle.ptk_ready.proofs.Orders.{no_less, less_test, same_test}
+use Rattle.ptk_ready.proofs.Ready.{in_entries, ready_mark, marked_ready}
+use Rattle.ptk_ready.specs.Laws.{filter_agree, filed_take, line_take, list_take}
 use Rattle.ptk_ready.proofs.Kept.{sound_kept, went}
 use Rattle.ptk_ready.proofs.Firsts.{any_member}
 use Rattle.ptk_ready.proofs.Filed.{found_passes, placed_end, placed_before}
@@ -66,17 +68,16 @@ both_long links o u v w k link = pool_long (with_previous u w (with_next o v lin
 
 -- ---- a thread is pushed
 
-pub pushed_last : (limit : ℕ) (was range : StampRange) (links : List Link) (ends : List Ends) (stored : List ℕ) (stamps mid anew : List ℤ) (bitmap bits k i : ℕ) (stamp : ℤ) (name : QueueName)
+pushed_free : (limit : ℕ) (was range : StampRange) (links : List Link) (ends : List Ends) (stored : List ℕ) (stamps mid anew : List ℤ) (bitmap bits k i : ℕ) (stamp : ℤ) (name : QueueName)
     → AreQueues links ends → length links ≤ 32 → IsFiled limit was (queues links ends) stored stamps bitmap → AreStamps limit range links mid → entries links mid ≡ entries links stamps
-    → IsUnqueued k (queues links ends) → 0 < k → k ≤ length links → length mid ≡ 32 → anew ≡ set mid (k - 1) stamp → stored_of stored k ≡ suc i → i < 32 → place_of name ≡ i
+    → mark_of links k ≡ None → 0 < k → k ≤ length links → length mid ≡ 32 → anew ≡ set mid (k - 1) stamp → stored_of stored k ≡ suc i → i < 32 → place_of name ≡ i
     → ((j : ℕ) → is_ready links j ≡ true → stamp_of mid j <ℤ stamp) → IsInRange range stamp → length ends ≡ 128 → IsBitChanged bitmap bits i true
     → IsListed limit range (queues links ends) (with_last name k (queues links ends)) stored anew bits (line_of (queues links ends) stamps ++ k ∷ [])
-pushed_last limit was range links ends stored stamps mid anew bitmap bits k i stamp name queued few filed are line free some within long made level low place last bounds wide bit =
+pushed_free limit was range links ends stored stamps mid anew bitmap bits k i stamp name queued few filed are line none some within long made level low place last bounds wide bit =
     let end = ends_at ends i in
     let link : Link = record { previous = end.last; next = None; queue = Some name } in
     let new = linked_between k link links in
     let late = set ends i (end_between end.last k None end) in
-    let none = unqueued_mark links ends k queued free in
     let turned : AreTurned links new ends late i (part_of (queues links ends) i ++ k ∷ []) =
     appended links new ends late i k name end queued (omega (arith, low, wide)) some within none place refl refl refl in
     as_lists limit range links new ends late stored anew bits (entries links stamps ++ k ∷ []) (line_of (queues links ends) stamps ++ k ∷ []) (with_last name k (queues links ends))
@@ -85,6 +86,105 @@ pushed_last limit was range links ends stored stamps mid anew bitmap bits k i st
     (ap (λ l. l ++ k ∷ []) (line_same links ends stamps queued few))
     (pushed_tail limit was range links new ends late stored stamps mid anew bitmap bits k i stamp (sound_line limit was links ends stored stamps bitmap queued few filed) are line
     none some (omega (arith, few, within)) long made level low last bounds wide turned.sound turned.lists bit)
+
+record IsNamed (o : Option QueueName) (i : ℕ) : Type 0 where
+  name : QueueName
+  is : o ≡ Some name
+  place : place_of name ≡ i
+
+named : (o : Option QueueName) (i : ℕ) → option_map place_of o ≡ Some i → IsNamed o i
+named None i h = absurd (cc)
+named (Some name) i h = record { name = name; is = refl; place = cc }
+
+abbrev gone_links : ℕ → List Link → List Link
+gone_links k links = unlinked k (link_in links k) links
+
+abbrev gone_ends : ℕ → ℕ → List Link → List Ends → List Ends
+gone_ends k i links ends = set ends i (end_without (link_in links k).previous (link_in links k).next (ends_at ends i))
+
+one_or_none : (o : Option ℕ) → (o ≡ None) ⊎ ((w : ℕ) × (o ≡ Some w))
+one_or_none None = inl refl
+one_or_none (Some w) = inr (w, refl)
+
+-- the ready threads are those of the queues of ready threads, whatever the links
+ready_there : (links new : List Link) (ends late : List Ends) (j : ℕ) → AreQueues links ends → AreQueues new late → ((i : ℕ) → i < 32 → queue_at new late i ≡ queue_at links ends i) → is_ready links j ≡ true → is_ready new j ≡ true
+ready_there links new ends late j are sound same ready =
+    let at = ready_mark links j ready in
+    let inside : is_in j (queue_at new late at.place) ≡ true = subst (λ l. is_in j l ≡ true) (sym (same at.place at.low)) (are.marked j at.place at.mark) in
+    marked_ready new j at.place at.low (along_marked new at.place None None (queue_at new late at.place) j (sound.each at.place).along inside)
+
+ready_same : (links new : List Link) (ends late : List Ends) → AreQueues links ends → AreQueues new late → ((i : ℕ) → i < 32 → queue_at new late i ≡ queue_at links ends i) → (j : ℕ) → is_ready new j ≡ is_ready links j
+ready_same links new ends late are sound same j = same_test (is_ready new j) (is_ready links j) (ready_there new links late ends j sound are (λ i lt. sym (same i lt))) (ready_there links new ends late j are sound same)
+
+entries_same : (links new : List Link) (stamps : List ℤ) → length new ≡ length links → ((j : ℕ) → is_ready new j ≡ is_ready links j) → entries new stamps ≡ entries links stamps
+entries_same links new stamps long ready =
+    ap (λ n. in_order (stamp_of stamps) (filter (is_ready new) (numbers_to n))) long
+    ∙ ap (in_order (stamp_of stamps)) (filter_agree (is_ready new) (is_ready links) (numbers_to (length links)) (λ j inside. ready j))
+
+-- the queues of ready threads with k as the last of one
+pub last_take : (name : QueueName) (k : ℕ) (a b : List (List ℕ)) → place_of name < 32 → take 32 a ≡ take 32 b → take 32 (with_last name k a) ≡ take 32 (with_last name k b)
+last_take name k a b low same =
+    let i = place_of name in
+    take-set-lt 32 a i (part_of a i ++ k ∷ []) low
+    ∙ (ap (λ l. set l i (part_of a i ++ k ∷ [])) same
+    ∙ (ap (λ q. set (take 32 b) i (q ++ k ∷ [])) (sym (list_take a b i same low)) ∙ sym (take-set-lt 32 b i (part_of b i ++ k ∷ []) low)))
+
+pushed_away : (limit : ℕ) (was range : StampRange) (links : List Link) (ends : List Ends) (stored : List ℕ) (stamps mid anew : List ℤ) (bitmap bits k i w : ℕ) (stamp : ℤ) (name : QueueName)
+    → AreQueues links ends → length links ≤ 32 → IsFiled limit was (queues links ends) stored stamps bitmap → AreStamps limit range links mid → entries links mid ≡ entries links stamps
+    → mark_of links k ≡ Some w → 32 ≤ w → w < length ends → 0 < k → k ≤ length links → length mid ≡ 32 → anew ≡ set mid (k - 1) stamp → stored_of stored k ≡ suc i → i < 32 → place_of name ≡ i
+    → ((j : ℕ) → is_ready links j ≡ true → stamp_of mid j <ℤ stamp) → IsInRange range stamp → length ends ≡ 128 → IsBitChanged bitmap bits i true
+    → IsListed limit range (queues links ends) (with_last name k (queues links ends)) stored anew bits (line_of (queues links ends) stamps ++ k ∷ [])
+pushed_away limit was range links ends stored stamps mid anew bitmap bits k i w stamp name queued few filed are line mark far lt some within long made level low place last bounds wide bit =
+    let lists = queues links ends in
+    let link = link_in links k in
+    let at = named link.queue w mark in
+    let new = gone_links k links in
+    let late = gone_ends k w links ends in
+    let turned : AreTurned links new ends late w (without k (part_of lists w)) = left_links links new ends late w k at.name link queued lt at.place refl at.is refl refl in
+    let fewer : take 32 (queues new late) ≡ take 32 lists = ap (take 32) turned.lists ∙ take-set-le 32 lists w (without k (part_of lists w)) far in
+    let same : (j : ℕ) → j < 32 → queue_at new late j ≡ queue_at links ends j = λ j less. sym (list_at new late j) ∙ (list_take lists (queues new late) j (sym fewer) less ∙ list_at links ends j) in
+    let ready = ready_same links new ends late queued turned.sound same in
+    let count : length new ≡ length links = both_long links link.previous link.next link.next link.previous k no_link in
+    let none : mark_of new k ≡ None =
+    ap (λ (l : Link). option_map place_of l.queue)
+    (link_same (with_previous link.next link.previous (with_next link.previous link.next links)) k no_link some
+    (omega (arith, within, length_previous (with_next link.previous link.next links) link.next link.previous, length_next links link.previous link.next))) in
+    let stays : (st : List ℤ) → entries new st ≡ entries links st = λ st. entries_same links new st count ready in
+    let low' : place_of name < 32 = omega (arith, low, place) in
+    let agree : take 32 (with_last name k (queues new late)) ≡ take 32 (with_last name k lists) = last_take name k (queues new late) lists low' fewer in
+    let pushed = pushed_free limit was range new late stored stamps mid anew bitmap bits k i stamp name turned.sound (omega (arith, few, count))
+    (filed_take limit was lists (queues new late) stored stored stamps bitmap (sym fewer) (λ j inside. refl) filed)
+    (record { apart = λ j q x y. are.apart j q (sym (ready j) ∙ x) (sym (ready q) ∙ y); within = λ j x. are.within j (sym (ready j) ∙ x); limits = are.limits })
+    (stays mid ∙ (line ∙ sym (stays stamps))) none some (omega (arith, within, count)) long made level low place (λ j x. last j (sym (ready j) ∙ x)) bounds (length-set ends w _ ∙ wide) bit in
+    record {
+      sound = filed_take limit range (with_last name k (queues new late)) (with_last name k lists) stored stored anew bits agree (λ j inside. refl) pushed.sound;
+      line = line_take (with_last name k lists) (with_last name k (queues new late)) anew (sym agree) ∙ (pushed.line ∙ ap (λ l. l ++ k ∷ []) (line_take (queues new late) lists stamps fewer));
+      waiters = drop-set-lt 32 lists (place_of name) (part_of lists (place_of name) ++ k ∷ []) low';
+    }
+
+-- the place of a thread that is in no queue of ready threads
+away_place : (links : List Link) (ends : List Ends) (k w : ℕ) → AreQueues links ends → ((i : ℕ) → i < 32 → is_in k (part_of (queues links ends) i) ≡ false) → mark_of links k ≡ Some w → (32 ≤ w) × (w < length ends)
+away_place links ends k w are apart mark =
+    let inside : is_in k (part_of (queues links ends) w) ≡ true = subst (λ l. is_in k l ≡ true) (sym (list_at links ends w)) (are.marked k w mark) in (
+      elim (le_or_gt 32 w) as (λ _. 32 ≤ w) [ inl le ↦ le | inr gt ↦ (let out = apart w gt in absurd (cc)) ],
+      elim (le_or_gt (length ends) w) as (λ _. w < length ends) [
+        | inl past ↦ (let none : part_of (queues links ends) w ≡ [] = get_or_past (queues links ends) w [] (omega (arith, past, length-map ends (queue_from links))) in
+            let no : true ≡ false = sym inside ∙ ap (is_in k) none in absurd (cc))
+        | inr lt ↦ lt
+      ],
+    )
+
+pub pushed_last : (limit : ℕ) (was range : StampRange) (links : List Link) (ends : List Ends) (stored : List ℕ) (stamps mid anew : List ℤ) (bitmap bits k i : ℕ) (stamp : ℤ) (name : QueueName)
+    → AreQueues links ends → length links ≤ 32 → IsFiled limit was (queues links ends) stored stamps bitmap → AreStamps limit range links mid → entries links mid ≡ entries links stamps
+    → ((j : ℕ) → j < 32 → is_in k (part_of (queues links ends) j) ≡ false) → 0 < k → k ≤ length links → length mid ≡ 32 → anew ≡ set mid (k - 1) stamp → stored_of stored k ≡ suc i → i < 32 → place_of name ≡ i
+    → ((j : ℕ) → is_ready links j ≡ true → stamp_of mid j <ℤ stamp) → IsInRange range stamp → length ends ≡ 128 → IsBitChanged bitmap bits i true
+    → IsListed limit range (queues links ends) (with_last name k (queues links ends)) stored anew bits (line_of (queues links ends) stamps ++ k ∷ [])
+pushed_last limit was range links ends stored stamps mid anew bitmap bits k i stamp name queued few filed are line apart some within long made level low place last bounds wide bit =
+    elim (one_or_none (mark_of links k)) as (λ _. IsListed limit range (queues links ends) (with_last name k (queues links ends)) stored anew bits (line_of (queues links ends) stamps ++ k ∷ [])) [
+      | inl none ↦ pushed_free limit was range links ends stored stamps mid anew bitmap bits k i stamp name queued few filed are line none some within long made level low place last bounds wide bit
+      | inr one ↦ (let there = away_place links ends k one.0 queued apart one.1 in
+          pushed_away limit was range links ends stored stamps mid anew bitmap bits k i one.0 stamp name queued few filed are line one.1 there.0 there.1 some within long made level low place last bounds wide bit)
+    ]
 
 pub pushed_first : (limit : ℕ) (was range : StampRange) (links : List Link) (ends : List Ends) (stored : List ℕ) (stamps mid anew : List ℤ) (bitmap bits k i : ℕ) (stamp : ℤ) (name : QueueName)
     → AreQueues links ends → length links ≤ 32 → IsFiled limit was (queues links ends) stored stamps bitmap → AreStamps limit range links mid → entries links mid ≡ entries links stamps
@@ -108,15 +208,6 @@ pushed_first limit was range links ends stored stamps mid anew bitmap bits k i s
 
 -- ---- a thread leaves
 
-record IsNamed (o : Option QueueName) (i : ℕ) : Type 0 where
-  name : QueueName
-  is : o ≡ Some name
-  place : place_of name ≡ i
-
-named : (o : Option QueueName) (i : ℕ) → option_map place_of o ≡ Some i → IsNamed o i
-named None i h = absurd (cc)
-named (Some name) i h = record { name = name; is = refl; place = cc }
-
 some_left : (p n f : Option ℕ) → is_some f ≡ true → is_some (first_after p n f) ≡ (is_some p || is_some n)
 some_left None n f h = refl
 some_left (Some p) n f h = h
@@ -127,12 +218,6 @@ record IsGone (limit : ℕ) (range : StampRange) (links new : List Link) (ends l
   lists : queues new late ≡ with_none k (queues links ends)
   few : length new ≡ length links
   wide : length late ≡ length ends
-
-abbrev gone_links : ℕ → List Link → List Link
-gone_links k links = unlinked k (link_in links k) links
-
-abbrev gone_ends : ℕ → ℕ → List Link → List Ends → List Ends
-gone_ends k i links ends = set ends i (end_without (link_in links k).previous (link_in links k).next (ends_at ends i))
 
 gone : (limit : ℕ) (range : StampRange) (links : List Link) (ends : List Ends) (stored : List ℕ) (stamps : List ℤ) (bitmap bits k i : ℕ) → IsSound limit range links ends stored stamps bitmap → length ends ≡ 128
     → i < 32 → mark_of links k ≡ Some i → IsBitChanged bitmap bits i (is_some (link_in links k).previous || is_some (link_in links k).next)

@@ -1,30 +1,31 @@
 -- What each call makes of the lines of all partitions.
-use Rattle.std.proofs.Common.{◌≡◌, ◌≢◌, ℕ, zero, suc, ◌<◌, ◌≤◌, List, [], ◌∷◌, length, drop, map, true, false, refl, sym, ◌∙◌, ap, subst, arith, get_or, inl, inr}
+use Rattle.std.proofs.Common.{◌≡◌, ◌≢◌, ℕ, zero, suc, ◌<◌, ◌≤◌, List, [], ◌∷◌, ◌++◌, length, drop, take, map, true, false, refl, sym, ◌∙◌, ap, subst, arith, get_or, inl, inr}
 use Rattle.std.specs.Prelude.{ℤ, pos, IsSome, Option, replicate, slice_get}
 use Rattle.std.proofs.Math.ListN.{set, get_or-map}
 use Rattle.std.proofs.Math.Seq.{map-set_same}
 use Rattle.std.proofs.lemmas.Bool.{cases_eq}
-use Rattle.std.proofs.lemmas.List.{get_or-set_same, get_or-set_other, get_or_read, get_or_past, set_past, set-get_or, set-set, ext_get_or, get_or-replicate, length-map, length-set, length-replicate}
+use Rattle.std.proofs.lemmas.List.{get_or-set_same, get_or-set_other, get_or_read, get_or_past, set_past, set-get_or, set-set, ext_get_or, take-set-le, drop-set-lt, get_or-replicate, length-map, length-set, length-replicate}
 use Rattle.std.specs.Option.{option_flatten}
 use Rattle.ptk_words.specs.Pools.{is_in, without, pool_get, pool_set}
 use Rattle.ptk_words.specs.declared.threads.Thread.{Thread}
 use Rattle.ptk_words_parted.specs.Parts.{part_of}
 use Rattle.ptk_threads.specs.Table.{ThreadTable, thread_in, stored_of, with_stored, with_queues}
-use Rattle.ptk_threads.specs.Queues.{IsUnqueued, with_none}
+use Rattle.ptk_threads.specs.Queues.{IsUnqueued, with_none, with_last, with_out}
 use Rattle.ptk_threads_slots.specs.declared.link.Ends.{Ends}
 use Rattle.ptk_threads_slots.specs.declared.slot.Slot.{Slot}
-use Rattle.ptk_threads_slots.specs.Links.{links_of, threads_of, queues, AreQueues}
+use Rattle.ptk_threads_slots.specs.declared.link.QueueName.{QueueName}
+use Rattle.ptk_threads_slots.specs.Links.{links_of, threads_of, place_of, queues, AreQueues}
 use Rattle.ptk_threads_slots.proofs.Slots.{links_count}
 use Rattle.ptk_threads_slots.proofs.Along.{le_or_gt, not_true}
-use Rattle.ptk_ready.specs.Queues.{waiters_of, AreUnused}
+use Rattle.ptk_ready.specs.Queues.{ready_queues, waiters_of, AreUnused}
 use Rattle.ptk_ready.specs.declared.entries.LinkedEntries.{LinkedEntries}
 use Rattle.ptk_ready.specs.Lines.{line_of, IsFiled}
 use Rattle.ptk_ready.proofs.Lists.{none_line}
 use Rattle.ptk_ready.proofs.Kept.{member_apart}
 use Rattle.ptk_ready.proofs.Moves.{out_without, stored_other}
-use Rattle.ptk_ready.proofs.Calls.{member_within}
+use Rattle.ptk_ready.proofs.Calls.{member_within, last_take}
 use Rattle.ptk_ready.specs.Partitions.{entries_at, lines_by, AreFiled}
-use Rattle.ptk_ready.specs.Laws.{lines_at, lines_long, filed_same}
+use Rattle.ptk_ready.specs.Laws.{lines_at, lines_long, filed_same, filed_take, line_take}
 use Rattle.ptk_threads_slots.proofs.Lists.{without_none}
 
 -- partition p's line is this list, and all others are as before
@@ -146,6 +147,36 @@ pub unqueued_there : (p k : ℕ) (table : ThreadTable) → p < length table.queu
 unqueued_there p k table lt = λ i.
     ap (λ lists. is_in k (part_of lists i)) (get_or-set_same table.queues p (with_none k (part_of table.queues p)) [] lt)
     ∙ (ap (is_in k) (get_or-map (without k) (part_of table.queues p) i []) ∙ not_true (is_in k (without k (part_of (part_of table.queues p) i))) (out_without k (part_of (part_of table.queues p) i)))
+
+-- ---- a waiter that comes to the line
+
+-- the queues of ready threads stay where a thread leaves one of waiters
+pub away_same : (p k : ℕ) (from : QueueName) (table : ThreadTable) → 32 ≤ place_of from → ready_queues table.queues ≡ ready_queues (with_queues p (with_out from k) table).queues
+away_same p k from table far =
+    let own = part_of table.queues p in
+    sym (map-set_same (take 32) table.queues p (with_out from k own) [] (take-set-le 32 own (place_of from) (without k (part_of own (place_of from))) far))
+
+-- partition p's line is this list, and its waiters' queues are those that a thread left
+pub roused : (limit : ℕ) (line : List (LinkedEntries limit)) (table now : ThreadTable) (p k : ℕ) (from name : QueueName) (entries : LinkedEntries limit) (lists : List (List ℕ)) (stored xs : List ℕ) → AreFiled limit line table → p < length line
+    → 32 ≤ place_of from → place_of name < 32 → now.queues ≡ (with_queues p (with_last name k) (with_queues p (with_out from k) table)).queues → now.stored ≡ table.stored → lists ≡ part_of table.queues p → stored ≡ part_of table.stored p
+    → IsFiled limit entries.range (with_last name k lists) stored entries.stamps entries.bitmap → line_of (with_last name k lists) entries.stamps ≡ xs
+    → IsMoved limit line (set line p entries) (with_queues p (with_out from k) table) now p xs
+roused limit line table now p k from name entries lists stored xs filed lt far low is kept told levels own to =
+    let row = part_of table.queues p in
+    let out = with_out from k row in
+    let left : ThreadTable = with_queues p (with_out from k) table in
+    let within : p < length table.queues = omega (arith, lt, filed.parts) in
+    let here : part_of left.queues p ≡ out = get_or-set_same table.queues p out [] within in
+    let fewer : take 32 out ≡ take 32 row = take-set-le 32 row (place_of from) (without k (part_of row (place_of from))) far in
+    let agree : take 32 (with_last name k out) ≡ take 32 (with_last name k row) = last_take name k out row low fewer in
+    let sound : IsFiled limit entries.range (with_last name k row) (part_of now.stored p) entries.stamps entries.bitmap =
+    subst (λ s. IsFiled limit entries.range (with_last name k row) s entries.stamps entries.bitmap) (levels ∙ sym (ap (λ s. part_of s p) kept))
+    (subst (λ l. IsFiled limit entries.range (with_last name k l) stored entries.stamps entries.bitmap) told own) in
+    moved limit line left now p entries (with_last name k out) xs (filed_same limit line table left (λ q j inside. refl) (away_same p k from table far) filed) lt
+    (is ∙ ap (λ l. set left.queues p (with_last name k l)) here) (λ q ne. ap (λ s. part_of s q) kept)
+    (filed_take limit entries.range (with_last name k row) (with_last name k out) (part_of now.stored p) (part_of now.stored p) entries.stamps entries.bitmap (sym agree) (λ j inside. refl) sound)
+    (line_take (with_last name k out) (with_last name k row) entries.stamps agree ∙ (ap (λ l. line_of (with_last name k l) entries.stamps) (sym told) ∙ to))
+    (drop-set-lt 32 out (place_of name) (part_of out (place_of name) ++ k ∷ []) low ∙ ap (drop 32) (sym here))
 
 -- ---- a thread of the line
 

@@ -36,14 +36,14 @@ in_priority stored n k xs h =
 
 -- ---- one partition's line
 
-line_take : (a b : List (List ℕ)) (stamps : List ℤ) → take 32 a ≡ take 32 b → line_of a stamps ≡ line_of b stamps
+pub line_take : (a b : List (List ℕ)) (stamps : List ℤ) → take 32 a ≡ take 32 b → line_of a stamps ≡ line_of b stamps
 line_take a b stamps same = ap (λ lists. in_order (stamp_of stamps) (filter (λ k. is_in k (joined lists)) (numbers_to 32))) same
 
-list_take : (a b : List (List ℕ)) (i : ℕ) → take 32 a ≡ take 32 b → i < 32 → part_of b i ≡ part_of a i
+pub list_take : (a b : List (List ℕ)) (i : ℕ) → take 32 a ≡ take 32 b → i < 32 → part_of b i ≡ part_of a i
 list_take a b i same lt = sym (get_or-take 32 b i [] lt) ∙ (ap (λ lists. part_of lists i) (sym same) ∙ get_or-take 32 a i [] lt)
 
 -- the stored priorities of threads in the line alone
-filed_take : (limit : ℕ) (range : StampRange) (a b : List (List ℕ)) (stored after : List ℕ) (stamps : List ℤ) (bitmap : ℕ) → take 32 a ≡ take 32 b → ((k : ℕ) → is_in k (line_of a stamps) ≡ true → stored_of after k ≡ stored_of stored k)
+pub filed_take : (limit : ℕ) (range : StampRange) (a b : List (List ℕ)) (stored after : List ℕ) (stamps : List ℤ) (bitmap : ℕ) → take 32 a ≡ take 32 b → ((k : ℕ) → is_in k (line_of a stamps) ≡ true → stored_of after k ≡ stored_of stored k)
     → IsFiled limit range a stored stamps bitmap → IsFiled limit range b after stamps bitmap
 filed_take limit range a b stored after stamps bitmap same levels filed = record {
   apart = λ j k x y e. filed.apart j k (subst (λ lists. is_in j (joined lists) ≡ true) (sym same) x) (subst (λ lists. is_in k (joined lists) ≡ true) (sym same) y) e;

@@ -1,6 +1,6 @@
 //! The line of one partition.
 
-ghost use Rattle.std.specs.Prelude.{◌≡◌, ℕ, ◌<◌, ◌≤◌, ◌^◌, true, pos, ◌<ℤ◌, not, is_some, option_map, ◌||◌, List, [], ◌∷◌, ◌++◌, length, drop};
+ghost use Rattle.std.specs.Prelude.{◌≡◌, ℕ, ◌<◌, ◌≤◌, ◌^◌, true, false, pos, ◌<ℤ◌, not, is_some, option_map, ◌||◌, List, [], ◌∷◌, ◌++◌, length, drop};
 ghost use Rattle.ptk_words.specs.Pools.{pool_set, without, first_of_greatest, is_in};
 ghost use Rattle.ptk_words_parted.specs.Parts.{part_of};
 ghost use Rattle.ptk_threads.specs.Table.{stored_of};
@@ -41,7 +41,9 @@ impl<const LIMIT: u64> LinkedEntries<LIMIT> {
         }
     }
 
-    /// Makes a thread that lies in no queue the last of the line. The caller appends it to the queue that this names.
+    /// Makes a thread that lies in no queue of ready threads the last of the line. The caller appends it to the queue that
+    /// this names, once it lies in none.
+    #[inline(always)]
     pub fn push_tail(
         &mut self,
         slots: &[Slot],
@@ -55,7 +57,7 @@ impl<const LIMIT: u64> LinkedEntries<LIMIT> {
         requires limit { (64 ≤ LIMIT) × (LIMIT ≤ 2 ^ 62) }
         requires places { (length slots.now ≤ 32) × (length ends.now ≡ 128) }
         requires slot { k ≤ length slots.now }
-        requires free { IsUnqueued k (queues (links_of slots.now) ends.now) }
+        requires apart { (i : ℕ) → i < 32 → is_in k (part_of (queues (links_of slots.now) ends.now) i) ≡ false }
         requires priority { (0 < stored_of stored.now k) × (stored_of stored.now k ≤ 32) }
         ensures queue { result ≡ QueueName.Ready (stored_of stored.now k) }
         ensures sound { IsFiled LIMIT self.new.range (with_last result k (queues (links_of slots.now) ends.now))
@@ -203,6 +205,7 @@ impl<const LIMIT: u64> LinkedEntries<LIMIT> {
     }
 
     /// The stamp of a thread that comes last, after all are numbered anew where it would pass the limit.
+    #[inline(always)]
     fn tail_stamp(&mut self, slots: &[Slot]) -> i64
         requires stamps { AreStamps LIMIT self.old.range (links_of slots.now) self.old.stamps }
         requires limit { (64 ≤ LIMIT) × (LIMIT ≤ 2 ^ 62) }

@@ -42,4 +42,5 @@ pub use laws::{lists_tell_line, marks_tell_queues};
 pub use line::Line;
 pub use linked_line::LinkedLine;
 pub use ptk_words_parted::Queue;
+pub use stamps::is_ready_queue;
 pub use vec_line::VecLine;

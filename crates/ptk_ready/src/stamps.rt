@@ -27,13 +27,25 @@ pub(crate) fn stamp_in(stamps: &[i64; NUMBERS], k: ThreadNo) -> i64
     stamps[k.place()]
 }
 
-/// Whether a thread that lies in this queue, or in none, is ready.
-pub(crate) fn is_ready_queue(queue: &Option<QueueName>) -> bool
+/// Whether a thread that lies in this queue, or in none, is ready (XSH 2.8.4).
+pub fn is_ready_queue(queue: &Option<QueueName>) -> bool
     ensures { result ≡ is_ready_place (option_map place_of queue.now) }
 {
     match queue {
-        Some(name) => name.place() < 32,
+        Some(name) => is_ready_name(name),
         None => false,
+    }
+}
+
+/// Whether a queue is one of ready threads.
+#[tactic(auto, using(std::proofs::lemmas::Bool::Decides::nat_tests))]
+fn is_ready_name(name: &QueueName) -> bool
+    ensures { result ≡ is_ready_place (Some (place_of name.now)) }
+{
+    let _place = name.place();
+    match name {
+        QueueName::Ready(_) => true,
+        QueueName::MutexWaiters(_) | QueueName::ConditionWaiters(_) => false,
     }
 }
 

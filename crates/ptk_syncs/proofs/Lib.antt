@@ -4,3 +4,5 @@ mod Rosters
 mod Pools
 mod Waits
 mod Opens
+mod Passed
+mod Stores

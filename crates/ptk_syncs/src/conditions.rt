@@ -6,12 +6,12 @@ ghost use Rattle.ptk_words.specs.Pools.{pool_get, pool_set, least_free, without,
 ghost use Rattle.ptk_words_parted.specs.Parts.{part_of};
 ghost use Rattle.ptk_words_model.specs.Condition.{waiters_on};
 ghost use Rattle.ptk_words_sync_invariant.specs.Conditions.{IsNoWaiter};
-ghost use Rattle.ptk_threads_slots.specs.Changes.{only_of};
+ghost use Rattle.ptk_threads_slots.specs.Changes.{few_of};
 ghost use Rattle.ptk_threads.specs.Table.{thread_in};
 ghost use Rattle.ptk_syncs.specs.Waiters.{condition_of};
 
 use crate::roster::Roster;
-use ptk_threads::{QueueName, ThreadList};
+use ptk_threads::{Members, QueueName, ThreadList};
 use ptk_words::{ConditionNo, PartId, ThreadNo};
 
 impl Roster {
@@ -22,6 +22,16 @@ impl Roster {
     {
         let _number = c.number();
         is_used(self.conditions.part(p), c)
+    }
+
+    /// Whether the word, which is not 0, is the number of a condition variable (own choice).
+    #[inline(always)]
+    pub fn is_condition_word(&self, p: PartId, word: u32) -> bool
+        requires partition { p < length self.now.table.threads }
+        requires positive { 0 < word }
+        ensures { result ≡ is_some (pool_get (part_of self.now.conditions p) word) }
+    {
+        is_used_at(self.conditions.part(p), word as usize - 1)
     }
 
     /// The least free number of a condition variable; None where no number is free (pthread_cond_init).
@@ -53,13 +63,14 @@ impl Roster {
         self.threads.members(p, QueueName::ConditionWaiters(c))
     }
 
-    /// The only waiter on a condition variable; None where there is none or there are more.
-    pub fn only_condition_waiter(&self, p: PartId, c: ConditionNo) -> Option<ThreadNo>
+    /// The waiters of a condition variable, as far as a choice among them asks.
+    #[inline(always)]
+    pub fn few_condition_waiters(&self, p: PartId, c: ConditionNo) -> Members
         requires { p < length self.now.table.threads }
-        ensures { result ≡ only_of (waiters_on (pool_get (part_of self.now.conditions p) c)) }
+        ensures { result ≡ few_of (waiters_on (pool_get (part_of self.now.conditions p) c)) }
     {
         let _number = c.number();
-        self.threads.only_member(p, QueueName::ConditionWaiters(c))
+        self.threads.few_members(p, QueueName::ConditionWaiters(c))
     }
 
     /// Whether any thread waits on a condition variable (pthread_cond_destroy, EBUSY).
@@ -93,6 +104,7 @@ impl Roster {
 
     /// A thread that is in use, not in the line and no waiter becomes the last waiter of a condition variable
     /// (pthread_cond_wait).
+    #[inline(always)]
     pub fn await_condition(&mut self, p: PartId, c: ConditionNo, k: ThreadNo)
         requires partition { p < length self.old.table.threads }
         requires used { IsSome (pool_get (part_of self.old.conditions p) c) }
@@ -106,10 +118,13 @@ impl Roster {
         self.threads.append(p, QueueName::ConditionWaiters(c), k);
     }
 
-    /// A thread waits on a condition variable no more; nothing changes where it did not (pthread_cond_signal).
+    /// A thread that is in use waits on a condition variable no more; nothing changes where it did not
+    /// (pthread_cond_signal).
+    #[inline(always)]
     pub fn leave_condition(&mut self, p: PartId, c: ConditionNo, k: ThreadNo)
         requires partition { p < length self.old.table.threads }
         requires used { IsSome (pool_get (part_of self.old.conditions p) c) }
+        requires in_use { IsSome (thread_in self.old.table p k) }
         ensures roster { self.new ≡ record self.old { conditions = slice_set self.old.conditions p (pool_set (part_of self.old.conditions p) c (Some (condition_of (without k (waiters_on (pool_get (part_of self.old.conditions p) c)))))) } }
         ensures apart { is_in k (waiters_on (pool_get (part_of self.old.conditions p) c)) ≡ true → IsNoWaiter k (part_of self.new.mutexes p) (part_of self.new.conditions p) }
     {
@@ -123,7 +138,13 @@ impl Roster {
 fn is_used(marks: &[bool], c: ConditionNo) -> bool
     ensures { result ≡ slice_index_or marks.now (c - 1) false }
 {
-    let i = (c.number() - 1) as usize;
+    is_used_at(marks, (c.number() - 1) as usize)
+}
+
+/// Whether the number at a place, from 0, is marked as in use.
+fn is_used_at(marks: &[bool], i: usize) -> bool
+    ensures { result ≡ slice_index_or marks.now i false }
+{
     i < marks.len() && marks[i]
 }
 

@@ -3,12 +3,13 @@
 ghost use Rattle.std.specs.Prelude.{◌≡◌, ◌<◌, length, IfSome, IsSome};
 ghost use Rattle.ptk_words.specs.declared.threads.Thread.{Thread};
 ghost use Rattle.ptk_words_model.specs.Schedule.{with_reply, woken_with};
-ghost use Rattle.ptk_threads.specs.Table.{thread_in, with_changed, with_cpu, replaced_by};
+ghost use Rattle.ptk_threads.specs.Table.{thread_in, with_changed, with_cpu, with_wait, replaced_by};
+ghost use Rattle.ptk_threads.specs.Registers.{with_pc};
 ghost use Rattle.ptk_threads.specs.Changes.{renewed_with, thread_changed};
 
 use crate::roster::Roster;
 use ptk_threads::{ThreadChange, Work};
-use ptk_words::{Cpu, PartId, Thread, ThreadNo};
+use ptk_words::{Cpu, PartId, Thread, ThreadNo, Wait};
 
 impl Roster {
     /// Changes one field of a thread; a free number stays free. Where that is its wait, its deadline follows.
@@ -18,6 +19,26 @@ impl Roster {
         ensures { self.new ≡ record self.old { table = with_changed p k (thread_changed change) self.old.table } }
     {
         self.threads.change(p, k, change);
+    }
+
+    /// The thread, which is in use, goes on at this pc; its registers stay.
+    #[inline(always)]
+    pub fn set_pc(&mut self, p: PartId, k: ThreadNo, pc: u32)
+        requires partition { p < length self.old.table.threads }
+        requires in_use { IsSome (thread_in self.old.table p k) }
+        ensures { self.new ≡ record self.old { table = with_changed p k (with_pc pc) self.old.table } }
+    {
+        self.threads.set_pc(p, k, pc);
+    }
+
+    /// The thread, which is in use, waits for this, or for nothing (XSH 2.8.4), and its deadline is that of the wait.
+    #[inline(always)]
+    pub fn set_wait(&mut self, p: PartId, k: ThreadNo, wait: Option<Wait>)
+        requires partition { p < length self.old.table.threads }
+        requires in_use { IsSome (thread_in self.old.table p k) }
+        ensures { self.new ≡ record self.old { table = with_changed p k (with_wait wait) self.old.table } }
+    {
+        self.threads.set_wait(p, k, wait);
     }
 
     /// Gives the thread these registers and pc.
@@ -37,19 +58,23 @@ impl Roster {
         self.threads.set_values(p, k, values);
     }
 
-    /// A thread waits for nothing any more, has these values in a0 and so on, and has used no tick of its interval; a
-    /// free number stays free.
+    /// A thread, which is in use, waits for nothing any more, has these values in a0 and so on, and has used no tick of
+    /// its interval.
+    #[inline(always)]
     pub fn rouse(&mut self, p: PartId, k: ThreadNo, values: &[u32])
         requires partition { p < length self.old.table.threads }
+        requires in_use { IsSome (thread_in self.old.table p k) }
         requires few { length values.now < 4 }
         ensures { self.new ≡ record self.old { table = with_changed p k (woken_with values.now) self.old.table } }
     {
         self.threads.rouse(p, k, values);
     }
 
-    /// Puts at most 3 values into the thread's a0, a1 and so on, and it has used no tick of its interval; its pc stays.
+    /// Puts at most 3 values into a0, a1 and so on of the thread, which is in use, and it has used no tick of its
+    /// interval; its pc stays.
     pub fn renew(&mut self, p: PartId, k: ThreadNo, values: &[u32])
         requires partition { p < length self.old.table.threads }
+        requires in_use { IsSome (thread_in self.old.table p k) }
         requires few { length values.now < 4 }
         ensures { self.new ≡ record self.old { table = with_changed p k (renewed_with values.now) self.old.table } }
     {

@@ -4,17 +4,19 @@ ghost use Rattle.std.specs.Prelude.{◌≡◌, ◌<◌, ◌≤◌, true, false, 
 ghost use Rattle.ptk_words.specs.Pools.{pool_get, pool_set, pool_changed, least_free, without, is_in};
 ghost use Rattle.ptk_words_parted.specs.Parts.{part_of};
 ghost use Rattle.ptk_words_model.specs.Mutex.{new_mutex, waiters_of};
+ghost use Rattle.ptk_words_model.specs.Condition.{waiters_on};
+ghost use Rattle.ptk_words_model.specs.Schedule.{woken_with};
 ghost use Rattle.ptk_words_sync_invariant.specs.Conditions.{IsNoWaiter};
-ghost use Rattle.ptk_threads_slots.specs.Changes.{only_of};
-ghost use Rattle.ptk_threads.specs.Table.{thread_in};
+ghost use Rattle.ptk_threads_slots.specs.Changes.{few_of};
+ghost use Rattle.ptk_threads.specs.Table.{thread_in, with_changed, with_wait};
 ghost use Rattle.ptk_mutex_priorities.specs.Slots.{bare};
 ghost use Rattle.ptk_mutex_priorities.specs.Changes.{mutex_changed, SlotMayChange};
-ghost use Rattle.ptk_syncs.specs.Waiters.{waited_by, left_by};
+ghost use Rattle.ptk_syncs.specs.Waiters.{condition_of, waited_by, left_by};
 
 use crate::roster::Roster;
 use ptk_mutex_priorities::{Change, MutexSlot, slot_in};
-use ptk_threads::{QueueName, ThreadList};
-use ptk_words::{MutexKind, MutexNo, PartId, Protocol, ThreadNo};
+use ptk_threads::{Members, QueueName, ThreadList};
+use ptk_words::{ConditionNo, MutexKind, MutexNo, PartId, Protocol, ThreadNo, Wait};
 
 impl Roster {
     /// The places of a partition's mutexes, by number from 1, without their waiters.
@@ -46,13 +48,14 @@ impl Roster {
         self.threads.members(p, QueueName::MutexWaiters(m))
     }
 
-    /// The only waiter of a mutex; None where there is none or there are more.
-    pub fn only_mutex_waiter(&self, p: PartId, m: MutexNo) -> Option<ThreadNo>
+    /// The waiters of a mutex, as far as a choice among them asks.
+    #[inline(always)]
+    pub fn few_mutex_waiters(&self, p: PartId, m: MutexNo) -> Members
         requires { p < length self.now.table.threads }
-        ensures { result ≡ only_of (waiters_of (pool_get (part_of self.now.mutexes p) m)) }
+        ensures { result ≡ few_of (waiters_of (pool_get (part_of self.now.mutexes p) m)) }
     {
         let _number = m.number();
-        self.threads.only_member(p, QueueName::MutexWaiters(m))
+        self.threads.few_members(p, QueueName::MutexWaiters(m))
     }
 
     /// Whether any thread waits for a mutex (pthread_mutex_destroy, EBUSY).
@@ -100,31 +103,76 @@ impl Roster {
         change_in(self.mutexes.lend(p), m, change);
     }
 
-    /// A thread that is in use, not in the line and no waiter becomes the last waiter of a mutex, if there is one
-    /// (pthread_mutex_lock).
-    pub fn await_mutex(&mut self, p: PartId, m: MutexNo, k: ThreadNo)
+    /// A waiter on a condition variable waits on it no more, becomes the last waiter of a mutex, if there is one, and
+    /// waits for this (pthread_cond_signal).
+    #[inline(always)]
+    pub fn pass_to_mutex(&mut self, p: PartId, c: ConditionNo, m: MutexNo, k: ThreadNo, wait: Wait)
+        requires partition { p < length self.old.table.threads }
+        requires used { IsSome (pool_get (part_of self.old.conditions p) c) }
+        requires in_use { IsSome (thread_in self.old.table p k) }
+        requires waits { is_in k (waiters_on (pool_get (part_of self.old.conditions p) c)) ≡ true }
+        ensures { self.new ≡ record self.old {
+          table = with_changed p k (with_wait (Some wait)) self.old.table;
+          mutexes = slice_set self.old.mutexes p (pool_changed m (waited_by k) (part_of self.old.mutexes p));
+          conditions = slice_set self.old.conditions p (pool_set (part_of self.old.conditions p) c (Some (condition_of (without k (waiters_on (pool_get (part_of self.old.conditions p) c))))));
+        } }
+    {
+        let _condition = c.number();
+        let _mutex = m.number();
+        let _parts = self.threads.parts();
+        let _part = self.threads.linked(p);
+        let from = QueueName::ConditionWaiters(c);
+        if is_mutex(self.mutexes.part(p), m) {
+            self.threads
+                .pass_waiting(p, from, QueueName::MutexWaiters(m), k, wait);
+        } else {
+            self.threads.take_from(p, from, k);
+            self.threads.set_wait(p, k, Some(wait));
+        }
+    }
+
+    /// A thread that is in use, not in the line and no waiter becomes the last waiter of a mutex, if there is one, and
+    /// waits for this (pthread_mutex_lock).
+    #[inline(always)]
+    pub fn wait_for_mutex(&mut self, p: PartId, m: MutexNo, k: ThreadNo, wait: Wait)
         requires partition { p < length self.old.table.threads }
         requires in_use { IsSome (thread_in self.old.table p k) }
         requires fresh { is_in k (part_of self.old.lines p) ≡ false }
         requires free { IsNoWaiter k (part_of self.old.mutexes p) (part_of self.old.conditions p) }
-        ensures { self.new ≡ record self.old { mutexes = slice_set self.old.mutexes p (pool_changed m (waited_by k) (part_of self.old.mutexes p)) } }
+        ensures { self.new ≡ record self.old {
+          table = with_changed p k (with_wait (Some wait)) self.old.table;
+          mutexes = slice_set self.old.mutexes p (pool_changed m (waited_by k) (part_of self.old.mutexes p));
+        } }
     {
         let _number = m.number();
         let _parts = self.threads.parts();
         if is_mutex(self.mutexes.part(p), m) {
-            self.threads.append(p, QueueName::MutexWaiters(m), k);
+            self.threads
+                .append_waiting(p, QueueName::MutexWaiters(m), k, wait);
+        } else {
+            self.threads.set_wait(p, k, Some(wait));
         }
     }
 
-    /// A thread waits for a mutex no more; nothing changes where it did not (pthread_mutex_unlock).
-    pub fn leave_mutex(&mut self, p: PartId, m: MutexNo, k: ThreadNo)
-        requires { p < length self.old.table.threads }
-        ensures roster { self.new ≡ record self.old { mutexes = slice_set self.old.mutexes p (pool_changed m (left_by k) (part_of self.old.mutexes p)) } }
-        ensures apart { is_in k (waiters_of (pool_get (part_of self.old.mutexes p) m)) ≡ true → IsNoWaiter k (part_of self.new.mutexes p) (part_of self.new.conditions p) }
+    /// A waiter of a mutex leaves it and becomes the last of the line; it waits for nothing any more, has these values in
+    /// a0 and so on, and has used no tick of its interval (XSH 2.8.4).
+    #[inline(always)]
+    pub fn rouse_from_mutex(&mut self, p: PartId, m: MutexNo, k: ThreadNo, values: &[u32])
+        requires partition { p < length self.old.table.threads }
+        requires in_use { IsSome (thread_in self.old.table p k) }
+        requires fresh { is_in k (part_of self.old.lines p) ≡ false }
+        requires waits { is_in k (waiters_of (pool_get (part_of self.old.mutexes p) m)) ≡ true }
+        requires few { length values.now < 4 }
+        ensures { self.new ≡ record self.old {
+          table = with_changed p k (woken_with values.now) self.old.table;
+          lines = slice_set self.old.lines p (part_of self.old.lines p ++ k ∷ []);
+          mutexes = slice_set self.old.mutexes p (pool_changed m (left_by k) (part_of self.old.mutexes p));
+        } }
     {
         let _number = m.number();
         let _parts = self.threads.parts();
-        self.threads.take_from(p, QueueName::MutexWaiters(m), k);
+        let _part = self.threads.linked(p);
+        self.line.rouse_from(&mut self.threads, p, QueueName::MutexWaiters(m), k, values);
     }
 }
 

@@ -525,7 +525,7 @@ impl Machine {
                 turn: next,
                 is_call: is_known,
             } = self.run_window(plan, p, now, &quiet, to, until, walk);
-            is_going = goes_on(end, next.start, until);
+            is_going = goes_on(is_known, end, next.start, until);
             now = next;
             is_call = is_known;
         }
@@ -624,6 +624,16 @@ impl Machine {
             until,
             &mut account.trace,
         );
+        if reached.is_call && reached.tick.ticks() < quiet.stop.ticks() {
+            account.count_row(Some(reached.tick), reached.steps);
+            return RowEnd {
+                turn: Turn {
+                    start: reached.tick,
+                    end,
+                },
+                is_call: true,
+            };
+        }
         let (next, end) = turn_on(plan, p, reached.tick, end, walk);
         account.count_row(next, reached.steps);
         RowEnd {
@@ -633,12 +643,13 @@ impl Machine {
     }
 }
 
-/// Whether the window with this end was gone through, and the tick that was reached is before `until`.
+/// Whether the window with this end was gone through, the tick that was reached is before `until`, and its step is not
+/// known to be a call.
 #[inline(always)]
-fn goes_on(end: Tick, reached: Tick, until: Tick) -> bool
+fn goes_on(is_call: bool, end: Tick, reached: Tick, until: Tick) -> bool
     ensures { result ≡ true → (end ≤ reached) × (reached < until) }
 {
-    end.ticks() <= reached.ticks() && reached.ticks() < until.ticks()
+    !is_call && end.ticks() <= reached.ticks() && reached.ticks() < until.ticks()
 }
 
 /// The quiet partition up to the end of a window at most.

@@ -1,11 +1,11 @@
 -- The table of slots after a change of one partition's threads, or of its queues.
-use Rattle.std.proofs.Common.{◌≡◌, ◌≢◌, ℕ, zero, suc, ◌+◌, ◌<◌, ◌≤◌, List, [], ◌∷◌, ◌++◌, length, map, take, Bool, true, false, refl, sym, ◌∙◌, ap, subst, arith, inl, inr}
-use Rattle.std.specs.Prelude.{nat_eq, ◌==◌, is_some, option_map, ◌↔◌, Option, Some, None, replicate}
+use Rattle.std.proofs.Common.{◌≡◌, ◌≢◌, ℕ, zero, suc, ◌+◌, ◌<◌, ◌≤◌, List, [], ◌∷◌, ◌++◌, length, map, take, true, false, refl, sym, ◌∙◌, ap, subst, arith, inl, inr}
+use Rattle.std.specs.Prelude.{nat_eq, ◌==◌, is_some, option_map, ◌↔◌, Option, Some, None, IsSome, replicate}
 use Rattle.std.proofs.Math.ListN.{set, get_or-map}
 use Rattle.std.proofs.lemmas.Bool.{cases_eq}
 use Rattle.std.proofs.lemmas.Bool.Decides.{nat_tests}
-use Rattle.std.proofs.lemmas.List.{length-replicate, length-map, map-set, map-append, length-set, set_past, get_or_past, set-get_or, get_or-set_same, get_or-set_other}
-use Rattle.ptk_words.specs.Pools.{is_in, without}
+use Rattle.std.proofs.lemmas.List.{length-replicate, length-map, map-set, map-append, length-set, set_past, get_or_past, get_or-set_same, get_or-set_other, set-set}
+use Rattle.ptk_words.specs.Pools.{is_in, without, pool_get, pool_changed}
 use Rattle.ptk_words.specs.declared.threads.Thread.{Thread}
 use Rattle.ptk_words_parted.specs.Parts.{part_of, joined, filled}
 use Rattle.ptk_words_parted.specs.Cuts.{lent}
@@ -18,10 +18,10 @@ use Rattle.ptk_threads_slots.specs.declared.slot.Slot.{Slot}
 use Rattle.ptk_threads_slots.specs.Links.{place_of, link_in, links_of, shared_links, shared_link, AreLinksFrom, threads_of, free_slot, no_link, no_ends, mark_of, queue_from, queue_at, queues, AreQueues}
 use Rattle.ptk_threads_slots.specs.Changes.{put_before, with_inserted, with_taken}
 use Rattle.ptk_threads_slots.proofs.Along.{along_marked, le_or_gt, not_true}
-use Rattle.ptk_threads_slots.proofs.Lists.{list_at, without_none, put_none}
+use Rattle.ptk_threads_slots.proofs.Lists.{list_at, without_none, put_none, unqueued_mark}
 use Rattle.ptk_threads_slots.proofs.Empty.{empty_queues, empty_lists}
 use Rattle.ptk_threads.specs.Queues.{LinkedThreads, queues_by, free_parts, AreLinked, AreListed, IsUnqueued, with_before, with_none, with_out}
-use Rattle.ptk_threads.specs.Table.{ThreadTable, with_queues}
+use Rattle.ptk_threads.specs.Table.{ThreadTable, with_queues, with_changed}
 use Rattle.ptk_threads.specs.Shared.{first_slot, AreAlongLinks, StayInPartitions}
 use Rattle.ptk_threads.proofs.Joined.{own_same, from_same, first_set, first_threads, link_joined, along_joined, stays}
 
@@ -156,18 +156,9 @@ relinked slots ends p w late lists are lt queued same from long is =
 
 -- ---- who lies in no queue
 
-none_of : (o : Option ℕ) → ((i : ℕ) → o ≡ Some i → ⊥) → o ≡ None
-none_of None h = refl
-none_of (Some i) h = absurd (h i refl)
-
 member_mark : (links : List Link) (ends : List Ends) (k i : ℕ) → AreQueues links ends → is_in k (part_of (queues links ends) i) ≡ true → mark_of links k ≡ Some i
 member_mark links ends k i are inside =
     along_marked links i None None (queue_at links ends i) k (are.each i).along (subst (λ l. is_in k l ≡ true) (list_at links ends i) inside)
-
-pub unqueued_mark : (links : List Link) (ends : List Ends) (k : ℕ) → AreQueues links ends → IsUnqueued k (queues links ends) → mark_of links k ≡ None
-unqueued_mark links ends k are out = none_of (mark_of links k) (λ i mark.
-    (let inside : is_in k (part_of (queues links ends) i) ≡ true = subst (λ l. is_in k l ≡ true) (sym (list_at links ends i)) (are.marked k i mark) in
-    let outside = out i in absurd (cc)))
 
 -- ---- one queue changed as all are
 
@@ -252,6 +243,10 @@ changed_view slots ends p v part w f is lt e same made =
     ∙ (ap (λ l. record { threads = set (map threads_of slots) p (f (part_of (map threads_of slots) p)); queues = l }) (queues_lent slots ends p w below links)
     ∙ ap (λ (z : LinkedThreads). record z { threads = set z.threads p (f (part_of z.threads p)) }) is)
 
+-- a thread in use, among the slots that were lent
+pub used_here : (slots : List (List Slot)) (ends : List (List Ends)) (p k : ℕ) (v : LinkedThreads) (part : List Slot) → linked_of slots ends ≡ v → part ≡ part_of slots p → IsSome (pool_get (part_of v.threads p) k) → IsSome (pool_get (threads_of part) k)
+used_here slots ends p k v part is e used = subst (λ (pool : List (Option Thread)). IsSome (pool_get pool k)) (sym (threads_here slots ends p v part is e)) used
+
 -- the queues changed
 pub relinked_at : (slots : List (List Slot)) (ends : List (List Ends)) (p : ℕ) (v : LinkedThreads) (part w : List Slot) (was late : List Ends) (f : List (List ℕ) → List (List ℕ))
     → AreLinked slots ends → linked_of slots ends ≡ v → p < length v.threads → part ≡ part_of slots p → was ≡ part_of ends p
@@ -267,6 +262,32 @@ pub view_at : (slots : List (List Slot)) (ends : List (List Ends)) (p : ℕ) (v 
 view_at slots ends p v w late lists is done =
     ap (λ l. record { threads = l; queues = queues_by (lent slots p w) (lent ends p late) }) done.threads
     ∙ (ap (λ l. record { threads = map threads_of slots; queues = l }) done.queues ∙ ap (λ (z : LinkedThreads). record z { queues = set z.queues p lists }) is)
+
+-- the queues changed, and then a thread
+pub record AreMoved (slots : List (List Slot)) (ends : List (List Ends)) (p : ℕ) (v : LinkedThreads) (w : List Slot) (late : List Ends) (row : List (Option Thread)) (lists : List (List ℕ)) : Type 0 where
+  pub linked : AreLinked (lent slots p w) (lent ends p late)
+  pub view : linked_of (lent slots p w) (lent ends p late) ≡ record v { threads = set v.threads p row; queues = set v.queues p lists }
+
+pub moved_at : (slots : List (List Slot)) (ends : List (List Ends)) (p : ℕ) (v : LinkedThreads) (part mid w : List Slot) (late : List Ends) (f : List (Option Thread) → List (Option Thread)) (lists : List (List ℕ))
+    → linked_of slots ends ≡ v → p < length v.threads → part ≡ part_of slots p → threads_of mid ≡ threads_of part → AreRelinked slots ends p mid late lists → shared_links w ≡ shared_links mid → threads_of w ≡ f (threads_of mid)
+    → AreMoved slots ends p v w late (f (part_of v.threads p)) lists
+moved_at slots ends p v part mid w late f lists is lt e same done links made =
+    let v' : LinkedThreads = record v { queues = set v.queues p lists } in
+    let below : p < length slots = rw (length-map slots threads_of) at (below_of slots ends p v is lt) in
+    let long : length mid ≡ length (part_of slots p) = length_threads mid (part_of slots p) (same ∙ ap threads_of e) in
+    let one : lent slots p mid ≡ set slots p mid = lent-same slots p mid below long in
+    let here : part_of (lent slots p mid) p ≡ mid = ap (λ l. part_of l p) one ∙ get_or-set_same slots p mid [] below in
+    let count : length (lent slots p mid) ≡ length slots = ap length one ∙ length-set slots p mid in
+    let within : p < length (lent slots p mid) = omega (arith, count, below) in
+    let alike : length w ≡ length mid = same_length w mid links in
+    let again : lent (lent slots p mid) p w ≡ lent slots p w =
+    lent-same (lent slots p mid) p w within (alike ∙ sym (ap length here)) ∙ (ap (λ l. set l p w) one ∙ (set-set slots p mid w ∙ sym (lent-same slots p w below (alike ∙ long)))) in
+    let first = view_at slots ends p v mid late lists is done in
+    record {
+      linked = subst (λ l. AreLinked l (lent ends p late)) again (kept_at (lent slots p mid) (lent ends p late) p v' mid w done.linked first lt (sym here) links);
+      view = subst (λ l. linked_of l (lent ends p late) ≡ record v { threads = set v.threads p (f (part_of v.threads p)); queues = set v.queues p lists }) again
+          (changed_view (lent slots p mid) (lent ends p late) p v' mid w f first lt (sym here) links made);
+    }
 
 -- the mark that was read tells whether a thread lies in a queue
 unmarked : (name : Option QueueName) → is_some name ≡ false → option_map place_of name ≡ None
@@ -392,12 +413,6 @@ taken_same (suc n) (suc m) x le = ap (λ l. x ∷ l) (taken_same n m x (omega (a
 
 -- ---- one thread and one queue
 
--- a mark says of which queue a thread is a member
-pub member_told : (links : List Link) (ends : List Ends) (lists : List (List ℕ)) (k i : ℕ) (b : Bool) → AreQueues links ends → queues links ends ≡ lists → ((b ≡ true) ↔ (mark_of links k ≡ Some i)) → b ≡ is_in k (part_of lists i)
-member_told links ends lists k i true are is told = sym (subst (λ l. is_in k (part_of l i) ≡ true) is (subst (λ l. is_in k l ≡ true) (sym (list_at links ends i)) (are.marked k i (told.0 refl))))
-member_told links ends lists k i false are is told =
-    sym (not_true (is_in k (part_of lists i)) (λ inside. (let no = told.1 (member_mark links ends k i are (subst (λ l. is_in k (part_of l i) ≡ true) (sym is) inside)) in absurd (cc))))
-
 -- a member of one queue is in no other
 pub alone : (links : List Link) (ends : List Ends) (lists : List (List ℕ)) (k i j : ℕ) → AreQueues links ends → queues links ends ≡ lists → is_in k (part_of lists i) ≡ true → j ≢ i → is_in k (part_of lists j) ≡ false
 alone links ends lists k i j are is inside ne =
@@ -419,11 +434,7 @@ gone k (x ∷ xs) = elim (cases_eq x k) as (λ _. is_in k (without k (x ∷ xs))
 pub left_all : (k : ℕ) (lists : List (List ℕ)) → IsUnqueued k (with_none k lists)
 left_all k lists = λ i. ap (is_in k) (get_or-map (without k) lists i []) ∙ gone k (part_of lists i)
 
--- who is not there leaves it as it is
-pub left_none : (lists : List (List ℕ)) (name : QueueName) (k : ℕ) → is_in k (part_of lists (place_of name)) ≡ false → with_out name k lists ≡ lists
-left_none lists name k out = ap (set lists (place_of name)) (without_none k (part_of lists (place_of name)) out) ∙ set-get_or lists (place_of name) []
-
--- ---- a thread taken from one queue of the table
+-- ---- a thread taken from one queue
 
 emptied : (queues : List (List (List ℕ))) (p k : ℕ) → IsUnqueued k (part_of (set queues p (with_none k (part_of queues p))) p)
 emptied queues p k = λ i. elim (le_or_gt (length queues) p) as (λ _. is_in k (part_of (part_of (set queues p (with_none k (part_of queues p))) p) i) ≡ false) [
@@ -431,18 +442,34 @@ emptied queues p k = λ i. elim (le_or_gt (length queues) p) as (λ _. is_in k (
   | inr lt ↦ ap (λ lists. is_in k (part_of lists i)) (get_or-set_same queues p (with_none k (part_of queues p)) [] lt) ∙ left_all k (part_of queues p) i
 ]
 
--- a thread with the queue's mark was taken
-pub taken_table : (links : List Link) (ends : List Ends) (p k : ℕ) (name : QueueName) (b : Bool) (now late : ThreadTable) → AreQueues links ends → queues links ends ≡ part_of now.queues p → ((b ≡ true) ↔ (mark_of links k ≡ Some (place_of name))) → b ≡ true
-    → late ≡ with_queues p (with_none k) now → late ≡ with_queues p (with_out name k) now
-taken_table links ends p k name b now late are is told marked made =
-    made ∙ ap (λ lists. record now { queues = set now.queues p lists }) (left_one links ends (part_of now.queues p) name k are is (sym (member_told links ends (part_of now.queues p) k (place_of name) b are is told) ∙ marked))
+-- one that lay in it lies in none
+pub taken_apart : (slots : List (List Slot)) (ends : List (List Ends)) (p k : ℕ) (v after : LinkedThreads) (part : List Slot) (was : List Ends) (name : QueueName) → AreLinked slots ends → linked_of slots ends ≡ v → part ≡ part_of slots p → was ≡ part_of ends p
+    → after ≡ record v { queues = set v.queues p (with_out name k (part_of v.queues p)) } → is_in k (part_of (part_of v.queues p) (place_of name)) ≡ true → IsUnqueued k (part_of after.queues p)
+taken_apart slots ends p k v after part was name are is e f made inside =
+    let lists = part_of v.queues p in
+    let links = links_of part in
+    let queued : AreQueues links was = queued_at slots ends p part was are e f in
+    let own : queues links was ≡ lists = lists_at slots ends p v part was are is e f in
+    let left : with_none k lists ≡ with_out name k lists = left_one links was lists name k queued own inside in
+    λ i. ap (λ (z : LinkedThreads). is_in k (part_of (part_of z.queues p) i)) made
+    ∙ (ap (λ (l : List (List ℕ)). is_in k (part_of (part_of (set v.queues p l) p) i)) (sym left) ∙ emptied v.queues p k i)
 
-pub taken_apart : (p k : ℕ) (now late : ThreadTable) → late ≡ with_queues p (with_none k) now → IsUnqueued k (part_of late.queues p)
-taken_apart p k now late made = λ i. ap (λ (t : ThreadTable). is_in k (part_of (part_of t.queues p) i)) made ∙ emptied now.queues p k i
+-- ---- the table after two moves and a change
 
--- one without it stays
-pub stayed_table : (links : List Link) (ends : List Ends) (p k : ℕ) (name : QueueName) (b : Bool) (now : ThreadTable) → AreQueues links ends → queues links ends ≡ part_of now.queues p → ((b ≡ true) ↔ (mark_of links k ≡ Some (place_of name))) → b ≡ false
-    → (now ≡ with_queues p (with_out name k) now) × (is_in k (part_of (part_of now.queues p) (place_of name)) ≡ false)
-stayed_table links ends p k name b now are is told unmarked =
-    let out : is_in k (part_of (part_of now.queues p) (place_of name)) ≡ false = sym (member_told links ends (part_of now.queues p) k (place_of name) b are is told) ∙ unmarked in
-    (ap (λ l. record now { queues = l }) (sym (ap (set now.queues p) (left_none (part_of now.queues p) name k out) ∙ set-get_or now.queues p [])), out)
+-- a partition's queues changed twice
+two_queues : (table : ThreadTable) (p : ℕ) (f g : List (List ℕ) → List (List ℕ)) → p < length table.queues → with_queues p (λ lists. g (f lists)) table ≡ with_queues p g (with_queues p f table)
+two_queues table p f g lt =
+    let one = f (part_of table.queues p) in
+    let row = set table.queues p one in
+    ap (λ l. record table { queues = l }) (sym (set-set table.queues p one (g (part_of row p)) ∙ ap (λ l. set table.queues p (g l)) (get_or-set_same table.queues p one [] lt)))
+
+pub passed_view : (old new : LinkedThreads) (now : ThreadTable) (stored : List (List ℕ)) (n p k : ℕ) (h : Thread → Thread) (f g : List (List ℕ) → List (List ℕ)) → record { threads = old.threads; stored = stored; queues = old.queues } ≡ now
+    → n ≡ length old.threads → AreListed n old.queues → p < length now.threads
+    → new ≡ record old { threads = set old.threads p (pool_changed k h (part_of old.threads p)); queues = set old.queues p (g (f (part_of old.queues p))) }
+    → record { threads = new.threads; stored = stored; queues = new.queues } ≡ with_changed p k h (with_queues p g (with_queues p f now))
+passed_view old new now stored n p k h f g is count listed lt made =
+    let table : ThreadTable = record { threads = old.threads; stored = stored; queues = old.queues } in
+    let long : length old.threads ≡ length now.threads = ap (λ (t : ThreadTable). length t.threads) is in
+    let below : p < length old.queues = omega (arith, listed.same, count, long, lt) in
+    ap (λ (z : LinkedThreads). record { threads = z.threads; stored = stored; queues = z.queues }) made
+    ∙ (ap (with_changed p k h) (two_queues table p f g below) ∙ ap (λ t. with_changed p k h (with_queues p g (with_queues p f t))) is)

@@ -133,6 +133,13 @@ worked_at (suc j) i slots after made same h used is =
     ap (λ (n : ℕ). threads_of (set slots n after)) here
     ∙ (map-set (λ (s : Slot). s.thread) slots j after ∙ ap (set (threads_of slots) j) (is ∙ replaced_some made (pool_get (threads_of slots) (suc j)) used))
 
+-- a change of the thread of a number in use, as the code reads and writes its slot
+pub used_changed : (k i : ℕ) (f : Thread → Thread) (slots : List Slot) (slot after : Slot) → i ≡ k - 1 → 0 < k → IsSome (pool_get (threads_of slots) k) → slot ≡ get_or slots i slot → after.thread ≡ option_map f (get_or slots i slot).thread
+    → threads_of (set slots i after) ≡ pool_changed k f (threads_of slots)
+used_changed k i f slots slot after same h used is made =
+    let here : slot ≡ get_or slots (k - 1) slot = subst (λ (j : ℕ). slot ≡ get_or slots j slot) same is in
+    changed_at k f slots (set slots i after) slot after h (used_below slots k used) here (ap (λ (j : ℕ). set slots j after) same) (made ∙ ap (λ (s : Slot). option_map f s.thread) (sym is))
+
 pub worked_links : (i : ℕ) (slots : List Slot) (slot after : Slot) → after.link ≡ (get_or slots i slot).link → shared_links (set slots i after) ≡ shared_links slots
 worked_links i slots slot after same = map-set_same (λ (s : Slot). s.link) slots i after slot same
 

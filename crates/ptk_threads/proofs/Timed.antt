@@ -1,6 +1,6 @@
 -- Kept deadlines stay those of the threads' waits where threads change.
 use Rattle.std.proofs.Common.{◌≡◌, ℕ, zero, suc, List, [], ◌∷◌, map, Bool, true, false, refl, sym, ◌∙◌, ap, replicate, All, ◌≤◌}
-use Rattle.std.specs.Prelude.{Option, Some, None, IfSome, option_map, slice_get, slice_set}
+use Rattle.std.specs.Prelude.{Option, Some, None, IsSome, IfSome, option_map, slice_get, slice_set}
 use Rattle.std.specs.Option.{option_flatten, is_some}
 use Rattle.std.proofs.Math.ListN.{set}
 use Rattle.std.proofs.lemmas.List.{map-set, set-get_or}
@@ -154,17 +154,32 @@ no_wait : (f : Thread → Thread) (slot : Option Thread) → ((thread : Thread) 
 no_wait f None ends = refl
 no_wait f (Some thread) ends = ap deadline_of_wait (ends thread)
 
+waits_for : (f : Thread → Thread) (wait : Option ThreadWait) (slot : Option Thread) → IsSome slot → ((thread : Thread) → (f thread).wait ≡ wait) → deadline_at (option_map f slot) ≡ deadline_of_wait wait
+waits_for f wait None used waits = absurd (cc)
+waits_for f wait (Some thread) used waits = ap deadline_of_wait (waits thread)
+
+-- a thread was changed, and its deadline is that of its wait
+kept_set : (p k : ℕ) (f : Thread → Thread) (deadline : Option ℕ) (threads new : List (List (Option Thread))) (stored : List (List ℕ)) (deadlines after : List (List (Option ℕ))) → new ≡ set threads p (pool_changed k f (part_of threads p))
+    → after ≡ set deadlines p (pool_set (part_of deadlines p) k deadline) → deadline_at (option_map f (pool_get (part_of threads p) k)) ≡ deadline → IsKept threads stored deadlines → IsKept new stored after
+kept_set p k f deadline threads new stored deadlines after e g own kept =
+    let row : List (Option Thread) = part_of threads p in
+    let made : pool_set (part_of deadlines p) k deadline ≡ deadlines_in (pool_changed k f row) =
+    ap (λ (ds : List (Option ℕ)). pool_set ds k deadline) (timed_row p deadlines threads kept.timed) ∙ sym (changed_deadline k f deadline row own) in
+    rw (e, g) (record {
+      table = table_set p k (option_map f (pool_get row k)) threads stored kept.table;
+      timed = timed_put p (pool_changed k f row) (pool_set (part_of deadlines p) k deadline) deadlines threads made kept.timed;
+    })
+
 -- a thread waits for nothing any more, and its deadline ended
 pub kept_ended : (p k : ℕ) (f : Thread → Thread) (threads new : List (List (Option Thread))) (stored : List (List ℕ)) (deadlines after : List (List (Option ℕ))) → new ≡ set threads p (pool_changed k f (part_of threads p))
     → after ≡ set deadlines p (pool_set (part_of deadlines p) k None) → ((thread : Thread) → (f thread).wait ≡ None) → IsKept threads stored deadlines → IsKept new stored after
-kept_ended p k f threads new stored deadlines after e g ends kept =
-    let row : List (Option Thread) = part_of threads p in
-    let ended : pool_set (part_of deadlines p) k None ≡ deadlines_in (pool_changed k f row) =
-    ap (λ (ds : List (Option ℕ)). pool_set ds k None) (timed_row p deadlines threads kept.timed) ∙ sym (changed_deadline k f None row (no_wait f (pool_get row k) ends)) in
-    rw (e, g) (record {
-      table = table_set p k (option_map f (pool_get row k)) threads stored kept.table;
-      timed = timed_put p (pool_changed k f row) (pool_set (part_of deadlines p) k None) deadlines threads ended kept.timed;
-    })
+kept_ended p k f threads new stored deadlines after e g ends kept = kept_set p k f None threads new stored deadlines after e g (no_wait f (pool_get (part_of threads p) k) ends) kept
+
+-- a thread in use waits for this, and its deadline is that of this wait
+pub kept_waiting : (p k : ℕ) (f : Thread → Thread) (wait : Option ThreadWait) (deadline : Option ℕ) (threads new : List (List (Option Thread))) (stored : List (List ℕ)) (deadlines after : List (List (Option ℕ))) → new ≡ set threads p (pool_changed k f (part_of threads p))
+    → after ≡ set deadlines p (pool_set (part_of deadlines p) k deadline) → deadline ≡ deadline_of_wait wait → IsSome (pool_get (part_of threads p) k) → ((thread : Thread) → (f thread).wait ≡ wait) → IsKept threads stored deadlines → IsKept new stored after
+kept_waiting p k f wait deadline threads new stored deadlines after e g told used waits kept =
+    kept_set p k f deadline threads new stored deadlines after e g (waits_for f wait (pool_get (part_of threads p) k) used waits ∙ sym told) kept
 
 -- a thread was changed, and its wait stays
 pub kept_changed : (p k : ℕ) (f : Thread → Thread) (threads new : List (List (Option Thread))) (stored : List (List ℕ)) (deadlines : List (List (Option ℕ))) → new ≡ set threads p (pool_changed k f (part_of threads p))

@@ -4,7 +4,8 @@ ghost use Rattle.std.specs.Prelude.{◌≡◌, ◌<◌, length, option_map, Some
 ghost use Rattle.ptk_words.specs.Pools.{pool_get, pool_set, pool_changed};
 ghost use Rattle.ptk_words.specs.declared.threads.Thread.{Thread};
 ghost use Rattle.ptk_threads_slots.specs.Links.{shared_links, threads_of};
-ghost use Rattle.ptk_threads.specs.Table.{with_cpu, replaced_by};
+ghost use Rattle.ptk_threads.specs.Table.{with_cpu, with_wait, replaced_by};
+ghost use Rattle.ptk_threads.specs.Registers.{with_pc};
 ghost use Rattle.ptk_threads.specs.Changes.{renewed_with, thread_changed};
 ghost use Rattle.ptk_words_model.specs.Schedule.{with_registers, with_reply, woken_with};
 
@@ -44,6 +45,54 @@ pub(crate) fn change_in(slots: &mut [Slot], k: ThreadNo, change: ThreadChange)
         let slot = &mut slots[i];
         change_at(&mut slot.thread, change);
     }
+}
+
+/// The thread of a number, which is in use, goes on at this pc.
+pub(crate) fn set_pc_in(slots: &mut [Slot], k: ThreadNo, pc: u32)
+    requires { IsSome (pool_get (threads_of slots.old) k) }
+    ensures threads { threads_of slots.new ≡ pool_changed k (with_pc pc) (threads_of slots.old) }
+    ensures links { shared_links slots.new ≡ shared_links slots.old }
+{
+    let slot = &mut slots[k.place()];
+    set_pc_at(&mut slot.thread, pc);
+}
+
+/// A thread that is one goes on at this pc.
+fn set_pc_at(place: &mut Option<Thread>, pc: u32)
+    requires { IsSome place.old }
+    ensures { place.new ≡ option_map (with_pc pc) place.old }
+{
+    match place {
+        Some(thread) => set_pc_of(thread, pc),
+        None => unreachable!(),
+    }
+}
+
+/// A thread goes on at this pc; its registers stay.
+fn set_pc_of(thread: &mut Thread, pc: u32)
+    ensures { thread.new ≡ with_pc pc thread.old }
+{
+    let cpu = &mut thread.cpu;
+    cpu.set_pc(pc);
+}
+
+/// The thread of a number, which is in use, waits for this, or for nothing.
+pub(crate) fn set_wait_in(slots: &mut [Slot], k: ThreadNo, wait: Option<Wait>)
+    requires { IsSome (pool_get (threads_of slots.old) k) }
+    ensures threads { threads_of slots.new ≡ pool_changed k (with_wait wait) (threads_of slots.old) }
+    ensures links { shared_links slots.new ≡ shared_links slots.old }
+{
+    let slot = &mut slots[k.place()];
+    set_wait_at(&mut slot.thread, wait);
+}
+
+/// A thread that is one waits for this, or for nothing.
+fn set_wait_at(place: &mut Option<Thread>, wait: Option<Wait>)
+    requires { IsSome place.old }
+    ensures { place.new ≡ option_map (with_wait wait) place.old }
+{
+    let Some(thread) = place else { unreachable!() };
+    thread.wait = wait;
 }
 
 /// Gives the thread of a number, if there is one, these registers.
@@ -86,32 +135,26 @@ pub(crate) fn set_values_in(slots: &mut [Slot], k: ThreadNo, values: &[u32])
     }
 }
 
-/// Wakes the thread of a number, if there is one.
-#[tactic(auto, using(crate::proofs::Slots::changes))]
+/// Wakes the thread of a number, which is in use.
 pub(crate) fn rouse_in(slots: &mut [Slot], k: ThreadNo, values: &[u32])
-    requires { length values.now < 4 }
+    requires in_use { IsSome (pool_get (threads_of slots.old) k) }
+    requires few { length values.now < 4 }
     ensures threads { threads_of slots.new ≡ pool_changed k (woken_with values.now) (threads_of slots.old) }
     ensures links { shared_links slots.new ≡ shared_links slots.old }
 {
-    let i = k.place();
-    if i < slots.len() {
-        let slot = &mut slots[i];
-        rouse_at(&mut slot.thread, values);
-    }
+    let slot = &mut slots[k.place()];
+    rouse_at(&mut slot.thread, values);
 }
 
-/// Puts the values into a0, a1 and so on of the thread of a number, if there is one, and it has used no tick.
-#[tactic(auto, using(crate::proofs::Slots::changes))]
+/// Puts the values into a0, a1 and so on of the thread of a number, which is in use, and it has used no tick.
 pub(crate) fn renew_in(slots: &mut [Slot], k: ThreadNo, values: &[u32])
-    requires { length values.now < 4 }
+    requires in_use { IsSome (pool_get (threads_of slots.old) k) }
+    requires few { length values.now < 4 }
     ensures threads { threads_of slots.new ≡ pool_changed k (renewed_with values.now) (threads_of slots.old) }
     ensures links { shared_links slots.new ≡ shared_links slots.old }
 {
-    let i = k.place();
-    if i < slots.len() {
-        let slot = &mut slots[i];
-        renew_at(&mut slot.thread, values);
-    }
+    let slot = &mut slots[k.place()];
+    renew_at(&mut slot.thread, values);
 }
 
 /// Sets the entry of a number.
@@ -179,29 +222,29 @@ fn set_values_at(place: &mut Option<Thread>, values: &[u32])
     }
 }
 
-/// Wakes a thread, if it is one: it waits for nothing, has these values in a0 and so on, and has used no tick.
+/// Wakes a thread that is one: it waits for nothing, has these values in a0 and so on, and has used no tick.
 fn rouse_at(place: &mut Option<Thread>, values: &[u32])
-    requires { length values.now < 4 }
+    requires in_use { IsSome place.old }
+    requires few { length values.now < 4 }
     ensures { place.new ≡ option_map (woken_with values.now) place.old }
 {
-    if let Some(thread) = place {
-        let cpu = &mut thread.cpu;
-        write_values(cpu, values);
-        thread.wait = None;
-        thread.used = 0;
-    }
+    let Some(thread) = place else { unreachable!() };
+    let cpu = &mut thread.cpu;
+    write_values(cpu, values);
+    thread.wait = None;
+    thread.used = 0;
 }
 
-/// Puts the values into a0, a1 and so on of a thread, if it is one, and it has used no tick.
+/// Puts the values into a0, a1 and so on of a thread that is one, and it has used no tick.
 fn renew_at(place: &mut Option<Thread>, values: &[u32])
-    requires { length values.now < 4 }
+    requires in_use { IsSome place.old }
+    requires few { length values.now < 4 }
     ensures { place.new ≡ option_map (renewed_with values.now) place.old }
 {
-    if let Some(thread) = place {
-        let cpu = &mut thread.cpu;
-        write_values(cpu, values);
-        thread.used = 0;
-    }
+    let Some(thread) = place else { unreachable!() };
+    let cpu = &mut thread.cpu;
+    write_values(cpu, values);
+    thread.used = 0;
 }
 
 /// Gives a thread, if it is one, these registers.

@@ -26,7 +26,9 @@ mod waits;
 mod work;
 
 pub use changes::ThreadChange;
-pub use ptk_threads_slots::{Ends, FirstThread, Link, QueueName, Slot, SlotLink, ThreadList};
+pub use ptk_threads_slots::{
+    Ends, FirstThread, Link, Members, QueueName, Slot, SlotLink, ThreadList,
+};
 pub use slot_table::LinkedSlots;
 pub use threads::{Threads, stored_in};
 pub use work::Work;

@@ -1,26 +1,28 @@
 //! The table: the life of numbers, and the fields of a thread.
 
-ghost use Rattle.std.specs.Prelude.{◌≡◌, ◌↔◌, ◌<◌, ◌≤◌, ◌==◌, not, true, false, length, slice_set, position, is_none, IsSome, IfSome, IfOk, All, option_map, option_and_then};
+ghost use Rattle.std.specs.Prelude.{◌≡◌, ◌↔◌, ◌<◌, ◌≤◌, ◌==◌, not, true, false, length, slice_set, position, is_none, Some, IsSome, IfSome, IfOk, All, option_map, option_and_then};
 ghost use Rattle.ptk_words.specs.Pools.{least_free, pool_get, pool_set, is_in};
 ghost use Rattle.ptk_words.specs.Threads.{left_at_end, left_at_detach};
 ghost use Rattle.ptk_words.specs.declared.threads.Thread.{Thread};
 ghost use Rattle.ptk_words_parted.specs.Parts.{part_of, joined};
-ghost use Rattle.ptk_threads.specs.Table.{free_table, thread_in, stored_of, with_slot, with_changed, with_stored, with_queues, with_free, with_new, with_rest, with_left, with_cpu, replaced_by};
+ghost use Rattle.ptk_threads.specs.Table.{free_table, thread_in, stored_of, with_slot, with_changed, with_stored, with_queues, with_free, with_new, with_rest, with_left, with_cpu, with_wait, replaced_by};
+ghost use Rattle.ptk_threads.specs.Registers.{with_pc};
 ghost use Rattle.ptk_words_model.specs.Schedule.{with_reply, woken_with};
 ghost use Rattle.ptk_threads.specs.Changes.{renewed_with, thread_changed};
 ghost use Rattle.ptk_threads.specs.Queues.{AreListed, IsUnqueued, with_last, with_first, with_before, with_none, with_out, without_first};
 ghost use Rattle.ptk_threads.specs.Shared.{AreAlongLinks, StayInPartitions};
 ghost use Rattle.ptk_threads_slots.specs.declared.slot.Slot.{Slot};
-ghost use Rattle.ptk_threads_slots.specs.Changes.{first_in, only_of};
+ghost use Rattle.ptk_threads_slots.specs.Changes.{first_in, few_of};
 ghost use Rattle.ptk_threads_slots.specs.Links.{links_of, threads_of, place_of, queues, AreQueues};
 
 use crate::changes::ThreadChange;
 use crate::slot_table::{LinkedSlots, SlotTable};
-use crate::waits::{follow, follow_if, needs_following};
+use crate::waits::{deadline_of, follow, follow_if, needs_following};
 use crate::work::Work;
 use ptk_clock::ThreadDeadlines;
 use ptk_threads_slots::{
-    FirstThread, QueueName, Slot, ThreadList, has_members, is_marked, link_of, members, only_member,
+    FirstThread, Members, QueueName, Slot, ThreadList, few_members, has_members, link_of,
+    members_of,
 };
 use ptk_words::{Cpu, PartId, Phase, Policy, Priority, Thread, ThreadNo, Wait};
 use ptk_words_parted::Parted;
@@ -246,11 +248,15 @@ impl Threads {
     }
 
     /// What it waits for (XSH 2.8.4); None of a free number too.
+    #[inline(always)]
     pub fn wait(&self, p: PartId, k: ThreadNo) -> Option<Wait>
         requires { p < length self.now.threads }
         ensures { result ≡ option_and_then (λ (thread : Thread). thread.wait) (thread_in self.now p k) }
     {
-        self.slot(p, k).wait()
+        match self.thread_ref(p, k) {
+            Some(thread) => thread.wait,
+            None => None,
+        }
     }
 
     /// Changes one field of a thread; a free number stays free. Where that is its wait, its deadline follows.
@@ -263,6 +269,30 @@ impl Threads {
         let is_followed = needs_following(&self.deadlines, p, &change);
         self.slots.change(p, k, change);
         follow_if(&mut self.deadlines, &self.slots, p, k, is_followed);
+    }
+
+    /// The thread, which is in use, goes on at this pc; its registers stay.
+    #[inline(always)]
+    #[tactic(auto, using(crate::proofs::Slots::pools))]
+    pub fn set_pc(&mut self, p: PartId, k: ThreadNo, pc: u32)
+        requires partition { p < length self.old.threads }
+        requires in_use { IsSome (thread_in self.old p k) }
+        ensures { self.new ≡ with_changed p k (with_pc pc) self.old }
+    {
+        self.slots.set_pc(p, k, pc);
+    }
+
+    /// The thread, which is in use, waits for this, or for nothing (XSH 2.8.4), and its deadline is that of the wait.
+    #[inline(always)]
+    #[tactic(auto, using(crate::proofs::Slots::pools))]
+    pub fn set_wait(&mut self, p: PartId, k: ThreadNo, wait: Option<Wait>)
+        requires partition { p < length self.old.threads }
+        requires in_use { IsSome (thread_in self.old p k) }
+        ensures { self.new ≡ with_changed p k (with_wait wait) self.old }
+    {
+        let deadline = deadline_of(&wait);
+        self.slots.set_wait(p, k, wait);
+        self.deadlines.set(p, k, deadline);
     }
 
     /// Gives the thread these registers and pc.
@@ -284,11 +314,13 @@ impl Threads {
         self.slots.set_values(p, k, values);
     }
 
-    /// A thread waits for nothing any more, has these values in a0 and so on, and has used no tick of its interval; a
-    /// free number stays free.
+    /// A thread, which is in use, waits for nothing any more, has these values in a0 and so on, and has used no tick of
+    /// its interval.
+    #[inline(always)]
     #[tactic(auto, using(crate::proofs::Slots::pools))]
     pub fn rouse(&mut self, p: PartId, k: ThreadNo, values: &[u32])
         requires partition { p < length self.old.threads }
+        requires in_use { IsSome (thread_in self.old p k) }
         requires few { length values.now < 4 }
         ensures { self.new ≡ with_changed p k (woken_with values.now) self.old }
     {
@@ -296,10 +328,12 @@ impl Threads {
         self.deadlines.set(p, k, None);
     }
 
-    /// Puts at most 3 values into the thread's a0, a1 and so on, and it has used no tick of its interval; its pc stays.
+    /// Puts at most 3 values into a0, a1 and so on of the thread, which is in use, and it has used no tick of its
+    /// interval; its pc stays.
     #[tactic(auto, using(crate::proofs::Slots::pools))]
     pub fn renew(&mut self, p: PartId, k: ThreadNo, values: &[u32])
         requires partition { p < length self.old.threads }
+        requires in_use { IsSome (thread_in self.old p k) }
         requires few { length values.now < 4 }
         ensures { self.new ≡ with_changed p k (renewed_with values.now) self.old }
     {
@@ -354,6 +388,17 @@ impl Threads {
         put_stored(self.stored.lend(p), k, priority);
     }
 
+    /// Stores the effective priorities of a partition, by number from 1.
+    #[tactic(auto, using(crate::proofs::Slots::pools))]
+    pub fn store(&mut self, p: PartId, priorities: &[u8])
+        requires partition { p < length self.old.threads }
+        requires same { length priorities.now ≡ length (part_of self.old.threads p) }
+        ensures { self.new ≡ record self.old { stored = slice_set self.old.stored p priorities.now } }
+    {
+        let stored = self.stored.lend(p);
+        stored.copy_from_slice(priorities);
+    }
+
     /// Whether a thread lies in a queue.
     #[tactic(auto, using(crate::proofs::Linked::queued_told))]
     pub fn is_queued(&self, p: PartId, k: ThreadNo) -> bool
@@ -366,6 +411,7 @@ impl Threads {
     }
 
     /// A thread that lies in no queue becomes the last of one.
+    #[inline(always)]
     pub fn append(&mut self, p: PartId, name: QueueName, k: ThreadNo)
         requires partition { p < length self.old.threads }
         requires slot { k ≤ length (part_of self.old.threads p) }
@@ -416,15 +462,74 @@ impl Threads {
 
     /// A thread leaves this queue; nothing changes where it lies in another one, or in none. One that lay in it lies in
     /// no queue then.
+    #[inline(always)]
     pub fn take_from(&mut self, p: PartId, name: QueueName, k: ThreadNo)
-        requires { p < length self.old.threads }
+        requires partition { p < length self.old.threads }
+        requires slot { k ≤ length (part_of self.old.threads p) }
         ensures table { self.new ≡ with_queues p (with_out name k) self.old }
         ensures apart { is_in k (part_of (part_of self.old.queues p) (place_of name)) ≡ true → IsUnqueued k (part_of self.new.queues p) }
     {
-        let part = self.linked(p);
-        if is_marked(part.slots, k, name) {
-            self.take(p, k);
-        }
+        self.slots.take_from(p, name, k);
+    }
+
+    /// A thread, which is in use and lies in this queue or in none, leaves it, becomes the last of another one, or of the
+    /// same, and waits for this, with the wait's deadline.
+    #[inline(always)]
+    pub fn pass_waiting(
+        &mut self,
+        p: PartId,
+        from: QueueName,
+        to: QueueName,
+        k: ThreadNo,
+        wait: Wait,
+    )
+        requires partition { p < length self.old.threads }
+        requires in_use { IsSome (thread_in self.old p k) }
+        requires free { IsUnqueued k (with_out from k (part_of self.old.queues p)) }
+        ensures { self.new ≡ with_changed p k (with_wait (Some wait)) (with_queues p (with_last to k) (with_queues p (with_out from k) self.old)) }
+    {
+        let _parts = self.slots.parts();
+        let own = Some(wait);
+        let deadline = deadline_of(&own);
+        self.slots.pass_waiting(p, from, to, k, own);
+        self.deadlines.set(p, k, deadline);
+    }
+
+    /// A thread, which is in use and lies in no queue, becomes the last of one and waits for this, with the wait's
+    /// deadline.
+    #[inline(always)]
+    pub fn append_waiting(&mut self, p: PartId, name: QueueName, k: ThreadNo, wait: Wait)
+        requires partition { p < length self.old.threads }
+        requires in_use { IsSome (thread_in self.old p k) }
+        requires free { IsUnqueued k (part_of self.old.queues p) }
+        ensures { self.new ≡ with_changed p k (with_wait (Some wait)) (with_queues p (with_last name k) self.old) }
+    {
+        let own = Some(wait);
+        let deadline = deadline_of(&own);
+        self.slots.append_waiting(p, name, k, own);
+        self.deadlines.set(p, k, deadline);
+    }
+
+    /// A thread, which is in use and lies in this queue or in none, leaves it and becomes the last of another one, or of
+    /// the same; it waits for nothing any more, has these values in a0 and so on, and has used no tick of its interval.
+    #[inline(always)]
+    pub fn pass_roused(
+        &mut self,
+        p: PartId,
+        from: QueueName,
+        to: QueueName,
+        k: ThreadNo,
+        values: &[u32],
+    )
+        requires partition { p < length self.old.threads }
+        requires in_use { IsSome (thread_in self.old p k) }
+        requires free { IsUnqueued k (with_out from k (part_of self.old.queues p)) }
+        requires few { length values.now < 4 }
+        ensures { self.new ≡ with_changed p k (woken_with values.now) (with_queues p (with_last to k) (with_queues p (with_out from k) self.old)) }
+    {
+        let _parts = self.slots.parts();
+        self.slots.pass_roused(p, from, to, k, values);
+        self.deadlines.set(p, k, None);
     }
 
     /// The threads of a queue, in its order.
@@ -433,16 +538,17 @@ impl Threads {
         ensures { result ≡ part_of (part_of self.now.queues p) (place_of name) }
     {
         let part = self.linked(p);
-        members(part.slots, part.ends, name)
+        members_of(part.slots, part.ends, name)
     }
 
-    /// The only thread of a queue; None of an empty one, and of one that has more.
-    pub fn only_member(&self, p: PartId, name: QueueName) -> Option<ThreadNo>
+    /// The threads of a queue, as far as a choice among them asks.
+    #[inline(always)]
+    pub fn few_members(&self, p: PartId, name: QueueName) -> Members
         requires { p < length self.now.threads }
-        ensures { result ≡ only_of (part_of (part_of self.now.queues p) (place_of name)) }
+        ensures { result ≡ few_of (part_of (part_of self.now.queues p) (place_of name)) }
     {
         let part = self.linked(p);
-        only_member(part.slots, part.ends, name)
+        few_members(part.slots, part.ends, name)
     }
 
     /// Whether any thread lies in a queue.

@@ -65,7 +65,7 @@ pub(crate) fn needs_following(deadlines: &ThreadDeadlines, p: PartId, change: &T
 fn is_timed(wait: &Option<Wait>) -> bool
     ensures { result ≡ is_some (deadline_of_wait wait.now) }
 {
-    deadline_of(*wait).is_some()
+    deadline_of(wait).is_some()
 }
 
 /// The kept deadline of a thread is made that of its wait where it is to follow; else it stays.
@@ -101,14 +101,17 @@ fn deadline_at(slots: &[Slot], k: ThreadNo) -> Option<Tick>
     ensures { result ≡ deadline_of_wait (wait_of (pool_get (threads_of slots.now) k)) }
 {
     match thread_among(slots, k) {
-        Some(thread) => deadline_of(thread.wait),
+        Some(thread) => deadline_of(&thread.wait),
         None => None,
     }
 }
 
 /// The deadline of a timed wait; None of any other.
-fn deadline_of(wait: Option<Wait>) -> Option<Tick>
-    ensures { result ≡ deadline_of_wait wait }
+pub(crate) fn deadline_of(wait: &Option<Wait>) -> Option<Tick>
+    ensures { result ≡ deadline_of_wait wait.now }
 {
-    wait?.deadline()
+    match wait {
+        Some(wait) => wait.deadline(),
+        None => None,
+    }
 }

@@ -5,15 +5,18 @@ use Rattle.std.specs.List.{IsDistinct}
 use Rattle.std.proofs.Math.ListN.{set, get_or-map}
 use Rattle.std.proofs.lemmas.Bool.{cases_eq, eq-eqb}
 use Rattle.std.proofs.lemmas.Bool.Decides.{nat_tests}
-use Rattle.std.proofs.lemmas.List.{append-nil, set_comm, get_or-set_other}
+use Rattle.std.proofs.lemmas.List.{append-nil, set_comm, get_or-set_other, set-get_or}
 use Rattle.ptk_words.specs.Pools.{pool_set, is_in, without}
 use Rattle.ptk_words_parted.specs.Parts.{part_of}
 use Rattle.ptk_threads_slots.specs.declared.link.Link.{Link}
+use Rattle.ptk_threads_slots.specs.declared.link.SlotLink.{SlotLink}
 use Rattle.ptk_threads_slots.specs.declared.link.Ends.{Ends}
 use Rattle.ptk_threads_slots.specs.declared.link.QueueName.{QueueName}
-use Rattle.ptk_threads_slots.specs.Links.{place_of, link_in, no_link, no_ends, ends_at, mark_of, with_previous, first_or, last_or, IsLink, IsAlong, IsQueue, AreQueues, queue_from, queue_at, queues}
-use Rattle.ptk_threads_slots.specs.Changes.{first_in, only_of, put_before, linked_between, end_between, unlinked, end_without}
-use Rattle.ptk_threads_slots.proofs.Along.{in_front, head_out, out_parts, marked_within, first_out, last_out, along_right}
+use Rattle.ptk_threads_slots.specs.declared.link.QueueName.TheVariants.{Ready, MutexWaiters, ConditionWaiters}
+use Rattle.ptk_threads_slots.specs.declared.thread_list.Members.TheVariants.{NoMember, OnlyMember, MoreMembers}
+use Rattle.ptk_threads_slots.specs.Links.{place_of, IsQueueName, link_in, own_link, number_at, no_link, no_ends, ends_at, mark_of, with_previous, first_or, last_or, IsLink, IsAlong, IsQueue, AreQueues, queue_from, queue_at, queues}
+use Rattle.ptk_threads_slots.specs.Changes.{first_in, few_of, with_taken, put_before, linked_between, end_between, unlinked, end_without}
+use Rattle.ptk_threads_slots.proofs.Along.{in_front, head_out, out_parts, marked_within, first_out, last_out, along_right, along_marked, not_true}
 use Rattle.ptk_threads_slots.proofs.Turns.{IsMoved, queues_moved, are_moved, between, taken, out_middle}
 
 -- the queues are these, with this list at place i
@@ -194,18 +197,99 @@ first_went links mid new ends after i k end next b are lt read named is alone fr
     let done = turned links (unlinked k link links) ends after i (end_without link.previous link.next (ends_at ends i)) (drop 1 line) are moved ends_are in
     (rw (list_at links ends i, links_are) done, rw (list_at links ends i) (first_here k line next b at.is told alone))
 
+-- ---- a thread that leaves a queue, or does not lie in it
+
+none_is : (o : Option ℕ) (b : Bool) → is_some o ≡ not b → b ≡ true → o ≡ None
+none_is None b told is = refl
+none_is (Some x) b told is = (let no : true ≡ false = told ∙ ap not is in absurd (cc))
+
+-- it is alone there
+pub alone_went : (links new : List Link) (ends after : List Ends) (i k : ℕ) (name : QueueName) (link : SlotLink) (before next : Bool) → AreQueues links ends → i < length ends → place_of name ≡ i
+    → own_link link ≡ link_in links k → link.queue ≡ Some name → is_some link.previous ≡ not before → before ≡ true → is_some link.next ≡ not next → next ≡ true
+    → new ≡ pool_set links k no_link → after ≡ set ends i no_ends
+    → AreTurned links new ends after i (without k (part_of (queues links ends) i))
+alone_went links new ends after i k name link before next are lt place is named no_before one_is no_next two_is made ended =
+    let own = own_link link in
+    let one : own.previous ≡ None = ap (option_map (number_at link.first)) (none_is link.previous before no_before one_is) in
+    let two : own.next ≡ None = ap (option_map (number_at link.first)) (none_is link.next next no_next two_is) in
+    went links new ends after i k name own are lt place is named (made ∙ rw (one, two) refl) (ended ∙ rw (one, two) refl)
+
+-- a thread that lies elsewhere changes nothing
+pub stays : (links : List Link) (ends : List Ends) (i k : ℕ) → AreQueues links ends → mark_of links k ≢ Some i → queues links ends ≡ with_taken (Some i) k (queues links ends)
+stays links ends i k are ne =
+    let line = queue_at links ends i in
+    let out : is_in k line ≡ false = not_true (is_in k line) (λ inside. ne (along_marked links i None None line k (are.each i).along inside)) in
+    let same : without k (part_of (queues links ends) i) ≡ part_of (queues links ends) i = rw (list_at links ends i) (without_none k line out) in
+    sym (ap (set (queues links ends) i) same ∙ set-get_or (queues links ends) i [])
+
+-- who lies in no queue has no mark
+none_of : (o : Option ℕ) → ((i : ℕ) → o ≡ Some i → ⊥) → o ≡ None
+none_of None h = refl
+none_of (Some i) h = absurd (h i refl)
+
+pub unqueued_mark : (links : List Link) (ends : List Ends) (k : ℕ) → AreQueues links ends → ((i : ℕ) → is_in k (part_of (queues links ends) i) ≡ false) → mark_of links k ≡ None
+unqueued_mark links ends k are out = none_of (mark_of links k) (λ i mark.
+    (let inside : is_in k (part_of (queues links ends) i) ≡ true = subst (λ l. is_in k l ≡ true) (sym (list_at links ends i)) (are.marked k i mark) in
+    let outside = out i in absurd (cc)))
+
+-- two names with one place are one
+one_place : (one other : QueueName) → IsQueueName one → IsQueueName other → place_of one ≡ place_of other → one ≡ other
+one_place (Ready p) (Ready q) a b e = (let same : p ≡ q = omega (arith, e, a.0, b.0) in ap Ready same)
+one_place (Ready p) (MutexWaiters m) a b e = absurd (omega (arith, e, a.0, a.1, b.0))
+one_place (Ready p) (ConditionWaiters v) a b e = absurd (omega (arith, e, a.0, a.1, b.0))
+one_place (MutexWaiters m) (Ready q) a b e = absurd (omega (arith, e, a.0, b.0, b.1))
+one_place (MutexWaiters m) (MutexWaiters n) a b e = (let same : m ≡ n = omega (arith, e) in ap MutexWaiters same)
+one_place (MutexWaiters m) (ConditionWaiters v) a b e = absurd (omega (arith, e, a.0, a.1, b.0))
+one_place (ConditionWaiters v) (Ready q) a b e = absurd (omega (arith, e, a.0, b.0, b.1))
+one_place (ConditionWaiters v) (MutexWaiters n) a b e = absurd (omega (arith, e, a.0, b.0, b.1))
+one_place (ConditionWaiters v) (ConditionWaiters w) a b e = (let same : v ≡ w = omega (arith, e) in ap ConditionWaiters same)
+
+-- a thread whose link was read lies in another queue, or in none
+pub stays_elsewhere : (links : List Link) (ends : List Ends) (k : ℕ) (name own : QueueName) (link : SlotLink) → AreQueues links ends → IsQueueName own → IsQueueName name → own_link link ≡ link_in links k → link.queue ≡ Some own → own ≢ name
+    → queues links ends ≡ with_taken (Some (place_of name)) k (queues links ends)
+stays_elsewhere links ends k name own link are one other is named ne =
+    stays links ends (place_of name) k are (λ mark.
+    (let here : Some (place_of own) ≡ Some (place_of name) = sym (ap (λ o. option_map place_of o) named) ∙ (ap (λ (l : Link). option_map place_of l.queue) is ∙ mark) in
+    let same : place_of own ≡ place_of name = cc in
+    ne (one_place own name one other same)))
+
+pub stays_unmarked : (links : List Link) (ends : List Ends) (k i : ℕ) (link : SlotLink) → AreQueues links ends → own_link link ≡ link_in links k → link.queue ≡ None → queues links ends ≡ with_taken (Some i) k (queues links ends)
+stays_unmarked links ends k i link are is named =
+    stays links ends i k are (λ mark.
+    (let here : None ≡ Some i = sym (ap (λ o. option_map place_of o) named) ∙ (ap (λ (l : Link). option_map place_of l.queue) is ∙ mark) in absurd (cc)))
+
 -- ---- the only thread of a queue
 
--- a list without a thread twice whose first thread is its last has no other
-only_in : (k : ℕ) (line : List ℕ) → IsDistinct nat_eq line → first_or None line ≡ Some k → last_or None line ≡ Some k → Some k ≡ only_of line
-only_in k [] distinct first last = absurd (cc)
-only_in k (x ∷ []) distinct first last = sym first
-only_in k (x ∷ y ∷ ys) distinct first last = absurd (last_out (y ∷ ys) x (head_out x (y ∷ ys) distinct) (last ∙ sym first))
+-- a list without a thread twice, by its first and its last
+few_none : (line : List ℕ) → first_or None line ≡ None → NoMember ≡ few_of line
+few_none [] first = refl
+few_none (x ∷ xs) first = absurd (cc)
 
--- the first thread of a queue is its last
-pub only_read : (links : List Link) (ends : List Ends) (i k j : ℕ) (end : Ends) → AreQueues links ends → end ≡ ends_at ends i → end.first ≡ Some k → end.last ≡ Some j → k ≡ j → Some k ≡ only_of (part_of (queues links ends) i)
+few_only : (k : ℕ) (line : List ℕ) → IsDistinct nat_eq line → first_or None line ≡ Some k → last_or None line ≡ Some k → OnlyMember k ≡ few_of line
+few_only k [] distinct first last = absurd (cc)
+few_only k (x ∷ []) distinct first last = (let same : x ≡ k = cc in ap OnlyMember (sym same))
+few_only k (x ∷ y ∷ ys) distinct first last = absurd (last_out (y ∷ ys) x (head_out x (y ∷ ys) distinct) (last ∙ sym first))
+
+few_more : (k : ℕ) (line : List ℕ) → first_or None line ≡ Some k → last_or None line ≢ Some k → MoreMembers ≡ few_of line
+few_more k [] first other = absurd (cc)
+few_more k (x ∷ []) first other = absurd (other first)
+few_more k (x ∷ y ∷ ys) first other = refl
+
+-- of a queue, by its ends
+pub none_read : (links : List Link) (ends : List Ends) (i : ℕ) (end : Ends) → AreQueues links ends → end ≡ ends_at ends i → end.first ≡ None → NoMember ≡ few_of (part_of (queues links ends) i)
+none_read links ends i end are read first =
+    rw (list_at links ends i) (few_none (queue_at links ends i) (sym (are.each i).first ∙ (ap (λ (e : Ends). e.first) (sym read) ∙ first)))
+
+pub only_read : (links : List Link) (ends : List Ends) (i k j : ℕ) (end : Ends) → AreQueues links ends → end ≡ ends_at ends i → end.first ≡ Some k → end.last ≡ Some j → j ≡ k → OnlyMember k ≡ few_of (part_of (queues links ends) i)
 only_read links ends i k j end are read first last same =
     let line = queue_at links ends i in
     let head : first_or None line ≡ Some k = sym (are.each i).first ∙ (ap (λ (e : Ends). e.first) (sym read) ∙ first) in
-    let tail : last_or None line ≡ Some k = sym (are.each i).last ∙ (ap (λ (e : Ends). e.last) (sym read) ∙ (last ∙ ap Some (sym same))) in
-    rw (list_at links ends i) (only_in k line (are.each i).distinct head tail)
+    let tail : last_or None line ≡ Some k = sym (are.each i).last ∙ (ap (λ (e : Ends). e.last) (sym read) ∙ (last ∙ ap Some same)) in
+    rw (list_at links ends i) (few_only k line (are.each i).distinct head tail)
+
+pub more_read : (links : List Link) (ends : List Ends) (i k : ℕ) (end : Ends) → AreQueues links ends → end ≡ ends_at ends i → end.first ≡ Some k → end.last ≢ Some k → MoreMembers ≡ few_of (part_of (queues links ends) i)
+more_read links ends i k end are read first other =
+    let line = queue_at links ends i in
+    let head : first_or None line ≡ Some k = sym (are.each i).first ∙ (ap (λ (e : Ends). e.first) (sym read) ∙ first) in
+    let tail : last_or None line ≢ Some k = λ e. other (ap (λ (e : Ends). e.last) read ∙ ((are.each i).last ∙ e)) in
+    rw (list_at links ends i) (few_more k line head tail)

@@ -22,6 +22,11 @@ link_here slots (suc i) slot h lt e =
     let read : slot ≡ get_or slots i slot = rw same at e in
     ap (λ (s : Slot). own_link s.link) (get_or_read slots i slot within read (free_slot 0)) ∙ sym (get_or-map (λ (s : Slot). own_link s.link) slots i (free_slot 0))
 
+-- a read at a place
+pub link_read : (slots : List Slot) (k i : ℕ) (slot : Slot) → i ≡ k - 1 → 0 < k → i < length slots → slot ≡ get_or slots i slot → own_link (get_or slots i slot).link ≡ link_in (links_of slots) k
+link_read slots k i slot at pos lt is =
+    ap (λ (s : Slot). own_link s.link) (sym is) ∙ link_here slots k slot pos (omega (arith, lt, at)) (is ∙ ap (λ n. get_or slots n slot) at)
+
 pub link_past : (slots : List Slot) (k : ℕ) → 0 < k → length slots ≤ k - 1 → no_link ≡ link_in (links_of slots) k
 link_past slots zero h le = absurd (omega arith)
 link_past slots (suc i) h le =

@@ -1,10 +1,12 @@
 -- The links and ends of a partition after one thread came between two neighbours, or went.
-use Rattle.std.specs.Prelude.{ℕ, List, [], ◌∷◌, length, ◌==◌, Option, Some, None, slice_set, nat_eq, if◌then◌else◌}
+use Rattle.std.specs.Prelude.{ℕ, List, [], ◌∷◌, ◌++◌, length, ◌==◌, Option, Some, None, slice_set, nat_eq, if◌then◌else◌}
 use Rattle.ptk_words.specs.Pools.{pool_set, without}
 use Rattle.ptk_words_parted.specs.Parts.{part_of}
 use Rattle.ptk_threads_slots.specs.declared.link.Link.{Link}
 use Rattle.ptk_threads_slots.specs.declared.link.Ends.{Ends}
 use Rattle.ptk_threads_slots.specs.declared.queues.FirstThread.{FirstThread}
+use Rattle.ptk_threads_slots.specs.declared.thread_list.Members.{Members}
+use Rattle.ptk_threads_slots.specs.declared.thread_list.Members.TheVariants.{NoMember, OnlyMember, MoreMembers}
 use Rattle.ptk_threads_slots.specs.Links.{no_link, with_next, with_previous, first_after, last_before}
 
 -- ---- lists
@@ -14,11 +16,11 @@ abbrev pub first_in : List ℕ → Option FirstThread
 first_in [] = None
 first_in (k ∷ ks) = Some (record { thread = k; is_alone = length ks == 0 })
 
--- the only one of these, None of none and of several (own)
-abbrev pub only_of : List ℕ → Option ℕ
-only_of [] = None
-only_of (k ∷ []) = Some k
-only_of (k ∷ j ∷ ks) = None
+-- whether there is none of these, one or more (own)
+abbrev pub few_of : List ℕ → Members
+few_of [] = NoMember
+few_of (k ∷ []) = OnlyMember k
+few_of (k ∷ j ∷ ks) = MoreMembers
 
 -- the list with k before another thread
 abbrev pub put_before : ℕ → ℕ → List ℕ → List ℕ
@@ -34,6 +36,10 @@ with_inserted (Some i) k before lists = slice_set lists i (put_before k before (
 abbrev pub with_taken : Option ℕ → ℕ → List (List ℕ) → List (List ℕ)
 with_taken None k lists = lists
 with_taken (Some i) k lists = slice_set lists i (without k (part_of lists i))
+
+-- the queues with k as the last of the one at this place
+abbrev pub with_appended : ℕ → ℕ → List (List ℕ) → List (List ℕ)
+with_appended i k lists = slice_set lists i (part_of lists i ++ k ∷ [])
 
 -- ---- links
 

@@ -1,5 +1,5 @@
 -- Threads of one partition in queues that are linked through its slots.
-use Rattle.std.specs.Prelude.{◌≡◌, ℕ, zero, suc, ◌+◌, ◌-◌, ◌%◌, true, List, [], ◌∷◌, length, map, Option, Some, None, option_map, slice_index_or, nat_eq}
+use Rattle.std.specs.Prelude.{◌≡◌, ℕ, zero, suc, ◌+◌, ◌-◌, ◌%◌, ◌<◌, ◌≤◌, true, List, [], ◌∷◌, length, map, Option, Some, None, option_map, slice_index_or, nat_eq}
 use Rattle.std.specs.List.{IsDistinct}
 use Rattle.ptk_words.specs.Pools.{pool_set, is_in}
 use Rattle.ptk_words.specs.declared.threads.Thread.{Thread}
@@ -17,6 +17,12 @@ abbrev pub place_of : QueueName → ℕ
 place_of (Ready priority) = priority - 1
 place_of (MutexWaiters m) = m + 31
 place_of (ConditionWaiters c) = c + 95
+
+-- the numbers of a name are those of a priority, a mutex or a condition variable
+abbrev pub IsQueueName : QueueName → Type 0
+IsQueueName (Ready priority) = (0 < priority) × (priority ≤ 32)
+IsQueueName (MutexWaiters m) = (0 < m) × (m ≤ 64)
+IsQueueName (ConditionWaiters c) = (0 < c) × (c ≤ 32)
 
 -- ---- reading
 

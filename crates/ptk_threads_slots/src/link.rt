@@ -1,7 +1,7 @@
 //! What a slot keeps of the queue that its thread lies in.
 
 ghost use Rattle.std.specs.Prelude.{◌≡◌, ◌<◌, option_map, None};
-ghost use Rattle.ptk_threads_slots.specs.Links.{place_of, no_link, no_ends, number_at, slot_at, own_link, shared_link};
+ghost use Rattle.ptk_threads_slots.specs.Links.{place_of, IsQueueName, no_link, no_ends, number_at, slot_at, own_link, shared_link};
 ghost use Rattle.ptk_threads_slots.specs.Changes.{end_between, end_without};
 
 use ptk_words::{ConditionNo, MutexNo, Priority, SlotNo, ThreadNo};
@@ -28,6 +28,7 @@ impl QueueName {
     pub fn place(&self) -> usize
         ensures value { result ≡ place_of self.now }
         ensures in_range { result < 128 }
+        ensures named { IsQueueName self.now }
     {
         match self {
             QueueName::Ready(priority) => priority.level() as usize - 1,
@@ -76,6 +77,7 @@ impl SlotLink {
     }
 
     /// Becomes a link that is given in numbers of the partition.
+    #[inline(always)]
     pub(crate) fn set(&mut self, link: &Link)
         ensures shared { self.new ≡ shared_link self.old.first link.now }
         ensures own { own_link self.new ≡ link.now }

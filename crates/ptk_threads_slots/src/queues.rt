@@ -1,11 +1,12 @@
 //! The queues of one partition.
 
-ghost use Rattle.std.specs.Prelude.{◌≡◌, ℕ, ◌<◌, ◌≤◌, [], ◌∷◌, ◌++◌, length, drop, Some, None, slice_set};
+ghost use Rattle.std.specs.Prelude.{◌≡◌, ℕ, ◌<◌, ◌≤◌, false, [], ◌∷◌, ◌++◌, length, drop, Some, None, slice_set};
+ghost use Rattle.ptk_words.specs.Pools.{is_in};
 ghost use Rattle.ptk_words_parted.specs.Parts.{part_of};
-ghost use Rattle.ptk_threads_slots.specs.Links.{AreQueues, AreLinksFrom, queues, links_of, threads_of, mark_of, place_of, ends_at};
-ghost use Rattle.ptk_threads_slots.specs.Changes.{first_in, with_inserted, with_taken, linked_between, end_between, unlinked, end_without};
+ghost use Rattle.ptk_threads_slots.specs.Links.{AreQueues, AreLinksFrom, queues, links_of, link_in, own_link, threads_of, mark_of, place_of, ends_at};
+ghost use Rattle.ptk_threads_slots.specs.Changes.{first_in, with_inserted, with_taken, with_appended, linked_between, end_between, unlinked, end_without};
 
-use crate::link::{Ends, Link, QueueName};
+use crate::link::{Ends, Link, QueueName, SlotLink};
 use crate::slot::{Slot, link_of, set_link, set_next, set_previous, take_next};
 use ptk_words::ThreadNo;
 
@@ -28,6 +29,7 @@ pub fn ends_of(ends: &[Ends], name: QueueName) -> Ends
 }
 
 /// A thread that lies in no queue becomes the last of one. The threads stay.
+#[inline(always)]
 pub fn append(slots: &mut [Slot], ends: &mut [Ends], name: QueueName, k: ThreadNo)
     requires queues { AreQueues (links_of slots.old) ends.old }
     requires places { length ends.old ≡ 128 }
@@ -95,6 +97,7 @@ pub fn insert(slots: &mut [Slot], ends: &mut [Ends], k: ThreadNo, before: Thread
 }
 
 /// A thread leaves the queue in which it lies; nothing changes where it lies in none. The threads stay.
+#[inline(always)]
 pub fn take(slots: &mut [Slot], ends: &mut [Ends], k: ThreadNo)
     requires queues { AreQueues (links_of slots.old) ends.old }
     requires places { length ends.old ≡ 128 }
@@ -104,11 +107,87 @@ pub fn take(slots: &mut [Slot], ends: &mut [Ends], k: ThreadNo)
     ensures threads { threads_of slots.new ≡ threads_of slots.old }
     ensures shared { (first : ℕ) → AreLinksFrom first slots.old → AreLinksFrom first slots.new }
 {
-    let link = link_of(slots, k);
-    if let Some(name) = &link.queue {
-        let i = name.place();
-        unlink(slots, ends, i, k, &link);
+    let place = k.place();
+    if place >= slots.len() {
+        return;
     }
+    let link = slots[place].link;
+    if let Some(name) = &link.queue {
+        leave(slots, ends, *name, k, &link);
+    }
+}
+
+/// A thread leaves this queue; nothing changes where it lies in another one, or in none. The threads stay.
+#[inline(always)]
+pub fn take_from(slots: &mut [Slot], ends: &mut [Ends], name: QueueName, k: ThreadNo)
+    requires queues { AreQueues (links_of slots.old) ends.old }
+    requires places { length ends.old ≡ 128 }
+    requires slot { k ≤ length slots.old }
+    ensures queues { AreQueues (links_of slots.new) ends.new }
+    ensures lists { queues (links_of slots.new) ends.new ≡ with_taken (Some (place_of name)) k (queues (links_of slots.old) ends.old) }
+    ensures threads { threads_of slots.new ≡ threads_of slots.old }
+    ensures shared { (first : ℕ) → AreLinksFrom first slots.old → AreLinksFrom first slots.new }
+{
+    let link = slots[k.place()].link;
+    if let Some(own) = &link.queue {
+        let _places = (own.place(), name.place());
+        if *own == name {
+            leave(slots, ends, name, k, &link);
+        }
+    }
+}
+
+/// A thread that lies in this queue, or in none, leaves it and becomes the last of another one, or of the same. The
+/// threads stay.
+#[inline(always)]
+pub fn pass_on(slots: &mut [Slot], ends: &mut [Ends], from: QueueName, to: QueueName, k: ThreadNo)
+    requires queues { AreQueues (links_of slots.old) ends.old }
+    requires places { length ends.old ≡ 128 }
+    requires slot { k ≤ length slots.old }
+    requires free { (i : ℕ) → is_in k (part_of (with_taken (Some (place_of from)) k (queues (links_of slots.old) ends.old)) i) ≡ false }
+    ensures queues { AreQueues (links_of slots.new) ends.new }
+    ensures lists { queues (links_of slots.new) ends.new
+        ≡ with_appended (place_of to) k (with_taken (Some (place_of from)) k (queues (links_of slots.old) ends.old)) }
+    ensures threads { threads_of slots.new ≡ threads_of slots.old }
+    ensures shared { (first : ℕ) → AreLinksFrom first slots.old → AreLinksFrom first slots.new }
+{
+    take_from(slots, ends, from, k);
+    append(slots, ends, to, k);
+}
+
+/// A thread leaves this queue, in which it lies with this link. The threads stay.
+#[inline(always)]
+fn leave(slots: &mut [Slot], ends: &mut [Ends], name: QueueName, k: ThreadNo, link: &SlotLink)
+    requires queues { AreQueues (links_of slots.old) ends.old }
+    requires places { length ends.old ≡ 128 }
+    requires own { own_link link.now ≡ link_in (links_of slots.old) k }
+    requires named { link.now.queue ≡ Some name }
+    ensures queues { AreQueues (links_of slots.new) ends.new }
+    ensures lists { queues (links_of slots.new) ends.new ≡ with_taken (Some (place_of name)) k (queues (links_of slots.old) ends.old) }
+    ensures threads { threads_of slots.new ≡ threads_of slots.old }
+    ensures shared { (first : ℕ) → AreLinksFrom first slots.old → AreLinksFrom first slots.new }
+{
+    if link.previous.is_none() && link.next.is_none() {
+        ends[name.place()] = Ends::none();
+        set_link(slots, k, Link::none());
+    } else {
+        take_linked(slots, ends, name, k);
+    }
+}
+
+/// A thread leaves this queue, in which it lies and is not alone. The threads stay.
+#[inline(never)]
+fn take_linked(slots: &mut [Slot], ends: &mut [Ends], name: QueueName, k: ThreadNo)
+    requires queues { AreQueues (links_of slots.old) ends.old }
+    requires places { length ends.old ≡ 128 }
+    requires named { (link_in (links_of slots.old) k).queue ≡ Some name }
+    ensures queues { AreQueues (links_of slots.new) ends.new }
+    ensures lists { queues (links_of slots.new) ends.new ≡ with_taken (Some (place_of name)) k (queues (links_of slots.old) ends.old) }
+    ensures threads { threads_of slots.new ≡ threads_of slots.old }
+    ensures shared { (first : ℕ) → AreLinksFrom first slots.old → AreLinksFrom first slots.new }
+{
+    let link = link_of(slots, k);
+    unlink(slots, ends, name.place(), k, &link);
 }
 
 /// The first thread of a queue leaves it; the function returns it, and None of an empty queue, where nothing changes.

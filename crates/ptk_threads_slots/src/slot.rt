@@ -201,6 +201,7 @@ pub fn link_of(slots: &[Slot], k: ThreadNo) -> Link
 }
 
 /// Gives a thread this link, in numbers of the partition; nothing past the slots.
+#[inline(always)]
 #[tactic(auto, using(crate::proofs::Slots::slots))]
 pub(crate) fn set_link(slots: &mut [Slot], k: ThreadNo, link: Link)
     ensures links { links_of slots.new ≡ pool_set (links_of slots.old) k link }

@@ -1,10 +1,10 @@
 //! The threads of one queue, read into a list.
 
-ghost use Rattle.std.specs.Prelude.{◌≡◌, ◌↔◌, true, Some, ◌<◌, ◌≤◌, [], ◌∷◌, ◌++◌, ◌==◌, not, length};
+ghost use Rattle.std.specs.Prelude.{◌≡◌, ◌<◌, ◌≤◌, [], ◌∷◌, ◌++◌, ◌==◌, not, length};
 ghost use Rattle.ptk_words.specs.Pools.{is_in};
 ghost use Rattle.ptk_words_parted.specs.Parts.{part_of};
-ghost use Rattle.ptk_threads_slots.specs.Links.{AreQueues, queues, links_of, mark_of, place_of};
-ghost use Rattle.ptk_threads_slots.specs.Changes.{only_of};
+ghost use Rattle.ptk_threads_slots.specs.Links.{AreQueues, queues, links_of, place_of};
+ghost use Rattle.ptk_threads_slots.specs.Changes.{few_of};
 
 use crate::link::{Ends, QueueName};
 use crate::queues::ends_of;
@@ -66,7 +66,7 @@ impl ThreadList {
 }
 
 /// The threads of a queue, in its order.
-pub fn members(slots: &[Slot], ends: &[Ends], name: QueueName) -> ThreadList
+pub fn members_of(slots: &[Slot], ends: &[Ends], name: QueueName) -> ThreadList
     requires queues { AreQueues (links_of slots.now) ends.now }
     requires places { length ends.now ≡ 128 }
     requires few { length slots.now ≤ 32 }
@@ -86,19 +86,30 @@ pub fn members(slots: &[Slot], ends: &[Ends], name: QueueName) -> ThreadList
     found
 }
 
-/// The only thread of a queue; None of an empty one, and of one that has more.
-pub fn only_member(slots: &[Slot], ends: &[Ends], name: QueueName) -> Option<ThreadNo>
+/// The threads of a queue, as far as a choice among them asks.
+#[derive(Clone, Copy)]
+pub enum Members {
+    /// There is none.
+    NoMember,
+    /// There is this one alone.
+    OnlyMember(ThreadNo),
+    /// There are more than one.
+    MoreMembers,
+}
+
+/// The threads of a queue, as far as a choice among them asks.
+pub fn few_members(slots: &[Slot], ends: &[Ends], name: QueueName) -> Members
     requires queues { AreQueues (links_of slots.now) ends.now }
     requires places { length ends.now ≡ 128 }
-    ensures { result ≡ only_of (part_of (queues (links_of slots.now) ends.now) (place_of name)) }
+    ensures { result ≡ few_of (part_of (queues (links_of slots.now) ends.now) (place_of name)) }
 {
     let end = ends_of(ends, name);
-    let first = end.first?;
-    let last = end.last?;
-    if first.number() == last.number() {
-        Some(first)
-    } else {
-        None
+    let Some(first) = end.first else {
+        return Members::NoMember;
+    };
+    match end.last {
+        Some(last) if last.number() == first.number() => Members::OnlyMember(first),
+        _ => Members::MoreMembers,
     }
 }
 
@@ -110,15 +121,4 @@ pub fn has_members(slots: &[Slot], ends: &[Ends], name: QueueName) -> bool
 {
     let end = ends_of(ends, name);
     end.first.is_some()
-}
-
-/// Whether a thread's slot has the mark of a queue.
-pub fn is_marked(slots: &[Slot], k: ThreadNo, name: QueueName) -> bool
-    ensures { (result ≡ true) ↔ (mark_of (links_of slots.now) k ≡ Some (place_of name)) }
-{
-    let link = link_of(slots, k);
-    match &link.queue {
-        Some(own) => own.place() == name.place(),
-        None => false,
-    }
 }

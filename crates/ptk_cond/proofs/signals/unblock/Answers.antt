@@ -1,15 +1,16 @@
-use Rattle.std.proofs.Common.{◌≡◌, sym, ◌∙◌, subst}
+use Rattle.std.proofs.Common.{refl, sym, ◌∙◌, subst}
 use Rattle.ptk_words.specs.Pools.{pool_get, without}
 use Rattle.ptk_words_parted.specs.Parts.{part_of}
-use Rattle.ptk_words_model.specs.State.{Locks, Syncs}
-use Rattle.ptk_words_model.specs.Condition.{after_unblock_for, waiters_on}
+use Rattle.ptk_words_model.specs.State.{Locks}
+use Rattle.ptk_words_model.specs.Condition.{waiters_on}
 use Rattle.ptk_words_sync_invariant.specs.Conditions.{HasRoom}
 use Rattle.ptk_syncs.specs.Rosters.{Rostered}
-use Rattle.ptk_mutex.specs.Visits.{IsVisited}
 use Rattle.ptk_mutex.specs.Tables.{MayWait}
-use Rattle.ptk_cond.specs.Tables.{put_syncs}
-use Rattle.ptk_cond.proofs.Steps.{of_part, ready_waiters, same_waiters, waiter_may, waiter_room, unblocked, unblocked_waiting, put_synced, AreSyncedAt, sound_put}
+use Rattle.ptk_cond.proofs.Steps.{with_waiters_on, ready_waiters, same_waiters, waiter_may, waiter_room, is_waiting-waits, unblocked_synced, unblocked_sound}
 use Rattle.ptk_cond.proofs.signals.unblock.Goals as goal
+
+pub pass_on-requires-clause-waits : goal.pass_on-requires-clause-waits
+pass_on-requires-clause-waits c = sym c.relock_move.ensures ∙ is_waiting-waits c.relock_move.result (sym c.is_waiting.ensures ∙ c.if-is_waiting.true)
 
 pub relock-requires-clause-ready : goal.relock-requires-clause-ready
 relock-requires-clause-ready c =
@@ -30,19 +31,24 @@ relock-requires-clause-countable c =
     subst (λ (l : Locks). HasRoom c.args.t (pool_get l.mutexes c.in-Some.m)) (sym (same_waiters c.args.p c.args.c (without c.args.t (waiters_on (pool_get (part_of a.conditions c.args.p) c.args.c))) a c.leave_condition.new.self c.leave_condition.ensures.roster))
     (waiter_room c.args.p c.args.t c.args.c c.in-Some.m a.table a.lines a.mutexes a.conditions c.requires.ready c.requires.waiter (sym c.in-Some.is ∙ c.requires.named))
 
-pub returns-in-Some : goal.returns-in-Some
-returns-in-Some c =
+pub returns-then-is_waiting-clause-ready : goal.returns-then-is_waiting-clause-ready
+returns-then-is_waiting-clause-ready c =
     let a : Rostered = c.args.roster.now in
-    let left : Rostered = c.leave_condition.new.self in
-    let after : Rostered = c.relock.new.roster in
-    let syncs : Syncs = after_unblock_for c.args.t c.args.c c.args.reply c.args.named (of_part c.args.p a) in
-    let moved : after ≡ put_syncs c.args.p syncs a =
-    unblocked c.args.p c.args.t c.args.c c.in-Some.m c.args.reply c.args.named a left after c.in-Some.is c.leave_condition.ensures.roster c.relock.ensures.roster in
-    let ready : AreSyncedAt c.args.p after = put_synced c.args.p a after syncs c.requires.ready moved c.relock.ensures.ready
-    (unblocked_waiting c.args.t c.args.c c.in-Some.m c.args.reply c.args.named (of_part c.args.p a) c.in-Some.is c.requires.waiter c.requires.ready.waiting) in
-    record {
-      roster = moved;
-      visited = subst (λ (r : Rostered). IsVisited c.relock.new.self.visited (part_of r.table.stored c.args.p) (part_of after.table.stored c.args.p)) c.leave_condition.ensures.roster c.relock.ensures.visited;
-      ready = ready;
-      sound = λ sound. sound_put c.args.p a after syncs moved ready sound;
-    }
+    unblocked_synced c.args.p c.args.t c.args.c c.in-Some.m c.args.reply c.args.named a (with_waiters_on c.args.p c.args.c (without c.args.t (waiters_on (pool_get (part_of a.conditions c.args.p) c.args.c))) a) c.pass_on.new.roster
+    c.requires.ready c.requires.waiter c.in-Some.is refl c.pass_on.ensures.roster c.pass_on.ensures.ready
+
+pub returns-then-is_waiting-clause-sound : goal.returns-then-is_waiting-clause-sound
+returns-then-is_waiting-clause-sound c =
+    let a : Rostered = c.args.roster.now in
+    unblocked_sound c.args.p c.args.t c.args.c c.in-Some.m c.args.reply c.args.named a (with_waiters_on c.args.p c.args.c (without c.args.t (waiters_on (pool_get (part_of a.conditions c.args.p) c.args.c))) a) c.pass_on.new.roster
+    c.requires.ready c.requires.waiter c.in-Some.is refl c.pass_on.ensures.roster c.pass_on.ensures.ready
+
+pub returns-else-is_waiting-clause-ready : goal.returns-else-is_waiting-clause-ready
+returns-else-is_waiting-clause-ready c =
+    unblocked_synced c.args.p c.args.t c.args.c c.in-Some.m c.args.reply c.args.named c.args.roster.now c.leave_condition.new.self c.relock.new.roster
+    c.requires.ready c.requires.waiter c.in-Some.is c.leave_condition.ensures.roster c.relock.ensures.roster c.relock.ensures.ready
+
+pub returns-else-is_waiting-clause-sound : goal.returns-else-is_waiting-clause-sound
+returns-else-is_waiting-clause-sound c =
+    unblocked_sound c.args.p c.args.t c.args.c c.in-Some.m c.args.reply c.args.named c.args.roster.now c.leave_condition.new.self c.relock.new.roster
+    c.requires.ready c.requires.waiter c.in-Some.is c.leave_condition.ensures.roster c.relock.ensures.roster c.relock.ensures.ready

@@ -1,16 +1,38 @@
-use Rattle.std.proofs.Common.{◌∙◌, ap}
-use Rattle.std.specs.Prelude.{Some}
-use Rattle.ptk_threads.specs.Table.{with_changed, with_wait}
+use Rattle.std.proofs.Common.{◌≡◌, ◌∙◌, ap}
+use Rattle.ptk_words_parted.specs.Parts.{part_of}
+use Rattle.ptk_words_parted.proofs.Cuts.{set_part-same}
+use Rattle.ptk_words_model.specs.Mutex.{after_wait}
 use Rattle.ptk_syncs.specs.Rosters.{Rostered}
-use Rattle.ptk_mutex.proofs.Raised.{block_before, stored_visited}
+use Rattle.ptk_mutex.specs.Tables.{locks_by, put_locks}
+use Rattle.ptk_mutex.proofs.Raised.{block_before, block_next, block_put, inheritor-read, stored_visited}
 use Rattle.ptk_mutex.proofs.rising.block.Goals as goal
 
-pub raise-requires-clause-before : goal.raise-requires-clause-before
-raise-requires-clause-before c =
-    block_before c.args.p c.args.t c.args.m c.args.wait c.args.roster.now.table c.change.new.self.table c.args.roster.now.lines c.args.roster.now.mutexes c.change.new.self.mutexes c.requires.ready c.requires.caller.awake
-    (ap (λ (r : Rostered). r.mutexes) c.change.ensures ∙ ap (λ (r : Rostered). r.mutexes) c.await_mutex.ensures)
-    (ap (λ (r : Rostered). r.table) c.change.ensures ∙ ap (λ (r : Rostered). with_changed c.args.p c.args.t (with_wait (Some c.args.wait)) r.table) c.await_mutex.ensures)
+pub rise_behind-requires-clause-before : goal.rise_behind-requires-clause-before
+rise_behind-requires-clause-before c =
+    let a : Rostered = c.args.roster.now in
+    let mid : Rostered = c.wait_for_mutex.new.self in
+    block_before c.args.p c.args.t c.args.m c.args.wait a.table mid.table a.lines a.mutexes mid.mutexes c.requires.ready c.requires.caller.awake (ap (λ (r : Rostered). r.mutexes) c.wait_for_mutex.ensures) (ap (λ (r : Rostered). r.table) c.wait_for_mutex.ensures)
 
-pub returns-clause-visited : goal.returns-clause-visited
-returns-clause-visited c =
-    stored_visited c.args.p _ c.args.roster.now.table c.change.new.self.table c.raise.new.roster.table (ap (λ (r : Rostered). r.table.stored) c.change.ensures ∙ ap (λ (r : Rostered). r.table.stored) c.await_mutex.ensures) c.raise.ensures.visited
+pub rise_behind-requires-clause-next : goal.rise_behind-requires-clause-next
+rise_behind-requires-clause-next c =
+    let a : Rostered = c.args.roster.now in
+    let mid : Rostered = c.wait_for_mutex.new.self in
+    block_next c.args.p c.args.t c.args.m c.args.wait c.inheritor_of-inheritor.result a.table mid.table a.lines a.mutexes mid.mutexes c.requires.ready c.requires.named c.requires.caller.used
+    (inheritor-read c.args.m c.inheritor_of-inheritor.result (part_of a.mutexes c.args.p) c.mutex_slots.result.now c.mutex_slots.ensures.mutexes c.inheritor_of-inheritor.ensures)
+    (ap (λ (r : Rostered). r.mutexes) c.wait_for_mutex.ensures) (ap (λ (r : Rostered). r.table) c.wait_for_mutex.ensures)
+
+pub returns : goal.returns
+returns c =
+    let a : Rostered = c.args.roster.now in
+    let mid : Rostered = c.wait_for_mutex.new.self in
+    let b : Rostered = c.rise_behind.new.roster in
+    let moved : b ≡ put_locks c.args.p (after_wait c.args.t c.args.m c.args.wait (locks_by c.args.p a.table a.lines a.mutexes)) a =
+    block_put c.args.p c.args.t c.args.m c.args.wait a mid b c.requires.ready.part c.wait_for_mutex.ensures c.rise_behind.ensures.stored in
+    record {
+      threads = ap (λ (r : Rostered). r.table) moved;
+      line = ap (λ (r : Rostered). r.lines) moved ∙ set_part-same a.lines c.args.p;
+      mutexes = ap (λ (r : Rostered). r.mutexes) moved;
+      conditions = ap (λ (r : Rostered). r.conditions) moved;
+      visited = stored_visited c.args.p _ a.table mid.table b.table (ap (λ (r : Rostered). r.table.stored) c.wait_for_mutex.ensures) c.rise_behind.ensures.visited;
+      few = c.rise_behind.ensures.few;
+    }

@@ -1,39 +1,50 @@
-use Rattle.std.proofs.Common.{◌≡◌, length, map, ◌∙◌, sym, subst, arith, rules, ℕ}
-use Rattle.std.specs.Prelude.{Option, replicate}
-use Rattle.std.proofs.lemmas.List.{length-map}
-use Rattle.ptk_words.specs.Pools.{numbers_to}
-use Rattle.ptk_threads_slots.specs.declared.slot.Slot.{Slot}
-use Rattle.ptk_words_model.specs.Chain.{greatest_leading}
-use Rattle.ptk_mutex_priorities.specs.Raised.{raised_along}
+use Rattle.std.proofs.Common.{◌≡◌, ℕ, suc, length, refl, ◌∙◌, sym, ap, subst, arith, add-one}
+use Rattle.std.specs.Prelude.{option_and_then}
+use Rattle.ptk_words.specs.Pools.{pool_get}
 use Rattle.ptk_threads_slots.specs.Links.{threads_of}
-use Rattle.ptk_words_model.specs.Priority.{next_in_chain, held_of}
-use Rattle.ptk_mutex_priorities.proofs.Levels.{IsSwept, swept_none, swept_more, swept_all, leveled_none, leveled_more, leveled_all}
+use Rattle.ptk_threads.specs.Table.{stored_of}
+use Rattle.ptk_words_model.specs.Priority.{awaited, inheritor_of, next_in_chain, held_of}
+use Rattle.ptk_mutex_priorities.specs.Raised.{risen, with_ceilings}
+use Rattle.ptk_mutex_priorities.proofs.Held.{ceilings_held, read_here, length-threads_of}
+use Rattle.ptk_mutex_priorities.proofs.Nexts.{bounded}
+use Rattle.ptk_mutex_priorities.proofs.Sweeps.{IsSwept, swept_none, swept_over, swept_more, swept_all, levels_more}
+use Rattle.ptk_mutex_priorities.proofs.priorities.recompute.Goals.{in-Some, in_default}
 use Rattle.ptk_mutex_priorities.proofs.priorities.recompute.Goals as goal
 
 pub loop-k-init : goal.loop-k-init
 loop-k-init c =
-    let zeros : c.fill.new.self ≡ replicate (length c.args.threads.now) 0 = search rules in
-    record { swept = swept_none _ _ _ _ zeros; leveled = leveled_none (length c.args.threads.now) _ _ zeros }
+    let threads = threads_of c.args.threads.now in
+    record {
+      swept = swept_none (length threads) (next_in_chain threads c.args.mutexes.now) (held_of threads c.args.mutexes.now) c.raise_owners.new.stored (bounded threads c.args.mutexes.now)
+          (c.raise_owners.ensures.stored ∙ ap (with_ceilings c.args.mutexes.now) c.put_assigned.ensures.stored ∙ ceilings_held threads c.args.mutexes.now);
+      levels = c.raise_owners.ensures.levels threads c.put_assigned.ensures.levels;
+    }
 
 pub loop-k-preserved : goal.loop-k-preserved
 loop-k-preserved c =
-    let next = next_in_chain (threads_of c.args.threads.now) c.args.mutexes.now in
-    let raised : c.raise_chain.new.stored ≡ raised_along next c.held_of.result (length c.args.threads.now) c.new-u.result c.loop-k.stored =
-    subst (λ (f : ℕ → Option ℕ). c.raise_chain.new.stored ≡ raised_along f c.held_of.result (length c.args.threads.now) c.new-u.result c.loop-k.stored) c.nexts_of-nexts.ensures c.raise_chain.ensures
-    in
-    record {
-      swept = swept_more _ _ _ _ _ _ _ _ c.new-u.ensures raised c.held_of.ensures.value c.loop-k.invariant.swept;
-      leveled = leveled_more (length c.args.threads.now) next (threads_of c.args.threads.now) c.loop-k.k _ _ c.loop-k.stored _ c.new-u.ensures (omega (arith, c.loop-k.invariant.swept.long, c.loop-k-test.true)) raised c.held_of.ensures.in_range c.held_of.ensures.positive c.loop-k.invariant.leveled;
-    }
+    let threads = threads_of c.args.threads.now in
+    let mutexes = c.args.mutexes.now in
+    let next = next_in_chain threads mutexes in
+    let here : c.next_of.result ≡ next (suc c.loop-k.k) = c.next_of.ensures ∙ ap (λ thread. option_and_then (λ m. inheritor_of (pool_get mutexes m)) (awaited thread)) (read_here c.args.threads.now c.loop-k.k c.index-threads-k.result c.loop-k-test.true c.index-threads-k.is) in
+    elim c.match-next_of.branch [
+      | in-Some w ↦
+          (let priority : ℕ = stored_of c.loop-k.stored (suc c.loop-k.k) in
+          let raised : c.match-next_of.stored ≡ risen next priority (length c.args.threads.now) w.in-Some.v c.loop-k.stored = w.stored-is ∙ w.raise_chain.ensures in
+          rw add-one (record {
+            swept = swept_more (length threads) next (held_of threads mutexes) c.loop-k.k w.in-Some.v priority (length c.args.threads.now) c.loop-k.stored c.match-next_of.stored (omega (arith, length-threads_of c.args.threads.now))
+                (bounded threads mutexes) (sym here ∙ w.in-Some.is) refl raised c.loop-k.invariant.swept;
+            levels = levels_more next threads priority (length c.args.threads.now) w.in-Some.v c.loop-k.stored c.match-next_of.stored (c.loop-k.invariant.levels.greatest (suc c.loop-k.k)) raised c.loop-k.invariant.levels;
+          }))
+      | in_default w ↦
+          rw (w.stored-is, add-one) (record {
+            swept = swept_over (length threads) next (held_of threads mutexes) c.loop-k.k c.loop-k.stored (sym here ∙ w.in_default.is) c.loop-k.invariant.swept;
+            levels = c.loop-k.invariant.levels;
+          })
+    ]
 
 pub returns-clause-stored : goal.returns-clause-stored
 returns-clause-stored c =
-    let n : c.loop-k.k ≡ length c.args.threads.now = omega arith in
-    let same : length (threads_of c.args.threads.now) ≡ length c.args.threads.now = length-map c.args.threads.now (λ (slot : Slot). slot.thread) in
-    subst (λ (m : ℕ). c.loop-k.stored ≡ map (greatest_leading m (next_in_chain (threads_of c.args.threads.now) c.args.mutexes.now) (held_of (threads_of c.args.threads.now) c.args.mutexes.now)) (numbers_to m)) (sym same) (swept_all _ _ _ _ (subst (λ (k : ℕ). IsSwept (length c.args.threads.now) (next_in_chain (threads_of c.args.threads.now) c.args.mutexes.now) (held_of (threads_of c.args.threads.now) c.args.mutexes.now) k c.loop-k.stored) n c.loop-k.invariant.swept))
-
-pub returns-clause-levels : goal.returns-clause-levels
-returns-clause-levels c =
-    let n : c.loop-k.k ≡ length c.args.threads.now = omega arith in
-    let same : length (threads_of c.args.threads.now) ≡ length c.args.threads.now = length-map c.args.threads.now (λ (slot : Slot). slot.thread) in
-    leveled_all (threads_of c.args.threads.now) c.loop-k.k c.loop-k.stored (n ∙ sym same) c.loop-k.invariant.leveled
+    let threads = threads_of c.args.threads.now in
+    let n : c.loop-k.k ≡ length threads = omega (arith, c.loop-k-test.false, c.loop-k.auto.k-end, length-threads_of c.args.threads.now) in
+    swept_all (length threads) (next_in_chain threads c.args.mutexes.now) (held_of threads c.args.mutexes.now) c.loop-k.stored (bounded threads c.args.mutexes.now)
+    (subst (λ k. IsSwept (length threads) (next_in_chain threads c.args.mutexes.now) (held_of threads c.args.mutexes.now) k c.loop-k.stored) n c.loop-k.invariant.swept)

@@ -33,6 +33,6 @@ returns g c =
     let last : (j : ℕ) → is_ready links j ≡ true → stamp_of mid j <ℤ stamp = λ j ready. rw same (c.tail_stamp-stamp.ensures.last j ready) in
     let done = pushed_last g.row.LIMIT c.args.self.now.range c.tail_stamp-stamp.new.self.range links c.args.ends.now c.args.stored.now c.args.self.now.stamps mid (set mid c.place.result stamp) c.args.self.now.bitmap c.with_bit-self.result
     c.args.k (c.new-priority.result - 1) stamp (Ready c.new-priority.result) c.requires.queues few c.requires.sound c.tail_stamp-stamp.ensures.stamps c.tail_stamp-stamp.ensures.line
-    c.requires.free c.place.ensures.positive within long (ap (λ n. set mid n stamp) c.place.ensures.value) level low refl
+    c.requires.apart c.place.ensures.positive within long (ap (λ n. set mid n stamp) c.place.ensures.value) level low refl
     last (rw same c.tail_stamp-stamp.ensures.within) c.requires.places.1 bit in
     record { queue = ap Ready (c.new-priority.ensures ∙ c.stored_in.ensures); sound = done.sound; line = done.line; waiters = done.waiters }

@@ -1,4 +1,5 @@
-use Rattle.std.proofs.Common.{◌≡◌, ℕ, ◌<◌, ◌≤◌, List, [], ◌∷◌, ◌++◌, drop, sym, ◌∙◌, ap, subst, lit<}
+use Rattle.std.proofs.Common.{◌≡◌, ℕ, ◌<◌, ◌≤◌, List, [], ◌∷◌, ◌++◌, drop, false, sym, ◌∙◌, ap, subst, lit<}
+use Rattle.ptk_words.specs.Pools.{is_in}
 use Rattle.ptk_words_parted.specs.Parts.{part_of}
 use Rattle.ptk_threads.specs.Table.{ThreadTable, stored_of}
 use Rattle.ptk_threads.specs.Queues.{IsUnqueued, with_last}
@@ -15,8 +16,9 @@ push_tail-name-requires g c =
     c.self.view_is c.index.ensures c.requires.sound c.requires.partition.0 c.index_mut-entries.ensures.value c.linked-part.ensures.lists c.stored.ensures.priorities in
     let slot = slot_of_used c.linked-part.result.slots.now c.args.threads.now c.args.p c.args.k c.linked-part.ensures.threads c.requires.in_use in
     let free = subst (IsUnqueued c.args.k) (sym c.linked-part.ensures.lists) c.requires.free in
+    let apart : (i : ℕ) → i < 32 → is_in c.args.k (part_of lists i) ≡ false = λ i lt. free i in
     let priority = subst (λ (s : List ℕ). (0 < stored_of s c.args.k) × (stored_of s c.args.k ≤ 32)) (sym c.stored.ensures.priorities) c.requires.priority in
-    (lit< tt, (c.linked-part.ensures.sound, (was.filed, (c.self.invariant, ((c.linked-part.ensures.few, c.linked-part.ensures.places), (slot, (free, priority)))))))
+    (lit< tt, (c.linked-part.ensures.sound, (was.filed, (c.self.invariant, ((c.linked-part.ensures.few, c.linked-part.ensures.places), (slot, (apart, priority)))))))
 
 pub append-requires-clause-slot : goal.append-requires-clause-slot
 append-requires-clause-slot g c = number_of_used c.args.threads.now c.args.p c.args.k c.requires.in_use

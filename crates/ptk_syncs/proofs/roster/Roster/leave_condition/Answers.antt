@@ -1,8 +1,14 @@
-use Rattle.std.proofs.Common.{ap, arith}
+use Rattle.std.proofs.Common.{ap, sym, subst, arith}
+use Rattle.std.specs.Prelude.{IsSome}
 use Rattle.ptk_words.specs.Pools.{without}
+use Rattle.ptk_threads.specs.Table.{thread_in}
+use Rattle.ptk_ready.proofs.Partitions.{number_of_used}
 use Rattle.ptk_syncs.specs.Rosters.{Rostered}
 use Rattle.ptk_syncs.proofs.Waits.{has_queues, condition_whole, slept_seen, used_mark, left_apart, sleeper_in}
 use Rattle.ptk_syncs.proofs.roster.Roster.leave_condition.Goals as goal
+
+pub take_from-requires-clause-slot : goal.take_from-requires-clause-slot
+take_from-requires-clause-slot c = number_of_used c.self.inside.threads c.args.p c.args.k (subst (λ (n : Rostered). IsSome (thread_in n.table c.args.p c.args.k)) (sym c.self.view_is) c.requires.in_use)
 
 pub invariant_of-self : goal.invariant_of-self
 invariant_of-self c =

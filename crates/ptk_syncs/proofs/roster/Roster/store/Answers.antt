@@ -1,23 +1,23 @@
-use Rattle.std.proofs.Common.{◌≡◌, length, refl, sym, ◌∙◌, ap, subst, arith, ◌+◌, get_or}
+use Rattle.std.proofs.Common.{◌<◌, ◌≤◌, length, sym, ◌∙◌, ap, subst, arith}
 use Rattle.ptk_words_parted.specs.Parts.{part_of}
+use Rattle.ptk_threads.specs.Table.{ThreadTable, AreLevelsOf, stored_of}
+use Rattle.ptk_threads_slots.specs.Links.{links_of}
+use Rattle.ptk_threads_slots.proofs.Slots.{links_count}
+use Rattle.ptk_ready.specs.Queues.{waiters_of}
 use Rattle.ptk_syncs.specs.Rosters.{Rostered}
-use Rattle.ptk_syncs.proofs.Rosters.{level_at, pasted_more, pasted_all}
+use Rattle.ptk_syncs.proofs.Pools.{line_parts, moved_whole}
+use Rattle.ptk_syncs.proofs.Stores.{line_ready, stored_lined}
 use Rattle.ptk_syncs.proofs.roster.Roster.store.Goals as goal
 
-pub store_one-requires-clause-in_range : goal.store_one-requires-clause-in_range
-store_one-requires-clause-in_range c = level_at c.args.priorities.now c.loop-i.i (λ k. c.requires.levels.greatest k) c.loop-i-test.true
-
-pub loop-i-preserved : goal.loop-i-preserved
-loop-i-preserved c = record {
-  table =
-      pasted_more c.args.p c.loop-i.i c.new.result (get_or c.args.priorities.now c.loop-i.i 0) (c.loop-i.i + 1) c.args.priorities.now c.args.self.now.table c.loop-i.self.table c.store_one.new.self.table c.loop-i.invariant.table c.store_one.ensures.table (c.new.ensures ∙ omega arith)
-      refl (subst (λ (n : Rostered). length (part_of n.table.stored c.args.p) ≡ length (part_of n.table.threads c.args.p)) c.self.view_is (sym (ap length c.stored-stored.ensures.priorities) ∙ c.stored-stored.ensures.same) ∙ sym c.requires.same)
-      c.loop-i-test.true (omega arith);
-  lines = c.store_one.ensures.lines ∙ c.loop-i.invariant.lines;
-  mutexes = c.store_one.ensures.mutexes ∙ c.loop-i.invariant.mutexes;
-  conditions = c.store_one.ensures.conditions ∙ c.loop-i.invariant.conditions;
-}
-
-pub returns-clause-table : goal.returns-clause-table
-returns-clause-table c = c.loop-i.invariant.table ∙ pasted_all c.args.p c.loop-i.i c.args.priorities.now c.args.self.now.table (omega (arith, c.loop-i.auto.i-end, c.loop-i-test.false))
-    (subst (λ (n : Rostered). length (part_of n.table.stored c.args.p) ≡ length (part_of n.table.threads c.args.p)) c.self.view_is (sym (ap length c.stored-stored.ensures.priorities) ∙ c.stored-stored.ensures.same) ∙ sym c.requires.same)
+pub invariant_of-self : goal.invariant_of-self
+invariant_of-self c =
+    let links = links_of c.linked-part.result.slots.now in
+    let few : length links ≤ 32 = omega (arith, links_count c.linked-part.result.slots.now, c.linked-part.ensures.few) in
+    let below = (line_parts 4611686018427387904 c.self.inside.line c.self.inside.threads c.self.inside.mutexes c.self.inside.conditions c.args.self.now c.args.p c.self.view_is c.self.invariant c.requires.partition).1 in
+    let lt : c.args.p < length c.self.inside.line = omega (arith, below, c.self.invariant.lined.parts) in
+    let levels = subst (λ (n : Rostered). AreLevelsOf (part_of n.table.threads c.args.p) c.args.priorities.now) (sym c.self.view_is) c.requires.levels in
+    moved_whole 4611686018427387904 c.self.inside.line c.self.inside.line c.self.inside.threads c.store.new.self c.self.inside.mutexes c.self.inside.conditions
+    (stored_lined 4611686018427387904 c.self.inside.line c.self.inside.threads c.store.new.self c.args.p c.args.priorities.now c.store.ensures levels
+    (λ k inside. c.keeps_ready.ensures.0 c.if-keeps_ready.true k (line_ready c.self.inside.line c.self.inside.threads links c.linked-part.result.ends.now c.args.p k c.linked-part.ensures.sound c.linked-part.ensures.lists few lt inside)
+    ∙ ap (λ s. stored_of s k) c.stored.ensures.priorities) c.self.invariant.lined)
+    (ap (λ (t : ThreadTable). waiters_of t.queues) c.store.ensures) (ap (λ (t : ThreadTable). t.threads) c.store.ensures) c.self.invariant

@@ -9,12 +9,13 @@ use Rattle.ptk_system_machine.specs.Steady.{AreSteady, states_from}
 use Rattle.ptk_system_machine.specs.Turns.{IsInWindow, IsPlainAt}
 use Rattle.ptk_system_machine.specs.Whole.{Whole, IsWhole, no_account, account_at, gone_on, state_at}
 use Rattle.ptk_system_machine.proofs.Coming.{at_coming, begins_from}
-use Rattle.ptk_system_machine.proofs.CountedRows.{AreCounted, rows_counted, rows_whole}
+use Rattle.ptk_system_machine.proofs.CountedRows.{AreCounted, rows_counted, rows_whole, with_row_of}
 use Rattle.ptk_system_machine.proofs.Progress.{plain_on}
 use Rattle.ptk_system_machine.proofs.States.{account_put, account_read}
 use Rattle.ptk_system_machine.proofs.Steady.{steady_up}
 use Rattle.ptk_system_machine.proofs.StillQuiet.{still_later}
 use Rattle.ptk_system_machine.proofs.Ticks.{gone_up}
+use Rattle.ptk_system_machine.proofs.machine.Machine.run_within.Goals.{else-reached-via-then-reached+else-ticks, else-reached-via-else-reached}
 use Rattle.ptk_system_machine.proofs.machine.Machine.run_within.Goals as goal
 
 pub invariant_of-self : goal.invariant_of-self
@@ -25,11 +26,68 @@ invariant_of-self c =
     rows_whole c.args.p c.index.result c.args.turn.start c.run_quiet-reached.result.steps c.run_quiet-reached.result.tick c.args.quiet.now.thread _ c.self.inside.tables c.run_quiet-reached.new.tables c.self.inside.accounts.items c.run_quiet-reached.new.trace
     (kept_account_of c.account.inside) c.count_row.new.self c.self.invariant c.index.ensures read c.run_quiet-reached.ensures.moved c.run_quiet-reached.ensures.gone c.count_row.ensures
 
+pub returns-then-ticks-clause-coming : goal.returns-then-ticks-clause-coming
+returns-then-ticks-clause-coming c =
+    let lt : c.args.p < length c.self.inside.accounts.items = subst (λ (w : Whole). c.args.p < length w.accounts) (sym c.self.view_is) c.requires.partition in
+    let put = account_put c.args.p c.index.result c.self.inside.accounts.items c.count_row.new.self c.index.ensures lt in
+    let from : c.args.turn.start ≤ c.run_quiet-reached.result.tick = omega (arith, c.run_quiet-reached.ensures.from) in
+    let sooner : c.run_quiet-reached.result.tick < c.args.quiet.now.stop = omega (arith, c.if-ticks.true) in
+    let window : IsInWindow (own_ticks c.args.plan.now c.args.p) c.args.turn.start c.args.turn.end = c.requires.coming.window (omega (arith, c.requires.order, c.requires.within)) in
+    record {
+      within = omega (arith, sooner, c.requires.within);
+      due = λ less. ap (λ (a : KeptAccount). a.account.next) put ∙ ap (λ (a : KeptAccount). a.account.next) c.count_row.ensures;
+      window = λ less. record {
+        before = omega (arith, sooner, c.requires.end);
+        own = record { end = λ k le below. window.own.end k (omega (arith, from, le)) below; next = λ k le below. window.own.next k (omega (arith, from, le)) below };
+        ends = λ k le below. window.ends k (omega (arith, from, le)) below;
+        near = omega (arith, from, window.near);
+      };
+    }
+
+pub returns-then-ticks-clause-gone : goal.returns-then-ticks-clause-gone
+returns-then-ticks-clause-gone c =
+    let lt : c.args.p < length c.self.inside.accounts.items = subst (λ (w : Whole). c.args.p < length w.accounts) (sym c.self.view_is) c.requires.partition in
+    let before : c.args.turn.start < c.args.to = omega (arith, c.requires.order, c.requires.within) in
+    let window : IsInWindow (own_ticks c.args.plan.now c.args.p) c.args.turn.start c.args.turn.end = c.requires.coming.window before in
+    let due : (get_or c.self.inside.accounts.items c.args.p no_account).account.next ≡ Some c.args.turn.start = subst (λ (w : Whole). (account_at c.args.p w).account.next ≡ Some c.args.turn.start) (sym c.self.view_is) (c.requires.coming.due before) in
+    let read : kept_account_of c.account.inside ≡ get_or c.self.inside.accounts.items c.args.p no_account =
+    c.account.view_is ∙ account_read c.args.p c.index.result c.self.inside.accounts.items c.index_mut-account.result.now c.index_mut-account.ensures.value c.index.ensures lt in
+    let still : IsStillTo c.args.p c.args.turn.start c.args.quiet.now.stop c.args.quiet.now.thread c.self.inside.tables =
+    subst (λ (w : Whole). IsStillTo c.args.p c.args.turn.start c.args.quiet.now.stop c.args.quiet.now.thread w.kept) (sym c.self.view_is) c.requires.quiet in
+    let active : is_active (part_at c.args.p c.run_quiet-reached.new.tables).status ≡ true = (c.run_quiet-reached.ensures.still c.args.quiet.now.stop (omega arith) still).1.active in
+    let sooner : c.run_quiet-reached.result.tick < c.args.turn.end = omega (arith, c.if-ticks.true, c.requires.end) in
+    let found : Some c.run_quiet-reached.result.tick ≡ (own_ticks c.args.plan.now c.args.p).next_of c.run_quiet-reached.result.tick = sym (window.own.next c.run_quiet-reached.result.tick (omega (arith, c.run_quiet-reached.ensures.from)) sooner) in
+    let counted : AreCounted (own_ticks c.args.plan.now c.args.p) c.args.p c.args.turn.start c.run_quiet-reached.result.tick (record { kept = c.self.inside.tables; accounts = c.self.inside.accounts.items }) (record { kept = c.run_quiet-reached.new.tables; accounts = set c.self.inside.accounts.items c.index.result c.count_row.new.self }) =
+    rows_counted c.args.plan.now c.args.p c.index.result c.args.turn.start c.args.quiet.now.stop c.args.turn.end c.run_quiet-reached.result.steps c.run_quiet-reached.result.tick c.args.quiet.now.thread _ c.self.inside.tables c.run_quiet-reached.new.tables c.self.inside.accounts.items c.run_quiet-reached.new.trace
+    (kept_account_of c.account.inside) c.count_row.new.self c.is_plan.ensures c.self.invariant lt due window (omega (arith, c.run_quiet-reached.ensures.within, c.requires.end))
+    found active c.run_quiet-reached.ensures.moved c.index.ensures read c.run_quiet-reached.ensures.none c.run_quiet-reached.ensures.gone c.count_row.ensures in
+    subst (λ (w : Whole). record { kept = c.run_quiet-reached.new.tables; accounts = set c.self.inside.accounts.items c.index.result c.count_row.new.self }
+    ≡ gone_on (own_ticks c.args.plan.now c.args.p) c.args.p c.args.turn.start (c.run_quiet-reached.result.tick - c.args.turn.start) w) c.self.view_is counted.0
+
+pub returns-then-ticks-clause-steady : goal.returns-then-ticks-clause-steady
+returns-then-ticks-clause-steady c =
+    let lt : c.args.p < length c.self.inside.accounts.items = subst (λ (w : Whole). c.args.p < length w.accounts) (sym c.self.view_is) c.requires.partition in
+    let before : c.args.turn.start < c.args.to = omega (arith, c.requires.order, c.requires.within) in
+    let window : IsInWindow (own_ticks c.args.plan.now c.args.p) c.args.turn.start c.args.turn.end = c.requires.coming.window before in
+    let due : (get_or c.self.inside.accounts.items c.args.p no_account).account.next ≡ Some c.args.turn.start = subst (λ (w : Whole). (account_at c.args.p w).account.next ≡ Some c.args.turn.start) (sym c.self.view_is) (c.requires.coming.due before) in
+    let read : kept_account_of c.account.inside ≡ get_or c.self.inside.accounts.items c.args.p no_account =
+    c.account.view_is ∙ account_read c.args.p c.index.result c.self.inside.accounts.items c.index_mut-account.result.now c.index_mut-account.ensures.value c.index.ensures lt in
+    let still : IsStillTo c.args.p c.args.turn.start c.args.quiet.now.stop c.args.quiet.now.thread c.self.inside.tables =
+    subst (λ (w : Whole). IsStillTo c.args.p c.args.turn.start c.args.quiet.now.stop c.args.quiet.now.thread w.kept) (sym c.self.view_is) c.requires.quiet in
+    let active : is_active (part_at c.args.p c.run_quiet-reached.new.tables).status ≡ true = (c.run_quiet-reached.ensures.still c.args.quiet.now.stop (omega arith) still).1.active in
+    let sooner : c.run_quiet-reached.result.tick < c.args.turn.end = omega (arith, c.if-ticks.true, c.requires.end) in
+    let found : Some c.run_quiet-reached.result.tick ≡ (own_ticks c.args.plan.now c.args.p).next_of c.run_quiet-reached.result.tick = sym (window.own.next c.run_quiet-reached.result.tick (omega (arith, c.run_quiet-reached.ensures.from)) sooner) in
+    let counted : AreCounted (own_ticks c.args.plan.now c.args.p) c.args.p c.args.turn.start c.run_quiet-reached.result.tick (record { kept = c.self.inside.tables; accounts = c.self.inside.accounts.items }) (record { kept = c.run_quiet-reached.new.tables; accounts = set c.self.inside.accounts.items c.index.result c.count_row.new.self }) =
+    rows_counted c.args.plan.now c.args.p c.index.result c.args.turn.start c.args.quiet.now.stop c.args.turn.end c.run_quiet-reached.result.steps c.run_quiet-reached.result.tick c.args.quiet.now.thread _ c.self.inside.tables c.run_quiet-reached.new.tables c.self.inside.accounts.items c.run_quiet-reached.new.trace
+    (kept_account_of c.account.inside) c.count_row.new.self c.is_plan.ensures c.self.invariant lt due window (omega (arith, c.run_quiet-reached.ensures.within, c.requires.end))
+    found active c.run_quiet-reached.ensures.moved c.index.ensures read c.run_quiet-reached.ensures.none c.run_quiet-reached.ensures.gone c.count_row.ensures in
+    subst (λ (w : Whole). AreSteady (part_at c.args.p w.kept) (states_from (own_ticks c.args.plan.now c.args.p) (limits_at c.args.p w.kept) c.args.turn.start (state_at c.args.p w)) c.args.turn.start c.run_quiet-reached.result.tick) c.self.view_is counted.1
+
 pub returns-clause-from : goal.returns-clause-from
 returns-clause-from c =
-    let next = c.next.ensures ∙ ap (λ (a : KeptAccount). a.account.next) c.count_row.ensures in
+    let next = c.next.ensures ∙ ap (λ (a : KeptAccount). a.account.next) c.count_row-2.ensures in
     let later : c.run_quiet-reached.result.tick ≤ c.coming.result.start =
-    begins_from c.run_quiet-reached.result.tick c.run_quiet-reached.result.tick c.args.to _ c.coming.result (omega arith) (omega (arith, c.run_quiet-reached.ensures.within, c.requires.within)) c.turn_on-next.ensures.from (λ less. sym next ∙ c.coming.ensures.due less) in
+    begins_from c.run_quiet-reached.result.tick c.run_quiet-reached.result.tick c.args.to _ c.coming.result (omega arith) (omega (arith, c.run_quiet-reached.ensures.within, c.requires.within)) c.turn_on.ensures.from (λ less. sym next ∙ c.coming.ensures.due less) in
     omega (arith, later, c.run_quiet-reached.ensures.from)
 
 pub returns-clause-gone : goal.returns-clause-gone
@@ -40,44 +98,47 @@ returns-clause-gone c =
     let due : (get_or c.self.inside.accounts.items c.args.p no_account).account.next ≡ Some c.args.turn.start = subst (λ (w : Whole). (account_at c.args.p w).account.next ≡ Some c.args.turn.start) (sym c.self.view_is) (c.requires.coming.due before) in
     let read : kept_account_of c.account.inside ≡ get_or c.self.inside.accounts.items c.args.p no_account =
     c.account.view_is ∙ account_read c.args.p c.index.result c.self.inside.accounts.items c.index_mut-account.result.now c.index_mut-account.ensures.value c.index.ensures lt in
-    let next = c.next.ensures ∙ ap (λ (a : KeptAccount). a.account.next) c.count_row.ensures in
-    let put = account_put c.args.p c.index.result c.self.inside.accounts.items c.count_row.new.self c.index.ensures lt in
+    let next = c.next.ensures ∙ ap (λ (a : KeptAccount). a.account.next) c.count_row-2.ensures in
+    let put = account_put c.args.p c.index.result c.self.inside.accounts.items c.count_row-2.new.self c.index.ensures lt in
     let reached : ℕ = c.run_quiet-reached.result.tick in
     let from : c.args.turn.start ≤ c.run_quiet-reached.result.tick = omega (arith, c.run_quiet-reached.ensures.from) in
     let later : c.run_quiet-reached.result.tick ≤ c.coming.result.start =
-    begins_from c.run_quiet-reached.result.tick c.run_quiet-reached.result.tick c.args.to _ c.coming.result (omega arith) (omega (arith, c.run_quiet-reached.ensures.within, c.requires.within)) c.turn_on-next.ensures.from (λ less. sym next ∙ c.coming.ensures.due less) in
+    begins_from c.run_quiet-reached.result.tick c.run_quiet-reached.result.tick c.args.to _ c.coming.result (omega arith) (omega (arith, c.run_quiet-reached.ensures.within, c.requires.within)) c.turn_on.ensures.from (λ less. sym next ∙ c.coming.ensures.due less) in
     let still : IsStillTo c.args.p c.args.turn.start c.args.quiet.now.stop c.args.quiet.now.thread c.self.inside.tables =
     subst (λ (w : Whole). IsStillTo c.args.p c.args.turn.start c.args.quiet.now.stop c.args.quiet.now.thread w.kept) (sym c.self.view_is) c.requires.quiet in
     let active : is_active (part_at c.args.p c.run_quiet-reached.new.tables).status ≡ true = (c.run_quiet-reached.ensures.still c.args.quiet.now.stop (omega arith) still).1.active in
-    let counted : AreCounted (own_ticks c.args.plan.now c.args.p) c.args.p c.args.turn.start c.run_quiet-reached.result.tick (record { kept = c.self.inside.tables; accounts = c.self.inside.accounts.items }) (record { kept = c.run_quiet-reached.new.tables; accounts = set c.self.inside.accounts.items c.index.result c.count_row.new.self }) =
+    let row : c.count_row-2.new.self ≡ with_row_of c.turn_on.result.0 c.run_quiet-reached.result.steps c.run_quiet-reached.new.trace (kept_account_of c.account.inside) =
+    let Q : KeptAccount → Type 0 = λ (a : KeptAccount). c.count_row-2.new.self ≡ record { account = record { next = c.turn_on.result.0; steps = a.account.steps + c.run_quiet-reached.result.steps; lost = a.account.lost; trace = a.account.trace }; kept = a.kept } in
+    elim c.else-reached.branch [ else-reached-via-then-reached+else-ticks w ↦ subst Q w.account-is c.count_row-2.ensures | else-reached-via-else-reached w ↦ subst Q w.account-is c.count_row-2.ensures ] in
+    let counted : AreCounted (own_ticks c.args.plan.now c.args.p) c.args.p c.args.turn.start c.run_quiet-reached.result.tick (record { kept = c.self.inside.tables; accounts = c.self.inside.accounts.items }) (record { kept = c.run_quiet-reached.new.tables; accounts = set c.self.inside.accounts.items c.index.result c.count_row-2.new.self }) =
     rows_counted c.args.plan.now c.args.p c.index.result c.args.turn.start c.args.quiet.now.stop c.args.turn.end c.run_quiet-reached.result.steps c.run_quiet-reached.result.tick c.args.quiet.now.thread _ c.self.inside.tables c.run_quiet-reached.new.tables c.self.inside.accounts.items c.run_quiet-reached.new.trace
-    (kept_account_of c.account.inside) c.count_row.new.self c.is_plan.ensures c.self.invariant lt due window (omega (arith, c.run_quiet-reached.ensures.within, c.requires.end))
-    c.turn_on-next.ensures.next active c.run_quiet-reached.ensures.moved c.index.ensures read c.run_quiet-reached.ensures.none c.run_quiet-reached.ensures.gone c.count_row.ensures in
+    (kept_account_of c.account.inside) c.count_row-2.new.self c.is_plan.ensures c.self.invariant lt due window (omega (arith, c.run_quiet-reached.ensures.within, c.requires.end))
+    c.turn_on.ensures.next active c.run_quiet-reached.ensures.moved c.index.ensures read c.run_quiet-reached.ensures.none c.run_quiet-reached.ensures.gone row in
     let within_all : c.args.turn.start + (c.run_quiet-reached.result.tick - c.args.turn.start) ≤ c.coming.result.start = omega (arith, later, from) in
     gone_up (own_ticks c.args.plan.now c.args.p) c.args.p c.args.turn.start (c.run_quiet-reached.result.tick - c.args.turn.start) c.coming.result.start c.args.self.now _
     (subst (λ (w : Whole). IsWhole w.kept w.accounts) c.self.view_is c.self.invariant) c.requires.partition within_all
     (λ k at. c.coming.ensures.before k (c.next.ensures ∙ (sym (ap (λ (a : KeptAccount). a.account.next) put) ∙ at)))
-    (subst (λ (w : Whole). record { kept = c.run_quiet-reached.new.tables; accounts = set c.self.inside.accounts.items c.index.result c.count_row.new.self }
+    (subst (λ (w : Whole). record { kept = c.run_quiet-reached.new.tables; accounts = set c.self.inside.accounts.items c.index.result c.count_row-2.new.self }
     ≡ gone_on (own_ticks c.args.plan.now c.args.p) c.args.p c.args.turn.start (c.run_quiet-reached.result.tick - c.args.turn.start) w) c.self.view_is counted.0)
 
 pub returns-clause-still : goal.returns-clause-still
 returns-clause-still c = λ stop beyond still.
-    let next = c.next.ensures ∙ ap (λ (a : KeptAccount). a.account.next) c.count_row.ensures in
+    let next = c.next.ensures ∙ ap (λ (a : KeptAccount). a.account.next) c.count_row-2.ensures in
     let later : c.run_quiet-reached.result.tick ≤ c.coming.result.start =
-    begins_from c.run_quiet-reached.result.tick c.run_quiet-reached.result.tick c.args.to _ c.coming.result (omega arith) (omega (arith, c.run_quiet-reached.ensures.within, c.requires.within)) c.turn_on-next.ensures.from (λ less. sym next ∙ c.coming.ensures.due less) in
+    begins_from c.run_quiet-reached.result.tick c.run_quiet-reached.result.tick c.args.to _ c.coming.result (omega arith) (omega (arith, c.run_quiet-reached.ensures.within, c.requires.within)) c.turn_on.ensures.from (λ less. sym next ∙ c.coming.ensures.due less) in
     still_later c.args.p c.run_quiet-reached.result.tick c.coming.result.start stop c.args.quiet.now.thread c.run_quiet-reached.new.tables later
     (c.run_quiet-reached.ensures.still stop beyond (subst (λ (w : Whole). IsStillTo c.args.p c.args.turn.start stop c.args.quiet.now.thread w.kept) (sym c.self.view_is) still))
 
 pub returns-clause-walk : goal.returns-clause-walk
 returns-clause-walk c =
-    let next = c.next.ensures ∙ ap (λ (a : KeptAccount). a.account.next) c.count_row.ensures in
-    at_coming c.args.plan.now c.args.p c.args.to c.turn_on-next.result.1 c.turn_on-next.result.0 c.turn_on-next.new.walk c.coming.result c.turn_on-next.ensures.walk (λ less. sym next ∙ c.coming.ensures.due less) c.coming.ensures.end
+    let next = c.next.ensures ∙ ap (λ (a : KeptAccount). a.account.next) c.count_row-2.ensures in
+    at_coming c.args.plan.now c.args.p c.args.to c.turn_on.result.1 c.turn_on.result.0 c.turn_on.new.walk c.coming.result c.turn_on.ensures.walk (λ less. sym next ∙ c.coming.ensures.due less) c.coming.ensures.end
 
 pub returns-clause-plain : goal.returns-clause-plain
 returns-clause-plain c = λ at.
-    let next = c.next.ensures ∙ ap (λ (a : KeptAccount). a.account.next) c.count_row.ensures in
+    let next = c.next.ensures ∙ ap (λ (a : KeptAccount). a.account.next) c.count_row-2.ensures in
     let later : c.run_quiet-reached.result.tick ≤ c.coming.result.start =
-    begins_from c.run_quiet-reached.result.tick c.run_quiet-reached.result.tick c.args.to _ c.coming.result (omega arith) (omega (arith, c.run_quiet-reached.ensures.within, c.requires.within)) c.turn_on-next.ensures.from (λ less. sym next ∙ c.coming.ensures.due less) in
+    begins_from c.run_quiet-reached.result.tick c.run_quiet-reached.result.tick c.args.to _ c.coming.result (omega arith) (omega (arith, c.run_quiet-reached.ensures.within, c.requires.within)) c.turn_on.ensures.from (λ less. sym next ∙ c.coming.ensures.due less) in
     let plain : IsPlainAt (limits_at c.args.p c.self.inside.tables) c.args.turn.start (part_at c.args.p c.self.inside.tables) =
     subst (λ (w : Whole). IsPlainAt (limits_at c.args.p w.kept) c.args.turn.start (part_at c.args.p w.kept)) (sym c.self.view_is) at in
     let still : IsStillTo c.args.p c.args.turn.start c.args.quiet.now.stop c.args.quiet.now.thread c.self.inside.tables =
@@ -95,24 +156,27 @@ returns-clause-steady c =
     let due : (get_or c.self.inside.accounts.items c.args.p no_account).account.next ≡ Some c.args.turn.start = subst (λ (w : Whole). (account_at c.args.p w).account.next ≡ Some c.args.turn.start) (sym c.self.view_is) (c.requires.coming.due before) in
     let read : kept_account_of c.account.inside ≡ get_or c.self.inside.accounts.items c.args.p no_account =
     c.account.view_is ∙ account_read c.args.p c.index.result c.self.inside.accounts.items c.index_mut-account.result.now c.index_mut-account.ensures.value c.index.ensures lt in
-    let next = c.next.ensures ∙ ap (λ (a : KeptAccount). a.account.next) c.count_row.ensures in
-    let put = account_put c.args.p c.index.result c.self.inside.accounts.items c.count_row.new.self c.index.ensures lt in
+    let next = c.next.ensures ∙ ap (λ (a : KeptAccount). a.account.next) c.count_row-2.ensures in
+    let put = account_put c.args.p c.index.result c.self.inside.accounts.items c.count_row-2.new.self c.index.ensures lt in
     let reached : ℕ = c.run_quiet-reached.result.tick in
     let from : c.args.turn.start ≤ c.run_quiet-reached.result.tick = omega (arith, c.run_quiet-reached.ensures.from) in
     let later : c.run_quiet-reached.result.tick ≤ c.coming.result.start =
-    begins_from c.run_quiet-reached.result.tick c.run_quiet-reached.result.tick c.args.to _ c.coming.result (omega arith) (omega (arith, c.run_quiet-reached.ensures.within, c.requires.within)) c.turn_on-next.ensures.from (λ less. sym next ∙ c.coming.ensures.due less) in
+    begins_from c.run_quiet-reached.result.tick c.run_quiet-reached.result.tick c.args.to _ c.coming.result (omega arith) (omega (arith, c.run_quiet-reached.ensures.within, c.requires.within)) c.turn_on.ensures.from (λ less. sym next ∙ c.coming.ensures.due less) in
     let still : IsStillTo c.args.p c.args.turn.start c.args.quiet.now.stop c.args.quiet.now.thread c.self.inside.tables =
     subst (λ (w : Whole). IsStillTo c.args.p c.args.turn.start c.args.quiet.now.stop c.args.quiet.now.thread w.kept) (sym c.self.view_is) c.requires.quiet in
     let active : is_active (part_at c.args.p c.run_quiet-reached.new.tables).status ≡ true = (c.run_quiet-reached.ensures.still c.args.quiet.now.stop (omega arith) still).1.active in
-    let counted : AreCounted (own_ticks c.args.plan.now c.args.p) c.args.p c.args.turn.start c.run_quiet-reached.result.tick (record { kept = c.self.inside.tables; accounts = c.self.inside.accounts.items }) (record { kept = c.run_quiet-reached.new.tables; accounts = set c.self.inside.accounts.items c.index.result c.count_row.new.self }) =
+    let row : c.count_row-2.new.self ≡ with_row_of c.turn_on.result.0 c.run_quiet-reached.result.steps c.run_quiet-reached.new.trace (kept_account_of c.account.inside) =
+    let Q : KeptAccount → Type 0 = λ (a : KeptAccount). c.count_row-2.new.self ≡ record { account = record { next = c.turn_on.result.0; steps = a.account.steps + c.run_quiet-reached.result.steps; lost = a.account.lost; trace = a.account.trace }; kept = a.kept } in
+    elim c.else-reached.branch [ else-reached-via-then-reached+else-ticks w ↦ subst Q w.account-is c.count_row-2.ensures | else-reached-via-else-reached w ↦ subst Q w.account-is c.count_row-2.ensures ] in
+    let counted : AreCounted (own_ticks c.args.plan.now c.args.p) c.args.p c.args.turn.start c.run_quiet-reached.result.tick (record { kept = c.self.inside.tables; accounts = c.self.inside.accounts.items }) (record { kept = c.run_quiet-reached.new.tables; accounts = set c.self.inside.accounts.items c.index.result c.count_row-2.new.self }) =
     rows_counted c.args.plan.now c.args.p c.index.result c.args.turn.start c.args.quiet.now.stop c.args.turn.end c.run_quiet-reached.result.steps c.run_quiet-reached.result.tick c.args.quiet.now.thread _ c.self.inside.tables c.run_quiet-reached.new.tables c.self.inside.accounts.items c.run_quiet-reached.new.trace
-    (kept_account_of c.account.inside) c.count_row.new.self c.is_plan.ensures c.self.invariant lt due window (omega (arith, c.run_quiet-reached.ensures.within, c.requires.end))
-    c.turn_on-next.ensures.next active c.run_quiet-reached.ensures.moved c.index.ensures read c.run_quiet-reached.ensures.none c.run_quiet-reached.ensures.gone c.count_row.ensures in
+    (kept_account_of c.account.inside) c.count_row-2.new.self c.is_plan.ensures c.self.invariant lt due window (omega (arith, c.run_quiet-reached.ensures.within, c.requires.end))
+    c.turn_on.ensures.next active c.run_quiet-reached.ensures.moved c.index.ensures read c.run_quiet-reached.ensures.none c.run_quiet-reached.ensures.gone row in
     let within_all : c.args.turn.start + (c.run_quiet-reached.result.tick - c.args.turn.start) ≤ c.coming.result.start = omega (arith, later, from) in
     let here : c.run_quiet-reached.result.tick ≡ c.args.turn.start + (c.run_quiet-reached.result.tick - c.args.turn.start) = omega (arith, from) in
     subst (λ (w : Whole). AreSteady (part_at c.args.p w.kept) (states_from (own_ticks c.args.plan.now c.args.p) (limits_at c.args.p w.kept) c.args.turn.start (state_at c.args.p w)) c.args.turn.start c.coming.result.start) c.self.view_is
     (steady_up (own_ticks c.args.plan.now c.args.p) c.args.p c.args.turn.start (c.run_quiet-reached.result.tick - c.args.turn.start) c.coming.result.start (record { kept = c.self.inside.tables; accounts = c.self.inside.accounts.items })
-    (record { kept = c.run_quiet-reached.new.tables; accounts = set c.self.inside.accounts.items c.index.result c.count_row.new.self }) c.self.invariant lt within_all
+    (record { kept = c.run_quiet-reached.new.tables; accounts = set c.self.inside.accounts.items c.index.result c.count_row-2.new.self }) c.self.invariant lt within_all
     (λ k at. c.coming.ensures.before k (c.next.ensures ∙ (sym (ap (λ (a : KeptAccount). a.account.next) put) ∙ at)))
     counted.0
     (subst (AreSteady (part_at c.args.p c.self.inside.tables) (states_from (own_ticks c.args.plan.now c.args.p) (limits_at c.args.p c.self.inside.tables) c.args.turn.start (state_at c.args.p (record { kept = c.self.inside.tables; accounts = c.self.inside.accounts.items }))) c.args.turn.start) here counted.1))

@@ -1,5 +1,8 @@
-use Rattle.ptk_threads.proofs.Linked.{kept_at}
+use Rattle.ptk_threads.proofs.Linked.{kept_at, used_here}
 use Rattle.ptk_threads.proofs.slot_table.SlotTable.rouse.Goals as goal
+
+pub rouse_in-requires-clause-in_use : goal.rouse_in-requires-clause-in_use
+rouse_in-requires-clause-in_use c = used_here c.self.inside.slots c.self.inside.ends c.args.p c.args.k c.args.self.now c.lend.result.now c.self.view_is c.lend.ensures.value c.requires.in_use
 
 pub invariant_of-self : goal.invariant_of-self
 invariant_of-self c =
