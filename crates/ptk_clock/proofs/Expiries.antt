@@ -7,8 +7,8 @@ use Rattle.std.proofs.lemmas.Bool.Decides.{nat_tests}
 use Rattle.std.proofs.lemmas.Option.{none-some, same_Some}
 use Rattle.ptk_words.specs.Names.{Tick}
 use Rattle.ptk_words.specs.Pools.{pool_get, is_in}
-use Rattle.ptk_words_model.specs.Withdrawal as withdrawal
-use Rattle.ptk_words_model.specs.Withdrawal.{Expiry}
+use Rattle.ptk_words_sync_invariant.specs.Withdrawal as withdrawal
+use Rattle.ptk_words_sync_invariant.specs.Withdrawal.{Expiry}
 use Rattle.ptk_words_sync_invariant.specs.Expiries.{next_expiry, IsLeastDue, IsNoneDue, IsNextExpiry}
 use Rattle.ptk_words_sync_invariant.proofs.Expiries.{next_only}
 use Rattle.ptk_clock.specs.Pairs.{Pair, slots_of, is_before, IsBeforeAll, AreInOrder, IsLeast, is_due, least_due}

@@ -8,3 +8,4 @@ pub mod SlotMoves
 pub mod LeastDeadlines
 pub mod ByThread
 pub mod Onlys
+pub use Rattle.ptk_words_sync_invariant.proofs.Deadlines as WaitDeadlines

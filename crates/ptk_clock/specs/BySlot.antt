@@ -1,7 +1,7 @@
 -- Deadlines by slot: what is seen of a queue of all partitions where only some slots are looked at.
 use Rattle.std.specs.Prelude.{ℕ, zero, suc, ◌-◌, ◌==◌, List, [], ◌∷◌, find, Option, option_map}
 use Rattle.ptk_words.specs.Names.{Tick}
-use Rattle.ptk_words_model.specs.Withdrawal.{Expiry}
+use Rattle.ptk_words_sync_invariant.specs.Withdrawal.{Expiry}
 use Rattle.ptk_clock.specs.Pairs.{Pair}
 
 -- the deadline of a slot, None where it has none

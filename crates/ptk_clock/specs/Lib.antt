@@ -3,3 +3,7 @@ pub mod Pairs
 pub mod Queues
 pub mod BySlot
 pub mod ByThread
+pub use Rattle.ptk_words_sync_invariant.specs.Expiries
+pub use Rattle.ptk_words_sync_invariant.specs.Mutex
+pub use Rattle.ptk_words_sync_invariant.specs.Schedule
+pub use Rattle.ptk_words_sync_invariant.specs.State

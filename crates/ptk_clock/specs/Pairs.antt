@@ -1,7 +1,7 @@
 -- Deadlines of slots as pairs, in order.
 use Rattle.std.specs.Prelude.{◌≡◌, ⊤, ℕ, Bool, true, false, not, ◌&&◌, ◌||◌, ◌==◌, nat_lt, nat_le, List, [], ◌∷◌, filter, find, map, Option}
 use Rattle.ptk_words.specs.Names.{Tick}
-use Rattle.ptk_words_model.specs.Withdrawal.{in_order_with}
+use Rattle.ptk_words_sync_invariant.specs.Withdrawal.{in_order_with}
 
 -- a deadline, and the slot of the thread that waits until then
 abbrev pub Pair : Type 0

@@ -10,8 +10,8 @@ use Rattle.ptk_words_model.specs.State.{Condition, Mutex}
 use Rattle.ptk_words_model.specs.Condition.{waiters_on}
 use Rattle.ptk_threads.specs.Table.{ThreadTable}
 use Rattle.ptk_threads.proofs.Pools.{part_of-set}
-use Rattle.ptk_syncs.specs.Rosters.{Rostered}
-use Rattle.ptk_syncs.specs.Waiters.{condition_of}
+use Rattle.ptk_mutex.specs.SyncRosters.{Rostered}
+use Rattle.ptk_mutex.specs.Waiters.{condition_of}
 use Rattle.ptk_mutex.proofs.Pool.{least_free_is}
 use Rattle.ptk_words_sync_invariant.proofs.MutexPlaces.{pool_set_same}
 use Rattle.ptk_mutex.specs.Sound.{IsSound}

@@ -25,8 +25,8 @@ use Rattle.ptk_threads_slots.specs.declared.thread_list.Members.{Members}
 use Rattle.ptk_threads_slots.specs.declared.thread_list.Members.TheVariants.{NoMember, OnlyMember}
 use Rattle.ptk_threads.specs.Table.{ThreadTable, thread_in, stored_of, with_changed, with_wait}
 use Rattle.ptk_threads.proofs.Pools.{pool_get-changed, pool_changed-changed, part_of-set}
-use Rattle.ptk_syncs.specs.Rosters.{Rostered}
-use Rattle.ptk_syncs.specs.Waiters.{condition_of}
+use Rattle.ptk_mutex.specs.SyncRosters.{Rostered}
+use Rattle.ptk_mutex.specs.Waiters.{condition_of}
 use Rattle.ptk_mutex.specs.Sound.{IsSound}
 use Rattle.ptk_mutex.specs.Tables.{locks_by, put_locks, with_threads, HasPartBy, MayWait, AreLocked, AreReadyBy}
 use Rattle.ptk_mutex.proofs.Locked.{none_first, only_first}

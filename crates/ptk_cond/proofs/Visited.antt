@@ -7,7 +7,7 @@ use Rattle.ptk_words_model.specs.State.{Syncs}
 use Rattle.ptk_words_model.specs.Priority.{effective_priorities, effective_priority}
 use Rattle.ptk_words_model.specs.Condition.{condition_waiters, after_signal}
 use Rattle.ptk_words_sync_invariant.proofs.Lines.{first_none}
-use Rattle.ptk_syncs.specs.Rosters.{Rostered}
+use Rattle.ptk_mutex.specs.SyncRosters.{Rostered}
 use Rattle.ptk_mutex.specs.Visits.{IsVisited}
 use Rattle.ptk_mutex.specs.declared.mutexes.Mutexes.{Mutexes}
 use Rattle.ptk_mutex.proofs.Sound.{of_part, AreSyncedAt, syncs_put}

@@ -18,7 +18,7 @@ use Rattle.ptk_words.specs.Threads.{condition_of_wait}
 use Rattle.ptk_words_sync_invariant.proofs.Lines.{in_push, in_without, first_in}
 use Rattle.ptk_threads.specs.Table.{stored_of}
 use Rattle.ptk_threads.proofs.Pools.{pool_get-changed, pool_get-changed_other, pool_get-set_other}
-use Rattle.ptk_syncs.specs.Waiters.{condition_of}
+use Rattle.ptk_mutex.specs.Waiters.{condition_of}
 use Rattle.ptk_mutex.specs.Tables.{AreLocked}
 use Rattle.ptk_mutex.proofs.Locked.{stored_first, some_same, other_than}
 use Rattle.ptk_mutex.proofs.Apart.{calm_unlock, below_unlock, apart_more, apart_thread, apart_unlock, apart_relock, kept_waiter, may_relock}

@@ -8,7 +8,7 @@ ghost use Rattle.ptk_words_model.specs.Condition.{waiters_on};
 ghost use Rattle.ptk_mutex.specs.Sound.{AreSynced, IsSound};
 ghost use Rattle.ptk_cond.specs.Pool.{with_new_condition};
 
-use ptk_syncs::Roster;
+use ptk_mutex::Roster;
 use ptk_words::{ConditionNo, PartId};
 
 /// Whether the number names a condition variable.

@@ -23,5 +23,6 @@ mod waiting;
 
 pub use conditions::{destroy, init, is_there, numbered};
 pub use naming::{names, names_another};
+pub use ptk_mutex::{MutexState, Mutexes, Roster, wake};
 pub use signals::{broadcast, signal, withdraw};
 pub use waiting::wait;

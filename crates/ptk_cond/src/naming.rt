@@ -10,8 +10,7 @@ ghost use Rattle.ptk_words_model.specs.Condition.{mutex_of_condition_wait, is_na
 ghost use Rattle.ptk_threads_slots.specs.Links.{threads_of};
 ghost use Rattle.ptk_cond.specs.Tables.{syncs_of};
 
-use ptk_mutex_priorities::thread_slot;
-use ptk_syncs::Roster;
+use ptk_mutex::{Roster, thread_slot};
 use ptk_threads::Slot;
 use ptk_words::{ConditionNo, MutexNo, PartId, ThreadNo, Wait};
 

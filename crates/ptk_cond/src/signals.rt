@@ -12,8 +12,7 @@ ghost use Rattle.ptk_cond.specs.Tables.{syncs_at, put_syncs, AreSynced, MayLeave
 ghost use Rattle.ptk_cond.specs.Visits.{IsVisitedBySignal};
 
 use crate::naming::mutex_of_condition_wait;
-use ptk_mutex::{Mutexes, relock_move};
-use ptk_syncs::Roster;
+use ptk_mutex::{Mutexes, Roster, relock_move};
 use ptk_threads::Members;
 use ptk_words::{ConditionNo, MutexNo, PartId, ThreadNo};
 

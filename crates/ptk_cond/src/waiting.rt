@@ -8,8 +8,7 @@ ghost use Rattle.ptk_mutex.specs.Sound.{IsSound};
 ghost use Rattle.ptk_mutex.specs.Tables.{locks_at};
 ghost use Rattle.ptk_cond.specs.Tables.{syncs_at, put_syncs, AreSynced, IsAwake};
 
-use ptk_mutex::Mutexes;
-use ptk_syncs::Roster;
+use ptk_mutex::{Mutexes, Roster};
 use ptk_words::{ConditionNo, MutexNo, PartId, ThreadNo, Tick, Wait};
 
 /// A thread that waits for nothing unlocks the mutex once, as unlock does, and is then the last waiter of the condition

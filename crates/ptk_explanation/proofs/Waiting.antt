@@ -8,7 +8,7 @@ use Rattle.ptk_words.specs.Faults.{is_active}
 use Rattle.ptk_words_model.specs.Chain.{Leads, leads_to}
 use Rattle.ptk_words_sync_invariant.proofs.ChainLaws.{IsNumber, IsBounded, chain_at-next, chain_at-ended, chain_complete, false_true, none_some, number_of, reaches_sound}
 use Rattle.ptk_words_model.specs.Schedule.{is_running}
-use Rattle.ptk_system.specs.Activities.{activity_of_number}
+use Rattle.ptk_main_runs.specs.Activities.{activity_of_number}
 use Rattle.ptk_explanation.specs.Deadlocks.{IsDeadlocked, blocker_in, blocker_of}
 
 -- a free number waits for nobody

@@ -5,9 +5,9 @@ use Rattle.ptk_words.specs.declared.threads.Wait.{Wait}
 use Rattle.ptk_words.specs.declared.threads.Wait.TheVariants.{InputWait, SleepWait, JoinWait, MutexWait, ConditionWait, RelockWait}
 use Rattle.ptk_words_model.specs.State.{Locks, Part}
 use Rattle.ptk_words_model.specs.Chain.{steps_from}
-use Rattle.ptk_system.specs.declared.activity.Activity.{Activity}
-use Rattle.ptk_system.specs.declared.activity.Activity.TheVariants as activity
-use Rattle.ptk_system.specs.Activities.{activity_in, owner_thread}
+use Rattle.ptk_main_runs.specs.Activity.{Activity}
+use Rattle.ptk_main_runs.specs.Activity.TheVariants as activity
+use Rattle.ptk_main_runs.specs.Activities.{activity_in, owner_thread}
 
 -- the thread for which a wait is: the owner of its mutex, or the thread whose end it is for; of none where it has a deadline, at which it ends by itself (pthread_mutex_lock, pthread_mutex_timedlock, pthread_join)
 abbrev pub blocker_of_wait : Locks → Wait → Option ThreadNumber

@@ -2,7 +2,7 @@
 
 ghost use Rattle.std.specs.Prelude.{◌≡◌, ◌≢◌, ◌<◌, ◌≤◌, None, IfErr, IsSome, MatchResult, OnOk, length};
 ghost use Rattle.ptk_words.specs.declared.TheConstants.{LAST_TICK};
-ghost use Rattle.ptk_system.specs.Missing.{first_missing, missing_in};
+ghost use Rattle.ptk_main_runs.specs.Missing.{first_missing, missing_in};
 ghost use Rattle.ptk_main_runs.specs.declared.runs.RunFault.TheVariants.{NoPartition};
 ghost use Rattle.ptk_main_runs.specs.RunFaults.{missing_in_run};
 ghost use Rattle.ptk_main_runs.specs.Parts.{part_named};
@@ -11,9 +11,8 @@ use crate::document::push_document;
 use crate::history::histories;
 use crate::lines::push_lines;
 use ptk_config::Config;
-use ptk_main_runs::{RunFault, part_named};
+use ptk_main_runs::{BootFault, Files, RunFault, System, part_named};
 use ptk_symbols::Symbols;
-use ptk_system::{BootFault, Files, System};
 use ptk_words::{PartId, Tick};
 use std::alloc::{AllocError, Global};
 use std::io::Write;

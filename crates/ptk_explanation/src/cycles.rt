@@ -3,7 +3,7 @@
 ghost use Rattle.std.specs.Prelude.{◌<◌, length};
 
 use crate::deadlock::{blocker, is_deadlocked};
-use ptk_system::System;
+use ptk_main_runs::System;
 use ptk_words::{PartId, THREAD_LIMIT, ThreadNo};
 
 /// Whether a thread waits on a cycle, and has the least number on it.

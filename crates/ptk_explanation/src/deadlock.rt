@@ -2,10 +2,10 @@
 
 ghost use Rattle.std.specs.Prelude.{◌≡◌, ◌<◌, ◌↔◌, length, IsTrue};
 ghost use Rattle.ptk_words_model.specs.Chain.{leads_to};
-ghost use Rattle.ptk_system.specs.World.{state_of};
+ghost use Rattle.ptk_main_runs.specs.World.{state_of};
 ghost use Rattle.ptk_explanation.specs.Deadlocks.{IsDeadlocked, blocker_in, blocker_of_wait};
 
-use ptk_system::{Activity, System};
+use ptk_main_runs::{Activity, System};
 use ptk_words::{PartId, ThreadNo, Wait};
 
 /// The thread for which a thread waits: the owner of the mutex that it waits for, or the thread whose end it waits for.

@@ -3,7 +3,7 @@
 ghost use Rattle.std.specs.Prelude.{◌≡◌, ◌<◌, ◌≤◌, length};
 ghost use Rattle.ptk_words.specs.declared.TheConstants.{LAST_TICK};
 
-use ptk_system::{Activity, System};
+use ptk_main_runs::{Activity, System};
 use ptk_words::{PartId, SP, THREAD_LIMIT, ThreadNo, Tick};
 use std::alloc::{AllocError, Global};
 

@@ -9,8 +9,8 @@ use crate::status::standing;
 use crate::words::{
     Doing, Headline, ceiling_of, policy_name, protocol_name, refusal_words, type_name,
 };
+use ptk_main_runs::{PartStatus, System};
 use ptk_symbols::Symbols;
-use ptk_system::{PartStatus, System};
 use ptk_words::{Cpu, PartId, SP, THREAD_LIMIT, ThreadNo};
 use std::alloc::{AllocError, Global};
 use std::fmt::Write;

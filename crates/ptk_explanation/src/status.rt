@@ -1,10 +1,10 @@
 //! The status of a partition, or that it has no image.
 
 ghost use Rattle.std.specs.Prelude.{◌≡◌, ◌<◌, length};
-ghost use Rattle.ptk_system.specs.World.{section_at, state_of};
+ghost use Rattle.ptk_main_runs.specs.World.{section_at, state_of};
 ghost use Rattle.ptk_explanation.specs.Standing.{standing_of};
 
-use ptk_system::{PartStatus, System};
+use ptk_main_runs::{PartStatus, System};
 use ptk_words::PartId;
 
 /// The status of a partition; None where its section names no image, so that it has no thread (own).

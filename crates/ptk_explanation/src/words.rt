@@ -1,8 +1,7 @@
 //! The words of an explanation.
 
 use crate::facts::Awaited;
-use ptk_main_runs::cause_word;
-use ptk_system::{Activity, PartStatus};
+use ptk_main_runs::{Activity, PartStatus, cause_word};
 use ptk_words::{Cause, FaultKind, LAST_TICK, MutexKind, Owner, Policy, Protocol, Tick, Wait};
 use std::fmt;
 

@@ -28,7 +28,7 @@ use Rattle.ptk_words_invariant.specs.Well.{IsWell}
 use Rattle.ptk_gate_pools.specs.Held.{Held, limits_here}
 use Rattle.ptk_gate_pools.specs.Moves.{with_last_step}
 use Rattle.ptk_gate_pools.proofs.NoWaiters.{runner_apart}
-use Rattle.ptk_gate_moves.proofs.Ready.{running_in_use}
+use Rattle.ptk_gate_threads.proofs.Ready.{running_in_use}
 use Rattle.ptk_gate_steps.specs.NextSteps.{a0_kept}
 use Rattle.ptk_gate.specs.CallSteps.{ecall_entry, finished, past_ecall}
 use Rattle.ptk_gate.proofs.Passing.{well_passed}

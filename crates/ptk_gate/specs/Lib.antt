@@ -2,3 +2,12 @@ pub mod Whole
 pub mod Answers
 pub mod CallSteps
 pub use Rattle.ptk_gate_pools.specs.Kept
+pub use Rattle.ptk_gate_steps.specs.Chosen
+pub use Rattle.ptk_gate_steps.specs.Decisions
+pub use Rattle.ptk_gate_steps.specs.Instructions
+pub use Rattle.ptk_gate_steps.specs.NextSteps
+pub use Rattle.ptk_gate_steps.specs.Steady
+pub use Rattle.ptk_gate_steps.specs.Stretches
+pub use Rattle.ptk_gate_steps.specs.declared.quiet_stops.Quiet
+pub use Rattle.ptk_gate_steps.specs.declared.turns.NextStep
+pub use Rattle.ptk_gate_pools.specs.Blank

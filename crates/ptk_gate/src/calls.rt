@@ -10,7 +10,6 @@ ghost use Rattle.ptk_gate_pools.specs.Held.{limits_here};
 ghost use Rattle.ptk_gate.specs.Answers.{call_answer};
 
 use crate::tables::Tables;
-use ptk_gate_moves::{exit, leave, own_number, refuse};
 use ptk_gate_pools::Pools;
 use ptk_gate_services::{
     cancel, cleanup_pop, cleanup_push, clock_gettime, clock_nanosleep, get, getspecific,
@@ -22,7 +21,8 @@ use ptk_gate_sync::{
     mutex_unlock,
 };
 use ptk_gate_threads::{
-    create, detach, getschedparam, join, setschedparam, setschedprio, yield_turn,
+    create, detach, exit, getschedparam, join, leave, own_number, refuse, setschedparam,
+    setschedprio, yield_turn,
 };
 use ptk_words::{A0, A1, A2, A3, A4, A7, Call, Cpu, Errno, Limits, PartId, ThreadNo, Tick};
 use ptk_words_model::{Invocation, Reply};

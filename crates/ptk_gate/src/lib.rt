@@ -27,5 +27,6 @@ mod telling;
 mod turns;
 
 pub use calls::call;
+pub use ptk_gate_steps::{NextStep, Quiet, Reached, step_cost};
 pub use ptk_words_model::{Reply, Spent};
 pub use tables::Tables;

@@ -9,8 +9,8 @@ ghost use Rattle.ptk_gate_pools.specs.Held.{limits_here};
 ghost use Rattle.ptk_gate.specs.Whole.{IsBlank};
 
 use crate::tables::Tables;
-use ptk_gate_moves::{begin, halt};
 use ptk_gate_pools::Pools;
+use ptk_gate_threads::{begin, halt};
 use ptk_words::{
     Cpu, ImageFault, Limits, PartId, Phase, Policy, Priority, RA, RETURN_GATE, SP, Status, Thread,
     ThreadNo,

@@ -17,10 +17,9 @@ ghost use Rattle.ptk_words.specs.Words.{word_of};
 ghost use Rattle.ptk_words_model.specs.State.{with_locks};
 
 use crate::tables::Tables;
-use ptk_gate_moves::{count_interval, start_unwinding};
 use ptk_gate_services::{arrive_due, expire_due};
 use ptk_gate_steps::{NextStep, a0_after, instruct, next_step, registers, runner};
-use ptk_gate_threads::{choose, step_at_gate};
+use ptk_gate_threads::{choose, count_interval, start_unwinding, step_at_gate};
 use ptk_words::{CANCELED, Cpu, Entry, PartId, Thread, ThreadNo, Tick};
 use ptk_words_model::Runner;
 

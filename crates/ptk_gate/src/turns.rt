@@ -18,9 +18,9 @@ ghost use Rattle.ptk_gate.specs.CallSteps.{ecall_entry, finished, past_ecall};
 
 use crate::calls::{invocation, reply_to};
 use crate::tables::Tables;
-use ptk_gate_moves::count_interval;
 use ptk_gate_pools::Pools;
 use ptk_gate_steps::call_cost;
+use ptk_gate_threads::count_interval;
 use ptk_words::{A0, A7, Call, Cpu, ECALL, Entry, PartId, Policy, ThreadNo, Tick};
 use ptk_words_model::{Invocation, Spent};
 

@@ -25,6 +25,8 @@ mod threads;
 pub use endings::Endings;
 pub use memories::Memories;
 pub use ptk_rv32i_rows::{CallRow, place_of};
+pub use ptk_syncs::Roster;
+pub use ptk_trace::Trace;
 pub use records::{Records, records_of};
 pub use schedules::Schedules;
 pub use stores::{Stores, stores_of};

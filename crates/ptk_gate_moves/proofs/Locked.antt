@@ -10,7 +10,7 @@ use Rattle.ptk_words_sync_invariant.proofs.Lined.{ready_waits, not_ready_out}
 use Rattle.ptk_words_sync_invariant.proofs.Threads.{idle_awaits, awaits_not_ready}
 use Rattle.ptk_words_invariant.specs.Well.{IsWell}
 use Rattle.ptk_words_invariant.proofs.Whole.{lined_of}
-use Rattle.ptk_mutex.specs.Tables.{IsWaiter, AreLocked, MayWait}
+use Rattle.ptk_gate_pools.specs.Tables.{IsWaiter, AreLocked, MayWait}
 use Rattle.ptk_gate_pools.proofs.NoWaiters.{runner_apart}
 use Rattle.ptk_gate_moves.proofs.Ready.{running_in_use}
 

@@ -7,7 +7,7 @@ use Rattle.ptk_words_parted.specs.Parts.{part_of}
 use Rattle.ptk_words_model.specs.State.{Console, Mutex}
 use Rattle.ptk_words_model.specs.Priority.{effective_priorities}
 use Rattle.ptk_threads.specs.Table.{ThreadTable}
-use Rattle.ptk_mutex.proofs.Ready.{effective_blank}
+use Rattle.ptk_gate_waits.proofs.Ready.{effective_blank}
 use Rattle.ptk_gate_pools.specs.Blank.{blank}
 use Rattle.ptk_gate_pools.specs.Kept.{AreParts, AreStored, per_section}
 

@@ -10,10 +10,10 @@ use Rattle.ptk_words_model.specs.State.{Mutex, Syncs, with_syncs}
 use Rattle.ptk_words_model.specs.Priority.{effective_priorities}
 use Rattle.ptk_words_parted.specs.Parts.{part_of}
 use Rattle.ptk_threads.specs.Table.{ThreadTable, thread_in, with_changed, with_slot, with_left}
-use Rattle.ptk_syncs.specs.Rosters.{Rostered}
-use Rattle.ptk_mutex.specs.Rosters.{with_priorities}
-use Rattle.ptk_mutex.specs.Sound.{put_syncs}
-use Rattle.ptk_mutex.specs.declared.mutexes.Mutexes.{Mutexes}
+use Rattle.ptk_gate_boot.specs.Rosters.{Rostered}
+use Rattle.ptk_gate_waits.specs.LockRosters.{with_priorities}
+use Rattle.ptk_gate_waits.specs.Sound.{put_syncs}
+use Rattle.ptk_gate_waits.specs.Mutexes.{Mutexes}
 use Rattle.ptk_gate_pools.specs.declared.pools.Pools.TheInside.{Inside}
 use Rattle.ptk_gate_pools.specs.Held.{held}
 use Rattle.ptk_gate_pools.proofs.Hands.{held-put}

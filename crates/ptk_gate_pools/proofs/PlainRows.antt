@@ -8,9 +8,10 @@ use Rattle.ptk_words.specs.declared.sections.Entry.{Entry}
 use Rattle.ptk_words.specs.declared.threads.Thread.{Thread}
 use Rattle.ptk_words_parted.specs.Parts.{part_of}
 use Rattle.ptk_words_instructions.specs.PlainSteps.{core, plain_steps}
-use Rattle.ptk_words_batches.specs.Quiet.{computed, last_after, after_row}
+use Rattle.ptk_gate_boot.specs.Quiet.{computed, last_after, after_row}
 use Rattle.ptk_threads.specs.Table.{ThreadTable, with_changed}
-use Rattle.ptk_syncs.specs.Rosters.{Rostered}
+use Rattle.ptk_gate_boot.specs.Rosters.{Rostered}
+use Rattle.ptk_gate_waits.proofs.Moved.{wakes}
 use Rattle.ptk_gate_pools.specs.Kept.{Kept, AreStored, part_at, put_part}
 use Rattle.ptk_gate_pools.specs.Pooled.{kept_of, ArePooled}
 use Rattle.ptk_gate_pools.specs.declared.pools.Pools.TheInside.{Inside}
@@ -97,3 +98,7 @@ row_pooled p i t tick n thread a memories roster last row =
 pub row_put : (p i t tick n : ℕ) (thread : Thread) (a : Inside) (memories : List (List ℕ)) (roster : Rostered) (last : Option Entry) → i ≡ p → IsRow p t tick n thread a memories roster last
     → kept_of (with_loans p i a memories roster last) ≡ put_part p (after_row tick t n thread (part_at p (kept_of a))) (kept_of a)
 row_put p i t tick n thread a memories roster last e row = rw (e, row.of_table, row.of_lines, row.of_mutexes, row.of_conditions, row.of_memory, row.of_last) (simp set-get_or)
+
+-- ---- a thread's table after a row
+
+pub ruleset at_thread = (wakes)

@@ -11,7 +11,7 @@ use Rattle.ptk_words_model.specs.Decision.{first_waiter}
 use Rattle.ptk_words_model.specs.Schedule.{first_ready, after_choice_between}
 use Rattle.ptk_words_model.specs.Priority.{effective_of}
 use Rattle.ptk_threads.specs.Table.{stored_of}
-use Rattle.ptk_mutex.proofs.Locked.{stored_at, first_same, ranks_same}
+use Rattle.ptk_gate_waits.proofs.Locked.{stored_at, first_same, ranks_same}
 use Rattle.ptk_gate_pools.specs.Kept.{Kept, AreStored, AreInUse, part_at, put_part}
 
 used_at : (i : ℕ) (threads : List (Option Thread)) → IsSome (option_flatten (slice_get threads i)) → i < length threads

@@ -13,9 +13,9 @@ use Rattle.ptk_words_model.specs.State.{Mutex}
 use Rattle.ptk_words_model.specs.Priority.{effective_priorities}
 use Rattle.ptk_words_model.specs.Mutex.{new_mutex, waiters_of}
 use Rattle.ptk_words_model.specs.MutexCalls.{is_locked}
-use Rattle.ptk_mutex.specs.Pool.{with_new_mutex}
-use Rattle.ptk_mutex.proofs.Pool.{least_free_is}
-use Rattle.ptk_mutex.proofs.Ready.{IsIdle, idle_none, idle_unlocked, effective_set}
+use Rattle.ptk_gate_waits.specs.LockPool.{with_new_mutex}
+use Rattle.ptk_gate_waits.proofs.LockPools.{least_free_is}
+use Rattle.ptk_gate_waits.proofs.Ready.{IsIdle, idle_none, idle_unlocked, effective_set}
 use Rattle.ptk_gate_pools.specs.Kept.{AreStored}
 use Rattle.ptk_gate_pools.proofs.Stored.{own_row}
 

@@ -13,7 +13,7 @@ use Rattle.ptk_words_model.specs.declared.Rounds.{Rounds}
 use Rattle.ptk_words_model.specs.State.{Mutex, Condition, Console, Part}
 use Rattle.ptk_words_model.specs.Priority.{effective_priorities}
 use Rattle.ptk_words_invariant.specs.Well.{IsWell}
-use Rattle.ptk_syncs.specs.Rosters.{AreQueuesIn}
+use Rattle.ptk_gate_boot.specs.Rosters.{AreQueuesIn}
 use Rattle.ptk_console.specs.ConsoleTable.{fresh_console, no_limits}
 pub use Rattle.ptk_threads.specs.Timed.{deadlines_in}
 pub use Rattle.ptk_gate_boot.specs.Sections.{per_section}

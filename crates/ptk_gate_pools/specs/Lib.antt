@@ -5,3 +5,4 @@ pub mod Moves
 pub mod Expired
 pub mod Blank
 pub mod Rows
+pub use Rattle.ptk_gate_waits.specs.LockTables as Tables

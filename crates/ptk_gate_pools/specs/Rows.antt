@@ -3,8 +3,8 @@ use Rattle.std.specs.Prelude.{◌≡◌, ℕ, ◌+◌, ◌^◌, ◌<◌, ◌≤�
 use Rattle.ptk_words.specs.declared.threads.Thread.{Thread}
 use Rattle.ptk_words_parted.specs.Parts.{part_of}
 use Rattle.ptk_words_instructions.specs.PlainSteps.{core, is_plain, plain_steps}
-use Rattle.ptk_words_batches.specs.Quiet.{ArePlain, computed, last_after}
-use Rattle.ptk_trace.specs.TracedRows.{traced}
+use Rattle.ptk_gate_boot.specs.Quiet.{ArePlain, computed, last_after}
+use Rattle.ptk_gate_boot.specs.TracedRows.{traced}
 use Rattle.ptk_gate_pools.specs.declared.rows.Row.{Row}
 
 -- the partition has a memory, the ticks of the row are numbers of 64 bits, and those that the thread used of its interval are of 32 (own)

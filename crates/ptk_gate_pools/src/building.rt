@@ -12,7 +12,7 @@ ghost use Rattle.ptk_gate_pools.specs.Held.{held};
 
 use crate::pools::Pools;
 use ptk_gate_boot::{Records, Stores, ThreadParts, records_of, stores_of, thread_parts_of};
-use ptk_mutex::Mutexes;
+use ptk_gate_waits::Mutexes;
 use ptk_words::{Arrival, Limits, PartId};
 use std::alloc::{AllocError, Global};
 

@@ -15,7 +15,7 @@ ghost use Rattle.ptk_gate_pools.specs.Kept.{AreInUse, part_at};
 ghost use Rattle.ptk_gate_pools.specs.Held.{all_of, seen};
 
 use crate::pools::Pools;
-use ptk_mutex::MutexState;
+use ptk_gate_waits::MutexState;
 use ptk_words::{Entry, MutexNo, PartId, Status, Thread, ThreadNo, Tick};
 use std::marker::Model;
 

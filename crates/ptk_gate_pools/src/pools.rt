@@ -7,11 +7,10 @@ ghost use Rattle.ptk_gate_pools.specs.Held.{held, all_of};
 
 use ptk_cancel::Cancellations;
 use ptk_console::Consoles;
-use ptk_gate_boot::Memories;
+use ptk_gate_boot::{Memories, Roster};
+use ptk_gate_waits::Mutexes;
 use ptk_keys::KeyTable;
-use ptk_mutex::Mutexes;
 use ptk_regions::Regions;
-use ptk_syncs::Roster;
 use ptk_threads::Threads;
 use ptk_words::{Entry, Limits, PartId, Status, ThreadNo};
 use std::marker::Model;

@@ -6,14 +6,12 @@ ghost use Rattle.ptk_words_parted.specs.Parts.{part_of};
 ghost use Rattle.ptk_words_instructions.specs.PlainSteps.{core, is_plain, plain_steps};
 ghost use Rattle.ptk_words_model.specs.Priority.{thread_at};
 ghost use Rattle.ptk_threads.specs.Table.{thread_in, with_changed};
-ghost use Rattle.ptk_words_batches.specs.Quiet.{ArePlain, core_of, computed, after_row, last_after};
-ghost use Rattle.ptk_trace.specs.TracedRows.{traced};
+ghost use Rattle.ptk_gate_boot.specs.Quiet.{ArePlain, core_of, computed, after_row, last_after};
+ghost use Rattle.ptk_gate_boot.specs.TracedRows.{traced};
 
 use crate::pools::Pools;
-use ptk_gate_boot::Memories;
-use ptk_syncs::Roster;
+use ptk_gate_boot::{Memories, Roster, Trace};
 use ptk_threads::Work;
-use ptk_trace::Trace;
 use ptk_words::{Entry, PartId, Policy, Thread, ThreadNo, Tick};
 
 impl Pools {
@@ -46,7 +44,7 @@ impl Pools {
 
 /// A row of the thread of a number on its registers and its partition's memory.
 #[inline(always)]
-#[tactic(auto, using(ptk_mutex::proofs::Moved::wakes))]
+#[tactic(auto, using(crate::proofs::PlainRows::at_thread))]
 fn run_at(
     roster: &mut Roster,
     memories: &mut Memories,

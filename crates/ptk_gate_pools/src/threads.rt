@@ -12,11 +12,11 @@ ghost use Rattle.ptk_words_model.specs.Withdrawal.{without_joiner};
 ghost use Rattle.ptk_words_model.specs.Decision.{with_cpu};
 ghost use Rattle.ptk_threads.specs.Table.{with_policy, with_priority, with_joiner, with_result, with_phase, with_wait};
 ghost use Rattle.ptk_words_sync_invariant.specs.Conditions.{IsNoWaiter};
-ghost use Rattle.ptk_mutex.specs.Tables.{AreLocked};
+ghost use Rattle.ptk_gate_waits.specs.LockTables.{AreLocked};
 ghost use Rattle.ptk_gate_pools.specs.Moves.{with_number, with_left};
 
 use crate::pools::Pools;
-use ptk_mutex::wake;
+use ptk_gate_waits::wake;
 use ptk_threads::ThreadChange;
 use ptk_words::{Cpu, Phase, Policy, Priority, Thread, ThreadNo, Wait};
 

@@ -11,7 +11,7 @@ use Rattle.ptk_words_sync_invariant.proofs.ConditionWaits.{room_unlock}
 use Rattle.ptk_words_invariant.specs.Well.{IsWell}
 use Rattle.ptk_words_invariant.proofs.Synced.{running_syncs}
 use Rattle.ptk_words_invariant.proofs.MutexCalls.{well_unlock}
-use Rattle.ptk_mutex.specs.Tables.{AreLocked, MayWait}
+use Rattle.ptk_gate_moves.specs.Tables.{AreLocked, MayWait}
 use Rattle.ptk_words_sync_invariant.specs.Conditions.{IsNoWaiter}
 use Rattle.ptk_gate_moves.proofs.NoWaiters.{runner_apart}
 use Rattle.ptk_gate_moves.proofs.Locked.{locked_of, may_wait}

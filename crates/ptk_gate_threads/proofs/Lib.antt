@@ -5,3 +5,4 @@ pub mod Leaving
 pub mod Endings
 pub mod Handlers
 pub mod Absent
+pub use Rattle.ptk_gate_moves.proofs.Ready

@@ -25,6 +25,9 @@ pub use choices::choose;
 pub use creates::create;
 pub use joins::join;
 pub use places::yield_turn;
+pub use ptk_gate_moves::{
+    begin, count_interval, exit, halt, leave, own_number, refuse, start_unwinding,
+};
 pub use scheduling_calls::{setschedparam, setschedprio};
 pub use thread_calls::{detach, getschedparam};
 pub use unwinding::step_at_gate;

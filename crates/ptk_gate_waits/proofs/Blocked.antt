@@ -7,8 +7,8 @@ use Rattle.ptk_words_model.specs.State.{Syncs}
 use Rattle.ptk_words_model.specs.Priority.{thread_at}
 use Rattle.ptk_words.specs.Threads.{mutex_of_wait, condition_of_wait}
 use Rattle.ptk_words_model.specs.Mutex.{wait_of}
-use Rattle.ptk_syncs.specs.Rosters.{Rostered}
-use Rattle.ptk_mutex.specs.Sound.{syncs_by}
+use Rattle.ptk_cond.specs.Rosters.{Rostered}
+use Rattle.ptk_cond.specs.Sound.{syncs_by}
 use Rattle.ptk_gate_waits.specs.Timeouts.{IsBlocked, is_out, is_queued, is_listed, is_blocked_in}
 use Rattle.ptk_gate_waits.proofs.TimedOut.{awaits_by_wait}
 use Rattle.ptk_cond.proofs.Waits.{wait_of-is}

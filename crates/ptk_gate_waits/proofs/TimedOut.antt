@@ -19,16 +19,16 @@ use Rattle.ptk_words_model.specs.Condition.{condition_waiters}
 use Rattle.ptk_words_sync_invariant.specs.Conditions.{IsNoWaiter}
 use Rattle.ptk_words_sync_invariant.proofs.Threads.{none_awaits}
 use Rattle.ptk_threads.specs.Table.{thread_in, with_changed}
-use Rattle.ptk_syncs.specs.Rosters.{Rostered}
-use Rattle.ptk_mutex.specs.Moves.{after_withdrawal}
-use Rattle.ptk_mutex.specs.Tables.{put_locks, with_threads, AreLocked, IsWaiter}
-use Rattle.ptk_mutex.specs.Sound.{IsSound}
-use Rattle.ptk_mutex.proofs.Apart.{apart_woken, other_waiter, waiting_kept}
-use Rattle.ptk_mutex.proofs.Locked.{locked_wake}
-use Rattle.ptk_mutex.proofs.Moved.{stays}
-use Rattle.ptk_mutex.proofs.Raised.{wake_stored}
-use Rattle.ptk_mutex.proofs.Sound.{of_part, as_syncs, AreSyncedAt, IsLocksMove, sound_locks, synced_locks}
-use Rattle.ptk_mutex.proofs.Steps.{put_ready}
+use Rattle.ptk_cond.specs.Rosters.{Rostered}
+use Rattle.ptk_cond.specs.Moves.{after_withdrawal}
+use Rattle.ptk_cond.specs.LockTables.{put_locks, with_threads, AreLocked, IsWaiter}
+use Rattle.ptk_cond.specs.Sound.{IsSound}
+use Rattle.ptk_cond.proofs.Apart.{apart_woken, other_waiter, waiting_kept}
+use Rattle.ptk_cond.proofs.Locked.{locked_wake}
+use Rattle.ptk_cond.proofs.Moved.{stays}
+use Rattle.ptk_cond.proofs.Raised.{wake_stored}
+use Rattle.ptk_cond.proofs.Sound.{of_part, as_syncs, AreSyncedAt, IsLocksMove, sound_locks, synced_locks}
+use Rattle.ptk_cond.proofs.LockSteps.{put_ready}
 use Rattle.ptk_cond.specs.Tables.{put_syncs, AreWaiting}
 use Rattle.ptk_cond.proofs.Steps.{put_none}
 use Rattle.ptk_gate_waits.specs.Timeouts.{after_sync_timeout, IsBlocked}

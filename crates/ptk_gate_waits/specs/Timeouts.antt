@@ -12,7 +12,7 @@ use Rattle.ptk_words.specs.Threads.{mutex_of_wait, condition_of_wait}
 use Rattle.ptk_words_model.specs.Schedule.{after_wake}
 use Rattle.ptk_words_model.specs.Mutex.{mutex_at, wait_of, waiters_of}
 use Rattle.ptk_words_model.specs.Condition.{condition_waiters, after_unblock}
-use Rattle.ptk_mutex.specs.Moves.{after_withdrawal}
+use Rattle.ptk_cond.specs.Moves.{after_withdrawal}
 
 -- the deadline of a wait comes, as `after_timeout` has it, of what it reads and changes (clock_nanosleep, pthread_mutex_timedlock, pthread_cond_timedwait)
 abbrev pub after_sync_timeout : ThreadNumber → Option Wait → Syncs → Syncs

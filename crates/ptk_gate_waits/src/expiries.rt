@@ -6,14 +6,12 @@ ghost use Rattle.ptk_words_parted.specs.Parts.{part_of};
 ghost use Rattle.ptk_words_model.specs.Mutex.{wait_of};
 ghost use Rattle.ptk_threads.specs.Table.{thread_in};
 ghost use Rattle.ptk_words.specs.Threads.{mutex_of_wait, condition_of_wait};
-ghost use Rattle.ptk_mutex.specs.Visits.{IsVisited};
-ghost use Rattle.ptk_mutex.specs.Sound.{IsSound};
+ghost use Rattle.ptk_cond.specs.LockVisits.{IsVisited};
+ghost use Rattle.ptk_cond.specs.Sound.{IsSound};
 ghost use Rattle.ptk_cond.specs.Tables.{syncs_at, put_syncs, AreSynced};
 ghost use Rattle.ptk_gate_waits.specs.Timeouts.{after_sync_timeout, mutex_locked, is_out, is_queued, is_listed, is_blocked_in, IsBlocked};
 
-use ptk_cond::withdraw;
-use ptk_mutex::{Mutexes, wake};
-use ptk_syncs::Roster;
+use ptk_cond::{Mutexes, Roster, wake, withdraw};
 use ptk_words::{ConditionNo, Errno, MutexNo, PartId, ThreadNo, Wait};
 
 /// The deadline of the thread's wait comes; a thread that is in no timed wait stays.

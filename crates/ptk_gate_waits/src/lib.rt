@@ -14,3 +14,5 @@
 mod expiries;
 
 pub use expiries::{is_blocked, time_out};
+pub use ptk_cond as conditions;
+pub use ptk_cond::{MutexState, Mutexes, wake};

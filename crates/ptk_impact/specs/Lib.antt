@@ -3,3 +3,4 @@ pub mod Larger
 pub mod Views
 pub mod Changes
 pub mod Impact
+pub use Rattle.ptk_system.specs.World

@@ -1,7 +1,7 @@
 -- What counts without a changed, a new or a gone partition promise.
 use Rattle.std.specs.Prelude.{◌≡◌, ℕ, ◌<◌, true, List, length, Option, Some, IsSome}
 use Rattle.std.specs.Borrow.{Bor}
-use Rattle.ptk_system.specs.World.{section_at}
+use Rattle.ptk_impact.specs.World.{section_at}
 use Rattle.ptk_impact.specs.declared.subject.Subject.{Subject}
 use Rattle.ptk_impact.specs.Views.{SeenAlikeButTrace}
 use Rattle.ptk_impact_answers.specs.declared.release.Release.{Release}

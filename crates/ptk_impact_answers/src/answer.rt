@@ -1,7 +1,7 @@
 //! The answer to the question for an impact.
 
 ghost use Rattle.std.specs.Prelude.{◌≡◌, ◌<◌, [], None, Some, true, List, IfOk, IfSome, IsSome, OnOk, length};
-ghost use Rattle.ptk_system.specs.World.{section_at};
+ghost use Rattle.ptk_impact.specs.World.{section_at};
 ghost use Rattle.ptk_impact_answers.specs.Counts.{IsClear};
 ghost use Rattle.ptk_impact_answers.specs.Matching.{Renamed, is_asked, place_after, place_before};
 ghost use Rattle.ptk_impact_answers.specs.SameRuns.{AreSameRuns, AreSeenAlike, WasSeenAlike};

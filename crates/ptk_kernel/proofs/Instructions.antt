@@ -12,7 +12,7 @@ use Rattle.ptk_words_model.specs.Priority.{thread_at}
 use Rattle.ptk_words_model.specs.Decision.{runner_at, runner_in, runner_of, with_cpu, after_effect}
 use Rattle.ptk_words_sync_invariant.proofs.Pools.{changed_own}
 use Rattle.ptk_words_invariant.proofs.Decisions.{runner_runs}
-use Rattle.ptk_gate_steps.specs.Instructions.{after_instruction}
+use Rattle.ptk_gate.specs.Instructions.{after_instruction}
 use Rattle.ptk_gate.specs.Answers.{call_answer, runner_answer}
 use Rattle.ptk_gate.proofs.CallSteps.{runner_found}
 use Rattle.ptk_kernel.proofs.NoCalls.{calls}

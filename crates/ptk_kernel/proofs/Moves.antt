@@ -9,9 +9,9 @@ use Rattle.ptk_words.specs.Faults.{is_active}
 use Rattle.ptk_words_invariant.proofs.Decisions.{arrivals_status}
 use Rattle.ptk_words_invariant.proofs.Timeouts.{expiries_status}
 use Rattle.ptk_gate.specs.Kept.{Kept, AreParts, part_at, put_part, limits_at}
-use Rattle.ptk_gate_steps.specs.declared.turns.NextStep.{NextStep}
-use Rattle.ptk_gate_steps.specs.Chosen.{IsChosen}
-use Rattle.ptk_gate_steps.proofs.Chosen.{choice_is_chosen}
+use Rattle.ptk_gate.specs.NextStep.{NextStep}
+use Rattle.ptk_gate.specs.Chosen.{IsChosen}
+use Rattle.ptk_gate.proofs.Chosen.{choice_is_chosen}
 use Rattle.ptk_gate.specs.Answers.{call_answer}
 use Rattle.ptk_kernel.specs.StepParts.{passed}
 use Rattle.ptk_gate.proofs.Parted.{part_at-put, put_part-put}

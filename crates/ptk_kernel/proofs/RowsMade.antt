@@ -5,9 +5,9 @@ use Rattle.ptk_words_model.specs.State.{Part}
 use Rattle.ptk_trace.specs.KeptSteps.{KeptSteps}
 use Rattle.ptk_gate.specs.Kept.{Kept, limits_at, part_at, put_part}
 use Rattle.ptk_gate.proofs.Ranks.{put_same}
-use Rattle.ptk_gate_steps.specs.Decisions.{IsQuietTo}
-use Rattle.ptk_gate_steps.specs.Stretches.{HasGone}
-use Rattle.ptk_gate_steps.proofs.StepsInARow.{gone_nothing, gone_still}
+use Rattle.ptk_gate.specs.Decisions.{IsQuietTo}
+use Rattle.ptk_gate.specs.Stretches.{HasGone}
+use Rattle.ptk_gate.proofs.StepsInARow.{gone_nothing, gone_still}
 use Rattle.ptk_kernel.specs.Rows.{IsStillTo}
 
 -- no step changes nothing

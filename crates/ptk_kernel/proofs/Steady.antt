@@ -9,8 +9,8 @@ use Rattle.ptk_words_model.specs.Mutex.{mutex_at, waiters_of}
 use Rattle.ptk_words_model.specs.MutexCalls.{is_locked}
 use Rattle.ptk_words_model.specs.Priority.{awaited, thread_at}
 use Rattle.ptk_words_invariant.specs.Well.{IsWell}
-use Rattle.ptk_gate_steps.specs.Steady.{is_contended}
-pub use Rattle.ptk_gate_steps.proofs.Steady.{steady_on, steady_same}
+use Rattle.ptk_gate.specs.Steady.{is_contended}
+pub use Rattle.ptk_gate.proofs.Steady.{steady_on, steady_same}
 
 -- ---- the mutex that a thread waits for
 

@@ -18,9 +18,9 @@ use Rattle.ptk_words_model.specs.Decision.{after_effect, after_step, after_turn,
 use Rattle.ptk_words_invariant.proofs.Decisions.{runner_runs}
 use Rattle.ptk_gate.specs.Kept.{Kept, part_at, put_part, limits_at}
 use Rattle.ptk_gate.proofs.Ranks.{put_same}
-use Rattle.ptk_gate_steps.specs.declared.turns.NextStep.{NextStep}
-use Rattle.ptk_gate_steps.specs.Instructions.{after_instruction}
-use Rattle.ptk_gate_steps.specs.NextSteps.{a0_kept, cpu_of, next_step_in, next_step_of}
+use Rattle.ptk_gate.specs.NextStep.{NextStep}
+use Rattle.ptk_gate.specs.Instructions.{after_instruction}
+use Rattle.ptk_gate.specs.NextSteps.{a0_kept, cpu_of, next_step_in, next_step_of}
 use Rattle.ptk_gate.specs.Answers.{call_answer}
 use Rattle.ptk_gate.proofs.CallSteps.{a0_is, call_fetched, ecall_calls, runner_found}
 use Rattle.ptk_gate.proofs.Passing.{passed_as}

@@ -7,8 +7,8 @@ use Rattle.ptk_words_model.specs.Priority.{thread_at}
 use Rattle.ptk_words_model.specs.Schedule.{after_interval}
 use Rattle.ptk_words_model.specs.Decision.{after_step, after_whole_step, runner_of, step_cost}
 use Rattle.ptk_gate.specs.Kept.{Kept, AreParts, part_at, put_part, limits_at}
-use Rattle.ptk_gate_steps.specs.declared.turns.NextStep.{NextStep}
-use Rattle.ptk_gate_steps.specs.NextSteps.{next_step_in}
+use Rattle.ptk_gate.specs.NextStep.{NextStep}
+use Rattle.ptk_gate.specs.NextSteps.{next_step_in}
 use Rattle.ptk_kernel.specs.StepParts.{noted, stepped}
 use Rattle.ptk_kernel.proofs.Moves.{moved_then}
 use Rattle.ptk_kernel.proofs.Turns.{counted, next_is, whole_is}

@@ -2,11 +2,11 @@
 use Rattle.std.specs.Prelude.{ℕ}
 use Rattle.ptk_words.specs.declared.threads.Thread.{Thread}
 use Rattle.ptk_words_batches.specs.Quiet.{IsQuiet}
-use Rattle.ptk_gate_steps.specs.declared.quiet_stops.Quiet.{Quiet}
+use Rattle.ptk_gate.specs.Quiet.{Quiet}
 use Rattle.ptk_gate.specs.Kept.{Kept, limits_at, part_at}
-pub use Rattle.ptk_gate_steps.specs.Chosen.{IsChosen}
-pub use Rattle.ptk_gate_steps.specs.NextSteps.{IsCallNext}
-pub use Rattle.ptk_gate_steps.specs.Stretches.{HasEnded, HasGone, with_newest}
+pub use Rattle.ptk_gate.specs.Chosen.{IsChosen}
+pub use Rattle.ptk_gate.specs.NextSteps.{IsCallNext}
+pub use Rattle.ptk_gate.specs.Stretches.{HasEnded, HasGone, with_newest}
 
 -- partition p is quiet from the tick up to another, with this thread running (own)
 abbrev pub IsStillTo : ℕ → ℕ → ℕ → ℕ → Kept → Type 0

@@ -9,8 +9,8 @@ use Rattle.ptk_words_model.specs.State.{Part, with_locks}
 use Rattle.ptk_words_model.specs.Priority.{thread_at}
 use Rattle.ptk_words_model.specs.Schedule.{with_thread}
 use Rattle.ptk_words_model.specs.Decision.{after_step}
-use Rattle.ptk_gate_steps.specs.declared.turns.NextStep.{NextStep}
-use Rattle.ptk_gate_steps.specs.NextSteps.{a0_kept, next_step_of}
+use Rattle.ptk_gate.specs.NextStep.{NextStep}
+use Rattle.ptk_gate.specs.NextSteps.{a0_kept, next_step_of}
 
 -- the last step is this one, and the thread is as it is now
 abbrev pub noted : ℕ → NextStep → Part → Part

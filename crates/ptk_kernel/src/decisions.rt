@@ -4,13 +4,12 @@ ghost use Rattle.std.specs.Prelude.{◌≡◌, ◌<◌, ◌≤◌, true, length,
 ghost use Rattle.ptk_words_model.specs.Decision.{runner_of, ready_at, after_turn, spent_in_turn, after_decision, spent_by_decision};
 ghost use Rattle.ptk_words.specs.Faults.{is_active};
 ghost use Rattle.ptk_gate.specs.Kept.{part_at, put_part, limits_at};
-ghost use Rattle.ptk_gate_steps.specs.Chosen.{IsChosen};
-ghost use Rattle.ptk_gate_steps.specs.NextSteps.{IsCallNext, next_step_in};
+ghost use Rattle.ptk_gate.specs.Chosen.{IsChosen};
+ghost use Rattle.ptk_gate.specs.NextSteps.{IsCallNext, next_step_in};
 ghost use Rattle.ptk_kernel.specs.Spending.{cost_in};
 
 use crate::steps::whole_step;
-use ptk_gate::Tables;
-use ptk_gate_steps::{NextStep, step_cost};
+use ptk_gate::{NextStep, Tables, step_cost};
 use ptk_words::{Entry, PartId, ThreadNo, Tick};
 use ptk_words_model::Spent;
 

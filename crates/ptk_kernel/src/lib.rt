@@ -33,7 +33,6 @@ mod steps;
 
 pub use decisions::{decide, last_step, prepare, take_call, take_turn};
 pub use events::idle_until;
-pub use ptk_gate::Tables;
-pub use ptk_gate_steps::{Quiet, Reached};
+pub use ptk_gate::{Quiet, Reached, Tables};
 pub use ptk_words_model::Spent;
 pub use rows::{prepared_until, quiet_until, run_quiet, stays_idle_until};

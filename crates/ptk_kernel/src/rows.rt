@@ -8,13 +8,12 @@ ghost use Rattle.ptk_words.specs.Faults.{is_active};
 ghost use Rattle.ptk_words_batches.specs.Quiet.{IsQuiet};
 ghost use Rattle.ptk_words_batches.specs.Idle.{IsIdle};
 ghost use Rattle.ptk_gate.specs.Kept.{part_at, put_part, limits_at};
-ghost use Rattle.ptk_gate_steps.specs.Chosen.{IsChosen};
-ghost use Rattle.ptk_gate_steps.specs.NextSteps.{IsCallNext};
-ghost use Rattle.ptk_gate_steps.specs.Stretches.{HasEnded, HasGone};
+ghost use Rattle.ptk_gate.specs.Chosen.{IsChosen};
+ghost use Rattle.ptk_gate.specs.NextSteps.{IsCallNext};
+ghost use Rattle.ptk_gate.specs.Stretches.{HasEnded, HasGone};
 ghost use Rattle.ptk_kernel.specs.Rows.{IsStill, IsStillTo};
 
-use ptk_gate::Tables;
-use ptk_gate_steps::{Quiet, Reached};
+use ptk_gate::{Quiet, Reached, Tables};
 use ptk_trace::Trace;
 use ptk_words::{PartId, Tick};
 

@@ -6,12 +6,11 @@ ghost use Rattle.ptk_words_model.specs.Decision.{after_step, after_whole_step, r
 ghost use Rattle.ptk_words_model.specs.declared.StepKind.TheVariants.{InstructionStep};
 ghost use Rattle.ptk_words_model.specs.Unwinding.{after_gate_step};
 ghost use Rattle.ptk_gate.specs.Kept.{part_at, put_part, limits_at};
-ghost use Rattle.ptk_gate_steps.specs.NextSteps.{next_step_in};
+ghost use Rattle.ptk_gate.specs.NextSteps.{next_step_in};
 ghost use Rattle.ptk_gate.specs.Answers.{call_answer};
 ghost use Rattle.ptk_kernel.specs.StepParts.{noted, passed, stepped};
 
-use ptk_gate::{Tables, call};
-use ptk_gate_steps::NextStep;
+use ptk_gate::{NextStep, Tables, call};
 use ptk_words::{Entry, PartId, Tick};
 use ptk_words_model::StepKind;
 

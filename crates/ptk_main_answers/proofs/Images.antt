@@ -12,11 +12,11 @@ use Rattle.ptk_words.specs.declared.faults.Status.TheVariants.{Refused}
 use Rattle.ptk_words_model.specs.Run.{empty_part, fits, main_thread, memory_of, start_part, with_image}
 use Rattle.ptk_words_model.specs.ThreadCreation.{with_new_thread}
 use Rattle.ptk_words_model.specs.State.{Part, State}
-use Rattle.ptk_system.specs.Missing.{image_in}
+use Rattle.ptk_main_runs.specs.Missing.{image_in}
 use Rattle.ptk_words_model.specs.Text.{has_runnable}
-use Rattle.ptk_system.specs.Told.{activity_of, status_in}
-use Rattle.ptk_system.specs.World.{World, alone_in, no_section, section_at, state_of, world_at}
-use Rattle.ptk_system.proofs.Keeping.{state_alone}
+use Rattle.ptk_main_runs.specs.Told.{activity_of, status_in}
+use Rattle.ptk_main_runs.specs.World.{World, alone_in, no_section, section_at, state_of, world_at}
+use Rattle.ptk_main_runs.proofs.Keeping.{state_alone}
 use Rattle.ptk_main_answers.specs.Images.{bytes_refusal, first_refused, image_refusal, is_refused, parts_refusal, refusal_in}
 
 active_is_no_refusal : (busy : Bool) → refusal_in (activity_of busy) ≡ None

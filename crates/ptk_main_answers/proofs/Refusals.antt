@@ -7,8 +7,8 @@ use Rattle.ptk_words.specs.declared.faults.ImageFault.{ImageFault}
 use Rattle.ptk_words.specs.declared.faults.ImageFault.TheVariants as image
 use Rattle.ptk_config.specs.Configuration.{Configuration}
 use Rattle.ptk_image.specs.NamedFiles.{NamedFile}
-use Rattle.ptk_system.specs.Missing.{first_missing}
-use Rattle.ptk_system.specs.World.{section_at}
+use Rattle.ptk_main_runs.specs.Missing.{first_missing}
+use Rattle.ptk_main_runs.specs.World.{section_at}
 use Rattle.ptk_main_faults.specs.declared.fault.Fault.{Fault}
 use Rattle.ptk_main_faults.specs.declared.fault.Fault.TheVariants.{MissingFile, WriteFailed}
 use Rattle.ptk_main_faults.specs.Lines.{image_fault}

@@ -1,6 +1,6 @@
 -- One system at two ticks.
 use Rattle.std.proofs.Common.{◌≡◌, ◌∙◌, ℕ, ap, sym}
-use Rattle.ptk_system.specs.World.{World, at_tick}
+use Rattle.ptk_main_runs.specs.World.{World, at_tick}
 
 -- what is at a tick of what is at a tick of the first is at that tick of the first
 pub at_again : (first now later : World) (n : ℕ) → now ≡ at_tick now.tick first → later ≡ at_tick n now → later ≡ at_tick later.tick first

@@ -1,7 +1,7 @@
 -- What a request over a configuration and files has written.
 use Rattle.std.specs.Prelude.{ℕ, List, [], Option, Some, None, ◌++◌, codes}
 use Rattle.ptk_words_model.specs.Text.{newline, trace_text}
-use Rattle.ptk_system.specs.World.{World, state_of}
+use Rattle.ptk_main_runs.specs.World.{World, state_of}
 
 -- the trace of a partition, if there is one (own)
 abbrev pub trace_of : Option ℕ → World → List ℕ

@@ -1,9 +1,9 @@
 -- Whether a run is as it is expected to be.
 use Rattle.std.specs.Prelude.{◌≡◌, ◌≢◌, ◌<◌, ◌+◌, ◌==◌, ℕ, List, Option, Some, None, true, count_by, length, min, slice_get, take, if◌then◌else◌}
-use Rattle.ptk_system.specs.Told.{is_halted, status_in}
-use Rattle.ptk_system.specs.World.{World, state_of}
-use Rattle.ptk_system.specs.declared.status.PartStatus.{PartStatus}
-use Rattle.ptk_system.specs.declared.status.PartStatus.TheVariants as status
+use Rattle.ptk_main_runs.specs.Told.{is_halted, status_in}
+use Rattle.ptk_main_runs.specs.World.{World, state_of}
+use Rattle.ptk_main_runs.specs.PartStatus.{PartStatus}
+use Rattle.ptk_main_runs.specs.PartStatus.TheVariants as status
 use Rattle.ptk_main_faults.specs.declared.fault.FailureKind.{FailureKind}
 use Rattle.ptk_main_faults.specs.declared.fault.FailureKind.TheVariants as kind
 use Rattle.ptk_main_faults.specs.declared.fault.Fault.{Fault}

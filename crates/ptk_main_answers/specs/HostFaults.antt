@@ -1,5 +1,5 @@
 -- The faults that come while lines are written.
-use Rattle.ptk_system.specs.declared.fault.BootFault.TheVariants as boot
+use Rattle.ptk_main_runs.specs.BootFault.TheVariants as boot
 use Rattle.ptk_main_runs.specs.declared.runs.RunFault.{RunFault}
 use Rattle.ptk_main_runs.specs.declared.runs.RunFault.TheVariants as run
 

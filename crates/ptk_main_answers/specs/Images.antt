@@ -8,10 +8,10 @@ use Rattle.ptk_words_model.specs.Run.{fits}
 use Rattle.ptk_config.specs.Sections.{Section}
 use Rattle.ptk_config.specs.Configuration.{Configuration}
 use Rattle.ptk_image.specs.NamedFiles.{NamedFile}
-use Rattle.ptk_system.specs.Missing.{image_in}
-use Rattle.ptk_system.specs.World.{section_at}
-use Rattle.ptk_system.specs.declared.status.PartStatus.{PartStatus}
-use Rattle.ptk_system.specs.declared.status.PartStatus.TheVariants as status
+use Rattle.ptk_main_runs.specs.Missing.{image_in}
+use Rattle.ptk_main_runs.specs.World.{section_at}
+use Rattle.ptk_main_runs.specs.PartStatus.{PartStatus}
+use Rattle.ptk_main_runs.specs.PartStatus.TheVariants as status
 
 -- the name of a partition's image, empty where it has none
 abbrev pub image_name : Configuration → ℕ → List ℕ

@@ -4,3 +4,4 @@ pub mod Answers
 pub mod Expectations
 pub mod Decoded
 pub mod HostFaults
+pub use Rattle.ptk_main_runs.specs.Parts

@@ -2,9 +2,9 @@
 use Rattle.std.specs.Prelude.{◌≡◌, ◌≢◌, ℕ, List, Option, Some, None, option_map, option_and_then, if◌then◌else◌, nat_le}
 use Rattle.ptk_config.specs.Configuration.{Configuration}
 use Rattle.ptk_image.specs.NamedFiles.{NamedFile}
-use Rattle.ptk_system.specs.Missing.{first_missing}
-use Rattle.ptk_system.specs.declared.fault.BootFault.{BootFault}
-use Rattle.ptk_system.specs.declared.fault.BootFault.TheVariants as boot
+use Rattle.ptk_main_runs.specs.Missing.{first_missing}
+use Rattle.ptk_main_runs.specs.BootFault.{BootFault}
+use Rattle.ptk_main_runs.specs.BootFault.TheVariants as boot
 use Rattle.ptk_main_faults.specs.declared.fault.Fault.{Fault}
 use Rattle.ptk_main_faults.specs.declared.fault.Fault.TheVariants.{MissingFile, NoPartition, NothingFrom, WriteFailed, NoMemory}
 use Rattle.ptk_main_faults.specs.Lines.{image_fault}
@@ -12,7 +12,7 @@ use Rattle.ptk_main_faults.specs.Told.{text, told}
 use Rattle.ptk_main_runs.specs.declared.runs.RunFault.{RunFault}
 use Rattle.ptk_main_runs.specs.declared.runs.RunFault.TheVariants as run
 use Rattle.ptk_main_answers.specs.Images.{first_refused, image_name, image_refusal}
-use Rattle.ptk_system.specs.World.{section_at}
+use Rattle.ptk_main_runs.specs.World.{section_at}
 
 -- ---- the program's fault for one of the layers below
 

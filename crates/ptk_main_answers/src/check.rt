@@ -3,7 +3,7 @@
 ghost use Rattle.std.specs.Prelude.{◌≡◌, ◌<◌, None, Some, IfErr, IfSome, OnOk, MatchResult, length, option_map};
 ghost use Rattle.std.specs.Option.{option_or};
 ghost use Rattle.std.specs.Io.KnownBytes.{Appends};
-ghost use Rattle.ptk_system.specs.World.{section_at};
+ghost use Rattle.ptk_main_runs.specs.World.{section_at};
 ghost use Rattle.ptk_main_faults.specs.Told.{told};
 ghost use Rattle.ptk_main_answers.specs.Answers.{ok_line};
 ghost use Rattle.ptk_main_answers.specs.Images.{first_refused, image_refusal, refusal_in};
@@ -12,7 +12,7 @@ ghost use Rattle.ptk_main_answers.specs.Refusals.{IsFaultOf, missing_image, refu
 use crate::naming::{boot_fault, image_name};
 use ptk_config::Config;
 use ptk_main_faults::Fault;
-use ptk_system::{Files, PartStatus, System};
+use ptk_main_runs::{Files, PartStatus, System};
 use ptk_words::{ImageFault, PartId};
 use std::alloc::Global;
 use std::io::Write;

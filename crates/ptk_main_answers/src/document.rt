@@ -6,8 +6,7 @@ ghost use Rattle.json.specs.Print.{print};
 
 use base64::engine::general_purpose::STANDARD;
 use ptk_main_faults::Fault;
-use ptk_main_runs::{cause_word, status_word};
-use ptk_system::{PartStatus, System};
+use ptk_main_runs::{PartStatus, System, cause_word, status_word};
 use ptk_words::PartId;
 use serde::Serialize;
 use std::alloc::{AllocError, Global};

@@ -1,13 +1,13 @@
 //! Whether a run is as it is expected to be.
 
 ghost use Rattle.std.specs.Prelude.{◌≡◌, ◌<◌, ℕ, MatchOption, None, length};
-ghost use Rattle.ptk_system.specs.Told.{status_in};
-ghost use Rattle.ptk_system.specs.World.{state_of};
+ghost use Rattle.ptk_main_runs.specs.Told.{status_in};
+ghost use Rattle.ptk_main_runs.specs.World.{state_of};
 ghost use Rattle.ptk_main_answers.specs.Expectations.{IsFailure, IsFirstDifference, IsFirstOther, failure_of, line_behind};
 
 use ptk_main_faults::{FailureKind, Fault};
 use ptk_main_line::FailOn;
-use ptk_system::{PartStatus, System};
+use ptk_main_runs::{PartStatus, System};
 use ptk_words::PartId;
 
 /// The first byte at which a report is not the expected one, as a fault with its line and both bytes. None where both

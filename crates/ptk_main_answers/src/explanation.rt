@@ -7,7 +7,7 @@ ghost use Rattle.ptk_config_places.specs.Refusals.{refusal_of, text_walk};
 use ptk_config_explain::{ExplainFault, explain};
 use ptk_config_places::Refusal;
 use ptk_main_faults::Fault;
-use ptk_system::Files;
+use ptk_main_runs::Files;
 use std::alloc::Global;
 use std::io::Write;
 

@@ -7,8 +7,7 @@ ghost use Rattle.ptk_main_answers.specs.Refusals.{boot_fault, run_fault};
 
 use ptk_config::Config;
 use ptk_main_faults::Fault;
-use ptk_main_runs::RunFault;
-use ptk_system::BootFault;
+use ptk_main_runs::{BootFault, RunFault};
 use ptk_words::PartId;
 
 /// The name of a partition's image, empty where it has none.

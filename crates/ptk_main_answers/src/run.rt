@@ -3,9 +3,9 @@
 ghost use Rattle.std.specs.Prelude.{◌≡◌, ◌≤◌, ◌<◌, ◌↔◌, ◌⊎◌, None, OnOk, MatchResult, IsTrue, false, length};
 ghost use Rattle.std.specs.Io.KnownBytes.{Appends};
 ghost use Rattle.ptk_words.specs.declared.TheConstants.{LAST_TICK};
-ghost use Rattle.ptk_system.specs.Shown.{report_of};
-ghost use Rattle.ptk_system.specs.Told.{status_in};
-ghost use Rattle.ptk_system.specs.World.{at_tick, state_of, world_at};
+ghost use Rattle.ptk_main_runs.specs.Shown.{report_of};
+ghost use Rattle.ptk_main_runs.specs.Told.{status_in};
+ghost use Rattle.ptk_main_runs.specs.World.{at_tick, state_of, world_at};
 ghost use Rattle.ptk_main_answers.specs.Expectations.{AreHalted};
 ghost use Rattle.ptk_main_answers.specs.Refusals.{IsFaultOf, missing_image};
 
@@ -15,7 +15,7 @@ use crate::naming::{boot_fault, part_name};
 use ptk_config::Config;
 use ptk_main_faults::Fault;
 use ptk_main_line::{FailOn, Format};
-use ptk_system::{Files, System};
+use ptk_main_runs::{Files, System};
 use ptk_words::{PartId, Tick};
 use std::alloc::Global;
 use std::io::Write;

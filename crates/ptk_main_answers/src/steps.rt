@@ -6,9 +6,9 @@ ghost use Rattle.ptk_main_answers.specs.Decoded as is;
 
 use crate::replies::reply_name;
 use ptk_disasm::{push_target, push_word_statement, target_of};
+use ptk_main_runs::{Activity, System};
 use ptk_statistics_figures::call_name;
 use ptk_symbols::Symbols;
-use ptk_system::{Activity, System};
 use ptk_words::{A7, Call, ECALL, Entry, PartId, RETURN_GATE, Tick};
 use std::alloc::AllocError;
 use std::fmt::Write;

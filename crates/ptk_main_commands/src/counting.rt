@@ -5,9 +5,8 @@ ghost use Rattle.ptk_words.specs.declared.TheConstants.{LAST_TICK};
 ghost use Rattle.ptk_statistics.specs.Asked.{IsAsked};
 
 use ptk_config::Config;
-use ptk_main_answers::{Files, run_fault};
 use ptk_main_faults::Fault;
-use ptk_main_files::{config_in, end, images_of, tell};
+use ptk_main_files::{Files, config_in, end, images_of, run_fault, tell};
 use ptk_main_line::{Format, StatsOptions};
 use ptk_statistics::{Form, stats_with};
 use ptk_words::Tick;

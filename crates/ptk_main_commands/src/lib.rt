@@ -19,7 +19,10 @@ mod standing;
 
 pub use commands::{answer_words, obey};
 pub use picture::timeline_answer;
+pub use ptk_explanation as explanation;
 pub use ptk_main_files::{
-    bytes_in, check_config, config_in, disasm, put_place, refusal_explained, tell, text_in, unread,
-    usage,
+    answers, bytes_in, check_config, config_in, disasm, impacts, put_place, refusal_explained,
+    tell, text_in, unread, usage,
 };
+pub use ptk_statistics as statistics;
+pub use ptk_timeline_formats as formats;

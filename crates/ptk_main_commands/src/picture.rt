@@ -2,15 +2,16 @@
 
 ghost use Rattle.std.specs.Prelude.{◌≡◌, ◌≢◌, ◌<◌, ◌≤◌, None, IfErr, MatchResult, OnOk};
 ghost use Rattle.ptk_words.specs.declared.TheConstants.{LAST_TICK};
-ghost use Rattle.ptk_system.specs.Missing.{first_missing};
+ghost use Rattle.ptk_timeline_formats.specs.Missing.{first_missing};
 ghost use Rattle.ptk_timeline_formats.specs.declared.fault.FormatFault.TheVariants.{FromPastEnd};
 ghost use Rattle.ptk_timeline_formats.specs.Faults.{missing_in_format};
-ghost use Rattle.ptk_main_answers.specs.Refusals.{IsFaultOf, refused_picture};
+ghost use Rattle.ptk_main_files.specs.Refusals.{IsFaultOf, refused_picture};
 
 use ptk_config::Config;
-use ptk_main_answers::{Files, System, boot_fault};
 use ptk_main_faults::Fault;
-use ptk_main_files::{config_in, end, images_of, symbols_of, symbols_text_in, tell};
+use ptk_main_files::{
+    Files, System, boot_fault, config_in, end, images_of, symbols_of, symbols_text_in, tell,
+};
 use ptk_main_line::{PictureFormat, TimelineOptions};
 use ptk_symbols::Symbols;
 use ptk_timeline::{Names, PictureFault, Starts, picture_with};

@@ -2,14 +2,15 @@
 
 ghost use Rattle.std.specs.Prelude.{◌≡◌, ◌≤◌, None, MatchResult};
 ghost use Rattle.ptk_words.specs.declared.TheConstants.{LAST_TICK};
-ghost use Rattle.ptk_main_runs.specs.Parts.{part_named};
-ghost use Rattle.ptk_main_answers.specs.Refusals.{IsFaultOf, refused_trace};
+ghost use Rattle.ptk_main_files.specs.Parts.{part_named};
+ghost use Rattle.ptk_main_files.specs.Refusals.{IsFaultOf, refused_trace};
 
 use ptk_config::Config;
 use ptk_explanation::{Form, explain_partition_with};
-use ptk_main_answers::{Files, run_fault};
 use ptk_main_faults::Fault;
-use ptk_main_files::{config_in, end, images_of, symbols_of, symbols_text_in, tell};
+use ptk_main_files::{
+    Files, config_in, end, images_of, run_fault, symbols_of, symbols_text_in, tell,
+};
 use ptk_main_line::{ExplainOptions, Format};
 use ptk_symbols::Symbols;
 use ptk_words::Tick;

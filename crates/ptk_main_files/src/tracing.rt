@@ -2,7 +2,7 @@
 
 ghost use Rattle.std.specs.Prelude.{◌≡◌, ◌<◌, ◌≤◌, ℕ, IfSome};
 ghost use Rattle.ptk_words.specs.declared.TheConstants.{LAST_TICK};
-ghost use Rattle.ptk_main_runs.specs.Parts.{part_named};
+ghost use Rattle.ptk_main_answers.specs.Parts.{part_named};
 ghost use Rattle.ptk_main_files.specs.Traces.{AreSteps, IsThread, IsTraceInRange, keeping};
 
 use crate::explaining::refused;

@@ -17,7 +17,7 @@ pub use guests::{
     report_of,
 };
 pub use ptk_config::Config;
-pub use ptk_main_runs::{Files, System};
+pub use ptk_main_runs::{BootFault, Files, RunFault, System, run_with, trace_with};
 pub use rows::{
     BY_RETURN, CANCELLED_WAITER, EXPIRED_WAIT, INHERIT_BASIC, OWNER_DIED, SET_AGAIN, TIMES,
 };

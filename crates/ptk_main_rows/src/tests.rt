@@ -11,11 +11,10 @@ mod guests;
 mod plans;
 
 use ptk_main_guests::{
-    Config, CutRow, Files, P, Row, System, TraceRow, booted, config_of, files_with,
+    Config, CutRow, Files, P, Row, RunFault, System, TraceRow, booted, config_of, files_with,
     first_wrong_cuts, first_wrong_row, first_wrong_trace, guest_of, image_of, is_report,
-    report_now, report_of, run_on_to, trace_now,
+    report_now, report_of, run_on_to, run_with, trace_now, trace_with,
 };
-use ptk_main_runs::{RunFault, run_with, trace_with};
 use ptk_words::{PartId, ThreadNo, Tick};
 use std::alloc::{AllocError, Global};
 use std::io::Write;

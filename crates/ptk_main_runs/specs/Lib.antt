@@ -1,2 +1,10 @@
 pub mod Parts
 pub mod RunFaults
+pub use Rattle.ptk_system.specs.Missing
+pub use Rattle.ptk_system.specs.World
+pub use Rattle.ptk_system.specs.Activities
+pub use Rattle.ptk_system.specs.declared.activity.Activity
+pub use Rattle.ptk_system.specs.declared.status.PartStatus
+pub use Rattle.ptk_system.specs.Told
+pub use Rattle.ptk_system.specs.Shown
+pub use Rattle.ptk_system.specs.declared.fault.BootFault

@@ -17,6 +17,6 @@ mod runs;
 mod words;
 
 pub use fault::PutFault;
-pub use ptk_system::{BootFault, Files, System};
+pub use ptk_system::{Activity, BootFault, Files, PartStatus, System};
 pub use runs::{RunFault, part_named, run_with, trace_with};
 pub use words::{cause_word, status_word};

@@ -2,7 +2,7 @@
 
 use crate::{config_of, images_of, tick_of};
 use anyhow::{Context, Error, Result};
-use ptk_main_runs::{BootFault, RunFault, run_with};
+use ptk_main_guests::{BootFault, RunFault, run_with};
 
 /// The guests, by the names of their files.
 const GUESTS: [&str; 41] = [

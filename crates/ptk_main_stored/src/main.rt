@@ -25,7 +25,7 @@ mod tests;
 
 use anyhow::Result;
 use ptk_config::{Config, Section, read_config};
-use ptk_main_runs::Files;
+use ptk_main_guests::Files;
 use ptk_words::{LAST_TICK, Tick};
 use std::fs;
 

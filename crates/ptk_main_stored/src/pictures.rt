@@ -6,7 +6,7 @@ ghost use Rattle.ptk_words.specs.declared.TheConstants.{LAST_TICK};
 use crate::{config_of, images_of, tick_of};
 use anyhow::{Context, Error, Result};
 use ptk_config::Config;
-use ptk_main_runs::{Files, System};
+use ptk_main_guests::{Files, System};
 use ptk_timeline::{Names, PictureFault, Starts, Symbols, picture_with};
 use ptk_words::Tick;
 

@@ -2,7 +2,7 @@
 
 use ptk_config::Config;
 use ptk_main_guests::guest_of;
-use ptk_timeline_segments::{Cell, Files, Recording, Row, Scale, Shade, System};
+use ptk_timeline::{Cell, Files, Recording, Row, Scale, Shade, System};
 use ptk_words::{LAST_TICK, Tick};
 use std::alloc::Global;
 

@@ -3,7 +3,7 @@
 
 use crate::segments::{Segment, does_sum_up, first_wrong_segment, recorded};
 use ptk_main_guests::{ALONE, LIBRARY, NUMBERS, P};
-use ptk_timeline_segments::{Recording, Shade};
+use ptk_timeline::{Recording, Shade};
 use std::alloc::Global;
 
 // The first segment of a guest's run that is not as wanted, with a column for each tick; this many where there is no

@@ -3,7 +3,7 @@
 //! wanted was worked out by hand. A helper that promises nothing is between each row and the calls that it tests.
 
 use ptk_config::{Config, read_config};
-use ptk_main_answers::{
+use ptk_main_commands::answers::{
     Files, RunQuestion, Watch, check_document, check_with, explain_with, run_answer, trace_answer,
 };
 use ptk_main_commands::timeline_answer;

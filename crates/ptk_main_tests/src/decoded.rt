@@ -3,7 +3,7 @@
 
 use ptk_config::{Config, read_config};
 use ptk_image::Files;
-use ptk_main_answers::{Filter, decoded_trace_with};
+use ptk_main_commands::answers::{Filter, decoded_trace_with};
 use ptk_symbols::{Symbols, read_symbols};
 use ptk_words::{ThreadNo, Tick};
 use std::alloc::Global;

@@ -3,9 +3,9 @@
 //! hand: the steps begin at ticks 0, 1, 2, 6, 7, 8, 12, 13 and 14, and the last one halts the partition.
 
 use ptk_config::{Config, read_config};
-use ptk_main_answers::Files;
+use ptk_main_commands::answers::Files;
+use ptk_main_commands::formats::{Form, FormatFault, dump_with};
 use ptk_symbols::{Symbols, read_symbols};
-use ptk_timeline_formats::{Form, FormatFault, dump_with};
 use ptk_words::Tick;
 use std::alloc::Global;
 use std::process::Abort;

@@ -3,8 +3,8 @@
 
 use ptk_config::read_config;
 use ptk_image::Files;
-use ptk_impact_answers::{Question, Release, impact_json_with, impact_with};
-use ptk_main_answers::{run_with, trace_with};
+use ptk_main_commands::answers::{run_with, trace_with};
+use ptk_main_commands::impacts::{Question, Release, impact_json_with, impact_with};
 use ptk_main_faults::Fault;
 use ptk_main_line::Format;
 use ptk_words::Tick;

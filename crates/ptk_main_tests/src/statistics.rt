@@ -3,7 +3,7 @@
 
 use ptk_config::read_config;
 use ptk_image::Files;
-use ptk_statistics::{Form, stats_with};
+use ptk_main_commands::statistics::{Form, stats_with};
 use ptk_words::{LAST_TICK, Tick};
 use std::alloc::Global;
 use std::test::Fail;

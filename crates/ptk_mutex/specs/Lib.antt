@@ -8,3 +8,5 @@ pub mod Tables
 pub mod Moves
 pub mod Rises
 pub mod Sound
+pub use Rattle.ptk_syncs.specs.Rosters as SyncRosters
+pub use Rattle.ptk_syncs.specs.Waiters

@@ -6,7 +6,7 @@ ghost use Rattle.ptk_words_parted.specs.Parts.{part_of};
 ghost use Rattle.ptk_threads.specs.Table.{ThreadTable, thread_in, stored_of, with_changed, with_queues};
 ghost use Rattle.ptk_threads.specs.Queues.{IsUnqueued, with_out};
 ghost use Rattle.ptk_threads_slots.specs.Links.{place_of};
-ghost use Rattle.ptk_words_model.specs.Schedule.{woken_with};
+ghost use Rattle.ptk_threads.specs.Schedule.{woken_with};
 ghost use Rattle.ptk_ready.specs.Queues.{AreUnused, waiters_of};
 ghost use Rattle.ptk_ready.specs.Lines.{with_refiled};
 ghost use Rattle.ptk_ready.specs.Partitions.{lines_by, AreFiled};

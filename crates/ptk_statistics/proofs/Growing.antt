@@ -8,9 +8,9 @@ use Rattle.ptk_words_model.specs.State.{Part, Account, State}
 use Rattle.ptk_words_model.specs.Decision.{after_decision, spent_by_decision}
 use Rattle.ptk_words_model.specs.Run.{accounted, after_tick_until, decided, is_at}
 use Rattle.ptk_words_batches.specs.Quiet.{after_ticks}
-use Rattle.ptk_system.specs.World.{World, at_tick, section_at, state_of, alone_in}
-use Rattle.ptk_system.proofs.Keeping.{alone_at}
-use Rattle.ptk_system.proofs.Runs.{alone_to}
+use Rattle.ptk_main_runs.specs.World.{World, at_tick, section_at, state_of, alone_in}
+use Rattle.ptk_main_runs.proofs.Keeping.{alone_at}
+use Rattle.ptk_main_runs.proofs.Runs.{alone_to}
 
 -- no fewer steps and lost ticks
 pub record Grows (old new : State) : Type 0 where

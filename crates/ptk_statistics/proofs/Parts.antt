@@ -4,7 +4,7 @@ use Rattle.std.proofs.Math.ListN.{set}
 use Rattle.std.proofs.Math.Seq.{get_or-append_seam}
 use Rattle.std.proofs.lemmas.Bool.{cases_lt}
 use Rattle.std.proofs.lemmas.List.{get_or_append_left, length-set, take-append-le, take_all}
-use Rattle.ptk_system.specs.World.{World, at_tick}
+use Rattle.ptk_main_runs.specs.World.{World, at_tick}
 use Rattle.ptk_statistics.specs.declared.part.PartStatistics.{PartStatistics}
 use Rattle.ptk_statistics_figures.specs.Counts.{reached}
 use Rattle.ptk_statistics.specs.Sums.{Agrees}

@@ -3,8 +3,8 @@ use Rattle.std.proofs.Common.{◌≡◌, ℕ, ◌≤◌, ◌<◌, length, sym, a
 use Rattle.ptk_words.specs.declared.TheConstants.{LAST_TICK}
 use Rattle.ptk_words_windows.specs.Windows.{OwnTicks, own_ticks}
 use Rattle.ptk_words_model.specs.State.{State}
-use Rattle.ptk_system.specs.World.{World, at_tick, state_of}
-use Rattle.ptk_system.proofs.Keeping.{alone_at}
+use Rattle.ptk_main_runs.specs.World.{World, at_tick, state_of}
+use Rattle.ptk_main_runs.proofs.Keeping.{alone_at}
 use Rattle.ptk_statistics_figures.specs.declared.counted.Counted.{Counted}
 use Rattle.ptk_statistics_figures.specs.Own.{own_below}
 use Rattle.ptk_statistics_figures.specs.Counts.{Adds, lost_in, reached, steps_in}

@@ -1,7 +1,7 @@
 -- That the figures of all partitions add up, while they are gathered and in the end.
 use Rattle.std.specs.Prelude.{◌≡◌, ℕ, ◌<◌, ◌≤◌, List, length, slice_index_or}
 use Rattle.ptk_words.specs.declared.TheConstants.{LAST_TICK}
-use Rattle.ptk_system.specs.World.{World}
+use Rattle.ptk_main_runs.specs.World.{World}
 use Rattle.ptk_statistics.specs.declared.part.PartStatistics.{PartStatistics}
 use Rattle.ptk_statistics.specs.declared.part.Sight.{Sight}
 use Rattle.ptk_statistics.specs.declared.part.Sight.TheVariants.{Coming, Decided}

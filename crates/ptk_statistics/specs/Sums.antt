@@ -2,7 +2,7 @@
 use Rattle.std.specs.Prelude.{◌≡◌, ℕ, ◌≤◌, sum}
 use Rattle.ptk_words.specs.declared.TheConstants.{LAST_TICK}
 use Rattle.ptk_words_windows.specs.Windows.{own_ticks}
-use Rattle.ptk_system.specs.World.{World, at_tick, state_of}
+use Rattle.ptk_main_runs.specs.World.{World, at_tick, state_of}
 use Rattle.ptk_statistics_figures.specs.declared.counted.Counted.{Counted}
 use Rattle.ptk_statistics_figures.specs.Own.{own_below}
 use Rattle.ptk_statistics_figures.specs.Counts.{Adds, counted_ticks, lost_in, reached, steps_by_thread, steps_in}

@@ -5,8 +5,8 @@ ghost use Rattle.ptk_words.specs.declared.TheConstants.{LAST_TICK, THREAD_LIMIT}
 ghost use Rattle.ptk_statistics_figures.specs.Counts.{reached};
 ghost use Rattle.ptk_statistics.specs.Sums.{AddsUp};
 
+use ptk_main_runs::System;
 use ptk_statistics_figures::{Counted, Seen};
-use ptk_system::System;
 use ptk_words::PartId;
 
 /// The count of a partition of a system that has just booted.

@@ -2,7 +2,7 @@
 
 ghost use Rattle.std.specs.Prelude.{◌≡◌, ◌<◌, ◌≤◌, ◌↔◌, None, IsTrue, OnOk, length};
 ghost use Rattle.ptk_words.specs.declared.TheConstants.{LAST_TICK};
-ghost use Rattle.ptk_system.specs.Missing.{first_missing};
+ghost use Rattle.ptk_main_runs.specs.Missing.{first_missing};
 ghost use Rattle.ptk_statistics.specs.Asked.{IsAsked};
 
 use crate::blocks::put_block;
@@ -10,8 +10,7 @@ use crate::document::{Figures, json_of};
 use crate::part::PartStatistics;
 use crate::statistics::Statistics;
 use ptk_config::Config;
-use ptk_main_runs::{Files, PutFault, RunFault, part_named};
-use ptk_system::System;
+use ptk_main_runs::{Files, PutFault, RunFault, System, part_named};
 use ptk_words::{PartId, Tick};
 use std::alloc::Global;
 use std::io;

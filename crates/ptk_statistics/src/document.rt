@@ -6,10 +6,10 @@ ghost use Rattle.json.specs.Print.{print};
 
 use crate::part::PartStatistics;
 use crate::words::{KINDS, doing_word, outcome_word};
+use ptk_main_runs::PartStatus;
 use ptk_statistics_figures::{
     CALLS, CallCount, Counted, Longest, MutexStatistics, Span, Spread, ThreadStatistics, call_name,
 };
-use ptk_system::PartStatus;
 use ptk_words::{THREAD_LIMIT, ThreadNo};
 use serde::{Described, Serialize, Serializer};
 use serde_json::Error;

@@ -1,7 +1,7 @@
 //! The kind of what a thread does, of a system.
 
+use ptk_main_runs::Activity;
 use ptk_statistics_figures::Doing;
-use ptk_system::Activity;
 use ptk_words::Wait;
 
 /// The kind of what a thread does.

@@ -28,8 +28,8 @@ mod words;
 
 pub use answer::{Form, stats_with};
 pub use part::PartStatistics;
+pub use ptk_main_runs::{Files, PartStatus, System};
 pub use ptk_statistics_figures::{
     CallCount, Counted, Doing, Longest, MutexStatistics, Span, Spread, ThreadStatistics,
 };
-pub use ptk_system::{Files, PartStatus, System};
 pub use statistics::Statistics;

@@ -4,10 +4,10 @@ ghost use Rattle.std.specs.Prelude.{◌<◌, ◌≤◌, length};
 ghost use Rattle.ptk_words.specs.declared.TheConstants.{LAST_TICK};
 
 use crate::doing::doing_of;
+use ptk_main_runs::{Activity, PartStatus, System};
 use ptk_statistics_figures::{
     Doing, Moment, MutexStatistics, Pending, ThreadStatistics, free_mutexes, free_numbers,
 };
-use ptk_system::{Activity, PartStatus, System};
 use ptk_words::{
     A0, A7, Call, ECALL, Entry, MutexNo, PartId, SP, THREAD_LIMIT, ThreadNo, Tick, cost,
 };

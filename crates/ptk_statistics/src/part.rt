@@ -7,8 +7,8 @@ ghost use Rattle.ptk_statistics.specs.Parts.{IsBefore, IsKept};
 
 use crate::advance::{advance, first_count};
 use crate::observed::{Observed, OwnerCall};
+use ptk_main_runs::System;
 use ptk_statistics_figures::{Counted, Moment, MutexStatistics, ThreadStatistics};
-use ptk_system::System;
 use ptk_words::PartId;
 use std::alloc::{AllocError, Global};
 

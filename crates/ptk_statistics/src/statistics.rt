@@ -2,11 +2,11 @@
 
 ghost use Rattle.std.specs.Prelude.{◌≡◌, ℕ, ◌<◌, ◌≤◌, IfOk, length, max, slice_index_or};
 ghost use Rattle.ptk_words.specs.declared.TheConstants.{LAST_TICK};
-ghost use Rattle.ptk_system.specs.World.{at_tick};
+ghost use Rattle.ptk_main_runs.specs.World.{at_tick};
 ghost use Rattle.ptk_statistics.specs.Parts.{AgreesWith, AreEnded, AreKept, IsBefore};
 
 use crate::part::{PartStatistics, Sight};
-use ptk_system::System;
+use ptk_main_runs::System;
 use ptk_words::{ECALL, PartId, Tick};
 use std::alloc::{AllocError, Global};
 

@@ -1,7 +1,7 @@
 //! The words for kinds of what a thread does, and for how a partition stands.
 
+use ptk_main_runs::PartStatus;
 use ptk_statistics_figures::Doing;
-use ptk_system::PartStatus;
 
 /// The kinds of what a live thread does, in the order of the tables.
 pub(crate) const KINDS: [Doing; 8] = [

@@ -1,9 +1,9 @@
 -- The stored priorities of a partition, stored all at once.
-use Rattle.std.proofs.Common.{◌≡◌, ◌≢◌, ℕ, zero, suc, ◌<◌, ◌≤◌, List, [], length, true, refl, sym, ◌∙◌, ap, subst, arith, get_or, inl, inr}
+use Rattle.std.proofs.Common.{◌≡◌, ◌≢◌, ℕ, suc, ◌<◌, ◌≤◌, List, [], length, true, refl, sym, ◌∙◌, ap, subst, arith, get_or, inl, inr}
 use Rattle.std.specs.Prelude.{option_map}
 use Rattle.std.proofs.Math.ListN.{set}
 use Rattle.std.proofs.lemmas.Bool.{cases_eq}
-use Rattle.std.proofs.lemmas.List.{get_or_past, get_or-set_same, get_or-set_other, set_past}
+use Rattle.std.proofs.lemmas.List.{get_or-set_same, get_or-set_other, set_past}
 use Rattle.ptk_words.specs.Pools.{is_in}
 use Rattle.ptk_words_parted.specs.Parts.{part_of}
 use Rattle.ptk_threads.specs.Table.{ThreadTable, AreLevelsOf, stored_of}
@@ -26,15 +26,6 @@ pub ready_slot : (slots : List Slot) (i : ℕ) (slot : Slot) → i < length slot
 ready_slot slots i slot lt is =
     sym (ap (λ (l : Link). is_ready_place (option_map place_of l.queue)) (link_read slots (suc i) i slot (omega arith) (omega arith) lt is))
     ∙ ap (λ (s : Slot). is_ready_place (option_map place_of s.link.queue)) (sym is)
-
--- all were looked at
-pub all_kept : (slots : List Slot) (stored priorities : List ℕ) (i : ℕ) → length priorities ≡ length stored → length priorities ≤ i → ((j : ℕ) → j < i → is_ready (links_of slots) (suc j) ≡ true → get_or priorities j 0 ≡ get_or stored j 0)
-    → (k : ℕ) → is_ready (links_of slots) k ≡ true → stored_of priorities k ≡ stored_of stored k
-all_kept slots stored priorities i same all kept zero is = refl
-all_kept slots stored priorities i same all kept (suc j) is = elim (le_or_gt i j) as (λ _. get_or priorities j 0 ≡ get_or stored j 0) [
-  | inl le ↦ get_or_past priorities j 0 (omega (arith, all, le)) ∙ sym (get_or_past stored j 0 (omega (arith, all, le, same)))
-  | inr lt ↦ kept j lt is
-]
 
 -- a thread of the line is ready by its link
 pub line_ready : {limit : ℕ} (line : List (LinkedEntries limit)) (a : ThreadTable) (links : List Link) (ends : List Ends) (p k : ℕ) → AreQueues links ends → queues links ends ≡ part_of a.queues p → length links ≤ 32 → p < length line

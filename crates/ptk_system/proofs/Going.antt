@@ -15,7 +15,7 @@ use Rattle.ptk_words.specs.Faults.{is_active}
 use Rattle.ptk_words_model.specs.Schedule.{is_running}
 use Rattle.ptk_words_sync_invariant.specs.Locks.{is_ready}
 use Rattle.ptk_words_invariant.specs.Well.{IsWell}
-use Rattle.ptk_gate_pools.specs.Kept.{limits_at, part_at}
+use Rattle.ptk_system_machine.specs.Kept.{limits_at, part_at}
 use Rattle.ptk_config.specs.Configuration.{Configuration, IsConfiguration}
 use Rattle.ptk_image.specs.NamedFiles.{NamedFile}
 use Rattle.ptk_system_machine.specs.Steady.{AreSteady, IsSteady, at_rest, states_from}

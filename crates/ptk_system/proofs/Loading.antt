@@ -12,10 +12,10 @@ use Rattle.ptk_words_windows.specs.Windows.{own_ticks}
 use Rattle.ptk_words_model.specs.State.{Account, Part, State}
 use Rattle.ptk_words_model.specs.Run.{empty_part, next_from, start, start_part, with_image, with_image_bytes}
 use Rattle.ptk_console.specs.ConsoleTable.{fresh_console, no_limits}
-use Rattle.ptk_gate_pools.specs.Kept.{Kept, AreParts, limits_at, part_at, put_part}
-use Rattle.ptk_gate_pools.specs.Blank.{blank}
-use Rattle.ptk_gate_pools.proofs.Parted.{part_at-put, part_at-other, parts_put}
-use Rattle.ptk_gate_pools.proofs.Blanks.{part_at-blank}
+use Rattle.ptk_system_machine.specs.Kept.{Kept, AreParts, limits_at, part_at, put_part}
+use Rattle.ptk_system_machine.specs.Blank.{blank}
+use Rattle.ptk_system_machine.proofs.Parted.{part_at-put, part_at-other, parts_put}
+use Rattle.ptk_system_machine.proofs.BlankParts.{part_at-blank}
 use Rattle.ptk_config.specs.Sections.{Section}
 use Rattle.ptk_config.specs.Configuration.{Configuration, IsConfiguration}
 use Rattle.ptk_image.specs.NamedFiles.{NamedFile}
@@ -24,7 +24,7 @@ use Rattle.ptk_system_machine.specs.Whole.{Whole, account_at, first_account_of, 
 use Rattle.ptk_system.specs.Missing.{image_in}
 use Rattle.ptk_system.specs.World.{IsRun, alone_in, no_section, section_at}
 use Rattle.ptk_system.specs.Loaded.{AreLoaded}
-use Rattle.ptk_gate_pools.proofs.Built.{parts_blank}
+use Rattle.ptk_system_machine.proofs.Built.{parts_blank}
 use Rattle.ptk_system.proofs.Keeping.{states_alone}
 
 -- ---- before any image

@@ -8,7 +8,7 @@ use Rattle.ptk_words_windows.proofs.FaultLaws.{accepted}
 use Rattle.ptk_words_model.specs.State.{State}
 use Rattle.ptk_words_batches.specs.Quiet.{after_ticks}
 use Rattle.ptk_words_batches.proofs.TicksInARow.{alone_on}
-use Rattle.ptk_gate_pools.specs.Kept.{Kept, limits_at, part_at}
+use Rattle.ptk_system_machine.specs.Kept.{Kept, limits_at, part_at}
 use Rattle.ptk_config.specs.Configuration.{Configuration, IsConfiguration}
 use Rattle.ptk_image.specs.NamedFiles.{NamedFile}
 use Rattle.ptk_system_machine.specs.Accounts.{IsBehind}

@@ -1,7 +1,7 @@
 -- The tables while the images are loaded.
 use Rattle.std.specs.Prelude.{◌≡◌, ℕ, ◌<◌, ◌≤◌, length, List, map}
 use Rattle.ptk_words_model.specs.Run.{empty_part, start_part}
-use Rattle.ptk_gate_pools.specs.Kept.{Kept, AreParts, part_at}
+use Rattle.ptk_system_machine.specs.Kept.{Kept, AreParts, part_at}
 use Rattle.ptk_config.specs.Configuration.{Configuration}
 use Rattle.ptk_image.specs.NamedFiles.{NamedFile}
 use Rattle.ptk_system.specs.Missing.{image_in}

@@ -5,7 +5,7 @@ use Rattle.ptk_words_windows.specs.Windows.{own_ticks}
 use Rattle.ptk_words_model.specs.State.{State}
 use Rattle.ptk_words_model.specs.Run.{alone, empty_part}
 use Rattle.ptk_console.specs.ConsoleTable.{no_limits}
-use Rattle.ptk_gate_pools.specs.Kept.{limits_at}
+use Rattle.ptk_system_machine.specs.Kept.{limits_at}
 use Rattle.ptk_config.specs.Sections.{Section}
 use Rattle.ptk_config.specs.Configuration.{Configuration, IsConfiguration}
 use Rattle.ptk_image.specs.NamedFiles.{NamedFile}

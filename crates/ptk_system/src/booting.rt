@@ -5,7 +5,7 @@ ghost use Rattle.std.specs.Option.{IsSomeAnd};
 ghost use Rattle.ptk_image.specs.NamedFiles.{NamedFile};
 ghost use Rattle.ptk_words.specs.Image.{image_of};
 ghost use Rattle.ptk_words_model.specs.Run.{empty_part, with_image, with_image_bytes};
-ghost use Rattle.ptk_gate_pools.specs.Kept.{limits_at, part_at, put_part};
+ghost use Rattle.ptk_system_machine.specs.Kept.{limits_at, part_at, put_part};
 ghost use Rattle.ptk_system.specs.Loaded.{AreLoaded};
 ghost use Rattle.ptk_system.specs.Missing.{first_missing, image_in, is_missing};
 ghost use Rattle.ptk_system.specs.World.{IsRun};

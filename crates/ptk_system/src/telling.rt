@@ -2,7 +2,7 @@
 
 ghost use Rattle.std.specs.Prelude.{◌≡◌, ◌<◌, ◌≤◌, ℕ, length, slice_get};
 ghost use Rattle.ptk_words_model.specs.Priority.{thread_at};
-ghost use Rattle.ptk_gate_pools.specs.Kept.{AreParts, limits_at, part_at};
+ghost use Rattle.ptk_system_machine.specs.Kept.{AreParts, limits_at, part_at};
 ghost use Rattle.ptk_config.specs.Configuration.{IsConfiguration};
 ghost use Rattle.ptk_system_machine.specs.Whole.{state_at};
 ghost use Rattle.ptk_system.specs.Told.{live_cpu, pc_in, register_in, status_in};

@@ -10,3 +10,6 @@ pub mod Progress
 pub mod Prepared
 pub mod Steady
 pub mod First
+pub use Rattle.ptk_kernel.proofs.Parted
+pub use Rattle.ptk_kernel.proofs.BlankParts
+pub use Rattle.ptk_kernel.proofs.Built

@@ -2,7 +2,7 @@
 use Rattle.std.proofs.Common.{arith, ◌≡◌, ℕ, ◌+◌, ◌<◌, ◌≤◌, suc, List, drop, length, get_or, drop-cons}
 use Rattle.std.proofs.lemmas.List.{drop_all}
 use Rattle.ptk_words.specs.Processor.{Processor, with_register}
-use Rattle.ptk_words_model.specs.Schedule.{with_registers}
+use Rattle.ptk_clock.specs.Schedule.{with_registers}
 
 -- one more value
 pub registers-more : (cpu whole : Processor) (first i v : ℕ) (values : List ℕ) → i < length values → v ≡ get_or values i v

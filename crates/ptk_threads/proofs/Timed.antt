@@ -9,9 +9,9 @@ use Rattle.ptk_words.specs.declared.threads.Thread.{Thread}
 use Rattle.ptk_words.specs.declared.threads.Wait.{Wait as ThreadWait}
 use Rattle.ptk_words.specs.Threads.{deadline_of_wait}
 use Rattle.ptk_words_parted.specs.Parts.{part_of, filled}
-use Rattle.ptk_words_model.specs.State.{locks_of}
-use Rattle.ptk_words_model.specs.Mutex.{wait_of}
-use Rattle.ptk_words_sync_invariant.proofs.Deadlines.{deadline_at, deadlines-kept, changed_deadline, get-map}
+use Rattle.ptk_clock.specs.State.{locks_of}
+use Rattle.ptk_clock.specs.Mutex.{wait_of}
+use Rattle.ptk_clock.proofs.WaitDeadlines.{deadline_at, deadlines-kept, changed_deadline, get-map}
 use Rattle.ptk_clock.specs.ByThread.{least_deadline}
 use Rattle.ptk_clock.proofs.LeastDeadlines.{none_set}
 use Rattle.ptk_threads.specs.declared.changes.ThreadChange.{ThreadChange}

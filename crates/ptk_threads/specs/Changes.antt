@@ -2,7 +2,7 @@
 use Rattle.std.specs.Prelude.{List}
 use Rattle.ptk_words.specs.Names.{Word}
 use Rattle.ptk_words.specs.declared.threads.Thread.{Thread}
-use Rattle.ptk_words_model.specs.Schedule.{unused, with_reply}
+use Rattle.ptk_clock.specs.Schedule.{unused, with_reply}
 use Rattle.ptk_threads.specs.declared.changes.ThreadChange.{ThreadChange}
 use Rattle.ptk_threads.specs.declared.changes.ThreadChange.TheVariants.{Address, Policy, AssignedPriority, Used, Phase, Joiner, Result, Wait}
 use Rattle.ptk_threads.specs.Table.{with_policy, with_priority, with_used, with_phase, with_joiner, with_result, with_wait}

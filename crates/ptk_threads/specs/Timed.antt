@@ -3,7 +3,7 @@ use Rattle.std.specs.Prelude.{◌≡◌, ℕ, List, map, Option}
 use Rattle.ptk_words.specs.Names.{Tick}
 use Rattle.ptk_words.specs.Pools.{pool_get}
 use Rattle.ptk_words.specs.declared.threads.Thread.{Thread}
-use Rattle.ptk_words_model.specs.Mutex.{wait_of}
+use Rattle.ptk_clock.specs.Mutex.{wait_of}
 use Rattle.ptk_words.specs.Threads.{deadline_of_wait}
 use Rattle.ptk_threads.specs.Table.{IsTable}
 use Rattle.ptk_threads.specs.Changes.{thread_changed}

@@ -7,7 +7,7 @@ ghost use Rattle.ptk_threads_slots.specs.Links.{shared_links, threads_of};
 ghost use Rattle.ptk_threads.specs.Table.{with_cpu, with_wait, replaced_by};
 ghost use Rattle.ptk_threads.specs.Registers.{with_pc};
 ghost use Rattle.ptk_threads.specs.Changes.{renewed_with, thread_changed};
-ghost use Rattle.ptk_words_model.specs.Schedule.{with_registers, with_reply, woken_with};
+ghost use Rattle.ptk_clock.specs.Schedule.{with_registers, with_reply, woken_with};
 
 use crate::work::Work;
 use ptk_threads_slots::Slot;

@@ -3,7 +3,7 @@
 ghost use Rattle.std.specs.Prelude.{◌≡◌, ◌<◌, ◌≤◌, true, All, length, map, replicate, slice_set, None, IsSome, IfSome, IfOk};
 ghost use Rattle.ptk_words.specs.Pools.{pool_get, pool_set, pool_changed, is_in};
 ghost use Rattle.ptk_words.specs.declared.threads.Thread.{Thread};
-ghost use Rattle.ptk_words_model.specs.Schedule.{with_reply, woken_with};
+ghost use Rattle.ptk_clock.specs.Schedule.{with_reply, woken_with};
 ghost use Rattle.ptk_words_parted.specs.Parts.{part_of, joined, filled};
 ghost use Rattle.ptk_threads_slots.specs.Changes.{first_in};
 ghost use Rattle.ptk_threads_slots.specs.Links.{links_of, threads_of, no_ends, place_of, queues, AreQueues};

@@ -7,7 +7,7 @@ ghost use Rattle.ptk_words.specs.declared.threads.Thread.{Thread};
 ghost use Rattle.ptk_words_parted.specs.Parts.{part_of, joined};
 ghost use Rattle.ptk_threads.specs.Table.{free_table, thread_in, stored_of, with_slot, with_changed, with_stored, with_queues, with_free, with_new, with_rest, with_left, with_cpu, with_wait, replaced_by};
 ghost use Rattle.ptk_threads.specs.Registers.{with_pc};
-ghost use Rattle.ptk_words_model.specs.Schedule.{with_reply, woken_with};
+ghost use Rattle.ptk_clock.specs.Schedule.{with_reply, woken_with};
 ghost use Rattle.ptk_threads.specs.Changes.{renewed_with, thread_changed};
 ghost use Rattle.ptk_threads.specs.Queues.{AreListed, IsUnqueued, with_last, with_first, with_before, with_none, with_out, without_first};
 ghost use Rattle.ptk_threads.specs.Shared.{AreAlongLinks, StayInPartitions};

@@ -3,9 +3,9 @@
 ghost use Rattle.std.specs.Prelude.{◌≡◌, ℕ, ◌<◌, true, false, length, map, is_some, option_map, slice_set};
 ghost use Rattle.ptk_words.specs.Pools.{pool_get, pool_set};
 ghost use Rattle.ptk_words_parted.specs.Parts.{part_of};
-ghost use Rattle.ptk_words_model.specs.Mutex.{wait_of};
+ghost use Rattle.ptk_clock.specs.Mutex.{wait_of};
 ghost use Rattle.ptk_words.specs.Threads.{deadline_of_wait};
-ghost use Rattle.ptk_words_sync_invariant.specs.Expiries.{next_expiry};
+ghost use Rattle.ptk_clock.specs.Expiries.{next_expiry};
 ghost use Rattle.ptk_clock.specs.BySlot.{deadlines_from};
 ghost use Rattle.ptk_clock.specs.ByThread.{first_slot, least_deadline};
 ghost use Rattle.ptk_threads_slots.specs.Links.{threads_of};

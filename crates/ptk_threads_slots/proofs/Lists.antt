@@ -13,7 +13,7 @@ use Rattle.ptk_threads_slots.specs.declared.link.SlotLink.{SlotLink}
 use Rattle.ptk_threads_slots.specs.declared.link.Ends.{Ends}
 use Rattle.ptk_threads_slots.specs.declared.link.QueueName.{QueueName}
 use Rattle.ptk_threads_slots.specs.declared.link.QueueName.TheVariants.{Ready, MutexWaiters, ConditionWaiters}
-use Rattle.ptk_threads_slots.specs.declared.thread_list.Members.TheVariants.{NoMember, OnlyMember, MoreMembers}
+use Rattle.ptk_threads_slots.specs.declared.thread_list.Members.TheVariants.{OnlyMember}
 use Rattle.ptk_threads_slots.specs.Links.{place_of, IsQueueName, link_in, own_link, number_at, no_link, no_ends, ends_at, mark_of, with_previous, first_or, last_or, IsLink, IsAlong, IsQueue, AreQueues, queue_from, queue_at, queues}
 use Rattle.ptk_threads_slots.specs.Changes.{first_in, few_of, with_taken, put_before, linked_between, end_between, unlinked, end_without}
 use Rattle.ptk_threads_slots.proofs.Along.{in_front, head_out, out_parts, marked_within, first_out, last_out, along_right, along_marked, not_true}
@@ -261,35 +261,15 @@ stays_unmarked links ends k i link are is named =
 -- ---- the only thread of a queue
 
 -- a list without a thread twice, by its first and its last
-few_none : (line : List ℕ) → first_or None line ≡ None → NoMember ≡ few_of line
-few_none [] first = refl
-few_none (x ∷ xs) first = absurd (cc)
-
 few_only : (k : ℕ) (line : List ℕ) → IsDistinct nat_eq line → first_or None line ≡ Some k → last_or None line ≡ Some k → OnlyMember k ≡ few_of line
 few_only k [] distinct first last = absurd (cc)
 few_only k (x ∷ []) distinct first last = (let same : x ≡ k = cc in ap OnlyMember (sym same))
 few_only k (x ∷ y ∷ ys) distinct first last = absurd (last_out (y ∷ ys) x (head_out x (y ∷ ys) distinct) (last ∙ sym first))
 
-few_more : (k : ℕ) (line : List ℕ) → first_or None line ≡ Some k → last_or None line ≢ Some k → MoreMembers ≡ few_of line
-few_more k [] first other = absurd (cc)
-few_more k (x ∷ []) first other = absurd (other first)
-few_more k (x ∷ y ∷ ys) first other = refl
-
 -- of a queue, by its ends
-pub none_read : (links : List Link) (ends : List Ends) (i : ℕ) (end : Ends) → AreQueues links ends → end ≡ ends_at ends i → end.first ≡ None → NoMember ≡ few_of (part_of (queues links ends) i)
-none_read links ends i end are read first =
-    rw (list_at links ends i) (few_none (queue_at links ends i) (sym (are.each i).first ∙ (ap (λ (e : Ends). e.first) (sym read) ∙ first)))
-
 pub only_read : (links : List Link) (ends : List Ends) (i k j : ℕ) (end : Ends) → AreQueues links ends → end ≡ ends_at ends i → end.first ≡ Some k → end.last ≡ Some j → j ≡ k → OnlyMember k ≡ few_of (part_of (queues links ends) i)
 only_read links ends i k j end are read first last same =
     let line = queue_at links ends i in
     let head : first_or None line ≡ Some k = sym (are.each i).first ∙ (ap (λ (e : Ends). e.first) (sym read) ∙ first) in
     let tail : last_or None line ≡ Some k = sym (are.each i).last ∙ (ap (λ (e : Ends). e.last) (sym read) ∙ (last ∙ ap Some same)) in
     rw (list_at links ends i) (few_only k line (are.each i).distinct head tail)
-
-pub more_read : (links : List Link) (ends : List Ends) (i k : ℕ) (end : Ends) → AreQueues links ends → end ≡ ends_at ends i → end.first ≡ Some k → end.last ≢ Some k → MoreMembers ≡ few_of (part_of (queues links ends) i)
-more_read links ends i k end are read first other =
-    let line = queue_at links ends i in
-    let head : first_or None line ≡ Some k = sym (are.each i).first ∙ (ap (λ (e : Ends). e.first) (sym read) ∙ first) in
-    let tail : last_or None line ≢ Some k = λ e. other (ap (λ (e : Ends). e.last) read ∙ ((are.each i).last ∙ e)) in
-    rw (list_at links ends i) (few_more k line head tail)

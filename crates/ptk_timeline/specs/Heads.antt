@@ -1,7 +1,7 @@
 -- The head of a lane.
 use Rattle.std.specs.Prelude.{ℕ, List, [], ◌∷◌, ◌++◌, codes, decimal}
-use Rattle.ptk_system.specs.declared.status.PartStatus.{PartStatus}
-use Rattle.ptk_system.specs.Shown.{shown_status}
+use Rattle.ptk_timeline_segments.specs.PartStatus.{PartStatus}
+use Rattle.ptk_timeline_segments.specs.Shown.{shown_status}
 
 -- at a place the name of a partition, with its name and what it is as the text that a browser shows for it
 abbrev pub head_text : ℕ → ℕ → List ℕ → PartStatus → List ℕ

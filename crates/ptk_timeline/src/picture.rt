@@ -3,7 +3,7 @@
 ghost use Rattle.std.specs.Prelude.{◌≡◌, ◌≤◌, ◌<◌, IfErr, IfOk, OnOk};
 ghost use Rattle.std.specs.Io.KnownBytes.{Appends};
 ghost use Rattle.ptk_words.specs.declared.TheConstants.{LAST_TICK};
-ghost use Rattle.ptk_system.specs.World.{at_tick};
+ghost use Rattle.ptk_timeline_segments.specs.World.{at_tick};
 ghost use Rattle.ptk_timeline.specs.Heads.{head_text};
 
 use crate::axis::write_axis;

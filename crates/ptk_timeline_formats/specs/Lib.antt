@@ -1,3 +1,4 @@
 pub mod Shown
 pub mod Faults
 pub mod Signals
+pub use Rattle.ptk_main_runs.specs.Missing

@@ -3,9 +3,9 @@ use Rattle.std.specs.Prelude.{◌≡◌, ℕ, ◌+◌, ◌<◌, Bool, false, ◌
 use Rattle.ptk_words.specs.declared.threads.Thread.{Thread}
 use Rattle.ptk_words_model.specs.State.{Part}
 use Rattle.ptk_words_model.specs.Priority.{effective_priority, thread_at}
-use Rattle.ptk_system.specs.Activities.{activity_in}
-use Rattle.ptk_system.specs.declared.activity.Activity.{Activity}
-use Rattle.ptk_system.specs.declared.activity.Activity.TheVariants as does
+use Rattle.ptk_main_runs.specs.Activities.{activity_in}
+use Rattle.ptk_main_runs.specs.Activity.{Activity}
+use Rattle.ptk_main_runs.specs.Activity.TheVariants as does
 use Rattle.ptk_timeline_formats.specs.declared.shown.Doing.{Doing}
 use Rattle.ptk_timeline_formats.specs.declared.shown.Doing.TheVariants.{Free, Running, Suspended, Ready, Blocked, Ended, Halted}
 use Rattle.ptk_timeline_formats.specs.declared.shown.Shown.{Shown}

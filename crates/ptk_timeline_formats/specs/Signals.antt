@@ -1,8 +1,8 @@
 -- What a Value Change Dump has a form for.
 use Rattle.std.specs.Prelude.{ℕ, nat_lt, ◌+◌, ◌-◌, ◌*◌, ◌/◌, ◌%◌, ◌==◌, List, [], ◌∷◌, ◌++◌, Bool, true, false, if◌then◌else◌, Option, Some, None, unwrap_or, codes, decimal}
 use Rattle.std.specs.Fmt.{digits}
-use Rattle.ptk_system.specs.declared.status.PartStatus.{PartStatus}
-use Rattle.ptk_system.specs.declared.status.PartStatus.TheVariants as status
+use Rattle.ptk_main_runs.specs.PartStatus.{PartStatus}
+use Rattle.ptk_main_runs.specs.PartStatus.TheVariants as status
 use Rattle.ptk_words.specs.declared.threads.Wait.{Wait}
 use Rattle.ptk_words.specs.declared.threads.Wait.TheVariants.{InputWait, SleepWait, JoinWait, MutexWait, ConditionWait, RelockWait}
 use Rattle.ptk_timeline_formats.specs.declared.shown.Doing.{Doing}

@@ -2,14 +2,13 @@
 
 ghost use Rattle.std.specs.Prelude.{◌≡◌, ◌+◌, ◌<◌, ◌≤◌, IfOk, OnOk, length};
 ghost use Rattle.ptk_words.specs.declared.TheConstants.{LAST_TICK};
-ghost use Rattle.ptk_system.specs.World.{state_of};
+ghost use Rattle.ptk_main_runs.specs.World.{state_of};
 
 use crate::change::Change;
 use crate::part::Part;
 use crate::sheet::Sheet;
 use ptk_config::Config;
-use ptk_main_runs::PutFault;
-use ptk_system::System;
+use ptk_main_runs::{PutFault, System};
 use ptk_words::{PartId, Tick};
 use std::alloc::{AllocError, Global};
 use std::io::Write;

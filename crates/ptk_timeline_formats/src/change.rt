@@ -1,7 +1,7 @@
 //! What changes at a tick.
 
 use crate::shown::Shown;
-use ptk_system::PartStatus;
+use ptk_main_runs::PartStatus;
 use ptk_words::ThreadNo;
 
 /// What is shown of a thread since a tick.

@@ -3,9 +3,8 @@
 use crate::change::{Change, Kept};
 use crate::shown::{Doing, Shown};
 use ptk_config::{Config, Section};
-use ptk_main_runs::PutFault;
+use ptk_main_runs::{PartStatus, PutFault};
 use ptk_symbols::Symbols;
-use ptk_system::PartStatus;
 use ptk_words::{MutexNo, PartId, ThreadNo, Wait};
 use std::alloc::Global;
 use std::io;

@@ -1,6 +1,6 @@
 //! Why a run is not written.
 
-use ptk_system::BootFault;
+use ptk_main_runs::BootFault;
 use thiserror::Error;
 
 /// Why a run is not written, or not to its end.

@@ -2,7 +2,7 @@
 
 ghost use Rattle.std.specs.Prelude.{◌≡◌, ◌+◌, ◌<◌, ◌≤◌, IfOk, IfSome, OnOk, length};
 ghost use Rattle.ptk_words.specs.declared.TheConstants.{LAST_TICK};
-ghost use Rattle.ptk_system.specs.World.{state_of};
+ghost use Rattle.ptk_main_runs.specs.World.{state_of};
 ghost use Rattle.ptk_timeline_formats.specs.Shown.{AreShown};
 
 use crate::change::{Change, Kept};
@@ -10,8 +10,7 @@ use crate::sheet::Sheet;
 use crate::shown::Shown;
 use crate::step::Step;
 use crate::threads::{first_threads, show_threads};
-use ptk_main_runs::PutFault;
-use ptk_system::{PartStatus, System};
+use ptk_main_runs::{PartStatus, PutFault, System};
 use ptk_words::{PartId, THREAD_LIMIT, ThreadNo, Tick};
 use std::alloc::{AllocError, Global};
 use std::io::Write;

@@ -2,7 +2,7 @@
 
 ghost use Rattle.std.specs.Prelude.{◌≡◌, ◌≢◌, ◌<◌, ◌≤◌, None, IfErr, MatchResult, OnOk};
 ghost use Rattle.ptk_words.specs.declared.TheConstants.{LAST_TICK};
-ghost use Rattle.ptk_system.specs.Missing.{first_missing};
+ghost use Rattle.ptk_main_runs.specs.Missing.{first_missing};
 ghost use Rattle.ptk_timeline_formats.specs.declared.fault.FormatFault.TheVariants.{FromPastEnd};
 ghost use Rattle.ptk_timeline_formats.specs.Faults.{missing_in_format};
 
@@ -10,9 +10,8 @@ use crate::board::Board;
 use crate::fault::FormatFault;
 use crate::sheet::{Form, Sheet};
 use ptk_config::Config;
-use ptk_main_runs::PutFault;
+use ptk_main_runs::{Files, PutFault, System};
 use ptk_symbols::Symbols;
-use ptk_system::{Files, System};
 use ptk_words::Tick;
 use std::alloc::Global;
 use std::io::Write;

@@ -1,12 +1,12 @@
 //! What a thread is shown as.
 
 ghost use Rattle.std.specs.Prelude.{◌≡◌, ◌<◌, length};
-ghost use Rattle.ptk_system.specs.World.{state_of};
+ghost use Rattle.ptk_main_runs.specs.World.{state_of};
 ghost use Rattle.ptk_timeline_formats.specs.Shown.{doing_of, is_step_of, shown_in};
 ghost use Rattle.ptk_timeline_formats.specs.Signals.{state_number, wait_number};
 
 use crate::step::Step;
-use ptk_system::{Activity, System};
+use ptk_main_runs::{Activity, System};
 use ptk_words::{PartId, ThreadNo, Wait};
 
 /// What a thread does.

@@ -2,10 +2,10 @@
 
 ghost use Rattle.std.specs.Prelude.{◌≡◌, ◌+◌, ◌<◌, ◌≤◌, IfSome, length, nat_lt, None};
 ghost use Rattle.ptk_words.specs.declared.TheConstants.{LAST_TICK};
-ghost use Rattle.ptk_system.specs.World.{state_of};
+ghost use Rattle.ptk_main_runs.specs.World.{state_of};
 ghost use Rattle.ptk_timeline_formats.specs.Shown.{is_step_of};
 
-use ptk_system::System;
+use ptk_main_runs::System;
 use ptk_words::{PartId, ThreadNo};
 
 /// A step that takes up its ticks: its thread, and the tick behind its last.

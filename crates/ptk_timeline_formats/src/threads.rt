@@ -2,15 +2,14 @@
 
 ghost use Rattle.std.specs.Prelude.{◌≡◌, ◌+◌, ◌<◌, ◌≤◌, IfOk, OnOk, length};
 ghost use Rattle.ptk_words.specs.declared.TheConstants.{LAST_TICK};
-ghost use Rattle.ptk_system.specs.World.{state_of};
+ghost use Rattle.ptk_main_runs.specs.World.{state_of};
 ghost use Rattle.ptk_timeline_formats.specs.Shown.{AreShown, is_step_of, shown_in};
 
 use crate::change::{Change, Kept};
 use crate::sheet::Sheet;
 use crate::shown::{Doing, Shown};
 use crate::step::Step;
-use ptk_main_runs::PutFault;
-use ptk_system::System;
+use ptk_main_runs::{PutFault, System};
 use ptk_words::{PartId, THREAD_LIMIT, ThreadNo, Wait};
 use std::alloc::{AllocError, Global};
 use std::io::Write;

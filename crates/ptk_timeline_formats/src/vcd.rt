@@ -7,7 +7,7 @@ ghost use Rattle.ptk_timeline_formats.specs.Signals.{bit_line, identifier, is_si
 use crate::change::Change;
 use crate::shown::Shown;
 use ptk_config::{Config, Section};
-use ptk_system::PartStatus;
+use ptk_main_runs::PartStatus;
 use ptk_words::{PartId, THREAD_LIMIT, ThreadNo};
 use std::io::Write;
 use std::{fmt, io};

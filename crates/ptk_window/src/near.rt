@@ -185,12 +185,8 @@ impl Near {
         }
         let next_frame = self.frame_start + u64::from(self.frame);
         if next_frame < stage_end {
-            *self = Near {
-                frame: self.frame,
-                frame_start: next_frame,
-                stage: self.stage,
-                place: first,
-            };
+            self.place = first;
+            self.frame_start = next_frame;
             return true;
         }
         false

@@ -3,3 +3,7 @@ pub mod Conditions
 pub mod LockLaws
 pub mod SyncLaws
 pub mod Expiries
+pub use Rattle.ptk_words_model.specs.Withdrawal
+pub use Rattle.ptk_words_model.specs.Mutex
+pub use Rattle.ptk_words_model.specs.Schedule
+pub use Rattle.ptk_words_model.specs.State

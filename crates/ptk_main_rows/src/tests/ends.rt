@@ -8,8 +8,9 @@ use super::{
     ALONE, FULL_TRACE, HELLO_REPORT, SHORT, SHORT_TRACE, TWO, first, first_steps, is_first_output,
     is_some_text, pair_of, parts_of, run_on, trace_on,
 };
-use ptk_main_guests::{Config, Files, System, booted, guest_of, report_now, run_on_to, trace_now};
-use ptk_main_runs::{BootFault, RunFault};
+use ptk_main_guests::{
+    BootFault, Config, Files, RunFault, System, booted, guest_of, report_now, run_on_to, trace_now,
+};
 use ptk_words::PartId;
 use std::alloc::Global;
 use std::process::Abort;

@@ -1,5 +1,5 @@
 use Rattle.std.proofs.Common.{sym, subst}
-use Rattle.ptk_syncs.specs.Rosters.{Rostered}
+use Rattle.ptk_mutex.specs.SyncRosters.{Rostered}
 use Rattle.ptk_mutex.proofs.Sound.{AreSyncedAt}
 use Rattle.ptk_cond.proofs.Fresh.{synced_destroy, sound_destroy}
 use Rattle.ptk_cond.proofs.conditions.destroy.Goals as goal

@@ -1,7 +1,7 @@
 use Rattle.std.proofs.Common.{◌≡◌, ◌+◌, ◌-◌, ◌<◌, ◌∙◌, length, suc, arith, ap, sym, subst, ℕ}
 use Rattle.std.specs.Fn.{iterate}
 use Rattle.ptk_words_model.specs.Condition.{after_signal, condition_waiters}
-use Rattle.ptk_syncs.specs.Rosters.{Rostered}
+use Rattle.ptk_mutex.specs.SyncRosters.{Rostered}
 use Rattle.ptk_cond.proofs.Steps.{of_part, signalled_more}
 use Rattle.ptk_cond.proofs.Visited.{AreVisited, reached_more, visited_more}
 use Rattle.ptk_cond.proofs.signals.broadcast.Goals as goal

@@ -4,7 +4,7 @@ use Rattle.ptk_words_parted.specs.Parts.{part_of}
 use Rattle.ptk_words_model.specs.State.{Locks}
 use Rattle.ptk_words_model.specs.Condition.{waiters_on}
 use Rattle.ptk_words_sync_invariant.specs.Conditions.{HasRoom}
-use Rattle.ptk_syncs.specs.Rosters.{Rostered}
+use Rattle.ptk_mutex.specs.SyncRosters.{Rostered}
 use Rattle.ptk_mutex.specs.Tables.{MayWait}
 use Rattle.ptk_cond.proofs.Steps.{with_waiters_on, ready_waiters, same_waiters, waiter_may, waiter_room, is_waiting-waits, unblocked_synced, unblocked_sound}
 use Rattle.ptk_cond.proofs.signals.unblock.Goals as goal

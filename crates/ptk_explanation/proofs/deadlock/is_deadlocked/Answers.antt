@@ -3,7 +3,7 @@ use Rattle.std.proofs.lemmas.List.{length-map}
 use Rattle.ptk_words.specs.declared.threads.Thread.{Thread}
 use Rattle.ptk_words_parted.specs.Parts.{part_of}
 use Rattle.ptk_words_model.specs.State.{Part}
-use Rattle.ptk_system.specs.World.{state_of}
+use Rattle.ptk_main_runs.specs.World.{state_of}
 use Rattle.ptk_explanation.proofs.Waiting.{cycle_found, cycle_none}
 use Rattle.ptk_explanation.proofs.deadlock.is_deadlocked.Goals as goal
 

@@ -1,5 +1,5 @@
 use Rattle.ptk_gate_pools.specs.Held.{limits_here}
-use Rattle.ptk_gate_moves.proofs.Ready.{running_in_use}
+use Rattle.ptk_gate_threads.proofs.Ready.{running_in_use}
 use Rattle.ptk_gate.proofs.Yields.{yield_made}
 use Rattle.ptk_gate.proofs.turns.make_yield.Goals as goal
 

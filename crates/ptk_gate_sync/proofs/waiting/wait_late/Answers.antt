@@ -3,7 +3,7 @@ use Rattle.ptk_words.specs.declared.TheConstants.{COUNT_LIMIT}
 use Rattle.ptk_words_model.specs.declared.LockMove.TheVariants.{Counts}
 use Rattle.ptk_words_model.specs.State.{Part, with_locks}
 use Rattle.ptk_words_model.specs.Mutex.{mutex_at, after_unlock, relock_move, count_of}
-use Rattle.ptk_mutex.specs.Tables.{AreLocked, MayWait}
+use Rattle.ptk_gate_moves.specs.Tables.{AreLocked, MayWait}
 use Rattle.ptk_gate_moves.specs.Held.{limits_here}
 use Rattle.ptk_words_sync_invariant.specs.Conditions.{IsNoWaiter}
 use Rattle.ptk_gate_sync.proofs.Carried.{part_moved}

@@ -1,5 +1,6 @@
-use Rattle.std.proofs.Common.{rules}
-use Rattle.ptk_gate_threads.proofs.Endings.{left_in_use, left_fresh, left_free, left_apart, left_out}
+use Rattle.ptk_gate_moves.proofs.Locked.{locked}
+use Rattle.std.proofs.Common.{rules, arith}
+use Rattle.ptk_gate_threads.proofs.Endings.{left_in_use, left_fresh, left_free, left_apart, left_out, ended}
 use Rattle.ptk_gate_threads.proofs.ends.end.Goals as goal
 
 pub end_without_mutexes-requires-clause-in_use : goal.end_without_mutexes-requires-clause-in_use
@@ -16,3 +17,6 @@ end_without_mutexes-requires-clause-apart c = search (rules, left_apart)
 
 pub end_without_mutexes-requires-clause-out : goal.end_without_mutexes-requires-clause-out
 end_without_mutexes-requires-clause-out c = search (rules, left_out)
+
+pub returns : goal.returns
+returns c = grind (arith, locked, ended)

@@ -3,8 +3,8 @@ use Rattle.std.specs.Prelude.{Some}
 use Rattle.ptk_words.specs.declared.threads.Wait.TheVariants.{SleepWait, MutexWait}
 use Rattle.ptk_words_model.specs.Mutex.{wait_of}
 use Rattle.ptk_threads.specs.Table.{thread_in}
-use Rattle.ptk_syncs.specs.Rosters.{Rostered}
-use Rattle.ptk_mutex.proofs.Sound.{of_part, synced_withdrawal}
+use Rattle.ptk_cond.specs.Rosters.{Rostered}
+use Rattle.ptk_cond.proofs.Sound.{of_part, synced_withdrawal}
 use Rattle.ptk_cond.proofs.Waits.{waits}
 use Rattle.ptk_gate_waits.specs.Timeouts.{after_sync_timeout}
 use Rattle.ptk_gate_waits.proofs.TimedOut.{slept, synced_slept, sound_slept, waiter_by, untimed}

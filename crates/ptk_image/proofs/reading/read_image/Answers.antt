@@ -1,3 +1,4 @@
+use Rattle.std.proofs.lemmas.Grind.{common_steps}
 use Rattle.std.proofs.Common.{rules, arith, length-drop}
 use Rattle.ptk_image.proofs.Checked.{image_read_as}
 use Rattle.ptk_image.proofs.reading.read_image.Goals as goal
@@ -10,3 +11,6 @@ returns-clause-image c =
     (search rules) (grind (arith, length-drop)) (search rules) (search rules)
     (search rules) (search rules)
     )
+
+pub returns-then-entry-ne0-clause-fault : goal.returns-then-entry-ne0-clause-fault
+returns-then-entry-ne0-clause-fault c = grind (arith, common_steps)

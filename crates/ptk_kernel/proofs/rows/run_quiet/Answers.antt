@@ -1,6 +1,6 @@
 use Rattle.std.proofs.Common.{◌≤◌, length, arith}
 use Rattle.ptk_gate.specs.Kept.{limits_at, part_at}
-use Rattle.ptk_gate_steps.proofs.StepsInARow.{gone_later}
+use Rattle.ptk_gate.proofs.StepsInARow.{gone_later}
 use Rattle.ptk_kernel.proofs.RowsMade.{rows_none, rows_still}
 use Rattle.ptk_kernel.proofs.rows.run_quiet.Goals as goal
 

@@ -1,5 +1,5 @@
 use Rattle.std.proofs.Common.{◌∙◌, ap}
-use Rattle.ptk_system.specs.World.{World}
+use Rattle.ptk_main_runs.specs.World.{World}
 use Rattle.ptk_main_answers.specs.Refusals.{refused_image}
 use Rattle.ptk_main_answers.proofs.Refusals.{refused_image_is_fault}
 use Rattle.ptk_main_answers.proofs.check.check_with.Goals as goal

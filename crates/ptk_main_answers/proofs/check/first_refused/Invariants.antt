@@ -1,5 +1,5 @@
 use Rattle.std.proofs.Common.{◌≡◌, ◌<◌, ℕ, false}
-use Rattle.ptk_system.specs.World.{section_at}
+use Rattle.ptk_main_runs.specs.World.{section_at}
 use Rattle.ptk_main_answers.specs.Images.{is_refused}
 use Rattle.ptk_main_answers.proofs.check.first_refused.Given as goal
 

@@ -1,6 +1,6 @@
 use Rattle.std.proofs.Common.{◌≡◌, ◌<◌, ℕ, None}
-use Rattle.ptk_system.specs.Told.{status_in}
-use Rattle.ptk_system.specs.World.{state_of}
+use Rattle.ptk_main_runs.specs.Told.{status_in}
+use Rattle.ptk_main_runs.specs.World.{state_of}
 use Rattle.ptk_main_answers.specs.Expectations.{failure_of}
 use Rattle.ptk_main_answers.proofs.expectation.first_failure.Given as goal
 

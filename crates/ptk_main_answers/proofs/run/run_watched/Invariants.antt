@@ -1,5 +1,5 @@
 use Rattle.std.proofs.Common.{◌≡◌, ◌-◌, ◌≤◌}
-use Rattle.ptk_system.specs.World.{at_tick}
+use Rattle.ptk_main_runs.specs.World.{at_tick}
 use Rattle.ptk_main_answers.proofs.run.run_watched.Given as goal
 
 abbrev pub invariant-loop-last : goal.invariant-loop-last

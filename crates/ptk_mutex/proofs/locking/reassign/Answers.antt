@@ -1,4 +1,4 @@
-use Rattle.std.proofs.Common.{arith, sym, ap, subst, ◌∙◌}
+use Rattle.std.proofs.Common.{arith, sym, ap, subst, ◌∙◌, rules}
 use Rattle.std.specs.Prelude.{List, Option}
 use Rattle.ptk_words.specs.declared.threads.Thread.{Thread}
 use Rattle.ptk_words_parted.specs.Parts.{part_of}
@@ -18,3 +18,6 @@ raise-requires-clause-before c =
 pub returns-clause-visited : goal.returns-clause-visited
 returns-clause-visited c = λ _.
     stored_visited c.args.p _ c.args.roster.now.table c.change.new.self.table c.raise.new.roster.table (ap (λ (r : Rostered). r.table.stored) c.change.ensures) c.raise.ensures.visited
+
+pub returns-then-level-before-clause-threads : goal.returns-then-level-before-clause-threads
+returns-then-level-before-clause-threads c = search rules

@@ -1,3 +1,4 @@
+use Rattle.std.proofs.lemmas.Grind.{common_steps}
 use Rattle.std.proofs.Common.{◌≡◌, ◌+◌, ◌-◌, length, suc, arith, ◌∙◌}
 use Rattle.ptk_mutex.proofs.Steps.{refused_more}
 use Rattle.ptk_mutex.proofs.unlocking.refuse_all.Goals as goal
@@ -12,3 +13,6 @@ loop-i-preserved c =
           c.refuse_next.ensures.ready;
       conditions = c.refuse_next.ensures.conditions ∙ c.loop-i.invariant.conditions;
     }
+
+pub loop-i-init : goal.loop-i-init
+loop-i-init c = grind (arith, common_steps)

@@ -1,4 +1,4 @@
-use Rattle.std.proofs.Common.{◌≡◌, ◌+◌, ◌∷◌, ◌++◌, [], List, ℕ, Some, Option, ap, sym, ◌∙◌, arith}
+use Rattle.std.proofs.Common.{◌≡◌, ◌+◌, ◌∷◌, ◌++◌, [], List, ℕ, Some, Option, ap, sym, ◌∙◌, arith, rules}
 use Rattle.std.specs.Prelude.{map}
 use Rattle.std.proofs.lemmas.List.{map_push}
 use Rattle.ptk_asm_language.specs.Lines.{raw_lines, without_ending}
@@ -20,3 +20,6 @@ lines-preserved c =
     let stepped : table_from n (raw_lines c.lines.rest.now) ≡ with_symbol n (Some s) later =
     ap (table_from n) c.split_line.ensures.lines ∙ ap (λ (o : Option (ℕ × List ℕ)). with_symbol n o later) found in
     (omega arith, ap (λ (xs : List (ℕ × List ℕ)). before xs later) grown ∙ before-more now s n later ∙ sym (ap (before now) stepped) ∙ c.lines.invariant.1)
+
+pub lines-init : goal.lines-init
+lines-init c = search rules

@@ -2,8 +2,8 @@ use Rattle.std.proofs.Common.{◌≡◌, List, map, ap, ◌∙◌, Bor}
 use Rattle.std.proofs.lemmas.Result.{IfOk-weaker}
 use Rattle.ptk_words.specs.declared.sections.Arrival.{Arrival}
 use Rattle.ptk_console.specs.ConsoleTable.{fresh_console}
-use Rattle.ptk_gate_pools.specs.Kept.{Kept}
-use Rattle.ptk_gate_pools.specs.Blank.{blank}
+use Rattle.ptk_system_machine.specs.Kept.{Kept}
+use Rattle.ptk_system_machine.specs.Blank.{blank}
 use Rattle.ptk_image.specs.NamedFiles.{NamedFile}
 use Rattle.ptk_system.specs.Loaded.{AreLoaded}
 use Rattle.ptk_system.proofs.Loading.{blank_loaded}

@@ -1,7 +1,7 @@
 use Rattle.std.proofs.Common.{◌≡◌, ℕ, ◌<◌, List, length, get_or, subst}
 use Rattle.std.proofs.lemmas.List.{get_or_read}
 use Rattle.ptk_words_model.specs.Run.{with_image_bytes}
-use Rattle.ptk_gate_pools.specs.Kept.{limits_at, part_at, put_part}
+use Rattle.ptk_system_machine.specs.Kept.{limits_at, part_at, put_part}
 use Rattle.ptk_config.specs.Sections.{Section}
 use Rattle.ptk_system.specs.Missing.{image_in}
 use Rattle.ptk_system.specs.World.{no_section}

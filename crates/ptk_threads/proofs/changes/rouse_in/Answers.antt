@@ -1,7 +1,7 @@
 use Rattle.std.proofs.Common.{refl, sym, subst}
 use Rattle.std.specs.Prelude.{Option, IsSome}
 use Rattle.ptk_words.specs.declared.threads.Thread.{Thread}
-use Rattle.ptk_words_model.specs.Schedule.{woken_with}
+use Rattle.ptk_clock.specs.Schedule.{woken_with}
 use Rattle.ptk_threads.proofs.Slots.{used_at, used_changed, worked_links}
 use Rattle.ptk_threads.proofs.changes.rouse_in.Goals as goal
 

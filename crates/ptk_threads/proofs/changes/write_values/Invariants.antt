@@ -1,6 +1,6 @@
 use Rattle.std.proofs.Common.{◌≡◌, ◌+◌, drop}
 use Rattle.ptk_words.specs.declared.TheConstants.{A0}
-use Rattle.ptk_words_model.specs.Schedule.{with_registers}
+use Rattle.ptk_clock.specs.Schedule.{with_registers}
 use Rattle.ptk_threads.proofs.changes.write_values.Given as goal
 
 abbrev pub invariant-loop-i : goal.invariant-loop-i

@@ -1,5 +1,5 @@
 use Rattle.std.proofs.Common.{◌≡◌, ℕ, ◌+◌, ◌<◌, ◌≤◌, get_or}
-use Rattle.ptk_system.specs.World.{state_of}
+use Rattle.ptk_main_runs.specs.World.{state_of}
 use Rattle.ptk_timeline_formats.specs.declared.change.Kept.{Kept}
 use Rattle.ptk_timeline_formats.specs.Shown.{is_step_of, shown_in}
 use Rattle.ptk_timeline_formats.proofs.threads.show_threads.Given as goal

@@ -2,7 +2,7 @@ use Rattle.std.proofs.Common.{◌≡◌, ◌+◌, ◌≤◌, ◌∙◌, sym, ap,
 use Rattle.std.specs.Prelude.{slice_get}
 use Rattle.ptk_words.specs.Names.{Tick}
 use Rattle.ptk_words_parted.specs.Parts.{part_of}
-use Rattle.ptk_words_model.specs.Withdrawal.{Expiry}
+use Rattle.ptk_words_sync_invariant.specs.Withdrawal.{Expiry}
 use Rattle.ptk_words_sync_invariant.specs.Expiries.{next_expiry}
 use Rattle.ptk_clock.specs.declared.threads.PartitionSlots.{PartitionSlots}
 use Rattle.ptk_clock.proofs.LeastDeadlines.{none_due}

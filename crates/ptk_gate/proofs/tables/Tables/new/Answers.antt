@@ -1,4 +1,5 @@
-use Rattle.std.proofs.Common.{sym, ◌∙◌, ap, subst}
+use Rattle.std.proofs.lemmas.Grind.{common_steps}
+use Rattle.std.proofs.Common.{sym, ◌∙◌, ap, subst, arith}
 use Rattle.ptk_gate_pools.specs.Held.{all_of}
 use Rattle.ptk_gate_pools.proofs.Hands.{all-held}
 use Rattle.ptk_gate.specs.Whole.{AreWhole}
@@ -11,3 +12,6 @@ invariant_of-result c =
 
 pub build-requires-clause-memory : goal.build-requires-clause-memory
 build-requires-clause-memory c = memory_of_words c.args.limits.now c.requires.ranges
+
+pub returns : goal.returns
+returns c = grind (arith, common_steps)

@@ -1,6 +1,6 @@
-use Rattle.ptk_mutex.specs.Moves.{after_assignment}
-use Rattle.ptk_mutex.specs.Tables.{locks_by}
-use Rattle.ptk_mutex.proofs.Sound.{as_syncs, with_locks_of}
+use Rattle.ptk_gate_waits.specs.Moves.{after_assignment}
+use Rattle.ptk_gate_waits.specs.LockTables.{locks_by}
+use Rattle.ptk_gate_waits.proofs.Sound.{as_syncs, with_locks_of}
 use Rattle.ptk_gate_pools.proofs.Changed.{tables_pooled}
 use Rattle.ptk_gate_pools.proofs.pools.Pools.give_priority.Goals as goal
 

@@ -1,8 +1,8 @@
 use Rattle.ptk_words.specs.declared.threads.Wait.TheVariants.{RelockWait}
 use Rattle.ptk_words_model.specs.State.{Locks}
 use Rattle.ptk_words_model.specs.Mutex.{mutex_at, relock_move, after_move}
-use Rattle.ptk_mutex.specs.Tables.{locks_by}
-use Rattle.ptk_mutex.proofs.Sound.{as_syncs, with_locks_of}
+use Rattle.ptk_gate_waits.specs.LockTables.{locks_by}
+use Rattle.ptk_gate_waits.proofs.Sound.{as_syncs, with_locks_of}
 use Rattle.ptk_gate_pools.proofs.Changed.{tables_pooled, tables_held}
 use Rattle.ptk_gate_pools.proofs.pools.Pools.lock_again.Goals as goal
 

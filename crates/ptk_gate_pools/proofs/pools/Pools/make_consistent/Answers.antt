@@ -1,7 +1,7 @@
 use Rattle.ptk_words.specs.declared.mutexes.Soundness.TheVariants.{Consistent}
 use Rattle.ptk_words_model.specs.Mutex.{with_soundness}
-use Rattle.ptk_mutex.specs.Tables.{locks_by}
-use Rattle.ptk_mutex.proofs.Sound.{as_syncs, with_locks_of}
+use Rattle.ptk_gate_waits.specs.LockTables.{locks_by}
+use Rattle.ptk_gate_waits.proofs.Sound.{as_syncs, with_locks_of}
 use Rattle.ptk_gate_pools.proofs.Changed.{tables_held, tables_pooled}
 use Rattle.ptk_gate_pools.proofs.pools.Pools.make_consistent.Goals as goal
 

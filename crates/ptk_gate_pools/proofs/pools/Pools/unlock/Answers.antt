@@ -1,7 +1,7 @@
 use Rattle.ptk_words_model.specs.State.{Locks}
 use Rattle.ptk_words_model.specs.Mutex.{after_unlock}
-use Rattle.ptk_mutex.specs.Tables.{locks_by}
-use Rattle.ptk_mutex.proofs.Sound.{as_syncs, with_locks_of}
+use Rattle.ptk_gate_waits.specs.LockTables.{locks_by}
+use Rattle.ptk_gate_waits.proofs.Sound.{as_syncs, with_locks_of}
 use Rattle.ptk_gate_pools.proofs.Changed.{tables_pooled}
 use Rattle.ptk_gate_pools.proofs.pools.Pools.unlock.Goals as goal
 

@@ -1,6 +1,6 @@
 use Rattle.std.specs.Prelude.{None}
 use Rattle.ptk_words_model.specs.Condition.{after_unblock}
-use Rattle.ptk_cond.specs.Tables.{syncs_by}
+use Rattle.ptk_gate_waits.specs.Tables.{syncs_by}
 use Rattle.ptk_gate_pools.proofs.Changed.{tables_pooled}
 use Rattle.ptk_gate_pools.proofs.pools.Pools.withdraw_from_condition.Goals as goal
 

@@ -1,5 +1,5 @@
 use Rattle.std.proofs.Common.{◌≡◌, ℕ, ◌∙◌, sym, ap, arith}
-use Rattle.ptk_system.specs.World.{World, at_tick}
+use Rattle.ptk_main_runs.specs.World.{World, at_tick}
 use Rattle.ptk_statistics.proofs.Parts.{at_again, kept_later}
 use Rattle.ptk_statistics.proofs.statistics.Statistics.decide.Goals as goal
 

@@ -1,5 +1,5 @@
 use Rattle.std.proofs.Common.{◌≡◌, ◌∙◌, ap, max, arith}
-use Rattle.ptk_system.specs.World.{at_tick}
+use Rattle.ptk_main_runs.specs.World.{at_tick}
 use Rattle.ptk_statistics.proofs.Parts.{kept_later}
 use Rattle.ptk_statistics.proofs.statistics.Statistics.of_run.Goals as goal
 

@@ -1,5 +1,5 @@
 use Rattle.std.proofs.Common.{◌≡◌, ◌-◌, ◌≤◌}
-use Rattle.ptk_system.specs.World.{at_tick}
+use Rattle.ptk_main_runs.specs.World.{at_tick}
 use Rattle.ptk_statistics.specs.Parts.{AreKept}
 use Rattle.ptk_statistics.proofs.statistics.Statistics.run.Given as goal
 

@@ -1,4 +1,4 @@
-use Rattle.std.proofs.Common.{◌≡◌, ℕ, ◌-◌, ◌<◌, ◌≤◌, length, sym, ap, subst, ◌∙◌, arith}
+use Rattle.std.proofs.Common.{◌≡◌, ℕ, ◌-◌, ◌<◌, ◌≤◌, length, sym, ap, subst, ◌∙◌, arith, rules}
 use Rattle.ptk_words_windows.specs.Windows.{own_ticks}
 use Rattle.ptk_system_machine.specs.Accounts.{IsBehind}
 use Rattle.ptk_system_machine.specs.Whole.{Whole, gone_on, state_at}
@@ -26,3 +26,6 @@ loop-i-preserved c =
           c.loop-i.invariant.limits c.loop-i.invariant.done c.loop-i.invariant.left gone;
       left = one_left c.args.plan.now c.loop-i.i c.args.tick (c.args.to - c.args.tick) c.args.self.now c.loop-i.self c.run_partition.new.self c.loop-i.invariant.left gone;
     }
+
+pub returns-clause-each : goal.returns-clause-each
+returns-clause-each c = search rules

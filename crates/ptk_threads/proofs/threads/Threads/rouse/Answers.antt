@@ -1,5 +1,5 @@
 use Rattle.std.proofs.Common.{ap, refl}
-use Rattle.ptk_words_model.specs.Schedule.{woken_with}
+use Rattle.ptk_clock.specs.Schedule.{woken_with}
 use Rattle.ptk_threads.specs.Queues.{LinkedThreads}
 use Rattle.ptk_threads.proofs.Timed.{kept_ended}
 use Rattle.ptk_threads.proofs.threads.Threads.rouse.Goals as goal

@@ -1,5 +1,5 @@
 use Rattle.std.proofs.Common.{ap, refl}
-use Rattle.ptk_words_model.specs.Schedule.{with_reply}
+use Rattle.ptk_clock.specs.Schedule.{with_reply}
 use Rattle.ptk_threads.specs.Queues.{LinkedThreads}
 use Rattle.ptk_threads.proofs.Timed.{kept_changed}
 use Rattle.ptk_threads.proofs.threads.Threads.set_values.Goals as goal

@@ -1,4 +1,4 @@
-use Rattle.std.proofs.Common.{ℕ, ◌+◌, nat_lt, Option, get_or, ap, subst, sym, arith}
+use Rattle.std.proofs.Common.{ℕ, ◌+◌, nat_lt, Option, get_or, ap, subst, sym, arith, rules}
 use Rattle.ptk_system.specs.World.{state_of}
 use Rattle.ptk_timeline_segments.specs.declared.marks.Marked.{Marked}
 use Rattle.ptk_timeline_segments.specs.declared.step.Busy.{Busy}
@@ -20,3 +20,6 @@ returns c = record {
       (nat_lt c.args.self.now.steps c.steps.result) (ap (λ (n : ℕ). nat_lt c.args.self.now.steps n) c.steps.ensures)
       (subst (λ (m : Marked). IsMarkedBy c.args.tick (nat_lt c.args.self.now.steps c.steps.result) (state_of c.args.system.now c.args.p) c.args.self.now.marked m) (sym c.tell.ensures.marked) c.mark.ensures);
 }
+
+pub returns-then-tick-self : goal.returns-then-tick-self
+returns-then-tick-self c = search rules

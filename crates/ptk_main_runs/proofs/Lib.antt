@@ -1,0 +1,2 @@
+pub use Rattle.ptk_system.proofs.Keeping
+pub use Rattle.ptk_system.proofs.Runs
