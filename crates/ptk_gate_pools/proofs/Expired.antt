@@ -1,6 +1,6 @@
 -- A deadline that comes: what it does is the model's.
 use Rattle.std.proofs.Common.{◌≡◌, ℕ, refl, sym, ◌∙◌, ap}
-use Rattle.std.specs.Prelude.{Option, Some, None, option_map}
+use Rattle.std.specs.Prelude.{true, Option, Some, None, is_some, option_map}
 use Rattle.ptk_words.specs.declared.threads.Wait.{Wait}
 use Rattle.ptk_words.specs.declared.threads.Wait.TheVariants.{InputWait, SleepWait, JoinWait, MutexWait, ConditionWait, RelockWait}
 use Rattle.ptk_words_model.specs.State.{Syncs, Part, with_syncs}
@@ -49,3 +49,13 @@ one_expired p t a (Some x) e =
 pub expired_move : (p t tick : ℕ) (a : Inside) → Some t ≡ option_map (λ (x : Expiry). x.thread) (next_expiry tick (deadlines_of (part_at p (kept_of a)).locks))
     → with_syncs (λ _. expired_syncs p t a) (part_at p (kept_of a)) ≡ after_one_expiry (next_expiry tick (deadlines_of (part_at p (kept_of a)).locks)) (part_at p (kept_of a))
 expired_move p t tick a told = one_expired p t a (next_expiry tick (deadlines_of (part_at p (kept_of a)).locks)) told
+
+-- ---- whether one is due
+
+pub some_mapped : {A B : Type 0} (f : A → B) (y : B) (o : Option A) → Some y ≡ option_map f o → true ≡ is_some o
+some_mapped f y None e = absurd (let no : ⊥ = cc in no)
+some_mapped f y (Some x) e = refl
+
+pub none_mapped : {A B : Type 0} (f : A → B) (o : Option A) → None ≡ option_map f o → o ≡ None
+none_mapped f None e = refl
+none_mapped f (Some x) e = absurd (let no : ⊥ = cc in no)

@@ -16,6 +16,7 @@ use Rattle.ptk_words_sync_invariant.proofs.Conditions.{IsConditionWait, conditio
 use Rattle.ptk_words_invariant.specs.Well.{IsWell}
 use Rattle.ptk_threads.specs.Table.{ThreadTable}
 use Rattle.ptk_gate_waits.specs.LockTables.{IsWaiter, AreLocked}
+use Rattle.ptk_gate_waits.specs.Timeouts.{IsBlocked}
 use Rattle.ptk_gate_waits.specs.Tables.{syncs_by, AreSyncedBy, IsOnCondition, AreWaiting, IsAwake}
 use Rattle.ptk_gate_pools.specs.Kept.{AreStored}
 use Rattle.ptk_gate_pools.proofs.Locking.{ready_is}
@@ -61,4 +62,12 @@ awake_of limits s t well runs = record {
   used = ready_used (thread_at s.locks t) (well.running_ready t runs);
   out = well.running_out t runs;
   awake = ready_waits (thread_at s.locks t) (well.running_ready t runs);
+}
+
+-- a thread that waits is not in the line, and is among the waiters of what it waits for
+pub blocked_of : (limits : Limits) (s : Part) (t : ℕ) → IsWell limits s → IsBlocked s.syncs t
+blocked_of limits s t well = record {
+  out = λ wait waits. not_ready_out s.threads s.line s.running t (lined_of limits s well) (waits_not_ready wait (thread_at s.locks t) waits);
+  queued = λ m waits. well.exclusion.waits_listed m t waits;
+  listed = λ c waits. well.conditional.waits_listed c t waits;
 }

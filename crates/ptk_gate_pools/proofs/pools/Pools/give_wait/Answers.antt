@@ -1,12 +1,13 @@
 use Rattle.std.proofs.Common.{List, ◌∙◌, ap, refl, sym}
 use Rattle.std.specs.Prelude.{Option, option_and_then}
-use Rattle.ptk_words.specs.Pools.{pool_get}
+use Rattle.ptk_words.specs.Pools.{pool_get, pool_changed}
 use Rattle.ptk_words.specs.declared.threads.Thread.{Thread}
 use Rattle.ptk_words_parted.specs.Parts.{part_of}
 use Rattle.ptk_threads.specs.Table.{with_wait}
 use Rattle.ptk_words.specs.Threads.{mutex_of_wait}
 use Rattle.ptk_gate_pools.proofs.Stored.{not_some}
-use Rattle.ptk_gate_pools.proofs.Changed.{kept_pooled, wait_pooled}
+use Rattle.ptk_gate_pools.proofs.Changed.{kept_pooled, wait_pooled, changed_held, again_held}
+use Rattle.ptk_gate_boot.specs.Rosters.{Rostered}
 use Rattle.ptk_gate_pools.proofs.pools.Pools.give_wait.Goals as goal
 
 -- neither wait is for a mutex
@@ -22,3 +23,15 @@ pub invariant_of-self-2 : goal.invariant_of-self-2
 invariant_of-self-2 c =
     wait_pooled c.self.inside.hand c.args.t (with_wait c.args.wait) c.self.inside.roster.lines c.self.inside c.change.new.self c.refresh.new.roster c.refresh.new.self c.self.invariant.in_hand refl c.change.ensures c.refresh.ensures.roster
     c.self.invariant
+
+pub returns-then-not-has_mutex : goal.returns-then-not-has_mutex
+returns-then-not-has_mutex c =
+    rw (← c.self.view_is) (changed_held c.self.inside.hand c.args.t (with_wait c.args.wait) c.self.inside c.change.new.self c.change.ensures c.self.invariant c.self.invariant.in_hand)
+
+pub returns : goal.returns
+returns c =
+    let a = c.self.inside in
+    rw (← c.self.view_is)
+    (again_held a.hand (pool_changed c.args.t (with_wait c.args.wait) (part_of a.roster.table.threads a.hand)) a c.change.new.self c.refresh.new.roster c.refresh.new.self
+    (ap (λ (r : Rostered). r.table.threads) c.change.ensures) (ap (λ (r : Rostered). r.lines) c.change.ensures) (ap (λ (r : Rostered). r.mutexes) c.change.ensures) (ap (λ (r : Rostered). r.conditions) c.change.ensures)
+    c.refresh.ensures.roster c.self.invariant c.self.invariant.in_hand)

@@ -1,25 +1,19 @@
 use Rattle.ptk_words.specs.declared.threads.Wait.TheVariants.{RelockWait}
-use Rattle.ptk_words_model.specs.State.{Locks}
 use Rattle.ptk_words_model.specs.Mutex.{mutex_at, relock_move, after_move}
+use Rattle.ptk_words_model.specs.State.{Locks}
 use Rattle.ptk_gate_waits.specs.LockTables.{locks_by}
-use Rattle.ptk_gate_waits.proofs.Sound.{as_syncs, with_locks_of}
-use Rattle.ptk_gate_pools.proofs.Changed.{tables_pooled, tables_held}
+use Rattle.ptk_gate_pools.proofs.Changed.{locks_pooled, locks_held}
 use Rattle.ptk_gate_pools.proofs.pools.Pools.lock_again.Goals as goal
 
 pub invariant_of-self : goal.invariant_of-self
 invariant_of-self c =
     let a = c.self.inside in
-    let locks : Locks = locks_by c.self.inside.hand a.roster.table a.roster.lines a.roster.mutexes in
-    tables_pooled c.self.inside.hand (with_locks_of c.self.inside.hand a.roster (after_move (relock_move c.args.t (mutex_at locks c.args.m)) c.args.t c.args.m (RelockWait c.args.m c.args.reply) locks)) a c.lock_again.new.roster c.lock_again.new.self
-    c.self.invariant.in_hand
-    (as_syncs c.self.inside.hand a.roster c.lock_again.new.roster (after_move (relock_move c.args.t (mutex_at locks c.args.m)) c.args.t c.args.m (RelockWait c.args.m c.args.reply) locks) c.lock_again.ensures.roster)
-    c.self.invariant
+    let locks : Locks = locks_by a.hand a.roster.table a.roster.lines a.roster.mutexes in
+    locks_pooled a.hand (after_move (relock_move c.args.t (mutex_at locks c.args.m)) c.args.t c.args.m (RelockWait c.args.m c.args.reply) locks) a c.lock_again.new.roster c.lock_again.new.self c.self.invariant.in_hand c.lock_again.ensures.roster c.self.invariant
 
 pub returns-clause-moved : goal.returns-clause-moved
 returns-clause-moved c =
     let a = c.self.inside in
     let locks : Locks = locks_by a.hand a.roster.table a.roster.lines a.roster.mutexes in
     rw (← c.self.view_is)
-    (tables_held a.hand (with_locks_of a.hand a.roster (after_move (relock_move c.args.t (mutex_at locks c.args.m)) c.args.t c.args.m (RelockWait c.args.m c.args.reply) locks)) a c.lock_again.new.roster c.lock_again.new.self
-    (as_syncs a.hand a.roster c.lock_again.new.roster (after_move (relock_move c.args.t (mutex_at locks c.args.m)) c.args.t c.args.m (RelockWait c.args.m c.args.reply) locks) c.lock_again.ensures.roster)
-    c.self.invariant c.self.invariant.in_hand)
+    (locks_held a.hand (after_move (relock_move c.args.t (mutex_at locks c.args.m)) c.args.t c.args.m (RelockWait c.args.m c.args.reply) locks) a c.lock_again.new.roster c.lock_again.new.self c.lock_again.ensures.roster c.self.invariant c.self.invariant.in_hand)
