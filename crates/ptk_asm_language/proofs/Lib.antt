@@ -7,3 +7,4 @@ pub mod PlaceList
 pub mod OperandList
 pub mod OperandPlaces
 pub mod RegisterNames
+pub mod Entries

@@ -63,6 +63,3 @@ pub placed_extra : (o : Operands) (slots : List Slot) (tokens : List Spanned) (i
 placed_extra o slots tokens i n end t ends within is_t count =
     let none : drop i slots ≡ [] = grind (arith, common_steps) in
     spot_at tokens (length slots) n end t within is_t (sym count ∙ rw none (omega arith))
-
--- what one more token gives
-pub ruleset place_rules = (index_more, placed_fault, placed_missing, placed_extra)

@@ -96,7 +96,6 @@ fn add_operand<'a>(
 
 /// The operands that tokens give in the places of a form. The first fault from the left with the place of its token,
 /// or with `end`, where the line's code ends, for a missing one; Memory where memory is refused.
-#[tactic(auto, using(crate::proofs::OperandList::operands_more, crate::proofs::OperandList::operands_fault, crate::proofs::OperandList::operands_missing, crate::proofs::OperandList::operands_extra, crate::proofs::OperandList::operands_end, crate::proofs::OperandPlaces::place_rules))]
 pub fn operands_of<'a>(
     alloc: Global,
     slots: &[Slot],
