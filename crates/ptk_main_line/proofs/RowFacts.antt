@@ -2,14 +2,17 @@
 use Rattle.std.proofs.Common.{◌≡◌, ◌≢◌, ◌∙◌, ℕ, ◌<◌, ◌≤◌, ◌^◌, List, Option, Some, None, Result, Ok, Err, refl, sym, ap, subst, codes, arith, slice_index, ◌==◌, true, false}
 use Rattle.std.specs.Prelude.{IfErr, MatchOption, find, option_and_then, option_map, slice_get, unwrap_or}
 use Rattle.std.specs.Borrow.{Bor}
+use Rattle.std.specs.Box.{box_value}
 use Rattle.std.specs.Result.{IsErrAnd}
 use Rattle.std.specs.Str.{bytes_eq}
 use Rattle.std.specs.Str.Parse.{IsNumeral, ParsesUnsigned, digits_value, without_leading_plus}
-use Rattle.clap.specs.Words.{Row, Text, first_of, first_value, one_of, rows_of}
+use Rattle.clap.specs.Words.{Row, Text, first_of, first_value, found_of, one_of, rows_of, subcommand_rows_of}
 use Rattle.clap.specs.Facts.{Entry}
 use Rattle.clap.specs.Walk.{row_of, row_text}
 use Rattle.clap.specs.Values.{read_as}
-use Rattle.clap.specs.Matches.{ReadsOne, matched_of}
+use Rattle.clap.specs.Matches.{ReadsOne, matched_of, subcommand_name_of}
+use Rattle.clap.specs.declared.parser.matches.ArgMatches.{ArgMatches}
+use Rattle.clap.specs.declared.parser.matches.ArgMatches.TheViews.{out-ArgMatches, out-SubCommand}
 use Rattle.clap.specs.declared.parser.matches.Found.{Found}
 use Rattle.clap.proofs.WalkLemmas.{find_row, first_value-rows}
 use Rattle.ptk_main_line.specs.declared.requests.Request.{Request}
@@ -23,7 +26,8 @@ use Rattle.ptk_main_line.specs.declared.requests.CheckOptions.{CheckOptions}
 use Rattle.ptk_main_line.specs.declared.requests.ImpactOptions.{ImpactOptions}
 use Rattle.ptk_main_line.specs.declared.requests.ExplainOptions.{ExplainOptions}
 use Rattle.ptk_main_line.specs.declared.requests.StatsOptions.{StatsOptions}
-use Rattle.ptk_main_line.specs.Requests.{Gives, IsRun, IsTrace, IsTimeline, IsAsm, IsCheck, IsDisasm, IsImpact, IsExplain, IsStats}
+use Rattle.ptk_main_line.specs.CommandLine.{MeansAny}
+use Rattle.ptk_main_line.specs.Requests.{FindsRequest, Gives, IsRun, IsTrace, IsTimeline, IsAsm, IsCheck, IsDisasm, IsImpact, IsExplain, IsStats}
 use Rattle.ptk_main_line.specs.Values.{FindsText, HasNumber, HasText, MayHaveNumber, source_of}
 
 pub some_is : {X : Type 0} (x y : X) → Some x ≡ Some y → x ≡ y
@@ -216,3 +220,27 @@ no_stats rows h (Stats o) g = h o g.1
 pub err_is : {T E : Type 0} (r : Result T E) (P : E → Type 0) (e : E) → IsErrAnd r (λ f. f ≡ e) → P e → IfErr r P
 err_is (Ok t) P e is h = tt
 err_is (Err f) P e is h = subst P (sym is) h
+
+abbrev named_rows : {X : Type 0} → (X → Text) → (X → List Row) → X → Text × List Row
+named_rows f g x = (f x, g x)
+
+met_is : {X : Type 0} (met : Option X) (f : X → Text) (g : X → List Row) (name : Text) (rows : List Row)
+    → Some name ≡ option_map f met → Some rows ≡ option_map (λ (p : Text × List Row). p.1) (option_map (named_rows f g) met)
+    → option_map (named_rows f g) met ≡ Some (name, rows)
+met_is (Some x) f g name rows e h = cc
+met_is None f g name rows e h = cc
+
+request_of : (met : Option (Text × List Row)) (name : Text) (rows : List Row) (answer : Option Request)
+    → met ≡ Some (name, rows) → FindsRequest answer name rows → MeansAny answer met
+request_of met name rows (Some request) is finds = (name, rows, is, finds)
+request_of met name rows None is finds =
+    λ request means. finds request (subst (λ (p : Text × List Row). Gives p.0 p.1 request) (some_is _ _ (sym means.2 ∙ is)) means.3)
+
+-- what the rows of a subcommand give, the words ask for
+pub request_met : (m : ArgMatches) (name word : Text) (rows : List Row) (answer : Option Request)
+    → Some name ≡ subcommand_name_of m → Some rows ≡ option_map (λ (p : Text × List Row). p.1) (subcommand_rows_of m) → name ≡ word → FindsRequest answer word rows
+    → MeansAny answer (subcommand_rows_of m)
+request_met m name word rows answer named given same finds =
+    request_of (subcommand_rows_of m) word rows answer
+    (met_is (out-ArgMatches m).subcommand (λ b. (out-SubCommand (box_value b)).name.now) (λ b. rows_of (found_of (out-SubCommand (box_value b)).matches)) word rows (rw same at named) given)
+    finds

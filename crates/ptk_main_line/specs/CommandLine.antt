@@ -8,6 +8,8 @@ use Rattle.clap.specs.declared.error.kind.ErrorKind.TheVariants.{InvalidValue}
 use Rattle.clap.specs.declared.builder.action.ArgAction.TheVariants.{SetTrue}
 use Rattle.clap.specs.declared.builder.value_parser.ValueParser.TheVariants as parser
 use Rattle.ptk_main_line.specs.declared.commands.Argument.{Argument}
+use Rattle.ptk_main_line.specs.declared.commands.CommandName.{CommandName}
+use Rattle.ptk_main_line.specs.declared.commands.CommandName.TheVariants as of
 use Rattle.ptk_main_line.specs.declared.commands.Takes.{Takes}
 use Rattle.ptk_main_line.specs.declared.commands.Takes.TheVariants.{Word, FreeWord, RequiredText, Nothing, Ticks, RequiredTicks, Thread, Steps}
 use Rattle.ptk_main_line.specs.declared.commands.Takes.TheVariants as takes
@@ -121,6 +123,22 @@ explain = with_rules (run_rules (new_app (codes "explain"))) (required_option (c
 -- stats FILE --ticks N [--partition NAME] [--format FORMAT] [--root DIR] (own)
 abbrev pub stats : App
 stats = with_rules (run_rules (new_app (codes "stats"))) (text_option (codes "partition") ∷ text_option (codes "format") ∷ [])
+
+-- what clap is given of a subcommand (own)
+abbrev pub app_for : CommandName → App
+app_for of.Run = run
+app_for of.Trace = trace
+app_for of.Timeline = timeline
+app_for of.Asm = asm
+app_for of.Check = check
+app_for of.Disasm = disasm
+app_for of.Impact = impact
+app_for of.Explain = explain
+app_for of.Stats = stats
+
+-- what a command's words go by at a subcommand
+abbrev pub shape_for : CommandName → Shape
+shape_for subcommand = (app_for subcommand).top
 
 -- subcommands behind those of a command
 abbrev pub with_subcommands : App → List Shape → App

@@ -3,8 +3,7 @@ ghost use Rattle.std.specs.Prelude.{◌≡◌, [], ◌∷◌, false, map, Some, 
 ghost use Rattle.clap.specs.Words.{app_of, new_app, rule_of, with_rule, with_subcommand};
 ghost use Rattle.clap.specs.declared.builder.value_parser.ValueParser.TheVariants.{Unsigned};
 ghost use Rattle.clap.specs.declared.builder.command.Command.TheViews.{out-Command};
-ghost use Rattle.ptk_main_line.specs.CommandLine.{asm, check, disasm, explain, impact, ptk, run, stats, timeline, trace};
-ghost use Rattle.ptk_main_line.specs.CommandLine.{rule_for, run_rules, with_rules, with_subcommands};
+ghost use Rattle.ptk_main_line.specs.CommandLine.{app_for, ptk, rule_for, run_rules, shape_for, with_rules, with_subcommands};
 ghost use Rattle.ptk_main_line.specs.declared.line.TheConstants.{MOST_TICKS};
 
 use crate::help;
@@ -301,6 +300,33 @@ const IMPACT: [Argument; 6] = [
     },
 ];
 
+/// A subcommand, by its name.
+#[derive(Clone, Copy)]
+pub(crate) enum CommandName {
+    Run,
+    Trace,
+    Timeline,
+    Asm,
+    Check,
+    Disasm,
+    Impact,
+    Explain,
+    Stats,
+}
+
+/// The subcommands, in the order in which help names them.
+const COMMAND_NAMES: [CommandName; 9] = [
+    CommandName::Run,
+    CommandName::Trace,
+    CommandName::Timeline,
+    CommandName::Asm,
+    CommandName::Check,
+    CommandName::Disasm,
+    CommandName::Impact,
+    CommandName::Explain,
+    CommandName::Stats,
+];
+
 /// The command with its nine subcommands, of which one has to be there.
 pub(crate) fn ptk_command<'a>(alloc: Global) -> Result<Command<'a>, AllocError>
     ensures { IfOk result (λ c. app_of c ≡ ptk) }
@@ -309,114 +335,78 @@ pub(crate) fn ptk_command<'a>(alloc: Global) -> Result<Command<'a>, AllocError>
         .about(help::PTK)
         .after_help(help::PTK_AFTER)
         .subcommand_required(true);
-    let command = with_runs(alloc, command)?;
-    let command = with_files(alloc, command)?;
-    with_figures(alloc, command)
+    with_subcommands(alloc, command, &COMMAND_NAMES)
 }
 
-/// The command with the two subcommands that say how a run went behind those that it has.
-fn with_figures<'a>(alloc: Global, command: Command<'a>) -> Result<Command<'a>, AllocError>
-    ensures { IfOk result (λ c. app_of c ≡ with_subcommands (app_of command.entry) (explain.top ∷ stats.top ∷ [])) }
+/// The command with these subcommands behind those that it has.
+fn with_subcommands<'a>(
+    alloc: Global,
+    command: Command<'a>,
+    subcommands: &[CommandName],
+) -> Result<Command<'a>, AllocError>
+    ensures { IfOk result (λ c. app_of c ≡ with_subcommands (app_of command.entry) (map shape_for subcommands.now)) }
 {
-    command
-        .subcommand(explain_command(alloc)?)?
-        .subcommand(stats_command(alloc)?)
+    let mut all = command;
+    for subcommand in subcommands {
+        all = with_subcommand(alloc, all, *subcommand)?;
+    }
+    Ok(all)
 }
 
-/// The command with the three subcommands that show a run behind those that it has.
-fn with_runs<'a>(alloc: Global, command: Command<'a>) -> Result<Command<'a>, AllocError>
-    ensures { IfOk result (λ c. app_of c ≡ with_subcommands (app_of command.entry) (run.top ∷ trace.top ∷ timeline.top ∷ [])) }
+/// The command with one more subcommand.
+fn with_subcommand<'a>(
+    alloc: Global,
+    command: Command<'a>,
+    subcommand: CommandName,
+) -> Result<Command<'a>, AllocError>
+    ensures { IfOk result (λ c. app_of c ≡ with_subcommand (app_of command.entry) (shape_for subcommand)) }
 {
-    command
-        .subcommand(run_command(alloc)?)?
-        .subcommand(trace_command(alloc)?)?
-        .subcommand(timeline_command(alloc)?)
+    command.subcommand(subcommand.build(alloc)?)
 }
 
-/// The command with the four subcommands that read files and run nothing behind those that it has.
-fn with_files<'a>(alloc: Global, command: Command<'a>) -> Result<Command<'a>, AllocError>
-    ensures { IfOk result (λ c. app_of c ≡ with_subcommands (app_of command.entry) (asm.top ∷ check.top ∷ disasm.top ∷ impact.top ∷ [])) }
-{
-    command
-        .subcommand(asm_command(alloc)?)?
-        .subcommand(check_command(alloc)?)?
-        .subcommand(disasm_command(alloc)?)?
-        .subcommand(impact_command(alloc)?)
-}
-
-/// `run`, with its arguments.
-fn run_command<'a>(alloc: Global) -> Result<Command<'a>, AllocError>
-    ensures { IfOk result (λ c. (app_of c ≡ run) × ((out-Command c).has_globals ≡ false)) }
-{
-    run_subcommand(alloc, "run", help::RUN, help::RUN_AFTER, &RUN)
-}
-
-/// `trace`, with its arguments.
-fn trace_command<'a>(alloc: Global) -> Result<Command<'a>, AllocError>
-    ensures { IfOk result (λ c. (app_of c ≡ trace) × ((out-Command c).has_globals ≡ false)) }
-{
-    run_subcommand(alloc, "trace", help::TRACE, help::TRACE_AFTER, &TRACE)
-}
-
-/// `timeline`, with its arguments.
-fn timeline_command<'a>(alloc: Global) -> Result<Command<'a>, AllocError>
-    ensures { IfOk result (λ c. (app_of c ≡ timeline) × ((out-Command c).has_globals ≡ false)) }
-{
-    run_subcommand(
-        alloc,
-        "timeline",
-        help::TIMELINE,
-        help::TIMELINE_AFTER,
-        &TIMELINE,
-    )
-}
-
-/// `asm`, with its arguments.
-fn asm_command<'a>(alloc: Global) -> Result<Command<'a>, AllocError>
-    ensures { IfOk result (λ c. (app_of c ≡ asm) × ((out-Command c).has_globals ≡ false)) }
-{
-    subcommand(alloc, "asm", help::ASM, help::ASM_AFTER, &ASM)
-}
-
-/// `check`, with its arguments.
-fn check_command<'a>(alloc: Global) -> Result<Command<'a>, AllocError>
-    ensures { IfOk result (λ c. (app_of c ≡ check) × ((out-Command c).has_globals ≡ false)) }
-{
-    subcommand(alloc, "check", help::CHECK, help::CHECK_AFTER, &CHECK)
-}
-
-/// `disasm`, with its arguments.
-fn disasm_command<'a>(alloc: Global) -> Result<Command<'a>, AllocError>
-    ensures { IfOk result (λ c. (app_of c ≡ disasm) × ((out-Command c).has_globals ≡ false)) }
-{
-    subcommand(alloc, "disasm", help::DISASM, help::DISASM_AFTER, &DISASM)
-}
-
-/// `impact`, with its arguments.
-fn impact_command<'a>(alloc: Global) -> Result<Command<'a>, AllocError>
-    ensures { IfOk result (λ c. (app_of c ≡ impact) × ((out-Command c).has_globals ≡ false)) }
-{
-    subcommand(alloc, "impact", help::IMPACT, help::IMPACT_AFTER, &IMPACT)
-}
-
-/// `explain`, with its arguments.
-fn explain_command<'a>(alloc: Global) -> Result<Command<'a>, AllocError>
-    ensures { IfOk result (λ c. (app_of c ≡ explain) × ((out-Command c).has_globals ≡ false)) }
-{
-    run_subcommand(
-        alloc,
-        "explain",
-        help::EXPLAIN_RUN,
-        help::EXPLAIN_RUN_AFTER,
-        &EXPLAIN,
-    )
-}
-
-/// `stats`, with its arguments.
-fn stats_command<'a>(alloc: Global) -> Result<Command<'a>, AllocError>
-    ensures { IfOk result (λ c. (app_of c ≡ stats) × ((out-Command c).has_globals ≡ false)) }
-{
-    run_subcommand(alloc, "stats", help::STATS, help::STATS_AFTER, &STATS)
+impl CommandName {
+    /// The subcommand as `clap` has it, with its arguments, none of which is global.
+    fn build<'a>(self, alloc: Global) -> Result<Command<'a>, AllocError>
+        ensures { IfOk result (λ c. (app_of c ≡ app_for self) × ((out-Command c).has_globals ≡ false)) }
+    {
+        match self {
+            CommandName::Run => run_subcommand(alloc, "run", help::RUN, help::RUN_AFTER, &RUN),
+            CommandName::Trace => {
+                run_subcommand(alloc, "trace", help::TRACE, help::TRACE_AFTER, &TRACE)
+            }
+            CommandName::Timeline => run_subcommand(
+                alloc,
+                "timeline",
+                help::TIMELINE,
+                help::TIMELINE_AFTER,
+                &TIMELINE,
+            ),
+            CommandName::Asm => subcommand(alloc, "asm", help::ASM, help::ASM_AFTER, &ASM),
+            CommandName::Check => subcommand(
+                alloc,
+                "check",
+                help::CHECK,
+                help::CHECK_AFTER,
+                &CHECK,
+            ),
+            CommandName::Disasm => {
+                subcommand(alloc, "disasm", help::DISASM, help::DISASM_AFTER, &DISASM)
+            }
+            CommandName::Impact => {
+                subcommand(alloc, "impact", help::IMPACT, help::IMPACT_AFTER, &IMPACT)
+            }
+            CommandName::Explain => run_subcommand(
+                alloc,
+                "explain",
+                help::EXPLAIN_RUN,
+                help::EXPLAIN_RUN_AFTER,
+                &EXPLAIN,
+            ),
+            CommandName::Stats => {
+                run_subcommand(alloc, "stats", help::STATS, help::STATS_AFTER, &STATS)
+            }
+        }
+    }
 }
 
 /// A subcommand that runs a configuration: the arguments of a run, and these behind them.

@@ -8,20 +8,13 @@ use Rattle.ptk_main_line.proofs.commands.ptk_command.Goals as goal
 abbrev wants_subcommand : Shape → Shape
 wants_subcommand s = record s { subcommand_required = true }
 
-abbrev with_all_runs : App → App
-with_all_runs a = with_subcommands a (run.top ∷ trace.top ∷ timeline.top ∷ [])
-
-abbrev with_all_files : App → App
-with_all_files a = with_subcommands a (asm.top ∷ check.top ∷ disasm.top ∷ impact.top ∷ [])
-
-abbrev with_all_figures : App → App
-with_all_figures a = with_subcommands a (explain.top ∷ stats.top ∷ [])
+abbrev with_all : App → App
+with_all a = with_subcommands a
+    (run.top ∷ trace.top ∷ timeline.top ∷ asm.top ∷ check.top ∷ disasm.top ∷ impact.top ∷ explain.top ∷ stats.top ∷ [])
 
 pub returns : goal.returns
 returns c =
     let start : app_of c.subcommand_required-command.result ≡ on_top wants_subcommand (new_app (codes "ptk")) =
     ap app_of_fields c.subcommand_required-command.ensures
     ∙ ap (on_top wants_subcommand) (ap app_of_fields c.after_help.ensures ∙ ap app_of_fields c.about.ensures ∙ c.new.ensures.app) in
-    let runs = c.in_ok-command.ensures ∙ ap with_all_runs start in
-    let files = c.in_ok-command-2.ensures ∙ ap with_all_files runs in
-    IfOk-weaker c.with_figures.result _ _ (λ r h. h ∙ ap with_all_figures files) c.with_figures.ensures
+    IfOk-weaker c.with_subcommands.result _ _ (λ r h. h ∙ ap with_all start) c.with_subcommands.ensures
