@@ -1,5 +1,5 @@
 //! The turn of a thread whose next step is known to be a call (`Tables::take_call`): the step is not looked up, and the
-//! thread is looked at once before its call and once after it.
+//! thread is looked at once before its call and once after it, and again only where its ticks count in its interval.
 
 ghost use Rattle.std.specs.Prelude.{◌≡◌, ℕ, ◌<◌, ◌≤◌, false, length, Some, option_map, unwrap_or};
 ghost use Rattle.ptk_words.specs.declared.calls.Call.TheVariants.{SchedYield};
@@ -120,7 +120,7 @@ fn entry_of(i: &Invocation, pc: u32) -> Entry
 }
 
 /// The last step is this one, with a0 as its thread has it now, or as it is here where that ended, and its ticks count
-/// in the thread's round-robin interval (XSH 2.8.4). The thread is looked at once.
+/// in the thread's round-robin interval (XSH 2.8.4). The thread is looked at once, and again only where they count.
 #[inline(always)]
 #[tactic(auto, using(crate::proofs::CallSteps::finishes))]
 fn finish(pools: &mut Pools, entry: &Entry, cost: u32)

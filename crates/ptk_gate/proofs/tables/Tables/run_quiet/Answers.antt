@@ -5,6 +5,7 @@ use Rattle.ptk_gate_pools.specs.Kept.{Kept, part_at, put_part, limits_at}
 use Rattle.ptk_gate_pools.specs.Held.{all_of}
 use Rattle.ptk_gate_pools.proofs.Hands.{lowered}
 use Rattle.ptk_gate_steps.specs.Decisions.{IsQuietTo}
+use Rattle.ptk_gate_steps.specs.NextSteps.{IsCallNext}
 use Rattle.ptk_gate_steps.specs.Stretches.{HasEnded, HasGone}
 use Rattle.ptk_gate.proofs.RowsWhole.{rows_gone, rows_here, rows_put, rows_whole}
 use Rattle.ptk_gate.proofs.Wholes.{well_at}
@@ -55,3 +56,9 @@ returns-clause-ended c = λ before until.
     let lt : c.args.p < length now.limits = subst (λ (kept : Kept). c.args.p < length kept.limits) (sym c.self.view_is) c.requires.partition in
     subst (HasEnded c.args.quiet.stop c.args.quiet.thread c.run_quiet.result.tick) (sym (rows_here c.args.p now c.take.new.self c.run_quiet.new.pools c.self.invariant lt c.take.ensures c.run_quiet.ensures.moved))
     (c.run_quiet.ensures.ended before until)
+
+pub returns-clause-call : goal.returns-clause-call
+returns-clause-call c = λ is.
+    let now : Kept = all_of c.self.inside.pools in
+    let lt : c.args.p < length now.limits = subst (λ (kept : Kept). c.args.p < length kept.limits) (sym c.self.view_is) c.requires.partition in
+    subst (IsCallNext c.args.quiet.thread) (sym (rows_here c.args.p now c.take.new.self c.run_quiet.new.pools c.self.invariant lt c.take.ensures c.run_quiet.ensures.moved)) (c.run_quiet.ensures.call is)
