@@ -13,7 +13,7 @@ use Rattle.ptk_gate.specs.NextStep.{NextStep}
 use Rattle.ptk_gate.specs.Chosen.{IsChosen}
 use Rattle.ptk_gate.proofs.Chosen.{choice_is_chosen}
 use Rattle.ptk_gate.specs.Answers.{call_answer}
-use Rattle.ptk_kernel.specs.StepParts.{passed}
+use Rattle.ptk_gate.specs.CallSteps.{past_ecall}
 use Rattle.ptk_gate.proofs.Parted.{part_at-put, put_part-put}
 
 -- what was put is the partition's part
@@ -72,7 +72,7 @@ decision_made n p tick room old mid new parts lt first second =
 
 -- the pc passed, and then the call
 pub call_passed : (n p tick : ℕ) (next : NextStep) (old mid new : Kept) → AreParts n old → p < n
-    → mid ≡ put_part p (passed next (part_at p old)) old → new ≡ put_part p (call_answer (limits_at p mid) tick (part_at p mid)).part mid
-    → new ≡ put_part p (call_answer (limits_at p old) tick (passed next (part_at p old))).part old
+    → mid ≡ put_part p (past_ecall next.thread next.pc (part_at p old)) old → new ≡ put_part p (call_answer (limits_at p mid) tick (part_at p mid)).part mid
+    → new ≡ put_part p (call_answer (limits_at p old) tick (past_ecall next.thread next.pc (part_at p old))).part old
 call_passed n p tick next old mid new parts lt first second =
-    moved_then n p (passed next (part_at p old)) (λ limits s. (call_answer limits tick s).part) old mid new parts lt first second
+    moved_then n p (past_ecall next.thread next.pc (part_at p old)) (λ limits s. (call_answer limits tick s).part) old mid new parts lt first second

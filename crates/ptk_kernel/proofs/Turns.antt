@@ -22,9 +22,10 @@ use Rattle.ptk_gate.specs.NextStep.{NextStep}
 use Rattle.ptk_gate.specs.Instructions.{after_instruction}
 use Rattle.ptk_gate.specs.NextSteps.{a0_kept, cpu_of, next_step_in, next_step_of}
 use Rattle.ptk_gate.specs.Answers.{call_answer}
+use Rattle.ptk_gate.specs.CallSteps.{past_ecall}
 use Rattle.ptk_gate.proofs.CallSteps.{a0_is, call_fetched, ecall_calls, runner_found}
 use Rattle.ptk_gate.proofs.Passing.{passed_as}
-use Rattle.ptk_kernel.specs.StepParts.{passed, stepped}
+use Rattle.ptk_kernel.specs.StepParts.{stepped}
 use Rattle.ptk_kernel.proofs.Instructions.{call_parts, effect_alone}
 use Rattle.ptk_kernel.proofs.NoCalls.{no_call_at}
 
@@ -138,14 +139,14 @@ step_told p tick room cost old new next e paid le moved = (made_by p tick room c
 
 -- the pc passed, and then the call, are the step of an ECALL
 pub call_stepped : (limits : Limits) (tick number : ℕ) (next : NextStep) (r : Runner) (s : Part) → next_step_in s ≡ Some next → runner_of s ≡ Some r → next.kind ≡ CallStep number
-    → (call_answer limits tick (passed next s)).part ≡ after_step limits tick r next.kind s
+    → (call_answer limits tick (past_ecall next.thread next.pc s)).part ≡ after_step limits tick r next.kind s
 call_stepped limits tick number next r s e runs kind =
     let cpu : Processor = r.thread.cpu in
     let after : Processor = with_next_pc cpu in
     let is : next ≡ next_step_of s r = next_is s next r e runs in
     let word : word_fetched s.memory cpu.pc ≡ ECALL = call_fetched r.number number r.thread s (sym (ap (λ (n : NextStep). n.kind) is) ∙ kind) in
     let found : thread_at s.locks r.number ≡ Some r.thread = runner_found s.running s r (runner_runs s r runs) runs in
-    let gone : passed next s ≡ with_cpu r.number after s = ap (λ (n : NextStep). passed n s) is ∙ passed_as r.number (word_of (cpu.pc + 4)) r.thread s found in
+    let gone : past_ecall next.thread next.pc s ≡ with_cpu r.number after s = ap (λ (n : NextStep). past_ecall n.thread n.pc s) is ∙ passed_as r.number (word_of (cpu.pc + 4)) r.thread s found in
     ap (λ (q : Part). (call_answer limits tick q).part) gone
     ∙ call_parts limits tick cpu.pc after r s runs
     ∙ ap (λ (effect : Effect). after_effect limits tick r.number cpu.pc effect s) (sym (ecall_calls cpu s.memory word))

@@ -1,13 +1,10 @@
 -- The parts of a whole step, by name.
-use Rattle.std.specs.Prelude.{ℕ, ◌+◌, Some}
-use Rattle.ptk_words.specs.Words.{word_of}
+use Rattle.std.specs.Prelude.{ℕ, Some}
 use Rattle.ptk_words.specs.declared.sections.Limits.{Limits}
-use Rattle.ptk_threads.specs.Registers.{with_pc}
 use Rattle.ptk_words_model.specs.declared.Runner.{Runner}
 use Rattle.ptk_words_model.specs.declared.StepKind.{StepKind}
-use Rattle.ptk_words_model.specs.State.{Part, with_locks}
+use Rattle.ptk_words_model.specs.State.{Part}
 use Rattle.ptk_words_model.specs.Priority.{thread_at}
-use Rattle.ptk_words_model.specs.Schedule.{with_thread}
 use Rattle.ptk_words_model.specs.Decision.{after_step}
 use Rattle.ptk_gate.specs.NextStep.{NextStep}
 use Rattle.ptk_gate.specs.NextSteps.{a0_kept, next_step_of}
@@ -24,10 +21,6 @@ noted tick next s =
         a0 = a0_kept next.a0 (thread_at s.locks next.thread);
       });
     }
-
--- the thread has gone on past the ECALL of its step (RISC-V 2.8)
-abbrev pub passed : NextStep → Part → Part
-passed next s = with_locks (with_thread next.thread (with_pc (word_of (next.pc + 4)))) s
 
 -- the step with its place in the trace
 abbrev pub stepped : Limits → ℕ → Runner → StepKind → Part → Part

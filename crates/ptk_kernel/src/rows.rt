@@ -50,9 +50,10 @@ pub fn prepared_until(tables: &Tables, p: PartId, tick: Tick, stop: Tick) -> Opt
 /// quiet calls that end at its stop or before. Such a call replies at once, wakes nobody and changes no priority.
 /// Behind the first plain steps and the call that follows them, only such as begin before `until`. Returns the tick of
 /// the next decision, how many steps there were, and whether the step at that tick is known to be a call; the first
-/// tick, and nothing changes, where its next step is neither of the two. It ends before its stop and before `until` only there. The partition is as quiet as it was, up to that
-/// stop or a later one: the same thread runs, each thread waits as before, and a mutex that threads wait for keeps its
-/// owner. The trace has the steps as the newest. No other partition changes.
+/// tick, and nothing changes, where its next step is neither of the two. It ends before its stop and before `until`
+/// only there. The partition is as quiet as it was, up to that stop or a later one: the same thread runs, each thread
+/// waits as before, and a mutex that threads wait for keeps its owner. The trace has the steps as the newest. No other
+/// partition changes.
 pub fn run_quiet(
     tables: &mut Tables,
     p: PartId,

@@ -8,7 +8,8 @@ ghost use Rattle.ptk_words_model.specs.Unwinding.{after_gate_step};
 ghost use Rattle.ptk_gate.specs.Kept.{part_at, put_part, limits_at};
 ghost use Rattle.ptk_gate.specs.NextSteps.{next_step_in};
 ghost use Rattle.ptk_gate.specs.Answers.{call_answer};
-ghost use Rattle.ptk_kernel.specs.StepParts.{noted, passed, stepped};
+ghost use Rattle.ptk_gate.specs.CallSteps.{past_ecall};
+ghost use Rattle.ptk_kernel.specs.StepParts.{noted, stepped};
 
 use ptk_gate::{NextStep, Tables, call};
 use ptk_words::{Entry, PartId, Tick};
@@ -58,7 +59,7 @@ fn carry_out(tables: &mut Tables, p: PartId, tick: Tick, next: &NextStep)
 fn make_call(tables: &mut Tables, p: PartId, tick: Tick, next: &NextStep)
     requires partition { p < length tables.old.limits }
     requires running { (part_at p tables.old).running ≡ Some next.now.thread }
-    ensures { tables.new ≡ put_part p (call_answer (limits_at p tables.old) tick (passed next.now (part_at p tables.old))).part tables.old }
+    ensures { tables.new ≡ put_part p (call_answer (limits_at p tables.old) tick (past_ecall next.now.thread next.now.pc (part_at p tables.old))).part tables.old }
 {
     let _parts = tables.parts();
     tables.pass_ecall(p, next.thread, next.pc);
@@ -66,7 +67,6 @@ fn make_call(tables: &mut Tables, p: PartId, tick: Tick, next: &NextStep)
 }
 
 /// The step of the running thread at the return gate.
-#[tactic(auto, using(ptk_words_invariant::proofs::Decisions::runner_runs))]
 fn step_at_gate(tables: &mut Tables, p: PartId)
     requires partition { p < length tables.old.limits }
     ensures { (r : Runner) → runner_of (part_at p tables.old) ≡ Some r →
