@@ -11,16 +11,17 @@ use Rattle.ptk_words_model.specs.Run.{last_of, next_from}
 use Rattle.ptk_words.specs.Faults.{is_active}
 use Rattle.ptk_trace.specs.KeptSteps.{KeptSteps}
 use Rattle.ptk_kernel.specs.Decisions.{Progress, begun, decisions, entries_of}
-use Rattle.ptk_kernel.specs.Rows.{HasGone, with_newest}
+use Rattle.ptk_kernel.specs.Rows.{HasGone, IsStillTo, with_newest}
 use Rattle.ptk_kernel.specs.Kept.{Kept, limits_at, part_at, put_part}
+use Rattle.ptk_window.specs.declared.near.Turn.{Turn}
 use Rattle.ptk_system_machine.specs.Accounts.{KeptAccount}
 use Rattle.ptk_system_machine.specs.Steady.{AreSteady, states_from}
-use Rattle.ptk_system_machine.specs.Turns.{IsInWindow}
-use Rattle.ptk_system_machine.specs.Whole.{Whole, IsWhole, no_account, state_at, put_state, gone_on}
+use Rattle.ptk_system_machine.specs.Turns.{IsComing, IsInWindow}
+use Rattle.ptk_system_machine.specs.Whole.{Whole, IsWhole, no_account, account_at, state_at, put_state, gone_on}
 use Rattle.ptk_system_machine.proofs.Decisions.{decisions_gone, led_gone, own_later}
-use Rattle.ptk_system_machine.proofs.States.{still_whole}
-use Rattle.ptk_system_machine.proofs.Steady.{steady_start}
-use Rattle.ptk_system_machine.proofs.Ticks.{gone_none}
+use Rattle.ptk_system_machine.proofs.States.{account_read, still_whole}
+use Rattle.ptk_system_machine.proofs.Steady.{steady_start, steady_up}
+use Rattle.ptk_system_machine.proofs.Ticks.{gone_none, gone_up}
 
 -- the trace of an account
 abbrev pub trace_in : KeptAccount → KeptSteps
@@ -115,6 +116,35 @@ rows_counted plan p i tick stop end n reached t next old new accounts trace seen
     (sym (ap (λ (j : ℕ). record { kept = new; accounts = set accounts j account }) place ∙ ap (λ (a : KeptAccount). record { kept = new; accounts = set accounts p a }) same))
     (rows_by plan p tick stop end n reached t next old new accounts trace plan_is is lt due window within later active moved no made))
     none gone e
+
+-- steps in a row of a machine whose partition is quiet and has this turn to come
+pub rows_from : (plan : WindowPlan) (p i stop to n reached t : ℕ) (turn : Turn) (next : Option ℕ) (old new : Kept) (accounts : List KeptAccount) (trace : KeptSteps) (found seen account : KeptAccount) (from : Whole)
+    → IsPlan plan → record { kept = old; accounts = accounts } ≡ from → IsWhole old accounts → p < length from.accounts → IsComing (own_ticks plan p) to (account_at p from).account.next turn
+    → turn.start < stop → stop ≤ to → reached ≤ turn.end → IsStillTo p turn.start stop t from.kept → (IsStillTo p turn.start stop t old → IsStillTo p reached stop t new)
+    → next ≡ (own_ticks plan p).next_of reached → new ≡ put_part p (part_at p new) old → i ≡ p → seen ≡ found → found ≡ get_or accounts i found
+    → (n ≡ 0 → (reached ≡ turn.start) × (new ≡ old) × (trace ≡ trace_in seen))
+    → HasGone (limits_at p old) t turn.start n reached (part_at p old) (part_at p new) (trace_in seen) trace
+    → account ≡ with_row_of next n trace seen
+    → AreCounted (own_ticks plan p) p turn.start reached from (record { kept = new; accounts = set accounts i account })
+rows_from plan p i stop to n reached t turn next old new accounts trace found seen account from plan_is at is lt coming order within end quiet still later moved place read value none gone e =
+    let here : p < length accounts = subst (λ (w : Whole). p < length w.accounts) (sym at) lt in
+    let before : turn.start < to = omega (arith, order, within) in
+    let due : (get_or accounts p no_account).account.next ≡ Some turn.start = subst (λ (w : Whole). (account_at p w).account.next ≡ Some turn.start) (sym at) (coming.due before) in
+    let active : is_active (part_at p new).status ≡ true = (still (subst (λ (w : Whole). IsStillTo p turn.start stop t w.kept) (sym at) quiet)).1.active in
+    subst (λ (w : Whole). AreCounted (own_ticks plan p) p turn.start reached w (record { kept = new; accounts = set accounts i account })) at
+    (rows_counted plan p i turn.start stop turn.end n reached t next old new accounts trace seen account plan_is is here due (coming.window before) end later active moved place
+    (read ∙ account_read p i accounts found value place here) none gone e)
+
+-- and up to a later tick before which the partition has no decision
+pub counted_up : (ticks : OwnTicks) (p tick reached to : ℕ) (old new : Whole) → IsWhole old.kept old.accounts → p < length old.accounts → tick ≤ reached → reached ≤ to
+    → ((k : ℕ) → (account_at p new).account.next ≡ Some k → to ≤ k) → AreCounted ticks p tick reached old new → AreCounted ticks p tick to old new
+counted_up ticks p tick reached to old new is lt from later before counted =
+    let at : reached ≡ tick + (reached - tick) = omega (arith, from) in
+    let le : tick + (reached - tick) ≤ to = omega (arith, from, later) in (
+      gone_up ticks p tick (reached - tick) to old new is lt le before counted.0,
+      steady_up ticks p tick (reached - tick) to old new is lt le before counted.0
+          (subst (AreSteady (part_at p old.kept) (states_from ticks (limits_at p old.kept) tick (state_at p old)) tick) at counted.1),
+    )
 
 -- they leave the tables and the accounts whole
 pub rows_whole : (p i tick n reached t : ℕ) (next : Option ℕ) (old new : Kept) (accounts : List KeptAccount) (trace : KeptSteps) (seen account : KeptAccount)

@@ -25,7 +25,7 @@ kept_account_of a =
 abbrev pub first_account : Option ℕ → Account
 first_account next = record { next = next; steps = 0; lost = 0; trace = [] }
 
--- the ticks from a decision with this room on which it takes up
+-- the ticks that a decision with this room takes up
 abbrev pub duration_of : ℕ → Spent → ℕ
 duration_of room Idle = 1
 duration_of room Lost = room

@@ -131,7 +131,7 @@ impl Account {
     }
 }
 
-/// The ticks on which a decision with this room takes up.
+/// The ticks that a decision with this room takes up.
 pub(crate) fn duration(room: u32, spent: Spent) -> u32
     requires near { room ≤ 1000000 }
     requires short { cost_in spent ≤ 16 }

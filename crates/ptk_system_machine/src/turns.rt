@@ -482,8 +482,8 @@ impl Machine {
     }
 
     /// The rows and calls of `rows_on`, by a walk that is at the turn's window and then at the next turn's. Returns the
-    /// next turn, and whether its step is known to be a call. It has several callers, so it is compiled as a function of
-    /// its own, and what it calls is compiled into it.
+    /// next turn, and whether its step is known to be a call. It has two callers, so it is compiled as a function of its
+    /// own, and what it calls is compiled into it.
     #[inline(never)]
     fn rows_before(
         &mut self,
@@ -752,7 +752,7 @@ fn coming(next: Option<Tick>, end: Tick, to: Tick) -> Turn
 
 /// The partition's first own tick from this one on, none where it is halted, and the end of the window that holds it.
 /// Where the tick lies before `end`, it is in the partition's window with that end. The walk is at that window, where
-/// it is known to be at one, and then at the one that was answered.
+/// it is known to be at one, and then at the one that is returned.
 #[inline(always)]
 fn next_turn(
     plan: &WindowPlan,
@@ -786,7 +786,7 @@ fn next_turn(
 
 /// The partition's first own tick from this one on, which is not after `end`, and the end of the window that holds it.
 /// Where the tick lies before `end`, it is in the partition's window with that end. The walk is at that window, where
-/// it is known to be at one, and then at the one that was answered.
+/// it is known to be at one, and then at the one that is returned.
 #[inline(always)]
 fn turn_on(
     plan: &WindowPlan,

@@ -1,20 +1,15 @@
-use Rattle.std.proofs.Common.{◌≡◌, ℕ, ◌+◌, ◌-◌, ◌<◌, ◌≤◌, true, Some, length, get_or, subst, sym, ap, ◌∙◌, arith}
-use Rattle.std.proofs.Math.ListN.{set}
+use Rattle.std.proofs.Common.{◌≡◌, ◌+◌, ◌<◌, ◌≤◌, Some, length, get_or, subst, sym, ap, ◌∙◌, arith}
 use Rattle.ptk_words_windows.specs.Windows.{own_ticks}
-use Rattle.ptk_words.specs.Faults.{is_active}
 use Rattle.ptk_kernel.specs.Kept.{limits_at, part_at}
 use Rattle.ptk_kernel.specs.Rows.{IsStillTo}
 use Rattle.ptk_system_machine.specs.Accounts.{KeptAccount, kept_account_of}
-use Rattle.ptk_system_machine.specs.Steady.{AreSteady, states_from}
 use Rattle.ptk_system_machine.specs.Turns.{IsInWindow, IsPlainAt}
-use Rattle.ptk_system_machine.specs.Whole.{Whole, IsWhole, no_account, account_at, gone_on, state_at}
+use Rattle.ptk_system_machine.specs.Whole.{Whole, IsWhole, no_account}
 use Rattle.ptk_system_machine.proofs.Coming.{at_coming, begins_from}
-use Rattle.ptk_system_machine.proofs.CountedRows.{AreCounted, rows_counted, rows_whole, with_row_of}
+use Rattle.ptk_system_machine.proofs.CountedRows.{counted_up, rows_from, rows_whole, with_row_of}
 use Rattle.ptk_system_machine.proofs.Progress.{plain_on}
 use Rattle.ptk_system_machine.proofs.States.{account_put, account_read}
-use Rattle.ptk_system_machine.proofs.Steady.{steady_up}
 use Rattle.ptk_system_machine.proofs.StillQuiet.{still_later}
-use Rattle.ptk_system_machine.proofs.Ticks.{gone_up}
 use Rattle.ptk_system_machine.proofs.machine.Machine.run_within.Goals.{else-reached-via-then-reached+else-ticks, else-reached-via-else-reached}
 use Rattle.ptk_system_machine.proofs.machine.Machine.run_within.Goals as goal
 
@@ -46,42 +41,23 @@ returns-then-ticks-clause-coming c =
 
 pub returns-then-ticks-clause-gone : goal.returns-then-ticks-clause-gone
 returns-then-ticks-clause-gone c =
-    let lt : c.args.p < length c.self.inside.accounts.items = subst (λ (w : Whole). c.args.p < length w.accounts) (sym c.self.view_is) c.requires.partition in
-    let before : c.args.turn.start < c.args.to = omega (arith, c.requires.order, c.requires.within) in
-    let window : IsInWindow (own_ticks c.args.plan.now c.args.p) c.args.turn.start c.args.turn.end = c.requires.coming.window before in
-    let due : (get_or c.self.inside.accounts.items c.args.p no_account).account.next ≡ Some c.args.turn.start = subst (λ (w : Whole). (account_at c.args.p w).account.next ≡ Some c.args.turn.start) (sym c.self.view_is) (c.requires.coming.due before) in
-    let read : kept_account_of c.account.inside ≡ get_or c.self.inside.accounts.items c.args.p no_account =
-    c.account.view_is ∙ account_read c.args.p c.index.result c.self.inside.accounts.items c.index_mut-account.result.now c.index_mut-account.ensures.value c.index.ensures lt in
-    let still : IsStillTo c.args.p c.args.turn.start c.args.quiet.now.stop c.args.quiet.now.thread c.self.inside.tables =
-    subst (λ (w : Whole). IsStillTo c.args.p c.args.turn.start c.args.quiet.now.stop c.args.quiet.now.thread w.kept) (sym c.self.view_is) c.requires.quiet in
-    let active : is_active (part_at c.args.p c.run_quiet-reached.new.tables).status ≡ true = (c.run_quiet-reached.ensures.still c.args.quiet.now.stop (omega arith) still).1.active in
-    let sooner : c.run_quiet-reached.result.tick < c.args.turn.end = omega (arith, c.if-ticks.true, c.requires.end) in
-    let found : Some c.run_quiet-reached.result.tick ≡ (own_ticks c.args.plan.now c.args.p).next_of c.run_quiet-reached.result.tick = sym (window.own.next c.run_quiet-reached.result.tick (omega (arith, c.run_quiet-reached.ensures.from)) sooner) in
-    let counted : AreCounted (own_ticks c.args.plan.now c.args.p) c.args.p c.args.turn.start c.run_quiet-reached.result.tick (record { kept = c.self.inside.tables; accounts = c.self.inside.accounts.items }) (record { kept = c.run_quiet-reached.new.tables; accounts = set c.self.inside.accounts.items c.index.result c.count_row.new.self }) =
-    rows_counted c.args.plan.now c.args.p c.index.result c.args.turn.start c.args.quiet.now.stop c.args.turn.end c.run_quiet-reached.result.steps c.run_quiet-reached.result.tick c.args.quiet.now.thread _ c.self.inside.tables c.run_quiet-reached.new.tables c.self.inside.accounts.items c.run_quiet-reached.new.trace
-    (kept_account_of c.account.inside) c.count_row.new.self c.is_plan.ensures c.self.invariant lt due window (omega (arith, c.run_quiet-reached.ensures.within, c.requires.end))
-    found active c.run_quiet-reached.ensures.moved c.index.ensures read c.run_quiet-reached.ensures.none c.run_quiet-reached.ensures.gone c.count_row.ensures in
-    subst (λ (w : Whole). record { kept = c.run_quiet-reached.new.tables; accounts = set c.self.inside.accounts.items c.index.result c.count_row.new.self }
-    ≡ gone_on (own_ticks c.args.plan.now c.args.p) c.args.p c.args.turn.start (c.run_quiet-reached.result.tick - c.args.turn.start) w) c.self.view_is counted.0
+    let window : IsInWindow (own_ticks c.args.plan.now c.args.p) c.args.turn.start c.args.turn.end = c.requires.coming.window (omega (arith, c.requires.order, c.requires.within)) in
+    let found : Some c.run_quiet-reached.result.tick ≡ (own_ticks c.args.plan.now c.args.p).next_of c.run_quiet-reached.result.tick
+    = sym (window.own.next c.run_quiet-reached.result.tick (omega (arith, c.run_quiet-reached.ensures.from)) (omega (arith, c.if-ticks.true, c.requires.end))) in
+    (rows_from c.args.plan.now c.args.p c.index.result c.args.quiet.now.stop c.args.to c.run_quiet-reached.result.steps c.run_quiet-reached.result.tick c.args.quiet.now.thread c.args.turn _ c.self.inside.tables c.run_quiet-reached.new.tables c.self.inside.accounts.items c.run_quiet-reached.new.trace
+    c.index_mut-account.result.now (kept_account_of c.account.inside) c.count_row.new.self c.args.self.now c.is_plan.ensures c.self.view_is c.self.invariant c.requires.partition c.requires.coming c.requires.order c.requires.within
+    (omega (arith, c.run_quiet-reached.ensures.within, c.requires.end)) c.requires.quiet (c.run_quiet-reached.ensures.still c.args.quiet.now.stop (omega arith)) found c.run_quiet-reached.ensures.moved c.index.ensures c.account.view_is c.index_mut-account.ensures.value
+    c.run_quiet-reached.ensures.none c.run_quiet-reached.ensures.gone c.count_row.ensures).0
 
 pub returns-then-ticks-clause-steady : goal.returns-then-ticks-clause-steady
 returns-then-ticks-clause-steady c =
-    let lt : c.args.p < length c.self.inside.accounts.items = subst (λ (w : Whole). c.args.p < length w.accounts) (sym c.self.view_is) c.requires.partition in
-    let before : c.args.turn.start < c.args.to = omega (arith, c.requires.order, c.requires.within) in
-    let window : IsInWindow (own_ticks c.args.plan.now c.args.p) c.args.turn.start c.args.turn.end = c.requires.coming.window before in
-    let due : (get_or c.self.inside.accounts.items c.args.p no_account).account.next ≡ Some c.args.turn.start = subst (λ (w : Whole). (account_at c.args.p w).account.next ≡ Some c.args.turn.start) (sym c.self.view_is) (c.requires.coming.due before) in
-    let read : kept_account_of c.account.inside ≡ get_or c.self.inside.accounts.items c.args.p no_account =
-    c.account.view_is ∙ account_read c.args.p c.index.result c.self.inside.accounts.items c.index_mut-account.result.now c.index_mut-account.ensures.value c.index.ensures lt in
-    let still : IsStillTo c.args.p c.args.turn.start c.args.quiet.now.stop c.args.quiet.now.thread c.self.inside.tables =
-    subst (λ (w : Whole). IsStillTo c.args.p c.args.turn.start c.args.quiet.now.stop c.args.quiet.now.thread w.kept) (sym c.self.view_is) c.requires.quiet in
-    let active : is_active (part_at c.args.p c.run_quiet-reached.new.tables).status ≡ true = (c.run_quiet-reached.ensures.still c.args.quiet.now.stop (omega arith) still).1.active in
-    let sooner : c.run_quiet-reached.result.tick < c.args.turn.end = omega (arith, c.if-ticks.true, c.requires.end) in
-    let found : Some c.run_quiet-reached.result.tick ≡ (own_ticks c.args.plan.now c.args.p).next_of c.run_quiet-reached.result.tick = sym (window.own.next c.run_quiet-reached.result.tick (omega (arith, c.run_quiet-reached.ensures.from)) sooner) in
-    let counted : AreCounted (own_ticks c.args.plan.now c.args.p) c.args.p c.args.turn.start c.run_quiet-reached.result.tick (record { kept = c.self.inside.tables; accounts = c.self.inside.accounts.items }) (record { kept = c.run_quiet-reached.new.tables; accounts = set c.self.inside.accounts.items c.index.result c.count_row.new.self }) =
-    rows_counted c.args.plan.now c.args.p c.index.result c.args.turn.start c.args.quiet.now.stop c.args.turn.end c.run_quiet-reached.result.steps c.run_quiet-reached.result.tick c.args.quiet.now.thread _ c.self.inside.tables c.run_quiet-reached.new.tables c.self.inside.accounts.items c.run_quiet-reached.new.trace
-    (kept_account_of c.account.inside) c.count_row.new.self c.is_plan.ensures c.self.invariant lt due window (omega (arith, c.run_quiet-reached.ensures.within, c.requires.end))
-    found active c.run_quiet-reached.ensures.moved c.index.ensures read c.run_quiet-reached.ensures.none c.run_quiet-reached.ensures.gone c.count_row.ensures in
-    subst (λ (w : Whole). AreSteady (part_at c.args.p w.kept) (states_from (own_ticks c.args.plan.now c.args.p) (limits_at c.args.p w.kept) c.args.turn.start (state_at c.args.p w)) c.args.turn.start c.run_quiet-reached.result.tick) c.self.view_is counted.1
+    let window : IsInWindow (own_ticks c.args.plan.now c.args.p) c.args.turn.start c.args.turn.end = c.requires.coming.window (omega (arith, c.requires.order, c.requires.within)) in
+    let found : Some c.run_quiet-reached.result.tick ≡ (own_ticks c.args.plan.now c.args.p).next_of c.run_quiet-reached.result.tick
+    = sym (window.own.next c.run_quiet-reached.result.tick (omega (arith, c.run_quiet-reached.ensures.from)) (omega (arith, c.if-ticks.true, c.requires.end))) in
+    (rows_from c.args.plan.now c.args.p c.index.result c.args.quiet.now.stop c.args.to c.run_quiet-reached.result.steps c.run_quiet-reached.result.tick c.args.quiet.now.thread c.args.turn _ c.self.inside.tables c.run_quiet-reached.new.tables c.self.inside.accounts.items c.run_quiet-reached.new.trace
+    c.index_mut-account.result.now (kept_account_of c.account.inside) c.count_row.new.self c.args.self.now c.is_plan.ensures c.self.view_is c.self.invariant c.requires.partition c.requires.coming c.requires.order c.requires.within
+    (omega (arith, c.run_quiet-reached.ensures.within, c.requires.end)) c.requires.quiet (c.run_quiet-reached.ensures.still c.args.quiet.now.stop (omega arith)) found c.run_quiet-reached.ensures.moved c.index.ensures c.account.view_is c.index_mut-account.ensures.value
+    c.run_quiet-reached.ensures.none c.run_quiet-reached.ensures.gone c.count_row.ensures).1
 
 pub returns-clause-from : goal.returns-clause-from
 returns-clause-from c =
@@ -93,33 +69,20 @@ returns-clause-from c =
 pub returns-clause-gone : goal.returns-clause-gone
 returns-clause-gone c =
     let lt : c.args.p < length c.self.inside.accounts.items = subst (λ (w : Whole). c.args.p < length w.accounts) (sym c.self.view_is) c.requires.partition in
-    let before : c.args.turn.start < c.args.to = omega (arith, c.requires.order, c.requires.within) in
-    let window : IsInWindow (own_ticks c.args.plan.now c.args.p) c.args.turn.start c.args.turn.end = c.requires.coming.window before in
-    let due : (get_or c.self.inside.accounts.items c.args.p no_account).account.next ≡ Some c.args.turn.start = subst (λ (w : Whole). (account_at c.args.p w).account.next ≡ Some c.args.turn.start) (sym c.self.view_is) (c.requires.coming.due before) in
-    let read : kept_account_of c.account.inside ≡ get_or c.self.inside.accounts.items c.args.p no_account =
-    c.account.view_is ∙ account_read c.args.p c.index.result c.self.inside.accounts.items c.index_mut-account.result.now c.index_mut-account.ensures.value c.index.ensures lt in
     let next = c.next.ensures ∙ ap (λ (a : KeptAccount). a.account.next) c.count_row-2.ensures in
     let put = account_put c.args.p c.index.result c.self.inside.accounts.items c.count_row-2.new.self c.index.ensures lt in
-    let reached : ℕ = c.run_quiet-reached.result.tick in
-    let from : c.args.turn.start ≤ c.run_quiet-reached.result.tick = omega (arith, c.run_quiet-reached.ensures.from) in
     let later : c.run_quiet-reached.result.tick ≤ c.coming.result.start =
     begins_from c.run_quiet-reached.result.tick c.run_quiet-reached.result.tick c.args.to _ c.coming.result (omega arith) (omega (arith, c.run_quiet-reached.ensures.within, c.requires.within)) c.turn_on.ensures.from (λ less. sym next ∙ c.coming.ensures.due less) in
-    let still : IsStillTo c.args.p c.args.turn.start c.args.quiet.now.stop c.args.quiet.now.thread c.self.inside.tables =
-    subst (λ (w : Whole). IsStillTo c.args.p c.args.turn.start c.args.quiet.now.stop c.args.quiet.now.thread w.kept) (sym c.self.view_is) c.requires.quiet in
-    let active : is_active (part_at c.args.p c.run_quiet-reached.new.tables).status ≡ true = (c.run_quiet-reached.ensures.still c.args.quiet.now.stop (omega arith) still).1.active in
     let row : c.count_row-2.new.self ≡ with_row_of c.turn_on.result.0 c.run_quiet-reached.result.steps c.run_quiet-reached.new.trace (kept_account_of c.account.inside) =
     let Q : KeptAccount → Type 0 = λ (a : KeptAccount). c.count_row-2.new.self ≡ record { account = record { next = c.turn_on.result.0; steps = a.account.steps + c.run_quiet-reached.result.steps; lost = a.account.lost; trace = a.account.trace }; kept = a.kept } in
     elim c.else-reached.branch [ else-reached-via-then-reached+else-ticks w ↦ subst Q w.account-is c.count_row-2.ensures | else-reached-via-else-reached w ↦ subst Q w.account-is c.count_row-2.ensures ] in
-    let counted : AreCounted (own_ticks c.args.plan.now c.args.p) c.args.p c.args.turn.start c.run_quiet-reached.result.tick (record { kept = c.self.inside.tables; accounts = c.self.inside.accounts.items }) (record { kept = c.run_quiet-reached.new.tables; accounts = set c.self.inside.accounts.items c.index.result c.count_row-2.new.self }) =
-    rows_counted c.args.plan.now c.args.p c.index.result c.args.turn.start c.args.quiet.now.stop c.args.turn.end c.run_quiet-reached.result.steps c.run_quiet-reached.result.tick c.args.quiet.now.thread _ c.self.inside.tables c.run_quiet-reached.new.tables c.self.inside.accounts.items c.run_quiet-reached.new.trace
-    (kept_account_of c.account.inside) c.count_row-2.new.self c.is_plan.ensures c.self.invariant lt due window (omega (arith, c.run_quiet-reached.ensures.within, c.requires.end))
-    c.turn_on.ensures.next active c.run_quiet-reached.ensures.moved c.index.ensures read c.run_quiet-reached.ensures.none c.run_quiet-reached.ensures.gone row in
-    let within_all : c.args.turn.start + (c.run_quiet-reached.result.tick - c.args.turn.start) ≤ c.coming.result.start = omega (arith, later, from) in
-    gone_up (own_ticks c.args.plan.now c.args.p) c.args.p c.args.turn.start (c.run_quiet-reached.result.tick - c.args.turn.start) c.coming.result.start c.args.self.now _
-    (subst (λ (w : Whole). IsWhole w.kept w.accounts) c.self.view_is c.self.invariant) c.requires.partition within_all
+    (counted_up (own_ticks c.args.plan.now c.args.p) c.args.p c.args.turn.start c.run_quiet-reached.result.tick c.coming.result.start c.args.self.now _
+    (subst (λ (w : Whole). IsWhole w.kept w.accounts) c.self.view_is c.self.invariant) c.requires.partition (omega (arith, c.run_quiet-reached.ensures.from)) later
     (λ k at. c.coming.ensures.before k (c.next.ensures ∙ (sym (ap (λ (a : KeptAccount). a.account.next) put) ∙ at)))
-    (subst (λ (w : Whole). record { kept = c.run_quiet-reached.new.tables; accounts = set c.self.inside.accounts.items c.index.result c.count_row-2.new.self }
-    ≡ gone_on (own_ticks c.args.plan.now c.args.p) c.args.p c.args.turn.start (c.run_quiet-reached.result.tick - c.args.turn.start) w) c.self.view_is counted.0)
+    (rows_from c.args.plan.now c.args.p c.index.result c.args.quiet.now.stop c.args.to c.run_quiet-reached.result.steps c.run_quiet-reached.result.tick c.args.quiet.now.thread c.args.turn _ c.self.inside.tables c.run_quiet-reached.new.tables c.self.inside.accounts.items c.run_quiet-reached.new.trace
+    c.index_mut-account.result.now (kept_account_of c.account.inside) c.count_row-2.new.self c.args.self.now c.is_plan.ensures c.self.view_is c.self.invariant c.requires.partition c.requires.coming c.requires.order c.requires.within
+    (omega (arith, c.run_quiet-reached.ensures.within, c.requires.end)) c.requires.quiet (c.run_quiet-reached.ensures.still c.args.quiet.now.stop (omega arith)) c.turn_on.ensures.next c.run_quiet-reached.ensures.moved c.index.ensures c.account.view_is c.index_mut-account.ensures.value
+    c.run_quiet-reached.ensures.none c.run_quiet-reached.ensures.gone row)).0
 
 pub returns-clause-still : goal.returns-clause-still
 returns-clause-still c = λ stop beyond still.
@@ -151,37 +114,25 @@ returns-clause-plain c = λ at.
 pub returns-clause-steady : goal.returns-clause-steady
 returns-clause-steady c =
     let lt : c.args.p < length c.self.inside.accounts.items = subst (λ (w : Whole). c.args.p < length w.accounts) (sym c.self.view_is) c.requires.partition in
-    let before : c.args.turn.start < c.args.to = omega (arith, c.requires.order, c.requires.within) in
-    let window : IsInWindow (own_ticks c.args.plan.now c.args.p) c.args.turn.start c.args.turn.end = c.requires.coming.window before in
-    let due : (get_or c.self.inside.accounts.items c.args.p no_account).account.next ≡ Some c.args.turn.start = subst (λ (w : Whole). (account_at c.args.p w).account.next ≡ Some c.args.turn.start) (sym c.self.view_is) (c.requires.coming.due before) in
-    let read : kept_account_of c.account.inside ≡ get_or c.self.inside.accounts.items c.args.p no_account =
-    c.account.view_is ∙ account_read c.args.p c.index.result c.self.inside.accounts.items c.index_mut-account.result.now c.index_mut-account.ensures.value c.index.ensures lt in
     let next = c.next.ensures ∙ ap (λ (a : KeptAccount). a.account.next) c.count_row-2.ensures in
     let put = account_put c.args.p c.index.result c.self.inside.accounts.items c.count_row-2.new.self c.index.ensures lt in
-    let reached : ℕ = c.run_quiet-reached.result.tick in
-    let from : c.args.turn.start ≤ c.run_quiet-reached.result.tick = omega (arith, c.run_quiet-reached.ensures.from) in
     let later : c.run_quiet-reached.result.tick ≤ c.coming.result.start =
     begins_from c.run_quiet-reached.result.tick c.run_quiet-reached.result.tick c.args.to _ c.coming.result (omega arith) (omega (arith, c.run_quiet-reached.ensures.within, c.requires.within)) c.turn_on.ensures.from (λ less. sym next ∙ c.coming.ensures.due less) in
-    let still : IsStillTo c.args.p c.args.turn.start c.args.quiet.now.stop c.args.quiet.now.thread c.self.inside.tables =
-    subst (λ (w : Whole). IsStillTo c.args.p c.args.turn.start c.args.quiet.now.stop c.args.quiet.now.thread w.kept) (sym c.self.view_is) c.requires.quiet in
-    let active : is_active (part_at c.args.p c.run_quiet-reached.new.tables).status ≡ true = (c.run_quiet-reached.ensures.still c.args.quiet.now.stop (omega arith) still).1.active in
     let row : c.count_row-2.new.self ≡ with_row_of c.turn_on.result.0 c.run_quiet-reached.result.steps c.run_quiet-reached.new.trace (kept_account_of c.account.inside) =
     let Q : KeptAccount → Type 0 = λ (a : KeptAccount). c.count_row-2.new.self ≡ record { account = record { next = c.turn_on.result.0; steps = a.account.steps + c.run_quiet-reached.result.steps; lost = a.account.lost; trace = a.account.trace }; kept = a.kept } in
     elim c.else-reached.branch [ else-reached-via-then-reached+else-ticks w ↦ subst Q w.account-is c.count_row-2.ensures | else-reached-via-else-reached w ↦ subst Q w.account-is c.count_row-2.ensures ] in
-    let counted : AreCounted (own_ticks c.args.plan.now c.args.p) c.args.p c.args.turn.start c.run_quiet-reached.result.tick (record { kept = c.self.inside.tables; accounts = c.self.inside.accounts.items }) (record { kept = c.run_quiet-reached.new.tables; accounts = set c.self.inside.accounts.items c.index.result c.count_row-2.new.self }) =
-    rows_counted c.args.plan.now c.args.p c.index.result c.args.turn.start c.args.quiet.now.stop c.args.turn.end c.run_quiet-reached.result.steps c.run_quiet-reached.result.tick c.args.quiet.now.thread _ c.self.inside.tables c.run_quiet-reached.new.tables c.self.inside.accounts.items c.run_quiet-reached.new.trace
-    (kept_account_of c.account.inside) c.count_row-2.new.self c.is_plan.ensures c.self.invariant lt due window (omega (arith, c.run_quiet-reached.ensures.within, c.requires.end))
-    c.turn_on.ensures.next active c.run_quiet-reached.ensures.moved c.index.ensures read c.run_quiet-reached.ensures.none c.run_quiet-reached.ensures.gone row in
-    let within_all : c.args.turn.start + (c.run_quiet-reached.result.tick - c.args.turn.start) ≤ c.coming.result.start = omega (arith, later, from) in
-    let here : c.run_quiet-reached.result.tick ≡ c.args.turn.start + (c.run_quiet-reached.result.tick - c.args.turn.start) = omega (arith, from) in
-    subst (λ (w : Whole). AreSteady (part_at c.args.p w.kept) (states_from (own_ticks c.args.plan.now c.args.p) (limits_at c.args.p w.kept) c.args.turn.start (state_at c.args.p w)) c.args.turn.start c.coming.result.start) c.self.view_is
-    (steady_up (own_ticks c.args.plan.now c.args.p) c.args.p c.args.turn.start (c.run_quiet-reached.result.tick - c.args.turn.start) c.coming.result.start (record { kept = c.self.inside.tables; accounts = c.self.inside.accounts.items })
-    (record { kept = c.run_quiet-reached.new.tables; accounts = set c.self.inside.accounts.items c.index.result c.count_row-2.new.self }) c.self.invariant lt within_all
+    (counted_up (own_ticks c.args.plan.now c.args.p) c.args.p c.args.turn.start c.run_quiet-reached.result.tick c.coming.result.start c.args.self.now _
+    (subst (λ (w : Whole). IsWhole w.kept w.accounts) c.self.view_is c.self.invariant) c.requires.partition (omega (arith, c.run_quiet-reached.ensures.from)) later
     (λ k at. c.coming.ensures.before k (c.next.ensures ∙ (sym (ap (λ (a : KeptAccount). a.account.next) put) ∙ at)))
-    counted.0
-    (subst (AreSteady (part_at c.args.p c.self.inside.tables) (states_from (own_ticks c.args.plan.now c.args.p) (limits_at c.args.p c.self.inside.tables) c.args.turn.start (state_at c.args.p (record { kept = c.self.inside.tables; accounts = c.self.inside.accounts.items }))) c.args.turn.start) here counted.1))
+    (rows_from c.args.plan.now c.args.p c.index.result c.args.quiet.now.stop c.args.to c.run_quiet-reached.result.steps c.run_quiet-reached.result.tick c.args.quiet.now.thread c.args.turn _ c.self.inside.tables c.run_quiet-reached.new.tables c.self.inside.accounts.items c.run_quiet-reached.new.trace
+    c.index_mut-account.result.now (kept_account_of c.account.inside) c.count_row-2.new.self c.args.self.now c.is_plan.ensures c.self.view_is c.self.invariant c.requires.partition c.requires.coming c.requires.order c.requires.within
+    (omega (arith, c.run_quiet-reached.ensures.within, c.requires.end)) c.requires.quiet (c.run_quiet-reached.ensures.still c.args.quiet.now.stop (omega arith)) c.turn_on.ensures.next c.run_quiet-reached.ensures.moved c.index.ensures c.account.view_is c.index_mut-account.ensures.value
+    c.run_quiet-reached.ensures.none c.run_quiet-reached.ensures.gone row)).1
 
 pub run_quiet-reached-requires-clause-near : goal.run_quiet-reached-requires-clause-near
 run_quiet-reached-requires-clause-near c =
     let window : IsInWindow (own_ticks c.args.plan.now c.args.p) c.args.turn.start c.args.turn.end = c.requires.coming.window (omega (arith, c.requires.order, c.requires.within)) in
     omega (arith, window.near, c.requires.end)
+
+pub returns-clause-call : goal.returns-clause-call
+returns-clause-call c = c.run_quiet-reached.ensures.call
