@@ -142,6 +142,4 @@ machine_starts config files limits tables machine is same are kept count account
 
 pub ruleset blanks = (limits_ranges, length-map)
 
-pub ruleset loading = (is_blank, loaded_sections)
-
 pub ruleset starts = (length-map)

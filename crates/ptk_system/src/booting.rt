@@ -97,7 +97,6 @@ fn inputs_of<'a>(alloc: Global, config: &'a Config) -> Result<Vec<&'a [Arrival]>
 }
 
 /// The tables of the sections with their images loaded. Memory is its only fault.
-#[tactic(auto, using(crate::proofs::Loading::loading))]
 fn loaded_tables(
     alloc: Global,
     config: &Config,
