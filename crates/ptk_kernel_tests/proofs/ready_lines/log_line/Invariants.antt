@@ -1,8 +1,0 @@
-use Rattle.std.proofs.Common.{◌<◌, length}
-use Rattle.ptk_kernel_tests.proofs.ready_lines.log_line.Given as goal
-
-abbrev pub invariant-loop : goal.invariant-loop
-invariant-loop g l = record {
-  partition : (l.p < length (g.L.Line.entries l.line l.threads)) × (l.p < length l.threads.threads);
-  sound : g.L.Line.is_sound l.line l.threads;
-}
