@@ -67,6 +67,7 @@ fn make_call(tables: &mut Tables, p: PartId, tick: Tick, next: &NextStep)
 }
 
 /// The step of the running thread at the return gate.
+#[tactic(auto, using(ptk_words_invariant::proofs::Decisions::runner_runs))]
 fn step_at_gate(tables: &mut Tables, p: PartId)
     requires partition { p < length tables.old.limits }
     ensures { (r : Runner) → runner_of (part_at p tables.old) ≡ Some r →
