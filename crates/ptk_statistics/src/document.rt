@@ -26,6 +26,17 @@ pub(crate) struct Figures<'a> {
     pub(crate) part: &'a PartStatistics,
 }
 
+/// The value of a member.
+#[derive(Clone, Copy)]
+enum Value<'a> {
+    /// A number.
+    Number(u64),
+    /// A word.
+    Word(&'a str),
+    /// A stack pointer, null where there is none.
+    Stack(Option<u32>),
+}
+
 /// The JSON text of a partition: an object in the compact form of its tokens, with no newline. An error where memory
 /// ran out.
 pub(crate) fn json_of(alloc: Global, figures: &Figures<'_>) -> Result<String, Error>
@@ -38,11 +49,12 @@ impl Described for Figures<'_> {}
 
 impl Serialize for Figures<'_> {
     fn serialize<S: Serializer>(&self, out: &mut S) -> Result<(), S::Error> {
+        let members = [
+            ("name", Value::Word(self.name)),
+            ("status", Value::Word(outcome_word(self.status))),
+        ];
         out.begin_map(None)?;
-        out.key("name")?;
-        out.str(self.name)?;
-        out.key("status")?;
-        out.str(outcome_word(self.status))?;
+        put_members(&members, out)?;
         put_counted(self.part.counted(), out)?;
         put_threads(self.part, out)?;
         put_mutexes(self.part.mutexes(), out)?;
@@ -50,39 +62,49 @@ impl Serialize for Figures<'_> {
     }
 }
 
-/// Puts numbers, each under its key.
-fn put_numbers<S: Serializer>(numbers: &[(&str, u64)], out: &mut S) -> Result<(), S::Error> {
-    for (key, number) in numbers {
+/// Puts members of an object, each a value under its key.
+fn put_members<S: Serializer>(members: &[(&str, Value<'_>)], out: &mut S) -> Result<(), S::Error> {
+    for (key, value) in members {
         out.key(key)?;
-        out.u64(*number)?;
+        put_value(*value, out)?;
     }
     Ok(())
 }
 
-/// Puts an object of numbers under a key.
+/// Puts a value.
+fn put_value<S: Serializer>(value: Value<'_>, out: &mut S) -> Result<(), S::Error> {
+    match value {
+        Value::Number(number) => out.u64(number),
+        Value::Word(word) => out.str(word),
+        Value::Stack(Some(pointer)) => out.u64(u64::from(pointer)),
+        Value::Stack(None) => out.unit(),
+    }
+}
+
+/// Puts an object under a key.
 fn put_object<S: Serializer>(
     key: &str,
-    numbers: &[(&str, u64)],
+    members: &[(&str, Value<'_>)],
     out: &mut S,
 ) -> Result<(), S::Error> {
     out.key(key)?;
     out.begin_map(None)?;
-    put_numbers(numbers, out)?;
+    put_members(members, out)?;
     out.end_map()
 }
 
 /// Puts the ticks and the steps of a partition.
 fn put_counted<S: Serializer>(counted: &Counted, out: &mut S) -> Result<(), S::Error> {
-    let numbers = [
-        ("own", counted.own()),
-        ("used", counted.used()),
-        ("idle", counted.idle()),
-        ("lost", counted.lost()),
-        ("after_halt", counted.halted()),
-        ("lost_ahead", counted.ahead()),
-        ("steps", counted.steps()),
+    let members = [
+        ("own", Value::Number(counted.own())),
+        ("used", Value::Number(counted.used())),
+        ("idle", Value::Number(counted.idle())),
+        ("lost", Value::Number(counted.lost())),
+        ("after_halt", Value::Number(counted.halted())),
+        ("lost_ahead", Value::Number(counted.ahead())),
+        ("steps", Value::Number(counted.steps())),
     ];
-    put_numbers(&numbers, out)
+    put_members(&members, out)
 }
 
 /// Puts the threads that there were.
@@ -106,18 +128,16 @@ fn put_thread<S: Serializer>(
     thread: &ThreadStatistics,
     out: &mut S,
 ) -> Result<(), S::Error> {
-    let numbers = [
-        ("since", thread.since().ticks()),
-        ("steps", steps),
-        ("preemptions", thread.preemptions()),
+    let members = [
+        ("thread", Value::Number(u64::from(t.number()))),
+        ("does", Value::Word(doing_word(thread.doing()))),
+        ("since", Value::Number(thread.since().ticks())),
+        ("steps", Value::Number(steps)),
+        ("preemptions", Value::Number(thread.preemptions())),
+        ("least_stack", Value::Stack(thread.least_stack())),
     ];
     out.begin_map(None)?;
-    put_numbers(&[("thread", u64::from(t.number()))], out)?;
-    out.key("does")?;
-    out.str(doing_word(thread.doing()))?;
-    put_numbers(&numbers, out)?;
-    out.key("least_stack")?;
-    thread.least_stack().serialize(out)?;
+    put_members(&members, out)?;
     put_span("to_run", thread.dispatch(), out)?;
     put_spans(thread, out)?;
     put_activations(thread.activations(), out)?;
@@ -127,7 +147,11 @@ fn put_thread<S: Serializer>(
 
 /// Puts a number of own ticks and of all ticks under a key.
 fn put_span<S: Serializer>(key: &str, span: Span, out: &mut S) -> Result<(), S::Error> {
-    put_object(key, &[("own", span.own), ("all", span.wall)], out)
+    let members = [
+        ("own", Value::Number(span.own)),
+        ("all", Value::Number(span.wall)),
+    ];
+    put_object(key, &members, out)
 }
 
 /// Puts for how long a thread did what, each by its word.
@@ -144,11 +168,12 @@ fn put_spans<S: Serializer>(thread: &ThreadStatistics, out: &mut S) -> Result<()
 fn put_activations<S: Serializer>(spread: &Spread, out: &mut S) -> Result<(), S::Error> {
     out.key("activations")?;
     out.begin_map(None)?;
-    put_numbers(&[("count", spread.count())], out)?;
+    put_members(&[("count", Value::Number(spread.count()))], out)?;
     put_span("least", spread.least(), out)?;
     put_span("mean", spread.mean(), out)?;
     put_span("greatest", spread.greatest(), out)?;
-    put_numbers(&[("greatest_from", spread.greatest_from().ticks())], out)?;
+    let from = Value::Number(spread.greatest_from().ticks());
+    put_members(&[("greatest_from", from)], out)?;
     out.end_map()
 }
 
@@ -165,14 +190,16 @@ fn put_calls<S: Serializer>(thread: &ThreadStatistics, out: &mut S) -> Result<()
 
 /// Puts how often a call was made, if it was.
 fn put_call<S: Serializer>(word: &str, count: CallCount, out: &mut S) -> Result<(), S::Error> {
-    let CallCount { made, refused } = count;
-    if made == 0 {
+    if count.made == 0 {
         return Ok(());
     }
+    let members = [
+        ("call", Value::Word(word)),
+        ("made", Value::Number(count.made)),
+        ("refused", Value::Number(count.refused)),
+    ];
     out.begin_map(None)?;
-    out.key("call")?;
-    out.str(word)?;
-    put_numbers(&[("made", made), ("refused", refused)], out)?;
+    put_members(&members, out)?;
     out.end_map()
 }
 
@@ -195,7 +222,8 @@ fn put_mutex<S: Serializer>(
     out: &mut S,
 ) -> Result<(), S::Error> {
     out.begin_map(None)?;
-    put_numbers(&[("mutex", (place as u64).saturating_add(1))], out)?;
+    let number = Value::Number((place as u64).saturating_add(1));
+    put_members(&[("mutex", number)], out)?;
     put_longest("held", mutex.held(), out)?;
     put_longest("waited", mutex.waited(), out)?;
     out.end_map()
@@ -210,11 +238,11 @@ fn put_longest<S: Serializer>(
     let Some(Longest { span, thread, from }) = longest else {
         return Ok(());
     };
-    let numbers = [
-        ("own", span.own),
-        ("all", span.wall),
-        ("thread", u64::from(thread.number())),
-        ("from", from.ticks()),
+    let members = [
+        ("own", Value::Number(span.own)),
+        ("all", Value::Number(span.wall)),
+        ("thread", Value::Number(u64::from(thread.number()))),
+        ("from", Value::Number(from.ticks())),
     ];
-    put_object(key, &numbers, out)
+    put_object(key, &members, out)
 }
