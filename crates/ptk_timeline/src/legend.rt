@@ -1,6 +1,7 @@
 //! The legend.
 
 use crate::layout::{LEFT, are_windows_wide};
+use crate::shapes::{Rect, write_rect, write_text};
 use ptk_config::Config;
 use ptk_timeline_segments::Scale;
 use std::io;
@@ -50,17 +51,14 @@ pub(crate) fn write_legend<W: Write>(
         return Ok(());
     }
     let y = top.saturating_add(29);
-    writeln!(
-        out,
-        "<text x=\"8\" y=\"{y}\">windows are too narrow to draw</text>"
-    )
+    write_text(out, 8, y, "windows are too narrow to draw")
 }
 
 /// Writes how many ticks a column has.
 fn write_columns<W: Write>(out: &mut W, scale: Scale, y: u32) -> io::Result<()> {
     let each = scale.each();
     if each == 1 {
-        return writeln!(out, "<text x=\"8\" y=\"{y}\">a column is a tick</text>");
+        return write_text(out, 8, y, "a column is a tick");
     }
     writeln!(out, "<text x=\"8\" y=\"{y}\">a column: {each} ticks</text>")
 }
@@ -89,10 +87,13 @@ fn write_entries<W: Write>(
 
 /// Writes an entry.
 fn write_entry<W: Write>(out: &mut W, class: &str, words: &str, x: u64, y: u32) -> io::Result<()> {
-    writeln!(
-        out,
-        "<rect class=\"{class}\" x=\"{x}\" y=\"{y}\" width=\"24\" height=\"12\"/>"
-    )?;
-    let (x, y) = (x.saturating_add(30), y.saturating_add(10));
-    writeln!(out, "<text x=\"{x}\" y=\"{y}\">{words}</text>")
+    let rect = Rect {
+        class,
+        x,
+        y,
+        width: 24,
+        height: 12,
+    };
+    write_rect(out, &rect)?;
+    write_text(out, x.saturating_add(30), y.saturating_add(10), words)
 }

@@ -23,6 +23,7 @@ mod names;
 mod picture;
 mod plans;
 mod rows;
+mod shapes;
 mod starts;
 mod windows;
 

@@ -1,6 +1,7 @@
 //! The marks of a lane: arrivals of input, input lost, ticks lost, and the end of the partition.
 
 use crate::layout::{Place, column_place, column_width, place_of};
+use crate::shapes::{Rect, begin_rect};
 use ptk_config::Config;
 use ptk_timeline_segments::{Lane, Marks, Scale};
 use std::io;
@@ -29,13 +30,8 @@ fn write_column<W: Write>(
     marks: Marks,
     top: u32,
 ) -> io::Result<()> {
-    let width = column_width(scale);
     if marks.is_lost {
-        let y = top.saturating_add(17);
-        writeln!(
-            out,
-            "<rect class=\"lost\" x=\"{x}\" y=\"{y}\" width=\"{width}\" height=\"4\"><title>ticks lost</title></rect>"
-        )?;
+        write_lost(out, x, top.saturating_add(17), column_width(scale))?;
     }
     if marks.is_dropped {
         let y = top.saturating_add(9);
@@ -52,6 +48,19 @@ fn write_column<W: Write>(
         )?;
     }
     Ok(())
+}
+
+/// Writes the mark of lost ticks in a column so wide.
+fn write_lost<W: Write>(out: &mut W, x: u64, y: u32, width: u64) -> io::Result<()> {
+    let rect = Rect {
+        class: "lost",
+        x,
+        y,
+        width,
+        height: 4,
+    };
+    begin_rect(out, &rect)?;
+    out.write_all(b"><title>ticks lost</title></rect>\n")
 }
 
 /// Writes a mark for each column in which input comes.

@@ -4,8 +4,9 @@ ghost use Rattle.ptk_timeline_segments.specs.Bars.{IsBar};
 
 use crate::layout::{BAR, LEFT, ROW, are_steps_wide, column_place, is_shown};
 use crate::names::{Words, class_of};
+use crate::shapes::{Rect, begin_rect, write_rect};
 use crate::starts::Names;
-use ptk_timeline_segments::{Cell, Lane, Marks, Row, Scale, Shade};
+use ptk_timeline_segments::{Cell, Lane, Look, Marks, Row, Scale, Shade};
 use ptk_words::PartId;
 use std::io;
 use std::io::Write;
@@ -39,6 +40,17 @@ impl Stretch {
     /// Its width.
     fn width(self) -> u64 {
         column_place(self.scale, self.behind).saturating_sub(self.left())
+    }
+
+    /// The rectangle over it, of a class, from `y` down so high.
+    fn rect(self, class: &str, y: u32, height: u32) -> Rect<'_> {
+        Rect {
+            class,
+            x: self.left(),
+            y,
+            width: self.width(),
+            height,
+        }
     }
 }
 
@@ -156,18 +168,25 @@ fn write_bar<W: Write>(
     requires { IsBar cells.now stretch.first stretch.behind }
 {
     let look = cells[stretch.first].look;
-    let Named { name, number } = thread;
     if look.shade() == Shade::Free {
         return Ok(());
     }
-    let (x, width) = (stretch.left(), stretch.width());
-    let (class, words) = (class_of(look.shade()), Words(look));
+    begin_rect(out, &stretch.rect(class_of(look.shade()), y, BAR))?;
+    write_title(out, thread, look, stretch)
+}
+
+/// Writes the title of a bar, and the end of its rectangle.
+fn write_title<W: Write>(
+    out: &mut W,
+    thread: Named<'_>,
+    look: Look,
+    stretch: Stretch,
+) -> io::Result<()> {
+    let (Named { name, number }, words) = (thread, Words(look));
     let first = stretch.scale.start_of(stretch.first);
     let behind = stretch.scale.start_of(stretch.behind);
-    writeln!(
-        out,
-        "<rect class=\"{class}\" x=\"{x}\" y=\"{y}\" width=\"{width}\" height=\"{BAR}\"><title>{name}, thread {number}: {words}, ticks {first} to {behind}</title></rect>"
-    )
+    write!(out, "><title>{name}, thread {number}: {words}")?;
+    writeln!(out, ", ticks {first} to {behind}</title></rect>")
 }
 
 /// Writes a line below the columns that have another shade beside the one drawn.
@@ -195,11 +214,7 @@ fn write_mixed<W: Write>(out: &mut W, scale: Scale, cells: &[Cell], y: u32) -> i
 
 /// Writes the line below a stretch.
 fn write_line<W: Write>(out: &mut W, stretch: Stretch, y: u32) -> io::Result<()> {
-    let (x, width, y) = (stretch.left(), stretch.width(), y.saturating_add(BAR - 3));
-    writeln!(
-        out,
-        "<rect class=\"mixed\" x=\"{x}\" y=\"{y}\" width=\"{width}\" height=\"3\"/>"
-    )
+    write_rect(out, &stretch.rect("mixed", y.saturating_add(BAR - 3), 3))
 }
 
 /// Writes a line above the columns in which the effective priority is raised.
@@ -228,16 +243,12 @@ fn write_raised<W: Write>(out: &mut W, scale: Scale, cells: &[Cell], y: u32) -> 
 
 /// Writes the line above a stretch of a raised priority, and the priority where there is room.
 fn write_level<W: Write>(out: &mut W, level: u8, stretch: Stretch, y: u32) -> io::Result<()> {
-    let (x, width) = (stretch.left(), stretch.width());
-    let (line, base) = (y.saturating_sub(2), y.saturating_add(10));
-    writeln!(
-        out,
-        "<rect class=\"raised\" x=\"{x}\" y=\"{line}\" width=\"{width}\" height=\"4\"><title>effective priority {level}</title></rect>"
-    )?;
-    if width <= 20 {
+    begin_rect(out, &stretch.rect("raised", y.saturating_sub(2), 4))?;
+    writeln!(out, "><title>effective priority {level}</title></rect>")?;
+    if stretch.width() <= 20 {
         return Ok(());
     }
-    let x = x.saturating_add(3);
+    let (x, base) = (stretch.left().saturating_add(3), y.saturating_add(10));
     writeln!(out, "<text x=\"{x}\" y=\"{base}\">{level}</text>")
 }
 

@@ -4,6 +4,7 @@ ghost use Rattle.std.specs.Prelude.{◌≤◌};
 ghost use Rattle.ptk_words.specs.declared.TheConstants.{LAST_TICK};
 
 use crate::layout::{HEAD, LEFT, Place, are_windows_wide, place_of, plot_width};
+use crate::shapes::{Rect, begin_rect, write_rect};
 use ptk_config::Config;
 use ptk_timeline_segments::{Scale, Span, next_window};
 use std::io;
@@ -16,11 +17,14 @@ pub(crate) fn write_windows<W: Write>(
     scale: Scale,
     place: Place,
 ) -> io::Result<()> {
-    let (top, height, width) = (place.top, place.height, plot_width(scale));
-    writeln!(
-        out,
-        "<rect class=\"lane\" x=\"{LEFT}\" y=\"{top}\" width=\"{width}\" height=\"{height}\"/>"
-    )?;
+    let lane = Rect {
+        class: "lane",
+        x: LEFT,
+        y: place.top,
+        width: plot_width(scale),
+        height: place.height,
+    };
+    write_rect(out, &lane)?;
     if !are_windows_wide(config, scale) {
         return Ok(());
     }
@@ -34,16 +38,18 @@ pub(crate) fn write_windows<W: Write>(
 
 /// Writes a window.
 fn write_window<W: Write>(out: &mut W, scale: Scale, window: Span, place: Place) -> io::Result<()> {
-    let left = place_of(scale, window.from);
-    let width = place_of(scale, window.to).saturating_sub(left);
-    if width == 0 {
+    let x = place_of(scale, window.from);
+    let rect = Rect {
+        class: "window",
+        x,
+        y: place.top,
+        width: place_of(scale, window.to).saturating_sub(x),
+        height: place.height,
+    };
+    if rect.width == 0 {
         return Ok(());
     }
-    let (top, height) = (place.top, place.height);
-    writeln!(
-        out,
-        "<rect class=\"window\" x=\"{left}\" y=\"{top}\" width=\"{width}\" height=\"{height}\"/>"
-    )
+    write_rect(out, &rect)
 }
 
 /// Writes over the rows of a lane the ticks that are not the partition's, at which its threads stand still, none where
@@ -75,17 +81,20 @@ fn write_other<W: Write>(
     to: u64,
     place: Place,
 ) -> io::Result<()> {
-    let left = place_of(scale, from);
-    let width = place_of(scale, to).saturating_sub(left);
-    if width == 0 {
+    let x = place_of(scale, from);
+    let rect = Rect {
+        class: "others",
+        x,
+        y: place.top.saturating_add(HEAD - 4),
+        width: place_of(scale, to).saturating_sub(x),
+        height: place.height.saturating_sub(HEAD - 4),
+    };
+    if rect.width == 0 {
         return Ok(());
     }
-    let (top, height) = (
-        place.top.saturating_add(HEAD - 4),
-        place.height.saturating_sub(HEAD - 4),
-    );
+    begin_rect(out, &rect)?;
     writeln!(
         out,
-        "<rect class=\"others\" x=\"{left}\" y=\"{top}\" width=\"{width}\" height=\"{height}\"><title>no window of {name}, ticks {from} to {to}</title></rect>"
+        "><title>no window of {name}, ticks {from} to {to}</title></rect>"
     )
 }

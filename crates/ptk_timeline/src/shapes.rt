@@ -1,0 +1,33 @@
+//! The elements of a picture.
+
+use std::io;
+use std::io::Write;
+
+/// A rectangle of a class of the picture's style.
+#[derive(Clone, Copy)]
+pub(crate) struct Rect<'a> {
+    pub(crate) class: &'a str,
+    pub(crate) x: u64,
+    pub(crate) y: u32,
+    pub(crate) width: u64,
+    pub(crate) height: u32,
+}
+
+/// Writes a rectangle.
+pub(crate) fn write_rect<W: Write>(out: &mut W, rect: &Rect<'_>) -> io::Result<()> {
+    begin_rect(out, rect)?;
+    out.write_all(b"/>\n")
+}
+
+/// Writes the beginning of a rectangle: all its attributes, without the end of its tag.
+pub(crate) fn begin_rect<W: Write>(out: &mut W, rect: &Rect<'_>) -> io::Result<()> {
+    let (class, x, y) = (rect.class, rect.x, rect.y);
+    write!(out, "<rect class=\"{class}\" x=\"{x}\" y=\"{y}\"")?;
+    let (width, height) = (rect.width, rect.height);
+    write!(out, " width=\"{width}\" height=\"{height}\"")
+}
+
+/// Writes words at a place.
+pub(crate) fn write_text<W: Write>(out: &mut W, x: u64, y: u32, words: &str) -> io::Result<()> {
+    writeln!(out, "<text x=\"{x}\" y=\"{y}\">{words}</text>")
+}
