@@ -43,14 +43,6 @@ impl<'a> Comparison<'a> {
         !self.old_file.is_empty() && !self.new_file.is_empty() && self.old_file != self.new_file
     }
 
-    /// The names of the files of the images, empty where there is none.
-    pub(crate) fn files(&self) -> Pair<&'a str> {
-        Pair {
-            old: self.old_file,
-            new: self.new_file,
-        }
-    }
-
     /// Whether a limit differs.
     pub(crate) fn has_other_limits(&self) -> bool {
         self.limits.old != self.limits.new

@@ -5,9 +5,7 @@ ghost use Rattle.json.specs.Lex.{tokens};
 ghost use Rattle.json.specs.Print.{print};
 
 use crate::comparison::{Comparison, Pair, by_key, impact_words};
-use ptk_impact::{
-    Changes, Difference, ImageChange, Impact, InputChange, LimitChange, LimitChanges,
-};
+use ptk_impact::{Changes, Difference, ImageChange, Impact, InputChange, LimitChange};
 use ptk_words::{Arrival, ImageFault, Tick};
 use serde::{Described, Serialize, Serializer};
 use serde_json::Error;
@@ -20,6 +18,15 @@ struct Alone<'a> {
     name: &'a str,
     /// The word of the answer.
     answer: &'static str,
+}
+
+/// The value of a member.
+#[derive(Clone, Copy)]
+enum Value<'a> {
+    /// A number, null where there is none.
+    Number(Option<u64>),
+    /// A word.
+    Word(&'a str),
 }
 
 /// The JSON text of a partition that both configurations have: an object in the compact form of its tokens, with no
@@ -66,42 +73,71 @@ impl Serialize for Comparison<'_> {
     }
 }
 
+/// Puts members of an object, each a value under its key.
+fn put_members<S: Serializer>(members: &[(&str, Value<'_>)], out: &mut S) -> Result<(), S::Error> {
+    for (key, value) in members {
+        out.key(key)?;
+        put_value(*value, out)?;
+    }
+    Ok(())
+}
+
+/// Puts a value.
+fn put_value<S: Serializer>(value: Value<'_>, out: &mut S) -> Result<(), S::Error> {
+    match value {
+        Value::Number(Some(number)) => out.u64(number),
+        Value::Number(None) => out.unit(),
+        Value::Word(word) => out.str(word),
+    }
+}
+
+/// Puts an object under a key.
+fn put_object<S: Serializer>(
+    key: &str,
+    members: &[(&str, Value<'_>)],
+    out: &mut S,
+) -> Result<(), S::Error> {
+    out.key(key)?;
+    out.begin_map(None)?;
+    put_members(members, out)?;
+    out.end_map()
+}
+
+/// Puts an old and a new value under a key, as an object.
+fn put_pair<S: Serializer>(
+    key: &str,
+    old: Value<'_>,
+    new: Value<'_>,
+    out: &mut S,
+) -> Result<(), S::Error> {
+    put_object(key, &[("old", old), ("new", new)], out)
+}
+
 /// Puts the name and the word of the answer.
 fn put_answer<S: Serializer>(name: &str, answer: &str, out: &mut S) -> Result<(), S::Error> {
-    out.key("name")?;
-    out.str(name)?;
-    out.key("answer")?;
-    out.str(answer)
+    let members = [("name", Value::Word(name)), ("answer", Value::Word(answer))];
+    put_members(&members, out)
 }
 
 /// Puts what differs and plays no part in a run: the name, the place among the sections, the name of the image's file.
 fn put_notes<S: Serializer>(comparison: &Comparison<'_>, out: &mut S) -> Result<(), S::Error> {
     if comparison.has_other_name() {
-        out.key("old_name")?;
-        out.str(comparison.old_name)?;
+        put_members(&[("old_name", Value::Word(comparison.old_name))], out)?;
     }
     if comparison.has_other_place() {
-        put_pair("place", &comparison.places, out)?;
+        let Pair { old, new } = comparison.places;
+        put_pair("place", place_value(old), place_value(new), out)?;
     }
     if comparison.has_other_file() {
-        put_pair("file", &comparison.files(), out)?;
+        let (old, new) = (comparison.old_file, comparison.new_file);
+        put_pair("file", Value::Word(old), Value::Word(new), out)?;
     }
     Ok(())
 }
 
-/// Puts two values under a key, as an object.
-fn put_pair<T: Serialize, S: Serializer>(
-    key: &str,
-    pair: &Pair<T>,
-    out: &mut S,
-) -> Result<(), S::Error> {
-    out.key(key)?;
-    out.begin_map(None)?;
-    out.key("old")?;
-    pair.old.serialize(out)?;
-    out.key("new")?;
-    pair.new.serialize(out)?;
-    out.end_map()
+/// A place or an offset as a value.
+fn place_value(place: usize) -> Value<'static> {
+    Value::Number(Some(place as u64))
 }
 
 /// Puts what differs and plays a part in a run, nothing where nothing does.
@@ -120,10 +156,7 @@ fn put_differences<S: Serializer>(
 fn put_trace<S: Serializer>(trace: LimitChange, out: &mut S) -> Result<(), S::Error> {
     out.key("differences")?;
     out.begin_map(None)?;
-    out.key("limits")?;
-    out.begin_map(None)?;
-    put_limit("trace", Some(trace), out)?;
-    out.end_map()?;
+    put_limits(&[("trace", Some(trace))], out)?;
     out.end_map()
 }
 
@@ -137,7 +170,7 @@ fn put_changes<S: Serializer>(
     out.begin_map(None)?;
     put_windows(changes.windows, out)?;
     if comparison.has_other_limits() {
-        put_limits(&changes.limits, out)?;
+        put_limits(&by_key(&changes.limits), out)?;
     }
     if changes.image.is_some() || comparison.is_refused() {
         put_image(changes.image, comparison, out)?;
@@ -152,27 +185,26 @@ fn put_windows<S: Serializer>(windows: Option<Difference>, out: &mut S) -> Resul
     let Some(difference) = windows else {
         return Ok(());
     };
-    out.key("windows")?;
-    out.begin_map(None)?;
-    out.key("tick")?;
-    out.u64(difference.tick.ticks())?;
-    put_end("old_end", difference.end, out)?;
-    put_end("new_end", difference.other_end, out)?;
-    out.end_map()
+    let members = [
+        ("tick", Value::Number(Some(difference.tick.ticks()))),
+        ("old_end", Value::Number(difference.end.map(Tick::ticks))),
+        (
+            "new_end",
+            Value::Number(difference.other_end.map(Tick::ticks)),
+        ),
+    ];
+    put_object("windows", &members, out)
 }
 
-/// Puts the end of a window under a key.
-fn put_end<S: Serializer>(key: &str, end: Option<Tick>, out: &mut S) -> Result<(), S::Error> {
-    out.key(key)?;
-    end.map(Tick::ticks).serialize(out)
-}
-
-/// Puts the limits that differ, each by its key in the configuration.
-fn put_limits<S: Serializer>(limits: &LimitChanges, out: &mut S) -> Result<(), S::Error> {
+/// Puts the limits that differ, of these, each by its key in the configuration.
+fn put_limits<S: Serializer>(
+    limits: &[(&str, Option<LimitChange>)],
+    out: &mut S,
+) -> Result<(), S::Error> {
     out.key("limits")?;
     out.begin_map(None)?;
-    for (key, limit) in by_key(limits) {
-        put_limit(key, limit, out)?;
+    for (key, limit) in limits {
+        put_limit(key, *limit, out)?;
     }
     out.end_map()
 }
@@ -184,7 +216,10 @@ fn put_limit<S: Serializer>(
     out: &mut S,
 ) -> Result<(), S::Error> {
     match limit {
-        Some(LimitChange { old, new }) => put_pair(key, &Pair { old, new }, out),
+        Some(LimitChange { old, new }) => {
+            let (old, new) = (Some(u64::from(old)), Some(u64::from(new)));
+            put_pair(key, Value::Number(old), Value::Number(new), out)
+        }
         None => Ok(()),
     }
 }
@@ -200,7 +235,8 @@ fn put_image<S: Serializer>(
     out.begin_map(None)?;
     put_image_change(image, out)?;
     if comparison.is_refused() {
-        put_pair("fault", &fault_numbers(comparison.refusals), out)?;
+        let Pair { old, new } = comparison.refusals;
+        put_pair("fault", fault_value(old), fault_value(new), out)?;
     }
     out.end_map()
 }
@@ -213,27 +249,21 @@ fn put_image_change<S: Serializer>(
     match image {
         Some(ImageChange::Added) => put_presence("none", "one", out),
         Some(ImageChange::Removed) => put_presence("one", "none", out),
-        Some(ImageChange::Bytes(offset)) => {
-            out.key("offset")?;
-            offset.serialize(out)
-        }
+        Some(ImageChange::Bytes(offset)) => put_members(&[("offset", place_value(offset))], out),
         None => Ok(()),
     }
 }
 
 /// Puts the words for whether there is an image.
 fn put_presence<S: Serializer>(old: &str, new: &str, out: &mut S) -> Result<(), S::Error> {
-    out.key("old")?;
-    out.str(old)?;
-    out.key("new")?;
-    out.str(new)
+    put_members(&[("old", Value::Word(old)), ("new", Value::Word(new))], out)
 }
 
-/// The numbers of the faults.
-fn fault_numbers(refused: Pair<Option<ImageFault>>) -> Pair<Option<u8>> {
-    Pair {
-        old: refused.old.map(ImageFault::number),
-        new: refused.new.map(ImageFault::number),
+/// The number of a fault as a value.
+fn fault_value(refusal: Option<ImageFault>) -> Value<'static> {
+    match refusal {
+        Some(fault) => Value::Number(Some(u64::from(fault.number()))),
+        None => Value::Number(None),
     }
 }
 
@@ -244,8 +274,7 @@ fn put_input<S: Serializer>(input: Option<InputChange>, out: &mut S) -> Result<(
     };
     out.key("input")?;
     out.begin_map(None)?;
-    out.key("index")?;
-    change.place.serialize(out)?;
+    put_members(&[("index", place_value(change.place))], out)?;
     put_arrival("old", change.old, out)?;
     put_arrival("new", change.new, out)?;
     out.end_map()
@@ -257,14 +286,12 @@ fn put_arrival<S: Serializer>(
     arrival: Option<Arrival>,
     out: &mut S,
 ) -> Result<(), S::Error> {
-    out.key(key)?;
     let Some(arrival) = arrival else {
-        return out.unit();
+        return put_members(&[(key, Value::Number(None))], out);
     };
-    out.begin_map(None)?;
-    out.key("tick")?;
-    out.u64(arrival.tick.ticks())?;
-    out.key("byte")?;
-    arrival.byte.serialize(out)?;
-    out.end_map()
+    let members = [
+        ("tick", Value::Number(Some(arrival.tick.ticks()))),
+        ("byte", Value::Number(Some(u64::from(arrival.byte)))),
+    ];
+    put_object(key, &members, out)
 }
