@@ -3,7 +3,6 @@
 use ptk_config::{Config, ConfigFault, Section, read_config};
 use ptk_words::{Limits, Tick};
 use std::alloc::{AllocError, Global};
-use std::test::Fail;
 
 /// A document of one section and one window.
 const FRAME: &str = "frame = 20\n";
@@ -13,13 +12,18 @@ const SECTION: &str =
 
 const WINDOW: &str = "[[window]]\nstart = 0\nlength = 20\npartition = \"p\"\n";
 
-/// The text of these parts, one after the other.
-pub(crate) fn joined(alloc: Global, parts: &[&str]) -> Result<String, AllocError> {
-    let mut text = String::new(alloc);
-    for part in parts {
-        text.push_str(part)?;
-    }
-    Ok(text)
+/// The parts of that document.
+const GOOD: [&str; 3] = [FRAME, SECTION, WINDOW];
+
+/// The text of these parts, with one text in place of another.
+pub(crate) fn replaced(
+    alloc: Global,
+    parts: &[&str],
+    old: &str,
+    new: &str,
+) -> Result<String, AllocError> {
+    let text = parts.concat(alloc)?;
+    text.replace(alloc, old, new)
 }
 
 /// The number of the fault and of the windows' fault, 0 where there is none.
@@ -33,18 +37,26 @@ fn fault(alloc: Global, text: &str) -> (u8, u8) {
 
 /// The fault of the text of these parts, `None` where memory ran out.
 fn fault_in(alloc: Global, parts: &[&str]) -> Option<(u8, u8)> {
-    let text = joined(alloc, parts).ok()?;
-    Some(fault(alloc, text.as_str()))
-}
-
-fn good(alloc: Global) -> Result<String, AllocError> {
-    joined(alloc, &[FRAME, SECTION, WINDOW])
+    match parts.concat(alloc) {
+        Ok(text) => Some(fault(alloc, text.as_str())),
+        Err(_) => None,
+    }
 }
 
 /// The fault of the good document with one text in place of another, `None` where memory ran out.
 fn changed(alloc: Global, old: &str, new: &str) -> Option<(u8, u8)> {
-    let text = good(alloc).ok()?.replace(alloc, old, new).ok()?;
-    Some(fault(alloc, text.as_str()))
+    match replaced(alloc, &GOOD, old, new) {
+        Ok(text) => Some(fault(alloc, text.as_str())),
+        Err(_) => None,
+    }
+}
+
+/// The configuration of the text of these parts, `None` where it is refused or memory ran out.
+fn config_in(alloc: Global, parts: &[&str]) -> Option<Config> {
+    match parts.concat(alloc) {
+        Ok(text) => read_config(alloc, text.as_str()).ok(),
+        Err(_) => None,
+    }
 }
 
 /// The numbers of the good document's section.
@@ -80,44 +92,49 @@ fn is_document(config: &Config) -> bool {
         && end_at(config, 0) == 20
 }
 
-#[test]
-fn reads_the_document(rt: HostRuntime) -> Result<(), Fail> {
-    let text = good(rt.alloc())?;
-    let config = read_config(rt.alloc(), text.as_str())?;
-    assert!(rt; is_document(&config));
-    Ok(())
+/// Whether the text of these parts has the good document's configuration.
+fn is_read(alloc: Global, parts: &[&str]) -> bool {
+    match config_in(alloc, parts) {
+        Some(config) => is_document(&config),
+        None => false,
+    }
 }
 
 /// A comment of 64 bytes.
 const COMMENT: &str = "# a line that says nothing of any section and of no window ....\n";
 
 #[test]
-fn reads_a_long_document(rt: HostRuntime) -> Result<(), Fail> {
-    let alloc = rt.alloc();
-    let mut text = good(alloc)?;
-    for _ in 0..400u32 {
-        text.push_str(COMMENT)?;
-    }
-    assert!(rt; text.len() > 25_600);
-    let config = read_config(alloc, text.as_str())?;
-    assert!(rt; is_document(&config));
+fn reads_the_document(rt: HostRuntime) -> Result<(), AllocError> {
+    assert!(rt; is_read(rt.alloc(), &GOOD));
+    let comments = COMMENT.repeat(rt.alloc(), 400)?;
+    assert!(rt; is_read(rt.alloc(), &[FRAME, SECTION, WINDOW, comments.as_str()]));
     Ok(())
 }
 
+/// A key with input at two ticks, and what arrives then: the tick and the byte.
+const INPUT: &str =
+    "input = [{ at = 3, bytes = [1, 2] }, { at = 3, bytes = [] }, { at = 1099511627776, bytes = [255] }]\n";
+
+const ARRIVALS: [(u64, u8); 3] = [(3, 1), (3, 2), (1_099_511_627_776, 255)];
+
+/// Whether this is the input of the only section.
+fn has_input(config: &Config, arrivals: &[(u64, u8)]) -> bool {
+    let Some(section) = config.sections().first() else {
+        return false;
+    };
+    let input = section.input();
+    input.len() == arrivals.len()
+        && input.iter().zip(arrivals.iter()).all(|(found, wanted)| found.tick.ticks() == wanted.0
+            && found.byte == wanted.1)
+}
+
 #[test]
-fn reads_input(rt: HostRuntime) -> Result<(), Fail> {
-    let alloc = rt.alloc();
-    let input =
-        "input = [{ at = 3, bytes = [1, 2] }, { at = 3, bytes = [] }, { at = 1099511627776, bytes = [255] }]\n";
-    let text = joined(alloc, &[FRAME, SECTION, input, WINDOW])?;
-    let config = read_config(alloc, text.as_str())?;
-    let mut seen = Vec::new(alloc);
-    for arrival in config.sections()[0].input() {
-        seen.push((arrival.tick.ticks(), arrival.byte))?;
-    }
-    let want = [(3, 1), (3, 2), (1_099_511_627_776, 255)];
-    assert_eq!(rt; seen.as_slice(), want.as_slice());
-    Ok(())
+fn reads_input(rt: HostRuntime) {
+    let is_input = match config_in(rt.alloc(), &[FRAME, SECTION, INPUT, WINDOW]) {
+        Some(config) => has_input(&config, &ARRIVALS),
+        None => false,
+    };
+    assert!(rt; is_input);
 }
 
 /// The parts of documents, and the numbers of their faults.
@@ -149,7 +166,7 @@ const DOCUMENTS: [(&[&str], (u8, u8)); 7] = [
 #[test]
 fn refuses_documents(rt: HostRuntime) {
     for (parts, want) in DOCUMENTS {
-        assert_eq!(rt; fault_in(rt.alloc(), parts), Some(want));
+        assert!(rt; fault_in(rt.alloc(), parts) == Some(want));
     }
 }
 
@@ -170,7 +187,10 @@ const VALUES: [(&str, &str, u8); 10] = [
 #[test]
 fn refuses_values(rt: HostRuntime) {
     for (old, new, want) in VALUES {
-        assert_eq!(rt; changed(rt.alloc(), old, new), Some((want, 0)), "at {new}");
+        assert!(rt;
+            changed(rt.alloc(), old, new) == Some((want, 0)),
+            "at {new}"
+        );
     }
 }
 
@@ -179,18 +199,21 @@ fn refuses_values(rt: HostRuntime) {
 struct Many<'a> {
     head: [&'a str; 3],
     part: &'a str,
-    count: u32,
+    count: usize,
     tail: [&'a str; 2],
     want: (u8, u8),
 }
 
 /// The fault of such a document, `None` where memory ran out.
 fn fault_of_many(alloc: Global, many: &Many<'_>) -> Option<(u8, u8)> {
-    let mut text = joined(alloc, &many.head).ok()?;
-    for _ in 0..many.count {
-        text.push_str(many.part).ok()?;
+    let (head, tail) = (&many.head, &many.tail);
+    match many.part.repeat(alloc, many.count) {
+        Ok(part) => fault_in(
+            alloc,
+            &[head[0], head[1], head[2], part.as_str(), tail[0], tail[1]],
+        ),
+        Err(_) => None,
     }
-    fault_in(alloc, &[text.as_str(), many.tail[0], many.tail[1]])
 }
 
 /// One window, one section and one byte of input more than there may be, and as many bytes as there may be.
@@ -228,35 +251,32 @@ const MANY: [Many<'static>; 4] = [
 #[test]
 fn refuses_too_many(rt: HostRuntime) {
     for many in MANY {
-        assert_eq!(rt; fault_of_many(rt.alloc(), &many), Some(many.want));
+        assert!(rt; fault_of_many(rt.alloc(), &many) == Some(many.want));
     }
 }
 
-/// A document of a frame of 40 ticks, of which p has the first half, and what else is in it.
-fn with_plans(alloc: Global, plans: &str) -> Result<String, AllocError> {
-    joined(alloc, &["frame = 40\n", plans, SECTION, WINDOW])
-}
+/// A frame of 40 ticks.
+const FRAME_40: &str = "frame = 40\n";
 
-/// A plan from this frame on in which p has the second half.
-fn plan(alloc: Global, from: &str) -> Result<String, AllocError> {
-    joined(
-        alloc,
-        &[
-            "{ from = ",
-            from,
-            ", window = [{ start = 20, length = 20, partition = \"p\" }] }, ",
-        ],
-    )
-}
-
-/// The key `plan` with plans from these frames on.
-fn plans(alloc: Global, numbers: &[&str]) -> Result<String, AllocError> {
+/// The key `plan` with plans from these frames on in which p has the second half of 40 ticks, and one more plan.
+fn plans(alloc: Global, numbers: &[&str], more: &str) -> Result<String, AllocError> {
     let mut text = String::from_str(alloc, "plan = [")?;
     for number in numbers {
-        text.push_str(plan(alloc, number)?.as_str())?;
+        text.push_str("{ from = ")?;
+        text.push_str(number)?;
+        text.push_str(", window = [{ start = 20, length = 20, partition = \"p\" }] }, ")?;
     }
+    text.push_str(more)?;
     text.push_str("]\n")?;
     Ok(text)
+}
+
+/// The fault of a document of a frame of 40 ticks, of which p has the first half, with these plans.
+fn with_plans(alloc: Global, numbers: &[&str], more: &str) -> Option<(u8, u8)> {
+    match plans(alloc, numbers, more) {
+        Ok(key) => fault_in(alloc, &[FRAME_40, key.as_str(), SECTION, WINDOW]),
+        Err(_) => None,
+    }
 }
 
 /// The end of p's window that holds the tick, 0 where none does.
@@ -280,23 +300,23 @@ fn first_other_end(config: &Config, ends: &[(u64, u64)]) -> Option<u64> {
     None
 }
 
-#[test]
-fn reads_plans(rt: HostRuntime) -> Result<(), Fail> {
-    let alloc = rt.alloc();
-    let key = plans(alloc, &["2", "68719476736"])?;
-    let text = with_plans(alloc, key.as_str())?;
-    let config = read_config(alloc, text.as_str())?;
-    assert_eq!(rt; first_other_end(&config, &ENDS), None);
-    Ok(())
+/// The first of these ticks whose window ends elsewhere in the document with this key.
+fn other_end_in(alloc: Global, key: &str, ends: &[(u64, u64)]) -> Option<u64> {
+    match config_in(alloc, &[FRAME_40, key, SECTION, WINDOW]) {
+        Some(config) => first_other_end(&config, ends),
+        None => Some(0),
+    }
 }
 
 #[test]
-fn a_document_without_plans(rt: HostRuntime) -> Result<(), Fail> {
-    let alloc = rt.alloc();
+fn reads_plans(rt: HostRuntime) -> Result<(), AllocError> {
+    let key = plans(rt.alloc(), &["2", "68719476736"], "")?;
+    assert!(rt; other_end_in(rt.alloc(), key.as_str(), &ENDS) == None);
     for key in ["", "plan = []\n"] {
-        let text = with_plans(alloc, key)?;
-        let config = read_config(alloc, text.as_str())?;
-        assert_eq!(rt; end_at(&config, 4000), 4020, "with {key}");
+        assert!(rt;
+            other_end_in(rt.alloc(), key, &[(4000, 4020)]) == None,
+            "with {key}"
+        );
     }
     Ok(())
 }
@@ -313,20 +333,11 @@ const FROM: [(&str, &str, u8); 8] = [
     ("1", "true", 3),
 ];
 
-/// The fault of a document with plans from these two frames on, `None` where memory ran out.
-fn with_two_plans(alloc: Global, first: &str, second: &str) -> Option<(u8, u8)> {
-    let key = plans(alloc, &[first, second]).ok()?;
-    fault_in(alloc, &["frame = 40\n", key.as_str(), SECTION, WINDOW])
-}
-
 #[test]
 fn refuses_numbers_of_plans(rt: HostRuntime) {
     for (first, second, want) in FROM {
-        assert_eq!(rt;
-            with_two_plans(rt.alloc(), first, second),
-            Some((want, 0)),
-            "{first}, {second}"
-        );
+        let found = with_plans(rt.alloc(), &[first, second], "");
+        assert!(rt; found == Some((want, 0)), "{first}, {second}");
     }
 }
 
@@ -355,22 +366,18 @@ const PLANS: [(&str, (u8, u8)); 12] = [
 #[test]
 fn refuses_plans(rt: HostRuntime) {
     for (key, want) in PLANS {
-        let parts = ["frame = 40\n", key, SECTION, WINDOW];
-        assert_eq!(rt; fault_in(rt.alloc(), &parts), Some(want), "in {key}");
+        let parts = [FRAME_40, key, SECTION, WINDOW];
+        assert!(rt; fault_in(rt.alloc(), &parts) == Some(want), "in {key}");
     }
 }
 
+/// As many plans as there may be.
+const FIFTEEN: [&str; 15] = [
+    "1", "2", "3", "4", "5", "6", "7", "8", "9", "10", "11", "12", "13", "14", "15",
+];
+
 #[test]
-fn refuses_too_many_plans(rt: HostRuntime) -> Result<(), Fail> {
-    let alloc = rt.alloc();
-    let fifteen = [
-        "1", "2", "3", "4", "5", "6", "7", "8", "9", "10", "11", "12", "13", "14", "15",
-    ];
-    let key = plans(alloc, &fifteen)?;
-    let text = with_plans(alloc, key.as_str())?;
-    assert_eq!(rt; fault(alloc, text.as_str()), (0, 0));
-    let sixteen = key.replace(alloc, "]\n", "{ from = true } ]\n")?;
-    let text = with_plans(alloc, sixteen.as_str())?;
-    assert_eq!(rt; fault(alloc, text.as_str()), (4, 0));
-    Ok(())
+fn refuses_too_many_plans(rt: HostRuntime) {
+    assert!(rt; with_plans(rt.alloc(), &FIFTEEN, "") == Some((0, 0)));
+    assert!(rt; with_plans(rt.alloc(), &FIFTEEN, "{ from = true } ") == Some((4, 0)));
 }

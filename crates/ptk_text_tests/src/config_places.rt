@@ -1,10 +1,9 @@
 //! The line of each kind of fault, and that an accepted text has none.
 
-use crate::config::joined;
+use crate::config::replaced;
 use ptk_config_explain::{ExplainFault, explain_refusal};
 use ptk_config_places::{Key, Place, TablePlace, first_refusal};
 use std::alloc::{AllocError, Global};
-use std::test::Fail;
 
 const FRAME: &str = "frame = 40\n";
 
@@ -20,42 +19,31 @@ const WINDOWS: &str =
 const PLANS: &str =
     "[[plan]]\nfrom = 2\n[[plan.window]]\nstart = 0\nlength = 40\npartition = \"p\"\n[[plan]]\nfrom = 3\n[[plan.window]]\nstart = 1\nlength = 39\npartition = \"p\"\n";
 
-fn repeated(alloc: Global, part: &str, count: u32) -> Result<String, AllocError> {
-    let mut text = String::new(alloc);
-    for _ in 0..count {
-        text.push_str(part)?;
-    }
-    Ok(text)
-}
+/// The good document.
+const GOOD: [&str; 5] = [FRAME, SECTION_P, SECTION_Q, WINDOWS, PLANS];
 
-fn good(alloc: Global) -> Result<String, AllocError> {
-    joined(alloc, &[FRAME, SECTION_P, SECTION_Q, WINDOWS, PLANS])
-}
-
-// What is written of a text.
-fn written(alloc: Global, text: &str) -> Result<Vec<u8>, Fail> {
+// Whether this line is written of a text.
+fn is_written(alloc: Global, text: &str, line: &str) -> bool {
     let mut out = Vec::new(alloc);
-    explain_refusal(alloc, text, &mut out)?;
-    Ok(out)
+    explain_refusal(alloc, text, &mut out).is_ok() && out.as_slice() == line.as_bytes()
 }
 
-// What is written of the good document with one text in place of another.
-fn changed(alloc: Global, old: &str, new: &str) -> Result<Vec<u8>, Fail> {
-    let text = good(alloc)?.replace(alloc, old, new)?;
-    written(alloc, text.as_str())
+// Whether this line is written of the good document with one text in place of another.
+fn is_changed(alloc: Global, old: &str, new: &str, line: &str) -> bool {
+    match replaced(alloc, &GOOD, old, new) {
+        Ok(text) => is_written(alloc, text.as_str(), line),
+        Err(_) => false,
+    }
 }
 
 // The first of these rows whose line is another: the text that was put into the document. None where there is none.
-fn first_other_line<'a>(
-    alloc: Global,
-    rows: &[(&'a str, &'a str, &'a str)],
-) -> Result<Option<&'a str>, Fail> {
+fn first_other_line<'a>(alloc: Global, rows: &[(&'a str, &'a str, &'a str)]) -> Option<&'a str> {
     for (old, new, line) in rows {
-        if changed(alloc, old, new)?.as_slice() != line.as_bytes() {
-            return Ok(Some(*new));
+        if !is_changed(alloc, old, new, line) {
+            return Some(*new);
         }
     }
-    Ok(None)
+    None
 }
 
 /// The rows of all tables below.
@@ -69,19 +57,24 @@ const LINES: [&[(&str, &str, &str)]; 6] = [
 ];
 
 #[test]
-fn each_change_has_its_line(rt: HostRuntime) -> Result<(), Fail> {
+fn each_change_has_its_line(rt: HostRuntime) {
     for rows in LINES {
-        assert_eq!(rt; first_other_line(rt.alloc(), rows)?, None);
+        assert_eq!(rt; first_other_line(rt.alloc(), rows), None);
     }
-    Ok(())
+}
+
+// Whether a text is accepted.
+fn is_accepted(alloc: Global, text: &str) -> bool {
+    match first_refusal(alloc, text) {
+        Ok(refusal) => refusal == None && is_written(alloc, text, ""),
+        Err(_) => false,
+    }
 }
 
 #[test]
-fn accepted_text_has_no_line(rt: HostRuntime) -> Result<(), Fail> {
-    let alloc = rt.alloc();
-    let text = good(alloc)?;
-    assert!(rt; first_refusal(alloc, text.as_str())? == None);
-    assert!(rt; written(alloc, text.as_str())?.is_empty());
+fn accepted_text_has_no_line(rt: HostRuntime) -> Result<(), AllocError> {
+    let text = GOOD.concat(rt.alloc())?;
+    assert!(rt; is_accepted(rt.alloc(), text.as_str()));
     Ok(())
 }
 
@@ -123,18 +116,18 @@ const NO_DOCUMENTS: [(&str, &str); 12] = [
 ];
 
 // Whether of a text that is no document this line is shown.
-fn is_told_at(alloc: Global, text: &str, line: &str) -> Result<bool, Fail> {
-    let got = written(alloc, text)?;
-    let wanted = joined(alloc, &["the text, line ", line, ": not TOML\n"])?;
-    Ok(got.as_slice() == wanted.as_bytes())
+fn is_told_at(alloc: Global, text: &str, line: &str) -> bool {
+    match ["the text, line ", line, ": not TOML\n"].concat(alloc) {
+        Ok(wanted) => is_written(alloc, text, wanted.as_str()),
+        Err(_) => false,
+    }
 }
 
 #[test]
-fn a_text_that_is_no_document(rt: HostRuntime) -> Result<(), Fail> {
+fn a_text_that_is_no_document(rt: HostRuntime) {
     for (text, line) in NO_DOCUMENTS {
-        assert!(rt; is_told_at(rt.alloc(), text, line)?, "at {text}");
+        assert!(rt; is_told_at(rt.alloc(), text, line), "at {text}");
     }
-    Ok(())
 }
 
 /// Texts of the good document, what is in their place, and the line then.
@@ -221,23 +214,22 @@ const OUTSIDE: [(&str, &str, &str, &str, &str); 16] = [
     ("plan 2, ", "from", "3", "2", "3 to 68719476736"),
 ];
 
-// What is written where this number stands at a key in place of that one.
-fn with_number(alloc: Global, key: &str, old: &str, new: &str) -> Result<Vec<u8>, Fail> {
-    let stated = joined(alloc, &[key, " = ", old])?;
-    let other = joined(alloc, &[key, " = ", new])?;
-    changed(alloc, stated.as_str(), other.as_str())
+// Whether the number out of range of a row has its line.
+fn is_outside<'a>(
+    alloc: Global,
+    row: &(&'a str, &'a str, &'a str, &'a str, &'a str),
+) -> Result<bool, AllocError> {
+    let (table, key, old, new, range) = *row;
+    let stated = [key, " = ", old].concat(alloc)?;
+    let other = [key, " = ", new].concat(alloc)?;
+    let line = [table, "key ", key, ": ", new, " is not from ", range, "\n"].concat(alloc)?;
+    Ok(is_changed(alloc, stated.as_str(), other.as_str(), line.as_str()))
 }
 
 #[test]
-fn a_number_out_of_range(rt: HostRuntime) -> Result<(), Fail> {
-    let alloc = rt.alloc();
-    for (table, key, old, new, range) in OUTSIDE {
-        let got = with_number(alloc, key, old, new)?;
-        let line = joined(
-            alloc,
-            &[table, "key ", key, ": ", new, " is not from ", range, "\n"],
-        )?;
-        assert!(rt; got.as_slice() == line.as_bytes(), "{line}");
+fn a_number_out_of_range(rt: HostRuntime) -> Result<(), AllocError> {
+    for row in OUTSIDE.iter() {
+        assert!(rt; is_outside(rt.alloc(), row)?, "{}{}", row.0, row.1);
     }
     Ok(())
 }
@@ -281,14 +273,14 @@ const INPUT_LINES: [(&str, &str, &str); 7] = [
     ),
 ];
 
+/// The line of one byte more than there may be.
+const TOO_MANY: &str = "section 1 \"p\", input 2, key bytes: 65535 items, not 0 to 65534\n";
+
 #[test]
-fn too_many_bytes(rt: HostRuntime) -> Result<(), Fail> {
-    let alloc = rt.alloc();
-    let zeros = repeated(alloc, "0, ", 65_534)?;
-    let many = joined(alloc, &["[", zeros.as_str(), "0]"])?;
-    let got = changed(alloc, "[3]", many.as_str())?;
-    let line = "section 1 \"p\", input 2, key bytes: 65535 items, not 0 to 65534\n";
-    assert_eq!(rt; got.as_slice(), line.as_bytes());
+fn too_many_bytes(rt: HostRuntime) -> Result<(), AllocError> {
+    let zeros = "0, ".repeat(rt.alloc(), 65_534)?;
+    let many = ["[", zeros.as_str(), "0]"].concat(rt.alloc())?;
+    assert!(rt; is_changed(rt.alloc(), "[3]", many.as_str(), TOO_MANY));
     Ok(())
 }
 
@@ -404,47 +396,54 @@ const ARRAYS: [(&[&str], &str); 10] = [
 ];
 
 // Whether of the text of these parts this line is written.
-fn is_written(alloc: Global, parts: &[&str], line: &str) -> Result<bool, Fail> {
-    let text = joined(alloc, parts)?;
-    Ok(written(alloc, text.as_str())?.as_slice() == line.as_bytes())
+fn is_told(alloc: Global, parts: &[&str], line: &str) -> bool {
+    match parts.concat(alloc) {
+        Ok(text) => is_written(alloc, text.as_str(), line),
+        Err(_) => false,
+    }
 }
 
 #[test]
-fn arrays_at_the_top(rt: HostRuntime) -> Result<(), Fail> {
+fn arrays_at_the_top(rt: HostRuntime) {
     for (parts, line) in ARRAYS {
-        assert!(rt; is_written(rt.alloc(), parts, line)?, "{line}");
+        assert!(rt; is_told(rt.alloc(), parts, line), "{line}");
     }
-    Ok(())
+}
+
+// Whether a text is refused for a number out of range at key `memory` of its second section.
+fn is_at_memory(alloc: Global, text: &str) -> bool {
+    match first_refusal(alloc, text) {
+        Ok(Some(refusal)) => {
+            refusal.place == Place::Key(TablePlace::Section(2), Key::Memory)
+                && refusal.fault.number() == 4
+        }
+        _ => false,
+    }
 }
 
 #[test]
-fn the_place_is_told(rt: HostRuntime) -> Result<(), Fail> {
-    let alloc = rt.alloc();
-    let text = good(alloc)?.replace(alloc, "memory = 8192", "memory = 5000")?;
-    match first_refusal(alloc, text.as_str())? {
-        Some(refusal) => {
-            assert!(rt; refusal.place == Place::Key(TablePlace::Section(2), Key::Memory));
-            assert_eq!(rt; refusal.fault.number(), 4);
-        }
-        None => assert!(rt; false, "accepted"),
-    }
+fn the_place_is_told(rt: HostRuntime) -> Result<(), AllocError> {
+    let text = replaced(rt.alloc(), &GOOD, "memory = 8192", "memory = 5000")?;
+    assert!(rt; is_at_memory(rt.alloc(), text.as_str()));
     Ok(())
+}
+
+// Whether the line of an empty text ends in an error, with a writer of this much room.
+fn is_cut(alloc: Global, most: usize) -> bool {
+    let mut bytes = [0u8; 19];
+    match bytes.get_mut(..most) {
+        Some(mut room) => explain_refusal(alloc, "", &mut room) == Err(ExplainFault::Write),
+        None => false,
+    }
 }
 
 #[test]
 fn a_writer_that_fails_is_an_error(rt: HostRuntime) {
-    let alloc = rt.alloc();
-    let line = b"key frame: missing\n";
-    for most in 0..line.len() {
-        let mut bytes = [0u8; 19];
-        let mut room = &mut bytes[..most];
-        assert!(rt;
-            explain_refusal(alloc, "", &mut room) == Err(ExplainFault::Write),
-            "at {most}"
-        );
+    for most in 0..19 {
+        assert!(rt; is_cut(rt.alloc(), most), "at {most}");
     }
     let mut bytes = [0u8; 19];
     let mut room = bytes.as_mut_slice();
-    assert!(rt; explain_refusal(alloc, "", &mut room).is_ok());
-    assert_eq!(rt; bytes.as_slice(), line.as_slice());
+    assert!(rt; explain_refusal(rt.alloc(), "", &mut room).is_ok());
+    assert!(rt; bytes.as_slice() == b"key frame: missing\n".as_slice());
 }

@@ -1,9 +1,9 @@
 //! What is written of accepted and of refused texts, worked out by hand.
 
+use crate::config::replaced;
 use ptk_config_explain::{ExplainFault, explain};
 use ptk_image::Files;
-use std::alloc::Global;
-use std::test::Fail;
+use std::alloc::{AllocError, Global};
 
 const TEXT: &str =
     "frame = 48\n[[partition]]\nname = \"p\"\nimage = \"p.img\"\nmemory = 4096\nthreads = 4\nstack = 256\nmutexes = 3\nconds = 2\nkeys = 1\ninterval = 100\nring = 16\noutput = 64\ntrace = 5\n[[partition]]\nname = \"q\"\nmemory = 8192\nthreads = 1\nstack = 512\nmutexes = 0\nconds = 0\nkeys = 0\ninterval = 7\nring = 1\noutput = 0\ntrace = 0\n[[window]]\nstart = 0\nlength = 16\npartition = \"p\"\n[[window]]\nstart = 16\nlength = 16\npartition = \"q\"\n[[plan]]\nfrom = 3\n[[plan.window]]\nstart = 0\nlength = 16\npartition = \"p\"\n[[plan.window]]\nstart = 20\nlength = 28\npartition = \"p\"\n";
@@ -28,26 +28,21 @@ const OTHER: &[u8] = b"ELF!\x01\0\0\0\0\0\0\0\0\0\0\0\0\0\0\0\0\0\0\0";
 const NUMBERS: &str =
     "frame 48 ticks\npartition p\n  memory 4096, threads 4, stack 256, mutexes 3, conds 2, keys 1, interval 100, ring 16, output 64, trace 5\n";
 
+// Where q has no image, and what stands there where it has one.
+const BARE_Q: &str = "\"q\"\nmemory";
+
+const IMAGE_OF_Q: &str = "\"q\"\nimage = \"q.img\"\nmemory";
+
 // What comes after the line of p's image.
 const REST: &str =
     "  from frame 0: 33.3 percent of the frame: 16 ticks at 0\n  from frame 3: 91.6 percent of the frame: 16 ticks at 0, 28 ticks at 20\npartition q\n  memory 8192, threads 1, stack 512, mutexes 0, conds 0, keys 0, interval 7, ring 1, output 0, trace 0\n  no image; 7680 bytes free below the stacks\n  from frame 0: 33.3 percent of the frame: 16 ticks at 16\n  from frame 3: no window\n";
 
-// The text in which q has an image too.
-fn with_two_images(alloc: Global) -> Result<String, Fail> {
-    let text = String::from_str(alloc, TEXT)?;
-    Ok(text.replace(alloc, "\"q\"\nmemory", "\"q\"\nimage = \"q.img\"\nmemory")?)
-}
-
-// What is wanted where p's image has this line.
-fn wanted(alloc: Global, line: &str) -> Result<String, Fail> {
-    let mut text = String::from_str(alloc, NUMBERS)?;
-    text.push_str(line)?;
-    text.push_str(REST)?;
-    Ok(text)
-}
-
 // The files p.img and q.img, of these bytes where there are any.
-fn files_of(alloc: Global, first: Option<&[u8]>, second: Option<&[u8]>) -> Result<Files, Fail> {
+fn files_of(
+    alloc: Global,
+    first: Option<&[u8]>,
+    second: Option<&[u8]>,
+) -> Result<Files, AllocError> {
     let mut files = Files::new(alloc);
     if let Some(bytes) = first {
         files.add("p.img", bytes)?;
@@ -58,20 +53,12 @@ fn files_of(alloc: Global, first: Option<&[u8]>, second: Option<&[u8]>) -> Resul
     Ok(files)
 }
 
-// What is written of a text with these files, where it is accepted.
-fn written(alloc: Global, text: &str, files: &Files) -> Result<Option<Vec<u8>>, Fail> {
+// Whether the text is accepted with these files, or refused, and this is written.
+fn is_written(alloc: Global, text: &str, files: &Files, is_refused: bool, want: &str) -> bool {
     let mut out = Vec::new(alloc);
-    match explain(alloc, text, files, &mut out)? {
-        Some(_) => Ok(None),
-        None => Ok(Some(out)),
-    }
-}
-
-// Whether the text is accepted with these files and this is written.
-fn is_written(alloc: Global, text: &str, files: &Files, want: &str) -> Result<bool, Fail> {
-    match written(alloc, text, files)? {
-        Some(out) => Ok(out.as_slice() == want.as_bytes()),
-        None => Ok(false),
+    match explain(alloc, text, files, &mut out) {
+        Ok(refusal) => refusal.is_some() == is_refused && out.as_slice() == want.as_bytes(),
+        Err(_) => false,
     }
 }
 
@@ -88,14 +75,14 @@ const ACCEPTED: [(&[u8], &str); 2] = [
 ];
 
 // Whether the words with this image of p have this line.
-fn is_accepted(alloc: Global, image: &[u8], line: &str) -> Result<bool, Fail> {
+fn is_accepted(alloc: Global, image: &[u8], line: &str) -> Result<bool, AllocError> {
+    let want = [NUMBERS, line, REST].concat(alloc)?;
     let files = files_of(alloc, Some(image), None)?;
-    let want = wanted(alloc, line)?;
-    is_written(alloc, TEXT, &files, want.as_str())
+    Ok(is_written(alloc, TEXT, &files, false, want.as_str()))
 }
 
 #[test]
-fn an_accepted_text(rt: HostRuntime) -> Result<(), Fail> {
+fn an_accepted_text(rt: HostRuntime) -> Result<(), AllocError> {
     for (image, line) in ACCEPTED {
         assert!(rt; is_accepted(rt.alloc(), image, line)?, "with {line}");
     }
@@ -148,20 +135,20 @@ const REFUSED: [(Option<&[u8]>, Option<&[u8]>, &str); 9] = [
     ),
 ];
 
-// Whether of the text with these images this line is written.
+// Whether of the text, in which q has an image too, with these images this line is written.
 fn is_refused(
     alloc: Global,
     first: Option<&[u8]>,
     second: Option<&[u8]>,
     line: &str,
-) -> Result<bool, Fail> {
-    let text = with_two_images(alloc)?;
+) -> Result<bool, AllocError> {
+    let text = replaced(alloc, &[TEXT], BARE_Q, IMAGE_OF_Q)?;
     let files = files_of(alloc, first, second)?;
-    is_written(alloc, text.as_str(), &files, line)
+    Ok(is_written(alloc, text.as_str(), &files, false, line))
 }
 
 #[test]
-fn a_refused_image(rt: HostRuntime) -> Result<(), Fail> {
+fn a_refused_image(rt: HostRuntime) -> Result<(), AllocError> {
     for (first, second, line) in REFUSED {
         assert!(rt; is_refused(rt.alloc(), first, second, line)?, "with {line}");
     }
@@ -169,38 +156,31 @@ fn a_refused_image(rt: HostRuntime) -> Result<(), Fail> {
 }
 
 #[test]
-fn a_refused_text(rt: HostRuntime) -> Result<(), Fail> {
-    let alloc = rt.alloc();
-    let files = Files::new(alloc);
-    let text = String::from_str(alloc, TEXT)?.replace(alloc, "memory = 8192", "memory = 5000")?;
-    let mut out = Vec::new(alloc);
-    let found = explain(alloc, text.as_str(), &files, &mut out)?;
-    assert!(rt; found.is_some());
-    let line = b"section 2 \"q\", key memory: 5000 is not a multiple of 16\n";
-    assert_eq!(rt; out.as_slice(), line.as_slice());
+fn a_refused_text(rt: HostRuntime) -> Result<(), AllocError> {
+    let text = replaced(rt.alloc(), &[TEXT], "memory = 8192", "memory = 5000")?;
+    let files = Files::new(rt.alloc());
+    let line = "section 2 \"q\", key memory: 5000 is not a multiple of 16\n";
+    assert!(rt; is_written(rt.alloc(), text.as_str(), &files, true, line));
     Ok(())
 }
 
-// The length of a writer that is no error though it has room for fewer bytes than are written of the text with these
-// files, at every seventh length; None where there is none.
-fn first_taken(alloc: Global, files: &Files, all: &[u8]) -> Option<usize> {
-    for most in (0..all.len()).step_by(7) {
-        let mut bytes = [0u8; 1024];
-        let mut room = &mut bytes[..most.min(1024)];
-        if explain(alloc, TEXT, files, &mut room) != Err(ExplainFault::Write) {
-            return Some(most);
-        }
+// Whether the words with these files end in an error, with a writer of this much room.
+fn is_cut(alloc: Global, files: &Files, most: usize) -> bool {
+    let mut bytes = [0u8; 1024];
+    match bytes.get_mut(..most) {
+        Some(mut room) => explain(alloc, TEXT, files, &mut room) == Err(ExplainFault::Write),
+        None => false,
     }
-    None
 }
 
+// How many bytes are written with the first of the accepted images: 134, 71 and 374.
+const ALL: usize = 579;
+
 #[test]
-fn a_writer_that_fails_is_an_error(rt: HostRuntime) -> Result<(), Fail> {
-    let alloc = rt.alloc();
-    let files = files_of(alloc, Some(IMAGE), None)?;
-    match written(alloc, TEXT, &files)? {
-        Some(all) => assert_eq!(rt; first_taken(alloc, &files, &all), None),
-        None => assert!(rt; false, "refused"),
+fn a_writer_that_fails_is_an_error(rt: HostRuntime) -> Result<(), AllocError> {
+    let files = files_of(rt.alloc(), Some(IMAGE), None)?;
+    for most in (0..ALL).step_by(7) {
+        assert!(rt; is_cut(rt.alloc(), &files, most), "at {most}");
     }
     Ok(())
 }
