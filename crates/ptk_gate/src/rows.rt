@@ -83,8 +83,8 @@ impl Tables {
     #[tactic(auto, using(crate::proofs::Wholes::moves, ptk_gate_pools::proofs::Hands::lifting))]
     pub fn idle_until(&self, p: PartId, stop: Tick) -> Option<Tick>
         requires partition { p < length self.now.limits }
-        ensures idle { IfSome result (λ u. (u ≤ stop) × IsIdle (limits_at p self.now) u (part_at p self.now)) }
-        ensures full { (k : ℕ) → k ≤ stop → IsIdle (limits_at p self.now) k (part_at p self.now) → IsSomeAnd result (λ u. k ≤ u) }
+        ensures idle { IfSome result (λ u. (u ≤ stop) × IsIdle u (part_at p self.now)) }
+        ensures full { (k : ℕ) → k ≤ stop → IsIdle k (part_at p self.now) → IsSomeAnd result (λ u. k ≤ u) }
     {
         idle_until(&self.pools.look(p), stop)
     }

@@ -15,7 +15,7 @@ none_lined [] e = refl
 none_lined (t ∷ line) e = let some : 0 < length (t ∷ line) = omega arith in absurd (false≢true (sym e ∙ lt-ltb 0 (length (t ∷ line)) some))
 
 -- a whole partition is idle up to its stop
-pub idle_up : (limits : Limits) (stop : ℕ) (s : Part) → is_active s.status ≡ true → IsWell limits s → s.running ≡ None → nat_lt 0 (length s.line) ≡ false → IsIdle limits (before_event s stop) s
+pub idle_up : (limits : Limits) (stop : ℕ) (s : Part) → is_active s.status ≡ true → IsWell limits s → s.running ≡ None → nat_lt 0 (length s.line) ≡ false → IsIdle (before_event s stop) s
 idle_up limits stop s active well runs ready =
     let n : ℕ = before_event s stop in
     let same : n ≤ n = omega arith in
@@ -28,5 +28,5 @@ idle_up limits stop s active well runs ready =
     }
 
 -- and up to no later tick
-pub idle_no_later : (limits : Limits) (stop k : ℕ) (s : Part) → IsIdle limits k s → k ≤ stop → k ≤ before_event s stop
-idle_no_later limits stop k s idle le = event_no_later stop k s le idle.none_comes idle.none_expires
+pub idle_no_later : (stop k : ℕ) (s : Part) → IsIdle k s → k ≤ stop → k ≤ before_event s stop
+idle_no_later stop k s idle le = event_no_later stop k s le idle.none_comes idle.none_expires

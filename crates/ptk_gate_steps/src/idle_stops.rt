@@ -13,8 +13,8 @@ use ptk_words::{Status, Tick};
 /// and no deadline is due before it. None where the partition is halted, or a thread runs or is ready.
 pub fn idle_until(look: &Look<'_>, stop: Tick) -> Option<Tick>
     requires well { IsWell look.now.limits look.now.part }
-    ensures idle { IfSome result (λ u. (u ≤ stop) × IsIdle look.now.limits u look.now.part) }
-    ensures full { (k : ℕ) → k ≤ stop → IsIdle look.now.limits k look.now.part → IsSomeAnd result (λ u. k ≤ u) }
+    ensures idle { IfSome result (λ u. (u ≤ stop) × IsIdle u look.now.part) }
+    ensures full { (k : ℕ) → k ≤ stop → IsIdle k look.now.part → IsSomeAnd result (λ u. k ≤ u) }
 {
     match look.status() {
         Status::Active => match look.running() {

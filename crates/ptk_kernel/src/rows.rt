@@ -85,8 +85,8 @@ pub fn run_quiet(
 /// None where the partition is halted, or a thread runs or is ready. No tick at which it has nothing to do is missed.
 pub fn stays_idle_until(tables: &Tables, p: PartId, stop: Tick) -> Option<Tick>
     requires partition { p < length tables.now.limits }
-    ensures idle { IfSome result (λ u. (u ≤ stop) × IsIdle (limits_at p tables.now) u (part_at p tables.now)) }
-    ensures full { (k : ℕ) → k ≤ stop → IsIdle (limits_at p tables.now) k (part_at p tables.now) → IsSomeAnd result (λ u. k ≤ u) }
+    ensures idle { IfSome result (λ u. (u ≤ stop) × IsIdle u (part_at p tables.now)) }
+    ensures full { (k : ℕ) → k ≤ stop → IsIdle k (part_at p tables.now) → IsSomeAnd result (λ u. k ≤ u) }
 {
     tables.idle_until(p, stop)
 }

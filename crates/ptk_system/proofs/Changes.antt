@@ -150,7 +150,7 @@ idle_turn room (Some r) s e = absurd (by (nat_lt room (step_cost (step_kind s r.
     by false h = cc
 
 -- an idle decision that changes nothing is that of a partition that has nothing to do up to the next tick
-still_part : (limits : Limits) (tick room : ℕ) (s : Part) → IsWell limits s → is_active s.status ≡ true → spent_by_decision limits tick room s ≡ Idle → after_decision limits tick room s ≡ s → IsIdle limits (tick + 1) s
+still_part : (limits : Limits) (tick room : ℕ) (s : Part) → IsWell limits s → is_active s.status ≡ true → spent_by_decision limits tick room s ≡ Idle → after_decision limits tick room s ≡ s → IsIdle (tick + 1) s
 still_part limits tick room s well active spent same = record {
   active = active;
   running = idles;
@@ -191,7 +191,7 @@ still_part limits tick room s well active spent same = record {
 
 -- a decision of which nothing is seen but the tick of the next one is that of a partition that has nothing to do up to the next tick
 pub still_idle : (ticks : OwnTicks) (limits : Limits) (tick room : ℕ) (s : State) → IsWell limits s.part → is_active s.part.status ≡ true → 1 ≤ room
-    → but_next (decided ticks limits tick room s) ≡ but_next s → IsIdle limits (tick + 1) s.part
+    → but_next (decided ticks limits tick room s) ≡ but_next s → IsIdle (tick + 1) s.part
 still_idle ticks limits tick room s well active some same = by (spent_by_decision limits tick room s.part) refl
   where
     after : Part
@@ -201,7 +201,7 @@ still_idle ticks limits tick room s well active some same = by (spent_by_decisio
     counted spent at =
         subst (λ (x : Spent). but_next (record { part = after_decision limits tick room s.part; account = accounted ticks limits tick room (after_decision limits tick room s.part) x s.account }) ≡ but_next s) at same
 
-    by : (spent : Spent) → spent_by_decision limits tick room s.part ≡ spent → IsIdle limits (tick + 1) s.part
+    by : (spent : Spent) → spent_by_decision limits tick room s.part ≡ spent → IsIdle (tick + 1) s.part
     by Idle at = still_part limits tick room s.part well active at (ap (λ (x : State). x.part) same)
     by Lost at = let e : s.account.lost + room ≡ s.account.lost = ap (λ (x : State). x.account.lost) (counted Lost at) in absurd (omega (arith, e, some))
     by (Step cost) at = let e : s.account.steps + 1 ≡ s.account.steps = ap (λ (x : State). x.account.steps) (counted (Step cost) at) in absurd (omega (arith, e))

@@ -97,7 +97,7 @@ next_is_own plan p limits image input (suc n) k is at =
 
 -- where nothing is seen of the decision at a tick, the partition has nothing to do up to the next one
 pub unseen_idle : (plan : WindowPlan) (p : ℕ) (limits : Limits) (n : ℕ) (s : State) → IsPlan plan → IsWell limits s.part → is_active s.part.status ≡ true → s.account.next ≡ Some n → IsOwn plan p n
-    → but_next (after_tick_until ((own_ticks plan p).end_at n) (own_ticks plan p) limits n s) ≡ but_next s → IsIdle limits (n + 1) s.part
+    → but_next (after_tick_until ((own_ticks plan p).end_at n) (own_ticks plan p) limits n s) ≡ but_next s → IsIdle (n + 1) s.part
 unseen_idle plan p limits n s is well active due own same =
     let at = end_some plan p n own in
     let decides : after_tick_until ((own_ticks plan p).end_at n) (own_ticks plan p) limits n s ≡ decided (own_ticks plan p) limits n (at.0 - n) s =
@@ -115,7 +115,7 @@ split ticks limits a b c s le later =
     ∙ (join ticks limits a (b - a) (c - b) s ∙ ap (λ (k : ℕ). after_ticks ticks limits k (c - b) (after_ticks ticks limits a (b - a) s)) at)
 
 -- over ticks before its next decision, then ticks up to which it has nothing to do, and then ticks that are not its own
-pub idle_later : (plan : WindowPlan) (p : ℕ) (limits : Limits) (now next until k : ℕ) (s : State) → IsPlan plan → IsIdle limits until s.part → s.account.next ≡ Some next → IsOwn plan p next → now ≤ next → next ≤ until → until ≤ k
+pub idle_later : (plan : WindowPlan) (p : ℕ) (limits : Limits) (now next until k : ℕ) (s : State) → IsPlan plan → IsIdle until s.part → s.account.next ≡ Some next → IsOwn plan p next → now ≤ next → next ≤ until → until ≤ k
     → ((j : ℕ) → until ≤ j → j < k → (own_ticks plan p).end_at j ≡ None) → after_ticks (own_ticks plan p) limits now (k - now) s ≡ waiting_from (own_ticks plan p) until s
 idle_later plan p limits now next until k s is idle due own from le later none =
     split ticks limits now next k s from (omega (arith, le, later))

@@ -28,7 +28,7 @@ use Rattle.ptk_system.proofs.Runs.{alone_to, is_plan}
 -- ---- ticks over which a partition has nothing to do
 
 -- an idle decision leaves all but the tick of the next one
-idle_leaves : (plan : WindowPlan) (p : ℕ) (limits : Limits) (stop tick room : ℕ) (s : State) → IsIdle limits stop s.part → tick < stop → 1 ≤ room
+idle_leaves : (plan : WindowPlan) (p : ℕ) (limits : Limits) (stop tick room : ℕ) (s : State) → IsIdle stop s.part → tick < stop → 1 ≤ room
     → but_next (decided (own_ticks plan p) limits tick room s) ≡ but_next s
 idle_leaves plan p limits stop tick room s idle lt le =
     let seen : Part → Spent → State = λ part spent. but_next (record { part = part; account = accounted (own_ticks plan p) limits tick room part spent s.account }) in
@@ -36,7 +36,7 @@ idle_leaves plan p limits stop tick room s idle lt le =
     ap (λ (part : Part). seen part (spent_by_decision limits tick room s.part)) idles.0 ∙ ap (λ (spent : Spent). seen s.part spent) idles.1
 
 -- one tick more of a partition that has nothing to do
-idle_more : (plan : WindowPlan) (p : ℕ) (limits : Limits) (stop tick : ℕ) (s before : State) → IsPlan plan → plan.frame ≤ 1000000 → IsIdle limits stop s.part → tick < stop → but_next before ≡ but_next s
+idle_more : (plan : WindowPlan) (p : ℕ) (limits : Limits) (stop tick : ℕ) (s before : State) → IsPlan plan → plan.frame ≤ 1000000 → IsIdle stop s.part → tick < stop → but_next before ≡ but_next s
     → (o : Option ℕ) → (own_ticks plan p).end_at tick ≡ o → but_next (after_tick_until o (own_ticks plan p) limits tick before) ≡ but_next s
 idle_more plan p limits stop tick s before is near idle lt same None own = same
 idle_more plan p limits stop tick s before is near idle lt same (Some end) own = at (is_at tick before.account.next)
@@ -47,11 +47,11 @@ idle_more plan p limits stop tick s before is near idle lt same (Some end) own =
     at : (b : Bool) → but_next (if b then decided (own_ticks plan p) limits tick room before else before) ≡ but_next s
     at false = same
     at true =
-        let here : IsIdle limits stop before.part = subst (IsIdle limits stop) (sym (ap (λ (x : State). x.part) same)) idle in
+        let here : IsIdle stop before.part = subst (IsIdle stop) (sym (ap (λ (x : State). x.part) same)) idle in
         idle_leaves plan p limits stop tick room before here lt (omega (arith, (in_window plan p tick end is near own).before)) ∙ same
 
 -- ticks up to which a partition has nothing to do leave all but the tick of its next decision
-pub idle_stays : (plan : WindowPlan) (p : ℕ) (limits : Limits) (stop tick n : ℕ) (s : State) → IsPlan plan → plan.frame ≤ 1000000 → IsIdle limits stop s.part → tick + n ≤ stop
+pub idle_stays : (plan : WindowPlan) (p : ℕ) (limits : Limits) (stop tick n : ℕ) (s : State) → IsPlan plan → plan.frame ≤ 1000000 → IsIdle stop s.part → tick + n ≤ stop
     → but_next (after_ticks (own_ticks plan p) limits tick n s) ≡ but_next s
 unfolding after_ticks
 idle_stays plan p limits stop tick zero s is near idle le = refl
@@ -70,11 +70,11 @@ state_later world p k alone lt from =
     ∙ ap (after_ticks (own_ticks world.config.plan p) (section_at world.config p).limits world.tick (k - world.tick)) (sym (state_alone world p alone lt)))
 
 -- up to a tick to which the partition has nothing to do
-pub stays_idle : (world : World) (p k until : ℕ) (limits : Limits) (part : Part) → IsConfiguration world.config → world ≡ world_at world.config world.files world.tick → p < length world.config.sections
-    → limits ≡ (section_at world.config p).limits → part ≡ (state_of world p).part → IsIdle limits until part → world.tick ≤ k → k ≤ until
+pub stays_idle : (world : World) (p k until : ℕ) (part : Part) → IsConfiguration world.config → world ≡ world_at world.config world.files world.tick → p < length world.config.sections
+    → part ≡ (state_of world p).part → IsIdle until part → world.tick ≤ k → k ≤ until
     → but_next (state_of (at_tick k world) p) ≡ but_next (state_of world p)
-stays_idle world p k until limits part is alone lt same at idle from le =
-    let own : IsIdle (section_at world.config p).limits until (state_of world p).part = subst (λ (l : Limits). IsIdle l until (state_of world p).part) same (subst (IsIdle limits until) at idle) in
+stays_idle world p k until part is alone lt at idle from le =
+    let own : IsIdle until (state_of world p).part = subst (IsIdle until) at idle in
     let within : world.tick + (k - world.tick) ≤ until = omega (arith, from, le) in
     ap but_next (state_later world p k alone lt from)
     ∙ idle_stays world.config.plan p (section_at world.config p).limits until world.tick (k - world.tick) (state_of world p) (is_plan world.config is) is.frame_to own within
@@ -87,13 +87,6 @@ stays_next world p k alone lt later from =
     ap but_next (state_later world p k alone lt from
     ∙ still_on (own_ticks world.config.plan p) (section_at world.config p).limits world.tick (k - world.tick) (state_of world p)
     (λ j le below. not_due next world.tick k j (λ i e at. later i e) le (omega (arith, below, from))))
-
--- a partition that is told to have nothing to do up to a tick
-pub idle_in : (limits own : Limits) (part kept : Part) (k : ℕ) → limits ≡ own → part ≡ kept → IsIdle own k kept → IsIdle limits k part
-idle_in limits own part kept k same at idle = subst (λ (l : Limits). IsIdle l k part) (sym same) (subst (IsIdle own k) (sym at) idle)
-
-idle_of : (limits own : Limits) (part kept : Part) (k : ℕ) → limits ≡ own → part ≡ kept → IsIdle limits k part → IsIdle own k kept
-idle_of limits own part kept k same at idle = subst (λ (l : Limits). IsIdle l k kept) same (subst (IsIdle limits k) at idle)
 
 -- ---- the next decision of a system's partition
 
@@ -131,7 +124,7 @@ one_later world p n s lt at =
 -- where nothing changes with its next decision, it has nothing to do up to the tick behind that
 pub next_unseen : (world : World) (p n k : ℕ) → IsConfiguration world.config → world ≡ world_at world.config world.files world.tick → p < length world.config.sections
     → (state_of world p).account.next ≡ Some n → n < k
-    → ((j : ℕ) → world.tick ≤ j → j ≤ k → but_next (state_of (at_tick j world) p) ≡ but_next (state_of world p)) → IsIdle (section_at world.config p).limits (n + 1) (state_of world p).part
+    → ((j : ℕ) → world.tick ≤ j → j ≤ k → but_next (state_of (at_tick j world) p) ≡ but_next (state_of world p)) → IsIdle (n + 1) (state_of world p).part
 next_unseen world p n k is alone lt at before unchanged =
     let own : IsOwnFrom world.config.plan p world.tick n = next_here world p n is alone lt at in
     let reached : state_of (at_tick n world) p ≡ state_of world p =
@@ -143,7 +136,7 @@ next_unseen world p n k is alone lt at before unchanged =
 
 -- a partition that has nothing to do, at ticks that are not its own behind those
 jump_to : (world : World) (p n until k : ℕ) → IsConfiguration world.config → world ≡ world_at world.config world.files world.tick → p < length world.config.sections
-    → (state_of world p).account.next ≡ Some n → IsIdle (section_at world.config p).limits until (state_of world p).part → n < until → until ≤ k
+    → (state_of world p).account.next ≡ Some n → IsIdle until (state_of world p).part → n < until → until ≤ k
     → ((j : ℕ) → until ≤ j → j < k → (own_ticks world.config.plan p).end_at j ≡ None) → state_of (at_tick k world) p ≡ waiting_from (own_ticks world.config.plan p) until (state_of world p)
 jump_to world p n until k is alone lt at idle before later none =
     let own : IsOwnFrom world.config.plan p world.tick n = next_here world p n is alone lt at in
@@ -151,24 +144,24 @@ jump_to world p n until k is alone lt at idle before later none =
     ∙ idle_later world.config.plan p (section_at world.config p).limits world.tick n until k (state_of world p) (is_plan world.config is) idle at own.own own.from (omega (arith, before)) later none
 
 -- up to its first own tick behind those
-pub stays_jump : (world : World) (p n until k : ℕ) (limits : Limits) (part : Part) → IsConfiguration world.config → world ≡ world_at world.config world.files world.tick → p < length world.config.sections
-    → (state_of world p).account.next ≡ Some n → limits ≡ (section_at world.config p).limits → part ≡ (state_of world p).part → IsIdle limits until part → n < until
+pub stays_jump : (world : World) (p n until k : ℕ) (part : Part) → IsConfiguration world.config → world ≡ world_at world.config world.files world.tick → p < length world.config.sections
+    → (state_of world p).account.next ≡ Some n → part ≡ (state_of world p).part → IsIdle until part → n < until
     → ((j : ℕ) → until ≤ j → j < k → (own_ticks world.config.plan p).end_at j ≡ None) → world.tick ≤ k → but_next (state_of (at_tick k world) p) ≡ but_next (state_of world p)
-stays_jump world p n until k limits part is alone lt at same kept idle before none from = by (cases_lt k until)
+stays_jump world p n until k part is alone lt at kept idle before none from = by (cases_lt k until)
   where
     by : (k < until) ⊎ (until ≤ k) → but_next (state_of (at_tick k world) p) ≡ but_next (state_of world p)
-    by (inl sooner) = stays_idle world p k until limits part is alone lt same kept idle from (omega (arith, sooner))
-    by (inr later) = ap but_next (jump_to world p n until k is alone lt at (idle_of limits (section_at world.config p).limits part (state_of world p).part until same kept idle) before later none)
+    by (inl sooner) = stays_idle world p k until part is alone lt kept idle from (omega (arith, sooner))
+    by (inr later) = ap but_next (jump_to world p n until k is alone lt at (subst (IsIdle until) kept idle) before later none)
 
 -- where nothing changes with the decision at that tick, it has nothing to do up to the tick behind it
-pub jump_unseen : (world : World) (p n until r k : ℕ) (limits : Limits) (part : Part) → IsConfiguration world.config → world ≡ world_at world.config world.files world.tick → p < length world.config.sections
-    → (state_of world p).account.next ≡ Some n → limits ≡ (section_at world.config p).limits → part ≡ (state_of world p).part → IsIdle limits until part → n < until → until ≤ r
+pub jump_unseen : (world : World) (p n until r k : ℕ) (part : Part) → IsConfiguration world.config → world ≡ world_at world.config world.files world.tick → p < length world.config.sections
+    → (state_of world p).account.next ≡ Some n → part ≡ (state_of world p).part → IsIdle until part → n < until → until ≤ r
     → ((j : ℕ) → until ≤ j → j < r → (own_ticks world.config.plan p).end_at j ≡ None) → (own_ticks world.config.plan p).next_of until ≡ Some r → r < k
-    → ((j : ℕ) → world.tick ≤ j → j ≤ k → but_next (state_of (at_tick j world) p) ≡ but_next (state_of world p)) → IsIdle (section_at world.config p).limits (r + 1) (state_of world p).part
-jump_unseen world p n until r k limits part is alone lt at same kept idle before later none next below unchanged =
+    → ((j : ℕ) → world.tick ≤ j → j ≤ k → but_next (state_of (at_tick j world) p) ≡ but_next (state_of world p)) → IsIdle (r + 1) (state_of world p).part
+jump_unseen world p n until r k part is alone lt at kept idle before later none next below unchanged =
     let ticks : OwnTicks = own_ticks world.config.plan p in
     let own : IsOwnFrom world.config.plan p world.tick n = next_here world p n is alone lt at in
-    let here : IsIdle (section_at world.config p).limits until (state_of world p).part = idle_of limits (section_at world.config p).limits part (state_of world p).part until same kept idle in
+    let here : IsIdle until (state_of world p).part = subst (IsIdle until) kept idle in
     let reached : state_of (at_tick r world) p ≡ waiting_from (own_ticks world.config.plan p) until (state_of world p) = jump_to world p n until r is alone lt at here before later none in
     let due : next_from (own_ticks world.config.plan p) (state_of world p).part.status until ≡ Some r =
     ap (λ (b : Bool). if b then (own_ticks world.config.plan p).next_of until else None) here.active ∙ next in

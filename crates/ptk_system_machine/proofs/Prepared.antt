@@ -177,8 +177,8 @@ pub turn_ended : (ticks : OwnTicks) (p tick room n to from : ℕ) (s : State) (k
     → state_at p (record { kept = kept; accounts = accounts }) ≡ prepared (limits_at p kept) tick s
     → spent ≡ spent_in_turn room (runner_of (part_at p kept)) (part_at p kept)
     → mid ≡ put_part p (after_turn (limits_at p kept) tick room (runner_of (part_at p kept)) (part_at p kept)) kept
-    → IsFreeFrom (limits_at p mid) tick room spent to (part_at p mid) from
-    → ((account_at p (record { kept = mid; accounts = accounts })).account ≡ s.account → HasDecided (limits_at p mid) tick room spent s.part (part_at p mid) → IsFreeFrom (limits_at p mid) tick room spent to (part_at p mid) from
+    → IsFreeFrom tick room spent to (part_at p mid) from
+    → ((account_at p (record { kept = mid; accounts = accounts })).account ≡ s.account → HasDecided (limits_at p mid) tick room spent s.part (part_at p mid) → IsFreeFrom tick room spent to (part_at p mid) from
     → new ≡ put_state p (after_ticks ticks (limits_at p mid) tick n s) (record { kept = mid; accounts = accounts }))
     → new ≡ put_state p (after_ticks ticks (limits_at p kept) tick n s) (record { kept = kept; accounts = accounts })
 turn_ended ticks p tick room n to from s kept mid accounts new spent is lt ready told moved free gone =

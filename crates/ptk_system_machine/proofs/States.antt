@@ -62,17 +62,16 @@ spent_is ticks limits tick room from part after spent came kept account e told t
 
 -- from when on a partition goes on, by what was told of its decision
 pub free_told : (n p tick room to from : ℕ) (kept new : Kept) (spent : Spent) → AreParts n kept → p < n → spent ≡ spent_by_decision (limits_at p kept) tick room (part_at p kept)
-    → new ≡ put_part p (after_decision (limits_at p kept) tick room (part_at p kept)) kept → IsFreeFrom (limits_at p new) tick room spent to (part_at p new) from
-    → IsFreeFrom (limits_at p kept) tick room (spent_by_decision (limits_at p kept) tick room (part_at p kept)) to (after_decision (limits_at p kept) tick room (part_at p kept)) from
+    → new ≡ put_part p (after_decision (limits_at p kept) tick room (part_at p kept)) kept → IsFreeFrom tick room spent to (part_at p new) from
+    → IsFreeFrom tick room (spent_by_decision (limits_at p kept) tick room (part_at p kept)) to (after_decision (limits_at p kept) tick room (part_at p kept)) from
 free_told n p tick room to from kept new spent parts lt told moved free =
     let now : part_at p new ≡ after_decision (limits_at p kept) tick room (part_at p kept) = ap (part_at p) moved ∙ part_at-put n p _ kept parts lt in
-    subst (λ (s : Spent). IsFreeFrom (limits_at p kept) tick room s to (after_decision (limits_at p kept) tick room (part_at p kept)) from) told
-    (subst (λ (s : Part). IsFreeFrom (limits_at p kept) tick room spent to s from) now
-    (subst (λ (l : Limits). IsFreeFrom l tick room spent to (part_at p new) from) (ap (limits_at p) moved) free))
+    subst (λ (s : Spent). IsFreeFrom tick room s to (after_decision (limits_at p kept) tick room (part_at p kept)) from) told
+    (subst (λ (s : Part). IsFreeFrom tick room spent to s from) now free)
 
 -- from behind the ticks of a decision on it is free to go on
-pub free_behind : (limits : Limits) (tick room : ℕ) (spent : Spent) (to : ℕ) (part : Part) (from : ℕ) → from ≡ tick + duration_of room spent → IsFreeFrom limits tick room spent to part from
-free_behind limits tick room spent to part from at = record { behind = omega (arith, at); idle = λ later. absurd (omega (arith, at, later)) }
+pub free_behind : (tick room : ℕ) (spent : Spent) (to : ℕ) (part : Part) (from : ℕ) → from ≡ tick + duration_of room spent → IsFreeFrom tick room spent to part from
+free_behind tick room spent to part from at = record { behind = omega (arith, at); idle = λ later. absurd (omega (arith, at, later)) }
 
 -- the tables and the account after a decision are the state after it, with the next decision from a tick on
 pub decided_whole : (ticks : OwnTicks) (tick room from p : ℕ) (kept new : Kept) (accounts : List KeptAccount) (account : KeptAccount) (spent : Spent) (next : Option ℕ) (last : Option Entry)

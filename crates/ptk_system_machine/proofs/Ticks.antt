@@ -163,7 +163,7 @@ waiting_decided ticks limits tick room from s at =
 
 -- an idle decision, and then ticks up to which the partition has nothing to do
 idle_on : (plan : WindowPlan) (p : ℕ) (limits : Limits) (tick end from : ℕ) (s : State) → IsPlan plan → (own_ticks plan p).end_at tick ≡ Some end → s.account.next ≡ Some tick → tick + 1 ≤ from
-    → spent_by_decision limits tick (end - tick) s.part ≡ Idle → IsIdle limits from (after_decision limits tick (end - tick) s.part)
+    → spent_by_decision limits tick (end - tick) s.part ≡ Idle → IsIdle from (after_decision limits tick (end - tick) s.part)
     → after_ticks (own_ticks plan p) limits tick (from - tick) s ≡ waiting_from (own_ticks plan p) from (decided (own_ticks plan p) limits tick (end - tick) s)
 idle_on plan p limits tick end from s is ends due le spent idle =
     let all : from - tick ≡ 1 + (from - (tick + 1)) = omega arith in
@@ -181,7 +181,7 @@ idle_on plan p limits tick end from s is ends due le spent idle =
 pub decided_on : (plan : WindowPlan) (p tick end room from to last : ℕ) (old new : Whole) → IsPlan plan → IsWhole old.kept old.accounts → p < length old.accounts → (own_ticks plan p).end_at tick ≡ Some end → room ≡ end - tick
     → 1 ≤ duration_of room (spent_by_decision (limits_at p old.kept) tick room (part_at p old.kept))
     → (account_at p old).account.next ≡ Some tick → tick < to → (from ≤ last → from ≤ to) → ((k : ℕ) → (account_at p new).account.next ≡ Some k → to ≤ k)
-    → IsFreeFrom (limits_at p old.kept) tick room (spent_by_decision (limits_at p old.kept) tick room (part_at p old.kept)) last (after_decision (limits_at p old.kept) tick room (part_at p old.kept)) from
+    → IsFreeFrom tick room (spent_by_decision (limits_at p old.kept) tick room (part_at p old.kept)) last (after_decision (limits_at p old.kept) tick room (part_at p old.kept)) from
     → new ≡ put_state p (waiting_from (own_ticks plan p) from (decided (own_ticks plan p) (limits_at p old.kept) tick room (state_at p old))) old → new ≡ gone_on (own_ticks plan p) p tick (to - tick) old
 decided_on plan p tick end room from to last old new is whole lt ends room_is some due later far before free decision = by (cases_lt (tick + duration_of room (spent_by_decision (limits_at p old.kept) tick room (part_at p old.kept))) from)
   where
@@ -193,7 +193,7 @@ decided_on plan p tick end room from to last old new is whole lt ends room_is so
     by (inl less) =
         let idle = free.idle less in
         let way : after_ticks (own_ticks plan p) (limits_at p old.kept) tick (from - tick) (state_at p old) ≡ waiting_from (own_ticks plan p) from (decided (own_ticks plan p) (limits_at p old.kept) tick room (state_at p old))
-        = subst (λ (k : ℕ). spent_by_decision (limits_at p old.kept) tick k (part_at p old.kept) ≡ Idle → IsIdle (limits_at p old.kept) from (after_decision (limits_at p old.kept) tick k (part_at p old.kept))
+        = subst (λ (k : ℕ). spent_by_decision (limits_at p old.kept) tick k (part_at p old.kept) ≡ Idle → IsIdle from (after_decision (limits_at p old.kept) tick k (part_at p old.kept))
         → after_ticks (own_ticks plan p) (limits_at p old.kept) tick (from - tick) (state_at p old) ≡ waiting_from (own_ticks plan p) from (decided (own_ticks plan p) (limits_at p old.kept) tick k (state_at p old))) (sym room_is)
         (idle_on plan p (limits_at p old.kept) tick end from (state_at p old) is ends due (omega (arith, less, some))) idle.0 idle.2 in
         gone_further (own_ticks plan p) p tick from to old new new whole lt (omega (arith, less, some)) (far idle.1)

@@ -42,9 +42,9 @@ pub record HasDecided (limits : Limits) (tick room : ℕ) (spent : Spent) (old n
   pub moved : new ≡ after_decision limits tick room old
 
 -- in a run to a tick the next decision comes at this one or later: behind the ticks of a decision with this room that came to this and left the partition so; after an idle one the partition may have nothing to do up to then (own)
-pub record IsFreeFrom (limits : Limits) (tick room : ℕ) (spent : Spent) (to : ℕ) (part : Part) (from : ℕ) : Type 0 where
+pub record IsFreeFrom (tick room : ℕ) (spent : Spent) (to : ℕ) (part : Part) (from : ℕ) : Type 0 where
   pub behind : tick + duration_of room spent ≤ from
-  pub idle : tick + duration_of room spent < from → (spent ≡ Idle) × (from ≤ to) × IsIdle limits from part
+  pub idle : tick + duration_of room spent < from → (spent ≡ Idle) × (from ≤ to) × IsIdle from part
 
 -- in a run from a tick to another a partition has come from the one state to the other, up to its next turn (own)
 pub record IsUpTo (ticks : OwnTicks) (limits : Limits) (tick to : ℕ) (turn : Turn) (old new : State) : Type 0 where

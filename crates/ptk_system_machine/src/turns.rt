@@ -406,7 +406,7 @@ impl Machine {
         ensures coming { IsComing (own_ticks plan.now p) to (account_at p self.new).account.next result }
         ensures gone { (s : State) → (account_at p self.old).account ≡ s.account →
             HasDecided (limits_at p self.old.kept) turn.start (turn.end - turn.start) spent s.part (part_at p self.old.kept) →
-            IsFreeFrom (limits_at p self.old.kept) turn.start (turn.end - turn.start) spent to (part_at p self.old.kept) from →
+            IsFreeFrom turn.start (turn.end - turn.start) spent to (part_at p self.old.kept) from →
             self.new ≡ put_state p (after_ticks (own_ticks plan.now p) (limits_at p self.old.kept) turn.start (result.start - turn.start) s) self.old }
         ensures walk { result.start < to → IsAt plan.now p result.end walk.new }
     {
@@ -672,8 +672,8 @@ fn free_from(tables: &Tables, p: PartId, tick: Tick, room: u32, spent: Spent, to
     requires time { tick ≤ LAST_TICK }
     requires near { room ≤ 1000000 }
     requires short { cost_in spent ≤ 16 }
-    ensures free { IsFreeFrom (limits_at p tables.now) tick room spent to (part_at p tables.now) result }
-    ensures full { (k : ℕ) → spent ≡ Spent.Idle → k ≤ to → IsIdle (limits_at p tables.now) k (part_at p tables.now) → k ≤ result }
+    ensures free { IsFreeFrom tick room spent to (part_at p tables.now) result }
+    ensures full { (k : ℕ) → spent ≡ Spent.Idle → k ≤ to → IsIdle k (part_at p tables.now) → k ≤ result }
 {
     let after = tick.ticks() + u64::from(duration(room, spent));
     match spent {
@@ -686,8 +686,8 @@ fn free_from(tables: &Tables, p: PartId, tick: Tick, room: u32, spent: Spent, to
 pub fn idle_from(tables: &Tables, p: PartId, tick: Tick, to: Tick) -> Tick
     requires partition { p < length tables.now.limits }
     ensures from { tick ≤ result }
-    ensures idle { tick < result → (result ≤ to) × IsIdle (limits_at p tables.now) result (part_at p tables.now) }
-    ensures full { (k : ℕ) → k ≤ to → IsIdle (limits_at p tables.now) k (part_at p tables.now) → k ≤ result }
+    ensures idle { tick < result → (result ≤ to) × IsIdle result (part_at p tables.now) }
+    ensures full { (k : ℕ) → k ≤ to → IsIdle k (part_at p tables.now) → k ≤ result }
 {
     match stays_idle_until(tables, p, to) {
         Some(until) if tick.ticks() < until.ticks() => until,

@@ -30,7 +30,7 @@ use Rattle.ptk_words_batches.proofs.TicksInARow.{first_by, next_own}
 none_chosen : (s : Part) → s.line ≡ [] → after_choice s ≡ s
 none_chosen s e = ap (λ (line : List ℕ). after_choice_between s.running (first_of_greatest (effective_priority s.locks) line) s) e
 
-idle_ready : (limits : Limits) (tick stop : ℕ) (s : Part) → IsIdle limits stop s → tick < stop → ready_at limits tick s ≡ s
+idle_ready : (limits : Limits) (tick stop : ℕ) (s : Part) → IsIdle stop s → tick < stop → ready_at limits tick s ≡ s
 idle_ready limits tick stop s idle lt =
     ap (λ (u : Part). after_choice (after_expiries tick u)) (no_arrivals limits tick s (idle.none_comes tick lt))
     ∙ (ap after_choice (no_expiries tick s (idle.none_expires tick lt)) ∙ none_chosen s idle.line)
@@ -38,12 +38,12 @@ idle_ready limits tick stop s idle lt =
 idle_runner : (s : Part) → s.running ≡ None → runner_of s ≡ None
 idle_runner s e = ap (λ (o : Option ℕ). runner_in o s) e
 
-idle_moved : (limits : Limits) (tick stop room : ℕ) (s : Part) → IsIdle limits stop s → tick < stop → after_decision limits tick room s ≡ s
+idle_moved : (limits : Limits) (tick stop room : ℕ) (s : Part) → IsIdle stop s → tick < stop → after_decision limits tick room s ≡ s
 idle_moved limits tick stop room s idle lt =
     ap (λ (u : Part). after_turn limits tick room (runner_of u) u) (idle_ready limits tick stop s idle lt)
     ∙ ap (λ (o : Option Runner). after_turn limits tick room o s) (idle_runner s idle.running)
 
-idle_spent : (limits : Limits) (tick stop room : ℕ) (s : Part) → IsIdle limits stop s → tick < stop → spent_by_decision limits tick room s ≡ Idle
+idle_spent : (limits : Limits) (tick stop room : ℕ) (s : Part) → IsIdle stop s → tick < stop → spent_by_decision limits tick room s ≡ Idle
 idle_spent limits tick stop room s idle lt =
     ap (λ (u : Part). spent_in_turn room (runner_of u) u) (idle_ready limits tick stop s idle lt)
     ∙ ap (λ (o : Option Runner). spent_in_turn room o s) (idle_runner s idle.running)
@@ -77,13 +77,13 @@ next_later plan p tick status is none =
 
 -- ---- ticks
 
-idle_at : (ticks : OwnTicks) (limits : Limits) (tick stop room : ℕ) (s : State) → IsIdle limits stop s.part → tick < stop → decided ticks limits tick room s ≡ waiting_from ticks (tick + 1) s
+idle_at : (ticks : OwnTicks) (limits : Limits) (tick stop room : ℕ) (s : State) → IsIdle stop s.part → tick < stop → decided ticks limits tick room s ≡ waiting_from ticks (tick + 1) s
 idle_at ticks limits tick stop room s idle lt =
     let state : Spent → Part → State = λ spent part. record { part = part; account = accounted ticks limits tick room part spent s.account } in
     ap (state (spent_by_decision limits tick room s.part)) (idle_moved limits tick stop room s.part idle lt)
     ∙ ap (λ (spent : Spent). state spent s.part) (idle_spent limits tick stop room s.part idle lt)
 
-idle_tick : (plan : WindowPlan) (p : ℕ) (limits : Limits) (tick stop : ℕ) (s : State) → IsPlan plan → IsIdle limits stop s.part → tick < stop
+idle_tick : (plan : WindowPlan) (p : ℕ) (limits : Limits) (tick stop : ℕ) (s : State) → IsPlan plan → IsIdle stop s.part → tick < stop
     → after_tick (own_ticks plan p) limits tick (waiting_from (own_ticks plan p) tick s) ≡ waiting_from (own_ticks plan p) (tick + 1) s
 idle_tick plan p limits tick stop s is idle lt = by ((own_ticks plan p).end_at tick) refl
   where
@@ -98,7 +98,7 @@ idle_tick plan p limits tick stop s is idle lt = by ((own_ticks plan p).end_at t
         ap (λ (b : Bool). if b then decided ticks limits tick (end - tick) (waiting_from ticks tick s) else waiting_from ticks tick s) at
         ∙ idle_at ticks limits tick stop (end - tick) (waiting_from ticks tick s) idle lt
 
-ticks_by : (plan : WindowPlan) (p : ℕ) (limits : Limits) (tick stop n : ℕ) (s : State) → IsPlan plan → IsIdle limits stop s.part → s.account.next ≡ next_from (own_ticks plan p) s.part.status tick → tick + n ≤ stop
+ticks_by : (plan : WindowPlan) (p : ℕ) (limits : Limits) (tick stop n : ℕ) (s : State) → IsPlan plan → IsIdle stop s.part → s.account.next ≡ next_from (own_ticks plan p) s.part.status tick → tick + n ≤ stop
     → after_ticks (own_ticks plan p) limits tick n s ≡ waiting_from (own_ticks plan p) (tick + n) s
 unfolding after_ticks
 ticks_by plan p limits tick stop zero s is idle next le =

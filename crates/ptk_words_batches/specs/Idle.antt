@@ -1,7 +1,6 @@
 -- A partition that has nothing to do, and what ticks in a row do to it.
 use Rattle.std.specs.Prelude.{◌≡◌, ℕ, ◌<◌, true, [], None}
 use Rattle.ptk_words.specs.Names.{Tick}
-use Rattle.ptk_words.specs.declared.sections.Limits.{Limits}
 use Rattle.ptk_words_windows.specs.Windows.{OwnTicks}
 use Rattle.ptk_words_model.specs.State.{Part, State}
 use Rattle.ptk_words_model.specs.Withdrawal.{due}
@@ -10,7 +9,7 @@ use Rattle.ptk_words_model.specs.Run.{next_from}
 use Rattle.ptk_words.specs.Faults.{is_active}
 
 -- no thread runs and none is ready; up to the tick stop no input comes and no deadline is due (own)
-pub record IsIdle (limits : Limits) (stop : ℕ) (s : Part) : Type 0 where
+pub record IsIdle (stop : ℕ) (s : Part) : Type 0 where
   pub active : is_active s.status ≡ true
   pub running : s.running ≡ None
   pub line : s.line ≡ []

@@ -12,10 +12,10 @@ use Rattle.ptk_words_batches.specs.Idle.{IsIdle, waiting_from}
 -- the decision of an idle partition changes nothing, and is idle, whatever the room (own)
 abbrev pub IdleIsDecided : Limits → ℕ → ℕ → ℕ → Part → Type 0
 IdleIsDecided limits tick stop room s =
-    IsIdle limits stop s → tick < stop → 1 ≤ room → (after_decision limits tick room s ≡ s) × (spent_by_decision limits tick room s ≡ Idle)
+    IsIdle stop s → tick < stop → 1 ≤ room → (after_decision limits tick room s ≡ s) × (spent_by_decision limits tick room s ≡ Idle)
 
 -- ticks in a row change nothing of an idle partition but the tick of its next decision (own)
 abbrev pub IdleIsTicks : WindowPlan → ℕ → Limits → ℕ → ℕ → ℕ → State → Type 0
 IdleIsTicks plan p limits tick stop n s =
-    IsPlan plan → IsIdle limits stop s.part → s.account.next ≡ next_from (own_ticks plan p) s.part.status tick → tick + n ≤ stop
+    IsPlan plan → IsIdle stop s.part → s.account.next ≡ next_from (own_ticks plan p) s.part.status tick → tick + n ≤ stop
     → after_ticks (own_ticks plan p) limits tick n s ≡ waiting_from (own_ticks plan p) (tick + n) s

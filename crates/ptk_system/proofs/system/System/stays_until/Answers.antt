@@ -1,8 +1,8 @@
-use Rattle.std.proofs.Common.{◌≡◌, ◌+◌, ◌<◌, ◌≤◌, Some, inl, inr, arith}
+use Rattle.std.proofs.Common.{◌≡◌, ◌+◌, ◌<◌, ◌≤◌, Some, inl, inr, sym, subst, arith}
 use Rattle.std.proofs.lemmas.Bool.{cases_lt}
 use Rattle.ptk_words_batches.specs.Idle.{IsIdle}
-use Rattle.ptk_system.specs.World.{section_at, state_of}
-use Rattle.ptk_system.proofs.Stays.{idle_in, jump_unseen, next_unseen, stays_jump, stays_next}
+use Rattle.ptk_system.specs.World.{state_of}
+use Rattle.ptk_system.proofs.Stays.{jump_unseen, next_unseen, stays_jump, stays_next}
 use Rattle.ptk_system.proofs.system.System.stays_until.Goals as goal
 
 pub returns-then-ticks-clause-stays : goal.returns-then-ticks-clause-stays
@@ -10,8 +10,8 @@ returns-then-ticks-clause-stays c = λ k from le.
     let due : (state_of c.args.self.now c.args.p).account.next ≡ Some c.in-Some.next = cc in
     let before : c.in-Some.next < c.idle_from-until.result = omega arith in
     let idle = c.idle_from-until.ensures.idle before in
-    stays_jump c.args.self.now c.args.p c.in-Some.next c.idle_from-until.result k _ _ c.states_are_alone.ensures.configured c.states_are_alone.ensures.all c.requires
-    due (c.tables.ensures.limits c.args.p c.requires) (c.tables.ensures.states c.args.p c.requires) idle.1 before (λ j at below. c.first_own.ensures.others j at (omega (arith, below, le))) from
+    stays_jump c.args.self.now c.args.p c.in-Some.next c.idle_from-until.result k _ c.states_are_alone.ensures.configured c.states_are_alone.ensures.all c.requires
+    due (c.tables.ensures.states c.args.p c.requires) idle.1 before (λ j at below. c.first_own.ensures.others j at (omega (arith, below, le))) from
 
 pub returns-then-ticks-clause-latest : goal.returns-then-ticks-clause-latest
 returns-then-ticks-clause-latest c = λ early k le unchanged.
@@ -21,11 +21,11 @@ returns-then-ticks-clause-latest c = λ early k le unchanged.
     elim (cases_lt c.first_own.result k) [
       | inl beyond ↦
           let own = c.first_own.ensures.own early (omega (arith, beyond, le)) in
-          let found : IsIdle (section_at c.args.self.now.config c.args.p).limits (c.first_own.result + 1) (state_of c.args.self.now c.args.p).part =
-          jump_unseen c.args.self.now c.args.p c.in-Some.next c.idle_from-until.result c.first_own.result k _ _ c.states_are_alone.ensures.configured c.states_are_alone.ensures.all c.requires
-          due (c.tables.ensures.limits c.args.p c.requires) (c.tables.ensures.states c.args.p c.requires) idle.1 before c.first_own.ensures.from c.first_own.ensures.others own beyond unchanged in
+          let found : IsIdle (c.first_own.result + 1) (state_of c.args.self.now c.args.p).part =
+          jump_unseen c.args.self.now c.args.p c.in-Some.next c.idle_from-until.result c.first_own.result k _ c.states_are_alone.ensures.configured c.states_are_alone.ensures.all c.requires
+          due (c.tables.ensures.states c.args.p c.requires) idle.1 before c.first_own.ensures.from c.first_own.ensures.others own beyond unchanged in
           let again : c.first_own.result + 1 ≤ c.idle_from-until.result =
-          c.idle_from-until.ensures.full (c.first_own.result + 1) (omega (arith, beyond, le)) (idle_in _ _ _ _ (c.first_own.result + 1) (c.tables.ensures.limits c.args.p c.requires) (c.tables.ensures.states c.args.p c.requires) found) in
+          c.idle_from-until.ensures.full (c.first_own.result + 1) (omega (arith, beyond, le)) (subst (IsIdle (c.first_own.result + 1)) (sym (c.tables.ensures.states c.args.p c.requires)) found) in
           absurd (omega (arith, again, c.first_own.ensures.from))
       | inr within ↦ within
     ]
@@ -39,10 +39,10 @@ returns-then-ticks-2-clause-latest c = λ early k le unchanged.
     let due : (state_of c.args.self.now c.args.p).account.next ≡ Some c.in-Some.next = cc in
     elim (cases_lt c.in-Some.next k) [
       | inl beyond ↦
-          let found : IsIdle (section_at c.args.self.now.config c.args.p).limits (c.in-Some.next + 1) (state_of c.args.self.now c.args.p).part =
+          let found : IsIdle (c.in-Some.next + 1) (state_of c.args.self.now c.args.p).part =
           next_unseen c.args.self.now c.args.p c.in-Some.next k c.states_are_alone.ensures.configured c.states_are_alone.ensures.all c.requires due beyond unchanged in
           let again : c.in-Some.next + 1 ≤ c.idle_from-until.result =
-          c.idle_from-until.ensures.full (c.in-Some.next + 1) (omega (arith, beyond, le)) (idle_in _ _ _ _ (c.in-Some.next + 1) (c.tables.ensures.limits c.args.p c.requires) (c.tables.ensures.states c.args.p c.requires) found) in
+          c.idle_from-until.ensures.full (c.in-Some.next + 1) (omega (arith, beyond, le)) (subst (IsIdle (c.in-Some.next + 1)) (sym (c.tables.ensures.states c.args.p c.requires)) found) in
           absurd (omega (arith, again, c.if-ticks.false))
       | inr within ↦ within
     ]

@@ -57,8 +57,8 @@ returns-clause-gone c = λ s same made free.
     let here : (account_at c.args.p (record { kept = c.self.inside.tables; accounts = c.self.inside.accounts.items })).account ≡ s.account = subst (λ (w : Whole). (account_at c.args.p w).account ≡ s.account) (sym c.self.view_is) same in
     let done : HasDecided (limits_at c.args.p c.self.inside.tables) c.args.turn.start (c.args.turn.end - c.args.turn.start) c.args.spent s.part (part_at c.args.p c.self.inside.tables)
     = subst (λ (w : Whole). HasDecided (limits_at c.args.p w.kept) c.args.turn.start (c.args.turn.end - c.args.turn.start) c.args.spent s.part (part_at c.args.p w.kept)) (sym c.self.view_is) made in
-    let behind : IsFreeFrom (limits_at c.args.p c.self.inside.tables) c.args.turn.start (c.args.turn.end - c.args.turn.start) c.args.spent c.args.to (part_at c.args.p c.self.inside.tables) c.args.from
-    = subst (λ (w : Whole). IsFreeFrom (limits_at c.args.p w.kept) c.args.turn.start (c.args.turn.end - c.args.turn.start) c.args.spent c.args.to (part_at c.args.p w.kept) c.args.from) (sym c.self.view_is) free in
+    let behind : IsFreeFrom c.args.turn.start (c.args.turn.end - c.args.turn.start) c.args.spent c.args.to (part_at c.args.p c.self.inside.tables) c.args.from
+    = subst (λ (w : Whole). IsFreeFrom c.args.turn.start (c.args.turn.end - c.args.turn.start) c.args.spent c.args.to (part_at c.args.p w.kept) c.args.from) (sym c.self.view_is) free in
     let told = told_before (length c.self.inside.accounts.items) c.args.p c.args.turn.start (c.args.turn.end - c.args.turn.start) s c.self.inside.tables c.args.spent c.self.invariant.parts lt done.told in
     let moved = moved_before (length c.self.inside.accounts.items) c.args.p c.args.turn.start (c.args.turn.end - c.args.turn.start) s c.self.inside.tables c.self.invariant.parts lt done.moved in
     let costs = decision_costs (limits_at c.args.p c.self.inside.tables) c.args.turn.start (c.args.turn.end - c.args.turn.start) s.part c.args.spent some done.told in

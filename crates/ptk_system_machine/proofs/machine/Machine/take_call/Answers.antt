@@ -31,8 +31,8 @@ returns-clause-gone c = λ s ready.
     = subst (λ (r : ℕ). c.take_call-spent.result ≡ spent_in_turn r (runner_of (part_at c.args.p c.self.inside.tables)) (part_at c.args.p c.self.inside.tables)) room c.take_call-spent.ensures.told in
     let moved : c.take_call-spent.new.tables ≡ put_part c.args.p (after_turn (limits_at c.args.p c.self.inside.tables) c.args.turn.start (c.args.turn.end - c.args.turn.start) (runner_of (part_at c.args.p c.self.inside.tables)) (part_at c.args.p c.self.inside.tables)) c.self.inside.tables
     = subst (λ (r : ℕ). c.take_call-spent.new.tables ≡ put_part c.args.p (after_turn (limits_at c.args.p c.self.inside.tables) c.args.turn.start r (runner_of (part_at c.args.p c.self.inside.tables)) (part_at c.args.p c.self.inside.tables)) c.self.inside.tables) room c.take_call-spent.ensures.moved in
-    let free : IsFreeFrom (limits_at c.args.p c.take_call-spent.new.tables) c.args.turn.start (c.args.turn.end - c.args.turn.start) c.take_call-spent.result c.args.to (part_at c.args.p c.take_call-spent.new.tables) c.new-from.result
-    = free_behind (limits_at c.args.p c.take_call-spent.new.tables) c.args.turn.start (c.args.turn.end - c.args.turn.start) c.take_call-spent.result c.args.to (part_at c.args.p c.take_call-spent.new.tables) c.new-from.result
+    let free : IsFreeFrom c.args.turn.start (c.args.turn.end - c.args.turn.start) c.take_call-spent.result c.args.to (part_at c.args.p c.take_call-spent.new.tables) c.new-from.result
+    = free_behind c.args.turn.start (c.args.turn.end - c.args.turn.start) c.take_call-spent.result c.args.to (part_at c.args.p c.take_call-spent.new.tables) c.new-from.result
     (subst (λ (r : ℕ). c.new-from.result ≡ c.args.turn.start + duration_of r c.take_call-spent.result) room (omega (arith, c.new-from.ensures, c.from.ensures, c.duration.ensures.value))) in
     subst (λ (w : Whole). c.end_turn.new.self ≡ put_state c.args.p (after_ticks (own_ticks c.args.plan.now c.args.p) (limits_at c.args.p w.kept) c.args.turn.start (c.end_turn.result.start - c.args.turn.start) s) w) c.self.view_is
     (turn_ended (own_ticks c.args.plan.now c.args.p) c.args.p c.args.turn.start (c.args.turn.end - c.args.turn.start) (c.end_turn.result.start - c.args.turn.start) c.args.to c.new-from.result s

@@ -31,8 +31,8 @@ returns-clause-gone c = λ s ready.
     = subst (λ (r : ℕ). c.take_turn-spent.result ≡ spent_in_turn r (runner_of (part_at c.args.p c.self.inside.tables)) (part_at c.args.p c.self.inside.tables)) room c.take_turn-spent.ensures.told in
     let moved : c.take_turn-spent.new.tables ≡ put_part c.args.p (after_turn (limits_at c.args.p c.self.inside.tables) c.args.turn.start (c.args.turn.end - c.args.turn.start) (runner_of (part_at c.args.p c.self.inside.tables)) (part_at c.args.p c.self.inside.tables)) c.self.inside.tables
     = subst (λ (r : ℕ). c.take_turn-spent.new.tables ≡ put_part c.args.p (after_turn (limits_at c.args.p c.self.inside.tables) c.args.turn.start r (runner_of (part_at c.args.p c.self.inside.tables)) (part_at c.args.p c.self.inside.tables)) c.self.inside.tables) room c.take_turn-spent.ensures.moved in
-    let free : IsFreeFrom (limits_at c.args.p c.take_turn-spent.new.tables) c.args.turn.start (c.args.turn.end - c.args.turn.start) c.take_turn-spent.result c.args.to (part_at c.args.p c.take_turn-spent.new.tables) c.free_from-from.result
-    = subst (λ (r : ℕ). IsFreeFrom (limits_at c.args.p c.take_turn-spent.new.tables) c.args.turn.start r c.take_turn-spent.result c.args.to (part_at c.args.p c.take_turn-spent.new.tables) c.free_from-from.result) room c.free_from-from.ensures.free in
+    let free : IsFreeFrom c.args.turn.start (c.args.turn.end - c.args.turn.start) c.take_turn-spent.result c.args.to (part_at c.args.p c.take_turn-spent.new.tables) c.free_from-from.result
+    = subst (λ (r : ℕ). IsFreeFrom c.args.turn.start r c.take_turn-spent.result c.args.to (part_at c.args.p c.take_turn-spent.new.tables) c.free_from-from.result) room c.free_from-from.ensures.free in
     subst (λ (w : Whole). c.end_turn.new.self ≡ put_state c.args.p (after_ticks (own_ticks c.args.plan.now c.args.p) (limits_at c.args.p w.kept) c.args.turn.start (c.end_turn.result.start - c.args.turn.start) s) w) c.self.view_is
     (turn_ended (own_ticks c.args.plan.now c.args.p) c.args.p c.args.turn.start (c.args.turn.end - c.args.turn.start) (c.end_turn.result.start - c.args.turn.start) c.args.to c.free_from-from.result s
     c.self.inside.tables c.take_turn-spent.new.tables c.self.inside.accounts.items c.end_turn.new.self c.take_turn-spent.result c.self.invariant lt here told moved free (c.end_turn.ensures.gone s))
