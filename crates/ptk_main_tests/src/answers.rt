@@ -71,14 +71,15 @@ fn run<'a, W: Write>(
     outcome
 }
 
-// What a trace of p at tick 20 answers.
+// What a trace of p at a tick returns.
 fn trace<'a, W: Write>(
     alloc: Global,
     config: &'a Config,
     files: &Files,
+    tick: u16,
     out: &mut W,
 ) -> Result<(), Fault<'a>> {
-    trace_answer(alloc, config, files, Tick::new(20), "p", out)
+    trace_answer(alloc, config, files, Tick::new(u64::from(tick)), "p", out)
 }
 
 // What a check returns with a writer of this much room, of at most 3 bytes.
@@ -100,55 +101,30 @@ fn is_text(got: &[u8], want: &str) -> bool {
     got == want.as_bytes()
 }
 
-// The picture of the ticks from this one to tick 20, as SVG.
+// The picture of the ticks from this one to tick 20, as SVG, with names by these symbols.
 fn picture<'a, W: Write>(
     alloc: Global,
     config: &'a Config,
     files: &Files,
+    symbols: &Symbols<'_>,
     from: u16,
     out: &mut W,
 ) -> Result<(), Fault<'a>> {
     let (from, to) = (Tick::new(u64::from(from)), Tick::new(20));
-    let nameless = Symbols::new(alloc);
-    timeline_answer(
-        alloc,
-        config,
-        files,
-        &nameless,
-        PictureFormat::Svg,
-        from,
-        to,
-        out,
-    )
+    let form = PictureFormat::Svg;
+    timeline_answer(alloc, config, files, symbols, form, from, to, out)
 }
 
 // What follows the number of a thread that starts at a routine of the name `a<b&c`.
 const NAME: &str =
     "<svg x=\"4\" y=\"66\" width=\"106\" height=\"14\"><text x=\"0\" y=\"11\">a&lt;b&amp;c<title>thread 1 starts at a&lt;b&amp;c</title></text></svg>\n";
 
-// The same picture from tick 0, with names by these symbols.
-fn named_picture<W: Write>(
-    alloc: Global,
-    config: &Config,
-    files: &Files,
-    symbols: &str,
-    out: &mut W,
-) -> bool {
-    let Ok(symbols) = read_symbols(alloc, symbols) else {
-        return false;
-    };
-    let (from, to) = (Tick::new(0), Tick::new(20));
-    timeline_answer(
-        alloc,
-        config,
-        files,
-        &symbols,
-        PictureFormat::Svg,
-        from,
-        to,
-        out,
-    )
-    .is_ok()
+// Whether a picture from tick 0 on, with names by this table of symbols, is drawn.
+fn is_drawn(alloc: Global, config: &Config, files: &Files, table: &str, out: &mut Vec<u8>) -> bool {
+    match read_symbols(alloc, table) {
+        Ok(symbols) => picture(alloc, config, files, &symbols, 0, out).is_ok(),
+        Err(_) => false,
+    }
 }
 
 // Whether a picture is the plain one with these bytes somewhere in it and no others.
@@ -167,11 +143,11 @@ fn is_with(plain: &[u8], named: &[u8], more: &str) -> bool {
 // Asserts what a picture with names has.
 fn check_names(rt: &impl Abort, alloc: Global, config: &Config, files: &Files) {
     let (mut plain, mut out) = (Vec::new(alloc), Vec::new(alloc));
-    assert!(rt; picture(alloc, config, files, 0, &mut plain) == Ok(()));
-    assert!(rt; named_picture(alloc, config, files, "00000004 t other\n", &mut out));
+    assert!(rt; is_drawn(alloc, config, files, "", &mut plain));
+    assert!(rt; is_drawn(alloc, config, files, "00000004 t other\n", &mut out));
     assert!(rt; out.as_slice() == plain.as_slice());
     let mut out = Vec::new(alloc);
-    assert!(rt; named_picture(alloc, config, files, "00000000 T a<b&c\n", &mut out));
+    assert!(rt; is_drawn(alloc, config, files, "00000000 T a<b&c\n", &mut out));
     assert!(rt; is_with(&plain, &out, NAME));
 }
 
@@ -186,18 +162,20 @@ fn check_answers(rt: &impl Abort, alloc: Global, config: &Config, files: &Files)
     assert!(rt; is_text(&out, CUT_REPORT));
     let mut out = Vec::new(alloc);
     // Row short-trace.
-    assert!(rt; trace(alloc, config, files, &mut out) == Ok(()));
+    assert!(rt; trace(alloc, config, files, 20, &mut out) == Ok(()));
     assert!(rt; is_text(&out, SHORT_TRACE));
     let mut out = Vec::new(alloc);
     assert!(rt; check_with(alloc, config, files, &mut out) == Ok(()));
     assert!(rt; is_text(&out, "ok\n"));
+    let nameless = Symbols::new(alloc);
     let mut out = Vec::new(alloc);
-    assert!(rt; picture(alloc, config, files, 0, &mut out) == Ok(()));
+    assert!(rt; picture(alloc, config, files, &nameless, 0, &mut out) == Ok(()));
     assert!(rt; out.starts_with(b"<svg ") && out.ends_with(b"</svg>\n"));
     let mut bytes = [0u8; 200];
     let mut room = bytes.as_mut_slice();
-    assert!(rt; picture(alloc, config, files, 0, &mut room) == Err(Fault::WriteFailed));
-    assert!(rt; picture(alloc, config, files, 20, &mut room) == Err(Fault::NothingFrom(20)));
+    assert!(rt; picture(alloc, config, files, &nameless, 0, &mut room) == Err(Fault::WriteFailed));
+    let late = picture(alloc, config, files, &nameless, 20, &mut room);
+    assert!(rt; late == Err(Fault::NothingFrom(20)));
     for most in 0..3 {
         assert!(rt;
             check_into(alloc, config, files, most) == Err(Fault::WriteFailed),

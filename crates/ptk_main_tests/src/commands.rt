@@ -382,7 +382,10 @@ fn is_left<'a>(
         target: Some("none.s"),
         symbols,
     };
-    disasm(rt, options).err() == Some(*want)
+    match disasm(rt, options) {
+        Ok(_) => false,
+        Err(fault) => fault == *want,
+    }
 }
 
 #[test]

@@ -2,11 +2,10 @@
 //! step's first tick.
 
 use ptk_main_commands::explanation::{Form, explain_partition_with};
-use ptk_main_guests::{ALONE, guest_of};
-use ptk_symbols::read_symbols;
+use ptk_main_guests::{ALONE, Config, Files, guest_of};
+use ptk_symbols::{Symbols, read_symbols};
 use ptk_words::{LAST_TICK, Tick};
 use std::alloc::Global;
-use std::test::Fail;
 
 // Each of two threads has a mutex and waits for the other's. The text ends at 100.
 const DEADLOCK: &str = "
@@ -198,54 +197,41 @@ const CASES: [Case<'static>; 4] = [
     },
 ];
 
-// Whether this is written of a case, as lines and as JSON.
-fn is_told(alloc: Global, case: &Case<'_>) -> Result<bool, Fail> {
-    let (config, files) = guest_of(alloc, &ALONE, &[case.source]).ok_or("no guest")?;
-    let symbols = read_symbols(alloc, case.symbols)?;
-    let ticks = Tick::new(case.ticks.min(LAST_TICK));
-    let (mut lines, mut json) = (Vec::new(alloc), Vec::new(alloc));
-    let is_told = explain_partition_with(
-        alloc,
-        &config,
-        &files,
-        ticks,
-        "p",
-        &symbols,
-        Form::Lines,
-        &mut lines,
+// Whether this is written of a guest after these ticks, in a form.
+fn is_written(
+    alloc: Global,
+    guest: &(Config, Files),
+    symbols: &Symbols<'_>,
+    ticks: u64,
+    form: Form,
+    want: &str,
+) -> bool {
+    let mut out = Vec::new(alloc);
+    let ticks = Tick::new(ticks.min(LAST_TICK));
+    explain_partition_with(
+        alloc, &guest.0, &guest.1, ticks, "p", symbols, form, &mut out,
     )
-    .is_ok();
-    let is_json = explain_partition_with(
-        alloc,
-        &config,
-        &files,
-        ticks,
-        "p",
-        &symbols,
-        Form::Json,
-        &mut json,
-    )
-    .is_ok();
-    Ok(
-        is_told
-            && is_json
-            && lines.as_slice() == case.lines.as_bytes()
-            && json.as_slice() == case.json.as_bytes(),
-    )
+    .is_ok()
+        && out.as_slice() == want.as_bytes()
 }
 
-// The place of the first case of which another text is written.
-fn first_wrong(alloc: Global) -> Result<Option<usize>, Fail> {
-    for (place, case) in CASES.iter().enumerate() {
-        if !is_told(alloc, case)? {
-            return Ok(Some(place));
+// Whether a case is told, as lines and as JSON.
+fn is_told(alloc: Global, case: &Case<'_>) -> bool {
+    match (
+        guest_of(alloc, &ALONE, &[case.source]),
+        read_symbols(alloc, case.symbols),
+    ) {
+        (Some(guest), Ok(symbols)) => {
+            is_written(alloc, &guest, &symbols, case.ticks, Form::Lines, case.lines)
+                && is_written(alloc, &guest, &symbols, case.ticks, Form::Json, case.json)
         }
+        _ => false,
     }
-    Ok(None)
 }
 
 #[test]
-fn partitions_stand_as_told(rt: HostRuntime) -> Result<(), Fail> {
-    assert_eq!(rt; first_wrong(rt.alloc())?, None);
-    Ok(())
+fn partitions_stand_as_told(rt: HostRuntime) {
+    for (place, case) in CASES.iter().enumerate() {
+        assert!(rt; is_told(rt.alloc(), case), "{place}");
+    }
 }

@@ -8,6 +8,7 @@ use ptk_main_commands::formats::{Form, FormatFault, dump_with};
 use ptk_symbols::{Symbols, read_symbols};
 use ptk_words::Tick;
 use std::alloc::Global;
+use std::io::Write;
 use std::process::Abort;
 
 const TEXT: &str =
@@ -37,66 +38,51 @@ const EVENTS: &str = "{\"displayTimeUnit\":\"ns\",\"traceEvents\":[\n\
     {\"ph\":\"X\",\"pid\":1,\"tid\":0,\"ts\":0,\"dur\":40,\"name\":\"window\"},\n\
     {\"ph\":\"X\",\"pid\":1,\"tid\":1,\"ts\":15,\"dur\":25,\"name\":\"halted\",\"args\":{\"priority\":16}}\n]}\n";
 
-// Writes the dump from a tick on, up to tick 40.
-fn dump(
+// Writes the run from a tick on and before another in a form.
+fn dump<W: Write>(
     alloc: Global,
     config: &Config,
     files: &Files,
-    from: u16,
-    out: &mut Vec<u8>,
+    symbols: &Symbols<'_>,
+    (from, to): (u16, u16),
+    form: Form,
+    out: &mut W,
 ) -> Result<(), FormatFault> {
-    let (from, to) = (Tick::new(u64::from(from)), Tick::new(40));
-    let nameless = Symbols::new(alloc);
-    dump_with(alloc, config, files, &nameless, from, to, Form::Vcd, out)
+    let (from, to) = (Tick::new(u64::from(from)), Tick::new(u64::from(to)));
+    dump_with(alloc, config, files, symbols, from, to, form, out)
 }
 
-// Writes the events up to tick 40.
-fn events(
+// Whether the run is written in a form as this text.
+fn is_written(
     alloc: Global,
     config: &Config,
     files: &Files,
-    out: &mut Vec<u8>,
-) -> Result<(), FormatFault> {
-    let Ok(symbols) = read_symbols(alloc, "00000000 T say\"hi\"\n") else {
-        return Err(FormatFault::Memory);
-    };
-    let (from, to) = (Tick::new(0), Tick::new(40));
-    dump_with(alloc, config, files, &symbols, from, to, Form::Events, out)
+    symbols: &Symbols<'_>,
+    form: Form,
+    want: &str,
+) -> bool {
+    let mut out = Vec::new(alloc);
+    dump(alloc, config, files, symbols, (0, 40), form, &mut out).is_ok()
+        && out.as_slice() == want.as_bytes()
 }
 
-// What a dump with a writer of 300 bytes returns.
-fn dump_into_little(alloc: Global, config: &Config, files: &Files) -> Result<(), FormatFault> {
+// Asserts what is written in each form, and what is returned from tick 40 on and with a writer of 300 bytes.
+fn check_formats(
+    rt: &impl Abort,
+    alloc: Global,
+    config: &Config,
+    files: &Files,
+    named: &Symbols<'_>,
+) {
+    let none = Symbols::new(alloc);
+    assert!(rt; is_written(alloc, config, files, &none, Form::Vcd, DUMP));
+    assert!(rt; is_written(alloc, config, files, named, Form::Events, EVENTS));
     let mut bytes = [0u8; 300];
     let mut room = bytes.as_mut_slice();
-    let (from, to) = (Tick::new(0), Tick::new(40));
-    let nameless = Symbols::new(alloc);
-    dump_with(
-        alloc,
-        config,
-        files,
-        &nameless,
-        from,
-        to,
-        Form::Vcd,
-        &mut room,
-    )
-}
-
-fn check_formats(rt: &impl Abort, alloc: Global, config: &Config, files: &Files) {
-    let mut out = Vec::new(alloc);
-    assert!(rt; dump(alloc, config, files, 0, &mut out).is_ok());
-    assert!(rt; out.as_slice() == DUMP.as_bytes());
-    let mut out = Vec::new(alloc);
-    assert!(rt; events(alloc, config, files, &mut out).is_ok());
-    assert!(rt; out.as_slice() == EVENTS.as_bytes());
-    assert_eq!(rt;
-        dump(alloc, config, files, 40, &mut out),
-        Err(FormatFault::FromPastEnd)
-    );
-    assert_eq!(rt;
-        dump_into_little(alloc, config, files),
-        Err(FormatFault::Write)
-    );
+    let late = dump(alloc, config, files, &none, (40, 40), Form::Vcd, &mut room);
+    assert!(rt; late == Err(FormatFault::FromPastEnd));
+    let cut = dump(alloc, config, files, &none, (0, 40), Form::Vcd, &mut room);
+    assert!(rt; cut == Err(FormatFault::Write));
 }
 
 #[test]
@@ -104,8 +90,11 @@ fn a_run_has_its_bytes_in_each_format(rt: HostRuntime) {
     let alloc = rt.alloc();
     let mut files = Files::new(alloc);
     let is_added = files.add("p.img", IMAGE).is_ok();
-    match read_config(alloc, TEXT) {
-        Ok(config) if is_added => check_formats(&rt, alloc, &config, &files),
+    match (
+        read_config(alloc, TEXT),
+        read_symbols(alloc, "00000000 T say\"hi\"\n"),
+    ) {
+        (Ok(config), Ok(named)) if is_added => check_formats(&rt, alloc, &config, &files, &named),
         _ => assert!(rt; false, "no memory"),
     }
 }

@@ -1,34 +1,60 @@
 //! What is written of pairs of configurations. What is wanted was worked out by hand. A helper that promises nothing is
 //! between each row and the calls that it tests.
 
-use ptk_config::read_config;
 use ptk_image::Files;
 use ptk_main_commands::answers::{run_with, trace_with};
 use ptk_main_commands::impacts::{Question, Release, impact_json_with, impact_with};
 use ptk_main_faults::Fault;
+use ptk_main_guests::{Config, config_of};
 use ptk_main_line::Format;
 use ptk_words::Tick;
-use std::alloc::Global;
-use std::test::Fail;
+use std::alloc::{AllocError, Global};
 
 // The table of partition p or q, whose image has two steps.
 const P: &str = "[[partition]]\nname = \"p\"\nimage = \"p.img\"\n";
 
 const Q: &str = "[[partition]]\nname = \"q\"\nimage = \"p.img\"\n";
 
+const FRAME: &str = "frame = 40\n";
+
 const NUMBERS: &str =
     "memory = 4096\nthreads = 4\nstack = 256\nmutexes = 4\nconds = 4\nkeys = 4\ninterval = 100\nring = 16\noutput = 64\ntrace = 16\n";
 
-// Half of the frame of 40 ticks.
-const P_FIRST: &str = "[[window]]\nstart = 0\nlength = 20\npartition = \"p\"\n";
+// The same partitions with other images, with bytes that are none, and with no image.
+const OTHER_P: &str = "[[partition]]\nname = \"p\"\nimage = \"other.img\"\n";
 
-const Q_SECOND: &str = "[[window]]\nstart = 20\nlength = 20\npartition = \"q\"\n";
+const BAD_P: &str = "[[partition]]\nname = \"p\"\nimage = \"bad.img\"\n";
+
+const MISSING_P: &str = "[[partition]]\nname = \"p\"\nimage = \"none.img\"\n";
+
+const BARE_Q: &str = "[[partition]]\nname = \"q\"\n";
+
+// Halves of the frame of 40 ticks, and both in its later half or further on.
+const FIRST: &str = "[[window]]\nstart = 0\nlength = 20\npartition = \"p\"\n";
+
+const SECOND: &str = "[[window]]\nstart = 20\nlength = 20\npartition = \"q\"\n";
+
+const P_SECOND: &str = "[[window]]\nstart = 20\nlength = 20\npartition = \"p\"\n";
+
+/// The same windows in the other half of a frame of 80 ticks.
+const AGAIN: &str =
+    "[[window]]\nstart = 40\nlength = 20\npartition = \"p\"\n[[window]]\nstart = 60\nlength = 20\npartition = \"q\"\n";
+
+/// Stages: the windows in another order from frame 3 on, swapped from frame 2 on, that of p moved from frame 1 on.
+const REORDERED: &str =
+    "[[plan]]\nfrom = 3\n[[plan.window]]\nstart = 20\nlength = 20\npartition = \"q\"\n[[plan.window]]\nstart = 0\nlength = 20\npartition = \"p\"\n";
+
+const SWAPPED: &str =
+    "[[plan]]\nfrom = 2\n[[plan.window]]\nstart = 0\nlength = 20\npartition = \"q\"\n[[plan.window]]\nstart = 20\nlength = 20\npartition = \"p\"\n";
+
+const MOVED: &str =
+    "[[plan]]\nfrom = 1\n[[plan.window]]\nstart = 20\nlength = 20\npartition = \"p\"\n";
 
 /// Both partitions in a frame of 40 ticks.
-const BOTH: [&str; 7] = ["frame = 40\n", P, NUMBERS, Q, NUMBERS, P_FIRST, Q_SECOND];
+const BOTH: [&str; 7] = [FRAME, P, NUMBERS, Q, NUMBERS, FIRST, SECOND];
 
 /// p alone, in the same window.
-const ALONE: [&str; 4] = ["frame = 40\n", P, NUMBERS, P_FIRST];
+const ALONE: [&str; 4] = [FRAME, P, NUMBERS, FIRST];
 
 // An image of two words, and the same with one bit other.
 const IMAGE: &[u8] = b"PTKI\x01\0\0\0\0\0\0\0\x08\0\0\0\0\0\0\0\0\0\0\0\x93\x08\0\0\x73\0\0\0";
@@ -66,49 +92,40 @@ const PILOT: Question<'static> = Question {
 /// An input byte of p, and numbers with more memory and a key less.
 const BYTE: &str = "input = [{ at = 5, bytes = [65] }]\n";
 
-const OTHER_NUMBERS: &str =
+const CHANGED: &str =
     "memory = 8192\nthreads = 4\nstack = 256\nmutexes = 4\nconds = 4\nkeys = 3\ninterval = 100\nring = 16\noutput = 64\ntrace = 16\n";
 
-// The images p.img, other.img, which has one other bit, the same under a name with a quotation mark, and bad.img, which
-// is none.
-fn files(alloc: Global) -> Result<Files, Fail> {
-    let mut files = Files::new(alloc);
-    files.add("p.img", IMAGE)?;
-    files.add("other.img", OTHER_IMAGE)?;
-    files.add("a\".img", OTHER_IMAGE)?;
-    files.add("bad.img", b"no image")?;
-    Ok(files)
+// The files: two images, of which the other one is there under a name with a quotation mark too, and one that is none.
+const FILES: [(&str, &[u8]); 4] = [
+    ("p.img", IMAGE),
+    ("other.img", OTHER_IMAGE),
+    ("a\".img", OTHER_IMAGE),
+    ("bad.img", b"no image"),
+];
+
+// These files.
+fn files_of(alloc: Global, files: &[(&str, &[u8])]) -> Result<Files, AllocError> {
+    let mut all = Files::new(alloc);
+    for (name, bytes) in files {
+        all.add(name, bytes)?;
+    }
+    Ok(all)
 }
 
-// Whether this is the answer to the case, in a format.
-fn is_answered(
+// Whether this is the answer to a case's question on the way from one release to another, in a format.
+fn is_answer(
     alloc: Global,
+    before: Release<'_, '_>,
+    after: Release<'_, '_>,
     case: &Case<'_>,
     format: Format,
-    files: &Files,
-) -> Result<bool, Fail> {
-    let (old, new) = (case.old.concat(alloc)?, case.new.concat(alloc)?);
-    let (old, new) = match (
-        read_config(alloc, old.as_str()),
-        read_config(alloc, new.as_str()),
-    ) {
-        (Ok(old), Ok(new)) => (old, new),
-        _ => return Ok(false),
-    };
-    let before = Release {
-        config: &old,
-        files,
-    };
-    let after = Release {
-        config: &new,
-        files,
-    };
+) -> bool {
     let mut out = Vec::new(alloc);
     let answer = match format {
         Format::Text => impact_with(alloc, before, after, case.question, &mut out),
         Format::Json => impact_json_with(alloc, before, after, case.question, &mut out),
     };
-    Ok(match (answer, &case.answer) {
+    match (answer, &case.answer) {
         (Ok(tally), Answer::SameRun(text)) => {
             tally.is_same_run() && out.as_slice() == text.as_bytes()
         }
@@ -117,22 +134,31 @@ fn is_answered(
         }
         (Err(fault), Answer::Refused(wanted)) => fault == *wanted && out.is_empty(),
         _ => false,
-    })
+    }
+}
+
+// Whether this is the answer to the case, in a format.
+fn is_answered(alloc: Global, case: &Case<'_>, format: Format, files: &Files) -> bool {
+    match (config_of(alloc, case.old), config_of(alloc, case.new)) {
+        (Some(old), Some(new)) => {
+            let before = Release {
+                config: &old,
+                files,
+            };
+            let after = Release {
+                config: &new,
+                files,
+            };
+            is_answer(alloc, before, after, case, format)
+        }
+        _ => false,
+    }
 }
 
 /// A frame twice as long, with its windows twice.
 const TWICE_THE_FRAME: Case<'static> = Case {
     old: &BOTH,
-    new: &[
-        "frame = 80\n",
-        P,
-        NUMBERS,
-        Q,
-        NUMBERS,
-        P_FIRST,
-        Q_SECOND,
-        "[[window]]\nstart = 40\nlength = 20\npartition = \"p\"\n[[window]]\nstart = 60\nlength = 20\npartition = \"q\"\n",
-    ],
+    new: &["frame = 80\n", P, NUMBERS, Q, NUMBERS, FIRST, SECOND, AGAIN],
     question: ALL,
     answer: Answer::SameRun(
         "p: unchanged\nq: unchanged\n2 unchanged, 0 unchanged but for the trace kept, 0 changed, 0 new, 0 gone\n",
@@ -142,16 +168,7 @@ const TWICE_THE_FRAME: Case<'static> = Case {
 /// A stage that repeats the table before it, in another order.
 const REPEATED_STAGE: Case<'static> = Case {
     old: &BOTH,
-    new: &[
-        "frame = 40\n",
-        P,
-        NUMBERS,
-        Q,
-        NUMBERS,
-        P_FIRST,
-        Q_SECOND,
-        "[[plan]]\nfrom = 3\n[[plan.window]]\nstart = 20\nlength = 20\npartition = \"q\"\n[[plan.window]]\nstart = 0\nlength = 20\npartition = \"p\"\n",
-    ],
+    new: &[FRAME, P, NUMBERS, Q, NUMBERS, FIRST, SECOND, REORDERED],
     question: ALL,
     answer: Answer::SameRun(
         "p: unchanged\nq: unchanged\n2 unchanged, 0 unchanged but for the trace kept, 0 changed, 0 new, 0 gone\n",
@@ -161,16 +178,7 @@ const REPEATED_STAGE: Case<'static> = Case {
 /// The windows swapped from frame 2 on, which begins at tick 80.
 const SWAPPED_WINDOWS: Case<'static> = Case {
     old: &BOTH,
-    new: &[
-        "frame = 40\n",
-        P,
-        NUMBERS,
-        Q,
-        NUMBERS,
-        P_FIRST,
-        Q_SECOND,
-        "[[plan]]\nfrom = 2\n[[plan.window]]\nstart = 0\nlength = 20\npartition = \"q\"\n[[plan.window]]\nstart = 20\nlength = 20\npartition = \"p\"\n",
-    ],
+    new: &[FRAME, P, NUMBERS, Q, NUMBERS, FIRST, SECOND, SWAPPED],
     question: ALL,
     answer: Answer::OtherRun(
         "p: changed\n  windows: tick 80: its own until 100 -> not its own\nq: changed\n  windows: tick 80: not its own -> its own until 100\n0 unchanged, 0 unchanged but for the trace kept, 2 changed, 0 new, 0 gone\n",
@@ -191,8 +199,8 @@ const EACH_KIND: Case<'static> = Case {
         NUMBERS,
         "[[partition]]\nname = \"t\"\n",
         NUMBERS,
-        P_FIRST,
-        "[[window]]\nstart = 20\nlength = 20\npartition = \"q\"\n",
+        FIRST,
+        SECOND,
         "[[window]]\nstart = 40\nlength = 16\npartition = \"s\"\n",
         "[[window]]\nstart = 56\nlength = 16\npartition = \"t\"\n",
     ],
@@ -201,14 +209,14 @@ const EACH_KIND: Case<'static> = Case {
         "[[partition]]\nname = \"r\"\n",
         NUMBERS,
         "[[partition]]\nname = \"pilot\"\nimage = 'a\".img'\n",
-        OTHER_NUMBERS,
+        CHANGED,
         "input = [{ at = 5, bytes = [65, 66] }]\n",
         "[[partition]]\nname = \"q\"\nimage = \"bad.img\"\n",
         NUMBERS,
         "[[partition]]\nname = \"t\"\n",
         "memory = 4096\nthreads = 4\nstack = 256\nmutexes = 4\nconds = 4\nkeys = 4\ninterval = 100\nring = 16\noutput = 64\ntrace = 64\n",
         "[[window]]\nstart = 0\nlength = 16\npartition = \"pilot\"\n",
-        "[[window]]\nstart = 20\nlength = 20\npartition = \"q\"\n",
+        SECOND,
         "[[window]]\nstart = 40\nlength = 16\npartition = \"r\"\n",
         "[[window]]\nstart = 56\nlength = 16\npartition = \"t\"\n",
     ],
@@ -225,7 +233,7 @@ const CASES: [Case<'static>; 20] = [
     // the sections in another order
     Case {
         old: &BOTH,
-        new: &["frame = 40\n", Q, NUMBERS, P, NUMBERS, P_FIRST, Q_SECOND],
+        new: &[FRAME, Q, NUMBERS, P, NUMBERS, FIRST, SECOND],
         question: ALL,
         answer: Answer::SameRun(
             "q: unchanged\n  place: 1 -> 0 (no change of behaviour)\np: unchanged\n  place: 0 -> 1 (no change of behaviour)\n2 unchanged, 0 unchanged but for the trace kept, 0 changed, 0 new, 0 gone\n",
@@ -235,11 +243,11 @@ const CASES: [Case<'static>; 20] = [
     Case {
         old: &ALONE,
         new: &[
-            "frame = 40\n",
+            FRAME,
             P,
             "trace = 64\n",
             "memory = 4096\nthreads = 4\nstack = 256\nmutexes = 4\nconds = 4\nkeys = 4\ninterval = 100\nring = 16\noutput = 64\n",
-            P_FIRST,
+            FIRST,
         ],
         question: ALL,
         answer: Answer::SameRun(
@@ -250,7 +258,7 @@ const CASES: [Case<'static>; 20] = [
     Case {
         old: &ALONE,
         new: &[
-            "frame = 40\n",
+            FRAME,
             "[[partition]]\nname = \"pilot\"\nimage = \"p.img\"\n",
             NUMBERS,
             "[[window]]\nstart = 0\nlength = 20\npartition = \"pilot\"\n",
@@ -276,16 +284,7 @@ const CASES: [Case<'static>; 20] = [
     // p's window moved to the second half from frame 1 on
     Case {
         old: &BOTH,
-        new: &[
-            "frame = 40\n",
-            P,
-            NUMBERS,
-            Q,
-            NUMBERS,
-            P_FIRST,
-            Q_SECOND,
-            "[[plan]]\nfrom = 1\n[[plan.window]]\nstart = 20\nlength = 20\npartition = \"p\"\n",
-        ],
+        new: &[FRAME, P, NUMBERS, Q, NUMBERS, FIRST, SECOND, MOVED],
         question: ALL,
         answer: Answer::OtherRun(
             "p: changed\n  windows: tick 40: its own until 60 -> not its own\nq: changed\n  windows: tick 60: its own until 80 -> not its own\n0 unchanged, 0 unchanged but for the trace kept, 2 changed, 0 new, 0 gone\n",
@@ -293,15 +292,9 @@ const CASES: [Case<'static>; 20] = [
     },
     // adjacent windows joined: the same ticks, other ends
     Case {
-        old: &[
-            "frame = 40\n",
-            P,
-            NUMBERS,
-            P_FIRST,
-            "[[window]]\nstart = 20\nlength = 20\npartition = \"p\"\n",
-        ],
+        old: &[FRAME, P, NUMBERS, FIRST, P_SECOND],
         new: &[
-            "frame = 40\n",
+            FRAME,
             P,
             NUMBERS,
             "[[window]]\nstart = 0\nlength = 40\npartition = \"p\"\n",
@@ -314,12 +307,7 @@ const CASES: [Case<'static>; 20] = [
     // one bit of an image, the highest of its last byte
     Case {
         old: &ALONE,
-        new: &[
-            "frame = 40\n",
-            "[[partition]]\nname = \"p\"\nimage = \"other.img\"\n",
-            NUMBERS,
-            P_FIRST,
-        ],
+        new: &[FRAME, OTHER_P, NUMBERS, FIRST],
         question: ALL,
         answer: Answer::OtherRun(
             "p: changed\n  image: other bytes from offset 31\n  file: p.img -> other.img (no change of behaviour)\n0 unchanged, 0 unchanged but for the trace kept, 1 changed, 0 new, 0 gone\n",
@@ -328,12 +316,7 @@ const CASES: [Case<'static>; 20] = [
     // an image that is none
     Case {
         old: &ALONE,
-        new: &[
-            "frame = 40\n",
-            "[[partition]]\nname = \"p\"\nimage = \"bad.img\"\n",
-            NUMBERS,
-            P_FIRST,
-        ],
+        new: &[FRAME, BAD_P, NUMBERS, FIRST],
         question: ALL,
         answer: Answer::OtherRun(
             "p: changed\n  image: other bytes from offset 0\n  image: not refused -> refused, fault 1\n  file: p.img -> bad.img (no change of behaviour)\n0 unchanged, 0 unchanged but for the trace kept, 1 changed, 0 new, 0 gone\n",
@@ -341,13 +324,13 @@ const CASES: [Case<'static>; 20] = [
     },
     // an input byte one tick later
     Case {
-        old: &["frame = 40\n", P, NUMBERS, BYTE, P_FIRST],
+        old: &[FRAME, P, NUMBERS, BYTE, FIRST],
         new: &[
-            "frame = 40\n",
+            FRAME,
             P,
             NUMBERS,
             "input = [{ at = 6, bytes = [65] }]\n",
-            P_FIRST,
+            FIRST,
         ],
         question: ALL,
         answer: Answer::OtherRun(
@@ -356,13 +339,13 @@ const CASES: [Case<'static>; 20] = [
     },
     // an input byte more, and less room
     Case {
-        old: &["frame = 40\n", P, NUMBERS, BYTE, P_FIRST],
+        old: &[FRAME, P, NUMBERS, BYTE, FIRST],
         new: &[
-            "frame = 40\n",
+            FRAME,
             P,
-            OTHER_NUMBERS,
+            CHANGED,
             "input = [{ at = 5, bytes = [65, 66] }]\n",
-            P_FIRST,
+            FIRST,
         ],
         question: ALL,
         answer: Answer::OtherRun(
@@ -390,15 +373,7 @@ const CASES: [Case<'static>; 20] = [
     // a neighbour replaced by one that has no image
     Case {
         old: &BOTH,
-        new: &[
-            "frame = 40\n",
-            P,
-            NUMBERS,
-            "[[partition]]\nname = \"q\"\n",
-            NUMBERS,
-            P_FIRST,
-            Q_SECOND,
-        ],
+        new: &[FRAME, P, NUMBERS, BARE_Q, NUMBERS, FIRST, SECOND],
         question: ALL,
         answer: Answer::OtherRun(
             "p: unchanged\nq: changed\n  image: one -> none\n1 unchanged, 0 unchanged but for the trace kept, 1 changed, 0 new, 0 gone\n",
@@ -407,12 +382,7 @@ const CASES: [Case<'static>; 20] = [
     // an image that is not there, and names that no partition has
     Case {
         old: &ALONE,
-        new: &[
-            "frame = 40\n",
-            "[[partition]]\nname = \"p\"\nimage = \"none.img\"\n",
-            NUMBERS,
-            P_FIRST,
-        ],
+        new: &[FRAME, MISSING_P, NUMBERS, FIRST],
         question: ALL,
         answer: Answer::Refused(Fault::MissingFile("none.img")),
     },
@@ -446,15 +416,15 @@ const CASES: [Case<'static>; 20] = [
 ];
 
 #[test]
-fn a_question_is_answered(rt: HostRuntime) -> Result<(), Fail> {
-    let files = files(rt.alloc())?;
+fn a_question_is_answered(rt: HostRuntime) -> Result<(), AllocError> {
+    let files = files_of(rt.alloc(), &FILES)?;
     for (place, case) in CASES.iter().enumerate() {
         assert!(rt;
-            is_answered(rt.alloc(), case, Format::Text, &files)?,
+            is_answered(rt.alloc(), case, Format::Text, &files),
             "{place}"
         );
     }
-    assert!(rt; is_answered(rt.alloc(), &EACH_KIND, Format::Json, &files)?);
+    assert!(rt; is_answered(rt.alloc(), &EACH_KIND, Format::Json, &files));
     Ok(())
 }
 
@@ -465,51 +435,46 @@ const COUNTING_IMAGE: &[u8] =
 // Ticks in windows of p and of q, in the first frame and in later ones: frame 3 begins at tick 120.
 const TICKS: [u32; 4] = [30, 50, 130, 155];
 
-// The report at a tick and the traces of p and q there, one after the other, where p.img counts. None where the text is
-// refused.
-fn run_of(alloc: Global, text: &[&str], tick: u32) -> Result<Option<Vec<u8>>, Fail> {
-    let mut files = Files::new(alloc);
-    files.add("p.img", COUNTING_IMAGE)?;
-    let text = text.concat(alloc)?;
-    let Ok(config) = read_config(alloc, text.as_str()) else {
-        return Ok(None);
-    };
+// Whether the report at a tick and the traces of p and q there are written, one after the other.
+fn is_run(alloc: Global, config: &Config, files: &Files, tick: u32, out: &mut Vec<u8>) -> bool {
     let tick = Tick::new(u64::from(tick));
+    run_with(alloc, config, files, tick, out).is_ok()
+        && trace_with(alloc, config, files, tick, "p", out).is_ok()
+        && trace_with(alloc, config, files, tick, "q", out).is_ok()
+}
+
+// What is written then, None where the text is refused.
+fn run_of(alloc: Global, text: &[&str], files: &Files, tick: u32) -> Option<Vec<u8>> {
+    let config = config_of(alloc, text)?;
     let mut out = Vec::new(alloc);
-    let is_run = run_with(alloc, &config, &files, tick, &mut out).is_ok();
-    let is_p = trace_with(alloc, &config, &files, tick, "p", &mut out).is_ok();
-    let is_q = trace_with(alloc, &config, &files, tick, "q", &mut out).is_ok();
-    if is_run && is_p && is_q {
-        Ok(Some(out))
-    } else {
-        Ok(None)
-    }
+    let is_written = is_run(alloc, &config, files, tick, &mut out);
+    if is_written { Some(out) } else { None }
 }
 
 // Whether both configurations of the case have the same report and traces at a tick, None where a text is refused.
-fn runs_alike(alloc: Global, case: &Case<'_>, tick: u32) -> Result<Option<bool>, Fail> {
+fn runs_alike(alloc: Global, case: &Case<'_>, files: &Files, tick: u32) -> Option<bool> {
     match (
-        run_of(alloc, case.old, tick)?,
-        run_of(alloc, case.new, tick)?,
+        run_of(alloc, case.old, files, tick),
+        run_of(alloc, case.new, files, tick),
     ) {
-        (Some(old), Some(new)) => Ok(Some(old == new)),
-        _ => Ok(None),
+        (Some(old), Some(new)) => Some(old == new),
+        _ => None,
     }
 }
 
 // The tables written otherwise leave each report and trace as it is; the windows swapped do not.
 #[test]
-fn an_unchanged_partition_runs_alike(rt: HostRuntime) -> Result<(), Fail> {
+fn an_unchanged_partition_runs_alike(rt: HostRuntime) -> Result<(), AllocError> {
+    let alloc = rt.alloc();
+    let files = files_of(alloc, &[("p.img", COUNTING_IMAGE)])?;
     for tick in TICKS {
-        assert!(rt;
-            runs_alike(rt.alloc(), &TWICE_THE_FRAME, tick)? == Some(true),
-            "{tick}"
-        );
-        assert!(rt;
-            runs_alike(rt.alloc(), &REPEATED_STAGE, tick)? == Some(true),
-            "{tick}"
-        );
+        for case in [&TWICE_THE_FRAME, &REPEATED_STAGE] {
+            assert!(rt;
+                runs_alike(alloc, case, &files, tick) == Some(true),
+                "{tick}"
+            );
+        }
     }
-    assert!(rt; runs_alike(rt.alloc(), &SWAPPED_WINDOWS, 130)? == Some(false));
+    assert!(rt; runs_alike(alloc, &SWAPPED_WINDOWS, &files, 130) == Some(false));
     Ok(())
 }
