@@ -44,15 +44,26 @@ impl<'a> Place<'a> {
 }
 
 /// A member of an object: its name, and its value, without which it is left out.
-#[derive(Clone, Copy)]
-struct Member<'a> {
-    name: &'static str,
-    value: Option<Value<'a>>,
-}
+type Member<'a> = (&'static str, Value<'a>);
 
-/// The value of a member.
+/// The value of a member, if it has one.
 #[derive(Clone, Copy)]
 enum Value<'a> {
+    /// A number.
+    Number(Option<u64>),
+    /// A byte.
+    Byte(Option<u8>),
+    /// A word.
+    Word(Option<u32>),
+    /// A text.
+    Text(Option<&'a str>),
+    /// A fact, which is a value where it holds.
+    Fact(bool),
+}
+
+/// A value that there is.
+#[derive(Clone, Copy)]
+enum Shown<'a> {
     /// A number.
     Number(u64),
     /// A text.
@@ -61,45 +72,19 @@ enum Value<'a> {
     Yes,
 }
 
-impl<'a> Member<'a> {
-    /// A number, if there is one.
-    fn number(name: &'static str, number: Option<u64>) -> Member<'a> {
-        Member {
-            name,
-            value: number.map(|number| Value::Number(number)),
-        }
-    }
-
-    /// A byte, if there is one.
-    fn byte(name: &'static str, byte: Option<u8>) -> Member<'a> {
-        Member {
-            name,
-            value: byte.map(|byte| Value::Number(u64::from(byte))),
-        }
-    }
-
-    /// A word, if there is one.
-    fn word(name: &'static str, word: Option<u32>) -> Member<'a> {
-        Member {
-            name,
-            value: word.map(|word| Value::Number(u64::from(word))),
-        }
-    }
-
-    /// A text, if there is one.
-    fn text(name: &'static str, text: Option<&'a str>) -> Member<'a> {
-        Member {
-            name,
-            value: text.map(|text| Value::Text(text)),
-        }
-    }
-
-    /// True, where the fact holds.
-    fn fact(name: &'static str, holds: bool) -> Member<'a> {
-        Member {
-            name,
-            value: holds.then_some(Value::Yes),
-        }
+/// The value of a member that has one.
+fn shown_of(value: Value<'_>) -> Option<Shown<'_>> {
+    match value {
+        Value::Number(Some(number)) => Some(Shown::Number(number)),
+        Value::Byte(Some(byte)) => Some(Shown::Number(u64::from(byte))),
+        Value::Word(Some(word)) => Some(Shown::Number(u64::from(word))),
+        Value::Text(Some(text)) => Some(Shown::Text(text)),
+        Value::Fact(true) => Some(Shown::Yes),
+        Value::Number(None)
+        | Value::Byte(None)
+        | Value::Word(None)
+        | Value::Text(None)
+        | Value::Fact(false) => None,
     }
 }
 
@@ -268,11 +253,10 @@ fn push_head(
 /// Appends an object of the members that have a value, in the compact form.
 fn push_members(alloc: Global, out: &mut String, members: &[Member<'_>]) -> Result<(), AllocError> {
     let mut before = "{";
-    for member in members {
-        if let Some(value) = &member.value {
-            let name = member.name;
+    for (name, value) in members {
+        if let Some(value) = shown_of(*value) {
             write!(out, "{before}\"{name}\":")?;
-            push_value(alloc, out, value)?;
+            push_shown(alloc, out, value)?;
             before = ",";
         }
     }
@@ -280,11 +264,11 @@ fn push_members(alloc: Global, out: &mut String, members: &[Member<'_>]) -> Resu
 }
 
 /// Appends the value of a member.
-fn push_value(alloc: Global, out: &mut String, value: &Value<'_>) -> Result<(), AllocError> {
+fn push_shown(alloc: Global, out: &mut String, value: Shown<'_>) -> Result<(), AllocError> {
     match value {
-        Value::Number(number) => write!(out, "{number}"),
-        Value::Text(text) => push_text(alloc, out, text),
-        Value::Yes => out.push_str("true"),
+        Shown::Number(number) => write!(out, "{number}"),
+        Shown::Text(text) => push_text(alloc, out, text),
+        Shown::Yes => out.push_str("true"),
     }
 }
 
@@ -308,19 +292,28 @@ fn push_stop(
         Some(statement) => Some(statement.as_str()),
         None => None,
     };
-    let members = [
-        Member::text("kind", Some(cause_word(stop.cause))),
-        Member::number("tick", Some(stop.step.tick.ticks())),
-        Member::byte("thread", Some(stop.step.thread.number())),
-        Member::word("pc", Some(stop.step.pc)),
-        Member::text("symbol", place.symbol),
-        Member::word("offset", place.offset),
-        Member::text("instruction", instruction),
-        Member::word("address", stop.address),
-    ];
+    let members = stop_members(stop, place, instruction);
     out.push_str(",\"fault\":")?;
     push_members(alloc, out, &members)?;
     push_registers(out, &stop.cpu)
+}
+
+/// The members of what stopped a partition.
+fn stop_members<'a>(
+    stop: &Stop,
+    place: Place<'a>,
+    instruction: Option<&'a str>,
+) -> [Member<'a>; 8] {
+    [
+        ("kind", Value::Text(Some(cause_word(stop.cause)))),
+        ("tick", Value::Number(Some(stop.step.tick.ticks()))),
+        ("thread", Value::Byte(Some(stop.step.thread.number()))),
+        ("pc", Value::Word(Some(stop.step.pc))),
+        ("symbol", Value::Text(place.symbol)),
+        ("offset", Value::Word(place.offset)),
+        ("instruction", Value::Text(instruction)),
+        ("address", Value::Word(stop.address)),
+    ]
 }
 
 /// Appends the registers, by number from 0.
@@ -373,28 +366,31 @@ fn push_thread(
     let pc = facts.pc();
     let place = Place::of(symbols, pc);
     let stack_pointer = pc.map(|_| facts.thread.cpu.register(SP));
+    let least = facts.history.least_stack;
     let mutex = MutexMembers::of(&facts.awaited);
+    let thread = &facts.thread;
+    let (policy, assigned) = (policy_name(thread.policy), thread.priority.level());
     let members = [
-        Member::byte("thread", Some(facts.number.number())),
-        Member::text("activity", Some(target.activity)),
-        Member::number("since", Some(facts.history.since)),
-        Member::byte("mutex", target.mutex),
-        Member::byte("owner", owner_number(facts)),
-        Member::text("mutex_type", mutex.kind),
-        Member::text("mutex_protocol", mutex.protocol),
-        Member::byte("mutex_ceiling", mutex.ceiling),
-        Member::byte("condition", target.condition),
-        Member::byte("joins", target.joins),
-        Member::number("deadline", target.deadline),
-        Member::text("policy", Some(policy_name(facts.thread.policy))),
-        Member::byte("assigned_priority", Some(facts.thread.priority.level())),
-        Member::byte("effective_priority", Some(facts.effective)),
-        Member::word("pc", pc),
-        Member::text("symbol", place.symbol),
-        Member::word("offset", place.offset),
-        Member::word("stack_pointer", stack_pointer),
-        Member::word("least_stack_pointer", facts.history.least_stack),
-        Member::fact("cancel_pending", facts.is_cancel_pending),
+        ("thread", Value::Byte(Some(facts.number.number()))),
+        ("activity", Value::Text(Some(target.activity))),
+        ("since", Value::Number(Some(facts.history.since))),
+        ("mutex", Value::Byte(target.mutex)),
+        ("owner", Value::Byte(owner_number(facts))),
+        ("mutex_type", Value::Text(mutex.kind)),
+        ("mutex_protocol", Value::Text(mutex.protocol)),
+        ("mutex_ceiling", Value::Byte(mutex.ceiling)),
+        ("condition", Value::Byte(target.condition)),
+        ("joins", Value::Byte(target.joins)),
+        ("deadline", Value::Number(target.deadline)),
+        ("policy", Value::Text(Some(policy))),
+        ("assigned_priority", Value::Byte(Some(assigned))),
+        ("effective_priority", Value::Byte(Some(facts.effective))),
+        ("pc", Value::Word(pc)),
+        ("symbol", Value::Text(place.symbol)),
+        ("offset", Value::Word(place.offset)),
+        ("stack_pointer", Value::Word(stack_pointer)),
+        ("least_stack_pointer", Value::Word(least)),
+        ("cancel_pending", Value::Fact(facts.is_cancel_pending)),
     ];
     push_members(alloc, out, &members)
 }
