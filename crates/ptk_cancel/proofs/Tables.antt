@@ -1,12 +1,12 @@
 -- The tables after a change of one partition, and those made for each section.
-use Rattle.std.proofs.Common.{◌≡◌, ℕ, zero, suc, List, [], ◌∷◌, length, map, refl, ap}
 use Rattle.std.proofs.lemmas.List.{length-map, length-set}
+use Rattle.ptk_words.proofs.Pools.{length-update}
 use Rattle.ptk_words_parted.proofs.Cuts.{lent-same, set_part-same}
-use Rattle.ptk_words_parted.proofs.Entries.{length-pool_update, filled_per}
+use Rattle.ptk_words_parted.proofs.Entries.{filled_per}
 
 -- ---- lengths
 
-pub ruleset tables = (lent-same, length-set, set_part-same, length-pool_update)
+pub ruleset tables = (lent-same, length-set, set_part-same, length-update)
 
 -- ---- made for each section
 

@@ -7,9 +7,9 @@ use Rattle.std.proofs.lemmas.Map.Keys.{IsDistinct-cons, IsDistinct-head, IsDisti
 use Rattle.std.proofs.lemmas.Map.Steps.{length-le_from_distinct_below}
 use Rattle.std.proofs.lemmas.Bool.{or_parts, or_cases, or_right}
 use Rattle.ptk_words.specs.Pools.{is_in}
+use Rattle.ptk_words.proofs.Lists.{none_distinct, apart_from_out}
 use Rattle.ptk_clock.specs.Pairs.{Pair, slots_of, is_before, IsBeforeAll, AreInOrder, with_pair, without_slot}
 use Rattle.ptk_clock.specs.Queues.{AreDeadlines}
-use Rattle.ptk_words_parted.proofs.Lists.{apart_from_out, none_distinct}
 
 by_test : (P : List Pair → Type 0) (b : Bool) (xs ys : List Pair) → (b ≡ true → P xs) → (b ≡ false → P ys) → P (cond b xs ys)
 by_test P true xs ys f g = f refl

@@ -5,6 +5,7 @@ use Rattle.std.proofs.lemmas.List.{set-set}
 use Rattle.ptk_words.specs.Pools.{pool_get, pool_changed, numbers_of, numbers_to}
 use Rattle.ptk_words.specs.declared.threads.Thread.{Thread}
 use Rattle.ptk_words.specs.declared.threads.Wait.{Wait}
+use Rattle.ptk_words.proofs.Pools.{length-changed}
 use Rattle.ptk_words_model.specs.State.{Locks, Mutex}
 use Rattle.ptk_words_model.specs.Chain.{greatest_leading}
 use Rattle.ptk_words_model.specs.Priority.{awaited, thread_at, ceiling_for, held_of, inheritor_of, next_in_chain, effective_priorities}
@@ -12,7 +13,6 @@ use Rattle.ptk_words.specs.Threads.{mutex_of_wait}
 use Rattle.ptk_words_model.specs.Schedule.{with_thread}
 use Rattle.ptk_threads.specs.Table.{ThreadTable, with_changed, with_wait}
 use Rattle.ptk_threads.proofs.Pools.{part_of-set}
-use Rattle.ptk_threads.proofs.Slots.{length-pool_changed}
 use Rattle.ptk_mutex.specs.Tables.{with_threads}
 use Rattle.ptk_words_sync_invariant.proofs.MutexPlaces.{pool_set_same}
 
@@ -40,7 +40,7 @@ effective_asleep t wait threads mutexes e none =
     let now : List (Option Thread) = pool_changed t (with_wait wait) threads in
     let next : next_in_chain now mutexes ≡ next_in_chain threads mutexes = λ i k. next_asleep t k wait threads mutexes e none i in
     let held : held_of now mutexes ≡ held_of threads mutexes = λ i k. held_asleep t k wait threads mutexes i in
-    ap (λ (n : ℕ). map (greatest_leading n (next_in_chain now mutexes) (held_of now mutexes)) (numbers_to n)) (length-pool_changed t (with_wait wait) threads)
+    ap (λ (n : ℕ). map (greatest_leading n (next_in_chain now mutexes) (held_of now mutexes)) (numbers_to n)) (length-changed t (with_wait wait) threads)
     ∙ ap (λ (f : ℕ → Option ℕ). map (greatest_leading (length threads) f (held_of now mutexes)) (numbers_of threads)) next
     ∙ ap (λ (f : ℕ → ℕ). map (greatest_leading (length threads) (next_in_chain threads mutexes) f) (numbers_of threads)) held
 

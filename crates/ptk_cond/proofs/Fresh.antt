@@ -4,6 +4,7 @@ use Rattle.std.specs.Prelude.{Option, Some, None, option_map, unwrap_or}
 use Rattle.std.proofs.Math.ListN.{set}
 use Rattle.std.proofs.lemmas.List.{length-set}
 use Rattle.ptk_words.specs.Pools.{pool_get, pool_set, is_in, least_free}
+use Rattle.ptk_words.proofs.Pools.{least_free_none}
 use Rattle.ptk_words_parted.specs.Parts.{part_of}
 use Rattle.ptk_words_parted.proofs.Cuts.{set_part-same}
 use Rattle.ptk_words_model.specs.State.{Condition, Mutex}
@@ -12,7 +13,6 @@ use Rattle.ptk_threads.specs.Table.{ThreadTable}
 use Rattle.ptk_threads.proofs.Pools.{part_of-set}
 use Rattle.ptk_mutex.specs.SyncRosters.{Rostered}
 use Rattle.ptk_mutex.specs.Waiters.{condition_of}
-use Rattle.ptk_mutex.proofs.Pool.{least_free_is}
 use Rattle.ptk_words_sync_invariant.proofs.MutexPlaces.{pool_set_same}
 use Rattle.ptk_mutex.specs.Sound.{IsSound}
 use Rattle.ptk_cond.proofs.Steps.{of_part, AreSyncedAt, put_none, sound_put}
@@ -40,7 +40,7 @@ synced_new : (p : ℕ) (o : Option ℕ) (table : ThreadTable) (lines : List (Lis
     → AreSyncedBy p table lines mutexes (set conditions p (unwrap_or (option_map (λ c. pool_set (part_of conditions p) c (Some (condition_of []))) o) (part_of conditions p)))
 synced_new p None table lines mutexes conditions e synced = rw (set_part-same conditions p) synced
 synced_new p (Some c) table lines mutexes conditions e synced =
-    synced_set p c (Some (condition_of [])) table lines mutexes conditions (ap waiters_on (least_free_is (part_of conditions p) c e)) refl synced
+    synced_set p c (Some (condition_of [])) table lines mutexes conditions (ap waiters_on (least_free_none (part_of conditions p) c e)) refl synced
 
 -- init leaves the tables so
 pub synced_init : (p : ℕ) (table : ThreadTable) (lines : List (List ℕ)) (mutexes : List (List (Option Mutex))) (conditions : List (List (Option Condition))) → AreSyncedBy p table lines mutexes conditions

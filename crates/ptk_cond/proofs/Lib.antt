@@ -11,5 +11,4 @@ pub use Rattle.ptk_mutex.proofs.Moved
 pub use Rattle.ptk_mutex.proofs.Raised
 pub use Rattle.ptk_mutex.proofs.Sound
 pub use Rattle.ptk_mutex.proofs.Steps as LockSteps
-pub use Rattle.ptk_mutex.proofs.Pool as LockPools
 pub use Rattle.ptk_mutex.proofs.Ready

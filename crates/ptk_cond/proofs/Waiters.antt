@@ -4,10 +4,13 @@ use Rattle.std.specs.Prelude.{Option, Some, None, IsSome, option_map, slice_get}
 use Rattle.std.specs.Option.{option_flatten}
 use Rattle.std.proofs.Math.ListN.{set}
 use Rattle.std.proofs.lemmas.Bool.{cases_eq}
+use Rattle.std.proofs.lemmas.Option.{same_Some}
 use Rattle.ptk_words.specs.Pools.{pool_get, pool_set, is_in, without, first_of_greatest}
 use Rattle.ptk_words.specs.declared.threads.Thread.{Thread}
 use Rattle.ptk_words.specs.declared.threads.Wait.{Wait}
 use Rattle.ptk_words.specs.declared.threads.Wait.TheVariants.{ConditionWait}
+use Rattle.ptk_words.proofs.Lists.{in_push, in_without, first_in}
+use Rattle.ptk_words.proofs.Pools.{changed_own, changed_other}
 use Rattle.ptk_words_model.specs.State.{Condition, Locks, Syncs}
 use Rattle.ptk_words_model.specs.Priority.{awaited, thread_at, effective_priority, effective_priorities}
 use Rattle.ptk_words_model.specs.Schedule.{with_thread}
@@ -15,12 +18,11 @@ use Rattle.ptk_words_model.specs.Mutex.{mutex_at, wait_of, after_unlock, after_r
 use Rattle.ptk_words_model.specs.Condition.{condition_waiters, mutex_of_condition_wait, after_condition_wait, after_unblock_for, waiters_on}
 use Rattle.ptk_words_sync_invariant.specs.Conditions.{HasRoom}
 use Rattle.ptk_words.specs.Threads.{condition_of_wait}
-use Rattle.ptk_words_sync_invariant.proofs.Lines.{in_push, in_without, first_in}
 use Rattle.ptk_threads.specs.Table.{stored_of}
-use Rattle.ptk_threads.proofs.Pools.{pool_get-changed, pool_get-changed_other, pool_get-set_other}
+use Rattle.ptk_threads.proofs.Pools.{pool_get-set_other}
 use Rattle.ptk_mutex.specs.Waiters.{condition_of}
 use Rattle.ptk_mutex.specs.Tables.{AreLocked}
-use Rattle.ptk_mutex.proofs.Locked.{stored_first, some_same, other_than}
+use Rattle.ptk_mutex.proofs.Locked.{stored_first, other_than}
 use Rattle.ptk_mutex.proofs.Apart.{calm_unlock, below_unlock, apart_more, apart_thread, apart_unlock, apart_relock, kept_waiter, may_relock}
 use Rattle.ptk_mutex.proofs.Awake.{awake_none, awake_other}
 use Rattle.ptk_cond.specs.Tables.{IsOnCondition, AreWaiting, IsAwake, MayLeave, next_waiter}
@@ -31,7 +33,7 @@ use Rattle.ptk_cond.specs.Tables.{IsOnCondition, AreWaiting, IsAwake, MayLeave, 
 other_waiter : (c d t k : ℕ) (locks : Locks) → IsOnCondition locks c t → IsOnCondition locks d k → d ≢ c → k ≢ t
 other_waiter c d t k locks first second ne = λ same.
     let own : condition_of_wait (wait_of (thread_at locks t)) ≡ Some d = subst (λ (j : ℕ). condition_of_wait (wait_of (thread_at locks j)) ≡ Some d) same second.waits in
-    ne (some_same d c (sym own ∙ first.waits))
+    ne (same_Some d c (sym own ∙ first.waits))
 
 -- ---- the waiters of one condition variable replaced
 
@@ -76,7 +78,7 @@ asleep_at c m deadline None used = let no : ⊥ = cc in absurd no
 asleep_at c m deadline (Some thread) used = refl
 
 named_same : (n m : ℕ) (wait : Option Wait) (c : ℕ) (deadline : Option ℕ) → wait ≡ Some (ConditionWait c m deadline) → mutex_of_condition_wait wait ≡ Some n → n ≡ m
-named_same n m wait c deadline e named = some_same n m (sym named ∙ ap mutex_of_condition_wait e)
+named_same n m wait c deadline e named = same_Some n m (sym named ∙ ap mutex_of_condition_wait e)
 
 -- the thread itself
 sleeper_waits : (t c m : ℕ) (deadline : Option ℕ) (locks : Locks) → IsAwake locks t → AreLocked locks → IsOnCondition (with_thread t (λ thread. record thread { wait = Some (ConditionWait c m deadline) }) (after_unlock m locks)) c t
@@ -85,7 +87,7 @@ sleeper_waits t c m deadline locks may locked =
     let calm = calm_unlock m locks locked in
     let used : IsSome (thread_at (after_unlock m locks) t) = subst (λ (x : Option Thread). IsSome x) (sym (calm.threads t none)) may.used in
     let now : wait_of (thread_at (with_thread t (λ thread. record thread { wait = Some (ConditionWait c m deadline) }) (after_unlock m locks)) t) ≡ Some (ConditionWait c m deadline) =
-    ap wait_of (pool_get-changed t (λ (thread : Thread). record thread { wait = Some (ConditionWait c m deadline) }) (after_unlock m locks).threads) ∙ asleep_at c m deadline (thread_at (after_unlock m locks) t) used in
+    ap wait_of (changed_own t (λ (thread : Thread). record thread { wait = Some (ConditionWait c m deadline) }) (after_unlock m locks).threads) ∙ asleep_at c m deadline (thread_at (after_unlock m locks) t) used in
     record {
       waits = ap condition_of_wait now;
       out = calm.out t none may.out;
@@ -124,7 +126,7 @@ pub locked_sleep : (t : ℕ) (wait : Option Wait) (locks : Locks) → awaited (t
 locked_sleep t wait locks none locked = record {
   waiters = λ n k h.
       let was = locked.waiters n k h in
-      record { waits = ap awaited (pool_get-changed_other t k (λ (thread : Thread). record thread { wait = wait }) locks.threads (other_than n t k locks none was)) ∙ was.waits; out = was.out; inside = h };
+      record { waits = ap awaited (changed_other t k (λ (thread : Thread). record thread { wait = wait }) locks.threads (other_than n t k locks none was)) ∙ was.waits; out = was.out; inside = h };
   counts = locked.counts;
 }
 

@@ -77,12 +77,12 @@ in_order windows later are =
     (not_from_false (some_pair is_not_later (top ∷ later)) (none_pair (top ∷ later) (AllPairs-cons (λ s u. s.from < u.from) top later after are.rising)))
 
 -- what was read before, where all was read
-record IsRead {A B : Type 0} (c : Checked A) (f : A → Checked B) (b : B) : Type 0 where
-  value : A
-  first : c ≡ Ok value
-  rest : f value ≡ Ok b
+pub record IsRead {A B : Type 0} (c : Checked A) (f : A → Checked B) (b : B) : Type 0 where
+  pub value : A
+  pub first : c ≡ Ok value
+  pub rest : f value ≡ Ok b
 
-read_before : {A B : Type 0} (c : Checked A) (f : A → Checked B) (b : B) → (c >>= f) ≡ Ok b → IsRead c f b
+pub read_before : {A B : Type 0} (c : Checked A) (f : A → Checked B) (b : B) → (c >>= f) ≡ Ok b → IsRead c f b
 read_before (Ok a) f b is = record { value = a; first = refl; rest = is }
 read_before (Err e) f b is = absurd cc
 

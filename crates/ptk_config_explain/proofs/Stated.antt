@@ -1,25 +1,15 @@
 -- The windows of a configuration are those that its document states.
-use Rattle.std.proofs.Common.{◌≡◌, ◌∙◌, not, List, [], ◌∷◌, Option, Some, None, Ok, Err, refl, sym, ap, codes}
+use Rattle.std.proofs.Common.{◌≡◌, ◌∙◌, not, List, [], ◌∷◌, Option, Some, None, Ok, sym, ap, codes}
 use Rattle.toml.specs.Data.{Items, Members, get_member}
 use Rattle.ptk_words_windows.specs.declared.fault.WindowFault.{WindowFault}
 use Rattle.ptk_words_windows.specs.declared.window.Window.{Window}
 use Rattle.ptk_words_windows.specs.Windows.{Stage}
 use Rattle.ptk_config.specs.declared.fault.ConfigFault.TheVariants.{DoubledName, UnknownKey}
-use Rattle.ptk_config.specs.Reading.{Checked, ◌>>=◌, are_known, array, number, only, tested}
+use Rattle.ptk_config.specs.Reading.{Checked, are_known, array, number, only, tested}
 use Rattle.ptk_config.specs.Sections.{Section, sections_in}
 use Rattle.ptk_config.specs.Windows.{stages_of, windows_in}
 use Rattle.ptk_config.specs.Configuration.{Configuration, any_doubled, configuration, fault_or}
-use Rattle.ptk_config.proofs.Order.{tested-ok}
-
--- what was read before, where all was read
-record IsRead {A B : Type 0} (c : Checked A) (f : A → Checked B) (b : B) : Type 0 where
-  value : A
-  first : c ≡ Ok value
-  rest : f value ≡ Ok b
-
-read_before : {A B : Type 0} (c : Checked A) (f : A → Checked B) (b : B) → (c >>= f) ≡ Ok b → IsRead c f b
-read_before (Ok a) f b is = record { value = a; first = refl; rest = is }
-read_before (Err e) f b is = absurd cc
+use Rattle.ptk_config.proofs.Order.{tested-ok, read_before}
 
 -- one value was read
 ok-same : {A : Type 0} (c : Checked A) (a b : A) → c ≡ Ok a → c ≡ Ok b → a ≡ b

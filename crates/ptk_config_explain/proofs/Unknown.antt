@@ -3,13 +3,10 @@ use Rattle.std.proofs.Common.{map, Bool, true, false, not, Bor, String, Global, 
 use Rattle.std.specs.Prelude.{option_map}
 use Rattle.std.specs.List.{list_any, find, range_with_len}
 use Rattle.std.specs.Str.{bytes_eq}
+use Rattle.ptk_config.proofs.Walks.{list_any-map}
 use Rattle.toml.specs.View.{members_view}
 use Rattle.toml.specs.declared.value.Value.{Value}
 use Rattle.ptk_config_explain.specs.Reasons.{first_unknown, first_above}
-
-list_any-map : (p : List ℕ → Bool) (ks : List (Bor (List ℕ))) → list_any p (map (λ k. k.now) ks) ≡ list_any (λ k. p k.now) ks
-list_any-map p [] = refl
-list_any-map p (k ∷ ks) = rw (list_any-map p ks)
 
 -- the first key of a map that is none of these, beside its members
 pub unknown-key : (ks : List (Bor (List ℕ))) (es : List (String Global × Value))

@@ -1,18 +1,14 @@
 -- A search over a list from an index on.
-use Rattle.std.proofs.Common.{◌≡◌, ◌∙◌, ℕ, zero, suc, ◌+◌, ◌<◌, ◌≤◌, Bool, true, false, List, [], ◌∷◌, length, take, drop, ◌-◌, get_or, map, if◌then◌else◌, refl, sym, ap, arith, add-one}
+use Rattle.std.proofs.Common.{◌≡◌, ◌∙◌, ℕ, ◌+◌, ◌<◌, ◌≤◌, Bool, true, false, List, [], ◌∷◌, length, take, drop, ◌-◌, get_or, map, if◌then◌else◌, refl, sym, ap, arith}
 use Rattle.std.specs.Prelude.{is_some}
 use Rattle.std.specs.List.{list_any}
 use Rattle.std.proofs.lemmas.List.{drop_all, take_all, length-drop}
+use Rattle.ptk_words.proofs.Lists.{drop-at}
 use Rattle.ptk_words_windows.specs.declared.window.Window.{Window}
 use Rattle.ptk_words_windows.specs.WindowFaults.{window_fault}
 use Rattle.ptk_config_places.specs.declared.place.Place.{Place}
 use Rattle.ptk_config_places.specs.declared.place.Place.TheVariants.{Text}
 use Rattle.ptk_config_places.specs.Windows.{before_pair, windows_place, plan_place}
-
-drop-at : {A : Type 0} (xs : List A) (i : ℕ) (x : A) → i < length xs → x ≡ get_or xs i x → drop i xs ≡ x ∷ drop (i + 1) xs
-drop-at [] i x within is = absurd (omega arith)
-drop-at (y ∷ ys) zero x within is = rw (← is)
-drop-at (y ∷ ys) (suc i) x within is = rw (add-one (suc i)) (rw (add-one i) at (drop-at ys i x (omega arith) is))
 
 -- no pair so far, and none with this one first
 pub before_pair-more : {A : Type 0} (r : A → A → Bool) (xs : List A) (i : ℕ) (x : A) (whole : ℕ)

@@ -57,8 +57,8 @@ abbrev pub first_byte : Console → Option ℕ
 first_byte console = slice_get console.ring 0
 
 -- the console without that byte
-abbrev pub without_first : Console → Console
-without_first console = record console { ring = drop 1 console.ring }
+abbrev pub without_byte : Console → Console
+without_byte console = record console { ring = drop 1 console.ring }
 
 -- a byte at the end of the output, where it has fewer than so many
 abbrev pub after_put : ℕ → ℕ → Console → Console

@@ -2,7 +2,7 @@
 
 ghost use Rattle.std.specs.Prelude.{◌≡◌, ◌<◌, ◌+◌, ◌^◌, not, length, is_some, option_map, slice_get, IfOk};
 ghost use Rattle.ptk_words_model.specs.Console.{is_full, with_input, with_waiter, without_waiter};
-ghost use Rattle.ptk_console.specs.ConsoleTable.{IsNotWaiting, after_next, after_put, first_byte, fresh_console, next_byte, without_first, without_next};
+ghost use Rattle.ptk_console.specs.ConsoleTable.{IsNotWaiting, after_next, after_put, first_byte, fresh_console, next_byte, without_byte, without_next};
 
 use circular_buffer::HeapCircularBuffer;
 use ptk_words::{Arrival, Limits, ThreadNo, Tick};
@@ -126,7 +126,7 @@ impl PartitionConsole {
     /// Takes the first byte of the ring.
     pub fn get(&mut self) -> Option<u8>
         ensures told { result ≡ first_byte self.old.console }
-        ensures moved { self.new ≡ record self.old { console = without_first self.old.console } }
+        ensures moved { self.new ≡ record self.old { console = without_byte self.old.console } }
     {
         self.ring.pop_front()
     }

@@ -2,21 +2,21 @@
 use Rattle.std.proofs.Common.{◌≡◌, ℕ, ◌+◌, ◌*◌, ◌^◌, ◌<◌, Bool, true, false, ◌&&◌, List, [], ◌∷◌, Option, Some, None, option_map, refl, sym, ap, ◌∙◌, arith, ◌==◌}
 use Rattle.std.specs.Prelude.{⊤, find}
 use Rattle.std.proofs.lemmas.Bool.Decides.{nat_tests}
-use Rattle.ptk_words_instructions.specs.Instructions.{Format, Name, Row, rd_of, rs1_of, rs2_of}
+use Rattle.std.proofs.lemmas.Bool.{and_parts}
+use Rattle.ptk_words_instructions.specs.Instructions.{Format, Name, InstructionRow, rd_of, rs1_of, rs2_of}
 use Rattle.ptk_words_instructions.specs.Fields.{Fixed, Opcode, Funct3, Funct7, Whole, Line, field_table, row_of, row_of_fixed, agrees_by, row_by, opcode_of, funct3_of, funct7_of, rest_of}
 use Rattle.ptk_rv32i_code.specs.declared.instr.Instr.{Instr}
 use Rattle.ptk_rv32i_code.specs.Coding.{i_bits, s_bits, b_bits, u_bits, j_bits, r_coded, i_coded, s_coded, b_coded, u_coded, j_coded, instr_of, decoded, encoded}
 use Rattle.ptk_rv32i_code.proofs.Coded.{r_again, i_again, s_again, u_again, b_again, j_again}
 use Rattle.ptk_rv32i_code.proofs.Decoded.{decoded_by}
-use Rattle.ptk_disasm.proofs.Tests.{both}
 
 same : (a b : ℕ) → (a == b) ≡ true → b ≡ a
 same a b h = grind (arith, nat_tests)
 
 r_word : (word op f3 f7 : ℕ) → word < 2 ^ 32 → (opcode_of word == op && (funct3_of word == f3 && funct7_of word == f7)) ≡ true → r_coded op f3 f7 (rd_of word) (rs1_of word) (rs2_of word) ≡ word
 r_word word op f3 f7 h e =
-    let one = both (opcode_of word == op) (funct3_of word == f3 && funct7_of word == f7) e in
-    let two = both (funct3_of word == f3) (funct7_of word == f7) one.1 in
+    let one = and_parts (opcode_of word == op) (funct3_of word == f3 && funct7_of word == f7) e in
+    let two = and_parts (funct3_of word == f3) (funct7_of word == f7) one.1 in
     ap (λ (x : ℕ). r_coded x f3 f7 (rd_of word) (rs1_of word) (rs2_of word)) (same (opcode_of word) op one.0)
     ∙ ap (λ (x : ℕ). r_coded (opcode_of word) x f7 (rd_of word) (rs1_of word) (rs2_of word)) (same (funct3_of word) f3 two.0)
     ∙ ap (λ (x : ℕ). r_coded (opcode_of word) (funct3_of word) x (rd_of word) (rs1_of word) (rs2_of word)) (same (funct7_of word) f7 two.1)
@@ -24,7 +24,7 @@ r_word word op f3 f7 h e =
 
 two_fields : (coded : ℕ → ℕ → ℕ) (word op f3 : ℕ) → (opcode_of word == op && funct3_of word == f3) ≡ true → coded (opcode_of word) (funct3_of word) ≡ word → coded op f3 ≡ word
 two_fields coded word op f3 e again =
-    let one = both (opcode_of word == op) (funct3_of word == f3) e in
+    let one = and_parts (opcode_of word == op) (funct3_of word == f3) e in
     ap (λ (x : ℕ). coded x f3) (same (opcode_of word) op one.0) ∙ ap (coded (opcode_of word)) (same (funct3_of word) f3 one.1) ∙ again
 
 i_word : (word op f3 : ℕ) → word < 2 ^ 32 → (opcode_of word == op && funct3_of word == f3) ≡ true → i_coded op f3 (rd_of word) (rs1_of word) (i_bits word) ≡ word
@@ -44,7 +44,7 @@ j_word word op h e = ap (λ (x : ℕ). j_coded x (rd_of word) (j_bits word)) (sa
 
 whole_word : (word op r n : ℕ) → word < 2 ^ 32 → (opcode_of word == op && rest_of word == r) ≡ true → op + r * 2 ^ 7 ≡ n → n ≡ word
 whole_word word op r n h e k =
-    let one = both (opcode_of word == op) (rest_of word == r) e in
+    let one = and_parts (opcode_of word == op) (rest_of word == r) e in
     let a : op ≡ opcode_of word = same (opcode_of word) op one.0 in
     let b : r ≡ rest_of word = same (rest_of word) r one.1 in
     omega (arith, a, b, k)
@@ -188,12 +188,12 @@ row_name (Funct7 a b c) format name = refl
 row_name (Whole a b) format name = refl
 
 found_again : (word : ℕ) (ls : List Line) (i : Instr) → Each (Again word) ls
-    → option_map (λ (r : Row). instr_of r.name word) (option_map row_of (find (λ (l : Line). agrees_by (opcode_of word) (funct3_of word) (funct7_of word) (rest_of word) l.fixed) ls)) ≡ Some i
+    → option_map (λ (r : InstructionRow). instr_of r.name word) (option_map row_of (find (λ (l : Line). agrees_by (opcode_of word) (funct3_of word) (funct7_of word) (rest_of word) l.fixed) ls)) ≡ Some i
     → encoded i ≡ word
 found_again word [] i all e = let never : ◌≡◌ {A = Option Instr} None (Some i) = e in absurd (cc)
 found_again word (l ∷ ls) i all e = by_test (λ x. found_again word ls i all.1 x) (agrees_by (opcode_of word) (funct3_of word) (funct7_of word) (rest_of word) l.fixed) refl
   where
-    by_test : (option_map (λ (r : Row). instr_of r.name word) (option_map row_of (find (λ (l : Line). agrees_by (opcode_of word) (funct3_of word) (funct7_of word) (rest_of word) l.fixed) ls)) ≡ Some i → encoded i ≡ word) → (b : Bool) → agrees_by (opcode_of word) (funct3_of word) (funct7_of word) (rest_of word) l.fixed ≡ b → encoded i ≡ word
+    by_test : (option_map (λ (r : InstructionRow). instr_of r.name word) (option_map row_of (find (λ (l : Line). agrees_by (opcode_of word) (funct3_of word) (funct7_of word) (rest_of word) l.fixed) ls)) ≡ Some i → encoded i ≡ word) → (b : Bool) → agrees_by (opcode_of word) (funct3_of word) (funct7_of word) (rest_of word) l.fixed ≡ b → encoded i ≡ word
     by_test later true t =
         let here : Some (instr_of ((row_of l).name) word) ≡ Some i = rw t at e in
         let is : instr_of ((row_of l).name) word ≡ i = cc in

@@ -5,6 +5,7 @@ use Rattle.std.specs.List.{list_all}
 use Rattle.std.specs.Int.{w32, from_le_bytes}
 use Rattle.std.proofs.lemmas.List.{append-nil}
 use Rattle.std.proofs.lemmas.Bool.Decides.{nat_tests}
+use Rattle.std.proofs.lemmas.Bool.{and_parts}
 use Rattle.ptk_asm_language.specs.declared.statement.Section.{Section}
 use Rattle.ptk_asm_language.specs.declared.statement.Section.TheVariants as section
 use Rattle.ptk_asm_language.specs.declared.statement.Form.TheVariants as form
@@ -13,7 +14,6 @@ use Rattle.ptk_asm_language.specs.Source.{longest}
 use Rattle.ptk_disasm.specs.WordStatements.{bare, given, word_statement}
 use Rattle.ptk_disasm.proofs.Hexadecimal.{hex-within}
 use Rattle.ptk_disasm.specs.Disassembly.{hex_word, addressed, byte_lines, data_lines, zero_lines, is_byte}
-use Rattle.ptk_disasm.proofs.Tests.{both}
 use Rattle.ptk_disasm.proofs.Bytes.{small, four_bytes, four_below}
 use Rattle.ptk_disasm.proofs.Numbers.{number-piece}
 use Rattle.ptk_disasm.proofs.Stated.{IsSpelled}
@@ -90,7 +90,7 @@ bytes_reached at t d text bytes [] before labels all room stands =
     reaches-none before section.Data (lens t (d + 0) 0) labels (parts text (bytes ++ []) [])
     (held-same before section.Data (lens t d 0) (lens t (d + 0) 0) labels (parts text bytes []) (parts text (bytes ++ []) []) (ap (λ (k : ℕ). lens t k 0) (omega arith)) (ended text bytes) stands)
 bytes_reached at t d text bytes (b ∷ bs) before labels all room stands =
-    let facts = both (is_byte b) (list_all is_byte bs) all in
+    let facts = and_parts (is_byte b) (list_all is_byte bs) all in
     let first = byte_reached at t d b text bytes before labels (small b facts.0) (omega (arith, room)) stands in
     let later = bytes_reached (at + 1) t (d + 1) text (bytes ++ b ∷ []) bs first.after labels facts.1 (omega (arith, room)) first.stands in
     reaches-same (byte_lines at (b ∷ bs)) before section.Data section.Data (lens t ((d + 1) + length bs) 0) (lens t (d + length (b ∷ bs)) 0) labels
@@ -125,10 +125,10 @@ data-reached at t d text bytes (a ∷ []) before labels all whole room stands = 
 data-reached at t d text bytes (a ∷ b ∷ []) before labels all whole room stands = bytes_reached at t d text bytes (a ∷ b ∷ []) before labels all room stands
 data-reached at t d text bytes (a ∷ b ∷ c ∷ []) before labels all whole room stands = bytes_reached at t d text bytes (a ∷ b ∷ c ∷ []) before labels all room stands
 data-reached at t d text bytes (a ∷ b ∷ c ∷ e ∷ more) before labels all whole room stands =
-    let one = both (is_byte a) (list_all is_byte (b ∷ c ∷ e ∷ more)) all in
-    let two = both (is_byte b) (list_all is_byte (c ∷ e ∷ more)) one.1 in
-    let three = both (is_byte c) (list_all is_byte (e ∷ more)) two.1 in
-    let four = both (is_byte e) (list_all is_byte more) three.1 in
+    let one = and_parts (is_byte a) (list_all is_byte (b ∷ c ∷ e ∷ more)) all in
+    let two = and_parts (is_byte b) (list_all is_byte (c ∷ e ∷ more)) one.1 in
+    let three = and_parts (is_byte c) (list_all is_byte (e ∷ more)) two.1 in
+    let four = and_parts (is_byte e) (list_all is_byte more) three.1 in
     let first = four_reached at t d a b c e text bytes before labels (small a one.0) (small b two.0) (small c three.0) (small e four.0) whole (omega (arith, room)) stands in
     let later = data-reached (at + 4) t (d + 4) text (bytes ++ a ∷ b ∷ c ∷ e ∷ []) more first.after labels four.1 (omega (arith, whole)) (omega (arith, room)) first.stands in
     reaches-same (data_lines at (a ∷ b ∷ c ∷ e ∷ more)) before section.Data section.Data (lens t ((d + 4) + length more) 0) (lens t (d + length (a ∷ b ∷ c ∷ e ∷ more)) 0) labels

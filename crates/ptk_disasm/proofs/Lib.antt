@@ -1,4 +1,3 @@
-pub mod Tests
 pub mod Numerals
 pub mod Runs
 pub mod Numbers

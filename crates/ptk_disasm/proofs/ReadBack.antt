@@ -4,6 +4,7 @@ use Rattle.std.specs.List.{list_all}
 use Rattle.std.specs.Int.{w32, from_le_bytes}
 use Rattle.std.proofs.lemmas.List.{append-nil}
 use Rattle.std.proofs.lemmas.Bool.Decides.{nat_tests}
+use Rattle.std.proofs.lemmas.Bool.{and_parts}
 use Rattle.ptk_words.specs.Image.{ImageParts}
 use Rattle.ptk_image.specs.Images.{IsImage}
 use Rattle.ptk_asm_language.specs.declared.statement.Section.{Section}
@@ -17,7 +18,6 @@ use Rattle.ptk_disasm.specs.Spelling.{Line, line_text}
 use Rattle.ptk_disasm.specs.WordStatements.{bare}
 use Rattle.ptk_disasm.specs.Disassembly.{Names, AreWithinLine, addressed, text_lines, data_lines, zero_lines, lines_for, text_for, is_byte, FitsSource, ReadsBack}
 use Rattle.ptk_disasm.proofs.Quiet.{raw_lines-first}
-use Rattle.ptk_disasm.proofs.Tests.{both}
 use Rattle.ptk_disasm.proofs.Bytes.{small, four_bytes, four_below}
 use Rattle.ptk_disasm.proofs.Steps.{raw, Stands}
 use Rattle.ptk_disasm.proofs.Passes.{Reaches, is_clean, reaches-more}
@@ -30,7 +30,7 @@ use Rattle.ptk_disasm.proofs.Datas.{data-begun, data-reached, zeros-begun, zeros
 lines_raw : (lines : List Line) → list_all is_clean lines ≡ true → raw_lines (text_for lines) ≡ map raw lines
 lines_raw [] h = refl
 lines_raw (l ∷ ls) h =
-    let facts = both (is_clean l) (list_all is_clean ls) h in
+    let facts = and_parts (is_clean l) (list_all is_clean ls) h in
     ap raw_lines (append_assoc (line_text l) (10 ∷ []) (text_for ls))
     ∙ raw_lines-first (line_text l) (text_for ls) facts.0
     ∙ ap (λ (rest : List (List ℕ)). raw l ∷ rest) (lines_raw ls facts.1)
@@ -52,10 +52,10 @@ words_whole (a ∷ []) all whole = absurd (omega (arith, whole))
 words_whole (a ∷ b ∷ []) all whole = absurd (omega (arith, whole))
 words_whole (a ∷ b ∷ c ∷ []) all whole = absurd (omega (arith, whole))
 words_whole (a ∷ b ∷ c ∷ d ∷ more) all whole =
-    let one = both (is_byte a) (list_all is_byte (b ∷ c ∷ d ∷ more)) all in
-    let two = both (is_byte b) (list_all is_byte (c ∷ d ∷ more)) one.1 in
-    let three = both (is_byte c) (list_all is_byte (d ∷ more)) two.1 in
-    let four = both (is_byte d) (list_all is_byte more) three.1 in
+    let one = and_parts (is_byte a) (list_all is_byte (b ∷ c ∷ d ∷ more)) all in
+    let two = and_parts (is_byte b) (list_all is_byte (c ∷ d ∷ more)) one.1 in
+    let three = and_parts (is_byte c) (list_all is_byte (d ∷ more)) two.1 in
+    let four = and_parts (is_byte d) (list_all is_byte more) three.1 in
     let later = words_whole more four.1 (omega (arith, whole)) in
     let long : 4 * length (words_in more) ≡ length more = later.long in
     let first : is_word (from_le_bytes w32 (a ∷ b ∷ c ∷ d ∷ [])) ≡ true = word_test (from_le_bytes w32 (a ∷ b ∷ c ∷ d ∷ [])) (four_below a b c d (small a one.0) (small b two.0) (small c three.0) (small d four.0)) in

@@ -1,10 +1,10 @@
 -- A run, or a - and a run, is the first piece.
 use Rattle.std.proofs.Common.{◌≡◌, ℕ, ◌<◌, Bool, true, false, ◌||◌, List, [], ◌∷◌, ◌++◌, length, take, drop, suc, refl, ap, ◌∙◌, arith, ◌==◌}
 use Rattle.std.specs.List.{list_all}
+use Rattle.std.proofs.lemmas.Bool.{and_parts}
 use Rattle.ptk_asm_language.specs.Tokens.{is_run, is_blank, starts_run, pieces}
 use Rattle.ptk_asm_language.specs.Scanning.{run_len}
 use Rattle.ptk_asm_language.proofs.Pieces.{blank_no_run, pieces-front}
-use Rattle.ptk_disasm.proofs.Tests.{both}
 
 none_len : (rest : List ℕ) → starts_run rest ≡ false → run_len rest ≡ 0
 none_len [] h = refl
@@ -13,7 +13,7 @@ none_len (c ∷ cs) h = rw h refl
 pub run_length : (run rest : List ℕ) → list_all is_run run ≡ true → starts_run rest ≡ false → run_len (run ++ rest) ≡ length run
 run_length [] rest all ends = none_len rest ends
 run_length (c ∷ cs) rest all ends =
-    let parts = both (is_run c) (list_all is_run cs) all in
+    let parts = and_parts (is_run c) (list_all is_run cs) all in
     rw parts.0 (ap suc (run_length cs rest parts.1 ends))
 
 take_whole : (xs ys : List ℕ) → take (length xs) (xs ++ ys) ≡ xs
@@ -37,7 +37,7 @@ pieces-begun c run rest blank begins all ends =
 pub pieces-of_run : (run rest : List ℕ) → list_all is_run run ≡ true → 0 < length run → starts_run rest ≡ false → pieces (run ++ rest) ≡ run ∷ pieces rest
 pieces-of_run [] rest all some ends = absurd (omega arith)
 pieces-of_run (c ∷ cs) rest all some ends =
-    let parts = both (is_run c) (list_all is_run cs) all in
+    let parts = and_parts (is_run c) (list_all is_run cs) all in
     pieces-begun c cs rest (blank_no_run c parts.0) (rw parts.0 refl) parts.1 ends
 
 -- a - and a run

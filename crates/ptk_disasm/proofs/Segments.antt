@@ -5,6 +5,7 @@ use Rattle.std.specs.List.{list_all}
 use Rattle.std.specs.Int.{w32, to_le_bytes}
 use Rattle.std.proofs.lemmas.List.{append-nil}
 use Rattle.std.proofs.lemmas.Bool.Decides.{nat_tests}
+use Rattle.std.proofs.lemmas.Bool.{and_parts}
 use Rattle.ptk_asm_language.specs.declared.statement.Section.{Section}
 use Rattle.ptk_asm_language.specs.declared.statement.Section.TheVariants as section
 use Rattle.ptk_asm_language.specs.declared.statement.Form.{Form}
@@ -23,7 +24,6 @@ use Rattle.ptk_disasm.specs.Disassembly.{Names, AreWithinLine, word_comment, wor
 use Rattle.ptk_disasm.proofs.WordsWritten.{Writes, word-written}
 use Rattle.ptk_disasm.proofs.Steps.{raw, Stands, added}
 use Rattle.ptk_disasm.proofs.Passes.{Reaches, held-same, reaches-none, reaches-more, reaches-stated}
-use Rattle.ptk_disasm.proofs.Tests.{both}
 
 -- so many bytes in each section
 abbrev pub lens : ℕ → ℕ → ℕ → Lengths
@@ -114,8 +114,8 @@ entry-reached n before h stands =
 abbrev pub is_word : ℕ → Bool
 is_word w = nat_lt w (2 ^ 32)
 
-below : (w : ℕ) → is_word w ≡ true → w < 2 ^ 32
-below w h = grind (arith, nat_tests)
+pub word_below : (w : ℕ) → is_word w ≡ true → w < 2 ^ 32
+word_below w h = grind (arith, nat_tests)
 
 other : (a b : ℕ) → b < a → (a == b) ≡ false
 other a b h = grind (arith, nat_tests)
@@ -138,8 +138,8 @@ words-behind names within entry at n t [] before labels past all room stands =
     ended t section.Data = refl
     ended t section.Bss = refl
 words-behind names within entry at n t (w ∷ ws) before labels past all room stands =
-    let facts = both (is_word w) (list_all is_word ws) all in
-    let first = word-reached names within at n w t before labels (below w facts.0) (omega (arith, room)) stands in
+    let facts = and_parts (is_word w) (list_all is_word ws) all in
+    let first = word-reached names within at n w t before labels (word_below w facts.0) (omega (arith, room)) stands in
     let later = words-behind names within entry (at + 4) (n + 4) (t ++ to_le_bytes w32 w) ws first.after labels (omega (arith, past)) facts.1 (omega (arith, room)) first.stands in
     rw (other at entry past)
     (reaches-same (word_line names at w ∷ text_lines names entry (at + 4) ws) before section.Text section.Text (lens ((n + 4) + 4 * length ws) 0 0) (lens (n + 4 * length (w ∷ ws)) 0 0) labels

@@ -4,6 +4,7 @@ use Rattle.std.specs.List.{list_all}
 use Rattle.std.specs.Int.{w32, to_le_bytes}
 use Rattle.std.proofs.lemmas.List.{append-nil}
 use Rattle.std.proofs.lemmas.Bool.Decides.{nat_tests}
+use Rattle.std.proofs.lemmas.Bool.{and_parts, eqb-true}
 use Rattle.ptk_asm_language.specs.declared.statement.Section.{Section}
 use Rattle.ptk_asm_language.specs.declared.statement.Section.TheVariants as section
 use Rattle.ptk_asm_language.specs.declared.place.Place.{Place}
@@ -12,14 +13,7 @@ use Rattle.ptk_disasm.specs.Spelling.{Line, Entry}
 use Rattle.ptk_disasm.specs.Disassembly.{Names, AreWithinLine, word_line, text_lines}
 use Rattle.ptk_disasm.proofs.Steps.{Stands}
 use Rattle.ptk_disasm.proofs.Passes.{Reaches, reaches-more}
-use Rattle.ptk_disasm.proofs.Segments.{lens, parts, reaches-same, word-reached, start, entry-reached, is_word, bytes_for, words-behind}
-use Rattle.ptk_disasm.proofs.Tests.{both}
-
-below : (w : ℕ) → is_word w ≡ true → w < 2 ^ 32
-below w h = grind (arith, nat_tests)
-
-equal : (a b : ℕ) → (a == b) ≡ true → a ≡ b
-equal a b h = grind (arith, nat_tests)
+use Rattle.ptk_disasm.proofs.Segments.{lens, parts, reaches-same, word-reached, start, entry-reached, is_word, bytes_for, words-behind, word_below}
 
 unequal : (a b : ℕ) → (a == b) ≡ false → a ≡ b → ⊥
 unequal a b h e = grind (arith, nat_tests)
@@ -63,21 +57,21 @@ text-reached names within entry at t [] before low high whole aligned all room s
     (reaches-same (Entry ∷ []) before section.Text section.Text (lens at 0 0) (lens (at + 0) 0 0) (start entry) (parts t [] []) (parts (t ++ []) [] []) refl (ap (λ (k : ℕ). lens k 0 0) (omega arith)) (ended t)
     (entry_here entry at before (parts t [] []) e stands))
 text-reached names within entry at t (w ∷ ws) before low high whole aligned all room stands =
-    by_test (λ b l s. text-reached names within entry (at + 4) (t ++ to_le_bytes w32 w) ws b l (omega (arith, high)) (omega (arith, whole)) aligned ((both (is_word w) (list_all is_word ws) all).1) (omega (arith, room)) s) (at == entry) refl
+    by_test (λ b l s. text-reached names within entry (at + 4) (t ++ to_le_bytes w32 w) ws b l (omega (arith, high)) (omega (arith, whole)) aligned ((and_parts (is_word w) (list_all is_word ws) all).1) (omega (arith, room)) s) (at == entry) refl
   where
     by_test : ((b : List (List ℕ)) → at + 4 ≤ entry → Stands b section.Text (lens (at + 4) 0 0) [] (parts (t ++ to_le_bytes w32 w) [] [])
         → Reaches (text_lines names entry (at + 4) ws) b section.Text (lens ((at + 4) + 4 * length ws) 0 0) (start entry) (parts ((t ++ to_le_bytes w32 w) ++ bytes_for ws) [] []))
         → (b : Bool) → (at == entry) ≡ b → Reaches (text_lines names entry at (w ∷ ws)) before section.Text (lens (at + 4 * length (w ∷ ws)) 0 0) (start entry) (parts (t ++ bytes_for (w ∷ ws)) [] [])
     by_test later true test =
-        let facts = both (is_word w) (list_all is_word ws) all in
-        let e : at ≡ entry = equal at entry test in
+        let facts = and_parts (is_word w) (list_all is_word ws) all in
+        let e : at ≡ entry = eqb-true at entry test in
         let first = entry_here entry at before (parts t [] []) e stands in
         rw test
         (reaches-more (Entry ∷ []) (word_line names at w ∷ text_lines names entry (at + 4) ws) before section.Text section.Text (lens at 0 0) (lens (at + 4 * length (w ∷ ws)) 0 0) (start entry) (start entry) (parts t [] []) (parts (t ++ bytes_for (w ∷ ws)) [] [])
-        first (word_more names within at at w t ws first.after (start entry) (start entry) (text_lines names entry (at + 4) ws) (below w facts.0) (omega (arith, room)) first.stands
+        first (word_more names within at at w t ws first.after (start entry) (start entry) (text_lines names entry (at + 4) ws) (word_below w facts.0) (omega (arith, room)) first.stands
         (λ b s. words-behind names within entry (at + 4) (at + 4) (t ++ to_le_bytes w32 w) ws b (start entry) (omega (arith, e)) facts.1 (omega (arith, room)) s)))
     by_test later false test =
-        let facts = both (is_word w) (list_all is_word ws) all in
+        let facts = and_parts (is_word w) (list_all is_word ws) all in
         let apart : at ≡ entry → ⊥ = unequal at entry test in
         let past : at + 4 ≤ entry = grind (arith, low, whole, aligned, apart) in
-        rw test (word_more names within at at w t ws before [] (start entry) (text_lines names entry (at + 4) ws) (below w facts.0) (omega (arith, room)) stands (λ b s. later b past s))
+        rw test (word_more names within at at w t ws before [] (start entry) (text_lines names entry (at + 4) ws) (word_below w facts.0) (omega (arith, room)) stands (λ b s. later b past s))

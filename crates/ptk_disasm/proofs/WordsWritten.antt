@@ -4,12 +4,13 @@ use Rattle.std.specs.Prelude.{⊤, flat_map, negsuc, if◌then◌else◌}
 use Rattle.std.specs.Int.{w32, to_le_bytes}
 use Rattle.std.proofs.lemmas.List.{append-nil}
 use Rattle.std.proofs.lemmas.Bool.Decides.{nat_tests}
+use Rattle.std.proofs.lemmas.Bool.{and_parts, eqb-true}
 use Rattle.ptk_rv32i_code.specs.declared.instr.Instr.{Instr}
 use Rattle.ptk_rv32i_code.specs.declared.instr.Instr.TheVariants as instr
 use Rattle.ptk_rv32i_code.specs.declared.instr.ImmediateOp.{ImmediateOp}
 use Rattle.ptk_rv32i_code.specs.declared.instr.ImmediateOp.TheVariants as immediate
 use Rattle.ptk_words_instructions.specs.Instructions as isa
-use Rattle.ptk_words_instructions.specs.Instructions.{Name, Row, decode_of}
+use Rattle.ptk_words_instructions.specs.Instructions.{Name, InstructionRow, decode_of}
 use Rattle.ptk_rv32i_code.specs.declared.instr.BranchTest.{BranchTest}
 use Rattle.ptk_rv32i_code.specs.declared.instr.LoadKind.{LoadKind}
 use Rattle.ptk_rv32i_code.specs.declared.instr.StoreKind.{StoreKind}
@@ -27,7 +28,6 @@ use Rattle.ptk_disasm.proofs.Operands.{Takes, comma-mark, open-mark, close-mark}
 use Rattle.ptk_disasm.proofs.Numbers.{number-piece}
 use Rattle.ptk_disasm.proofs.Stated.{IsSpelled}
 use Rattle.ptk_disasm.proofs.Coded.{decoded-again}
-use Rattle.ptk_disasm.proofs.Tests.{both}
 
 -- the statement names no label
 abbrev pub has_no_label : Value → Bool
@@ -273,26 +273,23 @@ li_writes word rd bits d h e = let is : IsShort (signed 12 bits) bits = short bi
 
 -- ---- the short forms
 
-is_number : (a b : ℕ) → (a == b) ≡ true → a ≡ b
-is_number a b h = grind (arith, nat_tests)
-
 add_writes : (word rd rs1 bits : ℕ) → rd < 32 → rs1 < 32 → bits < 2 ^ 12 → encoded (instr.WithImmediate immediate.Add rd rs1 bits) ≡ word → Writes (add_statement rd rs1 bits) word
 add_writes word rd rs1 bits d f h e = by_source (rs1 == 0) refl
   where
     from_zero : rs1 ≡ 0 → (b : Bool) → (rd == 0 && bits == 0) ≡ b → Writes (if rd == 0 && bits == 0 then bare form.Nop [] else given form.LoadValue (rd ∷ []) (signed 12 bits)) word
     from_zero z true t =
-        let parts = both (rd == 0) (bits == 0) t in
-        let a : rd ≡ 0 = is_number rd 0 parts.0 in
-        let c : bits ≡ 0 = is_number bits 0 parts.1 in
+        let parts = and_parts (rd == 0) (bits == 0) t in
+        let a : rd ≡ 0 = eqb-true rd 0 parts.0 in
+        let c : bits ≡ 0 = eqb-true bits 0 parts.1 in
         rw t (nop_writes word (sym (ap (λ (x : ℕ). encoded (instr.WithImmediate immediate.Add x rs1 bits)) a ∙ ap (λ (x : ℕ). encoded (instr.WithImmediate immediate.Add 0 x bits)) z ∙ ap (λ (x : ℕ). encoded (instr.WithImmediate immediate.Add 0 0 x)) c) ∙ e))
     from_zero z false t = rw t (li_writes word rd bits d h (sym (ap (λ (x : ℕ). encoded (instr.WithImmediate immediate.Add rd x bits)) z) ∙ e))
 
     from_register : (b : Bool) → (bits == 0) ≡ b → Writes (if bits == 0 then bare form.Move (rd ∷ rs1 ∷ []) else given (form.WithImmediate immediate.Add) (rd ∷ rs1 ∷ []) (signed 12 bits)) word
-    from_register true t = rw t (mv_writes word rd rs1 d f (sym (ap (λ (x : ℕ). encoded (instr.WithImmediate immediate.Add rd rs1 x)) (is_number bits 0 t)) ∙ e))
+    from_register true t = rw t (mv_writes word rd rs1 d f (sym (ap (λ (x : ℕ). encoded (instr.WithImmediate immediate.Add rd rs1 x)) (eqb-true bits 0 t)) ∙ e))
     from_register false t = rw t (immediate_writes immediate.Add word rd rs1 bits d f h e)
 
     by_source : (b : Bool) → (rs1 == 0) ≡ b → Writes (add_statement rd rs1 bits) word
-    by_source true t = rw t (from_zero (is_number rs1 0 t) (rd == 0 && bits == 0) refl)
+    by_source true t = rw t (from_zero (eqb-true rs1 0 t) (rd == 0 && bits == 0) refl)
     by_source false t = rw t (from_register (bits == 0) refl)
 
 any_immediate : (op : ImmediateOp) (word rd rs1 bits : ℕ) → rd < 32 → rs1 < 32 → bits < 2 ^ 12 → encoded (instr.WithImmediate op rd rs1 bits) ≡ word → Writes (immediate_statement op rd rs1 bits) word
@@ -307,20 +304,20 @@ any_jalr : (word rd rs1 bits : ℕ) → rd < 32 → rs1 < 32 → bits < 2 ^ 12 �
 any_jalr word rd rs1 bits d f h e = by_test (rd == 0 && bits == 0) refl
   where
     by_source : encoded (instr.Jalr 0 rs1 0) ≡ word → (b : Bool) → (rs1 == 1) ≡ b → Writes (if rs1 == 1 then bare form.Return [] else bare form.JumpRegister (rs1 ∷ [])) word
-    by_source g true t = rw t (ret_writes word (sym (ap (λ (x : ℕ). encoded (instr.Jalr 0 x 0)) (is_number rs1 1 t)) ∙ g))
+    by_source g true t = rw t (ret_writes word (sym (ap (λ (x : ℕ). encoded (instr.Jalr 0 x 0)) (eqb-true rs1 1 t)) ∙ g))
     by_source g false t = rw t (jr_writes word rs1 f g)
 
     by_test : (b : Bool) → (rd == 0 && bits == 0) ≡ b → Writes (jalr_statement rd rs1 bits) word
     by_test true t =
-        let parts = both (rd == 0) (bits == 0) t in
-        rw t (by_source (sym (ap (λ (x : ℕ). encoded (instr.Jalr x rs1 bits)) (is_number rd 0 parts.0) ∙ ap (λ (x : ℕ). encoded (instr.Jalr 0 rs1 x)) (is_number bits 0 parts.1)) ∙ e) (rs1 == 1) refl)
+        let parts = and_parts (rd == 0) (bits == 0) t in
+        rw t (by_source (sym (ap (λ (x : ℕ). encoded (instr.Jalr x rs1 bits)) (eqb-true rd 0 parts.0) ∙ ap (λ (x : ℕ). encoded (instr.Jalr 0 rs1 x)) (eqb-true bits 0 parts.1)) ∙ e) (rs1 == 1) refl)
     by_test false t = rw t (jalr_writes word rd rs1 bits d f h e)
 
 any_jal : (word rd bits : ℕ) → rd < 32 → bits < 2 ^ 21 → bits % 2 ≡ 0 → encoded (instr.Jal rd bits) ≡ word → Writes (jal_statement rd bits) word
 any_jal word rd bits d h even e = by_test (rd == 0) refl
   where
     by_test : (b : Bool) → (rd == 0) ≡ b → Writes (jal_statement rd bits) word
-    by_test true t = rw t (j_writes word bits h even (sym (ap (λ (x : ℕ). encoded (instr.Jal x bits)) (is_number rd 0 t)) ∙ e))
+    by_test true t = rw t (j_writes word bits h even (sym (ap (λ (x : ℕ). encoded (instr.Jal x bits)) (eqb-true rd 0 t)) ∙ e))
     by_test false t = rw t (jal_writes word rd bits d h even e)
 
 fence_word : encoded (instr.Fence 0 0 255) ≡ 0x0ff0000f
@@ -331,7 +328,7 @@ any_fence : (word : ℕ) → word < 2 ^ 32 → Writes (fence_statement word) wor
 any_fence word h = by_test (word == 0x0ff0000f) refl
   where
     by_test : (b : Bool) → (word == 0x0ff0000f) ≡ b → Writes (fence_statement word) word
-    by_test true t = rw t (fence_writes word (fence_word ∙ sym (is_number word 0x0ff0000f t)))
+    by_test true t = rw t (fence_writes word (fence_word ∙ sym (eqb-true word 0x0ff0000f t)))
     by_test false t = rw t (word_writes word h)
 
 -- the statement of an instruction writes its word
@@ -400,7 +397,7 @@ decoded_fits word i e = by_row (decode_of word) e
     some_same : (a b : Instr) → Some a ≡ Some b → a ≡ b
     some_same a b e = cc
 
-    by_row : (r : Option Row) → option_map (λ (r : Row). instr_of r.name word) r ≡ Some i → InstrFits i
+    by_row : (r : Option InstructionRow) → option_map (λ (r : InstructionRow). instr_of r.name word) r ≡ Some i → InstrFits i
     by_row None never = absurd (cc)
     by_row (Some r) e = subst InstrFits (some_same (instr_of r.name word) i e) (name_fits r.name word)
 

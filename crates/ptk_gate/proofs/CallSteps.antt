@@ -24,7 +24,7 @@ use Rattle.ptk_words_model.specs.State.{Part}
 use Rattle.ptk_words_model.specs.Priority.{thread_at}
 use Rattle.ptk_words_model.specs.Schedule.{after_interval, after_turn_end, is_round_robin, is_running, with_used}
 use Rattle.ptk_words_model.specs.CallTable.{answer_to}
-use Rattle.ptk_words_model.specs.Decision.{a0_after, after_effect, after_step, after_turn, after_whole_step, invocation, is_to_unwind, runner_at, runner_in, runner_of, spent_in_turn, step_cost, step_kind, word_fetched}
+use Rattle.ptk_words_model.specs.Decision.{a0_after, after_effect, after_step, after_turn, after_whole_step, invocation, is_to_unwind, runner_in, runner_of, spent_in_turn, step_cost, step_kind, word_fetched}
 use Rattle.ptk_words_sync_invariant.specs.Conditions.{IsNoWaiter}
 use Rattle.ptk_words_invariant.specs.Well.{IsWell}
 use Rattle.ptk_words_invariant.proofs.Calls.{well_answer_to}
@@ -33,6 +33,7 @@ use Rattle.ptk_gate_pools.specs.Kept.{part_at, limits_at}
 use Rattle.ptk_gate_pools.specs.Held.{Held, held, all_of, limits_here}
 use Rattle.ptk_gate_pools.specs.Moves.{with_last_step}
 use Rattle.ptk_gate_pools.proofs.NoWaiters.{runner_apart}
+use Rattle.ptk_gate_services.proofs.Requested.{runner_thread}
 use Rattle.ptk_gate_steps.specs.NextSteps.{IsCallNext, a0_kept}
 use Rattle.ptk_gate.specs.Whole.{AreWhole}
 use Rattle.ptk_gate.specs.CallSteps.{ecall_entry, finished, past_ecall}
@@ -40,12 +41,6 @@ use Rattle.ptk_gate.proofs.Passing.{passed_as, well_passed}
 use Rattle.ptk_gate.proofs.Wholes.{whole_lifted, well_at}
 
 -- ---- the thread that runs
-
-runner_thread : (t : ℕ) (o : Option Thread) (r : Runner) → runner_at t o ≡ Some r → o ≡ Some r.thread
-runner_thread t None r e = absurd (let no : ⊥ = cc in no)
-runner_thread t (Some thread) r e =
-    let same : record { number = t; thread = thread } ≡ r = cc in
-    ap (λ (x : Runner). Some x.thread) same
 
 pub runner_found : (running : Option ℕ) (s : Part) (r : Runner) → running ≡ Some r.number → runner_in running s ≡ Some r → thread_at s.locks r.number ≡ Some r.thread
 runner_found running s r runs e = runner_thread r.number (thread_at s.locks r.number) r (sym (ap (λ (o : Option ℕ). runner_in o s) runs) ∙ e)

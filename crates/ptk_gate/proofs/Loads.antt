@@ -1,5 +1,5 @@
 -- An image in a partition that has none.
-use Rattle.std.proofs.Common.{arith, ◌≡◌, ℕ, zero, suc, ◌+◌, ◌-◌, ◌*◌, ◌<◌, ◌≤◌, Bool, true, false, List, ◌++◌, length, drop, refl, sym, ◌∙◌, ap, subst, length-append}
+use Rattle.std.proofs.Common.{arith, ◌≡◌, ℕ, zero, suc, ◌+◌, ◌-◌, ◌*◌, ◌<◌, ◌≤◌, Bool, true, false, List, ◌++◌, length, drop, refl, sym, ◌∙◌, ap, subst}
 use Rattle.std.specs.Prelude.{Option, Some, None, Ok, Err, replicate, option_map, cond}
 use Rattle.std.proofs.lemmas.Bool.{lt-ltb, ltb-false, not-true}
 use Rattle.std.proofs.lemmas.List.{length-replicate, drop-replicate}
@@ -16,7 +16,7 @@ use Rattle.ptk_words_model.specs.ThreadCreation.{with_new_thread}
 use Rattle.ptk_words_model.specs.Run.{fits, main_thread, memory_of, with_image}
 use Rattle.ptk_words_invariant.specs.Well.{IsWell}
 use Rattle.ptk_words_invariant.proofs.Parts.{well_memory, well_halt}
-use Rattle.ptk_words_invariant.proofs.Starts.{well_least_free}
+use Rattle.ptk_words_invariant.proofs.Starts.{well_least_free, memory_fits}
 use Rattle.ptk_console.specs.ConsoleTable.{no_limits}
 use Rattle.ptk_gate_pools.specs.Kept.{part_at, limits_at}
 use Rattle.ptk_gate_pools.specs.Held.{Held, held, all_of, limits_here}
@@ -44,15 +44,6 @@ written_is limits image s blank =
     ap (λ (part : Part). written image.text image.«data» part.memory) blank
     ∙ ap (λ zeros. image.text ++ (image.«data» ++ zeros)) (drop-replicate (length image.text + length image.«data») limits.memory 0)
 
-length-memory_of : (limits : Limits) (image : ImageParts) → fits limits image ≡ true → length (memory_of limits image) ≡ limits.memory
-length-memory_of limits image e =
-    let room : length image.text + length image.«data» + image.bss ≤ limits.memory - limits.threads * limits.stack = fits_room limits image e in
-    let zeros : List ℕ = replicate (limits.memory - (length image.text + length image.«data»)) 0 in
-    let a : length (memory_of limits image) ≡ length image.text + length (image.«data» ++ zeros) = length-append image.text (image.«data» ++ zeros) in
-    let b : length (image.«data» ++ zeros) ≡ length image.«data» + length zeros = length-append image.«data» zeros in
-    let c : length zeros ≡ limits.memory - (length image.text + length image.«data») = length-replicate (limits.memory - (length image.text + length image.«data»)) 0 in
-    omega (arith, a, b, c, room)
-
 pub fits_seen : (l m : Limits) (image : ImageParts) (b c : Bool) → l ≡ m → b ≡ fits l image → b ≡ c → fits m image ≡ c
 fits_seen l m image b c same told e = ap (λ (limits : Limits). fits limits image) (sym same) ∙ sym told ∙ e
 
@@ -73,7 +64,7 @@ pub record IsFilled (limits : Limits) (s : Part) : Type 0 where
 
 pub filled : (limits : Limits) (image : ImageParts) (s : Part) → IsWell limits s → 1 ≤ limits.threads → IsBlank limits s → fits limits image ≡ true → IsFilled limits (with_memory (written image.text image.«data» s.memory) s)
 filled limits image s well some blank e =
-    let size : length (memory_of limits image) ≡ length s.memory = length-memory_of limits image e ∙ sym (length-replicate limits.memory 0) ∙ sym (ap (λ (part : Part). length part.memory) blank) in
+    let size : length (memory_of limits image) ≡ length s.memory = memory_fits limits image e ∙ sym (length-replicate limits.memory 0) ∙ sym (ap (λ (part : Part). length part.memory) blank) in
     let free : least_free s.threads ≡ Some 1 = ap (λ (part : Part). least_free part.threads) blank ∙ free_first limits.threads some in
     rw (written_is limits image s blank) (record { well = well_memory limits (memory_of limits image) s size well; free = free })
 

@@ -12,6 +12,7 @@ use Rattle.ptk_words.specs.declared.calls.Call.TheVariants.{SchedYield}
 use Rattle.ptk_words.specs.declared.sections.Entry.{Entry}
 use Rattle.ptk_words.specs.declared.sections.Limits.{Limits}
 use Rattle.ptk_words.specs.declared.threads.Thread.{Thread}
+use Rattle.ptk_words.proofs.Pools.{changed_own}
 use Rattle.ptk_threads.specs.Registers.{with_pc}
 use Rattle.ptk_words_model.specs.declared.Invocation.{Invocation}
 use Rattle.ptk_words_model.specs.State.{Part, with_locks}
@@ -23,7 +24,6 @@ use Rattle.ptk_words_model.specs.ThreadCalls.{after_placing}
 use Rattle.ptk_words_model.specs.Unwinding.{is_alive}
 use Rattle.ptk_words_sync_invariant.specs.Conditions.{IsNoWaiter}
 use Rattle.ptk_words_sync_invariant.proofs.Lined.{ready_alive}
-use Rattle.ptk_words_sync_invariant.proofs.Pools.{changed_own}
 use Rattle.ptk_words_invariant.specs.Well.{IsWell}
 use Rattle.ptk_gate_pools.specs.Held.{Held, limits_here}
 use Rattle.ptk_gate_pools.specs.Moves.{with_last_step}

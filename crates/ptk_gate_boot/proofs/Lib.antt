@@ -1,4 +1,5 @@
 pub mod Built
 pub mod Filled
 pub mod Loans
-pub use Rattle.ptk_trace.proofs.RowsTraced
+pub mod RowsTraced
+pub mod Stamps

@@ -21,7 +21,7 @@ pub fn start_unwinding(pools: &mut Pools, t: ThreadNo, value: u32)
 }
 
 /// The thread unwinds with this result, and its next step is at the return gate.
-#[tactic(auto, using(ptk_gate_pools::proofs::Numbers::changed_none, ptk_gate_pools::proofs::Ranks::put_same, ptk_words_sync_invariant::proofs::Pools::changed_twice))]
+#[tactic(auto, using(ptk_gate_pools::proofs::Numbers::changed_none, ptk_gate_pools::proofs::Ranks::put_same, ptk_words::proofs::Pools::changed_twice))]
 fn unwind(pools: &mut Pools, t: ThreadNo, value: u32)
     ensures { pools.new ≡ record pools.old { here = with_locks (with_thread t (unwinding value)) pools.old.here } }
 {

@@ -1,9 +1,9 @@
 -- The choice of a line: None of an empty one alone.
-use Rattle.std.proofs.Common.{arith, ◌≡◌, ℕ, ◌<◌, ◌≤◌, Bool, true, false, List, [], ◌∷◌, length, refl, sym, ◌∙◌, ap, cond, ◌⊎◌, inl, inr}
+use Rattle.std.proofs.Common.{arith, ◌≡◌, ℕ, Bool, true, false, List, [], ◌∷◌, length, refl, sym, ◌∙◌, ap, cond, ◌⊎◌, inl, inr}
 use Rattle.std.specs.Prelude.{Option, Some, is_some, nat_lt, find, fold, max, ◌==◌}
 use Rattle.std.proofs.lemmas.Bool.{false≢true, eq-eqb, lt-ltb}
-use Rattle.std.proofs.lemmas.Bool.Decides.{leb_tells}
 use Rattle.ptk_words.specs.Pools.{first_of_greatest}
+use Rattle.ptk_words.proofs.Options.{max_cases}
 
 found_first : (t : ℕ) (o : Option ℕ) (b : Bool) → b ≡ true → is_some (cond b (Some t) o) ≡ true
 found_first t o true e = refl
@@ -13,19 +13,13 @@ found_later : (t : ℕ) (o : Option ℕ) (b : Bool) → is_some o ≡ true → i
 found_later t o true e = refl
 found_later t o false e = e
 
-greater : (a b : ℕ) → (max a b ≡ a) ⊎ (max a b ≡ b)
-greater a b = elim (leb_tells a b) [
-  | inl up ↦ (let le : a ≤ b = up.1 in inr (omega arith))
-  | inr down ↦ (let lt : b < a = down.1 in inl (omega arith))
-]
-
 -- the greatest so far, or that of one that is found
 reached : (rank : ℕ → ℕ) (most : ℕ) (ts : List ℕ) → (fold (λ m k. max m (rank k)) most ts ≡ most) ⊎ (is_some (find (λ k. rank k == fold (λ m k. max m (rank k)) most ts) ts) ≡ true)
 reached rank most [] = inl refl
 reached rank most (t ∷ ts) =
     let all : ℕ = fold (λ m k. max m (rank k)) (max most (rank t)) ts in
     elim (reached rank (max most (rank t)) ts) [
-      | inl e ↦ elim (greater most (rank t)) [
+      | inl e ↦ elim (max_cases most (rank t)) [
         | inl old ↦ inl (e ∙ old)
         | inr new ↦ inr (found_first t (find (λ k. rank k == all) ts) (rank t == all) (eq-eqb (rank t) all (sym (e ∙ new))))
       ]

@@ -1,10 +1,10 @@
 -- The stored priorities choose as the effective ones do, and what the line's choice is.
-use Rattle.std.proofs.Common.{arith, ◌≡◌, ℕ, ◌<◌, ◌≤◌, zero, suc, List, [], ◌∷◌, length, refl, sym, ◌∙◌, ap, subst}
-use Rattle.std.specs.Prelude.{Option, Some, None, IsSome, slice_get}
-use Rattle.std.specs.Option.{option_flatten}
+use Rattle.std.proofs.Common.{◌≡◌, ℕ, List, refl, sym, ◌∙◌, ap, subst}
+use Rattle.std.specs.Prelude.{Option, Some, None, IsSome}
 use Rattle.std.proofs.lemmas.List.{set-get_or}
 use Rattle.ptk_words.specs.Pools.{pool_get, first_of_greatest}
 use Rattle.ptk_words.specs.declared.threads.Thread.{Thread}
+use Rattle.ptk_words.proofs.Pools.{used_number}
 use Rattle.ptk_words_parted.specs.Parts.{part_of}
 use Rattle.ptk_words_model.specs.State.{Mutex, Part}
 use Rattle.ptk_words_model.specs.Decision.{first_waiter}
@@ -13,16 +13,6 @@ use Rattle.ptk_words_model.specs.Priority.{effective_of}
 use Rattle.ptk_threads.specs.Table.{stored_of}
 use Rattle.ptk_gate_waits.proofs.Locked.{stored_at, first_same, ranks_same}
 use Rattle.ptk_gate_pools.specs.Kept.{Kept, AreStored, AreInUse, part_at, put_part}
-
-used_at : (i : ℕ) (threads : List (Option Thread)) → IsSome (option_flatten (slice_get threads i)) → i < length threads
-used_at i [] used = absurd (cc used)
-used_at zero (x ∷ threads) used = omega arith
-used_at (suc i) (x ∷ threads) used = let rest : i < length threads = used_at i threads used in omega (arith, rest)
-
--- a thread in use has a number of the pool
-used_number : (t : ℕ) (threads : List (Option Thread)) → IsSome (pool_get threads t) → (0 < t) × (t ≤ length threads)
-used_number zero threads used = absurd (cc used)
-used_number (suc i) threads used = let rest : i < length threads = used_at i threads used in (omega arith, omega (arith, rest))
 
 -- the stored priority of a thread in use is its effective one
 pub stored_rank : (p t : ℕ) (stored : List (List ℕ)) (threads : List (List (Option Thread))) (mutexes : List (List (Option Mutex))) → AreStored stored threads mutexes → IsSome (pool_get (part_of threads p) t)

@@ -1,5 +1,5 @@
 -- Stored priorities stay the effective ones where threads change.
-use Rattle.std.proofs.Common.{◌≡◌, ◌≢◌, ℕ, ◌<◌, zero, suc, List, [], ◌∷◌, length, refl, sym, ◌∙◌, ap, ◌⊎◌, inl, inr, subst}
+use Rattle.std.proofs.Common.{◌≡◌, ◌≢◌, ℕ, ◌<◌, List, [], length, refl, sym, ◌∙◌, ap, ◌⊎◌, inl, inr, subst}
 use Rattle.std.specs.Prelude.{false, Option, Some, None, is_some, option_map, option_and_then}
 use Rattle.std.proofs.Math.ListN.{set}
 use Rattle.std.proofs.lemmas.Bool.{cases_eq}
@@ -7,7 +7,9 @@ use Rattle.std.proofs.lemmas.List.{get_or-set_other, length-set}
 use Rattle.ptk_words.specs.Pools.{pool_get, pool_set, pool_changed}
 use Rattle.ptk_words.specs.declared.threads.Thread.{Thread}
 use Rattle.ptk_words.specs.declared.threads.Wait.{Wait}
+use Rattle.ptk_words.proofs.Options.{none_if_not_some}
 use Rattle.ptk_words_parted.specs.Parts.{part_of}
+use Rattle.ptk_words_parted.proofs.Entries.{own_row}
 use Rattle.ptk_words_model.specs.State.{Mutex}
 use Rattle.ptk_words_model.specs.Priority.{awaited, effective_priorities}
 use Rattle.ptk_words.specs.Threads.{mutex_of_wait}
@@ -17,13 +19,6 @@ use Rattle.ptk_gate_waits.proofs.Priorities.{level, priorities_changed, level_ke
 use Rattle.ptk_gate_pools.specs.Kept.{AreStored}
 
 -- ---- a change that no priority reads
-
--- a partition's own list, once an entry of it is set
-pub own_row : {A : Type 0} (rows : List (List A)) (p k : ℕ) (x : A) → part_of (set rows p (pool_set (part_of rows p) k x)) p ≡ pool_set (part_of rows p) k x
-own_row [] p zero x = refl
-own_row [] p (suc i) x = refl
-own_row (row ∷ rows) zero k x = refl
-own_row (row ∷ rows) (suc p) k x = own_row rows p k x
 
 changed_row : (p q k : ℕ) (f : Thread → Thread) (stored : List (List ℕ)) (threads : List (List (Option Thread))) (mutexes : List (List (Option Mutex)))
     → effective_priorities (pool_changed k f (part_of threads p)) (part_of mutexes p) ≡ effective_priorities (part_of threads p) (part_of mutexes p) → AreStored stored threads mutexes
@@ -54,10 +49,6 @@ pub stored_with : (p k : ℕ) (f : Thread → Thread) (table : ThreadTable) (mut
     → AreStored table.stored table.threads mutexes → AreStored table.stored (set table.threads p (pool_changed k f (part_of table.threads p))) mutexes
 stored_with p k f table mutexes priority wait are = stored_changed p k f table (with_changed p k f table) mutexes refl priority wait are
 
-pub not_some : (o : Option ℕ) → is_some o ≡ false → o ≡ None
-not_some None e = refl
-not_some (Some m) e = absurd (cc e)
-
 wait_entry : (f : Thread → Thread) (x : Option Thread) → ((thread : Thread) → mutex_of_wait (f thread).wait ≡ None) → mutex_of_wait (option_and_then (λ (thread : Thread). thread.wait) x) ≡ None → awaited (option_map f x) ≡ awaited x
 wait_entry f None wait was = refl
 wait_entry f (Some thread) wait was = wait thread ∙ sym was
@@ -66,7 +57,7 @@ wait_entry f (Some thread) wait was = wait thread ∙ sym was
 pub stored_wait : (p k : ℕ) (f : Thread → Thread) (old : Option Wait) (table new : ThreadTable) (mutexes : List (List (Option Mutex))) → new ≡ with_changed p k f table → ((thread : Thread) → (f thread).priority ≡ thread.priority) → ((thread : Thread) → mutex_of_wait (f thread).wait ≡ None)
     → old ≡ option_and_then (λ (thread : Thread). thread.wait) (thread_in table p k) → is_some (mutex_of_wait old) ≡ false → AreStored table.stored table.threads mutexes → AreStored new.stored new.threads mutexes
 stored_wait p k f old table new mutexes e priority wait was before are =
-    let none : mutex_of_wait (option_and_then (λ (thread : Thread). thread.wait) (thread_in table p k)) ≡ None = ap mutex_of_wait (sym was) ∙ not_some (mutex_of_wait old) before in
+    let none : mutex_of_wait (option_and_then (λ (thread : Thread). thread.wait) (thread_in table p k)) ≡ None = ap mutex_of_wait (sym was) ∙ none_if_not_some (mutex_of_wait old) before in
     stored_same p k f table new mutexes e (level_kept f (thread_in table p k) priority) (wait_entry f (thread_in table p k) wait none) are
 
 pub ruleset stored = (stored_changed, stored_with)

@@ -7,22 +7,20 @@ use Rattle.ptk_words.specs.declared.threads.Thread.{Thread}
 use Rattle.ptk_words_model.specs.State.{Mutex, Condition, Part, Syncs}
 use Rattle.ptk_words_model.specs.Priority.{thread_at, awaited}
 use Rattle.ptk_words_model.specs.Mutex.{wait_of}
-use Rattle.ptk_words_sync_invariant.specs.Locks.{is_ready, AreLined}
+use Rattle.ptk_words_sync_invariant.specs.Locks.{is_ready}
 use Rattle.ptk_words.specs.Threads.{condition_of_wait}
 use Rattle.ptk_words_sync_invariant.proofs.Lined.{ready_waits, not_ready_out}
 use Rattle.ptk_words_sync_invariant.proofs.Threads.{awaits_not_ready}
 use Rattle.ptk_words_sync_invariant.proofs.Wakings.{waits_not_ready}
 use Rattle.ptk_words_sync_invariant.proofs.Conditions.{IsConditionWait, condition_wait}
 use Rattle.ptk_words_invariant.specs.Well.{IsWell}
+use Rattle.ptk_words_invariant.proofs.Synced.{lined_of}
 use Rattle.ptk_threads.specs.Table.{ThreadTable}
 use Rattle.ptk_gate_waits.specs.LockTables.{IsWaiter, AreLocked}
 use Rattle.ptk_gate_waits.specs.Timeouts.{IsBlocked}
 use Rattle.ptk_gate_waits.specs.Tables.{syncs_by, AreSyncedBy, IsOnCondition, AreWaiting, IsAwake}
 use Rattle.ptk_gate_pools.specs.Kept.{AreStored}
 use Rattle.ptk_gate_pools.proofs.Locking.{ready_is}
-
-pub lined_of : (limits : Limits) (s : Part) → IsWell limits s → AreLined s.threads s.line s.running
-lined_of limits s well = record { line_ready = well.line_ready; line_distinct = well.line_distinct; running_ready = well.running_ready; running_out = well.running_out }
 
 -- a waiter waits, so it is not ready, so it is not in the line
 waiter_is : (limits : Limits) (m t : ℕ) (s : Part) → IsWell limits s → awaited (thread_at s.locks t) ≡ Some m → IsWaiter s.locks m t
@@ -52,7 +50,7 @@ synced_is p n limits s table lines mutexes conditions lt threads stored line poo
   waiting = subst AreWaiting same (waiting_of limits s well);
 }
 
-ready_used : (o : Option Thread) → is_ready o ≡ true → IsSome o
+pub ready_used : (o : Option Thread) → is_ready o ≡ true → IsSome o
 ready_used None ready = absurd (false≢true ready)
 ready_used (Some thread) ready = refl
 

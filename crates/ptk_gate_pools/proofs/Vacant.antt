@@ -8,16 +8,16 @@ use Rattle.ptk_words.specs.Pools.{pool_get, pool_set, least_free}
 use Rattle.ptk_words.specs.declared.mutexes.MutexKind.{MutexKind}
 use Rattle.ptk_words.specs.declared.mutexes.Protocol.{Protocol}
 use Rattle.ptk_words.specs.declared.threads.Thread.{Thread}
+use Rattle.ptk_words.proofs.Pools.{least_free_none}
 use Rattle.ptk_words_parted.specs.Parts.{part_of}
+use Rattle.ptk_words_parted.proofs.Entries.{own_row}
 use Rattle.ptk_words_model.specs.State.{Mutex}
 use Rattle.ptk_words_model.specs.Priority.{effective_priorities}
 use Rattle.ptk_words_model.specs.Mutex.{new_mutex, waiters_of}
 use Rattle.ptk_words_model.specs.MutexCalls.{is_locked}
 use Rattle.ptk_gate_waits.specs.LockPool.{with_new_mutex}
-use Rattle.ptk_gate_waits.proofs.LockPools.{least_free_is}
 use Rattle.ptk_gate_waits.proofs.Ready.{IsIdle, idle_none, idle_unlocked, effective_set}
 use Rattle.ptk_gate_pools.specs.Kept.{AreStored}
-use Rattle.ptk_gate_pools.proofs.Stored.{own_row}
 
 -- ---- one in place of another
 
@@ -51,7 +51,7 @@ pub stored_opened : (p m : ℕ) (kind : MutexKind) (protocol : Protocol) (is_rob
     → new ≡ set mutexes p (with_new_mutex (new_mutex kind protocol is_robust) (part_of mutexes p)) → AreStored stored threads mutexes → AreStored stored threads new
 stored_opened p m kind protocol is_robust stored threads mutexes new free e are =
     stored_set p m (Some (new_mutex kind protocol is_robust)) stored threads mutexes new (idle_unlocked (Some (new_mutex kind protocol is_robust)) refl refl)
-    (idle_none (pool_get (part_of mutexes p) m) (least_free_is (part_of mutexes p) m free)) (opened_at p m (new_mutex kind protocol is_robust) mutexes new free e) are
+    (idle_none (pool_get (part_of mutexes p) m) (least_free_none (part_of mutexes p) m free)) (opened_at p m (new_mutex kind protocol is_robust) mutexes new free e) are
 
 pub stored_closed : (p m : ℕ) (stored : List (List ℕ)) (threads : List (List (Option Thread))) (mutexes new : List (List (Option Mutex))) → is_locked (pool_get (part_of mutexes p) m) ≡ false → waiters_of (pool_get (part_of mutexes p) m) ≡ []
     → new ≡ set mutexes p (pool_set (part_of mutexes p) m None) → AreStored stored threads mutexes → AreStored stored threads new

@@ -6,3 +6,4 @@ pub mod Expired
 pub mod Blank
 pub mod Rows
 pub use Rattle.ptk_gate_waits.specs.LockTables as Tables
+pub use Rattle.ptk_gate_boot.specs.TracedRows

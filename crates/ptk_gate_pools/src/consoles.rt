@@ -3,7 +3,7 @@
 ghost use Rattle.std.specs.Prelude.{◌≡◌, ◌<◌, not, length};
 ghost use Rattle.ptk_words_model.specs.State.{with_console};
 ghost use Rattle.ptk_words_model.specs.Console.{is_full, with_waiter};
-ghost use Rattle.ptk_console.specs.ConsoleTable.{after_put, first_byte, without_first, IsNotWaiting};
+ghost use Rattle.ptk_console.specs.ConsoleTable.{after_put, first_byte, without_byte, IsNotWaiting};
 ghost use Rattle.ptk_gate_pools.specs.Held.{limits_here};
 
 use crate::pools::Pools;
@@ -32,7 +32,7 @@ impl Pools {
     #[tactic(auto, using(crate::proofs::Hands::handed))]
     pub fn take_byte(&mut self) -> Option<u8>
         ensures told { result ≡ first_byte self.old.here.console }
-        ensures moved { self.new ≡ record self.old { here = with_console without_first self.old.here } }
+        ensures moved { self.new ≡ record self.old { here = with_console without_byte self.old.here } }
     {
         let p = self.hand;
         self.consoles.get(p)

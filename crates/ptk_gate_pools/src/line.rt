@@ -37,7 +37,7 @@ impl Pools {
 
     /// A thread that is in use, not in the line and no waiter goes to the tail, where it has used no tick, with these
     /// values in a0 and so on, and no thread runs (XSH 2.8.4).
-    #[tactic(auto, using(crate::proofs::Hands::handed, crate::proofs::Stored::stored, ptk_words_sync_invariant::proofs::Pools::changed_twice))]
+    #[tactic(auto, using(crate::proofs::Hands::handed, crate::proofs::Stored::stored, ptk_words::proofs::Pools::changed_twice))]
     pub fn end_turn_with(&mut self, t: ThreadNo, values: &[u32])
         requires few { length values.now < 4 }
         requires in_use { IsSome (thread_at self.old.here.locks t) }

@@ -3,28 +3,26 @@ use Rattle.std.proofs.Common.{◌≡◌, ℕ, ◌+◌, true, false, List, [], �
 use Rattle.std.specs.Prelude.{Option, Some, None, is_some, option_map, slice_get}
 use Rattle.std.proofs.lemmas.Bool.{false≢true}
 use Rattle.ptk_words.specs.declared.sections.Limits.{Limits}
+use Rattle.ptk_words.proofs.Options.{none_if_not_some}
 use Rattle.ptk_words_model.specs.State.{Part, with_locks, with_console}
 use Rattle.ptk_words_model.specs.Console.{arriving, without_waiter}
 use Rattle.ptk_words.specs.declared.sections.Arrival.{Arrival}
 use Rattle.ptk_words_model.specs.Schedule.{after_wake}
 use Rattle.ptk_words_model.specs.Decision.{first_waiter, after_arrival_for, after_arrivals}
 use Rattle.ptk_words_invariant.specs.Well.{IsWell}
+use Rattle.ptk_words_invariant.proofs.Decisions.{arrival_coming}
 use Rattle.ptk_console.specs.ConsoleTable.{next_byte, without_next, with_any_input}
 use Rattle.ptk_console.specs.ConsoleTable as console
 use Rattle.ptk_gate_moves.specs.Held.{Held, limits_here}
 use Rattle.ptk_gate_moves.specs.Moves.{with_next_taken}
 use Rattle.ptk_gate_services.specs.Arrivals.{after_byte, after_next, after_next_of}
-use Rattle.ptk_gate_services.proofs.ArrivalSteps.{arrivals_step, arrivals_end, next_well, byte_well, next_fewer, arrival_coming}
+use Rattle.ptk_gate_services.proofs.ArrivalSteps.{arrivals_step, arrivals_end, next_well, byte_well, next_fewer}
 
 -- ---- the next byte
 
 some_of : (o : Option ℕ) → is_some o ≡ true → (byte : ℕ) × (o ≡ Some byte)
 some_of None e = absurd (false≢true e)
 some_of (Some byte) e = (byte, refl)
-
-none_of : (o : Option ℕ) → is_some o ≡ false → o ≡ None
-none_of None e = refl
-none_of (Some byte) e = absurd (false≢true (sym e))
 
 next_is : (o : Option ℕ) (limit tick byte : ℕ) (s : Part) → o ≡ Some byte → after_next_of o limit tick s ≡ after_byte limit byte (with_next_taken tick s)
 next_is o limit tick byte s e = rw e refl
@@ -38,7 +36,7 @@ untaken s (x ∷ xs) e = absurd (let no : ⊥ = cc e in no)
 
 -- where none is due, nothing changes
 pub undue_is : (limit tick : ℕ) (s : Part) → is_some (next_byte tick s.console) ≡ false → after_next limit tick s ≡ s
-undue_is limit tick s none = none_next (next_byte tick s.console) limit tick s (none_of (next_byte tick s.console) none)
+undue_is limit tick s none = none_next (next_byte tick s.console) limit tick s (none_if_not_some (next_byte tick s.console) none)
 
 -- and nothing has been taken
 pub next_none : (limit tick : ℕ) (s : Part) → next_byte tick s.console ≡ None → after_next limit tick s ≡ with_next_taken tick s
@@ -95,6 +93,6 @@ arriving_more tick initial now new a due e =
 pub arriving_end : (tick : ℕ) (initial now new : Held) → AreArriving tick initial now → is_some (next_byte tick now.here.console) ≡ false
     → new ≡ record now { here = after_next (limits_here now).ring tick now.here } → new ≡ record initial { here = after_arrivals (limits_here initial) tick initial.here }
 arriving_end tick initial now new a none e =
-    let is : next_byte tick now.here.console ≡ None = none_of (next_byte tick now.here.console) none in
+    let is : next_byte tick now.here.console ≡ None = none_if_not_some (next_byte tick now.here.console) none in
     e ∙ ap (λ (s : Part). record now { here = s }) (undue_is (limits_here now).ring tick now.here none)
     ∙ a.rest ∙ ap (λ (s : Part). record initial { here = s }) (sym (arrivals_end (limits_here initial) tick now.here is) ∙ a.same)

@@ -7,6 +7,7 @@ use Rattle.std.proofs.lemmas.List.Sums.{take_while-cons}
 use Rattle.ptk_words.specs.declared.threads.Thread.{Thread}
 use Rattle.ptk_words.specs.declared.threads.Wait.{Wait}
 use Rattle.ptk_words.specs.declared.threads.Wait.TheVariants.{InputWait}
+use Rattle.ptk_words.proofs.Lists.{first_in}
 use Rattle.ptk_words_model.specs.Mutex.{wait_of}
 use Rattle.ptk_words.specs.Threads.{is_ended}
 use Rattle.ptk_words.specs.declared.sections.Arrival.{Arrival}
@@ -18,9 +19,9 @@ use Rattle.ptk_words_model.specs.Decision.{after_arrival_for, first_waiter, afte
 use Rattle.ptk_words_sync_invariant.specs.Locks.{is_ready}
 use Rattle.ptk_words_invariant.specs.Well.{IsWell}
 use Rattle.ptk_words.specs.Pools.{is_in}
-use Rattle.ptk_words_sync_invariant.proofs.Lines.{first_in}
 use Rattle.ptk_words_invariant.proofs.Parts.{well_console}
 use Rattle.ptk_words_invariant.proofs.Waits.{well_arrival_for}
+use Rattle.ptk_words_invariant.proofs.Decisions.{arrival_coming}
 use Rattle.ptk_console.specs.ConsoleTable.{next_byte, without_next}
 use Rattle.ptk_console.proofs.Arrivals.{arriving-without_next, without_arriving-without_next}
 use Rattle.ptk_gate_moves.specs.Moves.{with_next_taken}
@@ -28,16 +29,7 @@ use Rattle.ptk_words_sync_invariant.specs.Conditions.{IsNoWaiter}
 use Rattle.ptk_gate_moves.proofs.NoWaiters.{reader_apart}
 use Rattle.ptk_gate_services.specs.Arrivals.{after_byte}
 
--- the byte goes to the waiter or into the ring, and the input to come is as it was
-input_coming : (limit byte : ℕ) (console : Console) (b : Bool) → (if b then record console { ring = console.ring ++ byte ∷ [] } else record console { dropped = console.dropped + 1 }).coming ≡ console.coming
-input_coming limit byte console true = refl
-input_coming limit byte console false = refl
-
-pub arrival_coming : (o : Option ℕ) (limit byte : ℕ) (s : Part) → (after_arrival_for o limit byte s).console.coming ≡ s.console.coming
-arrival_coming (Some t) limit byte s = refl
-arrival_coming None limit byte s = input_coming limit byte s.console (nat_lt (length s.console.ring) limit)
-
--- so it makes no difference whether it goes there before or after the input is taken out
+-- a byte goes to the waiter or into the ring, and it makes no difference whether it goes there before or after the input is taken out
 input_apart : (limit byte tick : ℕ) (console : Console) (b : Bool) (coming : List Arrival)
     → (record (if b then record console { ring = console.ring ++ byte ∷ [] } else record console { dropped = console.dropped + 1 }) { coming = coming })
     ≡ (if b then record console { coming = coming; ring = console.ring ++ byte ∷ [] } else record console { coming = coming; dropped = console.dropped + 1 })

@@ -1,6 +1,6 @@
 -- A thread's cleanup handlers, with one pushed or taken off.
-use Rattle.std.proofs.Common.{arith, ◌≡◌, ℕ, zero, suc, List, [], ◌∷◌, drop, refl, sym, ◌∙◌, ap}
-use Rattle.std.specs.Prelude.{not, nat_lt, nat_le, Option, Some, None, option_map, unwrap_or, slice_get, slice_set}
+use Rattle.std.proofs.Common.{arith, ◌≡◌, ℕ, List, [], ◌∷◌, drop, refl, sym, ◌∙◌, ap}
+use Rattle.std.specs.Prelude.{not, nat_lt, nat_le, Option, Some, None, option_map, unwrap_or, slice_get}
 use Rattle.std.proofs.lemmas.Bool.Decides.{nat_tests}
 use Rattle.ptk_words.specs.Pools.{numbered, pool_set}
 use Rattle.ptk_words.specs.declared.faults.Errno.TheVariants.{EINVAL}
@@ -10,6 +10,7 @@ use Rattle.ptk_words_model.specs.Calls.{refusal, success}
 use Rattle.ptk_words_model.specs.CancellationCalls.{cleanup_pop_answer, cleanup_pop}
 use Rattle.ptk_words_model.specs.State.{Part, with_cleanups}
 use Rattle.ptk_words_model.specs.Unwinding.{cleanups_of}
+use Rattle.ptk_words_invariant.proofs.Unwindings.{none_taken}
 
 -- ---- a handler pushed
 
@@ -21,35 +22,11 @@ pub ruleset pushed = (room_or_full)
 
 -- ---- the handler pushed last taken off
 
--- an entry set to what it is
-set_kept : {A : Type 0} (i : ℕ) (a : A) (xs : List A) → slice_get xs i ≡ Some a → slice_set xs i a ≡ xs
-set_kept i a [] e = refl
-set_kept zero a (x ∷ xs) e = let same : x ≡ a = cc in rw same refl
-set_kept (suc i) a (x ∷ xs) e = ap (λ rest. x ∷ rest) (set_kept i a xs e)
-
-kept_at : {A : Type 0} (k : ℕ) (a : A) (xs : List A) → numbered xs k ≡ Some a → pool_set xs k a ≡ xs
-kept_at zero a xs e = refl
-kept_at (suc i) a xs e = set_kept i a xs e
-
-no_first : (handlers : List Cleanup) → slice_get handlers 0 ≡ None → handlers ≡ []
-no_first [] none = refl
-no_first (cleanup ∷ cleanups) none = absurd (let no : ⊥ = cc in no)
-
--- of no handler none is taken off
-none_dropped_at : (t : ℕ) (o : Option (List Cleanup)) (stacks : List (List Cleanup)) → numbered stacks t ≡ o → unwrap_or o [] ≡ [] → unwrap_or (option_map (λ stack. pool_set stacks t (drop 1 stack)) o) stacks ≡ stacks
-none_dropped_at t None stacks e none = refl
-none_dropped_at t (Some []) stacks e none = kept_at t [] stacks e
-none_dropped_at t (Some (cleanup ∷ cleanups)) stacks e none = absurd (let no : ⊥ = cc in no)
-
--- of several the others are left
+-- of several handlers the others are left
 first_dropped_at : (t : ℕ) (o : Option (List Cleanup)) (stacks : List (List Cleanup)) (cleanup : Cleanup) (cleanups : List Cleanup) → unwrap_or o [] ≡ cleanup ∷ cleanups
     → unwrap_or (option_map (λ stack. pool_set stacks t (drop 1 stack)) o) stacks ≡ unwrap_or (option_map (λ _. pool_set stacks t cleanups) o) stacks
 first_dropped_at t None stacks cleanup cleanups first = absurd (let no : ⊥ = cc in no)
 first_dropped_at t (Some stack) stacks cleanup cleanups first = rw first refl
-
--- so nothing changes
-none_taken_off : (t : ℕ) (s : Part) → slice_get (cleanups_of s t) 0 ≡ None → with_cleanups t (drop 1) s ≡ s
-none_taken_off t s none = ap (λ (stacks : List (List Cleanup)). record s { cleanups = stacks }) (none_dropped_at t (numbered s.cleanups t) s.cleanups refl (no_first (cleanups_of s t) none))
 
 emptied_at : (handlers : List Cleanup) (i : Invocation) (s : Part) → slice_get handlers 0 ≡ None → cleanup_pop_answer handlers i s ≡ refusal EINVAL i s
 emptied_at [] i s none = refl
@@ -57,7 +34,7 @@ emptied_at (cleanup ∷ cleanups) i s none = absurd (let no : ⊥ = cc in no)
 
 -- call 45 of a caller with no handler: a refusal after none was taken off
 pub emptied_is : (i : Invocation) (s : Part) → slice_get (cleanups_of s i.caller) 0 ≡ None → cleanup_pop i s ≡ refusal EINVAL i (with_cleanups i.caller (drop 1) s)
-emptied_is i s none = emptied_at (cleanups_of s i.caller) i s none ∙ ap (refusal EINVAL i) (sym (none_taken_off i.caller s none))
+emptied_is i s none = emptied_at (cleanups_of s i.caller) i s none ∙ ap (refusal EINVAL i) (sym (none_taken i.caller s none))
 
 taken_off_at : (handlers : List Cleanup) (cleanup : Cleanup) (i : Invocation) (s : Part) → cleanups_of s i.caller ≡ handlers → slice_get handlers 0 ≡ Some cleanup
     → cleanup_pop_answer handlers i s ≡ success (cleanup.routine ∷ cleanup.argument ∷ []) i (with_cleanups i.caller (drop 1) s)

@@ -18,9 +18,9 @@ use Rattle.ptk_gate_services.specs.Requests.{with_request, after_request}
 
 -- ---- the thread named
 
-named_thread : (word : ℕ) (o : Option Thread) (r : Runner) → runner_at word o ≡ Some r → o ≡ Some r.thread
-named_thread word None r e = absurd (let no : ⊥ = cc in no)
-named_thread word (Some thread) r e = let is : r ≡ record { number = word; thread = thread } = cc in rw is refl
+pub runner_thread : (word : ℕ) (o : Option Thread) (r : Runner) → runner_at word o ≡ Some r → o ≡ Some r.thread
+runner_thread word None r e = absurd (let no : ⊥ = cc in no)
+runner_thread word (Some thread) r e = let is : r ≡ record { number = word; thread = thread } = cc in rw is refl
 
 named_number : (word : ℕ) (o : Option Thread) (r : Runner) → runner_at word o ≡ Some r → r.number ≡ word
 named_number word None r e = absurd (let no : ⊥ = cc in no)
@@ -28,7 +28,7 @@ named_number word (Some thread) r e = let is : r ≡ record { number = word; thr
 
 -- its wait is that of the thread of its number
 pub target_waits : (word : ℕ) (r : Runner) (s : Part) → runner_at word (thread_at s.locks word) ≡ Some r → wait_of (thread_at s.locks r.number) ≡ r.thread.wait
-target_waits word r s e = rw (named_number word (thread_at s.locks word) r e) (ap wait_of (named_thread word (thread_at s.locks word) r e))
+target_waits word r s e = rw (named_number word (thread_at s.locks word) r e) (ap wait_of (runner_thread word (thread_at s.locks word) r e))
 
 -- ---- the call
 
@@ -38,7 +38,7 @@ success_if false i x y = refl
 
 -- call 40 of a thread that has ended
 pub ended_is : (i : Invocation) (s : Part) (target : Runner) → runner_at i.a0 (thread_at s.locks i.a0) ≡ Some target → is_ended target.thread.phase ≡ true → cancel i s ≡ success [] i s
-ended_is i s target named ended = rw (named_thread i.a0 (thread_at s.locks i.a0) target named, ended) refl
+ended_is i s target named ended = rw (runner_thread i.a0 (thread_at s.locks i.a0) target named, ended) refl
 
 -- call 40 of a thread that has not
 pub requested_is : (i : Invocation) (s : Part) (target : Runner) → runner_at i.a0 (thread_at s.locks i.a0) ≡ Some target → is_ended target.thread.phase ≡ false
@@ -46,7 +46,7 @@ pub requested_is : (i : Invocation) (s : Part) (target : Runner) → runner_at i
 unfolding after_request
 requested_is i s target named alive =
     let acts : Bool = is_normal target.thread.phase && unwrap_or (option_map is_point_acting (numbered (with_request i.a0 s).cancellations i.a0)) false in
-    rw (named_number i.a0 (thread_at s.locks i.a0) target named, named_thread i.a0 (thread_at s.locks i.a0) target named, alive)
+    rw (named_number i.a0 (thread_at s.locks i.a0) target named, runner_thread i.a0 (thread_at s.locks i.a0) target named, alive)
     (success_if acts i (after_cancelled_wait i.a0 target.thread.wait (with_request i.a0 s)) (with_request i.a0 s))
 
 pub ruleset requested = (target_waits, ended_is, requested_is)

@@ -4,8 +4,8 @@ use Rattle.std.specs.Prelude.{◌*◌, ◌/◌, ◌%◌, ◌^◌}
 use Rattle.std.specs.Int.{w32, w64, to_le_bytes}
 use Rattle.std.proofs.lemmas.List.{take_at, drop_at, drop-drop, append_assoc}
 use Rattle.ptk_words.specs.Words.{with_bytes, with_word}
+use Rattle.ptk_words.proofs.Lists.{length-with_bytes}
 use Rattle.ptk_words_model.specs.Time.{time_bytes}
-use Rattle.ptk_words_invariant.proofs.Effects.{length-with_bytes}
 
 -- they are as one row of bytes stored
 pub stored_after : (memory first second : List ℕ) (a b : ℕ) → a + length first ≡ b → b ≤ length memory → with_bytes (with_bytes memory a first) b second ≡ with_bytes memory a (first ++ second)

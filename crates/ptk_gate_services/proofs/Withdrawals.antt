@@ -7,12 +7,12 @@ use Rattle.ptk_words.specs.declared.sections.Limits.{Limits}
 use Rattle.ptk_words.specs.declared.threads.Thread.{Thread}
 use Rattle.ptk_words.specs.declared.threads.Wait.{Wait}
 use Rattle.ptk_words.specs.declared.threads.Wait.TheVariants.{InputWait, SleepWait, JoinWait}
+use Rattle.ptk_words.proofs.Pools.{changed_own, changed_other}
 use Rattle.ptk_words_model.specs.State.{Locks, Part}
 use Rattle.ptk_words_model.specs.Priority.{thread_at}
 use Rattle.ptk_words_model.specs.Mutex.{wait_of}
 use Rattle.ptk_words_model.specs.Withdrawal.{without_joiner}
 use Rattle.ptk_words_sync_invariant.proofs.Lined.{not_ready_out}
-use Rattle.ptk_words_sync_invariant.proofs.Pools.{changed_own, changed_other}
 use Rattle.ptk_words_invariant.specs.Well.{IsWell}
 use Rattle.ptk_words_invariant.proofs.Whole.{lined_of}
 use Rattle.ptk_words_invariant.proofs.Waits.{waits_not_ready}

@@ -3,11 +3,11 @@ use Rattle.std.proofs.Common.{◌≡◌, ℕ, ◌<◌, ◌≤◌, Bool, true, fa
 use Rattle.std.specs.Prelude.{Option, Some, None, find, nat_lt, ◌==◌, if◌then◌else◌}
 use Rattle.std.proofs.lemmas.Bool.{eqb-true, le-ltb, ltb-true}
 use Rattle.ptk_words.specs.Pools.{without, greatest, first_of_greatest, is_in}
+use Rattle.ptk_words.proofs.Lists.{first_in, in_head, in_without}
 use Rattle.ptk_words_model.specs.State.{Part, with_locks}
 use Rattle.ptk_words_model.specs.Priority.{effective_priority}
 use Rattle.ptk_words_model.specs.Schedule.{first_ready, at_head, after_dispatch, after_choice_between, after_choice}
 use Rattle.ptk_words_sync_invariant.proofs.Greatest.{member_le}
-use Rattle.ptk_words_sync_invariant.proofs.Lines.{first_in, in_head, in_without}
 use Rattle.ptk_words_batches.specs.Quiet.{stays_before}
 use Rattle.ptk_gate_steps.specs.Chosen.{IsChosen}
 

@@ -1,18 +1,14 @@
 -- Up to its stop a partition in which no thread runs or is ready is idle, and up to no later tick.
-use Rattle.std.proofs.Common.{◌≡◌, ℕ, ◌≤◌, ◌<◌, true, false, List, [], ◌∷◌, length, refl, sym, ◌∙◌, arith}
+use Rattle.std.proofs.Common.{◌≡◌, ℕ, ◌≤◌, true, false, length, arith}
 use Rattle.std.specs.Prelude.{None, nat_lt}
-use Rattle.std.proofs.lemmas.Bool.{lt-ltb, false≢true}
 use Rattle.ptk_words.specs.declared.sections.Limits.{Limits}
+use Rattle.ptk_words.proofs.Lists.{empty_from_length}
 use Rattle.ptk_words_model.specs.State.{Part}
 use Rattle.ptk_words.specs.Faults.{is_active}
 use Rattle.ptk_words_invariant.specs.Well.{IsWell}
 use Rattle.ptk_words_batches.specs.Idle.{IsIdle}
 use Rattle.ptk_gate_steps.specs.QuietStops.{before_event}
 use Rattle.ptk_gate_steps.proofs.QuietStops.{none_comes_before, none_expires_before, event_no_later}
-
-none_lined : (line : List ℕ) → nat_lt 0 (length line) ≡ false → line ≡ []
-none_lined [] e = refl
-none_lined (t ∷ line) e = let some : 0 < length (t ∷ line) = omega arith in absurd (false≢true (sym e ∙ lt-ltb 0 (length (t ∷ line)) some))
 
 -- a whole partition is idle up to its stop
 pub idle_up : (limits : Limits) (stop : ℕ) (s : Part) → is_active s.status ≡ true → IsWell limits s → s.running ≡ None → nat_lt 0 (length s.line) ≡ false → IsIdle (before_event s stop) s
@@ -22,7 +18,7 @@ idle_up limits stop s active well runs ready =
     record {
       active = active;
       running = runs;
-      line = none_lined s.line ready;
+      line = empty_from_length s.line ready;
       none_comes = none_comes_before stop n s same;
       none_expires = none_expires_before stop n s same;
     }

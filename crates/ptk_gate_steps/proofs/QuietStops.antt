@@ -1,7 +1,7 @@
 -- Up to its stop a partition is quiet, and up to no later tick.
-use Rattle.std.proofs.Common.{◌≡◌, ℕ, ◌+◌, ◌-◌, ◌≤◌, ◌<◌, Bool, true, false, not, List, [], ◌∷◌, length, cond, refl, sym, ◌∙◌, subst, arith, inl, inr}
+use Rattle.std.proofs.Common.{◌≡◌, ℕ, ◌+◌, ◌-◌, ◌≤◌, ◌<◌, Bool, true, false, List, [], ◌∷◌, length, cond, refl, sym, ◌∙◌, subst, arith, inl, inr}
 use Rattle.std.specs.Prelude.{Option, Some, IfSome, IsSome, option_map, unwrap_or, min, slice_get, take_while, nat_le, if◌then◌else◌}
-use Rattle.std.proofs.lemmas.Bool.{le-leb, false≢true}
+use Rattle.std.proofs.lemmas.Bool.{le-leb, false≢true, not-true}
 use Rattle.std.proofs.lemmas.Bool.Decides.{leb_tells}
 use Rattle.std.proofs.lemmas.List.Sums.{take_while-cons}
 use Rattle.ptk_words.specs.Threads.{is_ended}
@@ -9,6 +9,7 @@ use Rattle.ptk_words.specs.declared.TheConstants.{RETURN_GATE}
 use Rattle.ptk_words.specs.declared.sections.Arrival.{Arrival}
 use Rattle.ptk_words.specs.declared.sections.Limits.{Limits}
 use Rattle.ptk_words.specs.declared.threads.Thread.{Thread}
+use Rattle.ptk_words.proofs.Lists.{first_in}
 use Rattle.ptk_words_model.specs.State.{Part}
 use Rattle.ptk_words_model.specs.Console.{is_due_at, arriving}
 use Rattle.ptk_words_model.specs.Priority.{thread_at, effective_priority}
@@ -18,7 +19,6 @@ use Rattle.ptk_words_model.specs.Unwinding.{is_alive}
 use Rattle.ptk_words.specs.Faults.{is_active}
 use Rattle.ptk_words_sync_invariant.specs.Locks.{used_of}
 use Rattle.ptk_words_sync_invariant.proofs.Lined.{ready_alive}
-use Rattle.ptk_words_sync_invariant.proofs.Lines.{first_in}
 use Rattle.ptk_words_invariant.specs.Well.{IsWell}
 use Rattle.ptk_words_batches.specs.Quiet.{stays_before, IsQuiet}
 use Rattle.ptk_words_batches.proofs.Arrivals.{none_before}
@@ -104,10 +104,6 @@ stop_le limits tick stop thread s =
     let outer : before_event s stop ≤ stop = event_stop_le stop s in
     omega (arith, inner, outer)
 
-not_ended : (ended : Bool) → not ended ≡ true → ended ≡ false
-not_ended true e = absurd (false≢true e)
-not_ended false e = refl
-
 -- a whole partition is quiet up to its stop
 pub quiet_up : (limits : Limits) (tick stop n t : ℕ) (thread : Thread) (s : Part) → is_active s.status ≡ true → IsWell limits s → length s.memory ≤ RETURN_GATE
     → s.running ≡ Some t → thread_at s.locks t ≡ Some thread → is_to_unwind s t thread ≡ false → stays_before (effective_priority s.locks) t (first_ready s.locks) ≡ true
@@ -127,7 +123,7 @@ quiet_up limits tick stop n t thread s active well gate runs in_use goes stays e
       chosen = stays;
       running = runs;
       in_use = in_use;
-      lives = not_ended (is_ended thread.phase) alive;
+      lives = not-true (is_ended thread.phase) alive;
       goes_on = goes;
       within = interval_within (is_round_robin thread.policy) limits.interval tick thread.used (before_event s stop) n room up;
       gate = gate;

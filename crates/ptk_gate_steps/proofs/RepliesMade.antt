@@ -9,13 +9,13 @@ use Rattle.ptk_words.specs.declared.sections.Limits.{Limits}
 use Rattle.ptk_words.specs.declared.threads.Policy.{Policy}
 use Rattle.ptk_words.specs.declared.threads.Policy.TheVariants.{Fifo, RoundRobin}
 use Rattle.ptk_words.specs.declared.threads.Thread.{Thread}
+use Rattle.ptk_words.proofs.Pools.{changed_other, changed_twice}
 use Rattle.ptk_words_model.specs.State.{Mutex, Part, with_locks, with_console}
 use Rattle.ptk_words_model.specs.Mutex.{mutex_at}
 use Rattle.ptk_words_model.specs.Priority.{thread_at, effective_priority}
 use Rattle.ptk_words_model.specs.Schedule.{with_thread, with_used, is_round_robin}
 use Rattle.ptk_words_model.specs.Console.{is_full, with_output}
 use Rattle.ptk_words_model.specs.Decision.{with_cpu}
-use Rattle.ptk_words_sync_invariant.proofs.Pools.{changed_other, changed_twice}
 use Rattle.ptk_words_batches.specs.Quiet.{computed}
 use Rattle.ptk_words_batches.specs.Replies.{outcome_of, with_outcome}
 use Rattle.ptk_words_batches.proofs.PlainDecisions.{with_registers_of}

@@ -1,6 +1,6 @@
 //! What a thread's next step is, and quiet calls made on registers that are apart from their thread's slot.
 
-ghost use Rattle.std.specs.Prelude.{◌≡◌, ◌+◌, ◌^◌, ◌<◌, ◌≤◌, true, Some, IsSome};
+ghost use Rattle.std.specs.Prelude.{◌≡◌, ◌+◌, ◌^◌, ◌<◌, ◌≤◌, true, None, Some, IfSome, IsSome};
 ghost use Rattle.ptk_words.specs.Calls.{call_of, cost_of};
 ghost use Rattle.ptk_words.specs.Processor.{register};
 ghost use Rattle.ptk_words.specs.declared.TheConstants.{A0, A7};
@@ -51,24 +51,23 @@ pub(crate) fn next_is(pools: &Pools, t: ThreadNo) -> Next
 /// The ticks of the longest step, which is a broadcast (own choice).
 const LONGEST_STEP: u32 = 16;
 
-/// Makes the call that these registers of the thread state, where it is quiet and takes at most `room` ticks. Returns
-/// its ticks, and 0, and nothing changes, where it is not made.
+/// Makes the call that these registers of the thread state, where it is quiet and takes at most `room` ticks. Its ticks;
+/// None, and nothing changes, where it is not made.
 #[inline(always)]
-pub(crate) fn answer(pools: &mut Pools, t: ThreadNo, cpu: &mut Cpu, room: u32) -> u32
-    ensures short { result ≤ 16 }
-    ensures made { 0 < result → (result ≡ cost_of (register cpu.old A7)) × (result ≤ room) × IsMade t cpu.old cpu.new pools.old pools.new }
-    ensures none { result ≡ 0 → (pools.new ≡ pools.old) × (cpu.new ≡ cpu.old) }
-    ensures missed { result ≡ 0 → is_quiet_with (call_of (register cpu.old A7)) t (register cpu.old A0) pools.old.here ≡ true → room < cost_of (register cpu.old A7) }
+pub(crate) fn answer(pools: &mut Pools, t: ThreadNo, cpu: &mut Cpu, room: u32) -> Option<u32>
+    ensures made { IfSome result (λ ticks. (ticks ≡ cost_of (register cpu.old A7)) × (ticks ≤ room) × (0 < ticks) × (ticks ≤ 16) × IsMade t cpu.old cpu.new pools.old pools.new) }
+    ensures none { result ≡ None → (pools.new ≡ pools.old) × (cpu.new ≡ cpu.old) }
+    ensures missed { result ≡ None → is_quiet_with (call_of (register cpu.old A7)) t (register cpu.old A0) pools.old.here ≡ true → room < cost_of (register cpu.old A7) }
 {
     let number = cpu.register(A7);
     if room < LONGEST_STEP && room < cost(number) {
-        return 0;
+        return None;
     }
     let known = Call::of_number(number);
     if !put_reply(pools, t, known, cpu) {
-        return 0;
+        return None;
     }
-    call_cost(known)
+    Some(call_cost(known))
 }
 
 /// The thread has the registers after steps of this number of ticks, which are counted under SCHED_RR (XSH 2.8.4).

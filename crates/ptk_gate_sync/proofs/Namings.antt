@@ -10,17 +10,17 @@ use Rattle.ptk_words.specs.declared.faults.Errno.TheVariants.{EFAULT, ENOMEM, EI
 use Rattle.ptk_words.specs.declared.mutexes.MutexKind.TheVariants.{Normal}
 use Rattle.ptk_words.specs.declared.mutexes.Protocol.TheVariants.{NoProtocol}
 use Rattle.ptk_words.specs.declared.sections.Limits.{Limits}
+use Rattle.ptk_words.proofs.Pools.{get-set_own}
 use Rattle.ptk_words_model.specs.declared.Invocation.{Invocation}
 use Rattle.ptk_words_model.specs.State.{Part}
 use Rattle.ptk_words_model.specs.Mutex.{mutex_at, new_mutex}
 use Rattle.ptk_words_model.specs.Calls.{Answer, refusal, is_pointer, is_cancelled, with_stored, with_pool_mutex, with_pool_condition}
 use Rattle.ptk_words_model.specs.Steps.{Row, readable, cancellation_point, mutex_named, condition_named}
-use Rattle.ptk_words_sync_invariant.proofs.Pools.{get-set_own}
 use Rattle.ptk_words_invariant.specs.Well.{IsWell}
 use Rattle.ptk_words_invariant.proofs.Starts.{IsFree, least_free_is}
 use Rattle.ptk_words_invariant.proofs.MutexCalls.{length-stored, well_stored, well_set_up}
 use Rattle.ptk_words_invariant.proofs.NamedRows.{well_new_condition}
-use Rattle.ptk_gate_moves.proofs.Pointers.{pointer_room}
+use Rattle.ptk_words_invariant.proofs.TimeRows.{pointer_within}
 use Rattle.ptk_gate_sync.specs.Named.{IsNamed, IsMutexOfWord, IsConditionOfWord, IsConditionNamed}
 
 -- ---- a pointer
@@ -139,7 +139,7 @@ mutex_read limits i s u named within of = record {
   running = of.running;
   memory = of.memory;
   word = (
-      let old : i.a0 + 4 ≤ length s.memory = pointer_room s i.a0 4 within in
+      let old : i.a0 + 4 ≤ length s.memory = pointer_within s i.a0 4 within in
       let here : i.a0 + 4 ≤ length u.memory = rw of.memory old in
       ok_any (i.a0 + 4 ≤ length u.memory) named here
       );
@@ -218,7 +218,7 @@ condition_read limits i s u named within of = record {
   call = λ rest. readable_on i.a0 4 (condition_named i.a0 rest) i s within ∙ of.call i rest;
   well = of.well;
   word = (
-      let old : i.a0 + 4 ≤ length s.memory = pointer_room s i.a0 4 within in
+      let old : i.a0 + 4 ≤ length s.memory = pointer_within s i.a0 4 within in
       let here : i.a0 + 4 ≤ length u.memory = rw of.memory old in
       ok_any (i.a0 + 4 ≤ length u.memory) named here
       );

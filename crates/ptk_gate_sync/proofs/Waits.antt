@@ -1,13 +1,13 @@
 -- The rests of the rows of calls 24 and 30 to 35.
-use Rattle.std.proofs.Common.{arith, ◌≡◌, ℕ, ◌<◌, ◌≤◌, Bool, true, false, List, [], ◌∷◌, length, refl}
-use Rattle.std.specs.Prelude.{Option, Some, None, IsSome, nat_lt, if◌then◌else◌}
-use Rattle.std.proofs.lemmas.Bool.{ltb-false}
+use Rattle.std.proofs.Common.{◌≡◌, ℕ, ◌<◌, Bool, true, false, refl}
+use Rattle.std.specs.Prelude.{Some, None, if◌then◌else◌}
 use Rattle.ptk_words.specs.declared.TheConstants.{COUNT_LIMIT}
 use Rattle.ptk_words.specs.declared.sections.Limits.{Limits}
+use Rattle.ptk_words.proofs.Lists.{empty_from_length}
 use Rattle.ptk_words_model.specs.declared.LockMove.TheVariants.{Counts}
-use Rattle.ptk_words_model.specs.State.{Mutex, Part, with_locks}
+use Rattle.ptk_words_model.specs.State.{Part, with_locks}
 use Rattle.ptk_words_model.specs.Mutex.{mutex_at, owns, count_of, relock_move, after_unlock}
-use Rattle.ptk_words_sync_invariant.proofs.ConditionWaits.{room_unlock}
+use Rattle.ptk_words_sync_invariant.proofs.ConditionWaits.{room_unlock, owned_used}
 use Rattle.ptk_words_invariant.specs.Well.{IsWell}
 use Rattle.ptk_words_invariant.proofs.Synced.{running_syncs}
 use Rattle.ptk_words_invariant.proofs.MutexCalls.{well_unlock}
@@ -18,12 +18,7 @@ use Rattle.ptk_gate_moves.proofs.Locked.{locked_of, may_wait}
 
 -- ---- destruction
 
--- no thread waits
-pub none_waits : (ts : List ℕ) → nat_lt 0 (length ts) ≡ false → ts ≡ []
-none_waits [] e = refl
-none_waits (t ∷ ts) e = let le : length (t ∷ ts) ≤ 0 = ltb-false 0 (length (t ∷ ts)) e in absurd (omega (arith, le))
-
-pub ruleset unwaited = (none_waits)
+pub ruleset unwaited = (empty_from_length)
 
 -- ---- the time
 
@@ -32,10 +27,6 @@ none_if true d e = absurd (cc e)
 none_if false d e = refl
 
 -- ---- a deadline that has come
-
-used_of_owner : (t : ℕ) (o : Option Mutex) → owns t o ≡ true → IsSome o
-used_of_owner t None e = absurd (cc e)
-used_of_owner t (Some x) e = refl
 
 -- the mutex released, the mutexes are used as they should be
 pub released_locked : (limits : Limits) (m : ℕ) (s : Part) → IsWell limits s → AreLocked (after_unlock m s.locks)
@@ -53,6 +44,6 @@ released_free limits m t s well runs = runner_apart limits t (with_locks (after_
 pub released_count : (limits : Limits) (m t : ℕ) (s : Part) → IsWell limits s → s.running ≡ Some t → owns t (mutex_at s.locks m) ≡ true
     → relock_move t (mutex_at (after_unlock m s.locks) m) ≡ Counts → count_of (mutex_at (after_unlock m s.locks) m) < COUNT_LIMIT
 released_count limits m t s well runs own =
-    (room_unlock limits.interval t m (Some t) s.console.waiters s.syncs (used_of_owner t (mutex_at s.locks m) own) (running_syncs limits t s runs well)).room
+    (room_unlock limits.interval t m (Some t) s.console.waiters s.syncs (owned_used t (mutex_at s.locks m) own) (running_syncs limits t s runs well)).room
 
 pub ruleset released = (released_locked, released_wait, released_free, released_count)

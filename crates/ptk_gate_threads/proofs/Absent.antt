@@ -1,10 +1,12 @@
 -- Threads that are not in the line: one that has ended, and one that ends, also once its joiner is woken.
-use Rattle.std.proofs.Common.{◌≡◌, ◌≢◌, ℕ, Bool, true, false, ◌&&◌, refl, sym, ap, subst}
+use Rattle.std.proofs.Common.{◌≡◌, ◌≢◌, ℕ, Bool, true, false, refl, sym, ap, subst}
 use Rattle.std.specs.Prelude.{Option, Some, None, IfSome, option_and_then, is_none}
+use Rattle.std.proofs.Math.Bool.{and-false}
 use Rattle.ptk_words.specs.Pools.{is_in}
 use Rattle.ptk_words.specs.Threads.{is_ended, left_at_detach}
 use Rattle.ptk_words.specs.declared.sections.Limits.{Limits}
 use Rattle.ptk_words.specs.declared.threads.Thread.{Thread}
+use Rattle.ptk_words.proofs.Lists.{out_push}
 use Rattle.ptk_words_model.specs.declared.Runner.{Runner}
 use Rattle.ptk_words_model.specs.State.{Locks, Part}
 use Rattle.ptk_words_model.specs.Priority.{thread_at}
@@ -12,18 +14,13 @@ use Rattle.ptk_words_model.specs.Decision.{runner_at}
 use Rattle.ptk_words_model.specs.Unwinding.{after_join_by}
 use Rattle.ptk_words_sync_invariant.specs.Locks.{is_ready}
 use Rattle.ptk_words_sync_invariant.proofs.Lined.{not_ready_out}
-use Rattle.ptk_words_sync_invariant.proofs.Lines.{out_push}
 use Rattle.ptk_words_invariant.specs.Well.{IsWell}
 use Rattle.ptk_words_invariant.proofs.Whole.{lined_of}
 
 -- ---- a thread that has ended
 
-and_false : (b : Bool) → (b && false) ≡ false
-and_false true = refl
-and_false false = refl
-
 ended_at : (thread : Option Thread) (own : Thread) → thread ≡ Some own → is_ended own.phase ≡ true → is_ready thread ≡ false
-ended_at thread own is ended = rw (is, ended) (and_false (is_none own.wait))
+ended_at thread own is ended = rw (is, ended) (and-false (is_none own.wait))
 
 pub ended_out : (limits : Limits) (t : ℕ) (thread : Thread) (s : Part) → IsWell limits s → thread_at s.locks t ≡ Some thread → is_ended thread.phase ≡ true → is_in t s.line ≡ false
 ended_out limits t thread s well is ended = not_ready_out s.threads s.line s.running t (lined_of limits s well) (ended_at (thread_at s.locks t) thread is ended)

@@ -1,10 +1,10 @@
 -- The thread that is chosen next is in use.
 use Rattle.std.proofs.Common.{◌≡◌, ℕ, sym, ◌∙◌}
 use Rattle.std.specs.Prelude.{Option, Some, IsSome}
+use Rattle.ptk_words.proofs.Lists.{first_in}
 use Rattle.ptk_words_model.specs.State.{Part}
 use Rattle.ptk_words_model.specs.Priority.{thread_at, effective_priority}
 use Rattle.ptk_words_model.specs.Schedule.{first_ready}
-use Rattle.ptk_words_sync_invariant.proofs.Lines.{first_in}
 use Rattle.ptk_words_invariant.specs.Well.{IsWell}
 use Rattle.ptk_gate_moves.specs.Held.{Held, limits_here}
 use Rattle.ptk_gate_moves.proofs.Ready.{lined_in_use}

@@ -1,13 +1,15 @@
 -- The next move of an unwinding thread: with a handler left, and without one.
-use Rattle.std.proofs.Common.{◌≡◌, ℕ, zero, suc, List, [], ◌∷◌, refl, sym, ◌∙◌, ap, subst}
-use Rattle.std.specs.Prelude.{Option, Some, None, option_map, unwrap_or, slice_get, slice_set, drop}
+use Rattle.std.proofs.Common.{◌≡◌, ℕ, List, [], ◌∷◌, refl, sym, ◌∙◌, ap, subst}
+use Rattle.std.specs.Prelude.{Option, Some, None, option_map, unwrap_or, slice_get, drop}
 use Rattle.ptk_words.specs.Pools.{numbered, pool_set}
 use Rattle.ptk_words.specs.declared.sections.Limits.{Limits}
 use Rattle.ptk_words.specs.declared.threads.Cleanup.{Cleanup}
+use Rattle.ptk_words.proofs.Lists.{empty_from_no_first}
 use Rattle.ptk_words_model.specs.State.{Part, with_cleanups}
 use Rattle.ptk_words_model.specs.Keys.{next_destructor}
 use Rattle.ptk_words_model.specs.Unwinding.{cleanups_of, after_routine_call, after_destructor_or_end, after_unwinding_move}
 use Rattle.ptk_words_invariant.specs.Well.{IsWell}
+use Rattle.ptk_words_invariant.proofs.Unwindings.{none_taken}
 
 -- ---- with a handler left
 
@@ -31,32 +33,7 @@ handler_called t cleanup s first = called_at t (cleanups_of s t) cleanup s refl 
 
 -- ---- without one
 
-no_first : {A : Type 0} (xs : List A) → slice_get xs 0 ≡ None → xs ≡ []
-no_first [] e = refl
-no_first (x ∷ xs) e = absurd (let no : ⊥ = cc in no)
-
--- an entry set to what it is
-set_to_own : {A : Type 0} (xs : List A) (i : ℕ) (a : A) → slice_get xs i ≡ Some a → slice_set xs i a ≡ xs
-set_to_own [] i a e = refl
-set_to_own (x ∷ xs) zero a e = let same : x ≡ a = cc in ap (λ y. y ∷ xs) (sym same)
-set_to_own (x ∷ xs) (suc i) a e = ap (λ ys. x ∷ ys) (set_to_own xs i a e)
-
-pool_set_to_own : {A : Type 0} (xs : List A) (k : ℕ) (a : A) → numbered xs k ≡ Some a → pool_set xs k a ≡ xs
-pool_set_to_own xs zero a e = refl
-pool_set_to_own xs (suc i) a e = set_to_own xs i a e
-
-emptied_at : (t : ℕ) (cleanups : List (List Cleanup)) (o : Option (List Cleanup)) → numbered cleanups t ≡ o → unwrap_or o [] ≡ []
-    → unwrap_or (option_map (λ own. pool_set cleanups t (drop 1 own)) o) cleanups ≡ cleanups
-emptied_at t cleanups None e none = refl
-emptied_at t cleanups (Some own) e none =
-    ap (λ (own : List Cleanup). pool_set cleanups t (drop 1 own)) none ∙ pool_set_to_own cleanups t [] (e ∙ ap Some none)
-
--- taking one off changes nothing
-none_taken : (t : ℕ) (s : Part) → slice_get (cleanups_of s t) 0 ≡ None → with_cleanups t (drop 1) s ≡ s
-none_taken t s none =
-    ap (λ (cleanups : List (List Cleanup)). record s { cleanups = cleanups }) (emptied_at t s.cleanups (numbered s.cleanups t) refl (no_first (cleanups_of s t) none))
-
--- so a whole state stays whole
+-- where none is taken off, a whole state stays whole
 pub none_well : (limits : Limits) (t : ℕ) (s : Part) → slice_get (cleanups_of s t) 0 ≡ None → IsWell limits s → IsWell limits (with_cleanups t (drop 1) s)
 none_well limits t s none well = subst (IsWell limits) (sym (none_taken t s none)) well
 
@@ -65,6 +42,6 @@ pub none_called : (t : ℕ) (s : Part) → slice_get (cleanups_of s t) 0 ≡ Non
     → after_destructor_or_end t (next_destructor s.keys t) (with_cleanups t (drop 1) s) ≡ after_unwinding_move t (cleanups_of s t) s
 none_called t s none =
     ap (after_destructor_or_end t (next_destructor s.keys t)) (none_taken t s none)
-    ∙ ap (λ (cleanups : List Cleanup). after_unwinding_move t cleanups s) (sym (no_first (cleanups_of s t) none))
+    ∙ ap (λ (cleanups : List Cleanup). after_unwinding_move t cleanups s) (sym (empty_from_no_first (cleanups_of s t) none))
 
 pub ruleset unwound = (handler_called, none_called)

@@ -6,6 +6,7 @@ use Rattle.ptk_words.specs.Pools.{pool_get, pool_set, pool_changed}
 use Rattle.ptk_words.specs.Threads.{is_taken, is_ended, left_at_end, left_at_detach}
 use Rattle.ptk_words.specs.declared.threads.Thread.{Thread}
 use Rattle.ptk_words.specs.declared.threads.Phase.TheVariants.{Ended}
+use Rattle.ptk_words.proofs.Pools.{changed_own, changed_other}
 use Rattle.ptk_words_model.specs.declared.Invocation.{Invocation}
 use Rattle.ptk_words_model.specs.declared.Runner.{Runner}
 use Rattle.ptk_words_model.specs.State.{Locks, Part, with_locks}
@@ -15,7 +16,6 @@ use Rattle.ptk_words_model.specs.Decision.{runner_at}
 use Rattle.ptk_words_model.specs.Calls.{success}
 use Rattle.ptk_words_model.specs.ThreadCalls.{detach}
 use Rattle.ptk_words_model.specs.Unwinding.{after_join_by, after_release, without_thread}
-use Rattle.ptk_words_sync_invariant.proofs.Pools.{changed_own, changed_other}
 use Rattle.ptk_gate_moves.specs.Moves.{with_left}
 
 if_over : {A B : Type 0} (b : Bool) (x y : A) (f : A → B) → f (if b then x else y) ≡ (if b then f x else f y)

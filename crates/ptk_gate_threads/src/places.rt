@@ -78,7 +78,7 @@ pub(crate) fn place_last(pools: &mut Pools, t: ThreadNo)
 
 /// The thread has this policy and priority. If it runs or is ready, it goes to the tail, but an owner of an INHERIT or
 /// PROTECT mutex keeps its place (pthread_setschedparam).
-#[tactic(auto, using(ptk_words_sync_invariant::proofs::Pools::changed_own))]
+#[tactic(auto, using(ptk_words::proofs::Pools::changed_own))]
 pub(crate) fn reschedule(pools: &mut Pools, t: ThreadNo, policy: Policy, priority: Priority)
     requires in_use { IsSome (thread_at pools.old.here.locks t) }
     requires fresh { pools.old.here.running ≡ Some t → is_in t pools.old.here.line ≡ false }
@@ -92,7 +92,7 @@ pub(crate) fn reschedule(pools: &mut Pools, t: ThreadNo, policy: Policy, priorit
 }
 
 /// The thread has this policy and assigned priority, and has used no tick.
-#[tactic(auto, using(ptk_words_sync_invariant::proofs::Pools::changed_twice))]
+#[tactic(auto, using(ptk_words::proofs::Pools::changed_twice))]
 fn give_scheduling(pools: &mut Pools, t: ThreadNo, policy: Policy, priority: Priority)
     requires locked { AreLocked pools.old.here.locks }
     ensures { pools.new ≡ record pools.old { here = with_locks (with_thread t (with_scheduling policy priority)) pools.old.here } }

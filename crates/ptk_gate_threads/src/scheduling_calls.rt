@@ -114,7 +114,7 @@ fn asked_priority(pools: &Pools, i: &Invocation) -> Result<NewPriority, Errno>
 }
 
 /// The thread, whose priority was the old one, has the new one, and its place follows.
-#[tactic(auto, using(ptk_words_sync_invariant::proofs::Pools::changed_own))]
+#[tactic(auto, using(ptk_words::proofs::Pools::changed_own))]
 fn change_priority(pools: &mut Pools, t: ThreadNo, old: Priority, new: Priority)
     requires in_use { IsSome (thread_at pools.old.here.locks t) }
     requires fresh { pools.old.here.running ≡ Some t → is_in t pools.old.here.line ≡ false }

@@ -1,16 +1,17 @@
 -- A thread that is told to be blocked is where its wait puts it.
 use Rattle.std.proofs.Common.{◌≡◌, ℕ, refl, sym, ◌∙◌, ap, true, false}
-use Rattle.std.specs.Prelude.{Bool, not, ◌&&◌, Option, Some, None}
+use Rattle.std.specs.Prelude.{Bool, ◌&&◌, Option, Some, None}
+use Rattle.std.proofs.lemmas.Bool.{not-true}
 use Rattle.ptk_words.specs.Pools.{is_in}
 use Rattle.ptk_words.specs.declared.threads.Wait.{Wait}
 use Rattle.ptk_words_model.specs.State.{Syncs}
 use Rattle.ptk_words_model.specs.Priority.{thread_at}
 use Rattle.ptk_words.specs.Threads.{mutex_of_wait, condition_of_wait}
 use Rattle.ptk_words_model.specs.Mutex.{wait_of}
+use Rattle.ptk_words_sync_invariant.proofs.Threads.{awaits_by}
 use Rattle.ptk_cond.specs.Rosters.{Rostered}
 use Rattle.ptk_cond.specs.Sound.{syncs_by}
 use Rattle.ptk_gate_waits.specs.Timeouts.{IsBlocked, is_out, is_queued, is_listed, is_blocked_in}
-use Rattle.ptk_gate_waits.proofs.TimedOut.{awaits_by_wait}
 use Rattle.ptk_cond.proofs.Waits.{wait_of-is}
 
 both_first : (a b : Bool) → (a && b) ≡ true → a ≡ true
@@ -21,13 +22,9 @@ both_second : (a b : Bool) → (a && b) ≡ true → b ≡ true
 both_second true b e = e
 both_second false b e = let no : ⊥ = cc in absurd no
 
-not_true : (b : Bool) → not b ≡ true → b ≡ false
-not_true true e = let no : ⊥ = cc in absurd no
-not_true false e = refl
-
 out_told : (t : ℕ) (o : Option Wait) (wait : Wait) (syncs : Syncs) → is_out o syncs t ≡ true → o ≡ Some wait → is_in t syncs.line ≡ false
 out_told t None wait syncs e is = let no : ⊥ = cc in absurd no
-out_told t (Some other) wait syncs e is = not_true (is_in t syncs.line) e
+out_told t (Some other) wait syncs e is = not-true (is_in t syncs.line) e
 
 blocked_in : (t : ℕ) (o : Option Wait) (syncs : Syncs) → o ≡ wait_of (thread_at syncs.locks t) → is_blocked_in o syncs t ≡ true → IsBlocked syncs t
 blocked_in t o syncs is e =
@@ -37,7 +34,7 @@ blocked_in t o syncs is e =
     let listed : is_listed (condition_of_wait o) syncs t ≡ true = both_second (is_out o syncs t && is_queued (mutex_of_wait o) syncs t) (is_listed (condition_of_wait o) syncs t) e in
     record {
       out = λ wait f. out_told t o wait syncs out (is ∙ f);
-      queued = λ m f. ap (λ (x : Option ℕ). is_queued x syncs t) (sym (ap mutex_of_wait is ∙ sym (awaits_by_wait (thread_at syncs.locks t)) ∙ f)) ∙ queued;
+      queued = λ m f. ap (λ (x : Option ℕ). is_queued x syncs t) (sym (ap mutex_of_wait is ∙ sym (awaits_by (thread_at syncs.locks t)) ∙ f)) ∙ queued;
       listed = λ c f. ap (λ (x : Option ℕ). is_listed x syncs t) (sym (ap condition_of_wait is ∙ f)) ∙ listed;
     }
 

@@ -4,12 +4,11 @@ use Rattle.std.specs.Prelude.{Option, Some, None, option_map, option_and_then, u
 use Rattle.std.proofs.lemmas.Bool.{cases_eq}
 use Rattle.ptk_words.specs.Pools.{pool_get, pool_changed, numbers_to}
 use Rattle.ptk_words.specs.declared.threads.Thread.{Thread}
+use Rattle.ptk_words.proofs.Pools.{length-changed, changed_own, changed_other}
 use Rattle.ptk_words_model.specs.State.{Mutex}
 use Rattle.ptk_words_model.specs.Chain.{greatest_leading}
 use Rattle.ptk_words_model.specs.Priority.{ceiling_for, held_of, awaited, inheritor_of, next_in_chain, effective_priorities}
 use Rattle.ptk_words.specs.Threads.{mutex_of_wait}
-use Rattle.ptk_threads.proofs.Slots.{length-pool_changed}
-use Rattle.ptk_threads.proofs.Pools.{pool_get-changed, pool_get-changed_other}
 
 -- as many threads, the same chains and the same held priorities make the same effective priorities
 same_priorities : (threads after : List (Option Thread)) (mutexes others : List (Option Mutex)) → length after ≡ length threads → next_in_chain after others ≡ next_in_chain threads mutexes → held_of after others ≡ held_of threads mutexes
@@ -25,19 +24,19 @@ level x = unwrap_or (option_map (λ (thread : Thread). thread.priority) x) 0
 
 awaited_at : (k t : ℕ) (f : Thread → Thread) (threads : List (Option Thread)) → awaited (option_map f (pool_get threads k)) ≡ awaited (pool_get threads k) → (t ≡ k) ⊎ (t ≢ k) → awaited (pool_get (pool_changed k f threads) t) ≡ awaited (pool_get threads t)
 awaited_at k t f threads same (inl e) =
-    subst (λ (j : ℕ). awaited (pool_get (pool_changed k f threads) j) ≡ awaited (pool_get threads j)) (sym e) (ap awaited (pool_get-changed k f threads) ∙ same)
-awaited_at k t f threads same (inr ne) = ap awaited (pool_get-changed_other k t f threads ne)
+    subst (λ (j : ℕ). awaited (pool_get (pool_changed k f threads) j) ≡ awaited (pool_get threads j)) (sym e) (ap awaited (changed_own k f threads) ∙ same)
+awaited_at k t f threads same (inr ne) = ap awaited (changed_other k t f threads ne)
 
 level_at : (k t : ℕ) (f : Thread → Thread) (threads : List (Option Thread)) → level (option_map f (pool_get threads k)) ≡ level (pool_get threads k) → (t ≡ k) ⊎ (t ≢ k) → level (pool_get (pool_changed k f threads) t) ≡ level (pool_get threads t)
 level_at k t f threads same (inl e) =
-    subst (λ (j : ℕ). level (pool_get (pool_changed k f threads) j) ≡ level (pool_get threads j)) (sym e) (ap level (pool_get-changed k f threads) ∙ same)
-level_at k t f threads same (inr ne) = ap level (pool_get-changed_other k t f threads ne)
+    subst (λ (j : ℕ). level (pool_get (pool_changed k f threads) j) ≡ level (pool_get threads j)) (sym e) (ap level (changed_own k f threads) ∙ same)
+level_at k t f threads same (inr ne) = ap level (changed_other k t f threads ne)
 
 -- a thread changed that keeps its assigned priority, and the mutex that it waits for
 pub priorities_changed : (k : ℕ) (f : Thread → Thread) (threads : List (Option Thread)) (mutexes : List (Option Mutex)) → level (option_map f (pool_get threads k)) ≡ level (pool_get threads k) → awaited (option_map f (pool_get threads k)) ≡ awaited (pool_get threads k)
     → effective_priorities (pool_changed k f threads) mutexes ≡ effective_priorities threads mutexes
 priorities_changed k f threads mutexes levels waits =
-    same_priorities threads (pool_changed k f threads) mutexes mutexes (length-pool_changed k f threads)
+    same_priorities threads (pool_changed k f threads) mutexes mutexes (length-changed k f threads)
     (λ i t. option_and_then (λ m. inheritor_of (pool_get mutexes m)) (awaited_at k t f threads waits (cases_eq t k) i))
     (λ i t. fold (λ most m. max most (ceiling_for t m)) (level_at k t f threads levels (cases_eq t k) i) mutexes)
 

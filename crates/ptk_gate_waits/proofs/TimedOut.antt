@@ -17,7 +17,7 @@ use Rattle.ptk_words_model.specs.Schedule.{woken_with, after_wake}
 use Rattle.ptk_words_model.specs.Mutex.{mutex_at, wait_of, waiters_of}
 use Rattle.ptk_words_model.specs.Condition.{condition_waiters}
 use Rattle.ptk_words_sync_invariant.specs.Conditions.{IsNoWaiter}
-use Rattle.ptk_words_sync_invariant.proofs.Threads.{none_awaits}
+use Rattle.ptk_words_sync_invariant.proofs.Threads.{none_awaits, awaits_by}
 use Rattle.ptk_threads.specs.Table.{thread_in, with_changed}
 use Rattle.ptk_cond.specs.Rosters.{Rostered}
 use Rattle.ptk_cond.specs.Moves.{after_withdrawal}
@@ -33,11 +33,6 @@ use Rattle.ptk_cond.specs.Tables.{put_syncs, AreWaiting}
 use Rattle.ptk_cond.proofs.Steps.{put_none}
 use Rattle.ptk_gate_waits.specs.Timeouts.{after_sync_timeout, IsBlocked}
 
--- a thread waits for the mutex that its wait is for
-pub awaits_by_wait : (o : Option Thread) → awaited o ≡ mutex_of_wait (wait_of o)
-awaits_by_wait None = refl
-awaits_by_wait (Some thread) = refl
-
 -- a thread that waits is in use
 pub waits_used : (o : Option Thread) (wait : Wait) → wait_of o ≡ Some wait → IsSome o
 waits_used None wait e = absurd (cc e)
@@ -46,13 +41,13 @@ waits_used (Some thread) wait e = refl
 -- a thread in a wait for a mutex is one of its waiters
 pub waiter_by : (t m : ℕ) (deadline : Option ℕ) (syncs : Syncs) → IsBlocked syncs t → wait_of (thread_at syncs.locks t) ≡ Some (MutexWait m deadline) → IsWaiter syncs.locks m t
 waiter_by t m deadline syncs blocked is =
-    let waits : awaited (thread_at syncs.locks t) ≡ Some m = awaits_by_wait (thread_at syncs.locks t) ∙ ap mutex_of_wait is in
+    let waits : awaited (thread_at syncs.locks t) ≡ Some m = awaits_by (thread_at syncs.locks t) ∙ ap mutex_of_wait is in
     record { waits = waits; out = blocked.out (MutexWait m deadline) is; inside = blocked.queued m waits }
 
 -- ---- a sleeper
 
 asleep_none : (t deadline : ℕ) (locks : Locks) → wait_of (thread_at locks t) ≡ Some (SleepWait deadline) → awaited (thread_at locks t) ≡ None
-asleep_none t deadline locks is = awaits_by_wait (thread_at locks t) ∙ ap mutex_of_wait is
+asleep_none t deadline locks is = awaits_by (thread_at locks t) ∙ ap mutex_of_wait is
 
 -- is among no waiters
 asleep_of_mutex : (t m deadline : ℕ) (locks : Locks) → wait_of (thread_at locks t) ≡ Some (SleepWait deadline) → AreLocked locks → (b : Bool) → is_in t (waiters_of (mutex_at locks m)) ≡ b → is_in t (waiters_of (mutex_at locks m)) ≡ false

@@ -5,5 +5,4 @@ pub mod Written
 pub mod Decided
 pub mod LimitRuns
 pub mod Larger
-pub mod Lists
 pub mod Runs

@@ -5,12 +5,12 @@ use Rattle.std.proofs.lemmas.Bool.{false≢true}
 use Rattle.ptk_words.specs.Processor.{Processor}
 use Rattle.ptk_words.specs.declared.sections.Limits.{Limits}
 use Rattle.ptk_words.specs.declared.threads.Thread.{Thread}
+use Rattle.ptk_words.proofs.Pools.{changed_own}
 use Rattle.ptk_words_instructions.specs.Instructions.{Effect, Done, Call, Break, Fault}
 use Rattle.ptk_words_model.specs.declared.Runner.{Runner}
 use Rattle.ptk_words_model.specs.State.{Part}
 use Rattle.ptk_words_model.specs.Priority.{thread_at}
 use Rattle.ptk_words_model.specs.Decision.{runner_at, runner_in, runner_of, with_cpu, after_effect}
-use Rattle.ptk_words_sync_invariant.proofs.Pools.{changed_own}
 use Rattle.ptk_words_invariant.proofs.Decisions.{runner_runs}
 use Rattle.ptk_gate.specs.Instructions.{after_instruction}
 use Rattle.ptk_gate.specs.Answers.{call_answer, runner_answer}

@@ -10,7 +10,7 @@ use Rattle.ptk_words.specs.Processor.{Processor, with_register}
 use Rattle.ptk_words.specs.Words.{word_of, sign_extension, word_at, bytes_at, with_bytes}
 use Rattle.ptk_words.specs.declared.TheConstants.{ECALL}
 use Rattle.ptk_words.specs.declared.faults.FaultKind.TheVariants.{Fetch, Load, Store, Misaligned}
-use Rattle.ptk_words_instructions.specs.Instructions.{Name, Jal, Jalr, Beq, Bne, Blt, Bge, Bltu, Bgeu, Lb, Lh, Lw, Lbu, Lhu, Sb, Sh, Sw, Ecall, Row, instruction_table, agrees, Execution, Effect, Done, Call, Break, Fault, with_next_pc, write_effect, jump_effect, branch_effect, address_of, load_effect, store_effect, effect, effect_of_word, can_fetch, decode_of, effect_at}
+use Rattle.ptk_words_instructions.specs.Instructions.{Name, Jal, Jalr, Beq, Bne, Blt, Bge, Bltu, Bgeu, Lb, Lh, Lw, Lbu, Lhu, Sb, Sh, Sw, Ecall, InstructionRow, instruction_table, agrees, Execution, Effect, Done, Call, Break, Fault, with_next_pc, write_effect, jump_effect, branch_effect, address_of, load_effect, store_effect, effect, effect_of_word, can_fetch, decode_of, effect_at}
 use Rattle.ptk_words_model.specs.Decision.{word_fetched}
 
 -- the effect is that of an ECALL
@@ -75,17 +75,17 @@ name_not _ x e = refl
 -- ---- by word
 
 -- a row of ECALL has its word alone
-abbrev is_exact : Row → Bool
+abbrev is_exact : InstructionRow → Bool
 is_exact r = not (is_ecall r.name) || (r.mask == 0xffffffff && r.pattern == ECALL)
 
-abbrev IsFound : ℕ → Row → Type 0
+abbrev IsFound : ℕ → InstructionRow → Type 0
 IsFound word r = (is_exact r ≡ true) × (agrees word r ≡ true)
 
-found_by : (word : ℕ) (r : Row) (rows : List Row) (b : Bool) → agrees word r ≡ b → is_exact r ≡ true → IfSome (find (agrees word) rows) (IsFound word) → IfSome (cond b (Some r) (find (agrees word) rows)) (IsFound word)
+found_by : (word : ℕ) (r : InstructionRow) (rows : List InstructionRow) (b : Bool) → agrees word r ≡ b → is_exact r ≡ true → IfSome (find (agrees word) rows) (IsFound word) → IfSome (cond b (Some r) (find (agrees word) rows)) (IsFound word)
 found_by word r rows true e exact rest = (exact, e)
 found_by word r rows false e exact rest = rest
 
-found : (word : ℕ) (rows : List Row) → list_all is_exact rows ≡ true → IfSome (find (agrees word) rows) (IsFound word)
+found : (word : ℕ) (rows : List InstructionRow) → list_all is_exact rows ≡ true → IfSome (find (agrees word) rows) (IsFound word)
 found word [] exact = tt
 found word (r ∷ rows) exact =
     let parts = and_parts (is_exact r) (list_all is_exact rows) exact in
@@ -102,7 +102,7 @@ exact_by true mask pattern word exact agrees lt other =
     in
     absurd (false≢true (sym other ∙ eq-eqb word ECALL is))
 
-word_not_by : (cpu : Processor) (memory : List ℕ) (word : ℕ) (o : Option Row) → IfSome o (IsFound word) → word < 2 ^ 32 → (word == ECALL) ≡ false → calls (effect_of_word cpu memory word o) ≡ false
+word_not_by : (cpu : Processor) (memory : List ℕ) (word : ℕ) (o : Option InstructionRow) → IfSome o (IsFound word) → word < 2 ^ 32 → (word == ECALL) ≡ false → calls (effect_of_word cpu memory word o) ≡ false
 word_not_by cpu memory word None found lt other = refl
 word_not_by cpu memory word (Some r) found lt other = name_not r.name _ (exact_by (is_ecall r.name) r.mask r.pattern word found.0 found.1 lt other)
 

@@ -1,6 +1,7 @@
 -- The running thread's next step, read where the thread lies, is the step that the model makes.
 use Rattle.std.proofs.Common.{length, ◌≡◌, ℕ, ◌+◌, ◌^◌, ◌<◌, ◌≤◌, Bool, true, false, refl, sym, ◌∙◌, ap, subst, rules}
 use Rattle.std.specs.Prelude.{Option, Some, None, ◌==◌, option_map, unwrap_or, nat_lt, if◌then◌else◌}
+use Rattle.std.proofs.lemmas.Bool.{lt-ltb}
 use Rattle.ptk_words.specs.Processor.{Processor, register}
 use Rattle.ptk_words.specs.Words.{word_of}
 use Rattle.ptk_words.specs.declared.TheConstants.{A0, A7, ECALL, RETURN_GATE}
@@ -82,9 +83,6 @@ idle_moved p tick room kept o told e =
 pub idle_told : (room : ℕ) (s : Part) (o : Option NextStep) → o ≡ next_step_in s → o ≡ None → Idle ≡ spent_in_turn room (runner_of s) s
 idle_told room s o told e = sym (ap (λ (r : Option Runner). spent_in_turn room r s) (no_runner s (runner_of s) (sym told ∙ e)))
 
-below : (a b : ℕ) → a < b → nat_lt a b ≡ true
-below a b h = search rules
-
 not_below : (a b : ℕ) → b ≤ a → nat_lt a b ≡ false
 not_below a b h = search rules
 
@@ -96,7 +94,7 @@ lost_by : (limits : Limits) (tick room cost : ℕ) (s : Part) (next : NextStep) 
     → (after_turn limits tick room o s ≡ s) × (spent_in_turn room o s ≡ Lost)
 lost_by limits tick room cost s next None e paid lt = absurd (let no : ⊥ = cc in no)
 lost_by limits tick room cost s next (Some r) e paid lt =
-    let over = tested room cost true s next r (step_is s next (Some r) r e refl) paid (below room cost lt) in
+    let over = tested room cost true s next r (step_is s next (Some r) r e refl) paid (lt-ltb room cost lt) in
     (rw over refl, rw over refl)
 
 -- the cost does not fit, and nothing changes

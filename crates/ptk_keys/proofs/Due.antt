@@ -1,9 +1,10 @@
 -- The first number of a pool at which a test holds.
-use Rattle.std.proofs.Common.{arith, rules, ◌≡◌, ℕ, ◌+◌, ◌-◌, ◌<◌, ◌≤◌, zero, suc, List, [], ◌∷◌, ◌++◌, length, refl, sym, ◌∙◌, ap, add-one, Bool, true, false}
+use Rattle.std.proofs.Common.{arith, ◌≡◌, ℕ, ◌+◌, ◌-◌, ◌<◌, zero, suc, List, [], ◌∷◌, ◌++◌, length, refl, sym, ◌∙◌, ap, add-one, Bool, true, false}
 use Rattle.std.specs.Prelude.{Option, Some, None, option_and_then, unwrap_or, slice_get, find, filter, nat_lt, ◌&&◌}
 use Rattle.std.specs.Option.{option_or}
 use Rattle.std.proofs.lemmas.List.Folds.{find-append}
 use Rattle.std.proofs.lemmas.List.Elements.{filter-append}
+use Rattle.std.proofs.lemmas.Bool.{lt-ltb}
 use Rattle.ptk_words.specs.Pools.{numbered, numbers_to}
 use Rattle.ptk_words.specs.declared.TheConstants.{DESTRUCTOR_ROUNDS}
 use Rattle.ptk_words_parted.specs.Parts.{part_of}
@@ -57,11 +58,8 @@ either : (xs ys : List ℕ) → slice_get (xs ++ ys) 0 ≡ option_or (slice_get 
 either [] ys = refl
 either (x ∷ xs) ys = refl
 
-below : (a b : ℕ) → a < b → nat_lt a b ≡ true
-below a b h = search rules
-
 positive : (n : ℕ) → nat_lt 0 (suc n) ≡ true
-positive n = below 0 (suc n) (omega arith)
+positive n = lt-ltb 0 (suc n) (omega arith)
 
 one_first : (q : ℕ → Bool) (n : ℕ) (b : Bool) → q (suc n) ≡ b → find (λ k. nat_lt 0 k) (filter q (suc n ∷ [])) ≡ slice_get (filter q (suc n ∷ [])) 0
 one_first q n true e = rw (e, positive n) refl
@@ -84,14 +82,14 @@ pub next_some : (destructors : List (Option ℕ)) (values : List ℕ) (rounds : 
 next_some destructors values rounds key o call lt e is made =
     let first : slice_get (due_keys (keys_of destructors) values) 0 ≡ Some key = sym (first_of_all (is_due (keys_of destructors) values) (length destructors)) ∙ sym e ∙ is in
     let later : rounds.round + 1 ≡ suc rounds.round = omega arith in
-    rw (below rounds.round DESTRUCTOR_ROUNDS lt, first) (ap Some (made ∙ ap (λ r. destructor_call values r key) later))
+    rw (lt-ltb rounds.round DESTRUCTOR_ROUNDS lt, first) (ap Some (made ∙ ap (λ r. destructor_call values r key) later))
 
 -- none is
 pub next_none : (destructors : List (Option ℕ)) (values : List ℕ) (rounds : Rounds) (o : Option ℕ) → rounds.round < DESTRUCTOR_ROUNDS
     → o ≡ find (λ k. nat_lt 0 k) (due_keys (keys_of destructors) values) → o ≡ None → None ≡ due_in_next_round (keys_of destructors) values rounds
 next_none destructors values rounds o lt e is =
     let first : slice_get (due_keys (keys_of destructors) values) 0 ≡ None = sym (first_of_all (is_due (keys_of destructors) values) (length destructors)) ∙ sym e ∙ is in
-    rw (below rounds.round DESTRUCTOR_ROUNDS lt, first) refl
+    rw (lt-ltb rounds.round DESTRUCTOR_ROUNDS lt, first) refl
 
 pub ruleset due = (next_some, next_none)
 

@@ -1,8 +1,9 @@
 -- Entries by number, read and written at an index.
-use Rattle.std.proofs.Common.{arith, ◌≡◌, ℕ, ◌-◌, ◌<◌, ◌≤◌, zero, suc, List, [], ◌∷◌, length, get_or, map, refl, sym, ◌∙◌, ap, add-one}
+use Rattle.std.proofs.Common.{arith, ◌≡◌, ℕ, ◌-◌, ◌<◌, ◌≤◌, zero, suc, List, [], ◌∷◌, length, get_or, map, refl, ◌∙◌, ap, add-one}
 use Rattle.std.specs.Prelude.{slice_set}
 use Rattle.std.proofs.lemmas.List.{set_past}
-use Rattle.ptk_words_parted.proofs.Entries.{numbered_below, pool_set_below, updated_at, updated_past, updated_to}
+use Rattle.ptk_words.proofs.Pools.{pool_set_below}
+use Rattle.ptk_words_parted.proofs.Entries.{numbered_below, updated_at, updated_past, updated_to}
 
 pub ruleset numbers = (numbered_below, pool_set_below, updated_at, updated_past, add-one, set_past)
 

@@ -1,25 +1,16 @@
 -- The tables after a change of one partition, and those made for each section.
-use Rattle.std.proofs.Common.{arith, ◌≡◌, ℕ, ◌<◌, ◌≤◌, zero, suc, List, [], ◌∷◌, length, map, refl, sym, ◌∙◌, ap, All}
+use Rattle.std.proofs.Common.{arith, ◌≡◌, ℕ, ◌<◌, ◌≤◌, zero, suc, List, [], ◌∷◌, length, map, sym, ◌∙◌, All}
 use Rattle.std.specs.Prelude.{Option, None, replicate}
-use Rattle.std.proofs.Math.ListN.{set}
 use Rattle.std.proofs.lemmas.List.{length-map, length-replicate, length-set, set_past, set-get_or, set-set}
 use Rattle.std.proofs.lemmas.List.Elements.{All-head, All-tail}
 use Rattle.ptk_words.specs.declared.sections.Limits.{Limits}
+use Rattle.ptk_words.proofs.Pools.{length-pool_set, length-update}
 use Rattle.ptk_words_parted.specs.Parts.{part_of}
 use Rattle.ptk_words_parted.specs.Cuts.{lent}
 use Rattle.ptk_words_parted.proofs.Cuts.{lent-same, set_part-same}
 use Rattle.ptk_words_model.specs.declared.Rounds.{Rounds}
 use Rattle.ptk_keys.specs.KeptKeys.{AreKept}
-use Rattle.ptk_words_parted.proofs.Entries.{length-pool_set, length-pool_update, filled_per}
-
--- ---- lengths
-
-length_part-set : {X : Type 0} (rows : List (List X)) (p q : ℕ) (row : List X) → length row ≡ length (part_of rows p) → length (part_of (set rows p row) q) ≡ length (part_of rows q)
-length_part-set [] p q row e = refl
-length_part-set (x ∷ rows) zero zero row e = e
-length_part-set (x ∷ rows) zero (suc q) row e = refl
-length_part-set (x ∷ rows) (suc p) zero row e = refl
-length_part-set (x ∷ rows) (suc p) (suc q) row e = length_part-set rows p q row e
+use Rattle.ptk_words_parted.proofs.Entries.{filled_per, length_part-set}
 
 -- ---- a loan of one partition's list that keeps its length
 
@@ -47,7 +38,7 @@ kept_rounds destructors values rounds p row kept lt e =
     rw (lent-same rounds p row within e)
     (record { values_parts = kept.values_parts; rounds_parts = length-set rounds p row ∙ kept.rounds_parts; few = kept.few })
 
-pub ruleset tables = (lent-same, length-set, length-map, set_part-same, set_past, set-get_or, set-set, length-pool_set, length-pool_update, kept_destructors, kept_values, kept_rounds)
+pub ruleset tables = (lent-same, length-set, length-map, set_part-same, set_past, set-get_or, set-set, length-pool_set, length-update, kept_destructors, kept_values, kept_rounds)
 
 -- ---- made for each section
 

@@ -1,7 +1,7 @@
 -- Which images a boot refuses.
 use Rattle.std.proofs.Common.{◌≡◌, ◌∙◌, ◌<◌, ℕ, Bool, true, false, List, Option, Some, None, Result, Ok, Err, length, get_or, position, refl, sym, ap, arith, rules, ◌+◌, inl, inr, is_some}
 use Rattle.std.specs.Prelude.{if◌then◌else◌, nat_lt}
-use Rattle.std.proofs.lemmas.Bool.{cases_order}
+use Rattle.std.proofs.lemmas.Bool.{cases_order, lt-ltb}
 use Rattle.std.proofs.lemmas.List.Sums.{position_or_len_is}
 use Rattle.ptk_words.specs.Image.{ImageParts, image_of}
 use Rattle.ptk_words.specs.declared.faults.ImageFault.{ImageFault}
@@ -48,9 +48,6 @@ refusal_in-start w p alone e lt =
 
 -- ---- the first place
 
-below : (a b : ℕ) → a < b → nat_lt a b ≡ true
-below a b h = search rules
-
 not_below : (a : ℕ) → nat_lt a a ≡ false
 not_below a = search rules
 
@@ -59,7 +56,7 @@ pub position-at : {X : Type 0} (p : X → Bool) (xs : List X) (i : ℕ) (d : X) 
     → p (get_or xs i d) ≡ true → position p xs ≡ Some i
 position-at p xs i d within before here =
     ap (λ (n : ℕ). if nat_lt n (length xs) then Some n else None) (position_or_len_is p xs i d (omega arith) before (λ _. here))
-    ∙ ap (λ (b : Bool). if b then Some i else None) (below i (length xs) within)
+    ∙ ap (λ (b : Bool). if b then Some i else None) (lt-ltb i (length xs) within)
 
 pub position-none : {X : Type 0} (p : X → Bool) (xs : List X) (n : ℕ) (d : X) → n ≡ length xs → ((k : ℕ) → k < n → p (get_or xs k d) ≡ false)
     → position p xs ≡ None

@@ -1,4 +1,2 @@
 pub mod Images
-pub mod Lists
 pub mod Refusals
-pub mod Runs

@@ -2,7 +2,7 @@
 use Rattle.std.specs.Fn.{iterate}
 use Rattle.std.proofs.Common.{◌≡◌, ◌≢◌, ℕ, zero, suc, ◌+◌, ◌-◌, ◌<◌, ◌≤◌, Bool, true, false, List, [], ◌∷◌, ◌++◌, length, refl, sym, ◌∙◌, ap, subst, arith, ◌⊎◌, inl, inr}
 use Rattle.std.specs.Prelude.{Option, Some, None, option_map, option_to_list, nat_lt, nat_eq, fold, IsSome, if◌then◌else◌}
-use Rattle.std.proofs.lemmas.Bool.{cases_eq, eqb-true}
+use Rattle.std.proofs.lemmas.Bool.{cases_eq}
 use Rattle.ptk_words.specs.Pools.{is_in, without, pool_get, pool_set}
 use Rattle.ptk_words.specs.declared.TheConstants.{COUNT_LIMIT}
 use Rattle.ptk_words.specs.declared.threads.Thread.{Thread}
@@ -15,6 +15,8 @@ use Rattle.ptk_words.specs.declared.mutexes.Owner.{Owner}
 use Rattle.ptk_words.specs.declared.mutexes.Owner.TheVariants.{Free, Abandoned, OwnedBy}
 use Rattle.ptk_words.specs.declared.mutexes.Soundness.{Soundness}
 use Rattle.ptk_words.specs.declared.mutexes.Soundness.TheVariants.{Consistent, Inconsistent, Unrecoverable}
+use Rattle.ptk_words.proofs.Lists.{out_push}
+use Rattle.ptk_words.proofs.Pools.{changed_own, changed_other, pool_set_all}
 use Rattle.ptk_words_model.specs.State.{Mutex, Condition, Locks}
 use Rattle.ptk_words_model.specs.declared.LockMove.{LockMove}
 use Rattle.ptk_words_model.specs.declared.LockMove.TheVariants.{Takes, Recovers, Counts, Waits, Refuses}
@@ -24,17 +26,16 @@ use Rattle.ptk_words_model.specs.Schedule.{with_thread, at_tail_with, woken_with
 use Rattle.ptk_words_model.specs.Mutex.{mutex_at, with_mutex, waiters_of, wait_of, count_of, soundness_of, with_soundness, new_mutex, owns, owner_move, own_lock_move, own_trylock_move, is_above_ceiling, lock_move, trylock_move, free_move, handed, heir, move_reply, relock_move, without_mutex_waiter, after_take, after_count, after_free, after_move, after_hand_over_to, after_hand_over, after_refusal_to, after_refusal, after_loss, after_last_unlock, after_unlock, after_relock, after_relock_move, after_bequest, after_abandonment, after_mutex_end}
 use Rattle.ptk_words_model.specs.Condition.{mutex_of_condition_wait, waiters_on}
 use Rattle.ptk_words_sync_invariant.specs.Conditions.{HasRoom, IsNoWaiter}
-use Rattle.ptk_words_sync_invariant.proofs.Lines.{out_push}
-use Rattle.ptk_words_sync_invariant.proofs.Conditions.{condition_wait, room_map}
+use Rattle.ptk_words_sync_invariant.proofs.Conditions.{condition_wait, room_map, same_owner}
 use Rattle.ptk_words_sync_invariant.proofs.MutexPlaces.{pool_set_same}
-use Rattle.ptk_words_sync_invariant.proofs.Rooms.{counts_owner, roomy_joined, roomy_left, roomy_soundness}
-use Rattle.ptk_threads.proofs.Pools.{pool_get-changed, pool_get-changed_other, pool_get-set_other}
+use Rattle.ptk_words_sync_invariant.proofs.Rooms.{counts_owner, roomy_joined, roomy_left, roomy_soundness, free_counts}
+use Rattle.ptk_words_sync_invariant.proofs.ConditionWaits.{down_below}
+use Rattle.ptk_threads.proofs.Pools.{pool_get-set_other}
 use Rattle.ptk_mutex_priorities.specs.declared.slot.Change.TheVariants.{Abandon, Release, Mark}
 use Rattle.ptk_mutex.specs.Tables.{AreLocked, IsWaiter, MayGet, MayWait}
 use Rattle.ptk_mutex.specs.Moves.{after_assignment, after_withdrawal}
 use Rattle.ptk_mutex.specs.Sound.{AreWaiting, IsOnCondition}
 use Rattle.ptk_mutex.proofs.Locked.{heir_may_get}
-use Rattle.ptk_mutex.proofs.Ready.{pool_set_all}
 use Rattle.ptk_mutex.proofs.Steps.{end_of, locked_change, locked_hand_over, locked_refusal}
 
 -- ---- the moves of one mutex
@@ -57,7 +58,7 @@ calm_more m a b c first second = record {
 
 -- a mutex changed
 calm_mutex : (m : ℕ) (f : Mutex → Mutex) (locks : Locks) → IsCalm m locks (with_mutex m f locks)
-calm_mutex m f locks = record { others = λ n ne. pool_get-changed_other m n f locks.mutexes ne; threads = λ k none. refl; out = λ k none out. out }
+calm_mutex m f locks = record { others = λ n ne. changed_other m n f locks.mutexes ne; threads = λ k none. refl; out = λ k none out. out }
 
 not_waiter : (m t k : ℕ) (locks : Locks) → awaited (thread_at locks t) ≡ Some m → awaited (thread_at locks k) ≡ None → k ≢ t
 not_waiter m t k locks waits none = λ same.
@@ -67,8 +68,8 @@ not_waiter m t k locks waits none = λ same.
 -- a waiter gone
 calm_left : (m t : ℕ) (f : Thread → Thread) (locks : Locks) → awaited (thread_at locks t) ≡ Some m → IsCalm m locks (at_tail_with f t (without_mutex_waiter t m locks))
 calm_left m t f locks waits = record {
-  others = λ n ne. pool_get-changed_other m n (λ (mutex : Mutex). record mutex { waiters = without t mutex.waiters }) locks.mutexes ne;
-  threads = λ k none. pool_get-changed_other t k f locks.threads (not_waiter m t k locks waits none);
+  others = λ n ne. changed_other m n (λ (mutex : Mutex). record mutex { waiters = without t mutex.waiters }) locks.mutexes ne;
+  threads = λ k none. changed_other t k f locks.threads (not_waiter m t k locks waits none);
   out = λ k none out. out_push t k locks.line (not_waiter m t k locks waits none) out;
 }
 
@@ -129,7 +130,7 @@ abbrev IsBelow : ℕ → Locks → Type 0
 IsBelow m locks = count_of (mutex_at locks m) < COUNT_LIMIT
 
 below_change : (m : ℕ) (f : Mutex → Mutex) (locks : Locks) → count_of (option_map f (mutex_at locks m)) < COUNT_LIMIT → IsBelow m (with_mutex m f locks)
-below_change m f locks lt = rw (pool_get-changed m f locks.mutexes) lt
+below_change m f locks lt = rw (changed_own m f locks.mutexes) lt
 
 below_taken : (t : ℕ) (x : Option Mutex) → count_of (option_map (λ (mutex : Mutex). record mutex { owner = OwnedBy t; count = 1 }) x) < COUNT_LIMIT
 below_taken t None = omega arith
@@ -138,10 +139,6 @@ below_taken t (Some x) = omega arith
 below_free : (x : Option Mutex) → count_of (option_map (λ (mutex : Mutex). record mutex { owner = Free; count = 0 }) x) < COUNT_LIMIT
 below_free None = omega arith
 below_free (Some x) = omega arith
-
-below_down : (x : Option Mutex) → count_of x ≤ COUNT_LIMIT → count_of (option_map (λ (mutex : Mutex). record mutex { count = mutex.count - 1 }) x) < COUNT_LIMIT
-below_down None le = omega arith
-below_down (Some x) le = omega (arith, le)
 
 count_left : (t : ℕ) (x : Option Mutex) → count_of (option_map (λ (mutex : Mutex). record mutex { waiters = without t mutex.waiters }) x) ≡ count_of x
 count_left t None = refl
@@ -186,7 +183,7 @@ below_either false m first second one other = other
 pub below_unlock : (m : ℕ) (locks : Locks) → count_of (mutex_at locks m) ≤ COUNT_LIMIT → count_of (mutex_at (after_unlock m locks) m) < COUNT_LIMIT
 below_unlock m locks le =
     below_either (nat_lt 1 (count_of (mutex_at locks m))) m (with_mutex m (λ (mutex : Mutex). record mutex { count = mutex.count - 1 }) locks) (after_last_unlock (soundness_of (mutex_at locks m)) m locks)
-    (below_change m (λ (mutex : Mutex). record mutex { count = mutex.count - 1 }) locks (below_down (mutex_at locks m) le))
+    (below_change m (λ (mutex : Mutex). record mutex { count = mutex.count - 1 }) locks (down_below (mutex_at locks m) le))
     (below_last (soundness_of (mutex_at locks m)) m locks)
 
 -- ---- a thread that others' moves leave alone
@@ -206,12 +203,12 @@ apart_more a b c k first second = record {
 
 -- another thread changed
 pub apart_thread : (t k : ℕ) (f : Thread → Thread) (locks : Locks) → k ≢ t → IsApart locks (with_thread t f locks) k
-apart_thread t k f locks ne = record { thread = pool_get-changed_other t k f locks.threads ne; out = λ out. out; room = λ n room. room }
+apart_thread t k f locks ne = record { thread = changed_other t k f locks.threads ne; out = λ out. out; room = λ n room. room }
 
 -- another thread woken
 pub apart_woken : (t k : ℕ) (f : Thread → Thread) (locks : Locks) → k ≢ t → IsApart locks (at_tail_with f t locks) k
 apart_woken t k f locks ne = record {
-  thread = pool_get-changed_other t k f locks.threads ne;
+  thread = changed_other t k f locks.threads ne;
   out = λ out. out_push t k locks.line ne out;
   room = λ n room. room;
 }
@@ -244,18 +241,13 @@ apart_mutex : (m k : ℕ) (f : Mutex → Mutex) (locks : Locks) → (HasRoom k (
 apart_mutex m k f locks own = record {
   thread = refl;
   out = λ out. out;
-  room = λ n room. room_at m n k locks (with_mutex m f locks) (calm_mutex m f locks) (cases_eq n m) (λ had. subst (λ (x : Option Mutex). HasRoom k x) (sym (pool_get-changed m f locks.mutexes)) (own had)) room;
+  room = λ n room. room_at m n k locks (with_mutex m f locks) (calm_mutex m f locks) (cases_eq n m) (λ had. subst (λ (x : Option Mutex). HasRoom k x) (sym (changed_own m f locks.mutexes)) (own had)) room;
 }
 
 -- only the owner counts up
-owner_same : (owner : Owner) (t k : ℕ) → is_owner t owner ≡ true → is_owner k owner ≡ true → k ≡ t
-owner_same Free t k own other = let no : ⊥ = cc in absurd no
-owner_same Abandoned t k own other = let no : ⊥ = cc in absurd no
-owner_same (OwnedBy u) t k own other = sym (eqb-true u k other) ∙ eqb-true u t own
-
 counts_same : (t k : ℕ) (x : Option Mutex) → relock_move t x ≡ Counts → relock_move k (option_map (λ (mutex : Mutex). record mutex { count = mutex.count + 1 }) x) ≡ Counts → k ≡ t
 counts_same t k None e f = let no : ⊥ = cc in absurd no
-counts_same t k (Some x) e f = owner_same x.owner t k (counts_owner t x e) (counts_owner k (record x { count = x.count + 1 }) f)
+counts_same t k (Some x) e f = same_owner x.owner t k (counts_owner t x e) (counts_owner k (record x { count = x.count + 1 }) f)
 
 apart_taken : (t m k : ℕ) (values : List ℕ) (locks : Locks) → k ≢ t → IsApart locks (at_tail_with (woken_with values) t (after_take t m locks)) k
 apart_taken t m k values locks ne =
@@ -285,7 +277,7 @@ apart_relock t m k reply locks ne = apart_move (relock_move t (mutex_at locks m)
 
 counted_same : (t k : ℕ) (x : Option Mutex) → owns t x ≡ true → relock_move k (option_map (λ (mutex : Mutex). record mutex { count = mutex.count + 1 }) x) ≡ Counts → k ≡ t
 counted_same t k None owned e = let no : ⊥ = cc in absurd no
-counted_same t k (Some x) owned e = owner_same x.owner t k owned (counts_owner k (record x { count = x.count + 1 }) e)
+counted_same t k (Some x) owned e = same_owner x.owner t k owned (counts_owner k (record x { count = x.count + 1 }) e)
 
 -- a lock leaves every other thread alone, where its owner alone counts up
 pub apart_made : (made : LockMove) (t m k : ℕ) (wait : Wait) (locks : Locks) → k ≢ t → (made ≡ Counts → owns t (mutex_at locks m) ≡ true) → IsApart locks (after_move made t m wait locks) k
@@ -299,11 +291,6 @@ apart_made Waits t m k wait locks ne owned =
     (apart_mutex m k (λ (mutex : Mutex). record mutex { waiters = mutex.waiters ++ t ∷ [] }) locks (room_map k (λ (mutex : Mutex). record mutex { waiters = mutex.waiters ++ t ∷ [] }) (mutex_at locks m) (roomy_joined t)))
     (apart_thread t k (λ (thread : Thread). record thread { wait = Some wait }) queued ne)
 apart_made (Refuses e) t m k wait locks ne owned = apart_none k locks
-
-free_never : (soundness : Soundness) → free_move soundness ≡ Counts → ⊥
-free_never Consistent e = let no : ⊥ = cc in no
-free_never Inconsistent e = let no : ⊥ = cc in no
-free_never Unrecoverable e = let no : ⊥ = cc in no
 
 owned_if : (b : Bool) (own another : LockMove) → (another ≡ Counts → ⊥) → (if b then own else another) ≡ Counts → b ≡ true
 owned_if true own another never e = refl
@@ -322,14 +309,14 @@ not_refused false move e = e
 pub lock_owned : (locks : Locks) (t : ℕ) (x : Option Mutex) → lock_move locks t x ≡ Counts → owns t x ≡ true
 lock_owned locks t None e = let no : ⊥ = cc in absurd no
 lock_owned locks t (Some m) e =
-    owned_by m.owner t (free_move m.soundness) (own_lock_move m.kind m.count) Waits (free_never m.soundness) (λ f. let no : ⊥ = cc in no)
+    owned_by m.owner t (free_move m.soundness) (own_lock_move m.kind m.count) Waits (free_counts m.soundness) (λ f. let no : ⊥ = cc in no)
     (not_refused (is_above_ceiling (assigned_priority locks t) m.protocol) _ e)
 
 -- by a trylock
 pub trylock_owned : (locks : Locks) (t : ℕ) (x : Option Mutex) → trylock_move locks t x ≡ Counts → owns t x ≡ true
 trylock_owned locks t None e = let no : ⊥ = cc in absurd no
 trylock_owned locks t (Some m) e =
-    owned_by m.owner t (free_move m.soundness) (own_trylock_move m.kind m.count) (Refuses EBUSY) (free_never m.soundness) (λ f. let no : ⊥ = cc in no)
+    owned_by m.owner t (free_move m.soundness) (own_trylock_move m.kind m.count) (Refuses EBUSY) (free_counts m.soundness) (λ f. let no : ⊥ = cc in no)
     (not_refused (is_above_ceiling (assigned_priority locks t) m.protocol) _ e)
 
 -- and by a re-lock

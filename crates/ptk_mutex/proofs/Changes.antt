@@ -4,10 +4,9 @@ use Rattle.std.specs.Prelude.{Option, Some, None, IsSome, option_map, option_and
 use Rattle.std.proofs.lemmas.Bool.{cases_eq, cases_lt}
 use Rattle.ptk_words.specs.Pools.{pool_get, pool_changed, numbers_to}
 use Rattle.ptk_words.specs.declared.threads.Thread.{Thread}
+use Rattle.ptk_words.proofs.Pools.{changed_own, changed_other, length-changed, get_beyond}
 use Rattle.ptk_words_model.specs.State.{Mutex}
-use Rattle.ptk_words_model.specs.Chain.{greatest_leading}
 use Rattle.ptk_words_model.specs.Priority.{awaited, inheritor_of, ceiling_for, assigned_of, next_in_chain, held_of, effective_of, effective_priorities}
-use Rattle.ptk_words_sync_invariant.proofs.Pools.{changed_own, changed_other, length-changed, get_beyond}
 use Rattle.ptk_words_sync_invariant.proofs.Raising.{level_of, effective-changed}
 use Rattle.ptk_words_sync_invariant.proofs.ChainLaws.{IsNumber}
 
@@ -57,14 +56,6 @@ ceilings_mutex u a (suc i) f mutexes e = ceilings_at u a i f mutexes e
 pub held_mutex : (m u : ℕ) (f : Mutex → Mutex) (threads : List (Option Thread)) (mutexes : List (Option Mutex)) → ceiling_for u (option_map f (pool_get mutexes m)) ≡ ceiling_for u (pool_get mutexes m)
     → held_of threads (pool_changed m f mutexes) u ≡ held_of threads mutexes u
 held_mutex m u f threads mutexes e = ceilings_mutex u (assigned_of threads u) m f mutexes e
-
--- the priorities, where both stay
-pub effective_mutex : (m : ℕ) (f : Mutex → Mutex) (threads : List (Option Thread)) (mutexes : List (Option Mutex)) → inheritor_of (option_map f (pool_get mutexes m)) ≡ inheritor_of (pool_get mutexes m)
-    → ((u : ℕ) → ceiling_for u (option_map f (pool_get mutexes m)) ≡ ceiling_for u (pool_get mutexes m)) → effective_priorities threads (pool_changed m f mutexes) ≡ effective_priorities threads mutexes
-effective_mutex m f threads mutexes e h =
-    let next : next_in_chain threads (pool_changed m f mutexes) ≡ next_in_chain threads mutexes = λ i w. next_mutex m w f threads mutexes e i in
-    let held : held_of threads (pool_changed m f mutexes) ≡ held_of threads mutexes = λ i u. held_mutex m u f threads mutexes (h u) i in
-    λ i. map (greatest_leading (length threads) (next i) (held i)) (numbers_to (length threads))
 
 -- ---- a mutex more gives a ceiling
 

@@ -5,6 +5,7 @@ use Rattle.std.proofs.Math.ListN.{set}
 use Rattle.std.proofs.lemmas.List.{set-set}
 use Rattle.ptk_words.specs.Pools.{pool_get, pool_set, least_free}
 use Rattle.ptk_words.specs.declared.threads.Thread.{Thread}
+use Rattle.ptk_words.proofs.Pools.{least_free_none}
 use Rattle.ptk_words_parted.specs.Parts.{part_of}
 use Rattle.ptk_words_parted.proofs.Cuts.{set_part-same}
 use Rattle.ptk_words_model.specs.State.{Locks, Mutex}
@@ -17,7 +18,6 @@ use Rattle.ptk_mutex.specs.Tables.{locks_by, put_locks, with_threads, AreLocked,
 use Rattle.ptk_mutex.specs.Sound.{IsSound}
 use Rattle.ptk_mutex.proofs.Apart.{IsApart, apart_created, apart_none, waiting_kept}
 use Rattle.ptk_mutex.proofs.Locked.{waiter_used}
-use Rattle.ptk_mutex.proofs.Pool.{least_free_is}
 use Rattle.ptk_mutex.proofs.Sound.{sound_locks}
 use Rattle.ptk_mutex.proofs.Steps.{put-is, put_ready}
 
@@ -56,14 +56,14 @@ locked_at None thread locks e locked = record { waiters = λ m k h. let was = lo
 locked_at (Some n) thread locks e locked = record {
   waiters = λ m k h.
       let was : IsWaiter locks m k = locked.waiters m k h in
-      let other : k ≢ n = other_number n k locks.threads (least_free_is locks.threads n e) (waiter_used m k locks was) in
+      let other : k ≢ n = other_number n k locks.threads (least_free_none locks.threads n e) (waiter_used m k locks was) in
       record { waits = ap awaited (pool_get-set_other locks.threads n k (Some thread) other) ∙ was.waits; out = was.out; inside = h };
   counts = locked.counts;
 }
 
 apart_at : (o : Option ℕ) (thread : Thread) (k : ℕ) (locks : Locks) → least_free locks.threads ≡ o → IsSome (thread_at locks k) → IsApart locks (record locks { threads = with_thread_at o thread locks.threads }) k
 apart_at None thread k locks e used = apart_none k locks
-apart_at (Some n) thread k locks e used = apart_created n k (Some thread) locks (other_number n k locks.threads (least_free_is locks.threads n e) used)
+apart_at (Some n) thread k locks e used = apart_created n k (Some thread) locks (other_number n k locks.threads (least_free_none locks.threads n e) used)
 
 -- the roster then, lines, mutexes and condition variables as they were
 pub created_put : (p : ℕ) (thread : Thread) (a b after : Rostered) → p < length a.table.threads → b.table ≡ with_new p thread a.table → b.mutexes ≡ a.mutexes

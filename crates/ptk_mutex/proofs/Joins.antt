@@ -2,11 +2,11 @@
 use Rattle.std.proofs.Common.{arith, ◌≡◌, ℕ, zero, suc, ◌<◌, ◌≤◌, max, Bool, true, false, List, length, map, get_or, sym, ◌∙◌, ap, refl, subst, inl, inr}
 use Rattle.std.specs.Prelude.{Option, Some, None, ◌⊎◌, option_and_then, if◌then◌else◌}
 use Rattle.ptk_words.specs.Pools.{numbers_to}
+use Rattle.ptk_words.proofs.Options.{max_cases}
 use Rattle.ptk_words_model.specs.Chain.{steps_from, Leads, leads_to, greatest_leading}
 use Rattle.ptk_mutex_priorities.specs.Raised.{risen}
 use Rattle.ptk_threads.specs.Table.{stored_of}
 use Rattle.ptk_words_sync_invariant.proofs.ChainLaws.{false_true, none_some, reaches_sound, chain_complete, IsNumber, IsBounded}
-use Rattle.ptk_words_sync_invariant.proofs.Greatest.{max_cases}
 use Rattle.ptk_mutex_priorities.proofs.Levels.{length-numbered, numbered_at, numbered_of, numbered_all}
 use Rattle.ptk_mutex_priorities.proofs.Tops.{IsTop, top-unique, greatest_leading-top, led_on, rising}
 use Rattle.ptk_mutex_priorities.proofs.Risen.{IsPlace, IsWithin}

@@ -1,48 +1,37 @@
 -- Whom a hand over chooses, and that every move leaves waiters that wait and counts within their limit.
 use Rattle.std.proofs.Common.{◌≡◌, ◌≢◌, ℕ, zero, suc, ◌+◌, ◌<◌, ◌≤◌, List, [], ◌∷◌, ◌++◌, length, map, get_or, max, refl, sym, ◌∙◌, ap, subst, arith, true, false, ◌⊎◌, inl, inr}
-use Rattle.std.specs.Prelude.{Option, Some, None, IsSome, option_map, slice_get, fold, find, ◌==◌}
-use Rattle.std.specs.Option.{option_flatten}
+use Rattle.std.specs.Prelude.{Option, Some, None, IsSome, option_map, fold, find, ◌==◌}
 use Rattle.std.proofs.lemmas.Bool.{cases_eq, or_right}
 use Rattle.std.proofs.lemmas.Bool.Decides.{nat_tests}
 use Rattle.std.proofs.lemmas.List.{get_or-map}
+use Rattle.std.proofs.lemmas.Option.{same_Some}
 use Rattle.ptk_words.specs.Pools.{pool_get, pool_changed, numbers_to, greatest, first_of_greatest, is_in, without}
 use Rattle.ptk_words.specs.declared.TheConstants.{COUNT_LIMIT}
 use Rattle.ptk_words.specs.declared.threads.Thread.{Thread}
 use Rattle.ptk_words.specs.declared.threads.Wait.{Wait}
 use Rattle.ptk_words.specs.Threads.{mutex_of_wait}
-use Rattle.ptk_words_model.specs.Mutex.{after_wait, after_count}
+use Rattle.ptk_words.proofs.Lists.{in_push, in_without, out_push, first_in, in_here}
+use Rattle.ptk_words.proofs.Pools.{used_number, changed_own, changed_other}
+use Rattle.ptk_words_model.specs.Mutex.{after_wait, after_count, mutex_at, with_mutex, waiters_of, count_of, heir, without_mutex_waiter}
 use Rattle.ptk_mutex.specs.Moves.{after_assignment}
 use Rattle.ptk_words_model.specs.State.{Mutex, Locks}
 use Rattle.ptk_words_model.specs.Priority.{awaited, thread_at, effective_of, effective_priority, effective_priorities}
 use Rattle.ptk_words_model.specs.Schedule.{at_tail_with}
-use Rattle.ptk_words_model.specs.Mutex.{mutex_at, with_mutex, waiters_of, count_of, heir, without_mutex_waiter}
-use Rattle.ptk_words_sync_invariant.proofs.Lines.{in_push, in_without, out_push, own_head, first_in}
 use Rattle.ptk_threads_slots.specs.Changes.{few_of}
 use Rattle.ptk_threads_slots.specs.declared.thread_list.Members.TheVariants.{NoMember, OnlyMember}
 use Rattle.ptk_threads.specs.Table.{stored_of}
-use Rattle.ptk_threads.proofs.Pools.{pool_get-changed, pool_get-changed_other}
 use Rattle.ptk_mutex.specs.Tables.{IsWaiter, AreLocked, MayGet}
 use Rattle.ptk_mutex_priorities.proofs.Levels.{length-numbers_to, get_or-numbers_to}
 
 -- ---- one that waits
 
-used_at : (i : ℕ) (threads : List (Option Thread)) → IsSome (option_flatten (slice_get threads i)) → i < length threads
-used_at i [] used = let no : ⊥ = cc in absurd no
-used_at zero (x ∷ threads) used = omega arith
-used_at (suc i) (x ∷ threads) used = let rest : i < length threads = used_at i threads used in omega (arith, rest)
-
--- a thread has a number of the pool
-used_number : (k : ℕ) (threads : List (Option Thread)) → IsSome (pool_get threads k) → (0 < k) × (k ≤ length threads)
-used_number zero threads used = let no : ⊥ = cc in absurd no
-used_number (suc i) threads used = let rest : i < length threads = used_at i threads used in (omega arith, omega (arith, rest))
-
-some_of : (m : ℕ) (x : Option Thread) → awaited x ≡ Some m → IsSome x
-some_of m None e = let no : ⊥ = cc in absurd no
-some_of m (Some thread) e = refl
+pub awaiting_used : (m : ℕ) (x : Option Thread) → awaited x ≡ Some m → IsSome x
+awaiting_used m None e = let no : ⊥ = cc in absurd no
+awaiting_used m (Some thread) e = refl
 
 -- it is in use
 pub waiter_used : (m k : ℕ) (locks : Locks) → IsWaiter locks m k → IsSome (pool_get locks.threads k)
-waiter_used m k locks waiter = some_of m (pool_get locks.threads k) waiter.waits
+waiter_used m k locks waiter = awaiting_used m (pool_get locks.threads k) waiter.waits
 
 -- ---- the choice
 
@@ -77,7 +66,7 @@ in_tail k j ks e = or_right (j == k) (is_in j ks) e
 pub ranks_same : (f g : ℕ → ℕ) (ks : List ℕ) → ((k : ℕ) → is_in k ks ≡ true → f k ≡ g k) → map f ks ≡ map g ks
 ranks_same f g [] h = refl
 ranks_same f g (k ∷ ks) h =
-    let here : f k ≡ g k = h k (own_head k ks) in
+    let here : f k ≡ g k = h k (in_here k ks) in
     let rest : map f ks ≡ map g ks = ranks_same f g ks (λ j e. h j (in_tail k j ks e)) in
     ap (λ x. x ∷ map f ks) here ∙ ap (λ xs. g k ∷ xs) rest
 
@@ -133,16 +122,16 @@ mild_counts f (Some x) mild le = mild.counts x le
 mild_in : (m n k : ℕ) (f : Mutex → Mutex) (mutexes : List (Option Mutex)) → IsMild f → (n ≡ m) ⊎ (n ≢ m) → is_in k (waiters_of (pool_get (pool_changed m f mutexes) n)) ≡ true → is_in k (waiters_of (pool_get mutexes n)) ≡ true
 mild_in m n k f mutexes mild (inl e) h =
     let own : is_in k (waiters_of (pool_get (pool_changed m f mutexes) m)) ≡ true = subst (λ (j : ℕ). is_in k (waiters_of (pool_get (pool_changed m f mutexes) j)) ≡ true) e h in
-    let was : is_in k (waiters_of (pool_get mutexes m)) ≡ true = mild_waiters f k (pool_get mutexes m) mild (subst (λ (x : Option Mutex). is_in k (waiters_of x) ≡ true) (pool_get-changed m f mutexes) own) in
+    let was : is_in k (waiters_of (pool_get mutexes m)) ≡ true = mild_waiters f k (pool_get mutexes m) mild (subst (λ (x : Option Mutex). is_in k (waiters_of x) ≡ true) (changed_own m f mutexes) own) in
     subst (λ (j : ℕ). is_in k (waiters_of (pool_get mutexes j)) ≡ true) (sym e) was
-mild_in m n k f mutexes mild (inr ne) h = subst (λ (x : Option Mutex). is_in k (waiters_of x) ≡ true) (pool_get-changed_other m n f mutexes ne) h
+mild_in m n k f mutexes mild (inr ne) h = subst (λ (x : Option Mutex). is_in k (waiters_of x) ≡ true) (changed_other m n f mutexes ne) h
 
 mild_count : (m n : ℕ) (f : Mutex → Mutex) (mutexes : List (Option Mutex)) → IsMild f → (n ≡ m) ⊎ (n ≢ m) → count_of (pool_get mutexes n) ≤ COUNT_LIMIT → count_of (pool_get (pool_changed m f mutexes) n) ≤ COUNT_LIMIT
 mild_count m n f mutexes mild (inl e) h =
     let was : count_of (pool_get mutexes m) ≤ COUNT_LIMIT = subst (λ (j : ℕ). count_of (pool_get mutexes j) ≤ COUNT_LIMIT) e h in
-    let own : count_of (pool_get (pool_changed m f mutexes) m) ≤ COUNT_LIMIT = subst (λ (x : Option Mutex). count_of x ≤ COUNT_LIMIT) (sym (pool_get-changed m f mutexes)) (mild_counts f (pool_get mutexes m) mild was) in
+    let own : count_of (pool_get (pool_changed m f mutexes) m) ≤ COUNT_LIMIT = subst (λ (x : Option Mutex). count_of x ≤ COUNT_LIMIT) (sym (changed_own m f mutexes)) (mild_counts f (pool_get mutexes m) mild was) in
     subst (λ (j : ℕ). count_of (pool_get (pool_changed m f mutexes) j) ≤ COUNT_LIMIT) (sym e) own
-mild_count m n f mutexes mild (inr ne) h = subst (λ (x : Option Mutex). count_of x ≤ COUNT_LIMIT) (sym (pool_get-changed_other m n f mutexes ne)) h
+mild_count m n f mutexes mild (inr ne) h = subst (λ (x : Option Mutex). count_of x ≤ COUNT_LIMIT) (sym (changed_other m n f mutexes ne)) h
 
 pub locked_mild : (m : ℕ) (f : Mutex → Mutex) (locks : Locks) → IsMild f → AreLocked locks → AreLocked (with_mutex m f locks)
 locked_mild m f locks mild locked = record {
@@ -154,25 +143,22 @@ locked_mild m f locks mild locked = record {
 
 -- ---- a waiter gone
 
-pub some_same : (n m : ℕ) → Some n ≡ Some m → n ≡ m
-some_same n m e = cc
-
 left_entry : (t k : ℕ) (x : Option Mutex) → is_in k (waiters_of (option_map (λ (mutex : Mutex). record mutex { waiters = without t mutex.waiters }) x)) ≡ true → k ≢ t
 left_entry t k None h = let no : ⊥ = cc in absurd no
 left_entry t k (Some x) h = (in_without t k x.waiters h).0
 
 left_own : (m t k : ℕ) (mutexes : List (Option Mutex)) → is_in k (waiters_of (pool_get (pool_changed m (λ (mutex : Mutex). record mutex { waiters = without t mutex.waiters }) mutexes) m)) ≡ true → k ≢ t
-left_own m t k mutexes h = left_entry t k (pool_get mutexes m) (subst (λ (x : Option Mutex). is_in k (waiters_of x) ≡ true) (pool_get-changed m (λ (mutex : Mutex). record mutex { waiters = without t mutex.waiters }) mutexes) h)
+left_own m t k mutexes h = left_entry t k (pool_get mutexes m) (subst (λ (x : Option Mutex). is_in k (waiters_of x) ≡ true) (changed_own m (λ (mutex : Mutex). record mutex { waiters = without t mutex.waiters }) mutexes) h)
 
 -- a waiter of n that is left is another than t, a waiter of m that left
 left_other : (m n t k : ℕ) (locks : Locks) → IsWaiter locks m t → AreLocked locks → (n ≡ m) ⊎ (n ≢ m) → is_in k (waiters_of (mutex_at (without_mutex_waiter t m locks) n)) ≡ true → k ≢ t
 left_other m n t k locks waiter locked (inl e) h =
     left_own m t k locks.mutexes (subst (λ (j : ℕ). is_in k (waiters_of (mutex_at (without_mutex_waiter t m locks) j)) ≡ true) e h)
 left_other m n t k locks waiter locked (inr ne) h =
-    let named : awaited (thread_at locks k) ≡ Some n = (locked.waiters n k (subst (λ (x : Option Mutex). is_in k (waiters_of x) ≡ true) (pool_get-changed_other m n (λ (mutex : Mutex). record mutex { waiters = without t mutex.waiters }) locks.mutexes ne) h)).waits in
+    let named : awaited (thread_at locks k) ≡ Some n = (locked.waiters n k (subst (λ (x : Option Mutex). is_in k (waiters_of x) ≡ true) (changed_other m n (λ (mutex : Mutex). record mutex { waiters = without t mutex.waiters }) locks.mutexes ne) h)).waits in
     λ same.
     let again : awaited (thread_at locks t) ≡ Some n = subst (λ (j : ℕ). awaited (thread_at locks j) ≡ Some n) same named in
-    ne (some_same n m (sym again ∙ waiter.waits))
+    ne (same_Some n m (sym again ∙ waiter.waits))
 
 mild_without : (t : ℕ) → IsMild (λ (mutex : Mutex). record mutex { waiters = without t mutex.waiters })
 mild_without t = record { waiters = λ k x h. (in_without t k x.waiters h).1; counts = λ x le. le }
@@ -185,7 +171,7 @@ locked_left m t f locks waiter locked =
           let other : k ≢ t = left_other m n t k locks waiter locked (cases_eq n m) h in
           let was = before.waiters n k h in
           record {
-            waits = ap awaited (pool_get-changed_other t k f locks.threads other) ∙ was.waits;
+            waits = ap awaited (changed_other t k f locks.threads other) ∙ was.waits;
             out = out_push t k locks.line other was.out;
             inside = h;
           };
@@ -203,11 +189,11 @@ more_in : (m n t k : ℕ) (mutexes : List (Option Mutex)) → (n ≡ m) ⊎ (n �
     → ((n ≡ m) × (k ≡ t)) ⊎ (is_in k (waiters_of (pool_get mutexes n)) ≡ true)
 more_in m n t k mutexes (inl e) h =
     let own : is_in k (waiters_of (pool_get (pool_changed m (λ (mutex : Mutex). record mutex { waiters = mutex.waiters ++ t ∷ [] }) mutexes) m)) ≡ true = subst (λ (j : ℕ). is_in k (waiters_of (pool_get (pool_changed m (λ (mutex : Mutex). record mutex { waiters = mutex.waiters ++ t ∷ [] }) mutexes) j)) ≡ true) e h in
-    elim (more_entry t k (pool_get mutexes m) (subst (λ (x : Option Mutex). is_in k (waiters_of x) ≡ true) (pool_get-changed m (λ (mutex : Mutex). record mutex { waiters = mutex.waiters ++ t ∷ [] }) mutexes) own)) [
+    elim (more_entry t k (pool_get mutexes m) (subst (λ (x : Option Mutex). is_in k (waiters_of x) ≡ true) (changed_own m (λ (mutex : Mutex). record mutex { waiters = mutex.waiters ++ t ∷ [] }) mutexes) own)) [
       | inl same ↦ inl (e, same)
       | inr was ↦ inr (subst (λ (j : ℕ). is_in k (waiters_of (pool_get mutexes j)) ≡ true) (sym e) was)
     ]
-more_in m n t k mutexes (inr ne) h = inr (subst (λ (x : Option Mutex). is_in k (waiters_of x) ≡ true) (pool_get-changed_other m n (λ (mutex : Mutex). record mutex { waiters = mutex.waiters ++ t ∷ [] }) mutexes ne) h)
+more_in m n t k mutexes (inr ne) h = inr (subst (λ (x : Option Mutex). is_in k (waiters_of x) ≡ true) (changed_other m n (λ (mutex : Mutex). record mutex { waiters = mutex.waiters ++ t ∷ [] }) mutexes ne) h)
 
 pub waiting_entry : (m : ℕ) (wait : Wait) (x : Option Thread) → mutex_of_wait (Some wait) ≡ Some m → IsSome x → awaited (option_map (λ (thread : Thread). record thread { wait = Some wait }) x) ≡ Some m
 waiting_entry m wait None e used = let no : ⊥ = cc in absurd no
@@ -219,8 +205,8 @@ more_count t (Some x) = refl
 
 pub count_kept : (m n : ℕ) (f : Mutex → Mutex) (mutexes : List (Option Mutex)) → ((x : Option Mutex) → count_of (option_map f x) ≡ count_of x) → (n ≡ m) ⊎ (n ≢ m) → count_of (pool_get (pool_changed m f mutexes) n) ≡ count_of (pool_get mutexes n)
 count_kept m n f mutexes keeps (inl e) =
-    subst (λ (j : ℕ). count_of (pool_get (pool_changed m f mutexes) j) ≡ count_of (pool_get mutexes j)) (sym e) (ap count_of (pool_get-changed m f mutexes) ∙ keeps (pool_get mutexes m))
-count_kept m n f mutexes keeps (inr ne) = ap count_of (pool_get-changed_other m n f mutexes ne)
+    subst (λ (j : ℕ). count_of (pool_get (pool_changed m f mutexes) j) ≡ count_of (pool_get mutexes j)) (sym e) (ap count_of (changed_own m f mutexes) ∙ keeps (pool_get mutexes m))
+count_kept m n f mutexes keeps (inr ne) = ap count_of (changed_other m n f mutexes ne)
 
 pub other_than : (n t k : ℕ) (locks : Locks) → awaited (thread_at locks t) ≡ None → IsWaiter locks n k → k ≢ t
 other_than n t k locks awake was = λ same.
@@ -233,14 +219,14 @@ locked_wait t m wait locks names awake used out locked = record {
   waiters = λ n k h.
       elim (more_in m n t k locks.mutexes (cases_eq n m) h) as (λ _. IsWaiter (after_wait t m wait locks) n k) [
         | inl (own, same) ↦ (let named : awaited (thread_at (after_wait t m wait locks) t) ≡ Some n =
-            ap awaited (pool_get-changed t (λ (thread : Thread). record thread { wait = Some wait }) locks.threads) ∙ waiting_entry m wait (thread_at locks t) names used ∙ ap Some (sym own) in
+            ap awaited (changed_own t (λ (thread : Thread). record thread { wait = Some wait }) locks.threads) ∙ waiting_entry m wait (thread_at locks t) names used ∙ ap Some (sym own) in
             record {
               waits = subst (λ (j : ℕ). awaited (thread_at (after_wait t m wait locks) j) ≡ Some n) (sym same) named;
               out = subst (λ (j : ℕ). is_in j locks.line ≡ false) (sym same) out;
               inside = h;
             })
         | inr old ↦ (let was = locked.waiters n k old in record {
-          waits = ap awaited (pool_get-changed_other t k (λ (thread : Thread). record thread { wait = Some wait }) locks.threads (other_than n t k locks awake was)) ∙ was.waits;
+          waits = ap awaited (changed_other t k (λ (thread : Thread). record thread { wait = Some wait }) locks.threads (other_than n t k locks awake was)) ∙ was.waits;
           out = was.out;
           inside = h;
         })
@@ -255,7 +241,7 @@ locked_wake t f locks awake locked = record {
       let was = locked.waiters n k h in
       let other : k ≢ t = other_than n t k locks awake was in
       record {
-        waits = ap awaited (pool_get-changed_other t k f locks.threads other) ∙ was.waits;
+        waits = ap awaited (changed_other t k f locks.threads other) ∙ was.waits;
         out = out_push t k locks.line other was.out;
         inside = h;
       };
@@ -275,15 +261,15 @@ counted_below (Some x) lt = omega (arith, lt)
 counted_in : (m n k : ℕ) (mutexes : List (Option Mutex)) → (n ≡ m) ⊎ (n ≢ m) → is_in k (waiters_of (pool_get (pool_changed m (λ (mutex : Mutex). record mutex { count = mutex.count + 1 }) mutexes) n)) ≡ true → is_in k (waiters_of (pool_get mutexes n)) ≡ true
 counted_in m n k mutexes (inl e) h =
     let own : is_in k (waiters_of (pool_get (pool_changed m (λ (mutex : Mutex). record mutex { count = mutex.count + 1 }) mutexes) m)) ≡ true = subst (λ (j : ℕ). is_in k (waiters_of (pool_get (pool_changed m (λ (mutex : Mutex). record mutex { count = mutex.count + 1 }) mutexes) j)) ≡ true) e h in
-    let was : is_in k (waiters_of (pool_get mutexes m)) ≡ true = counted_waiters k (pool_get mutexes m) (subst (λ (x : Option Mutex). is_in k (waiters_of x) ≡ true) (pool_get-changed m (λ (mutex : Mutex). record mutex { count = mutex.count + 1 }) mutexes) own) in
+    let was : is_in k (waiters_of (pool_get mutexes m)) ≡ true = counted_waiters k (pool_get mutexes m) (subst (λ (x : Option Mutex). is_in k (waiters_of x) ≡ true) (changed_own m (λ (mutex : Mutex). record mutex { count = mutex.count + 1 }) mutexes) own) in
     subst (λ (j : ℕ). is_in k (waiters_of (pool_get mutexes j)) ≡ true) (sym e) was
-counted_in m n k mutexes (inr ne) h = subst (λ (x : Option Mutex). is_in k (waiters_of x) ≡ true) (pool_get-changed_other m n (λ (mutex : Mutex). record mutex { count = mutex.count + 1 }) mutexes ne) h
+counted_in m n k mutexes (inr ne) h = subst (λ (x : Option Mutex). is_in k (waiters_of x) ≡ true) (changed_other m n (λ (mutex : Mutex). record mutex { count = mutex.count + 1 }) mutexes ne) h
 
 counted_limit : (m n : ℕ) (mutexes : List (Option Mutex)) → (n ≡ m) ⊎ (n ≢ m) → count_of (pool_get mutexes m) < COUNT_LIMIT → count_of (pool_get mutexes n) ≤ COUNT_LIMIT → count_of (pool_get (pool_changed m (λ (mutex : Mutex). record mutex { count = mutex.count + 1 }) mutexes) n) ≤ COUNT_LIMIT
 counted_limit m n mutexes (inl e) lt le =
-    let own : count_of (pool_get (pool_changed m (λ (mutex : Mutex). record mutex { count = mutex.count + 1 }) mutexes) m) ≤ COUNT_LIMIT = subst (λ (x : Option Mutex). count_of x ≤ COUNT_LIMIT) (sym (pool_get-changed m (λ (mutex : Mutex). record mutex { count = mutex.count + 1 }) mutexes)) (counted_below (pool_get mutexes m) lt) in
+    let own : count_of (pool_get (pool_changed m (λ (mutex : Mutex). record mutex { count = mutex.count + 1 }) mutexes) m) ≤ COUNT_LIMIT = subst (λ (x : Option Mutex). count_of x ≤ COUNT_LIMIT) (sym (changed_own m (λ (mutex : Mutex). record mutex { count = mutex.count + 1 }) mutexes)) (counted_below (pool_get mutexes m) lt) in
     subst (λ (j : ℕ). count_of (pool_get (pool_changed m (λ (mutex : Mutex). record mutex { count = mutex.count + 1 }) mutexes) j) ≤ COUNT_LIMIT) (sym e) own
-counted_limit m n mutexes (inr ne) lt le = subst (λ (x : Option Mutex). count_of x ≤ COUNT_LIMIT) (sym (pool_get-changed_other m n (λ (mutex : Mutex). record mutex { count = mutex.count + 1 }) mutexes ne)) le
+counted_limit m n mutexes (inr ne) lt le = subst (λ (x : Option Mutex). count_of x ≤ COUNT_LIMIT) (sym (changed_other m n (λ (mutex : Mutex). record mutex { count = mutex.count + 1 }) mutexes ne)) le
 
 -- a count below the limit goes up
 pub locked_count : (m : ℕ) (locks : Locks) → count_of (mutex_at locks m) < COUNT_LIMIT → AreLocked locks → AreLocked (after_count m locks)
@@ -303,8 +289,8 @@ assigned_entry priority (Some thread) = refl
 assigned_at : (t k priority : ℕ) (threads : List (Option Thread)) → (k ≡ t) ⊎ (k ≢ t) → awaited (pool_get (pool_changed t (λ (thread : Thread). record thread { priority = priority }) threads) k) ≡ awaited (pool_get threads k)
 assigned_at t k priority threads (inl e) =
     subst (λ (j : ℕ). awaited (pool_get (pool_changed t (λ (thread : Thread). record thread { priority = priority }) threads) j) ≡ awaited (pool_get threads j)) (sym e)
-    (ap awaited (pool_get-changed t (λ (thread : Thread). record thread { priority = priority }) threads) ∙ assigned_entry priority (pool_get threads t))
-assigned_at t k priority threads (inr ne) = ap awaited (pool_get-changed_other t k (λ (thread : Thread). record thread { priority = priority }) threads ne)
+    (ap awaited (changed_own t (λ (thread : Thread). record thread { priority = priority }) threads) ∙ assigned_entry priority (pool_get threads t))
+assigned_at t k priority threads (inr ne) = ap awaited (changed_other t k (λ (thread : Thread). record thread { priority = priority }) threads ne)
 
 -- another assigned priority
 pub locked_assignment : (t priority : ℕ) (locks : Locks) → AreLocked locks → AreLocked (after_assignment t priority locks)

@@ -1,37 +1,31 @@
 -- What the calls need of the tables, and what the tables are after a move of one partition.
 use Rattle.std.proofs.Common.{◌≡◌, ℕ, ◌-◌, ◌<◌, ◌≤◌, List, refl, sym, ◌∙◌, ap, arith, true, false}
-use Rattle.std.specs.Prelude.{IsSome, Option, Some, None, option_map}
+use Rattle.std.specs.Prelude.{IsSome, Option, Some, None, option_map, option_and_then, option_to_list}
 use Rattle.std.proofs.lemmas.List.{length-set, set-set, set-get_or}
-use Rattle.ptk_words.specs.Pools.{pool_get}
+use Rattle.ptk_words.specs.Pools.{pool_get, pool_set, first_of_greatest}
 use Rattle.ptk_words.specs.declared.TheConstants.{COUNT_LIMIT}
+use Rattle.ptk_words.proofs.Pools.{changed_own}
 use Rattle.ptk_words_model.specs.State.{Mutex, Locks}
 use Rattle.ptk_words_model.specs.Priority.{effective_priority}
-use Rattle.ptk_words_model.specs.Mutex.{waiters_of, count_of, soundness_of, free_move}
+use Rattle.ptk_words_model.specs.Mutex.{waiters_of, count_of, soundness_of, free_move, move_reply, kept_reply, handed, heir, owns, after_mutex_end, after_bequest, after_abandonment}
 use Rattle.ptk_words_parted.specs.Parts.{part_of}
-use Rattle.ptk_threads.specs.Table.{ThreadTable}
-use Rattle.ptk_threads.proofs.Pools.{pool_get-changed, pool_changed-changed, part_of-set}
+use Rattle.ptk_words_sync_invariant.proofs.ConditionWaits.{owned_used}
+use Rattle.ptk_threads.specs.Table.{ThreadTable, stored_of}
+use Rattle.ptk_threads.proofs.Pools.{pool_changed-changed, part_of-set}
 use Rattle.ptk_mutex_priorities.specs.declared.slot.Change.TheVariants.{CountUp, CountDown, Mark}
 use Rattle.ptk_mutex_priorities.specs.Changes.{mutex_changed, SlotMayChange}
-use Rattle.std.specs.Prelude.{option_and_then, option_to_list}
-use Rattle.ptk_words.specs.Pools.{pool_set}
 use Rattle.ptk_words.specs.declared.threads.Thread.{Thread}
 use Rattle.ptk_words.specs.declared.mutexes.Soundness.TheVariants.{Inconsistent}
 use Rattle.ptk_words_model.specs.declared.LockMove.{LockMove}
 use Rattle.ptk_words_model.specs.declared.LockMove.TheVariants.{Recovers}
 use Rattle.ptk_words_model.specs.Schedule.{woken_with}
-use Rattle.ptk_words_model.specs.Mutex.{move_reply, kept_reply, handed}
 use Rattle.ptk_threads_slots.specs.Changes.{few_of}
 use Rattle.ptk_threads_slots.specs.declared.thread_list.Members.{Members}
 use Rattle.ptk_threads_slots.specs.declared.thread_list.Members.TheVariants.{NoMember, OnlyMember}
-use Rattle.ptk_words.specs.Pools.{first_of_greatest}
 use Rattle.ptk_words_parted.proofs.Cuts.{set_part-same}
-use Rattle.ptk_words_model.specs.Mutex.{heir, owns, after_mutex_end, after_bequest, after_abandonment}
 use Rattle.ptk_mutex_priorities.specs.Slots.{is_robust_at}
-use Rattle.ptk_mutex.specs.Tables.{with_threads}
-use Rattle.ptk_threads.specs.Table.{stored_of}
-use Rattle.ptk_mutex.specs.Tables.{MayGet}
+use Rattle.ptk_mutex.specs.Tables.{with_threads, MayGet, locks_by, HasPartBy, AreReadyBy}
 use Rattle.ptk_mutex.proofs.Locked.{waiter_used, none_first, only_first, stored_heir, heir_may_get}
-use Rattle.ptk_mutex.specs.Tables.{locks_by, HasPartBy, AreReadyBy}
 
 -- ---- room
 
@@ -95,11 +89,6 @@ pub end-robust : (t m : ℕ) (x : Option Mutex) (locks : Locks) → owns t x ≡
 end-robust t m None locks e r = cc
 end-robust t m (Some x) locks e r = rw (e, r) refl
 
--- what is owned is there
-pub owned_used : (t : ℕ) (x : Option Mutex) → owns t x ≡ true → IsSome x
-owned_used t None e = let no : ⊥ = cc in absurd no
-owned_used t (Some x) e = refl
-
 -- a mutex that a dead owner left is taken with notice
 pub left_recovers : (x : Option Mutex) → IsSome x → Recovers ≡ free_move (soundness_of (option_map (mutex_changed (Mark Inconsistent)) x))
 left_recovers None used = let no : ⊥ = cc in absurd no
@@ -115,6 +104,6 @@ stays p table lines mutexes ready = rw (← ready.stored, set_part-same, set_par
 
 pub ruleset ends = (owned_used, end-other, end-robust, end-plain, stays, has_part, set_part-same)
 
-pub ruleset moves = (set_part-same, count_down_room, waiter_used, countable, has_part, pool_get-changed, pool_changed-changed, part_of-set, set-set, set-get_or, length-set)
+pub ruleset moves = (set_part-same, count_down_room, waiter_used, countable, has_part, changed_own, pool_changed-changed, part_of-set, set-set, set-get_or, length-set)
 
-pub ruleset wakes = (handed-is, pool_get-changed, pool_changed-changed, part_of-set, set-set, set-get_or, length-set)
+pub ruleset wakes = (handed-is, changed_own, pool_changed-changed, part_of-set, set-set, set-get_or, length-set)

@@ -6,14 +6,14 @@ use Rattle.std.proofs.Math.ListN.{set}
 use Rattle.std.proofs.lemmas.Bool.{cases_eq}
 use Rattle.std.proofs.lemmas.List.{length-set}
 use Rattle.ptk_words.specs.Pools.{pool_get, pool_set, is_in, without}
+use Rattle.ptk_words.proofs.Lists.{without_own}
+use Rattle.ptk_words.proofs.Pools.{get-set_other}
 use Rattle.ptk_words_parted.specs.Parts.{part_of}
 use Rattle.ptk_words_model.specs.State.{Condition}
 use Rattle.ptk_words_model.specs.Priority.{awaited, thread_at}
 use Rattle.ptk_words_model.specs.Mutex.{after_relock}
 use Rattle.ptk_words_model.specs.Condition.{waiters_on}
 use Rattle.ptk_words_sync_invariant.specs.Conditions.{IsNoWaiter}
-use Rattle.ptk_words_sync_invariant.proofs.Lines.{without_own}
-use Rattle.ptk_words_sync_invariant.proofs.Pools.{get-set_other}
 use Rattle.ptk_threads_slots.specs.declared.link.Link.{Link}
 use Rattle.ptk_threads_slots.specs.declared.link.Ends.{Ends}
 use Rattle.ptk_threads_slots.specs.Links.{queues, AreQueues}

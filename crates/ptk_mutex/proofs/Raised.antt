@@ -9,6 +9,7 @@ use Rattle.ptk_words.specs.declared.threads.Thread.{Thread}
 use Rattle.ptk_words.specs.declared.threads.Wait.{Wait}
 use Rattle.ptk_words.specs.declared.threads.Wait.TheVariants.{RelockWait}
 use Rattle.ptk_words.specs.Threads.{mutex_of_wait}
+use Rattle.ptk_words.proofs.Pools.{changed_twice, changed_own}
 use Rattle.ptk_words_parted.specs.Parts.{part_of}
 use Rattle.ptk_words_parted.proofs.Cuts.{set_part-same}
 use Rattle.ptk_words_model.specs.declared.LockMove.{LockMove}
@@ -17,8 +18,7 @@ use Rattle.ptk_words_model.specs.State.{Mutex, Locks}
 use Rattle.ptk_words_model.specs.Priority.{awaited, thread_at, assigned_of, inheritor, inheritor_of, ceiling_for, next_in_chain, effective_priorities}
 use Rattle.ptk_words_model.specs.Schedule.{woken_with, after_wake}
 use Rattle.ptk_words_model.specs.Mutex.{owns, move_reply, after_move, after_wait, after_relock_move, is_waiting}
-use Rattle.ptk_words_sync_invariant.proofs.Pools.{changed_twice, changed_own}
-use Rattle.ptk_words_sync_invariant.proofs.Raising.{level_of}
+use Rattle.ptk_words_sync_invariant.proofs.Raising.{level_of, woken_awaits}
 use Rattle.ptk_threads.specs.Table.{ThreadTable, thread_in, with_changed, with_wait, with_priority}
 use Rattle.ptk_threads.proofs.Pools.{part_of-set}
 use Rattle.ptk_mutex_priorities.specs.declared.slot.Change.TheVariants.{Take, CountUp, CountDown, Release, Abandon, Mark}
@@ -26,13 +26,13 @@ use Rattle.ptk_mutex_priorities.specs.declared.slot.Change.{Change}
 use Rattle.ptk_mutex_priorities.specs.Changes.{mutex_changed, KeepsOwner}
 use Rattle.ptk_mutex_priorities.specs.Slots.{bare}
 use Rattle.ptk_mutex_priorities.proofs.Bare.{pool_get-bare, inheritor_of-waiters}
-use Rattle.ptk_mutex_priorities.proofs.Raising.{same_owner_raises_alike, keeps_protocol}
+use Rattle.ptk_mutex_priorities.proofs.Raising.{same_owner_raises_alike, keeps_protocol, effective_mutex}
 use Rattle.ptk_mutex.specs.Moves.{after_change}
 use Rattle.ptk_syncs.specs.Rosters.{Rostered}
 use Rattle.ptk_syncs.specs.Waiters.{waited_by}
 use Rattle.ptk_mutex.specs.Before.{awake, freed, IsBeforeWait, IsBeforeTake, IsBeforeAssignment}
 use Rattle.ptk_mutex.specs.Visits.{IsVisited}
-use Rattle.ptk_mutex.proofs.Changes.{effective_mutex, effective_thread}
+use Rattle.ptk_mutex.proofs.Changes.{effective_thread}
 use Rattle.ptk_mutex.proofs.Visits.{unvisited}
 use Rattle.ptk_mutex.specs.Tables.{locks_by, put_locks, with_threads, HasPartBy, AreReadyBy}
 use Rattle.ptk_mutex.specs.Rosters.{with_priorities}
@@ -216,10 +216,6 @@ move_threads (Refuses error) t m wait locks e = refl
 woken_level : (values : List ℕ) (x : Option Thread) → level_of (option_map (woken_with values) x) ≡ level_of x
 woken_level values None = refl
 woken_level values (Some thread) = refl
-
-woken_awaits : (values : List ℕ) (x : Option Thread) → awaited x ≡ None → awaited (option_map (woken_with values) x) ≡ awaited x
-woken_awaits values None e = refl
-woken_awaits values (Some thread) e = sym e
 
 -- a thread that waits for no mutex is woken, and no priority changes
 pub wake_stored : (p t : ℕ) (values : List ℕ) (table : ThreadTable) (locks : Locks) → p < length table.threads → awaited (thread_at locks t) ≡ None

@@ -12,6 +12,7 @@ use Rattle.ptk_words.specs.declared.mutexes.Owner.{Owner}
 use Rattle.ptk_words.specs.declared.mutexes.Owner.TheVariants.{Free, Abandoned, OwnedBy}
 use Rattle.ptk_words.specs.declared.mutexes.Protocol.{Protocol}
 use Rattle.ptk_words.specs.declared.mutexes.Protocol.TheVariants.{NoProtocol, Inherit, Protect}
+use Rattle.ptk_words.proofs.Pools.{least_free_none, pool_set_all}
 use Rattle.ptk_words_parted.specs.Parts.{part_of, filled}
 use Rattle.ptk_words_parted.proofs.Cuts.{set_part-same}
 use Rattle.ptk_words_model.specs.State.{Mutex, Locks}
@@ -26,7 +27,6 @@ use Rattle.ptk_syncs.specs.Rosters.{seen}
 use Rattle.ptk_mutex_priorities.proofs.Levels.{length-numbers_to}
 use Rattle.ptk_mutex.specs.Pool.{with_new_mutex}
 use Rattle.ptk_mutex.specs.Tables.{AreLocked, AreReadyBy}
-use Rattle.ptk_mutex.proofs.Pool.{least_free_is}
 
 -- ---- a mutex that is not in use
 
@@ -60,21 +60,6 @@ idle_unlocked (Some m) w e = record {
 -- a free number
 pub idle_none : (x : Option Mutex) → x ≡ None → IsIdle x
 idle_none x e = rw e (idle_unlocked None refl refl)
-
--- ---- one entry set
-
--- what all entries are
-set_all : {A : Type 0} (P : Option A → Type 0) (pool : List (Option A)) (i j : ℕ) (x : Option A) → P x → P (option_flatten (slice_get pool j)) → P (option_flatten (slice_get (set pool i x) j))
-set_all P [] i j x own h = h
-set_all P (y ∷ pool) zero zero x own h = own
-set_all P (y ∷ pool) zero (suc j) x own h = h
-set_all P (y ∷ pool) (suc i) zero x own h = h
-set_all P (y ∷ pool) (suc i) (suc j) x own h = set_all P pool i j x own h
-
-pub pool_set_all : {A : Type 0} (P : Option A → Type 0) (pool : List (Option A)) (m n : ℕ) (x : Option A) → P x → P (pool_get pool n) → P (pool_get (pool_set pool m x) n)
-pool_set_all P pool zero n x own h = h
-pool_set_all P pool (suc i) zero x own h = h
-pool_set_all P pool (suc i) (suc j) x own h = set_all P pool i j x own h
 
 -- ---- effective priorities with one idle mutex in another's place
 
@@ -115,7 +100,7 @@ ready_set p m x table lines mutexes was idle le ready =
 ready_new : (p : ℕ) (o : Option ℕ) (mutex : Mutex) (table : ThreadTable) (lines : List (List ℕ)) (mutexes : List (List (Option Mutex))) → least_free (part_of mutexes p) ≡ o → IsIdle (Some mutex) → mutex.count ≤ COUNT_LIMIT → AreReadyBy p table lines mutexes
     → AreReadyBy p table lines (set mutexes p (unwrap_or (option_map (λ m. pool_set (part_of mutexes p) m (Some mutex)) o) (part_of mutexes p)))
 ready_new p None mutex table lines mutexes e idle le ready = rw (set_part-same mutexes p) ready
-ready_new p (Some m) mutex table lines mutexes e idle le ready = ready_set p m (Some mutex) table lines mutexes (idle_none (pool_get (part_of mutexes p) m) (least_free_is (part_of mutexes p) m e)) idle le ready
+ready_new p (Some m) mutex table lines mutexes e idle le ready = ready_set p m (Some mutex) table lines mutexes (idle_none (pool_get (part_of mutexes p) m) (least_free_none (part_of mutexes p) m e)) idle le ready
 
 -- init leaves ready tables
 pub ready_init : (p : ℕ) (kind : MutexKind) (protocol : Protocol) (is_robust : Bool) (table : ThreadTable) (lines : List (List ℕ)) (mutexes : List (List (Option Mutex))) → AreReadyBy p table lines mutexes

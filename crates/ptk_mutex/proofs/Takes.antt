@@ -12,11 +12,12 @@ use Rattle.ptk_words.specs.declared.mutexes.Protocol.{Protocol}
 use Rattle.ptk_words.specs.declared.mutexes.Protocol.TheVariants.{NoProtocol, Inherit, Protect}
 use Rattle.ptk_words.specs.declared.mutexes.Owner.{Owner}
 use Rattle.ptk_words.specs.declared.mutexes.Owner.TheVariants.{Free, Abandoned, OwnedBy}
+use Rattle.ptk_words.proofs.Pools.{changed_own, changed_other, length-changed}
+use Rattle.ptk_words.proofs.Options.{zero_either_way}
 use Rattle.ptk_words_model.specs.State.{Mutex}
 use Rattle.ptk_words_model.specs.Chain.{greatest_leading}
 use Rattle.ptk_words_model.specs.Priority.{is_owner, ceiling_of, ceiling_for, inheritor, inheritor_of, awaited, assigned_of, next_in_chain, held_of, effective_priorities}
 use Rattle.ptk_words_model.specs.Mutex.{owns}
-use Rattle.ptk_words_sync_invariant.proofs.Pools.{changed_own, changed_other, length-changed}
 use Rattle.ptk_words_sync_invariant.proofs.Threads.{changed_same}
 use Rattle.ptk_words_sync_invariant.proofs.Raising.{level_of}
 use Rattle.ptk_threads.specs.Table.{stored_of}
@@ -25,18 +26,18 @@ use Rattle.ptk_mutex_priorities.specs.Slots.{bare, with_waiters}
 use Rattle.ptk_mutex_priorities.proofs.Bare.{pool_get-bare}
 use Rattle.ptk_words_sync_invariant.proofs.Greatest.{Attained, attained, member_le, numbers_member}
 use Rattle.ptk_mutex_priorities.proofs.Tops.{number_member}
-use Rattle.ptk_mutex_priorities.proofs.Nexts.{bounded}
 use Rattle.ptk_mutex_priorities.proofs.Risen.{risen_stop}
 use Rattle.ptk_mutex_priorities.specs.Raised.{risen}
-use Rattle.ptk_mutex.specs.Visits.{reads}
-use Rattle.ptk_mutex.specs.Visits.{IsVisited}
+use Rattle.ptk_mutex_priorities.proofs.Raising.{effective_mutex}
+use Rattle.ptk_mutex.specs.Visits.{reads, IsVisited}
 use Rattle.ptk_mutex.specs.Before.{freed, with_priority, IsBeforeTake, IsBeforeAssignment}
 use Rattle.ptk_mutex.specs.Gained.{is_for, awaiting, gained_by, gained_of}
-use Rattle.ptk_words_sync_invariant.proofs.ChainLaws.{false_true, none_some, IsNumber}
+use Rattle.ptk_words_sync_invariant.proofs.ChainLaws.{false_true, IsNumber, next_bounded}
 use Rattle.ptk_mutex.proofs.Joins.{IsJoin, IsPassed, priorities, length-priorities, stored_as, join-is}
 use Rattle.ptk_mutex.proofs.Gains.{IsGain, gain-is}
-use Rattle.ptk_mutex.proofs.Changes.{used_number, next_mutex, held_mutex, effective_mutex, held_gain, ceilings, ceilings_max}
+use Rattle.ptk_mutex.proofs.Changes.{used_number, next_mutex, held_mutex, held_gain, ceilings, ceilings_max}
 use Rattle.ptk_mutex.proofs.Waits.{rise_visited}
+use Rattle.ptk_mutex.proofs.Locked.{awaiting_used}
 
 -- ---- what it gives is read without its waiters
 
@@ -51,10 +52,6 @@ gained_of-here threads stored m mutexes slots e =
 
 -- ---- the mutex that was free
 
-none_or : (b : Bool) → ◌≡◌ {A = ℕ} (if b then 0 else 0) 0
-none_or true = refl
-none_or false = refl
-
 owner-is : (t : ℕ) (owner : Owner) → is_owner t owner ≡ true → owner ≡ OwnedBy t
 owner-is t Free e = false_true e
 owner-is t Abandoned e = false_true e
@@ -62,7 +59,7 @@ owner-is t (OwnedBy u) e = ap OwnedBy (eqb-true u t e)
 
 -- where it has no ceiling it gives none
 no_ceiling : (u : ℕ) (x : Mutex) → ceiling_of x.protocol ≡ 0 → ceiling_for u (option_map freed (Some x)) ≡ ceiling_for u (Some x)
-no_ceiling u x e = sym (ap (λ c. if is_owner u x.owner then c else 0) e ∙ none_or (is_owner u x.owner))
+no_ceiling u x e = sym (ap (λ c. if is_owner u x.owner then c else 0) e ∙ zero_either_way (is_owner u x.owner))
 
 other_owner : (u t c : ℕ) (b : Bool) → (t == u) ≡ b → u ≢ t → (if t == u then c else 0) ≡ 0
 other_owner u t c true e ne = absurd (ne (sym (eqb-true t u e)))
@@ -109,12 +106,8 @@ awaiting-any m w threads =
     any-filter_same (nat_eq w) (λ v. is_for m (awaited (pool_get threads v))) (is_for m (awaited (pool_get threads w)))
     (λ k e. ap (λ v. is_for m (awaited (pool_get threads v))) (sym (eqb-true w k e))) (numbers_to (length threads))
 
-some_of : (m : ℕ) (x : Option Thread) → awaited x ≡ Some m → IsSome x
-some_of m None e = none_some None m refl e
-some_of m (Some thread) e = refl
-
 number_of : (m w : ℕ) (threads : List (Option Thread)) → is_for m (awaited (pool_get threads w)) ≡ true → IsNumber (length threads) w
-number_of m w threads j = used_number w threads (some_of m (pool_get threads w) (for_is m (awaited (pool_get threads w)) j))
+number_of m w threads j = used_number w threads (awaiting_used m (pool_get threads w) (for_is m (awaited (pool_get threads w)) j))
 
 passed_by : (m h : ℕ) (threads : List (Option Thread)) (stored : List ℕ) (before : ℕ → ℕ) → ((w : ℕ) → IsNumber (length threads) w → stored_of stored w ≡ before w) → h ≡ greatest (stored_of stored) (awaiting m threads)
     → Attained (stored_of stored) 0 (awaiting m threads) → (h ≡ 0) ⊎ ((b : ℕ) × (is_for m (awaited (pool_get threads b)) ≡ true) × (before b ≡ h))
@@ -145,7 +138,7 @@ inherit_rises t m h x threads mutexes stored at kind own before e =
     λ i u. held_mutex m u freed threads mutexes (ap (λ y. ceiling_for u (option_map freed y)) at ∙ no_ceiling u x (ap ceiling_of kind) ∙ sym (ap (ceiling_for u) at)) i in
     let was : stored ≡ priorities size next rank = before ∙ ap (λ r. priorities size next r) held in
     ap (λ s. risen (next_in_chain threads mutexes) h size t s) was
-    ∙ join-is size next (next_in_chain threads mutexes) rank (λ w. is_for m (awaited (pool_get threads w))) t h (bounded threads (pool_changed m freed mutexes)) (bounded threads mutexes) (joins t m x threads mutexes at kind own)
+    ∙ join-is size next (next_in_chain threads mutexes) rank (λ w. is_for m (awaited (pool_get threads w))) t h (next_bounded threads (pool_changed m freed mutexes)) (next_bounded threads mutexes) (joins t m x threads mutexes at kind own)
     (passes m h threads stored (greatest_leading size next rank) (λ w n. ap (λ s. stored_of s w) was ∙ stored_as size next rank w n) e)
 
 -- ---- PROTECT
@@ -169,7 +162,7 @@ protect_rises t m h x threads mutexes stored at kind own n before =
       others = λ w ne. sym (held_mutex m w freed threads mutexes (lost w ∙ sym (here w ∙ not_own w t x.owner h own ne)));
     } in
     let was : stored ≡ priorities size (next_in_chain threads mutexes) rank = before ∙ ap (λ f. priorities size f rank) next in
-    ap (λ s. risen (next_in_chain threads mutexes) h size t s) was ∙ gain-is size (next_in_chain threads mutexes) rank (held_of threads mutexes) t h (bounded threads mutexes) n gain
+    ap (λ s. risen (next_in_chain threads mutexes) h size t s) was ∙ gain-is size (next_in_chain threads mutexes) rank (held_of threads mutexes) t h (next_bounded threads mutexes) n gain
 
 -- ---- the take
 
@@ -252,7 +245,7 @@ assignment_cases t before threads mutexes stored le e None at =
 assignment_cases t before threads mutexes stored le e (Some thread) at =
     let used : IsSome (pool_get threads t) = rw at refl in
     ap (λ s. risen (next_in_chain threads mutexes) (assigned_of threads t) (length threads) t s) (e ∙ given-is t before threads mutexes)
-    ∙ gain-is (length threads) (next_in_chain threads mutexes) (held_of (given t before threads) mutexes) (held_of threads mutexes) t (assigned_of threads t) (bounded threads mutexes) (used_number t threads used) (assigned_gain t before threads mutexes used le)
+    ∙ gain-is (length threads) (next_in_chain threads mutexes) (held_of (given t before threads) mutexes) (held_of threads mutexes) t (assigned_of threads t) (next_bounded threads mutexes) (used_number t threads used) (assigned_gain t before threads mutexes used le)
 
 pub assignment_rises : (t h : ℕ) (threads : List (Option Thread)) (mutexes : List (Option Mutex)) (stored new : List ℕ) → IsBeforeAssignment t threads mutexes stored → h ≡ assigned_of threads t
     → new ≡ risen (next_in_chain threads mutexes) h (length threads) t stored → new ≡ effective_priorities threads mutexes

@@ -6,6 +6,7 @@ use Rattle.std.proofs.lemmas.List.{length-set}
 use Rattle.ptk_words.specs.Pools.{pool_get, pool_changed}
 use Rattle.ptk_words.specs.declared.faults.Errno.TheVariants.{ENOTRECOVERABLE}
 use Rattle.ptk_words.specs.declared.threads.Thread.{Thread}
+use Rattle.ptk_words.proofs.Pools.{changed_own}
 use Rattle.ptk_words_parted.specs.Parts.{part_of}
 use Rattle.ptk_words_model.specs.declared.LockMove.TheVariants.{Refuses}
 use Rattle.ptk_words_model.specs.State.{Mutex, Locks}
@@ -13,7 +14,7 @@ use Rattle.ptk_words_model.specs.Priority.{awaited, thread_at, effective_priorit
 use Rattle.ptk_words_model.specs.Schedule.{at_tail_with, woken_with}
 use Rattle.ptk_words_model.specs.Mutex.{mutex_at, with_mutex, soundness_of, free_move, handed, without_mutex_waiter, after_take, after_hand_over_to, after_refusal_to}
 use Rattle.ptk_threads.specs.Table.{ThreadTable}
-use Rattle.ptk_threads.proofs.Pools.{pool_get-changed, part_of-set}
+use Rattle.ptk_threads.proofs.Pools.{part_of-set}
 use Rattle.ptk_mutex_priorities.specs.declared.slot.Change.{Change}
 use Rattle.ptk_mutex_priorities.specs.declared.slot.Change.TheVariants.{Take, Release}
 use Rattle.ptk_mutex_priorities.specs.Changes.{mutex_changed, IsQuiet}
@@ -40,7 +41,7 @@ unraised_more m a b c first second = record { protocol = second.protocol ∙ fir
 
 unraised_mutex : (m : ℕ) (f : Mutex → Mutex) (locks : Locks) → ((mutex : Mutex) → (f mutex).protocol ≡ mutex.protocol) → IsUnraised m locks (with_mutex m f locks)
 unraised_mutex m f locks same = record {
-  protocol = ap is_raising_at (pool_get-changed m f locks.mutexes) ∙ raising-kept f (mutex_at locks m) same;
+  protocol = ap is_raising_at (changed_own m f locks.mutexes) ∙ raising-kept f (mutex_at locks m) same;
   stays = λ plain. plain_raises_nobody locks.threads locks.mutexes m f same plain;
 }
 

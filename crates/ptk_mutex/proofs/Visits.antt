@@ -5,6 +5,7 @@ use Rattle.std.proofs.Math.ListN.{set}
 use Rattle.std.proofs.lemmas.Bool.{cases_eq, cases_lt}
 use Rattle.std.proofs.lemmas.Bool.Decides.{nat_tests}
 use Rattle.std.proofs.lemmas.List.{get_or-set_same, get_or-set_other}
+use Rattle.ptk_words.proofs.Options.{count_step}
 use Rattle.ptk_threads.specs.Table.{stored_of}
 use Rattle.ptk_mutex_priorities.specs.Raised.{raised, risen}
 use Rattle.ptk_mutex_priorities.proofs.Levels.{length-raised}
@@ -44,10 +45,6 @@ high next priority (suc fuel) u i stored h =
 pub count_same : (s : List ℕ) → risen_count s s ≡ 0
 count_same [] = refl
 count_same (a ∷ s) = let no : nat_lt a a ≡ false = grind (arith, nat_tests) in rw no (count_same s)
-
-count_step : (b : Bool) (x y : ℕ) → x ≡ suc y → (if b then suc x else x) ≡ suc (if b then suc y else y)
-count_step true x y e = ap suc e
-count_step false x y e = e
 
 -- one that rose to h is counted, and once it has h no more
 count_more : (i h : ℕ) (before after : List ℕ) → i < length before → length after ≡ length before → get_or before i 0 < h → get_or after i 0 ≡ h → risen_count before after ≡ suc (risen_count (set before i h) after)

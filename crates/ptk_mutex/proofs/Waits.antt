@@ -4,20 +4,18 @@ use Rattle.std.specs.Prelude.{nat_eq, Option, Some, None, option_map, option_and
 use Rattle.std.proofs.lemmas.Bool.{cases_eq, eqb-true, eq-eqb}
 use Rattle.ptk_words.specs.Pools.{pool_get, pool_changed, numbers_to}
 use Rattle.ptk_words.specs.declared.threads.Thread.{Thread}
+use Rattle.ptk_words.proofs.Pools.{changed_own, changed_other, length-changed}
 use Rattle.ptk_words_model.specs.State.{Mutex}
 use Rattle.ptk_words_model.specs.Chain.{greatest_leading}
 use Rattle.ptk_words_model.specs.Priority.{awaited, inheritor_of, ceiling_for, next_in_chain, held_of, effective_priorities}
-use Rattle.ptk_words_sync_invariant.proofs.Pools.{changed_own, changed_other, length-changed}
 use Rattle.ptk_words_sync_invariant.proofs.Threads.{changed_same}
 use Rattle.ptk_words_sync_invariant.proofs.Raising.{level_of}
 use Rattle.ptk_threads.specs.Table.{stored_of}
 use Rattle.ptk_mutex_priorities.specs.Raised.{risen}
-use Rattle.ptk_mutex.specs.Visits.{reads}
-use Rattle.ptk_mutex.specs.Visits.{IsVisited}
+use Rattle.ptk_mutex.specs.Visits.{reads, IsVisited}
 use Rattle.ptk_mutex.specs.Before.{awake, IsBeforeWait}
-use Rattle.ptk_words_sync_invariant.proofs.ChainLaws.{false_true, IsNumber, IsBounded}
+use Rattle.ptk_words_sync_invariant.proofs.ChainLaws.{false_true, IsNumber, IsBounded, next_bounded}
 use Rattle.ptk_mutex_priorities.proofs.Risen.{IsWithin}
-use Rattle.ptk_mutex_priorities.proofs.Nexts.{bounded}
 use Rattle.ptk_mutex.proofs.Joins.{IsJoin, IsPassed, priorities, length-priorities, stored_as, join-is}
 use Rattle.ptk_mutex.proofs.Visits.{visits}
 
@@ -49,7 +47,7 @@ before-is t threads mutexes =
     λ i. map (greatest_leading (long i) (next_in_chain (pool_changed t awake threads) mutexes) (held i)) (numbers_to (long i))
 
 bounded_before : (t : ℕ) (threads : List (Option Thread)) (mutexes : List (Option Mutex)) → IsBounded (length threads) (next_in_chain (pool_changed t awake threads) mutexes)
-bounded_before t threads mutexes = subst (λ n. IsBounded n (next_in_chain (pool_changed t awake threads) mutexes)) (length-changed t awake threads) (bounded (pool_changed t awake threads) mutexes)
+bounded_before t threads mutexes = subst (λ n. IsBounded n (next_in_chain (pool_changed t awake threads) mutexes)) (length-changed t awake threads) (next_bounded (pool_changed t awake threads) mutexes)
 
 pub length-before : (t : ℕ) (threads : List (Option Thread)) (mutexes : List (Option Mutex)) (stored : List ℕ) → IsBeforeWait t threads mutexes stored → length stored ≡ length threads
 length-before t threads mutexes stored e = ap length (e ∙ before-is t threads mutexes) ∙ length-priorities (length threads) (next_in_chain (pool_changed t awake threads) mutexes) (held_of threads mutexes)
@@ -79,10 +77,10 @@ wait_rises t o h threads mutexes stored new before waits passed e =
     let next : ℕ → Option ℕ = next_in_chain (pool_changed t awake threads) mutexes in
     let rank : ℕ → ℕ = held_of threads mutexes in
     let was : stored ≡ priorities size next rank = before ∙ before-is t threads mutexes in
-    let number : IsNumber size t = (bounded threads mutexes).each t o waits in
+    let number : IsNumber size t = (next_bounded threads mutexes).each t o waits in
     let height : h ≡ greatest_leading size next rank t = passed ∙ ap (λ s. stored_of s t) was ∙ stored_as size next rank t number in
     e ∙ ap (λ s. risen (next_in_chain threads mutexes) h size o s) was
-    ∙ join-is size next (next_in_chain threads mutexes) rank (λ w. nat_eq w t) o h (bounded_before t threads mutexes) (bounded threads mutexes) (joins t o threads mutexes waits)
+    ∙ join-is size next (next_in_chain threads mutexes) rank (λ w. nat_eq w t) o h (bounded_before t threads mutexes) (next_bounded threads mutexes) (joins t o threads mutexes waits)
     (passes t h (greatest_leading size next rank) height)
 
 -- ---- the mutex passes nothing on
@@ -100,7 +98,7 @@ wait_stays t threads mutexes stored before e =
 
 -- only threads of the pool lead on
 pub within : (threads : List (Option Thread)) (mutexes : List (Option Mutex)) (stored : List ℕ) → length stored ≡ length threads → IsWithin (next_in_chain threads mutexes) stored
-within threads mutexes stored long = record { each = λ w v e. let n : IsNumber (length threads) w = (bounded threads mutexes).each w v e in (n.0, omega (arith, n.1, long)) }
+within threads mutexes stored long = record { each = λ w v e. let n : IsNumber (length threads) w = (next_bounded threads mutexes).each w v e in (n.0, omega (arith, n.1, long)) }
 
 pub rise_visited : (threads : List (Option Thread)) (mutexes : List (Option Mutex)) (u h visited : ℕ) (stored new : List ℕ) → length stored ≡ length threads
     → new ≡ risen (next_in_chain threads mutexes) h (length threads) u stored → visited ≡ reads (next_in_chain threads mutexes) h (length threads) u stored → IsVisited visited stored new

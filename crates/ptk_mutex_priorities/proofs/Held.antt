@@ -4,7 +4,7 @@ use Rattle.std.specs.Prelude.{◌==◌, if◌then◌else◌, Option, Some, None,
 use Rattle.std.proofs.Math.ListN.{set}
 use Rattle.std.proofs.Math.Seq.{take-suc}
 use Rattle.std.proofs.lemmas.Bool.{cases_eq, cases_lt}
-use Rattle.std.proofs.lemmas.List.{length-set, length-map, get_or-set_same, get_or-set_other, get_or_past}
+use Rattle.std.proofs.lemmas.List.{length-set, get_or-set_same, get_or-set_other, get_or_past}
 use Rattle.std.proofs.lemmas.List.Sums.{fold-append}
 use Rattle.ptk_words.specs.Pools.{pool_get, numbers_of}
 use Rattle.ptk_words.specs.declared.threads.Thread.{Thread}
@@ -12,9 +12,9 @@ use Rattle.ptk_words.specs.declared.mutexes.Protocol.{Protocol}
 use Rattle.ptk_words.specs.declared.mutexes.Protocol.TheVariants.{NoProtocol, Inherit, Protect}
 use Rattle.ptk_words.specs.declared.mutexes.Owner.{Owner}
 use Rattle.ptk_words.specs.declared.mutexes.Owner.TheVariants.{Free, Abandoned, OwnedBy}
+use Rattle.ptk_words.proofs.Pools.{get_beyond}
 use Rattle.ptk_words_model.specs.State.{Mutex}
 use Rattle.ptk_words_model.specs.Priority.{assigned_of, is_owner, ceiling_of, ceiling_for, held_of}
-use Rattle.ptk_words_sync_invariant.proofs.Pools.{get_beyond}
 use Rattle.ptk_threads_slots.specs.declared.slot.Slot.{Slot}
 use Rattle.ptk_threads_slots.specs.Links.{threads_of}
 use Rattle.ptk_threads.proofs.Slots.{read_at}
@@ -27,9 +27,6 @@ use Rattle.ptk_mutex_priorities.proofs.Levels.{length-raised, raised_at, length-
 -- a slot as it is read at its place
 pub read_here : (slots : List Slot) (i : ℕ) (slot : Slot) → i < length slots → slot ≡ get_or slots i slot → slot.thread ≡ pool_get (threads_of slots) (suc i)
 read_here slots i slot lt is = let e : suc i - 1 ≡ i = omega arith in read_at slots (suc i) slot (omega arith) (rw e lt) (rw e is)
-
-pub length-threads_of : (slots : List Slot) → length (threads_of slots) ≡ length slots
-length-threads_of slots = length-map slots (λ (slot : Slot). slot.thread)
 
 -- once those of the numbers 1 to k are stored
 pub record AreAssigned (threads : List (Option Thread)) (k : ℕ) (stored : List ℕ) : Type 0 where

@@ -4,11 +4,11 @@ use Rattle.std.specs.Prelude.{Option, Some, None, option_map, option_and_then, i
 use Rattle.ptk_words.specs.Pools.{pool_get, pool_changed, numbers_to, numbers_of}
 use Rattle.ptk_words.specs.Threads.{mutex_of_wait}
 use Rattle.ptk_words.specs.declared.threads.Thread.{Thread}
+use Rattle.ptk_words.proofs.Pools.{length-changed}
 use Rattle.ptk_words_model.specs.State.{Mutex}
 use Rattle.ptk_words_model.specs.Chain.{greatest_leading}
 use Rattle.ptk_words_model.specs.Priority.{awaited, is_owner, ceiling_of, ceiling_for, inheritor, inheritor_of, held_of, next_in_chain, effective_priorities}
 use Rattle.ptk_words_sync_invariant.proofs.MutexPlaces.{effective-set}
-use Rattle.ptk_words_sync_invariant.proofs.Pools.{length-changed}
 use Rattle.ptk_words_sync_invariant.proofs.Raising.{level_of}
 use Rattle.ptk_words_sync_invariant.proofs.Threads.{changed_same}
 use Rattle.ptk_mutex_priorities.specs.declared.slot.Change.{Change}
@@ -21,15 +21,15 @@ use Rattle.ptk_mutex_priorities.proofs.Plain.{plain_inherits, plain_ceiling, pla
 -- ---- a mutex changed
 
 -- where whom it makes inherit stays, and the ceiling that it gives each thread
-mutex_keeps : (m : ℕ) (f : Mutex → Mutex) (threads : List (Option Thread)) (mutexes : List (Option Mutex)) → inheritor_of (option_map f (pool_get mutexes m)) ≡ inheritor_of (pool_get mutexes m)
+pub effective_mutex : (m : ℕ) (f : Mutex → Mutex) (threads : List (Option Thread)) (mutexes : List (Option Mutex)) → inheritor_of (option_map f (pool_get mutexes m)) ≡ inheritor_of (pool_get mutexes m)
     → ((u : ℕ) → ceiling_for u (option_map f (pool_get mutexes m)) ≡ ceiling_for u (pool_get mutexes m)) → effective_priorities threads (pool_changed m f mutexes) ≡ effective_priorities threads mutexes
-mutex_keeps m f threads mutexes inherits ceilings = ap (λ (rank : ℕ → ℕ). map rank (numbers_of threads)) (effective-set m (option_map f (pool_get mutexes m)) threads mutexes inherits ceilings)
+effective_mutex m f threads mutexes inherits ceilings = ap (λ (rank : ℕ → ℕ). map rank (numbers_of threads)) (effective-set m (option_map f (pool_get mutexes m)) threads mutexes inherits ceilings)
 
 pub plain_raises_nobody : (threads : List (Option Thread)) (mutexes : List (Option Mutex)) → PlainRaisesNobody threads mutexes
 plain_raises_nobody threads mutexes m f same plain =
     let old : Option Mutex = pool_get mutexes m in
     let kept : is_raising_at (option_map f old) ≡ false = plain_kept f old same plain in
-    mutex_keeps m f threads mutexes (plain_inherits (option_map f old) kept ∙ sym (plain_inherits old plain)) (λ u. plain_ceiling u (option_map f old) kept ∙ sym (plain_ceiling u old plain))
+    effective_mutex m f threads mutexes (plain_inherits (option_map f old) kept ∙ sym (plain_inherits old plain)) (λ u. plain_ceiling u (option_map f old) kept ∙ sym (plain_ceiling u old plain))
 
 owned_inheritor : (f : Mutex → Mutex) (x : Option Mutex) → ((mutex : Mutex) → (f mutex).protocol ≡ mutex.protocol) → ((mutex : Mutex) → (f mutex).owner ≡ mutex.owner) → inheritor_of (option_map f x) ≡ inheritor_of x
 owned_inheritor f None protocol owner = refl
@@ -40,7 +40,7 @@ owned_ceiling u f None protocol owner = refl
 owned_ceiling u f (Some mutex) protocol owner = λ i. if is_owner u (owner mutex i) then ceiling_of (protocol mutex i) else 0
 
 pub same_owner_raises_alike : (threads : List (Option Thread)) (mutexes : List (Option Mutex)) → SameOwnerRaisesAlike threads mutexes
-same_owner_raises_alike threads mutexes m f protocol owner = mutex_keeps m f threads mutexes (owned_inheritor f (pool_get mutexes m) protocol owner) (λ u. owned_ceiling u f (pool_get mutexes m) protocol owner)
+same_owner_raises_alike threads mutexes m f protocol owner = effective_mutex m f threads mutexes (owned_inheritor f (pool_get mutexes m) protocol owner) (λ u. owned_ceiling u f (pool_get mutexes m) protocol owner)
 
 -- no change of a mutex is one of its protocol
 pub keeps_protocol : (change : Change) (mutex : Mutex) → (mutex_changed change mutex).protocol ≡ mutex.protocol

@@ -5,6 +5,7 @@ use Rattle.std.proofs.Math.ListN.{set}
 use Rattle.std.proofs.lemmas.Bool.{cases_eq, cases_lt}
 use Rattle.std.proofs.lemmas.Bool.Decides.{nat_tests}
 use Rattle.std.proofs.lemmas.List.{get_or-set_same, get_or-set_other, set-get_or, set_past}
+use Rattle.ptk_words.proofs.Options.{one_value, count_step}
 use Rattle.ptk_threads.specs.Table.{stored_of}
 use Rattle.ptk_mutex_priorities.specs.Raised.{raised, risen}
 use Rattle.ptk_mutex_priorities.proofs.Levels.{length-raised}
@@ -151,17 +152,13 @@ pub lower_all : (priority : ℕ) (s : List ℕ) → lower priority s ≤ length 
 lower_all priority [] = omega arith
 lower_all priority (x ∷ s) = lower_test (nat_lt x priority) (lower priority s) (length s) (lower_all priority s)
 
-lower_step : (b : Bool) (x y : ℕ) → x ≡ suc y → (if b then suc x else x) ≡ suc (if b then suc y else y)
-lower_step true x y e = ap suc e
-lower_step false x y e = e
-
 lower_set : (priority i : ℕ) (s : List ℕ) → i < length s → get_or s i 0 < priority → lower priority s ≡ suc (lower priority (set s i priority))
 lower_set priority i [] lt less = absurd (omega (arith, lt))
 lower_set priority zero (x ∷ s) lt less =
     let yes : nat_lt x priority ≡ true = grind (arith, nat_tests) in
     let no : nat_lt priority priority ≡ false = grind (arith, nat_tests) in
     rw (yes, no) refl
-lower_set priority (suc i) (x ∷ s) lt less = lower_step (nat_lt x priority) (lower priority s) (lower priority (set s i priority)) (lower_set priority i s (omega (arith, lt)) less)
+lower_set priority (suc i) (x ∷ s) lt less = count_step (nat_lt x priority) (lower priority s) (lower priority (set s i priority)) (lower_set priority i s (omega (arith, lt)) less)
 
 -- one that is raised is lower no more
 lower_raised : (priority u : ℕ) (s : List ℕ) → IsPlace s u → stored_of s u < priority → lower priority s ≡ suc (lower priority (raised priority u s))
@@ -230,12 +227,9 @@ last_case : (next : ℕ → Option ℕ) (priority u w v : ℕ) (s : List ℕ) �
 last_case next priority u w v s n e (inl le) = le
 last_case next priority u w v s n e (inr (same, le)) = absurd (let f : next u ≡ Some v = subst (λ x. next x ≡ Some v) same e in cc (n, f))
 
-some_same : (x y : ℕ) (o : Option ℕ) → o ≡ Some x → o ≡ Some y → x ≡ y
-some_same x y o e f = cc (e, f)
-
 on_case : (next : ℕ → Option ℕ) (priority u d w v : ℕ) (s : List ℕ) → next u ≡ Some d → next w ≡ Some v → (stored_of s w ≤ stored_of s v) ⊎ ((w ≡ u) × (stored_of s w ≤ priority)) → (stored_of s w ≤ stored_of s v) ⊎ ((v ≡ d) × (stored_of s w ≤ priority))
 on_case next priority u d w v s n e (inl le) = inl le
-on_case next priority u d w v s n e (inr (same, le)) = inr (some_same v d (next u) (subst (λ x. next x ≡ Some v) same e) n, le)
+on_case next priority u d w v s n e (inr (same, le)) = inr (one_value v d (next u) (subst (λ x. next x ≡ Some v) same e) n, le)
 
 empty_closes : (next : ℕ → Option ℕ) (k priority u : ℕ) (stored : List ℕ) → lower priority stored ≡ 0 → IsOnWay next k priority u stored → IsPlace stored u ⊎ (IsPlace stored u → ⊥) → IsClosed next k (raised priority u stored)
 empty_closes next k priority u stored none way (inl place) = rw (raised-same priority u stored (none_lower priority u stored none place)) (way_ends next k priority u stored (none_lower priority u stored none) way)

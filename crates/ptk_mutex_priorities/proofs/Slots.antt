@@ -2,7 +2,8 @@
 use Rattle.std.proofs.Common.{◌≡◌, ℕ, List, refl, add-one}
 use Rattle.std.specs.Prelude.{Option, Some, None, option_map, is_none}
 use Rattle.std.proofs.lemmas.List.{set_past}
-use Rattle.ptk_threads.proofs.Slots.{pool_get_below, pool_set_below, changed_at, changed_past}
+use Rattle.ptk_words.proofs.Pools.{pool_set_below}
+use Rattle.ptk_threads.proofs.Slots.{pool_get_below, changed_at, changed_past}
 use Rattle.ptk_mutex_priorities.specs.declared.slot.MutexState.{MutexState}
 use Rattle.ptk_mutex_priorities.specs.Slots.{mutex_with, state_of-bare}
 

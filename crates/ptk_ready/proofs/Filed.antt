@@ -4,7 +4,8 @@ use Rattle.std.specs.Prelude.{ℤ, int_lt, find, nat_eq, Option, Some, None}
 use Rattle.std.proofs.lemmas.Bool.Decides.{nat_tests}
 use Rattle.std.proofs.lemmas.Bool.{eqb-true, cases_Bool}
 use Rattle.ptk_words.specs.Pools.{is_in}
-use Rattle.ptk_threads_slots.proofs.Along.{in_here, in_later, not_true}
+use Rattle.ptk_words.proofs.Lists.{in_here}
+use Rattle.ptk_threads_slots.proofs.Along.{in_later, not_true}
 use Rattle.std.proofs.lemmas.List.{get_or_read}
 use Rattle.ptk_ready.specs.Entries.{stamp_of}
 use Rattle.ptk_threads_slots.specs.declared.link.Link.{Link}

@@ -1,16 +1,18 @@
 -- What each call makes of a sound line.
 use Rattle.std.proofs.Common.{◌≡◌, ◌≢◌, ℕ, zero, suc, ◌-◌, ◌<◌, ◌≤◌, List, [], ◌∷◌, ◌++◌, length, true, false, not, refl, sym, ◌∙◌, ap, subst, arith, get_or, inl, inr}
-use Rattle.std.specs.Prelude.{ℤ, pos, ◌<ℤ◌, int_lt, ◌==◌, ◌↔◌, is_some, Option, Some, None}
+use Rattle.std.specs.Prelude.{ℤ, pos, ◌<ℤ◌, int_lt, ◌==◌, ◌↔◌, is_some, Some, None}
 use Rattle.std.proofs.Math.ListN.{set}
 use Rattle.std.proofs.lemmas.Bool.Decides.{nat_tests}
 use Rattle.std.proofs.lemmas.List.{get_or_past, get_or-set_same, get_or-set_other}
 use Rattle.ptk_words.specs.Pools.{is_in, without, pool_set}
+use Rattle.ptk_words.proofs.Options.{none_if_never_some}
+use Rattle.ptk_words.proofs.Lists.{in_here}
 use Rattle.ptk_words_parted.specs.Parts.{part_of}
 use Rattle.ptk_threads.specs.Table.{stored_of}
 use Rattle.ptk_threads_slots.specs.declared.link.Link.{Link}
 use Rattle.ptk_threads_slots.specs.declared.link.Ends.{Ends}
 use Rattle.ptk_threads_slots.specs.Links.{mark_of, first_or, queue_at, queues, AreQueues}
-use Rattle.ptk_threads_slots.proofs.Along.{in_front, in_here, in_later, not_true, le_or_gt, along_marked}
+use Rattle.ptk_threads_slots.proofs.Along.{in_front, in_later, not_true, le_or_gt, along_marked}
 use Rattle.ptk_threads_slots.proofs.Lists.{list_at}
 use Rattle.std.proofs.lemmas.Int.{ints}
 use Rattle.ptk_ready.specs.declared.stamps.StampRange.{StampRange}
@@ -59,10 +61,6 @@ out_without k xs h =
     let no : false ≡ true = rw fails at contra in
     absurd (cc)
 
-none_of : (o : Option ℕ) → ((i : ℕ) → o ≡ Some i → ⊥) → o ≡ None
-none_of None h = refl
-none_of (Some i) h = absurd (h i refl)
-
 -- a list in order has each of its threads at the place of its stamp
 placed_back : (stamp : ℕ → ℤ) (k : ℕ) (xs : List ℕ) → IsInOrder stamp xs → is_in k xs ≡ true → placed stamp k (without k xs) ≡ xs
 placed_back stamp k xs order inside =
@@ -82,7 +80,7 @@ placed_back stamp k xs order inside =
 -- a thread that was taken out of the line lies in no queue
 pub taken_free : (links new : List Link) (ends late : List Ends) (stamps : List ℤ) (k : ℕ) → AreQueues links ends → AreQueues new late → is_ready links k ≡ true → KeepsWaiters links ends new late
     → entries new stamps ≡ without k (entries links stamps) → mark_of new k ≡ None
-taken_free links new ends late stamps k are after ready keeps line = none_of (mark_of new k)
+taken_free links new ends late stamps k are after ready keeps line = none_if_never_some (mark_of new k)
     (λ i mark. elim (le_or_gt 32 i) as (λ _. ⊥) [
       | inl far ↦ (let inside : is_in k (queue_at links ends i) ≡ true = subst (λ l. is_in k l ≡ true) (keeps i far) (after.marked k i mark) in
           let was : mark_of links k ≡ Some i = along_marked links i None None (queue_at links ends i) k (are.each i).along inside in
@@ -249,7 +247,7 @@ queued_marked links ends k i are =
 
 pub unqueued_free : (links : List Link) (ends : List Ends) (k : ℕ) → AreQueues links ends → ((i : ℕ) → is_in k (queue_at links ends i) ≡ false) ↔ (mark_of links k ≡ None)
 unqueued_free links ends k are = (
-  λ out. none_of (mark_of links k) (λ i mark. (let inside = are.marked k i mark in let not_in = out i in absurd (cc))),
+  λ out. none_if_never_some (mark_of links k) (λ i mark. (let inside = are.marked k i mark in let not_in = out i in absurd (cc))),
   λ free i. not_true (is_in k (queue_at links ends i)) (λ inside.
       (let mark = along_marked links i None None (queue_at links ends i) k (are.each i).along inside in
       let none : None ≡ Some i = sym free ∙ mark in absurd (cc))),

@@ -6,7 +6,8 @@ use Rattle.std.proofs.lemmas.Bool.{eqb-true, cases_Bool, and_parts}
 use Rattle.std.proofs.lemmas.Int.{ints}
 use Rattle.std.proofs.lemmas.Map.Keys.{IsDistinct-tail}
 use Rattle.ptk_words.specs.Pools.{is_in}
-use Rattle.ptk_threads_slots.proofs.Along.{in_front, in_here, in_later, head_out, distinct_cons, not_true}
+use Rattle.ptk_words.proofs.Lists.{in_here, head_out}
+use Rattle.ptk_threads_slots.proofs.Along.{in_front, in_later}
 use Rattle.ptk_ready.specs.Orders.{placed, in_order}
 
 -- ---- tests
@@ -148,13 +149,4 @@ order_apart stamp (k ∷ ks) h i j a b e = elim (in_front i k ks a) as (λ _. i 
     | inl second ↦ (let less : stamp k <ℤ stamp i = h.0 i rest in let same : stamp i ≡ stamp k = e ∙ ap stamp second in absurd (no_less (stamp k) (subst (λ (z : ℤ). stamp k <ℤ z) same less)))
     | inr later ↦ order_apart stamp ks h.1 i j rest later e
   ]
-]
-
-pub distinct_kept : (p : ℕ → Bool) (ks : List ℕ) → IsDistinct nat_eq ks → IsDistinct nat_eq (filter p ks)
-distinct_kept p [] d = d
-distinct_kept p (k ∷ ks) d = elim (cases_Bool (p k)) as (λ _. IsDistinct nat_eq (filter p (k ∷ ks))) [
-  | inl does ↦ rw does (distinct_cons k (filter p ks)
-      (not_true (is_in k (filter p ks)) (λ inside. (let there = (and_parts (p k) (is_in k ks) (sym (in_kept p k ks) ∙ inside)).1 in let out = head_out k ks d in absurd (cc))))
-      (distinct_kept p ks (IsDistinct-tail nat_eq k ks d)))
-  | inr fails ↦ rw fails (distinct_kept p ks (IsDistinct-tail nat_eq k ks d))
 ]

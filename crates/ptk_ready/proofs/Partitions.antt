@@ -1,13 +1,13 @@
 -- What each call makes of the lines of all partitions.
 use Rattle.std.proofs.Common.{◌≡◌, ◌≢◌, ℕ, zero, suc, ◌<◌, ◌≤◌, List, [], ◌∷◌, ◌++◌, length, drop, take, map, true, false, refl, sym, ◌∙◌, ap, subst, arith, get_or, inl, inr}
-use Rattle.std.specs.Prelude.{ℤ, pos, IsSome, Option, replicate, slice_get}
+use Rattle.std.specs.Prelude.{ℤ, pos, IsSome, Option, replicate}
 use Rattle.std.proofs.Math.ListN.{set, get_or-map}
 use Rattle.std.proofs.Math.Seq.{map-set_same}
 use Rattle.std.proofs.lemmas.Bool.{cases_eq}
 use Rattle.std.proofs.lemmas.List.{get_or-set_same, get_or-set_other, get_or_read, get_or_past, set_past, set-get_or, set-set, ext_get_or, take-set-le, drop-set-lt, get_or-replicate, length-map, length-set, length-replicate}
-use Rattle.std.specs.Option.{option_flatten}
 use Rattle.ptk_words.specs.Pools.{is_in, without, pool_get, pool_set}
 use Rattle.ptk_words.specs.declared.threads.Thread.{Thread}
+use Rattle.ptk_words.proofs.Pools.{used_at}
 use Rattle.ptk_words_parted.specs.Parts.{part_of}
 use Rattle.ptk_threads.specs.Table.{ThreadTable, thread_in, stored_of, with_stored, with_queues}
 use Rattle.ptk_threads.specs.Queues.{IsUnqueued, with_none, with_last, with_out}
@@ -84,11 +84,6 @@ read limit items line table p i lists stored entries view at filed lt value told
       filed = rw (told, kept, is) (filed.each p within);
       same = rw (told, is) (sym (lines_at line table.queues p within));
     }
-
-used_at : (i : ℕ) (threads : List (Option Thread)) → IsSome (option_flatten (slice_get threads i)) → i < length threads
-used_at i [] used = absurd (cc used)
-used_at zero (x ∷ threads) used = omega arith
-used_at (suc i) (x ∷ threads) used = let rest : i < length threads = used_at i threads used in omega (arith, rest)
 
 -- the number of a thread that is in use has a slot
 used_number : (threads : List (Option Thread)) (k : ℕ) → IsSome (pool_get threads k) → k ≤ length threads

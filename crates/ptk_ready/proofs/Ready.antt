@@ -7,12 +7,13 @@ use Rattle.std.proofs.lemmas.Bool.Decides.{nat_tests}
 use Rattle.std.proofs.lemmas.Map.Keys.{IsDistinct-push}
 use Rattle.std.proofs.lemmas.Bool.{and_parts}
 use Rattle.ptk_words.specs.Pools.{is_in, numbers_to}
+use Rattle.ptk_words.proofs.Lists.{distinct-filter, none_distinct, in_here}
 use Rattle.ptk_threads_slots.specs.declared.link.Link.{Link}
 use Rattle.ptk_threads_slots.specs.Links.{mark_of}
-use Rattle.ptk_threads_slots.proofs.Along.{in_front, in_here, in_left, in_right, in_parts, not_true, le_or_gt, marked_within}
+use Rattle.ptk_threads_slots.proofs.Along.{in_front, in_left, in_right, in_parts, not_true, le_or_gt, marked_within}
 use Rattle.ptk_ready.specs.declared.stamps.StampRange.{StampRange}
 use Rattle.ptk_ready.specs.Entries.{is_ready_place, is_ready, ready_of, stamp_of, entries, AreStamps}
-use Rattle.ptk_ready.proofs.Orders.{IsInOrder, same_test, in_sorted, in_kept, order_sorted, order_apart, same_list, distinct_kept}
+use Rattle.ptk_ready.proofs.Orders.{IsInOrder, same_test, in_sorted, in_kept, order_sorted, order_apart, same_list}
 
 -- ---- numbers
 
@@ -29,10 +30,6 @@ numbers_small (suc n) k h = elim (in_parts k (numbers_to n) (suc n ∷ []) h) as
   | inl l ↦ (let small = numbers_small n k l in omega arith)
   | inr r ↦ elim (in_front k (suc n) [] r) as (λ _. k ≤ suc n) [ inl e ↦ omega arith | inr none ↦ absurd (cc) ]
 ]
-
-none_distinct : IsDistinct nat_eq []
-unfolding IsDistinct
-none_distinct = tt
 
 pub numbers_distinct : (n : ℕ) → IsDistinct nat_eq (numbers_to n)
 numbers_distinct zero = none_distinct
@@ -65,7 +62,7 @@ in_ready links k = same_test (is_in k (ready_of links)) (is_ready links k)
     in_kept (is_ready links) k (numbers_to (length links)) ∙ (rw (ready, in_numbers (length links) k within.0 within.1) refl)))
 
 ready_distinct : (links : List Link) → IsDistinct nat_eq (ready_of links)
-ready_distinct links = distinct_kept (is_ready links) (numbers_to (length links)) (numbers_distinct (length links))
+ready_distinct links = distinct-filter (is_ready links) (numbers_to (length links)) (numbers_distinct (length links))
 
 -- ---- the line
 

@@ -5,6 +5,7 @@ use Rattle.std.proofs.Math.ListN.{set}
 use Rattle.std.proofs.lemmas.Bool.{cases_eq, eq-eqb, ne_eqb, and_parts, and_from}
 use Rattle.std.proofs.lemmas.List.{get_or_past, get_or-set_same, get_or-set_other, length-set}
 use Rattle.ptk_words.specs.Pools.{is_in, without, numbers_to, first_of_greatest}
+use Rattle.ptk_words.proofs.Lists.{distinct-filter, in_here}
 use Rattle.ptk_words_parted.specs.Parts.{part_of}
 use Rattle.ptk_threads.specs.Table.{stored_of}
 use Rattle.ptk_threads.specs.Queues.{without_first}
@@ -12,14 +13,14 @@ use Rattle.ptk_threads_slots.specs.declared.link.QueueName.{QueueName}
 use Rattle.ptk_threads_slots.specs.declared.queues.FirstThread.{FirstThread}
 use Rattle.ptk_threads_slots.specs.Links.{place_of, first_or}
 use Rattle.ptk_threads_slots.specs.Changes.{first_in}
-use Rattle.ptk_threads_slots.proofs.Along.{in_front, in_here, in_later, not_true, out_of, le_or_gt}
+use Rattle.ptk_threads_slots.proofs.Along.{in_front, in_later, not_true, out_of, le_or_gt}
 use Rattle.ptk_threads_slots.proofs.Lists.{without_none}
 use Rattle.ptk_ready.specs.declared.stamps.StampRange.{StampRange}
 use Rattle.ptk_ready.specs.Bits.{has_bit, IsBitChanged, IsGreatestBit}
 use Rattle.ptk_ready.specs.Entries.{stamp_of, of_priority, has_any}
 use Rattle.ptk_ready.specs.Lines.{queued, line_of, IsFiled}
 use Rattle.ptk_ready.specs.Laws.{in_priority}
-use Rattle.ptk_ready.proofs.Orders.{IsInOrder, no_less, in_kept, order_kept, order_sorted, same_list, distinct_kept}
+use Rattle.ptk_ready.proofs.Orders.{IsInOrder, no_less, in_kept, order_kept, order_sorted, same_list}
 use Rattle.ptk_ready.proofs.Ready.{numbers_distinct}
 use Rattle.ptk_ready.proofs.Lists.{placed_in, queued_in, in_line}
 use Rattle.ptk_ready.proofs.Kept.{in_without, filter_turned, not_of}
@@ -32,7 +33,7 @@ line_order : (lists : List (List ℕ)) (stamps : List ℤ) → ((j k : ℕ) → 
 line_order lists stamps apart =
     let kept : (j : ℕ) → is_in j (filter (λ k. is_in k (queued lists)) (numbers_to 32)) ≡ true → is_in j (queued lists) ≡ true =
     λ j inside. (and_parts (is_in j (queued lists)) (is_in j (numbers_to 32)) (sym (in_kept (λ k. is_in k (queued lists)) j (numbers_to 32)) ∙ inside)).0 in
-    order_sorted (stamp_of stamps) (filter (λ k. is_in k (queued lists)) (numbers_to 32)) (distinct_kept (λ k. is_in k (queued lists)) (numbers_to 32) (numbers_distinct 32))
+    order_sorted (stamp_of stamps) (filter (λ k. is_in k (queued lists)) (numbers_to 32)) (distinct-filter (λ k. is_in k (queued lists)) (numbers_to 32) (numbers_distinct 32))
     (λ j k a b e. apart j k (kept j a) (kept k b) e)
 
 -- queue i is k and then these

@@ -1,1 +1,9 @@
 pub mod Effects
+pub mod Aligned
+pub mod RowsOfSteps
+pub mod Noted
+pub mod Briefly
+pub mod Stores
+pub mod Kept
+pub mod EntryAnswers
+pub mod Singles

@@ -1,2 +1,7 @@
 pub mod Values
 pub mod Effects
+pub mod RowEnds
+pub mod Notes
+pub mod Entries
+pub mod Carried
+pub mod Stepped

@@ -1,9 +1,9 @@
 -- The figures of all partitions, as they are gathered.
-use Rattle.std.proofs.Common.{◌≡◌, ◌≢◌, ℕ, ◌+◌, ◌<◌, ◌≤◌, List, [], ◌∷◌, ◌++◌, length, take, drop, get_or, ◌⊎◌, inl, inr, refl, sym, ap, subst, ◌∙◌, arith, length-append, get_or-set_same, get_or-set_other}
+use Rattle.std.proofs.Common.{◌≡◌, ◌≢◌, ℕ, ◌+◌, ◌<◌, ◌≤◌, List, ◌++◌, length, take, drop, get_or, ◌⊎◌, inl, inr, refl, sym, ap, subst, ◌∙◌, arith, get_or-set_same, get_or-set_other}
 use Rattle.std.proofs.Math.ListN.{set}
-use Rattle.std.proofs.Math.Seq.{get_or-append_seam}
 use Rattle.std.proofs.lemmas.Bool.{cases_lt}
-use Rattle.std.proofs.lemmas.List.{get_or_append_left, length-set, take-append-le, take_all}
+use Rattle.std.proofs.lemmas.List.{length-set, take-append-le, take_all}
+use Rattle.ptk_words.proofs.Lists.{AreEach}
 use Rattle.ptk_main_runs.specs.World.{World, at_tick}
 use Rattle.ptk_statistics.specs.declared.part.PartStatistics.{PartStatistics}
 use Rattle.ptk_statistics_figures.specs.Counts.{reached}
@@ -11,10 +11,6 @@ use Rattle.ptk_statistics.specs.Sums.{Agrees}
 use Rattle.ptk_statistics.specs.declared.statistics.Statistics.{Statistics}
 use Rattle.ptk_statistics.specs.Parts.{AgreesWith, AreEnded, AreKept, IsKept}
 use Rattle.ptk_statistics.proofs.Sums.{adds_later, agrees}
-
--- each element is so
-pub record AreEach {A : Type 0} (P : ℕ → A → Type 0) (xs : List A) : Type 0 where
-  pub each : (place : ℕ) (default : A) → place < length xs → P place (get_or xs place default)
 
 -- one is replaced, and the others change their fact
 pub each_set : {A : Type 0} (P Q : ℕ → A → Type 0) (xs : List A) (i : ℕ) (x : A) → i < length xs → AreEach P xs → ((place : ℕ) (y : A) → place ≢ i → P place y → Q place y) → Q i x
@@ -40,19 +36,6 @@ each_set {A = A} P Q xs i x within are others here = record { each = each }
             at (inr le) =
                 let here_at : i ≡ place = omega arith in
                 subst (λ (k : ℕ). Q k (get_or (set xs i x) k default)) here_at (subst (Q i) (sym (get_or-set_same xs i x default within)) here)
-
--- and one more
-pub each_more : {A : Type 0} (P : ℕ → A → Type 0) (xs : List A) (x : A) → AreEach P xs → P (length xs) x → AreEach P (xs ++ x ∷ [])
-each_more {A = A} P xs x are here = record { each = each }
-  where
-    each : (place : ℕ) (default : A) → place < length (xs ++ x ∷ []) → P place (get_or (xs ++ x ∷ []) place default)
-    each place default lt = by (cases_lt place (length xs))
-      where
-        by : (place < length xs) ⊎ (length xs ≤ place) → P place (get_or (xs ++ x ∷ []) place default)
-        by (inl sooner) = subst (P place) (sym (get_or_append_left xs (x ∷ []) default place sooner)) (are.each place default sooner)
-        by (inr later) =
-            let at : length xs ≡ place = omega (arith, lt, length-append xs (x ∷ []), later) in
-            subst (λ (k : ℕ). P k (get_or (xs ++ x ∷ []) k default)) at (subst (P (length xs)) (sym (get_or-append_seam xs x [] default)) here)
 
 -- the figures of a partition at a later tick of the run
 pub kept_later : (world later : World) (n : ℕ) (parts : List PartStatistics) → later ≡ at_tick n world → world.tick ≤ n → AreKept world parts → AreKept later parts
@@ -85,12 +68,6 @@ pub written : (new items : List PartStatistics) (n : ℕ) → n ≡ length new �
 written new items n all =
     ap (λ (k : ℕ). take k (new ++ drop (length new) items)) all
     ∙ (take-append-le (length new) new (drop (length new) items) (omega arith) ∙ take_all (length new) new (omega arith))
-
--- one run at two ticks
-pub at_again : (first now later : World) (n : ℕ) → now ≡ at_tick now.tick first → later ≡ at_tick n now → later ≡ at_tick later.tick first
-at_again first now later n is goes =
-    let same : later ≡ at_tick n first = goes ∙ ap (at_tick n) is in
-    same ∙ ap (λ (k : ℕ). at_tick k first) (sym (ap (λ (w : World). w.tick) same))
 
 -- the figures of all partitions that are counted to the end agree with the system
 pub all_agree : (world : World) (statistics : Statistics) (parts : List PartStatistics) → world ≡ at_tick world.tick world → statistics.parts.items ≡ parts → AreKept world parts → AreEnded world (length parts) parts → AgreesWith world statistics

@@ -1,7 +1,8 @@
 -- Own ticks between two ticks.
-use Rattle.std.proofs.Common.{◌≡◌, ℕ, zero, suc, ◌+◌, ◌-◌, ◌<◌, ◌≤◌, Bool, true, false, if◌then◌else◌, Option, Some, None, refl, sym, ap, subst, ◌∙◌, arith, add-zero, add-suc}
+use Rattle.std.proofs.Common.{◌≡◌, ℕ, zero, suc, ◌+◌, ◌-◌, ◌<◌, ◌≤◌, if◌then◌else◌, Option, Some, None, refl, sym, ap, subst, ◌∙◌, arith, add-zero, add-suc}
 use Rattle.std.specs.Prelude.{is_some, MatchOption, min}
 use Rattle.std.proofs.lemmas.Option.{MatchOption-at_some}
+use Rattle.ptk_words.proofs.Options.{one_at_most}
 use Rattle.ptk_words_windows.specs.Windows.{OwnTicks, WindowPlan, IsFirstOwn, IsOwn, IsPlan, own_ticks}
 use Rattle.ptk_words_windows.proofs.NextLaws.{next_first}
 use Rattle.ptk_words_windows.proofs.OwnLaws.{end_none, window_whole}
@@ -10,10 +11,6 @@ use Rattle.ptk_statistics_figures.specs.Own.{own_below}
 -- one of an own tick
 abbrev one_of : Option ℕ → ℕ
 one_of o = if is_some o then 1 else 0
-
-one_most : (b : Bool) → (if b then 1 else 0) ≤ 1
-one_most true = omega arith
-one_most false = omega arith
 
 -- none before the first tick
 pub own_zero : (ticks : OwnTicks) → 0 ≡ own_below ticks 0
@@ -24,7 +21,7 @@ own_zero ticks = refl
 pub own_most : (ticks : OwnTicks) (n : ℕ) → own_below ticks n ≤ n
 unfolding own_below
 own_most ticks zero = omega arith
-own_most ticks (suc n) = omega (arith, own_most ticks n, one_most (is_some (ticks.end_at n)))
+own_most ticks (suc n) = omega (arith, own_most ticks n, one_at_most (is_some (ticks.end_at n)))
 
 -- none of so many ticks is own
 pub own_none : (ticks : OwnTicks) (a n : ℕ) → ((k : ℕ) → a ≤ k → k < a + n → ticks.end_at k ≡ None) → own_below ticks (a + n) ≡ own_below ticks a

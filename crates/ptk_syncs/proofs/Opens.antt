@@ -5,6 +5,7 @@ use Rattle.std.proofs.Math.ListN.{set}
 use Rattle.std.proofs.lemmas.List.{length-map, length-replicate}
 use Rattle.std.proofs.lemmas.List.Elements.{All-head, All-tail}
 use Rattle.ptk_words.specs.Pools.{pool_get, pool_set, pool_changed}
+use Rattle.ptk_words.proofs.Pools.{length-pool_set}
 use Rattle.ptk_words_parted.specs.Parts.{part_of, filled}
 use Rattle.ptk_words_parted.specs.Cuts.{lent}
 use Rattle.ptk_words_parted.proofs.Cuts.{lent-same}
@@ -12,10 +13,9 @@ use Rattle.ptk_words_model.specs.State.{Mutex, Condition}
 use Rattle.ptk_words_model.specs.Mutex.{waiters_of}
 use Rattle.ptk_words_model.specs.Condition.{waiters_on}
 use Rattle.ptk_threads.specs.Table.{ThreadTable, free_table}
-use Rattle.ptk_threads.specs.Queues.{no_queues}
-use Rattle.ptk_threads.proofs.Slots.{length-pool_set}
 use Rattle.ptk_ready.specs.declared.entries.LinkedEntries.{LinkedEntries}
 use Rattle.ptk_ready.specs.Partitions.{lines_by}
+use Rattle.ptk_ready.proofs.Unused.{lists_empty}
 use Rattle.ptk_mutex_priorities.specs.Slots.{with_waiters, bare}
 use Rattle.ptk_mutex_priorities.specs.Changes.{mutex_changed, SlotMayChange}
 use Rattle.ptk_mutex_priorities.specs.declared.slot.Change.{Change}
@@ -129,16 +129,6 @@ bare_parts [] p (suc i) = refl
 bare_parts (n ∷ counts) zero m = bare_filled n m
 bare_parts (n ∷ counts) (suc p) m = bare_parts counts p m
 
-all_empty : (n i : ℕ) → part_of {X = ℕ} (replicate n []) i ≡ []
-all_empty zero i = refl
-all_empty (suc n) zero = refl
-all_empty (suc n) (suc i) = all_empty n i
-
-queues_empty : (counts : List ℕ) (p i : ℕ) → part_of (part_of (map no_queues counts) p) i ≡ []
-queues_empty [] p i = refl
-queues_empty (n ∷ counts) zero i = all_empty 128 i
-queues_empty (n ∷ counts) (suc p) i = queues_empty counts p i
-
 pub built_whole : (limit : ℕ) (line : List (LinkedEntries limit)) (a : ThreadTable) (threads ms cs : List ℕ) (mutexes : List (List (Option Mutex))) (marks : List (List Bool)) → a ≡ free_table threads → mutexes ≡ map (filled None) ms → marks ≡ map (filled false) cs → length ms ≡ length threads → length cs ≡ length threads
     → All (λ count. count ≤ 64) ms → All (λ count. count ≤ 32) cs → IsLined limit line (free_table threads) → IsRoster limit line a mutexes marks
 built_whole limit line a threads ms cs mutexes marks table of_mutexes of_marks long_ms long_cs small_ms small_cs lined = rw (table, of_mutexes, of_marks) (record {
@@ -149,8 +139,8 @@ built_whole limit line a threads ms cs mutexes marks table of_mutexes of_marks l
     few_mutexes = few_filled None 64 ms small_ms;
     few_conditions = few_filled false 32 cs small_cs;
     bare_mutexes = bare_parts ms;
-    free_mutexes = λ p m pos le free. queues_empty threads p (m + 31);
-    free_conditions = λ p c pos free. queues_empty threads p (c + 95);
+    free_mutexes = λ p m pos le free. lists_empty threads p (m + 31);
+    free_conditions = λ p c pos free. lists_empty threads p (c + 95);
   };
 })
 

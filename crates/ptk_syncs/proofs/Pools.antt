@@ -6,13 +6,13 @@ use Rattle.std.proofs.lemmas.Bool.{cases_eq}
 use Rattle.std.proofs.lemmas.List.{length-set, get_or_past, get_or-set_same, set_past}
 use Rattle.ptk_words.specs.Pools.{pool_get, pool_set, pool_changed, least_free, is_in}
 use Rattle.ptk_words.specs.declared.threads.Thread.{Thread}
+use Rattle.ptk_words.proofs.Pools.{length-pool_set, pool_set_all}
 use Rattle.ptk_words_parted.specs.Parts.{part_of}
 use Rattle.ptk_words_model.specs.State.{Mutex, Condition}
 use Rattle.ptk_words_model.specs.Mutex.{waiters_of}
 use Rattle.ptk_words_model.specs.Condition.{waiters_on}
 use Rattle.ptk_words_sync_invariant.specs.Conditions.{IsNoWaiter}
 use Rattle.ptk_threads.proofs.Pools.{part_of-set_other, pool_get-set_other}
-use Rattle.ptk_threads.proofs.Slots.{length-pool_set}
 use Rattle.ptk_threads.specs.Table.{ThreadTable, with_changed, with_new, with_new_at, with_free, with_left, with_stored, thread_in, stored_of}
 use Rattle.ptk_threads.specs.Queues.{IsUnqueued}
 use Rattle.ptk_threads_slots.proofs.Along.{le_or_gt}
@@ -25,7 +25,7 @@ use Rattle.ptk_mutex_priorities.specs.Slots.{with_waiters, bare}
 use Rattle.ptk_syncs.specs.Waiters.{condition_if, mutexes_in, conditions_in, mutexes_by, conditions_by}
 use Rattle.ptk_syncs.specs.Rosters.{Rostered, AreQueuesOf, ArePools, IsLined, IsRoster, is_marked, seen}
 use Rattle.ptk_syncs.proofs.Numbered.{length-numbered}
-use Rattle.ptk_syncs.proofs.Rosters.{changed_roster, pool_set_all}
+use Rattle.ptk_syncs.proofs.Rosters.{changed_roster}
 use Rattle.ptk_syncs.proofs.Seen.{at_mutex, at_condition, later_same, queue_set, queue_all, other_queue, mutexes_same, conditions_same, ready_same}
 
 -- ---- the queues of ready threads changed, or none

@@ -10,10 +10,13 @@ use Rattle.std.proofs.lemmas.List.Quantifiers.{position-Some}
 use Rattle.std.proofs.lemmas.List.{length-map, length-set, length-replicate, set_past, drop_all, append-nil, set-set, get_or-set_same, get_or-set_other}
 use Rattle.ptk_words.specs.Pools.{pool_get, pool_set, pool_changed, least_free, is_in, without}
 use Rattle.ptk_words.specs.declared.threads.Thread.{Thread}
+use Rattle.ptk_words.proofs.Options.{mapped_some}
+use Rattle.ptk_words.proofs.Lists.{in_here}
+use Rattle.ptk_words.proofs.Pools.{changed_own, changed_other, least_free_none, pool_set_all}
 use Rattle.ptk_words_parted.specs.Parts.{part_of, filled}
 use Rattle.ptk_threads.specs.Table.{ThreadTable, AreLevelsOf, free_table, thread_in, stored_of, with_changed, with_slot, with_new, with_new_at, with_left, with_rest, with_free, with_stored}
-use Rattle.ptk_threads.proofs.Pools.{pool_get-changed, pool_get-changed_other, pool_get-set_other, part_of-set, part_of-set_other}
-use Rattle.ptk_threads_slots.proofs.Along.{le_or_gt, not_true, in_front, in_here, in_later}
+use Rattle.ptk_threads.proofs.Pools.{pool_get-set_other, part_of-set, part_of-set_other}
+use Rattle.ptk_threads_slots.proofs.Along.{le_or_gt, not_true, in_front, in_later}
 use Rattle.ptk_ready.specs.declared.entries.LinkedEntries.{LinkedEntries}
 use Rattle.ptk_ready.specs.Lines.{without_one}
 use Rattle.ptk_ready.proofs.Kept.{in_without, member_apart}
@@ -24,10 +27,6 @@ use Rattle.ptk_ready.specs.Laws.{lines_long, filed_same}
 use Rattle.ptk_syncs.specs.Rosters.{IsLined}
 
 -- ---- numbers in use
-
-map_some : {A : Type 0} (f : A → A) (x : Option A) → IsSome x → IsSome (option_map f x)
-map_some f None used = absurd (cc)
-map_some f (Some a) used = refl
 
 some_map : {A : Type 0} (f : A → A) (x : Option A) → IsSome (option_map f x) → IsSome x
 some_map f None used = absurd (cc)
@@ -40,14 +39,14 @@ pub record AreUsedAlike (a b : ThreadTable) : Type 0 where
 
 changed_still : (k j : ℕ) (f : Thread → Thread) (threads : List (Option Thread)) → IsSome (pool_get threads j) → IsSome (pool_get (pool_changed k f threads) j)
 changed_still k j f threads used = elim (cases_eq j k) as (λ _. IsSome (pool_get (pool_changed k f threads) j)) [
-  | inl e ↦ subst (λ z. IsSome (pool_get (pool_changed k f threads) z)) (sym e) (rw (pool_get-changed k f threads) (map_some f (pool_get threads k) (subst (λ z. IsSome (pool_get threads z)) e used)))
-  | inr ne ↦ rw (pool_get-changed_other k j f threads ne) used
+  | inl e ↦ subst (λ z. IsSome (pool_get (pool_changed k f threads) z)) (sym e) (rw (changed_own k f threads) (mapped_some f (pool_get threads k) (subst (λ z. IsSome (pool_get threads z)) e used)))
+  | inr ne ↦ rw (changed_other k j f threads ne) used
 ]
 
 changed_before : (k j : ℕ) (f : Thread → Thread) (threads : List (Option Thread)) → IsSome (pool_get (pool_changed k f threads) j) → IsSome (pool_get threads j)
 changed_before k j f threads used = elim (cases_eq j k) as (λ _. IsSome (pool_get threads j)) [
-  | inl e ↦ subst (λ z. IsSome (pool_get threads z)) (sym e) (some_map f (pool_get threads k) (subst IsSome (pool_get-changed k f threads) (subst (λ z. IsSome (pool_get (pool_changed k f threads) z)) e used)))
-  | inr ne ↦ subst IsSome (pool_get-changed_other k j f threads ne) used
+  | inl e ↦ subst (λ z. IsSome (pool_get threads z)) (sym e) (some_map f (pool_get threads k) (subst IsSome (changed_own k f threads) (subst (λ z. IsSome (pool_get (pool_changed k f threads) z)) e used)))
+  | inr ne ↦ subst IsSome (changed_other k j f threads ne) used
 ]
 
 pub changed_alike : (p k : ℕ) (f : Thread → Thread) (table : ThreadTable) → p < length table.threads → AreUsedAlike table (with_changed p k f table)
@@ -123,19 +122,6 @@ without_one_used a p (Some k) xs rest = without_used a p k xs rest
 
 -- ---- an entry of the table changed with its stored priority
 
-entry_all : {A : Type 0} (P : Option A → Type 0) (pool : List (Option A)) (i j : ℕ) (x : Option A) → P x → P (option_flatten (slice_get pool j)) → P (option_flatten (slice_get (set pool i x) j))
-entry_all P [] i j x own h = h
-entry_all P (y ∷ pool) zero zero x own h = own
-entry_all P (y ∷ pool) zero (suc j) x own h = h
-entry_all P (y ∷ pool) (suc i) zero x own h = h
-entry_all P (y ∷ pool) (suc i) (suc j) x own h = entry_all P pool i j x own h
-
--- what holds of all entries
-pub pool_set_all : {A : Type 0} (P : Option A → Type 0) (pool : List (Option A)) (k j : ℕ) (x : Option A) → P x → P (pool_get pool j) → P (pool_get (pool_set pool k x) j)
-pool_set_all P pool zero j x own h = h
-pool_set_all P pool (suc i) zero x own h = h
-pool_set_all P pool (suc i) (suc j) x own h = entry_all P pool i j x own h
-
 index_all : (P : ℕ → Type 0) (stored : List ℕ) (i j level : ℕ) → P level → P (slice_index stored j) → P (slice_index (set stored i level) j)
 index_all P [] i j level own h = h
 index_all P (y ∷ stored) zero zero level own h = own
@@ -195,40 +181,29 @@ slot_roster limit line p k level slot a lt le own out roster =
 pub free_roster : (limit : ℕ) (line : List (LinkedEntries limit)) (p k : ℕ) (a : ThreadTable) → p < length a.threads → is_in k (part_of (lines_by line a.queues) p) ≡ false → IsLined limit line a → IsLined limit line (with_free p k a)
 free_roster limit line p k a lt out roster = slot_roster limit line p k 0 None a lt (omega arith) (λ used. absurd (free_unused (part_of a.threads p) k used)) out roster
 
--- the least free number is free
-free_place : {A : Type 0} (pool : List (Option A)) (i : ℕ) → is_none (get_or pool i None) ≡ true → option_flatten (slice_get pool i) ≡ None
-free_place [] i e = refl
-free_place (None ∷ pool) zero e = refl
-free_place (Some m ∷ pool) zero e = cc
-free_place (x ∷ pool) (suc i) e = free_place pool i e
-
-place_of : (o : Option ℕ) (i : ℕ) → option_map suc o ≡ Some (suc i) → o ≡ Some i
-place_of None i e = cc
-place_of (Some j) i e = cc
-
 no_zero : (o : Option ℕ) → option_map suc o ≡ Some 0 → ⊥
 no_zero None e = absurd (cc)
 no_zero (Some j) e = absurd (cc)
-
-pub least_free_is : {A : Type 0} (pool : List (Option A)) (k : ℕ) → least_free pool ≡ Some k → pool_get pool k ≡ None
-least_free_is pool zero e = refl
-least_free_is pool (suc i) e = free_place pool i (position-Some is_none pool i None (place_of (position is_none pool) i e)).1
 
 index_here : (stored : List ℕ) (i level : ℕ) → i < length stored → slice_index (set stored i level) i ≡ level
 index_here [] i level lt = absurd (omega (arith, lt))
 index_here (x ∷ stored) zero level lt = refl
 index_here (x ∷ stored) (suc i) level lt = index_here stored i level (omega (arith, lt))
 
+free_within : {A : Type 0} (pool : List (Option A)) (free : Option ℕ) (i : ℕ) → position is_none pool ≡ free → option_map suc free ≡ Some (suc i) → i < length pool
+free_within pool None i at e = absurd (cc e)
+free_within pool (Some j) i at e = let same : j ≡ i = cc in subst (λ (k : ℕ). k < length pool) same (position-Some is_none pool j None at).0
+
 new_level : {A : Type 0} (pool : List (Option A)) (stored : List ℕ) (k level : ℕ) → least_free pool ≡ Some k → length stored ≡ length pool → stored_of (pool_set stored k level) k ≡ level
 new_level pool stored zero level e same = absurd (no_zero (position is_none pool) e)
-new_level pool stored (suc i) level e same = index_here stored i level (let lt : i < length pool = (position-Some is_none pool i None (place_of (position is_none pool) i e)).0 in omega (arith, lt, same))
+new_level pool stored (suc i) level e same = index_here stored i level (let lt : i < length pool = free_within pool (position is_none pool) i refl e in omega (arith, lt, same))
 
 new_at : (limit : ℕ) (line : List (LinkedEntries limit)) (p : ℕ) (thread : Thread) (a : ThreadTable) (free : Option ℕ) → least_free (part_of a.threads p) ≡ free → p < length a.threads → 0 < thread.priority → thread.priority ≤ 32 → length (part_of a.stored p) ≡ length (part_of a.threads p)
     → IsLined limit line a → IsLined limit line (with_new_at free p thread a)
 new_at limit line p thread a None e lt least le same roster = roster
 new_at limit line p thread a (Some k) e lt least le same roster =
     slot_roster limit line p k thread.priority (Some thread) a lt le (λ used. rw (new_level (part_of a.threads p) (part_of a.stored p) k thread.priority e same) least)
-    (not_true (is_in k (part_of (lines_by line a.queues) p)) (λ inside. (let used = roster.listed p k inside in let free = least_free_is (part_of a.threads p) k e in absurd (cc))))
+    (not_true (is_in k (part_of (lines_by line a.queues) p)) (λ inside. (let used = roster.listed p k inside in let free = least_free_none (part_of a.threads p) k e in absurd (cc))))
     roster
 
 pub new_roster : (limit : ℕ) (line : List (LinkedEntries limit)) (p : ℕ) (thread : Thread) (a : ThreadTable) → p < length a.threads → 0 < thread.priority → thread.priority ≤ 32 → length (part_of a.stored p) ≡ length (part_of a.threads p)

@@ -3,6 +3,7 @@ use Rattle.std.proofs.Common.{◌≡◌, ℕ, ◌+◌, ◌<◌, ◌≤◌, List,
 use Rattle.std.specs.Prelude.{Option, Some, None, IsSome, option_map, is_none}
 use Rattle.std.proofs.Math.ListN.{set}
 use Rattle.std.proofs.lemmas.List.{set-get_or}
+use Rattle.std.proofs.lemmas.Bool.{not-true}
 use Rattle.ptk_words.specs.Pools.{pool_get, pool_set, pool_changed, is_in, without}
 use Rattle.ptk_words_parted.specs.Parts.{part_of}
 use Rattle.ptk_words_model.specs.State.{Mutex, Condition}
@@ -134,10 +135,6 @@ sleeper_in a mutexes marks seen_conditions p c k pools pos is inside = ap (is_in
 
 -- ---- what the test of a number tells
 
-not_none : (b : Bool) → not b ≡ true → b ≡ false
-not_none true e = absurd (cc e)
-not_none false e = refl
-
 is_none_so : (b : Bool) → not b ≡ false → b ≡ true
 is_none_so true e = refl
 is_none_so false e = absurd (cc e)
@@ -145,7 +142,7 @@ is_none_so false e = absurd (cc e)
 pub used_mutex : (pool slots : List (Option Mutex)) (m : ℕ) (b : Bool) → slots ≡ pool → b ≡ not (is_none (pool_get slots m)) → b ≡ true → pool_get pool m ≡ None → ⊥
 used_mutex pool slots m b same is used none =
     let free : is_none (pool_get slots m) ≡ true = ap (λ z. is_none (pool_get z m)) same ∙ ap is_none none in
-    let there = not_none (is_none (pool_get slots m)) (sym is ∙ used) in absurd (cc)
+    let there = not-true (is_none (pool_get slots m)) (sym is ∙ used) in absurd (cc)
 
 pub unused_mutex : (pool slots : List (Option Mutex)) (m : ℕ) (b : Bool) → slots ≡ pool → b ≡ not (is_none (pool_get slots m)) → b ≡ false → is_none (pool_get pool m) ≡ true
 unused_mutex pool slots m b same is free = sym (ap (λ z. is_none (pool_get z m)) same) ∙ is_none_so (is_none (pool_get slots m)) (sym is ∙ free)

@@ -1,5 +1,5 @@
 -- A decision that is seen in nothing but the tick of the next one is that of a partition that has nothing to do.
-use Rattle.std.proofs.Common.{◌≡◌, ℕ, zero, suc, ◌+◌, ◌≤◌, Bool, true, false, List, [], ◌∷◌, ◌++◌, length, drop, take, Option, Some, None, refl, sym, ap, subst, ◌∙◌, arith, length-drop}
+use Rattle.std.proofs.Common.{◌≡◌, ℕ, zero, suc, ◌+◌, ◌≤◌, Bool, true, false, List, [], ◌∷◌, length, drop, take, Option, Some, None, refl, sym, ap, subst, ◌∙◌, arith, length-drop}
 use Rattle.std.specs.Prelude.{if◌then◌else◌, IfSome, fold, nat_le, nat_lt, slice_get, take_while}
 use Rattle.std.specs.List.{prefix_len}
 use Rattle.std.proofs.lemmas.Bool.{false≢true}
@@ -9,6 +9,7 @@ use Rattle.ptk_words.specs.declared.sections.Limits.{Limits}
 use Rattle.ptk_words.specs.declared.threads.Thread.{Thread}
 use Rattle.ptk_words.specs.declared.threads.Wait.{Wait}
 use Rattle.ptk_words.specs.declared.threads.Wait.TheVariants.{InputWait, SleepWait, JoinWait, MutexWait, ConditionWait, RelockWait}
+use Rattle.ptk_words.proofs.Lists.{first_none, empty_from_no_first}
 use Rattle.ptk_words_windows.specs.Windows.{OwnTicks}
 use Rattle.ptk_words_model.specs.declared.Runner.{Runner}
 use Rattle.ptk_words_model.specs.declared.Spent.{Spent}
@@ -19,14 +20,14 @@ use Rattle.ptk_words_model.specs.Mutex.{wait_of}
 use Rattle.ptk_words_model.specs.Schedule.{after_choice_between, after_dispatch, at_head, first_ready}
 use Rattle.ptk_words_model.specs.Withdrawal.{Expiry, after_expiries, after_timeout, deadlines_of, due, in_order, in_order_with, is_before}
 use Rattle.ptk_words_model.specs.Console.{arriving, is_due_at, without_arriving}
-use Rattle.ptk_words_model.specs.Decision.{after_arrival, after_arrival_for, after_arrivals, after_decision, after_turn, first_waiter, ready_at, runner_at, runner_in, runner_of, spent_by_decision, spent_in_turn, step_cost, step_kind}
+use Rattle.ptk_words_model.specs.Decision.{after_arrival, after_arrivals, after_decision, after_turn, first_waiter, ready_at, runner_at, runner_in, runner_of, spent_by_decision, spent_in_turn, step_cost, step_kind}
 use Rattle.ptk_words_model.specs.Run.{accounted, decided}
 use Rattle.ptk_words.specs.Faults.{is_active}
 use Rattle.ptk_words_sync_invariant.specs.Expiries.{IsLeastDue, IsNoneDue, after_expiry, after_next, next_expiry}
 use Rattle.ptk_words_sync_invariant.proofs.Expiries.{in_turn, next_least, next_only, one_at_a_time}
-use Rattle.ptk_words_sync_invariant.proofs.Lines.{first_none}
 use Rattle.ptk_words_sync_invariant.specs.Locks.{is_ready}
 use Rattle.ptk_words_invariant.specs.Well.{IsWell}
+use Rattle.ptk_words_invariant.proofs.Decisions.{arrival_coming}
 use Rattle.ptk_words_batches.specs.Idle.{IsIdle}
 use Rattle.ptk_words_batches.proofs.Arrivals.{none_before}
 use Rattle.ptk_words_batches.proofs.PlainDecisions.{no_arrivals}
@@ -34,17 +35,9 @@ use Rattle.ptk_system.specs.World.{but_next}
 
 -- ---- the input still to come
 
-coming_for : (o : Option ℕ) (limit byte : ℕ) (s : Part) → (after_arrival_for o limit byte s).console.coming ≡ s.console.coming
-coming_for (Some t) limit byte s = refl
-coming_for None limit byte s = by (nat_lt (length s.console.ring) limit)
-  where
-    by : (b : Bool) → (if b then record (s.console) { ring = s.console.ring ++ byte ∷ [] } else record (s.console) { dropped = s.console.dropped + 1 }).coming ≡ s.console.coming
-    by true = refl
-    by false = refl
-
 coming_arrivals : (limit : ℕ) (arrivals : List Arrival) (s : Part) → (fold (after_arrival limit) s arrivals).console.coming ≡ s.console.coming
 coming_arrivals limit [] s = refl
-coming_arrivals limit (a ∷ arrivals) s = coming_arrivals limit arrivals (after_arrival limit s a) ∙ coming_for (first_waiter s) limit a.byte s
+coming_arrivals limit (a ∷ arrivals) s = coming_arrivals limit arrivals (after_arrival limit s a) ∙ arrival_coming (first_waiter s) limit a.byte s
 
 console_timeout : (t : ℕ) (wait : Option Wait) (s : Part) → (after_timeout t wait s).console ≡ s.console
 console_timeout t None s = refl
@@ -96,10 +89,6 @@ in_order_none : (xs : List Expiry) → in_order xs ≡ [] → xs ≡ []
 in_order_none [] e = refl
 in_order_none (a ∷ xs) e = absurd (in_order_some a (in_order xs) e)
 
-none_first : (xs : List Expiry) → slice_get xs 0 ≡ None → xs ≡ []
-none_first [] e = refl
-none_first (a ∷ xs) e = absurd cc
-
 -- after the expiries of a tick no deadline is due
 expired_by : (n tick : ℕ) (s : Part) → length (in_order (due tick s)) ≡ n → (o : Option Expiry) → next_expiry tick (deadlines_of s.locks) ≡ o → next_expiry tick (deadlines_of (after_expiries tick s).locks) ≡ None
 expired_by n tick s e None none =
@@ -117,7 +106,7 @@ none_due : (tick k : ℕ) (s : Part) → next_expiry tick (deadlines_of s.locks)
 none_due tick k s none le =
     let later : IsNoneDue tick (deadlines_of s.locks) = MatchOption-at_none (IsNoneDue tick (deadlines_of s.locks)) (IsLeastDue tick (deadlines_of s.locks)) none (next_least tick (deadlines_of s.locks)) in
     let first : None ≡ next_expiry k (deadlines_of s.locks) = next_only k (deadlines_of s.locks) None (λ t deadline at. omega (arith, later t deadline at, le)) in
-    in_order_none (due k s) (none_first (in_order (due k s)) (sym first))
+    in_order_none (due k s) (empty_from_no_first (in_order (due k s)) (sym first))
 
 -- ---- the choice
 

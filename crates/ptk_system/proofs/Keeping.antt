@@ -6,7 +6,7 @@ use Rattle.ptk_words_model.specs.State.{State}
 use Rattle.ptk_config.specs.Configuration.{Configuration}
 use Rattle.ptk_image.specs.NamedFiles.{NamedFile}
 use Rattle.ptk_system_machine.specs.Whole.{Whole, state_at}
-use Rattle.ptk_system.specs.World.{IsRun, World, alone_in, alone_states, no_state, state_of, states_in, states_to, world_at, world_of}
+use Rattle.ptk_system.specs.World.{IsRun, World, alone_in, alone_states, no_state, state_of, states_in, states_to, world_at, world_of, at_tick}
 
 -- ---- lists of states
 
@@ -67,3 +67,11 @@ state_kept config files whole tick world run view p lt =
     let within : p < length config.sections = subst (λ (w : World). p < length w.config.sections) (sym view) lt in
     let counted : p < length whole.accounts = subst (λ (n : ℕ). p < n) (sym run.parts) within in
     sym (get_or-states_to (λ q. state_at q whole) (length whole.accounts) p counted) ∙ ap (λ (w : World). state_of w p) view
+
+-- ---- one system at two ticks
+
+-- what is at a tick of what is at a tick of the first is at that tick of the first
+pub at_again : (first now later : World) (n : ℕ) → now ≡ at_tick now.tick first → later ≡ at_tick n now → later ≡ at_tick later.tick first
+at_again first now later n is goes =
+    let same : later ≡ at_tick n first = goes ∙ ap (at_tick n) is in
+    same ∙ ap (λ (k : ℕ). at_tick k first) (sym (ap (λ (w : World). w.tick) same))

@@ -8,7 +8,7 @@ use Rattle.ptk_words.specs.declared.sections.Arrival.{Arrival}
 use Rattle.ptk_words.specs.declared.sections.Limits.{Limits}
 use Rattle.ptk_words_windows.specs.Windows.{OwnTicks, WindowPlan, IsFirstOwn, IsOwn, IsOwnUntil, IsPlan, own_ticks}
 use Rattle.ptk_words_windows.proofs.NextLaws.{next_first, next_one}
-use Rattle.ptk_words_windows.proofs.OwnLaws.{end_of_window, own_from, window_whole}
+use Rattle.ptk_words_windows.proofs.OwnLaws.{end_of_window, window_whole, end_none}
 use Rattle.ptk_words_model.specs.State.{State}
 use Rattle.ptk_words_model.specs.Decision.{after_decision, spent_by_decision}
 use Rattle.ptk_words_model.specs.Run.{after_tick_until, alone, decided, is_at, next_from, start}
@@ -34,14 +34,6 @@ end_some plan p tick own = by ((own_ticks plan p).end_at tick) refl (end_of_wind
     by : (o : Option ℕ) → (own_ticks plan p).end_at tick ≡ o → MatchOption o (¬ IsOwn plan p tick) (IsOwnUntil plan p tick) → (end : ℕ) × ((own_ticks plan p).end_at tick ≡ Some end)
     by None e other = absurd (other own)
     by (Some end) e until = (end, e)
-
--- a tick that is not own has none
-pub end_none : (plan : WindowPlan) (p tick : ℕ) → ¬ IsOwn plan p tick → (own_ticks plan p).end_at tick ≡ None
-end_none plan p tick other = by ((own_ticks plan p).end_at tick) refl (end_of_window plan p tick)
-  where
-    by : (o : Option ℕ) → (own_ticks plan p).end_at tick ≡ o → MatchOption o (¬ IsOwn plan p tick) (IsOwnUntil plan p tick) → (own_ticks plan p).end_at tick ≡ None
-    by None e none = e
-    by (Some end) e until = absurd (other (own_from plan p tick end until))
 
 -- no tick before the first own one is own
 pub none_sooner : (plan : WindowPlan) (p tick own k : ℕ) → IsFirstOwn plan p tick own → tick ≤ k → k < own → (own_ticks plan p).end_at k ≡ None

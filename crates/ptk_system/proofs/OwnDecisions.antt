@@ -1,5 +1,5 @@
 -- What a tick does to a partition, and where its steps lie.
-use Rattle.std.proofs.Common.{◌≡◌, ◌≢◌, ℕ, ◌+◌, ◌-◌, ◌<◌, ◌≤◌, ◌==◌, Bool, true, false, Option, Some, None, length, if◌then◌else◌, refl, sym, ap, subst, ◌∙◌, eqb-true, eq-eqb, add-one}
+use Rattle.std.proofs.Common.{◌≡◌, ◌≢◌, ℕ, ◌+◌, ◌-◌, ◌<◌, ◌≤◌, ◌==◌, Bool, true, false, Option, Some, None, length, if◌then◌else◌, refl, sym, ap, subst, ◌∙◌, eqb-true, add-one}
 use Rattle.std.proofs.lemmas.Option.{MatchOption-at_some}
 use Rattle.ptk_words.specs.declared.sections.Limits.{Limits}
 use Rattle.ptk_words_windows.specs.Windows.{OwnTicks, WindowPlan, IsOwn, IsOwnUntil, own_ticks}
@@ -7,6 +7,7 @@ use Rattle.ptk_words_windows.proofs.OwnLaws.{end_of_window, own_apart, own_from}
 use Rattle.ptk_words_model.specs.State.{State}
 use Rattle.ptk_words_model.specs.Run.{after_tick, after_tick_until, decided, is_at}
 use Rattle.ptk_config.specs.Configuration.{IsConfiguration}
+use Rattle.ptk_system_machine.proofs.Ticks.{is_due}
 use Rattle.ptk_system.specs.Laws.{IsByDecision, IsStepAt, StepsAreApart}
 use Rattle.ptk_system.specs.World.{World, alone_in, at_tick, section_at, state_of}
 use Rattle.ptk_system.proofs.Keeping.{alone_at}
@@ -14,10 +15,6 @@ use Rattle.ptk_system.proofs.Runs.{is_plan}
 use Rattle.ptk_system.proofs.Views.{step_stays}
 
 -- ---- one tick
-
-due_at : (tick : ℕ) (o : Option ℕ) → o ≡ Some tick → is_at tick o ≡ true
-due_at tick None e = absurd cc
-due_at tick (Some n) e = let same : n ≡ tick = cc in eq-eqb n tick same
 
 not_due_at : (tick : ℕ) (o : Option ℕ) → o ≢ Some tick → is_at tick o ≡ false
 not_due_at tick None other = refl
@@ -35,7 +32,7 @@ tick_decided : (ticks : OwnTicks) (limits : Limits) (tick : ℕ) (s : State) →
 tick_decided ticks limits tick s = record {
   own = λ end own due.
       ap (λ (o : Option ℕ). after_tick_until o ticks limits tick s) own
-      ∙ ap (λ (b : Bool). if b then decided ticks limits tick (end - tick) s else s) (due_at tick s.account.next due);
+      ∙ ap (λ (b : Bool). if b then decided ticks limits tick (end - tick) s else s) (is_due tick s.account.next due);
   not_own = λ none. ap (λ (o : Option ℕ). after_tick_until o ticks limits tick s) none;
   not_due = λ other. not_due_stays ticks limits tick s other (ticks.end_at tick);
 }

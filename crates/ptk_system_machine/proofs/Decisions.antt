@@ -12,8 +12,9 @@ use Rattle.ptk_words_model.specs.State.{Part, State}
 use Rattle.ptk_words_model.specs.Decision.{after_decision, spent_by_decision}
 use Rattle.ptk_words_model.specs.Run.{accounted, decided, last_of, next_from}
 use Rattle.ptk_words.specs.Faults.{is_active}
+use Rattle.ptk_words_model.proofs.Last.{last_more}
 use Rattle.ptk_words_batches.specs.Quiet.{after_ticks}
-use Rattle.ptk_words_batches.proofs.TicksInARow.{join, last_more, next_own}
+use Rattle.ptk_words_batches.proofs.TicksInARow.{join, next_own}
 use Rattle.ptk_kernel.specs.Decisions.{AreQuietSteps, IsQuietStep, Progress, begun, decided_on, decisions, entries_of}
 use Rattle.ptk_kernel.proofs.Decisions.{step_ticks, steps_later}
 use Rattle.ptk_system_machine.specs.Steady.{AreSteady, states_from}

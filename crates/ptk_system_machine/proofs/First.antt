@@ -3,6 +3,7 @@ use Rattle.std.proofs.Common.{◌≡◌, ◌≢◌, ℕ, ◌+◌, ◌<◌, ◌�
 use Rattle.std.specs.Prelude.{min, MatchOption}
 use Rattle.std.proofs.lemmas.Bool.{cases_lt}
 use Rattle.ptk_words.specs.declared.sections.Limits.{Limits}
+use Rattle.ptk_words.proofs.Options.{one_more}
 use Rattle.ptk_words_windows.specs.Windows.{WindowPlan, OwnTicks, IsPlan, own_ticks}
 use Rattle.ptk_words_model.specs.State.{State}
 use Rattle.ptk_window.specs.declared.near.Turn.{Turn}
@@ -16,14 +17,6 @@ use Rattle.ptk_system_machine.proofs.Progress.{begins_before}
 -- what does not happen before a tick does not happen before an earlier one
 pub still_before : (ticks : OwnTicks) (limits : Limits) (tick until earlier : ℕ) (s : State) → earlier ≤ until → IsStillUntil ticks limits tick until s → IsStillUntil ticks limits tick earlier s
 still_before ticks limits tick until earlier s le still k from within = still k from (omega (arith, within, le))
-
--- a fact of so many, and of one more
-one_more : (P : ℕ → Type 0) (i : ℕ) → ((q : ℕ) → q < i → P q) → P i → (q : ℕ) → q < i + 1 → P q
-one_more P i before here q below = by (cases_lt q i)
-  where
-    by : (q < i) ⊎ (i ≤ q) → P q
-    by (inl lt) = before q lt
-    by (inr le) = let same : i ≡ q = omega (arith, le, below) in subst P same here
 
 -- of no partitions none decides
 pub none_first : (plan : WindowPlan) (tick to : ℕ) (whole : Whole) (first : First) → first.turn ≡ record { start = to; end = to } → first.stop ≡ to → ComesFirst plan tick to 0 whole first

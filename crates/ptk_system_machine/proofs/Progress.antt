@@ -1,6 +1,6 @@
 -- A run of rows goes on where the next decision is a plain step.
-use Rattle.std.proofs.Common.{◌≡◌, ◌≢◌, ℕ, zero, suc, ◌+◌, ◌-◌, ◌<◌, ◌≤◌, Bool, true, false, Option, Some, ◌⊎◌, inl, inr, refl, sym, ap, subst, ◌∙◌, arith}
-use Rattle.std.specs.Prelude.{unwrap_or, if◌then◌else◌}
+use Rattle.std.proofs.Common.{◌≡◌, ◌≢◌, ℕ, zero, suc, ◌+◌, ◌-◌, ◌<◌, ◌≤◌, Option, Some, ◌⊎◌, inl, inr, refl, sym, ap, subst, ◌∙◌, arith}
+use Rattle.std.specs.Prelude.{unwrap_or}
 use Rattle.std.proofs.lemmas.Bool.{cases_lt, false≢true}
 use Rattle.std.proofs.lemmas.Option.{MatchOption-at_some}
 use Rattle.ptk_words_windows.specs.Windows.{WindowPlan, OwnTicks, IsOwn, IsOwnUntil, IsPlan, own_ticks}
@@ -40,12 +40,6 @@ plain_later ticks p from mid to old whole le on gone at plain = by (cases_lt fro
         let moved : IsPlainAt (limits_at p whole.kept) from (part_at p whole.kept) = subst (λ (w : Whole). IsPlainAt (limits_at p w.kept) from (part_at p w.kept)) still at in
         let later : mid < to = plain (subst (λ (k : ℕ). IsPlainAt (limits_at p whole.kept) k (part_at p whole.kept)) same moved) in
         omega (arith, later, le)
-
--- a window that was gone through comes closer to the stop
-pub closer : (going on : Bool) (stop now next : ℕ) → going ≡ true → now < stop → (on ≡ true → now < next) → (if on then stop - next + 1 else 0) < (if going then stop - now + 1 else 0)
-closer true true stop now next e lt later = let less : now < next = later refl in omega (arith, lt, less)
-closer true false stop now next e lt later = omega arith
-closer false on stop now next e lt later = absurd (false≢true e)
 
 -- ---- the turn that comes first
 

@@ -1,12 +1,12 @@
 -- The table of slots after a change of one partition's threads, or of its queues.
 use Rattle.std.proofs.Common.{◌≡◌, ◌≢◌, ℕ, zero, suc, ◌+◌, ◌<◌, ◌≤◌, List, [], ◌∷◌, ◌++◌, length, map, take, true, false, refl, sym, ◌∙◌, ap, subst, arith, inl, inr}
-use Rattle.std.specs.Prelude.{nat_eq, ◌==◌, is_some, option_map, ◌↔◌, Option, Some, None, IsSome, replicate}
+use Rattle.std.specs.Prelude.{is_some, option_map, ◌↔◌, Option, Some, None, IsSome, replicate}
 use Rattle.std.proofs.Math.ListN.{set, get_or-map}
 use Rattle.std.proofs.lemmas.Bool.{cases_eq}
-use Rattle.std.proofs.lemmas.Bool.Decides.{nat_tests}
 use Rattle.std.proofs.lemmas.List.{length-replicate, length-map, map-set, map-append, length-set, set_past, get_or_past, get_or-set_same, get_or-set_other, set-set}
 use Rattle.ptk_words.specs.Pools.{is_in, without, pool_get, pool_changed}
 use Rattle.ptk_words.specs.declared.threads.Thread.{Thread}
+use Rattle.ptk_words.proofs.Lists.{without_own}
 use Rattle.ptk_words_parted.specs.Parts.{part_of, joined, filled}
 use Rattle.ptk_words_parted.specs.Cuts.{lent}
 use Rattle.ptk_words_parted.proofs.Cuts.{lent-same}
@@ -423,16 +423,9 @@ pub left_one : (links : List Link) (ends : List Ends) (lists : List (List ℕ)) 
 left_one links ends lists name k are is inside =
     map_at (without k) lists (place_of name) (λ j ne. without_none k (part_of lists j) (alone links ends lists k (place_of name) j are is inside ne))
 
-gone : (k : ℕ) (xs : List ℕ) → is_in k (without k xs) ≡ false
-gone k [] = refl
-gone k (x ∷ xs) = elim (cases_eq x k) as (λ _. is_in k (without k (x ∷ xs)) ≡ false) [
-  | inl e ↦ (let same : (x == k) ≡ true = grind (arith, nat_tests) in rw same (gone k xs))
-  | inr ne ↦ (let apart : (x == k) ≡ false = grind (arith, nat_tests) in let other : nat_eq k x ≡ false = grind (arith, nat_tests) in rw (apart, other) (gone k xs))
-]
-
 -- and lies in none
 pub left_all : (k : ℕ) (lists : List (List ℕ)) → IsUnqueued k (with_none k lists)
-left_all k lists = λ i. ap (is_in k) (get_or-map (without k) lists i []) ∙ gone k (part_of lists i)
+left_all k lists = λ i. ap (is_in k) (get_or-map (without k) lists i []) ∙ without_own k (part_of lists i)
 
 -- ---- a thread taken from one queue
 

@@ -5,6 +5,7 @@ use Rattle.std.specs.Option.{option_flatten}
 use Rattle.std.proofs.Math.ListN.{set}
 use Rattle.std.proofs.lemmas.List.{length-set, set-set, set-get_or, get_or-set_same, get_or-set_other}
 use Rattle.ptk_words.specs.Pools.{pool_get, pool_set, pool_changed}
+use Rattle.ptk_words.proofs.Pools.{changed_own}
 use Rattle.ptk_words_parted.specs.Parts.{part_of}
 
 option_map_twice : {A : Type 0} (f g : A → A) (x : Option A) → option_map g (option_map f x) ≡ option_map (λ a. g (f a)) x
@@ -12,16 +13,6 @@ option_map_twice f g None = refl
 option_map_twice f g (Some a) = refl
 
 -- ---- the entry that was changed
-
-entry-changed : {A : Type 0} (f : A → A) (pool : List (Option A)) (i : ℕ) → option_flatten (slice_get (set pool i (option_map f (option_flatten (slice_get pool i)))) i) ≡ option_map f (option_flatten (slice_get pool i))
-entry-changed f [] i = refl
-entry-changed f (x ∷ pool) zero = refl
-entry-changed f (x ∷ pool) (suc i) = entry-changed f pool i
-
--- the entry of the number
-pub pool_get-changed : {A : Type 0} (k : ℕ) (f : A → A) (pool : List (Option A)) → pool_get (pool_changed k f pool) k ≡ option_map f (pool_get pool k)
-pool_get-changed zero f pool = refl
-pool_get-changed (suc i) f pool = entry-changed f pool i
 
 entry-other : {A : Type 0} (pool : List (Option A)) (i j : ℕ) (x : Option A) → j ≢ i → option_flatten (slice_get (set pool i x) j) ≡ option_flatten (slice_get pool j)
 entry-other [] i j x ne = refl
@@ -35,9 +26,6 @@ pub pool_get-set_other : {A : Type 0} (pool : List (Option A)) (k j : ℕ) (x : 
 pool_get-set_other pool zero j x ne = refl
 pool_get-set_other pool (suc i) zero x ne = refl
 pool_get-set_other pool (suc i) (suc j) x ne = entry-other pool i j x (λ e. ne (ap suc e))
-
-pub pool_get-changed_other : {A : Type 0} (k j : ℕ) (f : A → A) (pool : List (Option A)) → j ≢ k → pool_get (pool_changed k f pool) j ≡ pool_get pool j
-pool_get-changed_other k j f pool ne = pool_get-set_other pool k j (option_map f (pool_get pool k)) ne
 
 -- ---- two changes, and none
 
@@ -76,4 +64,4 @@ pub part_of-set_other : {X : Type 0} (parts : List (List X)) (p q : ℕ) (part :
 part_of-set_other parts p q part ne = get_or-set_other parts p q part [] ne
 
 -- what several calls in one partition come to
-pub ruleset moves = (pool_get-changed, pool_changed-changed, part_of-set, set-set, set-get_or, length-set)
+pub ruleset moves = (changed_own, pool_changed-changed, part_of-set, set-set, set-get_or, length-set)

@@ -1,6 +1,6 @@
 -- Pools, whose numbers count from 1, read and written at a number, and the table after a change of one partition.
 use Rattle.std.proofs.Common.{◌≡◌, ℕ, zero, suc, ◌+◌, ◌-◌, ◌<◌, ◌≤◌, List, [], ◌∷◌, length, map, refl, sym, ◌∙◌, ap, subst, arith, All, get_or, add-one}
-use Rattle.std.specs.Prelude.{Option, Some, None, IsSome, option_map, is_none, position, slice_get, slice_set, slice_index, if◌then◌else◌, Bool, not, ◌||◌}
+use Rattle.std.specs.Prelude.{Option, Some, None, IsSome, option_map, is_none, position, slice_get, slice_index, if◌then◌else◌, Bool, not, ◌||◌}
 use Rattle.std.specs.List.{prefix_len, list_any}
 use Rattle.std.specs.Option.{option_flatten}
 use Rattle.std.proofs.Math.ListN.{set, get_or-map}
@@ -9,9 +9,11 @@ use Rattle.std.proofs.lemmas.List.{length-replicate, length-map, length-set, map
 use Rattle.std.proofs.lemmas.List.Elements.{All-head, All-tail}
 use Rattle.ptk_words.specs.Pools.{pool_get, pool_set, pool_changed}
 use Rattle.ptk_words.specs.declared.threads.Thread.{Thread}
+use Rattle.ptk_words.proofs.Pools.{length-pool_set, length-changed, entry_past, pool_set_below}
 use Rattle.ptk_words_parted.specs.Parts.{part_of, filled}
 use Rattle.ptk_words_parted.specs.Cuts.{lent}
 use Rattle.ptk_words_parted.proofs.Cuts.{lent-same, set_part-same}
+use Rattle.ptk_words_parted.proofs.Entries.{length_part-set}
 use Rattle.ptk_threads_slots.specs.declared.slot.Slot.{Slot}
 use Rattle.ptk_threads_slots.specs.Links.{shared_links, threads_of, free_slot}
 use Rattle.ptk_threads.specs.Table.{IsTable, stored_of, replaced_by}
@@ -22,43 +24,27 @@ pub pool_get_below : {A : Type 0} (pool : List (Option A)) (k : ℕ) → 0 < k �
 pool_get_below pool zero h = absurd (omega arith)
 pool_get_below pool (suc i) h = let e : suc i - 1 ≡ i = omega arith in rw e refl
 
-pub pool_set_below : {A : Type 0} (pool : List A) (k : ℕ) (a : A) → 0 < k → pool_set pool k a ≡ slice_set pool (k - 1) a
-pool_set_below pool zero a h = absurd (omega arith)
-pool_set_below pool (suc i) a h = let e : suc i - 1 ≡ i = omega arith in rw e refl
-
 pub stored_of_below : (stored : List ℕ) (k : ℕ) → 0 < k → stored_of stored k ≡ slice_index stored (k - 1)
 stored_of_below stored zero h = absurd (omega arith)
 stored_of_below stored (suc i) h = let e : suc i - 1 ≡ i = omega arith in rw e refl
-
-pub length-pool_set : {X : Type 0} (xs : List X) (k : ℕ) (x : X) → length (pool_set xs k x) ≡ length xs
-length-pool_set xs zero x = refl
-length-pool_set xs (suc i) x = length-set xs i x
-
-pub length-pool_changed : {X : Type 0} (k : ℕ) (f : X → X) (xs : List (Option X)) → length (pool_changed k f xs) ≡ length xs
-length-pool_changed k f xs = length-pool_set xs k (option_map f (pool_get xs k))
 
 slot_at : {X : Type 0} (xs : List (Option X)) (i : ℕ) (d : Option X) → i < length xs → option_flatten (slice_get xs i) ≡ get_or xs i d
 slot_at [] i d lt = absurd (omega (arith, lt))
 slot_at (x ∷ xs) zero d lt = refl
 slot_at (x ∷ xs) (suc i) d lt = slot_at xs i d (omega (arith, lt))
 
-none_past : {X : Type 0} (xs : List (Option X)) (i : ℕ) → length xs ≤ i → option_flatten (slice_get xs i) ≡ None
-none_past [] i le = refl
-none_past (x ∷ xs) zero le = absurd (omega (arith, le))
-none_past (x ∷ xs) (suc i) le = none_past xs i (omega (arith, le))
-
 -- ---- a slot, as the code reads and writes it
 
 place_of_number : (i : ℕ) → suc i - 1 ≡ i
 place_of_number i = omega arith
 
-length_threads : (slots : List Slot) → length (threads_of slots) ≡ length slots
-length_threads slots = length-map slots (λ (slot : Slot). slot.thread)
+pub length-threads_of : (slots : List Slot) → length (threads_of slots) ≡ length slots
+length-threads_of slots = length-map slots (λ (slot : Slot). slot.thread)
 
 thread_here : (slots : List Slot) (i : ℕ) (slot : Slot) → i < length slots → slot ≡ get_or slots i slot → slot.thread ≡ option_flatten (slice_get (threads_of slots) i)
 thread_here slots i slot lt is =
     ap (λ (s : Slot). s.thread) (get_or_read slots i slot lt is (free_slot 0))
-    ∙ (sym (get_or-map (λ (s : Slot). s.thread) slots i (free_slot 0)) ∙ sym (slot_at (threads_of slots) i None (rw (length_threads slots) lt)))
+    ∙ (sym (get_or-map (λ (s : Slot). s.thread) slots i (free_slot 0)) ∙ sym (slot_at (threads_of slots) i None (rw (length-threads_of slots) lt)))
 
 pub read_at : (slots : List Slot) (k : ℕ) (slot : Slot) → 0 < k → k - 1 < length slots → slot ≡ get_or slots (k - 1) slot → slot.thread ≡ pool_get (threads_of slots) k
 read_at slots zero slot h lt is = absurd (omega (arith, h))
@@ -66,7 +52,7 @@ read_at slots (suc i) slot h lt is = thread_here slots i slot (omega (arith, lt)
 
 pub read_past : (slots : List Slot) (k : ℕ) → 0 < k → length slots ≤ k - 1 → None ≡ pool_get (threads_of slots) k
 read_past slots zero h le = absurd (omega (arith, h))
-read_past slots (suc i) h le = sym (none_past (threads_of slots) i (rw (length_threads slots) (omega (arith, le))))
+read_past slots (suc i) h le = sym (entry_past (threads_of slots) i (rw (length-threads_of slots) (omega (arith, le))))
 
 pub changed_at : (k : ℕ) (f : Thread → Thread) (slots new : List Slot) (slot after : Slot) → 0 < k → k - 1 < length slots → slot ≡ get_or slots (k - 1) slot → new ≡ set slots (k - 1) after
     → after.thread ≡ option_map f slot.thread → threads_of new ≡ pool_changed k f (threads_of slots)
@@ -77,7 +63,7 @@ changed_at (suc i) f slots new slot after h lt r e is =
 
 pub changed_past : (k : ℕ) (f : Thread → Thread) (slots : List Slot) → 0 < k → length slots ≤ k - 1 → threads_of slots ≡ pool_changed k f (threads_of slots)
 changed_past zero f slots h le = absurd (omega (arith, h))
-changed_past (suc i) f slots h le = sym (set_past (threads_of slots) i _ (rw (length_threads slots) (omega (arith, le))))
+changed_past (suc i) f slots h le = sym (set_past (threads_of slots) i _ (rw (length-threads_of slots) (omega (arith, le))))
 
 pub put_at : (k : ℕ) (thread : Option Thread) (slots new : List Slot) (after : Slot) → 0 < k → new ≡ set slots (k - 1) after → after.thread ≡ thread → threads_of new ≡ pool_set (threads_of slots) k thread
 put_at zero thread slots new after h e is = absurd (omega (arith, h))
@@ -85,7 +71,7 @@ put_at (suc i) thread slots new after h e is = ap threads_of (rw (place_of_numbe
 
 pub put_past : (k : ℕ) (thread : Option Thread) (slots : List Slot) → 0 < k → length slots ≤ k - 1 → threads_of slots ≡ pool_set (threads_of slots) k thread
 put_past zero thread slots h le = absurd (omega (arith, h))
-put_past (suc i) thread slots h le = sym (set_past (threads_of slots) i thread (rw (length_threads slots) (omega (arith, le))))
+put_past (suc i) thread slots h le = sym (set_past (threads_of slots) i thread (rw (length-threads_of slots) (omega (arith, le))))
 
 pub links_at : (k : ℕ) (slots new : List Slot) (slot after : Slot) → k - 1 < length slots → slot ≡ get_or slots (k - 1) slot → new ≡ set slots (k - 1) after → after.link ≡ slot.link → shared_links new ≡ shared_links slots
 links_at k slots new slot after lt is e same =
@@ -97,7 +83,7 @@ prefix_threads f (slot ∷ slots) = ap (λ n. if f slot.thread then 1 + n else 0
 
 pub position_threads : (slots : List Slot) → position (λ (slot : Slot). is_none slot.thread) slots ≡ position is_none (threads_of slots)
 position_threads slots =
-    let same : length (threads_of slots) ≡ length slots = length_threads slots in
+    let same : length (threads_of slots) ≡ length slots = length-threads_of slots in
     rw (same, prefix_threads (λ thread. not (is_none thread)) slots) refl
 
 -- ---- a thread in use, and work on it
@@ -118,7 +104,7 @@ some_below (x ∷ xs) (suc i) used = let lt = some_below xs i used in omega (ari
 -- a number in use is that of a slot
 pub used_below : (slots : List Slot) (k : ℕ) → IsSome (pool_get (threads_of slots) k) → k - 1 < length slots
 used_below slots zero used = absurd (cc)
-used_below slots (suc i) used = rw (place_of_number i) (rw (length_threads slots) at (some_below (threads_of slots) i used))
+used_below slots (suc i) used = rw (place_of_number i) (rw (length-threads_of slots) at (some_below (threads_of slots) i used))
 
 -- work on the thread of a number in use, as the code reads and writes its slot
 pub used_at : (k i : ℕ) (slots : List Slot) (slot : Slot) → i ≡ k - 1 → 0 < k → IsSome (pool_get (threads_of slots) k) → slot ≡ get_or slots i slot → (get_or slots i slot).thread ≡ pool_get (threads_of slots) k
@@ -144,14 +130,6 @@ pub worked_links : (i : ℕ) (slots : List Slot) (slot after : Slot) → after.l
 worked_links i slots slot after same = map-set_same (λ (s : Slot). s.link) slots i after slot same
 
 -- ---- a partition
-
--- the lengths stay where a part is replaced by one of its length
-length_part-set : {X : Type 0} (rows : List (List X)) (p q : ℕ) (row : List X) → length row ≡ length (part_of rows p) → length (part_of (set rows p row) q) ≡ length (part_of rows q)
-length_part-set [] p q row e = refl
-length_part-set (x ∷ rows) zero zero row e = e
-length_part-set (x ∷ rows) zero (suc q) row e = refl
-length_part-set (x ∷ rows) (suc p) zero row e = refl
-length_part-set (x ∷ rows) (suc p) (suc q) row e = length_part-set rows p q row e
 
 pub table_threads : (threads : List (List (Option Thread))) (stored : List (List ℕ)) (p : ℕ) (row : List (Option Thread)) → IsTable threads stored → length row ≡ length (part_of threads p) → IsTable (set threads p row) stored
 table_threads threads stored p row table e =
@@ -197,7 +175,7 @@ table_filled threads stored slot n counts small e f =
       few = few_filled slot counts small;
     })
 
-pub ruleset pools = (pool_get_below, pool_set_below, stored_of_below, add-one, lent-same, length-set, set_part-same, set_past, set-get_or, set-set, length-pool_set, length-pool_changed, table_threads, table_stored)
+pub ruleset pools = (pool_get_below, pool_set_below, stored_of_below, add-one, lent-same, length-set, set_part-same, set_past, set-get_or, set-set, length-pool_set, length-changed, table_threads, table_stored)
 
 pub ruleset numbers = (pool_get_below, pool_set_below, stored_of_below, add-one, set_past)
 

@@ -8,7 +8,10 @@ use Rattle.ptk_words.specs.Pools.{pool_get, pool_set, pool_changed}
 use Rattle.ptk_words.specs.declared.threads.Thread.{Thread}
 use Rattle.ptk_words.specs.declared.threads.Wait.{Wait as ThreadWait}
 use Rattle.ptk_words.specs.Threads.{deadline_of_wait}
+use Rattle.ptk_words.proofs.Options.{none_if_not_some}
+use Rattle.ptk_words.proofs.Pools.{length-pool_set}
 use Rattle.ptk_words_parted.specs.Parts.{part_of, filled}
+use Rattle.ptk_words_parted.proofs.Entries.{own_row}
 use Rattle.ptk_clock.specs.State.{locks_of}
 use Rattle.ptk_clock.specs.Mutex.{wait_of}
 use Rattle.ptk_clock.proofs.WaitDeadlines.{deadline_at, deadlines-kept, changed_deadline, get-map}
@@ -19,7 +22,7 @@ use Rattle.ptk_threads.specs.declared.changes.ThreadChange.TheVariants.{Wait}
 use Rattle.ptk_threads.specs.Table.{IsTable, replaced_by}
 use Rattle.ptk_threads.specs.Changes.{thread_changed}
 use Rattle.ptk_threads.specs.Timed.{AreTimed, IsKept, KeepsDeadlines, deadlines_in}
-use Rattle.ptk_threads.proofs.Slots.{table_threads, table_filled, length-pool_set}
+use Rattle.ptk_threads.proofs.Slots.{table_threads, table_filled}
 
 -- ---- one partition's deadlines
 
@@ -78,12 +81,6 @@ follow : (k : ℕ) (x : Option Thread) (row : List (Option Thread)) → pool_set
 follow zero x row = refl
 follow (suc i) x row = follow_at i x row
 
-own_row : {A : Type 0} (rows : List (List A)) (p k : ℕ) (x : A) → part_of (set rows p (pool_set (part_of rows p) k x)) p ≡ pool_set (part_of rows p) k x
-own_row [] p zero x = refl
-own_row [] p (suc i) x = refl
-own_row (row ∷ rows) zero k x = refl
-own_row (row ∷ rows) (suc p) k x = own_row rows p k x
-
 -- a number becomes this, and its deadline is that of its wait
 timed_read : (p k : ℕ) (x : Option Thread) (deadlines after : List (List (Option ℕ))) (threads new : List (List (Option Thread))) → new ≡ set threads p (pool_set (part_of threads p) k x)
     → after ≡ set deadlines p (pool_set (part_of deadlines p) k (deadline_at (pool_get (part_of new p) k))) → AreTimed deadlines threads → AreTimed after new
@@ -107,15 +104,11 @@ freed : (k : ℕ) (kept : List (Option ℕ)) → pool_get (pool_set kept k None)
 freed zero kept = refl
 freed (suc i) kept = freed_at i kept
 
-not_some : (o : Option ℕ) → is_some o ≡ false → o ≡ None
-not_some None e = refl
-not_some (Some d) e = let no : true ≡ false = e in absurd (cc)
-
 -- where no thread has a deadline, a wait without one changes none
 pub keeps_none : (wait : Option ThreadWait) (is_timed : Bool) (least : Option ℕ) (kept : List (Option ℕ)) → is_timed ≡ is_some (deadline_of_wait wait) → least ≡ least_deadline kept → is_timed ≡ false → is_some least ≡ false → KeepsDeadlines (Wait wait) kept
 keeps_none wait is_timed least kept told is untimed none k thread e =
     let free : pool_get kept k ≡ None = sym (ap (λ (ds : List (Option ℕ)). pool_get ds k) (none_set k least None kept is refl none)) ∙ freed k kept in
-    not_some (deadline_of_wait wait) (sym told ∙ untimed) ∙ sym free ∙ e
+    none_if_not_some (deadline_of_wait wait) (sym told ∙ untimed) ∙ sym free ∙ e
 
 -- ---- what always holds
 

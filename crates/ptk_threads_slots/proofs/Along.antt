@@ -1,22 +1,19 @@
 -- What changed links do to a list that the links lead along.
 use Rattle.std.proofs.Common.{◌≡◌, ◌≢◌, ℕ, zero, suc, ◌<◌, ◌≤◌, List, [], ◌∷◌, ◌++◌, length, Bool, true, false, refl, sym, ◌∙◌, ap, arith, ◌⊎◌, inl, inr}
 use Rattle.std.specs.Prelude.{Option, Some, None, option_map, nat_eq}
-use Rattle.std.specs.List.{IsDistinct, AllByRecursion}
+use Rattle.std.specs.List.{IsDistinct}
 use Rattle.std.proofs.lemmas.Bool.{or_left, or_right, cases_lt, or_cases, or_parts}
-use Rattle.std.proofs.lemmas.Bool.Decides.{nat_tests}
 use Rattle.std.proofs.lemmas.List.{get_or_past, get_or-set_same, get_or-set_other, length-set}
 use Rattle.std.proofs.lemmas.List.Folds.{list_any-append}
-use Rattle.std.proofs.lemmas.Map.Keys.{IsDistinct-cons, IsDistinct-head, IsDistinct-tail}
+use Rattle.std.proofs.lemmas.Map.Keys.{IsDistinct-cons, IsDistinct-tail}
+use Rattle.std.proofs.lemmas.Option.{same_Some}
 use Rattle.ptk_words.specs.Pools.{pool_set, is_in}
+use Rattle.ptk_words.proofs.Lists.{none_distinct, apart_from_out, in_here, head_out}
 use Rattle.ptk_threads_slots.specs.declared.link.Link.{Link}
 use Rattle.ptk_threads_slots.specs.Links.{place_of, link_in, no_link, mark_of, with_next, with_previous, first_or, last_or, IsLink, IsAlong, walk}
-use Rattle.ptk_words_parted.proofs.Lists.{none_distinct, apart_from_out}
 pub use Rattle.ptk_words_parted.proofs.Lists.{in_front}
 
 -- ---- lists
-
-pub in_here : (k : ℕ) (ks : List ℕ) → is_in k (k ∷ ks) ≡ true
-in_here k ks = or_left (nat_eq k k) (is_in k ks) (grind (arith, nat_tests))
 
 pub in_later : (q k : ℕ) (ks : List ℕ) → is_in q ks ≡ true → is_in q (k ∷ ks) ≡ true
 in_later q k ks h = or_right (nat_eq q k) (is_in q ks) h
@@ -29,14 +26,6 @@ in_right q xs ys h = list_any-append (nat_eq q) xs ys ∙ or_right (is_in q xs) 
 
 pub in_parts : (q : ℕ) (xs ys : List ℕ) → is_in q (xs ++ ys) ≡ true → (is_in q xs ≡ true) ⊎ (is_in q ys ≡ true)
 in_parts q xs ys h = or_cases (is_in q xs) (is_in q ys) (sym (list_any-append (nat_eq q) xs ys) ∙ h)
-
--- the first of a distinct list is not among the others
-all_apart : (k : ℕ) (ks : List ℕ) → AllByRecursion (λ y. nat_eq k y ≡ false) ks → is_in k ks ≡ false
-all_apart k [] h = refl
-all_apart k (x ∷ xs) h = rw (h.0) (all_apart k xs h.1)
-
-pub head_out : (k : ℕ) (ks : List ℕ) → IsDistinct nat_eq (k ∷ ks) → is_in k ks ≡ false
-head_out k ks d = all_apart k ks (IsDistinct-head nat_eq k ks d)
 
 pub out_of : (q k : ℕ) (ks : List ℕ) → is_in k ks ≡ false → is_in q ks ≡ true → q ≢ k
 out_of q k ks out inside = λ e. (let same : is_in k ks ≡ true = rw (← e) inside in absurd (cc))
@@ -123,11 +112,8 @@ link_moved links new i b a k e h = record {
 
 -- ---- the ends of a list
 
-some_same : (x z : ℕ) → Some x ≡ Some z → x ≡ z
-some_same x z e = cc
-
 last_in : (y : ℕ) (ys : List ℕ) (z : ℕ) → last_or (Some y) ys ≡ Some z → is_in z (y ∷ ys) ≡ true
-last_in y [] z e = rw (some_same y z e) (in_here z [])
+last_in y [] z e = rw (same_Some y z e) (in_here z [])
 last_in y (x ∷ ys) z e = in_later z y (x ∷ ys) (last_in x ys z e)
 
 pub last_out : (xs : List ℕ) (z : ℕ) → is_in z xs ≡ false → last_or None xs ≢ Some z
@@ -136,7 +122,7 @@ last_out (x ∷ xs) z out = λ e. (let there : is_in z (x ∷ xs) ≡ true = las
 
 pub first_out : (xs : List ℕ) (z : ℕ) → is_in z xs ≡ false → first_or None xs ≢ Some z
 first_out [] z out = λ e. absurd (cc)
-first_out (x ∷ xs) z out = λ e. (let there : is_in z (x ∷ xs) ≡ true = rw (some_same x z e) (in_here z xs) in absurd (cc))
+first_out (x ∷ xs) z out = λ e. (let there : is_in z (x ∷ xs) ≡ true = rw (same_Some x z e) (in_here z xs) in absurd (cc))
 
 -- ---- lists along links
 

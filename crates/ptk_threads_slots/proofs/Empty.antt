@@ -1,9 +1,9 @@
 -- Queues that are all empty.
 use Rattle.std.proofs.Common.{◌≡◌, ℕ, zero, suc, List, [], ◌∷◌, refl, sym, ◌∙◌, ap, get_or}
 use Rattle.std.specs.Prelude.{Some, None, option_map, replicate}
+use Rattle.ptk_words.proofs.Lists.{none_distinct}
 use Rattle.ptk_threads_slots.specs.declared.link.Link.{Link}
 use Rattle.ptk_threads_slots.specs.Links.{link_in, no_link, no_ends, place_of, AreQueues, queues}
-use Rattle.ptk_words_parted.proofs.Lists.{none_distinct}
 
 all_same : {X : Type 0} (n i : ℕ) (x : X) → get_or (replicate n x) i x ≡ x
 all_same zero i x = refl

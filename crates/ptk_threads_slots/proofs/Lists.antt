@@ -7,6 +7,8 @@ use Rattle.std.proofs.lemmas.Bool.{cases_eq, eq-eqb}
 use Rattle.std.proofs.lemmas.Bool.Decides.{nat_tests}
 use Rattle.std.proofs.lemmas.List.{append-nil, set_comm, get_or-set_other, set-get_or}
 use Rattle.ptk_words.specs.Pools.{pool_set, is_in, without}
+use Rattle.ptk_words.proofs.Options.{none_if_never_some}
+use Rattle.ptk_words.proofs.Lists.{head_out}
 use Rattle.ptk_words_parted.specs.Parts.{part_of}
 use Rattle.ptk_threads_slots.specs.declared.link.Link.{Link}
 use Rattle.ptk_threads_slots.specs.declared.link.SlotLink.{SlotLink}
@@ -16,7 +18,7 @@ use Rattle.ptk_threads_slots.specs.declared.link.QueueName.TheVariants.{Ready, M
 use Rattle.ptk_threads_slots.specs.declared.thread_list.Members.TheVariants.{OnlyMember}
 use Rattle.ptk_threads_slots.specs.Links.{place_of, IsQueueName, link_in, own_link, number_at, no_link, no_ends, ends_at, mark_of, with_previous, first_or, last_or, IsLink, IsAlong, IsQueue, AreQueues, queue_from, queue_at, queues}
 use Rattle.ptk_threads_slots.specs.Changes.{first_in, few_of, with_taken, put_before, linked_between, end_between, unlinked, end_without}
-use Rattle.ptk_threads_slots.proofs.Along.{in_front, head_out, out_parts, marked_within, first_out, last_out, along_right, along_marked, not_true}
+use Rattle.ptk_threads_slots.proofs.Along.{in_front, out_parts, marked_within, first_out, last_out, along_right, along_marked, not_true}
 use Rattle.ptk_threads_slots.proofs.Turns.{IsMoved, queues_moved, are_moved, between, taken, out_middle}
 
 -- the queues are these, with this list at place i
@@ -223,12 +225,8 @@ stays links ends i k are ne =
     sym (ap (set (queues links ends) i) same ∙ set-get_or (queues links ends) i [])
 
 -- who lies in no queue has no mark
-none_of : (o : Option ℕ) → ((i : ℕ) → o ≡ Some i → ⊥) → o ≡ None
-none_of None h = refl
-none_of (Some i) h = absurd (h i refl)
-
 pub unqueued_mark : (links : List Link) (ends : List Ends) (k : ℕ) → AreQueues links ends → ((i : ℕ) → is_in k (part_of (queues links ends) i) ≡ false) → mark_of links k ≡ None
-unqueued_mark links ends k are out = none_of (mark_of links k) (λ i mark.
+unqueued_mark links ends k are out = none_if_never_some (mark_of links k) (λ i mark.
     (let inside : is_in k (part_of (queues links ends) i) ≡ true = subst (λ l. is_in k l ≡ true) (sym (list_at links ends i)) (are.marked k i mark) in
     let outside = out i in absurd (cc)))
 

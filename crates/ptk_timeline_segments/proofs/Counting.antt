@@ -3,6 +3,7 @@ use Rattle.std.proofs.Common.{◌≡◌, ◌≢◌, ℕ, zero, suc, ◌+◌, ◌
 use Rattle.std.proofs.Math.ListN.{set}
 use Rattle.std.proofs.Math.Nat.{mul-le-mul_right}
 use Rattle.std.proofs.lemmas.Bool.{cases_lt}
+use Rattle.ptk_words.proofs.Options.{zero_either_way, one_at_most}
 use Rattle.ptk_timeline_segments.specs.declared.look.Look.{Look}
 use Rattle.ptk_timeline_segments.specs.declared.look.TheConstants.{SHADES}
 use Rattle.ptk_timeline_segments.specs.declared.scale.Scale.{Scale}
@@ -18,18 +19,10 @@ use Rattle.ptk_timeline_segments.specs.Rows.{HoldsOver}
 
 -- ---- counts
 
-one_at_most : (b : Bool) → (if b then 1 else 0) ≤ 1
-one_at_most true = omega arith
-one_at_most false = omega arith
-
 -- a shade holds at no more ticks than there are
 pub count_few : (look : ℕ → Look) (place a n : ℕ) → count_from look place a n ≤ n
 count_few look place a zero = omega arith
 count_few look place a (suc n) = omega (arith, count_few look place a n, one_at_most (place_in (look (a + n)) == place))
-
-none_more : (b : Bool) → ◌≡◌ {A = ℕ} (if b then 0 else 0) 0
-none_more true = refl
-none_more false = refl
 
 one_more : (b : Bool) (m : ℕ) → (if b then m else 0) + (if b then 1 else 0) ≡ (if b then suc m else 0)
 one_more true m = omega arith
@@ -40,7 +33,7 @@ pub count_held : (look : ℕ → Look) (held : Look) (place a n m : ℕ) → ((k
     → count_from look place a (n + m) ≡ count_from look place a n + (if place_in held == place then m else 0)
 count_held look held place a n zero holds =
     let same : n + 0 ≡ n = omega arith in
-    omega (arith, ap (count_from look place a) same, none_more (place_in held == place))
+    omega (arith, ap (count_from look place a) same, zero_either_way (place_in held == place))
 count_held look held place a n (suc m) holds =
     let at : look (a + (n + m)) ≡ held = holds (a + (n + m)) (omega arith) (omega arith) in
     let before : count_from look place a (n + m) ≡ count_from look place a n + (if place_in held == place then m else 0) =

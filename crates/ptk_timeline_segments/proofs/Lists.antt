@@ -1,9 +1,8 @@
 -- Loops over lists: each element in turn goes on, or is pushed.
-use Rattle.std.proofs.Common.{◌≡◌, ◌≢◌, ℕ, ◌+◌, ◌<◌, ◌≤◌, List, [], ◌∷◌, ◌++◌, length, get_or, ◌⊎◌, inl, inr, sym, subst, ◌∙◌, arith, length-append, get_or-set_same, get_or-set_other}
+use Rattle.std.proofs.Common.{◌≡◌, ◌≢◌, ℕ, ◌+◌, ◌<◌, ◌≤◌, List, length, get_or, ◌⊎◌, inl, inr, sym, subst, ◌∙◌, arith, get_or-set_same, get_or-set_other}
 use Rattle.std.proofs.Math.ListN.{set}
-use Rattle.std.proofs.Math.Seq.{get_or-append_seam}
 use Rattle.std.proofs.lemmas.Bool.{cases_lt}
-use Rattle.std.proofs.lemmas.List.{get_or_append_left, get_or_default}
+use Rattle.std.proofs.lemmas.List.{get_or_default}
 
 -- the elements before a place are so related to what they were, and the others are as they were
 pub record AreOn {A : Type 0} (R : ℕ → A → A → Type 0) (i : ℕ) (first now : List A) : Type 0 where
@@ -32,20 +31,3 @@ on_more {A = A} R i first now item new within same are here on = record { before
     behind place default le =
         let other : place ≢ i = omega arith in
         get_or-set_other now i place new default other ∙ are.behind place default (omega (arith, le))
-
--- each element is so
-pub record AreEach {A : Type 0} (P : ℕ → A → Type 0) (xs : List A) : Type 0 where
-  pub each : (place : ℕ) (default : A) → place < length xs → P place (get_or xs place default)
-
--- and one more
-pub each_more : {A : Type 0} (P : ℕ → A → Type 0) (xs : List A) (x : A) → AreEach P xs → P (length xs) x → AreEach P (xs ++ x ∷ [])
-each_more {A = A} P xs x are here = record { each = each }
-  where
-    each : (place : ℕ) (default : A) → place < length (xs ++ x ∷ []) → P place (get_or (xs ++ x ∷ []) place default)
-    each place default lt = by (cases_lt place (length xs))
-      where
-        by : (place < length xs) ⊎ (length xs ≤ place) → P place (get_or (xs ++ x ∷ []) place default)
-        by (inl sooner) = subst (P place) (sym (get_or_append_left xs (x ∷ []) default place sooner)) (are.each place default sooner)
-        by (inr later) =
-            let at : length xs ≡ place = omega (arith, lt, length-append xs (x ∷ []), later) in
-            subst (λ (k : ℕ). P k (get_or (xs ++ x ∷ []) k default)) at (subst (P (length xs)) (sym (get_or-append_seam xs x [] default)) here)

@@ -2,6 +2,7 @@
 use Rattle.std.proofs.Common.{◌≡◌, ◌≢◌, ℕ, zero, suc, ◌+◌, ◌-◌, ◌*◌, ◌/◌, ◌<◌, ◌≤◌, ◌==◌, nat_lt, nat_le, min, max, Bool, true, false, not, ◌&&◌, ◌||◌, length, get_or, ◌⊎◌, inl, inr, refl, sym, ap, subst, ◌∙◌, arith, add-zero, add-suc, eqb-true, eq-eqb}
 use Rattle.std.proofs.Math.Nat.{div-one}
 use Rattle.std.proofs.lemmas.Bool.{cases_lt, le-ltb, lt-ltb, le-leb, lt-leb}
+use Rattle.std.proofs.Math.Bool.{and-false}
 use Rattle.ptk_words_model.specs.State.{State}
 use Rattle.ptk_words.specs.Faults.{is_active}
 use Rattle.ptk_system.specs.World.{but_next}
@@ -24,10 +25,6 @@ not_not false = refl
 or_false : (b : Bool) → (b || false) ≡ b
 or_false true = refl
 or_false false = refl
-
-and_false : (b : Bool) → (b && false) ≡ false
-and_false true = refl
-and_false false = refl
 
 and_not : (b : Bool) → (b && not b) ≡ false
 and_not true = refl
@@ -68,7 +65,7 @@ elsewhere_none b tick k other out =
 
     lost : (k < tick) ⊎ (tick + b.lost ≤ k) → (nat_le tick k && nat_lt k (tick + b.lost)) ≡ false
     lost (inl sooner) = ap (λ (c : Bool). c && nat_lt k (tick + b.lost)) (lt-leb tick k sooner)
-    lost (inr later) = ap (λ (c : Bool). nat_le tick k && c) (le-ltb k (tick + b.lost) later) ∙ and_false (nat_le tick k)
+    lost (inr later) = ap (λ (c : Bool). nat_le tick k && c) (le-ltb k (tick + b.lost) later) ∙ and-false (nat_le tick k)
 
 -- a decision that brings nothing
 quiet_none : (b : Brought) (tick k : ℕ) → b.is_stepped ≡ false → b.is_dropped ≡ false → b.is_halted ≡ false → b.lost ≡ 0 → marks_of b tick k ≡ no_marks
@@ -77,11 +74,11 @@ quiet_none b tick k stepped dropped halted lost =
     (own b.is_stepped stepped) (by (cases_lt k tick)) (own b.is_dropped dropped) (own b.is_halted halted)
   where
     own : (x : Bool) → x ≡ false → ((tick == k) && x) ≡ false
-    own x e = ap (λ (c : Bool). (tick == k) && c) e ∙ and_false (tick == k)
+    own x e = ap (λ (c : Bool). (tick == k) && c) e ∙ and-false (tick == k)
 
     by : (k < tick) ⊎ (tick ≤ k) → (nat_le tick k && nat_lt k (tick + b.lost)) ≡ false
     by (inl sooner) = ap (λ (c : Bool). c && nat_lt k (tick + b.lost)) (lt-leb tick k sooner)
-    by (inr later) = ap (λ (c : Bool). nat_le tick k && c) (le-ltb k (tick + b.lost) (omega (arith, later, lost))) ∙ and_false (nat_le tick k)
+    by (inr later) = ap (λ (c : Bool). nat_le tick k && c) (le-ltb k (tick + b.lost) (omega (arith, later, lost))) ∙ and-false (nat_le tick k)
 
 -- the marks of a column that a decision reaches are those of its tick
 pub there_same : (b : Brought) (from first i tick : ℕ) → tick ≡ from + first → first ≤ i → i < first + max 1 b.lost → marks_there b (i == first) ≡ marks_of b tick (from + i)

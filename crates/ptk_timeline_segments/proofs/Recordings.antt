@@ -21,11 +21,6 @@ use Rattle.ptk_timeline_segments.proofs.Marking.{marks_told}
 
 -- ---- one system at two ticks
 
-pub at_again : (first now later : World) (n : ℕ) → now ≡ at_tick now.tick first → later ≡ at_tick n now → later ≡ at_tick later.tick first
-at_again first now later n is goes =
-    let same : later ≡ at_tick n first = goes ∙ ap (at_tick n) is in
-    same ∙ ap (λ (k : ℕ). at_tick k first) (sym (ap (λ (w : World). w.tick) same))
-
 lanes_at : (first now : World) (n tick : ℕ) (scale : Scale) (lanes : List Lane) → now ≡ at_tick n first → AreLanesOf first scale tick lanes → AreLanesOf now scale tick lanes
 lanes_at first now n tick scale lanes goes are =
     let there : AreLanesOf (at_tick n first) scale tick lanes = record { count = are.count; scales = are.scales; due = are.due; tells = are.tells } in

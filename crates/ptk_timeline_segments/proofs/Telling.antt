@@ -1,6 +1,7 @@
 -- What a lane tells from one change of its partition to the next.
 use Rattle.std.proofs.Common.{◌≡◌, ℕ, zero, suc, ◌+◌, ◌-◌, ◌<◌, ◌≤◌, nat_lt, min, max, Bool, true, false, ◌&&◌, if◌then◌else◌, Option, Some, None, unwrap_or, length, get_or, ◌⊎◌, inl, inr, refl, sym, ap, subst, ◌∙◌, arith, add-zero, add-suc}
 use Rattle.std.proofs.lemmas.Bool.{cases_lt, le-ltb}
+use Rattle.std.proofs.Math.Bool.{and-false}
 use Rattle.ptk_words.specs.declared.sections.Entry.{Entry}
 use Rattle.ptk_words_windows.specs.Windows.{OwnTicks, own_ticks}
 use Rattle.ptk_words_model.specs.State.{State}
@@ -53,10 +54,6 @@ begun_since states from tick to n le after before stays =
 
 -- ---- what a thread looks like there
 
-and_false : (b : Bool) → (b && false) ≡ false
-and_false true = refl
-and_false false = refl
-
 busy_same : (ticks : OwnTicks) (states : ℕ → State) (t n tick until : ℕ) (o : Option Entry) → (is_step_of t o && nat_lt n until) ≡ is_busy (busy_by until o) t n
 busy_same ticks states t n tick until None = refl
 busy_same ticks states t n tick until (Some entry) = refl
@@ -66,7 +63,7 @@ ended_by : (ticks : OwnTicks) (states : ℕ → State) (t tick n : ℕ) (o : Opt
 ended_by ticks states t tick n None after ended = refl
 ended_by ticks states t tick n (Some begun) after ended =
     let past : step_end ticks begun (states (begun + 1)) ≤ n = omega (arith, ended begun refl, after) in
-    ap (λ (b : Bool). is_step_of t (states (begun + 1)).part.last && b) (le-ltb n (step_end ticks begun (states (begun + 1))) past) ∙ and_false (is_step_of t (states (begun + 1)).part.last)
+    ap (λ (b : Bool). is_step_of t (states (begun + 1)).part.last && b) (le-ltb n (step_end ticks begun (states (begun + 1))) past) ∙ and-false (is_step_of t (states (begun + 1)).part.last)
 
 stepping_same : (ticks : OwnTicks) (states : ℕ → State) (t tick n : ℕ) (last : Option ℕ) (b : Bool) → tick ≤ n → ((begun : ℕ) → last ≡ Some begun → step_end ticks begun (states (begun + 1)) ≤ tick)
     → is_stepping ticks states t n (if b then Some tick else last) ≡ is_busy (if b then busy_by (step_end ticks tick (states (tick + 1))) (states (tick + 1)).part.last else None) t n

@@ -1,3 +1,2 @@
 pub mod KeptSteps
-pub mod TracedRows
-pub use Rattle.ptk_words_batches.specs.Quiet
+pub use Rattle.ptk_words_model.specs.Run

@@ -1,20 +1,17 @@
 #![tactic(auto)]
 
-//! A partition's last steps: a ring of them with the newest in a batch, their lines, and plain steps in a row of which
-//! each is kept (`Trace::run_row`).
+//! A partition's last steps: a ring of them with the newest in a batch, and their lines.
 //!
 //! - It has the last steps, oldest first, whichever lie in the ring and which in the batch.
-//! - `run_row` carries out plain steps as `run_plain` does, and the trace is as after a push of each, with the last
-//!   step's entry.
+//! - `push` puts one more in, and `note` has many noted where they are kept, by a `Noting`.
 //! - `lines` appends exactly their lines to a writer that accepts them.
 //!
-//! To keep one more step takes no memory and cannot fail. Below are `ptk_words_model`, whose definitions of texts the
-//! contracts cite, `ptk_rv32i_rows`, whose loops the rows are, and the kit's ring and decimals; above are the crates
-//! that run a partition's thread, and the system, which puts the other steps in and asks for the lines.
+//! To keep one more step takes no memory and cannot fail. It runs nothing: who carries out steps puts them in. Below
+//! are `ptk_words_model`, whose definitions of texts the contracts cite, `ptk_text` and the kit's ring; above are the
+//! crates that run a partition's thread, and the system, which puts the other steps in and asks for the lines.
 
-mod rows;
-mod text;
+mod noting;
 mod trace;
 
-pub use text::{Decimal, Word};
+pub use noting::Noting;
 pub use trace::Trace;

@@ -1,15 +1,16 @@
 //! The last steps, and their lines.
 
-ghost use Rattle.std.specs.Prelude.{◌≡◌, ◌≤◌, ◌++◌, ◌∷◌, [], length, take, drop, IfOk, OnOk};
+ghost use Rattle.std.specs.Prelude.{◌≡◌, ◌≤◌, ◌++◌, List, ◌∷◌, [], length, take, drop, IfOk, OnOk};
 ghost use Rattle.std.specs.Io.KnownBytes.{Appends};
 ghost use Rattle.circular_buffer.specs.Buffer.{Buffer};
+ghost use Rattle.ptk_words.specs.declared.sections.Entry.{Entry};
 ghost use Rattle.ptk_words_model.specs.Run.{last_of};
 ghost use Rattle.ptk_words_model.specs.Text.{trace_line, trace_text};
 ghost use Rattle.ptk_trace.specs.KeptSteps.{kept_steps};
 
-use crate::text::{Decimal, Word};
+use crate::noting::Noting;
 use circular_buffer::HeapCircularBuffer;
-use ptk_rv32i_rows::{Note, UNNOTED};
+use ptk_text::{Decimal, Word};
 use ptk_words::{Entry, ThreadNo, Tick};
 use std::alloc::{AllocError, Global};
 use std::io;
@@ -17,22 +18,18 @@ use std::io::Write;
 use std::marker::Model;
 
 // How many of the newest steps are noted before they go into the ring.
-pub(crate) const BATCH: usize = 256;
+const BATCH: usize = 256;
 
-// For how many more entries the batch has room when a row begins.
-pub(crate) const ROOM: usize = 64;
-
-// How many steps of a long row are noted before the newest of them go into the batch.
-pub(crate) const LONG: usize = 512;
+// For how many more entries the batch has room when steps are noted.
+const ROOM: usize = 64;
 
 /// The last steps of a partition, with room for as many as its section keeps: a ring of them, and after it the newest
-/// ones in a batch, which goes into the ring as one. The notes are those of the steps of a long row, while it runs.
+/// ones in a batch, which goes into the ring as one.
 #[derive(Drop)]
 pub struct Trace {
-    pub(crate) ring: HeapCircularBuffer<Entry>,
-    pub(crate) batch: [Entry; BATCH],
-    pub(crate) noted: usize,
-    pub(crate) notes: [Note; LONG],
+    ring: HeapCircularBuffer<Entry>,
+    batch: [Entry; BATCH],
+    noted: usize,
 }
 
 impl Model for Trace {
@@ -64,7 +61,6 @@ impl Trace {
             ring,
             batch: [unset; BATCH],
             noted: 0,
-            notes: [UNNOTED; LONG],
         })
     }
 
@@ -88,6 +84,21 @@ impl Trace {
         self.noted += 1;
     }
 
+    /// Has steps noted where they are kept: what they write, in this order, are the newest steps. How many they are, at
+    /// most as many as a batch has room for. Where the room is full the oldest go.
+    #[inline(always)]
+    pub fn note<N: Noting>(&mut self, steps: &mut N) -> usize
+        requires { N.can_note steps.old }
+        ensures few { result ≤ 256 }
+        ensures noted { (newest : List Entry) × (length newest ≡ result) × (self.new ≡ record self.old { entries = last_of self.old.kept (self.old.entries ++ newest) }) × N.has_noted steps.old result newest steps.new }
+    {
+        let noted = make_room(&mut self.ring, &self.batch, self.noted);
+        let batch = &mut self.batch[..];
+        let written = steps.note(&mut batch[noted..]);
+        self.noted = noted + written;
+        written
+    }
+
     /// Writes the lines of the steps that are kept, oldest first, a newline after each, and takes no memory. An error
     /// where the writer fails; the trace stays as it was.
     pub fn lines<W: Write>(&self, out: &mut W) -> io::Result<()>
@@ -105,11 +116,7 @@ impl Trace {
 
 // Room for 64 more in the batch: where there is less, its entries go into the ring. How many it then has.
 #[inline(always)]
-pub(crate) fn make_room(
-    ring: &mut HeapCircularBuffer<Entry>,
-    batch: &[Entry; BATCH],
-    noted: usize,
-) -> usize
+fn make_room(ring: &mut HeapCircularBuffer<Entry>, batch: &[Entry; BATCH], noted: usize) -> usize
     requires { noted ≤ 256 }
     ensures room { result ≤ 192 }
     ensures kept { kept_steps ring.new.capacity ring.new.items result batch.now ≡ kept_steps ring.old.capacity ring.old.items noted batch.now }

@@ -1,15 +1,17 @@
 //! What traces write after a boot with ample memory, and what they answer where the writer fails.
 
-use ptk_rv32i_rows::{UNKNOWN, forget_all};
-use ptk_trace::Trace;
-use ptk_words::{A0, Cpu, Entry, ThreadNo, Tick};
+use ptk_gate_boot::{Memories, Trace};
+use ptk_words::{A0, Cpu, Entry, PartId, ThreadNo, Tick};
 use std::alloc::{AllocError, Global};
 
 // The two lines that are kept: 76 bytes.
 const KEPT: &str = "13 1 0x0000001c 0x00000513 0x00000000\n14 1 0x00000020 0x00000073 0x00000000\n";
 
-// addi a0, a0, 1 and a jump back to it.
-const ADD_AND_JUMP_BACK: [u8; 8] = [0x13, 0x05, 0x15, 0x00, 0x6f, 0xf0, 0xdf, 0xff];
+// addi a0, a0, 1
+const ADD_ONE: u32 = 0x0015_0513;
+
+// A jump to the word before.
+const JUMP_BACK: u32 = 0xffdf_f06f;
 
 // The last two of 600 steps of these words, more than two batches: 78 bytes.
 const ROW_KEPT: &str =
@@ -49,30 +51,23 @@ fn is_cut(trace: &Trace, most: usize) -> bool {
     }
 }
 
-// Runs 600 steps from address 0 of this memory, each kept; how many they were, and a0 after them.
-fn row_on(trace: &mut Trace, mut memory: [u8; 8]) -> (u32, u32) {
-    let mut decoded = [UNKNOWN; 3];
-    forget_all(&mut decoded);
+// Runs 600 steps from address 0 of these two words, each kept; how many they were, and a0 after them.
+fn row_on(alloc: Global, trace: &mut Trace) -> Result<(u32, u32), AllocError> {
+    let mut memories = Memories::build(alloc, &[8])?;
+    let p = PartId::new(0);
+    memories.store_word(p, 0, ADD_ONE);
+    memories.store_word(p, 4, JUMP_BACK);
     let mut cpu = Cpu::at(0);
     let mut last = None;
     let thread = ThreadNo::new(1);
-    let start = Tick::new(0);
-    let steps = trace.run_row(
-        &mut cpu,
-        &mut memory,
-        &mut decoded,
-        start,
-        thread,
-        600,
-        &mut last,
-    );
-    (steps, cpu.register(A0))
+    let steps = memories.run_row(p, &mut cpu, Tick::new(0), thread, 600, trace, &mut last);
+    Ok((steps, cpu.register(A0)))
 }
 
 #[test]
 fn a_row_is_kept_as_its_steps_one_by_one(rt: HostRuntime) -> Result<(), AllocError> {
     let mut trace = Trace::new(rt.alloc(), 2)?;
-    assert!(rt; row_on(&mut trace, ADD_AND_JUMP_BACK) == (600, 300));
+    assert!(rt; row_on(rt.alloc(), &mut trace)? == (600, 300));
     assert!(rt; is_written(rt.alloc(), &trace, ROW_KEPT));
     Ok(())
 }

@@ -1,14 +1,10 @@
 -- A walk over a list from an index on.
-use Rattle.std.proofs.Common.{◌≡◌, ℕ, zero, suc, ◌+◌, ◌<◌, ◌≤◌, Bool, true, false, ◌||◌, List, [], ◌∷◌, length, drop, map, get_or, Option, Some, None, refl, sym, ap, ◌∙◌, arith, add-one}
+use Rattle.std.proofs.Common.{◌≡◌, ℕ, ◌+◌, ◌<◌, ◌≤◌, Bool, true, false, ◌||◌, List, [], ◌∷◌, length, drop, map, get_or, Option, Some, None, refl, sym, ap, ◌∙◌}
 use Rattle.std.specs.Option.{option_or}
 use Rattle.std.specs.List.{list_any}
 use Rattle.std.proofs.lemmas.List.{drop_all}
+use Rattle.ptk_words.proofs.Lists.{drop-at}
 use Rattle.ptk_words_windows.specs.WindowFaults.{some_pair, first_fault}
-
-pub drop-at : {A : Type 0} (xs : List A) (i : ℕ) (x : A) → i < length xs → x ≡ get_or xs i x → drop i xs ≡ x ∷ drop (i + 1) xs
-drop-at [] i x within is = absurd (omega arith)
-drop-at (y ∷ ys) zero x within is = rw (← is)
-drop-at (y ∷ ys) (suc i) x within is = rw (add-one (suc i)) (rw (add-one i) at (drop-at ys i x (omega arith) is))
 
 -- no pair so far, and none with this one first
 pub some_pair-more : {A : Type 0} (r : A → A → Bool) (xs : List A) (i : ℕ) (x : A) (whole : Bool)

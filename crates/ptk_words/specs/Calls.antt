@@ -9,48 +9,48 @@ pub record CallRow : Type 0 where
   pub ticks : ℕ
 
 -- a row of the list
-abbrev pub row : ℕ → ℕ → CallRow
-row number ticks = record { number = number; ticks = ticks }
+abbrev pub call_row : ℕ → ℕ → CallRow
+call_row number ticks = record { number = number; ticks = ticks }
 
 -- each call's number and its ticks (own)
-abbrev pub row_of : Call → CallRow
-row_of Exit = row 0 4
-row_of ConsolePut = row 1 4
-row_of ConsoleGet = row 2 4
-row_of ClockGettime = row 3 4
-row_of ClockNanosleep = row 4 6
-row_of PthreadCreate = row 10 12
-row_of PthreadExit = row 11 6
-row_of PthreadJoin = row 12 8
-row_of PthreadDetach = row 13 6
-row_of PthreadSelf = row 14 2
-row_of SchedYield = row 15 4
-row_of PthreadSetschedparam = row 16 8
-row_of PthreadGetschedparam = row 17 4
-row_of PthreadSetschedprio = row 18 8
-row_of MutexInit = row 20 6
-row_of MutexDestroy = row 21 6
-row_of MutexLock = row 22 8
-row_of MutexTrylock = row 23 6
-row_of MutexTimedlock = row 24 10
-row_of MutexUnlock = row 25 10
-row_of MutexConsistent = row 26 6
-row_of CondInit = row 30 6
-row_of CondDestroy = row 31 6
-row_of CondWait = row 32 12
-row_of CondTimedwait = row 33 14
-row_of CondSignal = row 34 12
-row_of CondBroadcast = row 35 16
-row_of PthreadCancel = row 40 10
-row_of PthreadSetcancelstate = row 41 2
-row_of PthreadSetcanceltype = row 42 2
-row_of PthreadTestcancel = row 43 2
-row_of CleanupPush = row 44 4
-row_of CleanupPop = row 45 4
-row_of KeyCreate = row 50 4
-row_of KeyDelete = row 51 4
-row_of PthreadSetspecific = row 52 2
-row_of PthreadGetspecific = row 53 2
+abbrev pub call_row_of : Call → CallRow
+call_row_of Exit = call_row 0 4
+call_row_of ConsolePut = call_row 1 4
+call_row_of ConsoleGet = call_row 2 4
+call_row_of ClockGettime = call_row 3 4
+call_row_of ClockNanosleep = call_row 4 6
+call_row_of PthreadCreate = call_row 10 12
+call_row_of PthreadExit = call_row 11 6
+call_row_of PthreadJoin = call_row 12 8
+call_row_of PthreadDetach = call_row 13 6
+call_row_of PthreadSelf = call_row 14 2
+call_row_of SchedYield = call_row 15 4
+call_row_of PthreadSetschedparam = call_row 16 8
+call_row_of PthreadGetschedparam = call_row 17 4
+call_row_of PthreadSetschedprio = call_row 18 8
+call_row_of MutexInit = call_row 20 6
+call_row_of MutexDestroy = call_row 21 6
+call_row_of MutexLock = call_row 22 8
+call_row_of MutexTrylock = call_row 23 6
+call_row_of MutexTimedlock = call_row 24 10
+call_row_of MutexUnlock = call_row 25 10
+call_row_of MutexConsistent = call_row 26 6
+call_row_of CondInit = call_row 30 6
+call_row_of CondDestroy = call_row 31 6
+call_row_of CondWait = call_row 32 12
+call_row_of CondTimedwait = call_row 33 14
+call_row_of CondSignal = call_row 34 12
+call_row_of CondBroadcast = call_row 35 16
+call_row_of PthreadCancel = call_row 40 10
+call_row_of PthreadSetcancelstate = call_row 41 2
+call_row_of PthreadSetcanceltype = call_row 42 2
+call_row_of PthreadTestcancel = call_row 43 2
+call_row_of CleanupPush = call_row 44 4
+call_row_of CleanupPop = call_row 45 4
+call_row_of KeyCreate = call_row 50 4
+call_row_of KeyDelete = call_row 51 4
+call_row_of PthreadSetspecific = call_row 52 2
+call_row_of PthreadGetspecific = call_row 53 2
 
 -- all calls
 abbrev pub calls : List Call
@@ -96,11 +96,11 @@ calls =
 
 -- the number of a call
 abbrev pub number_of : Call → ℕ
-number_of call = (row_of call).number
+number_of call = (call_row_of call).number
 
 -- the ticks of a call
 abbrev pub ticks_of : Call → ℕ
-ticks_of call = (row_of call).ticks
+ticks_of call = (call_row_of call).ticks
 
 -- the call of a number, if it is one's
 abbrev pub call_of : ℕ → Option Call

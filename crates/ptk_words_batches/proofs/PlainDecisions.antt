@@ -11,6 +11,7 @@ use Rattle.ptk_words.specs.declared.TheConstants.{A0}
 use Rattle.ptk_words.specs.declared.sections.Entry.{Entry}
 use Rattle.ptk_words.specs.declared.sections.Limits.{Limits}
 use Rattle.ptk_words.specs.declared.threads.Thread.{Thread}
+use Rattle.ptk_words.proofs.Pools.{changed_own, changed_twice}
 use Rattle.ptk_words_instructions.specs.Instructions.{Effect}
 use Rattle.ptk_words_instructions.specs.PlainSteps.{Core, core, is_plain, plain_step, plain_entry, plain_entries}
 use Rattle.ptk_words_windows.specs.Windows.{OwnTicks}
@@ -26,7 +27,6 @@ use Rattle.ptk_words_model.specs.Console.{arriving}
 use Rattle.ptk_words_model.specs.Mutex.{wait_of}
 use Rattle.ptk_words_model.specs.Decision.{with_cpu, a0_after, entry_of, after_effect, after_arrivals, runner_of, step_kind, after_whole_step, after_turn, spent_in_turn, ready_at, after_decision, spent_by_decision}
 use Rattle.ptk_words_model.specs.Run.{accounted}
-use Rattle.ptk_words_sync_invariant.proofs.Pools.{changed_own, changed_twice}
 use Rattle.ptk_words_batches.specs.Quiet.{stays_before, IsQuiet, core_of, computed, with_row, after_row}
 use Rattle.ptk_words_batches.specs.QuietLaws.{PlainIsDecided}
 use Rattle.ptk_words_batches.proofs.PlainSteps.{plain_done, plain_word, plain_no_call, plain_no_gate}
@@ -159,7 +159,7 @@ quiet_decision limits tick stop room t thread s quiet lt le plain =
     ap (λ (u : Part). after_turn limits tick room (runner_of u) u) (quiet_ready limits tick stop t thread s quiet lt)
     ∙ (ap (λ (o : Option Runner). after_turn limits tick room o s) (quiet_runner limits tick stop t thread s quiet) ∙ plain_turn limits tick stop room t thread s quiet lt le plain)
 
-quiet_spent : (limits : Limits) (tick stop room t : ℕ) (thread : Thread) (s : Part) → IsQuiet limits tick stop t thread s → tick < stop → 1 ≤ room → is_plain (core_of thread s) ≡ true
+pub quiet_spent : (limits : Limits) (tick stop room t : ℕ) (thread : Thread) (s : Part) → IsQuiet limits tick stop t thread s → tick < stop → 1 ≤ room → is_plain (core_of thread s) ≡ true
     → spent_by_decision limits tick room s ≡ Step 1
 quiet_spent limits tick stop room t thread s quiet lt le plain =
     ap (λ (u : Part). spent_in_turn room (runner_of u) u) (quiet_ready limits tick stop t thread s quiet lt)

@@ -15,6 +15,7 @@ use Rattle.ptk_words.specs.declared.sections.Limits.{Limits}
 use Rattle.ptk_words.specs.declared.threads.Policy.{Policy}
 use Rattle.ptk_words.specs.declared.threads.Policy.TheVariants.{Fifo, RoundRobin}
 use Rattle.ptk_words.specs.declared.threads.Thread.{Thread}
+use Rattle.ptk_words.proofs.Pools.{changed_own, changed_twice}
 use Rattle.ptk_words_instructions.specs.Instructions.{Effect, Call, Fault, effect_at, effect_of_word, decode_of, can_fetch, with_next_pc}
 use Rattle.ptk_words_instructions.specs.PlainSteps.{Core, core}
 use Rattle.ptk_words_model.specs.declared.Runner.{Runner}
@@ -24,7 +25,6 @@ use Rattle.ptk_words_model.specs.State.{Part, with_locks}
 use Rattle.ptk_words_model.specs.Priority.{thread_at, effective_priority}
 use Rattle.ptk_words_model.specs.Schedule.{with_reply, is_round_robin, is_running, after_interval, after_turn_end, with_used}
 use Rattle.ptk_words_model.specs.Decision.{with_cpu, word_fetched, entry_of, a0_after, after_effect, step_kind, after_whole_step, after_turn, spent_in_turn, runner_of}
-use Rattle.ptk_words_sync_invariant.proofs.Pools.{changed_own, changed_twice}
 use Rattle.ptk_words_batches.specs.Quiet.{stays_before, IsQuiet, used_after, computed, with_row}
 use Rattle.ptk_words_batches.specs.Replies.{Outcome, with_outcome, IsReply, ReplyIsDecided, ReplyStaysQuiet, reply_entry, after_reply}
 use Rattle.ptk_words_batches.proofs.PlainSteps.{no_gate_by}
@@ -41,7 +41,7 @@ inside_by true false word e = absurd (omega (arith, e))
 inside_by false inside word e = absurd (omega (arith, e))
 
 -- the pc is not the return gate
-no_gate : (cpu : Processor) (memory : List ℕ) → word_fetched memory cpu.pc ≡ ECALL → length memory ≤ RETURN_GATE → (cpu.pc == RETURN_GATE) ≡ false
+pub no_gate : (cpu : Processor) (memory : List ℕ) → word_fetched memory cpu.pc ≡ ECALL → length memory ≤ RETURN_GATE → (cpu.pc == RETURN_GATE) ≡ false
 no_gate cpu memory e short =
     let inside : can_fetch memory cpu.pc ≡ true = inside_by (cpu.pc % 4 == 0) (can_fetch memory cpu.pc) (word_at memory cpu.pc) e in
     no_gate_by cpu.pc (length memory) (cpu.pc == RETURN_GATE) refl (leb-true (cpu.pc + 4) (length memory) inside) short

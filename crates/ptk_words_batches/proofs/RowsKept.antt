@@ -4,10 +4,10 @@ use Rattle.std.specs.Prelude.{map}
 use Rattle.ptk_words.specs.Pools.{numbers_to}
 use Rattle.ptk_words.specs.declared.sections.Limits.{Limits}
 use Rattle.ptk_words.specs.declared.threads.Thread.{Thread}
+use Rattle.ptk_words.proofs.Pools.{length-changed}
 use Rattle.ptk_words_instructions.specs.PlainSteps.{Core, plain_steps}
 use Rattle.ptk_words_model.specs.State.{Part}
 use Rattle.ptk_words_invariant.specs.Well.{IsWell}
-use Rattle.ptk_words_sync_invariant.proofs.Pools.{length-changed}
 use Rattle.ptk_words_invariant.proofs.Decisions.{well_decision}
 use Rattle.ptk_words_batches.specs.Quiet.{IsQuiet, ArePlain, core_of, computed, after_row, thread_after}
 use Rattle.ptk_words_batches.specs.QuietLaws.{RowKeepsPriorities, RowKeepsWell}

@@ -1,7 +1,7 @@
 -- Each call leaves the state whole.
-use Rattle.std.proofs.Common.{◌≡◌, ℕ, ◌%◌, Bool, true, false, not, List, [], ◌∷◌, refl, sym, ◌∙◌, ap}
+use Rattle.std.proofs.Common.{◌≡◌, ℕ, ◌%◌, Bool, true, false, not, List, [], ◌∷◌, refl, ◌∙◌, ap}
 use Rattle.std.specs.Prelude.{Option, Some, None, unwrap_or, is_some, nat_lt, ◌==◌, if◌then◌else◌, option_map}
-use Rattle.std.proofs.lemmas.Bool.{false≢true, or_parts}
+use Rattle.std.proofs.lemmas.Bool.{or_parts}
 use Rattle.ptk_words.specs.Pools.{least_free}
 use Rattle.ptk_words.specs.Processor.{Processor}
 use Rattle.ptk_words.specs.declared.faults.Errno.TheVariants.{ESRCH, EAGAIN, EINVAL, EDEADLK, ENOTSUP}
@@ -9,6 +9,7 @@ use Rattle.ptk_words.specs.declared.faults.Status.TheVariants.{Exited}
 use Rattle.ptk_words.specs.declared.sections.Limits.{Limits}
 use Rattle.ptk_words.specs.declared.threads.Thread.{Thread}
 use Rattle.ptk_words.specs.declared.threads.Wait.TheVariants.{JoinWait}
+use Rattle.ptk_words.proofs.Options.{none_if_not_some}
 use Rattle.ptk_words_model.specs.State.{Part, with_locks, with_console}
 use Rattle.ptk_words_model.specs.Priority.{thread_at}
 use Rattle.ptk_words_model.specs.Schedule.{with_thread, at_tail, at_head}
@@ -94,12 +95,8 @@ well_pthread_exit i s runs well = well_unwinding_start i.limits i.caller i.a0 s 
 
 -- ---- calls 12 and 13
 
-none_if : (o : Option ℕ) → is_some o ≡ false → o ≡ None
-none_if None e = refl
-none_if (Some t) e = absurd (false≢true (sym e))
-
 untaken : (target : Thread) → is_taken target ≡ false → target.joiner ≡ None
-untaken target e = none_if target.joiner (or_parts target.is_detached (is_some target.joiner) e).1
+untaken target e = none_if_not_some target.joiner (or_parts target.is_detached (is_some target.joiner) e).1
 
 freed_at : (i : Invocation) (u : ℕ) (target : Thread) (s : Part) → thread_at s.locks u ≡ Some target → is_taken target ≡ false → is_ended target.phase ≡ true → IsWell i.limits s → IsWell i.limits (with_locks (without_thread u) s)
 freed_at i u target s there taken ended well = well_freed i.limits u s (ap is_alive there ∙ ap not ended) (ap joiner_of there ∙ untaken target taken) well

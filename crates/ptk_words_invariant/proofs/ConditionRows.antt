@@ -7,6 +7,7 @@ use Rattle.ptk_words.specs.declared.TheConstants.{DESTROYED}
 use Rattle.ptk_words.specs.declared.faults.Errno.TheVariants.{EPERM, ENOMEM, EFAULT, EBUSY, EINVAL, ETIMEDOUT}
 use Rattle.ptk_words.specs.declared.sections.Limits.{Limits}
 use Rattle.ptk_words.specs.declared.threads.Wait.TheVariants.{RelockWait}
+use Rattle.ptk_words.proofs.Pools.{length-pool_set}
 use Rattle.ptk_words_model.specs.declared.Invocation.{Invocation}
 use Rattle.ptk_words_model.specs.State.{Syncs, Part, with_locks, with_syncs}
 use Rattle.ptk_words_model.specs.Mutex.{mutex_at, owns, relock_move, after_unlock}
@@ -15,7 +16,6 @@ use Rattle.ptk_words_model.specs.Time.{Timespec, timespec_at, is_timespec, deadl
 use Rattle.ptk_words_model.specs.Calls.{Answer, blocked, is_pointer, with_pool_condition, with_stored}
 use Rattle.ptk_words_model.specs.ConditionCalls.{cond_init, cond_destroy, may_wait, cond_wait, late_wait_answer, cond_timedwait, cond_signal, cond_broadcast}
 use Rattle.ptk_words_model.specs.Steps.{mutex_named}
-use Rattle.ptk_words_sync_invariant.proofs.Pools.{length-pool_set}
 use Rattle.ptk_words_sync_invariant.proofs.ConditionWaits.{syncs_condition_wait, syncs_late_wait}
 use Rattle.ptk_words_sync_invariant.proofs.Relocks.{syncs_signal, syncs_broadcast}
 use Rattle.ptk_words_sync_invariant.proofs.Timeouts.{syncs_condition_destroy}

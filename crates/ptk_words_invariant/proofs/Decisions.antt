@@ -1,5 +1,5 @@
 -- A step and a decision leave the state whole.
-use Rattle.std.proofs.Common.{◌≡◌, ℕ, ◌%◌, Bool, true, false, List, [], ◌∷◌, length, refl, ◌∙◌, ap}
+use Rattle.std.proofs.Common.{◌≡◌, ℕ, ◌%◌, Bool, true, false, List, [], ◌∷◌, length, refl, ◌∙◌, ap, ◌++◌, ◌+◌}
 use Rattle.std.specs.Prelude.{Option, Some, None, fold, nat_lt, if◌then◌else◌}
 use Rattle.ptk_words.specs.Processor.{Processor, register}
 use Rattle.ptk_words.specs.declared.TheConstants.{A0, A7, CANCELED}
@@ -139,3 +139,14 @@ pub well_decision : (limits : Limits) (tick room : ℕ) (s : Part) → is_active
 well_decision limits tick room s active well =
     let ready : Part = ready_at limits tick s in
     well_turn limits tick room (runner_of ready) ready (runner_runs ready) (well_ready limits tick s active well)
+
+-- ---- the input still to come
+
+-- an arrival takes nothing from it
+pub arrival_coming : (o : Option ℕ) (limit byte : ℕ) (s : Part) → (after_arrival_for o limit byte s).console.coming ≡ s.console.coming
+arrival_coming (Some t) limit byte s = refl
+arrival_coming None limit byte s = by (nat_lt (length s.console.ring) limit)
+  where
+    by : (b : Bool) → (if b then record (s.console) { ring = s.console.ring ++ byte ∷ [] } else record (s.console) { dropped = s.console.dropped + 1 }).coming ≡ s.console.coming
+    by true = refl
+    by false = refl

@@ -1,12 +1,13 @@
 -- An instruction leaves memory as long as it was.
-use Rattle.std.proofs.Common.{arith, ◌≡◌, ℕ, ◌+◌, ◌-◌, ◌%◌, ◌≤◌, min, Bool, true, false, List, length, take, drop, ◌++◌, ◌∙◌, refl, length-append, length-take, length-drop}
+use Rattle.std.proofs.Common.{◌≡◌, ℕ, ◌+◌, ◌-◌, ◌%◌, ◌≤◌, Bool, true, false, List, length, ◌∙◌, refl}
 use Rattle.std.specs.Prelude.{Option, Some, None, not, nat_lt, ◌==◌, if◌then◌else◌}
 use Rattle.std.specs.Int.{Width, w8, w16, w32, byte_len, to_le_bytes, from_le_bytes}
 use Rattle.std.proofs.lemmas.Bool.{ltb-false}
 use Rattle.ptk_words.specs.Words.{sign_extension, word_at, word_of, with_bytes, bytes_at}
 use Rattle.ptk_words.specs.Processor.{Processor, with_register}
 use Rattle.ptk_words.specs.declared.faults.FaultKind.TheVariants.{Fetch, Load, Store, Misaligned}
-use Rattle.ptk_words_instructions.specs.Instructions.{Name, Jal, Jalr, Beq, Bne, Blt, Bge, Bltu, Bgeu, Lb, Lh, Lw, Lbu, Lhu, Sb, Sh, Sw, Ecall, Ebreak, Row, Execution, Effect, Done, Call, Break, Fault, with_next_pc, write_effect, jump_effect, branch_effect, address_of, load_effect, store_effect, effect, effect_of_word, can_fetch, decode_of, effect_at}
+use Rattle.ptk_words.proofs.Lists.{length-with_bytes}
+use Rattle.ptk_words_instructions.specs.Instructions.{Name, Jal, Jalr, Beq, Bne, Blt, Bge, Bltu, Bgeu, Lb, Lh, Lw, Lbu, Lhu, Sb, Sh, Sw, Ecall, Ebreak, InstructionRow, Execution, Effect, Done, Call, Break, Fault, with_next_pc, write_effect, jump_effect, branch_effect, address_of, load_effect, store_effect, effect, effect_of_word, can_fetch, decode_of, effect_at}
 
 -- where the effect has a memory, it has this length (own)
 abbrev pub HasLength : ℕ → Effect → Type 0
@@ -19,14 +20,6 @@ HasLength n (Fault kind) = Unit {0}
 either_length : (n : ℕ) (b : Bool) (x y : Effect) → HasLength n x → (b ≡ false → HasLength n y) → HasLength n (if b then x else y)
 either_length n true x y h k = h
 either_length n false x y h k = k refl
-
-pub length-with_bytes : (memory bytes : List ℕ) (a : ℕ) → a + length bytes ≤ length memory → length (with_bytes memory a bytes) ≡ length memory
-length-with_bytes memory bytes a h =
-    let whole : length (with_bytes memory a bytes) ≡ length (take a memory ++ bytes) + length (drop (a + length bytes) memory) = length-append (take a memory ++ bytes) (drop (a + length bytes) memory) in
-    let front : length (take a memory ++ bytes) ≡ length (take a memory) + length bytes = length-append (take a memory) bytes in
-    let taken : length (take a memory) ≡ min a (length memory) = length-take a memory in
-    let rest : length (drop (a + length bytes) memory) ≡ length memory - (a + length bytes) = length-drop (a + length bytes) memory in
-    omega (arith, whole, front, taken, rest, h)
 
 -- ---- by kind of instruction
 
@@ -74,7 +67,7 @@ name_length n Ecall x h = tt
 name_length n Ebreak x h = tt
 name_length n _ x h = h
 
-word_length : (n : ℕ) (cpu : Processor) (memory : List ℕ) (word : ℕ) (o : Option Row) → length memory ≡ n → HasLength n (effect_of_word cpu memory word o)
+word_length : (n : ℕ) (cpu : Processor) (memory : List ℕ) (word : ℕ) (o : Option InstructionRow) → length memory ≡ n → HasLength n (effect_of_word cpu memory word o)
 word_length n cpu memory word None h = tt
 word_length n cpu memory word (Some r) h = name_length n r.name _ h
 

@@ -10,6 +10,8 @@ use Rattle.ptk_words.specs.declared.faults.Status.TheVariants.{Exited}
 use Rattle.ptk_words.specs.declared.threads.Thread.{Thread}
 use Rattle.ptk_words.specs.declared.threads.Phase.TheVariants.{Ended}
 use Rattle.ptk_words.specs.declared.threads.Wait.TheVariants.{JoinWait}
+use Rattle.ptk_words.proofs.Pools.{get-set_other, free_own, length-pool_set, changed_own, changed_other, length-changed}
+use Rattle.ptk_words.proofs.Lists.{out_push}
 use Rattle.ptk_words_model.specs.State.{Mutex, Part, with_locks}
 use Rattle.ptk_words_model.specs.Priority.{thread_at, awaited}
 use Rattle.ptk_words_model.specs.Mutex.{mutex_at, wait_of, owns, after_owner_end}
@@ -19,8 +21,6 @@ use Rattle.ptk_words_sync_invariant.specs.Locks.{is_ready, joiner_of, used_of, A
 use Rattle.ptk_words_sync_invariant.specs.Conditions.{AreListed, AreConditions, AreSyncs}
 use Rattle.ptk_words.specs.Threads.{condition_of_wait}
 use Rattle.ptk_words_invariant.specs.Well.{IsWell}
-use Rattle.ptk_words_sync_invariant.proofs.Pools.{get-set_other, free_own, length-pool_set, changed_own, changed_other, length-changed}
-use Rattle.ptk_words_sync_invariant.proofs.Lines.{out_push}
 use Rattle.ptk_words_sync_invariant.proofs.Lined.{AreLined, AreOthers, ready_waits, ready_alive, not_ready_out, not_ready_stopped, lined_stopped, lined_others, lined_push}
 use Rattle.ptk_words_sync_invariant.proofs.Threads.{changed_same, idle_awaits, waking_woken}
 use Rattle.ptk_words_sync_invariant.proofs.Listed.{AreSameWaits, IsJoinChange, listed_same, listed_joined}

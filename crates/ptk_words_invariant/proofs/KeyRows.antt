@@ -6,10 +6,10 @@ use Rattle.std.proofs.lemmas.Option.{slice_get-map}
 use Rattle.ptk_words.specs.Pools.{numbered, pool_set, least_free}
 use Rattle.ptk_words.specs.declared.faults.Errno.TheVariants.{EAGAIN, EINVAL}
 use Rattle.ptk_words.specs.declared.sections.Limits.{Limits}
+use Rattle.ptk_words.proofs.Pools.{length-pool_set}
 use Rattle.ptk_words_model.specs.State.{Part, with_keys}
 use Rattle.ptk_words_model.specs.Keys.{is_key, with_key, with_values, specific}
 use Rattle.ptk_words_model.specs.KeyCalls.{key_create, key_delete, setspecific, getspecific}
-use Rattle.ptk_words_sync_invariant.proofs.Pools.{length-pool_set}
 use Rattle.ptk_words_invariant.specs.Well.{AreValues, IsWell}
 use Rattle.ptk_words_invariant.proofs.Unwindings.{values_map, well_keys, well_values}
 use Rattle.ptk_words_invariant.proofs.Steps.{well_success, well_unless, well_given, Keeps}

@@ -15,6 +15,8 @@ use Rattle.ptk_words.specs.declared.mutexes.Protocol.TheVariants.{NoProtocol}
 use Rattle.ptk_words.specs.declared.mutexes.Soundness.TheVariants.{Consistent}
 use Rattle.ptk_words.specs.declared.sections.Limits.{Limits}
 use Rattle.ptk_words.specs.declared.threads.Wait.TheVariants.{MutexWait}
+use Rattle.ptk_words.proofs.Pools.{length-pool_set, length-changed}
+use Rattle.ptk_words.proofs.Lists.{length-with_bytes}
 use Rattle.ptk_words_model.specs.declared.Invocation.{Invocation}
 use Rattle.ptk_words_model.specs.declared.LockMove.{LockMove}
 use Rattle.ptk_words_model.specs.declared.LockMove.TheVariants.{Takes, Recovers, Counts, Waits, Refuses}
@@ -26,12 +28,10 @@ use Rattle.ptk_words_model.specs.MutexCalls.{kind_of, protocol_of, is_robust_typ
 use Rattle.ptk_words_model.specs.Steps.{mutex_named, Row, readable}
 use Rattle.ptk_words_invariant.specs.Rests.{destroy_named, lock_by, trylock_named, unlock_named, consistent_named}
 use Rattle.ptk_words_invariant.specs.Well.{IsWell}
-use Rattle.ptk_words_sync_invariant.proofs.Pools.{length-pool_set, length-changed}
 use Rattle.ptk_words_sync_invariant.specs.LockLaws.{running_after}
 use Rattle.ptk_words_sync_invariant.proofs.Timed.{AreSyncs, syncs_unlock, syncs_lock_move, syncs_trylock_move, syncs_soundness, syncs_mutex_init, syncs_mutex_destroy}
 use Rattle.ptk_words_invariant.proofs.Synced.{syncs_of_well, running_syncs, well_with_syncs, well_syncs_by}
 use Rattle.ptk_words_invariant.proofs.SyncSizes.{sized_move, sized_unlock}
-use Rattle.ptk_words_invariant.proofs.Effects.{length-with_bytes}
 use Rattle.ptk_words_invariant.proofs.Parts.{well_memory}
 use Rattle.ptk_words_invariant.proofs.Threads.{well_replied}
 use Rattle.ptk_words_invariant.proofs.Starts.{IsFree, least_free_is}

@@ -7,12 +7,12 @@ use Rattle.ptk_words.specs.declared.faults.Errno.TheVariants.{ENOMEM, EINVAL}
 use Rattle.ptk_words.specs.declared.mutexes.MutexKind.TheVariants.{Normal}
 use Rattle.ptk_words.specs.declared.mutexes.Protocol.TheVariants.{NoProtocol}
 use Rattle.ptk_words.specs.declared.sections.Limits.{Limits}
+use Rattle.ptk_words.proofs.Pools.{length-pool_set, get-set_own, each_set}
 use Rattle.ptk_words_model.specs.declared.Invocation.{Invocation}
 use Rattle.ptk_words_model.specs.State.{Condition, Syncs, Part}
 use Rattle.ptk_words_model.specs.Mutex.{mutex_at, new_mutex}
 use Rattle.ptk_words_model.specs.Calls.{Answer, refusal, is_pointer, with_pool_mutex, with_pool_condition, with_stored}
 use Rattle.ptk_words_model.specs.Steps.{mutex_named, condition_named, Row}
-use Rattle.ptk_words_sync_invariant.proofs.Pools.{length-pool_set, get-set_own, each_set}
 use Rattle.ptk_words_sync_invariant.proofs.Timeouts.{syncs_condition_init}
 use Rattle.ptk_words_invariant.specs.Well.{IsWell}
 use Rattle.ptk_words_invariant.proofs.Synced.{syncs_of_well, well_syncs_by}

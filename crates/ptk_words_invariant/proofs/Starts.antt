@@ -15,6 +15,8 @@ use Rattle.ptk_words.specs.declared.faults.Status.TheVariants.{Refused}
 use Rattle.ptk_words.specs.declared.TheConstants.{CLEANUP_LIMIT}
 use Rattle.ptk_words.specs.declared.threads.Cleanup.{Cleanup}
 use Rattle.ptk_words.specs.declared.threads.Thread.{Thread}
+use Rattle.ptk_words.proofs.Pools.{get-set_own, get-set_other, length-pool_set, get-replicate, numbered-replicate}
+use Rattle.ptk_words.proofs.Lists.{none_distinct}
 use Rattle.ptk_words_model.specs.State.{Mutex, Part, with_locks, with_cancellation, with_cleanups, with_keys}
 use Rattle.ptk_words_model.specs.Priority.{thread_at, awaited}
 use Rattle.ptk_words_model.specs.Mutex.{wait_of, waiters_of, count_of, owns}
@@ -27,7 +29,6 @@ use Rattle.ptk_words_sync_invariant.specs.Locks.{is_ready, joiner_of, used_of, A
 use Rattle.ptk_words_model.specs.Condition.{waiters_on}
 use Rattle.ptk_words_sync_invariant.specs.Conditions.{AreConditions}
 use Rattle.ptk_words_invariant.specs.Well.{AreHandlers, AreValues, IsWell}
-use Rattle.ptk_words_sync_invariant.proofs.Pools.{get-set_own, get-set_other, length-pool_set, get-replicate, numbered-replicate}
 use Rattle.ptk_words_sync_invariant.proofs.Lined.{AreOthers, not_ready_out, not_ready_stopped, lined_others, lined_push}
 use Rattle.ptk_words_sync_invariant.proofs.Listed.{AreSameWaits, listed_same}
 use Rattle.ptk_words_sync_invariant.proofs.ConditionsKept.{conditions_created, conditions_none}
@@ -35,7 +36,6 @@ use Rattle.ptk_words_invariant.proofs.Whole.{lined_of, waiting_of, well_schedule
 use Rattle.ptk_words_invariant.proofs.Exclusion.{ended_owns, exclusion_unowning}
 use Rattle.ptk_words_invariant.proofs.Parts.{well_memory, well_halt}
 use Rattle.ptk_words_invariant.proofs.Unwindings.{well_cancellation, well_cleanups, well_rounds, well_values}
-use Rattle.ptk_words_sync_invariant.proofs.Lines.{none_twice}
 
 -- ---- a new thread
 
@@ -145,7 +145,7 @@ no_mutexes : (n k : ℕ) → AreMutexes (replicate n None) (replicate k None)
 no_mutexes n k = record {
   waiters_wait = λ m t e. absurd (false≢true (sym (ap (λ (o : Option Mutex). is_in t (waiters_of o)) (get-replicate k m)) ∙ e));
   waits_listed = λ m t e. absurd (no_wait n t m awaited refl e);
-  waiters_distinct = λ m. subst (λ (o : Option Mutex). IsDistinct nat_eq (waiters_of o)) (sym (get-replicate k m)) none_twice;
+  waiters_distinct = λ m. subst (λ (o : Option Mutex). IsDistinct nat_eq (waiters_of o)) (sym (get-replicate k m)) none_distinct;
   owners_alive = λ m t e. absurd (false≢true (sym (ap (owns t) (get-replicate k m)) ∙ e));
   free_unwaited = λ m e. ap waiters_of (get-replicate k m);
   counts = λ m. rw (ap count_of (get-replicate {A = Mutex} k m)) (omega arith);
@@ -172,11 +172,11 @@ well_empty limits input interval = record {
     rounds = length-replicate limits.threads no_rounds;
   };
   line_ready = λ t e. absurd (false≢true e);
-  line_distinct = none_twice;
+  line_distinct = none_distinct;
   running_ready = λ t e. absurd (let no : ⊥ = cc in no);
   running_out = λ t e. absurd (let no : ⊥ = cc in no);
   waiters_wait = λ t e. absurd (false≢true e);
-  waiters_distinct = none_twice;
+  waiters_distinct = none_distinct;
   waits_listed = λ t e. absurd (no_wait limits.threads t _ wait_of refl e);
   joiners_wait = λ t u e. absurd (no_wait limits.threads u t joiner_of refl e);
   joins_listed = λ t u e. absurd (no_wait limits.threads t _ wait_of refl e);

@@ -5,6 +5,7 @@ use Rattle.std.specs.Fn.{iterate}
 use Rattle.ptk_words.specs.Pools.{first_of_greatest}
 use Rattle.ptk_words.specs.declared.threads.Wait.{Wait}
 use Rattle.ptk_words.specs.declared.threads.Wait.TheVariants.{RelockWait}
+use Rattle.ptk_words.proofs.Pools.{length-pool_set, length-changed}
 use Rattle.ptk_words_model.specs.declared.LockMove.{LockMove}
 use Rattle.ptk_words_model.specs.declared.LockMove.TheVariants.{Takes, Recovers, Counts, Waits, Refuses}
 use Rattle.ptk_words_model.specs.State.{Locks, Syncs}
@@ -12,7 +13,6 @@ use Rattle.ptk_words_model.specs.Priority.{thread_at, effective_priority}
 use Rattle.ptk_words_model.specs.Schedule.{after_wake}
 use Rattle.ptk_words_model.specs.Mutex.{mutex_at, wait_of, relock_move, after_move, after_relock_move, move_reply, after_relock, after_unlock, after_owner_end}
 use Rattle.ptk_words_model.specs.Condition.{mutex_of_condition_wait, condition_waiters, after_condition_wait, after_unblock_for, after_unblock, after_signal_to, after_signal, after_broadcast}
-use Rattle.ptk_words_sync_invariant.proofs.Pools.{length-pool_set, length-changed}
 use Rattle.ptk_words_sync_invariant.proofs.Sizes.{length-move_threads, length-move_mutexes, length-unlock_threads, length-unlock_mutexes, length-owner_end_threads, length-owner_end_mutexes}
 use Rattle.ptk_words_invariant.proofs.Synced.{AreSized}
 

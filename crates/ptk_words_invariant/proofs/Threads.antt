@@ -6,6 +6,7 @@ use Rattle.ptk_words.specs.Processor.{Processor}
 use Rattle.ptk_words.specs.declared.sections.Limits.{Limits}
 use Rattle.ptk_words.specs.declared.threads.Thread.{Thread}
 use Rattle.ptk_words.specs.declared.threads.Policy.{Policy}
+use Rattle.ptk_words.proofs.Pools.{length-changed}
 use Rattle.ptk_words_model.specs.State.{Part, with_locks}
 use Rattle.ptk_words_model.specs.Priority.{thread_at}
 use Rattle.ptk_words_model.specs.Mutex.{wait_of}
@@ -16,7 +17,6 @@ use Rattle.ptk_words_model.specs.Unwinding.{is_alive, cpu_at_call, after_routine
 use Rattle.ptk_words.specs.Threads.{is_ended}
 use Rattle.ptk_words_sync_invariant.specs.Locks.{is_ready, joiner_of, used_of}
 use Rattle.ptk_words_invariant.specs.Well.{IsWell}
-use Rattle.ptk_words_sync_invariant.proofs.Pools.{length-changed}
 use Rattle.ptk_words_sync_invariant.proofs.Lined.{lined_alike}
 use Rattle.ptk_words_sync_invariant.proofs.Threads.{changed_same, used_changed}
 use Rattle.ptk_words_sync_invariant.proofs.Listed.{AreSameWaits, listed_same}

@@ -7,6 +7,8 @@ use Rattle.ptk_words.specs.Words.{with_bytes}
 use Rattle.ptk_words.specs.declared.faults.Errno.TheVariants.{EFAULT, EINVAL, EOWNERDEAD}
 use Rattle.ptk_words.specs.declared.threads.Wait.{Wait}
 use Rattle.ptk_words.specs.declared.threads.Wait.TheVariants.{SleepWait, MutexWait}
+use Rattle.ptk_words.proofs.Pools.{length-changed}
+use Rattle.ptk_words.proofs.Lists.{length-with_bytes}
 use Rattle.ptk_words_model.specs.declared.Invocation.{Invocation}
 use Rattle.ptk_words_model.specs.declared.LockMove.{LockMove}
 use Rattle.ptk_words_model.specs.declared.LockMove.TheVariants.{Takes, Recovers, Counts, Waits, Refuses}
@@ -19,14 +21,12 @@ use Rattle.ptk_words_model.specs.MutexCalls.{timed_move, mutex_timedlock}
 use Rattle.ptk_words_model.specs.TimeCalls.{is_no_clock, clock_gettime, clock_nanosleep}
 use Rattle.ptk_words_sync_invariant.specs.LockLaws.{running_after}
 use Rattle.ptk_words_sync_invariant.specs.Conditions.{AreSyncs}
-use Rattle.ptk_words_sync_invariant.proofs.Pools.{length-changed}
 use Rattle.ptk_words_sync_invariant.proofs.Timed.{syncs_timed_move}
 use Rattle.ptk_words_sync_invariant.proofs.ConditionWaits.{syncs_sleep}
 use Rattle.ptk_words_invariant.specs.Rests.{timedlock_named}
 use Rattle.ptk_words_invariant.specs.Well.{IsWell}
 use Rattle.ptk_words_invariant.proofs.Synced.{running_syncs, well_with_syncs, well_syncs_blocked}
 use Rattle.ptk_words_invariant.proofs.SyncSizes.{sized_move}
-use Rattle.ptk_words_invariant.proofs.Effects.{length-with_bytes}
 use Rattle.ptk_words_invariant.proofs.Parts.{well_memory}
 use Rattle.ptk_words_invariant.proofs.Threads.{well_replied}
 use Rattle.ptk_words_invariant.proofs.Steps.{well_success, either_well, well_when, well_unless, well_cancellation_answer, Keeps}

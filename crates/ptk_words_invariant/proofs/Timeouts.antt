@@ -6,6 +6,7 @@ use Rattle.ptk_words.specs.declared.faults.Errno.TheVariants.{ETIMEDOUT}
 use Rattle.ptk_words.specs.declared.sections.Limits.{Limits}
 use Rattle.ptk_words.specs.declared.threads.Wait.{Wait}
 use Rattle.ptk_words.specs.declared.threads.Wait.TheVariants.{InputWait, SleepWait, JoinWait, MutexWait, ConditionWait, RelockWait}
+use Rattle.ptk_words.proofs.Pools.{length-changed}
 use Rattle.ptk_words_model.specs.State.{Part}
 use Rattle.ptk_words_model.specs.Priority.{thread_at}
 use Rattle.ptk_words_model.specs.Schedule.{after_wake}
@@ -13,7 +14,6 @@ use Rattle.ptk_words_model.specs.Mutex.{wait_of, without_mutex_waiter}
 use Rattle.ptk_words_model.specs.Condition.{after_unblock}
 use Rattle.ptk_words_model.specs.Withdrawal.{Expiry, in_order, due, after_timeout, after_expiries}
 use Rattle.ptk_words.specs.Threads.{condition_of_wait}
-use Rattle.ptk_words_sync_invariant.proofs.Pools.{length-changed}
 use Rattle.ptk_words_sync_invariant.proofs.Relocks.{syncs_unblock}
 use Rattle.ptk_words_sync_invariant.proofs.Timeouts.{syncs_sleep_end, syncs_lock_end}
 use Rattle.ptk_words_invariant.specs.Well.{IsWell}

@@ -7,6 +7,8 @@ use Rattle.std.proofs.lemmas.Option.{none-some}
 use Rattle.ptk_words.specs.Pools.{pool_changed, without, is_in}
 use Rattle.ptk_words.specs.declared.sections.Limits.{Limits}
 use Rattle.ptk_words.specs.declared.threads.Thread.{Thread}
+use Rattle.ptk_words.proofs.Pools.{length-changed}
+use Rattle.ptk_words.proofs.Lists.{without_own, first_in}
 use Rattle.ptk_words_model.specs.State.{Part, with_locks}
 use Rattle.ptk_words_model.specs.Priority.{thread_at, effective_priority}
 use Rattle.ptk_words_model.specs.Mutex.{owns_raising}
@@ -15,8 +17,6 @@ use Rattle.ptk_words_model.specs.ThreadCalls.{after_placing, after_placing_at_ta
 use Rattle.ptk_words.specs.Faults.{is_active}
 use Rattle.ptk_words_sync_invariant.specs.Locks.{is_ready}
 use Rattle.ptk_words_invariant.specs.Well.{IsWell}
-use Rattle.ptk_words_sync_invariant.proofs.Pools.{length-changed}
-use Rattle.ptk_words_sync_invariant.proofs.Lines.{without_own, first_in}
 use Rattle.ptk_words_sync_invariant.proofs.Lined.{AreLined, lined_stopped, lined_alike, lined_push, lined_head, lined_without, lined_dispatch}
 use Rattle.ptk_words_sync_invariant.proofs.Listed.{AreSameWaits, listed_same}
 use Rattle.ptk_words_invariant.proofs.Whole.{lined_of, waiting_of, well_scheduled}

@@ -1,6 +1,6 @@
 -- What is kept of cancellation, cleanup handlers and keys, and the start of an unwinding.
-use Rattle.std.proofs.Common.{◌≡◌, ℕ, ◌<◌, ◌≤◌, true, false, List, [], ◌∷◌, length, refl, sym, ◌∙◌, ap, arith, inl, inr}
-use Rattle.std.specs.Prelude.{Option, Some, None, option_map, unwrap_or}
+use Rattle.std.proofs.Common.{◌≡◌, ℕ, ◌<◌, ◌≤◌, true, false, List, [], ◌∷◌, length, refl, sym, ◌∙◌, ap, arith, inl, inr, drop}
+use Rattle.std.specs.Prelude.{Option, Some, None, option_map, unwrap_or, slice_get}
 use Rattle.std.proofs.lemmas.Bool.{cases_eq, not-true}
 use Rattle.ptk_words.specs.Pools.{numbered, pool_set, pool_update}
 use Rattle.ptk_words.specs.declared.sections.Limits.{Limits}
@@ -8,6 +8,8 @@ use Rattle.ptk_words.specs.declared.threads.Thread.{Thread}
 use Rattle.ptk_words.specs.declared.threads.Cleanup.{Cleanup}
 use Rattle.ptk_words.specs.declared.threads.Phase.TheVariants.{Unwinding}
 use Rattle.ptk_words.specs.declared.TheConstants.{RETURN_GATE, CLEANUP_LIMIT}
+use Rattle.ptk_words.proofs.Pools.{length-pool_set, length-update, update_own, update_other, pool_set_to_own}
+use Rattle.ptk_words.proofs.Lists.{empty_from_no_first}
 use Rattle.ptk_words_model.specs.declared.Cancellation.{Cancellation}
 use Rattle.ptk_words_model.specs.declared.Rounds.{Rounds}
 use Rattle.ptk_words_model.specs.State.{Part, Keys, with_cancellation, with_cleanups, with_keys}
@@ -17,7 +19,6 @@ use Rattle.ptk_words_model.specs.Unwinding.{phase_of, is_alive, cleanups_of, aft
 use Rattle.ptk_words.specs.Threads.{is_ended}
 use Rattle.ptk_words_sync_invariant.specs.Locks.{used_of}
 use Rattle.ptk_words_invariant.specs.Well.{AreHandlers, AreValues, AreEndings, IsWell}
-use Rattle.ptk_words_sync_invariant.proofs.Pools.{length-pool_set, length-update, update_own, update_other}
 use Rattle.ptk_words_invariant.proofs.Threads.{well_changed}
 
 -- what the ends of threads are made of changed
@@ -159,3 +160,16 @@ well_unwinding_start limits t value s alive well =
     (with_keys (with_rounds t (with_first_round (phase_of (thread_at s.locks t)))) (with_cancellation t (λ c. record c { is_enabled = false; is_asynchronous = false; is_marked = false }) s))
     (λ thread e. record { wait = refl; joiner = refl; ended = sym (alive_phase thread (thread_at s.locks t) e alive) })
     (λ thread e. let lt : used_of (thread_at s.locks t) < limits.interval = well.used t in rw e at lt) first
+
+-- ---- no handler left
+
+emptied_at : (t : ℕ) (cleanups : List (List Cleanup)) (o : Option (List Cleanup)) → numbered cleanups t ≡ o → unwrap_or o [] ≡ []
+    → unwrap_or (option_map (λ own. pool_set cleanups t (drop 1 own)) o) cleanups ≡ cleanups
+emptied_at t cleanups None e none = refl
+emptied_at t cleanups (Some own) e none =
+    ap (λ (own : List Cleanup). pool_set cleanups t (drop 1 own)) none ∙ pool_set_to_own cleanups t [] (e ∙ ap Some none)
+
+-- taking one off changes nothing
+pub none_taken : (t : ℕ) (s : Part) → slice_get (cleanups_of s t) 0 ≡ None → with_cleanups t (drop 1) s ≡ s
+none_taken t s none =
+    ap (λ (cleanups : List (List Cleanup)). record s { cleanups = cleanups }) (emptied_at t s.cleanups (numbered s.cleanups t) refl (empty_from_no_first (cleanups_of s t) none))

@@ -9,6 +9,8 @@ use Rattle.ptk_words.specs.declared.sections.Arrival.{Arrival}
 use Rattle.ptk_words.specs.declared.threads.Thread.{Thread}
 use Rattle.ptk_words.specs.declared.threads.Wait.{Wait}
 use Rattle.ptk_words.specs.declared.threads.Wait.TheVariants.{InputWait, JoinWait}
+use Rattle.ptk_words.proofs.Pools.{changed_own, changed_other, length-changed}
+use Rattle.ptk_words.proofs.Lists.{first_in}
 use Rattle.ptk_words_model.specs.State.{Mutex, Part, with_locks, with_console}
 use Rattle.ptk_words_model.specs.Priority.{thread_at, effective_priority, awaited}
 use Rattle.ptk_words.specs.Threads.{mutex_of_wait, condition_of_wait}
@@ -21,8 +23,6 @@ use Rattle.ptk_words_model.specs.declared.Invocation.{Invocation}
 use Rattle.ptk_words_model.specs.Calls.{blocked_in}
 use Rattle.ptk_words_sync_invariant.specs.Locks.{is_ready, joiner_of, used_of, AreMutexes}
 use Rattle.ptk_words_invariant.specs.Well.{IsWell}
-use Rattle.ptk_words_sync_invariant.proofs.Pools.{changed_own, changed_other, length-changed}
-use Rattle.ptk_words_sync_invariant.proofs.Lines.{first_in}
 use Rattle.ptk_words_sync_invariant.proofs.Lined.{ready_waits, ready_alive, not_ready_out, not_ready_stopped, lined_stopped, lined_alike, lined_others, lined_push}
 use Rattle.ptk_words_sync_invariant.proofs.Threads.{changed_same, idle_awaits, in_wait, in_wait_waits, in_wait_joiner, in_wait_alive, waking_woken}
 use Rattle.ptk_words_sync_invariant.proofs.Listed.{IsWaitChange, IsJoinChange, listed_input, listed_answered, listed_join}

@@ -7,6 +7,7 @@ use Rattle.ptk_words.specs.declared.sections.Limits.{Limits}
 use Rattle.ptk_words.specs.declared.threads.Thread.{Thread}
 use Rattle.ptk_words.specs.declared.threads.Wait.{Wait}
 use Rattle.ptk_words.specs.declared.threads.Wait.TheVariants.{InputWait, SleepWait, JoinWait, MutexWait, ConditionWait, RelockWait}
+use Rattle.ptk_words.proofs.Pools.{changed_own, changed_other, length-changed}
 use Rattle.ptk_words_model.specs.State.{Part, with_locks, with_syncs, with_console}
 use Rattle.ptk_words_model.specs.Priority.{thread_at}
 use Rattle.ptk_words_model.specs.Mutex.{wait_of}
@@ -17,7 +18,6 @@ use Rattle.ptk_words_model.specs.Unwinding.{is_alive}
 use Rattle.ptk_words_model.specs.Withdrawal.{with_mark, without_joiner, after_cancelled_wait}
 use Rattle.ptk_words_sync_invariant.specs.Locks.{is_ready, joiner_of, used_of}
 use Rattle.ptk_words.specs.Threads.{condition_of_wait}
-use Rattle.ptk_words_sync_invariant.proofs.Pools.{changed_own, changed_other, length-changed}
 use Rattle.ptk_words_sync_invariant.proofs.Lined.{AreLined, not_ready_out, not_ready_stopped, lined_alike, lined_others, lined_push}
 use Rattle.ptk_words_sync_invariant.proofs.Threads.{changed_same, waking_woken}
 use Rattle.ptk_words_sync_invariant.proofs.Listed.{IsJoinChange, listed_joined}

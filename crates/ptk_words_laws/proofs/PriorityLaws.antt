@@ -1,6 +1,6 @@
 -- The effective priority is the greatest held priority of the threads whose chain holds the thread.
 use Rattle.std.proofs.Common.{arith, ◌≡◌, ℕ, zero, suc, ◌≤◌, true, ◌&&◌, List, length, sym, ◌∙◌, ap, refl, subst, inl, inr}
-use Rattle.std.specs.Prelude.{nat_eq, Option, Some, None, IsSome, is_some, filter, option_and_then, unwrap_or}
+use Rattle.std.specs.Prelude.{nat_eq, Option, Some, None, IsSome, is_some, filter, unwrap_or}
 use Rattle.std.specs.List.{list_any}
 use Rattle.std.proofs.lemmas.Bool.{eqb-true, and_from, and_parts}
 use Rattle.std.proofs.lemmas.Map.Views.{any-filter_same}
@@ -8,9 +8,9 @@ use Rattle.ptk_words.specs.Pools.{numbers_to, pool_get}
 use Rattle.ptk_words.specs.declared.threads.Thread.{Thread}
 use Rattle.ptk_words_model.specs.State.{Mutex}
 use Rattle.ptk_words_model.specs.Chain.{steps_from, Leads, leads_to}
-use Rattle.ptk_words_model.specs.Priority.{awaited, inheritor_of, next_in_chain, held_of, effective_of}
+use Rattle.ptk_words_model.specs.Priority.{next_in_chain, held_of, effective_of}
 use Rattle.ptk_words_laws.specs.Laws.{ChainIsDecided, PriorityIsGreatest}
-use Rattle.ptk_words_sync_invariant.proofs.ChainLaws.{false_true, none_some, chain_at-ended, number_of, reaches_sound, chain_complete, IsNumber, IsBounded}
+use Rattle.ptk_words_sync_invariant.proofs.ChainLaws.{false_true, none_some, chain_at-ended, number_of, reaches_sound, chain_complete, IsNumber, next-free, next_bounded}
 use Rattle.ptk_words_sync_invariant.proofs.Greatest.{member_le, Attained, attained, numbers_member}
 
 -- ---- numbers of the pool
@@ -20,18 +20,6 @@ number_if_some pool q None e h = false_true h
 number_if_some pool q (Some a) e h = number_of pool q a e
 
 -- ---- chains of threads
-
--- a free number waits for nothing
-next-free : (threads : List (Option Thread)) (mutexes : List (Option Mutex)) (q : ℕ) → pool_get threads q ≡ None → next_in_chain threads mutexes q ≡ None
-next-free threads mutexes q e = ap (λ o. option_and_then (λ m. inheritor_of (pool_get mutexes m)) (awaited o)) e
-
-next_within : (threads : List (Option Thread)) (mutexes : List (Option Mutex)) (q v : ℕ) (o : Option Thread) → pool_get threads q ≡ o → next_in_chain threads mutexes q ≡ Some v → IsNumber (length threads) q
-next_within threads mutexes q v None e n = none_some (next_in_chain threads mutexes q) v (next-free threads mutexes q e) n
-next_within threads mutexes q v (Some thread) e n = number_of threads q thread e
-
--- only threads of the pool lead on
-pub next_bounded : (threads : List (Option Thread)) (mutexes : List (Option Mutex)) → IsBounded (length threads) (next_in_chain threads mutexes)
-next_bounded threads mutexes = record { each = λ q v n. next_within threads mutexes q v (pool_get threads q) refl n }
 
 pub chain_decided : (threads : List (Option Thread)) (mutexes : List (Option Mutex)) → ChainIsDecided threads mutexes
 chain_decided threads mutexes u t =

@@ -1,23 +1,15 @@
 -- A list of threads after a push or a removal, and the room that is left.
 use Rattle.std.proofs.Common.{◌≡◌, ℕ, ◌<◌, ◌≤◌, List, [], ◌∷◌, ◌++◌, length, Bool, true, false, cond, ◌||◌, not, sym, ◌∙◌, arith, ◌⊎◌, inl, inr}
 use Rattle.std.specs.Prelude.{nat_eq, filter, ◌==◌}
-use Rattle.std.specs.List.{IsDistinct, AllByRecursion}
+use Rattle.std.specs.List.{IsDistinct}
 use Rattle.std.specs.Cmp.{nat_eq_equiv}
-use Rattle.std.proofs.lemmas.Bool.{eqb-true, or_left, or_right, or_parts, or_cases, cases_Bool}
+use Rattle.std.proofs.lemmas.Bool.{eqb-true, or_left, or_right, or_cases, cases_Bool}
 use Rattle.std.proofs.lemmas.List.Folds.{list_any-append}
-use Rattle.std.proofs.lemmas.Map.Keys.{IsDistinct-cons, IsDistinct-head, IsDistinct-tail, IsDistinct-push}
+use Rattle.std.proofs.lemmas.Map.Keys.{IsDistinct-cons, IsDistinct-push}
 use Rattle.std.proofs.lemmas.Map.Steps.{length-le_from_distinct_below}
 use Rattle.ptk_words.specs.Pools.{without, is_in}
+use Rattle.ptk_words.proofs.Lists.{distinct-filter, none_distinct, apart_from_out}
 use Rattle.ptk_words_parted.specs.Lists.{IsLine}
-
-pub none_distinct : IsDistinct nat_eq []
-unfolding IsDistinct
-none_distinct = tt
-
--- no number of the list is this one
-pub apart_from_out : (k : ℕ) (ks : List ℕ) → is_in k ks ≡ false → AllByRecursion (λ y. nat_eq k y ≡ false) ks
-apart_from_out k [] h = tt
-apart_from_out k (j ∷ ks) h = let both = or_parts (nat_eq k j) (is_in k ks) h in (both.0, apart_from_out k ks both.1)
 
 pub in_front : (q k : ℕ) (ks : List ℕ) → is_in q (k ∷ ks) ≡ true → (q ≡ k) ⊎ (is_in q ks ≡ true)
 in_front q k ks h =
@@ -46,23 +38,6 @@ line_push k ks pos small out line = record {
 }
 
 -- ---- a removal
-
-apart-cond : (P : ℕ → Type 0) (b : Bool) (x : ℕ) (ys : List ℕ) → P x → AllByRecursion P ys → AllByRecursion P (cond b (x ∷ ys) ys)
-apart-cond P true x ys h hs = (h, hs)
-apart-cond P false x ys h hs = hs
-
-apart-filter : (P : ℕ → Type 0) (test : ℕ → Bool) (xs : List ℕ) → AllByRecursion P xs → AllByRecursion P (filter test xs)
-apart-filter P test [] hs = tt
-apart-filter P test (x ∷ xs) hs = apart-cond P (test x) x (filter test xs) hs.0 (apart-filter P test xs hs.1)
-
-distinct-cond : (b : Bool) (x : ℕ) (ys : List ℕ) → AllByRecursion (λ y. nat_eq x y ≡ false) ys → IsDistinct nat_eq ys → IsDistinct nat_eq (cond b (x ∷ ys) ys)
-distinct-cond true x ys a h = IsDistinct-cons nat_eq x ys a h
-distinct-cond false x ys a h = h
-
-pub distinct-filter : (test : ℕ → Bool) (xs : List ℕ) → IsDistinct nat_eq xs → IsDistinct nat_eq (filter test xs)
-distinct-filter test [] h = h
-distinct-filter test (x ∷ xs) h =
-    distinct-cond (test x) x (filter test xs) (apart-filter (λ y. nat_eq x y ≡ false) test xs (IsDistinct-head nat_eq x xs h)) (distinct-filter test xs (IsDistinct-tail nat_eq x xs h))
 
 in-cond : (q x : ℕ) (b : Bool) (ys xs : List ℕ) → (is_in q ys ≡ true → is_in q xs ≡ true) → is_in q (cond b (x ∷ ys) ys) ≡ true → is_in q (x ∷ xs) ≡ true
 in-cond q x true ys xs later h =

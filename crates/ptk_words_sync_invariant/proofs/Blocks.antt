@@ -6,6 +6,8 @@ use Rattle.std.proofs.lemmas.Option.{none-some}
 use Rattle.ptk_words.specs.Pools.{pool_get, pool_changed}
 use Rattle.ptk_words.specs.declared.threads.Thread.{Thread}
 use Rattle.ptk_words.specs.declared.threads.Wait.{Wait}
+use Rattle.ptk_words.proofs.Pools.{each_changed, changed_own, changed_other}
+use Rattle.ptk_words.proofs.Options.{one_value}
 use Rattle.ptk_words_model.specs.State.{Mutex}
 use Rattle.ptk_words_model.specs.Priority.{awaited}
 use Rattle.ptk_words.specs.Threads.{mutex_of_wait}
@@ -13,12 +15,10 @@ use Rattle.ptk_words_model.specs.Mutex.{wait_of}
 use Rattle.ptk_words_model.specs.MutexCalls.{is_locked}
 use Rattle.ptk_words_model.specs.Unwinding.{is_alive}
 use Rattle.ptk_words_sync_invariant.specs.Locks.{joiner_of, used_of, AreMutexes}
-use Rattle.ptk_words_sync_invariant.proofs.Pools.{each_changed, changed_own, changed_other}
 use Rattle.ptk_words_sync_invariant.proofs.Lined.{AreLined, lined_stopped, lined_others}
 use Rattle.ptk_words_sync_invariant.proofs.Listed.{IsWaitChange}
 use Rattle.ptk_words_sync_invariant.proofs.Threads.{changed_same, used_changed, none_awaits, in_wait, in_wait_joiner, in_wait_alive, in_wait_used}
 use Rattle.ptk_words_sync_invariant.proofs.Exclusion.{IsExclusive, IsServed, IsAwaitChange, exclusive_at, exclusive_beside, exclusive_joined, mutexes_from, joined_by}
-use Rattle.ptk_words_sync_invariant.proofs.Handovers.{one_mutex}
 
 -- ---- the threads
 
@@ -86,5 +86,5 @@ exclusion_joined t m wait threads mutexes alive idle names locked are =
     mutexes_from after (pool_changed m (joined_by t) mutexes)
     (each_changed (λ (n : ℕ) (mutex : Option Mutex). IsExclusive after n mutex) m (joined_by t) mutexes
     (joined_mutex t m threads after (pool_get mutexes m) locked change (none_awaits m (pool_get threads t) idle) waits (was m))
-    (λ n ne. exclusive_beside t n threads after (pool_get mutexes n) change (none_awaits n (pool_get threads t) idle) (λ e. ne (one_mutex n m (awaited (pool_get after t)) e waits)) (was n)))
+    (λ n ne. exclusive_beside t n threads after (pool_get mutexes n) change (none_awaits n (pool_get threads t) idle) (λ e. ne (one_value n m (awaited (pool_get after t)) e waits)) (was n)))
     (each_changed (λ (n : ℕ) (mutex : Option Mutex). IsServed mutex) m (joined_by t) mutexes (served_joined t (pool_get mutexes m) locked) (λ n ne. are.free_unwaited n))

@@ -8,8 +8,11 @@ use Rattle.std.proofs.lemmas.Bool.{eqb-true, eq-eqb, or_cases, or_left, or_right
 use Rattle.std.proofs.lemmas.Map.Keys.{IsDistinct-tail}
 use Rattle.std.proofs.lemmas.Map.Steps.{length-le_from_distinct_below}
 use Rattle.ptk_words.specs.Pools.{pool_get}
+use Rattle.ptk_words.proofs.Lists.{distinct_head, none_distinct}
+use Rattle.ptk_words.specs.declared.threads.Thread.{Thread}
 use Rattle.ptk_words_model.specs.Chain.{steps_from, Leads, leads_to}
-use Rattle.ptk_words_sync_invariant.proofs.Lines.{none_twice, distinct_head}
+use Rattle.ptk_words_model.specs.State.{Mutex}
+use Rattle.ptk_words_model.specs.Priority.{awaited, inheritor_of, next_in_chain}
 
 -- ---- one step
 
@@ -112,7 +115,7 @@ erased_step next t n u ih (Some v) e c =
 
 -- any number of steps can be made without repetition
 pub erased : (next : ℕ → Option ℕ) (t n u : ℕ) → steps_from next u n ≡ Some t → (k : ℕ) × IsPath next t k u
-erased next t zero u c = (0, record { leads = c; distinct = none_twice })
+erased next t zero u c = (0, record { leads = c; distinct = none_distinct })
 erased next t (suc n) u c = erased_step next t n u (erased next t n) (next u) refl c
 
 -- ---- such a chain is no longer than the pool
@@ -178,3 +181,17 @@ pub chain_complete : (size : ℕ) (next : ℕ → Option ℕ) → IsBounded size
 chain_complete size next b u t r =
     let p : (k : ℕ) × IsPath next t k u = erased next t r.0 u r.1 in
     reaches_found next t size p.0 u (path-le size next b t p.0 u p.1) p.1.leads
+
+-- ---- chains of threads
+
+-- a free number waits for nothing
+pub next-free : (threads : List (Option Thread)) (mutexes : List (Option Mutex)) (q : ℕ) → pool_get threads q ≡ None → next_in_chain threads mutexes q ≡ None
+next-free threads mutexes q e = ap (λ o. option_and_then (λ m. inheritor_of (pool_get mutexes m)) (awaited o)) e
+
+next_within : (threads : List (Option Thread)) (mutexes : List (Option Mutex)) (q v : ℕ) (o : Option Thread) → pool_get threads q ≡ o → next_in_chain threads mutexes q ≡ Some v → IsNumber (length threads) q
+next_within threads mutexes q v None e n = none_some (next_in_chain threads mutexes q) v (next-free threads mutexes q e) n
+next_within threads mutexes q v (Some thread) e n = number_of threads q thread e
+
+-- only threads of the pool lead on
+pub next_bounded : (threads : List (Option Thread)) (mutexes : List (Option Mutex)) → IsBounded (length threads) (next_in_chain threads mutexes)
+next_bounded threads mutexes = record { each = λ q v n. next_within threads mutexes q v (pool_get threads q) refl n }

@@ -7,6 +7,8 @@ use Rattle.ptk_words.specs.declared.TheConstants.{COUNT_LIMIT}
 use Rattle.ptk_words.specs.declared.threads.Thread.{Thread}
 use Rattle.ptk_words.specs.declared.threads.Wait.{Wait}
 use Rattle.ptk_words.specs.declared.threads.Wait.TheVariants.{SleepWait, ConditionWait, RelockWait}
+use Rattle.ptk_words.proofs.Pools.{each_changed, changed_own, changed_other}
+use Rattle.ptk_words.proofs.Options.{mapped_some}
 use Rattle.ptk_words_model.specs.State.{Mutex, Condition, Locks, Syncs}
 use Rattle.ptk_words_model.specs.Priority.{awaited, thread_at}
 use Rattle.ptk_words.specs.Threads.{mutex_of_wait, condition_of_wait}
@@ -17,7 +19,6 @@ use Rattle.ptk_words_model.specs.Unwinding.{is_alive}
 use Rattle.ptk_words_sync_invariant.specs.Locks.{is_ready}
 use Rattle.ptk_words_sync_invariant.specs.LockLaws.{running_after}
 use Rattle.ptk_words_sync_invariant.specs.Conditions.{HasRoom, AreConditions, AreSyncs}
-use Rattle.ptk_words_sync_invariant.proofs.Pools.{each_changed, changed_own, changed_other}
 use Rattle.ptk_words_sync_invariant.proofs.Lined.{ready_waits, ready_alive}
 use Rattle.ptk_words_sync_invariant.proofs.Listed.{IsElsewhere}
 use Rattle.ptk_words_sync_invariant.proofs.Threads.{IsWaking, changed_same, idle_awaits, in_wait, in_wait_alive}
@@ -27,7 +28,7 @@ use Rattle.ptk_words_sync_invariant.proofs.Held.{IsRoomy, Rest, AreHeld}
 use Rattle.ptk_words_sync_invariant.proofs.Unlocks.{last_unlock}
 use Rattle.ptk_words_sync_invariant.proofs.Blocks.{blocks_waits, blocks_awaits, used_blocked, lined_blocked}
 use Rattle.ptk_words_sync_invariant.proofs.LockMoves.{may_relock}
-use Rattle.ptk_words_sync_invariant.proofs.Conditions.{some_map, room_map}
+use Rattle.ptk_words_sync_invariant.proofs.Conditions.{room_map}
 use Rattle.ptk_words_sync_invariant.proofs.Gathered.{conditions_joined}
 use Rattle.ptk_words_sync_invariant.proofs.Timed.{syncs_with, listed_blocked, conditions_blocked, syncs_unlock, syncs_move}
 
@@ -43,7 +44,7 @@ pub roomy_mutex : (t m n : ℕ) (f : Mutex → Mutex) (threads : List (Option Th
 roomy_mutex t m n f threads mutexes roomy is = record {
   ended = is.ended;
   used = each_changed (λ (j : ℕ) (o : Option Mutex). j ≡ m → IsSome o) n f mutexes
-      (λ same. some_map f (pool_get mutexes n) (subst (λ (j : ℕ). IsSome (pool_get mutexes j)) (sym same) is.used)) (λ j ne same. subst (λ (j : ℕ). IsSome (pool_get mutexes j)) (sym same) is.used) m refl;
+      (λ same. mapped_some f (pool_get mutexes n) (subst (λ (j : ℕ). IsSome (pool_get mutexes j)) (sym same) is.used)) (λ j ne same. subst (λ (j : ℕ). IsSome (pool_get mutexes j)) (sym same) is.used) m refl;
   room = each_changed (λ (j : ℕ) (o : Option Mutex). j ≡ m → HasRoom t o) n f mutexes
       (λ same. room_map t f (pool_get mutexes n) roomy (subst (λ (j : ℕ). HasRoom t (pool_get mutexes j)) (sym same) is.room)) (λ j ne same. subst (λ (j : ℕ). HasRoom t (pool_get mutexes j)) (sym same) is.room) m refl;
 }
@@ -62,7 +63,7 @@ room_rest t m = record {
 abbrev IsRoomyIn : ℕ → ℕ → Locks → Type 0
 IsRoomyIn t m locks = IsRoomyFor t m locks.threads locks.mutexes
 
-down_below : (o : Option Mutex) → count_of o ≤ COUNT_LIMIT → count_of (option_map (λ (x : Mutex). record x { count = x.count - 1 }) o) < COUNT_LIMIT
+pub down_below : (o : Option Mutex) → count_of o ≤ COUNT_LIMIT → count_of (option_map (λ (x : Mutex). record x { count = x.count - 1 }) o) < COUNT_LIMIT
 down_below None le = omega arith
 down_below (Some x) le = omega (arith, le)
 
@@ -73,7 +74,7 @@ room_by interval t m running waiters true syncs e used are =
     changed_own m (λ (x : Mutex). record x { count = x.count - 1 }) syncs.mutexes in
     record {
       ended = are.waiting.ended_wait;
-      used = subst (λ (o : Option Mutex). IsSome o) (sym own) (some_map (λ (x : Mutex). record x { count = x.count - 1 }) (mutex_at syncs.locks m) used);
+      used = subst (λ (o : Option Mutex). IsSome o) (sym own) (mapped_some (λ (x : Mutex). record x { count = x.count - 1 }) (mutex_at syncs.locks m) used);
       room = subst (λ (o : Option Mutex). HasRoom t o) (sym own) (λ counts. down_below (mutex_at syncs.locks m) (are.exclusion.counts m));
     }
 room_by interval t m running waiters false syncs e used are =
@@ -122,7 +123,7 @@ syncs_sleep interval t deadline waiters syncs are =
 
 -- ---- a wait on a condition variable
 
-owned_used : (t : ℕ) (o : Option Mutex) → owns t o ≡ true → IsSome o
+pub owned_used : (t : ℕ) (o : Option Mutex) → owns t o ≡ true → IsSome o
 owned_used t None e = absurd (false≢true e)
 owned_used t (Some x) e = refl
 

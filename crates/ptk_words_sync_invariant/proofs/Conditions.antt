@@ -10,6 +10,8 @@ use Rattle.ptk_words.specs.declared.threads.Wait.{Wait}
 use Rattle.ptk_words.specs.declared.threads.Wait.TheVariants.{InputWait, SleepWait, JoinWait, MutexWait, ConditionWait, RelockWait}
 use Rattle.ptk_words.specs.declared.mutexes.Owner.{Owner}
 use Rattle.ptk_words.specs.declared.mutexes.Owner.TheVariants.{Free, Abandoned, OwnedBy}
+use Rattle.ptk_words.proofs.Pools.{each_changed, get-set_other}
+use Rattle.ptk_words.proofs.Options.{mapped_some}
 use Rattle.ptk_words_model.specs.State.{Mutex, Condition, Locks}
 use Rattle.ptk_words_model.specs.Priority.{is_owner, thread_at}
 use Rattle.ptk_words.specs.Threads.{mutex_of_wait, condition_of_wait}
@@ -17,7 +19,6 @@ use Rattle.ptk_words_model.specs.Mutex.{wait_of, owns}
 use Rattle.ptk_words_model.specs.Condition.{mutex_of_condition_wait, is_named, names_mutex, waiters_on}
 use Rattle.ptk_words_sync_invariant.specs.Conditions.{HasRoom}
 pub use Rattle.ptk_words_sync_invariant.specs.Conditions.{AreConditions}
-use Rattle.ptk_words_sync_invariant.proofs.Pools.{each_changed, get-set_other}
 use Rattle.ptk_words_sync_invariant.proofs.Held.{IsRoomy}
 use Rattle.ptk_words_sync_invariant.proofs.Rooms.{counts_owner}
 use Rattle.ptk_words_sync_invariant.proofs.Moves.{counted_up}
@@ -135,10 +136,6 @@ conditions_off t before after mutexes conditions others was now are = conditions
 
 -- ---- one mutex changed
 
-pub some_map : {A : Type 0} (f : A → A) (o : Option A) → IsSome o → IsSome (option_map f o)
-some_map f None e = e
-some_map f (Some a) e = refl
-
 pub room_map : (k : ℕ) (f : Mutex → Mutex) (o : Option Mutex) → IsRoomy f → HasRoom k o → HasRoom k (option_map f o)
 room_map k f None roomy room = room
 room_map k f (Some x) roomy room = roomy x k room
@@ -150,11 +147,11 @@ conditions_mutex m f threads mutexes conditions roomy are = record {
   waiters_wait = are.waiters_wait;
   waits_listed = are.waits_listed;
   waiters_distinct = are.waiters_distinct;
-  named_used = λ t n. each_changed (λ (j : ℕ) (o : Option Mutex). names (pool_get threads t) ≡ Some j → IsSome o) m f mutexes (λ e. some_map f (pool_get mutexes m) (are.named_used t m e)) (λ j ne. are.named_used t j) n;
+  named_used = λ t n. each_changed (λ (j : ℕ) (o : Option Mutex). names (pool_get threads t) ≡ Some j → IsSome o) m f mutexes (λ e. mapped_some f (pool_get mutexes m) (are.named_used t m e)) (λ j ne. are.named_used t j) n;
   room = λ t n. each_changed (λ (j : ℕ) (o : Option Mutex). names (pool_get threads t) ≡ Some j → HasRoom t o) m f mutexes (λ e. room_map t f (pool_get mutexes m) roomy (are.room t m e)) (λ j ne. are.room t j) n;
 }
 
-same_owner : (owner : Owner) (t k : ℕ) → is_owner t owner ≡ true → is_owner k owner ≡ true → k ≡ t
+pub same_owner : (owner : Owner) (t k : ℕ) → is_owner t owner ≡ true → is_owner k owner ≡ true → k ≡ t
 same_owner Free t k own other = absurd (false≢true own)
 same_owner Abandoned t k own other = absurd (false≢true own)
 same_owner (OwnedBy u) t k own other = sym (eqb-true u k other) ∙ eqb-true u t own
@@ -170,7 +167,7 @@ conditions_counted t m threads mutexes conditions own off are = record {
   waiters_wait = are.waiters_wait;
   waits_listed = are.waits_listed;
   waiters_distinct = are.waiters_distinct;
-  named_used = λ k n. each_changed (λ (j : ℕ) (o : Option Mutex). names (pool_get threads k) ≡ Some j → IsSome o) m counted_up mutexes (λ e. some_map counted_up (pool_get mutexes m) (are.named_used k m e)) (λ j ne. are.named_used k j) n;
+  named_used = λ k n. each_changed (λ (j : ℕ) (o : Option Mutex). names (pool_get threads k) ≡ Some j → IsSome o) m counted_up mutexes (λ e. mapped_some counted_up (pool_get mutexes m) (are.named_used k m e)) (λ j ne. are.named_used k j) n;
   room = λ k n. each_changed (λ (j : ℕ) (o : Option Mutex). names (pool_get threads k) ≡ Some j → HasRoom k o) m counted_up mutexes
       (λ e. room_counted t k (pool_get mutexes m) own (λ same.
       let none : names (pool_get threads k) ≡ None = ap (λ v. names (pool_get threads v)) same ∙ off_names (wait_of (pool_get threads t)) off in

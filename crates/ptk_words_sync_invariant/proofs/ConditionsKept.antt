@@ -4,17 +4,17 @@ use Rattle.std.specs.Prelude.{Option, Some, None, option_map}
 use Rattle.ptk_words.specs.Pools.{pool_get, pool_set, pool_changed, is_in}
 use Rattle.ptk_words.specs.declared.threads.Thread.{Thread}
 use Rattle.ptk_words.specs.declared.threads.Wait.TheVariants.{InputWait, JoinWait}
+use Rattle.ptk_words.proofs.Pools.{each_set}
+use Rattle.ptk_words.proofs.Lists.{none_distinct}
 use Rattle.ptk_words_model.specs.State.{Mutex, Condition}
 use Rattle.ptk_words_model.specs.Mutex.{wait_of}
 use Rattle.ptk_words_sync_invariant.specs.Locks.{is_ready}
 use Rattle.ptk_words_model.specs.Condition.{waiters_on}
 use Rattle.ptk_words_sync_invariant.specs.Conditions.{AreConditions}
 use Rattle.ptk_words.specs.Threads.{condition_of_wait}
-use Rattle.ptk_words_sync_invariant.proofs.Pools.{each_set}
 use Rattle.ptk_words_sync_invariant.proofs.Threads.{changed_same, in_wait}
 use Rattle.ptk_words_sync_invariant.proofs.Conditions.{waits_on, names, off_names, AreSameOn, conditions_same, same_on_waits}
 use Rattle.ptk_words_sync_invariant.proofs.Timed.{conditions_blocked}
-use Rattle.ptk_words_sync_invariant.proofs.Lines.{none_twice}
 
 -- ---- changes of a thread
 
@@ -79,7 +79,7 @@ pub conditions_none : (threads : List (Option Thread)) (mutexes : List (Option M
 conditions_none threads mutexes conditions off empty = record {
   waiters_wait = λ c t e. absurd (let out : is_in t [] ≡ true = ap (is_in t) (sym (empty c)) ∙ e in let no : ⊥ = cc in no);
   waits_listed = λ c t e. absurd (let none : waits_on (pool_get threads t) ≡ None = off t in let no : ⊥ = cc in no);
-  waiters_distinct = λ c. rw (empty c) none_twice;
+  waiters_distinct = λ c. rw (empty c) none_distinct;
   named_used = λ t m e. absurd (let none : names (pool_get threads t) ≡ None = off_names (wait_of (pool_get threads t)) (off t) in let no : ⊥ = cc in no);
   room = λ t m e. absurd (let none : names (pool_get threads t) ≡ None = off_names (wait_of (pool_get threads t)) (off t) in let no : ⊥ = cc in no);
 }

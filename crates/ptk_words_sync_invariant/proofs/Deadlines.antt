@@ -1,6 +1,6 @@
 -- The deadlines of the threads, which a change of a thread and a deadline that comes change.
-use Rattle.std.proofs.Common.{◌≡◌, ℕ, zero, suc, ◌+◌, List, [], ◌∷◌, ◌++◌, refl, sym, ◌∙◌, ap, ◌<◌, ◌≤◌}
-use Rattle.std.specs.Prelude.{Option, Some, None, map, filter, filter_map, nat_le, slice_get, slice_set, if◌then◌else◌, ◌-◌, option_map, option_to_list}
+use Rattle.std.proofs.Common.{◌≡◌, ℕ, zero, suc, List, [], ◌∷◌, refl, sym, ◌∙◌, ap}
+use Rattle.std.specs.Prelude.{Option, Some, None, map, filter, filter_map, nat_le, slice_get, slice_set, ◌-◌, option_map, option_to_list}
 use Rattle.std.specs.List.{enumerate_from}
 use Rattle.std.specs.Option.{option_flatten}
 use Rattle.std.proofs.lemmas.List.{map-set}

@@ -6,10 +6,10 @@ use Rattle.std.proofs.lemmas.List.Sums.{fold-append}
 use Rattle.ptk_words.specs.Pools.{numbers_to}
 use Rattle.ptk_words.specs.declared.mutexes.Soundness.TheVariants.{Inconsistent}
 use Rattle.ptk_words.specs.declared.mutexes.Owner.TheVariants.{Free, Abandoned, OwnedBy}
+use Rattle.ptk_words.proofs.Pools.{get_beyond, changed_own, changed_other}
 use Rattle.ptk_words_model.specs.State.{Mutex, Locks}
 use Rattle.ptk_words_model.specs.Priority.{awaited, thread_at, is_owner}
 use Rattle.ptk_words_model.specs.Mutex.{mutex_at, owns, with_soundness, soundness_of, handed, heir, free_move, after_take, after_hand_over_to, after_bequest, after_abandonment, after_mutex_end, after_owner_end}
-use Rattle.ptk_words_sync_invariant.proofs.Pools.{get_beyond, changed_own, changed_other}
 use Rattle.ptk_words_sync_invariant.proofs.Exclusion.{left_by}
 use Rattle.ptk_words_sync_invariant.proofs.Sizes.{length-owner_end_mutexes}
 use Rattle.ptk_words_sync_invariant.proofs.Held.{Rest, AreHeld}

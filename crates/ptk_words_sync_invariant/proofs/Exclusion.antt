@@ -6,14 +6,14 @@ use Rattle.std.proofs.lemmas.Bool.{cases_eq, false_from_ne_true}
 use Rattle.ptk_words.specs.Pools.{pool_get, pool_set, pool_changed, without, is_in}
 use Rattle.ptk_words.specs.declared.TheConstants.{COUNT_LIMIT}
 use Rattle.ptk_words.specs.declared.threads.Thread.{Thread}
+use Rattle.ptk_words.proofs.Pools.{each_set, each_changed}
+use Rattle.ptk_words.proofs.Lists.{in_push, own_push, still_push, without_other, in_without, distinct_push, distinct_without}
 use Rattle.ptk_words_model.specs.State.{Mutex}
 use Rattle.ptk_words_model.specs.Priority.{awaited, is_owner}
 use Rattle.ptk_words_model.specs.Mutex.{waiters_of, count_of, owns, is_free}
 use Rattle.ptk_words_model.specs.MutexCalls.{is_locked}
 use Rattle.ptk_words_model.specs.Unwinding.{is_alive}
 use Rattle.ptk_words_sync_invariant.specs.Locks.{AreMutexes}
-use Rattle.ptk_words_sync_invariant.proofs.Pools.{each_set, each_changed}
-use Rattle.ptk_words_sync_invariant.proofs.Lines.{in_push, own_push, still_push, without_other, in_without, distinct_push, distinct_without}
 
 -- what holds of the mutex of a number, free or not: its waiters are the threads whose wait names it, none of them twice, its owner has not ended, and its count is not above the limit (pthread_mutex_lock)
 pub record IsExclusive (threads : List (Option Thread)) (m : ℕ) (mutex : Option Mutex) : Type 0 where

@@ -6,6 +6,7 @@ use Rattle.std.proofs.lemmas.Bool.{leb-true, leb-false, le-leb, false≢true}
 use Rattle.std.proofs.lemmas.Bool.Decides.{nat_tests}
 use Rattle.std.proofs.lemmas.Option.{none-some, same_Some}
 use Rattle.ptk_words.specs.Pools.{pool_get, pool_set}
+use Rattle.ptk_words.proofs.Lists.{empty_from_no_first}
 use Rattle.ptk_words_model.specs.State.{Part}
 use Rattle.ptk_words_model.specs.Withdrawal.{Expiry, is_before, in_order_with, in_order, due, deadlines_of, after_expiries}
 use Rattle.ptk_words_sync_invariant.specs.Expiries.{due_among, next_expiry, IsLeastDue, IsNoneDue, IsNextExpiry, after_expiry, after_next, AreExpiriesInTurn}
@@ -229,12 +230,8 @@ in_turn tick a s e = record {
   later = next_rest tick (deadlines_of s.locks) a e ∙ ap (λ deadlines. a ∷ in_order (due_among tick deadlines)) (sym (deadlines-timeout a.thread s));
 }
 
-none_listed : (xs : List Expiry) → slice_get xs 0 ≡ None → xs ≡ []
-none_listed [] e = refl
-none_listed (x ∷ xs) e = absurd (cc)
-
 by_next : (tick : ℕ) (next : Option Expiry) (s : Part) → next_expiry tick (deadlines_of s.locks) ≡ next → after_expiries tick s ≡ after_next tick next s
-by_next tick None s e = ap (λ xs. fold (λ u a. after_expiry a u) s xs) (none_listed (in_order (due tick s)) e)
+by_next tick None s e = ap (λ (xs : List Expiry). fold (λ u a. after_expiry a u) s xs) (empty_from_no_first (in_order (due tick s)) e)
 by_next tick (Some a) s e = ap (λ xs. fold (λ u b. after_expiry b u) s xs) ((in_turn tick a s e).later)
 
 -- one expiry at a time

@@ -6,13 +6,13 @@ use Rattle.std.proofs.lemmas.Bool.{cases_eq, false≢true, false_from_ne_true}
 use Rattle.ptk_words.specs.Pools.{pool_get, pool_set, pool_changed, without, is_in}
 use Rattle.ptk_words.specs.declared.threads.Thread.{Thread}
 use Rattle.ptk_words.specs.declared.threads.Wait.TheVariants.{ConditionWait}
+use Rattle.ptk_words.proofs.Pools.{each_set, each_changed}
+use Rattle.ptk_words.proofs.Lists.{in_push, own_push, still_push, without_other, in_without, distinct_push, distinct_without}
 use Rattle.ptk_words_model.specs.State.{Mutex, Condition}
 use Rattle.ptk_words_model.specs.Mutex.{wait_of}
 use Rattle.ptk_words_model.specs.Condition.{mutex_of_condition_wait, waiters_on}
 use Rattle.ptk_words_sync_invariant.specs.Conditions.{HasRoom, AreConditions}
 use Rattle.ptk_words.specs.Threads.{condition_of_wait}
-use Rattle.ptk_words_sync_invariant.proofs.Pools.{each_set, each_changed, changed_own}
-use Rattle.ptk_words_sync_invariant.proofs.Lines.{in_push, own_push, still_push, without_other, in_without, distinct_push, distinct_without}
 use Rattle.ptk_words_sync_invariant.proofs.Conditions.{waits_on, names, off_names, IsGathered, AreReturnable, gathered_at, returnable_of, conditions_from, AreOtherWaits}
 
 -- ---- the waiters of one condition variable

@@ -5,6 +5,7 @@ use Rattle.std.specs.List.{list_any}
 use Rattle.std.proofs.lemmas.Bool.{eqb-true, eq-eqb, or_cases, or_left, or_right}
 use Rattle.std.proofs.lemmas.List.Folds.{list_any-append}
 use Rattle.ptk_words.specs.Pools.{numbers_to}
+use Rattle.ptk_words.proofs.Options.{max_cases}
 use Rattle.ptk_words_sync_invariant.proofs.ChainLaws.{false_true}
 
 -- ---- the greatest of a list
@@ -27,9 +28,6 @@ member_le rank q (k ∷ ks) a h = member_cases rank a k q ks (member_le rank q k
 
 abbrev pub Attained : (ℕ → ℕ) → ℕ → List ℕ → Type 0
 Attained rank a ks = (top rank a ks ≡ a) ⊎ ((q : ℕ) × (list_any (nat_eq q) ks ≡ true) × (rank q ≡ top rank a ks))
-
-pub max_cases : (a b : ℕ) → (max a b ≡ a) ⊎ (max a b ≡ b)
-max_cases a b = grind arith
 
 attained_cases : (rank : ℕ → ℕ) (a k : ℕ) (ks : List ℕ) → (max a (rank k) ≡ a) ⊎ (max a (rank k) ≡ rank k) → Attained rank (max a (rank k)) ks → Attained rank a (k ∷ ks)
 attained_cases rank a k ks m (inr (q, h, e)) = inr (q, or_right _ _ h, e)

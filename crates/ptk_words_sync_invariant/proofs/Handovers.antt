@@ -6,13 +6,14 @@ use Rattle.ptk_words.specs.Pools.{pool_get, pool_changed, is_in}
 use Rattle.ptk_words.specs.declared.threads.Thread.{Thread}
 use Rattle.ptk_words.specs.declared.mutexes.Soundness.{Soundness}
 use Rattle.ptk_words.specs.declared.mutexes.Owner.TheVariants.{Free, Abandoned, OwnedBy}
+use Rattle.ptk_words.proofs.Pools.{each_changed}
+use Rattle.ptk_words.proofs.Lists.{first_in, first_none}
+use Rattle.ptk_words.proofs.Options.{one_value}
 use Rattle.ptk_words_model.specs.State.{Mutex, Locks}
 use Rattle.ptk_words_model.specs.Priority.{awaited, thread_at, effective_priority}
 use Rattle.ptk_words_model.specs.Schedule.{at_tail_with}
 use Rattle.ptk_words_model.specs.Mutex.{mutex_at, with_mutex, waiters_of, soundness_of, with_soundness, handed, heir, free_move, without_mutex_waiter, after_take, after_free, after_hand_over_to, after_hand_over, after_abandonment}
 use Rattle.ptk_words_model.specs.Unwinding.{is_alive}
-use Rattle.ptk_words_sync_invariant.proofs.Pools.{each_changed}
-use Rattle.ptk_words_sync_invariant.proofs.Lines.{first_in, first_none}
 use Rattle.ptk_words_sync_invariant.proofs.Threads.{IsWaking, waking_handed, waking_used, used_changed, idle_awaits, none_awaits, awaits_not_ready, awaits_alive}
 use Rattle.ptk_words_sync_invariant.proofs.Exclusion.{IsExclusive, IsServed, IsAwaitChange, IsMild, exclusive_beside, exclusive_left, exclusive_owned, exclusive_mild, left_by, served_left, served_mild}
 use Rattle.ptk_words_sync_invariant.proofs.Wakings.{waking_idle, waking_await, lined_woken}
@@ -82,9 +83,6 @@ held_free interval m running rest locks none are =
 
 -- ---- a waiter that leaves
 
-pub one_mutex : (n m : ℕ) (o : Option ℕ) → o ≡ Some n → o ≡ Some m → n ≡ m
-one_mutex n m o e f = cc
-
 -- the waiter has left the mutex and is woken by f (pthread_mutex_unlock; own)
 abbrev pub woken_out : (Thread → Thread) → ℕ → ℕ → Locks → Locks
 woken_out f t m locks = at_tail_with f t (without_mutex_waiter t m locks)
@@ -100,7 +98,7 @@ held_queued_leave interval t m f running rest locks waking waits queued =
       holds = rest.mutex m (left_by t) after locks.mutexes (roomy_left t) (rest.woken t m f locks.threads locks.mutexes waking waits queued.holds);
       queues = each_changed (λ (n : ℕ) (mutex : Option Mutex). IsExclusive after n mutex) m (left_by t) locks.mutexes
           (exclusive_left t m locks.threads after (mutex_at locks m) change waits (none_awaits m (pool_get after t) free) (queued.queues m))
-          (λ n ne. exclusive_beside t n locks.threads after (mutex_at locks n) change (λ e. ne (one_mutex n m (awaited (thread_at locks t)) e waits)) (none_awaits n (pool_get after t) free) (queued.queues n));
+          (λ n ne. exclusive_beside t n locks.threads after (mutex_at locks n) change (λ e. ne (one_value n m (awaited (thread_at locks t)) e waits)) (none_awaits n (pool_get after t) free) (queued.queues n));
       used = used_changed interval t f locks.threads (rw (waking_used f (thread_at locks t) waking) (queued.used 0)) queued.used;
     }
 

@@ -2,13 +2,13 @@
 use Rattle.std.specs.Prelude.{◌≡◌, ℕ, ◌<◌, false, List, Option, Some, None, option_map}
 use Rattle.ptk_words.specs.Pools.{pool_get, pool_changed}
 use Rattle.ptk_words.specs.declared.threads.Thread.{Thread}
+use Rattle.ptk_words.proofs.Pools.{each_changed}
 use Rattle.ptk_words_model.specs.State.{Mutex, Locks}
 use Rattle.ptk_words_model.specs.Priority.{awaited, thread_at}
 use Rattle.ptk_words_model.specs.Mutex.{mutex_at, with_mutex, wait_of}
 use Rattle.ptk_words_model.specs.Unwinding.{is_alive}
 use Rattle.ptk_words_sync_invariant.specs.Locks.{used_of, AreMutexes}
 use Rattle.ptk_words_sync_invariant.specs.Conditions.{HasRoom}
-use Rattle.ptk_words_sync_invariant.proofs.Pools.{each_changed}
 use Rattle.ptk_words_sync_invariant.proofs.Lined.{AreLined}
 use Rattle.ptk_words_sync_invariant.proofs.Threads.{IsWaking}
 use Rattle.ptk_words_sync_invariant.proofs.Exclusion.{IsExclusive, IsServed, exclusive_at, mutexes_from, exclusion_changed}

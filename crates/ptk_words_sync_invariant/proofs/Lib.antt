@@ -1,5 +1,3 @@
-pub mod Pools
-pub mod Lines
 pub mod Lined
 pub mod Listed
 pub mod Threads

@@ -4,12 +4,12 @@ use Rattle.std.specs.Prelude.{◌≢◌, Option, Some, None, is_none}
 use Rattle.std.proofs.lemmas.Bool.{false≢true, false_from_ne_true, and_parts}
 use Rattle.ptk_words.specs.Pools.{pool_get, without, is_in}
 use Rattle.ptk_words.specs.declared.threads.Thread.{Thread}
+use Rattle.ptk_words.proofs.Lists.{in_head, in_push, out_head, out_push, without_own, in_without, distinct_head, distinct_push, distinct_without}
 use Rattle.ptk_words_model.specs.Mutex.{wait_of}
 use Rattle.ptk_words_model.specs.Unwinding.{is_alive}
 use Rattle.ptk_words.specs.Threads.{is_ended}
 use Rattle.ptk_words_sync_invariant.specs.Locks.{is_ready}
 pub use Rattle.ptk_words_sync_invariant.specs.Locks.{AreLined}
-use Rattle.ptk_words_sync_invariant.proofs.Lines.{in_head, in_push, out_head, out_push, without_own, in_without, distinct_head, distinct_push, distinct_without}
 
 -- all numbers but one have the same thread as before (own)
 abbrev pub AreOthers : ℕ → List (Option Thread) → List (Option Thread) → Type 0

@@ -7,11 +7,11 @@ use Rattle.ptk_words.specs.declared.threads.Thread.{Thread}
 use Rattle.ptk_words.specs.declared.threads.Wait.{Wait}
 use Rattle.ptk_words.specs.declared.threads.Wait.TheVariants.{InputWait, JoinWait}
 use Rattle.ptk_words.specs.Threads.{mutex_of_wait}
+use Rattle.ptk_words.proofs.Lists.{in_push, own_push, still_push, without_other, in_without, distinct_push, distinct_without}
 use Rattle.ptk_words_model.specs.Mutex.{wait_of}
 use Rattle.ptk_words_model.specs.Unwinding.{is_alive}
 use Rattle.ptk_words_sync_invariant.specs.Locks.{joiner_of}
 pub use Rattle.ptk_words_sync_invariant.specs.Conditions.{AreListed}
-use Rattle.ptk_words_sync_invariant.proofs.Lines.{in_push, own_push, still_push, without_other, in_without, distinct_push, distinct_without}
 
 -- ---- no wait begins or ends
 

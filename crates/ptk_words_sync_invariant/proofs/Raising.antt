@@ -3,11 +3,11 @@ use Rattle.std.proofs.Common.{◌≡◌, ℕ, List, fold, max, refl, sym}
 use Rattle.std.specs.Prelude.{Option, Some, None, option_map, option_and_then, unwrap_or}
 use Rattle.ptk_words.specs.Pools.{pool_get, pool_changed}
 use Rattle.ptk_words.specs.declared.threads.Thread.{Thread}
+use Rattle.ptk_words.proofs.Pools.{length-changed}
 use Rattle.ptk_words_model.specs.State.{Mutex}
 use Rattle.ptk_words_model.specs.Chain.{greatest_leading}
 use Rattle.ptk_words_model.specs.Priority.{awaited, inheritor_of, ceiling_for, next_in_chain, held_of, effective_of}
 use Rattle.ptk_words_model.specs.Schedule.{woken_with}
-use Rattle.ptk_words_sync_invariant.proofs.Pools.{length-changed}
 use Rattle.ptk_words_sync_invariant.proofs.Threads.{changed_same}
 
 -- ---- who raises nobody

@@ -7,6 +7,8 @@ use Rattle.ptk_words.specs.Pools.{pool_get, pool_set, pool_changed, without, fir
 use Rattle.ptk_words.specs.declared.threads.Thread.{Thread}
 use Rattle.ptk_words.specs.declared.threads.Wait.{Wait}
 use Rattle.ptk_words.specs.declared.threads.Wait.TheVariants.{ConditionWait, RelockWait}
+use Rattle.ptk_words.proofs.Pools.{changed_own, changed_other}
+use Rattle.ptk_words.proofs.Lists.{first_in}
 use Rattle.ptk_words_model.specs.declared.LockMove.{LockMove}
 use Rattle.ptk_words_model.specs.declared.LockMove.TheVariants.{Takes, Recovers, Counts, Waits, Refuses}
 use Rattle.ptk_words_model.specs.State.{Condition, Locks, Syncs}
@@ -18,8 +20,6 @@ use Rattle.ptk_words_model.specs.Condition.{condition_waiters, mutex_of_conditio
 use Rattle.ptk_words_model.specs.Unwinding.{is_alive}
 use Rattle.ptk_words_sync_invariant.specs.Locks.{is_ready}
 use Rattle.ptk_words_sync_invariant.specs.Conditions.{AreConditions, AreSyncs}
-use Rattle.ptk_words_sync_invariant.proofs.Pools.{changed_own, changed_other}
-use Rattle.ptk_words_sync_invariant.proofs.Lines.{first_in}
 use Rattle.ptk_words_sync_invariant.proofs.Lined.{not_ready_out, not_ready_stopped, lined_others}
 use Rattle.ptk_words_sync_invariant.proofs.Listed.{IsElsewhere, elsewhere_mutex, listed_elsewhere}
 use Rattle.ptk_words_sync_invariant.proofs.Threads.{IsWaking, waking_woken, waking_alive, waking_used, changed_same, used_changed, awaits_by, idle_awaits, in_wait}

@@ -21,7 +21,7 @@ use Rattle.ptk_words_sync_invariant.proofs.Held.{IsRoomy}
 abbrev moves_of : Soundness → OwnerMoves
 moves_of soundness = record { of_free = free_move soundness; of_own = Counts; of_another = Waits }
 
-free_counts : (soundness : Soundness) → free_move soundness ≡ Counts → ⊥
+pub free_counts : (soundness : Soundness) → free_move soundness ≡ Counts → ⊥
 free_counts Consistent e = cc
 free_counts Inconsistent e = cc
 free_counts Unrecoverable e = cc

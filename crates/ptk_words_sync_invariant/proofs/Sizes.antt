@@ -7,12 +7,12 @@ use Rattle.ptk_words.specs.declared.faults.Errno.TheVariants.{ENOTRECOVERABLE}
 use Rattle.ptk_words.specs.declared.threads.Wait.{Wait}
 use Rattle.ptk_words.specs.declared.mutexes.Soundness.{Soundness}
 use Rattle.ptk_words.specs.declared.mutexes.Soundness.TheVariants.{Consistent, Inconsistent, Unrecoverable}
+use Rattle.ptk_words.proofs.Pools.{length-changed}
 use Rattle.ptk_words_model.specs.declared.LockMove.{LockMove}
 use Rattle.ptk_words_model.specs.declared.LockMove.TheVariants.{Takes, Recovers, Counts, Waits, Refuses}
 use Rattle.ptk_words_model.specs.State.{Mutex, Locks}
 use Rattle.ptk_words_model.specs.Priority.{is_owner}
 use Rattle.ptk_words_model.specs.Mutex.{mutex_at, with_mutex, with_soundness, soundness_of, waiters_of, count_of, handed, heir, free_move, after_move, after_take, after_free, after_leave, after_hand_over_to, after_refusal_to, after_refusal, after_loss, after_last_unlock, after_unlock, after_bequest, after_abandonment, after_mutex_end, after_owner_end}
-use Rattle.ptk_words_sync_invariant.proofs.Pools.{length-changed}
 
 -- as many numbers of threads and of mutexes (own)
 pub record AreAsMany (before after : Locks) : Type 0 where

@@ -6,15 +6,14 @@ use Rattle.ptk_words.specs.Pools.{pool_get, pool_changed}
 use Rattle.ptk_words.specs.Threads.{is_ended, mutex_of_wait}
 use Rattle.ptk_words.specs.declared.threads.Thread.{Thread}
 use Rattle.ptk_words.specs.declared.threads.Wait.{Wait}
+use Rattle.ptk_words.proofs.Pools.{each_changed, changed_own, changed_other}
 use Rattle.ptk_words_model.specs.declared.LockMove.{LockMove}
 use Rattle.ptk_words_model.specs.Priority.{awaited}
 use Rattle.ptk_words_model.specs.Schedule.{woken_with}
 use Rattle.ptk_words_model.specs.Mutex.{wait_of, handed}
 use Rattle.ptk_words_model.specs.Unwinding.{is_alive}
 use Rattle.ptk_words_sync_invariant.specs.Locks.{is_ready, joiner_of, used_of}
-use Rattle.ptk_words_sync_invariant.proofs.Pools.{each_changed, changed_own, changed_other}
 use Rattle.ptk_words_sync_invariant.proofs.Lined.{ready_waits}
-use Rattle.ptk_words.specs.declared.threads.Phase.TheVariants.{Ended}
 
 -- ---- one thread changed
 

@@ -8,6 +8,7 @@ use Rattle.ptk_words.specs.declared.threads.Wait.TheVariants.{MutexWait}
 use Rattle.ptk_words.specs.declared.mutexes.MutexKind.{MutexKind}
 use Rattle.ptk_words.specs.declared.mutexes.Protocol.{Protocol}
 use Rattle.ptk_words.specs.declared.mutexes.Soundness.{Soundness}
+use Rattle.ptk_words.proofs.Pools.{changed_other}
 use Rattle.ptk_words_model.specs.declared.LockMove.{LockMove}
 use Rattle.ptk_words_model.specs.State.{Mutex, Condition, Locks, Syncs}
 use Rattle.ptk_words_model.specs.Priority.{awaited, thread_at}
@@ -20,7 +21,6 @@ use Rattle.ptk_words_model.specs.Unwinding.{is_alive}
 use Rattle.ptk_words_sync_invariant.specs.Locks.{is_ready}
 use Rattle.ptk_words_sync_invariant.specs.LockLaws.{running_after}
 pub use Rattle.ptk_words_sync_invariant.specs.Conditions.{AreListed, AreConditions, AreSyncs}
-use Rattle.ptk_words_sync_invariant.proofs.Pools.{changed_other}
 use Rattle.ptk_words_sync_invariant.proofs.Lined.{ready_waits, ready_alive}
 use Rattle.ptk_words_sync_invariant.proofs.Listed.{IsElsewhere, elsewhere_none, elsewhere_mutex, listed_elsewhere}
 use Rattle.ptk_words_sync_invariant.proofs.Threads.{IsWaking, awaits_wait, in_wait}

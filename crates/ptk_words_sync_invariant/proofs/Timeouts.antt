@@ -1,12 +1,12 @@
 -- The expiries of a tick, and a condition variable set up and destroyed.
-use Rattle.std.proofs.Common.{◌≡◌, ℕ, ◌≤◌, List, [], ◌∷◌, length, fold, refl, ◌∙◌, ap, arith}
+use Rattle.std.proofs.Common.{◌≡◌, ℕ, List, [], ◌∷◌, length, fold, refl, ◌∙◌, ap}
 use Rattle.std.specs.Prelude.{false, nat_lt, Option, Some, None}
-use Rattle.std.proofs.lemmas.Bool.{ltb-false}
 use Rattle.ptk_words.specs.Pools.{pool_get, pool_set}
 use Rattle.ptk_words.specs.Faults.{errno_number}
 use Rattle.ptk_words.specs.declared.faults.Errno.TheVariants.{ETIMEDOUT}
 use Rattle.ptk_words.specs.declared.threads.Wait.{Wait}
 use Rattle.ptk_words.specs.declared.threads.Wait.TheVariants.{InputWait, SleepWait, JoinWait, MutexWait, ConditionWait, RelockWait}
+use Rattle.ptk_words.proofs.Lists.{empty_from_length}
 use Rattle.ptk_words_model.specs.State.{Syncs, Part}
 use Rattle.ptk_words_model.specs.Priority.{thread_at}
 use Rattle.ptk_words.specs.Threads.{mutex_of_wait, condition_of_wait}
@@ -79,10 +79,6 @@ syncs_condition_init interval c running waiters syncs free are = record {
   used = are.used;
 }
 
-none_of : (ts : List ℕ) → nat_lt 0 (length ts) ≡ false → ts ≡ []
-none_of [] e = refl
-none_of (t ∷ ts) e = let le : length (t ∷ ts) ≤ 0 = ltb-false 0 (length (t ∷ ts)) e in absurd (omega (arith, le))
-
 -- where it has no waiters (pthread_cond_destroy, EBUSY)
 pub syncs_condition_destroy : (interval c : ℕ) (running : Option ℕ) (waiters : List ℕ) (syncs : Syncs) → nat_lt 0 (length (condition_waiters syncs c)) ≡ false → AreSyncs interval running waiters syncs
     → AreSyncs interval running waiters (record syncs { conditions = pool_set syncs.conditions c None })
@@ -90,6 +86,6 @@ syncs_condition_destroy interval c running waiters syncs none are = record {
   lined = are.lined;
   waiting = are.waiting;
   exclusion = are.exclusion;
-  conditions = conditions_empty c None syncs.threads syncs.mutexes syncs.conditions (none_of (condition_waiters syncs c) none) refl are.conditions;
+  conditions = conditions_empty c None syncs.threads syncs.mutexes syncs.conditions (empty_from_length (condition_waiters syncs c) none) refl are.conditions;
   used = are.used;
 }

@@ -10,12 +10,12 @@ use Rattle.ptk_words.specs.declared.faults.Errno.TheVariants.{ENOTRECOVERABLE}
 use Rattle.ptk_words.specs.declared.mutexes.Soundness.{Soundness}
 use Rattle.ptk_words.specs.declared.mutexes.Soundness.TheVariants.{Consistent, Inconsistent, Unrecoverable}
 use Rattle.ptk_words.specs.declared.mutexes.Owner.TheVariants.{Free}
+use Rattle.ptk_words.proofs.Pools.{changed_own, changed_other}
+use Rattle.ptk_words.proofs.Lists.{first_in, without_shorter}
 use Rattle.ptk_words_model.specs.declared.LockMove.TheVariants.{Refuses}
 use Rattle.ptk_words_model.specs.State.{Mutex, Locks}
 use Rattle.ptk_words_model.specs.Priority.{effective_priority}
 use Rattle.ptk_words_model.specs.Mutex.{mutex_at, with_mutex, with_soundness, soundness_of, waiters_of, count_of, handed, heir, after_free, after_refusal_to, after_refusal, after_loss, after_last_unlock, after_unlock}
-use Rattle.ptk_words_sync_invariant.proofs.Pools.{changed_own, changed_other}
-use Rattle.ptk_words_sync_invariant.proofs.Lines.{first_in, without_shorter}
 use Rattle.ptk_words_sync_invariant.proofs.Exclusion.{IsServed, IsMild, exclusive_mild, left_by}
 use Rattle.ptk_words_sync_invariant.proofs.Threads.{waking_handed}
 use Rattle.ptk_words_sync_invariant.proofs.Held.{Rest, AreHeld, AreHeldQueued, held_queued_from, held_from, held_queued_mutex}

@@ -5,11 +5,11 @@ use Rattle.std.proofs.lemmas.Bool.{cases_eq, false_from_ne_true, true_from_ne_fa
 use Rattle.ptk_words.specs.Pools.{pool_get, pool_changed, is_in}
 use Rattle.ptk_words.specs.declared.threads.Thread.{Thread}
 use Rattle.ptk_words.specs.declared.threads.Wait.{Wait}
+use Rattle.ptk_words.proofs.Pools.{changed_own, changed_other}
 use Rattle.ptk_words_model.specs.Priority.{awaited}
 use Rattle.ptk_words_model.specs.Mutex.{wait_of}
 use Rattle.ptk_words_model.specs.Unwinding.{is_alive}
 use Rattle.ptk_words_sync_invariant.specs.Locks.{is_ready, joiner_of}
-use Rattle.ptk_words_sync_invariant.proofs.Pools.{changed_own, changed_other}
 use Rattle.ptk_words_sync_invariant.proofs.Lined.{AreLined, ready_waits, not_ready_out, not_ready_stopped, lined_others, lined_push}
 use Rattle.ptk_words_sync_invariant.proofs.Listed.{IsWaitChange}
 use Rattle.ptk_words_sync_invariant.proofs.Threads.{changed_same, IsWaking, waking_waits, waking_joiner, waking_alive, waking_ready}

@@ -9,13 +9,13 @@ use Rattle.ptk_words.specs.Pools.{numbered, pool_set, pool_update}
 use Rattle.ptk_words.specs.Words.{with_bytes}
 use Rattle.ptk_words.specs.declared.sections.Limits.{Limits}
 use Rattle.ptk_words.specs.declared.threads.Wait.{Wait}
+use Rattle.ptk_words.proofs.Pools.{length-pool_set, length-update}
+use Rattle.ptk_words.proofs.Lists.{length-with_bytes}
 use Rattle.ptk_words_model.specs.declared.LockMove.{LockMove}
 use Rattle.ptk_words_model.specs.State.{Locks, Syncs, Part}
 use Rattle.ptk_words_model.specs.Mutex.{after_move, after_unlock, after_owner_end}
 use Rattle.ptk_words_model.specs.Condition.{after_unblock, after_signal, after_broadcast}
-use Rattle.ptk_words_sync_invariant.proofs.Pools.{length-pool_set, length-update}
 use Rattle.ptk_words_sync_invariant.proofs.Sizes.{length-move_threads, length-move_mutexes, length-unlock_threads, length-unlock_mutexes, length-owner_end_threads, length-owner_end_mutexes}
-use Rattle.ptk_words_invariant.proofs.Effects.{length-with_bytes}
 use Rattle.ptk_words_invariant.proofs.SyncSizes.{sized_unblock, sized_signal, sized_broadcast}
 use Rattle.ptk_words_laws.specs.Sizes.{IsSized}
 

@@ -1,5 +1,5 @@
 use Rattle.std.proofs.Common.{arith}
-use Rattle.ptk_impact.proofs.Lists.{same_below}
+use Rattle.ptk_words.proofs.Lists.{same_below}
 use Rattle.ptk_impact.proofs.image.first_other.Goals as goal
 
 pub returns : goal.returns

@@ -1,5 +1,5 @@
 use Rattle.std.proofs.Common.{arith}
-use Rattle.ptk_main_answers.proofs.Lists.{same_below}
+use Rattle.ptk_words.proofs.Lists.{same_below}
 use Rattle.ptk_main_answers.proofs.expectation.first_other.Goals as goal
 
 pub returns : goal.returns

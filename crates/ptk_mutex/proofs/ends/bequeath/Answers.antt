@@ -2,11 +2,12 @@ use Rattle.std.proofs.Common.{◌≡◌, List, sym, ◌∙◌, ap}
 use Rattle.std.specs.Prelude.{Option}
 use Rattle.ptk_words.specs.Pools.{pool_get, pool_changed}
 use Rattle.ptk_words.specs.declared.mutexes.Soundness.TheVariants.{Inconsistent}
+use Rattle.ptk_words.proofs.Pools.{changed_own}
 use Rattle.ptk_words_parted.specs.Parts.{part_of}
 use Rattle.ptk_words_parted.proofs.Cuts.{set_part-same}
 use Rattle.ptk_words_model.specs.State.{Mutex, Locks}
 use Rattle.ptk_words_model.specs.Mutex.{soundness_of, free_move, after_hand_over, with_soundness}
-use Rattle.ptk_threads.proofs.Pools.{pool_get-changed, part_of-set}
+use Rattle.ptk_threads.proofs.Pools.{part_of-set}
 use Rattle.ptk_mutex_priorities.specs.declared.slot.Change.TheVariants.{Mark}
 use Rattle.ptk_mutex_priorities.specs.Changes.{mutex_changed}
 use Rattle.ptk_syncs.specs.Rosters.{Rostered}
@@ -22,7 +23,7 @@ hand_over-requires-clause-made c =
     let marked : part_of c.amend.new.roster.mutexes c.args.p ≡ pool_changed c.args.m (mutex_changed (Mark Inconsistent)) row =
     ap (λ (l : List (List (Option Mutex))). part_of l c.args.p) c.amend.ensures.mutexes ∙ part_of-set a.mutexes c.args.p (pool_changed c.args.m (mutex_changed (Mark Inconsistent)) row) c.requires.ready.part.of_mutexes in
     left_recovers (pool_get row c.args.m) c.requires.used
-    ∙ ap (λ (x : Option Mutex). free_move (soundness_of x)) (sym (pool_get-changed c.args.m (mutex_changed (Mark Inconsistent)) row))
+    ∙ ap (λ (x : Option Mutex). free_move (soundness_of x)) (sym (changed_own c.args.m (mutex_changed (Mark Inconsistent)) row))
     ∙ ap (λ (l : List (Option Mutex)). free_move (soundness_of (pool_get l c.args.m))) (sym marked)
 
 pub returns : goal.returns

@@ -1,9 +1,8 @@
 use Rattle.std.proofs.Common.{◌≡◌, get_or, ◌∙◌, sym, ap, arith}
 use Rattle.ptk_threads_slots.specs.Links.{threads_of}
 use Rattle.ptk_threads.specs.Table.{stored_of}
-use Rattle.ptk_threads.proofs.Slots.{stored_of_below}
+use Rattle.ptk_threads.proofs.Slots.{stored_of_below, length-threads_of}
 use Rattle.ptk_words_model.specs.Priority.{next_in_chain}
-use Rattle.ptk_mutex_priorities.proofs.Held.{length-threads_of}
 use Rattle.ptk_mutex_priorities.proofs.Nexts.{next_past}
 use Rattle.ptk_mutex_priorities.proofs.Risen.{risen_past, risen_stop}
 use Rattle.ptk_mutex_priorities.proofs.priorities.+raise_chain.Goals.{then-i-stored-via-then-i-stored, then-i-stored-via-else-i-stored+then-stored-i}

@@ -3,7 +3,8 @@ use Rattle.std.specs.Prelude.{IsSome, option_map, unwrap_or}
 use Rattle.ptk_words.specs.Pools.{pool_get}
 use Rattle.ptk_words.specs.declared.threads.Thread.{Thread}
 use Rattle.ptk_threads_slots.specs.Links.{threads_of}
-use Rattle.ptk_mutex_priorities.proofs.Held.{assigned_none, assigned_more, assigned_all, assigned_levels, read_here, length-threads_of}
+use Rattle.ptk_threads.proofs.Slots.{length-threads_of}
+use Rattle.ptk_mutex_priorities.proofs.Held.{assigned_none, assigned_more, assigned_all, assigned_levels, read_here}
 use Rattle.ptk_mutex_priorities.proofs.priorities.put_assigned.Goals as goal
 
 pub loop-k-init : goal.loop-k-init

@@ -1,12 +1,13 @@
 use Rattle.std.proofs.Common.{◌≡◌, ℕ, suc, length, refl, ◌∙◌, sym, ap, subst, arith, add-one}
 use Rattle.std.specs.Prelude.{option_and_then}
 use Rattle.ptk_words.specs.Pools.{pool_get}
+use Rattle.ptk_words_sync_invariant.proofs.ChainLaws.{next_bounded}
 use Rattle.ptk_threads_slots.specs.Links.{threads_of}
 use Rattle.ptk_threads.specs.Table.{stored_of}
 use Rattle.ptk_words_model.specs.Priority.{awaited, inheritor_of, next_in_chain, held_of}
+use Rattle.ptk_threads.proofs.Slots.{length-threads_of}
 use Rattle.ptk_mutex_priorities.specs.Raised.{risen, with_ceilings}
-use Rattle.ptk_mutex_priorities.proofs.Held.{ceilings_held, read_here, length-threads_of}
-use Rattle.ptk_mutex_priorities.proofs.Nexts.{bounded}
+use Rattle.ptk_mutex_priorities.proofs.Held.{ceilings_held, read_here}
 use Rattle.ptk_mutex_priorities.proofs.Sweeps.{IsSwept, swept_none, swept_over, swept_more, swept_all, levels_more}
 use Rattle.ptk_mutex_priorities.proofs.priorities.recompute.Goals.{in-Some, in_default}
 use Rattle.ptk_mutex_priorities.proofs.priorities.recompute.Goals as goal
@@ -15,7 +16,7 @@ pub loop-k-init : goal.loop-k-init
 loop-k-init c =
     let threads = threads_of c.args.threads.now in
     record {
-      swept = swept_none (length threads) (next_in_chain threads c.args.mutexes.now) (held_of threads c.args.mutexes.now) c.raise_owners.new.stored (bounded threads c.args.mutexes.now)
+      swept = swept_none (length threads) (next_in_chain threads c.args.mutexes.now) (held_of threads c.args.mutexes.now) c.raise_owners.new.stored (next_bounded threads c.args.mutexes.now)
           (c.raise_owners.ensures.stored ∙ ap (with_ceilings c.args.mutexes.now) c.put_assigned.ensures.stored ∙ ceilings_held threads c.args.mutexes.now);
       levels = c.raise_owners.ensures.levels threads c.put_assigned.ensures.levels;
     }
@@ -32,7 +33,7 @@ loop-k-preserved c =
           let raised : c.match-next_of.stored ≡ risen next priority (length c.args.threads.now) w.in-Some.v c.loop-k.stored = w.stored-is ∙ w.raise_chain.ensures in
           rw add-one (record {
             swept = swept_more (length threads) next (held_of threads mutexes) c.loop-k.k w.in-Some.v priority (length c.args.threads.now) c.loop-k.stored c.match-next_of.stored (omega (arith, length-threads_of c.args.threads.now))
-                (bounded threads mutexes) (sym here ∙ w.in-Some.is) refl raised c.loop-k.invariant.swept;
+                (next_bounded threads mutexes) (sym here ∙ w.in-Some.is) refl raised c.loop-k.invariant.swept;
             levels = levels_more next threads priority (length c.args.threads.now) w.in-Some.v c.loop-k.stored c.match-next_of.stored (c.loop-k.invariant.levels.greatest (suc c.loop-k.k)) raised c.loop-k.invariant.levels;
           }))
       | in_default w ↦
@@ -46,5 +47,5 @@ pub returns-clause-stored : goal.returns-clause-stored
 returns-clause-stored c =
     let threads = threads_of c.args.threads.now in
     let n : c.loop-k.k ≡ length threads = omega (arith, c.loop-k-test.false, c.loop-k.auto.k-end, length-threads_of c.args.threads.now) in
-    swept_all (length threads) (next_in_chain threads c.args.mutexes.now) (held_of threads c.args.mutexes.now) c.loop-k.stored (bounded threads c.args.mutexes.now)
+    swept_all (length threads) (next_in_chain threads c.args.mutexes.now) (held_of threads c.args.mutexes.now) c.loop-k.stored (next_bounded threads c.args.mutexes.now)
     (subst (λ k. IsSwept (length threads) (next_in_chain threads c.args.mutexes.now) (held_of threads c.args.mutexes.now) k c.loop-k.stored) n c.loop-k.invariant.swept)

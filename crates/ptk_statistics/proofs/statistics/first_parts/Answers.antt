@@ -1,6 +1,6 @@
 use Rattle.std.proofs.Common.{◌≡◌, ℕ, [], ◌∷◌, ◌++◌, length, subst, sym, ap, arith, length-append}
+use Rattle.ptk_words.proofs.Lists.{each_more, AreEach}
 use Rattle.ptk_statistics.specs.Parts.{IsKept}
-use Rattle.ptk_statistics.proofs.Parts.{AreEach, each_more}
 use Rattle.ptk_statistics.proofs.statistics.first_parts.Goals as goal
 
 pub loop-i-preserved : goal.loop-i-preserved

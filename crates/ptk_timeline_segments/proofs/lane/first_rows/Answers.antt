@@ -1,9 +1,9 @@
 use Rattle.std.proofs.Common.{◌≡◌, ℕ, ◌+◌, [], ◌∷◌, ◌++◌, length, subst, sym, ◌∙◌, ap, arith, length-append}
+use Rattle.ptk_words.proofs.Lists.{each_more, AreEach}
 use Rattle.ptk_system.specs.World.{state_of}
 use Rattle.ptk_timeline_segments.specs.declared.look.Look.{Look}
 use Rattle.ptk_timeline_segments.specs.Histories.{look_in}
 use Rattle.ptk_timeline_segments.specs.Lanes.{StartsAs}
-use Rattle.ptk_timeline_segments.proofs.Lists.{AreEach, each_more}
 use Rattle.ptk_timeline_segments.proofs.lane.first_rows.Goals as goal
 
 pub loop-i-preserved : goal.loop-i-preserved

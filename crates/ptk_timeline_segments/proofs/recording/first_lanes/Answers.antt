@@ -1,8 +1,8 @@
 use Rattle.std.proofs.Common.{◌≡◌, ℕ, [], ◌∷◌, ◌++◌, length, subst, sym, ap, arith, length-append}
+use Rattle.ptk_words.proofs.Lists.{each_more, AreEach}
 use Rattle.ptk_words_windows.specs.Windows.{own_ticks}
 use Rattle.ptk_timeline_segments.specs.Histories.{history}
 use Rattle.ptk_timeline_segments.specs.Lanes.{IsLaneOf}
-use Rattle.ptk_timeline_segments.proofs.Lists.{AreEach, each_more}
 use Rattle.ptk_timeline_segments.proofs.recording.first_lanes.Goals as goal
 
 pub loop-i-preserved : goal.loop-i-preserved

@@ -1,8 +1,8 @@
 use Rattle.std.proofs.Common.{◌≡◌, length}
+use Rattle.ptk_words.proofs.Lists.{AreEach}
 use Rattle.ptk_words_windows.specs.Windows.{own_ticks}
 use Rattle.ptk_timeline_segments.specs.Histories.{history}
 use Rattle.ptk_timeline_segments.specs.Lanes.{IsLaneOf}
-use Rattle.ptk_timeline_segments.proofs.Lists.{AreEach}
 use Rattle.ptk_timeline_segments.proofs.recording.first_lanes.Given as goal
 
 abbrev pub invariant-loop-i : goal.invariant-loop-i

@@ -1,7 +1,7 @@
 use Rattle.std.proofs.Common.{◌≡◌, ℕ, [], ◌∷◌, ◌++◌, length, subst, sym, ◌∙◌, ap, arith, length-append}
+use Rattle.ptk_words.proofs.Lists.{each_more, AreEach}
 use Rattle.ptk_system.specs.Told.{status_in}
 use Rattle.ptk_system.specs.World.{state_of}
-use Rattle.ptk_timeline_segments.proofs.Lists.{AreEach, each_more}
 use Rattle.ptk_timeline_segments.proofs.recording.statuses_of.Goals as goal
 
 pub loop-i-preserved : goal.loop-i-preserved

@@ -1,10 +1,10 @@
 use Rattle.ptk_words.specs.declared.sections.Limits.{Limits}
 use Rattle.ptk_words_model.specs.State.{Console}
-use Rattle.ptk_console.specs.ConsoleTable.{without_first}
+use Rattle.ptk_console.specs.ConsoleTable.{without_byte}
 use Rattle.ptk_console.proofs.Moves.{moved}
 use Rattle.ptk_console.proofs.consoles.Consoles.get.Goals as goal
 
 pub returns-clause-moved : goal.returns-clause-moved
 returns-clause-moved c =
-    moved (λ (_ : Limits) (console : Console). without_first console) c.self.inside.items.items c.args.self.now c.args.p c.index.result c.index_mut-console.result.now c.get.new.self
+    moved (λ (_ : Limits) (console : Console). without_byte console) c.self.inside.items.items c.args.self.now c.args.p c.index.result c.index_mut-console.result.now c.get.new.self
     c.self.view_is c.index.ensures c.requires c.index_mut-console.ensures.value c.get.ensures.moved

@@ -2,10 +2,10 @@ use Rattle.std.proofs.Common.{List, ◌∙◌, ap, refl, sym}
 use Rattle.std.specs.Prelude.{Option, option_and_then}
 use Rattle.ptk_words.specs.Pools.{pool_get, pool_changed}
 use Rattle.ptk_words.specs.declared.threads.Thread.{Thread}
+use Rattle.ptk_words.proofs.Options.{none_if_not_some}
 use Rattle.ptk_words_parted.specs.Parts.{part_of}
 use Rattle.ptk_threads.specs.Table.{with_wait}
 use Rattle.ptk_words.specs.Threads.{mutex_of_wait}
-use Rattle.ptk_gate_pools.proofs.Stored.{not_some}
 use Rattle.ptk_gate_pools.proofs.Changed.{kept_pooled, wait_pooled, changed_held, again_held}
 use Rattle.ptk_gate_boot.specs.Rosters.{Rostered}
 use Rattle.ptk_gate_pools.proofs.pools.Pools.give_wait.Goals as goal
@@ -14,7 +14,7 @@ use Rattle.ptk_gate_pools.proofs.pools.Pools.give_wait.Goals as goal
 pub invariant_of-self : goal.invariant_of-self
 invariant_of-self c =
     kept_pooled c.self.inside.hand c.args.t (with_wait c.args.wait) c.self.inside.roster.lines c.wait.result c.self.inside c.change.new.self c.self.inside.mutexes refl c.change.ensures (λ thread. refl)
-    (λ thread. not_some (mutex_of_wait c.args.wait) (sym c.is_for_mutex-has_mutex.ensures ∙ c.if-not-has_mutex.true))
+    (λ thread. none_if_not_some (mutex_of_wait c.args.wait) (sym c.is_for_mutex-has_mutex.ensures ∙ c.if-not-has_mutex.true))
     (c.wait.ensures ∙ ap (λ (l : List (List (Option Thread))). option_and_then (λ thread. thread.wait) (pool_get (part_of l c.self.inside.hand) c.args.t)) c.threads.ensures.threads)
     (sym c.is_for_mutex-had_mutex.ensures ∙ c.if-not-had_mutex.true) c.self.invariant
 

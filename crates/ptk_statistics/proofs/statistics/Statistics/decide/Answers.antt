@@ -1,6 +1,7 @@
 use Rattle.std.proofs.Common.{◌≡◌, ℕ, ◌∙◌, sym, ap, arith}
 use Rattle.ptk_main_runs.specs.World.{World, at_tick}
-use Rattle.ptk_statistics.proofs.Parts.{at_again, kept_later}
+use Rattle.ptk_main_runs.proofs.Keeping.{at_again}
+use Rattle.ptk_statistics.proofs.Parts.{kept_later}
 use Rattle.ptk_statistics.proofs.statistics.Statistics.decide.Goals as goal
 
 pub look-requires-2-clause-kept : goal.look-requires-2-clause-kept

@@ -1,5 +1,5 @@
 use Rattle.std.proofs.Common.{arith}
-use Rattle.ptk_statistics.proofs.Parts.{at_again}
+use Rattle.ptk_main_runs.proofs.Keeping.{at_again}
 use Rattle.ptk_statistics.proofs.statistics.Statistics.run.Goals as goal
 
 pub loop-tick-init : goal.loop-tick-init

@@ -1,7 +1,8 @@
 use Rattle.std.proofs.Common.{◌-◌, ◌<◌, ◌≤◌, sym, arith}
 use Rattle.std.proofs.lemmas.Bool.{false≢true}
+use Rattle.ptk_words.proofs.Options.{closer}
 use Rattle.ptk_words_windows.specs.Windows.{own_ticks}
-use Rattle.ptk_system_machine.proofs.Progress.{closer, plain_later}
+use Rattle.ptk_system_machine.proofs.Progress.{plain_later}
 use Rattle.ptk_kernel.specs.Kept.{limits_at}
 use Rattle.ptk_system_machine.specs.Whole.{state_at}
 use Rattle.ptk_system_machine.proofs.Steady.{steady_gone, steady_start}

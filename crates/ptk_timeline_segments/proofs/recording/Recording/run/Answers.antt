@@ -1,9 +1,10 @@
 use Rattle.std.proofs.Common.{◌≡◌, ℕ, ◌+◌, max, refl, sym, ap, subst, ◌∙◌, arith}
 use Rattle.ptk_system.specs.World.{World, at_tick}
+use Rattle.ptk_system.proofs.Keeping.{at_again}
 use Rattle.ptk_timeline_segments.specs.declared.recording.Recording.{Recording}
 use Rattle.ptk_timeline_segments.specs.declared.scale.Scale.{Scale}
 use Rattle.ptk_timeline_segments.specs.Recordings.{AreLanesOf}
-use Rattle.ptk_timeline_segments.proofs.Recordings.{at_again, lanes_later, passed_told, step_told}
+use Rattle.ptk_timeline_segments.proofs.Recordings.{lanes_later, passed_told, step_told}
 use Rattle.ptk_timeline_segments.proofs.recording.Recording.run.Goals as goal
 use Rattle.ptk_timeline_segments.proofs.recording.Recording.run.Goals.{then-is_wide, else-is_wide}
 
