@@ -1,6 +1,7 @@
 -- The bytes of each statement stand at its offset.
 use Rattle.std.proofs.Common.{◌≡◌, ℕ, ◌-◌, ◌<◌, ◌≤◌, List, [], ◌∷◌, ◌++◌, length, length-drop, length-take, take, drop, min, Option, Some, None, refl, sym, ap, subst, ◌∙◌, arith}
 use Rattle.std.specs.List.{All}
+use Rattle.std.proofs.Math.Seq.{drop-append_seam}
 use Rattle.std.proofs.lemmas.Grind.{common_steps}
 use Rattle.std.proofs.lemmas.List.{append-nil, take-append-le, drop-append-le}
 use Rattle.std.proofs.lemmas.List.Concat.{flat_map-append}
@@ -14,9 +15,6 @@ use Rattle.ptk_asm.specs.Laws.{StandsAt}
 use Rattle.ptk_asm.proofs.Lengths.{section-length}
 
 -- ---- bytes in a list
-
-drop_whole : (b c : List ℕ) → drop (length c) (c ++ b) ≡ b
-drop_whole b c = grind (arith, common_steps)
 
 -- bytes at an offset stay there when others come behind them
 at_more : (b c d : List ℕ) (k : ℕ) → take (length b) (drop k c) ≡ b → take (length b) (drop k (c ++ d)) ≡ b
@@ -34,7 +32,7 @@ at_end : (b c : List ℕ) (k : ℕ) → k ≡ length c → take (length b) (drop
 at_end b c k e =
     ap (λ (n : ℕ). take (length b) (drop n (c ++ (b ++ [])))) e
     ∙ ap (λ (d : List ℕ). take (length b) (drop (length c) (c ++ d))) (append-nil b)
-    ∙ ap (take (length b)) (drop_whole b c) ∙ grind (arith, common_steps)
+    ∙ ap (take (length b)) (drop-append_seam c b) ∙ grind (arith, common_steps)
 
 -- ---- statements
 

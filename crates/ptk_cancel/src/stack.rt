@@ -1,6 +1,6 @@
 //! The cleanup handlers of one thread (pthread_cleanup_push).
 
-ghost use Rattle.std.specs.Prelude.{◌≡◌, ◌≤◌, [], ◌∷◌, drop, length, nat_lt, slice_get, if◌then◌else◌};
+ghost use Rattle.std.specs.Prelude.{◌≡◌, [], ◌∷◌, drop, length, nat_lt, slice_get, if◌then◌else◌};
 
 use arrayvec::ArrayVec;
 use ptk_words::{CLEANUP_LIMIT, Cleanup};
@@ -60,14 +60,6 @@ impl Stack {
         Stack {
             handlers: ArrayVec::new(),
         }
-    }
-
-    /// How many handlers there are.
-    pub(crate) fn depth(&self) -> usize
-        ensures value { result ≡ length self.now }
-        ensures limit { result ≤ CLEANUP_LIMIT }
-    {
-        self.handlers.len()
     }
 
     /// Puts a handler on top; false, and nothing changes, where 16 are there.

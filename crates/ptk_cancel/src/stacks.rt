@@ -1,6 +1,6 @@
 //! The stacks of cleanup handlers of one partition's threads, by number.
 
-ghost use Rattle.std.specs.Prelude.{◌≡◌, ◌≤◌, [], ◌∷◌, drop, length, nat_lt, replicate, slice_get, unwrap_or, if◌then◌else◌, IfOk};
+ghost use Rattle.std.specs.Prelude.{◌≡◌, [], ◌∷◌, drop, length, nat_lt, replicate, slice_get, unwrap_or, if◌then◌else◌, IfOk};
 ghost use Rattle.ptk_words.specs.Pools.{numbered, pool_update};
 
 use crate::stack::Stack;
@@ -16,18 +16,6 @@ pub(crate) fn empty_stacks(alloc: Global, threads: u32) -> Result<Vec<Stack>, Al
         stacks.push(Stack::new())?;
     }
     Ok(stacks)
-}
-
-/// How many handlers the thread has, 0 past the last number.
-#[tactic(auto, using(crate::proofs::Numbered::numbers))]
-pub(crate) fn depth_in(stacks: &[Stack], t: ThreadNo) -> usize
-    ensures value { result ≡ length (unwrap_or (numbered stacks.now t) []) }
-    ensures limit { result ≤ CLEANUP_LIMIT }
-{
-    match stacks.get(t.place()) {
-        Some(stack) => stack.depth(),
-        None => 0,
-    }
 }
 
 /// The thread begins without a handler.

@@ -183,15 +183,6 @@ impl Cancellations {
         entries::disable_in(self.cancellations.lend(p), t);
     }
 
-    /// How many cleanup handlers the thread has.
-    pub fn depth(&self, p: PartId, t: ThreadNo) -> usize
-        requires { p < length self.now.cancellations }
-        ensures value { result ≡ length (cleanups_at p t self.now) }
-        ensures limit { result ≤ CLEANUP_LIMIT }
-    {
-        stacks::depth_in(self.cleanups.part(p), t)
-    }
-
     /// Puts a handler on top of the thread's; false, and nothing changes, where 16 are there (pthread_cleanup_push).
     /// Past the last thread number nothing changes either, and it is true.
     #[tactic(auto, using(crate::proofs::Tables::tables))]

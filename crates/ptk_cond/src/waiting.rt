@@ -9,6 +9,7 @@ ghost use Rattle.ptk_mutex.specs.Tables.{locks_at};
 ghost use Rattle.ptk_cond.specs.Tables.{syncs_at, put_syncs, AreSynced, IsAwake};
 
 use ptk_mutex::{Mutexes, Roster};
+use ptk_threads::ThreadField;
 use ptk_words::{ConditionNo, MutexNo, PartId, ThreadNo, Tick, Wait};
 
 /// A thread that waits for nothing unlocks the mutex once, as unlock does, and is then the last waiter of the condition
@@ -35,5 +36,5 @@ pub fn wait(
     roster.await_condition(p, c, t);
     mutexes.unlock(roster, p, m);
     let wait = Wait::ConditionWait(c, m, deadline);
-    roster.set_wait(p, t, Some(wait));
+    roster.update(p, t, &ThreadField::Wait(Some(wait)));
 }

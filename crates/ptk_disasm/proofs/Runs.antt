@@ -1,6 +1,7 @@
 -- A run, or a - and a run, is the first piece.
 use Rattle.std.proofs.Common.{◌≡◌, ℕ, ◌<◌, Bool, true, false, ◌||◌, List, [], ◌∷◌, ◌++◌, length, take, drop, suc, refl, ap, ◌∙◌, arith, ◌==◌}
 use Rattle.std.specs.List.{list_all}
+use Rattle.std.proofs.Math.Seq.{drop-append_seam, take-append_seam}
 use Rattle.std.proofs.lemmas.Bool.{and_parts}
 use Rattle.ptk_asm_language.specs.Tokens.{is_run, is_blank, starts_run, pieces}
 use Rattle.ptk_asm_language.specs.Scanning.{run_len}
@@ -16,22 +17,14 @@ run_length (c ∷ cs) rest all ends =
     let parts = and_parts (is_run c) (list_all is_run cs) all in
     rw parts.0 (ap suc (run_length cs rest parts.1 ends))
 
-take_whole : (xs ys : List ℕ) → take (length xs) (xs ++ ys) ≡ xs
-take_whole [] ys = refl
-take_whole (x ∷ xs) ys = ap (λ (t : List ℕ). x ∷ t) (take_whole xs ys)
-
-drop_whole : (xs ys : List ℕ) → drop (length xs) (xs ++ ys) ≡ ys
-drop_whole [] ys = refl
-drop_whole (x ∷ xs) ys = drop_whole xs ys
-
 -- a character of runs or a -, and a run
 pub pieces-begun : (c : ℕ) (run rest : List ℕ) → is_blank c ≡ false → (is_run c || c == 45) ≡ true → list_all is_run run ≡ true → starts_run rest ≡ false
     → pieces (c ∷ run ++ rest) ≡ (c ∷ run) ∷ pieces rest
 pieces-begun c run rest blank begins all ends =
     pieces-front c (run ++ rest) blank begins
     ∙ ap (λ (n : ℕ). (c ∷ take n (run ++ rest)) ∷ pieces (drop n (run ++ rest))) (run_length run rest all ends)
-    ∙ ap (λ (t : List ℕ). (c ∷ t) ∷ pieces (drop (length run) (run ++ rest))) (take_whole run rest)
-    ∙ ap (λ (t : List ℕ). (c ∷ run) ∷ pieces t) (drop_whole run rest)
+    ∙ ap (λ (t : List ℕ). (c ∷ t) ∷ pieces (drop (length run) (run ++ rest))) (take-append_seam run rest)
+    ∙ ap (λ (t : List ℕ). (c ∷ run) ∷ pieces t) (drop-append_seam run rest)
 
 -- a run
 pub pieces-of_run : (run rest : List ℕ) → list_all is_run run ≡ true → 0 < length run → starts_run rest ≡ false → pieces (run ++ rest) ≡ run ∷ pieces rest

@@ -18,13 +18,12 @@ use Rattle.ptk_words_instructions.specs.Instructions.{Effect, can_fetch, decode_
 use Rattle.ptk_words_model.specs.declared.Invocation.{Invocation}
 use Rattle.ptk_words_model.specs.declared.Runner.{Runner}
 use Rattle.ptk_words_model.specs.declared.Spent.TheVariants.{Step, Lost}
-use Rattle.ptk_words_model.specs.declared.StepKind.{StepKind}
 use Rattle.ptk_words_model.specs.declared.StepKind.TheVariants.{UnwindingStart, GateStep, CallStep, InstructionStep}
 use Rattle.ptk_words_model.specs.State.{Part}
 use Rattle.ptk_words_model.specs.Priority.{thread_at}
 use Rattle.ptk_words_model.specs.Schedule.{after_interval, after_turn_end, is_round_robin, is_running, with_used}
 use Rattle.ptk_words_model.specs.CallTable.{answer_to}
-use Rattle.ptk_words_model.specs.Decision.{a0_after, after_effect, after_step, after_turn, after_whole_step, invocation, is_to_unwind, runner_in, runner_of, spent_in_turn, step_cost, step_kind, word_fetched}
+use Rattle.ptk_words_model.specs.Decision.{a0_after, after_effect, after_step, Decision, turn, after_turn, after_whole_step, invocation, is_to_unwind, runner_in, runner_of, spent_in_turn, step_kind, word_fetched}
 use Rattle.ptk_words_sync_invariant.specs.Conditions.{IsNoWaiter}
 use Rattle.ptk_words_invariant.specs.Well.{IsWell}
 use Rattle.ptk_words_invariant.proofs.Calls.{well_answer_to}
@@ -126,15 +125,14 @@ finished_is limits tick t thread s runs word =
 
 -- ---- the turn
 
-turn_is : (limits : Limits) (tick room number : ℕ) (r : Runner) (s : Part) → runner_of s ≡ Some r → step_kind s r.number r.thread ≡ CallStep number
-    → after_turn limits tick room (runner_of s) s ≡ (if nat_lt room (cost_of number) then s else after_whole_step limits tick r (CallStep number) s)
-turn_is limits tick room number r s runs kind =
-    ap (λ (o : Option Runner). after_turn limits tick room o s) runs ∙ ap (λ (k : StepKind). if nat_lt room (step_cost k) then s else after_whole_step limits tick r k s) kind
+-- the turn of a thread whose next step is this call, by whether its cost is too much for the room
+abbrev made_or_lost : Limits → ℕ → ℕ → Runner → Part → Bool → Decision
+made_or_lost limits tick number r s lost =
+    if lost then record { spent = Lost; part = s } else record { spent = Step (cost_of number); part = after_whole_step limits tick r (CallStep number) s }
 
-spent_is : (room number : ℕ) (r : Runner) (s : Part) → runner_of s ≡ Some r → step_kind s r.number r.thread ≡ CallStep number
-    → spent_in_turn room (runner_of s) s ≡ (if nat_lt room (cost_of number) then Lost else Step (cost_of number))
-spent_is room number r s runs kind =
-    ap (λ (o : Option Runner). spent_in_turn room o s) runs ∙ ap (λ (k : StepKind). if nat_lt room (step_cost k) then Lost else Step (step_cost k)) kind
+turn_is : (limits : Limits) (tick room number : ℕ) (r : Runner) (s : Part) (lost : Bool) → runner_of s ≡ Some r → step_kind s r.number r.thread ≡ CallStep number → nat_lt room (cost_of number) ≡ lost
+    → turn limits tick room (runner_of s) s ≡ made_or_lost limits tick number r s lost
+turn_is limits tick room number r s lost runs kind is = ap (λ (o : Option Runner). turn limits tick room o s) runs ∙ rw (kind, is) refl
 
 over : (room cost paid : ℕ) → paid ≡ cost → room < paid → nat_lt room cost ≡ true
 over room cost paid e lt = lt-ltb room cost (omega (arith, e, lt))
@@ -150,15 +148,13 @@ call_lost tick room cost t seen pools looked next paid lt =
     let limits : Limits = limits_here pools in
     let number : ℕ = register seen.cpu A7 in
     let is = next_seen t seen s looked next in
-    sym (ap (λ (q : Part). record pools { here = q })
-    (turn_is limits tick room number (runner t seen) s is.0 is.1
-    ∙ ap (λ (b : Bool). if b then s else after_whole_step limits tick (runner t seen) (CallStep number) s) (over room (cost_of number) cost paid lt)))
+    sym (ap (λ (d : Decision). record pools { here = d.part }) (turn_is limits tick room number (runner t seen) s true is.0 is.1 (over room (cost_of number) cost paid lt)))
 
-pub lost_told : (room cost t : ℕ) (seen : Thread) (s : Part) → Some seen ≡ thread_at s.locks t → IsCallNext t s → cost ≡ cost_of (register seen.cpu A7) → room < cost → Lost ≡ spent_in_turn room (runner_of s) s
-lost_told room cost t seen s looked next paid lt =
+pub lost_told : (limits : Limits) (tick room cost t : ℕ) (seen : Thread) (s : Part) → Some seen ≡ thread_at s.locks t → IsCallNext t s → cost ≡ cost_of (register seen.cpu A7) → room < cost → Lost ≡ spent_in_turn limits tick room (runner_of s) s
+lost_told limits tick room cost t seen s looked next paid lt =
     let number : ℕ = register seen.cpu A7 in
     let is = next_seen t seen s looked next in
-    sym (spent_is room number (runner t seen) s is.0 is.1 ∙ ap (λ (b : Bool). if b then Lost else Step (cost_of number)) (over room (cost_of number) cost paid lt))
+    sym (ap (λ (d : Decision). d.spent) (turn_is limits tick room number (runner t seen) s true is.0 is.1 (over room (cost_of number) cost paid lt)))
 
 -- the cost fits, and the call is made
 pub call_made : (tick room cost pc t : ℕ) (seen : Thread) (known : Option Call) (i : Invocation) (old new : Held) → Some seen ≡ thread_at old.here.locks t → IsCallNext t old.here → cost ≡ cost_of (register seen.cpu A7) → cost ≤ room
@@ -178,14 +174,13 @@ call_made tick room cost pc t seen known i old new looked next paid le at named 
     ∙ ap (made (cost_of number) seen.cpu.pc (call_of number)) states
     ∙ ap (λ (q : Part). record old { here = q })
     (finished_is limits tick t seen s is.0 (call_fetched t number seen s is.1)
-    ∙ sym (turn_is limits tick room number (runner t seen) s is.0 is.1
-    ∙ ap (λ (b : Bool). if b then s else after_whole_step limits tick (runner t seen) (CallStep number) s) (fits room (cost_of number) cost paid le)))
+    ∙ sym (ap (λ (d : Decision). d.part) (turn_is limits tick room number (runner t seen) s false is.0 is.1 (fits room (cost_of number) cost paid le))))
 
-pub made_told : (room cost t : ℕ) (seen : Thread) (s : Part) → Some seen ≡ thread_at s.locks t → IsCallNext t s → cost ≡ cost_of (register seen.cpu A7) → cost ≤ room → Step cost ≡ spent_in_turn room (runner_of s) s
-made_told room cost t seen s looked next paid le =
+pub made_told : (limits : Limits) (tick room cost t : ℕ) (seen : Thread) (s : Part) → Some seen ≡ thread_at s.locks t → IsCallNext t s → cost ≡ cost_of (register seen.cpu A7) → cost ≤ room → Step cost ≡ spent_in_turn limits tick room (runner_of s) s
+made_told limits tick room cost t seen s looked next paid le =
     let number : ℕ = register seen.cpu A7 in
     let is = next_seen t seen s looked next in
-    ap Step paid ∙ sym (spent_is room number (runner t seen) s is.0 is.1 ∙ ap (λ (b : Bool). if b then Lost else Step (cost_of number)) (fits room (cost_of number) cost paid le))
+    ap Step paid ∙ sym (ap (λ (d : Decision). d.spent) (turn_is limits tick room number (runner t seen) s false is.0 is.1 (fits room (cost_of number) cost paid le)))
 
 -- ---- what holds of the partition
 

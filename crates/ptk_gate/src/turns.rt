@@ -35,7 +35,7 @@ impl Tables {
     pub fn take_call(&mut self, p: PartId, t: ThreadNo, tick: Tick, room: u32) -> Spent
         requires partition { p < length self.old.limits }
         requires call { IsCallNext t (part_at p self.old) }
-        ensures told { result ≡ spent_in_turn room (runner_of (part_at p self.old)) (part_at p self.old) }
+        ensures told { result ≡ spent_in_turn (limits_at p self.old) tick room (runner_of (part_at p self.old)) (part_at p self.old) }
         ensures moved { self.new ≡ put_part p (after_turn (limits_at p self.old) tick room (runner_of (part_at p self.old)) (part_at p self.old)) self.old }
         ensures short { cost_in result ≤ 16 }
     {
@@ -49,7 +49,7 @@ impl Tables {
 fn take_turn(pools: &mut Pools, t: ThreadNo, tick: Tick, room: u32) -> Spent
     requires well { IsWell (limits_here pools.old) pools.old.here }
     requires call { IsCallNext t pools.old.here }
-    ensures told { result ≡ spent_in_turn room (runner_of pools.old.here) pools.old.here }
+    ensures told { result ≡ spent_in_turn (limits_here pools.old) tick room (runner_of pools.old.here) pools.old.here }
     ensures moved { pools.new ≡ record pools.old { here = after_turn (limits_here pools.old) tick room (runner_of pools.old.here) pools.old.here } }
     ensures short { cost_in result ≤ 16 }
 {

@@ -9,7 +9,7 @@ ghost use Rattle.ptk_words_model.specs.Calls.{replied};
 ghost use Rattle.ptk_console.specs.ConsoleTable.{next_byte};
 
 use crate::pools::Pools;
-use ptk_threads::ThreadChange;
+use ptk_threads::{ThreadField, Values};
 use ptk_words::{ThreadNo, Tick};
 
 impl Pools {
@@ -21,7 +21,7 @@ impl Pools {
         ensures { self.new ≡ record self.old { here = with_locks (with_thread t (with_pc pc)) self.old.here } }
     {
         let p = self.hand;
-        self.roster.set_pc(p, t, pc);
+        self.roster.update(p, t, &ThreadField::Address(pc));
     }
 
     /// The thread goes on at this address; a free number stays free.
@@ -30,7 +30,7 @@ impl Pools {
         ensures { self.new ≡ record self.old { here = with_locks (with_thread t (with_pc pc)) self.old.here } }
     {
         let p = self.hand;
-        self.roster.change(p, t, ThreadChange::Address(pc));
+        self.roster.update_if_used(p, t, &ThreadField::Address(pc));
     }
 
     /// Puts the values into the thread's a0, a1 and so on; a free number stays free.
@@ -40,7 +40,7 @@ impl Pools {
         ensures { self.new ≡ record self.old { here = replied t values.now self.old.here } }
     {
         let p = self.hand;
-        self.roster.set_values(p, t, values);
+        self.roster.update_if_used(p, t, &Values { values });
     }
 
     /// Whether the next input byte comes at the tick or before.

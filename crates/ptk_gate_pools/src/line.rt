@@ -11,6 +11,7 @@ ghost use Rattle.ptk_gate_pools.specs.Moves.{with_last, out_of_line, out_of_line
 ghost use Rattle.ptk_words_sync_invariant.specs.Conditions.{IsNoWaiter};
 
 use crate::pools::Pools;
+use ptk_threads::Renewed;
 use ptk_words::ThreadNo;
 
 impl Pools {
@@ -47,7 +48,7 @@ impl Pools {
     {
         let p = self.hand;
         self.roster.push_tail(p, t);
-        self.roster.renew(p, t, values);
+        self.roster.update(p, t, &Renewed { values });
         self.running[p.index()] = None;
     }
 

@@ -17,7 +17,7 @@ ghost use Rattle.ptk_gate_pools.specs.Moves.{with_number, with_left};
 
 use crate::pools::Pools;
 use ptk_gate_waits::wake;
-use ptk_threads::ThreadChange;
+use ptk_threads::ThreadField;
 use ptk_words::{Cpu, Phase, Policy, Priority, Thread, ThreadNo, Wait};
 
 impl Pools {
@@ -49,7 +49,8 @@ impl Pools {
         ensures { self.new ≡ record self.old { here = with_cpu t cpu self.old.here } }
     {
         let p = self.hand;
-        self.roster.set_cpu(p, t, cpu);
+        self.roster
+            .update_if_used(p, t, &ThreadField::Registers(cpu));
     }
 
     /// The thread has this policy (XSH 2.8.4).
@@ -58,7 +59,8 @@ impl Pools {
         ensures { self.new ≡ record self.old { here = with_locks (with_thread t (with_policy policy)) self.old.here } }
     {
         let p = self.hand;
-        self.roster.change(p, t, ThreadChange::Policy(policy));
+        self.roster
+            .update_if_used(p, t, &ThreadField::Policy(policy));
     }
 
     /// The thread has this assigned priority (XSH 2.8.4).
@@ -77,7 +79,7 @@ impl Pools {
         ensures { self.new ≡ record self.old { here = with_used t used self.old.here } }
     {
         let p = self.hand;
-        self.roster.change(p, t, ThreadChange::Used(used));
+        self.roster.update_if_used(p, t, &ThreadField::Used(used));
     }
 
     /// The thread waits for this, or for nothing (XSH 2.8.4).
@@ -88,7 +90,7 @@ impl Pools {
         let p = self.hand;
         let had_mutex = is_for_mutex(&self.roster.threads().wait(p, t));
         let has_mutex = is_for_mutex(&wait);
-        self.roster.change(p, t, ThreadChange::Wait(wait));
+        self.roster.update_if_used(p, t, &ThreadField::Wait(wait));
         if !had_mutex && !has_mutex {
             return;
         }
@@ -120,7 +122,7 @@ impl Pools {
         ensures { self.new ≡ record self.old { here = with_locks (with_thread t (with_phase phase)) self.old.here } }
     {
         let p = self.hand;
-        self.roster.change(p, t, ThreadChange::Phase(phase));
+        self.roster.update_if_used(p, t, &ThreadField::Phase(phase));
     }
 
     /// The thread has this result (pthread_exit).
@@ -129,7 +131,8 @@ impl Pools {
         ensures { self.new ≡ record self.old { here = with_locks (with_thread t (with_result value)) self.old.here } }
     {
         let p = self.hand;
-        self.roster.change(p, t, ThreadChange::Result(value));
+        self.roster
+            .update_if_used(p, t, &ThreadField::Result(value));
     }
 
     /// The thread's end is waited for by this one (pthread_join).
@@ -138,7 +141,8 @@ impl Pools {
         ensures { self.new ≡ record self.old { here = with_locks (with_thread t (with_joiner (Some joiner))) self.old.here } }
     {
         let p = self.hand;
-        self.roster.change(p, t, ThreadChange::Joiner(Some(joiner)));
+        self.roster
+            .update_if_used(p, t, &ThreadField::Joiner(Some(joiner)));
     }
 
     /// Nobody waits for the end of the thread any more (pthread_join).
@@ -147,7 +151,7 @@ impl Pools {
         ensures { self.new ≡ record self.old { here = with_locks (without_joiner u) self.old.here } }
     {
         let p = self.hand;
-        self.roster.change(p, u, ThreadChange::Joiner(None));
+        self.roster.update_if_used(p, u, &ThreadField::Joiner(None));
     }
 
     /// The thread is detached: its number is free where it has ended, and then it is not in the line (pthread_detach).

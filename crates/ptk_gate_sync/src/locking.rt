@@ -11,7 +11,6 @@ ghost use Rattle.ptk_words_invariant.specs.Rests.{lock_by, trylock_named, timedl
 
 use crate::naming::named_mutex;
 use ptk_gate_moves::{Pools, asked_deadline, is_pointer, refuse, reply};
-use ptk_mutex_priorities::reply_of;
 use ptk_words::{Errno, MutexNo, Tick};
 use ptk_words_model::{Invocation, Reply};
 
@@ -43,7 +42,7 @@ fn lock_by(pools: &mut Pools, i: Invocation, m: MutexNo) -> Reply
     ensures moved { pools.new ≡ record pools.old { here = (lock_by None m i pools.old.here).part } }
 {
     let made = pools.lock(i.caller, m, None);
-    tell(pools, i, reply_of(made, Some(0)))
+    tell(pools, i, made.reply_after(Some(0)))
 }
 
 /// pthread_mutex_trylock: the caller owns the mutex that the word at the pointer of a0 names, if it is free, or counts
@@ -73,7 +72,7 @@ fn trylock_named(pools: &mut Pools, i: Invocation, m: MutexNo) -> Reply
     ensures moved { pools.new ≡ record pools.old { here = (trylock_named m i pools.old.here).part } }
 {
     let made = pools.trylock(i.caller, m);
-    tell(pools, i, reply_of(made, Some(0)))
+    tell(pools, i, made.reply_after(Some(0)))
 }
 
 /// pthread_mutex_timedlock: as `mutex_lock`, but a wait has the deadline of the timespec at the pointer of a1, rounded

@@ -14,7 +14,6 @@ use crate::condition_naming::condition_of_word;
 use crate::locking::tell;
 use crate::naming::mutex_of_word;
 use ptk_gate_moves::{Pools, asked_deadline, cancel, is_pointer, is_used_cancelled, refuse};
-use ptk_mutex_priorities::reply_of;
 use ptk_words::{ConditionNo, Errno, MutexNo, Tick};
 use ptk_words_model::{Invocation, Reply};
 
@@ -203,5 +202,5 @@ fn wait_late(pools: &mut Pools, i: Invocation, m: MutexNo) -> Reply
     pools.unlock(m);
     let reply = Some(Errno::ETIMEDOUT.number());
     let made = pools.lock_again(i.caller, m, reply);
-    tell(pools, i, reply_of(made, reply))
+    tell(pools, i, made.reply_after(reply))
 }

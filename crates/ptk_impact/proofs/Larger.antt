@@ -8,8 +8,8 @@ use Rattle.ptk_words.specs.Names.{Byte}
 use Rattle.ptk_words.specs.declared.sections.Arrival.{Arrival}
 use Rattle.ptk_words.specs.declared.sections.Limits.{Limits}
 use Rattle.ptk_words_windows.specs.Windows.{OwnTicks}
-use Rattle.ptk_words_model.specs.State.{Part, State}
-use Rattle.ptk_words_model.specs.Decision.{spent_by_decision}
+use Rattle.ptk_words_model.specs.State.{State}
+use Rattle.ptk_words_model.specs.Decision.{Decision}
 use Rattle.ptk_words_model.specs.Run.{accounted, decided, is_at, after_tick_until, after_tick, alone}
 use Rattle.ptk_impact.specs.Larger.{LargerOutputIsSameRun, with_output_limit, output_of}
 use Rattle.ptk_impact.proofs.Outputs.{IsMore, is_kept}
@@ -62,7 +62,7 @@ room_alike small limit before after le room = inl (lt-leb small (length before) 
 decided_alike : (ticks : OwnTicks) (limits : Limits) (small tick room : ℕ) (s : State) → IsAlike small limits.output (output_of s) (output_of (decided ticks limits tick room s))
     → decided ticks (with_output_limit small limits) tick room s ≡ decided ticks limits tick room s
 decided_alike ticks limits small tick room s same =
-    ap (λ (after : Part). let state : State = record { part = after; account = accounted ticks limits tick room after (spent_by_decision limits tick room s.part) s.account } in state)
+    ap (λ (d : Decision). let state : State = record { part = d.part; account = accounted ticks limits tick room d.part d.spent s.account } in state)
     (decision_same small limits.trace limits tick room s.part same)
 
 tick_by : (now : Bool) (ticks : OwnTicks) (limits : Limits) (small tick room : ℕ) (s : State)

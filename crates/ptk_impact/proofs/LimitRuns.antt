@@ -8,7 +8,7 @@ use Rattle.ptk_words_windows.specs.Windows.{OwnTicks}
 use Rattle.ptk_words_model.specs.declared.Spent.{Spent}
 use Rattle.ptk_words_model.specs.declared.Spent.TheVariants.{Step, Idle, Lost}
 use Rattle.ptk_words_model.specs.State.{Part, Account, State}
-use Rattle.ptk_words_model.specs.Decision.{after_decision, spent_by_decision}
+use Rattle.ptk_words_model.specs.Decision.{Decision, decision}
 use Rattle.ptk_words_model.specs.Run.{start, last_of, accounted, decided, is_at, after_tick_until, alone}
 use Rattle.ptk_impact.specs.Deeper.{with_trace, but_trace}
 use Rattle.ptk_impact.proofs.Tails.{last-none, last_both}
@@ -43,12 +43,12 @@ accounted_same ticks limits kept tick room part (Step cost) a b same =
 decided_on : (ticks : OwnTicks) (limits : Limits) (kept tick room : ℕ) (part : Part) (a b : Account) → IsSameAccount limits kept a b
     → IsSameRun limits kept (decided ticks (with_trace kept limits) tick room (record { part = part; account = a })) (decided ticks limits tick room (record { part = part; account = b }))
 decided_on ticks limits kept tick room part a b same =
-    let after : Part = after_decision limits tick room part in
-    let spent : Spent = spent_by_decision limits tick room part in
+    let d : Decision = decision limits tick room part in
+    let one : decision (with_trace kept limits) tick room part ≡ decision limits tick room part = decision_same limits.output kept limits tick room part (inl refl) in
     record {
-      part = decision_same limits.output kept limits tick room part (inl refl);
-      account = subst (λ (p : Part). IsSameAccount limits kept (accounted ticks (with_trace kept limits) tick room p spent a) (accounted ticks limits tick room after spent b))
-          (sym (decision_same limits.output kept limits tick room part (inl refl))) (accounted_same ticks limits kept tick room after spent a b same);
+      part = ap (λ (came : Decision). came.part) one;
+      account = subst (λ (came : Decision). IsSameAccount limits kept (accounted ticks (with_trace kept limits) tick room came.part came.spent a) (accounted ticks limits tick room d.part d.spent b))
+          (sym one) (accounted_same ticks limits kept tick room d.part d.spent a b same);
     }
 
 decided_same : (ticks : OwnTicks) (limits : Limits) (kept tick room : ℕ) (s u : State) → IsSameRun limits kept s u

@@ -89,10 +89,6 @@ IsMore before after = (more : List ℕ) × (after ≡ before ++ more)
 pub is_kept : (before after : List ℕ) → after ≡ before → IsMore before after
 is_kept before after same = ([], same ∙ sym (append-nil before))
 
-pub either_more : (b : Bool) (out : List ℕ) (x y : Part) → IsMore out x.console.output → IsMore out y.console.output → IsMore out (cond b x y).console.output
-either_more true out x y one other = one
-either_more false out x y one other = other
-
 either_written : (b : Bool) (out : List ℕ) (x y : Answer) → IsMore out x.part.console.output → IsMore out y.part.console.output → IsMore out (cond b x y).part.console.output
 either_written true out x y one other = one
 either_written false out x y one other = other

@@ -1,6 +1,7 @@
 -- The output is never shortened: a decision leaves it, or writes a byte after it.
-use Rattle.std.proofs.Common.{◌≡◌, ℕ, ◌-◌, Bool, true, false, List, [], ◌∷◌, Option, Some, None, refl, sym, subst, ◌∙◌, cond, ltb}
-use Rattle.std.specs.Prelude.{fold}
+use Rattle.std.proofs.Common.{◌≡◌, ℕ, ◌-◌, Bool, true, false, List, [], ◌∷◌, Option, Some, None, refl, sym, subst, ◌∙◌, cond}
+use Rattle.std.specs.Prelude.{fold, nat_lt}
+use Rattle.std.proofs.lemmas.Bool.{cond_both}
 use Rattle.ptk_words.specs.declared.TheConstants.{A7}
 use Rattle.ptk_words.specs.declared.threads.Phase.{Phase}
 use Rattle.ptk_words.specs.declared.threads.Phase.TheVariants.{Normal, Unwinding, Ended}
@@ -25,9 +26,9 @@ use Rattle.ptk_words_model.specs.Schedule.{after_choice_between, after_interval,
 use Rattle.ptk_words_model.specs.Withdrawal.{Expiry, after_timeout, after_expiries, due, in_order}
 use Rattle.ptk_words_model.specs.Unwinding.{after_end, after_destructor_or_end, after_unwinding_move, after_gate_step, cleanups_of}
 use Rattle.ptk_words_model.specs.Console.{arriving, without_arriving}
-use Rattle.ptk_words_model.specs.Decision.{after_arrival_for, after_arrival, after_arrivals, first_waiter, runner_of, with_cpu, invocation, after_effect, after_step, entry_of, step_cost, step_kind, after_whole_step, after_turn, ready_at, after_decision}
+use Rattle.ptk_words_model.specs.Decision.{after_arrival_for, after_arrival, after_arrivals, first_waiter, runner_of, with_cpu, invocation, after_effect, after_step, entry_of, step_cost, step_kind, after_whole_step, Decision, after_turn, ready_at, after_decision}
 use Rattle.ptk_words_model.specs.Run.{decided, is_at, after_tick_until}
-use Rattle.ptk_impact.proofs.Outputs.{IsMore, is_kept, either_part, either_more, answer_written}
+use Rattle.ptk_impact.proofs.Outputs.{IsMore, is_kept, either_part, answer_written}
 
 -- ---- before the turn
 
@@ -121,7 +122,7 @@ turn_written : (limits : Limits) (tick room : ℕ) (o : Option Runner) (s : Part
 turn_written limits tick room None s = is_kept s.console.output s.console.output refl
 turn_written limits tick room (Some r) s =
     let kind : StepKind = step_kind s r.number r.thread in
-    either_more (ltb room (step_cost kind)) s.console.output s (after_whole_step limits tick r kind s) (is_kept s.console.output s.console.output refl) (whole_written limits tick r kind s)
+    cond_both (nat_lt room (step_cost kind)) _ _ (λ (d : Decision). IsMore s.console.output d.part.console.output) (λ e. is_kept s.console.output s.console.output refl) (λ e. whole_written limits tick r kind s)
 
 -- ---- the decision and the ticks
 

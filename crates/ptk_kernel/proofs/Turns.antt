@@ -15,7 +15,7 @@ use Rattle.ptk_words_model.specs.declared.StepKind.TheVariants.{UnwindingStart, 
 use Rattle.ptk_words_model.specs.State.{Part}
 use Rattle.ptk_words_model.specs.Priority.{thread_at}
 use Rattle.ptk_words_model.specs.Schedule.{after_interval}
-use Rattle.ptk_words_model.specs.Decision.{after_effect, after_step, after_turn, after_whole_step, is_to_unwind, runner_of, spent_in_turn, step_cost, step_kind, traced_word, with_cpu, word_fetched}
+use Rattle.ptk_words_model.specs.Decision.{after_effect, after_step, Decision, turn, after_turn, after_whole_step, is_to_unwind, runner_of, spent_in_turn, step_cost, step_kind, traced_word, with_cpu, word_fetched}
 use Rattle.ptk_words_invariant.proofs.Decisions.{runner_runs}
 use Rattle.ptk_gate.specs.Kept.{Kept, part_at, put_part, limits_at}
 use Rattle.ptk_gate.proofs.Ranks.{put_same}
@@ -70,7 +70,7 @@ within_after p next old new after e lt moved =
 
 -- ---- a turn
 
-idle_by : (limits : Limits) (tick room : ℕ) (s : Part) (o : Option Runner) → o ≡ None → after_turn limits tick room o s ≡ s
+idle_by : (limits : Limits) (tick room : ℕ) (s : Part) (o : Option Runner) → o ≡ None → record { spent = Idle; part = s } ≡ turn limits tick room o s
 idle_by limits tick room s o e = rw e refl
 
 -- no thread runs, and nothing changes
@@ -78,10 +78,10 @@ pub idle_moved : (p tick room : ℕ) (kept : Kept) (o : Option NextStep) → o �
     → kept ≡ put_part p (after_turn (limits_at p kept) tick room (runner_of (part_at p kept)) (part_at p kept)) kept
 idle_moved p tick room kept o told e =
     let s : Part = part_at p kept in
-    put_same p kept ∙ ap (λ (q : Part). put_part p q kept) (sym (idle_by (limits_at p kept) tick room s (runner_of s) (no_runner s (runner_of s) (sym told ∙ e))))
+    put_same p kept ∙ ap (λ (d : Decision). put_part p d.part kept) (idle_by (limits_at p kept) tick room s (runner_of s) (no_runner s (runner_of s) (sym told ∙ e)))
 
-pub idle_told : (room : ℕ) (s : Part) (o : Option NextStep) → o ≡ next_step_in s → o ≡ None → Idle ≡ spent_in_turn room (runner_of s) s
-idle_told room s o told e = sym (ap (λ (r : Option Runner). spent_in_turn room r s) (no_runner s (runner_of s) (sym told ∙ e)))
+pub idle_told : (limits : Limits) (tick room : ℕ) (s : Part) (o : Option NextStep) → o ≡ next_step_in s → o ≡ None → Idle ≡ spent_in_turn limits tick room (runner_of s) s
+idle_told limits tick room s o told e = ap (λ (d : Decision). d.spent) (idle_by limits tick room s (runner_of s) (no_runner s (runner_of s) (sym told ∙ e)))
 
 not_below : (a b : ℕ) → b ≤ a → nat_lt a b ≡ false
 not_below a b h = search rules
@@ -91,47 +91,41 @@ tested : (room cost : ℕ) (b : Bool) (s : Part) (next : NextStep) (r : Runner) 
 tested room cost b s next r is paid e = ap (λ (n : NextStep). nat_lt room (step_cost n.kind)) (sym is) ∙ ap (nat_lt room) (sym paid) ∙ e
 
 lost_by : (limits : Limits) (tick room cost : ℕ) (s : Part) (next : NextStep) (o : Option Runner) → option_map (next_step_of s) o ≡ Some next → cost ≡ step_cost next.kind → room < cost
-    → (after_turn limits tick room o s ≡ s) × (spent_in_turn room o s ≡ Lost)
+    → record { spent = Lost; part = s } ≡ turn limits tick room o s
 lost_by limits tick room cost s next None e paid lt = absurd (let no : ⊥ = cc in no)
-lost_by limits tick room cost s next (Some r) e paid lt =
-    let over = tested room cost true s next r (step_is s next (Some r) r e refl) paid (lt-ltb room cost lt) in
-    (rw over refl, rw over refl)
+lost_by limits tick room cost s next (Some r) e paid lt = rw (tested room cost true s next r (step_is s next (Some r) r e refl) paid (lt-ltb room cost lt)) refl
 
 -- the cost does not fit, and nothing changes
 pub lost_moved : (p tick room cost : ℕ) (kept : Kept) (next : NextStep) → next_step_in (part_at p kept) ≡ Some next → cost ≡ step_cost next.kind → room < cost
     → kept ≡ put_part p (after_turn (limits_at p kept) tick room (runner_of (part_at p kept)) (part_at p kept)) kept
 lost_moved p tick room cost kept next e paid lt =
     let s : Part = part_at p kept in
-    let lost = lost_by (limits_at p kept) tick room cost s next (runner_of s) e paid lt in
-    put_same p kept ∙ ap (λ (q : Part). put_part p q kept) (sym lost.0)
+    put_same p kept ∙ ap (λ (d : Decision). put_part p d.part kept) (lost_by (limits_at p kept) tick room cost s next (runner_of s) e paid lt)
 
-pub lost_told : (room cost : ℕ) (s : Part) (next : NextStep) → next_step_in s ≡ Some next → cost ≡ step_cost next.kind → room < cost → Lost ≡ spent_in_turn room (runner_of s) s
-lost_told room cost s next e paid lt =
-    let limits : Limits = record { memory = 0; threads = 0; stack = 0; mutexes = 0; conditions = 0; keys = 0; interval = 0; ring = 0; output = 0; trace = 0 } in
-    sym (lost_by limits 0 room cost s next (runner_of s) e paid lt).1
+pub lost_told : (limits : Limits) (tick room cost : ℕ) (s : Part) (next : NextStep) → next_step_in s ≡ Some next → cost ≡ step_cost next.kind → room < cost → Lost ≡ spent_in_turn limits tick room (runner_of s) s
+lost_told limits tick room cost s next e paid lt = ap (λ (d : Decision). d.spent) (lost_by limits tick room cost s next (runner_of s) e paid lt)
 
-made_by : (p tick room cost : ℕ) (old new : Kept) (next : NextStep) (o : Option Runner) → option_map (next_step_of (part_at p old)) o ≡ Some next → cost ≡ step_cost next.kind → cost ≤ room
-    → ((r : Runner) → o ≡ Some r → new ≡ put_part p (after_whole_step (limits_at p old) tick r next.kind (part_at p old)) old)
-    → (new ≡ put_part p (after_turn (limits_at p old) tick room o (part_at p old)) old) × (Step cost ≡ spent_in_turn room o (part_at p old))
-made_by p tick room cost old new next None e paid le moved = absurd (let no : ⊥ = cc in no)
-made_by p tick room cost old new next (Some r) e paid le moved =
-    let s : Part = part_at p old in
+made_by : (limits : Limits) (tick room cost : ℕ) (s : Part) (next : NextStep) (o : Option Runner) → option_map (next_step_of s) o ≡ Some next → cost ≡ step_cost next.kind → cost ≤ room
+    → (r : Runner) × (o ≡ Some r) × (record { spent = Step cost; part = after_whole_step limits tick r next.kind s } ≡ turn limits tick room o s)
+made_by limits tick room cost s next None e paid le = absurd (let no : ⊥ = cc in no)
+made_by limits tick room cost s next (Some r) e paid le =
     let is : next ≡ next_step_of s r = step_is s next (Some r) r e refl in
-    let fits = tested room cost false s next r is paid (not_below room cost le) in (
-      moved r refl ∙ ap (λ (n : NextStep). put_part p (after_whole_step (limits_at p old) tick r n.kind s) old) is ∙ rw fits refl,
-      ap Step (paid ∙ ap (λ (n : NextStep). step_cost n.kind) is) ∙ rw fits refl,
+    let made : ℕ → StepKind → Decision = λ c kind. record { spent = Step c; part = after_whole_step limits tick r kind s } in (
+      r,
+      refl,
+      ap (λ (c : ℕ). made c next.kind) paid ∙ ap (λ (n : NextStep). made (step_cost n.kind) n.kind) is ∙ rw (tested room cost false s next r is paid (not_below room cost le)) refl,
     )
 
 -- the cost fits, and the step is made
 pub step_moved : (p tick room cost : ℕ) (old new : Kept) (next : NextStep) → next_step_in (part_at p old) ≡ Some next → cost ≡ step_cost next.kind → cost ≤ room
     → ((r : Runner) → runner_of (part_at p old) ≡ Some r → new ≡ put_part p (after_whole_step (limits_at p old) tick r next.kind (part_at p old)) old)
     → new ≡ put_part p (after_turn (limits_at p old) tick room (runner_of (part_at p old)) (part_at p old)) old
-step_moved p tick room cost old new next e paid le moved = (made_by p tick room cost old new next (runner_of (part_at p old)) e paid le moved).0
+step_moved p tick room cost old new next e paid le moved =
+    let made = made_by (limits_at p old) tick room cost (part_at p old) next (runner_of (part_at p old)) e paid le in
+    moved made.0 made.1 ∙ ap (λ (d : Decision). put_part p d.part old) made.2
 
-pub step_told : (p tick room cost : ℕ) (old new : Kept) (next : NextStep) → next_step_in (part_at p old) ≡ Some next → cost ≡ step_cost next.kind → cost ≤ room
-    → ((r : Runner) → runner_of (part_at p old) ≡ Some r → new ≡ put_part p (after_whole_step (limits_at p old) tick r next.kind (part_at p old)) old)
-    → Step cost ≡ spent_in_turn room (runner_of (part_at p old)) (part_at p old)
-step_told p tick room cost old new next e paid le moved = (made_by p tick room cost old new next (runner_of (part_at p old)) e paid le moved).1
+pub step_told : (limits : Limits) (tick room cost : ℕ) (s : Part) (next : NextStep) → next_step_in s ≡ Some next → cost ≡ step_cost next.kind → cost ≤ room → Step cost ≡ spent_in_turn limits tick room (runner_of s) s
+step_told limits tick room cost s next e paid le = ap (λ (d : Decision). d.spent) (made_by limits tick room cost s next (runner_of s) e paid le).2
 
 -- ---- an ECALL
 

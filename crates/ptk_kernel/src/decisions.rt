@@ -50,7 +50,7 @@ pub fn prepare(tables: &mut Tables, p: PartId, tick: Tick)
 #[tactic(auto, using(crate::proofs::Turns::turns))]
 pub fn take_turn(tables: &mut Tables, p: PartId, tick: Tick, room: u32) -> Spent
     requires partition { p < length tables.old.limits }
-    ensures told { result ≡ spent_in_turn room (runner_of (part_at p tables.old)) (part_at p tables.old) }
+    ensures told { result ≡ spent_in_turn (limits_at p tables.old) tick room (runner_of (part_at p tables.old)) (part_at p tables.old) }
     ensures moved { tables.new ≡ put_part p (after_turn (limits_at p tables.old) tick room (runner_of (part_at p tables.old)) (part_at p tables.old)) tables.old }
     ensures short { cost_in result ≤ 16 }
 {
@@ -68,7 +68,7 @@ pub fn take_turn(tables: &mut Tables, p: PartId, tick: Tick, room: u32) -> Spent
 pub fn take_call(tables: &mut Tables, p: PartId, t: ThreadNo, tick: Tick, room: u32) -> Spent
     requires partition { p < length tables.old.limits }
     requires call { IsCallNext t (part_at p tables.old) }
-    ensures told { result ≡ spent_in_turn room (runner_of (part_at p tables.old)) (part_at p tables.old) }
+    ensures told { result ≡ spent_in_turn (limits_at p tables.old) tick room (runner_of (part_at p tables.old)) (part_at p tables.old) }
     ensures moved { tables.new ≡ put_part p (after_turn (limits_at p tables.old) tick room (runner_of (part_at p tables.old)) (part_at p tables.old)) tables.old }
     ensures short { cost_in result ≤ 16 }
 {
@@ -80,7 +80,7 @@ pub fn take_call(tables: &mut Tables, p: PartId, t: ThreadNo, tick: Tick, room: 
 fn begin_step(tables: &mut Tables, p: PartId, tick: Tick, room: u32, next: &NextStep) -> Spent
     requires partition { p < length tables.old.limits }
     requires next { next_step_in (part_at p tables.old) ≡ Some next.now }
-    ensures told { result ≡ spent_in_turn room (runner_of (part_at p tables.old)) (part_at p tables.old) }
+    ensures told { result ≡ spent_in_turn (limits_at p tables.old) tick room (runner_of (part_at p tables.old)) (part_at p tables.old) }
     ensures moved { tables.new ≡ put_part p (after_turn (limits_at p tables.old) tick room (runner_of (part_at p tables.old)) (part_at p tables.old)) tables.old }
     ensures short { cost_in result ≤ 16 }
 {

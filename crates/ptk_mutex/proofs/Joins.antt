@@ -10,6 +10,7 @@ use Rattle.ptk_words_sync_invariant.proofs.ChainLaws.{false_true, none_some, rea
 use Rattle.ptk_mutex_priorities.proofs.Levels.{length-numbered, numbered_at, numbered_of, numbered_all}
 use Rattle.ptk_mutex_priorities.proofs.Tops.{IsTop, top-unique, greatest_leading-top, led_on, rising}
 use Rattle.ptk_mutex_priorities.proofs.Risen.{IsPlace, IsWithin}
+use Rattle.ptk_mutex_priorities.proofs.Sweeps.{place_number, number_place}
 use Rattle.ptk_mutex.proofs.Along.{raised_along, raised_along_at, length-raised_along}
 use Rattle.ptk_mutex.proofs.Rises.{risen-is}
 
@@ -152,20 +153,14 @@ priority_at size next rank i lt = numbered_at size (greatest_leading size next r
 pub stored_as : (size : ℕ) (next : ℕ → Option ℕ) (rank : ℕ → ℕ) (t : ℕ) → IsNumber size t → stored_of (priorities size next rank) t ≡ greatest_leading size next rank t
 stored_as size next rank t n = numbered_of size (greatest_leading size next rank) t n
 
-place_number : (size : ℕ) (stored : List ℕ) (t : ℕ) → length stored ≡ size → IsPlace stored t → IsNumber size t
-place_number size stored t long place = (place.0, omega (arith, place.1, long))
-
-number_place : (size : ℕ) (stored : List ℕ) (t : ℕ) → length stored ≡ size → IsNumber size t → IsPlace stored t
-number_place size stored t long n = (n.0, omega (arith, n.1, long))
-
 pub within_priorities : (size : ℕ) (next after : ℕ → Option ℕ) (rank : ℕ → ℕ) → IsBounded size after → IsWithin after (priorities size next rank)
-within_priorities size next after rank bounded = record { each = λ w v e. number_place size (priorities size next rank) w (length-priorities size next rank) (bounded.each w v e) }
+within_priorities size next after rank bounded = record { each = λ w v e. number_place size w (priorities size next rank) (length-priorities size next rank) (bounded.each w v e) }
 
 -- along a step of the chain the priorities do not fall
 pub step_up : (size : ℕ) (next : ℕ → Option ℕ) (rank : ℕ → ℕ) (w v h : ℕ) → IsBounded size next → next w ≡ Some v → IsPlace (priorities size next rank) v → h ≤ stored_of (priorities size next rank) w → h ≤ stored_of (priorities size next rank) v
 step_up size next rank w v h bounded f place le =
     let here : stored_of (priorities size next rank) w ≡ greatest_leading size next rank w = stored_as size next rank w (bounded.each w v f) in
-    let there : stored_of (priorities size next rank) v ≡ greatest_leading size next rank v = stored_as size next rank v (place_number size (priorities size next rank) v (length-priorities size next rank) place) in
+    let there : stored_of (priorities size next rank) v ≡ greatest_leading size next rank v = stored_as size next rank v (place_number size v (priorities size next rank) (length-priorities size next rank) place) in
     let up : greatest_leading size next rank w ≤ greatest_leading size next rank v =
     rising size next rank w v _ _ (greatest_leading-top size next rank w bounded) (greatest_leading-top size next rank v bounded) f in
     omega (arith, here, there, up, le)

@@ -1,7 +1,7 @@
 -- Whom a hand over chooses, and that every move leaves waiters that wait and counts within their limit.
 use Rattle.std.proofs.Common.{◌≡◌, ◌≢◌, ℕ, zero, suc, ◌+◌, ◌<◌, ◌≤◌, List, [], ◌∷◌, ◌++◌, length, map, get_or, max, refl, sym, ◌∙◌, ap, subst, arith, true, false, ◌⊎◌, inl, inr}
 use Rattle.std.specs.Prelude.{Option, Some, None, IsSome, option_map, fold, find, ◌==◌}
-use Rattle.std.proofs.lemmas.Bool.{cases_eq, or_right}
+use Rattle.std.proofs.lemmas.Bool.{cases_eq}
 use Rattle.std.proofs.lemmas.Bool.Decides.{nat_tests}
 use Rattle.std.proofs.lemmas.List.{get_or-map}
 use Rattle.std.proofs.lemmas.Option.{same_Some}
@@ -18,6 +18,7 @@ use Rattle.ptk_words_model.specs.State.{Mutex, Locks}
 use Rattle.ptk_words_model.specs.Priority.{awaited, thread_at, effective_of, effective_priority, effective_priorities}
 use Rattle.ptk_words_model.specs.Schedule.{at_tail_with}
 use Rattle.ptk_threads_slots.specs.Changes.{few_of}
+use Rattle.ptk_threads_slots.proofs.Along.{in_later}
 use Rattle.ptk_threads_slots.specs.declared.thread_list.Members.TheVariants.{NoMember, OnlyMember}
 use Rattle.ptk_threads.specs.Table.{stored_of}
 use Rattle.ptk_mutex.specs.Tables.{IsWaiter, AreLocked, MayGet}
@@ -60,14 +61,11 @@ pub first_same : (f g : ℕ → ℕ) (ks : List ℕ) → map f ks ≡ map g ks �
 first_same f g ks same =
     ap (λ most. find (λ k. f k == most) ks) (greatest_same f g 0 ks same) ∙ find_same f g (greatest g ks) ks same
 
-in_tail : (k j : ℕ) (ks : List ℕ) → is_in j ks ≡ true → is_in j (k ∷ ks) ≡ true
-in_tail k j ks e = or_right (j == k) (is_in j ks) e
-
 pub ranks_same : (f g : ℕ → ℕ) (ks : List ℕ) → ((k : ℕ) → is_in k ks ≡ true → f k ≡ g k) → map f ks ≡ map g ks
 ranks_same f g [] h = refl
 ranks_same f g (k ∷ ks) h =
     let here : f k ≡ g k = h k (in_here k ks) in
-    let rest : map f ks ≡ map g ks = ranks_same f g ks (λ j e. h j (in_tail k j ks e)) in
+    let rest : map f ks ≡ map g ks = ranks_same f g ks (λ j e. h j (in_later j k ks e)) in
     ap (λ x. x ∷ map f ks) here ∙ ap (λ xs. g k ∷ xs) rest
 
 -- of none none is first

@@ -46,7 +46,7 @@ mod waking;
 mod walk;
 
 pub use mutexes::Mutexes;
-pub use ptk_mutex_priorities::{MutexSlot, MutexState, effective, reply_of, thread_slot};
+pub use ptk_mutex_priorities::{MutexSlot, MutexState, effective, thread_slot};
 pub use ptk_syncs::Roster;
 pub use starting::build;
 pub use waking::{relock_move, wake};

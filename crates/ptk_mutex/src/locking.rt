@@ -26,7 +26,7 @@ use crate::unlocking::amend;
 use crate::waking::relock_move;
 use ptk_mutex_priorities::{Change, MutexSlot, assigned, slot_in};
 use ptk_syncs::Roster;
-use ptk_threads::ThreadChange;
+use ptk_threads::ThreadField;
 use ptk_words::{Errno, MutexNo, PartId, Priority, Soundness, ThreadNo, Tick, Wait};
 use ptk_words_model::LockMove;
 
@@ -207,7 +207,7 @@ fn reassign(roster: &mut Roster, p: PartId, t: ThreadNo, priority: Priority) -> 
     ensures few { result ≤ THREAD_LIMIT + 1 }
 {
     let before = assigned(roster.threads().part(p), t);
-    roster.change(p, t, ThreadChange::AssignedPriority(priority));
+    roster.update_if_used(p, t, &ThreadField::AssignedPriority(priority));
     if priority.level() < before {
         refresh_priorities(roster, p);
         return 0;

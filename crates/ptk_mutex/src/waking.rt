@@ -22,8 +22,9 @@ ghost use Rattle.ptk_mutex.specs.Rises.{MayTake};
 use crate::mutexes::{Mutexes, refresh_after};
 use crate::rise::rise_behind;
 use crate::rising::make;
-use ptk_mutex_priorities::{inheritor_of, kept_reply, reply_of, slot_in};
+use ptk_mutex_priorities::{inheritor_of, kept_reply, slot_in};
 use ptk_syncs::Roster;
+use ptk_threads::Woken;
 use ptk_words::{ConditionNo, MutexNo, PartId, ThreadNo, Wait};
 use ptk_words_model::LockMove;
 
@@ -136,7 +137,7 @@ fn make_relock(
     if made.is_waiting() {
         return visited;
     }
-    wake_with(roster, p, t, reply_of(made, reply));
+    wake_with(roster, p, t, made.reply_after(reply));
     visited
 }
 
@@ -153,7 +154,7 @@ pub(crate) fn leave(roster: &mut Roster, p: PartId, t: ThreadNo, m: MutexNo, mad
     ensures conditions { roster.new.conditions ≡ roster.old.conditions }
 {
     let kept = kept_reply(roster.threads().wait(p, t));
-    take_out(roster, p, t, m, reply_of(made, kept));
+    take_out(roster, p, t, m, made.reply_after(kept));
 }
 
 /// A waiter leaves and is woken; the stored priorities stay.
@@ -212,5 +213,5 @@ pub fn wake(roster: &mut Roster, p: PartId, t: ThreadNo, values: &[u32])
     ensures { roster.new ≡ record roster.old { table = with_changed p t (woken_with values.now) roster.old.table; lines = slice_set roster.old.lines p (part_of roster.old.lines p ++ t ∷ []) } }
 {
     roster.push_tail(p, t);
-    roster.rouse(p, t, values);
+    roster.update(p, t, &Woken { values });
 }

@@ -22,10 +22,10 @@ pub record IsSwept (n : ℕ) (next : ℕ → Option ℕ) (rank : ℕ → ℕ) (k
   pub most : (t : ℕ) → stored_of stored t ≤ greatest_leading n next rank t
   pub closed : IsClosed next k stored
 
-place_number : (n t : ℕ) (stored : List ℕ) → length stored ≡ n → IsPlace stored t → IsNumber n t
+pub place_number : (n t : ℕ) (stored : List ℕ) → length stored ≡ n → IsPlace stored t → IsNumber n t
 place_number n t stored long place = (place.0, omega (arith, place.1, long))
 
-number_place : (n t : ℕ) (stored : List ℕ) → length stored ≡ n → IsNumber n t → IsPlace stored t
+pub number_place : (n t : ℕ) (stored : List ℕ) → length stored ≡ n → IsNumber n t → IsPlace stored t
 number_place n t stored long at = (at.0, omega (arith, at.1, long))
 
 own_top : (n : ℕ) (next : ℕ → Option ℕ) (rank : ℕ → ℕ) (t : ℕ) → IsBounded n next → IsNumber n t → rank t ≤ greatest_leading n next rank t

@@ -20,7 +20,7 @@ mod moves;
 mod priorities;
 mod slot;
 
-pub use moves::{free_move, kept_reply, reply_of};
+pub use moves::{free_move, kept_reply};
 pub use priorities::{
     assigned, awaited, effective, inheritor_of, next_in_chain, recompute, thread_slot,
 };

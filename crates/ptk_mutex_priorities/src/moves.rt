@@ -1,8 +1,7 @@
-//! The move of a lock, by what the mutex is, and its reply.
+//! The move of a lock, by what the mutex is, and the reply that a waiter is to have.
 
-ghost use Rattle.std.specs.Prelude.{◌≡◌, option_map};
-ghost use Rattle.ptk_words.specs.Faults.{errno_number};
-ghost use Rattle.ptk_words_model.specs.Mutex.{is_above_ceiling, free_move, own_lock_move, own_trylock_move, count_move, owner_move, move_reply, kept_reply};
+ghost use Rattle.std.specs.Prelude.{◌≡◌};
+ghost use Rattle.ptk_words_model.specs.Mutex.{is_above_ceiling, free_move, own_lock_move, own_trylock_move, count_move, owner_move, kept_reply};
 
 use ptk_words::{COUNT_LIMIT, Errno, MutexKind, Owner, Protocol, Soundness, ThreadNo, Wait};
 use ptk_words_model::LockMove;
@@ -82,30 +81,6 @@ fn count_move(count: u32) -> LockMove
         LockMove::Counts
     } else {
         LockMove::Refuses(Errno::EAGAIN)
-    }
-}
-
-/// What the move makes of this reply: itself, an error in its place, or none yet (pthread_mutex_lock, EOWNERDEAD,
-/// ENOTRECOVERABLE).
-#[inline(always)]
-pub fn reply_of(made: LockMove, reply: Option<u32>) -> Option<u32>
-    ensures { result ≡ move_reply made reply }
-{
-    match made {
-        LockMove::Takes | LockMove::Counts => reply,
-        LockMove::Recovers => in_place_of(reply, Errno::EOWNERDEAD),
-        LockMove::Waits => None,
-        LockMove::Refuses(e) => in_place_of(reply, e),
-    }
-}
-
-/// The error number in place of the reply, if there is one.
-fn in_place_of(reply: Option<u32>, e: Errno) -> Option<u32>
-    ensures { result ≡ option_map (λ _. errno_number e) reply }
-{
-    match reply {
-        Some(_) => Some(e.number()),
-        None => None,
     }
 }
 

@@ -13,7 +13,7 @@ ghost use Rattle.ptk_ready.specs.Partitions.{lines_by, AreFiled};
 
 use crate::entries::LinkedEntries;
 use crate::line::Line;
-use ptk_threads::{QueueName, Threads};
+use ptk_threads::{QueueName, Threads, Woken};
 use ptk_words::{PartId, Priority, ThreadNo};
 use std::alloc::{AllocError, Global};
 use std::marker::Model;
@@ -87,7 +87,7 @@ impl<const LIMIT: u64> LinkedLine<LIMIT> {
         let part = threads.linked(p);
         let entries = &mut self.entries[p.index()];
         let name = entries.push_tail(part.slots, part.ends, threads.stored(p), k);
-        threads.pass_roused(p, from, name, k, values);
+        threads.pass_updated(p, from, name, k, &Woken { values });
     }
 }
 

@@ -15,7 +15,7 @@ ghost use Rattle.ptk_syncs.specs.Waiters.{condition_of, waited_by, left_by};
 
 use crate::roster::Roster;
 use ptk_mutex_priorities::{Change, MutexSlot, slot_in};
-use ptk_threads::{Members, QueueName, ThreadList};
+use ptk_threads::{Members, QueueName, ThreadField, ThreadList};
 use ptk_words::{ConditionNo, MutexKind, MutexNo, PartId, Protocol, ThreadNo, Wait};
 
 impl Roster {
@@ -122,12 +122,13 @@ impl Roster {
         let _parts = self.threads.parts();
         let _part = self.threads.linked(p);
         let from = QueueName::ConditionWaiters(c);
+        let change = ThreadField::Wait(Some(wait));
         if is_mutex(self.mutexes.part(p), m) {
-            self.threads
-                .pass_waiting(p, from, QueueName::MutexWaiters(m), k, wait);
+            let to = QueueName::MutexWaiters(m);
+            self.threads.pass_updated(p, from, to, k, &change);
         } else {
             self.threads.take_from(p, from, k);
-            self.threads.set_wait(p, k, Some(wait));
+            self.threads.update(p, k, &change);
         }
     }
 
@@ -146,11 +147,12 @@ impl Roster {
     {
         let _number = m.number();
         let _parts = self.threads.parts();
+        let change = ThreadField::Wait(Some(wait));
         if is_mutex(self.mutexes.part(p), m) {
             self.threads
-                .append_waiting(p, QueueName::MutexWaiters(m), k, wait);
+                .append_updated(p, QueueName::MutexWaiters(m), k, &change);
         } else {
-            self.threads.set_wait(p, k, Some(wait));
+            self.threads.update(p, k, &change);
         }
     }
 

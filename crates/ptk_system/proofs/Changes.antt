@@ -2,7 +2,7 @@
 use Rattle.std.proofs.Common.{◌≡◌, ℕ, zero, suc, ◌+◌, ◌≤◌, Bool, true, false, List, [], ◌∷◌, length, drop, take, Option, Some, None, refl, sym, ap, subst, ◌∙◌, arith, length-drop}
 use Rattle.std.specs.Prelude.{if◌then◌else◌, IfSome, fold, nat_le, nat_lt, slice_get, take_while}
 use Rattle.std.specs.List.{prefix_len}
-use Rattle.std.proofs.lemmas.Bool.{false≢true}
+use Rattle.std.proofs.lemmas.Bool.{cond_both, false≢true}
 use Rattle.std.proofs.lemmas.Option.{MatchOption-at_none}
 use Rattle.ptk_words.specs.declared.sections.Arrival.{Arrival}
 use Rattle.ptk_words.specs.declared.sections.Limits.{Limits}
@@ -20,7 +20,7 @@ use Rattle.ptk_words_model.specs.Mutex.{wait_of}
 use Rattle.ptk_words_model.specs.Schedule.{after_choice_between, after_dispatch, at_head, first_ready}
 use Rattle.ptk_words_model.specs.Withdrawal.{Expiry, after_expiries, after_timeout, deadlines_of, due, in_order, in_order_with, is_before}
 use Rattle.ptk_words_model.specs.Console.{arriving, is_due_at, without_arriving}
-use Rattle.ptk_words_model.specs.Decision.{after_arrival, after_arrivals, after_decision, after_turn, first_waiter, ready_at, runner_at, runner_in, runner_of, spent_by_decision, spent_in_turn, step_cost, step_kind}
+use Rattle.ptk_words_model.specs.Decision.{after_arrival, after_arrivals, after_decision, after_turn, Decision, first_waiter, ready_at, runner_at, runner_in, runner_of, spent_by_decision, spent_in_turn, step_cost, step_kind}
 use Rattle.ptk_words_model.specs.Run.{accounted, decided}
 use Rattle.ptk_words.specs.Faults.{is_active}
 use Rattle.ptk_words_sync_invariant.specs.Expiries.{IsLeastDue, IsNoneDue, after_expiry, after_next, next_expiry}
@@ -130,13 +130,10 @@ none_runs limits s well (Some t) e none = by (thread_at s.locks t) (well.running
 
 -- ---- the decision
 
-idle_turn : (room : ℕ) (o : Option Runner) (s : Part) → spent_in_turn room o s ≡ Idle → o ≡ None
-idle_turn room None s e = refl
-idle_turn room (Some r) s e = absurd (by (nat_lt room (step_cost (step_kind s r.number r.thread))) e)
-  where
-    by : (b : Bool) → (if b then Lost else Step (step_cost (step_kind s r.number r.thread))) ≡ Idle → ⊥
-    by true h = cc
-    by false h = cc
+idle_turn : (limits : Limits) (tick room : ℕ) (o : Option Runner) (s : Part) → spent_in_turn limits tick room o s ≡ Idle → o ≡ None
+idle_turn limits tick room None s = λ e. refl
+idle_turn limits tick room (Some r) s =
+    cond_both (nat_lt room (step_cost (step_kind s r.number r.thread))) _ _ (λ (d : Decision). d.spent ≡ Idle → Some r ≡ None) (λ e h. absurd cc) (λ e h. absurd cc)
 
 -- an idle decision that changes nothing is that of a partition that has nothing to do up to the next tick
 still_part : (limits : Limits) (tick room : ℕ) (s : Part) → IsWell limits s → is_active s.status ≡ true → spent_by_decision limits tick room s ≡ Idle → after_decision limits tick room s ≡ s → IsIdle (tick + 1) s
@@ -155,7 +152,7 @@ still_part limits tick room s well active spent same = record {
     mid = after_expiries tick (after_arrivals limits tick s)
 
     nobody : runner_of (ready_at limits tick s) ≡ None
-    nobody = idle_turn room (runner_of (ready_at limits tick s)) (ready_at limits tick s) spent
+    nobody = idle_turn limits tick room (runner_of (ready_at limits tick s)) (ready_at limits tick s) spent
 
     stays : ready_at limits tick s ≡ s
     stays = sym (ap (λ (o : Option Runner). after_turn limits tick room o (ready_at limits tick s)) nobody) ∙ same

@@ -5,9 +5,8 @@ use Rattle.std.proofs.lemmas.Bool.{cases_lt}
 use Rattle.ptk_words.specs.Ranges.{IsWithinLimits}
 use Rattle.ptk_words.specs.declared.sections.Limits.{Limits}
 use Rattle.ptk_words_windows.specs.Windows.{OwnTicks, WindowPlan, IsPlan, own_ticks}
-use Rattle.ptk_words_model.specs.declared.Spent.{Spent}
 use Rattle.ptk_words_model.specs.State.{Part, State}
-use Rattle.ptk_words_model.specs.Decision.{spent_by_decision}
+use Rattle.ptk_words_model.specs.Decision.{Decision}
 use Rattle.ptk_words_model.specs.Run.{accounted, after_tick_until, decided, is_at, next_from}
 use Rattle.ptk_words.specs.Faults.{is_active}
 use Rattle.ptk_words_invariant.specs.Well.{IsWell}
@@ -31,9 +30,8 @@ use Rattle.ptk_system.proofs.Runs.{alone_to, is_plan}
 idle_leaves : (plan : WindowPlan) (p : ℕ) (limits : Limits) (stop tick room : ℕ) (s : State) → IsIdle stop s.part → tick < stop → 1 ≤ room
     → but_next (decided (own_ticks plan p) limits tick room s) ≡ but_next s
 idle_leaves plan p limits stop tick room s idle lt le =
-    let seen : Part → Spent → State = λ part spent. but_next (record { part = part; account = accounted (own_ticks plan p) limits tick room part spent s.account }) in
-    let idles = idle_decided limits tick stop room s.part idle lt le in
-    ap (λ (part : Part). seen part (spent_by_decision limits tick room s.part)) idles.0 ∙ ap (λ (spent : Spent). seen s.part spent) idles.1
+    let seen : Decision → State = λ d. but_next (record { part = d.part; account = accounted (own_ticks plan p) limits tick room d.part d.spent s.account }) in
+    ap seen (idle_decided limits tick stop room s.part idle lt le)
 
 -- one tick more of a partition that has nothing to do
 idle_more : (plan : WindowPlan) (p : ℕ) (limits : Limits) (stop tick : ℕ) (s before : State) → IsPlan plan → plan.frame ≤ 1000000 → IsIdle stop s.part → tick < stop → but_next before ≡ but_next s

@@ -1,16 +1,16 @@
 -- What two systems have in common, and what steps share.
-use Rattle.std.proofs.Common.{◌≡◌, ℕ, ◌-◌, ◌<◌, ◌≤◌, Bool, true, false, List, length, Option, Some, None, ◌⊎◌, inl, inr, refl, sym, ap, subst, ◌∙◌, arith}
-use Rattle.std.specs.Prelude.{if◌then◌else◌, nat_lt}
-use Rattle.std.proofs.lemmas.Bool.{cases_lt, ltb-false}
+use Rattle.std.proofs.Common.{◌≡◌, ℕ, ◌-◌, ◌<◌, ◌≤◌, List, length, Option, Some, None, ◌⊎◌, inl, inr, sym, ap, subst, ◌∙◌, arith}
+use Rattle.std.specs.Prelude.{nat_lt}
+use Rattle.std.proofs.lemmas.Bool.{cases_lt, cond_both, ltb-false}
 use Rattle.std.proofs.lemmas.List.{get_or_past}
 use Rattle.ptk_words.specs.declared.sections.Arrival.{Arrival}
 use Rattle.ptk_words.specs.declared.sections.Limits.{Limits}
 use Rattle.ptk_words_windows.specs.Windows.{OwnTicks, own_ticks}
 use Rattle.ptk_words_windows.proofs.OwnLaws.{window_whole}
 use Rattle.ptk_words_model.specs.declared.Runner.{Runner}
-use Rattle.ptk_words_model.specs.declared.Spent.TheVariants.{Step, Lost}
+use Rattle.ptk_words_model.specs.declared.Spent.TheVariants.{Step}
 use Rattle.ptk_words_model.specs.State.{Part}
-use Rattle.ptk_words_model.specs.Decision.{ready_at, runner_of, spent_in_turn, step_cost, step_kind}
+use Rattle.ptk_words_model.specs.Decision.{Decision, ready_at, runner_of, spent_in_turn, step_cost, step_kind}
 use Rattle.ptk_words_model.specs.Run.{alone}
 use Rattle.ptk_words_model.specs.Text.{report_text}
 use Rattle.ptk_config.specs.Sections.{Section}
@@ -66,26 +66,20 @@ pub same_report : (a b : World) (p q : ℕ) → IsConfiguration a.config → IsC
 same_report a b p q is_a is_b alone_a alone_b same tick name =
     ap (λ (n : List ℕ). report_text n (state_of a p)) name ∙ ap (report_text (section_at b.config q).name) (same_state a b p q is_a is_b alone_a alone_b same tick)
 
-turn_fits : (room : ℕ) (r : Option Runner) (s : Part) (cost : ℕ) → spent_in_turn room r s ≡ Step cost → cost ≤ room
-turn_fits room None s cost e = absurd cc
-turn_fits room (Some r) s cost e = by (nat_lt room (step_cost (step_kind s r.number r.thread))) refl e
-  where
-    by : (b : Bool) → nat_lt room (step_cost (step_kind s r.number r.thread)) ≡ b → (if b then Lost else Step (step_cost (step_kind s r.number r.thread))) ≡ Step cost → cost ≤ room
-    by true at h = absurd cc
-    by false at h =
-        let fits : step_cost (step_kind s r.number r.thread) ≤ room = ltb-false room (step_cost (step_kind s r.number r.thread)) at in
-        let same : step_cost (step_kind s r.number r.thread) ≡ cost = cc in
-        subst (λ (c : ℕ). c ≤ room) same fits
+turn_fits : (limits : Limits) (tick room : ℕ) (r : Option Runner) (s : Part) (cost : ℕ) → spent_in_turn limits tick room r s ≡ Step cost → cost ≤ room
+turn_fits limits tick room None s cost = λ h. absurd cc
+turn_fits limits tick room (Some r) s cost =
+    let paid : ℕ = step_cost (step_kind s r.number r.thread) in
+    cond_both (nat_lt room paid) _ _ (λ (d : Decision). d.spent ≡ Step cost → cost ≤ room) (λ e h. absurd cc)
+    (λ e h. let same : paid ≡ cost = cc in subst (λ (c : ℕ). c ≤ room) same (ltb-false room paid e))
 
 -- the ticks of a step are in its window
 pub step_stays : StepStaysInWindow
 step_stays plan p tick end cost limits s is ends spent k from below =
-    let fits : cost ≤ end - tick = turn_fits (end - tick) (runner_of (ready_at limits tick s)) (ready_at limits tick s) cost spent in
+    let fits : cost ≤ end - tick = turn_fits limits tick (end - tick) (runner_of (ready_at limits tick s)) (ready_at limits tick s) cost spent in
     let whole = window_whole plan p tick end is ends in
     let later : tick < end = whole.0 in
     let within : k < end = omega arith in
     whole.2 k from within
 
 pub ruleset views = (same_state, same_report)
-
-pub ruleset processor = (step_stays)

@@ -39,7 +39,6 @@ pub fn idle_world(a: &System, b: &System, p: PartId, q: PartId)
 
 /// In a window plan without a fault (`accepted_is_plan` of `ptk_words_windows`) all ticks of a decision's step lie in
 /// one window of its partition, and no tick is two partitions': so no two steps of a system share a tick.
-#[tactic(auto, using(crate::proofs::Views::processor))]
 pub fn one_processor()
     ensures within { StepStaysInWindow }
     ensures apart { OwnTicksAreApart }

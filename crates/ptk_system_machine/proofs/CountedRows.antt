@@ -9,9 +9,9 @@ use Rattle.ptk_words_windows.specs.Windows.{OwnTicks, WindowPlan, IsPlan, own_ti
 use Rattle.ptk_words_model.specs.State.{State}
 use Rattle.ptk_words_model.specs.Run.{last_of, next_from}
 use Rattle.ptk_words.specs.Faults.{is_active}
-use Rattle.ptk_trace.specs.KeptSteps.{KeptSteps}
+use Rattle.ptk_trace.specs.KeptSteps.{KeptSteps, with_newest}
 use Rattle.ptk_kernel.specs.Decisions.{Progress, begun, decisions, entries_of}
-use Rattle.ptk_kernel.specs.Rows.{HasGone, IsStillTo, with_newest}
+use Rattle.ptk_kernel.specs.Rows.{HasGone, IsStillTo}
 use Rattle.ptk_kernel.specs.Kept.{Kept, limits_at, part_at, put_part}
 use Rattle.ptk_window.specs.declared.near.Turn.{Turn}
 use Rattle.ptk_system_machine.specs.Accounts.{KeptAccount}

@@ -7,9 +7,8 @@ use Rattle.ptk_words.specs.declared.sections.Entry.{Entry}
 use Rattle.ptk_words.specs.declared.sections.Limits.{Limits}
 use Rattle.ptk_words_windows.specs.Windows.{OwnTicks, WindowPlan, IsFirstOwn, IsOwn, IsPlan, own_ticks}
 use Rattle.ptk_words_windows.proofs.NextLaws.{next_first}
-use Rattle.ptk_words_model.specs.declared.Spent.{Spent}
 use Rattle.ptk_words_model.specs.State.{Part, State}
-use Rattle.ptk_words_model.specs.Decision.{after_decision, spent_by_decision}
+use Rattle.ptk_words_model.specs.Decision.{Decision, after_decision}
 use Rattle.ptk_words_model.specs.Run.{accounted, decided, last_of, next_from}
 use Rattle.ptk_words.specs.Faults.{is_active}
 use Rattle.ptk_words_model.proofs.Last.{last_more}
@@ -54,8 +53,7 @@ stepped_on ticks limits tick cost s =
 
 decided_step : (ticks : OwnTicks) (limits : Limits) (t tick cost room : ℕ) (s : State) → IsQuietStep limits t cost tick s.part → cost ≤ room → decided ticks limits tick room s ≡ stepped_on ticks limits tick cost s
 decided_step ticks limits t tick cost room s is fits =
-    ap (λ (u : Part). record { part = u; account = accounted ticks limits tick room u (spent_by_decision limits tick room s.part) s.account }) (is.moved room fits)
-    ∙ ap (λ (spent : Spent). record { part = after_decision limits tick 16 s.part; account = accounted ticks limits tick room (after_decision limits tick 16 s.part) spent s.account }) (is.spent room fits)
+    ap (λ (d : Decision). record { part = d.part; account = accounted ticks limits tick room d.part d.spent s.account }) (is.made room fits)
 
 -- from its tick on and up to the next one's
 pub step_gone : (ticks : OwnTicks) (limits : Limits) (t tick cost end m : ℕ) (s : State) → IsLater ticks → ticks.end_at tick ≡ Some end → tick + cost ≤ end → s.account.next ≡ Some tick → IsQuietStep limits t cost tick s.part → 1 ≤ m → m ≤ cost

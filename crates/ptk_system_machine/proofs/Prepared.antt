@@ -158,13 +158,13 @@ gone_before ticks p tick n s kept accounts new is lt account gone =
 
 -- the turn of what is prepared is the decision from the state before
 turn_decided : (n p tick room : ℕ) (s : State) (kept new : Kept) (spent : Spent) → AreParts n kept → p < n → part_at p kept ≡ ready_at (limits_at p kept) tick s.part
-    → spent ≡ spent_in_turn room (runner_of (part_at p kept)) (part_at p kept)
+    → spent ≡ spent_in_turn (limits_at p kept) tick room (runner_of (part_at p kept)) (part_at p kept)
     → new ≡ put_part p (after_turn (limits_at p kept) tick room (runner_of (part_at p kept)) (part_at p kept)) kept
     → HasDecided (limits_at p new) tick room spent s.part (part_at p new)
 turn_decided n p tick room s kept new spent parts lt ready told moved =
     let same : limits_at p kept ≡ limits_at p new = sym (ap (λ (k : Kept). limits_at p k) moved) in
     record {
-      told = told ∙ (ap (λ (u : Part). spent_in_turn room (runner_of u) u) ready ∙ ap (λ (l : Limits). spent_by_decision l tick room s.part) same);
+      told = told ∙ (ap (λ (u : Part). spent_in_turn (limits_at p kept) tick room (runner_of u) u) ready ∙ ap (λ (l : Limits). spent_by_decision l tick room s.part) same);
       moved =
           ap (part_at p) moved
           ∙ (part_at-put n p (after_turn (limits_at p kept) tick room (runner_of (part_at p kept)) (part_at p kept)) kept parts lt
@@ -175,7 +175,7 @@ turn_decided n p tick room s kept new spent parts lt ready told moved =
 -- so what is put into the tables after the turn, by what such a decision leads to, is put into those before it
 pub turn_ended : (ticks : OwnTicks) (p tick room n to from : ℕ) (s : State) (kept mid : Kept) (accounts : List KeptAccount) (new : Whole) (spent : Spent) → IsWhole kept accounts → p < length accounts
     → state_at p (record { kept = kept; accounts = accounts }) ≡ prepared (limits_at p kept) tick s
-    → spent ≡ spent_in_turn room (runner_of (part_at p kept)) (part_at p kept)
+    → spent ≡ spent_in_turn (limits_at p kept) tick room (runner_of (part_at p kept)) (part_at p kept)
     → mid ≡ put_part p (after_turn (limits_at p kept) tick room (runner_of (part_at p kept)) (part_at p kept)) kept
     → IsFreeFrom tick room spent to (part_at p mid) from
     → ((account_at p (record { kept = mid; accounts = accounts })).account ≡ s.account → HasDecided (limits_at p mid) tick room spent s.part (part_at p mid) → IsFreeFrom tick room spent to (part_at p mid) from

@@ -1,27 +1,22 @@
 -- Kept deadlines stay those of the threads' waits where threads change.
-use Rattle.std.proofs.Common.{◌≡◌, ℕ, zero, suc, List, [], ◌∷◌, map, Bool, true, false, refl, sym, ◌∙◌, ap, replicate, All, ◌≤◌}
+use Rattle.std.proofs.Common.{◌≡◌, ℕ, zero, suc, List, [], ◌∷◌, map, refl, sym, ◌∙◌, ap, replicate, All, ◌≤◌}
 use Rattle.std.specs.Prelude.{Option, Some, None, IsSome, IfSome, option_map, slice_get, slice_set}
-use Rattle.std.specs.Option.{option_flatten, is_some}
+use Rattle.std.specs.Option.{option_flatten}
 use Rattle.std.proofs.Math.ListN.{set}
 use Rattle.std.proofs.lemmas.List.{map-set, set-get_or}
 use Rattle.ptk_words.specs.Pools.{pool_get, pool_set, pool_changed}
 use Rattle.ptk_words.specs.declared.threads.Thread.{Thread}
-use Rattle.ptk_words.specs.declared.threads.Wait.{Wait as ThreadWait}
 use Rattle.ptk_words.specs.Threads.{deadline_of_wait}
-use Rattle.ptk_words.proofs.Options.{none_if_not_some}
 use Rattle.ptk_words.proofs.Pools.{length-pool_set}
 use Rattle.ptk_words_parted.specs.Parts.{part_of, filled}
 use Rattle.ptk_words_parted.proofs.Entries.{own_row}
 use Rattle.ptk_clock.specs.State.{locks_of}
 use Rattle.ptk_clock.specs.Mutex.{wait_of}
-use Rattle.ptk_clock.proofs.WaitDeadlines.{deadline_at, deadlines-kept, changed_deadline, get-map}
-use Rattle.ptk_clock.specs.ByThread.{least_deadline}
-use Rattle.ptk_clock.proofs.LeastDeadlines.{none_set}
-use Rattle.ptk_threads.specs.declared.changes.ThreadChange.{ThreadChange}
-use Rattle.ptk_threads.specs.declared.changes.ThreadChange.TheVariants.{Wait}
+use Rattle.ptk_clock.proofs.WaitDeadlines.{deadline_at, deadlines-kept, changed_deadline}
+use Rattle.ptk_threads.specs.declared.change.DeadlineChange.{DeadlineChange}
+use Rattle.ptk_threads.specs.declared.change.DeadlineChange.TheVariants.{Stays, Becomes}
 use Rattle.ptk_threads.specs.Table.{IsTable, replaced_by}
-use Rattle.ptk_threads.specs.Changes.{thread_changed}
-use Rattle.ptk_threads.specs.Timed.{AreTimed, IsKept, KeepsDeadlines, deadlines_in}
+use Rattle.ptk_threads.specs.Timed.{AreTimed, IsKept, TellsDeadline, deadlines_in, with_deadline}
 use Rattle.ptk_threads.proofs.Slots.{table_threads, table_filled}
 
 -- ---- one partition's deadlines
@@ -93,23 +88,6 @@ timed_read p k x deadlines after threads new e f timed =
           ∙ ap (set deadlines p) (follow k x row) ∙ (timed_put p (pool_set row k x) (deadlines_in (pool_set row k x)) deadlines threads refl timed).all ∙ ap (map deadlines_in) (sym e);
     }
 
--- ---- a change that no kept deadline follows
-
-freed_at : (i : ℕ) (kept : List (Option ℕ)) → option_flatten (slice_get (slice_set kept i None) i) ≡ None
-freed_at i [] = refl
-freed_at zero (d ∷ kept) = refl
-freed_at (suc i) (d ∷ kept) = freed_at i kept
-
-freed : (k : ℕ) (kept : List (Option ℕ)) → pool_get (pool_set kept k None) k ≡ None
-freed zero kept = refl
-freed (suc i) kept = freed_at i kept
-
--- where no thread has a deadline, a wait without one changes none
-pub keeps_none : (wait : Option ThreadWait) (is_timed : Bool) (least : Option ℕ) (kept : List (Option ℕ)) → is_timed ≡ is_some (deadline_of_wait wait) → least ≡ least_deadline kept → is_timed ≡ false → is_some least ≡ false → KeepsDeadlines (Wait wait) kept
-keeps_none wait is_timed least kept told is untimed none k thread e =
-    let free : pool_get kept k ≡ None = sym (ap (λ (ds : List (Option ℕ)). pool_get ds k) (none_set k least None kept is refl none)) ∙ freed k kept in
-    none_if_not_some (deadline_of_wait wait) (sym told ∙ untimed) ∙ sym free ∙ e
-
 -- ---- what always holds
 
 table_set : (p k : ℕ) (x : Option Thread) (threads : List (List (Option Thread))) (stored : List (List ℕ)) → IsTable threads stored → IsTable (set threads p (pool_set (part_of threads p) k x)) stored
@@ -123,33 +101,9 @@ kept_put p k x threads new stored deadlines after e f kept = record {
   timed = timed_read p k x deadlines after threads new e f kept.timed;
 }
 
-deadline_stays : (change : ThreadChange) (k : ℕ) (kept : List (Option ℕ)) (slot : Option Thread) → KeepsDeadlines change kept → pool_get kept k ≡ deadline_at slot → deadline_at (option_map (thread_changed change) slot) ≡ deadline_at slot
-deadline_stays change k kept None keeps e = refl
-deadline_stays change k kept (Some thread) keeps e = keeps k thread e
-
-timed_change : (b : Bool) (p k : ℕ) (change : ThreadChange) (threads new : List (List (Option Thread))) (deadlines after : List (List (Option ℕ))) → (b ≡ false → KeepsDeadlines change (part_of deadlines p)) → new ≡ set threads p (pool_changed k (thread_changed change) (part_of threads p))
-    → (b ≡ true → after ≡ set deadlines p (pool_set (part_of deadlines p) k (deadline_at (pool_get (part_of new p) k)))) → (b ≡ false → after ≡ deadlines) → AreTimed deadlines threads → AreTimed after new
-timed_change true p k change threads new deadlines after stay e sets keeps timed = timed_read p k (option_map (thread_changed change) (pool_get (part_of threads p) k)) deadlines after threads new e (sets refl) timed
-timed_change false p k change threads new deadlines after stay e sets keeps timed =
-    let row : List (Option Thread) = part_of threads p in
-    let own : pool_get (part_of deadlines p) k ≡ deadline_at (pool_get row k) = ap (λ (ds : List (Option ℕ)). pool_get ds k) (timed_row p deadlines threads timed) ∙ get-map deadline_at k row refl in
-    rw (e, keeps refl) (timed_same p (pool_changed k (thread_changed change) row) deadlines threads (same_deadlines k (thread_changed change) row (deadline_stays change k (part_of deadlines p) (pool_get row k) (stay refl) own)) timed)
-
--- a field of a thread was changed
-pub kept_change : (b : Bool) (p k : ℕ) (change : ThreadChange) (threads new : List (List (Option Thread))) (stored : List (List ℕ)) (deadlines after : List (List (Option ℕ))) → (b ≡ false → KeepsDeadlines change (part_of deadlines p)) → new ≡ set threads p (pool_changed k (thread_changed change) (part_of threads p))
-    → (b ≡ true → after ≡ set deadlines p (pool_set (part_of deadlines p) k (deadline_at (pool_get (part_of new p) k)))) → (b ≡ false → after ≡ deadlines) → IsKept threads stored deadlines → IsKept new stored after
-kept_change b p k change threads new stored deadlines after stay e sets keeps kept = record {
-  table = rw e (table_set p k (option_map (thread_changed change) (pool_get (part_of threads p) k)) threads stored kept.table);
-  timed = timed_change b p k change threads new deadlines after stay e sets keeps kept.timed;
-}
-
-no_wait : (f : Thread → Thread) (slot : Option Thread) → ((thread : Thread) → (f thread).wait ≡ None) → deadline_at (option_map f slot) ≡ None
-no_wait f None ends = refl
-no_wait f (Some thread) ends = ap deadline_of_wait (ends thread)
-
-waits_for : (f : Thread → Thread) (wait : Option ThreadWait) (slot : Option Thread) → IsSome slot → ((thread : Thread) → (f thread).wait ≡ wait) → deadline_at (option_map f slot) ≡ deadline_of_wait wait
-waits_for f wait None used waits = absurd (cc)
-waits_for f wait (Some thread) used waits = ap deadline_of_wait (waits thread)
+waits_for : (f : Thread → Thread) (deadline : Option ℕ) (slot : Option Thread) → IsSome slot → ((thread : Thread) → deadline_of_wait (f thread).wait ≡ deadline) → deadline_at (option_map f slot) ≡ deadline
+waits_for f deadline None used waits = absurd (cc)
+waits_for f deadline (Some thread) used waits = waits thread
 
 -- a thread was changed, and its deadline is that of its wait
 kept_set : (p k : ℕ) (f : Thread → Thread) (deadline : Option ℕ) (threads new : List (List (Option Thread))) (stored : List (List ℕ)) (deadlines after : List (List (Option ℕ))) → new ≡ set threads p (pool_changed k f (part_of threads p))
@@ -163,24 +117,20 @@ kept_set p k f deadline threads new stored deadlines after e g own kept =
       timed = timed_put p (pool_changed k f row) (pool_set (part_of deadlines p) k deadline) deadlines threads made kept.timed;
     })
 
--- a thread waits for nothing any more, and its deadline ended
-pub kept_ended : (p k : ℕ) (f : Thread → Thread) (threads new : List (List (Option Thread))) (stored : List (List ℕ)) (deadlines after : List (List (Option ℕ))) → new ≡ set threads p (pool_changed k f (part_of threads p))
-    → after ≡ set deadlines p (pool_set (part_of deadlines p) k None) → ((thread : Thread) → (f thread).wait ≡ None) → IsKept threads stored deadlines → IsKept new stored after
-kept_ended p k f threads new stored deadlines after e g ends kept = kept_set p k f None threads new stored deadlines after e g (no_wait f (pool_get (part_of threads p) k) ends) kept
-
--- a thread in use waits for this, and its deadline is that of this wait
-pub kept_waiting : (p k : ℕ) (f : Thread → Thread) (wait : Option ThreadWait) (deadline : Option ℕ) (threads new : List (List (Option Thread))) (stored : List (List ℕ)) (deadlines after : List (List (Option ℕ))) → new ≡ set threads p (pool_changed k f (part_of threads p))
-    → after ≡ set deadlines p (pool_set (part_of deadlines p) k deadline) → deadline ≡ deadline_of_wait wait → IsSome (pool_get (part_of threads p) k) → ((thread : Thread) → (f thread).wait ≡ wait) → IsKept threads stored deadlines → IsKept new stored after
-kept_waiting p k f wait deadline threads new stored deadlines after e g told used waits kept =
-    kept_set p k f deadline threads new stored deadlines after e g (waits_for f wait (pool_get (part_of threads p) k) used waits ∙ sym told) kept
-
 -- a thread was changed, and its wait stays
-pub kept_changed : (p k : ℕ) (f : Thread → Thread) (threads new : List (List (Option Thread))) (stored : List (List ℕ)) (deadlines : List (List (Option ℕ))) → new ≡ set threads p (pool_changed k f (part_of threads p))
+kept_stays : (p k : ℕ) (f : Thread → Thread) (threads new : List (List (Option Thread))) (stored : List (List ℕ)) (deadlines : List (List (Option ℕ))) → new ≡ set threads p (pool_changed k f (part_of threads p))
     → ((thread : Thread) → (f thread).wait ≡ thread.wait) → IsKept threads stored deadlines → IsKept new stored deadlines
-kept_changed p k f threads new stored deadlines e keeps kept = rw e (record {
+kept_stays p k f threads new stored deadlines e keeps kept = rw e (record {
   table = table_set p k (option_map f (pool_get (part_of threads p) k)) threads stored kept.table;
   timed = timed_kept p k f deadlines threads (waits_kept f (pool_get (part_of threads p) k) keeps) kept.timed;
 })
+
+-- a thread in use was changed, and the deadline that is kept for it followed
+pub kept_changed : (change : DeadlineChange) (p k : ℕ) (f : Thread → Thread) (threads new : List (List (Option Thread))) (stored : List (List ℕ)) (deadlines after : List (List (Option ℕ))) → TellsDeadline change f → new ≡ set threads p (pool_changed k f (part_of threads p))
+    → after ≡ with_deadline p k change deadlines → IsSome (pool_get (part_of threads p) k) → IsKept threads stored deadlines → IsKept new stored after
+kept_changed Stays p k f threads new stored deadlines after tells e g used kept = rw g (kept_stays p k f threads new stored deadlines e tells kept)
+kept_changed (Becomes deadline) p k f threads new stored deadlines after tells e g used kept =
+    kept_set p k f deadline threads new stored deadlines after e g (waits_for f deadline (pool_get (part_of threads p) k) used tells) kept
 
 -- work was done on a thread, which left its wait
 pub kept_work : (p k : ℕ) (made : Thread) (threads new : List (List (Option Thread))) (stored : List (List ℕ)) (deadlines : List (List (Option ℕ))) → new ≡ set threads p (pool_changed k (replaced_by made) (part_of threads p))

@@ -7,7 +7,7 @@
 //!   one partition's threads or queues.
 //! - `slots` lends the slots of all partitions, along whose links, from slot to next slot and back, lies the list of
 //!   each queue (`AreAlongLinks`), and no link leaves its partition (`StayInPartitions`).
-//! - `change` changes one thread, `rouse` wakes one, and `work_on` does a piece of work on one in its place.
+//! - `update` changes one thread in its place, by a `ThreadChange`; `work_on` does a piece of work on one, which answers.
 //! - The deadline of a wait is kept where the wait is set, so that `next_deadline` and `first_due` look at no thread.
 //!
 //! The slot of thread k of a partition is its first slot plus k − 1. A contract sees, by partition and then by number,
@@ -18,6 +18,7 @@
 //! every crate that acts on threads. Costly to prove is that a change of one partition's links, or of one thread,
 //! leaves every queue of every partition what its links say (`proofs/Linked`).
 
+mod change;
 mod changes;
 mod references;
 mod slot_table;
@@ -25,7 +26,7 @@ mod threads;
 mod waits;
 mod work;
 
-pub use changes::ThreadChange;
+pub use change::{DeadlineChange, Renewed, ThreadChange, ThreadField, Values, Woken};
 pub use ptk_threads_slots::{
     Ends, FirstThread, Link, Members, QueueName, Slot, SlotLink, ThreadList,
 };

@@ -3,26 +3,21 @@
 ghost use Rattle.std.specs.Prelude.{◌≡◌, ◌<◌, ◌≤◌, true, All, length, map, replicate, slice_set, None, IsSome, IfSome, IfOk};
 ghost use Rattle.ptk_words.specs.Pools.{pool_get, pool_set, pool_changed, is_in};
 ghost use Rattle.ptk_words.specs.declared.threads.Thread.{Thread};
-ghost use Rattle.ptk_clock.specs.Schedule.{with_reply, woken_with};
 ghost use Rattle.ptk_words_parted.specs.Parts.{part_of, joined, filled};
 ghost use Rattle.ptk_threads_slots.specs.Changes.{first_in};
 ghost use Rattle.ptk_threads_slots.specs.Links.{links_of, threads_of, no_ends, place_of, queues, AreQueues};
-ghost use Rattle.ptk_threads.specs.Table.{with_cpu, with_wait, replaced_by};
-ghost use Rattle.ptk_threads.specs.Registers.{with_pc};
-ghost use Rattle.ptk_threads.specs.Changes.{renewed_with, thread_changed};
+ghost use Rattle.ptk_threads.specs.Table.{replaced_by};
 ghost use Rattle.ptk_threads.specs.Shared.{AreAlongLinks, StayInPartitions};
 ghost use Rattle.ptk_threads.specs.Queues.{no_queues, free_parts, AreListed, IsUnqueued, with_last, with_first, with_before, with_none, with_out, without_first};
 
-use crate::changes::{
-    ThreadChange, change_in, put_in, renew_in, replace_in, rouse_in, set_cpu_in, set_pc_in,
-    set_values_in, set_wait_in, work_in,
-};
+use crate::change::ThreadChange;
+use crate::changes::{put_in, update_in, work_in};
 use crate::work::Work;
 use ptk_threads_slots::{
     Ends, FirstThread, PLACES, QueueName, Slot, append, insert, pass_on, prepend, take, take_first,
     take_from,
 };
-use ptk_words::{Cpu, PartId, Thread, ThreadNo, Wait};
+use ptk_words::{PartId, Thread, ThreadNo};
 use ptk_words_parted::Parted;
 use std::alloc::{AllocError, Global};
 use std::marker::Model;
@@ -108,83 +103,16 @@ impl SlotTable {
         LinkedSlots { slots, ends }
     }
 
-    /// Changes one field of a thread.
+    /// Changes a thread, which is in use.
+    #[inline(always)]
     #[tactic(auto, using(crate::proofs::Linked::lifts))]
-    pub(crate) fn change(&mut self, p: PartId, k: ThreadNo, change: ThreadChange)
-        requires { p < length self.old.threads }
-        ensures { self.new ≡ record self.old { threads = slice_set self.old.threads p (pool_changed k (thread_changed change) (part_of self.old.threads p)) } }
-    {
-        change_in(self.slots.lend(p), k, change);
-    }
-
-    /// A thread, which is in use, goes on at this pc.
-    #[tactic(auto, using(crate::proofs::Linked::lifts))]
-    pub(crate) fn set_pc(&mut self, p: PartId, k: ThreadNo, pc: u32)
+    pub(crate) fn update<C: ThreadChange>(&mut self, p: PartId, k: ThreadNo, change: &C)
         requires partition { p < length self.old.threads }
         requires in_use { IsSome (pool_get (part_of self.old.threads p) k) }
-        ensures { self.new ≡ record self.old { threads = slice_set self.old.threads p (pool_changed k (with_pc pc) (part_of self.old.threads p)) } }
+        requires possible { C.can_make change.now }
+        ensures { self.new ≡ record self.old { threads = slice_set self.old.threads p (pool_changed k (C.changed change.now) (part_of self.old.threads p)) } }
     {
-        set_pc_in(self.slots.lend(p), k, pc);
-    }
-
-    /// A thread, which is in use, waits for this, or for nothing.
-    #[tactic(auto, using(crate::proofs::Linked::lifts))]
-    pub(crate) fn set_wait(&mut self, p: PartId, k: ThreadNo, wait: Option<Wait>)
-        requires partition { p < length self.old.threads }
-        requires in_use { IsSome (pool_get (part_of self.old.threads p) k) }
-        ensures { self.new ≡ record self.old { threads = slice_set self.old.threads p (pool_changed k (with_wait wait) (part_of self.old.threads p)) } }
-    {
-        set_wait_in(self.slots.lend(p), k, wait);
-    }
-
-    /// Gives a thread these registers.
-    #[tactic(auto, using(crate::proofs::Linked::lifts))]
-    pub(crate) fn set_cpu(&mut self, p: PartId, k: ThreadNo, cpu: Cpu)
-        requires { p < length self.old.threads }
-        ensures { self.new ≡ record self.old { threads = slice_set self.old.threads p (pool_changed k (with_cpu cpu) (part_of self.old.threads p)) } }
-    {
-        set_cpu_in(self.slots.lend(p), k, cpu);
-    }
-
-    /// Puts this thread in place of the one of a number.
-    #[tactic(auto, using(crate::proofs::Linked::lifts))]
-    pub(crate) fn replace(&mut self, p: PartId, k: ThreadNo, thread: Thread)
-        requires { p < length self.old.threads }
-        ensures { self.new ≡ record self.old { threads = slice_set self.old.threads p (pool_changed k (replaced_by thread) (part_of self.old.threads p)) } }
-    {
-        replace_in(self.slots.lend(p), k, thread);
-    }
-
-    /// Puts the values into a thread's a0, a1 and so on.
-    #[tactic(auto, using(crate::proofs::Linked::lifts))]
-    pub(crate) fn set_values(&mut self, p: PartId, k: ThreadNo, values: &[u32])
-        requires partition { p < length self.old.threads }
-        requires few { length values.now < 4 }
-        ensures { self.new ≡ record self.old { threads = slice_set self.old.threads p (pool_changed k (with_reply values.now) (part_of self.old.threads p)) } }
-    {
-        set_values_in(self.slots.lend(p), k, values);
-    }
-
-    /// Wakes a thread, which is in use.
-    #[tactic(auto, using(crate::proofs::Linked::lifts))]
-    pub(crate) fn rouse(&mut self, p: PartId, k: ThreadNo, values: &[u32])
-        requires partition { p < length self.old.threads }
-        requires in_use { IsSome (pool_get (part_of self.old.threads p) k) }
-        requires few { length values.now < 4 }
-        ensures { self.new ≡ record self.old { threads = slice_set self.old.threads p (pool_changed k (woken_with values.now) (part_of self.old.threads p)) } }
-    {
-        rouse_in(self.slots.lend(p), k, values);
-    }
-
-    /// Puts the values into a0, a1 and so on of a thread, which is in use, and it has used no tick of its interval.
-    #[tactic(auto, using(crate::proofs::Linked::lifts))]
-    pub(crate) fn renew(&mut self, p: PartId, k: ThreadNo, values: &[u32])
-        requires partition { p < length self.old.threads }
-        requires in_use { IsSome (pool_get (part_of self.old.threads p) k) }
-        requires few { length values.now < 4 }
-        ensures { self.new ≡ record self.old { threads = slice_set self.old.threads p (pool_changed k (renewed_with values.now) (part_of self.old.threads p)) } }
-    {
-        renew_in(self.slots.lend(p), k, values);
+        update_in(self.slots.lend(p), k, change);
     }
 
     /// Sets the entry of a number.
@@ -247,65 +175,45 @@ impl SlotTable {
     }
 
     /// A thread, which is in use and lies in this queue or in none, leaves it, becomes the last of another one, or of the
-    /// same, and waits for this, or for nothing.
+    /// same, and is changed.
     #[inline(always)]
-    pub(crate) fn pass_waiting(
+    pub(crate) fn pass_updated<C: ThreadChange>(
         &mut self,
         p: PartId,
         from: QueueName,
         to: QueueName,
         k: ThreadNo,
-        wait: Option<Wait>,
+        change: &C,
     )
         requires partition { p < length self.old.threads }
         requires in_use { IsSome (pool_get (part_of self.old.threads p) k) }
         requires free { IsUnqueued k (with_out from k (part_of self.old.queues p)) }
-        ensures { self.new ≡ record self.old { threads = slice_set self.old.threads p (pool_changed k (with_wait wait) (part_of self.old.threads p)); queues = slice_set self.old.queues p (with_last to k (with_out from k (part_of self.old.queues p))) } }
+        requires possible { C.can_make change.now }
+        ensures { self.new ≡ record self.old { threads = slice_set self.old.threads p (pool_changed k (C.changed change.now) (part_of self.old.threads p)); queues = slice_set self.old.queues p (with_last to k (with_out from k (part_of self.old.queues p))) } }
     {
         let slots = self.slots.lend(p);
         pass_on(slots, self.ends.lend(p), from, to, k);
-        set_wait_in(slots, k, wait);
+        update_in(slots, k, change);
     }
 
-    /// A thread, which is in use and lies in no queue, becomes the last of one and waits for this, or for nothing.
+    /// A thread, which is in use and lies in no queue, becomes the last of one and is changed.
     #[inline(always)]
-    pub(crate) fn append_waiting(
+    pub(crate) fn append_updated<C: ThreadChange>(
         &mut self,
         p: PartId,
         name: QueueName,
         k: ThreadNo,
-        wait: Option<Wait>,
+        change: &C,
     )
         requires partition { p < length self.old.threads }
         requires in_use { IsSome (pool_get (part_of self.old.threads p) k) }
         requires free { IsUnqueued k (part_of self.old.queues p) }
-        ensures { self.new ≡ record self.old { threads = slice_set self.old.threads p (pool_changed k (with_wait wait) (part_of self.old.threads p)); queues = slice_set self.old.queues p (with_last name k (part_of self.old.queues p)) } }
+        requires possible { C.can_make change.now }
+        ensures { self.new ≡ record self.old { threads = slice_set self.old.threads p (pool_changed k (C.changed change.now) (part_of self.old.threads p)); queues = slice_set self.old.queues p (with_last name k (part_of self.old.queues p)) } }
     {
         let slots = self.slots.lend(p);
         append(slots, self.ends.lend(p), name, k);
-        set_wait_in(slots, k, wait);
-    }
-
-    /// A thread, which is in use and lies in this queue or in none, leaves it, becomes the last of another one, or of the
-    /// same, and is roused with these values.
-    #[inline(always)]
-    pub(crate) fn pass_roused(
-        &mut self,
-        p: PartId,
-        from: QueueName,
-        to: QueueName,
-        k: ThreadNo,
-        values: &[u32],
-    )
-        requires partition { p < length self.old.threads }
-        requires in_use { IsSome (pool_get (part_of self.old.threads p) k) }
-        requires free { IsUnqueued k (with_out from k (part_of self.old.queues p)) }
-        requires few { length values.now < 4 }
-        ensures { self.new ≡ record self.old { threads = slice_set self.old.threads p (pool_changed k (woken_with values.now) (part_of self.old.threads p)); queues = slice_set self.old.queues p (with_last to k (with_out from k (part_of self.old.queues p))) } }
-    {
-        let slots = self.slots.lend(p);
-        pass_on(slots, self.ends.lend(p), from, to, k);
-        rouse_in(slots, k, values);
+        update_in(slots, k, change);
     }
 
     /// A thread leaves this queue; nothing changes where it lies in another one, or in none. One that lay in it lies in

@@ -5,19 +5,16 @@ ghost use Rattle.ptk_words.specs.Pools.{least_free, pool_get, pool_set, is_in};
 ghost use Rattle.ptk_words.specs.Threads.{left_at_end, left_at_detach};
 ghost use Rattle.ptk_words.specs.declared.threads.Thread.{Thread};
 ghost use Rattle.ptk_words_parted.specs.Parts.{part_of, joined};
-ghost use Rattle.ptk_threads.specs.Table.{free_table, thread_in, stored_of, with_slot, with_changed, with_stored, with_queues, with_free, with_new, with_rest, with_left, with_cpu, with_wait, replaced_by};
-ghost use Rattle.ptk_threads.specs.Registers.{with_pc};
-ghost use Rattle.ptk_clock.specs.Schedule.{with_reply, woken_with};
-ghost use Rattle.ptk_threads.specs.Changes.{renewed_with, thread_changed};
+ghost use Rattle.ptk_threads.specs.Table.{free_table, thread_in, stored_of, with_slot, with_changed, with_stored, with_queues, with_free, with_new, with_rest, with_left, replaced_by};
 ghost use Rattle.ptk_threads.specs.Queues.{AreListed, IsUnqueued, with_last, with_first, with_before, with_none, with_out, without_first};
 ghost use Rattle.ptk_threads.specs.Shared.{AreAlongLinks, StayInPartitions};
 ghost use Rattle.ptk_threads_slots.specs.declared.slot.Slot.{Slot};
 ghost use Rattle.ptk_threads_slots.specs.Changes.{first_in, few_of};
 ghost use Rattle.ptk_threads_slots.specs.Links.{links_of, threads_of, place_of, queues, AreQueues};
 
-use crate::changes::ThreadChange;
+use crate::change::ThreadChange;
 use crate::slot_table::{LinkedSlots, SlotTable};
-use crate::waits::{deadline_of, follow, follow_if, needs_following};
+use crate::waits::{follow, follow_change};
 use crate::work::Work;
 use ptk_clock::ThreadDeadlines;
 use ptk_threads_slots::{
@@ -259,95 +256,30 @@ impl Threads {
         }
     }
 
-    /// Changes one field of a thread; a free number stays free. Where that is its wait, its deadline follows.
+    /// Changes a thread, which is in use. Where that is its wait, the deadline that is kept for it follows.
     #[inline(always)]
     #[tactic(auto, using(crate::proofs::Slots::pools))]
-    pub fn change(&mut self, p: PartId, k: ThreadNo, change: ThreadChange)
-        requires { p < length self.old.threads }
-        ensures { self.new ≡ with_changed p k (thread_changed change) self.old }
+    pub fn update<C: ThreadChange>(&mut self, p: PartId, k: ThreadNo, change: &C)
+        requires partition { p < length self.old.threads }
+        requires in_use { IsSome (thread_in self.old p k) }
+        requires possible { C.can_make change.now }
+        ensures { self.new ≡ with_changed p k (C.changed change.now) self.old }
     {
-        let is_followed = needs_following(&self.deadlines, p, &change);
-        self.slots.change(p, k, change);
-        follow_if(&mut self.deadlines, &self.slots, p, k, is_followed);
+        let deadline = change.deadline();
+        self.slots.update(p, k, change);
+        follow_change(&mut self.deadlines, p, k, deadline);
     }
 
-    /// The thread, which is in use, goes on at this pc; its registers stay.
+    /// Changes a thread; a free number stays free.
     #[inline(always)]
-    #[tactic(auto, using(crate::proofs::Slots::pools))]
-    pub fn set_pc(&mut self, p: PartId, k: ThreadNo, pc: u32)
+    pub fn update_if_used<C: ThreadChange>(&mut self, p: PartId, k: ThreadNo, change: &C)
         requires partition { p < length self.old.threads }
-        requires in_use { IsSome (thread_in self.old p k) }
-        ensures { self.new ≡ with_changed p k (with_pc pc) self.old }
+        requires possible { C.can_make change.now }
+        ensures { self.new ≡ with_changed p k (C.changed change.now) self.old }
     {
-        self.slots.set_pc(p, k, pc);
-    }
-
-    /// The thread, which is in use, waits for this, or for nothing (XSH 2.8.4), and its deadline is that of the wait.
-    #[inline(always)]
-    #[tactic(auto, using(crate::proofs::Slots::pools))]
-    pub fn set_wait(&mut self, p: PartId, k: ThreadNo, wait: Option<Wait>)
-        requires partition { p < length self.old.threads }
-        requires in_use { IsSome (thread_in self.old p k) }
-        ensures { self.new ≡ with_changed p k (with_wait wait) self.old }
-    {
-        let deadline = deadline_of(&wait);
-        self.slots.set_wait(p, k, wait);
-        self.deadlines.set(p, k, deadline);
-    }
-
-    /// Gives the thread these registers and pc.
-    #[tactic(auto, using(crate::proofs::Slots::pools))]
-    pub fn set_cpu(&mut self, p: PartId, k: ThreadNo, cpu: Cpu)
-        requires { p < length self.old.threads }
-        ensures { self.new ≡ with_changed p k (with_cpu cpu) self.old }
-    {
-        self.slots.set_cpu(p, k, cpu);
-    }
-
-    /// Puts at most 3 values into the thread's a0, a1 and so on; its pc stays.
-    #[tactic(auto, using(crate::proofs::Slots::pools))]
-    pub fn set_values(&mut self, p: PartId, k: ThreadNo, values: &[u32])
-        requires partition { p < length self.old.threads }
-        requires few { length values.now < 4 }
-        ensures { self.new ≡ with_changed p k (with_reply values.now) self.old }
-    {
-        self.slots.set_values(p, k, values);
-    }
-
-    /// A thread, which is in use, waits for nothing any more, has these values in a0 and so on, and has used no tick of
-    /// its interval.
-    #[inline(always)]
-    #[tactic(auto, using(crate::proofs::Slots::pools))]
-    pub fn rouse(&mut self, p: PartId, k: ThreadNo, values: &[u32])
-        requires partition { p < length self.old.threads }
-        requires in_use { IsSome (thread_in self.old p k) }
-        requires few { length values.now < 4 }
-        ensures { self.new ≡ with_changed p k (woken_with values.now) self.old }
-    {
-        self.slots.rouse(p, k, values);
-        self.deadlines.set(p, k, None);
-    }
-
-    /// Puts at most 3 values into a0, a1 and so on of the thread, which is in use, and it has used no tick of its
-    /// interval; its pc stays.
-    #[tactic(auto, using(crate::proofs::Slots::pools))]
-    pub fn renew(&mut self, p: PartId, k: ThreadNo, values: &[u32])
-        requires partition { p < length self.old.threads }
-        requires in_use { IsSome (thread_in self.old p k) }
-        requires few { length values.now < 4 }
-        ensures { self.new ≡ with_changed p k (renewed_with values.now) self.old }
-    {
-        self.slots.renew(p, k, values);
-    }
-
-    /// Puts this thread in place of the one of a number; a free number stays free.
-    #[tactic(auto, using(crate::proofs::Slots::pools))]
-    pub fn set_thread(&mut self, p: PartId, k: ThreadNo, thread: Thread)
-        requires { p < length self.old.threads }
-        ensures { self.new ≡ with_changed p k (replaced_by thread) self.old }
-    {
-        self.slots.replace(p, k, thread);
-        follow(&mut self.deadlines, &self.slots, p, k);
+        if self.thread_ref(p, k).is_some() {
+            self.update(p, k, change);
+        }
     }
 
     /// Does a piece of work on a thread where it lies, which leaves its wait: nothing of it is copied, and nothing else
@@ -473,63 +405,47 @@ impl Threads {
     }
 
     /// A thread, which is in use and lies in this queue or in none, leaves it, becomes the last of another one, or of the
-    /// same, and waits for this, with the wait's deadline.
+    /// same, and is changed; the deadline that is kept for it follows.
     #[inline(always)]
-    pub fn pass_waiting(
+    pub fn pass_updated<C: ThreadChange>(
         &mut self,
         p: PartId,
         from: QueueName,
         to: QueueName,
         k: ThreadNo,
-        wait: Wait,
+        change: &C,
     )
         requires partition { p < length self.old.threads }
         requires in_use { IsSome (thread_in self.old p k) }
         requires free { IsUnqueued k (with_out from k (part_of self.old.queues p)) }
-        ensures { self.new ≡ with_changed p k (with_wait (Some wait)) (with_queues p (with_last to k) (with_queues p (with_out from k) self.old)) }
+        requires possible { C.can_make change.now }
+        ensures { self.new ≡ with_changed p k (C.changed change.now) (with_queues p (with_last to k) (with_queues p (with_out from k) self.old)) }
     {
         let _parts = self.slots.parts();
-        let own = Some(wait);
-        let deadline = deadline_of(&own);
-        self.slots.pass_waiting(p, from, to, k, own);
-        self.deadlines.set(p, k, deadline);
+        let deadline = change.deadline();
+        self.slots.pass_updated(p, from, to, k, change);
+        follow_change(&mut self.deadlines, p, k, deadline);
     }
 
-    /// A thread, which is in use and lies in no queue, becomes the last of one and waits for this, with the wait's
-    /// deadline.
+    /// A thread, which is in use and lies in no queue, becomes the last of one and is changed; the deadline that is kept
+    /// for it follows.
     #[inline(always)]
-    pub fn append_waiting(&mut self, p: PartId, name: QueueName, k: ThreadNo, wait: Wait)
+    pub fn append_updated<C: ThreadChange>(
+        &mut self,
+        p: PartId,
+        name: QueueName,
+        k: ThreadNo,
+        change: &C,
+    )
         requires partition { p < length self.old.threads }
         requires in_use { IsSome (thread_in self.old p k) }
         requires free { IsUnqueued k (part_of self.old.queues p) }
-        ensures { self.new ≡ with_changed p k (with_wait (Some wait)) (with_queues p (with_last name k) self.old) }
+        requires possible { C.can_make change.now }
+        ensures { self.new ≡ with_changed p k (C.changed change.now) (with_queues p (with_last name k) self.old) }
     {
-        let own = Some(wait);
-        let deadline = deadline_of(&own);
-        self.slots.append_waiting(p, name, k, own);
-        self.deadlines.set(p, k, deadline);
-    }
-
-    /// A thread, which is in use and lies in this queue or in none, leaves it and becomes the last of another one, or of
-    /// the same; it waits for nothing any more, has these values in a0 and so on, and has used no tick of its interval.
-    #[inline(always)]
-    pub fn pass_roused(
-        &mut self,
-        p: PartId,
-        from: QueueName,
-        to: QueueName,
-        k: ThreadNo,
-        values: &[u32],
-    )
-        requires partition { p < length self.old.threads }
-        requires in_use { IsSome (thread_in self.old p k) }
-        requires free { IsUnqueued k (with_out from k (part_of self.old.queues p)) }
-        requires few { length values.now < 4 }
-        ensures { self.new ≡ with_changed p k (woken_with values.now) (with_queues p (with_last to k) (with_queues p (with_out from k) self.old)) }
-    {
-        let _parts = self.slots.parts();
-        self.slots.pass_roused(p, from, to, k, values);
-        self.deadlines.set(p, k, None);
+        let deadline = change.deadline();
+        self.slots.append_updated(p, name, k, change);
+        follow_change(&mut self.deadlines, p, k, deadline);
     }
 
     /// The threads of a queue, in its order.

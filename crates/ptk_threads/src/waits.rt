@@ -1,6 +1,6 @@
 //! The deadlines of the threads' waits, which are kept where a wait is set or ends.
 
-ghost use Rattle.std.specs.Prelude.{◌≡◌, ℕ, ◌<◌, true, false, length, map, is_some, option_map, slice_set};
+ghost use Rattle.std.specs.Prelude.{◌≡◌, ℕ, ◌<◌, length, map, option_map, slice_set};
 ghost use Rattle.ptk_words.specs.Pools.{pool_get, pool_set};
 ghost use Rattle.ptk_words_parted.specs.Parts.{part_of};
 ghost use Rattle.ptk_clock.specs.Mutex.{wait_of};
@@ -9,9 +9,9 @@ ghost use Rattle.ptk_clock.specs.Expiries.{next_expiry};
 ghost use Rattle.ptk_clock.specs.BySlot.{deadlines_from};
 ghost use Rattle.ptk_clock.specs.ByThread.{first_slot, least_deadline};
 ghost use Rattle.ptk_threads_slots.specs.Links.{threads_of};
-ghost use Rattle.ptk_threads.specs.Timed.{deadlines_in, KeepsDeadlines};
+ghost use Rattle.ptk_threads.specs.Timed.{deadlines_in, with_deadline};
 
-use crate::changes::ThreadChange;
+use crate::change::DeadlineChange;
 use crate::references::thread_among;
 use crate::slot_table::SlotTable;
 use crate::threads::Threads;
@@ -47,42 +47,19 @@ impl Threads {
     }
 }
 
-/// Whether the kept deadline of a thread may be another one after this change: it sets a wait that has a deadline, or a
-/// wait where some thread of the partition has one.
+/// The deadline that is kept for a thread becomes this, or stays.
 #[inline(always)]
-pub(crate) fn needs_following(deadlines: &ThreadDeadlines, p: PartId, change: &ThreadChange) -> bool
-    requires { p < length deadlines.now }
-    ensures { result ≡ false → KeepsDeadlines change.now (part_of deadlines.now p) }
-{
-    match change {
-        ThreadChange::Wait(wait) => is_timed(wait) || deadlines.next(p).is_some(),
-        _ => false,
-    }
-}
-
-/// Whether a wait has a deadline.
-#[inline(never)]
-fn is_timed(wait: &Option<Wait>) -> bool
-    ensures { result ≡ is_some (deadline_of_wait wait.now) }
-{
-    deadline_of(wait).is_some()
-}
-
-/// The kept deadline of a thread is made that of its wait where it is to follow; else it stays.
-pub(crate) fn follow_if(
+pub(crate) fn follow_change(
     deadlines: &mut ThreadDeadlines,
-    slots: &SlotTable,
     p: PartId,
     k: ThreadNo,
-    is_followed: bool,
+    deadline: DeadlineChange,
 )
-    requires deadlines { p < length deadlines.old }
-    requires threads { p < length slots.now.threads }
-    ensures set { is_followed ≡ true → deadlines.new ≡ slice_set deadlines.old p (pool_set (part_of deadlines.old p) k (deadline_of_wait (wait_of (pool_get (part_of slots.now.threads p) k)))) }
-    ensures kept { is_followed ≡ false → deadlines.new ≡ deadlines.old }
+    requires { p < length deadlines.old }
+    ensures { deadlines.new ≡ with_deadline p k deadline deadlines.old }
 {
-    if is_followed {
-        follow(deadlines, slots, p, k);
+    if let DeadlineChange::Becomes(deadline) = deadline {
+        deadlines.set(p, k, deadline);
     }
 }
 

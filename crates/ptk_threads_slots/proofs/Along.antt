@@ -5,10 +5,10 @@ use Rattle.std.specs.List.{IsDistinct}
 use Rattle.std.proofs.lemmas.Bool.{or_left, or_right, cases_lt, or_cases, or_parts}
 use Rattle.std.proofs.lemmas.List.{get_or_past, get_or-set_same, get_or-set_other, length-set}
 use Rattle.std.proofs.lemmas.List.Folds.{list_any-append}
-use Rattle.std.proofs.lemmas.Map.Keys.{IsDistinct-cons, IsDistinct-tail}
+use Rattle.std.proofs.lemmas.Map.Keys.{IsDistinct-tail}
 use Rattle.std.proofs.lemmas.Option.{same_Some}
 use Rattle.ptk_words.specs.Pools.{pool_set, is_in}
-use Rattle.ptk_words.proofs.Lists.{none_distinct, apart_from_out, in_here, head_out}
+use Rattle.ptk_words.proofs.Lists.{none_distinct, distinct_head, in_here, head_out}
 use Rattle.ptk_threads_slots.specs.declared.link.Link.{Link}
 use Rattle.ptk_threads_slots.specs.Links.{place_of, link_in, no_link, mark_of, with_next, with_previous, first_or, last_or, IsLink, IsAlong, walk}
 pub use Rattle.ptk_words_parted.proofs.Lists.{in_front}
@@ -39,9 +39,6 @@ apart y z (x ∷ xs) ys d h g =
       | inr r ↦ apart y z xs ys (IsDistinct-tail nat_eq x (xs ++ ys) d) r g
     ]
 
-pub distinct_cons : (k : ℕ) (ks : List ℕ) → is_in k ks ≡ false → IsDistinct nat_eq ks → IsDistinct nat_eq (k ∷ ks)
-distinct_cons k ks out d = IsDistinct-cons nat_eq k ks (apart_from_out k ks out) d
-
 pub not_true : (b : Bool) → (b ≡ true → ⊥) → b ≡ false
 not_true true h = absurd (h refl)
 not_true false h = refl
@@ -56,7 +53,7 @@ out_parts q xs ys h = or_parts (is_in q xs) (is_in q ys) (sym (list_any-append (
 pub distinct_left : (xs ys : List ℕ) → IsDistinct nat_eq (xs ++ ys) → IsDistinct nat_eq xs
 distinct_left [] ys d = none_distinct
 distinct_left (x ∷ xs) ys d =
-    distinct_cons x xs (out_parts x xs ys (head_out x (xs ++ ys) d)).0 (distinct_left xs ys (IsDistinct-tail nat_eq x (xs ++ ys) d))
+    distinct_head x xs (distinct_left xs ys (IsDistinct-tail nat_eq x (xs ++ ys) d)) (out_parts x xs ys (head_out x (xs ++ ys) d)).0
 
 pub distinct_right : (xs ys : List ℕ) → IsDistinct nat_eq (xs ++ ys) → IsDistinct nat_eq ys
 distinct_right [] ys d = d

@@ -8,12 +8,12 @@ use Rattle.std.proofs.lemmas.List.{get_or-set_same, get_or-set_other, set_past, 
 use Rattle.std.proofs.lemmas.Map.Keys.{IsDistinct-tail}
 use Rattle.std.proofs.lemmas.Map.Steps.{length-le_from_distinct_below}
 use Rattle.ptk_words.specs.Pools.{pool_set, is_in}
-use Rattle.ptk_words.proofs.Lists.{in_here, head_out}
+use Rattle.ptk_words.proofs.Lists.{in_here, distinct_head, head_out}
 use Rattle.ptk_threads_slots.specs.declared.link.Link.{Link}
 use Rattle.ptk_threads_slots.specs.declared.link.Ends.{Ends}
 use Rattle.ptk_threads_slots.specs.Links.{place_of, link_in, no_link, no_ends, ends_at, mark_of, with_next, with_previous, first_after, last_before, first_or, last_or, IsLink, IsAlong, IsQueue, AreQueues, queue_from, queue_at, queues}
 use Rattle.ptk_threads_slots.specs.Changes.{linked_between, end_between, unlinked, end_without}
-use Rattle.ptk_threads_slots.proofs.Along.{in_front, in_later, in_left, in_right, in_parts, out_of, apart, distinct_cons, not_true, out_join, out_parts, distinct_left, distinct_right, le_or_gt, marked_within, link_same, link_other, next_other, previous_other, length_next, length_previous, last_out, first_out, along_same, along_left, along_right, along_join, along_marked, along_ends, along_starts, walk_along}
+use Rattle.ptk_threads_slots.proofs.Along.{in_front, in_later, in_left, in_right, in_parts, out_of, apart, not_true, out_join, out_parts, distinct_left, distinct_right, le_or_gt, marked_within, link_same, link_other, next_other, previous_other, length_next, length_previous, last_out, first_out, along_same, along_left, along_right, along_join, along_marked, along_ends, along_starts, walk_along}
 
 -- the queue at place i is this line now; links of other queues' threads stay, nobody came to another queue, and who is in none has no neighbours
 pub record IsMoved (links new : List Link) (ends : List Ends) (i : ℕ) (end : Ends) (line : List ℕ) : Type 0 where
@@ -129,7 +129,7 @@ last_without xs [] k old e = sym (last_append None xs [])
 last_without xs (y ∷ ys) k old e = e ∙ last_append None xs (k ∷ y ∷ ys) ∙ sym (last_append None xs (y ∷ ys))
 
 distinct_between : (xs ys : List ℕ) (k : ℕ) → is_in k (xs ++ ys) ≡ false → IsDistinct nat_eq (xs ++ ys) → IsDistinct nat_eq (xs ++ k ∷ ys)
-distinct_between [] ys k out d = distinct_cons k ys out d
+distinct_between [] ys k out d = distinct_head k ys d out
 distinct_between (x ∷ xs) ys k out d =
     let head = head_out x (xs ++ ys) d in
     let parts = out_parts x xs ys head in
@@ -139,14 +139,14 @@ distinct_between (x ∷ xs) ys k out d =
       | inl e ↦ (let there : is_in k (x ∷ xs ++ ys) ≡ true = rw e (in_here k (xs ++ ys)) in absurd (cc))
       | inr r ↦ absurd (cc)
     ]) in
-    distinct_cons x (xs ++ k ∷ ys) (out_join x xs (k ∷ ys) parts.0 apart) (distinct_between xs ys k later (IsDistinct-tail nat_eq x (xs ++ ys) d))
+    distinct_head x (xs ++ k ∷ ys) (distinct_between xs ys k later (IsDistinct-tail nat_eq x (xs ++ ys) d)) (out_join x xs (k ∷ ys) parts.0 apart)
 
 distinct_without : (xs ys : List ℕ) (k : ℕ) → IsDistinct nat_eq (xs ++ k ∷ ys) → IsDistinct nat_eq (xs ++ ys)
 distinct_without [] ys k d = IsDistinct-tail nat_eq k ys d
 distinct_without (x ∷ xs) ys k d =
     let parts = out_parts x xs (k ∷ ys) (head_out x (xs ++ k ∷ ys) d) in
     let right : is_in x ys ≡ false = not_true (is_in x ys) (λ inside. (let there = in_later x k ys inside in absurd (cc))) in
-    distinct_cons x (xs ++ ys) (out_join x xs ys parts.0 right) (distinct_without xs ys k (IsDistinct-tail nat_eq x (xs ++ k ∷ ys) d))
+    distinct_head x (xs ++ ys) (distinct_without xs ys k (IsDistinct-tail nat_eq x (xs ++ k ∷ ys) d)) (out_join x xs ys parts.0 right)
 
 -- ---- a thread that comes between two others
 

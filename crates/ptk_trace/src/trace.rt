@@ -6,7 +6,7 @@ ghost use Rattle.circular_buffer.specs.Buffer.{Buffer};
 ghost use Rattle.ptk_words.specs.declared.sections.Entry.{Entry};
 ghost use Rattle.ptk_words_model.specs.Run.{last_of};
 ghost use Rattle.ptk_words_model.specs.Text.{trace_line, trace_text};
-ghost use Rattle.ptk_trace.specs.KeptSteps.{kept_steps};
+ghost use Rattle.ptk_trace.specs.KeptSteps.{with_newest, kept_steps};
 
 use crate::noting::Noting;
 use circular_buffer::HeapCircularBuffer;
@@ -74,7 +74,7 @@ impl Trace {
 
     /// Puts a step in as the newest. Where the room is full the oldest goes.
     pub fn push(&mut self, entry: Entry)
-        ensures { self.new ≡ record self.old { entries = last_of self.old.kept (self.old.entries ++ entry ∷ []) } }
+        ensures { self.new ≡ with_newest (entry ∷ []) self.old }
     {
         if self.ring.capacity() == 0 {
             return;
@@ -90,7 +90,7 @@ impl Trace {
     pub fn note<N: Noting>(&mut self, steps: &mut N) -> usize
         requires { N.can_note steps.old }
         ensures few { result ≤ 256 }
-        ensures noted { (newest : List Entry) × (length newest ≡ result) × (self.new ≡ record self.old { entries = last_of self.old.kept (self.old.entries ++ newest) }) × N.has_noted steps.old result newest steps.new }
+        ensures noted { (newest : List Entry) × (length newest ≡ result) × (self.new ≡ with_newest newest self.old) × N.has_noted steps.old result newest steps.new }
     {
         let noted = make_room(&mut self.ring, &self.batch, self.noted);
         let batch = &mut self.batch[..];

@@ -9,6 +9,8 @@
 //! - The function `cost` is that of every number, 2 where the number is no call.
 //! - A `Cpu`'s x0 reads 0 (its invariant).
 //! - The numbers of errors and faults are the definitions'.
+//! - The lemmas that several crates use: on options (`proofs/Options`), on lists (`proofs/Lists`), and on pools, whose
+//!   numbers count from 1 (`proofs/Pools`).
 //!
 //! Nothing is below; every other crate is above.
 

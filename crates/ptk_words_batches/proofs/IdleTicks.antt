@@ -10,13 +10,12 @@ use Rattle.ptk_words_windows.specs.Windows.{OwnTicks, WindowPlan, own_ticks, IsO
 use Rattle.ptk_words_windows.proofs.OwnLaws.{end_of_window}
 use Rattle.ptk_words_windows.proofs.NextLaws.{next_first, next_one, next_none}
 use Rattle.ptk_words_model.specs.declared.Runner.{Runner}
-use Rattle.ptk_words_model.specs.declared.Spent.{Spent}
 use Rattle.ptk_words_model.specs.declared.Spent.TheVariants.{Idle}
 use Rattle.ptk_words_model.specs.State.{Part, State}
 use Rattle.ptk_words_model.specs.Priority.{effective_priority}
 use Rattle.ptk_words_model.specs.Schedule.{after_choice, after_choice_between}
 use Rattle.ptk_words_model.specs.Withdrawal.{after_expiries}
-use Rattle.ptk_words_model.specs.Decision.{runner_in, runner_of, after_turn, spent_in_turn, ready_at, after_decision, spent_by_decision}
+use Rattle.ptk_words_model.specs.Decision.{Decision, decision, runner_in, runner_of, turn, ready_at}
 use Rattle.ptk_words_model.specs.Run.{accounted, next_from, is_at, decided, after_tick, after_tick_until}
 use Rattle.ptk_words.specs.Faults.{is_active}
 use Rattle.ptk_words_batches.specs.Quiet.{after_ticks}
@@ -38,19 +37,14 @@ idle_ready limits tick stop s idle lt =
 idle_runner : (s : Part) → s.running ≡ None → runner_of s ≡ None
 idle_runner s e = ap (λ (o : Option ℕ). runner_in o s) e
 
-idle_moved : (limits : Limits) (tick stop room : ℕ) (s : Part) → IsIdle stop s → tick < stop → after_decision limits tick room s ≡ s
-idle_moved limits tick stop room s idle lt =
-    ap (λ (u : Part). after_turn limits tick room (runner_of u) u) (idle_ready limits tick stop s idle lt)
-    ∙ ap (λ (o : Option Runner). after_turn limits tick room o s) (idle_runner s idle.running)
-
-idle_spent : (limits : Limits) (tick stop room : ℕ) (s : Part) → IsIdle stop s → tick < stop → spent_by_decision limits tick room s ≡ Idle
-idle_spent limits tick stop room s idle lt =
-    ap (λ (u : Part). spent_in_turn room (runner_of u) u) (idle_ready limits tick stop s idle lt)
-    ∙ ap (λ (o : Option Runner). spent_in_turn room o s) (idle_runner s idle.running)
+idle_decision : (limits : Limits) (tick stop room : ℕ) (s : Part) → IsIdle stop s → tick < stop → decision limits tick room s ≡ record { spent = Idle; part = s }
+idle_decision limits tick stop room s idle lt =
+    ap (λ (u : Part). turn limits tick room (runner_of u) u) (idle_ready limits tick stop s idle lt)
+    ∙ ap (λ (o : Option Runner). turn limits tick room o s) (idle_runner s idle.running)
 
 -- the decision is idle
 pub idle_decided : (limits : Limits) (tick stop room : ℕ) (s : Part) → IdleIsDecided limits tick stop room s
-idle_decided limits tick stop room s idle lt le = (idle_moved limits tick stop room s idle lt, idle_spent limits tick stop room s idle lt)
+idle_decided limits tick stop room s idle lt le = idle_decision limits tick stop room s idle lt
 
 -- ---- a tick that is not the partition's
 
@@ -79,9 +73,8 @@ next_later plan p tick status is none =
 
 idle_at : (ticks : OwnTicks) (limits : Limits) (tick stop room : ℕ) (s : State) → IsIdle stop s.part → tick < stop → decided ticks limits tick room s ≡ waiting_from ticks (tick + 1) s
 idle_at ticks limits tick stop room s idle lt =
-    let state : Spent → Part → State = λ spent part. record { part = part; account = accounted ticks limits tick room part spent s.account } in
-    ap (state (spent_by_decision limits tick room s.part)) (idle_moved limits tick stop room s.part idle lt)
-    ∙ ap (λ (spent : Spent). state spent s.part) (idle_spent limits tick stop room s.part idle lt)
+    let state : Decision → State = λ d. record { part = d.part; account = accounted ticks limits tick room d.part d.spent s.account } in
+    ap state (idle_decision limits tick stop room s.part idle lt)
 
 idle_tick : (plan : WindowPlan) (p : ℕ) (limits : Limits) (tick stop : ℕ) (s : State) → IsPlan plan → IsIdle stop s.part → tick < stop
     → after_tick (own_ticks plan p) limits tick (waiting_from (own_ticks plan p) tick s) ≡ waiting_from (own_ticks plan p) (tick + 1) s

@@ -16,7 +16,6 @@ use Rattle.ptk_words_instructions.specs.Instructions.{Effect}
 use Rattle.ptk_words_instructions.specs.PlainSteps.{Core, core, is_plain, plain_step, plain_entry, plain_entries}
 use Rattle.ptk_words_windows.specs.Windows.{OwnTicks}
 use Rattle.ptk_words_model.specs.declared.Runner.{Runner}
-use Rattle.ptk_words_model.specs.declared.Spent.{Spent}
 use Rattle.ptk_words_model.specs.declared.Spent.TheVariants.{Step}
 use Rattle.ptk_words_model.specs.declared.StepKind.TheVariants.{InstructionStep}
 use Rattle.ptk_words_model.specs.State.{Part, State, with_locks}
@@ -25,7 +24,7 @@ use Rattle.ptk_words_model.specs.Schedule.{first_ready, is_round_robin, is_runni
 use Rattle.ptk_words_model.specs.Withdrawal.{due, Expiry, in_order, after_timeout, after_expiries}
 use Rattle.ptk_words_model.specs.Console.{arriving}
 use Rattle.ptk_words_model.specs.Mutex.{wait_of}
-use Rattle.ptk_words_model.specs.Decision.{with_cpu, a0_after, entry_of, after_effect, after_arrivals, runner_of, step_kind, after_whole_step, after_turn, spent_in_turn, ready_at, after_decision, spent_by_decision}
+use Rattle.ptk_words_model.specs.Decision.{with_cpu, a0_after, entry_of, after_effect, after_arrivals, runner_of, step_kind, after_whole_step, Decision, turn, ready_at, decision}
 use Rattle.ptk_words_model.specs.Run.{accounted}
 use Rattle.ptk_words_batches.specs.Quiet.{stays_before, IsQuiet, core_of, computed, with_row, after_row}
 use Rattle.ptk_words_batches.specs.QuietLaws.{PlainIsDecided}
@@ -145,31 +144,20 @@ has_room : (room : ℕ) → 1 ≤ room → nat_lt room 1 ≡ false
 has_room room le = le-ltb room 1 le
 
 plain_turn : (limits : Limits) (tick stop room t : ℕ) (thread : Thread) (s : Part) → IsQuiet limits tick stop t thread s → tick < stop → 1 ≤ room → is_plain (core_of thread s) ≡ true
-    → after_turn limits tick room (Some (runner t thread)) s ≡ after_row tick t 1 thread s
+    → turn limits tick room (Some (runner t thread)) s ≡ record { spent = Step 1; part = after_row tick t 1 thread s }
 plain_turn limits tick stop room t thread s quiet lt le plain =
-    rw (plain_kind limits tick stop t thread s quiet plain, has_room room le) (plain_whole limits tick stop t thread s quiet lt plain)
-
-plain_spent : (limits : Limits) (tick stop room t : ℕ) (thread : Thread) (s : Part) → IsQuiet limits tick stop t thread s → 1 ≤ room → is_plain (core_of thread s) ≡ true
-    → spent_in_turn room (Some (runner t thread)) s ≡ Step 1
-plain_spent limits tick stop room t thread s quiet le plain = rw (plain_kind limits tick stop t thread s quiet plain, has_room room le) refl
+    let made : Part → Decision = λ u. record { spent = Step 1; part = u } in
+    rw (plain_kind limits tick stop t thread s quiet plain, has_room room le) (ap made (plain_whole limits tick stop t thread s quiet lt plain))
 
 pub quiet_decision : (limits : Limits) (tick stop room t : ℕ) (thread : Thread) (s : Part) → IsQuiet limits tick stop t thread s → tick < stop → 1 ≤ room → is_plain (core_of thread s) ≡ true
-    → after_decision limits tick room s ≡ after_row tick t 1 thread s
+    → decision limits tick room s ≡ record { spent = Step 1; part = after_row tick t 1 thread s }
 quiet_decision limits tick stop room t thread s quiet lt le plain =
-    ap (λ (u : Part). after_turn limits tick room (runner_of u) u) (quiet_ready limits tick stop t thread s quiet lt)
-    ∙ (ap (λ (o : Option Runner). after_turn limits tick room o s) (quiet_runner limits tick stop t thread s quiet) ∙ plain_turn limits tick stop room t thread s quiet lt le plain)
-
-pub quiet_spent : (limits : Limits) (tick stop room t : ℕ) (thread : Thread) (s : Part) → IsQuiet limits tick stop t thread s → tick < stop → 1 ≤ room → is_plain (core_of thread s) ≡ true
-    → spent_by_decision limits tick room s ≡ Step 1
-quiet_spent limits tick stop room t thread s quiet lt le plain =
-    ap (λ (u : Part). spent_in_turn room (runner_of u) u) (quiet_ready limits tick stop t thread s quiet lt)
-    ∙ (ap (λ (o : Option Runner). spent_in_turn room o s) (quiet_runner limits tick stop t thread s quiet) ∙ plain_spent limits tick stop room t thread s quiet le plain)
+    ap (λ (u : Part). turn limits tick room (runner_of u) u) (quiet_ready limits tick stop t thread s quiet lt)
+    ∙ (ap (λ (o : Option Runner). turn limits tick room o s) (quiet_runner limits tick stop t thread s quiet) ∙ plain_turn limits tick stop room t thread s quiet lt le plain)
 
 -- the decision is the plain step
 pub plain_decided : (ticks : OwnTicks) (limits : Limits) (tick stop room t : ℕ) (thread : Thread) (s : State) → PlainIsDecided ticks limits tick stop room t thread s
 unfolding plain_entries
 plain_decided ticks limits tick stop room t thread s quiet lt le plain =
-    let after : Part = after_row tick t 1 thread s.part in
-    let state : Spent → Part → State = λ spent part. record { part = part; account = accounted ticks limits tick room part spent s.account } in
-    ap (state (spent_by_decision limits tick room s.part)) (quiet_decision limits tick stop room t thread s.part quiet lt le plain)
-    ∙ ap (λ (spent : Spent). state spent after) (quiet_spent limits tick stop room t thread s.part quiet lt le plain)
+    let state : Decision → State = λ d. record { part = d.part; account = accounted ticks limits tick room d.part d.spent s.account } in
+    ap state (quiet_decision limits tick stop room t thread s.part quiet lt le plain)

@@ -4,7 +4,7 @@ use Rattle.std.specs.Prelude.{Option, Some, if◌then◌else◌}
 use Rattle.ptk_words.specs.declared.sections.Limits.{Limits}
 use Rattle.ptk_words_windows.specs.Windows.{OwnTicks}
 use Rattle.ptk_words_model.specs.State.{Part, State}
-use Rattle.ptk_words_model.specs.Decision.{ready_at, runner_of, after_turn, spent_in_turn}
+use Rattle.ptk_words_model.specs.Decision.{Decision, ready_at, runner_of, turn}
 use Rattle.ptk_words_model.specs.Run.{accounted, is_at, decided, after_tick, after_tick_until}
 use Rattle.ptk_words_batches.specs.Quiet.{after_ticks}
 use Rattle.ptk_words_batches.specs.Prepared.{prepared, PreparedGoesOn}
@@ -12,8 +12,8 @@ use Rattle.ptk_words_batches.specs.Prepared.{prepared, PreparedGoesOn}
 -- the state after the turn of this prepared part
 abbrev turned : OwnTicks → Limits → ℕ → ℕ → State → Part → State
 turned ticks limits tick room s ready =
-    let after : Part = after_turn limits tick room (runner_of ready) ready in
-    record { part = after; account = accounted ticks limits tick room after (spent_in_turn room (runner_of ready) ready) s.account }
+    let d : Decision = turn limits tick room (runner_of ready) ready in
+    record { part = d.part; account = accounted ticks limits tick room d.part d.spent s.account }
 
 -- the decision at the tick is that of the state before
 prepared_decided : (ticks : OwnTicks) (limits : Limits) (tick room : ℕ) (s : State) → ready_at limits tick (ready_at limits tick s.part) ≡ ready_at limits tick s.part

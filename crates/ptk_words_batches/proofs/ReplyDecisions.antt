@@ -24,7 +24,7 @@ use Rattle.ptk_words_model.specs.declared.StepKind.TheVariants.{CallStep}
 use Rattle.ptk_words_model.specs.State.{Part, with_locks}
 use Rattle.ptk_words_model.specs.Priority.{thread_at, effective_priority}
 use Rattle.ptk_words_model.specs.Schedule.{with_reply, is_round_robin, is_running, after_interval, after_turn_end, with_used}
-use Rattle.ptk_words_model.specs.Decision.{with_cpu, word_fetched, entry_of, a0_after, after_effect, step_kind, after_whole_step, after_turn, spent_in_turn, runner_of}
+use Rattle.ptk_words_model.specs.Decision.{with_cpu, word_fetched, entry_of, a0_after, after_effect, step_kind, after_whole_step, Decision, turn, runner_of}
 use Rattle.ptk_words_batches.specs.Quiet.{stays_before, IsQuiet, used_after, computed, with_row}
 use Rattle.ptk_words_batches.specs.Replies.{Outcome, with_outcome, IsReply, ReplyIsDecided, ReplyStaysQuiet, reply_entry, after_reply}
 use Rattle.ptk_words_batches.proofs.PlainSteps.{no_gate_by}
@@ -157,23 +157,18 @@ fits : (room ticks cost : ℕ) → ticks ≡ cost → ticks ≤ room → nat_lt 
 fits room ticks cost e le = le-ltb room cost (omega (arith, e, le))
 
 reply_turn : (limits : Limits) (tick stop room t ticks : ℕ) (thread : Thread) (after : Processor) (o : Outcome) (s : Part) → IsQuiet limits tick stop t thread s → IsReply limits ticks t thread after o s → tick + ticks ≤ stop → ticks ≤ room
-    → (after_turn limits tick room (Some (runner t thread)) s ≡ after_reply tick t ticks thread after o s) × (spent_in_turn room (Some (runner t thread)) s ≡ Step ticks)
+    → turn limits tick room (Some (runner t thread)) s ≡ record { spent = Step ticks; part = after_reply tick t ticks thread after o s }
 reply_turn limits tick stop room t ticks thread after o s quiet reply le room_for =
-    let kind = reply_kind limits tick stop t thread s quiet reply.word in
-    let fit = fits room ticks (cost_of (register thread.cpu A7)) reply.cost room_for in (
-      rw (kind, fit) (reply_whole limits tick stop t ticks thread after o s quiet reply le),
-      rw (kind, fit) (ap Step (sym reply.cost)),
-    )
+    let made : Part → Decision = λ u. record { spent = Step (cost_of (register thread.cpu A7)); part = u } in
+    let paid : ℕ → Decision = λ n. record { spent = Step n; part = after_reply tick t ticks thread after o s } in
+    rw (reply_kind limits tick stop t thread s quiet reply.word, fits room ticks (cost_of (register thread.cpu A7)) reply.cost room_for)
+    (ap made (reply_whole limits tick stop t ticks thread after o s quiet reply le) ∙ ap paid (sym reply.cost))
 
 pub reply_decided : (limits : Limits) (tick stop room t ticks : ℕ) (thread : Thread) (after : Processor) (o : Outcome) (s : Part) → ReplyIsDecided limits tick stop room t ticks thread after o s
 reply_decided limits tick stop room t ticks thread after o s quiet reply some le room_for =
     let lt : tick < stop = omega (arith, some, le) in
-    let made = reply_turn limits tick stop room t ticks thread after o s quiet reply le room_for in (
-      ap (λ (u : Part). after_turn limits tick room (runner_of u) u) (quiet_ready limits tick stop t thread s quiet lt)
-          ∙ (ap (λ (o : Option Runner). after_turn limits tick room o s) (quiet_runner limits tick stop t thread s quiet) ∙ made.0),
-      ap (λ (u : Part). spent_in_turn room (runner_of u) u) (quiet_ready limits tick stop t thread s quiet lt)
-          ∙ (ap (λ (o : Option Runner). spent_in_turn room o s) (quiet_runner limits tick stop t thread s quiet) ∙ made.1),
-    )
+    ap (λ (u : Part). turn limits tick room (runner_of u) u) (quiet_ready limits tick stop t thread s quiet lt)
+    ∙ (ap (λ (o : Option Runner). turn limits tick room o s) (quiet_runner limits tick stop t thread s quiet) ∙ reply_turn limits tick stop room t ticks thread after o s quiet reply le room_for)
 
 -- ---- what it leaves
 

@@ -7,6 +7,7 @@ use Rattle.ptk_words.specs.declared.threads.Thread.{Thread}
 use Rattle.ptk_words.proofs.Pools.{length-changed}
 use Rattle.ptk_words_instructions.specs.PlainSteps.{Core, plain_steps}
 use Rattle.ptk_words_model.specs.State.{Part}
+use Rattle.ptk_words_model.specs.Decision.{Decision}
 use Rattle.ptk_words_invariant.specs.Well.{IsWell}
 use Rattle.ptk_words_invariant.proofs.Decisions.{well_decision}
 use Rattle.ptk_words_batches.specs.Quiet.{IsQuiet, ArePlain, core_of, computed, after_row, thread_after}
@@ -25,7 +26,7 @@ priorities_kept tick t n thread s =
 one_well : (limits : Limits) (tick stop t : ℕ) (thread : Thread) (s : Part) → IsQuiet limits tick stop t thread s → tick < stop → ArePlain 1 (core_of thread s) → IsWell limits s → IsWell limits (after_row tick t 1 thread s)
 unfolding plain_steps
 one_well limits tick stop t thread s quiet lt plain well =
-    subst (IsWell limits) (quiet_decision limits tick stop 1 t thread s quiet lt (omega arith) (plain 0 (omega arith))) (well_decision limits tick 1 s quiet.active well)
+    subst (λ (d : Decision). IsWell limits d.part) (quiet_decision limits tick stop 1 t thread s quiet lt (omega arith) (plain 0 (omega arith))) (well_decision limits tick 1 s quiet.active well)
 
 next_plain : (n : ℕ) (thread : Thread) (s : Part) (tick t : ℕ) → ArePlain (suc n) (core_of thread s) → ArePlain 1 (core_of (thread_after n thread s) (after_row tick t n thread s))
 unfolding plain_steps

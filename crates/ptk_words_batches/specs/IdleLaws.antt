@@ -4,7 +4,7 @@ use Rattle.ptk_words.specs.declared.sections.Limits.{Limits}
 use Rattle.ptk_words_windows.specs.Windows.{WindowPlan, own_ticks, IsPlan}
 use Rattle.ptk_words_model.specs.declared.Spent.TheVariants.{Idle}
 use Rattle.ptk_words_model.specs.State.{Part, State}
-use Rattle.ptk_words_model.specs.Decision.{after_decision, spent_by_decision}
+use Rattle.ptk_words_model.specs.Decision.{decision}
 use Rattle.ptk_words_model.specs.Run.{next_from}
 use Rattle.ptk_words_batches.specs.Quiet.{after_ticks}
 use Rattle.ptk_words_batches.specs.Idle.{IsIdle, waiting_from}
@@ -12,7 +12,7 @@ use Rattle.ptk_words_batches.specs.Idle.{IsIdle, waiting_from}
 -- the decision of an idle partition changes nothing, and is idle, whatever the room (own)
 abbrev pub IdleIsDecided : Limits → ℕ → ℕ → ℕ → Part → Type 0
 IdleIsDecided limits tick stop room s =
-    IsIdle stop s → tick < stop → 1 ≤ room → (after_decision limits tick room s ≡ s) × (spent_by_decision limits tick room s ≡ Idle)
+    IsIdle stop s → tick < stop → 1 ≤ room → decision limits tick room s ≡ record { spent = Idle; part = s }
 
 -- ticks in a row change nothing of an idle partition but the tick of its next decision (own)
 abbrev pub IdleIsTicks : WindowPlan → ℕ → Limits → ℕ → ℕ → ℕ → State → Type 0

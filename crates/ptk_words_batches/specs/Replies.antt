@@ -14,7 +14,7 @@ use Rattle.ptk_words_model.specs.State.{Mutex, Part, with_locks, with_keys, with
 use Rattle.ptk_words_model.specs.Priority.{effective_priority}
 use Rattle.ptk_words_model.specs.Schedule.{with_registers}
 use Rattle.ptk_words_model.specs.Calls.{replied}
-use Rattle.ptk_words_model.specs.Decision.{with_cpu, word_fetched, after_call, after_decision, spent_by_decision}
+use Rattle.ptk_words_model.specs.Decision.{with_cpu, word_fetched, after_call, decision}
 use Rattle.ptk_words_batches.specs.Quiet.{IsQuiet, computed, with_row}
 
 -- what a quiet call leaves of a partition beside its caller's registers: the mutexes, the console's output, and the threads' values of the keys (own)
@@ -58,7 +58,7 @@ after_reply tick t ticks thread after o s = with_row t ticks (core after s.memor
 abbrev pub ReplyIsDecided : Limits → ℕ → ℕ → ℕ → ℕ → ℕ → Thread → Processor → Outcome → Part → Type 0
 ReplyIsDecided limits tick stop room t ticks thread after o s =
     IsQuiet limits tick stop t thread s → IsReply limits ticks t thread after o s → 1 ≤ ticks → tick + ticks ≤ stop → ticks ≤ room
-    → (after_decision limits tick room s ≡ after_reply tick t ticks thread after o s) × (spent_by_decision limits tick room s ≡ Step ticks)
+    → decision limits tick room s ≡ record { spent = Step ticks; part = after_reply tick t ticks thread after o s }
 
 -- such a step leaves a quiet partition quiet (own)
 abbrev pub ReplyStaysQuiet : Limits → ℕ → ℕ → ℕ → ℕ → Thread → Processor → Outcome → Part → Type 0

@@ -1,6 +1,7 @@
 -- A step and a decision leave the state whole.
 use Rattle.std.proofs.Common.{◌≡◌, ℕ, ◌%◌, Bool, true, false, List, [], ◌∷◌, length, refl, ◌∙◌, ap, ◌++◌, ◌+◌}
 use Rattle.std.specs.Prelude.{Option, Some, None, fold, nat_lt, if◌then◌else◌}
+use Rattle.std.proofs.lemmas.Bool.{cond_both}
 use Rattle.ptk_words.specs.Processor.{Processor, register}
 use Rattle.ptk_words.specs.declared.TheConstants.{A0, A7, CANCELED}
 use Rattle.ptk_words.specs.declared.faults.Cause.TheVariants as cause
@@ -21,7 +22,7 @@ use Rattle.ptk_words_model.specs.Keys.{DestructorCall, destructor_of, next_destr
 use Rattle.ptk_words_model.specs.Unwinding.{after_unwinding_start, after_destructor_or_end, after_unwinding_move, cleanups_of, after_return, after_gate_step}
 use Rattle.ptk_words_model.specs.Withdrawal.{after_expiries}
 use Rattle.ptk_words_model.specs.Console.{arriving, without_arriving}
-use Rattle.ptk_words_model.specs.Decision.{after_arrival_for, first_waiter, after_arrival, after_arrivals, runner_at, runner_in, runner_of, step_kind, step_cost, with_cpu, invocation, after_call, after_effect, after_step, entry_of, after_whole_step, after_turn, ready_at, after_decision}
+use Rattle.ptk_words_model.specs.Decision.{after_arrival_for, first_waiter, after_arrival, after_arrivals, runner_at, runner_in, runner_of, step_kind, step_cost, with_cpu, invocation, after_call, after_effect, after_step, entry_of, after_whole_step, Decision, after_turn, ready_at, after_decision}
 use Rattle.ptk_words.specs.Faults.{is_active}
 use Rattle.ptk_words_invariant.specs.Well.{IsWell}
 use Rattle.ptk_words_sync_invariant.proofs.Lined.{ready_alive}
@@ -91,13 +92,11 @@ well_whole_step limits tick r kind s runs well =
     well_interval limits (step_cost kind) r.number thread (record after { last = Some (entry_of tick r kind s.memory thread) })
     (well_last limits (Some (entry_of tick r kind s.memory thread)) after (well_step limits tick r kind s runs well))
 
-turn_at : (limits : Limits) (tick : ℕ) (r : Runner) (s : Part) (b : Bool) → s.running ≡ Some r.number → IsWell limits s → IsWell limits (if b then s else after_whole_step limits tick r (step_kind s r.number r.thread) s)
-turn_at limits tick r s true runs well = well
-turn_at limits tick r s false runs well = well_whole_step limits tick r (step_kind s r.number r.thread) s runs well
-
 pub well_turn : (limits : Limits) (tick room : ℕ) (o : Option Runner) (s : Part) → ((r : Runner) → o ≡ Some r → s.running ≡ Some r.number) → IsWell limits s → IsWell limits (after_turn limits tick room o s)
 well_turn limits tick room None s runs well = well
-well_turn limits tick room (Some r) s runs well = turn_at limits tick r s (nat_lt room (step_cost (step_kind s r.number r.thread))) (runs r refl) well
+well_turn limits tick room (Some r) s runs well =
+    let kind : StepKind = step_kind s r.number r.thread in
+    cond_both (nat_lt room (step_cost kind)) _ _ (λ (d : Decision). IsWell limits d.part) (λ e. well) (λ e. well_whole_step limits tick r kind s (runs r refl) well)
 
 -- ---- a decision
 

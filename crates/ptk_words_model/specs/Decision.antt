@@ -160,26 +160,38 @@ after_whole_step limits tick r kind s =
     let thread : Option Thread = thread_at after.locks r.number in
     after_interval limits.interval (step_cost kind) r.number thread (record after { last = Some (entry_of tick r kind s.memory thread) })
 
--- a step begins only if its whole cost fits (own)
-abbrev pub after_turn : Limits → Tick → Ticks → Option Runner → Part → Part
-after_turn limits tick room None s = s
-after_turn limits tick room (Some r) s =
-    if nat_lt room (step_cost (step_kind s r.number r.thread)) then s else after_whole_step limits tick r (step_kind s r.number r.thread) s
+-- what a turn or a decision comes to: what it spends, and the state after it
+pub record Decision : Type 0 where
+  pub spent : Spent
+  pub part : Part
 
--- what a turn comes to: no thread runs, the rest of the window is lost, or a step of so many ticks (own)
-abbrev pub spent_in_turn : Ticks → Option Runner → Part → Spent
-spent_in_turn room None s = Idle
-spent_in_turn room (Some r) s =
-    if nat_lt room (step_cost (step_kind s r.number r.thread)) then Lost else Step (step_cost (step_kind s r.number r.thread))
+-- no thread runs; or a step, which begins only if its whole cost fits; else the rest of the window is lost (own)
+abbrev pub turn : Limits → Tick → Ticks → Option Runner → Part → Decision
+turn limits tick room None s = record { spent = Idle; part = s }
+turn limits tick room (Some r) s =
+    let kind : StepKind = step_kind s r.number r.thread in
+    if nat_lt room (step_cost kind) then record { spent = Lost; part = s } else record { spent = Step (step_cost kind); part = after_whole_step limits tick r kind s }
+
+-- the state after a turn
+abbrev pub after_turn : Limits → Tick → Ticks → Option Runner → Part → Part
+after_turn limits tick room o s = (turn limits tick room o s).part
+
+-- what a turn spends
+abbrev pub spent_in_turn : Limits → Tick → Ticks → Option Runner → Part → Spent
+spent_in_turn limits tick room o s = (turn limits tick room o s).spent
 
 -- after the arrivals, the expiries and the choice of a tick
 abbrev pub ready_at : Limits → Tick → Part → Part
 ready_at limits tick s = after_choice (after_expiries tick (after_arrivals limits tick s))
 
--- the state after the decision at an own tick with so many ticks to its window's end (own)
-abbrev pub after_decision : Limits → Tick → Ticks → Part → Part
-after_decision limits tick room s = let ready : Part = ready_at limits tick s in after_turn limits tick room (runner_of ready) ready
+-- the decision at an own tick with so many ticks to its window's end (own)
+abbrev pub decision : Limits → Tick → Ticks → Part → Decision
+decision limits tick room s = let ready : Part = ready_at limits tick s in turn limits tick room (runner_of ready) ready
 
--- what the decision spends
+-- the state after a decision
+abbrev pub after_decision : Limits → Tick → Ticks → Part → Part
+after_decision limits tick room s = (decision limits tick room s).part
+
+-- what a decision spends
 abbrev pub spent_by_decision : Limits → Tick → Ticks → Part → Spent
-spent_by_decision limits tick room s = let ready : Part = ready_at limits tick s in spent_in_turn room (runner_of ready) ready
+spent_by_decision limits tick room s = (decision limits tick room s).spent

@@ -17,7 +17,7 @@ use Rattle.ptk_words_model.specs.declared.Spent.TheVariants.{Step, Idle, Lost}
 use Rattle.ptk_words_model.specs.State.{Part, Account, State}
 use Rattle.ptk_words_model.specs.Keys.{no_values, no_rounds}
 use Rattle.ptk_words_model.specs.ThreadCreation.{start_cpu, new_thread, new_cancellation, default_stack_top, with_new_thread}
-use Rattle.ptk_words_model.specs.Decision.{after_decision, spent_by_decision}
+use Rattle.ptk_words_model.specs.Decision.{Decision, decision}
 
 -- ---- the start
 
@@ -107,8 +107,8 @@ accounted ticks limits tick room part (Step cost) account =
 -- the state after the decision at a tick with this room
 abbrev pub decided : OwnTicks → Limits → Tick → Ticks → State → State
 decided ticks limits tick room s =
-    let after : Part = after_decision limits tick room s.part in
-    record { part = after; account = accounted ticks limits tick room after (spent_by_decision limits tick room s.part) s.account }
+    let d : Decision = decision limits tick room s.part in
+    record { part = d.part; account = accounted ticks limits tick room d.part d.spent s.account }
 
 -- the next decision is at the tick
 abbrev pub is_at : Tick → Option Tick → Bool

@@ -3,13 +3,14 @@
 //! The machine of one partition as definitions: state, priorities, places, mutexes, condition variables, console, keys,
 //! unwinding, calls, decision, the partition alone, and the texts of reports and traces.
 //!
-//! - No code but `LockMove::is_waiting`: definitions that contracts cite.
+//! - No code but `LockMove::is_waiting` and `LockMove::reply_after`: definitions that contracts cite.
 //!
 //! The code declares the few plain types that these definitions use. Below are `ptk_words`, `ptk_words_instructions`
 //! and `ptk_words_windows`; every pool, the gate, the kernel and the system cite these definitions.
 
-ghost use Rattle.std.specs.Prelude.{◌≡◌};
-ghost use Rattle.ptk_words_model.specs.Mutex.{is_waiting};
+ghost use Rattle.std.specs.Prelude.{◌≡◌, option_map};
+ghost use Rattle.ptk_words.specs.Faults.{errno_number};
+ghost use Rattle.ptk_words_model.specs.Mutex.{is_waiting, move_reply};
 
 use ptk_words::{Errno, Limits, Policy, Priority, Thread, ThreadNo, Tick};
 
@@ -143,5 +144,29 @@ impl LockMove {
             LockMove::Waits => true,
             LockMove::Takes | LockMove::Recovers | LockMove::Counts | LockMove::Refuses(_) => false,
         }
+    }
+
+    /// What the move makes of this reply: itself, an error in its place, or none yet (pthread_mutex_lock, EOWNERDEAD,
+    /// ENOTRECOVERABLE).
+    #[inline(always)]
+    pub fn reply_after(self, reply: Option<u32>) -> Option<u32>
+        ensures { result ≡ move_reply self reply }
+    {
+        match self {
+            LockMove::Takes | LockMove::Counts => reply,
+            LockMove::Recovers => in_place_of(reply, Errno::EOWNERDEAD),
+            LockMove::Waits => None,
+            LockMove::Refuses(e) => in_place_of(reply, e),
+        }
+    }
+}
+
+/// The error number in place of the reply, if there is one.
+fn in_place_of(reply: Option<u32>, e: Errno) -> Option<u32>
+    ensures { result ≡ option_map (λ _. errno_number e) reply }
+{
+    match reply {
+        Some(_) => Some(e.number()),
+        None => None,
     }
 }

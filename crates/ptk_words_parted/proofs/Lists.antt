@@ -1,27 +1,18 @@
 -- A list of threads after a push or a removal, and the room that is left.
-use Rattle.std.proofs.Common.{◌≡◌, ℕ, ◌<◌, ◌≤◌, List, [], ◌∷◌, ◌++◌, length, Bool, true, false, cond, ◌||◌, not, sym, ◌∙◌, arith, ◌⊎◌, inl, inr}
+use Rattle.std.proofs.Common.{◌≡◌, ℕ, ◌<◌, ◌≤◌, List, [], ◌∷◌, ◌++◌, length, Bool, true, false, cond, not, arith, ◌⊎◌, inl, inr}
 use Rattle.std.specs.Prelude.{nat_eq, filter, ◌==◌}
 use Rattle.std.specs.List.{IsDistinct}
 use Rattle.std.specs.Cmp.{nat_eq_equiv}
 use Rattle.std.proofs.lemmas.Bool.{eqb-true, or_left, or_right, or_cases, cases_Bool}
-use Rattle.std.proofs.lemmas.List.Folds.{list_any-append}
 use Rattle.std.proofs.lemmas.Map.Keys.{IsDistinct-cons, IsDistinct-push}
 use Rattle.std.proofs.lemmas.Map.Steps.{length-le_from_distinct_below}
 use Rattle.ptk_words.specs.Pools.{without, is_in}
-use Rattle.ptk_words.proofs.Lists.{distinct-filter, none_distinct, apart_from_out}
+use Rattle.ptk_words.proofs.Lists.{in_push, distinct-filter, none_distinct, apart_from_out}
 use Rattle.ptk_words_parted.specs.Lists.{IsLine}
 
 pub in_front : (q k : ℕ) (ks : List ℕ) → is_in q (k ∷ ks) ≡ true → (q ≡ k) ⊎ (is_in q ks ≡ true)
 in_front q k ks h =
     elim (or_cases (nat_eq q k) (is_in q ks) h) as (λ _. (q ≡ k) ⊎ (is_in q ks ≡ true)) [ inl e ↦ inl (eqb-true q k e) | inr r ↦ inr r ]
-
-in-push : (q k : ℕ) (ks : List ℕ) → is_in q (ks ++ k ∷ []) ≡ true → (q ≡ k) ⊎ (is_in q ks ≡ true)
-in-push q k ks h =
-    let split : (is_in q ks || is_in q (k ∷ [])) ≡ true = sym (list_any-append (nat_eq q) ks (k ∷ [])) ∙ h in
-    elim (or_cases (is_in q ks) (is_in q (k ∷ [])) split) as (λ _. (q ≡ k) ⊎ (is_in q ks ≡ true)) [
-      | inl r ↦ inr r
-      | inr s ↦ elim (in_front q k [] s) as (λ _. (q ≡ k) ⊎ (is_in q ks ≡ true)) [ inl e ↦ inl e | inr n ↦ inr (cc) ]
-    ]
 
 -- a number that is not in the list, put first
 pub line_front : (k : ℕ) (ks : List ℕ) → 0 < k → k ≤ 32 → is_in k ks ≡ false → IsLine ks → IsLine (k ∷ ks)
@@ -34,7 +25,7 @@ line_front k ks pos small out line = record {
 pub line_push : (k : ℕ) (ks : List ℕ) → 0 < k → k ≤ 32 → is_in k ks ≡ false → IsLine ks → IsLine (ks ++ k ∷ [])
 line_push k ks pos small out line = record {
   distinct = IsDistinct-push nat_eq_equiv ks k line.distinct out;
-  numbers = λ q h. elim (in-push q k ks h) as (λ _. (0 < q) × (q ≤ 32)) [ inl e ↦ (omega arith, omega arith) | inr r ↦ line.numbers q r ];
+  numbers = λ q h. elim (in_push k q ks h) as (λ _. (0 < q) × (q ≤ 32)) [ inl e ↦ (omega arith, omega arith) | inr r ↦ line.numbers q r ];
 }
 
 -- ---- a removal

@@ -6,6 +6,7 @@ use Rattle.std.proofs.lemmas.Bool.{cases_eq, false≢true, false_from_ne_true}
 use Rattle.ptk_words.specs.Pools.{pool_get, pool_set, pool_changed, without, is_in}
 use Rattle.ptk_words.specs.declared.threads.Thread.{Thread}
 use Rattle.ptk_words.specs.declared.threads.Wait.TheVariants.{ConditionWait}
+use Rattle.ptk_words.proofs.Options.{one_value}
 use Rattle.ptk_words.proofs.Pools.{each_set, each_changed}
 use Rattle.ptk_words.proofs.Lists.{in_push, own_push, still_push, without_other, in_without, distinct_push, distinct_without}
 use Rattle.ptk_words_model.specs.State.{Mutex, Condition}
@@ -83,9 +84,6 @@ returnable_off t before after mutexes others now are =
       room = λ u m e. are.room u m (sym (ap mutex_of_condition_wait (others u (ne u m e))) ∙ e);
     }
 
-one_on : (c d : ℕ) (o : Option ℕ) → o ≡ Some c → o ≡ Some d → d ≡ c
-one_on c d o e f = cc
-
 -- a waiter leaves the condition variable and waits on none
 pub conditions_left : (t c : ℕ) (before after : List (Option Thread)) (mutexes : List (Option Mutex)) (conditions : List (Option Condition)) → AreOtherWaits t before after → waits_on (pool_get before t) ≡ Some c → waits_on (pool_get after t) ≡ None
     → AreConditions before mutexes conditions → AreConditions after mutexes (pool_set conditions c (Some (record { waiters = without t (waiters_on (pool_get conditions c)) })))
@@ -93,7 +91,7 @@ conditions_left t c before after mutexes conditions others was now are =
     conditions_from after mutexes (pool_set conditions c (Some (record { waiters = without t (waiters_on (pool_get conditions c)) })))
     (gathered_each (without t) c after conditions (waiter_used t (pool_get conditions c) (are.waits_listed c t was))
     (gathered_left t c before after (waiters_on (pool_get conditions c)) others now (gathered_any before c (pool_get conditions c) (gathered_at before mutexes conditions are c)))
-    (λ d ne. gathered_beside t d before after (pool_get conditions d) others (λ e. ne (one_on c d (waits_on (pool_get before t)) was e)) (none_on d (waits_on (pool_get after t)) now) (gathered_at before mutexes conditions are d)))
+    (λ d ne. gathered_beside t d before after (pool_get conditions d) others (λ e. ne (one_value d c (waits_on (pool_get before t)) e was)) (none_on d (waits_on (pool_get after t)) now) (gathered_at before mutexes conditions are d)))
     (returnable_off t before after mutexes others now (returnable_of before mutexes conditions are))
 
 -- ---- a wait begins
@@ -120,11 +118,11 @@ pub conditions_joined : (t c m : ℕ) (deadline : Option ℕ) (before after : Li
     → AreConditions before mutexes conditions → AreConditions after mutexes (pool_set conditions c (Some (record { waiters = waiters_on (pool_get conditions c) ++ t ∷ [] })))
 conditions_joined t c m deadline before after mutexes conditions others was waits used named room are =
     let now : waits_on (pool_get after t) ≡ Some c = ap condition_of_wait waits in
-    let own : (n : ℕ) → names (pool_get after t) ≡ Some n → n ≡ m = λ n e. one_on m n (names (pool_get after t)) (ap mutex_of_condition_wait waits) e in
+    let own : (n : ℕ) → names (pool_get after t) ≡ Some n → n ≡ m = λ n e. one_value n m (names (pool_get after t)) e (ap mutex_of_condition_wait waits) in
     conditions_from after mutexes (pool_set conditions c (Some (record { waiters = waiters_on (pool_get conditions c) ++ t ∷ [] })))
     (gathered_each (λ ts. ts ++ t ∷ []) c after conditions used
     (gathered_joined t c before after (waiters_on (pool_get conditions c)) others was now (gathered_any before c (pool_get conditions c) (gathered_at before mutexes conditions are c)))
-    (λ d ne. gathered_beside t d before after (pool_get conditions d) others (none_on d (waits_on (pool_get before t)) was) (λ e. ne (one_on c d (waits_on (pool_get after t)) now e)) (gathered_at before mutexes conditions are d)))
+    (λ d ne. gathered_beside t d before after (pool_get conditions d) others (none_on d (waits_on (pool_get before t)) was) (λ e. ne (one_value d c (waits_on (pool_get after t)) e now)) (gathered_at before mutexes conditions are d)))
     (record {
       used = λ u n e. elim (cases_eq u t) [
         | inl same ↦ subst (λ (j : ℕ). IsSome (pool_get mutexes j)) (sym (own n (ap (λ v. names (pool_get after v)) (sym same) ∙ e))) named

@@ -31,7 +31,7 @@ use Rattle.ptk_words_model.specs.Keys.{DestructorCall, next_destructor}
 use Rattle.ptk_words_model.specs.Console.{arriving, without_arriving}
 use Rattle.ptk_words_model.specs.Unwinding.{after_join_by, after_release, after_end, after_destructor_or_end, after_unwinding_move, cleanups_of, after_gate_step}
 use Rattle.ptk_words_model.specs.Withdrawal.{after_timeout, Expiry, due, in_order, after_expiries}
-use Rattle.ptk_words_model.specs.Decision.{after_arrival_for, first_waiter, after_arrival, after_arrivals, runner_of, step_kind, step_cost, with_cpu, invocation, after_effect, after_step, entry_of, after_turn, ready_at, after_decision, spent_by_decision}
+use Rattle.ptk_words_model.specs.Decision.{after_arrival_for, first_waiter, after_arrival, after_arrivals, runner_of, step_kind, step_cost, with_cpu, invocation, after_effect, after_step, entry_of, Decision, after_turn, ready_at, after_decision, spent_by_decision}
 use Rattle.ptk_words_model.specs.Run.{empty_part, fits, memory_of, with_image, start_part, accounted, decided, is_at, after_tick_until, alone}
 use Rattle.ptk_words_invariant.proofs.Effects.{HasLength, effect_length}
 use Rattle.ptk_words_invariant.proofs.Starts.{memory_fits}
@@ -100,7 +100,8 @@ turn_sized l tick room (Some r) s h =
     let after : Part = after_step l tick r kind s in
     let stepped : IsSized l after = step_sized l tick r kind s h in
     let thread : Option Thread = thread_at after.locks r.number in
-    part_either l _ _ _ h (interval_sized l l.interval (step_cost kind) r.number thread (record after { last = Some (entry_of tick r kind s.memory thread) }) (search kept))
+    cond_both (nat_lt room (step_cost kind)) _ _ (λ (d : Decision). IsSized l d.part) (λ e. h)
+    (λ e. interval_sized l l.interval (step_cost kind) r.number thread (record after { last = Some (entry_of tick r kind s.memory thread) }) (search kept))
 
 -- ---- what comes before a step
 

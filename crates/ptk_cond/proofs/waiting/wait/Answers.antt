@@ -12,12 +12,12 @@ unlock-requires c = record {
 
 pub returns-clause-roster : goal.returns-clause-roster
 returns-clause-roster c =
-    asleep c.args.p c.args.t c.args.c c.args.m c.args.deadline c.args.roster.now c.await_condition.new.self c.unlock.new.roster c.set_wait.new.self c.requires.ready c.requires.caller c.await_condition.ensures c.unlock.ensures.roster c.set_wait.ensures
+    asleep c.args.p c.args.t c.args.c c.args.m c.args.deadline c.args.roster.now c.await_condition.new.self c.unlock.new.roster c.update.new.self c.requires.ready c.requires.caller c.await_condition.ensures c.unlock.ensures.roster c.update.ensures
 
 pub returns-clause-ready : goal.returns-clause-ready
 returns-clause-ready c =
-    asleep_synced c.args.p c.args.t c.args.c c.args.m c.args.deadline c.args.roster.now c.await_condition.new.self c.unlock.new.roster c.set_wait.new.self c.requires.ready c.requires.caller c.await_condition.ensures c.unlock.ensures.roster c.unlock.ensures.ready c.set_wait.ensures
+    asleep_synced c.args.p c.args.t c.args.c c.args.m c.args.deadline c.args.roster.now c.await_condition.new.self c.unlock.new.roster c.update.new.self c.requires.ready c.requires.caller c.await_condition.ensures c.unlock.ensures.roster c.unlock.ensures.ready c.update.ensures
 
 pub returns-clause-sound : goal.returns-clause-sound
 returns-clause-sound c =
-    asleep_sound c.args.p c.args.t c.args.c c.args.m c.args.deadline c.args.roster.now c.await_condition.new.self c.unlock.new.roster c.set_wait.new.self c.requires.ready c.requires.caller c.await_condition.ensures c.unlock.ensures.roster c.unlock.ensures.ready c.set_wait.ensures
+    asleep_sound c.args.p c.args.t c.args.c c.args.m c.args.deadline c.args.roster.now c.await_condition.new.self c.unlock.new.roster c.update.new.self c.requires.ready c.requires.caller c.await_condition.ensures c.unlock.ensures.roster c.unlock.ensures.ready c.update.ensures

@@ -19,7 +19,7 @@ pub returns-then-room-cost-clause-told : goal.returns-then-room-cost-clause-told
 returns-then-room-cost-clause-told c =
     let seen : Thread = c.used_thread-thread.result.now in
     let paid : c.call_cost-cost.result ≡ cost_of (register seen.cpu A7) = c.call_cost-cost.ensures.value (register seen.cpu A7) (c.of_number-known.ensures ∙ ap call_of c.register.ensures.value) in
-    lost_told c.args.room c.call_cost-cost.result c.args.t seen c.args.pools.now.here c.used_thread-thread.ensures c.requires.call paid c.if-room-cost.true
+    lost_told (limits_here c.args.pools.now) c.args.tick c.args.room c.call_cost-cost.result c.args.t seen c.args.pools.now.here c.used_thread-thread.ensures c.requires.call paid c.if-room-cost.true
 
 pub returns-then-room-cost-clause-moved : goal.returns-then-room-cost-clause-moved
 returns-then-room-cost-clause-moved c =
@@ -31,7 +31,7 @@ pub returns-in-Some-SchedYield-clause-told : goal.returns-in-Some-SchedYield-cla
 returns-in-Some-SchedYield-clause-told c =
     let seen : Thread = c.used_thread-thread.result.now in
     let paid : c.call_cost-cost.result ≡ cost_of (register seen.cpu A7) = c.call_cost-cost.ensures.value (register seen.cpu A7) (c.of_number-known.ensures ∙ ap call_of c.register.ensures.value) in
-    made_told c.args.room c.call_cost-cost.result c.args.t seen c.args.pools.now.here c.used_thread-thread.ensures c.requires.call paid c.if-room-cost.false
+    made_told (limits_here c.args.pools.now) c.args.tick c.args.room c.call_cost-cost.result c.args.t seen c.args.pools.now.here c.used_thread-thread.ensures c.requires.call paid c.if-room-cost.false
 
 pub returns-in-Some-SchedYield-clause-moved : goal.returns-in-Some-SchedYield-clause-moved
 returns-in-Some-SchedYield-clause-moved c =
@@ -48,7 +48,7 @@ pub returns-in_default-clause-told : goal.returns-in_default-clause-told
 returns-in_default-clause-told c =
     let seen : Thread = c.used_thread-thread.result.now in
     let paid : c.call_cost-cost.result ≡ cost_of (register seen.cpu A7) = c.call_cost-cost.ensures.value (register seen.cpu A7) (c.of_number-known.ensures ∙ ap call_of c.register.ensures.value) in
-    made_told c.args.room c.call_cost-cost.result c.args.t seen c.args.pools.now.here c.used_thread-thread.ensures c.requires.call paid c.if-room-cost.false
+    made_told (limits_here c.args.pools.now) c.args.tick c.args.room c.call_cost-cost.result c.args.t seen c.args.pools.now.here c.used_thread-thread.ensures c.requires.call paid c.if-room-cost.false
 
 pub returns-in_default-clause-moved : goal.returns-in_default-clause-moved
 returns-in_default-clause-moved c =

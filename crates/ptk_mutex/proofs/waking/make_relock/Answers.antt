@@ -27,7 +27,7 @@ returns-clause-threads c =
     let awake : awaited (thread_at moved c.args.t) ≡ None =
     ap (λ (l : List (Option Thread)). awaited (pool_get l c.args.t)) (move_threads c.args.made c.args.t c.args.m (RelockWait c.args.m c.args.reply) locks goes_on) ∙ c.requires.caller.awake in
     ap (λ (r : Rostered). r.table) c.wake_with.ensures
-    ∙ ap (with_changed c.args.p c.args.t (woken_with (option_to_list c.reply_of.result))) c.make-visited.ensures.threads
-    ∙ ap (λ (r : Option ℕ). with_changed c.args.p c.args.t (woken_with (option_to_list r)) (with_threads c.args.p moved c.args.roster.now.table)) c.reply_of.ensures
+    ∙ ap (with_changed c.args.p c.args.t (woken_with (option_to_list c.reply_after.result))) c.make-visited.ensures.threads
+    ∙ ap (λ (r : Option ℕ). with_changed c.args.p c.args.t (woken_with (option_to_list r)) (with_threads c.args.p moved c.args.roster.now.table)) c.reply_after.ensures
     ∙ wake_stored c.args.p c.args.t (option_to_list (move_reply c.args.made c.args.reply)) c.args.roster.now.table moved c.requires.ready.part.of_threads awake
     ∙ ap (λ (l : Locks). with_threads c.args.p l c.args.roster.now.table) (sym (relock_wakes c.args.made c.args.t c.args.m c.args.reply locks goes_on))

@@ -4,7 +4,7 @@ use Rattle.ptk_gate_pools.proofs.Changed.{changed_pooled, changed_held}
 use Rattle.ptk_gate_pools.proofs.pools.Pools.give_values.Goals as goal
 
 pub invariant_of-self : goal.invariant_of-self
-invariant_of-self c = changed_pooled c.self.inside.hand c.args.t (with_reply c.args.values.now) c.self.inside c.set_values.new.self c.set_values.ensures (λ thread. refl) (λ thread. refl) c.self.invariant
+invariant_of-self c = changed_pooled c.self.inside.hand c.args.t (with_reply c.args.values.now) c.self.inside c.update_if_used.new.self c.update_if_used.ensures (λ thread. refl) (λ thread. refl) c.self.invariant
 
 pub returns : goal.returns
-returns c = rw (← c.self.view_is) (changed_held c.self.inside.hand c.args.t (with_reply c.args.values.now) c.self.inside c.set_values.new.self c.set_values.ensures c.self.invariant c.self.invariant.in_hand)
+returns c = rw (← c.self.view_is) (changed_held c.self.inside.hand c.args.t (with_reply c.args.values.now) c.self.inside c.update_if_used.new.self c.update_if_used.ensures c.self.invariant c.self.invariant.in_hand)

@@ -4,7 +4,7 @@ use Rattle.ptk_gate_pools.proofs.Changed.{changed_pooled, changed_held}
 use Rattle.ptk_gate_pools.proofs.pools.Pools.put_pc.Goals as goal
 
 pub invariant_of-self : goal.invariant_of-self
-invariant_of-self c = changed_pooled c.self.inside.hand c.args.t (with_pc c.args.pc) c.self.inside c.set_pc.new.self c.set_pc.ensures (λ thread. refl) (λ thread. refl) c.self.invariant
+invariant_of-self c = changed_pooled c.self.inside.hand c.args.t (with_pc c.args.pc) c.self.inside c.update.new.self c.update.ensures (λ thread. refl) (λ thread. refl) c.self.invariant
 
 pub returns : goal.returns
-returns c = rw (← c.self.view_is) (changed_held c.self.inside.hand c.args.t (with_pc c.args.pc) c.self.inside c.set_pc.new.self c.set_pc.ensures c.self.invariant c.self.invariant.in_hand)
+returns c = rw (← c.self.view_is) (changed_held c.self.inside.hand c.args.t (with_pc c.args.pc) c.self.inside c.update.new.self c.update.ensures c.self.invariant c.self.invariant.in_hand)

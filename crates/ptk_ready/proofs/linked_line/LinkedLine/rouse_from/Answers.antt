@@ -27,15 +27,15 @@ returns g c =
     c.self.view_is c.index.ensures c.requires.sound c.requires.partition.0 c.index_mut-entries.ensures.value c.linked-part.ensures.lists c.stored.ensures.priorities in
     let priority = subst (λ (s : List ℕ). (0 < stored_of s c.args.k) × (stored_of s c.args.k ≤ 32)) (sym c.stored.ensures.priorities) c.requires.priority in
     let low : place_of c.push_tail-name.result < 32 = omega (arith, ap place_of c.push_tail-name.ensures.queue, priority.0, priority.1) in
-    let done = roused g.row.LIMIT c.args.self.now c.args.threads.now c.pass_roused.new.self c.args.p c.args.k c.args.from c.push_tail-name.result c.push_tail-name.new.self lists c.stored.result.now
+    let done = roused g.row.LIMIT c.args.self.now c.args.threads.now c.pass_updated.new.self c.args.p c.args.k c.args.from c.push_tail-name.result c.push_tail-name.new.self lists c.stored.result.now
     (part_of (lines_by c.args.self.now c.args.threads.now.queues) c.args.p ++ c.args.k ∷ []) c.requires.sound was.within c.requires.waiters low
-    (ap (λ (t : ThreadTable). t.queues) c.pass_roused.ensures) (ap (λ (t : ThreadTable). t.stored) c.pass_roused.ensures) c.linked-part.ensures.lists c.stored.ensures.priorities
+    (ap (λ (t : ThreadTable). t.queues) c.pass_updated.ensures) (ap (λ (t : ThreadTable). t.stored) c.pass_updated.ensures) c.linked-part.ensures.lists c.stored.ensures.priorities
     c.push_tail-name.ensures.sound (c.push_tail-name.ensures.line ∙ ap (λ l. l ++ c.args.k ∷ []) was.same) in
     rw (c.self.view_is, c.index.ensures) (record {
       sound = done.sound;
       waiters = done.waiters;
       line = done.told ∙ ap (λ lines. set lines c.args.p (part_of (lines_by c.args.self.now c.args.threads.now.queues) c.args.p ++ c.args.k ∷ []))
           (sym (lines_same c.args.self.now c.args.threads.now.queues _ (away_same c.args.p c.args.k c.args.from c.args.threads.now c.requires.waiters)));
-      threads = ap (λ (t : ThreadTable). t.threads) c.pass_roused.ensures;
-      stored = ap (λ (t : ThreadTable). t.stored) c.pass_roused.ensures;
+      threads = ap (λ (t : ThreadTable). t.threads) c.pass_updated.ensures;
+      stored = ap (λ (t : ThreadTable). t.stored) c.pass_updated.ensures;
     })

@@ -18,7 +18,7 @@ returns-clause-on c =
     let less : c.args.turn.start < c.args.turn.end = window.before in
     let some : 1 ≤ c.ticks.result - c.ticks-2.result = omega arith in
     let costs : 1 ≤ duration_of (c.ticks.result - c.ticks-2.result) c.take_call-spent.result =
-    turn_told_costs (c.ticks.result - c.ticks-2.result) (part_at c.args.p c.self.inside.tables) c.take_call-spent.result some c.take_call-spent.ensures.told in
+    turn_told_costs (limits_at c.args.p c.self.inside.tables) c.args.turn.start (c.ticks.result - c.ticks-2.result) (part_at c.args.p c.self.inside.tables) c.take_call-spent.result some c.take_call-spent.ensures.told in
     c.end_turn.ensures.on (omega (arith, costs, c.new-from.ensures, c.from.ensures, c.duration.ensures.value))
 
 pub returns-clause-gone : goal.returns-clause-gone
@@ -27,8 +27,8 @@ returns-clause-gone c = λ s ready.
     let room : c.ticks.result - c.ticks-2.result ≡ c.args.turn.end - c.args.turn.start = cc in
     let here : state_at c.args.p (record { kept = c.self.inside.tables; accounts = c.self.inside.accounts.items }) ≡ prepared (limits_at c.args.p c.self.inside.tables) c.args.turn.start s
     = subst (λ (w : Whole). state_at c.args.p w ≡ prepared (limits_at c.args.p w.kept) c.args.turn.start s) (sym c.self.view_is) ready in
-    let told : c.take_call-spent.result ≡ spent_in_turn (c.args.turn.end - c.args.turn.start) (runner_of (part_at c.args.p c.self.inside.tables)) (part_at c.args.p c.self.inside.tables)
-    = subst (λ (r : ℕ). c.take_call-spent.result ≡ spent_in_turn r (runner_of (part_at c.args.p c.self.inside.tables)) (part_at c.args.p c.self.inside.tables)) room c.take_call-spent.ensures.told in
+    let told : c.take_call-spent.result ≡ spent_in_turn (limits_at c.args.p c.self.inside.tables) c.args.turn.start (c.args.turn.end - c.args.turn.start) (runner_of (part_at c.args.p c.self.inside.tables)) (part_at c.args.p c.self.inside.tables)
+    = subst (λ (r : ℕ). c.take_call-spent.result ≡ spent_in_turn (limits_at c.args.p c.self.inside.tables) c.args.turn.start r (runner_of (part_at c.args.p c.self.inside.tables)) (part_at c.args.p c.self.inside.tables)) room c.take_call-spent.ensures.told in
     let moved : c.take_call-spent.new.tables ≡ put_part c.args.p (after_turn (limits_at c.args.p c.self.inside.tables) c.args.turn.start (c.args.turn.end - c.args.turn.start) (runner_of (part_at c.args.p c.self.inside.tables)) (part_at c.args.p c.self.inside.tables)) c.self.inside.tables
     = subst (λ (r : ℕ). c.take_call-spent.new.tables ≡ put_part c.args.p (after_turn (limits_at c.args.p c.self.inside.tables) c.args.turn.start r (runner_of (part_at c.args.p c.self.inside.tables)) (part_at c.args.p c.self.inside.tables)) c.self.inside.tables) room c.take_call-spent.ensures.moved in
     let free : IsFreeFrom c.args.turn.start (c.args.turn.end - c.args.turn.start) c.take_call-spent.result c.args.to (part_at c.args.p c.take_call-spent.new.tables) c.new-from.result

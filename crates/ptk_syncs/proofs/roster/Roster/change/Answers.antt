@@ -1,7 +1,0 @@
-use Rattle.ptk_threads.specs.Changes.{thread_changed}
-use Rattle.ptk_syncs.proofs.Pools.{line_parts, changed_whole}
-use Rattle.ptk_syncs.proofs.roster.Roster.change.Goals as goal
-
-pub invariant_of-self : goal.invariant_of-self
-invariant_of-self c =
-    changed_whole 4611686018427387904 c.self.inside.line c.args.p c.args.k (thread_changed c.args.change) c.self.inside.threads c.change.new.self c.self.inside.mutexes c.self.inside.conditions c.change.ensures (line_parts 4611686018427387904 c.self.inside.line c.self.inside.threads c.self.inside.mutexes c.self.inside.conditions c.args.self.now c.args.p c.self.view_is c.self.invariant c.requires).1 c.self.invariant

@@ -1,7 +1,0 @@
-use Rattle.ptk_words_model.specs.Schedule.{with_reply}
-use Rattle.ptk_syncs.proofs.Pools.{line_parts, changed_whole}
-use Rattle.ptk_syncs.proofs.roster.Roster.set_values.Goals as goal
-
-pub invariant_of-self : goal.invariant_of-self
-invariant_of-self c =
-    changed_whole 4611686018427387904 c.self.inside.line c.args.p c.args.k (with_reply c.args.values.now) c.self.inside.threads c.set_values.new.self c.self.inside.mutexes c.self.inside.conditions c.set_values.ensures (line_parts 4611686018427387904 c.self.inside.line c.self.inside.threads c.self.inside.mutexes c.self.inside.conditions c.args.self.now c.args.p c.self.view_is c.self.invariant c.requires.partition).1 c.self.invariant

@@ -1,6 +1,0 @@
-use Rattle.ptk_threads.proofs.Linked.{kept_at}
-use Rattle.ptk_threads.proofs.slot_table.SlotTable.replace.Goals as goal
-
-pub invariant_of-self : goal.invariant_of-self
-invariant_of-self c =
-    kept_at c.self.inside.slots c.self.inside.ends c.args.p c.args.self.now c.lend.result.now c.replace_in.new.slots c.self.invariant c.self.view_is c.requires c.lend.ensures.value c.replace_in.ensures.links
