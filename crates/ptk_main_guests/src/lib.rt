@@ -4,13 +4,17 @@
 //! and what carries them out.
 //!
 //! Memory is ample there, so an answer that it ran out is one that fails. The functions promise nothing, and are
-//! between each row and the calls that it tests, so that a check does not compute the rows' runs. Below are the
-//! assembler (`ptk_asm`), whole runs and their system (`ptk_main_runs`), and the slot table (`ptk_threads`), along
-//! whose links some rows go; above are the crates of worked rows.
+//! between each row and the calls that it tests, so that a check does not compute the rows' runs. The modules
+//! `sources`, `plans` and `recordings` are data of `ptk_main_rows`: guests, rows of window plans, and guests whose runs
+//! are recorded. Below are the assembler (`ptk_asm`), whole runs and their system (`ptk_main_runs`), and the slot table
+//! (`ptk_threads`), along whose links some rows go; above are the crates of worked rows.
 
 mod guests;
+pub mod plans;
+pub mod recordings;
 mod rows;
 mod sights;
+pub mod sources;
 
 pub use guests::{
     ALONE, LIBRARY, NUMBERS, P, config_of, files_with, guest_of, image_of, is_report, is_trace,

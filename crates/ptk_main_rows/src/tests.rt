@@ -5,15 +5,18 @@
 
 ghost use Rattle.std.specs.Prelude.{◌<◌, length};
 
+mod cancellations;
 mod ends;
 mod greatest;
-mod guests;
 mod plans;
+mod recordings;
+mod segments;
+mod synchronisation;
 
 use ptk_main_guests::{
     Config, CutRow, Files, P, Row, RunFault, System, TraceRow, booted, config_of, files_with,
-    first_wrong_cuts, first_wrong_row, first_wrong_trace, guest_of, image_of, is_report,
-    report_now, report_of, run_on_to, run_with, trace_now, trace_with,
+    first_wrong_cuts, first_wrong_row, first_wrong_trace, guest_of, image_of, is_report, report_of,
+    run_on_to, run_with, sources, trace_with,
 };
 use ptk_words::{PartId, ThreadNo, Tick};
 use std::alloc::{AllocError, Global};
@@ -213,7 +216,7 @@ fn an_image_is_its_words(rt: HostRuntime) {
     let want =
         b"PTKI\x01\0\0\0\0\0\0\0\x24\0\0\0\0\0\0\0\0\0\0\0\x93\x08\x10\x00\x13\x05\x80\x06\x73\0\0\0\x93\x08\x10\x00\x13\x05\x90\x06\x73\0\0\0\x93\x08\0\0\x13\x05\0\0\x73\0\0\0";
     // Row hello.
-    match image_of(rt.alloc(), &[guests::HELLO]) {
+    match image_of(rt.alloc(), &[sources::HELLO]) {
         Some(bytes) => assert!(rt; is_text(&bytes, want.as_slice())),
         None => assert!(rt; false, "no image"),
     }
@@ -224,7 +227,7 @@ const ROWS: [Row<'static>; 12] = [
     Row {
         name: "hello",
         parts: &ALONE,
-        source: &[guests::HELLO],
+        source: &[sources::HELLO],
         sights: &[],
         ticks: 20,
         report: HELLO_REPORT,
@@ -232,7 +235,7 @@ const ROWS: [Row<'static>; 12] = [
     Row {
         name: "empty-image",
         parts: &ALONE,
-        source: &[guests::EMPTY],
+        source: &[sources::EMPTY],
         sights: &[],
         ticks: 20,
         report: "partition p fault illegal pc 0x00000000 steps 1 lost 0\noutput 0\n\n",
@@ -240,7 +243,7 @@ const ROWS: [Row<'static>; 12] = [
     Row {
         name: "load-at-memory-end",
         parts: &ALONE,
-        source: &[guests::LOAD_AT_END],
+        source: &[sources::LOAD_AT_END],
         sights: &[],
         ticks: 20,
         report: "partition p fault misaligned pc 0x0000000c steps 4 lost 0\noutput 0\n\n",
@@ -248,7 +251,7 @@ const ROWS: [Row<'static>; 12] = [
     Row {
         name: "load-at-memory-end",
         parts: &ALONE,
-        source: &[guests::LOAD_PAST_END],
+        source: &[sources::LOAD_PAST_END],
         sights: &[],
         ticks: 20,
         report: "partition p fault load pc 0x0000000c steps 4 lost 0\noutput 0\n\n",
@@ -256,7 +259,7 @@ const ROWS: [Row<'static>; 12] = [
     Row {
         name: "create-join",
         parts: &WIDE,
-        source: &[guests::CREATE_JOIN],
+        source: &[sources::CREATE_JOIN],
         sights: &[],
         ticks: 40,
         report: "partition p exit 7 steps 16 lost 0\noutput 0\n\n",
@@ -264,7 +267,7 @@ const ROWS: [Row<'static>; 12] = [
     Row {
         name: "number-one-reused",
         parts: &WIDE,
-        source: &[guests::NUMBER_ONE_REUSED],
+        source: &[sources::NUMBER_ONE_REUSED],
         sights: &[],
         ticks: 100,
         report: "partition p exit 5 steps 32 lost 0\noutput 1\n1\n",
@@ -272,7 +275,7 @@ const ROWS: [Row<'static>; 12] = [
     Row {
         name: "own-priority-falls",
         parts: &WIDE,
-        source: &[guests::FALLS, guests::BY_PRIO, guests::FALLS_REST],
+        source: &[sources::FALLS, sources::BY_PRIO, sources::FALLS_REST],
         sights: &[],
         ticks: 100,
         report: "partition p exit 0 steps 27 lost 0\noutput 2\nxy\n",
@@ -280,7 +283,7 @@ const ROWS: [Row<'static>; 12] = [
     Row {
         name: "own-priority-falls",
         parts: &WIDE,
-        source: &[guests::FALLS, guests::BY_PARAM, guests::FALLS_REST],
+        source: &[sources::FALLS, sources::BY_PARAM, sources::FALLS_REST],
         sights: &[],
         ticks: 100,
         report: "partition p exit 0 steps 28 lost 0\noutput 2\nyx\n",
@@ -288,7 +291,7 @@ const ROWS: [Row<'static>; 12] = [
     Row {
         name: "round-robin-windows",
         parts: &SLOW,
-        source: &[guests::ROUND_ROBIN],
+        source: &[sources::ROUND_ROBIN],
         sights: &[],
         ticks: 87,
         report: "partition p running steps 19 lost 3\noutput 0\n\npartition q idle steps 0 lost 0\noutput 0\n\n",
@@ -296,7 +299,7 @@ const ROWS: [Row<'static>; 12] = [
     Row {
         name: "input-ring",
         parts: &ONE_BYTE,
-        source: &[guests::GET_ONE],
+        source: &[sources::GET_ONE],
         sights: &[],
         ticks: 41,
         report: "partition p exit 0 steps 4 lost 0\noutput 0\n\npartition q idle steps 0 lost 0\noutput 0\n\n",
@@ -304,7 +307,7 @@ const ROWS: [Row<'static>; 12] = [
     Row {
         name: "input-ring",
         parts: &FULL_RING,
-        source: &[guests::TWENTY_TICKS, guests::GET_TWO],
+        source: &[sources::TWENTY_TICKS, sources::GET_TWO],
         sights: &[],
         ticks: 100,
         report: "partition p exit 0 steps 33 lost 2\noutput 2\nab\npartition q idle steps 0 lost 0\noutput 0\n\n",
@@ -312,7 +315,7 @@ const ROWS: [Row<'static>; 12] = [
     Row {
         name: "refused-neighbour-image",
         parts: &BARE,
-        source: &[guests::HELLO],
+        source: &[sources::HELLO],
         sights: &[],
         ticks: 40,
         report: "partition p exit 0 steps 9 lost 0\noutput 2\nhi\npartition q idle steps 0 lost 0\noutput 0\n\n",
@@ -324,7 +327,7 @@ const CUTS: [CutRow<'static>; 2] = [
     CutRow {
         name: "late-put",
         parts: &LATE,
-        source: &[guests::LATE_PUT],
+        source: &[sources::LATE_PUT],
         cuts: &[
             (40, "partition p running steps 13 lost 3\noutput 0\n\n"),
             (41, "partition p running steps 14 lost 3\noutput 1\nh\n"),
@@ -333,7 +336,7 @@ const CUTS: [CutRow<'static>; 2] = [
     CutRow {
         name: "cut-run",
         parts: &ALONE,
-        source: &[guests::HELLO],
+        source: &[sources::HELLO],
         cuts: &[
             (3, "partition p running steps 3 lost 0\noutput 1\nh\n"),
             (10, "partition p running steps 6 lost 0\noutput 2\nhi\n"),
@@ -358,40 +361,40 @@ const PAIRS: [Pair<'static>; 5] = [
     Pair {
         name: "two-hellos",
         parts: &TWO,
-        p: guests::HELLO,
-        q: guests::HELLO,
+        p: sources::HELLO,
+        q: sources::HELLO,
         ticks: 40,
         report: "partition p exit 0 steps 9 lost 0\noutput 2\nhi\npartition q exit 0 steps 9 lost 0\noutput 2\nhi\n",
     },
     Pair {
         name: "load-at-memory-end",
         parts: &TWO,
-        p: guests::LOAD_AT_END,
-        q: guests::HELLO,
+        p: sources::LOAD_AT_END,
+        q: sources::HELLO,
         ticks: 40,
         report: "partition p fault misaligned pc 0x0000000c steps 4 lost 0\noutput 0\n\npartition q exit 0 steps 9 lost 0\noutput 2\nhi\n",
     },
     Pair {
         name: "load-at-memory-end",
         parts: &TWO,
-        p: guests::LOAD_PAST_END,
-        q: guests::HELLO,
+        p: sources::LOAD_PAST_END,
+        q: sources::HELLO,
         ticks: 40,
         report: "partition p fault load pc 0x0000000c steps 4 lost 0\noutput 0\n\npartition q exit 0 steps 9 lost 0\noutput 2\nhi\n",
     },
     Pair {
         name: "neighbour-exhausts",
         parts: &BESIDE_QUIET,
-        p: guests::PUTS_THE_NUMBER,
-        q: guests::QUIET,
+        p: sources::PUTS_THE_NUMBER,
+        q: sources::QUIET,
         ticks: 1500,
         report: "partition q exit 0 steps 3 lost 0\noutput 0\n\npartition p exit 7 steps 20 lost 0\noutput 1\n2\n",
     },
     Pair {
         name: "neighbour-exhausts",
         parts: &BESIDE_STORM,
-        p: guests::PUTS_THE_NUMBER,
-        q: guests::STORM,
+        p: sources::PUTS_THE_NUMBER,
+        q: sources::STORM,
         ticks: 1500,
         report: "partition q fault break pc 0x0000003c steps 207 lost 131\noutput 4\n!!!!\npartition p exit 7 steps 20 lost 0\noutput 1\n2\n",
     },
@@ -402,35 +405,35 @@ const TRACES: [TraceRow<'static>; 5] = [
     TraceRow {
         name: "input-ring",
         parts: &ONE_BYTE,
-        source: &[guests::GET_ONE],
+        source: &[sources::GET_ONE],
         ticks: 41,
         trace: "0 1 0x00000000 0x00200893 0x00000000\n1 1 0x00000004 0x00000073 0x00000000\n19 1 0x00000008 0x00000893 0x00000000\n40 1 0x0000000c 0x00000073 0x00000000\n",
     },
     TraceRow {
         name: "short-trace",
         parts: &SHORT,
-        source: &[guests::HELLO],
+        source: &[sources::HELLO],
         ticks: 20,
         trace: SHORT_TRACE,
     },
     TraceRow {
         name: "full-trace",
         parts: &ALONE,
-        source: &[guests::HELLO],
+        source: &[sources::HELLO],
         ticks: 20,
         trace: FULL_TRACE,
     },
     TraceRow {
         name: "create-join",
         parts: &WIDE,
-        source: &[guests::CREATE_JOIN],
+        source: &[sources::CREATE_JOIN],
         ticks: 40,
         trace: CREATE_JOIN_TRACE,
     },
     TraceRow {
         name: "round-robin-windows",
         parts: &SLOW,
-        source: &[guests::ROUND_ROBIN],
+        source: &[sources::ROUND_ROBIN],
         ticks: 87,
         trace: ROUND_ROBIN_TRACE,
     },
@@ -481,7 +484,7 @@ fn is_long_report(alloc: Global) -> bool {
         Ok(want) => is_report(
             alloc,
             &LONG_OUTPUT,
-            &[guests::PUTS_8192],
+            &[sources::PUTS_8192],
             60_000,
             want.as_str(),
         ),
@@ -492,11 +495,6 @@ fn is_long_report(alloc: Global) -> bool {
 #[test]
 fn a_long_output_is_reported_whole(rt: HostRuntime) {
     assert!(rt; is_long_report(rt.alloc()));
-}
-
-#[test]
-fn rows_of_plans(rt: HostRuntime) {
-    assert_eq!(rt; first_wrong_cuts(rt.alloc(), &plans::CUTS), None);
 }
 
 #[test]
@@ -520,7 +518,7 @@ fn check_byte_at_19(rt: &impl Abort, system: &mut System<'_>) {
 #[test]
 fn a_byte_comes_into_a1(rt: HostRuntime) {
     let alloc = rt.alloc();
-    match guest_of(alloc, &ONE_BYTE, &[guests::GET_ONE]) {
+    match guest_of(alloc, &ONE_BYTE, &[sources::GET_ONE]) {
         Some((config, files)) => match booted(alloc, &config, &files) {
             Some(mut system) => check_byte_at_19(&rt, &mut system),
             None => assert!(rt; false, "no boot"),
@@ -552,7 +550,7 @@ fn counts_at(
 #[test]
 fn input_is_lost_where_the_ring_is_full(rt: HostRuntime) {
     let alloc = rt.alloc();
-    match guest_of(alloc, &FULL_RING, &[guests::SPIN]) {
+    match guest_of(alloc, &FULL_RING, &[sources::SPIN]) {
         Some((config, files)) => {
             // Row input-ring.
             assert_eq!(rt; counts_at(alloc, &config, &files, 41), Some((2, 1, 21)));
@@ -564,9 +562,9 @@ fn input_is_lost_where_the_ring_is_full(rt: HostRuntime) {
 #[test]
 fn a_neighbour_that_exhausts_changes_nothing(rt: HostRuntime) {
     let alloc = rt.alloc();
-    let p = guests::PUTS_THE_NUMBER;
-    let beside_quiet = trace_beside(alloc, &BESIDE_QUIET, p, guests::QUIET, 1500);
-    let beside_storm = trace_beside(alloc, &BESIDE_STORM, p, guests::STORM, 1500);
+    let p = sources::PUTS_THE_NUMBER;
+    let beside_quiet = trace_beside(alloc, &BESIDE_QUIET, p, sources::QUIET, 1500);
+    let beside_storm = trace_beside(alloc, &BESIDE_STORM, p, sources::STORM, 1500);
     assert!(rt; are_alike(beside_quiet, beside_storm));
 }
 
@@ -580,8 +578,8 @@ fn are_alike(a: Option<Vec<u8>>, b: Option<Vec<u8>>) -> bool {
 
 // The report of two guests after 40 ticks, where the image of q lacks its last byte.
 fn report_cut_short(alloc: Global) -> Option<Vec<u8>> {
-    let (config, mut files) = guest_of(alloc, &TWO, &[guests::HELLO])?;
-    let q = image_cut_short(alloc, guests::HELLO)?;
+    let (config, mut files) = guest_of(alloc, &TWO, &[sources::HELLO])?;
+    let q = image_cut_short(alloc, sources::HELLO)?;
     if q.len() != 59 {
         return None;
     }

@@ -1,27 +1,22 @@
 #![tactic(auto)]
 
 //! A program that runs stored guests in C and C++ and prints their reports, and draws four runs, for the gate to
-//! compare with what is stored; and worked rows of the data of pictures as tests of whole runs.
+//! compare with what is stored.
 //!
 //! What it prints is `stdout`: of each guest of `guest/tests` a heading with its name and its report, then each picture
 //! behind a line with its configuration's name. A person has looked at the pictures. `data/guests` has for each guest
 //! its configuration, `NAME.toml`, and its image, `NAME.img`, so that no compiler is needed. The rest of `data/` has
 //! the configurations and the images of the pictures: two of `examples/`, under the same paths, of which the first
 //! picture is `docs/inversion.svg`; and a guest with two owners of a mutex, in a plan of two stages with lost ticks and
-//! lost input, and in columns of many ticks. The tests have what each thread was, from which tick to which, in whole
-//! runs of small guests (`ptk_main_guests`). That a report is the one of the booted configuration, `run_with` of
-//! `ptk_main_runs` promises. Below are besides the drawing (`ptk_timeline`) and its segments (`ptk_timeline_segments`);
-//! nothing is above.
+//! lost input, and in columns of many ticks. There are no tests here: those of the data of pictures are in
+//! `ptk_main_rows`. That a report is the one of the booted configuration, `run_with` of `ptk_main_runs` promises, which
+//! `ptk_main_guests` passes on. Below is besides the drawing (`ptk_timeline`); nothing is above.
 
 ghost use Rattle.std.specs.Prelude.{◌≤◌};
 ghost use Rattle.ptk_words.specs.declared.TheConstants.{LAST_TICK};
 
 mod guests;
 mod pictures;
-#[cfg(test)]
-mod segments;
-#[cfg(test)]
-mod tests;
 
 use anyhow::Result;
 use ptk_config::{Config, Section, read_config};

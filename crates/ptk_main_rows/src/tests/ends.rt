@@ -3,11 +3,11 @@
 
 ghost use Rattle.std.specs.Prelude.{◌≤◌};
 
-use super::guests::HELLO;
 use super::{
     ALONE, FULL_TRACE, HELLO_REPORT, SHORT, SHORT_TRACE, TWO, first, first_steps, is_first_output,
     is_some_text, pair_of, parts_of, run_on, trace_on,
 };
+use ptk_main_guests::sources::HELLO;
 use ptk_main_guests::{
     BootFault, Config, Files, RunFault, System, booted, guest_of, report_now, run_on_to, trace_now,
 };

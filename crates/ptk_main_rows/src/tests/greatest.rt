@@ -12,8 +12,8 @@
 //!   byte and goes on to exit: 2 steps before and 2 after;
 //! - `cut` has an image without its last byte, `bare` has none, and that of `empty` has no text.
 
-use super::{guests, image_cut_short, is_some_text, is_text, trace_on};
-use ptk_main_guests::{Config, Files, config_of, image_of, report_of};
+use super::{image_cut_short, is_some_text, is_text, trace_on};
+use ptk_main_guests::{Config, Files, config_of, image_of, report_of, sources};
 use std::alloc::{AllocError, Global};
 
 // The numbers of a section but for its stack.
@@ -105,12 +105,12 @@ fn text_of(alloc: Global) -> Result<String, AllocError> {
 
 // The images, but for that of `cut`.
 const IMAGES: [(&str, &str); 6] = [
-    ("spin.img", guests::SPIN),
-    ("hello.img", guests::HELLO),
-    ("late.img", guests::GET_ONE),
-    ("empty.img", guests::EMPTY),
-    ("join.img", guests::CREATE_JOIN),
-    ("quiet.img", guests::QUIET),
+    ("spin.img", sources::SPIN),
+    ("hello.img", sources::HELLO),
+    ("late.img", sources::GET_ONE),
+    ("empty.img", sources::EMPTY),
+    ("join.img", sources::CREATE_JOIN),
+    ("quiet.img", sources::QUIET),
 ];
 
 // The files with the images.
@@ -120,7 +120,7 @@ fn images_of(alloc: Global) -> Option<Files> {
         let image = image_of(alloc, &[source])?;
         files.add(name, &image).ok()?;
     }
-    let cut = image_cut_short(alloc, guests::HELLO)?;
+    let cut = image_cut_short(alloc, sources::HELLO)?;
     files.add("cut.img", &cut).ok()?;
     Some(files)
 }

@@ -1,14 +1,13 @@
 //! Segments of a recording, and whether they are as wanted.
 
-use ptk_config::Config;
-use ptk_main_guests::guest_of;
+use ptk_main_guests::{Config, guest_of};
 use ptk_timeline::{Cell, Files, Recording, Row, Scale, Shade, System};
 use ptk_words::{LAST_TICK, Tick};
 use std::alloc::Global;
 
 /// A thread of the first partition has a shade from a tick on and before another, and another one on either side.
 #[derive(Clone, Copy)]
-pub(crate) struct Segment(pub u8, pub u64, pub u64, pub Shade);
+pub(super) struct Segment(pub u8, pub u64, pub u64, pub Shade);
 
 /// The recording of a configuration's run, from a tick on and before another, in at most this many columns. None where
 /// there is none.
@@ -27,7 +26,7 @@ fn recording_of(
 }
 
 /// The recording of a guest's run.
-pub(crate) fn recorded(
+pub(super) fn recorded(
     alloc: Global,
     parts: &[&str],
     source: &[&str],
@@ -57,7 +56,7 @@ fn has_segment(row: &Row, scale: Scale, segment: Segment) -> bool {
 }
 
 /// The first of the segments that the first partition's rows don't have, in a recording whose columns are a tick each.
-pub(crate) fn first_wrong_segment(recording: &Recording, segments: &[Segment]) -> Option<usize> {
+pub(super) fn first_wrong_segment(recording: &Recording, segments: &[Segment]) -> Option<usize> {
     let Some(lane) = recording.lanes().first() else {
         return Some(0);
     };
@@ -107,7 +106,7 @@ fn row_sums_up(wide: &Row, each: usize, narrow: &Row) -> bool {
 
 /// Whether the rows of a recording of the first partition, in columns of many ticks, agree with those of a recording of
 /// the same ticks whose columns are a tick each.
-pub(crate) fn does_sum_up(wide: &Recording, narrow: &Recording) -> bool {
+pub(super) fn does_sum_up(wide: &Recording, narrow: &Recording) -> bool {
     let (Some(first), Some(second)) = (wide.lanes().first(), narrow.lanes().first()) else {
         return false;
     };

@@ -1,14 +1,7 @@
-//! The worked rows of mutexes and condition variables. What is wanted was worked out by hand from the costs of calls;
-//! the ticks stand beside the guests, a column for each step's first tick. No guest can read an effective priority: the
-//! rows show it by who runs, and look up the stored one.
-
-mod conditions;
-mod deadlines;
-mod kinds;
-mod priorities;
-mod robust;
+//! The worked rows of mutexes and condition variables.
 
 use ptk_main_guests::{first_wrong_row, first_wrong_trace};
+use ptk_main_synchronisation::{conditions, deadlines, kinds, priorities, robust};
 
 #[test]
 fn rows_of_conditions(rt: HostRuntime) {

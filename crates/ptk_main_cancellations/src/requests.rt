@@ -114,8 +114,8 @@ target:
     ret                 #  21  the gate at 22 and 26
 ";
 
-/// How each guest above ends.
-pub(super) const ROWS: [Row<'static>; 4] = [
+/// How each guest of this module ends, and what is seen of it before.
+pub const ROWS: [Row<'static>; 4] = [
     Row {
         name: "an_asynchronous_request_acts_at_the_next_step",
         parts: &ALONE,
@@ -176,8 +176,8 @@ pub(super) const ROWS: [Row<'static>; 4] = [
     },
 ];
 
-/// The last steps of some of them.
-pub(super) const TRACES: [TraceRow<'static>; 1] = [TraceRow {
+/// The last steps of some guests of this module.
+pub const TRACES: [TraceRow<'static>; 1] = [TraceRow {
     name: "an_asynchronous_request_acts_at_the_next_step",
     parts: &ALONE,
     source: &[ASYNCHRONOUS_READY, LIBRARY],

@@ -99,8 +99,8 @@ const SHORT: &str = "
     .word 45000
 ";
 
-/// How each guest above ends.
-pub(super) const ROWS: [Row<'static>; 2] = [
+/// How each guest of this module ends, and what is seen of it before.
+pub const ROWS: [Row<'static>; 2] = [
     Row {
         name: "a_tick_is_a_thousand_nanoseconds",
         parts: &ALONE,
@@ -129,11 +129,11 @@ pub(super) const ROWS: [Row<'static>; 2] = [
     },
 ];
 
-/// The report of a guest that sleeps.
+// The report of a guest that sleeps.
 const ASLEEP: &str = "partition p idle steps 5 lost 0\noutput 0\n\n";
 
-/// Their reports however a run is cut.
-pub(super) const CUTS: [CutRow<'static>; 2] = [
+/// The reports of guests that sleep, however a run is cut.
+pub const CUTS: [CutRow<'static>; 2] = [
     CutRow {
         name: "a_long_sleep_is_the_same_however_it_is_cut",
         parts: &TWENTY,

@@ -217,8 +217,8 @@ third:
     ret                 # 124  the gate at 125 and 129
 ";
 
-/// How each guest above ends.
-pub(super) const ROWS: [Row<'static>; 8] = [
+/// How each guest of this module ends, and what is seen of it before.
+pub const ROWS: [Row<'static>; 8] = [
     Row {
         name: "a_lock_waits_for_the_next_window",
         parts: &HALVES,
@@ -326,8 +326,8 @@ pub(super) const ROWS: [Row<'static>; 8] = [
     },
 ];
 
-/// The last steps of some of them.
-pub(super) const TRACES: [TraceRow<'static>; 1] = [TraceRow {
+/// The last steps of some guests of this module.
+pub const TRACES: [TraceRow<'static>; 1] = [TraceRow {
     name: "a_lock_waits_for_the_next_window",
     parts: &HALVES,
     source: &[LOCK_OVER_WINDOW_END],

@@ -136,8 +136,8 @@ enable:
     ret                 #  65  the gate at 66
 ";
 
-/// How each guest above ends.
-pub(super) const ROWS: [Row<'static>; 5] = [
+/// How each guest of this module ends, and what is seen of it before.
+pub const ROWS: [Row<'static>; 5] = [
     Row {
         name: "sixteen_handlers_run_the_last_pushed_first",
         parts: &ALONE,

@@ -117,8 +117,8 @@ late:
     ecall               #  77  the gate at 83
 ";
 
-/// How each guest above ends.
-pub(super) const ROWS: [Row<'static>; 5] = [
+/// How each guest of this module ends, and what is seen of it before.
+pub const ROWS: [Row<'static>; 5] = [
     Row {
         name: "a_cycle_falls_as_its_waiter_leaves",
         parts: &ALONE,

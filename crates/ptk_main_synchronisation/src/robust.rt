@@ -109,8 +109,8 @@ second:
     ret                 # 102  the gate at 103 and 107
 ";
 
-/// How each guest above ends.
-pub(super) const ROWS: [Row<'static>; 3] = [
+/// How each guest of this module ends, and what is seen of it before.
+pub const ROWS: [Row<'static>; 3] = [
     Row {
         name: "a_dead_owners_mutex_goes_to_its_heir",
         parts: &ALONE,

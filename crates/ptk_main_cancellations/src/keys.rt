@@ -127,8 +127,8 @@ again:
     ecall               #  45
 ";
 
-/// How each guest above ends.
-pub(super) const ROWS: [Row<'static>; 5] = [
+/// How each guest of this module ends, and what is seen of it before.
+pub const ROWS: [Row<'static>; 5] = [
     // Row destructor-limit.
     Row {
         name: "a_destructor_runs_four_times_at_most",

@@ -1,15 +1,6 @@
-//! The worked rows of cancellation, cleanup handlers, keys, sleeps and input. What is wanted was worked out by hand
-//! from the costs of calls; the ticks stand beside the guests, a column for each step's first tick. Replies are kept in
-//! s registers, 1000 more; 999 is 1000 more than the result of a thread that was cancelled, 0xffffffff.
+//! The worked rows of cancellation, cleanup handlers, keys, sleeps and input.
 
-mod handlers;
-mod inputs;
-mod keys;
-mod neighbours;
-mod requests;
-mod sleeps;
-mod waits;
-
+use ptk_main_cancellations::{handlers, inputs, keys, neighbours, requests, sleeps, waits};
 use ptk_main_guests::{first_wrong_cuts, first_wrong_row, first_wrong_trace};
 
 #[test]

@@ -261,8 +261,8 @@ waiter:
     addi s0, a0, 1000   #      not reached
 ";
 
-/// How each guest above ends.
-pub(super) const ROWS: [Row<'static>; 8] = [
+/// How each guest of this module ends, and what is seen of it before.
+pub const ROWS: [Row<'static>; 8] = [
     Row {
         name: "a_cancelled_waiter_owns_its_mutex_and_takes_no_signal",
         parts: &ALONE,
@@ -375,8 +375,8 @@ pub(super) const ROWS: [Row<'static>; 8] = [
     },
 ];
 
-/// The last steps of some of them.
-pub(super) const TRACES: [TraceRow<'static>; 2] = [
+/// The last steps of some guests of this module.
+pub const TRACES: [TraceRow<'static>; 2] = [
     TraceRow {
         name: "a_cancelled_waiter_owns_its_mutex_and_takes_no_signal",
         parts: &ALONE,

@@ -1,7 +1,8 @@
-//! The guests of the worked rows. The ticks stand beside the lines, in the windows of the guest's row.
+//! The sources of guests of worked rows. The ticks stand beside the lines, in the windows of the guest's row in
+//! `ptk_main_rows`.
 
 /// Puts `h` and `i` and exits with 0.
-pub(super) const HELLO: &str = "
+pub const HELLO: &str = "
     li a7, 1            #  0  console_put
     li a0, 104          #  1  h
     ecall               #  2
@@ -14,17 +15,17 @@ pub(super) const HELLO: &str = "
 ";
 
 /// No text: the first fetch meets a word 0.
-pub(super) const EMPTY: &str = "";
+pub const EMPTY: &str = "";
 
 /// Reads the last byte of memory, then a word that begins two bytes before its end.
-pub(super) const LOAD_AT_END: &str = "
+pub const LOAD_AT_END: &str = "
     li t0, 4096         #  0
     lbu a0, -1(t0)      #  2
     lw a0, -2(t0)       #  3
 ";
 
 /// Reads the last byte of memory, then the word after its end.
-pub(super) const LOAD_PAST_END: &str = "
+pub const LOAD_PAST_END: &str = "
     li t0, 4096         #  0
     lbu a0, -1(t0)      #  2
     lw a0, 0(t0)        #  3
@@ -32,11 +33,11 @@ pub(super) const LOAD_PAST_END: &str = "
 
 /// Puts `h` at the thirteenth tick: the instructions are at 0 to 12; the put, of 4 ticks, does not fit the 3 that are
 /// left, and begins at 40.
-pub(super) const LATE_PUT: &str =
+pub const LATE_PUT: &str =
     "li a0, 104\nnop\nnop\nnop\nnop\nnop\nnop\nnop\nnop\nnop\nnop\nnop\nli a7, 1\necall\n";
 
 /// Creates a thread that adds 2 to its argument 5, joins it and exits with its result.
-pub(super) const CREATE_JOIN: &str = "
+pub const CREATE_JOIN: &str = "
     la a1, t            #  0
     li a0, 0            #  2
     li a2, 5            #  3
@@ -54,7 +55,7 @@ t:
 ";
 
 /// Thread 2 detaches main, which ends, creates a thread, puts its number, lets it end and exits with 5.
-pub(super) const NUMBER_ONE_REUSED: &str = "
+pub const NUMBER_ONE_REUSED: &str = "
     la a1, second       #  0
     li a0, 0            #  2
     li a2, 0            #  3
@@ -87,7 +88,7 @@ third:
 ";
 
 /// Creates two SCHED_RR threads of main's priority that jump to themselves, and yields.
-pub(super) const ROUND_ROBIN: &str = "
+pub const ROUND_ROBIN: &str = "
     li a0, 44           #  0  the attributes
     li a1, 40           #  1  the loop
     li a7, 10           #  2  pthread_create
@@ -109,9 +110,9 @@ loop:
     .word 0             # default stack
 ";
 
-/// Main at priority 10 creates a thread of 8, falls to 8 by one of the two calls below and puts `x`; the other puts
-/// `y`. The second column of ticks is for the second call.
-pub(super) const FALLS: &str = "
+/// Main at priority 10 creates a thread of 8, falls to 8 by `BY_PRIO` or by `BY_PARAM`, then puts `x` in `FALLS_REST`;
+/// the other puts `y`. The second column of ticks is for `BY_PARAM`.
+pub const FALLS: &str = "
     li a0, 1            #  0
     li a1, 10           #  1
     li a7, 18           #  2  setschedprio
@@ -124,18 +125,21 @@ pub(super) const FALLS: &str = "
     li a0, 1            # 29
 ";
 
-pub(super) const BY_PRIO: &str = "
+/// The fall of `FALLS` by pthread_setschedprio.
+pub const BY_PRIO: &str = "
     li a1, 8            # 30
     li a7, 18           # 31  setschedprio
 ";
 
-pub(super) const BY_PARAM: &str = "
+/// The fall of `FALLS` by pthread_setschedparam.
+pub const BY_PARAM: &str = "
     li a1, 1            # 30  SCHED_FIFO
     li a2, 8            # 31
     li a7, 16           # 32  setschedparam
 ";
 
-pub(super) const FALLS_REST: &str = "
+/// What comes after the fall of `FALLS`, and the other thread.
+pub const FALLS_REST: &str = "
     ecall               # 32, 33
     li a0, 120          # 40, 56  x
     li a7, 1            # 41, 57  console_put
@@ -157,7 +161,7 @@ attributes:
 ";
 
 /// Creates a thread, puts its number, joins it and exits with its result.
-pub(super) const PUTS_THE_NUMBER: &str = "
+pub const PUTS_THE_NUMBER: &str = "
     la a1, t            #  0
     li a0, 0            #  2
     li a2, 5            #  3
@@ -179,14 +183,14 @@ t:
 ";
 
 /// Exits at once.
-pub(super) const QUIET: &str = "
+pub const QUIET: &str = "
     li a0, 0
     li a7, 0            # exit
     ecall
 ";
 
 /// Creates threads and locks mutexes until it is refused, fills its output and stops at EBREAK.
-pub(super) const STORM: &str = "
+pub const STORM: &str = "
 create:
     li a0, 0
     li a1, 64           # rest
@@ -211,13 +215,13 @@ rest:
 ";
 
 /// Jumps to itself.
-pub(super) const SPIN: &str = "
+pub const SPIN: &str = "
 spin:
     j spin
 ";
 
 /// Gets a byte and exits with 0.
-pub(super) const GET_ONE: &str = "
+pub const GET_ONE: &str = "
     li a7, 2            #  0  console_get
     ecall               #  1  blocks until 19
     li a7, 0            # 19  exit
@@ -225,11 +229,11 @@ pub(super) const GET_ONE: &str = "
 ";
 
 /// Twenty steps that do nothing, before `GET_TWO`.
-pub(super) const TWENTY_TICKS: &str =
+pub const TWENTY_TICKS: &str =
     "nop\nnop\nnop\nnop\nnop\nnop\nnop\nnop\nnop\nnop\nnop\nnop\nnop\nnop\nnop\nnop\nnop\nnop\nnop\nnop\n";
 
 /// Gets two bytes, puts them and exits.
-pub(super) const GET_TWO: &str = "
+pub const GET_TWO: &str = "
     li a7, 2            # 40  console_get
     ecall               # 41
     mv a0, a1           # 45
@@ -246,7 +250,7 @@ pub(super) const GET_TWO: &str = "
 ";
 
 /// Puts `x` 8192 times and exits with 0.
-pub(super) const PUTS_8192: &str = "
+pub const PUTS_8192: &str = "
     lui t0, 2           #     0  8192
     li a7, 1            #     1  console_put
 put:

@@ -362,8 +362,8 @@ const NESTED_CEILINGS: &str = "
     ecall               # 164
 ";
 
-/// How each guest above ends.
-pub(super) const ROWS: [Row<'static>; 10] = [
+/// How each guest of this module ends, and what is seen of it before.
+pub const ROWS: [Row<'static>; 10] = [
     Row {
         name: "an_owner_inherits",
         parts: &ALONE,

@@ -34,8 +34,8 @@ around:
     ecall               #  85  blocks
 ";
 
-/// What the guest above does.
-pub(super) const ROWS: [Row<'static>; 1] = [Row {
+/// What the guest of this module does.
+pub const ROWS: [Row<'static>; 1] = [Row {
     name: "a_full_ring_keeps_the_first_bytes",
     parts: &FULL_RING,
     source: &[TAKES_THE_RING],

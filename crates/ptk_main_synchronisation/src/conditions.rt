@@ -131,8 +131,8 @@ waiter:
     ecall               #  33  blocks
 ";
 
-/// How each guest above ends.
-pub(super) const ROWS: [Row<'static>; 6] = [
+/// How each guest of this module ends, and what is seen of it before.
+pub const ROWS: [Row<'static>; 6] = [
     Row {
         name: "a_broadcast_fits_a_window_of_sixteen",
         parts: &SIXTEEN,
@@ -196,8 +196,8 @@ pub(super) const ROWS: [Row<'static>; 6] = [
     },
 ];
 
-/// The last steps of some of them.
-pub(super) const TRACES: [TraceRow<'static>; 1] = [TraceRow {
+/// The last steps of some guests of this module.
+pub const TRACES: [TraceRow<'static>; 1] = [TraceRow {
     name: "a_broadcast_fits_a_window_of_sixteen",
     parts: &SIXTEEN,
     source: &[BROADCAST],
