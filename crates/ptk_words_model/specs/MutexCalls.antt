@@ -12,7 +12,7 @@ use Rattle.ptk_words.specs.declared.mutexes.Soundness.{Soundness}
 use Rattle.ptk_words.specs.declared.mutexes.Soundness.TheVariants.{Consistent, Inconsistent, Unrecoverable}
 use Rattle.ptk_words.specs.declared.threads.Wait.TheVariants.{MutexWait}
 use Rattle.ptk_words_model.specs.declared.LockMove.{LockMove}
-use Rattle.ptk_words_model.specs.declared.LockMove.TheVariants.{Waits, Refuses}
+use Rattle.ptk_words_model.specs.declared.LockMove.TheVariants.{Takes, Recovers, Counts, Waits, Refuses}
 use Rattle.ptk_words_model.specs.State.{Mutex}
 use Rattle.ptk_words_model.specs.Mutex.{mutex_at, new_mutex, is_free, owns, with_soundness, lock_move, trylock_move, after_move, move_reply, after_unlock}
 use Rattle.ptk_words_model.specs.Condition.{names_mutex}
@@ -105,8 +105,11 @@ timed_wait_move time tick =
 
 -- the move of a timed lock: the time is looked at only where the lock would block (pthread_mutex_timedlock)
 abbrev pub timed_move : LockMove → Timespec → Tick → LockMove
+timed_move Takes time tick = Takes
+timed_move Recovers time tick = Recovers
+timed_move Counts time tick = Counts
 timed_move Waits time tick = timed_wait_move time tick
-timed_move move time tick = move
+timed_move (Refuses e) time tick = Refuses e
 
 -- the move of lock, with a deadline; the time is read after the mutex of the word was set up, which may have written over it (pthread_mutex_timedlock; own)
 abbrev pub mutex_timedlock : Row
