@@ -1,8 +1,6 @@
 -- The bytes of the report.
-use Rattle.std.specs.Prelude.{ℕ, zero, suc, List, [], ◌∷◌, ◌++◌, length, codes, decimal}
-use Rattle.std.specs.List.{concat}
-use Rattle.ptk_words.specs.Faults.{image_fault_number}
-use Rattle.ptk_words_model.specs.Text.{cause_text, head_line, hex_word, output_text, report_text}
+use Rattle.std.specs.Prelude.{ℕ, zero, suc, List, [], ◌++◌, length, codes}
+use Rattle.ptk_words_model.specs.Text.{exit_text, stopped_text, refused_text, head_line, output_text, report_text}
 use Rattle.ptk_system.specs.World.{World, section_at, state_of}
 use Rattle.ptk_system.specs.declared.status.PartStatus.{PartStatus}
 use Rattle.ptk_system.specs.declared.status.PartStatus.TheVariants.{Idle, Running, Exited, Stopped, Refused}
@@ -11,9 +9,9 @@ use Rattle.ptk_system.specs.declared.status.PartStatus.TheVariants.{Idle, Runnin
 abbrev pub shown_status : PartStatus → List ℕ
 shown_status Idle = codes "idle"
 shown_status Running = codes "running"
-shown_status (Exited code) = codes "exit " ++ decimal code
-shown_status (Stopped cause pc) = concat (codes "fault " ∷ cause_text cause ∷ codes " pc " ∷ hex_word pc ∷ [])
-shown_status (Refused fault) = codes "refused image " ++ decimal (image_fault_number fault)
+shown_status (Exited code) = exit_text code
+shown_status (Stopped cause pc) = stopped_text cause pc
+shown_status (Refused fault) = refused_text fault
 
 -- the line of a partition, and its output after it
 abbrev pub part_lines : List ℕ → PartStatus → ℕ → ℕ → List ℕ → List ℕ

@@ -1,10 +1,11 @@
 -- The texts of a partition's report and of its trace, as bytes (own).
 use Rattle.std.specs.Prelude.{ℕ, Bool, zero, suc, ◌+◌, ◌/◌, ◌%◌, ◌^◌, List, [], ◌∷◌, ◌++◌, length, nat_lt, if◌then◌else◌, decimal, codes, flat_map, is_some, ◌||◌}
 use Rattle.std.specs.List.{concat}
-use Rattle.ptk_words.specs.Names.{Byte, Ticks, Word}
+use Rattle.ptk_words.specs.Names.{Byte, Pointer, Ticks, Word}
 use Rattle.ptk_words.specs.Faults.{image_fault_number}
 use Rattle.ptk_words.specs.declared.faults.FaultKind.{FaultKind}
 use Rattle.ptk_words.specs.declared.faults.FaultKind.TheVariants.{Illegal, Fetch, Load, Store, Misaligned}
+use Rattle.ptk_words.specs.declared.faults.ImageFault.{ImageFault}
 use Rattle.ptk_words.specs.declared.faults.Cause.{Cause}
 use Rattle.ptk_words.specs.declared.faults.Cause.TheVariants.{Break, Fault}
 use Rattle.ptk_words.specs.declared.faults.Status.{Status}
@@ -50,12 +51,24 @@ has_runnable s = is_some s.running || nat_lt 0 (length s.line)
 abbrev pub activity_text : Part → List Byte
 activity_text s = if has_runnable s then codes "running" else codes "idle"
 
+-- the status of a partition that exited with this code (own)
+abbrev pub exit_text : Byte → List Byte
+exit_text code = codes "exit " ++ decimal code
+
+-- the status of a partition that an instruction at this pc stopped (own)
+abbrev pub stopped_text : Cause → Pointer → List Byte
+stopped_text cause pc = concat (codes "fault " ∷ cause_text cause ∷ codes " pc " ∷ hex_word pc ∷ [])
+
+-- the status of a partition whose image was refused (own)
+abbrev pub refused_text : ImageFault → List Byte
+refused_text fault = codes "refused image " ++ decimal (image_fault_number fault)
+
 -- the status of a partition (own)
 abbrev pub status_text : Status → Part → List Byte
 status_text Active s = activity_text s
-status_text (Exited code) s = codes "exit " ++ decimal code
-status_text (Stopped cause pc) s = concat (codes "fault " ∷ cause_text cause ∷ codes " pc " ∷ hex_word pc ∷ [])
-status_text (Refused fault) s = codes "refused image " ++ decimal (image_fault_number fault)
+status_text (Exited code) s = exit_text code
+status_text (Stopped cause pc) s = stopped_text cause pc
+status_text (Refused fault) s = refused_text fault
 
 -- the line with a partition's name, this text of its status, its steps and its lost ticks (own)
 abbrev pub head_line : List Byte → List Byte → ℕ → Ticks → List Byte
