@@ -12,7 +12,7 @@ use crate::entries::{self, entry_in, fresh};
 use crate::stack::Stack;
 use crate::stacks::{self, empty_stacks};
 use ptk_words::{CLEANUP_LIMIT, Cleanup, Limits, PartId, ThreadNo};
-use ptk_words_model::Cancellation;
+use ptk_words_model::{Cancellation, thread_counts_of};
 use ptk_words_parted::Parted;
 use std::alloc::{AllocError, Global};
 use std::marker::Model;
@@ -226,7 +226,7 @@ fn cancellations_of(alloc: Global, limits: &[Limits]) -> Result<Parted<Cancellat
     requires { length limits.now ≤ 8 }
     ensures { IfOk result (λ parted. parted ≡ map (λ l. replicate l.threads new_cancellation) limits.now) }
 {
-    let counts = threads_of(alloc, limits)?;
+    let counts = thread_counts_of(alloc, limits)?;
     Ok(Parted::build(alloc, &counts, fresh())?)
 }
 
@@ -241,11 +241,4 @@ fn cleanups_of(alloc: Global, limits: &[Limits]) -> Result<Parted<Stack>, AllocE
         cleanups.add_part(empty_stacks(alloc, l.threads)?)?;
     }
     Ok(cleanups)
-}
-
-/// The greatest number of threads of each section.
-fn threads_of(alloc: Global, limits: &[Limits]) -> Result<Vec<u32>, AllocError>
-    ensures { IfOk result (λ counts. counts.items ≡ map (λ l. l.threads) limits.now) }
-{
-    limits.iter().map(|l| l.threads).collect(alloc)
 }

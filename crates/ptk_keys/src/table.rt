@@ -11,7 +11,7 @@ use crate::numbers::{KeyNo, destructor_at, first_free, set_destructor_at, value_
 use crate::rounds::{begin_in, rounds_in, set_rounds_in};
 use crate::rows::{Row, clear_in, clear_key_in, rows, set_in, values_in};
 use ptk_words::{Limits, PartId, Phase, ThreadNo};
-use ptk_words_model::Rounds;
+use ptk_words_model::{Rounds, thread_counts_of};
 use ptk_words_parted::Parted;
 use std::alloc::{AllocError, Global};
 use std::marker::Model;
@@ -248,7 +248,7 @@ fn rounds_of(alloc: Global, limits: &[Limits]) -> Result<Parted<Rounds>, AllocEr
     requires { length limits.now ≤ 8 }
     ensures { IfOk result (λ parted. parted ≡ map (λ l. replicate l.threads no_rounds) limits.now) }
 {
-    let counts = threads_of(alloc, limits)?;
+    let counts = thread_counts_of(alloc, limits)?;
     let none = Rounds {
         round: 0,
         passed: 0,
@@ -261,11 +261,4 @@ fn keys_of(alloc: Global, limits: &[Limits]) -> Result<Vec<u32>, AllocError>
     ensures { IfOk result (λ counts. counts.items ≡ map (λ l. l.keys) limits.now) }
 {
     limits.iter().map(|l| l.keys).collect(alloc)
-}
-
-/// The greatest number of threads of each section.
-fn threads_of(alloc: Global, limits: &[Limits]) -> Result<Vec<u32>, AllocError>
-    ensures { IfOk result (λ counts. counts.items ≡ map (λ l. l.threads) limits.now) }
-{
-    limits.iter().map(|l| l.threads).collect(alloc)
 }

@@ -27,7 +27,7 @@ use Rattle.ptk_words_sync_invariant.proofs.Lined.{ready_waits, ready_alive, not_
 use Rattle.ptk_words_sync_invariant.proofs.Threads.{changed_same, idle_awaits, in_wait, in_wait_waits, in_wait_joiner, in_wait_alive, waking_woken}
 use Rattle.ptk_words_sync_invariant.proofs.Listed.{IsWaitChange, IsJoinChange, listed_input, listed_answered, listed_join}
 use Rattle.ptk_words_sync_invariant.proofs.Timed.{conditions_woken}
-use Rattle.ptk_words_sync_invariant.proofs.ConditionsKept.{conditions_input, conditions_join}
+use Rattle.ptk_words_sync_invariant.proofs.ConditionsKept.{conditions_input, conditions_join, joined_with, joined_waits, joined_ready}
 use Rattle.ptk_words_invariant.proofs.Whole.{lined_of, waiting_of, well_scheduled}
 use Rattle.ptk_words_invariant.proofs.Exclusion.{awaits_other, exclusion_waits, exclusion_one}
 use Rattle.ptk_words_invariant.proofs.Threads.{used_changed_at}
@@ -158,19 +158,7 @@ well_arrivals limits tick s well = well_arrivals_of limits (arriving tick s.cons
 
 -- ---- joins
 
--- the thread with this joiner (own)
-abbrev pub joined_by : ℕ → Thread → Thread
-joined_by t thread = record thread { joiner = Some t }
-
-ready_joined : (t : ℕ) (o : Option Thread) → is_ready (option_map (joined_by t) o) ≡ is_ready o
-ready_joined t None = refl
-ready_joined t (Some thread) = refl
-
-wait_joined : (t : ℕ) (o : Option Thread) → wait_of (option_map (joined_by t) o) ≡ wait_of o
-wait_joined t None = refl
-wait_joined t (Some thread) = refl
-
-alive_joined : (t : ℕ) (o : Option Thread) → is_alive (option_map (joined_by t) o) ≡ is_alive o
+alive_joined : (t : ℕ) (o : Option Thread) → is_alive (option_map (joined_with t) o) ≡ is_alive o
 alive_joined t None = refl
 alive_joined t (Some thread) = refl
 
@@ -180,26 +168,26 @@ pub well_join_wait : (limits : Limits) (i : Invocation) (u : ℕ) (target : Thre
 well_join_wait limits i u target s runs there free well =
     let t : ℕ = i.caller in
     let wait : Wait = JoinWait u in
-    let middle : List (Option Thread) = pool_changed u (joined_by t) s.threads in
+    let middle : List (Option Thread) = pool_changed u (joined_with t) s.threads in
     let after : List (Option Thread) = pool_changed t (in_wait (JoinWait u)) middle in
     let ready : is_ready (pool_get s.threads t) ≡ true = well.running_ready t runs in
-    let middle_ready : (v : ℕ) → is_ready (pool_get middle v) ≡ is_ready (pool_get s.threads v) = changed_same is_ready u (joined_by t) s.threads (ready_joined t (pool_get s.threads u)) in
-    let middle_waits : (v : ℕ) → wait_of (pool_get middle v) ≡ wait_of (pool_get s.threads v) = changed_same wait_of u (joined_by t) s.threads (wait_joined t (pool_get s.threads u)) in
-    let middle_alive : (v : ℕ) → is_alive (pool_get middle v) ≡ is_alive (pool_get s.threads v) = changed_same is_alive u (joined_by t) s.threads (alive_joined t (pool_get s.threads u)) in
+    let middle_ready : (v : ℕ) → is_ready (pool_get middle v) ≡ is_ready (pool_get s.threads v) = changed_same is_ready u (joined_with t) s.threads (joined_ready t (pool_get s.threads u)) in
+    let middle_waits : (v : ℕ) → wait_of (pool_get middle v) ≡ wait_of (pool_get s.threads v) = changed_same wait_of u (joined_with t) s.threads (joined_waits t (pool_get s.threads u)) in
+    let middle_alive : (v : ℕ) → is_alive (pool_get middle v) ≡ is_alive (pool_get s.threads v) = changed_same is_alive u (joined_with t) s.threads (alive_joined t (pool_get s.threads u)) in
     let after_joiner : (v : ℕ) → joiner_of (pool_get after v) ≡ joiner_of (pool_get middle v) = changed_same joiner_of t (in_wait (JoinWait u)) middle (in_wait_joiner (JoinWait u) (pool_get middle t)) in
     let single : joiner_of (pool_get s.threads u) ≡ None = ap joiner_of there ∙ free in
-    let joined : joiner_of (pool_get middle u) ≡ Some t = ap joiner_of (changed_own u (joined_by t) s.threads ∙ ap (option_map (joined_by t)) there) in
+    let joined : joiner_of (pool_get middle u) ≡ Some t = ap joiner_of (changed_own u (joined_with t) s.threads ∙ ap (option_map (joined_with t)) there) in
     let change : IsJoinChange t u s.threads after = record {
       wait = λ v ne. ap wait_of (changed_other t v (in_wait (JoinWait u)) middle ne) ∙ middle_waits v;
-      joiner = λ v ne. after_joiner v ∙ ap joiner_of (changed_other u v (joined_by t) s.threads ne);
+      joiner = λ v ne. after_joiner v ∙ ap joiner_of (changed_other u v (joined_with t) s.threads ne);
       ended = ended_in_wait t (JoinWait u) middle (middle_alive t ∙ ready_alive (pool_get s.threads t) ready) (λ v e. middle_waits v ∙ well.ended_wait v (sym (middle_alive v) ∙ e));
     } in
-    well_scheduled limits s after s.line s.mutexes None s.console.waiters (length-changed t (in_wait (JoinWait u)) middle ∙ length-changed u (joined_by t) s.threads) refl
+    well_scheduled limits s after s.line s.mutexes None s.console.waiters (length-changed t (in_wait (JoinWait u)) middle ∙ length-changed u (joined_with t) s.threads) refl
     (lined_others t middle after s.line None (λ v ne. changed_other t v (in_wait (JoinWait u)) middle ne) (well.running_out t runs) (none-some t)
     (lined_alike s.threads middle s.line None middle_ready (lined_stopped s.threads s.line s.running (lined_of limits s well))))
     (listed_join t u s.threads after s.console.waiters change (ready_waits (pool_get s.threads t) ready) single
     (ap wait_of (changed_own t (in_wait (JoinWait u)) middle) ∙ in_wait_waits (JoinWait u) (pool_get middle t) (middle_ready t ∙ ready)) (after_joiner u ∙ joined) (waiting_of limits s well))
     (exclusion_in_wait t (JoinWait u) middle s.mutexes refl (middle_waits t ∙ ready_waits (pool_get s.threads t) ready) (exclusion_waits s.threads middle s.mutexes middle_waits middle_alive well.exclusion))
     (conditions_join t u s.threads s.mutexes s.conditions ready well.conditional)
-    (used_in_wait limits t (JoinWait u) middle (used_changed_at limits.interval u (joined_by t) s.threads well.used (λ thread e. let lt : used_of (pool_get s.threads u) < limits.interval = well.used u in rw e at lt)))
+    (used_in_wait limits t (JoinWait u) middle (used_changed_at limits.interval u (joined_with t) s.threads well.used (λ thread e. let lt : used_of (pool_get s.threads u) < limits.interval = well.used u in rw e at lt)))
     (λ e. refl) well

@@ -3,16 +3,18 @@
 //! The machine of one partition as definitions: state, priorities, places, mutexes, condition variables, console, keys,
 //! unwinding, calls, decision, the partition alone, and the texts of reports and traces.
 //!
-//! - No code but `LockMove::is_waiting` and `LockMove::reply_after`: definitions that contracts cite.
+//! - No code but `LockMove::is_waiting`, `LockMove::reply_after` and `thread_counts_of`: definitions that contracts
+//!   cite.
 //!
 //! The code declares the few plain types that these definitions use. Below are `ptk_words`, `ptk_words_instructions`
 //! and `ptk_words_windows`; every pool, the gate, the kernel and the system cite these definitions.
 
-ghost use Rattle.std.specs.Prelude.{◌≡◌, option_map};
+ghost use Rattle.std.specs.Prelude.{◌≡◌, map, option_map, IfOk};
 ghost use Rattle.ptk_words.specs.Faults.{errno_number};
 ghost use Rattle.ptk_words_model.specs.Mutex.{is_waiting, move_reply};
 
 use ptk_words::{Errno, Limits, Policy, Priority, Thread, ThreadNo, Tick};
+use std::alloc::{AllocError, Global};
 
 /// The outcome of a call.
 #[derive(Clone, Copy, PartialEq, Eq)]
@@ -169,4 +171,11 @@ fn in_place_of(reply: Option<u32>, e: Errno) -> Option<u32>
         Some(_) => Some(e.number()),
         None => None,
     }
+}
+
+/// The greatest number of threads of each section. An error where memory ran out.
+pub fn thread_counts_of(alloc: Global, limits: &[Limits]) -> Result<Vec<u32>, AllocError>
+    ensures { IfOk result (λ counts. counts.items ≡ map (λ l. l.threads) limits.now) }
+{
+    limits.iter().map(|l| l.threads).collect(alloc)
 }

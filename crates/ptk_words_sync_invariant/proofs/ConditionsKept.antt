@@ -54,11 +54,11 @@ conditions_input t threads mutexes conditions ready are = conditions_blocked t I
 abbrev pub joined_with : ℕ → Thread → Thread
 joined_with t thread = record thread { joiner = Some t }
 
-joined_waits : (t : ℕ) (o : Option Thread) → wait_of (option_map (joined_with t) o) ≡ wait_of o
+pub joined_waits : (t : ℕ) (o : Option Thread) → wait_of (option_map (joined_with t) o) ≡ wait_of o
 joined_waits t None = refl
 joined_waits t (Some thread) = refl
 
-joined_ready : (t : ℕ) (o : Option Thread) → is_ready (option_map (joined_with t) o) ≡ is_ready o
+pub joined_ready : (t : ℕ) (o : Option Thread) → is_ready (option_map (joined_with t) o) ≡ is_ready o
 joined_ready t None = refl
 joined_ready t (Some thread) = refl
 
