@@ -109,7 +109,14 @@ impl ThreadChange for ThreadField {
     fn deadline(&self) -> DeadlineChange {
         match self {
             ThreadField::Wait(wait) => DeadlineChange::Becomes(deadline_of(wait)),
-            _ => DeadlineChange::Stays,
+            ThreadField::Address(_)
+            | ThreadField::Registers(_)
+            | ThreadField::Policy(_)
+            | ThreadField::AssignedPriority(_)
+            | ThreadField::Used(_)
+            | ThreadField::Phase(_)
+            | ThreadField::Joiner(_)
+            | ThreadField::Result(_) => DeadlineChange::Stays,
         }
     }
 }
