@@ -155,11 +155,9 @@ pub fn awaited(threads: &[Slot], t: ThreadNo) -> Option<MutexNo>
 fn mutex_of_wait(wait: Option<Wait>) -> Option<MutexNo>
     ensures { result ≡ mutex_of_wait wait }
 {
-    match wait? {
-        Wait::MutexWait(m, _) | Wait::RelockWait(m, _) => Some(m),
-        Wait::InputWait | Wait::SleepWait(_) | Wait::JoinWait(_) | Wait::ConditionWait(_, _, _) => {
-            None
-        }
+    match wait {
+        Some(wait) => wait.mutex(),
+        None => None,
     }
 }
 
