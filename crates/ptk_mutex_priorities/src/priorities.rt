@@ -40,7 +40,7 @@ pub fn recompute(threads: &[Slot], mutexes: &[MutexSlot], stored: &mut [u8])
     put_assigned(threads, stored);
     raise_owners(mutexes, stored);
     for (k, slot) in threads.iter().enumerate() {
-        if let Some(v) = next_of(slot, mutexes) {
+        if let Some(v) = inheritor_from(slot, mutexes) {
             let priority = stored[k];
             raise_chain(threads, mutexes, stored, v, priority, threads.len());
         }
@@ -96,9 +96,9 @@ fn raise_chain(
     }
 }
 
-/// The owner of the INHERIT mutex that a slot's thread waits for.
+/// The thread that inherits from a slot's thread: the owner of the INHERIT mutex that it waits for.
 #[tactic(auto, using(crate::proofs::Levels::readings))]
-fn next_of(slot: &Slot, mutexes: &[MutexSlot]) -> Option<ThreadNo>
+fn inheritor_from(slot: &Slot, mutexes: &[MutexSlot]) -> Option<ThreadNo>
     ensures { result ≡ option_and_then (λ m. inheritor_of (pool_get mutexes.now m)) (awaited slot.now.thread) }
 {
     match mutex_of_wait(slot.wait()) {

@@ -26,15 +26,15 @@ loop-k-preserved c =
     let threads = threads_of c.args.threads.now in
     let mutexes = c.args.mutexes.now in
     let next = next_in_chain threads mutexes in
-    let here : c.next_of.result ≡ next (suc c.loop-k.k) = c.next_of.ensures ∙ ap (λ thread. option_and_then (λ m. inheritor_of (pool_get mutexes m)) (awaited thread)) (read_here c.args.threads.now c.loop-k.k c.index-threads-k.result c.loop-k-test.true c.index-threads-k.is) in
-    elim c.match-next_of.branch [
+    let here : c.inheritor_from.result ≡ next (suc c.loop-k.k) = c.inheritor_from.ensures ∙ ap (λ thread. option_and_then (λ m. inheritor_of (pool_get mutexes m)) (awaited thread)) (read_here c.args.threads.now c.loop-k.k c.index-threads-k.result c.loop-k-test.true c.index-threads-k.is) in
+    elim c.match-inheritor_from.branch [
       | in-Some w ↦
           (let priority : ℕ = stored_of c.loop-k.stored (suc c.loop-k.k) in
-          let raised : c.match-next_of.stored ≡ risen next priority (length c.args.threads.now) w.in-Some.v c.loop-k.stored = w.stored-is ∙ w.raise_chain.ensures in
+          let raised : c.match-inheritor_from.stored ≡ risen next priority (length c.args.threads.now) w.in-Some.v c.loop-k.stored = w.stored-is ∙ w.raise_chain.ensures in
           rw add-one (record {
-            swept = swept_more (length threads) next (held_of threads mutexes) c.loop-k.k w.in-Some.v priority (length c.args.threads.now) c.loop-k.stored c.match-next_of.stored (omega (arith, length-threads_of c.args.threads.now))
+            swept = swept_more (length threads) next (held_of threads mutexes) c.loop-k.k w.in-Some.v priority (length c.args.threads.now) c.loop-k.stored c.match-inheritor_from.stored (omega (arith, length-threads_of c.args.threads.now))
                 (next_bounded threads mutexes) (sym here ∙ w.in-Some.is) refl raised c.loop-k.invariant.swept;
-            levels = levels_more next threads priority (length c.args.threads.now) w.in-Some.v c.loop-k.stored c.match-next_of.stored (c.loop-k.invariant.levels.greatest (suc c.loop-k.k)) raised c.loop-k.invariant.levels;
+            levels = levels_more next threads priority (length c.args.threads.now) w.in-Some.v c.loop-k.stored c.match-inheritor_from.stored (c.loop-k.invariant.levels.greatest (suc c.loop-k.k)) raised c.loop-k.invariant.levels;
           }))
       | in_default w ↦
           rw (w.stored-is, add-one) (record {
