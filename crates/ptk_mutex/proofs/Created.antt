@@ -14,12 +14,13 @@ use Rattle.ptk_threads.specs.Table.{ThreadTable, with_new, with_new_at}
 use Rattle.ptk_threads.proofs.Pools.{part_of-set, pool_get-set_other}
 use Rattle.ptk_syncs.specs.Rosters.{Rostered}
 use Rattle.ptk_mutex.specs.Moves.{after_creation}
-use Rattle.ptk_mutex.specs.Tables.{locks_by, put_locks, with_threads, AreLocked, AreReadyBy, IsWaiter}
+use Rattle.ptk_mutex.specs.Rosters.{with_priorities}
+use Rattle.ptk_mutex.specs.Tables.{locks_by, put_locks, AreLocked, AreReadyBy, IsWaiter}
 use Rattle.ptk_mutex.specs.Sound.{IsSound}
 use Rattle.ptk_mutex.proofs.Apart.{IsApart, apart_created, apart_none, waiting_kept}
 use Rattle.ptk_mutex.proofs.Locked.{waiter_used}
 use Rattle.ptk_mutex.proofs.Sound.{sound_locks}
-use Rattle.ptk_mutex.proofs.Steps.{put-is, put_ready}
+use Rattle.ptk_mutex.proofs.Steps.{put_ready}
 
 -- ---- the slot table
 
@@ -35,12 +36,6 @@ created_at : (p : ℕ) (o : Option ℕ) (thread : Thread) (mutexes : List (Optio
     → record (with_new_at o p thread table) { stored = set (with_new_at o p thread table).stored p (effective_priorities (part_of (with_new_at o p thread table).threads p) mutexes) } ≡ with_row p (with_thread_at o thread (part_of table.threads p)) mutexes table
 created_at p None thread mutexes table lt = rw (set_part-same table.threads p) refl
 created_at p (Some k) thread mutexes table lt = rw (part_of-set table.threads p (pool_set (part_of table.threads p) k (Some thread)) lt, set-set) refl
-
--- a thread created, and priorities stored
-created_is : (p : ℕ) (thread : Thread) (a b after : Rostered) → p < length a.table.threads → b.table ≡ with_new p thread a.table → b.mutexes ≡ a.mutexes
-    → after.table ≡ record b.table { stored = set b.table.stored p (effective_priorities (part_of b.table.threads p) (part_of b.mutexes p)) } → after.table ≡ with_threads p (after_creation thread (locks_by p a.table a.lines a.mutexes)) a.table
-created_is p thread a b after lt e same stored =
-    stored ∙ rw (e, same) (created_at p (least_free (part_of a.table.threads p)) thread (part_of a.mutexes p) a.table lt)
 
 -- ---- what it leaves
 
@@ -66,12 +61,13 @@ apart_at None thread k locks e used = apart_none k locks
 apart_at (Some n) thread k locks e used = apart_created n k (Some thread) locks (other_number n k locks.threads (least_free_none locks.threads n e) used)
 
 -- the roster then, lines, mutexes and condition variables as they were
-pub created_put : (p : ℕ) (thread : Thread) (a b after : Rostered) → p < length a.table.threads → b.table ≡ with_new p thread a.table → b.mutexes ≡ a.mutexes
-    → after.table ≡ record b.table { stored = set b.table.stored p (effective_priorities (part_of b.table.threads p) (part_of b.mutexes p)) } → after.lines ≡ a.lines → after.mutexes ≡ a.mutexes → after.conditions ≡ a.conditions
-    → after ≡ put_locks p (after_creation thread (locks_by p a.table a.lines a.mutexes)) a
-created_put p thread a b after lt e same stored of_lines of_mutexes of_conditions =
-    put-is p a after (after_creation thread (locks_by p a.table a.lines a.mutexes))
-    (record { of_threads = created_is p thread a b after lt e same stored; of_lines = of_lines ∙ sym (set_part-same a.lines p); of_mutexes = of_mutexes ∙ sym (set_part-same a.mutexes p) }) of_conditions
+pub created_put : (p : ℕ) (thread : Thread) (a b after : Rostered) → p < length a.table.threads → b.table ≡ with_new p thread a.table → b.lines ≡ a.lines → b.mutexes ≡ a.mutexes → b.conditions ≡ a.conditions
+    → after ≡ with_priorities p (effective_priorities (part_of b.table.threads p) (part_of b.mutexes p)) b → after ≡ put_locks p (after_creation thread (locks_by p a.table a.lines a.mutexes)) a
+created_put p thread a b after lt of_table of_lines of_mutexes of_conditions stored =
+    let made : b ≡ record a { table = with_new p thread a.table } = λ i. record { table = of_table i; lines = of_lines i; mutexes = of_mutexes i; conditions = of_conditions i } in
+    let table = created_at p (least_free (part_of a.table.threads p)) thread (part_of a.mutexes p) a.table lt in
+    stored ∙ ap (λ (r : Rostered). with_priorities p (effective_priorities (part_of r.table.threads p) (part_of r.mutexes p)) r) made
+    ∙ (λ i. record a { table = table i; lines = sym (set_part-same a.lines p) i; mutexes = sym (set_part-same a.mutexes p) i })
 
 pub sound_created : (p : ℕ) (thread : Thread) (a b : Rostered) → p < length a.table.threads → b ≡ put_locks p (after_creation thread (locks_by p a.table a.lines a.mutexes)) a → IsSound a → IsSound b
 sound_created p thread a b lt e sound =

@@ -1,7 +1,6 @@
 -- Who is no waiter stays none, where lists of waiters stay.
-use Rattle.std.proofs.Common.{◌≡◌, ◌≢◌, ℕ, List, refl, sym, ◌∙◌, ap, subst, Bool, true, false, ◌⊎◌, inl, inr}
+use Rattle.std.proofs.Common.{◌≡◌, ◌≢◌, ℕ, List, refl, ◌∙◌, ap, Bool, true, false, ◌⊎◌, inl, inr}
 use Rattle.std.specs.Prelude.{Option, Some, None, option_map}
-use Rattle.std.proofs.Math.ListN.{set}
 use Rattle.std.proofs.lemmas.Bool.{cases_eq}
 use Rattle.ptk_words.specs.Pools.{pool_get, pool_changed, is_in}
 use Rattle.ptk_words.specs.declared.threads.Wait.{Wait}
@@ -14,11 +13,11 @@ use Rattle.ptk_words_model.specs.Priority.{awaited, thread_at}
 use Rattle.ptk_words_model.specs.Mutex.{mutex_at, waiters_of, after_move, is_waiting}
 use Rattle.ptk_words_sync_invariant.specs.Conditions.{IsNoWaiter}
 use Rattle.ptk_words_sync_invariant.proofs.Threads.{none_awaits}
-use Rattle.ptk_threads.specs.Table.{ThreadTable}
 use Rattle.ptk_threads.proofs.Pools.{part_of-set}
 use Rattle.ptk_mutex_priorities.specs.declared.slot.Change.TheVariants.{Take, CountUp}
 use Rattle.ptk_mutex_priorities.specs.Changes.{mutex_changed}
-use Rattle.ptk_mutex.specs.Tables.{locks_by, HasPartBy, AreLocked}
+use Rattle.ptk_syncs.specs.Rosters.{Rostered}
+use Rattle.ptk_mutex.specs.Tables.{locks_by, put_locks, HasPartBy, AreLocked}
 
 -- ---- a thread that waits for no mutex
 
@@ -62,11 +61,9 @@ no_waiter-move Waits t m wait locks conditions e none = cc
 no_waiter-move (Refuses error) t m wait locks conditions e none = none
 
 -- a thread that made it is still no waiter
-pub made_free : (made : LockMove) (p t m : ℕ) (wait : Wait) (table : ThreadTable) (lines : List (List ℕ)) (mutexes mutexes' : List (List (Option Mutex))) (conditions conditions' : List (List (Option Condition))) → HasPartBy p table lines mutexes → is_waiting made ≡ false
-    → mutexes' ≡ set mutexes p (after_move made t m wait (locks_by p table lines mutexes)).mutexes → conditions' ≡ conditions → IsNoWaiter t (part_of mutexes p) (part_of conditions p) → IsNoWaiter t (part_of mutexes' p) (part_of conditions' p)
-made_free made p t m wait table lines mutexes mutexes' conditions conditions' has e moved same none =
-    let row : List (Option Mutex) = (after_move made t m wait (locks_by p table lines mutexes)).mutexes in
-    let here : part_of mutexes' p ≡ row = ap (λ (l : List (List (Option Mutex))). part_of l p) moved ∙ part_of-set mutexes p row has.of_mutexes in
-    let there : part_of conditions' p ≡ part_of conditions p = ap (λ (l : List (List (Option Condition))). part_of l p) same in
-    let kept : IsNoWaiter t row (part_of conditions p) = no_waiter-move made t m wait (locks_by p table lines mutexes) (part_of conditions p) e none in
-    subst (λ (l : List (Option Mutex)). IsNoWaiter t l (part_of conditions' p)) (sym here) (subst (λ (l : List (Option Condition)). IsNoWaiter t row l) (sym there) kept)
+pub made_free : (made : LockMove) (p t m : ℕ) (wait : Wait) (a b : Rostered) → HasPartBy p a.table a.lines a.mutexes → is_waiting made ≡ false
+    → b ≡ put_locks p (after_move made t m wait (locks_by p a.table a.lines a.mutexes)) a → IsNoWaiter t (part_of a.mutexes p) (part_of a.conditions p) → IsNoWaiter t (part_of b.mutexes p) (part_of b.conditions p)
+made_free made p t m wait a b has e moved none =
+    let after : Locks = after_move made t m wait (locks_by p a.table a.lines a.mutexes) in
+    let kept : IsNoWaiter t after.mutexes (part_of a.conditions p) = no_waiter-move made t m wait (locks_by p a.table a.lines a.mutexes) (part_of a.conditions p) e none in
+    rw (moved, part_of-set a.mutexes p after.mutexes has.of_mutexes) kept

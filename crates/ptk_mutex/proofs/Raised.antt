@@ -1,5 +1,5 @@
 -- What a rise needs of the tables before it, and what the moves leave that raise a thread or nobody.
-use Rattle.std.proofs.Common.{◌≡◌, ℕ, ◌<◌, ◌≤◌, List, [], length, map, refl, sym, ◌∙◌, ap, subst, arith, true, false}
+use Rattle.std.proofs.Common.{◌≡◌, ℕ, ◌<◌, ◌≤◌, List, [], ◌∷◌, ◌++◌, length, map, refl, sym, ◌∙◌, ap, subst, arith, true, false}
 use Rattle.std.specs.Prelude.{IsSome, Option, Some, None, option_map, option_and_then, option_to_list}
 use Rattle.std.proofs.Math.ListN.{set}
 use Rattle.std.proofs.lemmas.Bool.{eq-eqb}
@@ -34,11 +34,12 @@ use Rattle.ptk_mutex.specs.Before.{awake, freed, IsBeforeWait, IsBeforeTake, IsB
 use Rattle.ptk_mutex.specs.Visits.{IsVisited}
 use Rattle.ptk_mutex.proofs.Changes.{effective_thread}
 use Rattle.ptk_mutex.proofs.Visits.{unvisited}
-use Rattle.ptk_mutex.specs.Tables.{locks_by, put_locks, with_threads, HasPartBy, AreReadyBy}
+use Rattle.ptk_mutex.specs.Tables.{locks_by, put_locks, put_locks_alone, with_threads, HasPartBy, AreReadyBy}
 use Rattle.ptk_mutex.specs.Rosters.{with_priorities}
 use Rattle.ptk_mutex.specs.Rises.{IsFree}
 use Rattle.ptk_mutex.proofs.Locked.{waiting_entry}
 use Rattle.ptk_mutex.proofs.Moved.{stays}
+use Rattle.ptk_mutex.proofs.Steps.{refreshed_put}
 
 -- ---- a free mutex taken
 
@@ -86,11 +87,14 @@ keeps_owner Abandon keeps mutex = absurd keeps
 keeps_owner (Mark soundness) keeps mutex = refl
 
 -- it raises whom it raised
-pub amended_stays : (change : Change) (p m : ℕ) (table : ThreadTable) (lines : List (List ℕ)) (mutexes : List (List (Option Mutex))) → KeepsOwner change → AreReadyBy p table lines mutexes → table ≡ with_threads p (after_change change m (locks_by p table lines mutexes)) table
-amended_stays change p m table lines mutexes keeps ready =
-    let same : effective_priorities (part_of table.threads p) (pool_changed m (mutex_changed change) (part_of mutexes p)) ≡ part_of table.stored p =
-    same_owner_raises_alike (part_of table.threads p) (part_of mutexes p) m (mutex_changed change) (keeps_protocol change) (keeps_owner change keeps) ∙ sym ready.stored in
-    rw (same, set_part-same, set_part-same) refl
+pub amended_put : (change : Change) (p m : ℕ) (a b : Rostered) → KeepsOwner change → AreReadyBy p a.table a.lines a.mutexes → b ≡ record a { mutexes = set a.mutexes p (pool_changed m (mutex_changed change) (part_of a.mutexes p)) }
+    → b ≡ put_locks p (after_change change m (locks_by p a.table a.lines a.mutexes)) a
+amended_put change p m a b keeps ready e =
+    let row : List (Option Mutex) = pool_changed m (mutex_changed change) (part_of a.mutexes p) in
+    let same : effective_priorities (part_of a.table.threads p) row ≡ part_of a.table.stored p =
+    same_owner_raises_alike (part_of a.table.threads p) (part_of a.mutexes p) m (mutex_changed change) (keeps_protocol change) (keeps_owner change keeps) ∙ sym ready.stored in
+    let table : a.table ≡ with_threads p (after_change change m (locks_by p a.table a.lines a.mutexes)) a.table = rw (same, set_part-same, set_part-same) refl in
+    e ∙ (λ i. record a { table = table i; lines = sym (set_part-same a.lines p) i; mutexes = set a.mutexes p row })
 
 -- ---- a thread that begins to wait
 
@@ -151,13 +155,9 @@ pub block_put : (p t m : ℕ) (wait : Wait) (a mid b : Rostered) → HasPartBy p
     → mid ≡ record a { table = with_changed p t (with_wait (Some wait)) a.table; mutexes = set a.mutexes p (pool_changed m (waited_by t) (part_of a.mutexes p)) }
     → b ≡ with_priorities p (effective_priorities (part_of mid.table.threads p) (part_of mid.mutexes p)) mid → b ≡ put_locks p (after_wait t m wait (locks_by p a.table a.lines a.mutexes)) a
 block_put p t m wait a mid b has e f =
-    let threads : List (Option Thread) = pool_changed t (with_wait (Some wait)) (part_of a.table.threads p) in
-    let row : List (Option Mutex) = pool_changed m (waited_by t) (part_of a.mutexes p) in
-    let there : part_of (set a.table.threads p threads) p ≡ threads = part_of-set a.table.threads p threads has.of_threads in
-    let here : part_of (set a.mutexes p row) p ≡ row = part_of-set a.mutexes p row has.of_mutexes in
-    let lines : a.lines ≡ set a.lines p (part_of a.lines p) = sym (set_part-same a.lines p) in
-    f ∙ ap (λ (r : Rostered). with_priorities p (effective_priorities (part_of r.table.threads p) (part_of r.mutexes p)) r) e
-    ∙ (λ i. record a { table = record a.table { threads = set a.table.threads p threads; stored = set a.table.stored p (effective_priorities (there i) (here i)) }; lines = lines i; mutexes = set a.mutexes p row })
+    let locks : Locks = after_wait t m wait (locks_by p a.table a.lines a.mutexes) in
+    let alone : mid ≡ put_locks_alone p locks a = e ∙ ap (λ (l : List (List ℕ)). record (put_locks_alone p locks a) { lines = l }) (sym (set_part-same a.lines p)) in
+    refreshed_put p a mid b locks has alone f
 
 -- ---- a higher assigned priority
 
@@ -224,5 +224,13 @@ wake_stored p t values table locks lt none =
     let same : effective_priorities (pool_changed t (woken_with values) locks.threads) locks.mutexes ≡ effective_priorities locks.threads locks.mutexes =
     effective_thread t (woken_with values) locks.threads locks.mutexes (woken_level values (thread_at locks t)) (woken_awaits values (thread_at locks t) none) in
     rw (same, part_of-set table.threads p locks.threads lt, set-set) refl
+
+-- so behind a move the roster is as the waking leaves it
+pub wake_put : (p t : ℕ) (values : List ℕ) (a b after : Rostered) (locks : Locks) → HasPartBy p a.table a.lines a.mutexes → awaited (thread_at locks t) ≡ None → b ≡ put_locks p locks a
+    → after ≡ record b { table = with_changed p t (woken_with values) b.table; lines = set b.lines p (part_of b.lines p ++ t ∷ []) } → after ≡ put_locks p (after_wake t values locks) a
+wake_put p t values a b after locks has none moved woken =
+    let line : set (set a.lines p locks.line) p (part_of (set a.lines p locks.line) p ++ t ∷ []) ≡ set a.lines p (locks.line ++ t ∷ []) = rw (part_of-set a.lines p locks.line has.of_lines, set-set) refl in
+    woken ∙ ap (λ (r : Rostered). record r { table = with_changed p t (woken_with values) r.table; lines = set r.lines p (part_of r.lines p ++ t ∷ []) }) moved
+    ∙ (λ i. record a { table = wake_stored p t values a.table locks has.of_threads none i; lines = line i; mutexes = set a.mutexes p locks.mutexes })
 
 pub ruleset makes = (stays, unvisited, effective_mutex)

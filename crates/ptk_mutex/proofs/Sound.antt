@@ -258,9 +258,6 @@ sound_freed p m a b plain e lt sound =
 abbrev pub with_refreshed : ℕ → Rostered → Rostered
 with_refreshed p a = with_priorities p (effective_priorities (part_of a.table.threads p) (part_of a.mutexes p)) a
 
-pub refreshed-is : (p : ℕ) (a b : Rostered) → b.table ≡ (with_refreshed p a).table → b.lines ≡ a.lines → b.mutexes ≡ a.mutexes → b.conditions ≡ a.conditions → b ≡ with_refreshed p a
-refreshed-is p a b of_table of_lines of_mutexes of_conditions = λ i. record { table = of_table i; lines = of_lines i; mutexes = of_mutexes i; conditions = of_conditions i }
-
 -- which a sound roster has
 pub sound_refreshed : (p : ℕ) (a b : Rostered) → p < length a.table.threads → b ≡ with_refreshed p a → IsSound a → IsSound b
 sound_refreshed p a b lt e sound =

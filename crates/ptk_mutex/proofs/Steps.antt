@@ -2,7 +2,8 @@
 use Rattle.std.specs.Fn.{iterate}
 use Rattle.std.specs.Prelude.{fold, suc}
 use Rattle.std.proofs.lemmas.List.Sums.{fold-append}
-use Rattle.ptk_words.specs.Pools.{numbers_to}
+use Rattle.ptk_words.specs.Pools.{numbers_to, pool_changed}
+use Rattle.ptk_words.specs.declared.threads.Thread.{Thread}
 use Rattle.ptk_words_model.specs.Mutex.{after_mutex_end}
 use Rattle.std.proofs.Common.{◌≡◌, ℕ, ◌+◌, ◌<◌, List, [], ◌∷◌, length, refl, sym, ◌∙◌, ap, subst, arith}
 use Rattle.std.specs.Prelude.{Option, Some, None}
@@ -14,7 +15,7 @@ use Rattle.ptk_words_parted.proofs.Cuts.{set_part-same}
 use Rattle.ptk_words_model.specs.declared.LockMove.{LockMove}
 use Rattle.ptk_words_model.specs.State.{Mutex, Locks}
 use Rattle.ptk_words_model.specs.Priority.{effective_priorities}
-use Rattle.ptk_words_model.specs.Mutex.{mutex_at, soundness_of, free_move, handed, heir, after_take, after_hand_over_to, after_hand_over, after_refusal_to, after_refusal}
+use Rattle.ptk_words_model.specs.Mutex.{mutex_at, with_mutex, soundness_of, free_move, handed, heir, after_take, after_hand_over_to, after_hand_over, after_refusal_to, after_refusal}
 use Rattle.ptk_words_model.specs.declared.LockMove.TheVariants.{Takes, Recovers, Counts, Waits, Refuses}
 use Rattle.ptk_words.specs.declared.faults.Errno.{Errno}
 use Rattle.ptk_words.specs.declared.faults.Errno.TheVariants.{EAGAIN, EBUSY, EINVAL, ENOTRECOVERABLE}
@@ -35,17 +36,19 @@ use Rattle.ptk_mutex.specs.Tables.{MayWait}
 use Rattle.ptk_mutex.proofs.Locked.{locked_wait, locked_count, locked_wake}
 use Rattle.std.specs.Prelude.{option_to_list}
 use Rattle.ptk_words.specs.declared.threads.Wait.TheVariants.{RelockWait}
-use Rattle.ptk_words_model.specs.Schedule.{woken_with}
+use Rattle.ptk_words_model.specs.Schedule.{with_thread, woken_with}
 use Rattle.ptk_words_model.specs.Mutex.{move_reply, after_count, after_relock_move}
-use Rattle.ptk_threads.specs.Table.{ThreadTable}
+use Rattle.ptk_threads.specs.Table.{ThreadTable, with_changed}
 use Rattle.ptk_threads.proofs.Pools.{part_of-set}
 use Rattle.ptk_mutex_priorities.specs.declared.slot.Change.{Change}
 use Rattle.ptk_mutex_priorities.specs.declared.slot.Change.TheVariants.{Take, CountUp, CountDown, Release, Abandon, Mark}
 use Rattle.ptk_mutex_priorities.specs.Changes.{mutex_changed, IsQuiet}
 use Rattle.ptk_syncs.specs.Rosters.{Rostered}
-use Rattle.ptk_mutex.specs.Tables.{locks_by, put_locks, with_threads, HasPartBy, AreLocked, AreReadyBy, IsWaiter, MayGet}
+use Rattle.ptk_mutex.specs.Rosters.{with_priorities}
+use Rattle.ptk_mutex.specs.Tables.{locks_by, put_locks, put_locks_alone, with_threads, HasPartBy, AreLocked, AreReadyBy, IsWaiter, MayGet}
 use Rattle.ptk_mutex.specs.Moves.{after_change}
 use Rattle.ptk_mutex.proofs.Locked.{IsMild, locked_mild, locked_left, heir_may_get}
+use Rattle.ptk_mutex.proofs.Moved.{stays}
 use Rattle.ptk_mutex.proofs.NoWaiters.{changed_waiters}
 
 -- the tables are the first ones with these locks at p
@@ -54,20 +57,15 @@ pub record AreMoved (p : ℕ) (table : ThreadTable) (lines : List (List ℕ)) (m
   pub of_lines : lines' ≡ set lines p locks.line
   pub of_mutexes : mutexes' ≡ set mutexes p locks.mutexes
 
--- so is the roster
-pub put-is : (p : ℕ) (a b : Rostered) (locks : Locks) → AreMoved p a.table a.lines a.mutexes b.table b.lines b.mutexes locks → b.conditions ≡ a.conditions → b ≡ put_locks p locks a
-put-is p a b locks moved kept = λ i. record { table = moved.of_threads i; lines = moved.of_lines i; mutexes = moved.of_mutexes i; conditions = kept i }
-
+-- so they are of the roster with these locks at p
 pub put_moved : (p : ℕ) (a b : Rostered) (locks : Locks) → b ≡ put_locks p locks a → AreMoved p a.table a.lines a.mutexes b.table b.lines b.mutexes locks
 put_moved p a b locks e = record { of_threads = ap (λ (r : Rostered). r.table) e; of_lines = ap (λ (r : Rostered). r.lines) e; of_mutexes = ap (λ (r : Rostered). r.mutexes) e }
 
 -- nothing moved yet
-pub moved_none : (p : ℕ) (table : ThreadTable) (lines : List (List ℕ)) (mutexes : List (List (Option Mutex))) → AreReadyBy p table lines mutexes → AreMoved p table lines mutexes table lines mutexes (locks_by p table lines mutexes)
-moved_none p table lines mutexes ready = record {
-  of_threads = rw (← ready.stored, set_part-same, set_part-same) refl;
-  of_lines = sym (set_part-same lines p);
-  of_mutexes = sym (set_part-same mutexes p);
-}
+pub put_none : (p : ℕ) (a : Rostered) → AreReadyBy p a.table a.lines a.mutexes → a ≡ put_locks p (locks_by p a.table a.lines a.mutexes) a
+put_none p a ready =
+    let table : a.table ≡ with_threads p (locks_by p a.table a.lines a.mutexes) a.table = sym (stays p a.table a.lines a.mutexes ready) in
+    λ i. record a { table = table i; lines = sym (set_part-same a.lines p) i; mutexes = sym (set_part-same a.mutexes p) i }
 
 has_moved : (p : ℕ) (table : ThreadTable) (lines : List (List ℕ)) (mutexes : List (List (Option Mutex))) (locks : Locks) → HasPartBy p table lines mutexes → HasPartBy p (with_threads p locks table) (set lines p locks.line) (set mutexes p locks.mutexes)
 has_moved p table lines mutexes locks has = record {
@@ -105,17 +103,43 @@ moved_ready p table table' lines lines' mutexes mutexes' locks has locked moved 
 pub put_ready : (p : ℕ) (a b : Rostered) (locks : Locks) → HasPartBy p a.table a.lines a.mutexes → AreLocked locks → b ≡ put_locks p locks a → AreReadyBy p b.table b.lines b.mutexes
 put_ready p a b locks has locked e = moved_ready p a.table b.table a.lines b.lines a.mutexes b.mutexes locks has locked (put_moved p a b locks e)
 
+put_has : (p : ℕ) (a b : Rostered) (locks : Locks) → HasPartBy p a.table a.lines a.mutexes → b ≡ put_locks p locks a → locks_by p b.table b.lines b.mutexes ≡ locks
+put_has p a b locks has e = moved_locks p a.table b.table a.lines b.lines a.mutexes b.mutexes locks has (put_moved p a b locks e)
+
+put_twice : (p : ℕ) (locks more : Locks) (a : Rostered) → put_locks p more (put_locks p locks a) ≡ put_locks p more a
+put_twice p locks more a = rw (set-set, set-set, set-set, set-set) refl
+
 -- one more move
-pub moved_more : (p : ℕ) (f : Locks → Locks) (table table' new : ThreadTable) (lines lines' after : List (List ℕ)) (mutexes mutexes' others : List (List (Option Mutex))) (locks : Locks) → HasPartBy p table lines mutexes → AreMoved p table lines mutexes table' lines' mutexes' locks
-    → AreMoved p table' lines' mutexes' new after others (f (locks_by p table' lines' mutexes')) → AreMoved p table lines mutexes new after others (f locks)
-moved_more p f table table' new lines lines' after mutexes mutexes' others locks has moved more =
-    let at : locks_by p table' lines' mutexes' ≡ locks = moved_locks p table table' lines lines' mutexes mutexes' locks has moved in
-    let now : AreMoved p table' lines' mutexes' new after others (f locks) = subst (λ (l : Locks). AreMoved p table' lines' mutexes' new after others (f l)) at more in
-    record {
-      of_threads = now.of_threads ∙ rw (moved.of_threads, set-set, set-set) refl;
-      of_lines = now.of_lines ∙ rw (moved.of_lines, set-set) refl;
-      of_mutexes = now.of_mutexes ∙ rw (moved.of_mutexes, set-set) refl;
-    }
+pub put_more : (p : ℕ) (f : Locks → Locks) (a b after : Rostered) (locks : Locks) → HasPartBy p a.table a.lines a.mutexes → b ≡ put_locks p locks a → after ≡ put_locks p (f (locks_by p b.table b.lines b.mutexes)) b → after ≡ put_locks p (f locks) a
+put_more p f a b after locks has e more = more ∙ ap (λ (l : Locks). put_locks p (f l) b) (put_has p a b locks has e) ∙ ap (put_locks p (f locks)) e ∙ put_twice p locks (f locks) a
+
+-- ---- a move that stores no priority, and the effective ones stored behind it
+
+-- a mutex changed
+pub mutex_alone : (p m : ℕ) (f : Mutex → Mutex) (a b : Rostered) → b ≡ record a { mutexes = set a.mutexes p (pool_changed m f (part_of a.mutexes p)) } → b ≡ put_locks_alone p (with_mutex m f (locks_by p a.table a.lines a.mutexes)) a
+mutex_alone p m f a b e =
+    e ∙ (λ i. record a { table = record a.table { threads = sym (set_part-same a.table.threads p) i }; lines = sym (set_part-same a.lines p) i; mutexes = set a.mutexes p (pool_changed m f (part_of a.mutexes p)) })
+
+-- a thread changed
+pub thread_alone : (p t : ℕ) (f : Thread → Thread) (a b : Rostered) → b ≡ record a { table = with_changed p t f a.table } → b ≡ put_locks_alone p (with_thread t f (locks_by p a.table a.lines a.mutexes)) a
+thread_alone p t f a b e = e ∙ (λ i. record a { table = with_changed p t f a.table; lines = sym (set_part-same a.lines p) i; mutexes = sym (set_part-same a.mutexes p) i })
+
+alone_twice : (p : ℕ) (locks more : Locks) (a : Rostered) → put_locks_alone p more (put_locks_alone p locks a) ≡ put_locks_alone p more a
+alone_twice p locks more a = rw (set-set, set-set, set-set) refl
+
+-- one more such move
+pub alone_more : (p : ℕ) (f : Locks → Locks) (a b after : Rostered) (locks : Locks) → HasPartBy p a.table a.lines a.mutexes → b ≡ put_locks_alone p locks a → after ≡ put_locks_alone p (f (locks_by p b.table b.lines b.mutexes)) b → after ≡ put_locks_alone p (f locks) a
+alone_more p f a b after locks has e more =
+    let here : locks_by p b.table b.lines b.mutexes ≡ locks = ap (λ (r : Rostered). locks_by p r.table r.lines r.mutexes) e ∙ locks_put p a.table a.lines a.mutexes locks has in
+    more ∙ ap (λ (l : Locks). put_locks_alone p (f l) b) here ∙ ap (put_locks_alone p (f locks)) e ∙ alone_twice p locks (f locks) a
+
+-- with the effective priorities stored it is the move
+pub refreshed_put : (p : ℕ) (a b after : Rostered) (locks : Locks) → HasPartBy p a.table a.lines a.mutexes → b ≡ put_locks_alone p locks a → after ≡ with_priorities p (effective_priorities (part_of b.table.threads p) (part_of b.mutexes p)) b → after ≡ put_locks p locks a
+refreshed_put p a b after locks has e stored =
+    let there : part_of (set a.table.threads p locks.threads) p ≡ locks.threads = part_of-set a.table.threads p locks.threads has.of_threads in
+    let here : part_of (set a.mutexes p locks.mutexes) p ≡ locks.mutexes = part_of-set a.mutexes p locks.mutexes has.of_mutexes in
+    stored ∙ ap (λ (r : Rostered). with_priorities p (effective_priorities (part_of r.table.threads p) (part_of r.mutexes p)) r) e
+    ∙ (λ i. with_priorities p (effective_priorities (there i) (here i)) (put_locks_alone p locks a))
 
 -- ---- what each move leaves
 
@@ -155,31 +179,24 @@ locked_refusal m locks locked = refuse_to_locked m (heir m locks) locks (heir_ma
 -- ---- all waiters refused, one after the other
 
 -- so many refusals are left of all
-pub record AreRefused (p m left total : ℕ) (table : ThreadTable) (lines : List (List ℕ)) (mutexes : List (List (Option Mutex))) (table' : ThreadTable) (lines' : List (List ℕ)) (mutexes' : List (List (Option Mutex))) : Type 0 where
-  pub ready : AreReadyBy p table' lines' mutexes'
-  pub moved : AreMoved p table lines mutexes table' lines' mutexes' (locks_by p table' lines' mutexes')
-  pub same : iterate (after_refusal m) left (locks_by p table' lines' mutexes') ≡ iterate (after_refusal m) total (locks_by p table lines mutexes)
+pub record AreRefused (p m left total : ℕ) (a b : Rostered) : Type 0 where
+  pub ready : AreReadyBy p b.table b.lines b.mutexes
+  pub moved : b ≡ put_locks p (locks_by p b.table b.lines b.mutexes) a
+  pub same : iterate (after_refusal m) left (locks_by p b.table b.lines b.mutexes) ≡ iterate (after_refusal m) total (locks_by p a.table a.lines a.mutexes)
 
-pub refused_none : (p m total : ℕ) (table : ThreadTable) (lines : List (List ℕ)) (mutexes : List (List (Option Mutex))) → AreReadyBy p table lines mutexes → AreRefused p m total total table lines mutexes table lines mutexes
-refused_none p m total table lines mutexes ready = record { ready = ready; moved = moved_none p table lines mutexes ready; same = refl }
+pub refused_none : (p m left total : ℕ) (a : Rostered) → left ≡ total → AreReadyBy p a.table a.lines a.mutexes → AreRefused p m left total a a
+refused_none p m left total a e ready = record { ready = ready; moved = put_none p a ready; same = ap (λ (n : ℕ). iterate (after_refusal m) n (locks_by p a.table a.lines a.mutexes)) e }
 
-pub refused_more : (p m left rest total : ℕ) (table table' new : ThreadTable) (lines lines' after : List (List ℕ)) (mutexes mutexes' others : List (List (Option Mutex))) → HasPartBy p table lines mutexes → rest ≡ suc left → AreRefused p m rest total table lines mutexes table' lines' mutexes'
-    → AreMoved p table' lines' mutexes' new after others (after_refusal m (locks_by p table' lines' mutexes')) → AreReadyBy p new after others → AreRefused p m left total table lines mutexes new after others
-refused_more p m left rest total table table' new lines lines' after mutexes mutexes' others has e refused more ready =
-    let now : Locks = locks_by p table' lines' mutexes' in
-    let at : locks_by p new after others ≡ after_refusal m now = moved_locks p table' new lines' after mutexes' others (after_refusal m now) refused.ready.part more in
-    let moved : AreMoved p table lines mutexes new after others (after_refusal m now) = moved_more p (after_refusal m) table table' new lines lines' after mutexes mutexes' others now has refused.moved more in
+pub refused_more : (p m left rest total : ℕ) (a b after : Rostered) → HasPartBy p a.table a.lines a.mutexes → rest ≡ suc left → AreRefused p m rest total a b → after ≡ put_locks p (after_refusal m (locks_by p b.table b.lines b.mutexes)) b
+    → AreReadyBy p after.table after.lines after.mutexes → AreRefused p m left total a after
+refused_more p m left rest total a b after has e refused more ready =
+    let now : Locks = locks_by p b.table b.lines b.mutexes in
+    let at : locks_by p after.table after.lines after.mutexes ≡ after_refusal m now = put_has p b after (after_refusal m now) refused.ready.part more in
     record {
       ready = ready;
-      moved = subst (λ (l : Locks). AreMoved p table lines mutexes new after others l) (sym at) moved;
+      moved = put_more p (after_refusal m) a b after now has refused.moved more ∙ ap (λ (l : Locks). put_locks p l a) (sym at);
       same = ap (iterate (after_refusal m) left) at ∙ ap (λ (n : ℕ). iterate (after_refusal m) n now) (sym e) ∙ refused.same;
     }
-
-pub refused_all : (p m left total : ℕ) (table table' : ThreadTable) (lines lines' : List (List ℕ)) (mutexes mutexes' : List (List (Option Mutex))) → left ≡ 0 → AreRefused p m left total table lines mutexes table' lines' mutexes'
-    → AreMoved p table lines mutexes table' lines' mutexes' (iterate (after_refusal m) total (locks_by p table lines mutexes))
-refused_all p m left total table table' lines lines' mutexes mutexes' e refused =
-    let done : locks_by p table' lines' mutexes' ≡ iterate (after_refusal m) total (locks_by p table lines mutexes) = ap (λ (n : ℕ). iterate (after_refusal m) n (locks_by p table' lines' mutexes')) (sym e) ∙ refused.same in
-    subst (λ (l : Locks). AreMoved p table lines mutexes table' lines' mutexes' l) done refused.moved
 
 -- ---- all mutexes of an owner that ended
 
@@ -188,19 +205,20 @@ abbrev pub end_of : ℕ → Locks → ℕ → Locks
 end_of t locks m = after_mutex_end t (mutex_at locks m) m locks
 
 -- once the mutexes 1 to k have been seen
-pub record AreEnded (p t k : ℕ) (table : ThreadTable) (lines : List (List ℕ)) (mutexes : List (List (Option Mutex))) (table' : ThreadTable) (lines' : List (List ℕ)) (mutexes' : List (List (Option Mutex))) : Type 0 where
-  pub ready : AreReadyBy p table' lines' mutexes'
-  pub moved : AreMoved p table lines mutexes table' lines' mutexes' (fold (end_of t) (locks_by p table lines mutexes) (numbers_to k))
+pub record AreEnded (p t k : ℕ) (a b : Rostered) : Type 0 where
+  pub ready : AreReadyBy p b.table b.lines b.mutexes
+  pub moved : b ≡ put_locks p (fold (end_of t) (locks_by p a.table a.lines a.mutexes) (numbers_to k)) a
 
-pub ended_more : (p t k m : ℕ) (table table' new : ThreadTable) (lines lines' after : List (List ℕ)) (mutexes mutexes' others : List (List (Option Mutex))) → HasPartBy p table lines mutexes → m ≡ k + 1 → AreEnded p t k table lines mutexes table' lines' mutexes'
-    → AreMoved p table' lines' mutexes' new after others (end_of t (locks_by p table' lines' mutexes') m) → AreReadyBy p new after others → AreEnded p t (k + 1) table lines mutexes new after others
-ended_more p t k m table table' new lines lines' after mutexes mutexes' others has e ended more ready =
-    let was : Locks = fold (end_of t) (locks_by p table lines mutexes) (numbers_to k) in
+pub ended_more : (p t k m : ℕ) (a b after : Rostered) → HasPartBy p a.table a.lines a.mutexes → m ≡ k + 1 → AreEnded p t k a b → after ≡ put_locks p (end_of t (locks_by p b.table b.lines b.mutexes) m) b
+    → AreReadyBy p after.table after.lines after.mutexes → AreEnded p t (k + 1) a after
+ended_more p t k m a b after has e ended more ready =
+    let locks : Locks = locks_by p a.table a.lines a.mutexes in
+    let was : Locks = fold (end_of t) locks (numbers_to k) in
     let number : m ≡ suc k = omega (arith, e) in
-    let moved : AreMoved p table lines mutexes new after others (end_of t was m) = moved_more p (λ (l : Locks). end_of t l m) table table' new lines lines' after mutexes mutexes' others was has ended.moved more in
-    let all : fold (end_of t) (locks_by p table lines mutexes) (numbers_to (suc k)) ≡ end_of t was m = fold-append (end_of t) (locks_by p table lines mutexes) (numbers_to k) (suc k ∷ []) ∙ ap (end_of t was) (sym number) in
+    let moved : after ≡ put_locks p (end_of t was m) a = put_more p (λ (l : Locks). end_of t l m) a b after was has ended.moved more in
+    let all : fold (end_of t) locks (numbers_to (suc k)) ≡ end_of t was m = fold-append (end_of t) locks (numbers_to k) (suc k ∷ []) ∙ ap (end_of t was) (sym number) in
     let one : k + 1 ≡ suc k = omega arith in
-    rw one (record { ready = ready; moved = subst (λ (l : Locks). AreMoved p table lines mutexes new after others l) (sym all) moved })
+    rw one (record { ready = ready; moved = moved ∙ ap (λ (l : Locks). put_locks p l a) (sym all) })
 
 -- ---- a lock
 
@@ -260,22 +278,6 @@ locked_move Recovers t m wait locks room names may locked = locked_change (Take 
 locked_move Counts t m wait locks room names may locked = locked_count m locks (room refl) locked
 locked_move Waits t m wait locks room names may locked = locked_wait t m wait locks names may.awake may.used may.out locked
 locked_move (Refuses e) t m wait locks room names may locked = locked
-
--- and it leaves the line
-pub line_after_move : (made : LockMove) (t m : ℕ) (wait : Wait) (locks : Locks) → (after_move made t m wait locks).line ≡ locks.line
-line_after_move Takes t m wait locks = refl
-line_after_move Recovers t m wait locks = refl
-line_after_move Counts t m wait locks = refl
-line_after_move Waits t m wait locks = refl
-line_after_move (Refuses e) t m wait locks = refl
-
--- so the roster is as the move leaves it
-pub made_put : (made : LockMove) (p t m : ℕ) (wait : Wait) (a b : Rostered) → b.table ≡ with_threads p (after_move made t m wait (locks_by p a.table a.lines a.mutexes)) a.table → b.lines ≡ a.lines
-    → b.mutexes ≡ set a.mutexes p (after_move made t m wait (locks_by p a.table a.lines a.mutexes)).mutexes → b.conditions ≡ a.conditions → b ≡ put_locks p (after_move made t m wait (locks_by p a.table a.lines a.mutexes)) a
-made_put made p t m wait a b of_threads of_lines of_mutexes of_conditions =
-    let locks : Locks = locks_by p a.table a.lines a.mutexes in
-    let line : b.lines ≡ set a.lines p (after_move made t m wait locks).line = of_lines ∙ sym (set_part-same a.lines p) ∙ ap (set a.lines p) (sym (line_after_move made t m wait locks)) in
-    put-is p a b (after_move made t m wait locks) (record { of_threads = of_threads; of_lines = line; of_mutexes = of_mutexes }) of_conditions
 
 -- a re-lock of one that may wait
 pub locked_relock : (made : LockMove) (t m : ℕ) (reply : Option ℕ) (locks : Locks) → (made ≡ Counts → count_of (mutex_at locks m) < COUNT_LIMIT) → MayWait locks t → AreLocked locks → AreLocked (after_relock_move made t m reply locks)

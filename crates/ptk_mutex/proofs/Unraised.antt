@@ -21,9 +21,10 @@ use Rattle.ptk_mutex_priorities.specs.Changes.{mutex_changed, IsQuiet}
 use Rattle.ptk_mutex_priorities.specs.Plain.{is_raising_at}
 use Rattle.ptk_mutex_priorities.proofs.Plain.{raising-kept}
 use Rattle.ptk_mutex_priorities.proofs.Raising.{plain_raises_nobody, plain_wait_raises_nobody, keeps_protocol}
+use Rattle.ptk_syncs.specs.Rosters.{Rostered}
 use Rattle.ptk_syncs.specs.Waiters.{left_by}
 use Rattle.ptk_mutex.specs.Moves.{after_change, after_withdrawal}
-use Rattle.ptk_mutex.specs.Tables.{locks_by, with_threads_alone, AreLocked, AreReadyBy, IsWaiter, MayGet}
+use Rattle.ptk_mutex.specs.Tables.{locks_by, put_locks_alone, AreLocked, AreReadyBy, IsWaiter, MayGet}
 use Rattle.ptk_mutex.proofs.Steps.{locked_change}
 
 -- ---- the moves
@@ -75,14 +76,13 @@ unraised_refusal m (Some t) locks may = unraised_left m t (handed (Refuses ENOTR
 -- ---- the tables
 
 -- after such a move of p's that stored no priority, the stored ones are the effective ones
-pub unraised_stored : (p m : ℕ) (table table' : ThreadTable) (lines : List (List ℕ)) (mutexes mutexes' : List (List (Option Mutex))) (after : Locks) → AreReadyBy p table lines mutexes → IsUnraised m (locks_by p table lines mutexes) after
-    → table' ≡ with_threads_alone p after table → mutexes' ≡ set mutexes p after.mutexes → is_raising_at (pool_get (part_of mutexes' p) m) ≡ false → part_of table'.stored p ≡ effective_priorities (part_of table'.threads p) (part_of mutexes' p)
-unraised_stored p m table table' lines mutexes mutexes' after ready move of_threads of_mutexes plain =
-    let here : part_of mutexes' p ≡ after.mutexes = ap (λ l. part_of l p) of_mutexes ∙ part_of-set mutexes p after.mutexes ready.part.of_mutexes in
-    let there : part_of table'.threads p ≡ after.threads = ap (λ (l : ThreadTable). part_of l.threads p) of_threads ∙ part_of-set table.threads p after.threads ready.part.of_threads in
-    let was : is_raising_at (pool_get (part_of mutexes p) m) ≡ false = sym move.protocol ∙ sym (ap (λ l. is_raising_at (pool_get l m)) here) ∙ plain in
-    let stored : part_of table'.stored p ≡ part_of table.stored p = ap (λ (l : ThreadTable). part_of l.stored p) of_threads in
-    stored ∙ ready.stored ∙ sym (move.stays was) ∙ (λ i. effective_priorities (sym there i) (sym here i))
+pub unraised_stored : (p m : ℕ) (a b : Rostered) (after : Locks) → AreReadyBy p a.table a.lines a.mutexes → IsUnraised m (locks_by p a.table a.lines a.mutexes) after → b ≡ put_locks_alone p after a
+    → is_raising_at (pool_get (part_of b.mutexes p) m) ≡ false → part_of b.table.stored p ≡ effective_priorities (part_of b.table.threads p) (part_of b.mutexes p)
+unraised_stored p m a b after ready move e plain =
+    let here : part_of b.mutexes p ≡ after.mutexes = ap (λ (r : Rostered). part_of r.mutexes p) e ∙ part_of-set a.mutexes p after.mutexes ready.part.of_mutexes in
+    let there : part_of b.table.threads p ≡ after.threads = ap (λ (r : Rostered). part_of r.table.threads p) e ∙ part_of-set a.table.threads p after.threads ready.part.of_threads in
+    let was : is_raising_at (pool_get (part_of a.mutexes p) m) ≡ false = sym move.protocol ∙ sym (ap (λ l. is_raising_at (pool_get l m)) here) ∙ plain in
+    ap (λ (r : Rostered). part_of r.table.stored p) e ∙ ready.stored ∙ sym (move.stays was) ∙ (λ i. effective_priorities (sym there i) (sym here i))
 
 -- the tables stay ready
 ready_quiet : (p m : ℕ) (change : Change) (table : ThreadTable) (lines : List (List ℕ)) (mutexes : List (List (Option Mutex))) → IsQuiet change → is_raising_at (pool_get (part_of mutexes p) m) ≡ false

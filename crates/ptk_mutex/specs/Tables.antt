@@ -34,9 +34,14 @@ put_locks p locks roster =
       mutexes = slice_set roster.mutexes p locks.mutexes;
     }
 
--- the threads of a partition; the stored priorities stay (own)
-abbrev pub with_threads_alone : ℕ → Locks → ThreadTable → ThreadTable
-with_threads_alone p locks table = record table { threads = slice_set table.threads p locks.threads }
+-- the roster with these locks of a partition; the stored priorities stay (own)
+abbrev pub put_locks_alone : ℕ → Locks → Rostered → Rostered
+put_locks_alone p locks roster =
+    record roster {
+      table = record roster.table { threads = slice_set roster.table.threads p locks.threads };
+      lines = slice_set roster.lines p locks.line;
+      mutexes = slice_set roster.mutexes p locks.mutexes;
+    }
 
 -- every table has the partition (own)
 pub record HasPartBy (p : ℕ) (table : ThreadTable) (lines : List (List ℕ)) (pool : List (List (Option Mutex))) : Type 0 where

@@ -1,12 +1,12 @@
 //! The end of a thread: what becomes of the mutexes that it owns.
 
-ghost use Rattle.std.specs.Prelude.{◌≡◌, ◌<◌, length, slice_set, IsSome};
+ghost use Rattle.std.specs.Prelude.{◌≡◌, ◌<◌, length, IsSome};
 ghost use Rattle.ptk_words.specs.Pools.{pool_get};
 ghost use Rattle.ptk_words_parted.specs.Parts.{part_of};
 ghost use Rattle.ptk_words_model.specs.Mutex.{after_bequest, after_mutex_end, after_owner_end};
 ghost use Rattle.ptk_mutex_priorities.specs.Slots.{is_robust_at};
 ghost use Rattle.ptk_mutex.specs.Sound.{IsSound};
-ghost use Rattle.ptk_mutex.specs.Tables.{locks_at, put_locks, with_threads, AreReady};
+ghost use Rattle.ptk_mutex.specs.Tables.{locks_at, put_locks, AreReady};
 
 use crate::locking::is_owner;
 use crate::mutexes::Mutexes;
@@ -35,10 +35,7 @@ impl Mutexes {
 /// What the end of a thread makes of all its mutexes, in ascending number.
 fn end_all(roster: &mut Roster, p: PartId, t: ThreadNo)
     requires ready { AreReady p roster.old }
-    ensures threads { roster.new.table ≡ with_threads p (after_owner_end t (locks_at p roster.old)) roster.old.table }
-    ensures line { roster.new.lines ≡ slice_set roster.old.lines p (after_owner_end t (locks_at p roster.old)).line }
-    ensures mutexes { roster.new.mutexes ≡ slice_set roster.old.mutexes p (after_owner_end t (locks_at p roster.old)).mutexes }
-    ensures conditions { roster.new.conditions ≡ roster.old.conditions }
+    ensures roster { roster.new ≡ put_locks p (after_owner_end t (locks_at p roster.old)) roster.old }
     ensures ready { AreReady p roster.new }
 {
     let count = roster.mutex_slots(p).len();
@@ -51,10 +48,7 @@ fn end_all(roster: &mut Roster, p: PartId, t: ThreadNo)
 #[tactic(auto, using(crate::proofs::Moved::ends))]
 fn end_mutex(roster: &mut Roster, p: PartId, t: ThreadNo, m: MutexNo)
     requires ready { AreReady p roster.old }
-    ensures threads { roster.new.table ≡ with_threads p (after_mutex_end t (pool_get (part_of roster.old.mutexes p) m) m (locks_at p roster.old)) roster.old.table }
-    ensures line { roster.new.lines ≡ slice_set roster.old.lines p (after_mutex_end t (pool_get (part_of roster.old.mutexes p) m) m (locks_at p roster.old)).line }
-    ensures mutexes { roster.new.mutexes ≡ slice_set roster.old.mutexes p (after_mutex_end t (pool_get (part_of roster.old.mutexes p) m) m (locks_at p roster.old)).mutexes }
-    ensures conditions { roster.new.conditions ≡ roster.old.conditions }
+    ensures roster { roster.new ≡ put_locks p (after_mutex_end t (pool_get (part_of roster.old.mutexes p) m) m (locks_at p roster.old)) roster.old }
     ensures ready { AreReady p roster.new }
 {
     if !is_owner(roster, p, t, m) {
@@ -71,10 +65,7 @@ fn end_mutex(roster: &mut Roster, p: PartId, t: ThreadNo, m: MutexNo)
 fn bequeath(roster: &mut Roster, p: PartId, m: MutexNo)
     requires ready { AreReady p roster.old }
     requires used { IsSome (pool_get (part_of roster.old.mutexes p) m) }
-    ensures threads { roster.new.table ≡ with_threads p (after_bequest m (locks_at p roster.old)) roster.old.table }
-    ensures line { roster.new.lines ≡ slice_set roster.old.lines p (after_bequest m (locks_at p roster.old)).line }
-    ensures mutexes { roster.new.mutexes ≡ slice_set roster.old.mutexes p (after_bequest m (locks_at p roster.old)).mutexes }
-    ensures conditions { roster.new.conditions ≡ roster.old.conditions }
+    ensures roster { roster.new ≡ put_locks p (after_bequest m (locks_at p roster.old)) roster.old }
     ensures ready { AreReady p roster.new }
 {
     let marked = Change::Mark(Soundness::Inconsistent);

@@ -15,7 +15,7 @@ ghost use Rattle.ptk_words_model.specs.Priority.{assigned_of};
 ghost use Rattle.ptk_words_model.specs.Mutex.{mutex_at, lock_move, trylock_move, relock_move, count_of, owns, owns_raising, is_raising_for, after_move, with_soundness};
 ghost use Rattle.ptk_words_sync_invariant.specs.Conditions.{IsNoWaiter};
 ghost use Rattle.ptk_mutex.specs.Visits.{IsVisited};
-ghost use Rattle.ptk_mutex.specs.Tables.{locks_at, put_locks, with_threads, MayWait, AreReady};
+ghost use Rattle.ptk_mutex.specs.Tables.{locks_at, put_locks, MayWait, AreReady};
 ghost use Rattle.ptk_mutex.specs.Moves.{after_lock, after_trylock, after_assignment};
 ghost use Rattle.ptk_mutex.specs.Sound.{IsSound};
 
@@ -198,10 +198,7 @@ impl Mutexes {
 #[tactic(auto, using(crate::proofs::Moved::moves))]
 fn reassign(roster: &mut Roster, p: PartId, t: ThreadNo, priority: Priority) -> u32
     requires ready { AreReady p roster.old }
-    ensures threads { roster.new.table ≡ with_threads p (after_assignment t priority (locks_at p roster.old)) roster.old.table }
-    ensures line { roster.new.lines ≡ roster.old.lines }
-    ensures mutexes { roster.new.mutexes ≡ roster.old.mutexes }
-    ensures conditions { roster.new.conditions ≡ roster.old.conditions }
+    ensures roster { roster.new ≡ put_locks p (after_assignment t priority (locks_at p roster.old)) roster.old }
     ensures visited { assigned_of (part_of roster.old.table.threads p) t ≤ priority → IsVisited result (part_of roster.old.table.stored p) (part_of roster.new.table.stored p) }
     ensures fallen { priority < assigned_of (part_of roster.old.table.threads p) t → result ≡ 0 }
     ensures few { result ≤ THREAD_LIMIT + 1 }

@@ -126,10 +126,7 @@ fn open_free(
 #[inline(never)]
 pub(crate) fn refresh_priorities(roster: &mut Roster, p: PartId)
     requires { p < length roster.old.table.threads }
-    ensures threads { roster.new.table ≡ record roster.old.table { stored = slice_set roster.old.table.stored p (effective_priorities (part_of roster.old.table.threads p) (part_of roster.old.mutexes p)) } }
-    ensures line { roster.new.lines ≡ roster.old.lines }
-    ensures mutexes { roster.new.mutexes ≡ roster.old.mutexes }
-    ensures conditions { roster.new.conditions ≡ roster.old.conditions }
+    ensures { roster.new ≡ with_priorities p (effective_priorities (part_of roster.old.table.threads p) (part_of roster.old.mutexes p)) roster.old }
 {
     let mut room = [0; THREAD_LIMIT as usize];
     let slots = roster.threads().part(p);
@@ -145,10 +142,7 @@ pub(crate) fn refresh_priorities(roster: &mut Roster, p: PartId)
 pub(crate) fn refresh_after(roster: &mut Roster, p: PartId, m: MutexNo)
     requires partition { p < length roster.old.table.threads }
     requires plain { is_raising_at (pool_get (part_of roster.old.mutexes p) m) ≡ false → part_of roster.old.table.stored p ≡ effective_priorities (part_of roster.old.table.threads p) (part_of roster.old.mutexes p) }
-    ensures threads { roster.new.table ≡ record roster.old.table { stored = slice_set roster.old.table.stored p (effective_priorities (part_of roster.old.table.threads p) (part_of roster.old.mutexes p)) } }
-    ensures line { roster.new.lines ≡ roster.old.lines }
-    ensures mutexes { roster.new.mutexes ≡ roster.old.mutexes }
-    ensures conditions { roster.new.conditions ≡ roster.old.conditions }
+    ensures { roster.new ≡ with_priorities p (effective_priorities (part_of roster.old.table.threads p) (part_of roster.old.mutexes p)) roster.old }
 {
     if is_raising(roster, p, m) {
         refresh_priorities(roster, p);

@@ -1,6 +1,6 @@
 //! A rise of the stored priorities, by what raised a thread.
 
-ghost use Rattle.std.specs.Prelude.{◌≡◌, ◌+◌, ◌<◌, ◌≤◌, true, Some, None, length, slice_set, IsSome, if◌then◌else◌};
+ghost use Rattle.std.specs.Prelude.{◌≡◌, ◌+◌, ◌<◌, ◌≤◌, true, Some, None, length, IsSome, if◌then◌else◌};
 ghost use Rattle.ptk_words.specs.Pools.{pool_get, greatest};
 ghost use Rattle.ptk_words_model.specs.Priority.{awaited, effective_priorities};
 ghost use Rattle.ptk_words_model.specs.Mutex.{owns};
@@ -32,10 +32,7 @@ pub enum Rise {
 pub fn raise(roster: &mut Roster, p: PartId, rise: Rise) -> u32
     requires partition { p < length roster.old.table.threads }
     requires before { IsBefore rise (part_of roster.old.table.threads p) (part_of roster.old.mutexes p) (part_of roster.old.table.stored p) }
-    ensures threads { roster.new.table ≡ record roster.old.table { stored = slice_set roster.old.table.stored p (effective_priorities (part_of roster.old.table.threads p) (part_of roster.old.mutexes p)) } }
-    ensures line { roster.new.lines ≡ roster.old.lines }
-    ensures mutexes { roster.new.mutexes ≡ roster.old.mutexes }
-    ensures conditions { roster.new.conditions ≡ roster.old.conditions }
+    ensures stored { roster.new ≡ with_priorities p (effective_priorities (part_of roster.old.table.threads p) (part_of roster.old.mutexes p)) roster.old }
     ensures visited { IsVisited result (part_of roster.old.table.stored p) (part_of roster.new.table.stored p) }
     ensures few { result ≤ THREAD_LIMIT + 1 }
 {

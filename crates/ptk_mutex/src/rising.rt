@@ -1,7 +1,7 @@
 //! The moves after which priorities only rise: each stores what its walk along the chain raises, and returns how many
 //! stored priorities that read.
 
-ghost use Rattle.std.specs.Prelude.{◌≡◌, ◌≤◌, ◌+◌, ◌<◌, Some, IsSome, slice_set};
+ghost use Rattle.std.specs.Prelude.{◌≡◌, ◌≤◌, ◌+◌, ◌<◌, Some, IsSome};
 ghost use Rattle.ptk_words.specs.Pools.{pool_get};
 ghost use Rattle.ptk_words.specs.declared.TheConstants.{THREAD_LIMIT};
 ghost use Rattle.ptk_words_parted.specs.Parts.{part_of};
@@ -11,7 +11,7 @@ ghost use Rattle.ptk_words_sync_invariant.specs.Conditions.{IsNoWaiter};
 ghost use Rattle.ptk_threads.specs.Table.{thread_in};
 ghost use Rattle.ptk_mutex_priorities.specs.declared.slot.Change.TheVariants.{CountUp};
 ghost use Rattle.ptk_mutex.specs.Visits.{IsVisited};
-ghost use Rattle.ptk_mutex.specs.Tables.{locks_at, with_threads, MayWait, AreReady};
+ghost use Rattle.ptk_mutex.specs.Tables.{locks_at, put_locks, MayWait, AreReady};
 ghost use Rattle.ptk_mutex.specs.Rises.{IsFree, MayTake};
 
 use crate::rise::{Rise, raise, rise_behind};
@@ -36,10 +36,7 @@ pub(crate) fn make(
     requires free { IsNoWaiter t (part_of roster.old.mutexes p) (part_of roster.old.conditions p) }
     requires named { mutex_of_wait (Some wait) ≡ Some m }
     requires takes { MayTake made (pool_get (part_of roster.old.mutexes p) m) }
-    ensures threads { roster.new.table ≡ with_threads p (after_move made t m wait (locks_at p roster.old)) roster.old.table }
-    ensures line { roster.new.lines ≡ roster.old.lines }
-    ensures mutexes { roster.new.mutexes ≡ slice_set roster.old.mutexes p (after_move made t m wait (locks_at p roster.old)).mutexes }
-    ensures conditions { roster.new.conditions ≡ roster.old.conditions }
+    ensures roster { roster.new ≡ put_locks p (after_move made t m wait (locks_at p roster.old)) roster.old }
     ensures visited { IsVisited result (part_of roster.old.table.stored p) (part_of roster.new.table.stored p) }
     ensures few { result ≤ THREAD_LIMIT + 1 }
 {
@@ -58,10 +55,7 @@ fn take(roster: &mut Roster, p: PartId, t: ThreadNo, m: MutexNo) -> u32
     requires ready { AreReady p roster.old }
     requires used { IsSome (thread_in roster.old.table p t) }
     requires free { IsFree (pool_get (part_of roster.old.mutexes p) m) }
-    ensures threads { roster.new.table ≡ with_threads p (after_take t m (locks_at p roster.old)) roster.old.table }
-    ensures line { roster.new.lines ≡ roster.old.lines }
-    ensures mutexes { roster.new.mutexes ≡ slice_set roster.old.mutexes p (after_take t m (locks_at p roster.old)).mutexes }
-    ensures conditions { roster.new.conditions ≡ roster.old.conditions }
+    ensures roster { roster.new ≡ put_locks p (after_take t m (locks_at p roster.old)) roster.old }
     ensures visited { IsVisited result (part_of roster.old.table.stored p) (part_of roster.new.table.stored p) }
     ensures few { result ≤ THREAD_LIMIT + 1 }
 {
@@ -73,10 +67,7 @@ fn take(roster: &mut Roster, p: PartId, t: ThreadNo, m: MutexNo) -> u32
 #[tactic(auto, using(crate::proofs::Moved::moves))]
 fn count_up(roster: &mut Roster, p: PartId, m: MutexNo) -> u32
     requires ready { AreReady p roster.old }
-    ensures threads { roster.new.table ≡ with_threads p (after_count m (locks_at p roster.old)) roster.old.table }
-    ensures line { roster.new.lines ≡ roster.old.lines }
-    ensures mutexes { roster.new.mutexes ≡ slice_set roster.old.mutexes p (after_count m (locks_at p roster.old)).mutexes }
-    ensures conditions { roster.new.conditions ≡ roster.old.conditions }
+    ensures roster { roster.new ≡ put_locks p (after_count m (locks_at p roster.old)) roster.old }
     ensures visited { IsVisited result (part_of roster.old.table.stored p) (part_of roster.new.table.stored p) }
     ensures few { result ≤ THREAD_LIMIT + 1 }
 {
@@ -92,10 +83,7 @@ fn block(roster: &mut Roster, p: PartId, t: ThreadNo, m: MutexNo, wait: Wait) ->
     requires caller { MayWait (locks_at p roster.old) t }
     requires free { IsNoWaiter t (part_of roster.old.mutexes p) (part_of roster.old.conditions p) }
     requires named { mutex_of_wait (Some wait) ≡ Some m }
-    ensures threads { roster.new.table ≡ with_threads p (after_wait t m wait (locks_at p roster.old)) roster.old.table }
-    ensures line { roster.new.lines ≡ roster.old.lines }
-    ensures mutexes { roster.new.mutexes ≡ slice_set roster.old.mutexes p (after_wait t m wait (locks_at p roster.old)).mutexes }
-    ensures conditions { roster.new.conditions ≡ roster.old.conditions }
+    ensures roster { roster.new ≡ put_locks p (after_wait t m wait (locks_at p roster.old)) roster.old }
     ensures visited { IsVisited result (part_of roster.old.table.stored p) (part_of roster.new.table.stored p) }
     ensures few { result ≤ THREAD_LIMIT + 1 }
 {

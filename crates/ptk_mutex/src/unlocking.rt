@@ -1,12 +1,12 @@
 //! Unlock: whom a mutex goes to, and what becomes of the waiters of one that is lost.
 
-ghost use Rattle.std.specs.Prelude.{◌≡◌, ◌<◌, length, slice_set};
+ghost use Rattle.std.specs.Prelude.{◌≡◌, ◌<◌, length};
 ghost use Rattle.ptk_words.specs.Pools.{pool_get};
 ghost use Rattle.ptk_words_parted.specs.Parts.{part_of};
 ghost use Rattle.ptk_words_model.specs.Mutex.{heir, soundness_of, free_move, count_of, after_hand_over, after_hand_over_to, after_refusal, after_refusal_to, after_refusals, after_loss, after_last_unlock, after_unlock};
 ghost use Rattle.ptk_mutex_priorities.specs.Changes.{SlotMayChange, IsQuiet, KeepsOwner};
 ghost use Rattle.ptk_mutex.specs.Sound.{IsSound};
-ghost use Rattle.ptk_mutex.specs.Tables.{locks_at, put_locks, with_threads, with_threads_alone, HasPart, MayGet, AreReady};
+ghost use Rattle.ptk_mutex.specs.Tables.{locks_at, put_locks, put_locks_alone, HasPart, MayGet, AreReady};
 ghost use Rattle.ptk_mutex.specs.Moves.{after_change};
 
 use crate::mutexes::{Mutexes, refresh_after};
@@ -40,10 +40,7 @@ impl Mutexes {
 #[tactic(auto, using(crate::proofs::Moved::moves))]
 fn unlock_once(roster: &mut Roster, p: PartId, m: MutexNo)
     requires ready { AreReady p roster.old }
-    ensures threads { roster.new.table ≡ with_threads p (after_unlock m (locks_at p roster.old)) roster.old.table }
-    ensures line { roster.new.lines ≡ slice_set roster.old.lines p (after_unlock m (locks_at p roster.old)).line }
-    ensures mutexes { roster.new.mutexes ≡ slice_set roster.old.mutexes p (after_unlock m (locks_at p roster.old)).mutexes }
-    ensures conditions { roster.new.conditions ≡ roster.old.conditions }
+    ensures roster { roster.new ≡ put_locks p (after_unlock m (locks_at p roster.old)) roster.old }
     ensures ready { AreReady p roster.new }
 {
     if count(roster, p, m) > 1 {
@@ -58,10 +55,7 @@ fn unlock_once(roster: &mut Roster, p: PartId, m: MutexNo)
 #[tactic(auto, using(crate::proofs::Moved::moves))]
 fn unlock_last(roster: &mut Roster, p: PartId, m: MutexNo)
     requires ready { AreReady p roster.old }
-    ensures threads { roster.new.table ≡ with_threads p (after_last_unlock (soundness_of (pool_get (part_of roster.old.mutexes p) m)) m (locks_at p roster.old)) roster.old.table }
-    ensures line { roster.new.lines ≡ slice_set roster.old.lines p (after_last_unlock (soundness_of (pool_get (part_of roster.old.mutexes p) m)) m (locks_at p roster.old)).line }
-    ensures mutexes { roster.new.mutexes ≡ slice_set roster.old.mutexes p (after_last_unlock (soundness_of (pool_get (part_of roster.old.mutexes p) m)) m (locks_at p roster.old)).mutexes }
-    ensures conditions { roster.new.conditions ≡ roster.old.conditions }
+    ensures roster { roster.new ≡ put_locks p (after_last_unlock (soundness_of (pool_get (part_of roster.old.mutexes p) m)) m (locks_at p roster.old)) roster.old }
     ensures ready { AreReady p roster.new }
 {
     match soundness(roster, p, m) {
@@ -74,10 +68,7 @@ fn unlock_last(roster: &mut Roster, p: PartId, m: MutexNo)
 #[inline(never)]
 fn lose(roster: &mut Roster, p: PartId, m: MutexNo)
     requires ready { AreReady p roster.old }
-    ensures threads { roster.new.table ≡ with_threads p (after_loss m (locks_at p roster.old)) roster.old.table }
-    ensures line { roster.new.lines ≡ slice_set roster.old.lines p (after_loss m (locks_at p roster.old)).line }
-    ensures mutexes { roster.new.mutexes ≡ slice_set roster.old.mutexes p (after_loss m (locks_at p roster.old)).mutexes }
-    ensures conditions { roster.new.conditions ≡ roster.old.conditions }
+    ensures roster { roster.new ≡ put_locks p (after_loss m (locks_at p roster.old)) roster.old }
     ensures ready { AreReady p roster.new }
 {
     alter(roster, p, m, Change::Release);
@@ -90,10 +81,7 @@ fn lose(roster: &mut Roster, p: PartId, m: MutexNo)
 #[inline(never)]
 fn refuse_all(roster: &mut Roster, p: PartId, m: MutexNo)
     requires ready { AreReady p roster.old }
-    ensures threads { roster.new.table ≡ with_threads p (after_refusals m (locks_at p roster.old)) roster.old.table }
-    ensures line { roster.new.lines ≡ slice_set roster.old.lines p (after_refusals m (locks_at p roster.old)).line }
-    ensures mutexes { roster.new.mutexes ≡ slice_set roster.old.mutexes p (after_refusals m (locks_at p roster.old)).mutexes }
-    ensures conditions { roster.new.conditions ≡ roster.old.conditions }
+    ensures roster { roster.new ≡ put_locks p (after_refusals m (locks_at p roster.old)) roster.old }
     ensures ready { AreReady p roster.new }
 {
     let waiters = roster.mutex_waiters(p, m);
@@ -110,10 +98,7 @@ fn refuse_all(roster: &mut Roster, p: PartId, m: MutexNo)
 pub(crate) fn hand_over(roster: &mut Roster, p: PartId, m: MutexNo, made: LockMove)
     requires ready { AreReady p roster.old }
     requires made { made ≡ free_move (soundness_of (pool_get (part_of roster.old.mutexes p) m)) }
-    ensures threads { roster.new.table ≡ with_threads p (after_hand_over m (locks_at p roster.old)) roster.old.table }
-    ensures line { roster.new.lines ≡ slice_set roster.old.lines p (after_hand_over m (locks_at p roster.old)).line }
-    ensures mutexes { roster.new.mutexes ≡ slice_set roster.old.mutexes p (after_hand_over m (locks_at p roster.old)).mutexes }
-    ensures conditions { roster.new.conditions ≡ roster.old.conditions }
+    ensures roster { roster.new ≡ put_locks p (after_hand_over m (locks_at p roster.old)) roster.old }
     ensures ready { AreReady p roster.new }
 {
     let next = choose(roster, p, m);
@@ -129,10 +114,7 @@ fn hand_to(roster: &mut Roster, p: PartId, m: MutexNo, next: Option<ThreadNo>, m
     requires part { HasPart p roster.old }
     requires may { MayGet next (locks_at p roster.old) m }
     requires made { made ≡ free_move (soundness_of (pool_get (part_of roster.old.mutexes p) m)) }
-    ensures threads { roster.new.table ≡ with_threads_alone p (after_hand_over_to next m (locks_at p roster.old)) roster.old.table }
-    ensures line { roster.new.lines ≡ slice_set roster.old.lines p (after_hand_over_to next m (locks_at p roster.old)).line }
-    ensures mutexes { roster.new.mutexes ≡ slice_set roster.old.mutexes p (after_hand_over_to next m (locks_at p roster.old)).mutexes }
-    ensures conditions { roster.new.conditions ≡ roster.old.conditions }
+    ensures { roster.new ≡ put_locks_alone p (after_hand_over_to next m (locks_at p roster.old)) roster.old }
 {
     match next {
         Some(t) => {
@@ -147,10 +129,7 @@ fn hand_to(roster: &mut Roster, p: PartId, m: MutexNo, next: Option<ThreadNo>, m
 #[tactic(auto, using(crate::proofs::Moved::moves))]
 fn refuse_next(roster: &mut Roster, p: PartId, m: MutexNo)
     requires ready { AreReady p roster.old }
-    ensures threads { roster.new.table ≡ with_threads p (after_refusal m (locks_at p roster.old)) roster.old.table }
-    ensures line { roster.new.lines ≡ slice_set roster.old.lines p (after_refusal m (locks_at p roster.old)).line }
-    ensures mutexes { roster.new.mutexes ≡ slice_set roster.old.mutexes p (after_refusal m (locks_at p roster.old)).mutexes }
-    ensures conditions { roster.new.conditions ≡ roster.old.conditions }
+    ensures roster { roster.new ≡ put_locks p (after_refusal m (locks_at p roster.old)) roster.old }
     ensures ready { AreReady p roster.new }
 {
     let next = choose(roster, p, m);
@@ -163,10 +142,7 @@ fn refuse_next(roster: &mut Roster, p: PartId, m: MutexNo)
 fn refuse_to(roster: &mut Roster, p: PartId, m: MutexNo, next: Option<ThreadNo>)
     requires part { HasPart p roster.old }
     requires may { MayGet next (locks_at p roster.old) m }
-    ensures threads { roster.new.table ≡ with_threads_alone p (after_refusal_to next m (locks_at p roster.old)) roster.old.table }
-    ensures line { roster.new.lines ≡ slice_set roster.old.lines p (after_refusal_to next m (locks_at p roster.old)).line }
-    ensures mutexes { roster.new.mutexes ≡ slice_set roster.old.mutexes p (after_refusal_to next m (locks_at p roster.old)).mutexes }
-    ensures conditions { roster.new.conditions ≡ roster.old.conditions }
+    ensures { roster.new ≡ put_locks_alone p (after_refusal_to next m (locks_at p roster.old)) roster.old }
 {
     match next {
         Some(t) => {
@@ -210,10 +186,7 @@ pub(crate) fn alter(roster: &mut Roster, p: PartId, m: MutexNo, change: Change)
     requires ready { AreReady p roster.old }
     requires quiet { IsQuiet change }
     requires possible { SlotMayChange change (pool_get (part_of roster.old.mutexes p) m) }
-    ensures threads { roster.new.table ≡ with_threads p (after_change change m (locks_at p roster.old)) roster.old.table }
-    ensures line { roster.new.lines ≡ roster.old.lines }
-    ensures mutexes { roster.new.mutexes ≡ slice_set roster.old.mutexes p (after_change change m (locks_at p roster.old)).mutexes }
-    ensures conditions { roster.new.conditions ≡ roster.old.conditions }
+    ensures roster { roster.new ≡ put_locks p (after_change change m (locks_at p roster.old)) roster.old }
     ensures ready { AreReady p roster.new }
 {
     roster.change_mutex(p, m, change);
@@ -226,10 +199,7 @@ pub(crate) fn amend(roster: &mut Roster, p: PartId, m: MutexNo, change: Change)
     requires quiet { IsQuiet change }
     requires owner { KeepsOwner change }
     requires possible { SlotMayChange change (pool_get (part_of roster.old.mutexes p) m) }
-    ensures threads { roster.new.table ≡ with_threads p (after_change change m (locks_at p roster.old)) roster.old.table }
-    ensures line { roster.new.lines ≡ roster.old.lines }
-    ensures mutexes { roster.new.mutexes ≡ slice_set roster.old.mutexes p (after_change change m (locks_at p roster.old)).mutexes }
-    ensures conditions { roster.new.conditions ≡ roster.old.conditions }
+    ensures roster { roster.new ≡ put_locks p (after_change change m (locks_at p roster.old)) roster.old }
     ensures ready { AreReady p roster.new }
 {
     roster.change_mutex(p, m, change);

@@ -15,7 +15,7 @@ ghost use Rattle.ptk_syncs.specs.Waiters.{condition_of};
 ghost use Rattle.ptk_threads.specs.Table.{thread_in, with_changed};
 ghost use Rattle.ptk_mutex.specs.Visits.{IsVisited};
 ghost use Rattle.ptk_mutex.specs.Sound.{IsSound};
-ghost use Rattle.ptk_mutex.specs.Tables.{locks_at, put_locks, with_threads, with_threads_alone, HasPart, IsWaiter, MayWait, AreReady};
+ghost use Rattle.ptk_mutex.specs.Tables.{locks_at, put_locks, put_locks_alone, HasPart, IsWaiter, MayWait, AreReady};
 ghost use Rattle.ptk_mutex.specs.Moves.{after_withdrawal};
 ghost use Rattle.ptk_mutex.specs.Rises.{MayTake};
 
@@ -126,10 +126,7 @@ fn make_relock(
     requires caller { MayWait (locks_at p roster.old) t }
     requires free { IsNoWaiter t (part_of roster.old.mutexes p) (part_of roster.old.conditions p) }
     requires takes { MayTake made (pool_get (part_of roster.old.mutexes p) m) }
-    ensures threads { roster.new.table ≡ with_threads p (after_relock_move made t m reply (locks_at p roster.old)) roster.old.table }
-    ensures line { roster.new.lines ≡ slice_set roster.old.lines p (after_relock_move made t m reply (locks_at p roster.old)).line }
-    ensures mutexes { roster.new.mutexes ≡ slice_set roster.old.mutexes p (after_relock_move made t m reply (locks_at p roster.old)).mutexes }
-    ensures conditions { roster.new.conditions ≡ roster.old.conditions }
+    ensures roster { roster.new ≡ put_locks p (after_relock_move made t m reply (locks_at p roster.old)) roster.old }
     ensures visited { IsVisited result (part_of roster.old.table.stored p) (part_of roster.new.table.stored p) }
     ensures few { result ≤ THREAD_LIMIT + 1 }
 {
@@ -148,10 +145,7 @@ fn make_relock(
 pub(crate) fn leave(roster: &mut Roster, p: PartId, t: ThreadNo, m: MutexNo, made: LockMove)
     requires part { HasPart p roster.old }
     requires waiter { IsWaiter (locks_at p roster.old) m t }
-    ensures threads { roster.new.table ≡ with_threads_alone p (after_leave made t m (locks_at p roster.old)) roster.old.table }
-    ensures line { roster.new.lines ≡ slice_set roster.old.lines p (after_leave made t m (locks_at p roster.old)).line }
-    ensures mutexes { roster.new.mutexes ≡ slice_set roster.old.mutexes p (after_leave made t m (locks_at p roster.old)).mutexes }
-    ensures conditions { roster.new.conditions ≡ roster.old.conditions }
+    ensures { roster.new ≡ put_locks_alone p (after_leave made t m (locks_at p roster.old)) roster.old }
 {
     let kept = kept_reply(roster.threads().wait(p, t));
     take_out(roster, p, t, m, made.reply_after(kept));
@@ -163,10 +157,7 @@ pub(crate) fn leave(roster: &mut Roster, p: PartId, t: ThreadNo, m: MutexNo, mad
 fn take_out(roster: &mut Roster, p: PartId, t: ThreadNo, m: MutexNo, reply: Option<u32>)
     requires part { HasPart p roster.old }
     requires waiter { IsWaiter (locks_at p roster.old) m t }
-    ensures threads { roster.new.table ≡ with_threads_alone p (after_withdrawal t m reply (locks_at p roster.old)) roster.old.table }
-    ensures line { roster.new.lines ≡ slice_set roster.old.lines p (after_withdrawal t m reply (locks_at p roster.old)).line }
-    ensures mutexes { roster.new.mutexes ≡ slice_set roster.old.mutexes p (after_withdrawal t m reply (locks_at p roster.old)).mutexes }
-    ensures conditions { roster.new.conditions ≡ roster.old.conditions }
+    ensures { roster.new ≡ put_locks_alone p (after_withdrawal t m reply (locks_at p roster.old)) roster.old }
 {
     match reply {
         Some(value) => roster.rouse_from_mutex(p, m, t, &[value]),

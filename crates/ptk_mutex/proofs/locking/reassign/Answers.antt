@@ -1,12 +1,16 @@
-use Rattle.std.proofs.Common.{arith, sym, ap, subst, ◌∙◌, rules}
+use Rattle.std.proofs.Common.{arith, sym, ap, subst, ◌∙◌}
 use Rattle.std.specs.Prelude.{List, Option}
 use Rattle.ptk_words.specs.declared.threads.Thread.{Thread}
 use Rattle.ptk_words_parted.specs.Parts.{part_of}
 use Rattle.ptk_words_model.specs.State.{Mutex}
 use Rattle.ptk_words_model.specs.Priority.{assigned_of}
 use Rattle.ptk_syncs.specs.Rosters.{Rostered}
+use Rattle.ptk_threads.specs.Table.{with_priority}
 use Rattle.ptk_mutex.specs.Before.{IsBeforeAssignment}
+use Rattle.ptk_mutex.specs.Moves.{after_assignment}
+use Rattle.ptk_mutex.specs.Tables.{locks_by}
 use Rattle.ptk_mutex.proofs.Raised.{assignment_before, stored_visited}
+use Rattle.ptk_mutex.proofs.Steps.{thread_alone, refreshed_put}
 use Rattle.ptk_mutex.proofs.locking.reassign.Goals as goal
 
 pub raise-requires-clause-before : goal.raise-requires-clause-before
@@ -19,5 +23,14 @@ pub returns-clause-visited : goal.returns-clause-visited
 returns-clause-visited c = λ _.
     stored_visited c.args.p _ c.args.roster.now.table c.update_if_used.new.self.table c.raise.new.roster.table (ap (λ (r : Rostered). r.table.stored) c.update_if_used.ensures) c.raise.ensures.visited
 
-pub returns-then-level-before-clause-threads : goal.returns-then-level-before-clause-threads
-returns-then-level-before-clause-threads c = search rules
+pub returns-clause-roster : goal.returns-clause-roster
+returns-clause-roster c =
+    let a : Rostered = c.args.roster.now in
+    let mid : Rostered = c.update_if_used.new.self in
+    refreshed_put c.args.p a mid c.raise.new.roster (after_assignment c.args.t c.args.priority (locks_by c.args.p a.table a.lines a.mutexes)) c.requires.ready.part (thread_alone c.args.p c.args.t (with_priority c.args.priority) a mid c.update_if_used.ensures) c.raise.ensures.stored
+
+pub returns-then-level-before-clause-roster : goal.returns-then-level-before-clause-roster
+returns-then-level-before-clause-roster c =
+    let a : Rostered = c.args.roster.now in
+    let mid : Rostered = c.update_if_used.new.self in
+    refreshed_put c.args.p a mid c.refresh_priorities.new.roster (after_assignment c.args.t c.args.priority (locks_by c.args.p a.table a.lines a.mutexes)) c.requires.ready.part (thread_alone c.args.p c.args.t (with_priority c.args.priority) a mid c.update_if_used.ensures) c.refresh_priorities.ensures

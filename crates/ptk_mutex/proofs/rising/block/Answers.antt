@@ -1,9 +1,6 @@
-use Rattle.std.proofs.Common.{◌≡◌, ◌∙◌, ap}
+use Rattle.std.proofs.Common.{ap}
 use Rattle.ptk_words_parted.specs.Parts.{part_of}
-use Rattle.ptk_words_parted.proofs.Cuts.{set_part-same}
-use Rattle.ptk_words_model.specs.Mutex.{after_wait}
 use Rattle.ptk_syncs.specs.Rosters.{Rostered}
-use Rattle.ptk_mutex.specs.Tables.{locks_by, put_locks}
 use Rattle.ptk_mutex.proofs.Raised.{block_before, block_next, block_put, inheritor-read, stored_visited}
 use Rattle.ptk_mutex.proofs.rising.block.Goals as goal
 
@@ -21,18 +18,11 @@ rise_behind-requires-clause-next c =
     (inheritor-read c.args.m c.inheritor_of-inheritor.result (part_of a.mutexes c.args.p) c.mutex_slots.result.now c.mutex_slots.ensures.mutexes c.inheritor_of-inheritor.ensures)
     (ap (λ (r : Rostered). r.mutexes) c.wait_for_mutex.ensures) (ap (λ (r : Rostered). r.table) c.wait_for_mutex.ensures)
 
-pub returns : goal.returns
-returns c =
+pub returns-clause-roster : goal.returns-clause-roster
+returns-clause-roster c = block_put c.args.p c.args.t c.args.m c.args.wait c.args.roster.now c.wait_for_mutex.new.self c.rise_behind.new.roster c.requires.ready.part c.wait_for_mutex.ensures c.rise_behind.ensures.stored
+
+pub returns-clause-visited : goal.returns-clause-visited
+returns-clause-visited c =
     let a : Rostered = c.args.roster.now in
     let mid : Rostered = c.wait_for_mutex.new.self in
-    let b : Rostered = c.rise_behind.new.roster in
-    let moved : b ≡ put_locks c.args.p (after_wait c.args.t c.args.m c.args.wait (locks_by c.args.p a.table a.lines a.mutexes)) a =
-    block_put c.args.p c.args.t c.args.m c.args.wait a mid b c.requires.ready.part c.wait_for_mutex.ensures c.rise_behind.ensures.stored in
-    record {
-      threads = ap (λ (r : Rostered). r.table) moved;
-      line = ap (λ (r : Rostered). r.lines) moved ∙ set_part-same a.lines c.args.p;
-      mutexes = ap (λ (r : Rostered). r.mutexes) moved;
-      conditions = ap (λ (r : Rostered). r.conditions) moved;
-      visited = stored_visited c.args.p _ a.table mid.table b.table (ap (λ (r : Rostered). r.table.stored) c.wait_for_mutex.ensures) c.rise_behind.ensures.visited;
-      few = c.rise_behind.ensures.few;
-    }
+    stored_visited c.args.p _ a.table mid.table c.rise_behind.new.roster.table (ap (λ (r : Rostered). r.table.stored) c.wait_for_mutex.ensures) c.rise_behind.ensures.visited

@@ -1,14 +1,14 @@
-use Rattle.std.proofs.Common.{ℕ, List, sym, ◌∙◌, ap, subst}
+use Rattle.std.proofs.Common.{ℕ, List, sym, ap, subst}
 use Rattle.ptk_mutex_priorities.specs.declared.slot.Change.TheVariants.{CountUp}
 use Rattle.ptk_syncs.specs.Rosters.{Rostered}
 use Rattle.ptk_mutex.specs.Visits.{IsVisited}
-use Rattle.ptk_mutex.proofs.Raised.{amended_stays}
+use Rattle.ptk_mutex.proofs.Raised.{amended_put}
 use Rattle.ptk_mutex.proofs.Visits.{unvisited}
 use Rattle.ptk_words_parted.specs.Parts.{part_of}
 use Rattle.ptk_mutex.proofs.rising.count_up.Goals as goal
 
-pub returns-clause-threads : goal.returns-clause-threads
-returns-clause-threads c = ap (λ (r : Rostered). r.table) c.change_mutex.ensures ∙ amended_stays CountUp c.args.p c.args.m c.args.roster.now.table c.args.roster.now.lines c.args.roster.now.mutexes tt c.requires.ready
+pub returns-clause-roster : goal.returns-clause-roster
+returns-clause-roster c = amended_put CountUp c.args.p c.args.m c.args.roster.now c.change_mutex.new.self tt c.requires.ready c.change_mutex.ensures
 
 pub returns-clause-visited : goal.returns-clause-visited
 returns-clause-visited c =

@@ -1,12 +1,9 @@
-use Rattle.std.proofs.Common.{◌≡◌, arith, sym, ap, ◌∙◌}
 use Rattle.ptk_syncs.specs.Rosters.{Rostered}
 use Rattle.ptk_words_model.specs.State.{Locks}
-use Rattle.ptk_words_parted.proofs.Cuts.{set_part-same}
-use Rattle.ptk_mutex.specs.Tables.{locks_by, with_threads}
+use Rattle.ptk_mutex_priorities.specs.Changes.{mutex_changed}
+use Rattle.ptk_mutex.specs.Tables.{locks_by}
 use Rattle.ptk_mutex.specs.Moves.{after_change}
-use Rattle.ptk_mutex.proofs.Moved.{moves}
-use Rattle.ptk_mutex.proofs.Steps.{moved_ready, locked_change}
-use Rattle.ptk_mutex.specs.Tables.{with_threads_alone}
+use Rattle.ptk_mutex.proofs.Steps.{mutex_alone, refreshed_put, put_ready, locked_change}
 use Rattle.ptk_mutex.proofs.Unraised.{unraised_change, unraised_stored}
 use Rattle.ptk_mutex.proofs.unlocking.alter.Goals as goal
 
@@ -15,15 +12,16 @@ refresh_after-requires-clause-plain c = λ plain.
     let a : Rostered = c.args.roster.now in
     let b : Rostered = c.change_mutex.new.self in
     let locks : Locks = locks_by c.args.p a.table a.lines a.mutexes in
-    let after : Locks = after_change c.args.change c.args.m locks in
-    let threads : b.table ≡ with_threads_alone c.args.p after a.table = ap (λ (r : Rostered). r.table) c.change_mutex.ensures ∙ ap (λ l. record a.table { threads = l }) (sym (set_part-same a.table.threads c.args.p)) in
-    unraised_stored c.args.p c.args.m a.table b.table a.lines a.mutexes b.mutexes after c.requires.ready (unraised_change c.args.change c.args.m locks) threads (ap (λ (r : Rostered). r.mutexes) c.change_mutex.ensures) plain
+    unraised_stored c.args.p c.args.m a b (after_change c.args.change c.args.m locks) c.requires.ready (unraised_change c.args.change c.args.m locks) (mutex_alone c.args.p c.args.m (mutex_changed c.args.change) a b c.change_mutex.ensures) plain
+
+pub returns-clause-roster : goal.returns-clause-roster
+returns-clause-roster c =
+    let a : Rostered = c.args.roster.now in
+    let b : Rostered = c.change_mutex.new.self in
+    refreshed_put c.args.p a b c.refresh_after.new.roster (after_change c.args.change c.args.m (locks_by c.args.p a.table a.lines a.mutexes)) c.requires.ready.part (mutex_alone c.args.p c.args.m (mutex_changed c.args.change) a b c.change_mutex.ensures) c.refresh_after.ensures
 
 pub returns-clause-ready : goal.returns-clause-ready
 returns-clause-ready c =
-    let locks : Locks = locks_by c.args.p c.args.roster.now.table c.args.roster.now.lines c.args.roster.now.mutexes in
-    let after : Locks = after_change c.args.change c.args.m locks in
-    let threads : c.refresh_after.new.roster.table ≡ with_threads c.args.p after c.args.roster.now.table = grind (arith, moves) in
-    moved_ready c.args.p c.args.roster.now.table c.refresh_after.new.roster.table c.args.roster.now.lines c.refresh_after.new.roster.lines c.args.roster.now.mutexes c.refresh_after.new.roster.mutexes after c.requires.ready.part
-    (locked_change c.args.change c.args.m locks c.requires.quiet c.requires.ready.locked)
-    (record { of_threads = threads; of_lines = c.refresh_after.ensures.line ∙ ap (λ (r : Rostered). r.lines) c.change_mutex.ensures ∙ sym (set_part-same c.args.roster.now.lines c.args.p); of_mutexes = c.refresh_after.ensures.mutexes ∙ ap (λ (r : Rostered). r.mutexes) c.change_mutex.ensures })
+    let a : Rostered = c.args.roster.now in
+    let locks : Locks = locks_by c.args.p a.table a.lines a.mutexes in
+    put_ready c.args.p a c.refresh_after.new.roster (after_change c.args.change c.args.m locks) c.requires.ready.part (locked_change c.args.change c.args.m locks c.requires.quiet c.requires.ready.locked) (returns-clause-roster c)

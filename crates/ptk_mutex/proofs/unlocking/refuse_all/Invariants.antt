@@ -1,9 +1,6 @@
-use Rattle.std.proofs.Common.{◌≡◌, ◌-◌}
+use Rattle.std.proofs.Common.{◌-◌}
 use Rattle.ptk_mutex.proofs.Steps.{AreRefused}
 use Rattle.ptk_mutex.proofs.unlocking.refuse_all.Given as goal
 
 abbrev pub invariant-loop-i : goal.invariant-loop-i
-invariant-loop-i l = record {
-  refused : AreRefused l.p l.m (l.count - l.i) l.count l.initial.roster.table l.initial.roster.lines l.initial.roster.mutexes l.roster.table l.roster.lines l.roster.mutexes;
-  conditions : l.roster.conditions ≡ l.initial.roster.conditions;
-}
+invariant-loop-i l = AreRefused l.p l.m (l.count - l.i) l.count l.initial.roster l.roster

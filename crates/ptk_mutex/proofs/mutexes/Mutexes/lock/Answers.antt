@@ -1,12 +1,11 @@
-use Rattle.std.proofs.Common.{◌≡◌, refl, arith}
-use Rattle.std.specs.Prelude.{slice_set}
+use Rattle.std.proofs.Common.{refl, ◌∙◌, ap}
 use Rattle.ptk_words.specs.declared.threads.Wait.TheVariants.{MutexWait}
+use Rattle.ptk_words_model.specs.declared.LockMove.{LockMove}
 use Rattle.ptk_words_model.specs.State.{Locks}
-use Rattle.ptk_words_model.specs.Mutex.{mutex_at, lock_move}
+use Rattle.ptk_words_model.specs.Mutex.{mutex_at, lock_move, after_move}
 use Rattle.ptk_mutex.specs.Moves.{after_lock}
-use Rattle.ptk_mutex.specs.Tables.{locks_by, with_threads}
-use Rattle.ptk_mutex.proofs.Moved.{moves}
-use Rattle.ptk_mutex.proofs.Steps.{lock_counts, locked_move, made_put, put_ready}
+use Rattle.ptk_mutex.specs.Tables.{locks_by, put_locks}
+use Rattle.ptk_mutex.proofs.Steps.{lock_counts, locked_move, put_ready}
 use Rattle.ptk_syncs.specs.Rosters.{Rostered}
 use Rattle.ptk_mutex.proofs.Apart.{lock_owned}
 use Rattle.ptk_mutex.proofs.Sound.{sound_made}
@@ -15,12 +14,7 @@ use Rattle.ptk_mutex.proofs.mutexes.Mutexes.lock.Goals as goal
 pub returns-clause-roster : goal.returns-clause-roster
 returns-clause-roster c =
     let a : Rostered = c.args.roster.now in
-    let b : Rostered = c.make-self.new.roster in
-    let locks : Locks = locks_by c.args.p a.table a.lines a.mutexes in
-    let after : Locks = after_lock c.args.t c.args.m c.args.deadline locks in
-    let threads : b.table ≡ with_threads c.args.p after a.table = grind (arith, moves) in
-    let mutexes : b.mutexes ≡ slice_set a.mutexes c.args.p after.mutexes = grind (arith, moves) in
-    made_put (lock_move locks c.args.t (mutex_at locks c.args.m)) c.args.p c.args.t c.args.m (MutexWait c.args.m c.args.deadline) a b threads c.make-self.ensures.line mutexes c.make-self.ensures.conditions
+    c.make-self.ensures.roster ∙ ap (λ (made : LockMove). put_locks c.args.p (after_move made c.args.t c.args.m (MutexWait c.args.m c.args.deadline) (locks_by c.args.p a.table a.lines a.mutexes)) a) c.lock_move-made.ensures
 
 pub returns-clause-ready : goal.returns-clause-ready
 returns-clause-ready c =

@@ -1,10 +1,9 @@
-use Rattle.std.proofs.Common.{◌≡◌, arith}
-use Rattle.std.specs.Prelude.{slice_set}
+use Rattle.std.proofs.Common.{◌∙◌, ap}
+use Rattle.ptk_words_model.specs.declared.LockMove.{LockMove}
 use Rattle.ptk_words_model.specs.State.{Locks}
-use Rattle.ptk_words_model.specs.Mutex.{mutex_at, relock_move, after_relock}
-use Rattle.ptk_mutex.specs.Tables.{locks_by, with_threads}
-use Rattle.ptk_mutex.proofs.Moved.{moves}
-use Rattle.ptk_mutex.proofs.Steps.{put-is, put_ready, locked_relock}
+use Rattle.ptk_words_model.specs.Mutex.{mutex_at, relock_move, after_relock, after_relock_move}
+use Rattle.ptk_mutex.specs.Tables.{locks_by, put_locks}
+use Rattle.ptk_mutex.proofs.Steps.{put_ready, locked_relock}
 use Rattle.ptk_syncs.specs.Rosters.{Rostered}
 use Rattle.ptk_mutex.proofs.Sound.{sound_relock}
 use Rattle.ptk_mutex.proofs.mutexes.Mutexes.relock.Goals as goal
@@ -12,12 +11,7 @@ use Rattle.ptk_mutex.proofs.mutexes.Mutexes.relock.Goals as goal
 pub returns-clause-roster : goal.returns-clause-roster
 returns-clause-roster c =
     let a : Rostered = c.args.roster.now in
-    let b : Rostered = c.make_relock-self.new.roster in
-    let after : Locks = after_relock c.args.t c.args.m c.args.reply (locks_by c.args.p a.table a.lines a.mutexes) in
-    let threads : b.table ≡ with_threads c.args.p after a.table = grind (arith, moves) in
-    let lines : b.lines ≡ slice_set a.lines c.args.p after.line = grind (arith, moves) in
-    let mutexes : b.mutexes ≡ slice_set a.mutexes c.args.p after.mutexes = grind (arith, moves) in
-    put-is c.args.p a b after (record { of_threads = threads; of_lines = lines; of_mutexes = mutexes }) c.make_relock-self.ensures.conditions
+    c.make_relock-self.ensures.roster ∙ ap (λ (made : LockMove). put_locks c.args.p (after_relock_move made c.args.t c.args.m c.args.reply (locks_by c.args.p a.table a.lines a.mutexes)) a) c.relock_move-made.ensures
 
 pub returns-clause-ready : goal.returns-clause-ready
 returns-clause-ready c =

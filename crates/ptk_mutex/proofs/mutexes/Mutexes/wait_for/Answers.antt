@@ -1,12 +1,11 @@
 use Rattle.std.proofs.Common.{refl, sym, ◌∙◌, ap}
 use Rattle.ptk_words.specs.declared.threads.Wait.TheVariants.{MutexWait}
 use Rattle.ptk_words_model.specs.declared.LockMove.{LockMove}
-use Rattle.ptk_words_model.specs.declared.LockMove.TheVariants.{Waits}
 use Rattle.ptk_words_model.specs.State.{Locks}
 use Rattle.ptk_words_model.specs.Mutex.{mutex_at, lock_move, after_move}
 use Rattle.ptk_mutex.specs.Moves.{after_lock}
 use Rattle.ptk_mutex.specs.Tables.{locks_by, put_locks}
-use Rattle.ptk_mutex.proofs.Steps.{lock_counts, locked_move, made_put, put_ready}
+use Rattle.ptk_mutex.proofs.Steps.{lock_counts, locked_move, put_ready}
 use Rattle.ptk_syncs.specs.Rosters.{Rostered}
 use Rattle.ptk_mutex.proofs.Apart.{lock_owned}
 use Rattle.ptk_mutex.proofs.Sound.{sound_made}
@@ -15,8 +14,7 @@ use Rattle.ptk_mutex.proofs.mutexes.Mutexes.wait_for.Goals as goal
 pub returns-clause-roster : goal.returns-clause-roster
 returns-clause-roster c =
     let a : Rostered = c.args.roster.now in
-    made_put Waits c.args.p c.args.t c.args.m (MutexWait c.args.m c.args.deadline) a c.make-self.new.roster c.make-self.ensures.threads c.make-self.ensures.line c.make-self.ensures.mutexes c.make-self.ensures.conditions
-    ∙ ap (λ (made : LockMove). put_locks c.args.p (after_move made c.args.t c.args.m (MutexWait c.args.m c.args.deadline) (locks_by c.args.p a.table a.lines a.mutexes)) a) (sym c.requires.waits)
+    c.make-self.ensures.roster ∙ ap (λ (made : LockMove). put_locks c.args.p (after_move made c.args.t c.args.m (MutexWait c.args.m c.args.deadline) (locks_by c.args.p a.table a.lines a.mutexes)) a) (sym c.requires.waits)
 
 pub returns-clause-ready : goal.returns-clause-ready
 returns-clause-ready c =

@@ -1,12 +1,10 @@
 use Rattle.std.specs.Prelude.{option_to_list}
 use Rattle.ptk_words_model.specs.State.{Locks}
 use Rattle.ptk_words_model.specs.Schedule.{woken_with}
-use Rattle.std.proofs.Common.{◌≡◌, arith, ◌∙◌}
-use Rattle.ptk_mutex.specs.Tables.{locks_by, with_threads}
+use Rattle.ptk_mutex.specs.Tables.{locks_by}
 use Rattle.ptk_mutex.specs.Moves.{after_withdrawal}
 use Rattle.ptk_mutex.proofs.Locked.{locked_left}
-use Rattle.ptk_mutex.proofs.Moved.{moves}
-use Rattle.ptk_mutex.proofs.Steps.{put-is, put_ready}
+use Rattle.ptk_mutex.proofs.Steps.{refreshed_put, put_ready}
 use Rattle.ptk_syncs.specs.Rosters.{Rostered}
 use Rattle.ptk_mutex.proofs.Sound.{sound_withdrawal}
 use Rattle.ptk_mutex.proofs.Unraised.{unraised_withdrawal, unraised_stored}
@@ -15,19 +13,13 @@ use Rattle.ptk_mutex.proofs.mutexes.Mutexes.withdraw.Goals as goal
 pub refresh_after-requires-clause-plain : goal.refresh_after-requires-clause-plain
 refresh_after-requires-clause-plain c = λ plain.
     let a : Rostered = c.args.roster.now in
-    let b : Rostered = c.take_out.new.roster in
     let locks : Locks = locks_by c.args.p a.table a.lines a.mutexes in
-    unraised_stored c.args.p c.args.m a.table b.table a.lines a.mutexes b.mutexes (after_withdrawal c.args.t c.args.m c.args.reply locks) c.requires.ready (unraised_withdrawal c.args.m c.args.t c.args.reply locks c.requires.waiter)
-    c.take_out.ensures.threads c.take_out.ensures.mutexes plain
+    unraised_stored c.args.p c.args.m a c.take_out.new.roster (after_withdrawal c.args.t c.args.m c.args.reply locks) c.requires.ready (unraised_withdrawal c.args.m c.args.t c.args.reply locks c.requires.waiter) c.take_out.ensures plain
 
 pub returns-clause-roster : goal.returns-clause-roster
 returns-clause-roster c =
     let a : Rostered = c.args.roster.now in
-    let b : Rostered = c.refresh_after.new.roster in
-    let after : Locks = after_withdrawal c.args.t c.args.m c.args.reply (locks_by c.args.p a.table a.lines a.mutexes) in
-    let threads : b.table ≡ with_threads c.args.p after a.table = grind (arith, moves) in
-    put-is c.args.p a b after (record { of_threads = threads; of_lines = c.refresh_after.ensures.line ∙ c.take_out.ensures.line; of_mutexes = c.refresh_after.ensures.mutexes ∙ c.take_out.ensures.mutexes })
-    (c.refresh_after.ensures.conditions ∙ c.take_out.ensures.conditions)
+    refreshed_put c.args.p a c.take_out.new.roster c.refresh_after.new.roster (after_withdrawal c.args.t c.args.m c.args.reply (locks_by c.args.p a.table a.lines a.mutexes)) c.requires.ready.part c.take_out.ensures c.refresh_after.ensures
 
 pub returns-clause-ready : goal.returns-clause-ready
 returns-clause-ready c =
