@@ -31,7 +31,8 @@ use Rattle.ptk_mutex_priorities.specs.Raised.{risen}
 use Rattle.ptk_mutex_priorities.proofs.Raising.{effective_mutex}
 use Rattle.ptk_mutex.specs.Visits.{reads, IsVisited}
 use Rattle.ptk_mutex.specs.Before.{freed, with_priority, IsBeforeTake, IsBeforeAssignment}
-use Rattle.ptk_mutex.specs.Gained.{is_for, awaiting, gained_by, gained_of}
+use Rattle.ptk_words_model.specs.Condition.{is_named}
+use Rattle.ptk_mutex.specs.Gained.{awaiting, gained_by, gained_of}
 use Rattle.ptk_words_sync_invariant.proofs.ChainLaws.{false_true, IsNumber, next_bounded}
 use Rattle.ptk_mutex.proofs.Joins.{IsJoin, IsPassed, priorities, length-priorities, stored_as, join-is}
 use Rattle.ptk_mutex.proofs.Gains.{IsGain, gain-is}
@@ -81,43 +82,43 @@ none_stays m x threads mutexes at kind =
 next_is : (m w : ℕ) (threads : List (Option Thread)) (mutexes : List (Option Mutex)) → awaited (pool_get threads w) ≡ Some m → next_in_chain threads mutexes w ≡ inheritor_of (pool_get mutexes m)
 next_is m w threads mutexes e = ap (option_and_then (λ j. inheritor_of (pool_get mutexes j))) e
 
-for_is : (m : ℕ) (o : Option ℕ) → is_for m o ≡ true → o ≡ Some m
-for_is m None e = false_true e
-for_is m (Some n) e = ap Some (eqb-true n m e)
+named_is : (m : ℕ) (o : Option ℕ) → is_named m o ≡ true → o ≡ Some m
+named_is m None e = false_true e
+named_is m (Some n) e = ap Some (eqb-true n m e)
 
-next_apart : (m : ℕ) (mutexes : List (Option Mutex)) (o : Option ℕ) → is_for m o ≡ false → option_and_then (λ j. inheritor_of (pool_get (pool_changed m freed mutexes) j)) o ≡ option_and_then (λ j. inheritor_of (pool_get mutexes j)) o
+next_apart : (m : ℕ) (mutexes : List (Option Mutex)) (o : Option ℕ) → is_named m o ≡ false → option_and_then (λ j. inheritor_of (pool_get (pool_changed m freed mutexes) j)) o ≡ option_and_then (λ j. inheritor_of (pool_get mutexes j)) o
 next_apart m mutexes None e = refl
 next_apart m mutexes (Some n) e = ap inheritor_of (changed_other m n freed mutexes (λ same. false_true (sym e ∙ eq-eqb n m same)))
 
 joins : (t m : ℕ) (x : Mutex) (threads : List (Option Thread)) (mutexes : List (Option Mutex)) → pool_get mutexes m ≡ Some x → x.protocol ≡ Inherit → x.owner ≡ OwnedBy t
-    → IsJoin (next_in_chain threads (pool_changed m freed mutexes)) (next_in_chain threads mutexes) (λ w. is_for m (awaited (pool_get threads w))) t
+    → IsJoin (next_in_chain threads (pool_changed m freed mutexes)) (next_in_chain threads mutexes) (λ w. is_named m (awaited (pool_get threads w))) t
 joins t m x threads mutexes at kind own = record {
   free = λ w j.
-      next_is m w threads (pool_changed m freed mutexes) (for_is m (awaited (pool_get threads w)) j)
+      next_is m w threads (pool_changed m freed mutexes) (named_is m (awaited (pool_get threads w)) j)
       ∙ ap inheritor_of (changed_own m freed mutexes ∙ ap (option_map freed) at) ∙ ap (λ p. inheritor p Free) kind;
   waits = λ w j.
-      next_is m w threads mutexes (for_is m (awaited (pool_get threads w)) j)
+      next_is m w threads mutexes (named_is m (awaited (pool_get threads w)) j)
       ∙ ap inheritor_of at ∙ ap (λ p. inheritor p x.owner) kind ∙ ap (inheritor Inherit) own;
   others = λ w j. sym (next_apart m mutexes (awaited (pool_get threads w)) j);
 }
 
-awaiting-any : (m w : ℕ) (threads : List (Option Thread)) → list_any (nat_eq w) (awaiting m threads) ≡ (is_for m (awaited (pool_get threads w)) && list_any (nat_eq w) (numbers_to (length threads)))
+awaiting-any : (m w : ℕ) (threads : List (Option Thread)) → list_any (nat_eq w) (awaiting m threads) ≡ (is_named m (awaited (pool_get threads w)) && list_any (nat_eq w) (numbers_to (length threads)))
 awaiting-any m w threads =
-    any-filter_same (nat_eq w) (λ v. is_for m (awaited (pool_get threads v))) (is_for m (awaited (pool_get threads w)))
-    (λ k e. ap (λ v. is_for m (awaited (pool_get threads v))) (sym (eqb-true w k e))) (numbers_to (length threads))
+    any-filter_same (nat_eq w) (λ v. is_named m (awaited (pool_get threads v))) (is_named m (awaited (pool_get threads w)))
+    (λ k e. ap (λ v. is_named m (awaited (pool_get threads v))) (sym (eqb-true w k e))) (numbers_to (length threads))
 
-number_of : (m w : ℕ) (threads : List (Option Thread)) → is_for m (awaited (pool_get threads w)) ≡ true → IsNumber (length threads) w
-number_of m w threads j = used_number w threads (awaiting_used m (pool_get threads w) (for_is m (awaited (pool_get threads w)) j))
+number_of : (m w : ℕ) (threads : List (Option Thread)) → is_named m (awaited (pool_get threads w)) ≡ true → IsNumber (length threads) w
+number_of m w threads j = used_number w threads (awaiting_used m (pool_get threads w) (named_is m (awaited (pool_get threads w)) j))
 
 passed_by : (m h : ℕ) (threads : List (Option Thread)) (stored : List ℕ) (before : ℕ → ℕ) → ((w : ℕ) → IsNumber (length threads) w → stored_of stored w ≡ before w) → h ≡ greatest (stored_of stored) (awaiting m threads)
-    → Attained (stored_of stored) 0 (awaiting m threads) → (h ≡ 0) ⊎ ((b : ℕ) × (is_for m (awaited (pool_get threads b)) ≡ true) × (before b ≡ h))
+    → Attained (stored_of stored) 0 (awaiting m threads) → (h ≡ 0) ⊎ ((b : ℕ) × (is_named m (awaited (pool_get threads b)) ≡ true) × (before b ≡ h))
 passed_by m h threads stored before tells e (inl z) = inl (e ∙ z)
 passed_by m h threads stored before tells e (inr (q, a, r)) =
-    let both : (is_for m (awaited (pool_get threads q)) ≡ true) × (list_any (nat_eq q) (numbers_to (length threads)) ≡ true) = and_parts _ _ (sym (awaiting-any m q threads) ∙ a) in
+    let both : (is_named m (awaited (pool_get threads q)) ≡ true) × (list_any (nat_eq q) (numbers_to (length threads)) ≡ true) = and_parts _ _ (sym (awaiting-any m q threads) ∙ a) in
     inr (q, both.0, sym (tells q (number_member (length threads) q both.1)) ∙ r ∙ sym e)
 
 passes : (m h : ℕ) (threads : List (Option Thread)) (stored : List ℕ) (before : ℕ → ℕ) → ((w : ℕ) → IsNumber (length threads) w → stored_of stored w ≡ before w) → h ≡ greatest (stored_of stored) (awaiting m threads)
-    → IsPassed (λ w. is_for m (awaited (pool_get threads w))) before h
+    → IsPassed (λ w. is_named m (awaited (pool_get threads w))) before h
 passes m h threads stored before tells e = record {
   least = λ w j.
       let n : IsNumber (length threads) w = number_of m w threads j in
@@ -138,7 +139,7 @@ inherit_rises t m h x threads mutexes stored at kind own before e =
     λ i u. held_mutex m u freed threads mutexes (ap (λ y. ceiling_for u (option_map freed y)) at ∙ no_ceiling u x (ap ceiling_of kind) ∙ sym (ap (ceiling_for u) at)) i in
     let was : stored ≡ priorities size next rank = before ∙ ap (λ r. priorities size next r) held in
     ap (λ s. risen (next_in_chain threads mutexes) h size t s) was
-    ∙ join-is size next (next_in_chain threads mutexes) rank (λ w. is_for m (awaited (pool_get threads w))) t h (next_bounded threads (pool_changed m freed mutexes)) (next_bounded threads mutexes) (joins t m x threads mutexes at kind own)
+    ∙ join-is size next (next_in_chain threads mutexes) rank (λ w. is_named m (awaited (pool_get threads w))) t h (next_bounded threads (pool_changed m freed mutexes)) (next_bounded threads mutexes) (joins t m x threads mutexes at kind own)
     (passes m h threads stored (greatest_leading size next rank) (λ w n. ap (λ s. stored_of s w) was ∙ stored_as size next rank w n) e)
 
 -- ---- PROTECT
@@ -260,7 +261,7 @@ assignment_visited t h visited threads mutexes stored new (before, le, e) r c =
 -- ---- the threads that wait for a mutex
 
 abbrev pub greatest_of : ℕ → List (Option Thread) → List ℕ → ℕ → ℕ
-greatest_of m threads stored n = greatest (stored_of stored) (filter (λ u. is_for m (awaited (pool_get threads u))) (numbers_to n))
+greatest_of m threads stored n = greatest (stored_of stored) (filter (λ u. is_named m (awaited (pool_get threads u))) (numbers_to n))
 
 max_if : (b : Bool) (most x : ℕ) → max most (if b then x else 0) ≡ (if b then max most x else most)
 max_if true most x = refl
@@ -276,14 +277,14 @@ greatest_more rank p ks k =
     ∙ greatest_cases rank (greatest rank (filter p ks)) k (p k)
 
 one_more : (m k : ℕ) (threads : List (Option Thread)) (stored : List ℕ)
-    → greatest_of m threads stored (suc k) ≡ (if is_for m (awaited (pool_get threads (suc k))) then max (greatest_of m threads stored k) (stored_of stored (suc k)) else greatest_of m threads stored k)
-one_more m k threads stored = greatest_more (stored_of stored) (λ u. is_for m (awaited (pool_get threads u))) (numbers_to k) (suc k)
+    → greatest_of m threads stored (suc k) ≡ (if is_named m (awaited (pool_get threads (suc k))) then max (greatest_of m threads stored k) (stored_of stored (suc k)) else greatest_of m threads stored k)
+one_more m k threads stored = greatest_more (stored_of stored) (λ u. is_named m (awaited (pool_get threads u))) (numbers_to k) (suc k)
 
-pub awaiting_more : (m k t most x : ℕ) (threads : List (Option Thread)) (stored : List ℕ) → t ≡ k + 1 → most ≡ greatest_of m threads stored k → x ≡ (if is_for m (awaited (pool_get threads t)) then stored_of stored t else 0)
+pub awaiting_more : (m k t most x : ℕ) (threads : List (Option Thread)) (stored : List ℕ) → t ≡ k + 1 → most ≡ greatest_of m threads stored k → x ≡ (if is_named m (awaited (pool_get threads t)) then stored_of stored t else 0)
     → max most x ≡ greatest_of m threads stored (k + 1)
 awaiting_more m k t most x threads stored e so_far here =
     let number : t ≡ suc k = omega (arith, e) in
     let last : suc k ≡ k + 1 = omega arith in
-    ap (λ n. max n x) so_far ∙ ap (max (greatest_of m threads stored k)) (here ∙ ap (λ u. if is_for m (awaited (pool_get threads u)) then stored_of stored u else 0) number)
-    ∙ max_if (is_for m (awaited (pool_get threads (suc k)))) (greatest_of m threads stored k) (stored_of stored (suc k))
+    ap (λ n. max n x) so_far ∙ ap (max (greatest_of m threads stored k)) (here ∙ ap (λ u. if is_named m (awaited (pool_get threads u)) then stored_of stored u else 0) number)
+    ∙ max_if (is_named m (awaited (pool_get threads (suc k)))) (greatest_of m threads stored k) (stored_of stored (suc k))
     ∙ sym (one_more m k threads stored) ∙ ap (greatest_of m threads stored) last

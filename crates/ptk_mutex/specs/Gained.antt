@@ -1,5 +1,5 @@
 -- The priority that a thread has at least by a mutex that it owns.
-use Rattle.std.specs.Prelude.{Bool, false, List, filter, ◌==◌, Option, Some, None}
+use Rattle.std.specs.Prelude.{List, filter, Option, Some, None}
 use Rattle.ptk_words.specs.Names.{MutexNumber, Priority, ThreadNumber}
 use Rattle.ptk_words.specs.Pools.{pool_get, numbers_of, greatest}
 use Rattle.ptk_words.specs.declared.threads.Thread.{Thread}
@@ -7,16 +7,12 @@ use Rattle.ptk_words.specs.declared.mutexes.Protocol.{Protocol}
 use Rattle.ptk_words.specs.declared.mutexes.Protocol.TheVariants.{NoProtocol, Inherit, Protect}
 use Rattle.ptk_words_model.specs.State.{Mutex}
 use Rattle.ptk_words_model.specs.Priority.{awaited}
+use Rattle.ptk_words_model.specs.Condition.{is_named}
 use Rattle.ptk_threads.specs.Table.{stored_of}
-
--- the mutex that is waited for is m (pthread_mutex_lock)
-abbrev pub is_for : MutexNumber → Option MutexNumber → Bool
-is_for m None = false
-is_for m (Some n) = n == m
 
 -- the threads that wait for mutex m, by number (pthread_mutex_lock)
 abbrev pub awaiting : MutexNumber → List (Option Thread) → List ThreadNumber
-awaiting m threads = filter (λ t. is_for m (awaited (pool_get threads t))) (numbers_of threads)
+awaiting m threads = filter (λ t. is_named m (awaited (pool_get threads t))) (numbers_of threads)
 
 -- by the protocol of mutex m: the ceiling, or the greatest stored priority of those that wait for it (pthread_mutexattr_getprotocol)
 abbrev pub gained_by : List (Option Thread) → List Priority → MutexNumber → Protocol → Priority

@@ -4,12 +4,13 @@ ghost use Rattle.std.specs.Prelude.{◌≡◌, ◌+◌, ◌<◌, ◌≤◌, true
 ghost use Rattle.ptk_words.specs.Pools.{pool_get, greatest};
 ghost use Rattle.ptk_words_model.specs.Priority.{awaited, effective_priorities};
 ghost use Rattle.ptk_words_model.specs.Mutex.{owns};
+ghost use Rattle.ptk_words_model.specs.Condition.{is_named};
 ghost use Rattle.ptk_words.specs.declared.TheConstants.{THREAD_LIMIT};
 ghost use Rattle.ptk_words_parted.specs.Parts.{part_of};
 ghost use Rattle.ptk_threads.specs.Table.{thread_in, stored_of};
 ghost use Rattle.ptk_mutex.specs.Risings.{IsBefore};
 ghost use Rattle.ptk_mutex.specs.Before.{IsBeforeWait, IsBeforeTake, IsBeforeAssignment};
-ghost use Rattle.ptk_mutex.specs.Gained.{is_for, awaiting, gained_by, gained_of};
+ghost use Rattle.ptk_mutex.specs.Gained.{awaiting, gained_by, gained_of};
 ghost use Rattle.ptk_mutex.specs.Rosters.{with_priorities, next_at};
 ghost use Rattle.ptk_mutex.specs.Visits.{IsVisited};
 
@@ -146,10 +147,10 @@ fn greatest_awaiting(roster: &Roster, p: PartId, m: MutexNo) -> u8
 /// The stored priority of a thread that waits for the mutex; 0 of any other.
 fn passed_by(roster: &Roster, p: PartId, t: ThreadNo, m: MutexNo) -> u8
     requires { p < length roster.now.table.threads }
-    ensures value { result ≡ (if is_for m (awaited (thread_in roster.now.table p t)) then stored_of (part_of roster.now.table.stored p) t else 0) }
+    ensures value { result ≡ (if is_named m (awaited (thread_in roster.now.table p t)) then stored_of (part_of roster.now.table.stored p) t else 0) }
     ensures in_range { result ≤ 32 }
 {
-    if is_for(m, awaited(slots_of(roster, p), t)) {
+    if is_named(m, awaited(slots_of(roster, p), t)) {
         roster.stored_priority(p, t)
     } else {
         0
@@ -157,8 +158,8 @@ fn passed_by(roster: &Roster, p: PartId, t: ThreadNo, m: MutexNo) -> u8
 }
 
 /// Whether the mutex that is waited for is this one.
-fn is_for(m: MutexNo, awaited: Option<MutexNo>) -> bool
-    ensures { result ≡ is_for m awaited }
+fn is_named(m: MutexNo, awaited: Option<MutexNo>) -> bool
+    ensures { result ≡ is_named m awaited }
 {
     match awaited {
         Some(n) => n.number() == m.number(),
