@@ -3,17 +3,15 @@ use Rattle.std.proofs.Common.{◌≡◌, ℕ, ◌-◌, ◌<◌, ◌≤◌, List,
 use Rattle.std.specs.Prelude.{IsSome, Option, Some, None, option_map, option_and_then, option_to_list}
 use Rattle.std.proofs.lemmas.List.{length-set, set-set, set-get_or}
 use Rattle.ptk_words.specs.Pools.{pool_get, pool_set, first_of_greatest}
-use Rattle.ptk_words.specs.declared.TheConstants.{COUNT_LIMIT}
 use Rattle.ptk_words.proofs.Pools.{changed_own}
 use Rattle.ptk_words_model.specs.State.{Mutex, Locks}
 use Rattle.ptk_words_model.specs.Priority.{effective_priority}
-use Rattle.ptk_words_model.specs.Mutex.{waiters_of, count_of, soundness_of, free_move, move_reply, kept_reply, handed, heir, owns, after_mutex_end, after_bequest, after_abandonment}
+use Rattle.ptk_words_model.specs.Mutex.{waiters_of, soundness_of, free_move, move_reply, kept_reply, handed, heir, owns, after_mutex_end}
 use Rattle.ptk_words_parted.specs.Parts.{part_of}
-use Rattle.ptk_words_sync_invariant.proofs.ConditionWaits.{owned_used}
 use Rattle.ptk_threads.specs.Table.{ThreadTable, stored_of}
 use Rattle.ptk_threads.proofs.Pools.{pool_changed-changed, part_of-set}
-use Rattle.ptk_mutex_priorities.specs.declared.slot.Change.TheVariants.{CountUp, CountDown, Mark}
-use Rattle.ptk_mutex_priorities.specs.Changes.{mutex_changed, SlotMayChange}
+use Rattle.ptk_mutex_priorities.specs.declared.slot.Change.TheVariants.{Mark}
+use Rattle.ptk_mutex_priorities.specs.Changes.{mutex_changed}
 use Rattle.ptk_words.specs.declared.threads.Thread.{Thread}
 use Rattle.ptk_words.specs.declared.mutexes.Soundness.TheVariants.{Inconsistent}
 use Rattle.ptk_words_model.specs.declared.LockMove.{LockMove}
@@ -23,20 +21,10 @@ use Rattle.ptk_threads_slots.specs.Changes.{few_of}
 use Rattle.ptk_threads_slots.specs.declared.thread_list.Members.{Members}
 use Rattle.ptk_threads_slots.specs.declared.thread_list.Members.TheVariants.{NoMember, OnlyMember}
 use Rattle.ptk_words_parted.proofs.Cuts.{set_part-same}
-use Rattle.ptk_mutex_priorities.specs.Slots.{is_robust_at}
 use Rattle.ptk_mutex.specs.Tables.{with_threads, MayGet, locks_by, HasPartBy, AreReadyBy}
-use Rattle.ptk_mutex.proofs.Locked.{waiter_used, none_first, only_first, stored_heir, heir_may_get}
+use Rattle.ptk_mutex.proofs.Locked.{none_first, only_first, stored_heir, heir_may_get}
 
--- ---- room
-
-count_room : (x : Option Mutex) → count_of x ≤ COUNT_LIMIT → SlotMayChange CountUp x
-count_room None h = tt
-count_room (Some m) h = h
-
--- a count can go up
-pub countable : (p m : ℕ) (table : ThreadTable) (lines : List (List ℕ)) (mutexes : List (List (Option Mutex))) → AreReadyBy p table lines mutexes → SlotMayChange CountUp (pool_get (part_of mutexes p) m)
-countable p m table lines mutexes ready = count_room (pool_get (part_of mutexes p) m) (ready.locked.counts m)
-
+-- the tables have the partition
 pub has_part : (p : ℕ) (table : ThreadTable) (lines : List (List ℕ)) (mutexes : List (List (Option Mutex))) → AreReadyBy p table lines mutexes → HasPartBy p table lines mutexes
 has_part p table lines mutexes ready = ready.part
 
@@ -74,36 +62,21 @@ sole_may p m t few table lines mutexes ready e some = heir_may_get m (locks_by p
 
 pub ruleset choices = (choice-is, choice_may, nobody-is, sole-is, sole_may, has_part)
 
--- a count above 1 can go down
-pub count_down_room : (x : Option Mutex) → 1 < count_of x → SlotMayChange CountDown x
-count_down_room None h = tt
-count_down_room (Some m) h = omega arith
-
 -- ---- the end of an owner
 
 pub end-other : (t m : ℕ) (x : Option Mutex) (locks : Locks) → owns t x ≡ false → after_mutex_end t x m locks ≡ locks
 end-other t m None locks e = refl
 end-other t m (Some x) locks e = rw e refl
 
-pub end-robust : (t m : ℕ) (x : Option Mutex) (locks : Locks) → owns t x ≡ true → is_robust_at x ≡ true → after_mutex_end t x m locks ≡ after_bequest m locks
-end-robust t m None locks e r = cc
-end-robust t m (Some x) locks e r = rw (e, r) refl
-
 -- a mutex that a dead owner left is taken with notice
 pub left_recovers : (x : Option Mutex) → IsSome x → Recovers ≡ free_move (soundness_of (option_map (mutex_changed (Mark Inconsistent)) x))
 left_recovers None used = let no : ⊥ = cc in absurd no
 left_recovers (Some x) used = refl
 
-pub end-plain : (t m : ℕ) (x : Option Mutex) (locks : Locks) → owns t x ≡ true → is_robust_at x ≡ false → after_mutex_end t x m locks ≡ after_abandonment m locks
-end-plain t m None locks e r = cc
-end-plain t m (Some x) locks e r = rw (e, r) refl
-
 -- nothing moved
 pub stays : (p : ℕ) (table : ThreadTable) (lines : List (List ℕ)) (mutexes : List (List (Option Mutex))) → AreReadyBy p table lines mutexes → with_threads p (locks_by p table lines mutexes) table ≡ table
 stays p table lines mutexes ready = rw (← ready.stored, set_part-same, set_part-same) refl
 
-pub ruleset ends = (owned_used, end-other, end-robust, end-plain, stays, has_part, set_part-same)
-
-pub ruleset moves = (set_part-same, count_down_room, waiter_used, countable, has_part, changed_own, pool_changed-changed, part_of-set, set-set, set-get_or, length-set)
+pub ruleset ends = (end-other, stays, set_part-same)
 
 pub ruleset wakes = (handed-is, changed_own, pool_changed-changed, part_of-set, set-set, set-get_or, length-set)

@@ -33,12 +33,10 @@ use Rattle.ptk_syncs.specs.Waiters.{waited_by}
 use Rattle.ptk_mutex.specs.Before.{awake, freed, IsBeforeWait, IsBeforeTake, IsBeforeAssignment}
 use Rattle.ptk_mutex.specs.Visits.{IsVisited}
 use Rattle.ptk_mutex.proofs.Changes.{effective_thread}
-use Rattle.ptk_mutex.proofs.Visits.{unvisited}
 use Rattle.ptk_mutex.specs.Tables.{locks_by, put_locks, put_locks_alone, with_threads, HasPartBy, AreReadyBy}
 use Rattle.ptk_mutex.specs.Rosters.{with_priorities}
 use Rattle.ptk_mutex.specs.Rises.{IsFree}
 use Rattle.ptk_mutex.proofs.Locked.{waiting_entry}
-use Rattle.ptk_mutex.proofs.Moved.{stays}
 use Rattle.ptk_mutex.proofs.Steps.{refreshed_put}
 
 -- ---- a free mutex taken
@@ -232,5 +230,3 @@ wake_put p t values a b after locks has none moved woken =
     let line : set (set a.lines p locks.line) p (part_of (set a.lines p locks.line) p ++ t ∷ []) ≡ set a.lines p (locks.line ++ t ∷ []) = rw (part_of-set a.lines p locks.line has.of_lines, set-set) refl in
     woken ∙ ap (λ (r : Rostered). record r { table = with_changed p t (woken_with values) r.table; lines = set r.lines p (part_of r.lines p ++ t ∷ []) }) moved
     ∙ (λ i. record a { table = wake_stored p t values a.table locks has.of_threads none i; lines = line i; mutexes = set a.mutexes p locks.mutexes })
-
-pub ruleset makes = (stays, unvisited, effective_mutex)

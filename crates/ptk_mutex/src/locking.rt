@@ -36,7 +36,6 @@ impl Mutexes {
     /// EINVAL of a free number and of a PROTECT mutex whose ceiling is below the thread's assigned priority,
     /// ENOTRECOVERABLE of a lost mutex, EDEADLK of one's own that checks errors, EAGAIN of a recursive one at its
     /// limit. A deadline already reached is the caller's to refuse before. The line stays.
-    #[tactic(auto, using(crate::proofs::Moved::moves))]
     pub fn lock(
         &mut self,
         roster: &mut Roster,
@@ -92,7 +91,6 @@ impl Mutexes {
     /// Refused, nothing changes: EINVAL of a free number and of a PROTECT mutex whose ceiling is below the thread's
     /// assigned priority, ENOTRECOVERABLE of a lost mutex, EBUSY of a locked one, EAGAIN of one's own recursive one at
     /// its limit. The line stays.
-    #[tactic(auto, using(crate::proofs::Moved::moves))]
     pub fn trylock(&mut self, roster: &mut Roster, p: PartId, t: ThreadNo, m: MutexNo) -> LockMove
         requires ready { AreReady p roster.old }
         requires caller { MayWait (locks_at p roster.old) t }
@@ -125,7 +123,6 @@ impl Mutexes {
     /// already reached: it has the mutex, or waits for it with this reply kept, or is refused. Returns which of these
     /// (pthread_cond_timedwait; own choice). Where it owns the mutex, the count is below the limit. Refused
     /// (ENOTRECOVERABLE of a lost mutex), nothing changes. The line stays.
-    #[tactic(auto, using(crate::proofs::Moved::moves))]
     pub fn lock_again(
         &mut self,
         roster: &mut Roster,
@@ -166,7 +163,6 @@ impl Mutexes {
     }
 
     /// What a mutex guards is sound again (pthread_mutex_consistent).
-    #[tactic(auto, using(crate::proofs::Moved::moves))]
     pub fn consistent(&mut self, roster: &mut Roster, p: PartId, m: MutexNo)
         requires ready { AreReady p roster.old }
         ensures roster { roster.new ≡ put_locks p (with_soundness Consistent m (locks_at p roster.old)) roster.old }
@@ -180,7 +176,6 @@ impl Mutexes {
     }
 
     /// A thread has this assigned priority (pthread_setschedprio).
-    #[tactic(auto, using(crate::proofs::Moved::moves))]
     pub fn assign(&mut self, roster: &mut Roster, p: PartId, t: ThreadNo, priority: Priority)
         requires ready { AreReady p roster.old }
         ensures roster { roster.new ≡ put_locks p (after_assignment t priority (locks_at p roster.old)) roster.old }
@@ -195,7 +190,6 @@ impl Mutexes {
 
 /// A thread has this assigned priority, and the stored priorities are the effective ones. Returns how many stored
 /// priorities the walk of a rise read; 0 after a fall.
-#[tactic(auto, using(crate::proofs::Moved::moves))]
 fn reassign(roster: &mut Roster, p: PartId, t: ThreadNo, priority: Priority) -> u32
     requires ready { AreReady p roster.old }
     ensures roster { roster.new ≡ put_locks p (after_assignment t priority (locks_at p roster.old)) roster.old }

@@ -22,7 +22,7 @@ use ptk_words_model::LockMove;
 
 /// A thread makes a move; the chain that it raises is stored.
 #[inline(always)]
-#[tactic(auto, using(crate::proofs::Raised::makes))]
+#[tactic(auto, using(crate::proofs::Visits::unvisited))]
 pub(crate) fn make(
     roster: &mut Roster,
     p: PartId,
@@ -50,7 +50,6 @@ pub(crate) fn make(
 
 /// A thread has locked a free mutex.
 #[inline(always)]
-#[tactic(auto, using(crate::proofs::Moved::moves))]
 fn take(roster: &mut Roster, p: PartId, t: ThreadNo, m: MutexNo) -> u32
     requires ready { AreReady p roster.old }
     requires used { IsSome (thread_in roster.old.table p t) }
@@ -64,7 +63,6 @@ fn take(roster: &mut Roster, p: PartId, t: ThreadNo, m: MutexNo) -> u32
 }
 
 /// The owner of a mutex has locked it once more, which raises nobody.
-#[tactic(auto, using(crate::proofs::Moved::moves))]
 fn count_up(roster: &mut Roster, p: PartId, m: MutexNo) -> u32
     requires ready { AreReady p roster.old }
     ensures roster { roster.new ≡ put_locks p (after_count m (locks_at p roster.old)) roster.old }
@@ -77,7 +75,6 @@ fn count_up(roster: &mut Roster, p: PartId, m: MutexNo) -> u32
 
 /// A thread that waited for no mutex waits for one, as its last waiter.
 #[inline(always)]
-#[tactic(auto, using(crate::proofs::Moved::moves))]
 fn block(roster: &mut Roster, p: PartId, t: ThreadNo, m: MutexNo, wait: Wait) -> u32
     requires ready { AreReady p roster.old }
     requires caller { MayWait (locks_at p roster.old) t }

@@ -37,7 +37,6 @@ impl Mutexes {
 
 /// A count above 1 goes down by 1, else this is the last unlock.
 #[inline(always)]
-#[tactic(auto, using(crate::proofs::Moved::moves))]
 fn unlock_once(roster: &mut Roster, p: PartId, m: MutexNo)
     requires ready { AreReady p roster.old }
     ensures roster { roster.new ≡ put_locks p (after_unlock m (locks_at p roster.old)) roster.old }
@@ -52,7 +51,6 @@ fn unlock_once(roster: &mut Roster, p: PartId, m: MutexNo)
 
 /// The last unlock, by what the mutex guards.
 #[inline(always)]
-#[tactic(auto, using(crate::proofs::Moved::moves))]
 fn unlock_last(roster: &mut Roster, p: PartId, m: MutexNo)
     requires ready { AreReady p roster.old }
     ensures roster { roster.new ≡ put_locks p (after_last_unlock (soundness_of (pool_get (part_of roster.old.mutexes p) m)) m (locks_at p roster.old)) roster.old }
@@ -94,7 +92,6 @@ fn refuse_all(roster: &mut Roster, p: PartId, m: MutexNo)
 /// The mutex goes to the waiter of greatest effective priority, the earliest among equals, whose move this is; without
 /// one it is free.
 #[inline(always)]
-#[tactic(auto, using(crate::proofs::Moved::moves))]
 pub(crate) fn hand_over(roster: &mut Roster, p: PartId, m: MutexNo, made: LockMove)
     requires ready { AreReady p roster.old }
     requires made { made ≡ free_move (soundness_of (pool_get (part_of roster.old.mutexes p) m)) }
@@ -109,7 +106,6 @@ pub(crate) fn hand_over(roster: &mut Roster, p: PartId, m: MutexNo, made: LockMo
 /// The mutex goes to a waiter, with the reply of this move (EOWNERDEAD after a dead owner), or to nobody; the stored
 /// priorities stay.
 #[inline(always)]
-#[tactic(auto, using(crate::proofs::Moved::moves))]
 fn hand_to(roster: &mut Roster, p: PartId, m: MutexNo, next: Option<ThreadNo>, made: LockMove)
     requires part { HasPart p roster.old }
     requires may { MayGet next (locks_at p roster.old) m }
@@ -126,7 +122,6 @@ fn hand_to(roster: &mut Roster, p: PartId, m: MutexNo, next: Option<ThreadNo>, m
 }
 
 /// The waiter of greatest effective priority, the earliest among equals, leaves without the mutex.
-#[tactic(auto, using(crate::proofs::Moved::moves))]
 fn refuse_next(roster: &mut Roster, p: PartId, m: MutexNo)
     requires ready { AreReady p roster.old }
     ensures roster { roster.new ≡ put_locks p (after_refusal m (locks_at p roster.old)) roster.old }
@@ -138,7 +133,6 @@ fn refuse_next(roster: &mut Roster, p: PartId, m: MutexNo)
 }
 
 /// A waiter, if there is one, leaves without the mutex; the stored priorities stay.
-#[tactic(auto, using(crate::proofs::Moved::moves))]
 fn refuse_to(roster: &mut Roster, p: PartId, m: MutexNo, next: Option<ThreadNo>)
     requires part { HasPart p roster.old }
     requires may { MayGet next (locks_at p roster.old) m }
@@ -181,7 +175,6 @@ fn first_waiter(roster: &Roster, p: PartId, m: MutexNo) -> Option<ThreadNo>
 }
 
 /// A quiet change of a mutex, its owner too.
-#[tactic(auto, using(crate::proofs::Moved::moves))]
 pub(crate) fn alter(roster: &mut Roster, p: PartId, m: MutexNo, change: Change)
     requires ready { AreReady p roster.old }
     requires quiet { IsQuiet change }

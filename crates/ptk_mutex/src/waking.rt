@@ -34,7 +34,6 @@ impl Mutexes {
     /// (pthread_cond_wait; own choice). Where it still owns the mutex, the count is below the limit, since its wait
     /// unlocked it once.
     #[inline(never)]
-    #[tactic(auto, using(crate::proofs::Moved::moves))]
     pub fn relock(
         &mut self,
         roster: &mut Roster,
@@ -89,7 +88,6 @@ impl Mutexes {
 
     /// A waiter leaves without the mutex and is woken, with this reply if there is one (pthread_mutex_timedlock).
     #[inline(always)]
-    #[tactic(auto, using(crate::proofs::Moved::moves))]
     pub fn withdraw(
         &mut self,
         roster: &mut Roster,
@@ -113,7 +111,6 @@ impl Mutexes {
 
 /// A thread makes its move of a re-lock; the chain that it raises is stored.
 #[inline(always)]
-#[tactic(auto, using(crate::proofs::Moved::moves))]
 fn make_relock(
     roster: &mut Roster,
     p: PartId,
@@ -141,7 +138,6 @@ fn make_relock(
 /// A waiter leaves and is woken, with the reply that this move makes of the one that its wait kept; the stored
 /// priorities stay.
 #[inline(always)]
-#[tactic(auto, using(crate::proofs::Moved::wakes))]
 pub(crate) fn leave(roster: &mut Roster, p: PartId, t: ThreadNo, m: MutexNo, made: LockMove)
     requires part { HasPart p roster.old }
     requires waiter { IsWaiter (locks_at p roster.old) m t }
@@ -153,7 +149,6 @@ pub(crate) fn leave(roster: &mut Roster, p: PartId, t: ThreadNo, m: MutexNo, mad
 
 /// A waiter leaves and is woken; the stored priorities stay.
 #[inline(always)]
-#[tactic(auto, using(crate::proofs::Moved::moves))]
 fn take_out(roster: &mut Roster, p: PartId, t: ThreadNo, m: MutexNo, reply: Option<u32>)
     requires part { HasPart p roster.old }
     requires waiter { IsWaiter (locks_at p roster.old) m t }
