@@ -22,8 +22,9 @@ use Rattle.ptk_words_batches.proofs.PlainDecisions.{with_registers_of}
 use Rattle.ptk_words_batches.proofs.ReplyDecisions.{fifo_entry, robin_entry}
 use Rattle.ptk_console.specs.ConsoleTable.{after_put}
 use Rattle.ptk_gate_moves.proofs.PlainMutexes.{effective-plain}
-use Rattle.ptk_gate_steps.specs.Steady.{KeepsContended, is_contended}
+use Rattle.ptk_gate_steps.specs.Steady.{is_contended}
 use Rattle.ptk_gate_steps.specs.Replies.{QuietEffect, Keeps, Takes, Releases, Puts, Sets, IsPlainEffect, after_quiet_effect}
+use Rattle.ptk_gate_steps.proofs.Steady.{KeepsContended}
 
 -- ---- the registers and the ticks put
 

@@ -1,5 +1,5 @@
 -- Plain steps and quiet calls leave the threads and what they wait for.
-use Rattle.std.proofs.Common.{◌≡◌, ◌∙◌, ℕ, zero, suc, ◌≤◌, refl, ap, arith}
+use Rattle.std.proofs.Common.{◌≡◌, ◌∙◌, ℕ, zero, suc, ◌≤◌, true, refl, ap, arith}
 use Rattle.std.specs.Prelude.{Option, Some, None, option_map, unwrap_or}
 use Rattle.ptk_words.specs.Pools.{pool_get}
 use Rattle.ptk_words.specs.Processor.{Processor}
@@ -8,12 +8,12 @@ use Rattle.ptk_words.specs.declared.sections.Limits.{Limits}
 use Rattle.ptk_words.specs.declared.threads.Thread.{Thread}
 use Rattle.ptk_words_instructions.specs.PlainSteps.{Core, core}
 use Rattle.ptk_words_model.specs.State.{Part}
+use Rattle.ptk_words_model.specs.Mutex.{mutex_at}
 use Rattle.ptk_words_sync_invariant.proofs.Threads.{changed_same}
 use Rattle.ptk_words_batches.specs.Quiet.{computed, with_row, after_row}
 use Rattle.ptk_words_batches.specs.Replies.{IsReply, Outcome, after_reply, reply_entry, with_outcome}
 use Rattle.ptk_words_batches.proofs.QuietRows.{same_rank}
-use Rattle.ptk_gate_steps.specs.Steady.{KeepsContended, is_contended}
-use Rattle.ptk_gate_steps.specs.Steady.{IsOfRunning, IsSteady, at_rest}
+use Rattle.ptk_gate_steps.specs.Steady.{IsOfRunning, IsSteady, at_rest, is_contended}
 
 pub steady_same : (s : Part) → IsSteady s s
 steady_same s = record { status = refl; running = refl; threads = λ t cpu. refl; priorities = λ t. refl; mutexes = λ m some. refl }
@@ -54,6 +54,10 @@ entry_thread a b e = ap (λ (o : Option Entry). unwrap_or (option_map (λ (x : E
 pub row_last : (tick t n : ℕ) (thread : Thread) (s : Part) → s.running ≡ Some t → 1 ≤ n → IsOfRunning (after_row tick t n thread s)
 row_last tick t zero thread s runs some = absurd (omega (arith, some))
 row_last tick t (suc n) thread s runs some = λ entry e. runs ∙ ap Some (entry_thread _ entry e)
+
+-- the outcome leaves each mutex that threads wait for as it is (pthread_mutex_lock, pthread_mutex_unlock)
+abbrev pub KeepsContended : Outcome → Part → Type 0
+KeepsContended o s = (m : ℕ) → is_contended (mutex_at s.locks m) ≡ true → mutex_at (with_outcome o s).locks m ≡ mutex_at s.locks m
 
 -- a quiet call leaves them
 pub reply_steady : (limits : Limits) (tick t ticks : ℕ) (thread : Thread) (after : Processor) (o : Outcome) (s : Part) → IsReply limits ticks t thread after o s → KeepsContended o s → IsSteady s (after_reply tick t ticks thread after o s)

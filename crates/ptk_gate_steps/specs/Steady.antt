@@ -7,15 +7,10 @@ use Rattle.ptk_words_model.specs.State.{Mutex, Part}
 use Rattle.ptk_words_model.specs.Priority.{thread_at, effective_priority}
 use Rattle.ptk_words_model.specs.Mutex.{mutex_at, waiters_of}
 use Rattle.ptk_words_model.specs.MutexCalls.{is_locked}
-use Rattle.ptk_words_batches.specs.Replies.{Outcome, with_outcome}
 
 -- the mutex has an owner, and threads wait for it (pthread_mutex_lock)
 abbrev pub is_contended : Option Mutex → Bool
 is_contended x = is_locked x && nat_lt 0 (length (waiters_of x))
-
--- the outcome leaves each mutex that threads wait for as it is (pthread_mutex_lock, pthread_mutex_unlock)
-abbrev pub KeepsContended : Outcome → Part → Type 0
-KeepsContended o s = (m : ℕ) → is_contended (mutex_at s.locks m) ≡ true → mutex_at (with_outcome o s).locks m ≡ mutex_at s.locks m
 
 -- the thread with these registers, and no tick of its interval used: what is left of it are its policy, its priority, its phase, its wait and its end
 abbrev pub at_rest : Processor → Thread → Thread
