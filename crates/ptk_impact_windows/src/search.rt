@@ -6,7 +6,7 @@ ghost use Rattle.ptk_impact_windows.specs.Search.{AgreeNearBegins, IsBefore, IsD
 
 use crate::comparison::Comparison;
 use crate::difference::Difference;
-use ptk_window::{Near, WindowPlan};
+use ptk_window::WindowPlan;
 use ptk_words::{PartId, Tick};
 
 /// The least tick at which the windows of two partitions differ, each of a plan of its own: one of them has a window
@@ -89,7 +89,7 @@ fn difference_from(
     plan.is_plan();
     other_plan.is_plan();
     let end = begin.ticks() + u64::from(plan.frame()) + u64::from(other_plan.frame());
-    let (mut near, mut other_near) = (Near::new(), Near::new());
+    let (mut near, mut other_near) = (plan.first_near(), other_plan.first_near());
     let mut tick = begin;
     while tick.ticks() < end {
         let turn = plan.turn_from(partition, tick, &mut near);

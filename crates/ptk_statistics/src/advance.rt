@@ -15,7 +15,8 @@ pub(crate) fn first_count(system: &System<'_>, p: PartId) -> Counted
     ensures tick { reached result ≡ 0 }
     ensures adds { AddsUp system.now p result }
 {
-    Counted::new(system.next(p), system.status(p).is_halted())
+    let near = system.config().plan().first_near();
+    Counted::new(system.next(p), system.status(p).is_halted(), near)
 }
 
 /// Counts the ticks up to the one that the system has reached, and the steps made since.

@@ -56,8 +56,9 @@ pub struct Seen {
 }
 
 impl Counted {
-    /// Nothing is counted of a partition with this next decision, before the first tick.
-    pub fn new(next: Option<Tick>, is_halted: bool) -> Counted
+    /// Nothing is counted of a partition with this next decision, before the first tick. It is looked for among its
+    /// windows from `near` on.
+    pub fn new(next: Option<Tick>, is_halted: bool, near: Near) -> Counted
         ensures tick { reached result ≡ 0 }
         ensures steps { steps_in result ≡ 0 }
         ensures lost { lost_in result ≡ 0 }
@@ -74,7 +75,7 @@ impl Counted {
             tick: 0,
             next,
             is_halted,
-            near: Near::new(),
+            near,
             window: OwnWindow { start: 0, end: 0 },
         }
     }

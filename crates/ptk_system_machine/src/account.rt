@@ -35,17 +35,22 @@ impl Model for Account {
 }
 
 impl Account {
-    /// The account before the first decision, which is at this tick, with a trace of this many steps. An error where
-    /// memory ran out. No other call takes memory.
-    pub(crate) fn new(alloc: Global, next: Option<Tick>, kept: u32) -> Result<Account, AllocError>
-        ensures { IfOk result (λ account. account ≡ record { account = first_account next; kept = kept }) }
+    /// The account before the first decision, which is at this tick, with a trace of this many steps, of a
+    /// partition that was last found there among its windows. An error where memory ran out. No other call takes memory.
+    pub(crate) fn new(
+        alloc: Global,
+        next: Option<Tick>,
+        trace: u32,
+        near: Near,
+    ) -> Result<Account, AllocError>
+        ensures { IfOk result (λ account. account ≡ record { account = first_account next; kept = trace }) }
     {
         Ok(Account {
             next,
             steps: 0,
             lost: 0,
-            trace: Trace::new(alloc, kept)?,
-            near: Near::new(),
+            trace: Trace::new(alloc, trace)?,
+            near,
         })
     }
 

@@ -102,9 +102,9 @@ fn first_accounts(
     let mut accounts = Vec::new(alloc);
     for i in 0..limits.len() {
         let p = PartId::new(i as u8);
-        let mut near = Near::new();
+        let mut near = plan.first_near();
         let next = next_from(plan, p, tables.status(p), Tick::new(0), &mut near);
-        accounts.push(Account::new(alloc, next, limits[i].trace)?)?;
+        accounts.push(Account::new(alloc, next, limits[i].trace, near)?)?;
     }
     Ok(accounts)
 }

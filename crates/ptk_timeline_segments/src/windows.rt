@@ -5,7 +5,7 @@ ghost use Rattle.ptk_words.specs.declared.TheConstants.{LAST_TICK};
 ghost use Rattle.ptk_words_windows.specs.Windows.{own_ticks};
 ghost use Rattle.ptk_timeline_segments.specs.OwnWindows.{AreOthers, IsNextWindow};
 
-use ptk_window::{Near, WindowPlan};
+use ptk_window::WindowPlan;
 use ptk_words::{PartId, Tick};
 
 /// Ticks of one window: from one on and before a later one.
@@ -28,7 +28,7 @@ pub fn next_window(plan: &WindowPlan, p: PartId, from: u64, stop: u64) -> Option
         return None;
     }
     plan.is_plan();
-    let mut near = Near::new();
+    let mut near = plan.first_near();
     match plan.turn_from(p, Tick::new(from), &mut near) {
         Some(turn) if turn.start.ticks() < stop => Some(Span {
             from: turn.start.ticks(),

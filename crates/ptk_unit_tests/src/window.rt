@@ -93,7 +93,7 @@ fn turns_over_plans(rt: HostRuntime) -> Result<(), Fail> {
     let first = [window(0, 20, 0), window(20, 20, 1)];
     let later = [window(0, 16, 1), window(16, 20, 0)];
     let plan = WindowPlan::new(rt.alloc(), 40, 2, &[(0, &first), (2, &later), (3, &first)])?;
-    let mut near = Near::new();
+    let mut near = plan.first_near();
     for (tick, start, end) in TURNS {
         let found = turn(&plan, PartId::new(0), tick, &mut near);
         assert!(rt; found == Some((start, end)), "from {tick}");

@@ -26,7 +26,7 @@ pub struct Turn {
 /// tests whether it fits the plan and the partition.
 #[derive(Clone, Copy)]
 pub struct Near {
-    /// How many ticks a frame has, 0 for a place that helps no look-up.
+    /// How many ticks a frame has.
     frame: u32,
     /// The tick at which the frame begins.
     frame_start: u64,
@@ -40,10 +40,10 @@ pub struct Near {
 impl Near {
     ghost use Rattle.ptk_window.specs.Near.{IsEndAt, IsNextFrom, IsTurnAt};
 
-    /// A place that helps no look-up: the next one searches.
-    pub fn new() -> Near {
+    /// The first window by partition of the first stage, in the first frame, which has this many ticks.
+    pub(crate) fn first(frame: u32) -> Near {
         Near {
-            frame: 0,
+            frame,
             frame_start: 0,
             stage: 0,
             place: 0,

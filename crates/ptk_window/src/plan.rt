@@ -138,12 +138,17 @@ impl WindowPlan {
         ensures near { IfSome result (IsSoon self.now tick) }
     {
         let tables = self.tables.as_slice();
-        let mut near = Near::new();
+        let mut near = Near::first(self.frame);
         if near.search(tables, self.frame, partition, tick) {
             Some(near.turn(tables, tick).start)
         } else {
             None
         }
+    }
+
+    /// Where the first look-up of a partition begins, which has been found nowhere: at the plan's first window.
+    pub fn first_near(&self) -> Near {
+        Near::first(self.frame)
     }
 
     /// The partition's way through its windows, which begins near the one where it was last found.
