@@ -8,14 +8,14 @@ use Rattle.ptk_words_windows.proofs.OwnLaws.{own_apart, own_from, end_one, end_n
 use Rattle.ptk_window.specs.declared.table.Table.{Table}
 use Rattle.ptk_window.specs.Order.{end_of}
 use Rattle.ptk_window.specs.Stages.{ArePlanned, HasTick, plan_of}
-use Rattle.ptk_window.proofs.StageLaws.{kept_at, windows_there, own_starts}
+use Rattle.ptk_window.proofs.StageLaws.{ordered_at, windows_there, own_starts}
 
 module _ (frame : ℕ) (tables : List Table) (are : ArePlanned frame tables) (i tick : ℕ) (t : Table) (has : HasTick frame tables i tick) (is : get_or tables i t ≡ t) where
   pub until : (w : Window) → Contains t.by_start.items w → Holds w (tick % frame) → IsOwnUntil (plan_of frame tables) w.partition tick (end_from frame tick w)
   until w among holds =
-      let kept = kept_at frame tables are i t has.within is in
+      let ordered = ordered_at frame tables are i t has.within is in
       let given = subst (λ (ws : List Window). Contains ws w) (sym (windows_there frame tables are i tick t has is))
-      (Contains-permutation t.by_start.items t.windows.items w (IsPermutation-sym t.windows.items t.by_start.items kept.starts) among) in
+      (Contains-permutation t.by_start.items t.windows.items w (IsPermutation-sym t.windows.items t.by_start.items ordered.starts) among) in
       (given.0, w, given.1, given.2, (refl, holds, refl))
 
   pub none_own : All (λ w. ¬ Holds w (tick % frame)) t.by_start.items → (p : ℕ) → ¬ IsOwn (plan_of frame tables) p tick

@@ -18,7 +18,7 @@ use Rattle.ptk_window.specs.Stages.{ArePlanned, HasTick, plan_of, from_at, group
 use Rattle.ptk_window.specs.Near.{IsNextFrom, IsTurnAt}
 use Rattle.ptk_window.specs.Turn.{IsTurn, IsShort}
 use Rattle.ptk_window.proofs.Searches.{starts_order}
-use Rattle.ptk_window.proofs.StageLaws.{table_at, groups_is, kept_at, from_low, from_rises, aligned_room, some_has, frame_has, own_groups, groups_own}
+use Rattle.ptk_window.proofs.StageLaws.{table_at, groups_is, ordered_at, from_low, from_rises, aligned_room, some_has, frame_has, own_groups, groups_own}
 
 -- ---- frames begin at multiples
 pub frame_start_aligned : (frame tick : ℕ) → 0 < frame → (tick - tick % frame) % frame ≡ 0
@@ -76,14 +76,14 @@ module _ (frame : ℕ) (tables : List Table) (are : ArePlanned frame tables) whe
   pub grouped_at : (i : ℕ) → i < length tables → AreGrouped (groups_at tables i)
   grouped_at i below =
       let at = table_at tables i below in
-      subst AreGrouped (sym (groups_is tables i at.0 below at.1)) (kept_at frame tables are i at.0 below at.1).grouped
+      subst AreGrouped (sym (groups_is tables i at.0 below at.1)) (ordered_at frame tables are i at.0 below at.1).grouped
 
   pub fit_at : (i : ℕ) → i < length tables → All (λ w. (16 ≤ w.length) × (w.start + w.length ≤ frame)) (groups_at tables i)
   fit_at i below =
       let at = table_at tables i below in
-      let kept = kept_at frame tables are i at.0 below at.1 in
+      let ordered = ordered_at frame tables are i at.0 below at.1 in
       subst (λ (ws : List Window). All (λ w. (16 ≤ w.length) × (w.start + w.length ≤ frame)) ws) (sym (groups_is tables i at.0 below at.1))
-      (All-permutation (λ w. (16 ≤ w.length) × (w.start + w.length ≤ frame)) at.0.windows.items at.0.by_partition.items kept.groups (λ k d under. (kept.table.long k d under, kept.table.within k d under)))
+      (All-permutation (λ w. (16 ≤ w.length) × (w.start + w.length ≤ frame)) at.0.windows.items at.0.by_partition.items ordered.groups (λ k d under. (ordered.table.long k d under, ordered.table.within k d under)))
 
   pub fits : (i k : ℕ) (w : Window) → i < length tables → k < length (groups_at tables i) → get_or (groups_at tables i) k w ≡ w → (16 ≤ w.length) × (w.start + w.length ≤ frame)
   fits i k w below under is = subst (λ (v : Window). (16 ≤ v.length) × (v.start + v.length ≤ frame)) is (fit_at i below k w under)

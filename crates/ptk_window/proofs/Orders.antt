@@ -9,7 +9,7 @@ use Rattle.ptk_words_windows.specs.Windows.{Holds, IsTable}
 use Rattle.ptk_words_windows.proofs.FaultLaws.{accepted_table}
 use Rattle.ptk_words_windows.proofs.Places.{Fits}
 use Rattle.ptk_words_windows.proofs.OwnLaws.{all_fit}
-use Rattle.ptk_window.specs.Order.{AreInOrder, AreGrouped, IsKept}
+use Rattle.ptk_window.specs.Order.{AreInOrder, AreGrouped, IsOrdered}
 use Rattle.ptk_window.proofs.Permuted.{AllPairs-permutation}
 
 abbrev Apart : Window → Window → Type 0
@@ -55,8 +55,8 @@ grouped frame ws fit apart groups ties i j d before below = (
       (subst (λ (k : ℕ). (get_or ws i d).start ≤ (get_or ws k d).start) step rise),
 )
 
-pub kept : (frame parts : ℕ) (given starts groups : List Window) → window_fault frame parts given ≡ None → IsPermutation given starts → IsSortedByKey (λ (w : Window). w.start) nat_cmp starts → IsPermutation starts groups → IsNonDecreasingBy (λ (w : Window). w.partition) groups → TiesRise groups → IsKept frame given starts groups
-kept frame parts given starts groups fine by_start sorted by_partition parted ties =
+pub ordered : (frame parts : ℕ) (given starts groups : List Window) → window_fault frame parts given ≡ None → IsPermutation given starts → IsSortedByKey (λ (w : Window). w.start) nat_cmp starts → IsPermutation starts groups → IsNonDecreasingBy (λ (w : Window). w.partition) groups → TiesRise groups → IsOrdered frame given starts groups
+ordered frame parts given starts groups fine by_start sorted by_partition parted ties =
     let is : IsTable frame given = (accepted_table frame parts given fine).0 in
     let moved = IsPermutation-trans given starts groups by_start by_partition in
     let fit : All (Fits frame) given = all_fit frame given is in

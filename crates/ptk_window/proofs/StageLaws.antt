@@ -10,7 +10,7 @@ use Rattle.ptk_words_windows.specs.declared.window.Window.{Window}
 use Rattle.ptk_words_windows.specs.Windows.{Stage, Holds, IsOwn, IsInForce, windows_at}
 use Rattle.ptk_words_windows.proofs.InForce.{in_force, one_in_force, tick_from, from_tick}
 use Rattle.ptk_window.specs.declared.table.Table.{Table}
-use Rattle.ptk_window.specs.Order.{IsKept}
+use Rattle.ptk_window.specs.Order.{IsOrdered}
 use Rattle.ptk_window.specs.Stages.{ArePlanned, HasTick, stage_of, plan_of, from_at, groups_at}
 
 -- ---- the table at a place
@@ -58,9 +58,9 @@ aligned_room frame start number aligned below =
     omega (arith, step, suc-mul (start / frame) frame, whole)
 
 module _ (frame : ℕ) (tables : List Table) (are : ArePlanned frame tables) where
-  pub kept_at : (i : ℕ) (t : Table) → i < length tables → get_or tables i t ≡ t → IsKept frame t.windows.items t.by_start.items t.by_partition.items
-  kept_at i t below is =
-      subst (λ (u : Table). IsKept frame u.windows.items u.by_start.items u.by_partition.items) is (are.kept i t below)
+  pub ordered_at : (i : ℕ) (t : Table) → i < length tables → get_or tables i t ≡ t → IsOrdered frame t.windows.items t.by_start.items t.by_partition.items
+  ordered_at i t below is =
+      subst (λ (u : Table). IsOrdered frame u.windows.items u.by_start.items u.by_partition.items) is (are.ordered i t below)
 
   pub begin_is : (i : ℕ) (t : Table) → i < length tables → t ≡ get_or tables i t → t.from * t.frame ≡ from_at tables i * frame
   begin_is i t below is =
@@ -147,21 +147,21 @@ module _ (frame : ℕ) (tables : List Table) (are : ArePlanned frame tables) whe
 
   pub own_starts : (i p tick : ℕ) (t : Table) → HasTick frame tables i tick → get_or tables i t ≡ t → IsOwn (plan_of frame tables) p tick → Held p tick t.by_start.items
   own_starts i p tick t has is own =
-      held_moved p tick t.windows.items t.by_start.items (kept_at i t has.within is).starts (subst (λ (ws : List Window). Held p tick ws) (windows_there i tick t has is) own)
+      held_moved p tick t.windows.items t.by_start.items (ordered_at i t has.within is).starts (subst (λ (ws : List Window). Held p tick ws) (windows_there i tick t has is) own)
 
   pub own_groups : (i p tick : ℕ) → HasTick frame tables i tick → IsOwn (plan_of frame tables) p tick → Held p tick (groups_at tables i)
   own_groups i p tick has own =
       let at = table_at tables i has.within in
       let t = at.0 in
       subst (λ (ws : List Window). Held p tick ws) (sym (groups_is tables i t has.within at.1))
-      (held_moved p tick t.windows.items t.by_partition.items (kept_at i t has.within at.1).groups (subst (λ (ws : List Window). Held p tick ws) (windows_there i tick t has at.1) own))
+      (held_moved p tick t.windows.items t.by_partition.items (ordered_at i t has.within at.1).groups (subst (λ (ws : List Window). Held p tick ws) (windows_there i tick t has at.1) own))
 
   pub groups_own : (i tick : ℕ) (w : Window) → HasTick frame tables i tick → Contains (groups_at tables i) w → Contains (windows_at (plan_of frame tables) tick) w
   groups_own i tick w has among =
       let at = table_at tables i has.within in
       let t = at.0 in
       subst (λ (ws : List Window). Contains ws w) (sym (windows_there i tick t has at.1))
-      (Contains-permutation t.by_partition.items t.windows.items w (IsPermutation-sym t.windows.items t.by_partition.items (kept_at i t has.within at.1).groups)
+      (Contains-permutation t.by_partition.items t.windows.items w (IsPermutation-sym t.windows.items t.by_partition.items (ordered_at i t has.within at.1).groups)
       (subst (λ (ws : List Window). Contains ws w) (groups_is tables i t has.within at.1) among))
 
   -- ---- the search for the stage that has a tick

@@ -58,11 +58,11 @@ pub short_seen : (old : Way) (frame : ℕ) (tables : List Table) (p tick : ℕ) 
 short_seen old frame tables p tick near stay turn is holds = subst (λ (w : Way). IsShort w.plan tick turn) is holds
 
 -- what is known where something is kept of the stage
-pub kept_here : (stay : Option Stay) (one : Stay) (P : Stay → Type 0) → stay ≡ Some one → MatchOption stay (Unit {0}) P → P one
-kept_here stay one P is holds = subst (λ (s : Option Stay). MatchOption s (Unit {0}) P) is holds
+pub stay_holds : (stay : Option Stay) (one : Stay) (P : Stay → Type 0) → stay ≡ Some one → MatchOption stay (Unit {0}) P → P one
+stay_holds stay one P is holds = subst (λ (s : Option Stay). MatchOption s (Unit {0}) P) is holds
 
-pub here_kept : (stay : Option Stay) (one : Stay) (P : Stay → Type 0) → stay ≡ Some one → P one → MatchOption stay (Unit {0}) P
-here_kept stay one P is holds = subst (λ (s : Option Stay). MatchOption s (Unit {0}) P) (sym is) holds
+pub holds_stay : (stay : Option Stay) (one : Stay) (P : Stay → Type 0) → stay ≡ Some one → P one → MatchOption stay (Unit {0}) P
+holds_stay stay one P is holds = subst (λ (s : Option Stay). MatchOption s (Unit {0}) P) (sym is) holds
 
 -- the way has gone on from the window that ends at the tick
 pub gone_on : (frame : ℕ) (tables : List Table) (p tick : ℕ) (near after : Near) (stay : Option Stay) (one : Stay) (at : Option ℕ) → IsHere frame tables p near one → stay ≡ Some one

@@ -28,7 +28,7 @@ pub record IsFirst (windows : List Window) (p i : ℕ) : Type 0 where
   pub first : (k : ℕ) (d : Window) → k < i → ¬ ((slice_index_or windows k d).partition ≡ p)
 
 -- the windows are a table, and the two lists have them in their orders
-pub record IsKept (frame : ℕ) (given by_start by_partition : List Window) : Type 0 where
+pub record IsOrdered (frame : ℕ) (given by_start by_partition : List Window) : Type 0 where
   pub table : IsTable frame given
   pub starts : IsPermutation given by_start
   pub in_order : AreInOrder by_start

@@ -2,7 +2,7 @@
 use Rattle.std.specs.Prelude.{◌≡◌, ℕ, ◌+◌, ◌*◌, ◌<◌, ◌≤◌, List, [], map, length, slice_index_or, All}
 use Rattle.ptk_words_windows.specs.declared.window.Window.{Window}
 use Rattle.ptk_words_windows.specs.Windows.{Stage, WindowPlan, IsPlan}
-use Rattle.ptk_window.specs.Order.{IsKept}
+use Rattle.ptk_window.specs.Order.{IsOrdered}
 use Rattle.ptk_window.specs.declared.table.Table.{Table}
 
 -- what a table's windows were given as
@@ -17,7 +17,7 @@ plan_of frame tables = record { frame = frame; stages = map stage_of tables }
 pub record ArePlanned (frame : ℕ) (tables : List Table) : Type 0 where
   pub plan : IsPlan (plan_of frame tables)
   pub frames : All (λ table. table.frame ≡ frame) tables
-  pub kept : All (λ table. IsKept frame table.windows.items table.by_start.items table.by_partition.items) tables
+  pub ordered : All (λ table. IsOrdered frame table.windows.items table.by_start.items table.by_partition.items) tables
 
 -- the number of the frame from which on the i-th table's windows hold
 abbrev pub from_at : List Table → ℕ → ℕ

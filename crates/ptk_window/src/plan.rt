@@ -35,7 +35,7 @@ ghost use Rattle.std.specs.Prelude.{◌≡◌, ◌≢◌, ℕ, ◌+◌, ◌*◌,
 ghost use Rattle.ptk_words_windows.specs.WindowFaults.{plan_fault, window_fault};
 ghost use Rattle.ptk_window.specs.Stages.{stage_of};
 ghost use Rattle.ptk_words_windows.specs.Windows.{IsOwn, IsFirstOwn, IsOwnUntil, IsPlan, Stage, own_ticks, windows_at};
-ghost use Rattle.ptk_window.specs.Order.{IsKept, end_of};
+ghost use Rattle.ptk_window.specs.Order.{IsOrdered, end_of};
 ghost use Rattle.ptk_window.specs.Turn.{IsTurn, IsShort, IsSoon};
 
 impl WindowPlan {
@@ -193,8 +193,8 @@ fn tables_of(
     requires fine { All (λ stage. window_fault frame parts stage.1.now ≡ None) stages.now }
     ensures stages { IfOk result (λ tables. map stage_of tables.items ≡ map (λ stage. record { from = stage.0; windows = stage.1.now }) stages.now) }
     ensures frames { IfOk result (λ tables. All (λ table. table.frame ≡ frame) tables.items) }
-    ensures kept { IfOk result
-        (λ tables. All (λ table. IsKept frame table.windows.items table.by_start.items table.by_partition.items) tables.items) }
+    ensures ordered { IfOk result
+        (λ tables. All (λ table. IsOrdered frame table.windows.items table.by_start.items table.by_partition.items) tables.items) }
 {
     let mut tables = Vec::new(alloc);
     for stage in stages {

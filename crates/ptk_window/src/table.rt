@@ -2,7 +2,7 @@
 
 ghost use Rattle.std.specs.Prelude.{◌≡◌, ℕ, ◌+◌, ◌*◌, ◌≤◌, None, IfSome, IfOk, IsTrue, length, slice_index_or};
 ghost use Rattle.ptk_words_windows.specs.WindowFaults.{window_fault};
-ghost use Rattle.ptk_window.specs.Order.{AreGrouped, IsFirst, IsKept};
+ghost use Rattle.ptk_window.specs.Order.{AreGrouped, IsFirst, IsOrdered};
 
 use crate::lookup::{by_partition, by_start};
 use ptk_words::PartId;
@@ -46,7 +46,7 @@ impl Table {
         ensures frame { IfOk result (λ table. table.frame ≡ frame) }
         ensures from { IfOk result (λ table. table.from ≡ from) }
         ensures windows { IfOk result (λ table. table.windows.items ≡ windows.now) }
-        ensures kept { IfOk result (λ table. IsKept frame table.windows.items table.by_start.items table.by_partition.items) }
+        ensures ordered { IfOk result (λ table. IsOrdered frame table.windows.items table.by_start.items table.by_partition.items) }
     {
         let by_start = by_start(alloc, windows)?;
         let by_partition = by_partition(alloc, &by_start)?;

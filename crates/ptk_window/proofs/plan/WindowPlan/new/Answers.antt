@@ -12,5 +12,5 @@ invariant_of-result c =
       plan = subst (λ (stages : List Stage). IsPlan (record { frame = c.args.frame; stages = stages })) (sym c.in_ok-tables.ensures.stages)
           (accepted c.args.frame c.args.parts (map (λ stage. record { from = stage.0; windows = stage.1.now }) c.args.stages.now) (sym c.in_default.ensures)).0;
       frames = c.in_ok-tables.ensures.frames;
-      kept = c.in_ok-tables.ensures.kept;
+      ordered = c.in_ok-tables.ensures.ordered;
     }
