@@ -15,7 +15,7 @@ use Rattle.ptk_console.specs.ConsoleTable.{next_byte, without_next, with_any_inp
 use Rattle.ptk_console.specs.ConsoleTable as console
 use Rattle.ptk_gate_moves.specs.Held.{Held, limits_here}
 use Rattle.ptk_gate_moves.specs.Moves.{with_next_taken}
-use Rattle.ptk_gate_services.specs.Arrivals.{after_byte, after_next, after_next_of}
+use Rattle.ptk_gate_services.specs.Arrivals.{after_byte, after_next, after_due_byte}
 use Rattle.ptk_gate_services.proofs.ArrivalSteps.{arrivals_step, arrivals_end, next_well, byte_well, next_fewer}
 
 -- ---- the next byte
@@ -24,10 +24,10 @@ some_of : (o : Option ℕ) → is_some o ≡ true → (byte : ℕ) × (o ≡ Som
 some_of None e = absurd (false≢true e)
 some_of (Some byte) e = (byte, refl)
 
-next_is : (o : Option ℕ) (limit tick byte : ℕ) (s : Part) → o ≡ Some byte → after_next_of o limit tick s ≡ after_byte limit byte (with_next_taken tick s)
+next_is : (o : Option ℕ) (limit tick byte : ℕ) (s : Part) → o ≡ Some byte → after_due_byte o limit tick s ≡ after_byte limit byte (with_next_taken tick s)
 next_is o limit tick byte s e = rw e refl
 
-none_next : (o : Option ℕ) (limit tick : ℕ) (s : Part) → o ≡ None → after_next_of o limit tick s ≡ s
+none_next : (o : Option ℕ) (limit tick : ℕ) (s : Part) → o ≡ None → after_due_byte o limit tick s ≡ s
 none_next o limit tick s e = rw e refl
 
 untaken : (s : Part) (xs : List Arrival) → option_map (λ (arrival : Arrival). arrival.byte) (slice_get xs 0) ≡ None → with_console (λ console. record console { coming = drop (length (take 1 xs)) console.coming }) s ≡ s
@@ -47,15 +47,15 @@ pub handed_is : (limit tick byte t : ℕ) (s : Part) → first_waiter s ≡ Some
     → after_next limit tick s ≡ with_locks (after_wake t (0 ∷ byte ∷ [])) (with_console (without_waiter t) (with_next_taken tick s))
 handed_is limit tick byte t s waits is = next_is (next_byte tick s.console) limit tick byte s is ∙ ap (λ (o : Option ℕ). after_arrival_for o limit byte (with_next_taken tick s)) waits
 
-kept_of : (o : Option ℕ) (limit tick : ℕ) (s : Part) → next_byte tick s.console ≡ o → first_waiter s ≡ None → with_console (λ console. with_any_input limit o (without_next tick console)) s ≡ after_next_of o limit tick s
-kept_of None limit tick s e none = untaken s (arriving tick s.console) e
-kept_of (Some byte) limit tick s e none = ap (λ (o : Option ℕ). after_arrival_for o limit byte (with_next_taken tick s)) (sym none)
+unwaited_of : (o : Option ℕ) (limit tick : ℕ) (s : Part) → next_byte tick s.console ≡ o → first_waiter s ≡ None → with_console (λ console. with_any_input limit o (without_next tick console)) s ≡ after_due_byte o limit tick s
+unwaited_of None limit tick s e none = untaken s (arriving tick s.console) e
+unwaited_of (Some byte) limit tick s e none = ap (λ (o : Option ℕ). after_arrival_for o limit byte (with_next_taken tick s)) (sym none)
 
 -- with no waiter, the next byte goes into the ring or is lost
-pub kept_is : (limit tick : ℕ) (s : Part) → first_waiter s ≡ None → after_next limit tick s ≡ with_console (console.after_next limit tick) s
-kept_is limit tick s none = sym (kept_of (next_byte tick s.console) limit tick s refl none)
+pub unwaited_is : (limit tick : ℕ) (s : Part) → first_waiter s ≡ None → after_next limit tick s ≡ with_console (console.after_next limit tick) s
+unwaited_is limit tick s none = sym (unwaited_of (next_byte tick s.console) limit tick s refl none)
 
-pub ruleset arrivals = (undue_is, next_none, handed_is, kept_is)
+pub ruleset arrivals = (undue_is, next_none, handed_is, unwaited_is)
 
 -- ---- the loop
 

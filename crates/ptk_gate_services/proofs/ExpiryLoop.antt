@@ -20,8 +20,8 @@ none_of None e = refl
 none_of (Some a) e = absurd (false≢true (sym e))
 
 -- the next expiry of the partition's threads at the tick
-abbrev next_of : ℕ → Part → Option Expiry
-next_of tick s = next_expiry tick (deadlines_of s.locks)
+abbrev next_expiry_in : ℕ → Part → Option Expiry
+next_expiry_in tick s = next_expiry tick (deadlines_of s.locks)
 
 -- so far some expiries have been taken from the part in hand, and the ones left lead to the same part
 pub record AreExpiring (tick : ℕ) (initial now : Held) : Type 0 where
@@ -34,9 +34,9 @@ pub expiring_more : (tick : ℕ) (initial now new : Held) → AreExpiring tick i
     → new ≡ record now { here = after_one_expiry (next_expiry tick (deadlines_of now.here.locks)) now.here }
     → AreExpiring tick initial new × (length (in_order (due tick new.here)) < length (in_order (due tick now.here)))
 expiring_more tick initial now new a found e =
-    let next = some_of (next_of tick now.here) found in
+    let next = some_of (next_expiry_in tick now.here) found in
     let x : Expiry = next.0 in
-    let is : next_of tick now.here ≡ Some x = next.1 in
+    let is : next_expiry_in tick now.here ≡ Some x = next.1 in
     let v : Part = after_expiry x now.here in
     let new_is : new ≡ record now { here = v } = e ∙ ap (λ o. record now { here = after_one_expiry o now.here }) is in
     let step : after_expiries tick now.here ≡ after_expiries tick v = one_at_a_time tick now.here ∙ ap (λ o. after_next tick o now.here) is in
@@ -50,6 +50,6 @@ expiring_more tick initial now new a found e =
 pub expiring_end : (tick : ℕ) (initial now new : Held) → AreExpiring tick initial now → is_some (next_expiry tick (deadlines_of now.here.locks)) ≡ false
     → new ≡ record now { here = after_one_expiry (next_expiry tick (deadlines_of now.here.locks)) now.here } → new ≡ record initial { here = after_expiries tick initial.here }
 expiring_end tick initial now new a none e =
-    let is : next_of tick now.here ≡ None = none_of (next_of tick now.here) none in
+    let is : next_expiry_in tick now.here ≡ None = none_of (next_expiry_in tick now.here) none in
     let end : after_expiries tick now.here ≡ now.here = one_at_a_time tick now.here ∙ ap (λ o. after_next tick o now.here) is in
     e ∙ ap (λ o. record now { here = after_one_expiry o now.here }) is ∙ a.rest ∙ ap (λ (s : Part). record initial { here = s }) (sym end ∙ a.same)

@@ -11,10 +11,10 @@ abbrev pub after_byte : ℕ → Byte → Part → Part
 after_byte limit byte s = after_arrival_for (first_waiter s) limit byte s
 
 -- this byte, if one is due, is taken from the input to come and brought to its place
-abbrev pub after_next_of : Option Byte → ℕ → Tick → Part → Part
-after_next_of None limit tick s = s
-after_next_of (Some byte) limit tick s = after_byte limit byte (with_next_taken tick s)
+abbrev pub after_due_byte : Option Byte → ℕ → Tick → Part → Part
+after_due_byte None limit tick s = s
+after_due_byte (Some byte) limit tick s = after_byte limit byte (with_next_taken tick s)
 
 -- the next byte to come, if it is due at the tick, is brought to its place
 abbrev pub after_next : ℕ → Tick → Part → Part
-after_next limit tick s = after_next_of (next_byte tick s.console) limit tick s
+after_next limit tick s = after_due_byte (next_byte tick s.console) limit tick s
