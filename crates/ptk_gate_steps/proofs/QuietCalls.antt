@@ -14,7 +14,7 @@ use Rattle.ptk_words_model.specs.Calls.{is_pointer}
 use Rattle.ptk_words_model.specs.Decision.{word_fetched}
 use Rattle.ptk_gate_steps.specs.declared.replies.Next.{Next}
 use Rattle.ptk_gate_steps.specs.declared.replies.Next.TheVariants as nexts
-use Rattle.ptk_gate_steps.specs.NextSteps.{next_of}
+use Rattle.ptk_gate_steps.specs.NextSteps.{next_kind_of}
 use Rattle.ptk_gate_steps.specs.QuietCalls.{is_quiet_call, is_quiet_with, mutex_pointed}
 
 -- ---- the mutex of a pointer
@@ -61,12 +61,12 @@ by_word : (word : ℕ) (quiet : Bool) (next : Next) → next ≡ (if word == ECA
 by_word word quiet next is ne = is ∙ ap (λ (b : Bool). if b then (if quiet then nexts.Quiet else nexts.Call) else nexts.Other) (ne_eqb word ECALL ne)
 
 -- a word that is no ECALL is no call
-pub next_other : (t : ℕ) (thread : Thread) (s : Part) → word_fetched s.memory thread.cpu.pc ≢ ECALL → nexts.Other ≡ next_of t thread s
-next_other t thread s ne = sym (by_word (word_fetched s.memory thread.cpu.pc) (is_quiet_with (call_of (register thread.cpu A7)) t (register thread.cpu A0) s) (next_of t thread s) refl ne)
+pub next_other : (t : ℕ) (thread : Thread) (s : Part) → word_fetched s.memory thread.cpu.pc ≢ ECALL → nexts.Other ≡ next_kind_of t thread s
+next_other t thread s ne = sym (by_word (word_fetched s.memory thread.cpu.pc) (is_quiet_with (call_of (register thread.cpu A7)) t (register thread.cpu A0) s) (next_kind_of t thread s) refl ne)
 
 -- an ECALL is a call
 pub next_call : (t : ℕ) (thread : Thread) (s : Part) (quiet : Bool) → word_fetched s.memory thread.cpu.pc ≡ ECALL → quiet ≡ is_quiet_with (call_of (register thread.cpu A7)) t (register thread.cpu A0) s
-    → (if quiet then nexts.Quiet else nexts.Call) ≡ next_of t thread s
+    → (if quiet then nexts.Quiet else nexts.Call) ≡ next_kind_of t thread s
 next_call t thread s quiet word is =
     ap (λ (b : Bool). if b then nexts.Quiet else nexts.Call) is
     ∙ sym (ap (λ (w : ℕ). if w == ECALL then (if is_quiet_with (call_of (register thread.cpu A7)) t (register thread.cpu A0) s then nexts.Quiet else nexts.Call) else nexts.Other) word)
@@ -86,11 +86,11 @@ other_by true false e = absurd (let no : ⊥ = cc in no)
 other_by false quiet e = refl
 
 -- another call is an ECALL that is not quiet
-pub call_is : (t : ℕ) (thread : Thread) (s : Part) → next_of t thread s ≡ nexts.Call → (word_fetched s.memory thread.cpu.pc ≡ ECALL) × (is_quiet_call t thread s ≡ false)
+pub call_is : (t : ℕ) (thread : Thread) (s : Part) → next_kind_of t thread s ≡ nexts.Call → (word_fetched s.memory thread.cpu.pc ≡ ECALL) × (is_quiet_call t thread s ≡ false)
 call_is t thread s e =
     let both = call_by (word_fetched s.memory thread.cpu.pc == ECALL) (is_quiet_with (call_of (register thread.cpu A7)) t (register thread.cpu A0) s) e in
     (eqb-true (word_fetched s.memory thread.cpu.pc) ECALL both.0, both.1)
 
 -- what is no call is no quiet one
-pub other_is : (t : ℕ) (thread : Thread) (s : Part) → next_of t thread s ≡ nexts.Other → is_quiet_call t thread s ≡ false
+pub other_is : (t : ℕ) (thread : Thread) (s : Part) → next_kind_of t thread s ≡ nexts.Other → is_quiet_call t thread s ≡ false
 other_is t thread s e = other_by (word_fetched s.memory thread.cpu.pc == ECALL) (is_quiet_with (call_of (register thread.cpu A7)) t (register thread.cpu A0) s) e

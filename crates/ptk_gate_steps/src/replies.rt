@@ -10,7 +10,7 @@ ghost use Rattle.ptk_words_model.specs.Schedule.{with_thread};
 ghost use Rattle.ptk_words_model.specs.State.{with_locks};
 ghost use Rattle.ptk_words_batches.specs.Quiet.{computed};
 ghost use Rattle.ptk_gate_steps.specs.QuietCalls.{is_quiet_with};
-ghost use Rattle.ptk_gate_steps.specs.NextSteps.{next_of};
+ghost use Rattle.ptk_gate_steps.specs.NextSteps.{next_kind_of};
 ghost use Rattle.ptk_gate_steps.specs.Replies.{IsMade};
 
 use crate::kinds::{call_cost, word_fetched};
@@ -34,7 +34,7 @@ pub(crate) enum Next {
 #[tactic(auto, using(crate::proofs::QuietCalls::next_steps))]
 pub(crate) fn next_is(pools: &Pools, t: ThreadNo) -> Next
     requires in_use { IsSome (thread_at pools.now.here.locks t) }
-    ensures { (thread : Thread) → thread_at pools.now.here.locks t ≡ Some thread → result ≡ next_of t thread pools.now.here }
+    ensures { (thread : Thread) → thread_at pools.now.here.locks t ≡ Some thread → result ≡ next_kind_of t thread pools.now.here }
 {
     let registers = &pools.used_thread(t).cpu;
     if word_fetched(pools.memory(), registers.pc()) != ECALL {
