@@ -40,7 +40,35 @@ pub(crate) fn is_quiet(pools: &Pools, t: ThreadNo, known: Option<Call>, a0: u32)
         Some(Call::MutexLock) => takeable(pools, a0).is_some(),
         Some(Call::MutexUnlock) => releasable(pools, t, a0).is_some(),
         Some(Call::CondSignal | Call::CondBroadcast) => is_unwaited(pools, a0),
-        Some(_) => false,
+        Some(
+            Call::Exit
+            | Call::ConsoleGet
+            | Call::ClockGettime
+            | Call::ClockNanosleep
+            | Call::PthreadCreate
+            | Call::PthreadExit
+            | Call::PthreadJoin
+            | Call::SchedYield
+            | Call::PthreadSetschedparam
+            | Call::PthreadSetschedprio
+            | Call::MutexInit
+            | Call::MutexDestroy
+            | Call::MutexTrylock
+            | Call::MutexTimedlock
+            | Call::MutexConsistent
+            | Call::CondInit
+            | Call::CondDestroy
+            | Call::CondWait
+            | Call::CondTimedwait
+            | Call::PthreadCancel
+            | Call::PthreadSetcancelstate
+            | Call::PthreadSetcanceltype
+            | Call::PthreadTestcancel
+            | Call::CleanupPush
+            | Call::CleanupPop
+            | Call::KeyCreate
+            | Call::KeyDelete,
+        ) => false,
     }
 }
 
@@ -80,6 +108,7 @@ pub(crate) fn put_reply(pools: &mut Pools, t: ThreadNo, known: Option<Call>, cpu
             tell_specific(pools, t, cpu);
             true
         }
+        // a call that is never quiet: `is_quiet` lists them
         Some(_) => false,
     }
 }
