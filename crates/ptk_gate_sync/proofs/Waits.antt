@@ -1,6 +1,6 @@
 -- The rests of the rows of calls 24 and 30 to 35.
-use Rattle.std.proofs.Common.{◌≡◌, ℕ, ◌<◌, Bool, true, false, refl}
-use Rattle.std.specs.Prelude.{Some, None, if◌then◌else◌}
+use Rattle.std.proofs.Common.{◌≡◌, ℕ, ◌<◌, true}
+use Rattle.std.specs.Prelude.{Some}
 use Rattle.ptk_words.specs.declared.TheConstants.{COUNT_LIMIT}
 use Rattle.ptk_words.specs.declared.sections.Limits.{Limits}
 use Rattle.ptk_words.proofs.Lists.{empty_from_length}
@@ -19,12 +19,6 @@ use Rattle.ptk_gate_moves.proofs.Locked.{locked_of, may_wait}
 -- ---- destruction
 
 pub ruleset unwaited = (empty_from_length)
-
--- ---- the time
-
-none_if : (b : Bool) (d : ℕ) → (if b then Some d else None) ≡ None → b ≡ false
-none_if true d e = absurd (cc e)
-none_if false d e = refl
 
 -- ---- a deadline that has come
 
