@@ -12,7 +12,7 @@ ghost use Rattle.ptk_cond.specs.Tables.{syncs_at, put_syncs, AreSynced};
 ghost use Rattle.ptk_gate_waits.specs.Timeouts.{after_sync_timeout, mutex_locked, is_out, is_queued, is_listed, is_blocked_in, IsBlocked};
 
 use ptk_cond::{Mutexes, Roster, wake, withdraw};
-use ptk_words::{ConditionNo, Errno, MutexNo, PartId, ThreadNo, Wait};
+use ptk_words::{Errno, PartId, ThreadNo, Wait};
 
 /// The deadline of the thread's wait comes; a thread that is in no timed wait stays.
 #[tactic(auto, using(ptk_cond::proofs::Waits::waits))]
@@ -65,7 +65,10 @@ fn is_queued(roster: &Roster, p: PartId, t: ThreadNo) -> bool
     requires { p < length roster.now.table.threads }
     ensures { result ≡ is_queued (mutex_of_wait (wait_of (thread_in roster.now.table p t))) (syncs_at p roster.now) t }
 {
-    match mutex_awaited(roster.threads().wait(p, t)) {
+    let Some(wait) = roster.threads().wait(p, t) else {
+        return true;
+    };
+    match wait.mutex() {
         Some(m) => roster.mutex_waiters(p, m).contains(t),
         None => true,
     }
@@ -77,28 +80,11 @@ fn is_listed(roster: &Roster, p: PartId, t: ThreadNo) -> bool
     requires { p < length roster.now.table.threads }
     ensures { result ≡ is_listed (condition_of_wait (wait_of (thread_in roster.now.table p t))) (syncs_at p roster.now) t }
 {
-    match condition_awaited(roster.threads().wait(p, t)) {
+    let Some(wait) = roster.threads().wait(p, t) else {
+        return true;
+    };
+    match wait.condition() {
         Some(c) => roster.condition_waiters(p, c).contains(t),
         None => true,
-    }
-}
-
-/// The mutex that a wait is for, None of any other and of no wait.
-fn mutex_awaited(wait: Option<Wait>) -> Option<MutexNo>
-    ensures { result ≡ mutex_of_wait wait }
-{
-    match wait {
-        Some(wait) => wait.mutex(),
-        None => None,
-    }
-}
-
-/// The condition variable that a wait is on, None of any other and of no wait.
-fn condition_awaited(wait: Option<Wait>) -> Option<ConditionNo>
-    ensures { result ≡ condition_of_wait wait }
-{
-    match wait {
-        Some(wait) => wait.condition(),
-        None => None,
     }
 }
