@@ -1,7 +1,8 @@
 //! The lines so far in sum.
 
-ghost use Rattle.std.specs.Prelude.{◌≡◌, ◌+◌, ◌≤◌, ◌<◌, ◌^◌, [], Some, None, OnOk, IfErr};
+ghost use Rattle.std.specs.Prelude.{◌≡◌, ◌+◌, ◌≤◌, ◌<◌, ◌^◌, [], true, Some, None, OnOk, IfErr};
 ghost use Rattle.ptk_asm_language.specs.Source as source;
+ghost use Rattle.ptk_asm_language.specs.Statements.{stands_in};
 ghost use Rattle.ptk_asm_language.specs.Places.{last_place, place_at};
 ghost use Rattle.ptk_asm_language.specs.Reading.{Refuses, IsPlaced, spots, views};
 ghost use Rattle.ptk_asm.specs.Passing.{State, Reaches, Shows, behind, fault_at, index_at, label_name, label_place, label_spot, labelled, shown_statement, with_statement};
@@ -148,6 +149,7 @@ impl<'a> Layout<'a> {
     ) -> Result<(), LineFault>
         requires forward { last.from ≤ last.to }
         requires inside { span.start + last.to ≤ span.end }
+        requires stands { stands_in statement.form self.old.section ≡ true }
         requires fits { source.length_in self.old.lengths self.old.section + source.taken (shown_statement statement) ≤ source.longest }
         ensures next { (m : State) → Shows self.old m → OnOk result (Shows self.new (with_statement m span last (shown_statement statement.entry))) }
         ensures err { IfErr result (λ e. e.kind ≡ FaultKind.Memory) }

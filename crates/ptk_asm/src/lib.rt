@@ -9,8 +9,8 @@
 //!   `Tells`).
 //! - Of `label_table` only this last is proved; its lines are tested.
 //! - `instructions_of` and `push_statement` are one equation each with the definitions, for any registers and any
-//!   number: `push_statement` appends exactly the bytes that a statement means.
-//! - `words_decode`: the words of a statement that is not a directive decode to its instructions.
+//!   number: `push_statement` appends exactly the bytes that a statement means (`bytes`), and the words of a statement
+//!   that is not a directive decode to its instructions (`words`).
 //! - Laws of every source: `texts_are_whole`, `lengths_are_counted`, `statements_stand` (each statement's bytes are at
 //!   its offset).
 //!
@@ -39,6 +39,6 @@ pub use assembling::assemble;
 pub use emission::push_statement;
 pub use fault::AsmFault;
 pub use instructions::{Instructions, instructions_of};
-pub use laws::{lengths_are_counted, statements_stand, texts_are_whole, words_decode};
+pub use laws::{lengths_are_counted, statements_stand, texts_are_whole};
 pub use ptk_asm_language::FaultKind;
 pub use symbols::label_table;

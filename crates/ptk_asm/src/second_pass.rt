@@ -10,7 +10,6 @@ ghost use Rattle.ptk_asm.specs.Passing.{IsAt, IsSecond, Names, Tells, shown_plac
 
 use crate::emission::push_statement;
 use crate::fault::{AsmFault, located};
-use crate::laws::words_decode;
 use crate::layout::Layout;
 use crate::placed::Placed;
 use ptk_asm_language::{Extent, FaultKind, LineFault, Section};
@@ -24,10 +23,11 @@ pub(crate) struct Contents {
 }
 
 impl Contents {
-    /// Appends the bytes of a statement at this number to its section.
+    /// Appends the bytes of a statement at this number to its section; its words decode to its instructions.
     fn push(&mut self, placed: &Placed<'_>, number: i64) -> Result<(), AllocError>
         ensures text { (known : source.Layout) → number ≡ source.number_of known (shown_placed placed.now) (shown_value placed.now.statement.operands.value) → OnOk result (self.new.text.items ≡ self.old.text.items ++ source.bytes_in known part.Text (shown_placed placed.now)) }
         ensures contents { (known : source.Layout) → number ≡ source.number_of known (shown_placed placed.now) (shown_value placed.now.statement.operands.value) → OnOk result (self.new.«data».items ≡ self.old.«data».items ++ source.bytes_in known part.Data (shown_placed placed.now)) }
+        ensures words { (known : source.Layout) → number ≡ source.number_of known (shown_placed placed.now) (shown_value placed.now.statement.operands.value) → OnOk result (IsDecoded known (shown_placed placed.now)) }
     {
         let form = placed.statement.form;
         let registers = placed.statement.operands.registers.as_slice();
@@ -49,13 +49,6 @@ impl Contents {
     {
         match layout.number_of(placed) {
             Ok(number) => {
-                let statement = &placed.statement;
-                // A law, which writes nothing.
-                words_decode(
-                    statement.form,
-                    statement.operands.registers.as_slice(),
-                    number,
-                );
                 match self.push(placed, number) {
                     Ok(()) => Ok(()),
                     Err(_) => Err(fault_of(placed, FaultKind::Memory)),

@@ -147,6 +147,7 @@ fn statement_with<'a>(
 ) -> Result<Statement<'a>, LineFault>
     ensures ok { IfOk result (λ s. source.statement_fault place (view first.entry.token ∷ views rest.now) ≡ None) }
     ensures value { IfOk result (λ s. source.stated (view first.entry.token ∷ views rest.now) ≡ Some (shown_statement s)) }
+    ensures stands { IfOk result (λ s. is.stands_in s.form place.section ≡ true) }
     ensures fits { IfOk result (λ s. place.offset + source.taken (shown_statement s) ≤ source.longest) }
     ensures err { IfErr result (λ e. Refuses e.kind (source.statement_fault place (view first.entry.token ∷ views rest.now))) }
     ensures placed { IfErr result (λ e. IsPlaced e.kind e (place_at (spot first.entry ∷ spots rest.now) (source.statement_index place (view first.entry.token ∷ views rest.now)) end)) }
@@ -175,6 +176,7 @@ pub(crate) fn statement_of<'a>(
     requires { 0 < length tokens.now }
     ensures ok { IfOk result (λ s. source.statement_fault place (views tokens.now) ≡ None) }
     ensures value { IfOk result (λ s. source.stated (views tokens.now) ≡ Some (shown_statement s)) }
+    ensures stands { IfOk result (λ s. is.stands_in s.form place.section ≡ true) }
     ensures fits { IfOk result (λ s. place.offset + source.taken (shown_statement s) ≤ source.longest) }
     ensures err { IfErr result (λ e. Refuses e.kind (source.statement_fault place (views tokens.now))) }
     ensures placed { IfErr result (λ e. IsPlaced e.kind e (place_at (spots tokens.now) (source.statement_index place (views tokens.now)) end)) }
