@@ -59,10 +59,7 @@ impl<'a> Layout<'a> {
         ensures value { (known : source.Layout) → Names self.now known → result ≡ source.address_of known name.now }
         ensures small { IfSome result (λ a. a < 2 ^ 40) }
     {
-        match place_of(&self.labels, name) {
-            Some(place) => Some(address_at(self.lengths, place)),
-            None => None,
-        }
+        Some(address_at(self.lengths, place_of(&self.labels, name)?))
     }
 
     /// The number that a label means to a statement; `UnknownLabel`, or `Range` for a distance out of range.

@@ -1,8 +1,8 @@
 -- Numbers that the code keeps at 2 ^ 40 at most.
-use Rattle.std.proofs.Common.{◌≡◌, ℕ, ◌+◌, ◌*◌, ◌^◌, ◌<◌, ◌≤◌, Bool, true, false, List, [], ◌∷◌, length, drop, get_or, Some, None, option_map, min, refl, sym, ap, ◌∙◌, arith, zero, suc, add-one, drop-cons}
+use Rattle.std.proofs.Common.{◌≡◌, ℕ, ◌+◌, ◌*◌, ◌^◌, ◌<◌, ◌≤◌, Bool, true, false, List, [], ◌∷◌, length, drop, get_or, Option, Some, None, option_map, min, refl, sym, ap, ◌∙◌, arith, zero, suc, add-one, drop-cons}
 use Rattle.std.specs.Prelude.{nat_lt, nat_le}
 use Rattle.std.proofs.lemmas.Bool.Decides.{nat_tests}
-use Rattle.ptk_asm_language.specs.Tokens.{digit, spelled_on}
+use Rattle.ptk_asm_language.specs.Tokens.{digit_of, spelled_on}
 use Rattle.ptk_asm_language.specs.Reading.{capped}
 use Rattle.ptk_asm_language.specs.Ranges.{kept_below}
 
@@ -24,32 +24,26 @@ cap_step k n (suc b) value h = cap_at (nat_lt n k) refl
 min_twice : (k n : ℕ) → min (min n k) k ≡ min n k
 min_twice k n = omega arith
 
-pub spelled-capped : (base n : ℕ) (ds : List ℕ) → 0 < base → option_map capped (spelled_on base (min n (2 ^ 40)) ds) ≡ option_map capped (spelled_on base n ds)
+pub spelled-capped : (base n : ℕ) (cs : List ℕ) → 0 < base → option_map capped (spelled_on base (min n (2 ^ 40)) cs) ≡ option_map capped (spelled_on base n cs)
 unfolding capped
 spelled-capped base n [] h = ap Some (min_twice (2 ^ 40) n)
-spelled-capped base n (d ∷ ds) h =
-    capped_step base n d ds h (spelled-capped base (min n (2 ^ 40) * base + digit d) ds h) (spelled-capped base (n * base + digit d) ds h) (nat_lt (digit d) base) refl
+spelled-capped base n (c ∷ cs) h = capped_step (λ m. spelled-capped base m cs h) (digit_of base c) refl
   where
-    capped_step : (base n d : ℕ) (ds : List ℕ) → 0 < base
-        → option_map capped (spelled_on base (min (min n (2 ^ 40) * base + digit d) (2 ^ 40)) ds) ≡ option_map capped (spelled_on base (min n (2 ^ 40) * base + digit d) ds)
-        → option_map capped (spelled_on base (min (n * base + digit d) (2 ^ 40)) ds) ≡ option_map capped (spelled_on base (n * base + digit d) ds)
-        → (b : Bool) → nat_lt (digit d) base ≡ b → option_map capped (spelled_on base (min n (2 ^ 40)) (d ∷ ds)) ≡ option_map capped (spelled_on base n (d ∷ ds))
-    capped_step base n d ds h p q true e = rw e (sym p ∙ ap (λ (m : ℕ). option_map capped (spelled_on base m ds)) (cap_step (2 ^ 40) n base (digit d) h) ∙ q)
-    capped_step base n d ds h p q false e = rw e refl
+    capped_step : ((m : ℕ) → option_map capped (spelled_on base (min m (2 ^ 40)) cs) ≡ option_map capped (spelled_on base m cs))
+        → (d : Option ℕ) → digit_of base c ≡ d → option_map capped (spelled_on base (min n (2 ^ 40)) (c ∷ cs)) ≡ option_map capped (spelled_on base n (c ∷ cs))
+    capped_step later (Some d) e = rw e (sym (later (min n (2 ^ 40) * base + d)) ∙ ap (λ (m : ℕ). option_map capped (spelled_on base m cs)) (cap_step (2 ^ 40) n base d h) ∙ later (n * base + d))
+    capped_step later None e = rw e refl
 
 -- a digit more
-pub spelled_step : (base n : ℕ) (s : List ℕ) (i : ℕ) → 0 < base → i < length s → digit (get_or s i 0) < base
-    → option_map capped (spelled_on base (min (n * base + digit (get_or s i 0)) (2 ^ 40)) (drop (i + 1) s)) ≡ option_map capped (spelled_on base n (drop i s))
-spelled_step base n s i positive inside fits =
-    let test : nat_lt (digit (get_or s i 0)) base ≡ true = grind (arith, nat_tests) in
-    rw (drop-cons s i 0 inside, add-one, test) (spelled-capped base (n * base + digit (get_or s i 0)) (drop (suc i) s) positive)
+pub spelled_step : (base n d : ℕ) (s : List ℕ) (i : ℕ) → 0 < base → i < length s → digit_of base (get_or s i 0) ≡ Some d
+    → option_map capped (spelled_on base (min (n * base + d) (2 ^ 40)) (drop (i + 1) s)) ≡ option_map capped (spelled_on base n (drop i s))
+spelled_step base n d s i positive inside e =
+    rw (drop-cons s i 0 inside, add-one, e) (spelled-capped base (n * base + d) (drop (suc i) s) positive)
 
 -- no digit
-pub spelled_stop : (base n : ℕ) (s : List ℕ) (i : ℕ) → i < length s → base ≤ digit (get_or s i 0)
+pub spelled_stop : (base n : ℕ) (s : List ℕ) (i : ℕ) → i < length s → digit_of base (get_or s i 0) ≡ None
     → spelled_on base n (drop i s) ≡ None
-spelled_stop base n s i inside above =
-    let test : nat_lt (digit (get_or s i 0)) base ≡ false = grind (arith, nat_tests) in
-    rw (drop-cons s i 0 inside, test) refl
+spelled_stop base n s i inside e = rw (drop-cons s i 0 inside, e) refl
 
 -- a magnitude within a limit is kept
 pub capped_below : (m n limit : ℕ) → m ≡ capped n → m ≤ limit → limit < 2 ^ 32 → kept_below n limit ≡ Some m

@@ -1,5 +1,6 @@
 -- A source: where its statements stand, what its labels name, its faults in their order, and its image.
 use Rattle.std.specs.Prelude.{ℕ, suc, ◌+◌, ◌-◌, ◌%◌, Bool, true, false, not, ◌&&◌, ◌||◌, List, [], ◌∷◌, ◌++◌, length, sum_by, flat_map, ◌==◌, nat_lt, if◌then◌else◌, Option, Some, None, option_map, unwrap_or, is_some, Result, Ok, Err, ℤ, pos, ◌-ℤ◌, codes}
+use Rattle.std.specs.Result.{result_err}
 use Rattle.ptk_words.specs.Image.{ImageParts}
 use Rattle.ptk_asm_language.specs.declared.statement.Section.{Section}
 use Rattle.ptk_asm_language.specs.declared.statement.Section.TheVariants as section
@@ -211,14 +212,9 @@ mnemonic_fault at [] f = None
 mnemonic_fault at (t ∷ ts) None = Some fault.Mnemonic
 mnemonic_fault at (t ∷ ts) (Some f) = fault_if (not (stands_in f at)) fault.Mnemonic
 
--- the fault, where there is one (own)
-abbrev pub fault_in : Result Operands FaultKind → Option FaultKind
-fault_in (Ok o) = None
-fault_in (Err k) = Some k
-
 -- a wrong operand (own)
 abbrev pub operand_fault : List Token → Option Form → Option FaultKind
-operand_fault (t ∷ ts) (Some f) = fault_in (operands_of (slots_of f) ts)
+operand_fault (t ∷ ts) (Some f) = result_err (operands_of (slots_of f) ts)
 operand_fault ts f = None
 
 -- how many bytes a section may have (own)

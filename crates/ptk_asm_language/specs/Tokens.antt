@@ -1,5 +1,5 @@
 -- The tokens of a line.
-use Rattle.std.specs.Prelude.{ℕ, ◌+◌, ◌-◌, ◌*◌, Bool, false, ◌&&◌, ◌||◌, List, [], ◌∷◌, ◌==◌, nat_lt, nat_le, if◌then◌else◌, Option, Some, None, option_map, ℤ, pos, neg_ℤ}
+use Rattle.std.specs.Prelude.{ℕ, ◌+◌, ◌-◌, ◌*◌, Bool, false, ◌&&◌, ◌||◌, List, [], ◌∷◌, ◌==◌, nat_lt, nat_le, if◌then◌else◌, Option, Some, None, option_map, option_and_then, ℤ, pos, neg_ℤ}
 use Rattle.std.specs.List.{list_all}
 use Rattle.ptk_asm_language.specs.Lines.{onto_first}
 
@@ -59,18 +59,22 @@ pieces (c ∷ cs) =
 
 -- ---- numbers
 
--- the value of a digit, 16 for another character (ASCII)
-unfoldable pub digit : ℕ → ℕ
+-- the value of a digit, None for another character (ASCII)
+unfoldable pub digit : ℕ → Option ℕ
 digit c =
-    if is_digit c then c - 48
-    else (if between 97 102 c then c - 87
-    else (if between 65 70 c then c - 55
-    else 16))
+    if is_digit c then Some (c - 48)
+    else (if between 97 102 c then Some (c - 87)
+    else (if between 65 70 c then Some (c - 55)
+    else None))
+
+-- the value of a digit of a base, None for another character (own)
+unfoldable pub digit_of : ℕ → ℕ → Option ℕ
+digit_of base c = option_and_then (λ d. if nat_lt d base then Some d else None) (digit c)
 
 -- the number that n and digits of a base behind it spell, None at another character (own)
 abbrev pub spelled_on : ℕ → ℕ → List ℕ → Option ℕ
 spelled_on base n [] = Some n
-spelled_on base n (d ∷ ds) = if nat_lt (digit d) base then spelled_on base (n * base + digit d) ds else None
+spelled_on base n (c ∷ cs) = option_and_then (λ d. spelled_on base (n * base + d) cs) (digit_of base c)
 
 -- the number that digits spell, None where there is none (own)
 abbrev pub spelled : ℕ → List ℕ → Option ℕ

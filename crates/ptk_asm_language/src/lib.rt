@@ -9,7 +9,7 @@
 //! - `split_line`, `without_ending`, `without_comment` and `tokens_of` are what the definitions say of the same bytes.
 //! - `tokens_of` says which bytes of the line each token has (`spots`), or those of the first piece that is no token
 //!   (`placed`), a character outside the language whole.
-//! - `is_number`, `magnitude`, `value_within` and `is_short` are one equation each with the grammar.
+//! - `digit`, `is_number`, `magnitude`, `value_within` and `is_short` are one equation each with the grammar.
 //! - `form_named`, `stands_in`, `slots_of`, `size_of` and `distances` are one equation each with the definitions.
 //! - `operands_of` returns the operands that the tokens of a line give, or the first fault among them from left to
 //!   right with its place.
@@ -40,7 +40,7 @@ pub use fault::{FaultKind, LineFault};
 pub use forms::{distances, is_even, is_within, size_of, stands_in};
 pub use lines::{split_line, without_comment, without_ending};
 pub use mnemonics::form_named;
-pub use numbers::{is_number, is_short, magnitude, value_within};
+pub use numbers::{digit, is_number, is_short, magnitude, value_within};
 pub use operands::{Operands, Value, operands_of};
 pub use place::{Extent, Lengths, Place, Span};
 pub use registers::register_named;

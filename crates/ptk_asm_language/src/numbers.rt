@@ -1,23 +1,32 @@
 //! Digits, magnitudes and numbers.
 
-ghost use Rattle.std.specs.Prelude.{◌≡◌, ℕ, ◌<◌, ◌≤◌, option_map, is_some, pos, neg_ℤ};
+ghost use Rattle.std.specs.Prelude.{◌≡◌, ℕ, ◌<◌, ◌≤◌, IfSome, option_map, is_some, pos, neg_ℤ};
 ghost use Rattle.ptk_asm_language.specs.Statements as statement;
 ghost use Rattle.ptk_asm_language.specs.Tokens as is;
 ghost use Rattle.ptk_asm_language.specs.Reading.{capped, value_of};
 ghost use Rattle.ptk_asm_language.specs.Ranges.{kept_below, kept_within};
 
-/// The value of a digit, 16 for another character.
+/// The value of a hexadecimal digit; `None` for another character (ASCII).
 #[tactic(auto, unfolding(crate::specs::Tokens::digit, crate::specs::Tokens::is_digit))]
-fn digit(c: u8) -> u8
-    ensures value { result ≡ is.digit c }
-    ensures small { result ≤ 16 }
+pub fn digit(c: u8) -> Option<u8>
+    ensures { result ≡ is.digit c }
 {
     match c {
-        b'0'..=b'9' => c - b'0',
-        b'a'..=b'f' => c - b'a' + 10,
-        b'A'..=b'F' => c - b'A' + 10,
-        _ => 16,
+        b'0'..=b'9' => Some(c - b'0'),
+        b'a'..=b'f' => Some(c - b'a' + 10),
+        b'A'..=b'F' => Some(c - b'A' + 10),
+        _ => None,
     }
+}
+
+/// The value of a digit of a base, `None` for another character.
+#[tactic(auto, unfolding(crate::specs::Tokens::digit_of))]
+fn digit_of(base: u8, c: u8) -> Option<u8>
+    ensures value { result ≡ is.digit_of base c }
+    ensures below { IfSome result (λ d. d < base) }
+{
+    let value = digit(c)?;
+    if value < base { Some(value) } else { None }
 }
 
 /// The number that digits of a base spell, kept at 2^40 at most; None where there is no digit or another character.
@@ -32,10 +41,7 @@ fn spelled(base: u8, digits: &[u8]) -> Option<u64>
     }
     let mut number = 0u64;
     for c in digits {
-        let value = digit(*c);
-        if value >= base {
-            return None;
-        }
+        let value = digit_of(base, *c)?;
         number = (number * u64::from(base) + u64::from(value)).min(1 << 40);
     }
     Some(number)
@@ -78,10 +84,7 @@ fn positive_within(magnitude: u64, below: u32, above: u32) -> Option<i64>
     ensures { (n : ℕ) → magnitude ≡ capped n → result ≡ kept_within below above (pos n) }
 {
     let _below = below;
-    match at_most(magnitude, above) {
-        Some(number) => Some(i64::from(number)),
-        None => None,
-    }
+    Some(i64::from(at_most(magnitude, above)?))
 }
 
 /// A magnitude with a `-` before it as a number, where it is at most `below`.
@@ -89,10 +92,7 @@ fn negative_within(magnitude: u64, below: u32, above: u32) -> Option<i64>
     ensures { (n : ℕ) → magnitude ≡ capped n → result ≡ kept_within below above (neg_ℤ (pos n)) }
 {
     let _above = above;
-    match at_most(magnitude, below) {
-        Some(number) => Some(-i64::from(number)),
-        None => None,
-    }
+    Some(-i64::from(at_most(magnitude, below)?))
 }
 
 /// The number that a text spells, 0 where it spells none; None where it is not from `-below` to `above`.

@@ -120,8 +120,5 @@ fn register_number(name: &[u8]) -> Option<u32>
 pub fn register_named(name: &[u8]) -> Option<Register>
     ensures { result ≡ is.register_named name.now }
 {
-    match register_number(name) {
-        Some(number) => Some(Register::new(number)),
-        None => None,
-    }
+    Some(Register::new(register_number(name)?))
 }

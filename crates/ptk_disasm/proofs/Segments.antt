@@ -13,7 +13,7 @@ use Rattle.ptk_asm_language.specs.declared.statement.Form.TheVariants as form
 use Rattle.ptk_asm_language.specs.declared.fault.FaultKind.{FaultKind}
 use Rattle.ptk_asm_language.specs.declared.place.Place.{Place}
 use Rattle.ptk_asm_language.specs.declared.place.Lengths.{Lengths}
-use Rattle.ptk_asm_language.specs.Tokens.{is_run, is_first, is_letter, is_digit, is_blank, is_mark, digit, tokens_of}
+use Rattle.ptk_asm_language.specs.Tokens.{is_run, is_first, is_letter, is_digit, is_blank, is_mark, digit, digit_of, tokens_of}
 use Rattle.ptk_asm_language.specs.Lines.{code_of}
 use Rattle.ptk_asm_language.specs.Statements.{Value, size_of}
 use Rattle.ptk_asm_language.specs.Source.{Statement, longest, label_of, statement_of, turned_by, turned_to, section_after, grown, grown_by, taken, lengths_after, place_after, place_in, with_label, labels_after, placed_at, placed_after, tokens_fault, line_fault, line_place, last_of, at_line, span_after, first_pass, second_pass, contents_of}
@@ -71,15 +71,15 @@ word-reached names within at n word t before labels h room stands =
 -- ---- the label of the entry
 
 entry_statement : statement_of (raw Entry) ≡ None
-unfolding is_run is_first is_letter is_digit is_blank is_mark digit
+unfolding is_run is_first is_letter is_digit is_blank is_mark digit digit_of
 entry_statement = refl
 
 entry_label : label_of (raw Entry) ≡ Some (codes "_start")
-unfolding is_run is_first is_letter is_digit is_blank is_mark digit
+unfolding is_run is_first is_letter is_digit is_blank is_mark digit digit_of
 entry_label = refl
 
 entry_clean : (at : Place) → tokens_fault [] at (tokens_of (code_of (raw Entry))) ≡ None
-unfolding is_run is_first is_letter is_digit is_blank is_mark digit
+unfolding is_run is_first is_letter is_digit is_blank is_mark digit digit_of
 entry_clean at = refl
 
 -- the label of the entry alone

@@ -3,6 +3,7 @@ use Rattle.std.proofs.Common.{◌≡◌, ℕ, Bool, true, false, List, [], ◌�
 use Rattle.std.specs.Prelude.{not, if◌then◌else◌}
 use Rattle.std.proofs.lemmas.List.{append-nil}
 use Rattle.std.proofs.lemmas.List.Concat.{flat_map-append}
+use Rattle.std.specs.Result.{result_err}
 use Rattle.ptk_asm_language.specs.declared.statement.Section.{Section}
 use Rattle.ptk_asm_language.specs.declared.fault.FaultKind.{FaultKind}
 use Rattle.ptk_asm_language.specs.declared.fault.FaultKind.TheVariants as fault
@@ -10,7 +11,7 @@ use Rattle.ptk_asm_language.specs.declared.place.Place.{Place}
 use Rattle.ptk_asm_language.specs.declared.place.Lengths.{Lengths}
 use Rattle.ptk_asm_language.specs.Tokens.{Token, Name}
 use Rattle.ptk_asm_language.specs.Statements.{Value, Nothing, Given, Labelled, no_operands, slots_of, stands_in, bytes_of}
-use Rattle.ptk_asm_language.specs.Source.{Statement, Placed, Layout, Fault, last_of, turned_by, turned_to, section_after, grown, grown_by, taken, lengths_after, place_after, with_label, labels_after, span_after, placed_at, placed_after, same_section, first_of, fault_if, label_fault, mnemonic_fault, fault_in, operand_fault, is_misplaced, place_fault, statement_fault, tokens_fault, line_fault, reference_fault, second_pass, number_of, placed_bytes, bytes_in, contents_of}
+use Rattle.ptk_asm_language.specs.Source.{Statement, Placed, Layout, Fault, last_of, turned_by, turned_to, section_after, grown, grown_by, taken, lengths_after, place_after, with_label, labels_after, span_after, placed_at, placed_after, same_section, first_of, fault_if, label_fault, mnemonic_fault, operand_fault, is_misplaced, place_fault, statement_fault, tokens_fault, line_fault, reference_fault, second_pass, number_of, placed_bytes, bytes_in, contents_of}
 use Rattle.ptk_disasm.specs.Spelling.{Line, Stated, mnemonic, value_text, line_text}
 use Rattle.ptk_disasm.proofs.Names.{mnemonic-form}
 use Rattle.ptk_disasm.proofs.Operands.{tokens_for, operands-read}
@@ -38,7 +39,7 @@ statement_clean at s is stands placed =
     three_none _ _ _
     (ap (mnemonic_fault at.section (spelled_tokens s is)) (mnemonic-form s.form) ∙ ap (λ (b : Bool). fault_if (not b) fault.Mnemonic) stands)
     (ap (operand_fault (spelled_tokens s is)) (mnemonic-form s.form)
-    ∙ ap fault_in (operands-read (value_text s.form s.operands.value) is.number (slots_of s.form) s.operands.registers no_operands is.fits))
+    ∙ ap result_err (operands-read (value_text s.form s.operands.value) is.number (slots_of s.form) s.operands.registers no_operands is.fits))
     (ap (place_fault at) (stated_same s is) ∙ ap (λ (b : Bool). fault_if b fault.Range) placed)
 
 pub line-clean : (before : List (List ℕ)) (s : Statement) (is : IsSpelled s) (comment : List ℕ)

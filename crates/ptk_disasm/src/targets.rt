@@ -39,8 +39,5 @@ fn target_for(at: u32, instruction: Instr) -> Option<u32>
 pub fn target_of(at: u32, word: u32) -> Option<u32>
     ensures { result ≡ is.target_of at (decoded word) }
 {
-    match decode(word) {
-        Some(instruction) => target_for(at, instruction),
-        None => None,
-    }
+    target_for(at, decode(word)?)
 }

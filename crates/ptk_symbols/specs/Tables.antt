@@ -1,17 +1,11 @@
 -- Symbol tables: their text, and the symbol at an address.
 use Rattle.std.specs.Prelude.{ℕ, ◌+◌, ◌-◌, ◌*◌, ◌^◌, Bool, false, ◌&&◌, ◌||◌, List, [], ◌∷◌, ◌++◌, length, take, drop, filter, find, ◌==◌, nat_lt, nat_le, if◌then◌else◌, Option, Some, None, option_map, option_and_then, Result, Ok, Err, codes}
 use Rattle.std.specs.Fmt.{digits}
-use Rattle.std.specs.List.{list_all}
+use Rattle.std.specs.List.{concat, list_all}
 use Rattle.ptk_asm_language.specs.Lines.{raw_lines, without_ending}
+use Rattle.ptk_asm_language.specs.Tokens.{digit}
 
 -- ---- a line
-
--- the value of a hexadecimal digit (own)
-abbrev pub digit_value : ℕ → Option ℕ
-digit_value c =
-    if nat_le 48 c && nat_le c 57 then Some (c - 48)
-    else (if nat_le 97 c && nat_le c 102 then Some (c - 97 + 10)
-    else (if nat_le 65 c && nat_le c 70 then Some (c - 65 + 10) else None))
 
 -- a number with a digit more, None where that is no word (own)
 abbrev pub with_digit : ℕ → Option ℕ → Option ℕ
@@ -20,7 +14,7 @@ with_digit n (Some d) = if nat_lt (n * 16 + d) (2 ^ 32) then Some (n * 16 + d) e
 
 -- a number with a digit more, None where there is no digit or that is no word (own)
 abbrev pub address_with : ℕ → ℕ → Option ℕ
-address_with n c = with_digit n (digit_value c)
+address_with n c = with_digit n (digit c)
 
 -- the address that digits are behind those of a number, None where one is no digit or it is no word (own)
 abbrev pub address_behind : ℕ → List ℕ → Option ℕ
@@ -95,7 +89,7 @@ distance_text n = if n == 0 then [] else codes "+0x" ++ digits 16 false n
 -- a name, its visible characters alone, with a distance behind it, in angle brackets behind a blank (objdump)
 abbrev pub bracketed : Option (List ℕ × ℕ) → List ℕ
 bracketed None = []
-bracketed (Some n) = codes " <" ++ (filter is_visible n.0 ++ (distance_text n.1 ++ codes ">"))
+bracketed (Some n) = concat (codes " <" ∷ filter is_visible n.0 ∷ distance_text n.1 ∷ codes ">" ∷ [])
 
 -- the name at an address, where a symbol begins there (own)
 abbrev pub name_text : List (ℕ × List ℕ) → ℕ → List ℕ

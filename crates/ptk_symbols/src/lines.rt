@@ -4,6 +4,8 @@ ghost use Rattle.std.specs.Prelude.{◌≡◌, option_map};
 ghost use Rattle.std.specs.List.{list_all};
 ghost use Rattle.ptk_symbols.specs.Tables as is;
 
+use ptk_asm_language::digit;
+
 /// A symbol: an address and its name.
 #[derive(Clone, Copy)]
 pub struct Symbol<'a> {
@@ -18,24 +20,11 @@ const ADDRESS: usize = 8;
 
 const BEFORE_NAME: usize = 11;
 
-/// The value of a hexadecimal digit.
-fn digit_value(byte: u8) -> Option<u32>
-    ensures { result ≡ is.digit_value byte }
-{
-    match byte {
-        b'0'..=b'9' => Some(u32::from(byte - b'0')),
-        b'a'..=b'f' => Some(u32::from(byte - b'a') + 10),
-        b'A'..=b'F' => Some(u32::from(byte - b'A') + 10),
-        _ => None,
-    }
-}
-
 /// The address with a digit more, `None` where the byte is no digit or it is no word.
 fn address_with(address: u32, byte: u8) -> Option<u32>
     ensures { result ≡ is.address_with address byte }
 {
-    let digit = digit_value(byte)?;
-    let next = u64::from(address) * 16 + u64::from(digit);
+    let next = u64::from(address) * 16 + u64::from(digit(byte)?);
     if next < 1 << 32 {
         Some(next as u32)
     } else {

@@ -54,26 +54,22 @@ impl<'a> Symbols<'a> {
     pub fn nearest(&self, address: u32) -> Option<Located<'a>>
         ensures { option_map (λ n. (n.name.now, n.distance)) result ≡ is.nearest self.now address }
     {
-        match last_below(self.symbols.as_slice(), address) {
-            Some(symbol) => Some(Located {
-                name: symbol.name,
-                distance: address - symbol.address,
-            }),
-            None => None,
-        }
+        let symbol = last_below(self.symbols.as_slice(), address)?;
+        Some(Located {
+            name: symbol.name,
+            distance: address - symbol.address,
+        })
     }
 
     /// The first symbol of the text that begins at an address, at a distance of 0. None where none begins there.
     fn exact(&self, address: u32) -> Option<Located<'a>>
         ensures { option_map (λ n. (n.name.now, n.distance)) result ≡ is.exact self.now address }
     {
-        match symbol_at(self.symbols.as_slice(), address) {
-            Some(symbol) => Some(Located {
-                name: symbol.name,
-                distance: 0,
-            }),
-            None => None,
-        }
+        let symbol = symbol_at(self.symbols.as_slice(), address)?;
+        Some(Located {
+            name: symbol.name,
+            distance: 0,
+        })
     }
 
     /// Appends the name of the first symbol of the text that begins at an address, as ` <name>`; nothing where none
