@@ -1,5 +1,5 @@
 -- The faults that a document's table can state: neither that of the text nor want of memory.
-use Rattle.std.proofs.Common.{◌≡◌, ◌≢◌, ◌∙◌, refl, ℕ, ◌+◌, ℤ, pos, negsuc, List, [], ◌∷◌, ◌++◌, Bool, true, false, Option, Some, None, Ok, Err, subst}
+use Rattle.std.proofs.Common.{ok_or, ◌≡◌, ◌≢◌, ◌∙◌, refl, ℕ, ◌+◌, ℤ, pos, negsuc, List, [], ◌∷◌, ◌++◌, Bool, true, false, Option, Some, None, Ok, Err, subst}
 use Rattle.std.specs.Prelude.{codes, length, IfErr}
 use Rattle.ptk_words.specs.declared.TheConstants.{LAST_TICK}
 use Rattle.toml.specs.Data.{Data, Items, no_items, item, Members, as_integer, as_str, as_array, as_table, get_member}
@@ -8,7 +8,7 @@ use Rattle.ptk_words_windows.specs.declared.fault.WindowFault.TheVariants.{OutOf
 use Rattle.ptk_words_windows.specs.WindowFaults.{plan_fault}
 use Rattle.ptk_config.specs.declared.fault.ConfigFault.{ConfigFault}
 use Rattle.ptk_config.specs.declared.fault.ConfigFault.TheVariants.{Text, MissingKey, WrongType, OutOfRange, UnknownKey, DoubledName, Window, Memory}
-use Rattle.ptk_config.specs.Reading.{Checked, MemoryAside, ◌>>=◌, or_fault, tested, within, integer, text, items, members, required, number, counted, array, each_after, only}
+use Rattle.ptk_config.specs.Reading.{Checked, MemoryAside, ◌>>=◌, tested, within, integer, text, items, members, required, number, counted, array, each_after, only}
 use Rattle.ptk_config.specs.Inputs.{bytes_in, input, input_in, inputs_of, input_of}
 use Rattle.ptk_config.specs.Sections.{Section, name, image_of, sixteens, stack, limits, section, section_keys, sections_in}
 use Rattle.ptk_config.specs.Windows.{number_of, window, windows_in, last_from, stage, stage_in, stages_of}
@@ -43,9 +43,9 @@ bind_read : {A B : Type 0} (c : Checked A) (f : A → Checked B) → HasDocument
 bind_read (Ok a) f here next = next a refl
 bind_read (Err e) f here next = record { fault = here.fault }
 
-of_or_fault : {A : Type 0} (o : Option A) (e : ConfigFault) → IsOfDocument e → HasDocumentFault (or_fault o e)
-of_or_fault (Some a) e is = record { fault = tt }
-of_or_fault None e is = record { fault = is }
+of_ok_or : {A : Type 0} (o : Option A) (e : ConfigFault) → IsOfDocument e → HasDocumentFault (ok_or o e)
+of_ok_or (Some a) e is = record { fault = tt }
+of_ok_or None e is = record { fault = is }
 
 of_tested : {A : Type 0} (b : Bool) (e : ConfigFault) (a : A) → IsOfDocument e → HasDocumentFault (tested b e a)
 of_tested true e a is = record { fault = tt }
@@ -56,19 +56,19 @@ of_within low high (pos n) = of_tested _ OutOfRange n tt
 of_within low high (negsuc n) = record { fault = tt }
 
 of_integer : (low high : ℕ) (d : Data) → HasDocumentFault (integer low high d)
-of_integer low high d = bind _ _ (of_or_fault (as_integer d) WrongType tt) (of_within low high)
+of_integer low high d = bind _ _ (of_ok_or (as_integer d) WrongType tt) (of_within low high)
 
 of_text : (d : Data) → HasDocumentFault (text d)
-of_text d = of_or_fault (as_str d) WrongType tt
+of_text d = of_ok_or (as_str d) WrongType tt
 
 of_items : (d : Data) → HasDocumentFault (items d)
-of_items d = of_or_fault (as_array d) WrongType tt
+of_items d = of_ok_or (as_array d) WrongType tt
 
 of_members : (d : Data) → HasDocumentFault (members d)
-of_members d = of_or_fault (as_table d) WrongType tt
+of_members d = of_ok_or (as_table d) WrongType tt
 
 of_required : (key : List ℕ) (t : Members) → HasDocumentFault (required key t)
-of_required key t = of_or_fault (get_member key t) MissingKey tt
+of_required key t = of_ok_or (get_member key t) MissingKey tt
 
 of_number : (key : List ℕ) (low high : ℕ) (t : Members) → HasDocumentFault (number key low high t)
 of_number key low high t = bind _ _ (of_required key t) (of_integer low high)

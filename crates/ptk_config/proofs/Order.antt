@@ -1,5 +1,5 @@
 -- A document's stages are in order, so no fault of theirs is one of their numbers.
-use Rattle.std.proofs.Common.{◌≡◌, ◌<◌, ◌≤◌, ℕ, ◌+◌, suc, Bool, true, false, ◌&&◌, cond, not, leb, codes, List, [], ◌∷◌, ◌++◌, Option, Some, None, Ok, Err, ℤ, pos, negsuc, All, AllPairs, get_or, refl, subst, arith}
+use Rattle.std.proofs.Common.{ok_or, ◌≡◌, ◌<◌, ◌≤◌, ℕ, ◌+◌, suc, Bool, true, false, ◌&&◌, cond, not, leb, codes, List, [], ◌∷◌, ◌++◌, Option, Some, None, Ok, Err, ℤ, pos, negsuc, All, AllPairs, get_or, refl, subst, arith}
 use Rattle.std.specs.Option.{option_or}
 use Rattle.std.specs.List.{list_any}
 use Rattle.std.proofs.lemmas.Bool.{or_from, and_from, and_parts, leb-true, not_from_false, lt-leb}
@@ -14,7 +14,7 @@ use Rattle.ptk_words_windows.specs.WindowFaults.{some_pair, first_fault, fault_o
 use Rattle.toml.specs.Data.{Data, Items, no_items, item, Members, as_integer}
 use Rattle.ptk_config.specs.declared.fault.ConfigFault.{ConfigFault}
 use Rattle.ptk_config.specs.declared.fault.ConfigFault.TheVariants.{WrongType, OutOfRange, UnknownKey}
-use Rattle.ptk_config.specs.Reading.{Checked, ◌>>=◌, or_fault, tested, within, integer, members, required, number, array, counted, items, each_after}
+use Rattle.ptk_config.specs.Reading.{Checked, ◌>>=◌, tested, within, integer, members, required, number, array, counted, items, each_after}
 use Rattle.ptk_config.specs.Sections.{Section}
 use Rattle.ptk_config.specs.Windows.{AreLater, last_from, stage, stage_in, stages_of, windows_in}
 use Rattle.ptk_config.proofs.Stages.{AreInOrder, AreInOrder-nil, AreInOrder-push, AreLater-end, AreLater-nil, last_from-push}
@@ -100,7 +100,7 @@ within-range low high n (negsuc m) is = absurd cc
 number-range : (key : List ℕ) (low high n : ℕ) (t : Members) → number key low high t ≡ Ok n → (low ≤ n) × (n ≤ high)
 number-range key low high n t is =
     let value = read_before (required key t) (integer low high) n is in
-    let signed = read_before (or_fault (as_integer value.value) WrongType) (within low high) n value.rest in
+    let signed = read_before (ok_or (as_integer value.value) WrongType) (within low high) n value.rest in
     within-range low high n signed.value signed.rest
 
 stage-range : (sections : List Section) (low : ℕ) (d : Data) (s : Stage) → stage sections low d ≡ Ok s → (low ≤ s.from) × (s.from ≤ 68719476736)

@@ -1,5 +1,5 @@
 -- What a document states, or its first fault.
-use Rattle.std.specs.Prelude.{ℕ, ◌≡◌, ◌≤◌, Bool, false, List, [], ◌∷◌, codes, length, not, Option, Some, None, Ok, Err, All}
+use Rattle.std.specs.Prelude.{ok_or, ℕ, ◌≡◌, ◌≤◌, Bool, false, List, [], ◌∷◌, codes, length, not, Option, Some, None, Ok, Err, All}
 use Rattle.std.specs.Str.{bytes_eq}
 use Rattle.toml.specs.Data.{Members, get_member}
 use Rattle.toml.specs.Parse.{parse_document}
@@ -7,7 +7,7 @@ use Rattle.ptk_words_windows.specs.declared.fault.WindowFault.{WindowFault}
 use Rattle.ptk_words_windows.specs.WindowFaults.{some_pair, plan_fault}
 use Rattle.ptk_words_windows.specs.Windows.{WindowPlan}
 use Rattle.ptk_config.specs.declared.fault.ConfigFault.TheVariants as fault
-use Rattle.ptk_config.specs.Reading.{Checked, ◌>>=◌, or_fault, tested, number, array, only}
+use Rattle.ptk_config.specs.Reading.{Checked, ◌>>=◌, tested, number, array, only}
 use Rattle.ptk_config.specs.Sections.{Section, AreInRange, sections_in}
 use Rattle.ptk_config.specs.Windows.{windows_in, stages_of}
 
@@ -40,7 +40,7 @@ configuration t = do
 
 -- what a text states: a text that is no TOML document is the first fault (own)
 abbrev pub configuration_in : List ℕ → Checked Configuration
-configuration_in text = or_fault (parse_document text) fault.Text >>= configuration
+configuration_in text = ok_or (parse_document text) fault.Text >>= configuration
 
 -- 1 to 8 sections within their ranges, of distinct names, and a plan without a fault, of 16 stages at most (own)
 pub record IsConfiguration (config : Configuration) : Type 0 where

@@ -1,5 +1,5 @@
 -- What a value of a document states, or the fault that it is read with.
-use Rattle.std.specs.Prelude.{ℕ, ◌+◌, ℤ, pos, negsuc, List, [], ◌∷◌, ◌++◌, Bool, true, nat_le, ◌&&◌, if◌then◌else◌, Option, Some, None, Result, Ok, Err, ◌≡◌, ◌≢◌}
+use Rattle.std.specs.Prelude.{ℕ, ◌+◌, ℤ, pos, negsuc, List, [], ◌∷◌, ◌++◌, Bool, true, nat_le, ◌&&◌, if◌then◌else◌, Option, Some, None, ok_or, Result, Ok, Err, ◌≡◌, ◌≢◌}
 use Rattle.std.specs.List.{list_any}
 use Rattle.std.specs.Str.{bytes_eq}
 use Rattle.toml.specs.Data.{Data, as_integer, as_str, as_array, as_table, Items, no_items, item, Members, no_members, member, get_member}
@@ -12,7 +12,7 @@ Checked A = Result A ConfigFault
 
 infixl 10 ◌>>=◌
 -- the next check comes only where the one before found no fault
-abbrev pub ◌>>=◌ : {A B : Type 0} → Checked A → (A → Checked B) → Checked B
+abbrev pub ◌>>=◌ : {A B E : Type 0} → Result A E → (A → Result B E) → Result B E
 Ok a >>= f = f a
 Err e >>= f = Err e
 
@@ -26,11 +26,6 @@ abbrev pub MemoryAside : {A B : Type 0} → (A → B) → Checked A → Checked 
 MemoryAside view (Ok a) d = d ≡ Ok (view a)
 MemoryAside view (Err e) d = e ≢ Memory → d ≡ Err e
 
--- the value, or this fault where there is none
-abbrev pub or_fault : {A : Type 0} → Option A → ConfigFault → Checked A
-or_fault (Some a) e = Ok a
-or_fault None e = Err e
-
 -- the value, or this fault where the test fails
 abbrev pub tested : {A : Type 0} → Bool → ConfigFault → A → Checked A
 tested b e a = if b then Ok a else Err e
@@ -42,19 +37,19 @@ within low high (negsuc n) = Err OutOfRange
 
 -- the number within these bounds that a value states
 abbrev pub integer : ℕ → ℕ → Data → Checked ℕ
-integer low high d = or_fault (as_integer d) WrongType >>= within low high
+integer low high d = ok_or (as_integer d) WrongType >>= within low high
 
 -- the text that a value states
 abbrev pub text : Data → Checked (List ℕ)
-text d = or_fault (as_str d) WrongType
+text d = ok_or (as_str d) WrongType
 
 -- the array that a value states
 abbrev pub items : Data → Checked Items
-items d = or_fault (as_array d) WrongType
+items d = ok_or (as_array d) WrongType
 
 -- the table that a value states
 abbrev pub members : Data → Checked Members
-members d = or_fault (as_table d) WrongType
+members d = ok_or (as_table d) WrongType
 
 -- how many items there are
 abbrev pub count_of : Items → ℕ
@@ -63,7 +58,7 @@ count_of (item d ds) = 1 + count_of ds
 
 -- the value at a key that may not be missing
 abbrev pub required : List ℕ → Members → Checked Data
-required key t = or_fault (get_member key t) MissingKey
+required key t = ok_or (get_member key t) MissingKey
 
 -- the number at a key
 abbrev pub number : List ℕ → ℕ → ℕ → Members → Checked ℕ

@@ -26,7 +26,8 @@ pub use config::{Config, read_config};
 pub mod parts {
     pub use crate::config::{any_doubled, read_sections, shares_name, stages_given};
     pub use crate::reading::{
-        are_known, array, counted, integer, items, members, number, required, text, value_at,
+        are_known, array, counted, integer, is_among, items, members, number, required, text,
+        value_at,
     };
     pub use crate::section::{KEYS, read_image, read_name, sixteens, stack};
     pub use crate::stage::{Stage, read_later_stages};

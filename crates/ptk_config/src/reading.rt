@@ -113,7 +113,7 @@ pub fn array<'a>(
 }
 
 /// Whether the key is one of these.
-fn is_among(key: &str, keys: &[&str]) -> bool
+pub fn is_among(key: &str, keys: &[&str]) -> bool
     ensures { result ≡ list_any (λ k. bytes_eq key.now k.now) keys.now }
 {
     keys.iter().any(|known| key == *known)

@@ -1,6 +1,7 @@
 -- A walk with places has the faults of the reading without them.
-use Rattle.std.proofs.Common.{◌≡◌, ◌∙◌, refl, sym, ap, subst, arith, ℕ, ◌+◌, ◌-◌, List, [], ◌∷◌, ◌++◌, Bool, true, false, Option, Some, None, Ok, Err, codes, length, not}
+use Rattle.std.proofs.Common.{ok_or, ◌≡◌, ◌∙◌, refl, sym, ap, subst, arith, ℕ, ◌+◌, ◌-◌, List, [], ◌∷◌, ◌++◌, Bool, true, false, Option, Some, None, Ok, Err, codes, length, not}
 use Rattle.std.specs.Prelude.{option_map}
+use Rattle.std.specs.Result.{result_err}
 use Rattle.ptk_words.specs.declared.TheConstants.{LAST_TICK}
 use Rattle.toml.specs.Data.{Data, Items, no_items, item, Members, get_member}
 use Rattle.toml.specs.Parse.{parse_document}
@@ -8,8 +9,7 @@ use Rattle.ptk_words_windows.specs.Windows.{Stage}
 use Rattle.ptk_words_windows.specs.WindowFaults.{plan_fault}
 use Rattle.ptk_config.specs.declared.fault.ConfigFault.{ConfigFault}
 use Rattle.ptk_config.specs.declared.fault.ConfigFault.TheVariants as fault
-use Rattle.ptk_config.specs.Reading.{Checked, tested, or_fault, integer, text, items, members, required, number, array, count_of, counted, each_after, are_known, only}
-use Rattle.ptk_config.specs.Reading.{◌>>=◌ as ◌>>◌}
+use Rattle.ptk_config.specs.Reading.{Checked, tested, integer, text, items, members, required, number, array, count_of, counted, each_after, are_known, only}
 use Rattle.ptk_config.specs.Inputs.{Input, last_tick, byte_count, bytes_in, input_in, inputs_of, input_of, arrivals_of}
 use Rattle.ptk_config.specs.Sections.{Section, name, image_of, sixteens, stack, limits, section, section_keys, sections_in}
 use Rattle.ptk_config.specs.Windows.{number_of, window, windows_in, last_from, stage_in, stages_of}
@@ -27,7 +27,7 @@ use Rattle.ptk_config_places.specs.declared.place.Place.{Place}
 use Rattle.ptk_config_places.specs.declared.place.Place.TheVariants as place
 use Rattle.ptk_config_places.specs.declared.place.Refusal.{Refusal}
 use Rattle.ptk_config_places.specs.declared.walk.InputsBefore.{InputsBefore}
-use Rattle.ptk_config_places.specs.Placed.{Placed, ◌>>=◌, at, refusal_alone, number_at, each_numbered, key_name, fault_of_check}
+use Rattle.ptk_config_places.specs.Placed.{Placed, ◌>>=◌, at, refusal_alone, number_at, each_numbered, key_name}
 use Rattle.ptk_config_places.specs.Walks.{bytes_walk, input_walk, inputs_walk, limits_walk, section_walk, sections_walk, window_walk, windows_walk, plan_walk, plans_walk}
 use Rattle.ptk_config_places.specs.Windows.{plan_place}
 use Rattle.ptk_config_places.specs.Refusals.{walked, doubled_place, table_walk, text_walk, refusal_of}
@@ -41,7 +41,7 @@ pub record Reads {A B : Type 0} (view : A → B) (c : Checked A) (p : Placed B) 
   pub read : reads view c p
 
 bind : {A B C D : Type 0} (v : A → B) (w : C → D) (c : Checked A) (p : Placed B) (f : A → Checked C) (g : B → Placed D)
-    → Reads v c p → ((a : A) → c ≡ Ok a → Reads w (f a) (g (v a))) → Reads w (c >> f) (p >>= g)
+    → Reads v c p → ((a : A) → c ≡ Ok a → Reads w (f a) (g (v a))) → Reads w (c >>= f) (p >>= g)
 bind {D = D} v w (Ok a) p f g here next = subst (λ (q : Placed D). Reads w (f a) q) (sym (ap (λ q. q >>= g) here.read)) (next a refl)
 bind v w (Err e) p f g here next = record { read = (here.read.0, ap (λ q. q >>= g) here.read.1) }
 
@@ -75,7 +75,7 @@ each see f g one done n (item d ds) =
 
 -- ---- a section
 count_more : {A : Type 0} (c : Checked A) (next : A → Checked (List A)) (xs : List A) (n : ℕ)
-    → ((a : A) → next a ≡ Ok xs → length xs ≡ n) → (c >> next) ≡ Ok xs → length xs ≡ n
+    → ((a : A) → next a ≡ Ok xs → length xs ≡ n) → (c >>= next) ≡ Ok xs → length xs ≡ n
 count_more (Ok a) next xs n each is = each a is
 count_more (Err e) next xs n each is = absurd cc
 
@@ -114,7 +114,7 @@ of_inputs s (Some d) =
     of_alone seen_inputs (each_after input_in [] ds) _ (each seen_inputs input_in (input_walk s) (of_input s) [] 1 ds))
 
 -- what is made of what was read plays no part
-ended : {A B : Type 0} (h : A → B) (c : Checked A) (p : Placed (Unit {0})) → Reads (λ _. tt) c p → Reads (λ _. tt) (c >> (λ a. Ok (h a))) p
+ended : {A B : Type 0} (h : A → B) (c : Checked A) (p : Placed (Unit {0})) → Reads (λ _. tt) c p → Reads (λ _. tt) (c >>= (λ a. Ok (h a))) p
 ended h (Ok a) p here = record { read = here.read }
 ended h (Err e) p here = record { read = here.read }
 
@@ -155,7 +155,7 @@ of_sections ds = each (λ _. tt) (λ _. section) (λ n _. section_walk n) (λ do
 
 -- ---- windows and plans
 apart : {A B C : Type 0} (here : Place) (c : Checked A) (f : A → Checked B) (g : B → Checked C) (p : B → Placed (Unit {0}))
-    → ((b : B) → Reads (λ _. tt) (g b) (p b)) → Reads (λ _. tt) (c >> f >> g) (at here c >>= (λ a. at here (f a) >>= p))
+    → ((b : B) → Reads (λ _. tt) (g b) (p b)) → Reads (λ _. tt) (c >>= f >>= g) (at here c >>= (λ a. at here (f a) >>= p))
 apart here (Err e) f g p each = record { read = (here, refl) }
 apart here (Ok a) f g p each = bind (λ b. b) (λ _. tt) (f a) (at here (f a)) g p (of_at here (f a)) (λ b read. each b)
 
@@ -213,15 +213,15 @@ of_configuration t =
     let same : distinct ≡ config = (tested-ok _ fault.DoubledName known distinct is_distinct).1 ∙ (tested-ok _ fault.UnknownKey config known is_known).1 in
     rw same (of_fault_or (plan_place (λ stage. stage.windows) frame (length sections) 0 config.plan.stages) (plan_fault frame (length sections) config.plan.stages) config)))))))))
 
-told : {A B : Type 0} (view : A → B) (c : Checked A) (p : Placed B) → Reads view c p → option_map (λ r. r.fault) (refusal_of p) ≡ fault_of_check c
+told : {A B : Type 0} (view : A → B) (c : Checked A) (p : Placed B) → Reads view c p → option_map (λ r. r.fault) (refusal_of p) ≡ result_err c
 told view (Ok a) p here = rw here.read
 told view (Err e) p here = rw here.read.1
 
 -- the fault told of a text is the one that its reading has
-pub fault-text_walk : (text : List ℕ) → option_map (λ r. r.fault) (refusal_of (text_walk text)) ≡ fault_of_check (configuration_in text)
+pub fault-text_walk : (text : List ℕ) → option_map (λ r. r.fault) (refusal_of (text_walk text)) ≡ result_err (configuration_in text)
 fault-text_walk text =
     told (λ _. tt) (configuration_in text) (text_walk text)
-    (bind (λ a. a) _ _ _ _ _ (of_at place.Text (or_fault (parse_document text) fault.Text)) (λ t is_document. of_configuration t))
+    (bind (λ a. a) _ _ _ _ _ (of_at place.Text (ok_or (parse_document text) fault.Text)) (λ t is_document. of_configuration t))
 
 alone-same : (p : Placed (Unit {0})) → refusal_alone p ≡ p
 alone-same (Ok a) = refl
@@ -234,10 +234,10 @@ refused text t r document walk =
     sym (ap refusal_of whole)
 
 -- the fault where the place is told
-pub fault-none : (text : List ℕ) → None ≡ refusal_of (text_walk text) → None ≡ fault_of_check (configuration_in text)
+pub fault-none : (text : List ℕ) → None ≡ refusal_of (text_walk text) → None ≡ result_err (configuration_in text)
 fault-none text place = ap (option_map (λ r. r.fault)) place ∙ fault-text_walk text
 
-pub fault-some : (text : List ℕ) (r : Refusal) → Some r ≡ refusal_of (text_walk text) → Some r.fault ≡ fault_of_check (configuration_in text)
+pub fault-some : (text : List ℕ) (r : Refusal) → Some r ≡ refusal_of (text_walk text) → Some r.fault ≡ result_err (configuration_in text)
 fault-some text r place = ap (option_map (λ r. r.fault)) place ∙ fault-text_walk text
 
 pub ruleset forgotten = (fault-none, fault-some)

@@ -4,6 +4,7 @@ use Rattle.toml.specs.Data.{Data, Items, no_items, item, Members}
 use Rattle.ptk_config.specs.declared.fault.ConfigFault.{ConfigFault}
 use Rattle.ptk_config.specs.declared.fault.ConfigFault.TheVariants as fault
 use Rattle.ptk_config.specs.Reading.{Checked, number, array}
+pub use Rattle.ptk_config.specs.Reading.{◌>>=◌}
 use Rattle.ptk_config_places.specs.declared.place.Key.{Key}
 use Rattle.ptk_config_places.specs.declared.place.Key.TheVariants.{Frame, Partition, Window, Plan, Name, Image, Memory, Threads, Stack, Mutexes, Conditions, Keys, Interval, Ring, Output, Trace, Input, At, Bytes, Start, Length, From}
 use Rattle.ptk_config_places.specs.declared.place.TablePlace.{TablePlace}
@@ -40,12 +41,6 @@ key_name From = codes "from"
 abbrev pub Placed : Type 0 → Type 0
 Placed A = Result A Refusal
 
-infixl 10 ◌>>=◌
--- the next check comes only where the one before found no fault
-abbrev pub ◌>>=◌ : {A B : Type 0} → Placed A → (A → Placed B) → Placed B
-Ok a >>= f = f a
-Err r >>= f = Err r
-
 -- a check of what stands at this place
 abbrev pub at : {A : Type 0} → Place → Checked A → Placed A
 at here (Ok a) = Ok a
@@ -78,8 +73,3 @@ array_at table key low high t = at (place.Key table key) (array (key_name key) l
 abbrev pub each_numbered : {S : Type 0} → (ℕ → S → Data → Placed S) → ℕ → S → Items → Placed S
 each_numbered f n s no_items = Ok s
 each_numbered f n s (item d ds) = f n s d >>= (λ next. each_numbered f (n + 1) next ds)
-
--- the fault, if there is one
-abbrev pub fault_of_check : {A : Type 0} → Checked A → Option ConfigFault
-fault_of_check (Ok a) = None
-fault_of_check (Err e) = Some e

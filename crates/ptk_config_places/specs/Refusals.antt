@@ -1,12 +1,12 @@
 -- The first fault of a text, with its place.
-use Rattle.std.specs.Prelude.{ℕ, ◌+◌, List, [], ◌∷◌, codes, length, not, Option, Some, None, Ok, Err}
+use Rattle.std.specs.Prelude.{ok_or, ℕ, ◌+◌, List, [], ◌∷◌, codes, length, not, Option, Some, None, Ok, Err}
 use Rattle.std.specs.Str.{bytes_eq}
 use Rattle.toml.specs.Data.{Members, get_member}
 use Rattle.toml.specs.Parse.{parse_document}
 use Rattle.ptk_words_windows.specs.Windows.{Stage}
 use Rattle.ptk_words_windows.specs.WindowFaults.{plan_fault}
 use Rattle.ptk_config.specs.declared.fault.ConfigFault.TheVariants as fault
-use Rattle.ptk_config.specs.Reading.{Checked, or_fault, tested, only}
+use Rattle.ptk_config.specs.Reading.{Checked, tested, only}
 use Rattle.ptk_config.specs.Sections.{Section, sections_in}
 use Rattle.ptk_config.specs.Windows.{windows_in, stages_of}
 use Rattle.ptk_config.specs.Configuration.{any_doubled, fault_or}
@@ -46,7 +46,7 @@ table_walk t = do
 
 -- the first fault of a text: of one that is no document, or of the table that it states (own)
 abbrev pub text_walk : List ℕ → Placed (Unit {0})
-text_walk text = at place.Text (or_fault (parse_document text) fault.Text) >>= table_walk
+text_walk text = at place.Text (ok_or (parse_document text) fault.Text) >>= table_walk
 
 -- the fault with its place, if there is one
 abbrev pub refusal_of : {A : Type 0} → Placed A → Option Refusal

@@ -1,10 +1,11 @@
 //! A whole text.
 
 ghost use Rattle.std.specs.Prelude.{◌≡◌, IfOk, option_map, not, map};
+ghost use Rattle.std.specs.Result.{result_err};
 ghost use Rattle.ptk_config.specs.Reading.{tested};
 ghost use Rattle.toml.specs.View.{table_view};
 ghost use Rattle.ptk_config.specs.Configuration.{configuration_in, any_doubled};
-ghost use Rattle.ptk_config_places.specs.Placed.{at, PlacedAside, fault_of_check};
+ghost use Rattle.ptk_config_places.specs.Placed.{at, PlacedAside};
 ghost use Rattle.ptk_config_places.specs.Refusals.{doubled_place, plan_alone, table_walk, text_walk, refusal_of};
 
 use crate::place::{Key, Place, Refusal, TablePlace};
@@ -75,7 +76,7 @@ fn walk_stages(frame: u32, parts: usize, stages: &[(u64, &[Window])]) -> Result<
 pub fn first_refusal(alloc: Global, text: &str) -> Result<Option<Refusal>, AllocError>
     ensures place { IfOk result (λ found. found ≡ refusal_of (text_walk text.now)) }
     ensures fault { IfOk result
-        (λ found. option_map (λ r. r.fault) found ≡ fault_of_check (configuration_in text.now)) }
+        (λ found. option_map (λ r. r.fault) found ≡ result_err (configuration_in text.now)) }
 {
     match toml::table_from_str(alloc, text) {
         Ok(table) => match walk_table(alloc, &table) {

@@ -22,10 +22,7 @@ fn item_at<'a>(table: &'a Table, key: Key, number: usize) -> Option<&'a Value>
 fn table_in<'a>(table: &'a Table, key: Key, number: usize) -> Option<&'a Table>
     ensures { option_map (λ t. table_view t.now) result ≡ found.table_in (table_view table.now) key number }
 {
-    match item_at(table, key, number) {
-        Some(value) => value.as_table(),
-        None => None,
-    }
+    item_at(table, key, number)?.as_table()
 }
 
 /// What stands where a table should, None for the document's own.
@@ -35,16 +32,18 @@ fn value_of(document: &Table, place: TablePlace) -> Option<&Value>
     match place {
         TablePlace::Top => None,
         TablePlace::Section(section) => item_at(document, Key::Partition, section),
-        TablePlace::Input(section, input) => match table_in(document, Key::Partition, section) {
-            Some(table) => item_at(table, Key::Input, input),
-            None => None,
-        },
+        TablePlace::Input(section, input) => {
+            item_at(
+                table_in(document, Key::Partition, section)?,
+                Key::Input,
+                input,
+            )
+        }
         TablePlace::Plan(plan) => item_at(document, Key::Plan, plan),
         TablePlace::Window(0, window) => item_at(document, Key::Window, window),
-        TablePlace::Window(plan, window) => match table_in(document, Key::Plan, plan) {
-            Some(table) => item_at(table, Key::Window, window),
-            None => None,
-        },
+        TablePlace::Window(plan, window) => {
+            item_at(table_in(document, Key::Plan, plan)?, Key::Window, window)
+        }
     }
 }
 
@@ -57,10 +56,7 @@ pub fn table_of(document: &Table, place: TablePlace) -> Option<&Table>
         TablePlace::Section(_)
         | TablePlace::Input(..)
         | TablePlace::Plan(_)
-        | TablePlace::Window(..) => match value_of(document, place) {
-            Some(value) => value.as_table(),
-            None => None,
-        },
+        | TablePlace::Window(..) => value_of(document, place)?.as_table(),
     }
 }
 
@@ -68,10 +64,7 @@ pub fn table_of(document: &Table, place: TablePlace) -> Option<&Table>
 fn value_at(document: &Table, place: TablePlace, key: Key) -> Option<&Value>
     ensures { option_map (λ v. view v.now) result ≡ found.value_at (table_view document.now) place key }
 {
-    match table_of(document, place) {
-        Some(table) => value_at_key(table, key.name()),
-        None => None,
-    }
+    value_at_key(table_of(document, place)?, key.name())
 }
 
 /// The number, where it is not negative.
@@ -90,23 +83,14 @@ pub fn number_at(document: &Table, place: TablePlace, key: Key) -> Option<u64>
     ensures value { result ≡ found.number_at (table_view document.now) place key }
     ensures small { IfSome result (λ n. n < 2 ^ 63) }
 {
-    match value_at(document, place, key) {
-        Some(value) => match value.as_integer() {
-            Some(number) => natural(number),
-            None => None,
-        },
-        None => None,
-    }
+    natural(value_at(document, place, key)?.as_integer()?)
 }
 
 /// The text at a key of a table of a document; None where there is no such table or key, or no text.
 pub fn text_at(document: &Table, place: TablePlace, key: Key) -> Option<&str>
     ensures { option_map (λ s. s.now) result ≡ found.text_at (table_view document.now) place key }
 {
-    match value_at(document, place, key) {
-        Some(value) => value.as_str(),
-        None => None,
-    }
+    value_at(document, place, key)?.as_str()
 }
 
 /// How many items the array at a key of a table of a document has; None where there is no such table or key, or no
@@ -115,13 +99,7 @@ pub fn text_at(document: &Table, place: TablePlace, key: Key) -> Option<&str>
 pub fn count_at(document: &Table, place: TablePlace, key: Key) -> Option<usize>
     ensures { result ≡ found.count_at (table_view document.now) place key }
 {
-    match value_at(document, place, key) {
-        Some(value) => match value.as_array() {
-            Some(items) => Some(items.len()),
-            None => None,
-        },
-        None => None,
-    }
+    Some(value_at(document, place, key)?.as_array()?.len())
 }
 
 /// What stands at a place of a document; None where nothing does, and for the document itself and its text.
@@ -132,10 +110,7 @@ pub fn value_there(document: &Table, place: Place) -> Option<&Value>
         Place::Text => None,
         Place::Table(table) => value_of(document, table),
         Place::Key(table, key) => value_at(document, table, key),
-        Place::Item(table, key, number) => match table_of(document, table) {
-            Some(values) => item_at(values, key, number),
-            None => None,
-        },
+        Place::Item(table, key, number) => item_at(table_of(document, table)?, key, number),
     }
 }
 
