@@ -1,6 +1,5 @@
 -- A line that is written in several steps, and the lines of one more stage.
 use Rattle.std.proofs.Common.{◌≡◌, ◌≢◌, ◌∙◌, ℕ, ◌+◌, ◌<◌, Bool, List, [], ◌∷◌, ◌++◌, Option, cond, flat_map, take, get_or, length, codes, sym, ap, subst, add-one, append_assoc}
-use Rattle.std.specs.Prelude.{decimal}
 use Rattle.std.specs.Io.KnownBytes.{Appends}
 use Rattle.std.proofs.KnownBytes.{Appends-trans}
 use Rattle.std.proofs.Math.Seq.{take-suc}
@@ -25,13 +24,6 @@ share_told frame ws ticks n a b c d are some is share windows end =
     subst (λ (t : List ℕ). Appends a d t) text
     (Appends-trans a c d ((percent n ++ codes " percent of the frame") ++ windows_words ws) (10 ∷ [])
     (Appends-trans a b c (percent n ++ codes " percent of the frame") (windows_words ws) share windows) end)
-
--- the frame from which on, and the rest of the line
-pub stage_told : (from : ℕ) (rest : List ℕ) (a b c : Option (List ℕ)) → Appends a b (codes "  from frame " ++ (decimal from ++ codes ": ")) → Appends b c rest
-    → Appends a c (codes "  from frame " ++ (decimal from ++ (codes ": " ++ rest)))
-stage_told from rest a b c first then_rest =
-    subst (λ (t : List ℕ). Appends a c t) (ap (λ (t : List ℕ). codes "  from frame " ++ t) (append_assoc (decimal from) (codes ": ") rest))
-    (Appends-trans a b c (codes "  from frame " ++ (decimal from ++ codes ": ")) rest first then_rest)
 
 -- the lines of the first stages and one more
 pub stages_more : (frame p : ℕ) (stages : List Stage) (i : ℕ) (s : Stage) (from : ℕ) (ws : List Window) (a b c : Option (List ℕ)) → i < length stages → s ≡ get_or stages i s

@@ -1,6 +1,7 @@
 -- What is written of a text with some files.
-use Rattle.std.specs.Prelude.{ℕ, ◌+◌, List, [], ◌++◌, map, slice_get, Option, Some, None, Ok, Err, codes, decimal}
+use Rattle.std.specs.Prelude.{ℕ, ◌+◌, List, [], ◌∷◌, ◌++◌, map, slice_get, Option, Some, None, Ok, Err, codes, decimal}
 use Rattle.std.specs.Io.KnownBytes.{Appends}
+use Rattle.std.specs.List.{concat}
 use Rattle.toml.specs.Parse.{parse_document}
 use Rattle.ptk_image.specs.NamedFiles.{NamedFile}
 use Rattle.ptk_config.specs.Reading.{Checked}
@@ -15,7 +16,8 @@ use Rattle.ptk_config_explain.specs.Table.{table_text}
 -- the line of the refused image of the section of this number, from 1 (own)
 abbrev pub refused_line : ℕ → Section → Outcome → List ℕ
 refused_line number section outcome =
-    codes "section " ++ (decimal number ++ (codes " \"" ++ (section.name ++ (codes "\", " ++ image_line section.image outcome))))
+    concat (codes "section " ∷ decimal number ∷ codes " \"" ∷ section.name ∷ codes "\", " ∷ [])
+    ++ image_line section.image outcome
 
 -- that of the section at a place, from 0
 abbrev pub refused_at : List NamedFile → ℕ → Option Section → List ℕ

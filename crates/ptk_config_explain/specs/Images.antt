@@ -1,5 +1,6 @@
 -- What the image of a section amounts to with some files, in words, and which image is refused first.
 use Rattle.std.specs.Prelude.{ℕ, ◌+◌, ◌-◌, ◌*◌, nat_le, Bool, true, false, List, [], ◌∷◌, ◌++◌, length, position, if◌then◌else◌, Option, Some, None, Result, Ok, Err, codes, decimal}
+use Rattle.std.specs.List.{concat}
 use Rattle.std.specs.Option.{option_or}
 use Rattle.ptk_words.specs.declared.sections.Limits.{Limits}
 use Rattle.ptk_words.specs.declared.faults.ImageFault.{ImageFault}
@@ -7,6 +8,7 @@ use Rattle.ptk_words.specs.declared.faults.ImageFault.TheVariants as image
 use Rattle.ptk_words.specs.Image.{ImageParts, image_of}
 use Rattle.ptk_image.specs.NamedFiles.{NamedFile, content_of}
 use Rattle.ptk_config.specs.Sections.{Section}
+use Rattle.ptk_config_explain.specs.Words.{newline}
 use Rattle.ptk_config_explain.specs.declared.images.Outcome.{Outcome}
 use Rattle.ptk_config_explain.specs.declared.images.Outcome.TheVariants.{Unnamed, Missing, Refused, Unfit, Accepted}
 
@@ -71,20 +73,22 @@ fault_words image.Entry = codes "the entry of the image is misplaced"
 fault_words image.Memory = codes "out of memory"
 fault_words image.Unfit = codes "the image does not fit into its partition"
 
--- how many bytes are free (own)
-abbrev pub free_words : ℕ → List ℕ
-free_words free = decimal free ++ codes " bytes free below the stacks"
+-- what stands behind the number of free bytes (own)
+abbrev pub bytes_free : List ℕ
+bytes_free = codes " bytes free below the stacks"
 
 -- what an image amounts to (own)
 abbrev pub outcome_words : Outcome → List ℕ
-outcome_words (Unnamed free) = free_words free
+outcome_words (Unnamed free) = decimal free ++ bytes_free
 outcome_words Missing = codes "no such file"
 outcome_words (Refused fault) = fault_words fault
-outcome_words (Unfit filled room) = decimal filled ++ (codes " bytes where " ++ (decimal room ++ codes " are below the stacks"))
+outcome_words (Unfit filled room) =
+    concat (decimal filled ∷ codes " bytes where " ∷ decimal room ∷ codes " are below the stacks" ∷ [])
 outcome_words (Accepted text data_bytes bss free) =
-    codes "text " ++ (decimal text ++ (codes ", data " ++ (decimal data_bytes ++ (codes ", bss " ++ (decimal bss ++ (codes "; " ++ free_words free))))))
+    concat (codes "text " ∷ decimal text ∷ codes ", data " ∷ decimal data_bytes ∷ codes ", bss " ∷ decimal bss ∷
+    codes "; " ∷ decimal free ∷ bytes_free ∷ [])
 
 -- the line of an image of this name, or of none (own)
 abbrev pub image_line : Option (List ℕ) → Outcome → List ℕ
-image_line (Some name) outcome = codes "image " ++ (name ++ (codes ": " ++ (outcome_words outcome ++ (10 ∷ []))))
-image_line None outcome = codes "no image; " ++ (outcome_words outcome ++ (10 ∷ []))
+image_line (Some name) outcome = concat (codes "image " ∷ name ∷ codes ": " ∷ outcome_words outcome ∷ newline ∷ [])
+image_line None outcome = concat (codes "no image; " ∷ outcome_words outcome ∷ newline ∷ [])

@@ -1,6 +1,6 @@
 -- Why what stands at a place of a document is refused, in words.
-use Rattle.std.specs.Prelude.{ℕ, zero, suc, ◌+◌, ◌-◌, ◌%◌, ◌==◌, ◌&&◌, ◌||◌, nat_le, nat_lt, ℤ, pos, negsuc, Bool, true, false, List, [], ◌∷◌, ◌++◌, length, if◌then◌else◌, Option, Some, None, unwrap_or, codes}
-use Rattle.std.specs.List.{list_all, list_any, find, range_with_len}
+use Rattle.std.specs.Prelude.{ℕ, zero, suc, ◌+◌, ◌-◌, ◌%◌, ◌==◌, ◌&&◌, ◌||◌, nat_le, nat_lt, ℤ, pos, negsuc, Bool, true, false, List, [], ◌∷◌, length, if◌then◌else◌, Option, Some, None, unwrap_or, codes}
+use Rattle.std.specs.List.{concat, list_all, list_any, find, range_with_len}
 use Rattle.std.specs.Str.{bytes_eq}
 use Rattle.toml.specs.Data.{Data, string, integer, float, boolean, datetime, array, table, Members, no_members, member}
 use Rattle.ptk_words.specs.declared.TheConstants.{LAST_TICK}
@@ -18,7 +18,7 @@ use Rattle.ptk_config_places.specs.declared.place.Place.{Place}
 use Rattle.ptk_config_places.specs.declared.place.Place.TheVariants as place
 use Rattle.ptk_config_places.specs.declared.place.Refusal.{Refusal}
 use Rattle.ptk_config_places.specs.Lookup.{◌>>=◌, table_of, number_at, text_at, count_at, value_there, section_of}
-use Rattle.ptk_config_explain.specs.Words.{outside, no_multiple, large_stacks, miscounted, other_kind, unknown_key, no_section, same_name, short, past_frame, overlaps, refused, place_words}
+use Rattle.ptk_config_explain.specs.Words.{newline, outside, no_multiple, large_stacks, miscounted, other_kind, unknown_key, no_section, same_name, short, past_frame, overlaps, refused, place_words}
 
 -- ---- kinds
 
@@ -248,4 +248,6 @@ shown_name document p = section_of p >>= name_at document >>= shown
 
 -- the line of a refusal of a document (own)
 abbrev pub refusal_line : Members → Refusal → List ℕ
-refusal_line document r = place_words r.place (shown_name document r.place) ++ (codes ": " ++ (fault_words document r.place r.fault ++ (10 ∷ [])))
+refusal_line document r =
+    concat (place_words r.place (shown_name document r.place) ∷ codes ": " ∷ fault_words document r.place r.fault ∷
+    newline ∷ [])

@@ -1,9 +1,11 @@
 -- What is written of a text.
-use Rattle.std.specs.Prelude.{ℕ, ◌≡◌, ◌+◌, ◌≤◌, ◌==◌, List, [], ◌∷◌, ◌++◌, Option, Some, None, length, take, count_by, codes, decimal}
+use Rattle.std.specs.Prelude.{ℕ, ◌≡◌, ◌+◌, ◌≤◌, ◌==◌, List, [], ◌∷◌, Option, Some, None, length, take, count_by, codes, decimal}
 use Rattle.std.specs.Io.KnownBytes.{Appends}
+use Rattle.std.specs.List.{concat}
 use Rattle.toml.specs.Data.{Members}
 use Rattle.toml.specs.Parse.{parse_document}
 use Rattle.ptk_config_places.specs.declared.place.Refusal.{Refusal}
+use Rattle.ptk_config_explain.specs.Words.{newline}
 use Rattle.ptk_config_explain.specs.Reasons.{refusal_line}
 
 -- the line of the byte at this place, counted from 1: one more than the line feeds before it (own)
@@ -12,7 +14,7 @@ line_at text place = 1 + count_by (λ byte. byte == 10) (take place text)
 
 -- what is written of a text that is no document (own)
 abbrev pub unread_line : ℕ → List ℕ
-unread_line line = codes "the text, line " ++ (decimal line ++ (codes ": not TOML" ++ (10 ∷ [])))
+unread_line line = concat (codes "the text, line " ∷ decimal line ∷ codes ": not TOML" ∷ newline ∷ [])
 
 -- that was written, with the line of a byte of the text or of its end
 abbrev pub IsUnread : List ℕ → Option (List ℕ) → Option (List ℕ) → Type 0

@@ -1,6 +1,6 @@
 -- What the partitions of an accepted configuration have, in words.
 use Rattle.std.specs.Prelude.{ℕ, ◌*◌, ◌/◌, ◌%◌, ◌==◌, List, [], ◌∷◌, ◌++◌, filter, sum_by, flat_map, if◌then◌else◌, codes, decimal}
-use Rattle.std.specs.List.{enumerate_from}
+use Rattle.std.specs.List.{concat, enumerate_from}
 use Rattle.ptk_words.specs.declared.sections.Limits.{Limits}
 use Rattle.ptk_words_windows.specs.declared.window.Window.{Window}
 use Rattle.ptk_words_windows.specs.Windows.{Stage, WindowPlan}
@@ -9,14 +9,16 @@ use Rattle.ptk_config.specs.Sections.{Section}
 use Rattle.ptk_config.specs.Configuration.{Configuration}
 use Rattle.ptk_config_explain.specs.declared.images.Outcome.{Outcome}
 use Rattle.ptk_config_explain.specs.Images.{image_line, outcome_in}
+use Rattle.ptk_config_explain.specs.Words.{newline}
 
 -- the numbers of a partition (own)
 abbrev pub limits_line : Limits → List ℕ
 limits_line limits =
-    codes "  memory " ++ (decimal limits.memory ++ (codes ", threads " ++ (decimal limits.threads ++ (codes ", stack " ++ (decimal limits.stack
-    ++ (codes ", mutexes " ++ (decimal limits.mutexes ++ (codes ", conds " ++ (decimal limits.conditions ++ (codes ", keys " ++ (decimal limits.keys
-    ++ (codes ", interval " ++ (decimal limits.interval ++ (codes ", ring " ++ (decimal limits.ring ++ (codes ", output " ++ (decimal limits.output
-    ++ (codes ", trace " ++ (decimal limits.trace ++ (10 ∷ []))))))))))))))))))))
+    concat (codes "  memory " ∷ decimal limits.memory ∷ codes ", threads " ∷ decimal limits.threads ∷
+    codes ", stack " ∷ decimal limits.stack ∷ codes ", mutexes " ∷ decimal limits.mutexes ∷
+    codes ", conds " ∷ decimal limits.conditions ∷ codes ", keys " ∷ decimal limits.keys ∷
+    codes ", interval " ∷ decimal limits.interval ∷ codes ", ring " ∷ decimal limits.ring ∷
+    codes ", output " ∷ decimal limits.output ∷ codes ", trace " ∷ decimal limits.trace ∷ newline ∷ [])
 
 -- those windows that are a partition's
 abbrev pub own_windows : ℕ → List Window → List Window
@@ -46,18 +48,21 @@ percent n = decimal (n / 10) ++ (codes "." ++ decimal (n % 10))
 -- the part of a frame that these windows are, in percent, and the windows (own)
 abbrev pub share_line : ℕ → List Window → List ℕ
 share_line frame windows =
-    if ticks_of windows == 0 then codes "no window" ++ (10 ∷ [])
-    else percent (thousandths (ticks_of windows) frame) ++ (codes " percent of the frame" ++ (windows_words windows ++ (10 ∷ [])))
+    if ticks_of windows == 0 then codes "no window" ++ newline
+    else concat (percent (thousandths (ticks_of windows) frame) ∷ codes " percent of the frame" ∷
+    windows_words windows ∷ newline ∷ [])
 
 -- what a partition has of each frame from this one on (own)
 abbrev pub stage_line : ℕ → ℕ → Stage → List ℕ
 stage_line frame partition stage =
-    codes "  from frame " ++ (decimal stage.from ++ (codes ": " ++ share_line frame (own_windows partition stage.windows)))
+    concat (codes "  from frame " ∷ decimal stage.from ∷ codes ": " ∷ [])
+    ++ share_line frame (own_windows partition stage.windows)
 
 -- the name, the numbers and the image of a section (own)
 abbrev pub section_head : Section → Outcome → List ℕ
 section_head section outcome =
-    codes "partition " ++ (section.name ++ ((10 ∷ []) ++ (limits_line section.limits ++ (codes "  " ++ image_line section.image outcome))))
+    concat (codes "partition " ∷ section.name ∷ newline ∷ []) ++ limits_line section.limits
+    ++ codes "  " ++ image_line section.image outcome
 
 -- what the partition of this section has (own)
 abbrev pub section_lines : WindowPlan → ℕ → Section → Outcome → List ℕ
@@ -70,5 +75,5 @@ numbered_lines files plan numbered = section_lines plan numbered.0 numbered.1 (o
 -- what each partition has, after a line with the length of the frame (own)
 abbrev pub table_text : List NamedFile → Configuration → List ℕ
 table_text files config =
-    codes "frame " ++ (decimal config.plan.frame ++ (codes " ticks" ++ (10 ∷ [])))
+    concat (codes "frame " ∷ decimal config.plan.frame ∷ codes " ticks" ∷ newline ∷ [])
     ++ flat_map (numbered_lines files config.plan) (enumerate_from 0 config.sections)

@@ -1,7 +1,9 @@
 -- A place and a reason in words.
-use Rattle.std.specs.Prelude.{ℕ, ℤ, List, [], ◌++◌, ◌==◌, if◌then◌else◌, Option, Some, None, option_map, codes, decimal}
+use Rattle.std.specs.Prelude.{ℕ, ℤ, List, [], ◌∷◌, ◌++◌, ◌==◌, if◌then◌else◌, Option, Some, None, option_map, codes, decimal}
 use Rattle.std.specs.Fmt.{signed_decimal}
 use Rattle.std.specs.Borrow.{Bor}
+use Rattle.std.specs.List.{concat}
+use Rattle.ptk_config_places.specs.declared.place.Key.{Key}
 use Rattle.ptk_config_places.specs.declared.place.TablePlace.{TablePlace}
 use Rattle.ptk_config_places.specs.declared.place.TablePlace.TheVariants as table
 use Rattle.ptk_config_places.specs.declared.place.Place.{Place}
@@ -10,16 +12,25 @@ use Rattle.ptk_config_explain.specs.declared.words.Reason.{Reason}
 use Rattle.ptk_config_explain.specs.declared.words.Reason.TheVariants as reason
 use Rattle.ptk_config_places.specs.Placed.{key_name}
 
+-- the byte that ends a line (own)
+abbrev pub newline : List ℕ
+newline = 10 ∷ []
+
 -- ---- places
 
 -- a section by its number, and its name where it is shown (own)
 abbrev pub section_words : ℕ → Option (List ℕ) → List ℕ
-section_words n (Some name) = codes "section " ++ (decimal n ++ (codes " \"" ++ (name ++ codes "\"")))
+section_words n (Some name) = concat (codes "section " ∷ decimal n ∷ codes " \"" ∷ name ∷ codes "\"" ∷ [])
 section_words n None = codes "section " ++ decimal n
+
+-- a window behind the plan that it is of (own)
+abbrev pub window_of_plan : ℕ → List ℕ
+window_of_plan n = codes ", window " ++ decimal n
 
 -- a window of the top, or of a plan (own)
 abbrev pub window_words : ℕ → ℕ → List ℕ
-window_words stage n = if stage == 0 then codes "window " ++ decimal n else codes "plan " ++ (decimal stage ++ (codes ", window " ++ decimal n))
+window_words stage n =
+    if stage == 0 then codes "window " ++ decimal n else codes "plan " ++ (decimal stage ++ window_of_plan n)
 
 -- a table (own)
 abbrev pub table_words : TablePlace → Option (List ℕ) → List ℕ
@@ -34,18 +45,26 @@ abbrev pub within_words : TablePlace → Option (List ℕ) → List ℕ
 within_words table.Top name = []
 within_words t name = table_words t name ++ codes ", "
 
+-- an item of the array of a key (own)
+abbrev pub item_words : Key → ℕ → List ℕ
+item_words k n = key_name k ++ (codes ", item " ++ decimal n)
+
 -- a place, in the section of this name (own)
 abbrev pub place_words : Place → Option (List ℕ) → List ℕ
 place_words place.Text name = codes "the text"
 place_words (place.Table t) name = table_words t name
 place_words (place.Key t k) name = within_words t name ++ (codes "key " ++ key_name k)
-place_words (place.Item t k n) name = within_words t name ++ (codes "key " ++ (key_name k ++ (codes ", item " ++ decimal n)))
+place_words (place.Item t k n) name = within_words t name ++ (codes "key " ++ item_words k n)
 
 -- ---- reasons
 
+-- two bounds (own)
+abbrev pub from_to : ℕ → ℕ → List ℕ
+from_to low high = decimal low ++ (codes " to " ++ decimal high)
+
 -- a number out of bounds (own)
 abbrev pub outside : ℤ → ℕ → ℕ → List ℕ
-outside n low high = signed_decimal n ++ (codes " is not from " ++ (decimal low ++ (codes " to " ++ decimal high)))
+outside n low high = signed_decimal n ++ (codes " is not from " ++ from_to low high)
 
 -- a number that is no multiple of 16 (own)
 abbrev pub no_multiple : ℤ → List ℕ
@@ -54,11 +73,12 @@ no_multiple n = signed_decimal n ++ codes " is not a multiple of 16"
 -- stacks larger than the memory (own)
 abbrev pub large_stacks : ℕ → ℕ → ℕ → List ℕ
 large_stacks threads stack memory =
-    decimal threads ++ (codes " stacks of " ++ (decimal stack ++ (codes " bytes do not fit into " ++ (decimal memory ++ codes " bytes of memory"))))
+    concat (decimal threads ∷ codes " stacks of " ∷ decimal stack ∷ codes " bytes do not fit into " ∷ decimal memory ∷
+    codes " bytes of memory" ∷ [])
 
 -- a count out of bounds (own)
 abbrev pub miscounted : ℕ → ℕ → ℕ → List ℕ
-miscounted n low high = decimal n ++ (codes " items, not " ++ (decimal low ++ (codes " to " ++ decimal high)))
+miscounted n low high = decimal n ++ (codes " items, not " ++ from_to low high)
 
 -- a value of another kind than is wanted (own)
 abbrev pub other_kind : List ℕ → List ℕ → List ℕ
@@ -66,17 +86,17 @@ other_kind found wanted = found ++ (codes ", not " ++ wanted)
 
 -- a key that a table may not have, where it can be shown (own)
 abbrev pub unknown_key : Option (List ℕ) → List ℕ
-unknown_key (Some key) = codes "key " ++ (key ++ codes " is unknown")
+unknown_key (Some key) = concat (codes "key " ∷ key ∷ codes " is unknown" ∷ [])
 unknown_key None = codes "a key is unknown"
 
 -- a name of no section, where it can be shown (own)
 abbrev pub no_section : Option (List ℕ) → List ℕ
-no_section (Some name) = codes "no section has the name \"" ++ (name ++ codes "\"")
+no_section (Some name) = concat (codes "no section has the name \"" ∷ name ∷ codes "\"" ∷ [])
 no_section None = codes "no section has its name"
 
 -- a section with the same name (own)
 abbrev pub same_name : ℕ → List ℕ
-same_name n = codes "section " ++ (decimal n ++ codes " has the same name")
+same_name n = concat (codes "section " ∷ decimal n ∷ codes " has the same name" ∷ [])
 
 -- a window that is too short (own)
 abbrev pub short : ℕ → List ℕ
@@ -84,7 +104,8 @@ short n = decimal n ++ codes " ticks are fewer than 16"
 
 -- a window that ends after its frame (own)
 abbrev pub past_frame : ℕ → ℕ → List ℕ
-past_frame end frame = codes "ends at tick " ++ (decimal end ++ (codes ", after the frame of " ++ (decimal frame ++ codes " ticks")))
+past_frame end frame =
+    concat (codes "ends at tick " ∷ decimal end ∷ codes ", after the frame of " ∷ decimal frame ∷ codes " ticks" ∷ [])
 
 -- two windows with a common tick (own)
 abbrev pub overlaps : ℕ → List ℕ

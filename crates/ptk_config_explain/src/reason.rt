@@ -11,7 +11,7 @@ ghost use Rattle.ptk_config_explain.specs.Reasons as why;
 
 use crate::words::Reason;
 use ptk_config::ConfigFault;
-use ptk_config::parts::KEYS;
+use ptk_config::parts::{KEYS, is_among};
 use ptk_config_places::{
     Key, Place, Refusal, TablePlace, count_at, number_at, section_of, table_of, text_at,
     value_there,
@@ -281,13 +281,6 @@ fn shown(text: &str) -> Option<&str>
     }
 }
 
-/// Whether the key is one of these.
-fn is_among(key: &str, keys: &[&str]) -> bool
-    ensures { result ≡ list_any (λ k. bytes_eq key.now k.now) keys.now }
-{
-    keys.iter().any(|known| key == *known)
-}
-
 /// The first key of a table that is none of these, where it lies.
 fn unknown_in<'a>(values: &'a Table, known: &[&str]) -> Option<&'a String>
     ensures { option_map (λ k. k.now) result ≡ find (λ k. not (list_any (λ l. bytes_eq (string_bytes k) l.now) known.now)) (keys values.now) }
@@ -491,11 +484,6 @@ pub(crate) fn reason_of<'a>(document: &'a Table, refusal: &Refusal) -> Reason<'a
 pub(crate) fn name_of(document: &Table, place: Place) -> Option<&str>
     ensures { words.read result ≡ why.shown_name (table_view document.now) place }
 {
-    match section_of(place) {
-        Some(section) => match text_at(document, TablePlace::Section(section), Key::Name) {
-            Some(name) => shown(name),
-            None => None,
-        },
-        None => None,
-    }
+    let section = section_of(place)?;
+    shown(text_at(document, TablePlace::Section(section), Key::Name)?)
 }
