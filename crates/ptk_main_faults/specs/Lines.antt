@@ -1,6 +1,7 @@
 -- The lines on standard error, which refusal has which line, and the status of each.
-use Rattle.std.specs.Prelude.{ℕ, List, Option, Some, None, ◌++◌, ◌==◌, if◌then◌else◌, decimal, codes}
+use Rattle.std.specs.Prelude.{ℕ, List, [], ◌∷◌, Option, Some, None, ◌++◌, ◌==◌, if◌then◌else◌, decimal, codes}
 use Rattle.std.specs.Borrow.{Bor}
+use Rattle.std.specs.List.{concat}
 use Rattle.ptk_words.specs.Faults.{image_fault_number}
 use Rattle.ptk_words.specs.declared.faults.ImageFault.{ImageFault}
 use Rattle.ptk_words.specs.declared.faults.ImageFault.TheVariants as image
@@ -38,23 +39,24 @@ byte_text None = codes "end"
 
 -- the byte of a report and the expected one (own)
 abbrev pub unlike_text : Option ℕ → Option ℕ → List ℕ
-unlike_text got expected = codes "got " ++ (byte_text got ++ (codes ", expected " ++ byte_text expected))
+unlike_text got expected = concat (codes "got " ∷ byte_text got ∷ codes ", expected " ∷ byte_text expected ∷ [])
 
 -- the line of a fault, without its end (own)
 abbrev pub line_of : Fault → List ℕ
 line_of (Config number) = codes "ptk: config fault " ++ decimal number
 line_of (ConfigWindow number) = codes "ptk: config fault 7 window " ++ decimal number
-line_of (Asm line kind) = codes "ptk: asm line " ++ (decimal line ++ (codes " fault " ++ decimal kind))
-line_of (Image name number) = codes "ptk: image " ++ (name.now ++ (codes " fault " ++ decimal number))
-line_of (TooLong name section) = codes "ptk: image " ++ (name.now ++ (codes " too long " ++ name_of section))
+line_of (Asm line kind) = concat (codes "ptk: asm line " ∷ decimal line ∷ codes " fault " ∷ decimal kind ∷ [])
+line_of (Image name number) = concat (codes "ptk: image " ∷ name.now ∷ codes " fault " ∷ decimal number ∷ [])
+line_of (TooLong name section) = concat (codes "ptk: image " ∷ name.now ∷ codes " too long " ∷ name_of section ∷ [])
 line_of (MissingFile name) = codes "ptk: missing file " ++ name.now
 line_of (NotText name) = codes "ptk: not text " ++ name.now
 line_of (NoPartition name) = codes "ptk: no partition " ++ name.now
-line_of (Symbols name line) = codes "ptk: symbols " ++ (name.now ++ (codes " line " ++ decimal line))
+line_of (Symbols name line) = concat (codes "ptk: symbols " ∷ name.now ∷ codes " line " ∷ decimal line ∷ [])
 line_of (NothingFrom tick) = codes "ptk: nothing to show from tick " ++ decimal tick
-line_of (Differs offset line got expected) = codes "ptk: report differs at byte " ++ (decimal offset
-    ++ (codes " line " ++ (decimal line ++ (codes ": " ++ unlike_text got expected))))
-line_of (FailedOn name kind) = codes "ptk: partition " ++ (name.now ++ (codes " is " ++ kind_word kind))
+line_of (Differs offset line got expected) =
+    concat (codes "ptk: report differs at byte " ∷ decimal offset ∷ codes " line " ∷ decimal line ∷ codes ": " ∷
+    unlike_text got expected ∷ [])
+line_of (FailedOn name kind) = concat (codes "ptk: partition " ∷ name.now ∷ codes " is " ∷ kind_word kind ∷ [])
 line_of (ReadFailed name) = codes "ptk: read failed " ++ name.now
 line_of WriteFailed = codes "ptk: write failed"
 line_of NoMemory = codes "ptk: no memory"
