@@ -1,6 +1,8 @@
 -- What a Value Change Dump has a form for.
 use Rattle.std.specs.Prelude.{ℕ, nat_lt, ◌+◌, ◌-◌, ◌*◌, ◌/◌, ◌%◌, ◌==◌, List, [], ◌∷◌, ◌++◌, Bool, true, false, if◌then◌else◌, Option, Some, None, unwrap_or, codes, decimal}
 use Rattle.std.specs.Fmt.{digits}
+use Rattle.std.specs.List.{concat}
+use Rattle.ptk_words_model.specs.Text.{newline}
 use Rattle.ptk_main_runs.specs.PartStatus.{PartStatus}
 use Rattle.ptk_main_runs.specs.PartStatus.TheVariants as status
 use Rattle.ptk_words.specs.declared.threads.Wait.{Wait}
@@ -25,7 +27,7 @@ is_signal (Dropped bytes) = false
 
 -- the line that what follows is of a tick (IEEE 1364-2005, 18.2.1)
 abbrev pub tick_line : ℕ → List ℕ
-tick_line tick = codes "#" ++ (decimal tick ++ 10 ∷ [])
+tick_line tick = concat (codes "#" ∷ decimal tick ∷ newline ∷ [])
 
 -- the identifier of the signal of a number: two of the 94 printable characters (IEEE 1364-2005, 18.2.1)
 abbrev pub identifier : ℕ → List ℕ
@@ -33,11 +35,11 @@ identifier n = (n / 94 % 94 + 33) ∷ (n % 94 + 33) ∷ []
 
 -- the line of a signal of one bit (IEEE 1364-2005, 18.2.1)
 abbrev pub bit_line : ℕ → ℕ → List ℕ
-bit_line bit n = decimal bit ++ (identifier n ++ 10 ∷ [])
+bit_line bit n = concat (decimal bit ∷ identifier n ∷ newline ∷ [])
 
 -- the line of a signal of several bits, as a binary number and a blank (IEEE 1364-2005, 18.2.1)
 abbrev pub vector_line : ℕ → ℕ → List ℕ
-vector_line number n = codes "b" ++ (digits 2 false number ++ (codes " " ++ (identifier n ++ 10 ∷ [])))
+vector_line number n = concat (codes "b" ∷ digits 2 false number ∷ codes " " ∷ identifier n ∷ newline ∷ [])
 
 -- the number of a status (own)
 abbrev pub status_number : PartStatus → ℕ
