@@ -1,5 +1,5 @@
 -- What a Value Change Dump has a form for.
-use Rattle.std.specs.Prelude.{ℕ, nat_lt, ◌+◌, ◌-◌, ◌*◌, ◌/◌, ◌%◌, ◌==◌, List, [], ◌∷◌, ◌++◌, Bool, true, false, if◌then◌else◌, Option, Some, None, unwrap_or, codes, decimal}
+use Rattle.std.specs.Prelude.{ℕ, nat_lt, ◌+◌, ◌-◌, ◌*◌, ◌/◌, ◌%◌, ◌==◌, List, [], ◌∷◌, ◌++◌, Bool, true, false, if◌then◌else◌, Option, Some, None, codes, decimal}
 use Rattle.std.specs.Fmt.{digits}
 use Rattle.std.specs.List.{concat}
 use Rattle.ptk_words_model.specs.Text.{newline}
@@ -18,7 +18,7 @@ abbrev pub is_signal : Change → Bool
 is_signal WindowBegins = true
 is_signal (WindowEnds since) = true
 is_signal (Status status) = true
-is_signal (Runner number) = true
+is_signal (Runner thread) = true
 is_signal (First t shown start) = true
 is_signal (Next t kept shown) = true
 is_signal (Woken by t) = false
@@ -68,25 +68,30 @@ state_number (doing.Blocked wait) = wait_number wait
 state_number doing.Ended = 10
 state_number doing.Halted = 11
 
--- the line of what a thread does, and that of its effective priority, 0 of a free number; a partition has 67 signals (own)
+-- the number of the running thread or of an effective priority: 0 where no thread runs, or the thread's number is free (own)
+abbrev pub number_or_none : Option ℕ → ℕ
+number_or_none None = 0
+number_or_none (Some number) = number
+
+-- the line of what a thread does, and that of its effective priority; a partition has 67 signals (own)
 abbrev pub state_line : ℕ → ℕ → Shown → List ℕ
 state_line p t shown = vector_line (state_number shown.doing) (p * 67 + 3 + 2 * (t - 1))
 
 abbrev pub priority_line : ℕ → ℕ → Shown → List ℕ
-priority_line p t shown = vector_line (unwrap_or shown.priority 0) (p * 67 + 4 + 2 * (t - 1))
+priority_line p t shown = vector_line (number_or_none shown.priority) (p * 67 + 4 + 2 * (t - 1))
 
 -- the lines of a thread that was shown so: of what is another than before (own)
 abbrev pub thread_lines : ℕ → ℕ → Shown → Shown → List ℕ
 thread_lines p t before shown =
     (if state_number before.doing == state_number shown.doing then [] else state_line p t shown)
-    ++ (if unwrap_or before.priority 0 == unwrap_or shown.priority 0 then [] else priority_line p t shown)
+    ++ (if number_or_none before.priority == number_or_none shown.priority then [] else priority_line p t shown)
 
 -- the lines of the values that change (own)
 abbrev pub value_lines : ℕ → Change → List ℕ
 value_lines p WindowBegins = bit_line 1 (p * 67)
 value_lines p (WindowEnds since) = bit_line 0 (p * 67)
 value_lines p (Status status) = vector_line (status_number status) (p * 67 + 1)
-value_lines p (Runner number) = vector_line number (p * 67 + 2)
+value_lines p (Runner thread) = vector_line (number_or_none thread) (p * 67 + 2)
 value_lines p (First t shown start) = state_line p t shown.now ++ priority_line p t shown.now
 value_lines p (Next t kept shown) = thread_lines p t kept.now.shown shown.now
 value_lines p (Woken by t) = []

@@ -20,8 +20,8 @@ pub(crate) enum Change<'a> {
     WindowEnds(u64),
     /// Its status.
     Status(PartStatus),
-    /// The running thread, by its number, 0 where none runs.
-    Runner(u8),
+    /// The running thread, None where none runs.
+    Runner(Option<ThreadNo>),
     /// What is shown of a thread for the first time, and its pc where it starts.
     First(ThreadNo, &'a Shown, Option<u32>),
     /// What was shown of a thread, and what is shown now.

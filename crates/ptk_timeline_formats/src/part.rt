@@ -15,12 +15,12 @@ use ptk_words::{PartId, THREAD_LIMIT, ThreadNo, Tick};
 use std::alloc::{AllocError, Global};
 use std::io::Write;
 
-/// What is shown of a partition: its status, the number of its running thread, 0 where none runs, its threads, and the
-/// step that takes up its ticks; and what it had lost and how many steps it had made at the last look.
+/// What is shown of a partition: its status, its running thread, None where none runs, its threads, and the step that
+/// takes up its ticks; and what it had lost and how many steps it had made at the last look.
 #[derive(Drop)]
 pub(crate) struct Part {
     status: PartStatus,
-    runner: u8,
+    runner: Option<ThreadNo>,
     threads: Vec<Kept>,
     step: Option<Step>,
     steps: u64,
@@ -309,15 +309,12 @@ fn status_of(system: &System<'_>, p: PartId, step: &Option<Step>) -> PartStatus
     }
 }
 
-/// The number of the running thread, which is that of the step that takes up its ticks; 0 where none runs.
-fn runner_of(system: &System<'_>, p: PartId, step: &Option<Step>) -> u8
+/// The running thread, which is that of the step that takes up its ticks; None where none runs.
+fn runner_of(system: &System<'_>, p: PartId, step: &Option<Step>) -> Option<ThreadNo>
     requires { p < length system.now.config.sections }
 {
     match step {
-        Some(step) => step.thread.number(),
-        None => match system.running(p) {
-            Some(thread) => thread.number(),
-            None => 0,
-        },
+        Some(step) => Some(step.thread),
+        None => system.running(p),
     }
 }

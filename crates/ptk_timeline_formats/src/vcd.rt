@@ -2,7 +2,7 @@
 
 ghost use Rattle.std.specs.Prelude.{◌≡◌, ◌+◌, ◌-◌, ◌*◌, OnOk, Some};
 ghost use Rattle.std.specs.Io.KnownBytes.{Appends};
-ghost use Rattle.ptk_timeline_formats.specs.Signals.{bit_line, identifier, is_signal, status_number, thread_lines, value_lines, vector_line};
+ghost use Rattle.ptk_timeline_formats.specs.Signals.{bit_line, identifier, is_signal, number_or_none, status_number, thread_lines, value_lines, vector_line};
 
 use crate::change::Change;
 use crate::shown::Shown;
@@ -23,6 +23,9 @@ const PART_SIGNALS: usize = 3;
 
 /// The signals of a partition with the most threads, of which each has two.
 const SIGNALS: usize = PART_SIGNALS + 2 * THREAD_LIMIT as usize;
+
+/// The number of a thread or a priority where there is none.
+const NONE_NUMBER: u8 = 0;
 
 /// A signal, by its number.
 #[derive(Clone, Copy)]
@@ -126,7 +129,7 @@ pub(crate) fn put_values<W: Write>(p: PartId, change: &Change<'_>, out: &mut W) 
         Change::WindowBegins => put_bit(1, Signal::window(p), out),
         Change::WindowEnds(_) => put_bit(0, Signal::window(p), out),
         Change::Status(status) => put_vector(status_number(*status), Signal::status(p), out),
-        Change::Runner(number) => put_vector(*number, Signal::runner(p), out),
+        Change::Runner(thread) => put_vector(runner_number(*thread), Signal::runner(p), out),
         Change::First(t, shown, _) => {
             put_vector(
                 shown.doing.label().number,
@@ -134,7 +137,7 @@ pub(crate) fn put_values<W: Write>(p: PartId, change: &Change<'_>, out: &mut W) 
                 out,
             )?;
             put_vector(
-                shown.priority.unwrap_or(0),
+                priority_number(shown.priority),
                 Signal::priority(p, t.number()),
                 out,
             )
@@ -158,7 +161,7 @@ fn put_vector<W: Write>(number: u8, signal: Signal, out: &mut W) -> io::Result<(
     writeln!(out, "b{number:b} {signal}")
 }
 
-/// Writes which of a thread's state and effective priority, 0 of a free number, is another than before.
+/// Writes which of the numbers of a thread's state and effective priority is another than before.
 fn put_thread<W: Write>(
     p: PartId,
     t: ThreadNo,
@@ -172,11 +175,28 @@ fn put_thread<W: Write>(
     if before.doing.label().number != state {
         put_vector(state, Signal::state(p, t.number()), out)?;
     }
-    let priority = shown.priority.unwrap_or(0);
-    if before.priority.unwrap_or(0) != priority {
+    let priority = priority_number(shown.priority);
+    if priority_number(before.priority) != priority {
         put_vector(priority, Signal::priority(p, t.number()), out)?;
     }
     Ok(())
+}
+
+/// The number of the running thread, `NONE_NUMBER` where none runs.
+fn runner_number(thread: Option<ThreadNo>) -> u8
+    ensures { result ≡ number_or_none thread }
+{
+    match thread {
+        Some(thread) => thread.number(),
+        None => NONE_NUMBER,
+    }
+}
+
+/// The number of an effective priority, `NONE_NUMBER` of a free number.
+fn priority_number(priority: Option<u8>) -> u8
+    ensures { result ≡ number_or_none priority }
+{
+    priority.unwrap_or(NONE_NUMBER)
 }
 
 /// The number of a status.
