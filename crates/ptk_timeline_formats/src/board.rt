@@ -5,8 +5,8 @@ ghost use Rattle.ptk_words.specs.declared.TheConstants.{LAST_TICK};
 ghost use Rattle.ptk_main_runs.specs.World.{state_of};
 
 use crate::change::Change;
-use crate::part::Part;
 use crate::sheet::Sheet;
+use crate::view::PartView;
 use ptk_config::Config;
 use ptk_main_runs::{PutFault, System};
 use ptk_words::{PartId, Tick};
@@ -23,23 +23,24 @@ struct Holder {
 /// What is shown of all partitions, and whose window it is.
 #[derive(Drop)]
 pub(crate) struct Board {
-    parts: Vec<Part>,
+    views: Vec<PartView>,
     holder: Option<Holder>,
 }
 
 impl Board {
     /// What is shown of the partitions of a system from its tick on. An error where memory ran out.
     pub(crate) fn new(alloc: Global, system: &System<'_>) -> Result<Board, AllocError> {
-        let mut parts = Vec::new(alloc);
+        let mut views = Vec::new(alloc);
         for i in 0..system.parts() {
             let threads = match system.config().sections().get(i) {
                 Some(section) => section.limits().threads,
                 None => 0,
             };
-            parts.push(Part::new(alloc, system, PartId::new(i as u8), threads)?)?;
+            let p = PartId::new(i as u8);
+            views.push(PartView::new(alloc, system, p, threads)?)?;
         }
         Ok(Board {
-            parts,
+            views,
             holder: None,
         })
     }
@@ -55,8 +56,8 @@ impl Board {
         ensures within { sheet.new.at ≤ sheet.old.at }
         ensures to { sheet.new.to ≡ sheet.old.to }
     {
-        for i in 0..self.parts.len().min(system.parts()) {
-            self.parts[i].put_all(system, PartId::new(i as u8), sheet, out)?;
+        for i in 0..self.views.len().min(system.parts()) {
+            self.views[i].put_all(system, PartId::new(i as u8), sheet, out)?;
         }
         Ok(())
     }
@@ -73,8 +74,8 @@ impl Board {
     {
         let to = sheet.to();
         self.close_window(to, sheet, out)?;
-        for i in 0..self.parts.len().min(PARTS) {
-            self.parts[i].put_rest(PartId::new(i as u8), sheet, out)?;
+        for i in 0..self.views.len().min(PARTS) {
+            self.views[i].put_rest(PartId::new(i as u8), sheet, out)?;
         }
         Ok(())
     }
@@ -147,8 +148,8 @@ impl Board {
         ensures to { sheet.new.to ≡ sheet.old.to }
     {
         let place = p.index();
-        if place < self.parts.len() && place < system.parts() {
-            return self.parts[place].run(system, p, from, end, sheet, out);
+        if place < self.views.len() && place < system.parts() {
+            return self.views[place].run(system, p, from, end, sheet, out);
         }
         Ok(())
     }

@@ -16,13 +16,13 @@ mod board;
 mod change;
 mod events;
 mod fault;
-mod part;
 mod run;
 mod sheet;
 mod shown;
 mod step;
 mod threads;
 mod vcd;
+mod view;
 
 pub use fault::FormatFault;
 pub use run::dump_with;

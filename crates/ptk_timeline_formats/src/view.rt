@@ -18,7 +18,7 @@ use std::io::Write;
 /// What is shown of a partition: its status, its running thread, None where none runs, its threads, and the step that
 /// takes up its ticks; and what it had lost and how many steps it had made at the last look.
 #[derive(Drop)]
-pub(crate) struct Part {
+pub(crate) struct PartView {
     status: PartStatus,
     runner: Option<ThreadNo>,
     threads: Vec<Kept>,
@@ -28,7 +28,7 @@ pub(crate) struct Part {
     dropped: u64,
 }
 
-impl Part {
+impl PartView {
     /// What is shown of a partition with this many threads from the system's tick on. An error where memory ran out. No
     /// other call takes memory for what is kept.
     pub(crate) fn new(
@@ -36,10 +36,10 @@ impl Part {
         system: &System<'_>,
         p: PartId,
         threads: u32,
-    ) -> Result<Part, AllocError>
+    ) -> Result<PartView, AllocError>
         requires { p < length system.now.config.sections }
     {
-        Ok(Part {
+        Ok(PartView {
             status: system.status(p),
             runner: runner_of(system, p, &None),
             threads: first_threads(alloc, system, p, threads)?,

@@ -1,5 +1,5 @@
 use Rattle.std.proofs.Common.{◌≡◌, ◌-◌, ◌≤◌}
-use Rattle.ptk_timeline_formats.proofs.part.Part.run.Given as goal
+use Rattle.ptk_timeline_formats.proofs.view.PartView.run.Given as goal
 
 abbrev pub invariant-loop-tick : goal.invariant-loop-tick
 invariant-loop-tick g l =
