@@ -1,4 +1,3 @@
 pub mod Counts
 pub mod Matching
-pub mod Refused
 pub mod SameRuns

@@ -3,10 +3,7 @@ use Rattle.std.specs.Prelude.{ℕ, Bool, true, List, Option, Some, None, if◌th
 use Rattle.std.specs.Borrow.{Bor}
 use Rattle.std.specs.Str.{bytes_eq}
 use Rattle.ptk_config.specs.Configuration.{Configuration}
-
--- the place of the section of this name, None where no section has it (own)
-abbrev pub place_named : Configuration → List ℕ → Option ℕ
-place_named config name = position (λ section. bytes_eq section.name name) config.sections
+use Rattle.ptk_main_runs.specs.Parts.{part_named}
 
 -- the partition of this name is asked for: all are where none is named (own)
 abbrev pub is_asked : Option (Bor (List ℕ)) → List ℕ → Bool
@@ -40,8 +37,8 @@ new_name renames name = name_at renames (λ r. r.new) (if is_some (place_to rena
 
 -- the place of the partition that the new one of this name was (own)
 abbrev pub place_before : List Renamed → Configuration → List ℕ → Option ℕ
-place_before renames old name = option_and_then (place_named old) (old_name renames name)
+place_before renames old name = option_and_then (part_named old) (old_name renames name)
 
 -- the place of the partition that the old one of this name is now (own)
 abbrev pub place_after : List Renamed → Configuration → List ℕ → Option ℕ
-place_after renames new name = option_and_then (place_named new) (new_name renames name)
+place_after renames new name = option_and_then (part_named new) (new_name renames name)

@@ -2,7 +2,7 @@
 
 ghost use Rattle.std.specs.Prelude.{◌≡◌, IfOk, option_map};
 ghost use Rattle.ptk_words_model.specs.Run.{fits};
-ghost use Rattle.ptk_impact_answers.specs.Refused.{refusal_of};
+ghost use Rattle.ptk_main_runs.specs.Refused.{refusal_of};
 
 use ptk_image::{Image, read_image};
 use ptk_words::{ImageFault, Limits};

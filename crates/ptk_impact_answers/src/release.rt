@@ -1,11 +1,12 @@
 //! A configuration with its files.
 
 ghost use Rattle.std.specs.Prelude.{◌≡◌, ◌<◌, ◌≤◌, None, IfSome, length};
-ghost use Rattle.ptk_impact_answers.specs.Matching.{place_named};
+ghost use Rattle.ptk_main_runs.specs.Parts.{part_named};
 
 use ptk_config::{Config, Section};
 use ptk_image::Files;
 use ptk_impact::Subject;
+use ptk_main_runs::part_named;
 use ptk_words::PartId;
 
 /// A configuration, and the files that have its images.
@@ -29,11 +30,11 @@ impl<'a, 'f> Release<'a, 'f> {
 
     /// The place of the section of this name, None where no section has it.
     pub(crate) fn place_of(&self, name: &str) -> Option<usize>
-        ensures place { result ≡ place_named self.now.config.now name.now }
+        ensures place { result ≡ part_named self.now.config.now name.now }
         ensures within { IfSome result (λ place. place < length self.now.config.now.sections) }
     {
-        let sections = self.sections();
-        sections.iter().position(|section| section.has_name(name))
+        let p = part_named(self.config, name)?;
+        Some(p.index())
     }
 
     /// The partition at this place.

@@ -1,5 +1,6 @@
 pub mod Parts
 pub mod RunFaults
+pub mod Refused
 pub use Rattle.ptk_system.specs.Missing
 pub use Rattle.ptk_system.specs.World
 pub use Rattle.ptk_system.specs.Activities
