@@ -1,11 +1,10 @@
 //! `check`: whether a configuration and the images that it names are in order.
 
-use crate::reading::{config_of, images_of, text_in};
-use crate::telling::{end, tell};
 use ptk_config::Config;
 use ptk_main_answers::{Files, check_document, check_with, explain_with};
 use ptk_main_faults::Fault;
 use ptk_main_line::{CheckOptions, Format};
+use ptk_main_tools::{config_of, end, images_of, tell, text_in};
 
 /// Checks the configuration in a file, and gives the number of the status.
 pub fn check(rt: &HostRuntime, options: CheckOptions<'_>) -> u8 {

@@ -1,11 +1,10 @@
 //! `impact`: what a new configuration can change.
 
-use crate::reading::{config_in, images_of};
-use crate::telling::tell;
 use ptk_config::Config;
 use ptk_impact_answers::{Question, Release, Tally, impact_json_with, impact_with};
 use ptk_main_faults::{ExitStatus, Fault};
 use ptk_main_line::{Format, ImpactOptions};
+use ptk_main_tools::{config_in, images_of, tell};
 
 /// What stands between the configurations in two files, on standard output, and the number of the status.
 pub fn impact(rt: &HostRuntime, options: ImpactOptions<'_>) -> u8 {

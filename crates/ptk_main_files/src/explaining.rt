@@ -1,8 +1,8 @@
 //! Where and why a configuration is refused.
 
-use crate::telling::tell;
 use ptk_main_answers::{Files, explain_with};
 use ptk_main_faults::Fault;
+use ptk_main_tools::tell;
 
 /// The status of a refused configuration, whose line goes to standard error, and behind it on request where and why.
 /// Out of memory says nothing of the text, and comes alone.

@@ -5,12 +5,11 @@ ghost use Rattle.ptk_words.specs.declared.TheConstants.{LAST_TICK};
 
 use crate::explaining::refused;
 use crate::progress::Progress;
-use crate::reading::{bytes_in, config_of, images_of, text_in};
-use crate::telling::{end, tell};
 use ptk_config::Config;
 use ptk_main_answers::{RunQuestion, run_answer};
 use ptk_main_faults::Fault;
 use ptk_main_line::RunOptions;
+use ptk_main_tools::{bytes_in, config_of, end, images_of, tell, text_in};
 use ptk_words::Tick;
 
 /// The report of a run, and whether it is as expected.

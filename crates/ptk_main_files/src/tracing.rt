@@ -6,12 +6,13 @@ ghost use Rattle.ptk_main_answers.specs.Parts.{part_named};
 ghost use Rattle.ptk_main_files.specs.Traces.{AreSteps, IsThread, IsTraceInRange, keeping};
 
 use crate::explaining::refused;
-use crate::reading::{config_of, images_of, symbols_of, symbols_text_in, text_in};
-use crate::telling::{end, tell, usage};
 use ptk_config::Config;
 use ptk_main_answers::{Files, Filter, decoded_answer, part_named, trace_answer};
 use ptk_main_faults::Fault;
 use ptk_main_line::{MOST_TICKS, TraceOptions, undecoded};
+use ptk_main_tools::{
+    config_of, end, images_of, symbols_of, symbols_text_in, tell, text_in, usage,
+};
 use ptk_words::{ThreadNo, Tick};
 
 /// The last steps of a partition. A usage error where an option of a trace in words is there without `--decode`.

@@ -1,7 +1,7 @@
 //! The files that the program reads.
 
 use ptk_config::{Config, Section, read_config};
-use ptk_main_answers::Files;
+use ptk_image::Files;
 use ptk_main_faults::Fault;
 use ptk_symbols::{SymbolFault, Symbols, read_symbols};
 use std::{fs, io};
@@ -35,7 +35,7 @@ pub fn config_in<'a>(rt: &HostRuntime, name: &'a str) -> Result<Config, Fault<'a
 }
 
 /// The configuration that a text states. A fault where it states none.
-pub(crate) fn config_of(rt: &HostRuntime, text: &str) -> Result<Config, Fault<'static>> {
+pub fn config_of(rt: &HostRuntime, text: &str) -> Result<Config, Fault<'static>> {
     match read_config(rt.alloc(), text) {
         Ok(config) => Ok(config),
         Err(fault) => Err(Fault::of_config(fault)),

@@ -1,0 +1,26 @@
+#![tactic(auto)]
+
+//! What the program `ptk` does over real files and its own streams where no run is asked for: the reading of files,
+//! what it says of an outcome, `asm` and `disasm`.
+//!
+//! - The status of each outcome (`end`, `tell`).
+//! - The text of a disassembly is a source of the image that the file's bytes are (`text_of`).
+//! - Which files it reads is tested; which stream gets what is neither proved nor tested.
+//!
+//! Below are the command line (`ptk_main_line`), the lines of faults (`ptk_main_faults`), the configuration
+//! (`ptk_config`), the assembler (`ptk_asm`), the way back (`ptk_disasm`) and tables of symbols (`ptk_symbols`); above
+//! is `ptk_main_files`, with the requests over a configuration. It is apart from that crate so that it is proved beside
+//! the kernel, and not after the answers. No clause is costly to prove.
+
+mod assembling;
+mod disassembling;
+mod reading;
+mod telling;
+
+pub use assembling::{asm, put_place};
+pub use disassembling::disasm;
+pub use ptk_image::Files;
+pub use reading::{
+    bytes_in, config_in, config_of, images_of, symbols_of, symbols_text_in, text_in,
+};
+pub use telling::{end, tell, unread, usage};
