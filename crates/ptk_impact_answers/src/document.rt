@@ -6,6 +6,7 @@ ghost use Rattle.json.specs.Print.{print};
 
 use crate::comparison::{Comparison, Pair, by_key, impact_words};
 use ptk_impact::{Changes, Difference, ImageChange, Impact, InputChange, LimitChange};
+use ptk_main_runs::{Value, put_members, put_object};
 use ptk_words::{Arrival, ImageFault, Tick};
 use serde::{Described, Serialize, Serializer};
 use serde_json::Error;
@@ -18,15 +19,6 @@ struct Alone<'a> {
     name: &'a str,
     /// The word of the answer.
     answer: &'static str,
-}
-
-/// The value of a member.
-#[derive(Clone, Copy)]
-enum Value<'a> {
-    /// A number, null where there is none.
-    Number(Option<u64>),
-    /// A word.
-    Word(&'a str),
 }
 
 /// The JSON text of a partition that both configurations have: an object in the compact form of its tokens, with no
@@ -73,36 +65,6 @@ impl Serialize for Comparison<'_> {
     }
 }
 
-/// Puts members of an object, each a value under its key.
-fn put_members<S: Serializer>(members: &[(&str, Value<'_>)], out: &mut S) -> Result<(), S::Error> {
-    for (key, value) in members {
-        out.key(key)?;
-        put_value(*value, out)?;
-    }
-    Ok(())
-}
-
-/// Puts a value.
-fn put_value<S: Serializer>(value: Value<'_>, out: &mut S) -> Result<(), S::Error> {
-    match value {
-        Value::Number(Some(number)) => out.u64(number),
-        Value::Number(None) => out.unit(),
-        Value::Word(word) => out.str(word),
-    }
-}
-
-/// Puts an object under a key.
-fn put_object<S: Serializer>(
-    key: &str,
-    members: &[(&str, Value<'_>)],
-    out: &mut S,
-) -> Result<(), S::Error> {
-    out.key(key)?;
-    out.begin_map(None)?;
-    put_members(members, out)?;
-    out.end_map()
-}
-
 /// Puts an old and a new value under a key, as an object.
 fn put_pair<S: Serializer>(
     key: &str,
@@ -137,7 +99,7 @@ fn put_notes<S: Serializer>(comparison: &Comparison<'_>, out: &mut S) -> Result<
 
 /// A place or an offset as a value.
 fn place_value(place: usize) -> Value<'static> {
-    Value::Number(Some(place as u64))
+    Value::Number(place as u64)
 }
 
 /// Puts what differs and plays a part in a run, nothing where nothing does.
@@ -186,11 +148,11 @@ fn put_windows<S: Serializer>(windows: Option<Difference>, out: &mut S) -> Resul
         return Ok(());
     };
     let members = [
-        ("tick", Value::Number(Some(difference.tick.ticks()))),
-        ("old_end", Value::Number(difference.end.map(Tick::ticks))),
+        ("tick", Value::Number(difference.tick.ticks())),
+        ("old_end", Value::optional(difference.end.map(Tick::ticks))),
         (
             "new_end",
-            Value::Number(difference.other_end.map(Tick::ticks)),
+            Value::optional(difference.other_end.map(Tick::ticks)),
         ),
     ];
     put_object("windows", &members, out)
@@ -217,7 +179,7 @@ fn put_limit<S: Serializer>(
 ) -> Result<(), S::Error> {
     match limit {
         Some(LimitChange { old, new }) => {
-            let (old, new) = (Some(u64::from(old)), Some(u64::from(new)));
+            let (old, new) = (u64::from(old), u64::from(new));
             put_pair(key, Value::Number(old), Value::Number(new), out)
         }
         None => Ok(()),
@@ -262,8 +224,8 @@ fn put_presence<S: Serializer>(old: &str, new: &str, out: &mut S) -> Result<(), 
 /// The number of a fault as a value.
 fn fault_value(refusal: Option<ImageFault>) -> Value<'static> {
     match refusal {
-        Some(fault) => Value::Number(Some(u64::from(fault.number()))),
-        None => Value::Number(None),
+        Some(fault) => Value::Number(u64::from(fault.number())),
+        None => Value::Null,
     }
 }
 
@@ -287,11 +249,11 @@ fn put_arrival<S: Serializer>(
     out: &mut S,
 ) -> Result<(), S::Error> {
     let Some(arrival) = arrival else {
-        return put_members(&[(key, Value::Number(None))], out);
+        return put_members(&[(key, Value::Null)], out);
     };
     let members = [
-        ("tick", Value::Number(Some(arrival.tick.ticks()))),
-        ("byte", Value::Number(Some(u64::from(arrival.byte)))),
+        ("tick", Value::Number(arrival.tick.ticks())),
+        ("byte", Value::Number(u64::from(arrival.byte))),
     ];
     put_object(key, &members, out)
 }

@@ -8,15 +8,17 @@
 //! - Where they are refused the writer is as it was (`silent`).
 //! - `part_named` is the first section of a name; `cause_word` is the report's word for a cause.
 //!
-//! `PutFault` is why what is written of a run in another form has no end. Below are the configuration (`ptk_config`),
-//! the system (`ptk_system`) and traces (`ptk_trace`); above are the answers to requests, and the worked rows,
-//! `ptk_main_rows`. No clause is costly to prove.
+//! `PutFault` is why what is written of a run in another form has no end; `put_members` and `put_object` put members of
+//! JSON objects. Below are the configuration (`ptk_config`), the system (`ptk_system`) and traces (`ptk_trace`); above
+//! are the answers to requests, and the worked rows, `ptk_main_rows`. No clause is costly to prove.
 
 mod fault;
+mod members;
 mod runs;
 mod words;
 
 pub use fault::PutFault;
+pub use members::{Value, put_members, put_object};
 pub use ptk_system::{Activity, BootFault, Files, PartStatus, System};
 pub use runs::{RunFault, part_named, run_with, trace_with};
 pub use words::{cause_word, status_word};

@@ -6,7 +6,7 @@ ghost use Rattle.json.specs.Print.{print};
 
 use crate::part::PartStatistics;
 use crate::words::{KINDS, doing_word, outcome_word};
-use ptk_main_runs::PartStatus;
+use ptk_main_runs::{PartStatus, Value, put_members, put_object};
 use ptk_statistics_figures::{
     CALLS, CallCount, Counted, Longest, MutexStatistics, Span, Spread, ThreadStatistics, call_name,
 };
@@ -24,17 +24,6 @@ pub(crate) struct Figures<'a> {
     pub(crate) status: PartStatus,
     /// Its figures.
     pub(crate) part: &'a PartStatistics,
-}
-
-/// The value of a member.
-#[derive(Clone, Copy)]
-enum Value<'a> {
-    /// A number.
-    Number(u64),
-    /// A word.
-    Word(&'a str),
-    /// A stack pointer, null where there is none.
-    Stack(Option<u32>),
 }
 
 /// The JSON text of a partition: an object in the compact form of its tokens, with no newline. An error where memory
@@ -60,37 +49,6 @@ impl Serialize for Figures<'_> {
         put_mutexes(self.part.mutexes(), out)?;
         out.end_map()
     }
-}
-
-/// Puts members of an object, each a value under its key.
-fn put_members<S: Serializer>(members: &[(&str, Value<'_>)], out: &mut S) -> Result<(), S::Error> {
-    for (key, value) in members {
-        out.key(key)?;
-        put_value(*value, out)?;
-    }
-    Ok(())
-}
-
-/// Puts a value.
-fn put_value<S: Serializer>(value: Value<'_>, out: &mut S) -> Result<(), S::Error> {
-    match value {
-        Value::Number(number) => out.u64(number),
-        Value::Word(word) => out.str(word),
-        Value::Stack(Some(pointer)) => out.u64(u64::from(pointer)),
-        Value::Stack(None) => out.unit(),
-    }
-}
-
-/// Puts an object under a key.
-fn put_object<S: Serializer>(
-    key: &str,
-    members: &[(&str, Value<'_>)],
-    out: &mut S,
-) -> Result<(), S::Error> {
-    out.key(key)?;
-    out.begin_map(None)?;
-    put_members(members, out)?;
-    out.end_map()
 }
 
 /// Puts the ticks and the steps of a partition.
@@ -134,7 +92,10 @@ fn put_thread<S: Serializer>(
         ("since", Value::Number(thread.since().ticks())),
         ("steps", Value::Number(steps)),
         ("preemptions", Value::Number(thread.preemptions())),
-        ("least_stack", Value::Stack(thread.least_stack())),
+        (
+            "least_stack",
+            Value::optional(thread.least_stack().map(u64::from)),
+        ),
     ];
     out.begin_map(None)?;
     put_members(&members, out)?;
