@@ -434,10 +434,8 @@ fn call_of(system: &System<'_>, p: PartId, entry: &Entry) -> Option<u32>
     if entry.word != ECALL {
         return None;
     }
-    match system.register(p, entry.thread, A7) {
-        Some(number) => Some(number),
-        None => Some(Call::PthreadExit.number()),
-    }
+    let number = system.register(p, entry.thread, A7);
+    Some(number.unwrap_or(Call::PthreadExit.number()))
 }
 
 /// Whether a tick, where there is one, is this one or before it.
