@@ -1,5 +1,5 @@
 -- What a value of a document states, or the fault that it is read with.
-use Rattle.std.specs.Prelude.{ℕ, ◌+◌, ℤ, pos, negsuc, List, [], ◌∷◌, ◌++◌, Bool, true, nat_le, ◌&&◌, if◌then◌else◌, Option, Some, None, ok_or, Result, Ok, Err, ◌≡◌, ◌≢◌}
+use Rattle.std.specs.Prelude.{ℕ, ◌+◌, ℤ, pos, negsuc, List, [], ◌∷◌, ◌++◌, Bool, true, nat_le, ◌&&◌, if◌then◌else◌, ok_or, Result, Ok, Err, ◌≡◌, ◌≢◌}
 use Rattle.std.specs.List.{list_any}
 use Rattle.std.specs.Str.{bytes_eq}
 use Rattle.toml.specs.Data.{Data, as_integer, as_str, as_array, as_table, Items, no_items, item, Members, no_members, member, get_member}

@@ -1,5 +1,5 @@
 -- A value that is read, or the first fault with its place.
-use Rattle.std.specs.Prelude.{ℕ, ◌+◌, List, codes, Option, Some, None, Result, Ok, Err, ◌≡◌, ◌≢◌}
+use Rattle.std.specs.Prelude.{ℕ, ◌+◌, List, codes, Result, Ok, Err, ◌≡◌, ◌≢◌}
 use Rattle.toml.specs.Data.{Data, Items, no_items, item, Members}
 use Rattle.ptk_config.specs.declared.fault.ConfigFault.{ConfigFault}
 use Rattle.ptk_config.specs.declared.fault.ConfigFault.TheVariants as fault

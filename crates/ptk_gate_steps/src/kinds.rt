@@ -4,7 +4,7 @@ ghost use Rattle.std.specs.Prelude.{◌≡◌, ℕ, ◌<◌, ◌≤◌};
 ghost use Rattle.ptk_words.specs.Calls.{call_of, cost_of};
 ghost use Rattle.ptk_words_model.specs.Decision.{word_fetched, step_cost};
 
-use ptk_words::{Call, cost, read_word};
+use ptk_words::{Call, UNKNOWN_TICKS, cost, read_word};
 use ptk_words_model::StepKind;
 
 /// The word at the pc, 0 where none can be fetched.
@@ -21,9 +21,6 @@ pub(crate) fn word_fetched(memory: &[u8], pc: u32) -> u32
 
 /// The ticks of a step that begins an unwinding, and of one at the return gate (own choice).
 const GATE_TICKS: u32 = 4;
-
-/// The ticks of a number that is no call (own choice).
-const UNKNOWN_TICKS: u32 = 2;
 
 /// The ticks of a step, at most 16.
 pub fn step_cost(kind: StepKind) -> u32

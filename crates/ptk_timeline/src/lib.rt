@@ -13,7 +13,7 @@
 //! It opens in any browser, without script or network. A column of the picture is a column of `ptk_timeline_segments`,
 //! below, a rectangle is a bar of a row, and the windows are those that the plan has at these ticks, so the text grows
 //! with what changes and with the width. Drawing takes no memory; `Starts` has an entry for each thread's number. Above
-//! are `ptk_main_commands` and the program of pictures, `ptk_main_stored`.
+//! are `ptk_main_commands`, and of the tests `ptk_main_rows` and `ptk_main_stored`.
 
 mod axis;
 mod layout;

@@ -224,7 +224,10 @@ impl Call {
     }
 }
 
-/// The ticks that the call of this number takes, 2 to 16; a number that is no call takes 2 (own choice).
+/// The ticks of a number that is no call (own choice).
+pub const UNKNOWN_TICKS: u32 = 2;
+
+/// The ticks that the call of this number takes, 2 to 16; a number that is no call takes `UNKNOWN_TICKS`.
 pub fn cost(number: u32) -> u32
     ensures table { result ≡ cost_of number }
     ensures positive { 0 < result }
@@ -232,6 +235,6 @@ pub fn cost(number: u32) -> u32
 {
     match Call::of_number(number) {
         Some(call) => call.cost(),
-        None => 2,
+        None => UNKNOWN_TICKS,
     }
 }

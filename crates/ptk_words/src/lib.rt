@@ -23,7 +23,7 @@ mod processor;
 mod sections;
 mod threads;
 
-pub use calls::{Call, CallNo, cost};
+pub use calls::{Call, CallNo, UNKNOWN_TICKS, cost};
 pub use faults::{Cause, Errno, FaultKind, ImageFault, Status};
 pub use memory::read_word;
 pub use mutexes::{MutexKind, Owner, Protocol, Soundness};
