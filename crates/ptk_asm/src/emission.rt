@@ -60,8 +60,8 @@ fn push_data(out: &mut Vec<u8>, form: Form, number: i64) -> Result<(), AllocErro
 }
 
 /// Appends the bytes of a statement at these registers and this number: what a directive writes, or the words of its
-/// instructions, least byte first, which decode to the instructions. An error where memory is refused; some of the bytes
-/// may then have been appended.
+/// instructions, least byte first, which decode to the instructions. An error where memory is refused; some of the
+/// bytes may then have been appended.
 pub fn push_statement(
     out: &mut Vec<u8>,
     form: Form,

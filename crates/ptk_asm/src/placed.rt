@@ -6,7 +6,8 @@ ghost use Rattle.ptk_asm_language.specs.Statements.{stands_in};
 use crate::statements::Statement;
 use ptk_asm_language::{Extent, Place, Span};
 
-/// A statement where it stands, in a section that has room for its form, and the bytes of its last token in its line, which is its label where it has one.
+/// A statement where it stands, in a section that has room for its form, and the bytes of its last token in its line,
+/// which is its label where it has one.
 #[derive(Drop)]
 pub(crate) struct Placed<'a> {
     pub(crate) span: Span,

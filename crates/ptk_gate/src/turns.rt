@@ -70,8 +70,8 @@ fn take_turn(pools: &mut Pools, t: ThreadNo, tick: Tick, room: u32) -> Spent
     Spent::Step(cost)
 }
 
-/// The step of a sched_yield whose ECALL is at this pc: the caller goes to the tail with 0 in a0, and no thread runs, so
-/// that no ticks count in an interval. It is what `make_step` makes of this call, without the frame that the others
+/// The step of a sched_yield whose ECALL is at this pc: the caller goes to the tail with 0 in a0, and no thread runs,
+/// so that no ticks count in an interval. It is what `make_step` makes of this call, without the frame that the others
 /// need.
 #[inline(always)]
 #[tactic(auto, using(crate::proofs::Yields::yields))]

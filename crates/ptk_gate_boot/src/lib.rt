@@ -3,8 +3,8 @@
 //! The pools of each kind made at boot from the sections' numbers, and `Memories`, the memory of all partitions with
 //! its decoded words.
 //!
-//! - `stores_of`, `schedules_of`, `endings_of` and `records_of` make the pools of each kind as they are at boot, an entry
-//!   for each section.
+//! - `stores_of`, `schedules_of`, `endings_of` and `records_of` make the pools of each kind as they are at boot, an
+//!   entry for each section.
 //! - `Memories` is the memory of all partitions: `fill`, `step`, `store_word` and `run_row` each change one partition's
 //!   bytes by one equation.
 //! - `run_row` and `run_kept` carry out plain steps as `run_plain` does, and the trace is as after a push of each, with

@@ -8,12 +8,12 @@
 //!   trace keeps of it (`next_step`, `step_cost`, `registers`, `a0_after`).
 //! - The ticks up to which the partition only computes (`quiet_until`; `prepared_until` where the running thread is
 //!   known to be chosen) or has nothing to do (`idle_until`); each is the latest such tick.
-//! - `run_quiet` makes plain steps of a quiet partition in a row and the quiet calls between them, each with its effect:
-//!   a mutex taken or given, a byte put, or a value of a key set. Each is one decision, and a step (`HasGone`), and
-//!   it ends early only where the next step is neither (`HasEnded`). Where it says that the next step is a call, it is
-//!   one (`IsCallNext`).
-//! - From the first quiet call on the thread's registers are apart from its slot and put back once (`caught_up`); what a
-//!   call makes does not hang on what the slot says meanwhile (`IsMade`).
+//! - `run_quiet` makes plain steps of a quiet partition in a row and the quiet calls between them, each with its
+//!   effect: a mutex taken or given, a byte put, or a value of a key set. Each is one decision, and a step (`HasGone`),
+//!   and it ends early only where the next step is neither (`HasEnded`). Where it says that the next step is a call, it
+//!   is one (`IsCallNext`).
+//! - From the first quiet call on the thread's registers are apart from its slot and put back once (`caught_up`); what
+//!   a call makes does not hang on what the slot says meanwhile (`IsMade`).
 //!
 //! What the gate's tables ask without a change takes a `Look` at one partition, whichever is in hand, and its clauses
 //! speak of that partition's numbers and part alone. Below are the pools and the instructions; above are the gate's

@@ -1,6 +1,7 @@
 //! Which calls are quiet, and how each is made on its caller's registers: pthread_self, pthread_getschedparam, a
-//! pthread_detach that is refused, a number that is no call, lock and unlock of a mutex that nobody else wants, signal and
-//! broadcast of a condition variable that nobody waits on, console_put, pthread_setspecific and pthread_getspecific.
+//! pthread_detach that is refused, a number that is no call, lock and unlock of a mutex that nobody else wants, signal
+//! and broadcast of a condition variable that nobody waits on, console_put, pthread_setspecific and
+//! pthread_getspecific.
 
 ghost use Rattle.std.specs.Prelude.{◌≡◌, ℕ, ◌<◌, ◌≤◌, true, false, not, None, Some, IfSome, is_some, option_and_then, option_map, unwrap_or};
 ghost use Rattle.ptk_words.specs.Calls.{call_of};

@@ -51,8 +51,8 @@ pub(crate) fn next_is(pools: &Pools, t: ThreadNo) -> Next
 /// The ticks of the longest step, which is a broadcast (own choice).
 const LONGEST_STEP: u32 = 16;
 
-/// Makes the call that these registers of the thread state, where it is quiet and takes at most `room` ticks. Its ticks;
-/// None, and nothing changes, where it is not made.
+/// Makes the call that these registers of the thread state, where it is quiet and takes at most `room` ticks. Its
+/// ticks; None, and nothing changes, where it is not made.
 #[inline(always)]
 pub(crate) fn answer(pools: &mut Pools, t: ThreadNo, cpu: &mut Cpu, room: u32) -> Option<u32>
     ensures made { IfSome result (λ ticks. (ticks ≡ cost_of (register cpu.old A7)) × (ticks ≤ room) × (0 < ticks) × (ticks ≤ 16) × IsMade t cpu.old cpu.new pools.old pools.new) }

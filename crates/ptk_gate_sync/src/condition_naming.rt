@@ -47,8 +47,9 @@ pub(crate) fn condition_of_word(pools: &mut Pools, pointer: u32) -> Result<Condi
     }
 }
 
-/// The condition variable of the word at the pointer, which is not the number of one in use: 0 (PTHREAD_COND_INITIALIZER) sets one up,
-/// as for `condition_of_word`. EINVAL of any other word (own choice), ENOMEM where no number is free: nothing changes then.
+/// The condition variable of the word at the pointer, which is not the number of one in use: 0
+/// (PTHREAD_COND_INITIALIZER) sets one up, as for `condition_of_word`. EINVAL of any other word (own choice), ENOMEM
+/// where no number is free: nothing changes then.
 #[inline(never)]
 #[tactic(auto, using(crate::proofs::Namings::naming))]
 fn unnumbered_condition(pools: &mut Pools, pointer: u32, word: u32) -> Result<ConditionNo, Errno>

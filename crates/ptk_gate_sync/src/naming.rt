@@ -52,8 +52,9 @@ pub(crate) fn mutex_of_word(pools: &mut Pools, pointer: u32) -> Result<MutexNo, 
     }
 }
 
-/// The mutex of the word at the pointer, which is not the number of one in use: 0 (PTHREAD_MUTEX_INITIALIZER) sets one up,
-/// as for `mutex_of_word`. EINVAL of any other word (own choice), ENOMEM where no number is free: nothing changes then.
+/// The mutex of the word at the pointer, which is not the number of one in use: 0 (PTHREAD_MUTEX_INITIALIZER) sets one
+/// up, as for `mutex_of_word`. EINVAL of any other word (own choice), ENOMEM where no number is free: nothing changes
+/// then.
 #[inline(never)]
 #[tactic(auto, using(crate::proofs::Namings::naming))]
 fn unnumbered_mutex(pools: &mut Pools, pointer: u32, word: u32) -> Result<MutexNo, Errno>

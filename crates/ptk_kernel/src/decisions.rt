@@ -62,8 +62,9 @@ pub fn take_turn(tables: &mut Tables, p: PartId, tick: Tick, room: u32) -> Spent
 }
 
 /// The second half of a decision, of a partition that is prepared for it and whose running thread's next step is known
-/// to be a call: the call is made at the tick, if its whole cost fits into the room, the ticks to the window's end. What
-/// it spent: the ticks of the call; Lost where the cost does not fit, and nothing changes. No other partition changes.
+/// to be a call: the call is made at the tick, if its whole cost fits into the room, the ticks to the window's end.
+/// What it spent: the ticks of the call; Lost where the cost does not fit, and nothing changes. No other partition
+/// changes.
 #[inline(always)]
 pub fn take_call(tables: &mut Tables, p: PartId, t: ThreadNo, tick: Tick, room: u32) -> Spent
     requires partition { p < length tables.old.limits }

@@ -7,10 +7,10 @@
 //! - `decide` is the model's decision for p, spends what it says, at most 16 ticks a step, and leaves every other part.
 //! - It requires that p is not halted and room is at least 1.
 //! - `quiet_until` returns the tick up to which a partition is quiet.
-//! - `run_quiet` makes plain steps and quiet calls of a quiet partition in a row in place of decisions, up to that tick:
-//!   each is one decision, and a step (`HasGone`), with the trace after them.
-//! - It ends before that tick, and before the one from which no step is to begin, only at a step that is neither a plain
-//!   one nor a quiet call that ends in time.
+//! - `run_quiet` makes plain steps and quiet calls of a quiet partition in a row in place of decisions, up to that
+//!   tick: each is one decision, and a step (`HasGone`), with the trace after them.
+//! - It ends before that tick, and before the one from which no step is to begin, only at a step that is neither a
+//!   plain one nor a quiet call that ends in time.
 //! - It leaves the partition as quiet as it was, and each thread and each mutex that threads wait for as they were
 //!   (`IsQuietStep`, `IsSteady`).
 //! - `prepare` is its part up to the choice of the running thread (`ready_at`), and `take_turn` the rest (`after_turn`,

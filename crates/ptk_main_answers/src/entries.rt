@@ -26,8 +26,8 @@ fn split_blank(text: &[u8]) -> (&[u8], &[u8])
     (text, &[])
 }
 
-/// The step of a line of a trace without its end: tick, thread, pc, word and a0. `None` where one of them is none, which
-/// a trace does not have.
+/// The step of a line of a trace without its end: tick, thread, pc, word and a0. `None` where one of them is none,
+/// which a trace does not have.
 pub(crate) fn entry_in(line: &[u8]) -> Option<Entry>
     ensures { IfSome result (λ e. e.tick < LAST_TICK) }
 {

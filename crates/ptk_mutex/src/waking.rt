@@ -58,8 +58,8 @@ impl Mutexes {
     }
 
     /// A waiter on a condition variable waits on it no more and waits for a mutex, as its last waiter, as its re-lock
-    /// does where it begins a wait; it has this reply, if there is one, once it has the mutex (pthread_cond_signal). The
-    /// line stays.
+    /// does where it begins a wait; it has this reply, if there is one, once it has the mutex (pthread_cond_signal).
+    /// The line stays.
     #[inline(always)]
     pub fn pass_on(
         &mut self,

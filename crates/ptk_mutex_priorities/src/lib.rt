@@ -10,10 +10,11 @@
 //!
 //! `MutexSlot` is the place of a number: a contract sees it as the mutex at it without its waiters, which the slot
 //! table keeps. `Change` is all else that becomes of a mutex. What reads no waiters is the same of the mutex with them
-//! (`proofs/Bare`). `recompute` stores the held priorities, and then each thread that waits raises the chain of the owner
-//! that it waits for, up to the first thread that is at least as high. That this leaves the greatest held priority, on
-//! cycles too, and that no walk ends too early, is what is costly to prove (`proofs/Risen`, `proofs/Sweeps`). No call
-//! takes memory. Below are `ptk_words_sync_invariant` and `ptk_threads`; above are `ptk_syncs` and `ptk_mutex`.
+//! (`proofs/Bare`). `recompute` stores the held priorities, and then each thread that waits raises the chain of the
+//! owner that it waits for, up to the first thread that is at least as high. That this leaves the greatest held
+//! priority, on cycles too, and that no walk ends too early, is what is costly to prove (`proofs/Risen`,
+//! `proofs/Sweeps`). No call takes memory. Below are `ptk_words_sync_invariant` and `ptk_threads`; above are
+//! `ptk_syncs` and `ptk_mutex`.
 
 pub mod laws;
 mod moves;

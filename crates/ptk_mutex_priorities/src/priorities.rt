@@ -70,8 +70,8 @@ fn raise_owners(mutexes: &[MutexSlot], stored: &mut [u8])
     }
 }
 
-/// Each thread of the chain, up to the first that is at least as high, has at least this priority; the chain has at most
-/// this many steps.
+/// Each thread of the chain, up to the first that is at least as high, has at least this priority; the chain has at
+/// most this many steps.
 fn raise_chain(
     threads: &[Slot],
     mutexes: &[MutexSlot],

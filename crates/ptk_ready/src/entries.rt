@@ -41,8 +41,8 @@ impl<const LIMIT: u64> LinkedEntries<LIMIT> {
         }
     }
 
-    /// Makes a thread that lies in no queue of ready threads the last of the line. The caller appends it to the queue that
-    /// this names, once it lies in none.
+    /// Makes a thread that lies in no queue of ready threads the last of the line. The caller appends it to the queue
+    /// that this names, once it lies in none.
     #[inline(always)]
     pub fn push_tail(
         &mut self,

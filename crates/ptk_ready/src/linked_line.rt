@@ -57,9 +57,9 @@ impl<const LIMIT: u64> LinkedLine<LIMIT> {
         self.entries.len()
     }
 
-    /// A thread, which is in use, not in the line, and lies in this queue of waiters or in none, leaves it and becomes the
-    /// last of the line; it waits for nothing any more, has these values in a0 and so on, and has used no tick of its
-    /// interval (XSH 2.8.4).
+    /// A thread, which is in use, not in the line, and lies in this queue of waiters or in none, leaves it and becomes
+    /// the last of the line; it waits for nothing any more, has these values in a0 and so on, and has used no tick of
+    /// its interval (XSH 2.8.4).
     #[inline(always)]
     pub fn rouse_from(
         &mut self,

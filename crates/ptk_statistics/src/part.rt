@@ -99,8 +99,8 @@ impl PartStatistics {
         }
     }
 
-    /// Looks at the plain steps that the partition made, and the quiet call behind them, if it made some. It counts them
-    /// later, with those that follow them up to the partition's next decision.
+    /// Looks at the plain steps that the partition made, and the quiet call behind them, if it made some. It counts
+    /// them later, with those that follow them up to the partition's next decision.
     #[inline(always)]
     pub(crate) fn look_at_row(&mut self, system: &System<'_>, p: PartId)
         requires partition { p < length system.now.config.sections }

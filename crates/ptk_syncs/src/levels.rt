@@ -12,8 +12,8 @@ use ptk_threads::Slot;
 use ptk_words::{PartId, Priority, ThreadNo};
 
 impl Roster {
-    /// Stores the effective priorities of a partition, at once where no ready thread gets another one; threads of the line
-    /// keep their places.
+    /// Stores the effective priorities of a partition, at once where no ready thread gets another one; threads of the
+    /// line keep their places.
     pub fn store(&mut self, p: PartId, priorities: &[u8])
         requires partition { p < length self.old.table.threads }
         requires few { length priorities.now ≤ 32 }

@@ -156,8 +156,8 @@ impl Roster {
         }
     }
 
-    /// A waiter of a mutex leaves it and becomes the last of the line; it waits for nothing any more, has these values in
-    /// a0 and so on, and has used no tick of its interval (XSH 2.8.4).
+    /// A waiter of a mutex leaves it and becomes the last of the line; it waits for nothing any more, has these values
+    /// in a0 and so on, and has used no tick of its interval (XSH 2.8.4).
     #[inline(always)]
     pub fn rouse_from_mutex(&mut self, p: PartId, m: MutexNo, k: ThreadNo, values: &[u32])
         requires partition { p < length self.old.table.threads }

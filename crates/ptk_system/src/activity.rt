@@ -189,7 +189,8 @@ impl<'a> System<'a> {
         }
     }
 
-    /// The latest tick, at most `stop`, up to which nothing of any partition changes but the ticks of the next decisions.
+    /// The latest tick, at most `stop`, up to which nothing of any partition changes but the ticks of the next
+    /// decisions.
     pub fn all_stay_until(&self, stop: Tick) -> Tick
         ensures within { result ≤ stop }
         ensures stay { (p : ℕ) → p < length self.now.config.sections → (k : ℕ) → self.now.tick ≤ k → k ≤ result →

@@ -36,7 +36,8 @@ impl Model for Account {
 
 impl Account {
     /// The account before the first decision, which is at this tick, with a trace of this many steps, of a
-    /// partition that was last found there among its windows. An error where memory ran out. No other call takes memory.
+    /// partition that was last found there among its windows. An error where memory ran out. No other call takes
+    /// memory.
     pub(crate) fn new(
         alloc: Global,
         next: Option<Tick>,

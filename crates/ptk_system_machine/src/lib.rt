@@ -14,8 +14,8 @@
 //!
 //! Below are the kernel and the window plan; above is the system. Costly to prove are that a decision and the ticks up
 //! to the next one are as many ticks as the definition says (`proofs/Ticks`), that steps in a row are counted as the
-//! decisions that they are (`proofs/Decisions`, `proofs/CountedRows`), and, for pictures, where partitions go on side by
-//! side, that each may be at a tick of its own (`proofs/Coming`).
+//! decisions that they are (`proofs/Decisions`, `proofs/CountedRows`), and, for pictures, where partitions go on side
+//! by side, that each may be at a tick of its own (`proofs/Coming`).
 
 mod account;
 mod machine;

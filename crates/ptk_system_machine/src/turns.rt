@@ -482,8 +482,8 @@ impl Machine {
     }
 
     /// The rows and calls of `rows_on`, by a walk that is at the turn's window and then at the next turn's. Returns the
-    /// next turn, and whether its step is known to be a call. It has two callers, so it is compiled as a function of its
-    /// own, and what it calls is compiled into it.
+    /// next turn, and whether its step is known to be a call. It has two callers, so it is compiled as a function of
+    /// its own, and what it calls is compiled into it.
     #[inline(never)]
     fn rows_before(
         &mut self,

@@ -7,7 +7,8 @@
 //!   one partition's threads or queues.
 //! - `slots` lends the slots of all partitions, along whose links, from slot to next slot and back, lies the list of
 //!   each queue (`AreAlongLinks`), and no link leaves its partition (`StayInPartitions`).
-//! - `update` changes one thread in its place, by a `ThreadChange`; `work_on` does a piece of work on one, which answers.
+//! - `update` changes one thread in its place, by a `ThreadChange`; `work_on` does a piece of work on one, which
+//!   answers.
 //! - The deadline of a wait is kept where the wait is set, so that `next_deadline` and `first_due` look at no thread.
 //!
 //! The slot of thread k of a partition is its first slot plus k − 1. A contract sees, by partition and then by number,

@@ -174,8 +174,8 @@ impl SlotTable {
         take(self.slots.lend(p), self.ends.lend(p), k);
     }
 
-    /// A thread, which is in use and lies in this queue or in none, leaves it, becomes the last of another one, or of the
-    /// same, and is changed.
+    /// A thread, which is in use and lies in this queue or in none, leaves it, becomes the last of another one, or of
+    /// the same, and is changed.
     #[inline(always)]
     pub(crate) fn pass_updated<C: ThreadChange>(
         &mut self,

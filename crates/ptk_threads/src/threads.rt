@@ -414,8 +414,8 @@ impl Threads {
         self.slots.take_from(p, name, k);
     }
 
-    /// A thread, which is in use and lies in this queue or in none, leaves it, becomes the last of another one, or of the
-    /// same, and is changed; the deadline that is kept for it follows.
+    /// A thread, which is in use and lies in this queue or in none, leaves it, becomes the last of another one, or of
+    /// the same, and is changed; the deadline that is kept for it follows.
     #[inline(always)]
     pub fn pass_updated<C: ThreadChange>(
         &mut self,
@@ -437,8 +437,8 @@ impl Threads {
         follow_change(&mut self.deadlines, p, k, deadline);
     }
 
-    /// A thread, which is in use and lies in no queue, becomes the last of one and is changed; the deadline that is kept
-    /// for it follows.
+    /// A thread, which is in use and lies in no queue, becomes the last of one and is changed; the deadline that is
+    /// kept for it follows.
     #[inline(always)]
     pub fn append_updated<C: ThreadChange>(
         &mut self,

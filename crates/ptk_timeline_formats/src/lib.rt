@@ -10,7 +10,8 @@
 //!
 //! GTKWave opens the first (IEEE 1364-2005, section 18), Perfetto and chrome://tracing the second. Both go from change
 //! to change and keep of each thread what was shown of it last, so memory does not grow with the run. Below are the
-//! system (`ptk_system`), the configuration and the faults of writing (`ptk_main_runs`); the program's answers are above.
+//! system (`ptk_system`), the configuration and the faults of writing (`ptk_main_runs`); the program's answers are
+//! above.
 
 mod board;
 mod change;

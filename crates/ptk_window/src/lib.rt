@@ -8,7 +8,8 @@
 //!   definition's look-ups.
 //! - `turn_from` is the partition's next window, its first tick from a given one on and its end, wherever it was last
 //!   looked up.
-//! - `turn_after` of a `Walk` is the same from the end of the window that the walk is at, and `turn_from` from any tick.
+//! - `turn_after` of a `Walk` is the same from the end of the window that the walk is at, and `turn_from` from any
+//!   tick.
 //! - `stages` and `begin_of` return the number of stages and the tick at which each begins.
 //! - The look-ups answer for ticks up to 2^57.
 //!

@@ -10,10 +10,11 @@
 //! - `expiries_one_at_a_time`: the expiries of a tick are the least due one and then those of the state after it.
 //!
 //! `specs/Locks` says it of the line and the mutexes, `specs/Conditions` of the other waits and of the condition
-//! variables, and of all together (`AreSyncs`); `specs/Expiries` says which deadline is next. `proofs/` has the same for each move of the mutexes and of the condition
-//! variables, those of the mutexes with whatever else holds of threads and mutexes (`Rest` in `proofs/Held`); and what
-//! several crates above need of chains and of greatest ranks (`ChainLaws`, `Greatest`). Below is `ptk_words_model`;
-//! above, `ptk_words_invariant` composes them to what holds of a whole partition.
+//! variables, and of all together (`AreSyncs`); `specs/Expiries` says which deadline is next. `proofs/` has the same
+//! for each move of the mutexes and of the condition variables, those of the mutexes with whatever else holds of
+//! threads and mutexes (`Rest` in `proofs/Held`); and what several crates above need of chains and of greatest ranks
+//! (`ChainLaws`, `Greatest`). Below is `ptk_words_model`; above, `ptk_words_invariant` composes them to what holds of a
+//! whole partition.
 
 ghost use Rattle.std.specs.Prelude.{◌≡◌, ℕ, List, Option, Some};
 ghost use Rattle.ptk_words_model.specs.State.{Syncs, Part};
